@@ -5,3 +5,10 @@ pub mod Syntax
 pub mod File
 pub mod Names
 pub mod Types
+pub mod Code
+pub mod Normal
+pub mod Live
+pub mod Annotate
+pub mod Store
+pub mod Words
+pub mod Sound
