@@ -12,3 +12,7 @@ pub mod Annotate
 pub mod Store
 pub mod Words
 pub mod Sound
+pub mod Value
+pub mod Meaning
+pub mod Machine
+pub mod Calls

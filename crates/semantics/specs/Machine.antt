@@ -1,0 +1,239 @@
+-- Document 01, "The store": the annotated code worked on a store, and the delivery.
+-- Three parts of the definition leave no word in the store: the log of what happened to cells, the set L that is live
+-- after a tree, and the roots R, the cells that are in use outside it.
+use Prim.Native.Nat.{ℕ, zero, suc, _+_, _-_}
+use mathlib.Core.Bool.{Bool, true, false, cond, _&&_}
+use mathlib.Core.List.{List, [], _∷_, _++_, map}
+use lib.IntN.{ℤ, pos, natAbs}
+use lib.ListN.{length, getD}
+use lib.Dec.{ltb}
+use Rattle.semantics.specs.Basics.{tabulate, with-if, occurrences, updated}
+use Rattle.semantics.specs.Outcome.{Outcome, done, stop, Run, _>>=_, _>>_, give, halt, require, passes}
+use Rattle.semantics.specs.Number.{exact, fits, inside, is-zero}
+use Rattle.semantics.specs.Syntax.{Function, Script, main-depth}
+use Rattle.semantics.specs.Code.{Atom, number, name, Line, operation, call, literal, index, length-of, if-else, map-over, retain, release, Tree, end, line, ending}
+use Rattle.semantics.specs.Live.{Set, empty, _∪_, _∖_, is, among, members, live, after-branch, after-pass}
+use Rattle.semantics.specs.Annotate.{NameDepths, atom-depth, is-array, depths-of, annotated-body}
+use Rattle.semantics.specs.Store.{Store, cell, cell-of, elements, inner, named-by, with-totals, has-free, acquired, retained, released, freed, appended, relinked, deepest}
+use Rattle.semantics.specs.Sound.{free-list}
+
+-- ---- the log
+
+-- a cell was acquired; its count fell to 0; it was read, filled, retained or released while on the free list
+pub data Event : Type 0 where
+  acquires frees touches : ℕ → Event
+
+unfoldable pub touching : Store → ℕ → List Event
+touching σ c = with-if (ltb 0 (occurrences c (free-list σ))) (touches c) []
+
+-- f's events for each cell in turn, between which g changes the store
+unfoldable pub each-events : (ℕ → Store → Store) → (ℕ → Store → List Event) → List ℕ → Store → List Event
+each-events g f [] σ = []
+each-events g f (c ∷ l) σ = f c σ ++ each-events g f l (g c σ)
+
+unfoldable pub lower-events : (ℕ → Store → Store) → (ℕ → Store → List Event) → ℕ → ℕ → Store → List Event
+lower-events g f zero c σ = []
+lower-events g f (suc zero) c σ = frees c ∷ each-events g f (inner (cell σ c)) (freed c σ)
+lower-events g f (suc (suc n)) c σ = []
+
+-- what a release does, each element of a freed cell included
+unfoldable pub release-events : ℕ → ℕ → Store → List Event
+release-events zero c σ = []
+release-events (suc n) c σ =
+  touching σ c ++ lower-events (released n) (release-events n) (cell σ c .count) c σ
+
+-- ---- the state and its changes
+
+-- the steps left, the store, the log, and at a stop 25 the cells that then are in use
+pub record State : Type 0 where
+  pub left : ℕ
+  pub store : Store
+  pub log : List Event
+  pub roots : List ℕ
+
+abbrev pub Work : Type 0 → Type 0
+Work A = Run State A
+
+unfoldable pub with-store : State → Store → List Event → State
+with-store s σ events = record { left = s .left; store = σ; log = s .log ++ events; roots = s .roots }
+
+unfoldable pub with-left : State → ℕ → State
+with-left s n = record { left = n; store = s .store; log = s .log; roots = s .roots }
+
+unfoldable pub with-roots : State → List ℕ → State
+with-roots s R = record { left = s .left; store = s .store; log = s .log; roots = R }
+
+unfoldable pub stepped : ℕ → State → Outcome State (Unit {0})
+stepped zero s = stop 21 s
+stepped (suc n) s = done tt (with-left s n)
+
+unfoldable pub step : Work (Unit {0})
+step s = stepped (s .left) s
+
+unfoldable pub acquire-if : Bool → List ℕ → ℕ → List ℤ → Work ℤ
+acquire-if true R d ws s =
+  done (pos (s .store .first)) (with-store s (acquired d ws (s .store)) (acquires (s .store .first) ∷ []))
+acquire-if false R d ws s = stop 25 (with-roots s R)
+
+-- the free list's first cell with these words, while the roots R are in use
+unfoldable pub acquire : List ℕ → ℕ → List ℤ → Work ℤ
+acquire R d ws s = acquire-if (has-free (s .store)) R d ws s
+
+-- the words of the cell that a word names
+unfoldable pub elements-of : ℤ → Work (List ℤ)
+elements-of w s =
+  done (elements (cell (s .store) (cell-of w))) (with-store s (s .store) (touching (s .store) (cell-of w)))
+
+unfoldable pub retain-word : ℤ → Work (Unit {0})
+retain-word w s = done tt (with-store s (retained (cell-of w) (s .store)) (touching (s .store) (cell-of w)))
+
+unfoldable pub release-word : ℤ → Work (Unit {0})
+release-word w s =
+  done tt (with-store s (released deepest (cell-of w) (s .store)) (release-events deepest (cell-of w) (s .store)))
+
+-- a word put behind the elements of a cell
+unfoldable pub append-word : ℤ → ℤ → Work (Unit {0})
+append-word a w s = done tt (with-store s (appended (cell-of a) w (s .store)) (touching (s .store) (cell-of a)))
+
+-- ---- lines and trees
+
+-- the words of the names of a call
+abbrev pub Frame : Type 0
+Frame = ℕ → ℤ
+
+abbrev pub word : Frame → Atom → ℤ
+word ρ (number z) = z
+word ρ (name x) = ρ x
+
+-- a call of a function by its number, while the roots are in use
+abbrev pub Callee : Type 0
+Callee = List ℕ → ℕ → List ℤ → Work ℤ
+
+-- the cells of the arrays among a set of names
+unfoldable pub held : NameDepths → Set → Frame → List ℕ
+held Γ A ρ = map (λ x. cell-of (ρ x)) (members (λ x. A x && is-array Γ x))
+
+-- one pass of a map over element i of the array a, into the result c
+unfoldable pub work-pass : (ℤ → Work ℤ) → ℤ → ℤ → Unit {0} → ℕ → Work (Unit {0})
+work-pass body a c _ i = do
+  step
+  ws ← elements-of a
+  r ← body (getD ws i (pos 0))
+  append-word c r
+
+module _ (callee : Callee) (Γ : NameDepths) where
+  unfoldable mutual
+    -- a tree, after which L is live
+    pub work : Tree → Set → List ℕ → Frame → Work ℤ
+    work (end a) L R ρ = give (word ρ a)
+    work (line l t) L R ρ = do
+      ρ′ ← work-line l (live t L) R ρ
+      work t L R ρ′
+
+    -- a line, after which A is live: the frame with the name that it binds
+    pub work-line : Line → Set → List ℕ → Frame → Work Frame
+    work-line (operation x o a b) A R ρ = do
+      step
+      let r = exact o (word ρ a) (word ρ b)
+      require (fits r) 24
+      give (updated ρ x r)
+    work-line (call x f us) A R ρ = do
+      step
+      w ← callee (R ++ held Γ (A ∖ x) ρ) f (map (word ρ) us)
+      give (updated ρ x w)
+    work-line (literal x d us) A R ρ = do
+      step
+      w ← acquire (R ++ held Γ (among us (A ∖ x)) ρ) d (map (word ρ) us)
+      give (updated ρ x w)
+    work-line (index x a b) A R ρ = do
+      step
+      ws ← elements-of (word ρ a)
+      require (inside (word ρ b) (length ws)) 23
+      give (updated ρ x (getD ws (natAbs (word ρ b)) (pos 0)))
+    work-line (length-of x a) A R ρ = do
+      step
+      ws ← elements-of (word ρ a)
+      give (updated ρ x (pos (length ws)))
+    work-line (if-else x g t e) A R ρ = do
+      step
+      let B = after-branch x A
+      w ← cond (is-zero (word ρ g)) (work e B R ρ) (work t B R ρ)
+      give (updated ρ x w)
+    work-line (map-over x p a t) A R ρ = do
+      step
+      let B = after-pass x p t A
+      let R′ = R ++ held Γ (is a ∪ B) ρ
+      ws ← elements-of (word ρ a)
+      c ← acquire R′ (atom-depth Γ (ending t)) []
+      passes (work-pass (λ w. work t B (R′ ++ (cell-of c ∷ [])) (updated ρ p w)) (word ρ a) c)
+        tt (tabulate 0 (length ws) (λ i. i))
+      give (updated ρ x c)
+    work-line (retain x) A R ρ = do
+      retain-word (ρ x)
+      give ρ
+    work-line (release x) A R ρ = do
+      release-word (ρ x)
+      give ρ
+
+-- ---- calls and the delivery
+
+-- a function's annotated tree and the depths of its names
+pub record Routine : Type 0 where
+  pub tree : Tree
+  pub depths : NameDepths
+
+unfoldable pub routine : Script → Function → Routine
+routine fs g = record { tree = annotated-body fs g; depths = depths-of fs g }
+
+abbrev pub no-routine : Routine
+no-routine = record { tree = end (number (pos 0)); depths = λ _. 0 }
+
+-- the arguments are the words of the names from n on
+unfoldable pub frame-from : List ℤ → ℕ → Frame
+frame-from [] n = λ _. pos 0
+frame-from (w ∷ ws) n = updated (frame-from ws (suc n)) n w
+
+-- a call, with some call depth left
+unfoldable pub machine : List Routine → ℕ → Callee
+machine rs zero R f ws = halt 22
+machine rs (suc n) R f ws =
+  let r = getD rs f no-routine in
+  work (machine rs n) (r .depths) (r .tree) empty R (frame-from ws 0)
+
+-- something to do with the totals where they are an array
+abbrev pub if-array : ℕ → Work (Unit {0}) → Work (Unit {0})
+if-array zero m = give tt
+if-array (suc d) m = m
+
+-- The readings' cell, the totals retained, main, the result in the totals' place, the old totals released
+unfoldable pub delivery : Script → List ℤ → Work (Unit {0})
+delivery fs readings s =
+  let old = s .store .totals in
+  let d = main-depth fs in
+  let R = named-by d (old ∷ []) in
+  (do
+    c ← acquire R 0 readings
+    if-array d (retain-word old)
+    w ← machine (map (routine fs) fs) 32 R 0 (old ∷ c ∷ [])
+    (λ s. done tt (with-store s (with-totals (s .store) w) []))
+    if-array d (release-word old)) s
+
+unfoldable pub starting : ℕ → Store → State
+starting budget σ = record { left = budget; store = σ; log = []; roots = [] }
+
+-- what a delivery shows: its number, its steps, and the store after it
+pub record Delivered : Type 0 where
+  pub number : ℕ
+  pub steps : ℕ
+  pub store : Store
+
+abbrev pub delivered-by : {A : Type 0} → ℕ → Store → Outcome State A → Delivered
+delivered-by budget σ (done a s) = record { number = 0; steps = budget - s .left; store = s .store }
+delivered-by budget σ (stop n s) = record { number = n; steps = budget - s .left; store = relinked σ }
+
+unfoldable pub delivered : Script → List ℤ → ℕ → Store → Delivered
+delivered fs readings budget σ = delivered-by budget σ (delivery fs readings (starting budget σ))
+
+abbrev pub state-of : {A : Type 0} → Outcome State A → State
+state-of (done a s) = s
+state-of (stop n s) = s

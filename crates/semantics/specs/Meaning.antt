@@ -1,0 +1,122 @@
+-- Document 01, "The ledger": the meaning works the written nodes on values.
+-- What a compound node does once its parts are worked stands in one action for each kind.
+use Prim.Native.Nat.{ℕ, zero, suc, _+_}
+use mathlib.Core.Bool.{Bool, true, false, cond}
+use mathlib.Core.List.{List, [], _∷_, _++_}
+use lib.IntN.{ℤ, pos, natAbs}
+use lib.ListN.{length, getD}
+use lib.Dec.{eqb}
+use Rattle.semantics.specs.Basics.{updated}
+use Rattle.semantics.specs.Outcome.{Outcome, done, stop, Run, _>>=_, _>>_, give, halt, require, passes}
+use Rattle.semantics.specs.Number.{Operation, exact, fits, inside, is-zero}
+use Rattle.semantics.specs.Value.{Value, num, array, items, number-in, list}
+use Rattle.semantics.specs.Syntax as S
+use Rattle.semantics.specs.Syntax.{Expr, number, name, operation, let-in, call, literal, index, length-of, if-else, map-over, Exprs, Parameter, Script, function-at}
+
+-- The steps left, and the trace: for each step taken, the last one first, whether its node wants a cell.
+pub record Meter : Type 0 where
+  pub left : ℕ
+  pub trace : List Bool
+
+abbrev pub Work : Type 0 → Type 0
+Work A = Run Meter A
+
+unfoldable pub stepped : Bool → ℕ → List Bool → Outcome Meter (Unit {0})
+stepped wants zero trace = stop 21 (record { left = 0; trace = trace })
+stepped wants (suc n) trace = done tt (record { left = n; trace = wants ∷ trace })
+
+-- one step, of a node that wants a cell or not
+unfoldable pub step : Bool → Work (Unit {0})
+step wants m = stepped wants (m .left) (m .trace)
+
+-- a call of a function, by its number
+abbrev pub Callee : Type 0
+Callee = ℕ → List Value → Work Value
+
+-- ---- the actions of the compound nodes
+
+unfoldable pub do-operation : Operation → Value → Value → Work Value
+do-operation o x y = do
+  step false
+  let r = exact o (number-in x) (number-in y)
+  require (fits r) 24
+  give (num r)
+
+unfoldable pub do-call : Callee → ℕ → List Value → Work Value
+do-call callee f vs = do step false; callee f vs
+
+unfoldable pub do-literal : List Value → Work Value
+do-literal vs = do step true; give (list vs)
+
+unfoldable pub do-index : Value → Value → Work Value
+do-index v i = do
+  step false
+  require (inside (number-in i) (length (items v))) 23
+  give (getD (items v) (natAbs (number-in i)) (num (pos 0)))
+
+unfoldable pub do-length : Value → Work Value
+do-length v = do step false; give (num (pos (length (items v))))
+
+-- a guard other than 0 takes the then part
+unfoldable pub do-if : Value → Work Value → Work Value → Work Value
+do-if g t e = do step false; cond (is-zero (number-in g)) e t
+
+-- one pass: its step, then the body; the result goes behind the earlier ones
+unfoldable pub do-pass : (Value → Work Value) → List Value → Value → Work (List Value)
+do-pass body results v = do step false; r ← body v; give (results ++ (r ∷ []))
+
+unfoldable pub do-map : Value → (Value → Work Value) → Work Value
+do-map v body = do
+  step true
+  results ← passes (do-pass body) [] (items v)
+  give (list results)
+
+-- ---- the nodes
+
+abbrev pub Env : Type 0
+Env = ℕ → Value
+
+module _ (callee : Callee) where
+  unfoldable mutual
+    pub eval : Expr → Env → Work Value
+    eval (number z) ρ = give (num z)
+    eval (name x) ρ = give (ρ x)
+    eval (operation o a b) ρ = do x ← eval a ρ; y ← eval b ρ; do-operation o x y
+    eval (let-in x a b) ρ = do v ← eval a ρ; eval b (updated ρ x v)
+    eval (call f es) ρ = do vs ← eval-all es ρ; do-call callee f vs
+    eval (literal d es) ρ = do vs ← eval-all es ρ; do-literal vs
+    eval (index a b) ρ = do v ← eval a ρ; i ← eval b ρ; do-index v i
+    eval (length-of a) ρ = do v ← eval a ρ; do-length v
+    eval (if-else a b c) ρ = do g ← eval a ρ; do-if g (eval b ρ) (eval c ρ)
+    eval (map-over x a b) ρ = do v ← eval a ρ; do-map v (λ w. eval b (updated ρ x w))
+
+    pub eval-all : Exprs → Env → Work (List Value)
+    eval-all S.none ρ = give []
+    eval-all (S.more e es) ρ = do v ← eval e ρ; vs ← eval-all es ρ; give (v ∷ vs)
+
+-- the parameters' names bound to the arguments; no name is repeated
+unfoldable pub bound : List Parameter → List Value → Env
+bound [] vs = λ _. num (pos 0)
+bound (x ∷ xs) [] = λ _. num (pos 0)
+bound (x ∷ xs) (v ∷ vs) = updated (bound xs vs) (x .id) v
+
+-- a function's call, with some call depth left (document 01's nesting)
+unfoldable pub meaning : Script → ℕ → Callee
+meaning fs zero f vs = halt 22
+meaning fs (suc n) f vs =
+  let g = function-at fs f in
+  eval (meaning fs n) (g .body) (bound (g .parameters) vs)
+
+-- main on the totals and the readings, with a budget
+unfoldable pub main-meaning : Script → Value → Value → ℕ → Outcome Meter Value
+main-meaning fs totals readings budget =
+  meaning fs 32 0 (totals ∷ readings ∷ []) (record { left = budget; trace = [] })
+
+-- whether step k, counted from 1, is of a node that wants a cell
+unfoldable pub step-wants : ℕ → List Bool → Bool
+step-wants k [] = false
+step-wants k (wants ∷ earlier) = cond (eqb k (suc (length earlier))) wants (step-wants k earlier)
+
+abbrev pub meter-of : {A : Type 0} → Outcome Meter A → Meter
+meter-of (done a m) = m
+meter-of (stop n m) = m
