@@ -16,3 +16,5 @@ pub mod Value
 pub mod Meaning
 pub mod Machine
 pub mod Calls
+pub mod Ledger
+pub mod Demands
