@@ -33,11 +33,11 @@ module _ (results : ℕ → ℕ) where
     line-depths (index x a b) Γ = updated Γ x (pred (atom-depth Γ a))
     line-depths (length-of x a) Γ = updated Γ x 0
     line-depths (if-else x g t e) Γ =
-      let Δ = tree-depths e (tree-depths t Γ) in
-      updated Δ x (atom-depth Δ (ending t))
+        let Δ = tree-depths e (tree-depths t Γ) in
+        updated Δ x (atom-depth Δ (ending t))
     line-depths (map-over x p a t) Γ =
-      let Δ = tree-depths t (updated Γ p (pred (atom-depth Γ a))) in
-      updated Δ x (suc (atom-depth Δ (ending t)))
+        let Δ = tree-depths t (updated Γ p (pred (atom-depth Γ a))) in
+        updated Δ x (suc (atom-depth Δ (ending t)))
     line-depths (retain x) Γ = Γ
     line-depths (release x) Γ = Γ
 
@@ -79,32 +79,30 @@ module _ (Γ : NameDepths) where
     pub annotate-line : Line → Set → Tree → Tree
     annotate-line (operation x o a b) A k = line (operation x o a b) k
     annotate-line (call x f us) A k =
-      retain-all (handed-again us A) (line (call x f us) (release-all (dying (only x) A) k))
+        retain-all (handed-again us A) (line (call x f us) (release-all (dying (only x) A) k))
     annotate-line (literal x d us) A k =
-      retain-all (handed-again us A) (line (literal x d us) (release-all (dying (only x) A) k))
+        retain-all (handed-again us A) (line (literal x d us) (release-all (dying (only x) A) k))
     annotate-line (index x a b) A k =
-      line (index x a b) (retain-all (with-if (is-array x) x []) (release-all (dying (is a ∪ only x) A) k))
+        line (index x a b) (retain-all (with-if (is-array x) x []) (release-all (dying (is a ∪ only x) A) k))
     annotate-line (length-of x a) A k = line (length-of x a) (release-all (dying (is a) A) k)
     annotate-line (if-else x g t e) A k =
-      let B = after-branch x A in
-      line (if-else x g
-        (release-all (dying (uses e) (live t B)) (annotate t B))
-        (release-all (dying (uses t) (live e B)) (annotate e B)))
-      (release-all (dying (only x) A) k)
+        let B = after-branch x A in
+        let t′ = release-all (dying (uses e) (live t B)) (annotate t B) in
+        let e′ = release-all (dying (uses t) (live e B)) (annotate e B) in
+        line (if-else x g t′ e′) (release-all (dying (only x) A) k)
     annotate-line (map-over x p a t) A k =
-      let B = after-pass x p t A in
-      line (map-over x p a
-        (retain-all (with-if (is-array p) p []) (release-all (dying (only p) (live t B)) (annotate t B))))
-      (release-all (dying (is a ∪ uses t ∖ p ∪ only x) A) k)
+        let B = after-pass x p t A in
+        let t′ = retain-all (with-if (is-array p) p []) (release-all (dying (only p) (live t B)) (annotate t B)) in
+        line (map-over x p a t′) (release-all (dying (is a ∪ uses t ∖ p ∪ only x) A) k)
     annotate-line (retain x) A k = line (retain x) k
     annotate-line (release x) A k = line (release x) k
 
 -- a function's annotated tree: it opens by releasing the unused parameters
 unfoldable pub annotated-body : Script → Function → Tree
 annotated-body fs g =
-  let Γ = depths-of fs g in
-  let t = normal-body g in
-  release-all (dying Γ (λ x. ltb x (length (g .parameters))) (uses t)) (annotate Γ t empty)
+    let Γ = depths-of fs g in
+    let t = normal-body g in
+    release-all (dying Γ (λ x. ltb x (length (g .parameters))) (uses t)) (annotate Γ t empty)
 
 -- ---- the code
 
@@ -114,7 +112,7 @@ parameter-rows (x ∷ xs) n = row 1 (n + 256 * x .depth) ∷ parameter-rows xs (
 
 unfoldable pub function-rows : Script → Function → List Row
 function-rows fs g =
-  row 0 (length (g .parameters) + 256 * g .result) ∷ (parameter-rows (g .parameters) 0 ++ rows (annotated-body fs g))
+    row 0 (length (g .parameters) + 256 * g .result) ∷ (parameter-rows (g .parameters) 0 ++ rows (annotated-body fs g))
 
 -- the rows of some functions of a script
 unfoldable pub functions-rows : Script → List Function → List Row

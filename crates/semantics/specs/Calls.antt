@@ -101,11 +101,13 @@ unfoldable pub translated : Verdict → List ℕ → List ℤ → Reply
 translated (accepted fs) kinds operands = record {
   answer = packed 0 0 (length (code fs)) 0;
   kinds = code-kinds fs kinds;
-  operands = code-operands fs operands }
+  operands = code-operands fs operands;
+}
 translated (refused n p) kinds operands = record {
   answer = packed n p 0 0;
   kinds = replicate (length kinds) 0;
-  operands = replicate (length operands) (pos 0) }
+  operands = replicate (length operands) (pos 0);
+}
 
 unfoldable pub engine-translate : ℕ → List ℕ → List ℕ → List ℤ → Reply
 engine-translate node file kinds operands = translated (admitted node file (room kinds operands)) kinds operands
@@ -132,7 +134,8 @@ module _ (kinds : List ℕ) (operands : List ℤ) (slots : List ℤ) (heads : Li
     kinds = replicate (length kinds) 0;
     operands = replicate (length operands) (pos 0);
     slots = slots;
-    heads = heads }
+    heads = heads;
+  }
 
   -- the code, and the words of a store
   unfoldable pub answering : Script → ℕ → ℕ → Store → StoreReply
@@ -141,20 +144,21 @@ module _ (kinds : List ℕ) (operands : List ℤ) (slots : List ℤ) (heads : Li
     kinds = code-kinds fs kinds;
     operands = code-operands fs operands;
     slots = slot-words σ;
-    heads = head-words σ }
+    heads = head-words σ;
+  }
 
   unfoldable pub open-for : Verdict → StoreReply
   open-for (accepted fs) =
-    cond (shaped slots heads)
-    (answering fs 0 0 (opened (cells-in slots heads) (main-depth fs)))
-    (refusing 11 0)
+      cond (shaped slots heads)
+      (answering fs 0 0 (opened (cells-in slots heads) (main-depth fs)))
+      (refusing 11 0)
   open-for (refused n p) = refusing n p
 
   unfoldable pub check-for : Verdict → StoreReply
   check-for (accepted fs) =
-    cond (sound-words (main-depth fs) slots heads)
-    (answering fs 0 0 (store-of slots heads))
-    (refusing 11 0)
+      cond (sound-words (main-depth fs) slots heads)
+      (answering fs 0 0 (store-of slots heads))
+      (refusing 11 0)
   check-for (refused n p) = refusing n p
 
   abbrev pub deliver-in : Script → Delivered → StoreReply
@@ -162,21 +166,21 @@ module _ (kinds : List ℕ) (operands : List ℤ) (slots : List ℤ) (heads : Li
 
   unfoldable pub deliver-for : List ℤ → ℕ → Verdict → StoreReply
   deliver-for readings budget (accepted fs) =
-    cond (request-fits readings budget)
-    (cond (sound-words (main-depth fs) slots heads)
+      cond (request-fits readings budget)
+      (cond (sound-words (main-depth fs) slots heads)
       (deliver-in fs (delivered fs readings budget (store-of slots heads)))
       (refusing 11 0))
-    (refusing 10 0)
+      (refusing 10 0)
   deliver-for readings budget (refused n p) = refusing n p
 
 unfoldable pub engine-open : ℕ → List ℕ → List ℕ → List ℤ → List ℤ → List ℕ → StoreReply
 engine-open node file kinds operands slots heads =
-  open-for kinds operands slots heads (admitted node file (room kinds operands))
+    open-for kinds operands slots heads (admitted node file (room kinds operands))
 
 unfoldable pub engine-check : ℕ → List ℕ → List ℕ → List ℤ → List ℤ → List ℕ → StoreReply
 engine-check node file kinds operands slots heads =
-  check-for kinds operands slots heads (admitted node file (room kinds operands))
+    check-for kinds operands slots heads (admitted node file (room kinds operands))
 
 unfoldable pub engine-deliver : ℕ → List ℕ → List ℕ → List ℤ → List ℤ → List ℕ → List ℤ → ℕ → StoreReply
 engine-deliver node file kinds operands slots heads readings budget =
-  deliver-for kinds operands slots heads readings budget (admitted node file (room kinds operands))
+    deliver-for kinds operands slots heads readings budget (admitted node file (room kinds operands))

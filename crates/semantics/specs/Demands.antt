@@ -1,5 +1,5 @@
 -- Demands 2 and 3 as types (document 01, "The ledger"). Demand 1 is in the calls themselves.
-use Prim.Native.Nat.{ℕ, zero, suc, _-_, _<_}
+use Prim.Native.Nat.{ℕ, zero, suc, _-_, _<_, _≤_}
 use mathlib.Core.Bool.{Bool, true, false}
 use mathlib.Core.Path.{_≡_}
 use mathlib.Core.Logic.{_≢_, _⊎_, _↔_}
@@ -8,13 +8,13 @@ use lib.IntN.{ℤ}
 use Rattle.semantics.specs.Basics.{occurrences, _∈_}
 use Rattle.semantics.specs.Outcome.{Outcome, done, stop}
 use Rattle.semantics.specs.Syntax.{Script, main-depth}
-use Rattle.semantics.specs.Value.{Value, num, list, first-totals}
+use Rattle.semantics.specs.Value.{Value, num, list, numbers, first-totals}
 use Rattle.semantics.specs.Meaning.{Meter, main-meaning}
 use Rattle.semantics.specs.Store.{Store, cell, cell-of, cell-count, clear, elements, inner, named-by, has-free, cells-taken}
 use Rattle.semantics.specs.Words.{store-of}
 use Rattle.semantics.specs.Sound.{free-list, end-from, due, places, sound-words}
 use Rattle.semantics.specs.Machine.{Event, acquires, frees, touches, State, delivery, starting, state-of}
-use Rattle.semantics.specs.Calls.{accepted, judged, number-of, request-fits, StoreReply, engine-open, engine-deliver}
+use Rattle.semantics.specs.Calls.{accepted, judged, admitted, number-of, request-fits, StoreReply, engine-open, engine-deliver}
 use Rattle.semantics.specs.Ledger.{Delivery, Entry, refused, worked, meant, entry, dry-steps, value-after, answer-of, wants-cell}
 
 -- ---- values and cells of a store
@@ -83,7 +83,7 @@ pub record Worked (fs : Script) (σ σ′ : Store) (v : Value) (δ : Delivery) (
   pub untouched : touched (state-of (delivery fs (δ .readings) (starting (δ .budget) σ)) .log) ≡ []
   -- no sweep in a finished delivery
   pub unswept : number ≡ 0 →
-    free-list σ′ ≡ replayed (state-of (delivery fs (δ .readings) (starting (δ .budget) σ)) .log) (free-list σ)
+      free-list σ′ ≡ replayed (state-of (delivery fs (δ .readings) (starting (δ .budget) σ)) .log) (free-list σ)
   -- out of cells exactly where one was wanted and none was free, every taken cell being still in use
   pub wanted : number ≡ 25 → wants-cell steps (meant fs v δ) ≡ true
   pub dry : number ≡ 25 → OutOfCells (state-of (delivery fs (δ .readings) (starting (δ .budget) σ)))
@@ -102,7 +102,7 @@ pub record Agrees (fs : Script) (σ σ′ : Store) (v : Value) (δ : Delivery) (
 module _ (node : ℕ) (file : List ℕ) (fs : Script) where
   abbrev pub reply-to : List ℤ → List ℕ → Delivery → StoreReply
   reply-to slots heads δ =
-    engine-deliver node file (δ .kinds) (δ .operands) slots heads (δ .readings) (δ .budget)
+      engine-deliver node file (δ .kinds) (δ .operands) slots heads (δ .readings) (δ .budget)
 
   abbrev pub entry-for : List ℤ → List ℕ → Value → Delivery → Entry
   entry-for slots heads v δ = entry fs v δ (dry-steps (reply-to slots heads δ .answer))
@@ -110,20 +110,20 @@ module _ (node : ℕ) (file : List ℕ) (fs : Script) where
   abbrev pub History : List Delivery → List ℤ → List ℕ → Value → Type 0
   History [] slots heads v = AtRest (main-depth fs) (store-of slots heads) v
   History (δ ∷ δs) slots heads v =
-    Agrees fs (store-of slots heads)
+      Agrees fs (store-of slots heads)
       (store-of (reply-to slots heads δ .slots) (reply-to slots heads δ .heads)) v δ
       (reply-to slots heads δ .answer) (entry-for slots heads v δ)
-    × History δs (reply-to slots heads δ .slots) (reply-to slots heads δ .heads)
+      × History δs (reply-to slots heads δ .slots) (reply-to slots heads δ .heads)
       (value-after v (entry-for slots heads v δ))
 
 -- For every accepted script, every store that was opened with answer 0, and every list of deliveries.
 abbrev pub Demand3 : Type 0
 Demand3 =
-  (node : ℕ) (file : List ℕ) (fs : Script) → judged node file ≡ accepted fs →
-  (kinds : List ℕ) (operands slots : List ℤ) (heads : List ℕ) →
-  number-of (engine-open node file kinds operands slots heads .answer) ≡ 0 →
-  (δs : List Delivery) →
-  History node file fs δs
+    (node : ℕ) (file : List ℕ) (fs : Script) → judged node file ≡ accepted fs →
+    (kinds : List ℕ) (operands slots : List ℤ) (heads : List ℕ) →
+    number-of (engine-open node file kinds operands slots heads .answer) ≡ 0 →
+    (δs : List Delivery) →
+    History node file fs δs
     (engine-open node file kinds operands slots heads .slots)
     (engine-open node file kinds operands slots heads .heads)
     (first-totals (main-depth fs))
@@ -136,21 +136,21 @@ Does d budget (done _ s) (done w m) = (s .left ≡ m .left) × (value-of (s .sto
 Does d budget (done _ s) (stop n m) = ⊥
 Does d budget (stop k s) (done w m) = (k ≡ 25) × (wants-cell (budget - s .left) (done w m) ≡ true)
 Does d budget (stop k s) (stop n m) =
-  ((k ≡ n) × (s .left ≡ m .left)) ⊎ ((k ≡ 25) × (wants-cell (budget - s .left) (stop n m) ≡ true))
+    ((k ≡ n) × (s .left ≡ m .left)) ⊎ ((k ≡ 25) × (wants-cell (budget - s .left) (stop n m) ≡ true))
 
 -- a delivery on the store in two arrays, beside the meaning on the value of its totals
 abbrev pub DoesAsMeant : Script → List ℤ → List ℕ → List ℤ → ℕ → Type 0
 DoesAsMeant fs slots heads readings budget =
-  let σ = store-of slots heads in
-  let d = main-depth fs in
-  Does d budget (delivery fs readings (starting budget σ))
-    (main-meaning fs (value-of σ d (σ .totals)) (list (map num readings)) budget)
+    let σ = store-of slots heads in
+    let d = main-depth fs in
+    Does d budget (delivery fs readings (starting budget σ))
+    (main-meaning fs (value-of σ d (σ .totals)) (numbers readings) budget)
 
--- For every accepted script, every sound store, and every row of readings and budget that fit. (That the code arrays
--- hold the script's code, line by line, is in the calls themselves.)
+-- For every script that passes refusals 1 to 9, every sound store, and every row of readings and budget that fit. (That
+-- the code arrays hold the script's code, line by line, is in the calls themselves.)
 abbrev pub Demand2 : Type 0
 Demand2 =
-  (node : ℕ) (file : List ℕ) (fs : Script) → judged node file ≡ accepted fs →
-  (slots : List ℤ) (heads : List ℕ) → sound-words (main-depth fs) slots heads ≡ true →
-  (readings : List ℤ) (budget : ℕ) → request-fits readings budget ≡ true →
-  DoesAsMeant fs slots heads readings budget
+    (node : ℕ) (file : List ℕ) (lines : ℕ) (fs : Script) → lines ≤ 4096 → admitted node file lines ≡ accepted fs →
+    (slots : List ℤ) (heads : List ℕ) → sound-words (main-depth fs) slots heads ≡ true →
+    (readings : List ℤ) (budget : ℕ) → request-fits readings budget ≡ true →
+    DoesAsMeant fs slots heads readings budget

@@ -31,21 +31,21 @@ high-limits = 4 ∷ 4 ∷ 0 ∷ 0 ∷ 0 ∷ 0 ∷ 0 ∷ 0 ∷ 8 ∷ 3 ∷ 0 ∷ 
 
 abbrev pub in-parts : ℕ → ℤ → Node
 in-parts k (pos n) =
-  cond (leb (n % 256) (getD low-limits k 0))
-  (cond (leb (n / 256) (getD high-limits k 0))
+    cond (leb (n % 256) (getD low-limits k 0))
+    (cond (leb (n / 256) (getD high-limits k 0))
     (fits (record { kind = k; low = n % 256; high = n / 256; value = pos 0 }))
     wrong-operand)
-  wrong-operand
+    wrong-operand
 in-parts k (negsuc n) = wrong-operand
 
 -- a node where the kinds from a to b are allowed: the kind is tested before the operand
 unfoldable pub node-of : ℕ → ℕ → ℕ → ℤ → Node
 node-of a b k z =
-  cond (leb a k)
-  (cond (leb k b)
+    cond (leb a k)
+    (cond (leb k b)
     (cond (eqb k 2) (fits (record { kind = 2; low = 0; high = 0; value = z })) (in-parts k z))
     wrong-kind)
-  wrong-kind
+    wrong-kind
 
 -- how many parts a node has; a call and a literal say it themselves
 abbrev pub part-counts : List ℕ
@@ -68,19 +68,19 @@ looked wrong-operand = halt 4
 -- the tree of a node whose parts m reads, by kind
 abbrev pub by-kind : Read Expr → Head → List (Read Expr)
 by-kind m h =
-  halt 3 ∷ halt 3 ∷
-  give (number (h .value)) ∷
-  give (name (h .low)) ∷
-  (do a ← m; b ← m; give (operation sum a b)) ∷
-  (do a ← m; b ← m; give (operation difference a b)) ∷
-  (do a ← m; b ← m; give (operation less a b)) ∷
-  (do a ← m; b ← m; give (let-in (h .low) a b)) ∷
-  (do es ← times (h .high) m; give (call (h .low) (exprs-of es))) ∷
-  (do es ← times (h .low) m; give (literal (h .high) (exprs-of es))) ∷
-  (do a ← m; b ← m; give (index a b)) ∷
-  (do a ← m; give (length-of a)) ∷
-  (do a ← m; b ← m; c ← m; give (if-else a b c)) ∷
-  (do a ← m; b ← m; give (map-over (h .low) a b)) ∷ []
+    halt 3 ∷ halt 3 ∷
+    give (number (h .value)) ∷
+    give (name (h .low)) ∷
+    (do a ← m; b ← m; give (operation sum a b)) ∷
+    (do a ← m; b ← m; give (operation difference a b)) ∷
+    (do a ← m; b ← m; give (operation less a b)) ∷
+    (do a ← m; b ← m; give (let-in (h .low) a b)) ∷
+    (do es ← times (h .high) m; give (call (h .low) (exprs-of es))) ∷
+    (do es ← times (h .low) m; give (literal (h .high) (exprs-of es))) ∷
+    (do a ← m; b ← m; give (index a b)) ∷
+    (do a ← m; give (length-of a)) ∷
+    (do a ← m; b ← m; c ← m; give (if-else a b c)) ∷
+    (do a ← m; b ← m; give (map-over (h .low) a b)) ∷ []
 
 unfoldable pub parts : Read Expr → Head → Read Expr
 parts m h = getD (by-kind m h) (h .kind) (halt 3)
@@ -126,11 +126,11 @@ between a b n = leb a n && leb n b
 -- a file's script, or its refusal 1 to 5 and the node
 unfoldable pub read-file : List ℕ → Outcome ℕ Script
 read-file file =
-  let functions = bytes-at 2 file 0 in
-  let nodes = bytes-at 2 file 2 in
-  cond (ltb (length file) 4) (stop 1 0)
-  (cond (between 1 32 functions && between 1 1024 nodes)
+    let functions = bytes-at 2 file 0 in
+    let nodes = bytes-at 2 file 2 in
+    cond (ltb (length file) 4) (stop 1 0)
+    (cond (between 1 32 functions && between 1 1024 nodes)
     (cond (eqb (length file) (4 + 9 * nodes))
-      (script (take nodes (drop 4 file)) (drop (4 + nodes) file) functions 0)
-      (stop 1 0))
+    (script (take nodes (drop 4 file)) (drop (4 + nodes) file) functions 0)
+    (stop 1 0))
     (stop 2 0))

@@ -18,3 +18,6 @@ pub mod Machine
 pub mod Calls
 pub mod Ledger
 pub mod Demands
+pub mod Computing
+pub mod Trials
+pub mod Slips

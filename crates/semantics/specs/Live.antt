@@ -20,7 +20,6 @@ _∖_ a x = λ y. not (eqb x y) && a y
 
 infixr 30 _∪_
 infixl 35 _∖_
-
 abbrev pub only : ℕ → Set
 only x = λ y. eqb x y
 

@@ -40,7 +40,7 @@ lower-events g f (suc (suc n)) c σ = []
 unfoldable pub release-events : ℕ → ℕ → Store → List Event
 release-events zero c σ = []
 release-events (suc n) c σ =
-  touching σ c ++ lower-events (released n) (release-events n) (cell σ c .count) c σ
+    touching σ c ++ lower-events (released n) (release-events n) (cell σ c .count) c σ
 
 -- ---- the state and its changes
 
@@ -72,7 +72,7 @@ step s = stepped (s .left) s
 
 unfoldable pub acquire-if : Bool → List ℕ → ℕ → List ℤ → Work ℤ
 acquire-if true R d ws s =
-  done (pos (s .store .first)) (with-store s (acquired d ws (s .store)) (acquires (s .store .first) ∷ []))
+    done (pos (s .store .first)) (with-store s (acquired d ws (s .store)) (acquires (s .store .first) ∷ []))
 acquire-if false R d ws s = stop 25 (with-roots s R)
 
 -- the free list's first cell with these words, while the roots R are in use
@@ -82,14 +82,14 @@ acquire R d ws s = acquire-if (has-free (s .store)) R d ws s
 -- the words of the cell that a word names
 unfoldable pub elements-of : ℤ → Work (List ℤ)
 elements-of w s =
-  done (elements (cell (s .store) (cell-of w))) (with-store s (s .store) (touching (s .store) (cell-of w)))
+    done (elements (cell (s .store) (cell-of w))) (with-store s (s .store) (touching (s .store) (cell-of w)))
 
 unfoldable pub retain-word : ℤ → Work (Unit {0})
 retain-word w s = done tt (with-store s (retained (cell-of w) (s .store)) (touching (s .store) (cell-of w)))
 
 unfoldable pub release-word : ℤ → Work (Unit {0})
 release-word w s =
-  done tt (with-store s (released deepest (cell-of w) (s .store)) (release-events deepest (cell-of w) (s .store)))
+    done tt (with-store s (released deepest (cell-of w) (s .store)) (release-events deepest (cell-of w) (s .store)))
 
 -- a word put behind the elements of a cell
 unfoldable pub append-word : ℤ → ℤ → Work (Unit {0})
@@ -166,7 +166,7 @@ module _ (callee : Callee) (Γ : NameDepths) where
       ws ← elements-of (word ρ a)
       c ← acquire R′ (atom-depth Γ (ending t)) []
       passes (work-pass (λ w. work t B (R′ ++ (cell-of c ∷ [])) (updated ρ p w)) (word ρ a) c)
-        tt (tabulate 0 (length ws) (λ i. i))
+          tt (tabulate 0 (length ws) (λ i. i))
       give (updated ρ x c)
     work-line (retain x) A R ρ = do
       retain-word (ρ x)
@@ -197,8 +197,8 @@ frame-from (w ∷ ws) n = updated (frame-from ws (suc n)) n w
 unfoldable pub machine : List Routine → ℕ → Callee
 machine rs zero R f ws = halt 22
 machine rs (suc n) R f ws =
-  let r = getD rs f no-routine in
-  work (machine rs n) (r .depths) (r .tree) empty R (frame-from ws 0)
+    let r = getD rs f no-routine in
+    work (machine rs n) (r .depths) (r .tree) empty R (frame-from ws 0)
 
 -- something to do with the totals where they are an array
 abbrev pub if-array : ℕ → Work (Unit {0}) → Work (Unit {0})
@@ -208,15 +208,15 @@ if-array (suc d) m = m
 -- The readings' cell, the totals retained, main, the result in the totals' place, the old totals released
 unfoldable pub delivery : Script → List ℤ → Work (Unit {0})
 delivery fs readings s =
-  let old = s .store .totals in
-  let d = main-depth fs in
-  let R = named-by d (old ∷ []) in
-  (do
-    c ← acquire R 0 readings
-    if-array d (retain-word old)
-    w ← machine (map (routine fs) fs) 32 R 0 (old ∷ c ∷ [])
-    (λ s. done tt (with-store s (with-totals (s .store) w) []))
-    if-array d (release-word old)) s
+    let old = s .store .totals in
+    let d = main-depth fs in
+    let R = named-by d (old ∷ []) in
+    (do
+      c ← acquire R 0 readings
+      if-array d (retain-word old)
+      w ← machine (map (routine fs) fs) 32 R 0 (old ∷ c ∷ [])
+      (λ s. done tt (with-store s (with-totals (s .store) w) []))
+      if-array d (release-word old)) s
 
 unfoldable pub starting : ℕ → Store → State
 starting budget σ = record { left = budget; store = σ; log = []; roots = [] }

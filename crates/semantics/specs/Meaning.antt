@@ -104,13 +104,13 @@ bound (x ∷ xs) (v ∷ vs) = updated (bound xs vs) (x .id) v
 unfoldable pub meaning : Script → ℕ → Callee
 meaning fs zero f vs = halt 22
 meaning fs (suc n) f vs =
-  let g = function-at fs f in
-  eval (meaning fs n) (g .body) (bound (g .parameters) vs)
+    let g = function-at fs f in
+    eval (meaning fs n) (g .body) (bound (g .parameters) vs)
 
 -- main on the totals and the readings, with a budget
 unfoldable pub main-meaning : Script → Value → Value → ℕ → Outcome Meter Value
 main-meaning fs totals readings budget =
-  meaning fs 32 0 (totals ∷ readings ∷ []) (record { left = budget; trace = [] })
+    meaning fs 32 0 (totals ∷ readings ∷ []) (record { left = budget; trace = [] })
 
 -- whether step k, counted from 1, is of a node that wants a cell
 unfoldable pub step-wants : ℕ → List Bool → Bool

@@ -24,7 +24,7 @@ module _ (functions : ℕ) where
     unknown (index a b) known p = unknown a known (p + 1) ++ unknown b known (p + 1 + size a)
     unknown (length-of a) known p = unknown a known (p + 1)
     unknown (if-else a b c) known p =
-      unknown a known (p + 1) ++ (unknown b known (p + 1 + size a) ++ unknown c known (p + 1 + size a + size b))
+        unknown a known (p + 1) ++ (unknown b known (p + 1 + size a) ++ unknown c known (p + 1 + size a + size b))
     unknown (map-over x a b) known p = unknown a known (p + 1) ++ unknown b (updated known x true) (p + 1 + size a)
 
     pub unknowns : Exprs → Scope → ℕ → List ℕ
@@ -39,7 +39,7 @@ module _ (functions : ℕ) where
   unfoldable pub unknown-in : Script → ℕ → List ℕ
   unknown-in [] p = []
   unknown-in (g ∷ gs) p =
-    unknown-from (g .parameters) (λ _. false) (p + 1) (g .body) ++ unknown-in gs (p + function-size g)
+      unknown-from (g .parameters) (λ _. false) (p + 1) (g .body) ++ unknown-in gs (p + function-size g)
 
 -- all nodes of a script that break the rule
 unfoldable pub name-faults : Script → List ℕ

@@ -33,7 +33,7 @@ unfoldable mutual
 unfoldable pub crowded-from : Script → ℕ → Option ℕ
 crowded-from [] p = none
 crowded-from (g ∷ gs) p =
-  cond (ltb 256 (length (g .parameters) + fresh (g .body))) (some p) (crowded-from gs (p + function-size g))
+    cond (ltb 256 (length (g .parameters) + fresh (g .body))) (some p) (crowded-from gs (p + function-size g))
 
 abbrev pub crowded : Script → Option ℕ
 crowded fs = crowded-from fs 0
@@ -66,24 +66,24 @@ unfoldable mutual
   lines (S.number z) μ n k = k
   lines (S.name x) μ n k = k
   lines (S.operation o a b) μ n k =
-    let m = n + fresh a in
-    lines a μ n (lines b μ m (line (operation (m + fresh b) o (atom a μ n) (atom b μ m)) k))
+      let m = n + fresh a in
+      lines a μ n (lines b μ m (line (operation (m + fresh b) o (atom a μ n) (atom b μ m)) k))
   lines (S.let-in x a b) μ n k = lines a μ n (lines b (updated μ x (atom a μ n)) (n + fresh a) k)
   lines (S.call f es) μ n k = all-lines es μ n (line (call (n + fresh-all es) f (atoms es μ n)) k)
   lines (S.literal d es) μ n k = all-lines es μ n (line (literal (n + fresh-all es) d (atoms es μ n)) k)
   lines (S.index a b) μ n k =
-    let m = n + fresh a in
-    lines a μ n (lines b μ m (line (index (m + fresh b) (atom a μ n) (atom b μ m)) k))
+      let m = n + fresh a in
+      lines a μ n (lines b μ m (line (index (m + fresh b) (atom a μ n) (atom b μ m)) k))
   lines (S.length-of a) μ n k = lines a μ n (line (length-of (n + fresh a) (atom a μ n)) k)
   lines (S.if-else a b c) μ n k =
-    let m = n + fresh a in
-    let t = lines b μ (m + 1) (end (atom b μ (m + 1))) in
-    let e = lines c μ (m + 1 + fresh b) (end (atom c μ (m + 1 + fresh b))) in
-    lines a μ n (line (if-else m (atom a μ n) t e) k)
+      let m = n + fresh a in
+      let t = lines b μ (m + 1) (end (atom b μ (m + 1))) in
+      let e = lines c μ (m + 1 + fresh b) (end (atom c μ (m + 1 + fresh b))) in
+      lines a μ n (line (if-else m (atom a μ n) t e) k)
   lines (S.map-over y a b) μ n k =
-    let m = n + fresh a in
-    let μ′ = updated μ y (name (m + 1)) in
-    lines a μ n (line (map-over m (m + 1) (atom a μ n) (lines b μ′ (m + 2) (end (atom b μ′ (m + 2))))) k)
+      let m = n + fresh a in
+      let μ′ = updated μ y (name (m + 1)) in
+      lines a μ n (line (map-over m (m + 1) (atom a μ n) (lines b μ′ (m + 2) (end (atom b μ′ (m + 2))))) k)
 
   pub all-lines : Exprs → Meanings → ℕ → Tree → Tree
   all-lines S.none μ n k = k

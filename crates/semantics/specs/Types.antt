@@ -52,7 +52,8 @@ breaks r none = false
 unfoldable pub node : ℕ → Rule → List Checked → Checked
 node p r cs = record {
   depth = ruled r (part-depths cs);
-  faults = with-if (breaks r (part-depths cs)) p (part-faults cs) }
+  faults = with-if (breaks r (part-depths cs)) p (part-faults cs);
+}
 
 abbrev pub some-if : Bool → ℕ → Option ℕ
 some-if true d = some d
@@ -127,9 +128,9 @@ is-number none = false
 -- a map over a number breaks the rule whatever its body
 unfoldable pub map-node : ℕ → Checked → Checked → Checked
 map-node p a b =
-  cond (is-number (a .depth))
-  (record { depth = none; faults = p ∷ (a .faults ++ b .faults) })
-  (node p map-rule (a ∷ b ∷ []))
+    cond (is-number (a .depth))
+    (record { depth = none; faults = p ∷ (a .faults ++ b .faults) })
+    (node p map-rule (a ∷ b ∷ []))
 
 module _ (signatures : ℕ → Signature) where
   unfoldable mutual
@@ -139,17 +140,17 @@ module _ (signatures : ℕ → Signature) where
     check (name x) Γ p = record { depth = Γ x; faults = [] }
     check (operation o a b) Γ p = node p number-rule (check a Γ (p + 1) ∷ check b Γ (p + 1 + size a) ∷ [])
     check (let-in x a b) Γ p =
-      let c = check a Γ (p + 1) in
-      node p let-rule (c ∷ check b (updated Γ x (c .depth)) (p + 1 + size a) ∷ [])
+        let c = check a Γ (p + 1) in
+        node p let-rule (c ∷ check b (updated Γ x (c .depth)) (p + 1 + size a) ∷ [])
     check (call f es) Γ p = node p (call-rule (signatures f)) (checks es Γ (p + 1))
     check (literal d es) Γ p = node p (literal-rule d) (checks es Γ (p + 1))
     check (index a b) Γ p = node p index-rule (check a Γ (p + 1) ∷ check b Γ (p + 1 + size a) ∷ [])
     check (length-of a) Γ p = node p length-rule (check a Γ (p + 1) ∷ [])
     check (if-else a b c) Γ p =
-      node p if-rule (check a Γ (p + 1) ∷ check b Γ (p + 1 + size a) ∷ check c Γ (p + 1 + size a + size b) ∷ [])
+        node p if-rule (check a Γ (p + 1) ∷ check b Γ (p + 1 + size a) ∷ check c Γ (p + 1 + size a + size b) ∷ [])
     check (map-over x a b) Γ p =
-      let c = check a Γ (p + 1) in
-      map-node p c (check b (updated Γ x (element (c .depth))) (p + 1 + size a))
+        let c = check a Γ (p + 1) in
+        map-node p c (check b (updated Γ x (element (c .depth))) (p + 1 + size a))
 
     pub checks : Exprs → Depths → ℕ → List Checked
     checks S.none Γ p = []
@@ -166,8 +167,8 @@ module _ (signatures : ℕ → Signature) where
   -- Rule 6 comes first, so what an unknown name has does not matter.
   unfoldable pub check-function : Bool → Function → ℕ → Checked
   check-function shape g p =
-    let c = check (g .body) (parameter-depths (g .parameters) (λ _. some 0)) (p + 1 + length (g .parameters)) in
-    cond shape (node p (result-rule (g .result)) (c ∷ [])) (record { depth = none; faults = p ∷ c .faults })
+      let c = check (g .body) (parameter-depths (g .parameters) (λ _. some 0)) (p + 1 + length (g .parameters)) in
+      cond shape (node p (result-rule (g .result)) (c ∷ [])) (record { depth = none; faults = p ∷ c .faults })
 
   unfoldable pub function-faults : Bool → Script → ℕ → List ℕ
   function-faults shape [] p = []
