@@ -1,0 +1,4 @@
+pub mod Lists
+pub mod Plain
+pub mod Discipline
+pub mod Invariant

@@ -1,0 +1,1 @@
+// The statements of the soundness proof are in specs/; this crate has no code.
