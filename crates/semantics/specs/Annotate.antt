@@ -6,9 +6,12 @@ use lib.ListN.{length}
 use lib.Dec.{ltb}
 use Rattle.semantics.specs.Basics.{with-if, updated}
 use Rattle.semantics.specs.Syntax.{Parameter, Function, Script, function-at}
-use Rattle.semantics.specs.Code.{Atom, number, name, Line, operation, call, literal, index, length-of, if-else, map-over, retain, release, Tree, end, line, ending, retain-all, release-all, Row, row, rows}
+use Rattle.semantics.specs.Code.{Atom, number, name, Line, operation, call, literal, index, length-of, if-else}
+use Rattle.semantics.specs.Code.{map-over, retain, release, Tree, end, line, ending, retain-all, release-all}
+use Rattle.semantics.specs.Code.{Row, row, rows}
 use Rattle.semantics.specs.Normal.{normal-body}
-use Rattle.semantics.specs.Live.{Set, empty, _∪_, _∖_, only, is, among, members, live, uses, after-branch, after-pass}
+use Rattle.semantics.specs.Live.{Set, empty, _∪_, _∖_, only, is, among, members, live, uses, after-branch}
+use Rattle.semantics.specs.Live.{after-pass}
 
 -- ---- the depths of a function's new names
 

@@ -9,7 +9,8 @@ use lib.ListN.{length, getD, take, drop}
 use lib.Dec.{eqb, ltb, leb}
 use Rattle.semantics.specs.Outcome.{Outcome, done, stop, Run, _>>=_, _>>_, give, halt, times}
 use Rattle.semantics.specs.Number.{sum, difference, less, bytes-at, signed}
-use Rattle.semantics.specs.Syntax.{Expr, number, name, operation, let-in, call, literal, index, length-of, if-else, map-over, exprs-of, Parameter, Function, Script}
+use Rattle.semantics.specs.Syntax.{Expr, number, name, operation, let-in, call, literal, index, length-of}
+use Rattle.semantics.specs.Syntax.{if-else, map-over, exprs-of, Parameter, Function, Script}
 
 -- A node with an operand in range, low + 256 × high; a number has its value instead.
 pub record Head : Type 0 where

@@ -4,7 +4,8 @@ use mathlib.Core.Bool.{Bool, true, false, not, _&&_, _||_}
 use mathlib.Core.List.{List, [], _∷_}
 use lib.Dec.{eqb}
 use Rattle.semantics.specs.Basics.{with-if}
-use Rattle.semantics.specs.Code.{Atom, number, name, Line, operation, call, literal, index, length-of, if-else, map-over, retain, release, Tree, end, line}
+use Rattle.semantics.specs.Code.{Atom, number, name, Line, operation, call, literal, index, length-of, if-else}
+use Rattle.semantics.specs.Code.{map-over, retain, release, Tree, end, line}
 
 abbrev pub Set : Type 0
 Set = ℕ → Bool

@@ -11,10 +11,12 @@ use Rattle.semantics.specs.Basics.{tabulate, with-if, occurrences, updat
 use Rattle.semantics.specs.Outcome.{Outcome, done, stop, Run, _>>=_, _>>_, give, halt, require, passes}
 use Rattle.semantics.specs.Number.{exact, fits, inside, is-zero}
 use Rattle.semantics.specs.Syntax.{Function, Script, main-depth}
-use Rattle.semantics.specs.Code.{Atom, number, name, Line, operation, call, literal, index, length-of, if-else, map-over, retain, release, Tree, end, line, ending}
+use Rattle.semantics.specs.Code.{Atom, number, name, Line, operation, call, literal, index, length-of, if-else}
+use Rattle.semantics.specs.Code.{map-over, retain, release, Tree, end, line, ending}
 use Rattle.semantics.specs.Live.{Set, empty, _∪_, _∖_, is, among, members, live, after-branch, after-pass}
 use Rattle.semantics.specs.Annotate.{NameDepths, atom-depth, is-array, depths-of, annotated-body}
-use Rattle.semantics.specs.Store.{Store, cell, cell-of, elements, inner, named-by, with-totals, has-free, acquired, retained, released, freed, appended, relinked, deepest}
+use Rattle.semantics.specs.Store.{Store, cell, cell-of, elements, inner, named-by, with-totals, has-free}
+use Rattle.semantics.specs.Store.{acquired, retained, released, freed, appended, relinked, deepest}
 use Rattle.semantics.specs.Sound.{free-list}
 
 -- ---- the log

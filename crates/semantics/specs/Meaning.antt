@@ -11,7 +11,8 @@ use Rattle.semantics.specs.Outcome.{Outcome, done, stop, Run, _>>=_, _>>
 use Rattle.semantics.specs.Number.{Operation, exact, fits, inside, is-zero}
 use Rattle.semantics.specs.Value.{Value, num, array, items, number-in, list}
 use Rattle.semantics.specs.Syntax as S
-use Rattle.semantics.specs.Syntax.{Expr, number, name, operation, let-in, call, literal, index, length-of, if-else, map-over, Exprs, Parameter, Script, function-at}
+use Rattle.semantics.specs.Syntax.{Expr, number, name, operation, let-in, call, literal, index, length-of}
+use Rattle.semantics.specs.Syntax.{if-else, map-over, Exprs, Parameter, Script, function-at}
 
 -- The steps left, and the trace: for each step taken, the last one first, whether its node wants a cell.
 pub record Meter : Type 0 where

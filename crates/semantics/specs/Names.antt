@@ -5,7 +5,9 @@ use mathlib.Core.List.{List, [], _∷_, _++_}
 use lib.ListN.{length}
 use lib.Dec.{leb}
 use Rattle.semantics.specs.Basics.{with-if, updated}
-use Rattle.semantics.specs.Syntax.{Expr, number, name, operation, let-in, call, literal, index, length-of, if-else, map-over, Exprs, none, more, size, Parameter, Function, Script, function-size}
+use Rattle.semantics.specs.Syntax.{Expr, number, name, operation, let-in, call, literal, index, length-of}
+use Rattle.semantics.specs.Syntax.{if-else, map-over, Exprs, none, more, size, Parameter, Function, Script}
+use Rattle.semantics.specs.Syntax.{function-size}
 
 -- the names that are known
 abbrev pub Scope : Type 0

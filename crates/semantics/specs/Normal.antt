@@ -9,7 +9,8 @@ use lib.Dec.{ltb}
 use Rattle.semantics.specs.Basics.{updated}
 use Rattle.semantics.specs.Syntax as S
 use Rattle.semantics.specs.Syntax.{Expr, Exprs, Parameter, Function, Script, function-size}
-use Rattle.semantics.specs.Code.{Atom, number, name, operation, call, literal, index, length-of, if-else, map-over, Tree, end, line}
+use Rattle.semantics.specs.Code.{Atom, number, name, operation, call, literal, index, length-of, if-else}
+use Rattle.semantics.specs.Code.{map-over, Tree, end, line}
 
 -- how many new names an expression takes: one for each compound node, and one more for each map
 unfoldable mutual
@@ -30,13 +31,13 @@ unfoldable mutual
   fresh-all (S.more e es) = fresh e + fresh-all es
 
 -- Refusal 8: the node of the first function, from node p on, that has over 256 new names
-unfoldable pub crowded-from : Script → ℕ → Option ℕ
-crowded-from [] p = none
-crowded-from (g ∷ gs) p =
-    cond (ltb 256 (length (g .parameters) + fresh (g .body))) (some p) (crowded-from gs (p + function-size g))
+unfoldable pub too-many-names-from : Script → ℕ → Option ℕ
+too-many-names-from [] p = none
+too-many-names-from (g ∷ gs) p =
+    cond (ltb 256 (length (g .parameters) + fresh (g .body))) (some p) (too-many-names-from gs (p + function-size g))
 
-abbrev pub crowded : Script → Option ℕ
-crowded fs = crowded-from fs 0
+abbrev pub too-many-names : Script → Option ℕ
+too-many-names fs = too-many-names-from fs 0
 
 -- the atoms that the written names mean
 abbrev pub Meanings : Type 0

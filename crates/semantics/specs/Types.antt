@@ -7,7 +7,9 @@ use lib.ListN.{length}
 use lib.Dec.{eqb, leb}
 use Rattle.semantics.specs.Basics.{with-if, updated}
 use Rattle.semantics.specs.Syntax as S
-use Rattle.semantics.specs.Syntax.{Expr, number, name, operation, let-in, call, literal, index, length-of, if-else, map-over, Exprs, size, Parameter, Function, Script, function-at, function-size}
+use Rattle.semantics.specs.Syntax.{Expr, number, name, operation, let-in, call, literal, index, length-of}
+use Rattle.semantics.specs.Syntax.{if-else, map-over, Exprs, size, Parameter, Function, Script, function-at}
+use Rattle.semantics.specs.Syntax.{function-size}
 
 -- What is found of a tree: its depth, if it has one, and its nodes that break the rule.
 pub record Checked : Type 0 where

@@ -1,4 +1,0 @@
-pub mod Lists
-pub mod Plain
-pub mod Discipline
-pub mod Invariant

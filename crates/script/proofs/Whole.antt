@@ -1,0 +1,127 @@
+-- The whole file: its two parts, and its verdict.
+use mathlib.Core.Path.{_≡_, refl, _∙_}
+use mathlib.Core.Bool.{Bool, true, false, cond, _&&_}
+use mathlib.Core.List.{List, [], _∷_}
+use mathlib.Core.Option.{Option, none, some}
+use Prim.Native.Nat.{ℕ, _+_, _-_, _*_}
+use native.Mathlib.Omega.{arith}
+use lib.Dec.{leb, ltb, eqb}
+use lib.ListN.{length, take, drop, length-take, length-drop}
+use lib.Seq.{take-all}
+use borrow.Author.Tests.{eqb-true, leb-true, eq-eqb}
+use Rattle.semantics.specs.Basics.{occurrences, _∈_}
+use Rattle.semantics.specs.Outcome.{Outcome, done, stop}
+use Rattle.semantics.specs.Number.{bytes-at}
+use Rattle.semantics.specs.Syntax.{Script}
+use Rattle.semantics.specs.File.{script, read-file, between}
+use Rattle.semantics.specs.Names.{name-faults}
+use Rattle.semantics.specs.Types.{type-faults}
+use Rattle.semantics.specs.Normal.{too-many-names}
+use Rattle.semantics.specs.Calls.{judged, judged-script, Faulty-in}
+use Rattle.script_read.specs.Told.{told}
+use Rattle.script_read.specs.declared.Read.the-variants as R
+use Rattle.script_read.proofs.Whole.{few, file-parts}
+use Rattle.script.specs.Verdicts.{Readable, told-verdict, node-of, Judges, refused-by, listed, checked-as}
+use Rattle.script.specs.declared.Verdict.{Verdict}
+use Rattle.script.specs.declared.Verdict.the-variants.{Accepted, Refused}
+
+-- the parts as the code passes them on
+abbrev pub kinds-of : List ℕ → ℕ → List ℕ
+kinds-of l n = take (4 + n - 4) (drop 4 l)
+
+abbrev pub operands-of : List ℕ → ℕ → List ℕ
+operands-of l n = take (length l - (4 + n)) (drop (4 + n) l)
+
+-- a file that the reader takes, with its sizes
+pub record Taken (l : List ℕ) (f n : ℕ) : Type 0 where
+  pub long : length l ≡ 4 + 9 * n
+  pub readable : Readable (kinds-of l n) (operands-of l n) f
+  pub same : script (kinds-of l n) (operands-of l n) f 0 ≡ read-file l
+  pub sized : length (kinds-of l n) ≡ n
+
+both : (s t : Bool) → (s && t) ≡ true → (s ≡ true) × (t ≡ true)
+both true t e = (refl, e)
+both false t e = let z : _≡_ {A = ℕ} 0 1 = cc in absurd (omega arith)
+
+-- the script behind an answer that goes on
+tree-of : (o : Outcome ℕ Script) (q : ℕ) → R.Next q ≡ told o → (fs : Script) × (o ≡ done fs q)
+tree-of (done fs p) q e = let i : p ≡ q = cc in (fs, rw i)
+tree-of (stop n p) q e = let z : _≡_ {A = ℕ} 0 1 = cc in absurd (omega arith)
+
+module _ (l : List ℕ) (f n q : ℕ) (fe : f ≡ bytes-at 2 l 0) (ne : n ≡ bytes-at 2 l 2) where
+  parts-same : length l ≡ 4 + 9 * n →
+      script (kinds-of l n) (operands-of l n) f 0 ≡ script (take n (drop 4 l)) (drop (4 + n) l) f 0
+  parts-same g =
+      let i : 4 + n - 4 ≡ n = omega arith in
+      let j : operands-of l n ≡ drop (4 + n) l =
+      take-all (length l - (4 + n)) (drop (4 + n) l) (omega (arith, length-drop (4 + n) l)) in
+      rw (i, j)
+
+  pub taken : R.Next q ≡ told (read-file l) → Taken l f n
+  unfolding read-file
+  taken e =
+      go (ltb (length l) 4) refl (between 1 32 f && between 1 1024 n) refl (eqb (length l) (4 + 9 * n)) refl
+      (rw (← fe, ← ne) at e)
+    where
+      go : (s : Bool) → ltb (length l) 4 ≡ s → (t : Bool) → (between 1 32 f && between 1 1024 n) ≡ t →
+          (u : Bool) → eqb (length l) (4 + 9 * n) ≡ u →
+          R.Next q ≡ told (cond s (stop 1 0)
+          (cond t (cond u (script (take n (drop 4 l)) (drop (4 + n) l) f 0) (stop 1 0)) (stop 2 0))) →
+          Taken l f n
+      go true i t j u g e = let z : _≡_ {A = ℕ} 0 1 = cc in absurd (omega arith)
+      go false i false j u g e = let z : _≡_ {A = ℕ} 0 1 = cc in absurd (omega arith)
+      go false i true j false g e = let z : _≡_ {A = ℕ} 0 1 = cc in absurd (omega arith)
+      go false i true j true g e =
+          let v = tree-of (script (take n (drop 4 l)) (drop (4 + n) l) f 0) q e in
+          let whole = eqb-true (length l) (4 + 9 * n) g in
+          let sizes = both (between 1 32 f) (between 1 1024 n) j in
+          let functions = both (leb 1 f) (leb f 32) (sizes .0) in
+          record {
+            long = whole;
+            readable = record {
+              parts = file-parts l n (few f n j) whole;
+              one = leb-true 1 f (functions .0);
+              few = leb-true f 32 (functions .1);
+              tree = v .0;
+              end = q;
+              reads = parts-same whole ∙ v .1;
+            };
+            same = parts-same whole ∙ rw (← fe, ← ne, i, j, g);
+            sized = simp (length-take, length-drop) (omega arith);
+          }
+
+-- the verdict with the lowest node is one that the definitions allow
+among : (p : ℕ) (l : List ℕ) → p ∈ (p ∷ l)
+unfolding occurrences
+among p l = rw (eq-eqb p p refl) (omega arith)
+
+module _ (l : List ℕ) (r : Verdict) where
+  by-faults : (fs : Script) (a b : List ℕ) (c : Option ℕ) →
+      r ≡ refused-by 6 a (refused-by 7 b (refused-by 8 (listed c) (Accepted (bytes-at 2 l 0) (bytes-at 2 l 2)))) →
+      (r ≡ told-verdict l (judged-script (node-of r) fs a b c)) × Faulty-in (node-of r) a b
+  by-faults fs [] [] none e = rw e (refl, tt)
+  by-faults fs [] [] (some p) e = rw e (refl, tt)
+  by-faults fs [] (q ∷ qs) c e = rw e (refl, among q qs)
+  by-faults fs (p ∷ ps) b c e = rw e (refl, among p ps)
+
+  pub judges : r ≡ checked-as (bytes-at 2 l 0) (bytes-at 2 l 2) (read-file l) → Judges l r
+  unfolding judged
+  judges e = go (read-file l) refl e
+    where
+      go : (o : Outcome ℕ Script) → read-file l ≡ o → r ≡ checked-as (bytes-at 2 l 0) (bytes-at 2 l 2) o → Judges l r
+      go (done fs q) i e =
+          let h = by-faults fs (name-faults fs) (type-faults fs) (too-many-names fs) e in
+          record { is = rw i (h .0); faulty = rw i (h .1) }
+      go (stop n p) i e = record { is = rw (i, e); faulty = rw i tt }
+
+  pub refused : (n p : ℕ) → r ≡ Refused n p → R.Refused n p ≡ told (read-file l) → Judges l r
+  refused n p e f = judges (e ∙ go (read-file l) f)
+    where
+      go : (o : Outcome ℕ Script) → R.Refused n p ≡ told o →
+          Refused n p ≡ checked-as (bytes-at 2 l 0) (bytes-at 2 l 2) o
+      go (done fs q) f = let z : _≡_ {A = ℕ} 0 1 = cc in absurd (omega arith)
+      go (stop m q) f = cc
+
+  pub checked : {f n : ℕ} → f ≡ bytes-at 2 l 0 → n ≡ bytes-at 2 l 2 → Taken l f n →
+      r ≡ checked-as f (length (kinds-of l n)) (script (kinds-of l n) (operands-of l n) f 0) → Judges l r
+  checked fe ne t e = judges (rw (← fe, ← ne) (rw (t .sized, t .same) at e))

@@ -1,0 +1,79 @@
+-- `script_count::count_script` meets its contract, by the laws of `Laws`.
+use Prim.Native.Nat.{_-_}
+use native.Mathlib.Omega.{arith}
+use mathlib.Core.Path.{sym, _∙_}
+use lib.ListN.{length}
+use Rattle.script_count.specs.Count.{crowd}
+use Rattle.script_count.proofs.Laws.{Passing, pass-starts, pass-stops, pass-goes, pass-over, pass-within}
+use borrow.Author.Needs.{needs}
+use Rattle.script_count.proofs.count_script.Statement.{statement}
+use Rattle.script_count.proofs.count_script.Tie as tie
+
+abbrev Inv-loop : tie.InvT-loop
+Inv-loop kinds p₀ start₀ count₀ p start count = Passing kinds (crowd kinds (length kinds) 0 0 0) p start count
+
+abbrev μ-loop : tie.MeasureT-loop
+μ-loop kinds p₀ start₀ count₀ p start count = length kinds - p
+
+loop-holds : tie.Need-loop-holds Inv-loop μ-loop
+loop-holds c = pass-starts _
+
+shared-slice-read-kind : tie.Need-shared-slice-read-kind Inv-loop μ-loop
+shared-slice-read-kind c = search needs
+
+crowd-ends-requires : tie.Need-crowd-ends-requires Inv-loop μ-loop
+crowd-ends-requires c κs = search needs
+
+returns : tie.Need-returns Inv-loop μ-loop
+returns c =
+    pass-stops (c .before .before .before .before .loop .inv) (c .before .before .before .loop-test .taken)
+    (sym (c .before .crowd-ends .ensures) ∙ c .if1 .taken)
+
+start-after-requires : tie.Need-start-after-requires Inv-loop μ-loop
+start-after-requires c κs = search needs
+
+count-after-requires : tie.Need-count-after-requires Inv-loop μ-loop
+count-after-requires c κs =
+    omega (
+      arith,
+      c .before .before .before .before .before .loop .inv .few,
+      c .before .before .before .before .before .loop .inv .under,
+      c .before .before .before .before .before .before .before .pre,
+    )
+
+add-p : tie.Need-add-p Inv-loop μ-loop
+add-p c = search needs
+
+loop-less : tie.Need-loop-less Inv-loop μ-loop
+loop-less c = search needs
+
+loop-again : tie.Need-loop-again Inv-loop μ-loop
+loop-again c =
+    pass-goes (c .before .before .before .before .before .before .loop .inv)
+    (c .before .before .before .before .before .loop-test .taken)
+    (sym (c .before .before .before .crowd-ends .ensures) ∙ c .before .before .if1 .left) _ _
+    (c .before .start-after .ensures) (c .count-after .ensures .0) (c .count-after .ensures .1)
+
+returns-2 : tie.Need-returns-2 Inv-loop μ-loop
+returns-2 c = pass-over (c .before .before .loop .inv) (c .before .loop-test .left) (c .if2 .taken)
+
+returns-3 : tie.Need-returns-3 Inv-loop μ-loop
+returns-3 c = pass-within (c .before .before .loop .inv) (c .before .loop-test .left) (c .if2 .left)
+
+pub count-script-spec : {M : Type 1} → statement M
+count-script-spec =
+    tie.close
+    (tie.spec
+    Inv-loop
+    μ-loop
+    loop-holds
+    shared-slice-read-kind
+    crowd-ends-requires
+    returns
+    start-after-requires
+    count-after-requires
+    add-p
+    loop-less
+    loop-again
+    returns-2
+    returns-3)

@@ -1,0 +1,14 @@
+-- `script_count::crowd_ends` meets its contract.
+use borrow.Author.Tests.{eq-eqb, ne-eqb}
+use borrow.Author.Needs.{needs}
+use Rattle.script_count.proofs.crowd_ends.Statement.{statement}
+use Rattle.script_count.proofs.crowd_ends.Tie as tie
+
+returns : tie.Need-returns
+returns c = rw (eq-eqb _ _ (c .if1 .taken))
+
+returns-2 : tie.Need-returns-2
+returns-2 c = rw (ne-eqb _ _ (c .if1 .left))
+
+pub crowd-ends-spec : {M : Type 1} → statement M
+crowd-ends-spec = tie.close (tie.spec returns returns-2)

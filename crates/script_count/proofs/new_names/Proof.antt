@@ -1,0 +1,19 @@
+-- `script_count::new_names` meets its contract.
+use mathlib.Core.Path.{sym}
+use lib.ListN.{List·getD-eq-default}
+use Rattle.script_count.specs.Count.{new-names}
+use borrow.Author.Needs.{needs}
+use Rattle.script_count.proofs.new_names.Statement.{statement}
+use Rattle.script_count.proofs.new_names.Tie as tie
+
+array-read-result : tie.Need-array-read-result
+array-read-result c = search needs
+
+returns : tie.Need-returns
+returns c = search needs
+
+returns-2 : tie.Need-returns-2
+returns-2 c = sym (List·getD-eq-default new-names 0 (c .if1 .left))
+
+pub new-names-spec : {M : Type 1} → statement M
+new-names-spec = tie.close (tie.spec array-read-result returns returns-2)

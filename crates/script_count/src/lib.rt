@@ -1,0 +1,75 @@
+// Refusal 8: the first function with over 256 new names, in one pass over the kinds.
+ghost use mathlib.Core.Path.{_≡_};
+ghost use mathlib.Core.Bool.{_&&_, cond};
+ghost use Prim.Native.Nat.{_+_, _*_, _^_, _<_, _≤_};
+ghost use lib.Dec.{eqb, ltb};
+ghost use lib.ListN.{length, getD};
+ghost use Rattle.script_count.specs.Count.{new-names, crowd-ends, start-after, count-after, crowd, told-crowd};
+
+// The node of a function with too many names, if there is one.
+pub enum Counted {
+    Within,
+    Over(usize),
+}
+
+const NEW_NAMES: [u8; 14] = [0, 1, 0, 0, 1, 1, 1, 0, 1, 1, 1, 1, 1, 2];
+
+// How many new names a node of this kind takes.
+fn new_names(kind: u8) -> u8
+    ensures { λ r. ⌜ r ≡ getD new-names kind 0 ⌝ }
+{
+    let n = kind as usize;
+    if n < 14 { NEW_NAMES[n] } else { 0 }
+}
+
+// Whether a function with too many names ends before a node of this kind.
+fn crowd_ends(kind: u8, count: u64) -> bool
+    ensures { λ r. ⌜ r ≡ crowd-ends kind count ⌝ }
+{
+    if kind == 0 {
+        return 256 < count;
+    }
+    false
+}
+
+// The present function's node, after the node at p.
+fn start_after(kind: u8, p: usize, start: usize) -> usize
+    ensures { λ r. ⌜ r ≡ start-after kind p start ⌝ }
+{
+    if kind == 0 { p } else { start }
+}
+
+// The present function's new names, after a node of this kind.
+fn count_after(kind: u8, count: u64) -> u64
+    requires { ⌜ count ≤ 262144 ⌝ }
+    ensures { λ r. ⌜ (r ≡ count-after kind count) × (r ≤ count + 256) ⌝ }
+{
+    if kind == 0 {
+        return 0;
+    }
+    count + words::wide(new_names(kind))
+}
+
+// The first function with too many new names.
+pub fn count_script(kinds: &[u8]) -> Counted
+    requires { ⌜ length (now kinds) ≤ 1024 ⌝ }
+    ensures { λ r. ⌜ r ≡ told-crowd (crowd (now (kinds .entry)) (length (now (kinds .entry))) 0 0 0) ⌝ }
+{
+    let mut p: usize = 0;
+    let mut start: usize = 0;
+    let mut count: u64 = 0;
+    while p < kinds.len() {
+        let kind = kinds[p];
+        if crowd_ends(kind, count) {
+            return Counted::Over(start);
+        }
+        start = start_after(kind, p, start);
+        count = count_after(kind, count);
+        p = p + 1;
+    }
+    if 256 < count {
+        Counted::Over(start)
+    } else {
+        Counted::Within
+    }
+}

@@ -1,0 +1,228 @@
+-- The rules by kind, and the loops over depths that decide them.
+use mathlib.Core.Path.{_≡_, refl, sym, ap, _∙_}
+use mathlib.Core.Bool.{Bool, true, false, cond, _&&_}
+use mathlib.Core.List.{List, [], _∷_}
+use Prim.Native.Nat.{ℕ, zero, suc, _+_, _-_, _<_, _≤_}
+use native.Mathlib.Omega.{arith}
+use native.Mathlib.Numerals.{add-one}
+use lib.Dec.{leb, eqb}
+use lib.ListN.{length, getD, take, drop, length-take, drop-of-length-le}
+use lib.Seq.{drop-cons, getD-take}
+use borrow.Author.Tests.{eqb-true, eq-eqb, ne-eqb, le-leb, lt-leb, leb-true}
+use Rattle.semantics.specs.File.{part-count, part-counts, low-limits, high-limits}
+use Rattle.semantics.specs.Types.{Signature, all-are, same, call-rule, index-rule, length-rule}
+use Rattle.script_read.specs.Told.{low-at, high-at}
+use Rattle.script_read.proofs.Nodes.{getD-any}
+use Rattle.script_depths.specs.declared.Typed.{Typed}
+use Rattle.script_depths.specs.declared.Typed.the-variants.{Depth, Fault}
+use Rattle.script_depths.specs.declared.Judged.{Judged}
+use Rattle.script_depths.specs.declared.Judged.the-variants.{Has, Broken}
+use Rattle.script_depths.specs.Walk.{depths-from, signature-at, rule-of, told-rule, wrapped}
+
+-- all of the first n depths are d
+module _ (d n : ℕ) (ds : List ℕ) (l : n ≤ length ds) where
+  abbrev pub Alike : ℕ → Type 0
+  Alike i = all-are d (take n ds) ≡ all-are d (drop i (take n ds))
+
+  alike-step : (i : ℕ) → i < n →
+      all-are d (drop i (take n ds)) ≡ (eqb (getD ds i 0) d && all-are d (drop (i + 1) (take n ds)))
+  alike-step i h = rw (add-one, drop-cons (take n ds) i 0 (simp length-take (omega arith)), getD-take n ds i 0 h)
+
+  pub alike-goes : (i : ℕ) → i < n → getD ds i 0 ≡ d → Alike i → Alike (i + 1)
+  alike-goes i h e v = v ∙ alike-step i h ∙ rw (eq-eqb (getD ds i 0) d e)
+
+  pub alike-not : (i : ℕ) → i < n → (getD ds i 0 ≡ d → ⊥) → Alike i → false ≡ all-are d (take n ds)
+  alike-not i h e v = sym (v ∙ alike-step i h ∙ rw (ne-eqb (getD ds i 0) d e))
+
+  pub alike-all : (i : ℕ) → n ≤ i → Alike i → true ≡ all-are d (take n ds)
+  alike-all i h v = sym (v ∙ rw (drop-of-length-le (take n ds) {i = i} (simp length-take (omega arith))))
+
+-- the parameters from node p on have the first n depths
+module _ (k w : List ℕ) (p n : ℕ) (ds : List ℕ) (l : n ≤ length ds) where
+  abbrev pub Matched : ℕ → Type 0
+  Matched i = same (depths-from k w n p) (take n ds) ≡ same (depths-from k w (n - i) (p + i)) (drop i (take n ds))
+
+  pub match-starts : Matched 0
+  match-starts =
+      let e : n - 0 ≡ n = omega arith in
+      let f : p + 0 ≡ p = omega arith in
+      rw (e, f)
+
+  match-step : (i : ℕ) → i < n →
+      same (depths-from k w (n - i) (p + i)) (drop i (take n ds)) ≡
+      (eqb (high-at k w 1 (p + i)) (getD ds i 0) && same (depths-from k w (n - (i + 1)) (p + (i + 1)))
+      (drop (i + 1) (take n ds)))
+  unfolding depths-from
+  match-step i h =
+      let e : n - i ≡ suc (n - (i + 1)) = omega arith in
+      let f : p + (i + 1) ≡ p + i + 1 = omega arith in
+      rw (e, f, drop-cons (take n ds) i 0 (simp length-take (omega arith)), getD-take n ds i 0 h, ← add-one i)
+
+  pub match-goes : (i : ℕ) → i < n → high-at k w 1 (p + i) ≡ getD ds i 0 → Matched i → Matched (i + 1)
+  match-goes i h e v = v ∙ match-step i h ∙ rw (eq-eqb (high-at k w 1 (p + i)) (getD ds i 0) e)
+
+  pub match-not : (i : ℕ) → i < n → (high-at k w 1 (p + i) ≡ getD ds i 0 → ⊥) → Matched i →
+      false ≡ same (depths-from k w n p) (take n ds)
+  match-not i h e v = sym (v ∙ match-step i h ∙ rw (ne-eqb (high-at k w 1 (p + i)) (getD ds i 0) e))
+
+  pub match-all : (i : ℕ) → n ≤ i → Matched i → true ≡ same (depths-from k w n p) (take n ds)
+  unfolding depths-from
+  match-all i h v =
+      let e : n - i ≡ 0 = omega arith in
+      sym (v ∙ rw (e, drop-of-length-le (take n ds) {i = i} (simp length-take (omega arith))))
+
+-- where a function stands
+pub start-at : (starts : List ℕ) (f : ℕ) → length starts ≡ 32 → f ≤ 31 → getD starts f 0 ≡ getD starts f 1024
+start-at starts f l h = getD-any starts f 0 1024 (omega arith)
+
+-- a call's parts
+and-false : (b : Bool) {c : Bool} → false ≡ c → false ≡ (b && c)
+and-false true e = e
+and-false false e = refl
+
+pub counts-differ : (ps ds : List ℕ) → (length ps ≡ length ds → ⊥) → false ≡ same ps ds
+counts-differ [] [] h = absurd (h refl)
+counts-differ [] (x ∷ l) h = refl
+counts-differ (x ∷ l) [] h = refl
+counts-differ (x ∷ l) (y ∷ m) h = and-false (eqb x y) (counts-differ l m (λ e. h (ap suc e)))
+
+pub depths-length : (k w : List ℕ) (n p : ℕ) → length (depths-from k w n p) ≡ n
+unfolding depths-from
+depths-length k w zero p = refl
+depths-length k w (suc n) p = ap suc (depths-length k w n (p + 1))
+
+module _ (k w : List ℕ) (p n : ℕ) (ds : List ℕ) where
+  abbrev pub Calls : Judged → Type 0
+  Calls r = r ≡ told-rule (call-rule (signature-at k w p) (take n ds))
+
+  pub other-count : n ≤ length ds → (c : ℕ) → c ≡ low-at k w 0 p → (c ≡ n → ⊥) → Calls Broken
+  unfolding signature-at
+  other-count l c e f =
+      rw (← counts-differ (depths-from k w (low-at k w 0 p) (p + 1)) (take n ds)
+      (λ i. f (omega (arith, i, depths-length k w (low-at k w 0 p) (p + 1), length-take n ds))))
+
+  module _ (c : ℕ) (ce : c ≡ low-at k w 0 p) (e : c ≡ n) (b : Bool)
+      (f : b ≡ same (depths-from k w n (p + 1)) (take n ds)) where
+    pub call-fits : b ≡ true → (r : ℕ) → r ≡ high-at k w 0 p → Calls (Has r)
+    unfolding signature-at
+    call-fits g r i = rw (← ce, e, ← f, g, i)
+
+    pub call-differs : b ≡ false → Calls Broken
+    unfolding signature-at
+    call-differs g = rw (← ce, e, ← f, g)
+
+-- the first depths
+take-one : (l : List ℕ) → 1 ≤ length l → take 1 l ≡ getD l 0 0 ∷ []
+take-one [] h = absurd (omega arith)
+take-one (x ∷ l) h = refl
+
+take-two : (l : List ℕ) → 2 ≤ length l → take 2 l ≡ getD l 0 0 ∷ getD l 1 0 ∷ []
+take-two [] h = absurd (omega arith)
+take-two (x ∷ l) h = ap (λ (m : List ℕ). x ∷ m) (take-one l (omega arith))
+
+take-three : (l : List ℕ) → 3 ≤ length l → take 3 l ≡ getD l 0 0 ∷ getD l 1 0 ∷ getD l 2 0 ∷ []
+take-three [] h = absurd (omega arith)
+take-three (x ∷ l) h = ap (λ (m : List ℕ). x ∷ m) (take-two l (omega arith))
+
+-- a node of kind x with the parts y and z of its operand
+module _ (signatures : ℕ → Signature) (x y z : ℕ) (ds : List ℕ) (l : length ds ≡ 16) where
+  abbrev pub Says : Judged → Type 0
+  Says r = r ≡ told-rule (rule-of signatures x y z (take (part-count x y z) ds))
+
+  pub call-says : x ≡ 8 → (r : Judged) → r ≡ told-rule (call-rule (signatures y) (take z ds)) → Says r
+  unfolding rule-of part-count
+  call-says e r f = rw e f
+
+  pub literal-good : x ≡ 9 → (b : Bool) → b ≡ all-are z (take y ds) → b ≡ true → Says (Has (z + 1))
+  unfolding rule-of part-count
+  literal-good e b f g = rw (e, ← f, g, add-one)
+
+  pub literal-bad : x ≡ 9 → (b : Bool) → b ≡ all-are z (take y ds) → b ≡ false → Says Broken
+  unfolding rule-of part-count
+  literal-bad e b f g = rw (e, ← f, g)
+
+  pub index-number : x ≡ 10 → getD ds 0 0 ≡ 0 → Says Broken
+  unfolding rule-of part-count
+  index-number e f = rw (e, take-two ds (omega arith), f)
+
+  pub index-good : x ≡ 10 → (getD ds 0 0 ≡ 0 → ⊥) → getD ds 1 0 ≡ 0 → Says (Has (getD ds 0 0 - 1))
+  unfolding rule-of part-count
+  index-good e f g = rw (e, take-two ds (omega arith)) (go (getD ds 0 0) f)
+    where
+      go : (a : ℕ) → (a ≡ 0 → ⊥) → Has (a - 1) ≡ told-rule (index-rule (a ∷ getD ds 1 0 ∷ []))
+      go zero f = absurd (f refl)
+      go (suc a) f = rw g (ap Has (omega arith))
+
+  pub index-bad : x ≡ 10 → (getD ds 0 0 ≡ 0 → ⊥) → (getD ds 1 0 ≡ 0 → ⊥) → Says Broken
+  unfolding rule-of part-count
+  index-bad e f g = rw (e, take-two ds (omega arith)) (go (getD ds 0 0) f)
+    where
+      go : (a : ℕ) → (a ≡ 0 → ⊥) → Broken ≡ told-rule (index-rule (a ∷ getD ds 1 0 ∷ []))
+      go zero f = absurd (f refl)
+      go (suc a) f = rw (ne-eqb (getD ds 1 0) 0 g)
+
+  pub length-number : x ≡ 11 → getD ds 0 0 ≡ 0 → Says Broken
+  unfolding rule-of part-count
+  length-number e f = rw (e, take-one ds (omega arith), f)
+
+  pub length-good : x ≡ 11 → (getD ds 0 0 ≡ 0 → ⊥) → Says (Has 0)
+  unfolding rule-of part-count
+  length-good e f = rw (e, take-one ds (omega arith)) (go (getD ds 0 0) f)
+    where
+      go : (a : ℕ) → (a ≡ 0 → ⊥) → Has 0 ≡ told-rule (length-rule (a ∷ []))
+      go zero f = absurd (f refl)
+      go (suc a) f = refl
+
+  pub if-guard : x ≡ 12 → (getD ds 0 0 ≡ 0 → ⊥) → Says Broken
+  unfolding rule-of part-count
+  if-guard e f = rw (e, take-three ds (omega arith), ne-eqb (getD ds 0 0) 0 f)
+
+  pub if-good : x ≡ 12 → getD ds 0 0 ≡ 0 → getD ds 1 0 ≡ getD ds 2 0 → Says (Has (getD ds 1 0))
+  unfolding rule-of part-count
+  if-good e f g = rw (e, take-three ds (omega arith), eq-eqb (getD ds 0 0) 0 f, eq-eqb (getD ds 1 0) (getD ds 2 0) g)
+
+  pub if-bad : x ≡ 12 → getD ds 0 0 ≡ 0 → (getD ds 1 0 ≡ getD ds 2 0 → ⊥) → Says Broken
+  unfolding rule-of part-count
+  if-bad e f g = rw (e, take-three ds (omega arith), eq-eqb (getD ds 0 0) 0 f, ne-eqb (getD ds 1 0) (getD ds 2 0) g)
+
+  module _ (f8 : x ≡ 8 → ⊥) (f9 : x ≡ 9 → ⊥) (f10 : x ≡ 10 → ⊥) (f11 : x ≡ 11 → ⊥) (f12 : x ≡ 12 → ⊥) (n : ℕ)
+      (ne : n ≡ part-count x y z) where
+    pub numbers-good : (b : Bool) → b ≡ all-are 0 (take n ds) → b ≡ true → Says (Has 0)
+    unfolding rule-of
+    numbers-good b f g =
+        rw (ne-eqb x 8 f8, ne-eqb x 9 f9, ne-eqb x 10 f10, ne-eqb x 11 f11, ne-eqb x 12 f12, ← ne, ← f, g)
+
+    pub numbers-bad : (b : Bool) → b ≡ all-are 0 (take n ds) → b ≡ false → Says Broken
+    unfolding rule-of
+    numbers-bad b f g =
+        rw (ne-eqb x 8 f8, ne-eqb x 9 f9, ne-eqb x 10 f10, ne-eqb x 11 f11, ne-eqb x 12 f12, ← ne, ← f, g)
+
+-- a map's depth
+pub wrap-good : (p e q : ℕ) (r : Typed) → r ≡ Depth e q → e < 4 → Depth (e + 1) q ≡ wrapped p r
+wrap-good p e q r f h = rw (f, le-leb (suc e) 4 (omega arith), add-one)
+
+pub wrap-deep : (p e q : ℕ) (r : Typed) → r ≡ Depth e q → 4 ≤ e → Fault p ≡ wrapped p r
+wrap-deep p e q r f h = rw (f, lt-leb (suc e) 4 (omega arith))
+
+-- at most 16 parts
+and-split : (s t : Bool) → (s && t) ≡ true → (s ≡ true) × (t ≡ true)
+and-split true t e = (refl, e)
+and-split false t e = let z : _≡_ {A = ℕ} 0 1 = cc in absurd (omega arith)
+
+abbrev under : ℕ → List ℕ → Bool
+under b [] = true
+under b (a ∷ l) = leb a b && under b l
+
+under-at : (b : ℕ) (l : List ℕ) (i : ℕ) → under b l ≡ true → getD l i 0 ≤ b
+under-at b [] i h = omega arith
+under-at b (a ∷ l) zero h = leb-true a b (and-split (leb a b) (under b l) h .0)
+under-at b (a ∷ l) (suc i) h = under-at b l i (and-split (leb a b) (under b l) h .1)
+
+pub few-parts : (x y z : ℕ) → y ≤ getD low-limits x 0 → z ≤ getD high-limits x 0 → part-count x y z ≤ 16
+unfolding part-count
+few-parts x y z h g = go (eqb x 8) refl (eqb x 9) refl
+  where
+    go : (s : Bool) → eqb x 8 ≡ s → (t : Bool) → eqb x 9 ≡ t → cond s z (cond t y (getD part-counts x 0)) ≤ 16
+    go true e t f = let i : z ≤ 8 = rw (eqb-true x 8 e) at g in omega arith
+    go false e true f = rw (eqb-true x 9 f) at h
+    go false e false f = omega (arith, under-at 3 part-counts x refl)

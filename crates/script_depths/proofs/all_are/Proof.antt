@@ -1,0 +1,58 @@
+-- `script_depths::all_are` meets its contract, by the laws of `Rules`.
+use Prim.Native.Nat.{_≤_, _-_}
+use native.Mathlib.Omega.{arith}
+use mathlib.Core.Path.{_≡_, refl}
+use lib.ListN.{take, drop}
+use Rattle.semantics.specs.Types.{all-are}
+use Rattle.script_depths.proofs.Rules.{alike-goes, alike-not, alike-all}
+use borrow.Author.Needs.{needs}
+use Rattle.script_depths.proofs.all_are.Statement.{statement}
+use Rattle.script_depths.proofs.all_are.Tie as tie
+
+abbrev Inv-loop : tie.InvT-loop
+Inv-loop ds n d i₀ i = (i ≤ n) × (all-are d (take n ds) ≡ all-are d (drop i (take n ds)))
+
+abbrev μ-loop : tie.MeasureT-loop
+μ-loop ds n d i₀ i = n - i
+
+loop-holds : tie.Need-loop-holds Inv-loop μ-loop
+loop-holds c = (omega arith, refl)
+
+shared-slice-read-if1 : tie.Need-shared-slice-read-if1 Inv-loop μ-loop
+shared-slice-read-if1 c = search needs
+
+returns : tie.Need-returns Inv-loop μ-loop
+returns c =
+    alike-not _ _ _ (c .before .before .before .before .pre) (c .before .before .before .loop .i)
+    (c .before .before .loop-test .taken) (c .if1 .taken) (c .before .before .before .loop .inv .1)
+
+add-i : tie.Need-add-i Inv-loop μ-loop
+add-i c = search needs
+
+loop-less : tie.Need-loop-less Inv-loop μ-loop
+loop-less c = search needs
+
+loop-again : tie.Need-loop-again Inv-loop μ-loop
+loop-again c = (
+  omega arith,
+  alike-goes _ _ _ (c .before .before .before .before .pre) (c .before .before .before .loop .i)
+      (c .before .before .loop-test .taken) (c .if1 .left) (c .before .before .before .loop .inv .1),
+)
+
+returns-2 : tie.Need-returns-2 Inv-loop μ-loop
+returns-2 c =
+    alike-all _ _ _ (c .before .before .pre) (c .before .loop .i) (c .loop-test .left) (c .before .loop .inv .1)
+
+pub all-are-spec : {M : Type 1} → statement M
+all-are-spec =
+    tie.close
+    (tie.spec
+    Inv-loop
+    μ-loop
+    loop-holds
+    shared-slice-read-if1
+    returns
+    add-i
+    loop-less
+    loop-again
+    returns-2)

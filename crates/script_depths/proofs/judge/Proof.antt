@@ -1,0 +1,229 @@
+-- `script_depths::judge` meets its contract, by the laws of `Rules`.
+use mathlib.Core.Path.{_≡_}
+use native.Mathlib.Omega.{arith}
+use Prim.Native.Nat.{ℕ}
+use lib.ListN.{getD}
+use Rattle.semantics.specs.Types.{Signature}
+use Rattle.script_depths.specs.Walk.{signature-of}
+use Rattle.script_depths.proofs.Rules.{start-at, call-says, literal-good, literal-bad, index-number}
+use Rattle.script_depths.proofs.Rules.{index-good, index-bad, length-number, length-good, if-guard, if-good}
+use Rattle.script_depths.proofs.Rules.{if-bad, numbers-good, numbers-bad, few-parts}
+use borrow.Author.Needs.{needs}
+use Rattle.script_depths.proofs.judge.Statement.{statement}
+use Rattle.script_depths.proofs.judge.Tie as tie
+
+-- the signatures that the table of starts gives
+abbrev signatures : tie.Start → ℕ → Signature
+signatures c = signature-of (c .args .kinds .now) (c .args .operands .now) (c .args .starts .now)
+
+-- where the called function stands
+start : (c : tie.Start) → c .args .kind ≡ 8 →
+    getD (c .args .starts .now) (c .args .low) 0 ≡ getD (c .args .starts .now) (c .args .low) 1024
+start c e = start-at (c .args .starts .now) (c .args .low) (c .pre .0 .long) (rw e at (c .pre .2))
+
+mul-judge-call : tie.Need-mul-judge-call
+mul-judge-call c = search needs
+
+shared-slice-read-judge-call : tie.Need-shared-slice-read-judge-call
+shared-slice-read-judge-call c =
+    omega (
+      arith,
+      c .before .before .before .before .before .before .pre .0 .long,
+      rw (c .before .if1 .taken) at (c .before .before .before .before .before .before .pre .2),
+    )
+
+judge-call-requires : tie.Need-judge-call-requires
+judge-call-requires c κs = (
+  c .before .before .before .before .before .before .pre .0 .parts,
+  omega (
+    arith,
+    c .before .before .before .before .before .before .pre .1,
+    rw (c .before .if1 .taken) at (c .before .before .before .before .before .before .pre .3),
+  ),
+  omega (
+    arith,
+    start (c .before .before .before .before .before .before) (c .before .if1 .taken),
+    c .before .before .before .before .before .before .pre .0 .near
+        (c .before .before .before .before .before .before .args .low),
+  ),
+)
+
+returns : tie.Need-returns
+returns c =
+    call-says (signatures (c .before .before .before .before .before .before .before)) _ _ _ _
+    (c .before .before .before .before .before .before .before .pre .1) (c .before .before .if1 .taken) _
+    (rw (start (c .before .before .before .before .before .before .before)
+    (c .before .before .if1 .taken)) at (c .judge-call .ensures))
+
+all-are-requires : tie.Need-all-are-requires
+all-are-requires c κs =
+    omega (
+      arith,
+      c .before .before .before .before .before .before .pre .1,
+      rw (c .if2 .taken) at (c .before .before .before .before .before .before .pre .2),
+    )
+
+add-t18 : tie.Need-add-t18
+add-t18 c =
+    omega (
+      arith,
+      rw (c .before .before .if2 .taken) at (c .before .before .before .before .before .before .before .before .pre
+          .3),
+    )
+
+returns-2 : tie.Need-returns-2
+returns-2 c =
+    literal-good (signatures (c .before .before .before .before .before .before .before .before)) _ _ _ _
+    (c .before .before .before .before .before .before .before .before .pre .1) (c .before .before .if2 .taken) _
+    (c .before .all-are .ensures) (c .if3 .taken)
+
+returns-3 : tie.Need-returns-3
+returns-3 c =
+    literal-bad (signatures (c .before .before .before .before .before .before .before .before)) _ _ _ _
+    (c .before .before .before .before .before .before .before .before .pre .1) (c .before .before .if2 .taken) _
+    (c .before .all-are .ensures) (c .if3 .left)
+
+shared-slice-read-a : tie.Need-shared-slice-read-a
+shared-slice-read-a c = search needs
+
+shared-slice-read-b : tie.Need-shared-slice-read-b
+shared-slice-read-b c = search needs
+
+returns-4 : tie.Need-returns-4
+returns-4 c =
+    index-number (signatures (c .before .before .before .before .before .before .before .before .before .before)) _ _
+    _ _ (c .before .before .before .before .before .before .before .before .before .before .pre .1)
+    (c .before .if4 .taken) (c .if5 .taken)
+
+sub-t23 : tie.Need-sub-t23
+sub-t23 c = search needs
+
+returns-5 : tie.Need-returns-5
+returns-5 c =
+    index-good (signatures
+    (c .before .before .before .before .before .before .before .before .before .before .before)) _ _ _ _
+    (c .before .before .before .before .before .before .before .before .before .before .before .pre .1)
+    (c .before .before .if4 .taken) (c .before .if5 .left) (c .if6 .taken)
+
+returns-6 : tie.Need-returns-6
+returns-6 c =
+    index-bad (signatures (c .before .before .before .before .before .before .before .before .before .before .before))
+    _ _ _ _ (c .before .before .before .before .before .before .before .before .before .before .before .pre .1)
+    (c .before .before .if4 .taken) (c .before .if5 .left) (c .if6 .left)
+
+returns-7 : tie.Need-returns-7
+returns-7 c =
+    length-number (signatures
+    (c .before .before .before .before .before .before .before .before .before .before .before)) _ _ _ _
+    (c .before .before .before .before .before .before .before .before .before .before .before .pre .1)
+    (c .before .if7 .taken) (c .if8 .taken)
+
+returns-8 : tie.Need-returns-8
+returns-8 c =
+    length-good (signatures
+    (c .before .before .before .before .before .before .before .before .before .before .before)) _ _ _ _
+    (c .before .before .before .before .before .before .before .before .before .before .before .pre .1)
+    (c .before .if7 .taken) (c .if8 .left)
+
+returns-9 : tie.Need-returns-9
+returns-9 c =
+    if-guard (signatures
+    (c .before .before .before .before .before .before .before .before .before .before .before .before)) _ _ _ _
+    (c .before .before .before .before .before .before .before .before .before .before .before .before .pre .1)
+    (c .before .if9 .taken) (c .if10 .taken)
+
+shared-slice-read-if11 : tie.Need-shared-slice-read-if11
+shared-slice-read-if11 c = search needs
+
+returns-10 : tie.Need-returns-10
+returns-10 c =
+    if-good (signatures
+    (c .before .before .before .before .before .before .before .before .before .before .before .before .before
+    .before)) _ _ _ _ (c .before .before .before .before .before .before .before .before .before .before .before
+    .before .before .before .pre .1) (c .before .before .before .if9 .taken) (c .before .before .if10 .left)
+    (c .if11 .taken)
+
+returns-11 : tie.Need-returns-11
+returns-11 c =
+    if-bad (signatures
+    (c .before .before .before .before .before .before .before .before .before .before .before .before .before
+    .before)) _ _ _ _ (c .before .before .before .before .before .before .before .before .before .before .before
+    .before .before .before .pre .1) (c .before .before .before .if9 .taken) (c .before .before .if10 .left)
+    (c .if11 .left)
+
+parts-of-requires : tie.Need-parts-of-requires
+parts-of-requires c κs = search needs
+
+cast-n : tie.Need-cast-n
+cast-n c = search needs
+
+all-are-requires-2 : tie.Need-all-are-requires-2
+all-are-requires-2 c κs =
+    omega (
+      arith,
+      c .before .before .before .before .before .before .before .before .before .before .before .before .pre .1,
+      c .parts-of .ensures,
+      few-parts
+          (c .before .before .before .before .before .before .before .before .before .before .before .before .args
+          .kind)
+          (c .before .before .before .before .before .before .before .before .before .before .before .before .args
+          .low)
+          (c .before .before .before .before .before .before .before .before .before .before .before .before .args
+          .high)
+          (c .before .before .before .before .before .before .before .before .before .before .before .before .pre .2)
+          (c .before .before .before .before .before .before .before .before .before .before .before .before .pre .3),
+    )
+
+returns-12 : tie.Need-returns-12
+returns-12 c =
+    numbers-good (signatures
+    (c .before .before .before .before .before .before .before .before .before .before .before .before .before
+    .before)) _ _ _ _ (c .before .before .before .before .before .before .before .before .before .before .before
+    .before .before .before .pre .1)
+    (c .before .before .before .before .before .before .before .before .before .if1 .left)
+    (c .before .before .before .before .before .before .before .before .if2 .left)
+    (c .before .before .before .before .before .if4 .left) (c .before .before .before .before .if7 .left)
+    (c .before .before .before .if9 .left) (c .before .before .parts-of .result)
+    (c .before .before .parts-of .ensures) _ (c .before .all-are2 .ensures) (c .if12 .taken)
+
+returns-13 : tie.Need-returns-13
+returns-13 c =
+    numbers-bad (signatures
+    (c .before .before .before .before .before .before .before .before .before .before .before .before .before
+    .before)) _ _ _ _ (c .before .before .before .before .before .before .before .before .before .before .before
+    .before .before .before .pre .1)
+    (c .before .before .before .before .before .before .before .before .before .if1 .left)
+    (c .before .before .before .before .before .before .before .before .if2 .left)
+    (c .before .before .before .before .before .if4 .left) (c .before .before .before .before .if7 .left)
+    (c .before .before .before .if9 .left) (c .before .before .parts-of .result)
+    (c .before .before .parts-of .ensures) _ (c .before .all-are2 .ensures) (c .if12 .left)
+
+pub judge-spec : {M : Type 1} → statement M
+judge-spec =
+    tie.close
+    (tie.spec
+    mul-judge-call
+    shared-slice-read-judge-call
+    judge-call-requires
+    returns
+    all-are-requires
+    add-t18
+    returns-2
+    returns-3
+    shared-slice-read-a
+    shared-slice-read-b
+    returns-4
+    sub-t23
+    returns-5
+    returns-6
+    returns-7
+    returns-8
+    returns-9
+    shared-slice-read-if11
+    returns-10
+    returns-11
+    parts-of-requires
+    cast-n
+    all-are-requires-2
+    returns-12
+    returns-13)

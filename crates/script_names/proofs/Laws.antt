@@ -1,0 +1,140 @@
+-- Laws of the walk for names, in the terms of the code.
+use mathlib.Core.Path.{_≡_, refl, sym, ap, _∙_}
+use mathlib.Core.Bool.{Bool, true, false}
+use mathlib.Core.List.{List}
+use Prim.Native.Nat.{ℕ, zero, suc, _+_, _-_, _<_}
+use native.Mathlib.Omega.{arith}
+use lib.ListN.{length, getD, set, replicate}
+use borrow.Author.Tests.{eq-eqb, ne-eqb}
+use mathlib.Core.Logic.{_⊎_, inl, inr}
+use Rattle.semantics.specs.File as S
+use Rattle.semantics.specs.File.{node-at, part-count}
+use Rattle.semantics.specs.Names.{Scope}
+use Rattle.script_read.specs.Told.{told-node, repeated}
+use Rattle.script_read.specs.declared.Node.{Node}
+use Rattle.script_read.specs.declared.Node.the-variants.{WrongKind, WrongOperand}
+use Rattle.script_read.specs.declared.Read.{Read}
+use Rattle.script_read.specs.declared.Read.the-variants.{Next, Refused}
+use Rattle.script_read.proofs.Nodes.{Seen, unfit}
+use Rattle.script_read.proofs.Turns.{less-one}
+use Rattle.script_read.proofs.Tables.{table-at, table-set, put-back, table-fresh}
+use Rattle.script_names.specs.Walk.{scope, binds, calls-none, then-bound, named, names, named-parameter}
+use Rattle.script_names.specs.Walk.{named-head, names-from, names-function}
+
+pub no-levels : (k w : List ℕ) (F d : ℕ) (ρ : Scope) (p : ℕ) → d ≡ 0 → Refused 6 p ≡ names k w F d ρ p
+unfolding names
+no-levels k w F d ρ p e = rw e
+
+module _ {k w : List ℕ} {p x y z : ℕ} (s : Seen k w 2 13 p x y z) (F d : ℕ) (ρ : Scope) (deep : d ≡ 0 → ⊥) where
+  case : names k w F d ρ p ≡ named F (names k w F (d - 1)) ρ p x y z
+  unfolding names
+  case = ap (λ (n : ℕ). names k w F n ρ p) (less-one d deep) ∙ go (d - 1)
+    where
+      go : (n : ℕ) → names k w F (suc n) ρ p ≡ named F (names k w F n) ρ p x y z
+      go n = rw (s .stands, ← s .same-kind, ← s .same-low, ← s .same-high)
+
+  pub known-name : x ≡ 3 → ρ y ≡ true → Next (p + 1) ≡ names k w F d ρ p
+  known-name e f = sym (case ∙ rw (eq-eqb x 3 e, f))
+
+  pub unknown-name : x ≡ 3 → ρ y ≡ false → Refused 6 p ≡ names k w F d ρ p
+  unknown-name e f = sym (case ∙ rw (eq-eqb x 3 e, f))
+
+  module _ (e : x ≡ 3 → ⊥) where
+    pub binding : binds x ≡ true → (r : Read) →
+        r ≡ then-bound (names k w F (d - 1)) ρ y (names k w F (d - 1) ρ (p + 1)) → r ≡ names k w F d ρ p
+    binding f r g = g ∙ sym (case ∙ rw (ne-eqb x 3 e, f))
+
+    module _ (f : binds x ≡ false) where
+      pub no-callee : calls-none F x y ≡ true → Refused 6 p ≡ names k w F d ρ p
+      no-callee g = sym (case ∙ rw (ne-eqb x 3 e, f, g))
+
+      pub others : calls-none F x y ≡ false → (n : ℕ) → n ≡ part-count x y z → (r : Read) →
+          r ≡ repeated n (names k w F (d - 1) ρ) (p + 1) → r ≡ names k w F d ρ p
+      others g n i r j = j ∙ sym (case ∙ rw (ne-eqb x 3 e, f, g, ← i))
+
+-- no node fits
+pub no-node : (k w : List ℕ) (F d : ℕ) (ρ : Scope) (p : ℕ) (n : Node) → n ≡ told-node (node-at k w 2 13 p) →
+    (n ≡ WrongKind) ⊎ (n ≡ WrongOperand) → Refused 6 p ≡ names k w F d ρ p
+unfolding names
+no-node k w F zero ρ p n e f = refl
+no-node k w F (suc d) ρ p n e f = go (unfit k w 2 13 p n e f .is)
+  where
+    go : (node-at k w 2 13 p ≡ S.wrong-kind) ⊎ (node-at k w 2 13 p ≡ S.wrong-operand) →
+        Refused 6 p ≡ names k w F (suc d) ρ p
+    go (inl g) = rw g
+    go (inr g) = rw g
+
+pub at-scope : (t : List Bool) (y : ℕ) (b : Bool) → getD t y false ≡ b → scope t y ≡ b
+at-scope t y b e = table-at false t y ∙ e
+
+-- changed and put back
+pub rebound : (m : Scope → ℕ → Read) (t t₁ t₂ : List Bool) (x p q : ℕ) (r₁ r₂ : Read) →
+    length t ≡ 256 → x < 256 → t₁ ≡ t → t₂ ≡ set t₁ x true →
+    r₁ ≡ m (scope t) p → r₁ ≡ Next q → r₂ ≡ m (scope (set t₁ x true)) q →
+    (r₂ ≡ then-bound m (scope t) x (m (scope t) p)) × (set t₂ x (getD t₁ x false) ≡ t)
+rebound m t t₁ t₂ x p q r₁ r₂ l h e f g i j =
+    let b : x < length t = omega arith in (
+      rw (← g, i)
+          (j ∙ ap (λ (u : List Bool). m (scope (set u x true)) q) e
+          ∙ ap (λ (ρ : Scope). m ρ q) (table-set false t x true b)),
+      put-back false t t₁ t₂ x true e f,
+    )
+
+pub unbound : (m : Scope → ℕ → Read) (ρ : Scope) (x p n q : ℕ) (r : Read) → r ≡ m ρ p → r ≡ Refused n q →
+    Refused n q ≡ then-bound m ρ x (m ρ p)
+unbound m ρ x p n q r e f = rw (← e, f)
+
+-- parameters
+module _ (k w : List ℕ) (F : ℕ) where
+  from-step : (c : ℕ) (ρ : Scope) (p : ℕ) → 0 < c →
+      names-from k w F c ρ p ≡ named-parameter (names-from k w F (c - 1)) ρ p (node-at k w 1 1 p)
+  unfolding names-from
+  from-step c ρ p h = ap (λ (n : ℕ). names-from k w F n ρ p) (less-one c (omega arith))
+
+  module _ (r : Read) (c p : ℕ) (t : List Bool) (inv : r ≡ names-from k w F c (scope t) p) (h : 0 < c) where
+    pub parameter-known : {x y z : ℕ} → Seen k w 1 1 p x y z → getD t y false ≡ true → Refused 6 p ≡ r
+    parameter-known {x} {y} {z} s e =
+        sym (inv ∙ from-step c (scope t) p h ∙ rw (s .stands, s .same-low, at-scope t y true e))
+
+    pub parameter-new : {x y z : ℕ} → Seen k w 1 1 p x y z → length t ≡ 256 → y < 256 → getD t y false ≡ false →
+        r ≡ names-from k w F (c - 1) (scope (set t y true)) (p + 1)
+    parameter-new {x} {y} {z} s l b e =
+        inv ∙ from-step c (scope t) p h ∙ ap
+        (λ (v : S.Node). named-parameter (names-from k w F (c - 1)) (scope t) p v)
+        (s .stands) ∙ go
+      where
+        go : named-parameter (names-from k w F (c - 1)) (scope t) p (S.fits (s .node)) ≡ names-from k w F (c - 1)
+            (scope (set t y true)) (p + 1)
+        go = rw (s .same-low, at-scope t y false e, table-set false t y true (omega arith))
+
+    pub parameter-none : (n : Node) → n ≡ told-node (node-at k w 1 1 p) → (n ≡ WrongKind) ⊎ (n ≡ WrongOperand) →
+        Refused 6 p ≡ r
+    parameter-none n e f = sym (inv ∙ from-step c (scope t) p h ∙ go (unfit k w 1 1 p n e f .is))
+      where
+        go : (node-at k w 1 1 p ≡ S.wrong-kind) ⊎ (node-at k w 1 1 p ≡ S.wrong-operand) →
+            named-parameter (names-from k w F (c - 1)) (scope t) p (node-at k w 1 1 p) ≡ Refused 6 p
+        go (inl g) = rw g
+        go (inr g) = rw g
+
+  pub body-next : (r : Read) (c : ℕ) (ρ : Scope) (p : ℕ) → c ≡ 0 → r ≡ names k w F 64 ρ p → r ≡ names-from k w F c ρ p
+  unfolding names-from
+  body-next r c ρ p e f = rw e f
+
+  pub function-next : {p x y z : ℕ} → Seen k w 0 0 p x y z → (r : Read) →
+      r ≡ names-from k w F y (scope (replicate 256 false)) (p + 1) → r ≡ names-function k w F p
+  unfolding names-function
+  function-next {p} {x} {y} {z} s r e = e ∙ ap (λ (ρ : Scope). names-from k w F y ρ (p + 1)) (table-fresh false 256)
+      ∙ sym go
+    where
+      go : named-head (names-from k w F) p (node-at k w 0 0 p) ≡ names-from k w F y (λ x. false) (p + 1)
+      go = rw (s .stands, s .same-low)
+
+  pub function-none : (p : ℕ) (n : Node) → n ≡ told-node (node-at k w 0 0 p) → (n ≡ WrongKind) ⊎ (n ≡ WrongOperand) →
+      Refused 6 p ≡ names-function k w F p
+  unfolding names-function
+  function-none p n e f = go (unfit k w 0 0 p n e f .is)
+    where
+      go : (node-at k w 0 0 p ≡ S.wrong-kind) ⊎ (node-at k w 0 0 p ≡ S.wrong-operand) →
+          Refused 6 p ≡ names-function k w F p
+      go (inl g) = rw g
+      go (inr g) = rw g

@@ -1,0 +1,13 @@
+-- `script_names::is_binding` meets its contract.
+use borrow.Author.Tests.{eq-eqb, ne-eqb}
+use Rattle.script_names.proofs.is_binding.Statement.{statement}
+use Rattle.script_names.proofs.is_binding.Tie as tie
+
+returns : tie.Need-returns
+returns c = simp (eq-eqb _ _ (c .if1 .taken))
+
+returns-2 : tie.Need-returns-2
+returns-2 c = simp (ne-eqb _ _ (c .if1 .left))
+
+pub is-binding-spec : {M : Type 1} → statement M
+is-binding-spec = tie.close (tie.spec returns returns-2)

@@ -1,0 +1,157 @@
+-- `script_names::name_parameters` meets its contract, by the laws of `Laws` and `Nodes`.
+use Rattle.script_names.proofs.Laws.{parameter-known, parameter-new, parameter-none, body-next}
+use Rattle.script_names.specs.Walk.{scope, names-from}
+use Rattle.script_read.proofs.Nodes.{seen, inside}
+use lib.ListN.{length, length-set}
+use native.Mathlib.Omega.{arith}
+use mathlib.Core.Logic.{inl, inr}
+use mathlib.Core.Path.{_≡_, refl, sym, _∙_}
+use Prim.Native.Nat.{_-_, _≤_}
+use borrow.Author.Needs.{needs}
+use Rattle.script_names.proofs.name_parameters.Statement.{statement}
+use Rattle.script_names.proofs.name_parameters.Tie as tie
+
+abbrev Inv-loop : tie.InvT-loop
+Inv-loop kinds operands functions known₀ at count p₀ left₀ known p left =
+    (left ≤ 255) × (length known ≡ 256) × (names-from kinds operands functions count (scope known₀) at ≡ names-from
+    kinds operands functions left (scope known) p)
+
+abbrev μ-loop : tie.MeasureT-loop
+μ-loop kinds operands functions known₀ at count p₀ left₀ known p left = left
+
+loop-holds : tie.Need-loop-holds Inv-loop μ-loop
+loop-holds c = (omega arith, c .before .before .before .pre .1, refl)
+
+node-at-requires : tie.Need-node-at-requires Inv-loop μ-loop
+node-at-requires c κs = search needs
+
+enum-known-low : tie.Need-enum-known-low Inv-loop μ-loop
+enum-known-low c = search needs
+
+cast-x : tie.Need-cast-x Inv-loop μ-loop
+cast-x c = search needs
+
+slice-read-if1 : tie.Need-slice-read-if1 Inv-loop μ-loop
+slice-read-if1 c = omega (arith, c .before .before .before .before .before .before .loop .inv .1)
+
+same-length : tie.Need-same-length Inv-loop μ-loop
+same-length c = search needs
+
+returns : tie.Need-returns Inv-loop μ-loop
+returns c = let a = c .before .before .before .before .before .before .before .before .before .before .before .args in
+    let v = c .before .before .before .before .before .before .before .loop .inv in
+    parameter-known (a .kinds .now) (a .operands .now) (a .functions) _
+    (c .before .before .before .before .before .before .before .loop .left)
+    (c .before .before .before .before .before .before .before .loop .p)
+    (c .before .before .before .before .before .before .before .loop .known) (v .2)
+    (c .before .before .before .before .before .before .loop-test .taken)
+    (seen (a .kinds .now) (a .operands .now) 1 1 (c .before .before .before .before .before .before .before .loop .p)
+    (c .before .before .before .before .before .node-at .result)
+    (c .before .before .before .before .before .node-at .ensures) _ _ _ (c .before .before .before .low .given .1))
+    (c .if1 .taken)
+
+slice-write-known : tie.Need-slice-write-known Inv-loop μ-loop
+slice-write-known c = omega (arith, c .before .before .before .before .before .before .before .loop .inv .1)
+
+add-p : tie.Need-add-p Inv-loop μ-loop
+add-p c = let a = c .before .before .before .before .before .before .before .before .before .before .before .args in
+    omega (
+      arith,
+      inside (a .kinds .now) (a .operands .now) 1 1
+          (c .before .before .before .before .before .before .before .loop .p) _ _ _
+          (c .before .before .before .before .before .node-at .result) (omega arith)
+          (c .before .before .before .before .before .node-at .ensures) (c .before .before .before .low .given .1),
+      c .before .before .before .before .before .before .before .before .before .before .before .pre .0 .few,
+    )
+
+enum-told : tie.Need-enum-told Inv-loop μ-loop
+enum-told c = search needs
+
+same-length-2 : tie.Need-same-length-2 Inv-loop μ-loop
+same-length-2 c = search needs
+
+returns-2 : tie.Need-returns-2 Inv-loop μ-loop
+returns-2 c = let a = c .before .before .before .before .before .before .before .before .args in let v =
+    c .before .before .before .before .loop .inv in
+    parameter-none (a .kinds .now) (a .operands .now) (a .functions) _ (c .before .before .before .before .loop .left)
+    (c .before .before .before .before .loop .p) (c .before .before .before .before .loop .known) (v .2)
+    (c .before .before .before .loop-test .taken) (c .before .before .node-at .result)
+    (c .before .before .node-at .ensures) (inl (c .enum-told .given .1))
+
+enum-told-2 : tie.Need-enum-told-2 Inv-loop μ-loop
+enum-told-2 c = search needs
+
+same-length-3 : tie.Need-same-length-3 Inv-loop μ-loop
+same-length-3 c = search needs
+
+returns-3 : tie.Need-returns-3 Inv-loop μ-loop
+returns-3 c = let a = c .before .before .before .before .before .before .before .before .args in let v =
+    c .before .before .before .before .loop .inv in
+    parameter-none (a .kinds .now) (a .operands .now) (a .functions) _ (c .before .before .before .before .loop .left)
+    (c .before .before .before .before .loop .p) (c .before .before .before .before .loop .known) (v .2)
+    (c .before .before .before .loop-test .taken) (c .before .before .node-at .result)
+    (c .before .before .node-at .ensures) (inr (c .enum-told2 .given .1))
+
+sub-left : tie.Need-sub-left Inv-loop μ-loop
+sub-left c = search needs
+
+loop-less : tie.Need-loop-less Inv-loop μ-loop
+loop-less c = search needs
+
+loop-again : tie.Need-loop-again Inv-loop μ-loop
+loop-again c = let a =
+    c .before .before .before .before .before .before .before .before .before .before .before .args in let v =
+    c .before .before .before .before .before .before .before .loop .inv in (
+      omega arith,
+      simp length-set (v .1),
+      parameter-new (a .kinds .now) (a .operands .now) (a .functions) _
+          (c .before .before .before .before .before .before .before .loop .left)
+          (c .before .before .before .before .before .before .before .loop .p)
+          (c .before .before .before .before .before .before .before .loop .known) (v .2)
+          (c .before .before .before .before .before .before .loop-test .taken)
+          (seen (a .kinds .now) (a .operands .now) 1 1
+          (c .before .before .before .before .before .before .before .loop .p)
+          (c .before .before .before .before .before .node-at .result)
+          (c .before .before .before .before .before .node-at .ensures) _ _ _
+          (c .before .before .before .low .given .1))
+          (v .1) (omega arith) (c .if1 .left),
+    )
+
+name-part-requires : tie.Need-name-part-requires Inv-loop μ-loop
+name-part-requires c κs = (c .before .before .before .before .before .before .pre .0, c .before .before .loop .inv .1)
+
+same-length-4 : tie.Need-same-length-4 Inv-loop μ-loop
+same-length-4 c = search needs
+
+returns-4 : tie.Need-returns-4 Inv-loop μ-loop
+returns-4 c = let v = c .before .before .before .before .before .loop .inv in
+    body-next _ _ _ _ (c .before .before .before .before .before .loop .left) _ _ (omega arith)
+    (c .before .before .name-part .ensures .0) ∙ sym (v .2)
+
+pub name-parameters-spec : {M : Type 1} → statement M
+name-parameters-spec =
+    tie.close
+    (tie.spec
+    Inv-loop
+    μ-loop
+    loop-holds
+    node-at-requires
+    enum-known-low
+    cast-x
+    slice-read-if1
+    same-length
+    returns
+    slice-write-known
+    add-p
+    enum-told
+    same-length-2
+    returns-2
+    enum-told-2
+    same-length-3
+    returns-3
+    sub-left
+    loop-less
+    loop-again
+    name-part-requires
+    same-length-4
+    returns-4)

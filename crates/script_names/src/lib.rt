@@ -1,0 +1,217 @@
+// Refusal 6: a node that names nothing known, or a parameter name that is repeated.
+// One table of the 256 names is changed at a binding and put back after it.
+use script_read::Node;
+use script_read::Read;
+ghost use mathlib.Core.Path.{_≡_};
+ghost use mathlib.Core.Bool.{_&&_, _||_};
+ghost use Prim.Native.Nat.{_+_, _*_, _^_, _<_, _≤_};
+ghost use lib.Dec.{eqb, leb};
+ghost use lib.ListN.{length, getD, set};
+ghost use Rattle.script_read.specs.Told.{Parts, repeated, marked};
+ghost use Rattle.script_names.specs.Walk.{scope, binds, calls-none, names, then-bound, names-from};
+ghost use Rattle.script_names.specs.Walk.{names-function};
+
+// Whether a node of this kind binds a name in its second part.
+fn is_binding(kind: u8) -> bool
+    ensures { λ r. ⌜ r ≡ binds kind ⌝ }
+{
+    if kind == 7 {
+        return true;
+    }
+    kind == 13
+}
+
+// Whether a node calls a function that is not there.
+fn calls_none(functions: u8, kind: u8, f: u8) -> bool
+    ensures { λ r. ⌜ r ≡ calls-none functions kind f ⌝ }
+{
+    if kind == 8 {
+        return functions <= f;
+    }
+    false
+}
+
+// A part, under the names that are known.
+pub fn name_part(
+    kinds: &[u8],
+    operands: &[u8],
+    functions: u8,
+    known: &mut [bool],
+    at: usize,
+    levels: u64,
+) -> Read
+    requires { ⌜ Parts (now kinds) (now operands) × (length (now known) ≡ 256) ⌝ }
+    ensures { λ r. ⌜
+        (r ≡ names (now (kinds .entry)) (now (operands .entry)) functions levels (scope (now (known .entry))) at)
+        × (now (known .exit) ≡ now (known .entry)) ⌝ }
+{
+    if levels == 0 {
+        return Read::Refused(6, at);
+    }
+    match script_read::node_at(kinds, operands, at, 2, 13) {
+        Node::Fits(kind, low, high) => {
+            if kind == 3 {
+                if known[low as usize] {
+                    return Read::Next(at + 1);
+                }
+                return Read::Refused(6, at);
+            }
+            if is_binding(kind) {
+                return name_binding(kinds, operands, functions, known, at + 1, low, levels - 1);
+            }
+            if calls_none(functions, kind, low) {
+                return Read::Refused(6, at);
+            }
+            name_parts(
+                kinds,
+                operands,
+                functions,
+                known,
+                at + 1,
+                script_read::parts_of(kind, low, high),
+                levels - 1,
+            )
+        }
+        Node::WrongKind => Read::Refused(6, at),
+        Node::WrongOperand => Read::Refused(6, at),
+    }
+}
+
+// Two parts, of which the second knows one name more.
+fn name_binding(
+    kinds: &[u8],
+    operands: &[u8],
+    functions: u8,
+    known: &mut [bool],
+    at: usize,
+    x: u8,
+    levels: u64,
+) -> Read
+    requires { ⌜ Parts (now kinds) (now operands) × (length (now known) ≡ 256) ⌝ }
+    ensures { λ r. ⌜
+        (r ≡ then-bound (names (now (kinds .entry)) (now (operands .entry)) functions levels) (scope (now (known .entry))) x
+        (names (now (kinds .entry)) (now (operands .entry)) functions levels (scope (now (known .entry))) at))
+        × (now (known .exit) ≡ now (known .entry)) ⌝ }
+{
+    match name_part(kinds, operands, functions, known, at, levels) {
+        Read::Next(q) => {
+            let i = x as usize;
+            let old = known[i];
+            known[i] = true;
+            let r = name_part(kinds, operands, functions, known, q, levels);
+            known[i] = old;
+            r
+        }
+        Read::Refused(n, q) => Read::Refused(n, q),
+    }
+}
+
+// So many parts, one after the other.
+fn name_parts(
+    kinds: &[u8],
+    operands: &[u8],
+    functions: u8,
+    known: &mut [bool],
+    at: usize,
+    count: u8,
+    levels: u64,
+) -> Read
+    requires { ⌜ Parts (now kinds) (now operands) × (length (now known) ≡ 256) ⌝ }
+    ensures { λ r. ⌜
+        (r ≡ repeated count (names (now (kinds .entry)) (now (operands .entry)) functions levels (scope (now (known .entry)))) at)
+        × (now (known .exit) ≡ now (known .entry)) ⌝ }
+{
+    let mut p = at;
+    let mut left = count;
+    while 0 < left {
+        match name_part(kinds, operands, functions, known, p, levels) {
+            Read::Next(q) => {
+                p = q;
+            }
+            Read::Refused(n, q) => {
+                return Read::Refused(n, q);
+            }
+        }
+        left = left - 1;
+    }
+    Read::Next(p)
+}
+
+// The parameters and the body of a function, under the names that are known.
+fn name_parameters(
+    kinds: &[u8],
+    operands: &[u8],
+    functions: u8,
+    known: &mut [bool],
+    at: usize,
+    count: u8,
+) -> Read
+    requires { ⌜ Parts (now kinds) (now operands) × (length (now known) ≡ 256) ⌝ }
+    ensures { λ r. ⌜
+        r ≡ names-from (now (kinds .entry)) (now (operands .entry)) functions count (scope (now (known .entry))) at ⌝ }
+{
+    let mut p = at;
+    let mut left = count;
+    while 0 < left {
+        match script_read::node_at(kinds, operands, p, 1, 1) {
+            Node::Fits(_, low, _) => {
+                let x = low as usize;
+                if known[x] {
+                    return Read::Refused(6, p);
+                }
+                known[x] = true;
+                p = p + 1;
+            }
+            Node::WrongKind => {
+                return Read::Refused(6, p);
+            }
+            Node::WrongOperand => {
+                return Read::Refused(6, p);
+            }
+        }
+        left = left - 1;
+    }
+    name_part(kinds, operands, functions, known, p, 64)
+}
+
+// A function, with no name known at first.
+fn name_function(kinds: &[u8], operands: &[u8], functions: u8, at: usize) -> Read
+    requires { ⌜ Parts (now kinds) (now operands) ⌝ }
+    ensures { λ r. ⌜ r ≡ names-function (now (kinds .entry)) (now (operands .entry)) functions at ⌝ }
+{
+    match script_read::node_at(kinds, operands, at, 0, 0) {
+        Node::Fits(_, count, _) => {
+            let mut known = [false; 256];
+            name_parameters(kinds, operands, functions, &mut known[..], at + 1, count)
+        }
+        Node::WrongKind => Read::Refused(6, at),
+        Node::WrongOperand => Read::Refused(6, at),
+    }
+}
+
+// All functions of a script: refusal 6. The table gets the node of each function.
+pub fn name_script(kinds: &[u8], operands: &[u8], functions: u8, starts: &mut [usize]) -> Read
+    requires { ⌜ Parts (now kinds) (now operands) × (length (now starts) ≡ 32) × (functions ≤ 32) ⌝ }
+    ensures { λ r. ⌜
+        (r ≡ repeated functions (names-function (now (kinds .entry)) (now (operands .entry)) functions) 0)
+        × (now (starts .exit) ≡ marked functions (names-function (now (kinds .entry)) (now (operands .entry)) functions) 0 0
+        (now (starts .entry))) ⌝ }
+{
+    let mut p = 0;
+    let mut i: usize = 0;
+    let mut left = functions;
+    while 0 < left {
+        starts[i] = p;
+        match name_function(kinds, operands, functions, p) {
+            Read::Next(q) => {
+                p = q;
+            }
+            Read::Refused(n, q) => {
+                return Read::Refused(n, q);
+            }
+        }
+        i = i + 1;
+        left = left - 1;
+    }
+    Read::Next(p)
+}

@@ -1,0 +1,9 @@
+pub mod Nodes
+pub mod Turns
+pub mod Part
+pub mod Whole
+pub mod Written
+pub mod Tables
+pub mod Found
+pub mod Starts
+pub mod Ends

@@ -1,0 +1,38 @@
+-- `script_read::high_at` meets its contract, by the laws of `Nodes`.
+use mathlib.Core.Logic.{inl, inr}
+use Rattle.script_read.proofs.Nodes.{seen, unfit, high-seen, high-none}
+use borrow.Author.Needs.{needs}
+use Rattle.script_read.proofs.high_at.Statement.{statement}
+use Rattle.script_read.proofs.high_at.Tie as tie
+
+node-at-requires : tie.Need-node-at-requires
+node-at-requires c κs = search needs
+
+enum-known-high : tie.Need-enum-known-high
+enum-known-high c = search needs
+
+enum-told : tie.Need-enum-told
+enum-told c = search needs
+
+enum-told-2 : tie.Need-enum-told-2
+enum-told-2 c = search needs
+
+returns : tie.Need-returns
+returns c =
+    high-seen (seen _ _ _ _ _ (c .before .before .before .node-at .result)
+    (c .before .before .before .node-at .ensures) _ _ _ (c .before .high .given .1))
+
+returns-2 : tie.Need-returns-2
+returns-2 c =
+    high-none (unfit _ _ _ _ _ (c .before .before .node-at .result) (c .before .before .node-at .ensures)
+    (inl (c .enum-told .given .1)))
+
+returns-3 : tie.Need-returns-3
+returns-3 c =
+    high-none (unfit _ _ _ _ _ (c .before .before .node-at .result) (c .before .before .node-at .ensures)
+    (inr (c .enum-told2 .given .1)))
+
+pub high-at-spec : {M : Type 1} → statement M
+high-at-spec =
+    tie.close
+    (tie.spec node-at-requires enum-known-high enum-told enum-told-2 returns returns-2 returns-3)

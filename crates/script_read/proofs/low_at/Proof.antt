@@ -1,0 +1,38 @@
+-- `script_read::low_at` meets its contract, by the laws of `Nodes`.
+use mathlib.Core.Logic.{inl, inr}
+use Rattle.script_read.proofs.Nodes.{seen, unfit, low-seen, low-none}
+use borrow.Author.Needs.{needs}
+use Rattle.script_read.proofs.low_at.Statement.{statement}
+use Rattle.script_read.proofs.low_at.Tie as tie
+
+node-at-requires : tie.Need-node-at-requires
+node-at-requires c κs = search needs
+
+enum-known-low : tie.Need-enum-known-low
+enum-known-low c = search needs
+
+enum-told : tie.Need-enum-told
+enum-told c = search needs
+
+enum-told-2 : tie.Need-enum-told-2
+enum-told-2 c = search needs
+
+returns : tie.Need-returns
+returns c =
+    low-seen (seen _ _ _ _ _ (c .before .before .before .node-at .result)
+    (c .before .before .before .node-at .ensures) _ _ _ (c .before .low .given .1))
+
+returns-2 : tie.Need-returns-2
+returns-2 c =
+    low-none (unfit _ _ _ _ _ (c .before .before .node-at .result) (c .before .before .node-at .ensures)
+    (inl (c .enum-told .given .1)))
+
+returns-3 : tie.Need-returns-3
+returns-3 c =
+    low-none (unfit _ _ _ _ _ (c .before .before .node-at .result) (c .before .before .node-at .ensures)
+    (inr (c .enum-told2 .given .1)))
+
+pub low-at-spec : {M : Type 1} → statement M
+low-at-spec =
+    tie.close
+    (tie.spec node-at-requires enum-known-low enum-told enum-told-2 returns returns-2 returns-3)

@@ -1,0 +1,67 @@
+-- What the reader's answers say, in the terms of the definitions.
+use mathlib.Core.Path.{_≡_}
+use mathlib.Core.List.{List, [], _∷_}
+use Prim.Native.Nat.{ℕ, zero, suc, _+_, _*_, _≤_}
+use lib.ListN.{length, set}
+use Rattle.semantics.specs.Outcome.{Outcome, done, stop}
+use Rattle.semantics.specs.File as S
+use Rattle.script_read.specs.declared.Node.{Node}
+use Rattle.script_read.specs.declared.Node.the-variants.{Fits, WrongKind, WrongOperand}
+use Rattle.script_read.specs.declared.Read.{Read}
+use Rattle.script_read.specs.declared.Read.the-variants.{Next, Refused}
+
+-- the two parts of a file: at most 1,024 kinds, and 8 bytes for each
+pub record Parts (kinds operands : List ℕ) : Type 0 where
+  pub few : length kinds ≤ 1024
+  pub whole : length operands ≡ 8 * length kinds
+
+abbrev pub told-node : S.Node → Node
+told-node (S.fits h) = Fits (h .kind) (h .low) (h .high)
+told-node S.wrong-kind = WrongKind
+told-node S.wrong-operand = WrongOperand
+
+-- the two parts of a node's operand; 0 where no node fits
+abbrev pub low-of : S.Node → ℕ
+low-of (S.fits h) = h .low
+low-of S.wrong-kind = 0
+low-of S.wrong-operand = 0
+
+abbrev pub high-of : S.Node → ℕ
+high-of (S.fits h) = h .high
+high-of S.wrong-kind = 0
+high-of S.wrong-operand = 0
+
+-- of a node of this kind at p
+unfoldable pub low-at : List ℕ → List ℕ → ℕ → ℕ → ℕ
+low-at kinds operands kind p = low-of (S.node-at kinds operands kind kind p)
+
+unfoldable pub high-at : List ℕ → List ℕ → ℕ → ℕ → ℕ
+high-at kinds operands kind p = high-of (S.node-at kinds operands kind kind p)
+
+abbrev pub told : {A : Type 0} → Outcome ℕ A → Read
+told (done a q) = Next q
+told (stop n p) = Refused n p
+
+-- go on at the next node, or keep the refusal
+abbrev pub and-next : Read → (ℕ → Read) → Read
+and-next (Next p) f = f p
+and-next (Refused n p) f = Refused n p
+
+-- so many steps, each from the node that the one before gives
+unfoldable pub repeated : ℕ → (ℕ → Read) → ℕ → Read
+repeated zero f p = Next p
+repeated (suc c) f p = and-next (f p) (repeated c f)
+
+-- the first of the faulty nodes with a refusal's number, or on to the next node
+abbrev pub found : ℕ → List ℕ → ℕ → Read
+found number [] q = Next q
+found number (n ∷ l) q = Refused number n
+
+-- a table in which each step writes the node at which it begins, from entry i on
+abbrev pub mark-next : Read → (ℕ → List ℕ) → List ℕ → List ℕ
+mark-next (Next q) f t = f q
+mark-next (Refused n q) f t = t
+
+unfoldable pub marked : ℕ → (ℕ → Read) → ℕ → ℕ → List ℕ → List ℕ
+marked zero f p i t = t
+marked (suc c) f p i t = mark-next (f p) (λ q. marked c f q (i + 1) (set t i p)) (set t i p)

@@ -1,0 +1,259 @@
+// The reader: the nodes of a script file in prefix order, refusals 1 to 5.
+ghost use mathlib.Core.Path.{_≡_};
+ghost use mathlib.Core.Bool.{_&&_};
+ghost use Prim.Native.Nat.{_+_, _*_, _^_, _<_, _≤_};
+ghost use lib.ListN.{length, getD, take, drop};
+ghost use Rattle.semantics.specs.File.{low-limits, high-limits, node-at, part-count, part, parameter, function};
+ghost use Rattle.semantics.specs.File.{script, read-file, between};
+ghost use Rattle.script_read.specs.Told.{Parts, told-node, told, low-at, high-at, repeated};
+
+// A node: its kind and the two parts of its operand (low + 256 * high), or what is wrong with it.
+pub enum Node {
+    Fits(u8, u8, u8),
+    WrongKind,
+    WrongOperand,
+}
+
+// The next node, or a refusal: its number and its node.
+pub enum Read {
+    Next(usize),
+    Refused(u8, usize),
+}
+
+// The greatest low and high part of an operand, and how many parts a node has, by kind.
+const LOW_LIMITS: [u8; 14] = [8, 255, 0, 255, 0, 0, 0, 255, 31, 16, 0, 0, 0, 255];
+
+const HIGH_LIMITS: [u8; 14] = [4, 4, 0, 0, 0, 0, 0, 0, 8, 3, 0, 0, 0, 0];
+
+const PART_COUNTS: [u8; 14] = [0, 0, 0, 0, 2, 2, 2, 2, 0, 0, 2, 1, 3, 2];
+
+// The greatest low part of an operand.
+fn low_limit(kind: usize) -> u8
+    requires { ⌜ kind < 14 ⌝ }
+    ensures { λ r. ⌜ r ≡ getD low-limits kind 0 ⌝ }
+{
+    LOW_LIMITS[kind]
+}
+
+// The greatest high part of an operand.
+fn high_limit(kind: usize) -> u8
+    requires { ⌜ kind < 14 ⌝ }
+    ensures { λ r. ⌜ r ≡ getD high-limits kind 0 ⌝ }
+{
+    HIGH_LIMITS[kind]
+}
+
+// The node at a place where the kinds from first to last are allowed.
+pub fn node_at(kinds: &[u8], operands: &[u8], at: usize, first: u8, last: u8) -> Node
+    requires { ⌜ Parts (now kinds) (now operands) × (last ≤ 13) ⌝ }
+    ensures { λ r. ⌜ r ≡ told-node (node-at (now (kinds .entry)) (now (operands .entry)) first last at) ⌝ }
+{
+    if kinds.len() <= at {
+        return Node::WrongKind;
+    }
+    let kind = kinds[at];
+    if kind < first {
+        return Node::WrongKind;
+    }
+    if last < kind {
+        return Node::WrongKind;
+    }
+    if kind == 2 {
+        return Node::Fits(2, 0, 0);
+    }
+    let n = words::word_at(operands, 8 * at);
+    let low = n % 256;
+    let high = n / 256;
+    if words::wide(low_limit(kind as usize)) < low {
+        return Node::WrongOperand;
+    }
+    if words::wide(high_limit(kind as usize)) < high {
+        return Node::WrongOperand;
+    }
+    Node::Fits(kind, low as u8, high as u8)
+}
+
+// The lower part of the operand of a node of this kind; 0 where there is none.
+pub fn low_at(kinds: &[u8], operands: &[u8], at: usize, kind: u8) -> u8
+    requires { ⌜ Parts (now kinds) (now operands) × (kind ≤ 13) ⌝ }
+    ensures { λ r. ⌜ r ≡ low-at (now (kinds .entry)) (now (operands .entry)) kind at ⌝ }
+{
+    match node_at(kinds, operands, at, kind, kind) {
+        Node::Fits(_, low, _) => low,
+        Node::WrongKind => 0,
+        Node::WrongOperand => 0,
+    }
+}
+
+// The upper part of the operand of a node of this kind; 0 where there is none.
+pub fn high_at(kinds: &[u8], operands: &[u8], at: usize, kind: u8) -> u8
+    requires { ⌜ Parts (now kinds) (now operands) × (kind ≤ 13) ⌝ }
+    ensures { λ r. ⌜ r ≡ high-at (now (kinds .entry)) (now (operands .entry)) kind at ⌝ }
+{
+    match node_at(kinds, operands, at, kind, kind) {
+        Node::Fits(_, _, high) => high,
+        Node::WrongKind => 0,
+        Node::WrongOperand => 0,
+    }
+}
+
+// How many parts a node has.
+pub fn parts_of(kind: u8, low: u8, high: u8) -> u8
+    ensures { λ r. ⌜ r ≡ part-count kind low high ⌝ }
+{
+    if kind == 8 {
+        return high;
+    }
+    if kind == 9 {
+        return low;
+    }
+    let n = kind as usize;
+    if n < 14 { PART_COUNTS[n] } else { 0 }
+}
+
+// A part, with so many levels left.
+pub fn read_part(kinds: &[u8], operands: &[u8], at: usize, levels: u64) -> Read
+    requires { ⌜ Parts (now kinds) (now operands) ⌝ }
+    ensures { λ r. ⌜ r ≡ told (part (now (kinds .entry)) (now (operands .entry)) levels at) ⌝ }
+{
+    match node_at(kinds, operands, at, 2, 13) {
+        Node::Fits(kind, low, high) => {
+            if levels == 0 {
+                return Read::Refused(5, at);
+            }
+            read_parts(
+                kinds,
+                operands,
+                at + 1,
+                parts_of(kind, low, high),
+                levels - 1,
+            )
+        }
+        Node::WrongKind => Read::Refused(3, at),
+        Node::WrongOperand => Read::Refused(4, at),
+    }
+}
+
+// So many parts, one after the other.
+fn read_parts(kinds: &[u8], operands: &[u8], at: usize, count: u8, levels: u64) -> Read
+    requires { ⌜ Parts (now kinds) (now operands) ⌝ }
+    ensures { λ r. ⌜ r ≡ repeated count (λ p. told (part (now (kinds .entry)) (now (operands .entry)) levels p)) at ⌝ }
+{
+    let mut p = at;
+    let mut left = count;
+    while 0 < left {
+        match read_part(kinds, operands, p, levels) {
+            Read::Next(q) => {
+                p = q;
+            }
+            Read::Refused(n, q) => {
+                return Read::Refused(n, q);
+            }
+        }
+        left = left - 1;
+    }
+    Read::Next(p)
+}
+
+// So many parameters.
+fn read_parameters(kinds: &[u8], operands: &[u8], at: usize, count: u8) -> Read
+    requires { ⌜ Parts (now kinds) (now operands) ⌝ }
+    ensures { λ r. ⌜ r ≡ repeated count (λ p. told (parameter (now (kinds .entry)) (now (operands .entry)) p)) at ⌝ }
+{
+    let mut p = at;
+    let mut left = count;
+    while 0 < left {
+        match node_at(kinds, operands, p, 1, 1) {
+            Node::Fits(_, _, _) => {
+                p = p + 1;
+            }
+            Node::WrongKind => {
+                return Read::Refused(3, p);
+            }
+            Node::WrongOperand => {
+                return Read::Refused(4, p);
+            }
+        }
+        left = left - 1;
+    }
+    Read::Next(p)
+}
+
+// A function: its parameters and its body, at level 1.
+fn read_function(kinds: &[u8], operands: &[u8], at: usize) -> Read
+    requires { ⌜ Parts (now kinds) (now operands) ⌝ }
+    ensures { λ r. ⌜ r ≡ told (function (now (kinds .entry)) (now (operands .entry)) at) ⌝ }
+{
+    match node_at(kinds, operands, at, 0, 0) {
+        Node::Fits(_, count, _) => match read_parameters(kinds, operands, at + 1, count) {
+            Read::Next(q) => read_part(kinds, operands, q, 64),
+            Read::Refused(n, q) => Read::Refused(n, q),
+        },
+        Node::WrongKind => Read::Refused(3, at),
+        Node::WrongOperand => Read::Refused(4, at),
+    }
+}
+
+// The functions of a script, with nothing left over.
+fn read_script(kinds: &[u8], operands: &[u8], functions: usize) -> Read
+    requires { ⌜ Parts (now kinds) (now operands) ⌝ }
+    ensures { λ r. ⌜ r ≡ told (script (now (kinds .entry)) (now (operands .entry)) functions 0) ⌝ }
+{
+    let mut p = 0;
+    let mut left = functions;
+    while 0 < left {
+        match read_function(kinds, operands, p) {
+            Read::Next(q) => {
+                p = q;
+            }
+            Read::Refused(n, q) => {
+                return Read::Refused(n, q);
+            }
+        }
+        left = left - 1;
+    }
+    if p < kinds.len() {
+        return Read::Refused(3, p);
+    }
+    Read::Next(p)
+}
+
+// Whether a header's sizes are in range.
+fn sizes_fit(functions: usize, nodes: usize) -> bool
+    ensures { λ r. ⌜ r ≡ (between 1 32 functions && between 1 1024 nodes) ⌝ }
+{
+    if functions < 1 {
+        return false;
+    }
+    if 32 < functions {
+        return false;
+    }
+    if nodes < 1 {
+        return false;
+    }
+    if 1024 < nodes {
+        return false;
+    }
+    true
+}
+
+// A file: refusals 1 to 5. Its part from byte 4 and its part from 4 + N go on as separate slices.
+pub fn read_file(bytes: &[u8]) -> Read
+    ensures { λ r. ⌜ r ≡ told (read-file (now (bytes .entry))) ⌝ }
+{
+    if bytes.len() < 4 {
+        return Read::Refused(1, 0);
+    }
+    let functions = words::short_at(bytes, 0);
+    let nodes = words::short_at(bytes, 2);
+    if !sizes_fit(functions, nodes) {
+        return Read::Refused(2, 0);
+    }
+    if bytes.len() != 4 + 9 * nodes {
+        return Read::Refused(1, 0);
+    }
+    let end = 4 + nodes;
+    let kinds = &bytes[4..end];
+    let operands = &bytes[end..];
+    read_script(kinds, operands, functions)
+}

@@ -1,0 +1,97 @@
+-- `script_types::type_function` meets its contract, by the laws of `Laws` and `Nodes`.
+use native.Mathlib.Omega.{arith}
+use mathlib.Core.Logic.{inl, inr}
+use Rattle.script_read.proofs.Nodes.{seen, inside}
+use Rattle.script_types.proofs.Laws.{result-fits, result-differs, body-faulty, no-function}
+use borrow.Author.Needs.{needs}
+use Rattle.script_types.proofs.type_function.Statement.{statement}
+use Rattle.script_types.proofs.type_function.Tie as tie
+
+node-at-requires : tie.Need-node-at-requires
+node-at-requires c κs = search needs
+
+enum-known-count : tie.Need-enum-known-count
+enum-known-count c = search needs
+
+slice-aggregate-type-parameters : tie.Need-slice-aggregate-type-parameters
+slice-aggregate-type-parameters c = search needs
+
+add-type-parameters : tie.Need-add-type-parameters
+add-type-parameters c =
+    omega (
+      arith,
+      inside _ (c .before .before .before .before .before .before .before .before .args .operands .now) 0
+          0 _ _ _ _ (c .before .before .before .before .node-at .result) (omega arith)
+          (c .before .before .before .before .node-at .ensures) (c .before .before .count .given .1),
+      c .before .before .before .before .before .before .before .before .pre .parts .few,
+    )
+
+type-parameters-requires : tie.Need-type-parameters-requires
+type-parameters-requires c κs = search needs
+
+enum-known-d : tie.Need-enum-known-d
+enum-known-d c = search needs
+
+enum-known-n : tie.Need-enum-known-n
+enum-known-n c = search needs
+
+enum-told : tie.Need-enum-told
+enum-told c = search needs
+
+enum-told-2 : tie.Need-enum-told-2
+enum-told-2 c = search needs
+
+returns : tie.Need-returns
+returns c =
+    result-fits _ _ _ (seen _ _ 0 0 _
+    (c .before .before .before .before .before .before .before .before .before .before .node-at .result)
+    (c .before .before .before .before .before .before .before .before .before .before .node-at .ensures) _ _ _
+    (c .before .before .before .before .before .before .before .before .count .given .1)) _
+    (c .before .before .before .before .before .type-parameters .ensures) _ _ (c .before .before .d .given .1)
+    (c .if1 .taken)
+
+returns-2 : tie.Need-returns-2
+returns-2 c =
+    result-differs _ _ _ (seen _ _ 0 0 _
+    (c .before .before .before .before .before .before .before .before .before .before .node-at .result)
+    (c .before .before .before .before .before .before .before .before .before .before .node-at .ensures) _ _ _
+    (c .before .before .before .before .before .before .before .before .count .given .1)) _
+    (c .before .before .before .before .before .type-parameters .ensures) _ _ (c .before .before .d .given .1)
+    (c .if1 .left)
+
+returns-3 : tie.Need-returns-3
+returns-3 c =
+    body-faulty _ _ _ (seen _ _ 0 0 _
+    (c .before .before .before .before .before .before .before .before .before .node-at .result)
+    (c .before .before .before .before .before .before .before .before .before .node-at .ensures) _ _ _
+    (c .before .before .before .before .before .before .before .count .given .1)) _
+    (c .before .before .before .before .type-parameters .ensures) _ (c .before .n .given .1)
+
+returns-4 : tie.Need-returns-4
+returns-4 c =
+    no-function _ _ _ _ (c .before .before .node-at .result) (c .before .before .node-at .ensures)
+    (inl (c .enum-told .given .1))
+
+returns-5 : tie.Need-returns-5
+returns-5 c =
+    no-function _ _ _ _ (c .before .before .node-at .result) (c .before .before .node-at .ensures)
+    (inr (c .enum-told2 .given .1))
+
+pub type-function-spec : {M : Type 1} → statement M
+type-function-spec =
+    tie.close
+    (tie.spec
+    node-at-requires
+    enum-known-count
+    slice-aggregate-type-parameters
+    add-type-parameters
+    type-parameters-requires
+    enum-known-d
+    enum-known-n
+    enum-told
+    enum-told-2
+    returns
+    returns-2
+    returns-3
+    returns-4
+    returns-5)

@@ -1,0 +1,164 @@
+-- Every function of an accepted script is disciplined, and main has main's shape.
+use Prim.Native.Nat.{ℕ, zero, suc, _+_, _≤_}
+use native.Mathlib.Omega.{arith}
+use mathlib.Core.Path.{_≡_, refl, sym, ap, subst}
+use mathlib.Core.Bool.{Bool, true, false, cond}
+use mathlib.Core.List.{List, [], _∷_}
+use mathlib.Core.Option.{Option, none, some}
+use lib.ListN.{length, getD}
+use lib.Dec.{ltb}
+use borrow.Author.Tests.{ltb-false}
+use Rattle.semantics.specs.Basics.{updated}
+use Rattle.semantics.specs.Outcome.{Outcome, done, stop}
+use Rattle.semantics.specs.Syntax.{Expr, Parameter, Function, Script, no-function, function-size, main-depth}
+use Rattle.semantics.specs.File.{read-file}
+use Rattle.semantics.specs.Names.{Scope, unknown-from, unknown-in, name-faults}
+use Rattle.semantics.specs.Types.{Signature, node, all-are, check, parameter-depths, result-rule, check-function}
+use Rattle.semantics.specs.Types.{function-faults, signatures-of, main-shape, type-faults, and-more}
+use Rattle.semantics.specs.Normal.{fresh, too-many-names-from, too-many-names}
+use Rattle.semantics.specs.Calls.{Verdict, accepted, refused, judged-script, judged-read, judged}
+use Rattle.sound_machine.specs.Discipline.{FunctionDisciplined}
+use Rattle.sound_annotation.specs.Typed.{Limited, Typed}
+use Rattle.sound_annotation.specs.Rules.{not-some, some-if-holds, all-equal, same-lists, with-if-empty}
+use Rattle.sound_annotation.specs.Rules.{append-empty, node-parts, node-depth}
+use Rattle.sound_annotation.specs.Checking.{check-typed}
+use Rattle.sound_annotation.specs.Parameters.{written, written-known, Distinct}
+use Rattle.sound_annotation.specs.Functions.{Accepted, function-disciplined}
+use Rattle.sound_annotation.specs.Reader.{After, AllOf, FunctionLimits, ScriptLimits, file-limited}
+
+-- ---- what an accepting verdict says
+
+abbrev Accepts : Verdict → Type 0
+Accepts (accepted fs) = Unit {0}
+Accepts (refused n p) = ⊥
+
+script-of : Verdict → Script
+script-of (accepted fs) = fs
+script-of (refused n p) = []
+
+not-accepted : {A : Type 0} (n p : ℕ) (fs : Script) → refused n p ≡ accepted fs → A
+not-accepted n p fs e = absurd (subst Accepts (sym e) tt)
+
+-- a script that is read, within limits and without fault
+pub record Clean (fs : Script) : Type 0 where
+  pub limits : ScriptLimits fs
+  pub names : name-faults fs ≡ []
+  pub types : type-faults fs ≡ []
+  pub roomy : too-many-names fs ≡ none
+
+script-clean : (node : ℕ) (gs fs : Script) (ps qs : List ℕ) (o : Option ℕ) →
+    judged-script node gs ps qs o ≡ accepted fs →
+    (gs ≡ fs) × (ps ≡ []) × (qs ≡ []) × (o ≡ none)
+unfolding script-of
+script-clean node gs fs [] [] none e = (ap script-of e, refl, refl, refl)
+script-clean node gs fs [] [] (some p) e = not-accepted 8 p fs e
+script-clean node gs fs [] (q ∷ qs) o e = not-accepted 7 node fs e
+script-clean node gs fs (p ∷ ps) qs o e = not-accepted 6 node fs e
+
+pub judged-clean : (node : ℕ) (file : List ℕ) (fs : Script) → judged node file ≡ accepted fs → Clean fs
+unfolding judged
+judged-clean node file fs = go (read-file file) (file-limited file)
+  where
+    go : (o : Outcome ℕ Script) → After ScriptLimits o → judged-read node o ≡ accepted fs → Clean fs
+    go (done gs p) l e =
+        let clean = script-clean node gs fs (name-faults gs) (type-faults gs) (too-many-names gs) e in
+        subst Clean (clean .0) (record { limits = l; names = clean .1; types = clean .2; roomy = clean .3 })
+    go (stop n p) l e = not-accepted n p fs e
+
+-- ---- one function
+
+distinct-of : (functions : ℕ) (xs : List Parameter) (known : Scope) (p : ℕ) (e : Expr) →
+    unknown-from functions xs known p e ≡ [] →
+    Distinct xs known
+unfolding unknown-from
+distinct-of functions [] known p e h = tt
+distinct-of functions (x ∷ xs) known p e h =
+    let parts = with-if-empty (known (x .id)) p (unknown-from functions xs (updated known (x .id) true) (p + 1) e) h in
+    (parts .0, distinct-of functions xs (updated known (x .id) true) (p + 1) e (parts .1))
+
+-- a function node without fault: its shape is right, and its body has the result's depth
+function-typed : (signatures : ℕ → Signature) (shape : Bool) (g : Function) (p : ℕ) → Limited (g .body) →
+    check-function signatures shape g p .faults ≡ [] →
+    (shape ≡ true) × Typed signatures (g .body) (written (g .parameters) (λ _. 0)) (g .result)
+unfolding check-function
+function-typed signatures false g p l e = absurd (omega (arith, ap length e))
+function-typed signatures true g p l e =
+    let Δ = parameter-depths signatures (g .parameters) (λ _. some 0) in
+    let δ = written (g .parameters) (λ _. 0) in
+    let at = p + 1 + length (g .parameters) in
+    let c = check signatures (g .body) Δ at in
+    let rule = result-rule signatures (g .result) in
+    let found = check-typed signatures (g .body) Δ δ at l
+    (written-known signatures (g .parameters) (λ _. some 0) (λ _. 0) (record { depth = λ y. refl }))
+    (append-empty (c .faults) [] (node-parts p rule (c ∷ []) e) .0) in
+    let whole = node-depth p rule (c ∷ []) (found .0 ∷ []) e (λ i. and-more (found .1 i) (some [])) in
+    let holds = some-if-holds (all-are (g .result) (found .0 ∷ [])) (g .result) (whole .0) (whole .2) in
+    (refl, subst (Typed signatures (g .body) δ) (all-equal (g .result) (found .0 ∷ []) (holds .0) .0) (found .2))
+
+-- ---- all functions
+
+none-accepted : (fs : Script) → Accepted fs no-function
+unfolding fresh
+none-accepted fs = record { typed = refl; distinct = tt; few = omega arith }
+
+roomy-here : (b : Bool) (p : ℕ) (o : Option ℕ) → cond b (some p) o ≡ none → (b ≡ false) × (o ≡ none)
+roomy-here true p o e = not-some p (sym e)
+roomy-here false p o e = (refl, e)
+
+accepted-at : (fs : Script) (functions : ℕ) (shape : Bool) (gs : List Function) (p : ℕ) (f : ℕ) →
+    AllOf FunctionLimits gs →
+    unknown-in functions gs p ≡ [] → function-faults (signatures-of fs) shape gs p ≡ [] → too-many-names-from gs p ≡ none →
+    Accepted fs (getD gs f no-function)
+unfolding unknown-in function-faults too-many-names-from
+accepted-at fs functions shape [] p f l n t c = none-accepted fs
+accepted-at fs functions shape (g ∷ gs) p zero l n t c =
+    let named = append-empty (unknown-from functions (g .parameters) (λ _. false) (p + 1) (g .body)) _ n in
+    let typed = append-empty (check-function (signatures-of fs) shape g p .faults) _ t in
+    let room = roomy-here (ltb 256 (length (g .parameters) + fresh (g .body))) p
+    (too-many-names-from gs (p + function-size g)) c in
+    record {
+      typed = function-typed (signatures-of fs) shape g p (l .0 .body) (typed .0) .1;
+      distinct = distinct-of functions (g .parameters) (λ _. false) (p + 1) (g .body) (named .0);
+      few = ltb-false 256 (length (g .parameters) + fresh (g .body)) (room .0);
+    }
+accepted-at fs functions shape (g ∷ gs) p (suc f) l n t c =
+    let named = append-empty (unknown-from functions (g .parameters) (λ _. false) (p + 1) (g .body)) _ n in
+    let typed = append-empty (check-function (signatures-of fs) shape g p .faults) _ t in
+    let room = roomy-here (ltb 256 (length (g .parameters) + fresh (g .body))) p
+    (too-many-names-from gs (p + function-size g)) c in
+    accepted-at fs functions true gs (p + function-size g) f (l .1) (named .1) (typed .1) (room .1)
+
+-- ---- accepted scripts
+
+pub functions-disciplined : (node : ℕ) (file : List ℕ) (fs : Script) → judged node file ≡ accepted fs → (f : ℕ) →
+    FunctionDisciplined fs f
+unfolding name-faults type-faults
+functions-disciplined node file fs e f =
+    let clean = judged-clean node file fs e in
+    function-disciplined fs f
+    (accepted-at fs (length fs) (main-shape (signatures-of fs 0)) fs 0 f (clean .limits .1) (clean .names)
+    (clean .types) (clean .roomy))
+
+-- a script has a first function
+shaped : (fs : Script) (shape : Bool) (gs : List Function) → 1 ≤ length gs → AllOf FunctionLimits gs →
+    function-faults (signatures-of fs) shape gs 0 ≡ [] → shape ≡ true
+unfolding function-faults
+shaped fs shape [] h l e = absurd (omega arith)
+shaped fs shape (g ∷ gs) h l e =
+    function-typed (signatures-of fs) shape g 0 (l .0 .body)
+    (append-empty (check-function (signatures-of fs) shape g 0 .faults) _ e .0) .0
+
+shallow : (gs : List Function) → AllOf FunctionLimits gs → getD gs 0 no-function .result ≤ 4
+shallow [] l = omega arith
+shallow (g ∷ gs) l = l .0 .result
+
+-- main takes the totals and the readings, and gives new totals, of depth 4 at most
+pub main-shape-of : (node : ℕ) (file : List ℕ) (fs : Script) → judged node file ≡ accepted fs →
+    (signatures-of fs 0 ≡ record { parameters = main-depth fs ∷ 1 ∷ []; result = main-depth fs }) × (main-depth fs ≤ 4)
+unfolding type-faults
+main-shape-of node file fs e =
+    let clean = judged-clean node file fs e in
+    let s = signatures-of fs 0 in
+    let shape = shaped fs (main-shape s) fs (clean .limits .0) (clean .limits .1) (clean .types) in
+    let parameters = same-lists (s .parameters) (s .result ∷ 1 ∷ []) shape in
+    (λ i. record { parameters = parameters i; result = main-depth fs }, shallow fs (clean .limits .1))

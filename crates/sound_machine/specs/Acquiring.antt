@@ -1,0 +1,114 @@
+-- A cell acquired, or none free: then each taken cell is reached from the roots.
+use Prim.Native.Nat.{ℕ, suc, _-_, _<_}
+use native.Mathlib.Omega.{arith}
+use mathlib.Core.Bool.{Bool, true, false, _&&_}
+use mathlib.Core.Path.{_≡_, refl, sym, ap}
+use mathlib.Core.Logic.{inl, inr}
+use mathlib.Core.List.{List, [], _∷_, _++_}
+use lib.IntN.{ℤ, pos}
+use Rattle.semantics.specs.Outcome.{Run, onward}
+use Rattle.semantics.specs.Value.{Value}
+use Rattle.semantics.specs.Live.{Set, members}
+use Rattle.semantics.specs.Annotate.{is-array}
+use Rattle.semantics.specs.Meaning.{Meter, Env, step-wants}
+use Rattle.semantics.specs.Machine.{acquires, State, Frame, with-store, with-roots, held, acquire, acquire-if}
+use Rattle.semantics.specs.Store.{Store, cell, cell-count, cell-of, filled, has-free, acquired}
+use Rattle.semantics.specs.Sound.{free-list}
+use Rattle.semantics.specs.Demands.{value-of, touched, replayed, tail, OutOfCells}
+use Rattle.sound_base.specs.Lists.{_⊆_}
+use Rattle.sound_machine.specs.Discipline.{Covered}
+use Rattle.sound_base.specs.Invariant.{Stands}
+use Rattle.sound_store.specs.Counting.{append-cases, in-append-left, in-append-right}
+use Rattle.sound_store.specs.Kept.{reached, reached-more}
+use Rattle.sound_machine.specs.Images.{image-subset, member}
+use Rattle.sound_machine.specs.Growth.{Grows}
+use Rattle.sound_machine.specs.Agreement.{Start, Together, Agree, dry, with-store-together}
+use Rattle.sound_machine.specs.Frames.{hold, Setting, Situation}
+use Rattle.sound_machine.specs.Standing.{named-one}
+
+-- ---- out of cells
+
+both-true : (a b : Bool) → a ≡ true → b ≡ true → (a && b) ≡ true
+both-true true b e f = f
+both-true false b e f = e
+
+-- the covered names are among those whose cells the machine has for its roots
+pub covered-held : (C : Setting) (H : List ℕ) (A : Set) (ρ : Frame) →
+    Covered (C .signatures) (C .depths) H A → hold ρ H ⊆ held (C .depths) A ρ
+unfolding held
+covered-held C H A ρ k = image-subset (λ y. cell-of (ρ y)) H (members (λ y. A y && is-array (C .depths) y))
+    (λ y h. member (λ z. A z && is-array (C .depths) z) y (k .below y h) (both-true (A y) (is-array (C .depths) y)
+    (k .live y h) (k .array y h)))
+
+-- what covered names and others hold is among the roots
+pub roots-cover : (C : Setting) (Z F R H : List ℕ) (A : Set) (ρ : Frame) →
+    (Z ++ F) ⊆ R → Covered (C .signatures) (C .depths) H A → (Z ++ (hold ρ H ++ F)) ⊆ (R ++ held (C .depths) A ρ)
+roots-cover C Z F R H A ρ rooted covered c h = elim (append-cases c Z (hold ρ H ++ F) h) [
+  | inl g ↦ in-append-left c R (held (C .depths) A ρ) (rooted c (in-append-left c Z F g))
+  | inr g ↦ elim (append-cases c (hold ρ H) F g) [
+    | inl k ↦ in-append-right c R (held (C .depths) A ρ) (covered-held C H A ρ covered c k)
+    | inr k ↦ in-append-left c R (held (C .depths) A ρ) (rooted c (in-append-right c Z F k))
+  ]
+]
+
+-- where no cell is free, each taken one is reached from the roots
+pub out-of-cells : {C : Setting} {Z F R H P : List ℕ} {ρ : Frame} {δ : Env} {n : ℕ} (s : State) (A : Set) →
+    Situation C (s .store) Z F R H P ρ δ n → Covered (C .signatures) (C .depths) H A → has-free (s .store) ≡ false →
+    OutOfCells (with-roots s (R ++ held (C .depths) A ρ))
+unfolding with-roots
+out-of-cells {C} {Z} {F} {R} {H} {P} {ρ} s A S covered e = record {
+  none-free = e;
+  in-use = λ c h. reached-more (s .store) (Z ++ (hold ρ H ++ F)) (R ++ held (C .depths) A ρ)
+      (roots-cover C Z F R H A ρ (S .rooted) covered) c (reached (S .invariant) c h);
+}
+
+-- the state after a cell is acquired
+abbrev pub after-acquire : ℕ → List ℤ → State → State
+after-acquire d ws s = with-store s (acquired d ws (s .store)) (acquires (s .store .first) ∷ [])
+
+pub acquire-together : {start : Start} {s : State} {m : Meter} (d : ℕ) (ws : List ℤ) →
+    free-list (s .store) ≡ s .store .first ∷ free-list (acquired d ws (s .store)) →
+    cell-count (acquired d ws (s .store)) ≡ cell-count (s .store) → Together start s m →
+    Together start (after-acquire d ws s) m
+unfolding touched replayed
+acquire-together {s = s} d ws e g t =
+    with-store-together (acquired d ws (s .store)) (acquires (s .store .first) ∷ []) refl (sym (ap tail e)) g t
+
+-- a cell is acquired, which the last step's node wants
+pub acquire-agrees : {start : Start} {A B : Type 0} {Q : A → State → B → Meter → Type 0} {s : State} {m : Meter}
+    (R : List ℕ) (d : ℕ) (ws : List ℤ) (f : ℤ → Run State A) (g : Run Meter B) → Grows g → Together start s m →
+    step-wants (start .budget - s .left) (m .trace) ≡ true →
+    (has-free (s .store) ≡ false → OutOfCells (with-roots s R)) →
+    (has-free (s .store) ≡ true → Agree start Q (f (pos (s .store .first)) (after-acquire d ws s)) (g m)) →
+    Agree start Q (onward f (acquire R d ws s)) (g m)
+unfolding acquire acquire-if onward with-roots
+acquire-agrees {start} {Q = Q} {s} {m} R d ws f g grows t wants out next = go (has-free (s .store)) refl
+  where
+    go : (b : Bool) → has-free (s .store) ≡ b → Agree start Q (onward f (acquire-if b R d ws s)) (g m)
+    go true e = next e
+    go false e = dry {p = g m} record {
+      out = out e;
+      clean = record { untouched = t .clean .untouched; replays = t .clean .replays; cells = t .clean .cells };
+      wanted = grows .later m (start .budget - s .left) wants;
+    }
+
+-- ---- the cell acquired
+
+pub filled-count : (d : ℕ) (ws : List ℤ) → 0 < filled d ws .count
+unfolding filled
+filled-count d ws = omega arith
+
+pub filled-depth : (d : ℕ) (ws : List ℤ) → filled d ws .depth ≡ d
+unfolding filled
+filled-depth d ws = refl
+
+-- a cell with this content stands for an array of this value
+pub cell-stands : {τ : Store} (d c : ℕ) (v : Value) → value-of τ (suc d) (pos c) ≡ v → 0 < cell τ c .count →
+    cell τ c .depth ≡ d → Stands τ (suc d) (pos c) v
+unfolding cell-of
+cell-stands {τ} d c v means used depth = record {
+  means = means;
+  fits = λ r h.
+      let e = named-one (suc d) (pos c) r h in
+      rw e (used, ap suc (sym depth));
+}

@@ -1,0 +1,162 @@
+-- A name bound by a line: to a word that holds nothing, or to a result that holds a reference; and what a tree leaves.
+use Prim.Native.Nat.{ℕ, zero, suc, _<_}
+use native.Mathlib.Omega.{arith}
+use native.Mathlib.Decide.{ℕ-discrete}
+use mathlib.Core.Path.{_≡_, refl, sym, ap, _∙_, subst}
+use mathlib.Core.List.{List, [], _∷_, _++_, append-assoc}
+use lib.IntN.{ℤ}
+use Rattle.semantics.specs.Basics.{occurrences, _∈_, updated}
+use Rattle.semantics.specs.Value.{Value, num}
+use Rattle.semantics.specs.Meaning.{Meter, Env}
+use Rattle.semantics.specs.Machine.{State, Frame}
+use Rattle.semantics.specs.Store.{Store, cell-of, named-by}
+use Rattle.semantics.specs.Sound.{all-inner}
+use Rattle.sound_base.specs.Lists.{_≈_, _⊆_, occurrences-append}
+use Rattle.sound_machine.specs.Discipline.{Fresh}
+use Rattle.sound_base.specs.Invariant.{Invariant, Keeps, Stands}
+use Rattle.sound_store.specs.Counting.{in-append-left, in-append-right}
+use Rattle.sound_store.specs.Change.{held-used}
+use Rattle.sound_store.specs.Kept.{keeps-self, keeps-fewer, keeps-trans}
+use Rattle.sound_machine.specs.Images.{image-alike, updated-here, updated-there, apart, without-middle}
+use Rattle.sound_machine.specs.Agreement.{Together}
+use Rattle.sound_machine.specs.Frames.{hold, Room, Setting, Pending, Situation, Returned, Ended, Going, own}
+use Rattle.sound_machine.specs.Situations.{room-given}
+use Rattle.sound_machine.specs.Standing.{none-in, stands-number, stands-held, hold-updated, hold-of-number}
+use Rattle.sound_machine.specs.Standing.{hold-bound, hold-of-other}
+
+module _ (C : Setting) where
+  -- a name bound to a word that holds nothing: a number, or an array that is named in the store
+  pub pending-situation : {σ : Store} {Z F R H P : List ℕ} {ρ : Frame} {δ : Env} {n x : ℕ} {w : ℤ} {v : Value} →
+      Situation C σ Z F R H P ρ δ n → occurrences x H ≡ 0 → Stands σ (C .depths x) w v →
+      (0 < C .depths x → cell-of w ∈ all-inner (σ .cells)) →
+      Situation C σ Z F R H (own C x) (updated ρ x w) (updated δ x v) n
+  pending-situation {σ} {Z} {F} {R} {H} {P} {ρ} {δ} {n} {x} {w} {v} S fresh stands named = record {
+    invariant = subst (λ (l : List ℕ). Invariant σ Z (l ++ F)) (sym (hold-updated ρ x w H fresh)) (S .invariant);
+    numbers = λ y z. elim (ℕ-discrete y x) [
+      | yes q ↦ rw (q, updated-here ρ x w, updated-here δ x v) (stands-number (ap (C .depths) (sym q) ∙ z) stands)
+      | no q ↦ rw (updated-there ρ x w y q, updated-there δ x v y q) (S .numbers y z)
+    ];
+    arrays = λ y h.
+        let q = apart x y H fresh h in
+        rw (updated-there ρ x w y q, updated-there δ x v y q) (S .arrays y h);
+    pending = λ y h. elim (ℕ-discrete y x) [
+      | yes q ↦ rw (q, updated-here ρ x w, updated-here δ x v)
+          (waits (C .depths x) refl (subst (λ (k : ℕ). k ∈ own C x) q h))
+      | no q ↦ absurd (none-in y (hold-of-other C x y [] q
+          (in-append-left y (own C x) [] h)))
+    ];
+    room = subst (λ (l : List ℕ). Room Z (l ++ F) n) (sym (hold-updated ρ x w H fresh)) (S .room);
+    rooted = S .rooted;
+  }
+    where
+      waits : (d : ℕ) → C .depths x ≡ d → x ∈ own C x → Pending σ (C .depths x) w v
+      waits zero e h = absurd (none-in x (subst (λ (l : List ℕ). x ∈ l) (hold-of-number C x e) h))
+      waits (suc d) e h = record { stands = stands; named = named (omega (arith, e)) }
+
+  pub name-pending : {K : List ℕ → List ℕ → Type 0} {s : State} {Z F R H P Δ : List ℕ} {ρ : Frame} {δ : Env}
+      {n x : ℕ} {w : ℤ} {v : Value} {m : Meter} →
+      Fresh (C .signatures) (C .depths) x H Δ → Together (C .start) s m →
+      Situation C (s .store) Z F R H P ρ δ n → Stands (s .store) (C .depths x) w v →
+      (0 < C .depths x → cell-of w ∈ all-inner (s .store .cells)) → K H (own C x) →
+      Going C K (s .store) Z F R Δ ρ δ n (updated ρ x w) s (updated δ x v) m
+  name-pending {K} {s} {Z} {F} {R} {H} {P} {Δ} {ρ} {δ} {n} {x} {w} {v} fresh together S stands named goes = record {
+    holds = H;
+    waiting = own C x;
+    goes = goes;
+    together = together;
+    situation = pending-situation S (fresh .before) stands named;
+    keeps = keeps-self (s .store) (Z ++ F);
+    words = λ y h. updated-there ρ x w y (apart x y Δ (fresh .after) h);
+    values = λ y h. updated-there δ x v y (apart x y Δ (fresh .after) h);
+  }
+
+  -- what a call leaves alone stands as before
+  pub returned-ended : {d : ℕ} {σ : Store} {Z F Δ : List ℕ} {ρ : Frame} {δ : Env} {n : ℕ} {w : ℤ} {s : State}
+      {v : Value} {m : Meter} →
+      ((y : ℕ) → y ∈ Δ → Stands σ (C .depths y) (ρ y) (δ y)) →
+      Room Z (named-by d (w ∷ []) ++ (hold ρ Δ ++ F)) n →
+      Returned (C .start) d σ Z (hold ρ Δ ++ F) w s v m → Ended C d σ Z F Δ ρ δ n w s v m
+  returned-ended {d} {σ} {Z} {F} {Δ} {ρ} {δ} {n} {w} {s} arrays room r = record {
+    answered = r .answered;
+    room = room;
+    arrays = λ y h. stands-held ρ y Δ h (arrays y h)
+        (λ c g. r .keeps .keep c (in-append-right c Z (hold ρ Δ ++ F) (in-append-left c (hold ρ Δ) F g)))
+        (λ c g. held-used (r .answered .invariant) c
+        (in-append-right c (named-by d (w ∷ [])) (hold ρ Δ ++ F) (in-append-left c (hold ρ Δ) F g)));
+    keeps = keeps-fewer (Z ++ (hold ρ Δ ++ F)) (Z ++ F) (without-middle Z (hold ρ Δ) F) (r .keeps);
+  }
+
+  -- a line gave a word for the name x, with the holds H left
+  pub name-bound : {K : List ℕ → List ℕ → Type 0} {σ : Store} {Z F R H Δ : List ℕ} {ρ : Frame} {δ : Env} {n x : ℕ}
+      {w : ℤ} {s : State} {v : Value} {m : Meter} →
+      Fresh (C .signatures) (C .depths) x H Δ → ((y : ℕ) → C .depths y ≡ 0 → num (ρ y) ≡ δ y) → (Z ++ F) ⊆ R →
+      K (own C x ++ H) [] → Ended C (C .depths x) σ Z F H ρ δ n w s v m →
+      Going C K σ Z F R Δ ρ δ n (updated ρ x w) s (updated δ x v) m
+  name-bound {K} {σ} {Z} {F} {R} {H} {Δ} {ρ} {δ} {n} {x} {w} {s} {v} {m} fresh numbers rooted goes e = record {
+    holds = own C x ++ H;
+    waiting = [];
+    goes = goes;
+    together = e .answered .together;
+    situation = record {
+      invariant = subst (λ (l : List ℕ). Invariant (s .store) Z l) (sym holds) (e .answered .invariant);
+      numbers = number-at;
+      arrays = array-at;
+      pending = λ y h. absurd (none-in y h);
+      room = subst (λ (l : List ℕ). Room Z l n) (sym holds) (e .room);
+      rooted = rooted;
+    };
+    keeps = e .keeps;
+    words = λ y h. updated-there ρ x w y (apart x y Δ (fresh .after) h);
+    values = λ y h. updated-there δ x v y (apart x y Δ (fresh .after) h);
+  }
+    where
+      holds : hold (updated ρ x w) (own C x ++ H) ++ F ≡ named-by (C .depths x) (w ∷ []) ++ (hold ρ H ++ F)
+      holds = ap (λ (l : List ℕ). l ++ F) (hold-bound C ρ x w H (fresh .before))
+          ∙ append-assoc (named-by (C .depths x) (w ∷ [])) (hold ρ H) F
+
+      number-at : (y : ℕ) → C .depths y ≡ 0 → num (updated ρ x w y) ≡ updated δ x v y
+      number-at y z = elim (ℕ-discrete y x) [
+        | yes q ↦ rw (q, updated-here ρ x w, updated-here δ x v) (stands-number (ap (C .depths) (sym q) ∙ z)
+            (e .answered .stands))
+        | no q ↦ rw (updated-there ρ x w y q, updated-there δ x v y q) (numbers y z)
+      ]
+
+      array-at : (y : ℕ) → y ∈ (own C x ++ H) →
+          Stands (s .store) (C .depths y) (updated ρ x w y) (updated δ x v y)
+      array-at y h = elim (ℕ-discrete y x) [
+        | yes q ↦ rw (q, updated-here ρ x w, updated-here δ x v) (e .answered .stands)
+        | no q ↦ rw (updated-there ρ x w y q, updated-there δ x v y q)
+            (e .arrays y (hold-of-other C x y H q h))
+      ]
+
+  -- a result in place of the holds l, bound to the name x
+  pub result-bound : {K : List ℕ → List ℕ → Type 0} {σ : Store} {Z F R H P Δ : List ℕ} {ρ : Frame} {δ : Env} {d n x : ℕ}
+      {w : ℤ} {s : State} {v : Value} {m : Meter} (l H′ : List ℕ) → H ≈ l ++ H′ →
+      Fresh (C .signatures) (C .depths) x H′ Δ → C .depths x ≡ d → K (own C x ++ H′) [] →
+      Situation C σ Z F R H P ρ δ (suc n) → Returned (C .start) d σ Z (hold ρ H′ ++ F) w s v m →
+      Going C K σ Z F R Δ ρ δ n (updated ρ x w) s (updated δ x v) m
+  result-bound {σ = σ} {Z} {F} {H = H} {ρ = ρ} {x = x} {w} {s} {v} {m} l H′ spends fresh result goes S q =
+      name-bound fresh (S .numbers) (S .rooted) goes
+      (returned-ended (λ y h. S .arrays y (omega (arith, h, spends y, occurrences-append y l H′)))
+      (room-given ρ H l H′ F (C .depths x) w spends (S .room))
+      (subst (λ (k : ℕ). Returned (C .start) k σ Z (hold ρ H′ ++ F) w s v m) (sym result) q))
+
+  -- a tree that ended in another frame and a later store, where what it leaves is as before
+  pub ended-back : {d : ℕ} {σ τ : Store} {Z F Δ : List ℕ} {ρ ρ′ : Frame} {δ δ′ : Env} {n : ℕ} {w : ℤ} {s : State}
+      {v : Value} {m : Meter} →
+      ((y : ℕ) → y ∈ Δ → ρ′ y ≡ ρ y) → ((y : ℕ) → y ∈ Δ → δ′ y ≡ δ y) → Keeps σ τ (Z ++ F) →
+      Ended C d τ Z F Δ ρ′ δ′ n w s v m → Ended C d σ Z F Δ ρ δ n w s v m
+  ended-back {d} {σ} {τ} {Z} {F} {Δ} {ρ} {ρ′} {δ} {δ′} {n} {w} {s} {v} words values keeps e = record {
+    answered = record {
+      together = e .answered .together;
+      invariant = subst (λ (l : List ℕ). Invariant (s .store) Z (named-by d (w ∷ []) ++ (l ++ F))) holds
+          (e .answered .invariant);
+      stands = e .answered .stands;
+    };
+    room = subst (λ (l : List ℕ). Room Z (named-by d (w ∷ []) ++ (l ++ F)) n) holds (e .room);
+    arrays = λ y h. rw (← words y h, ← values y h) (e .arrays y h);
+    keeps = keeps-trans keeps (e .keeps);
+  }
+    where
+      holds : hold ρ′ Δ ≡ hold ρ Δ
+      holds = image-alike (λ y. cell-of (ρ′ y)) (λ y. cell-of (ρ y)) Δ (λ y h. ap cell-of (words y h))

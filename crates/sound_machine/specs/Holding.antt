@@ -1,0 +1,129 @@
+-- The lines that retain and release.
+use Prim.Native.Nat.{ℕ, suc, _+_, _<_, _≤_}
+use native.Mathlib.Omega.{arith}
+use mathlib.Core.Path.{refl, sym, subst}
+use mathlib.Core.Logic.{_⊎_, inl, inr}
+use mathlib.Core.List.{List, [], _∷_, _++_}
+use Rattle.semantics.specs.Basics.{occurrences, _∈_}
+use Rattle.semantics.specs.Outcome.{onward}
+use Rattle.semantics.specs.Code.{retain, release}
+use Rattle.semantics.specs.Meaning.{Env}
+use Rattle.semantics.specs.Machine.{Frame, with-store, release-events, work-line, retain-word, release-word}
+use Rattle.semantics.specs.Store.{Store, cell, cell-of, retained, released, deepest}
+use Rattle.semantics.specs.Sound.{all-inner}
+use Rattle.sound_base.specs.Plain.{run-line}
+use Rattle.sound_base.specs.Invariant.{Invariant, Keeps, Stands}
+use Rattle.sound_store.specs.Counting.{in-append-left, in-append-right, append-cases}
+use Rattle.sound_store.specs.Change.{permute, held-used}
+use Rattle.sound_store.specs.Kept.{keeps-fewer}
+use Rattle.sound_store.specs.Retain.{Retains}
+use Rattle.sound_store.specs.Retain as Store-retain
+use Rattle.sound_store.specs.Release.{Releases, releases-keep}
+use Rattle.sound_store.specs.Release as Store-release
+use Rattle.sound_machine.specs.Images.{image-in, without-middle, first-or-later, one-more}
+use Rattle.sound_machine.specs.Agreement.{both, with-store-together}
+use Rattle.sound_machine.specs.Frames.{hold, Setting, Situation}
+use Rattle.sound_machine.specs.Standing.{none-in, stands-held, hold-split}
+use Rattle.sound_machine.specs.Size.{line-lines}
+use Rattle.sound_machine.specs.Situations.{room-less, room-one, room-fewer, touch-together}
+use Rattle.sound_machine.specs.Claims.{LineClaim}
+
+module _ (C : Setting) where
+  -- a name that may be retained: its cell is held or named, and it stands for its value
+  record Retainable (σ : Store) (F H : List ℕ) (ρ : Frame) (δ : Env) (x : ℕ) : Type 0 where
+    pub named : 0 < occurrences (cell-of (ρ x)) (hold ρ H ++ F) + occurrences (cell-of (ρ x)) (all-inner (σ .cells))
+    pub stands : Stands σ (C .depths x) (ρ x) (δ x)
+
+  retainable : {σ : Store} {Z F R H P : List ℕ} {ρ : Frame} {δ : Env} {n : ℕ} (x : ℕ) → Situation C σ Z F R H P ρ δ n →
+      (x ∈ P) ⊎ (x ∈ H) → Retainable σ F H ρ δ x
+  retainable x S (inl h) = record { named = omega (arith, S .pending x h .named); stands = S .pending x h .stands }
+  retainable {F = F} {H = H} {ρ = ρ} x S (inr h) = record {
+    named = omega (arith, in-append-left (cell-of (ρ x)) (hold ρ H) F (image-in (λ y. cell-of (ρ y)) x H h));
+    stands = S .arrays x h;
+  }
+
+  pub line-retain : (x : ℕ) → LineClaim C (retain x)
+  unfolding work-line run-line onward retain-word with-store line-lines
+  line-retain x A H P Δ K D Z F R ρ δ n s m t S need = both record {
+    holds = x ∷ H;
+    waiting = [];
+    goes = D .1;
+    together = touch-together c (retained c σ) (S .invariant) used (r .free) (r .cells) t;
+    situation = record {
+      invariant = r .holds;
+      numbers = S .numbers;
+      arrays = λ y h. stands-held ρ y (x ∷ H) h (stood y h) (λ k g. r .alike k)
+          (λ k g. held-used (r .holds) k (in-append-left k (hold ρ (x ∷ H)) F g));
+      pending = λ y h. absurd (none-in y h);
+      room = room-one c n (room-less (suc n) (S .room) (omega arith));
+      rooted = S .rooted;
+    };
+    keeps = record { keep = λ k h. r .alike k };
+    words = λ y h. refl;
+    values = λ y h. refl;
+  }
+    where
+      σ : Store
+      σ = s .store
+
+      c : ℕ
+      c = cell-of (ρ x)
+
+      able : Retainable σ F H ρ δ x
+      able = retainable x S (append-cases x P H (D .0))
+
+      used : 0 < cell σ c .count
+      used = omega (arith, able .named, S .invariant .counts c)
+
+      r : Retains σ (retained c σ) c Z (hold ρ H ++ F)
+      r = Store-retain.retain c (S .invariant) (able .named) (omega (arith, S .room .few c))
+
+      stood : (y : ℕ) → y ∈ (x ∷ H) → Stands σ (C .depths y) (ρ y) (δ y)
+      stood y h = elim (first-or-later y x H h) [
+        | inl e ↦ subst (λ (k : ℕ). Stands σ (C .depths k) (ρ k) (δ k)) (sym e) (able .stands)
+        | inr g ↦ S .arrays y g
+      ]
+
+  pub line-release : (x : ℕ) → LineClaim C (release x)
+  unfolding work-line run-line onward release-word with-store line-lines
+  line-release x A H P Δ K D Z F R ρ δ n s m t S need = both record {
+    holds = H′;
+    waiting = [];
+    goes = D .2;
+    together = with-store-together (released deepest c σ) (release-events deepest c σ) (r .untouched) (r .replays)
+        (r .cells) t;
+    situation = record {
+      invariant = r .holds;
+      numbers = S .numbers;
+      arrays = λ y h. stands-held ρ y H′ h (S .arrays y (omega (arith, D .1 y, one-more y x H′)))
+          (λ k g. keeps .keep k (in-append-right k Z (hold ρ H′ ++ F) (in-append-left k (hold ρ H′) F g)))
+          (λ k g. held-used (r .holds) k (in-append-left k (hold ρ H′) F g));
+      pending = λ y h. absurd (none-in y h);
+      room = room-fewer (hold ρ H′ ++ F) fewer (room-less n (S .room) (omega arith));
+      rooted = S .rooted;
+    };
+    keeps = keeps-fewer (Z ++ (hold ρ H′ ++ F)) (Z ++ F) (without-middle Z (hold ρ H′) F) keeps;
+    words = λ y h. refl;
+    values = λ y h. refl;
+  }
+    where
+      σ : Store
+      σ = s .store
+
+      c : ℕ
+      c = cell-of (ρ x)
+
+      H′ : List ℕ
+      H′ = D .0
+
+      before : Invariant σ Z (hold ρ (x ∷ H′) ++ F)
+      before = permute Z (hold ρ (x ∷ H′) ++ F) (S .invariant) (λ k. refl) (hold-split ρ H (x ∷ []) H′ F (D .1))
+
+      r : Releases σ (released deepest c σ) (release-events deepest c σ) Z (hold ρ H′ ++ F)
+      r = Store-release.release c before
+
+      keeps : Keeps σ (released deepest c σ) (Z ++ (hold ρ H′ ++ F))
+      keeps = releases-keep before r
+
+      fewer : (k : ℕ) → occurrences k (hold ρ H′ ++ F) ≤ occurrences k (hold ρ H ++ F)
+      fewer k = omega (arith, hold-split ρ H (x ∷ []) H′ F (D .1) k, one-more k c (hold ρ H′ ++ F))

@@ -1,0 +1,24 @@
+-- The parts of a packed answer, read back.
+use Prim.Native.Nat.{ℕ, zero, suc, _+_, _*_, _/_, _%_, _^_, _<_, _≤_}
+use native.Mathlib.Omega.{arith}
+use mathlib.Core.Path.{_≡_, refl}
+use mathlib.Core.Logic.{_≢_}
+use mathlib.Core.Option.{Option, none, some}
+use borrow.Author.Tests.{eq-eqb, ne-eqb}
+use Rattle.semantics.specs.Calls.{packed, number-of, steps-of}
+use Rattle.semantics.specs.Ledger.{dry-steps}
+
+pub number-packed : (n p k c : ℕ) → n < 256 → number-of (packed n p k c) ≡ n
+unfolding packed
+number-packed n p k c h = omega arith
+
+pub steps-packed : (n k c : ℕ) → n < 256 → k < 2 ^ 24 → steps-of (packed n 0 k c) ≡ k
+unfolding packed
+steps-packed n k c h l = omega arith
+
+-- of an answer other than 25 the ledger is fed nothing
+pub not-dry : (n p k c : ℕ) → n < 256 → n ≢ 25 → dry-steps (packed n p k c) ≡ none
+not-dry n p k c h f = rw (number-packed n p k c h, ne-eqb n 25 f)
+
+pub dry-packed : (k c : ℕ) → k < 2 ^ 24 → dry-steps (packed 25 0 k c) ≡ some k
+dry-packed k c h = rw (number-packed 25 0 k c (omega arith), steps-packed 25 k c (omega arith) h)

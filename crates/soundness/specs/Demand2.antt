@@ -1,0 +1,48 @@
+-- Demand 2: running the code does what the script means, unless a cell is wanting.
+use Prim.Native.Nat.{ℕ, zero, suc, _-_, _≤_}
+use native.Mathlib.Omega.{arith}
+use mathlib.Core.Bool.{Bool, true, false, cond}
+use mathlib.Core.Path.{_≡_, refl, subst, _∙_}
+use mathlib.Core.Logic.{_⊎_, inl, inr}
+use mathlib.Core.List.{List}
+use Rattle.semantics.specs.Outcome.{Outcome, done, stop}
+use Rattle.semantics.specs.Syntax.{Script, main-depth}
+use Rattle.semantics.specs.Value.{Value}
+use Rattle.semantics.specs.Meaning.{Meter}
+use Rattle.semantics.specs.Words.{store-of}
+use Rattle.semantics.specs.Machine.{State}
+use Rattle.semantics.specs.Calls.{Verdict, accepted, refused, judged, admitted, admitted-if, code-fits}
+use Rattle.semantics.specs.Ledger.{wants-cell}
+use Rattle.semantics.specs.Demands.{value-of, Does, Demand2}
+use Rattle.soundness.specs.Settled.{sound-settles}
+use Rattle.sound_machine.specs.Delivery.{delivers-does}
+use Rattle.soundness.specs.Delivering.{few-lines, delivers}
+
+-- what passes 1 to 9 passes 1 to 8, and fits
+pub record Admitted (node : ℕ) (file : List ℕ) (lines : ℕ) (fs : Script) : Type 0 where
+  pub judged-so : judged node file ≡ accepted fs
+  pub fits : code-fits fs lines ≡ true
+
+admitted-says : (node : ℕ) (file : List ℕ) (lines : ℕ) (fs : Script) → admitted node file lines ≡ accepted fs →
+    Admitted node file lines fs
+unfolding admitted
+admitted-says node file lines fs = by (judged node file) refl
+  where
+    by : (j : Verdict) → judged node file ≡ j → admitted-if lines j ≡ accepted fs → Admitted node file lines fs
+    by (refused n p) e h = absurd (let z : _≡_ {A = ℕ} 0 1 = cc in omega arith)
+    by (accepted gs) e h = fit (code-fits gs lines) refl h
+      where
+        fit : (b : Bool) → code-fits gs lines ≡ b → cond b (accepted gs) (refused 9 0) ≡ accepted fs →
+            Admitted node file lines fs
+        fit false q p = absurd (let z : _≡_ {A = ℕ} 0 1 = cc in omega arith)
+        fit true q p =
+            let same : gs ≡ fs = cc in
+            record { judged-so = e ∙ p; fits = subst (λ f. code-fits f lines ≡ true) same q }
+
+pub demand-2 : Demand2
+demand-2 node file lines fs short passes slots heads sound readings budget fit =
+    let a = admitted-says node file lines fs passes in
+    let σ = store-of slots heads in
+    let d = main-depth fs in
+    delivers-does (delivers node file fs (a .judged-so) (few-lines fs lines short (a .fits))
+    (sound-settles d slots heads sound) readings budget fit)

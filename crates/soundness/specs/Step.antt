@@ -1,0 +1,162 @@
+-- One delivery: from a store that the ledger agrees with, to the next.
+use Prim.Native.Nat.{ℕ, zero, suc, _-_, _^_, _<_, _≤_}
+use native.Mathlib.Omega.{arith}
+use mathlib.Core.Bool.{Bool, true, false, _&&_}
+use mathlib.Core.Path.{_≡_, refl, sym, subst, _∙_}
+use mathlib.Core.List.{List, []}
+use lib.IntN.{ℤ}
+use lib.ListN.{length}
+use lib.Dec.{leb}
+use borrow.Author.Tests.{leb-true}
+use Rattle.semantics.specs.Outcome.{Outcome, done, stop}
+use Rattle.semantics.specs.Syntax.{Script, main-depth}
+use Rattle.semantics.specs.Value.{Value}
+use Rattle.semantics.specs.Meaning.{Meter}
+use Rattle.semantics.specs.Store.{Store, cells-taken, relinked}
+use Rattle.semantics.specs.Words.{store-of, slot-words, head-words}
+use Rattle.semantics.specs.Sound.{sound-words, free-list}
+use Rattle.semantics.specs.Machine.{State, delivery, starting, state-of, delivered-by}
+use Rattle.semantics.specs.Calls.{StoreReply, request-fits, refusing, answering, deliver-in}
+use Rattle.semantics.specs.Ledger as L
+use Rattle.semantics.specs.Ledger.{Delivery, Entry, worked, meant, entry-by, dry-steps, wants-cell, value-after}
+use Rattle.semantics.specs.Demands.{value-of, Agrees, Worked, LeftAlone, OutOfCells}
+use Rattle.sound_store.specs.Tests.{and-says}
+use Rattle.soundness.specs.Answers.{number-packed, not-dry, dry-packed}
+use Rattle.soundness.specs.Settled.{Settled, sound-settles, settled-sound, settled-words, settled-rests}
+use Rattle.soundness.specs.Settled.{relinked-settles, relinked-alone}
+use Rattle.sound_machine.specs.Agreement.{Start, Clean}
+use Rattle.sound_machine.specs.Delivery.{Delivers, finishes, stops, runs-dry}
+use Rattle.soundness.specs.Delivering.{finished-settled}
+
+-- the store in two arrays is sound, and its totals have the ledger's value
+pub record Standing (fs : Script) (slots : List ℤ) (heads : List ℕ) (v : Value) : Type 0 where
+  pub sound : sound-words (main-depth fs) slots heads ≡ true
+  pub value : value-of (store-of slots heads) (main-depth fs) (store-of slots heads .totals) ≡ v
+
+pub standing-settled : {fs : Script} {slots : List ℤ} {heads : List ℕ} {v : Value} →
+    Standing fs slots heads v → Settled (main-depth fs) (store-of slots heads) v
+standing-settled {fs} {slots} {heads} s =
+    subst (λ w. Settled (main-depth fs) (store-of slots heads) w) (s .value)
+    (sound-settles (main-depth fs) slots heads (s .sound))
+
+-- a settled store stands in its words
+pub settled-standing : {fs : Script} {σ : Store} {v : Value} →
+    Settled (main-depth fs) σ v → Standing fs (slot-words σ) (head-words σ) v
+settled-standing s = record { sound = settled-sound s; value = rw (settled-words s) (s .value) }
+
+not-worked : {A : Type 0} (k n steps : ℕ) (w : Value) → L.refused k ≡ worked n steps w → A
+not-worked k n steps w e = absurd (let q : _≡_ {A = ℕ} 0 1 = cc in omega arith)
+
+-- over a store and a ledger that agree, and the next delivery
+module _ (fs : Script) (slots : List ℤ) (heads : List ℕ) (v : Value) (δ : Delivery) where
+  abbrev before : Store
+  before = store-of slots heads
+
+  abbrev start : Start
+  start = record { budget = δ .budget; store = before }
+
+  abbrev run : Outcome State (Unit {0})
+  run = delivery fs (δ .readings) (starting (δ .budget) before)
+
+  -- a reply and an entry that agree, and stand again
+  pub record Stepped (r : StoreReply) (e : Entry) : Type 0 where
+    pub agrees : Agrees fs (store-of slots heads) (store-of (r .slots) (r .heads)) v δ (r .answer) e
+    pub stands : Standing fs (r .slots) (r .heads) (value-after v e)
+
+  -- what the machine did, by the end of its run
+  worked-as : (σ′ : Store) (o : Outcome State (Unit {0})) → run ≡ o → Clean start (state-of o) →
+      (number steps : ℕ) → (number ≡ 0 → σ′ ≡ state-of o .store) →
+      (number ≡ 25 → wants-cell steps (meant fs v δ) ≡ true) → (number ≡ 25 → OutOfCells (state-of o)) →
+      Worked fs before σ′ v δ number steps
+  worked-as σ′ o e clean number steps same wanted out = record {
+    untouched = rw e (clean .untouched);
+    unswept = λ z. rw (e, same z) (clean .replays);
+    wanted = wanted;
+    dry = λ z. rw e (out z);
+  }
+
+  module _ (stood : Standing fs slots heads v) (kinds : List ℕ) (operands : List ℤ) where
+    -- a refusal changes nothing
+    pub refused-step : (n : ℕ) → Stepped (refusing kinds operands slots heads n 0) (L.refused n)
+    unfolding refusing
+    refused-step n = record {
+      agrees = record {
+        answered = refl;
+        rests = settled-rests (standing-settled stood);
+        left-alone = λ _. record { totals = refl; cells = λ c _. refl };
+        worked-so = λ m k w e. not-worked n m k w e;
+      };
+      stands = stood;
+    }
+
+    abbrev replied : Outcome State (Unit {0}) → StoreReply
+    replied o = deliver-in kinds operands slots heads fs (delivered-by (δ .budget) before o)
+
+    -- a result replaces the totals
+    finished-step : (u : Unit {0}) (s : State) (w : Value) → run ≡ done u s → Clean start s →
+        Settled (main-depth fs) (s .store) w → Stepped (replied (done u s)) (worked 0 (δ .budget - s .left) w)
+    unfolding answering
+    finished-step u s w e clean settled =
+        let back = settled-words settled in
+        record {
+          agrees = record {
+            answered = rw back;
+            rests = rw back (settled-rests settled);
+            left-alone = λ f. absurd (f (number-packed 0 0 (δ .budget - s .left) (cells-taken (s .store)) (omega arith)));
+            worked-so = λ n k x q.
+                let z : 0 ≡ n = cc in
+                worked-as (store-of (slot-words (s .store)) (head-words (s .store))) (done u s) e clean n k (λ _. back)
+                (λ y. absurd (omega (arith, z, y))) (λ y. absurd (omega (arith, z, y)));
+          };
+          stands = settled-standing settled;
+        }
+
+    -- a stop leaves them
+    stopped-step : (n : ℕ) (s : State) → 0 < n → run ≡ stop n s → Clean start s →
+        (n ≡ 25 → wants-cell (δ .budget - s .left) (meant fs v δ) ≡ true) → (n ≡ 25 → OutOfCells s) →
+        Stepped (replied (stop n s)) (worked n (δ .budget - s .left) v)
+    unfolding answering
+    stopped-step n s positive e clean wanted out =
+        let settled = relinked-settles (standing-settled stood) in
+        let back = settled-words settled in
+        let alone = relinked-alone (standing-settled stood) in
+        record {
+          agrees = record {
+            answered = rw back;
+            rests = rw back (settled-rests settled);
+            left-alone = λ f. rw back alone;
+            worked-so = λ m k x q.
+                let y : n ≡ m = cc in
+                let j : δ .budget - s .left ≡ k = cc in
+                worked-as (store-of (slot-words (relinked before)) (head-words (relinked before))) (stop n s) e clean m k
+                (λ z. absurd (omega (arith, z, y)))
+                (λ z. subst (λ i. wants-cell i (meant fs v δ) ≡ true) j (wanted (y ∙ z)))
+                (λ z. out (y ∙ z));
+          };
+          stands = settled-standing settled;
+        }
+
+    few-steps : request-fits (δ .readings) (δ .budget) ≡ true → (k : ℕ) → δ .budget - k < 2 ^ 24
+    unfolding request-fits
+    few-steps requested k =
+        let e = and-says (leb (length (δ .readings)) 16) (leb (δ .budget) 1000000) requested .1 in
+        omega (arith, leb-true (δ .budget) 1000000 e)
+
+    -- the reply, with the entry that the ledger makes of it
+    pub worked-step : request-fits (δ .readings) (δ .budget) ≡ true → (o : Outcome State (Unit {0})) →
+        (p : Outcome Meter Value) → run ≡ o → meant fs v δ ≡ p → Delivers start (main-depth fs) o p →
+        Stepped (replied o) (entry-by fs v δ (dry-steps (replied o .answer)))
+    unfolding answering
+    worked-step requested o p e m (finishes {u} {s} {v = w} q) =
+        let none = not-dry 0 0 (δ .budget - s .left) (cells-taken (s .store)) (omega arith) (λ z. absurd (omega arith)) in
+        rw (none, m, sym (q .left))
+        (finished-step u s w e (q .clean) (finished-settled (standing-settled stood) q))
+    worked-step requested o p e m (stops {k} {n} {s} q) =
+        let none = not-dry k 0 (δ .budget - s .left) (cells-taken (relinked before)) (omega (arith, q .high))
+        (λ z. absurd (omega (arith, q .high))) in
+        rw (none, m, sym (q .left), sym (q .number))
+        (stopped-step k s (omega (arith, q .low)) e (q .clean) (λ z. absurd (omega (arith, q .high)))
+        (λ z. absurd (omega (arith, q .high))))
+    worked-step requested o p e m (runs-dry {s} out clean wants) =
+        rw (dry-packed (δ .budget - s .left) (cells-taken (relinked before)) (few-steps requested (s .left)))
+        (stopped-step 25 s (omega arith) e clean (λ z. rw m wants) (λ z. out))

@@ -1,0 +1,4 @@
+pub mod Retaining
+pub mod Acquiring
+pub mod Appending
+pub mod Releasing

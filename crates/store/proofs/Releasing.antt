@@ -1,0 +1,108 @@
+-- Laws of a release, one for each way out of the code, and of the loop over a freed cell's elements.
+use mathlib.Core.Path.{_≡_, refl, sym, ap, _∙_}
+use mathlib.Core.List.{List, [], map}
+use Prim.Native.Nat.{ℕ, zero, suc, _+_, _-_, _*_, _<_, _≤_, min}
+use native.Mathlib.Omega.{arith}
+use lib.IntN.{ℤ, pos}
+use lib.ListN.{length, getD, set, take, length-map, length-take, List·getD-map}
+use lib.Seq.{getD-take}
+use Rattle.semantics.specs.Basics.{each}
+use Rattle.semantics.specs.Store.{Cell, Store, cell, cell-of, clear, inner, with-cell, with-count}
+use Rattle.semantics.specs.Store.{freed, released}
+use Rattle.semantics.specs.Words.{cells-in, slots-at, store-of}
+use Rattle.store_laws.specs.Releases.{released-none, released-one, released-last}
+use Rattle.store_words.proofs.CellWords.{cell-out, count-is, depth-is}
+use Rattle.store_words.proofs.Naming.{inner-flat, inner-are}
+use Rattle.store_words.proofs.Each.{Doing, doing-none, doing-more, doing-all}
+use Rattle.store_words.proofs.Puts.{count-store}
+
+-- ---- nothing to do
+
+pub no-levels : (levels c : ℕ) (σ : Store) → levels ≡ 0 → σ ≡ released levels c σ
+unfolding released
+no-levels zero c σ e = refl
+no-levels (suc levels) c σ e = absurd (omega arith)
+
+module _ (slots : List ℤ) (heads : List ℕ) (levels c : ℕ) where
+  pub released-out : cells-in slots heads ≤ c → store-of slots heads ≡ released levels c (store-of slots heads)
+  unfolding clear
+  released-out h = sym (released-none levels c (store-of slots heads)
+      (ap (λ (x : Cell). x .count) (cell-out slots heads c h)))
+
+  pub released-free : c < cells-in slots heads → getD heads (1 + 4 * c) 0 ≡ 0 →
+      store-of slots heads ≡ released levels c (store-of slots heads)
+  released-free h e = sym (released-none levels c (store-of slots heads) (count-is slots heads c h ∙ e))
+
+-- ---- one of several references
+
+pub released-less : (slots : List ℤ) (heads : List ℕ) (levels c : ℕ) → 0 < levels → c < cells-in slots heads →
+    1 < getD heads (1 + 4 * c) 0 →
+    store-of slots (set heads (1 + 4 * c) (getD heads (1 + 4 * c) 0 - 1)) ≡ released levels c (store-of slots heads)
+released-less slots heads zero c p h b = absurd (omega arith)
+released-less slots heads (suc levels) c p h b =
+    count-store slots heads c (getD heads (1 + 4 * c) 0 - 1) h
+    ∙ ap (λ (n : ℕ). with-cell (store-of slots heads) c (with-count (cell (store-of slots heads) c) n)) less
+    ∙ sym (released-one levels c (getD heads (1 + 4 * c) 0 - 2) (store-of slots heads)
+    (count-is slots heads c h ∙ more))
+  where
+    less : getD heads (1 + 4 * c) 0 - 1 ≡ suc (getD heads (1 + 4 * c) 0 - 2)
+    less = omega arith
+
+    more : getD heads (1 + 4 * c) 0 ≡ suc (suc (getD heads (1 + 4 * c) 0 - 2))
+    more = omega arith
+
+-- ---- the last reference
+
+last-level : (levels c : ℕ) (σ : Store) → 0 < levels → cell σ c .count ≡ 1 →
+    each (released (levels - 1)) (inner (cell σ c)) (freed c σ) ≡ released levels c σ
+last-level zero c σ p e = absurd (omega arith)
+last-level (suc levels) c σ p e =
+    let q : suc levels - 1 ≡ levels = omega arith in rw q (sym (released-last levels c σ e))
+
+module _ (slots : List ℤ) (heads : List ℕ) (levels c : ℕ) (p : 0 < levels) (h : c < cells-in slots heads)
+    (one : getD heads (1 + 4 * c) 0 ≡ 1) where
+  last-is : {σ : Store} (names : List ℕ) → inner (cell (store-of slots heads) c) ≡ names →
+      σ ≡ each (released (levels - 1)) names (freed c (store-of slots heads)) →
+      σ ≡ released levels c (store-of slots heads)
+  last-is names q e = e
+      ∙ ap (λ (l : List ℕ). each (released (levels - 1)) l (freed c (store-of slots heads))) (sym q)
+      ∙ last-level levels c (store-of slots heads) p (count-is slots heads c h ∙ one)
+
+  pub released-flat : {σ : Store} → σ ≡ freed c (store-of slots heads) → getD heads (3 + 4 * c) 0 ≡ 0 →
+      σ ≡ released levels c (store-of slots heads)
+  unfolding each
+  released-flat e d = last-is [] (inner-flat (cell (store-of slots heads) c) (depth-is slots heads c h ∙ d)) e
+
+  pub released-all : {σ : Store} → (getD heads (3 + 4 * c) 0 ≡ 0 → ⊥) →
+      σ ≡ each (released (levels - 1)) (map cell-of (take (min (getD heads (2 + 4 * c) 0) 16) (slots-at slots c)))
+      (freed c (store-of slots heads)) →
+      σ ≡ released levels c (store-of slots heads)
+  released-all d e = last-is _ (inner-are slots heads c h d) e
+
+-- ---- the elements, first to last; i of k are released
+pub record Releasing (levels : ℕ) (words : List ℤ) (k : ℕ) (σ₀ : Store) (i : ℕ) (σ : Store) : Type 0 where
+  pub long : length words ≡ 16
+  pub few : k ≤ 16
+  pub doing : Doing (released levels) (map cell-of (take k words)) σ₀ i σ
+
+pub releasing-none : (levels : ℕ) (words : List ℤ) (k : ℕ) (σ : Store) → length words ≡ 16 → k ≤ 16 →
+    Releasing levels words k σ 0 σ
+releasing-none levels words k σ h l =
+    record { long = h; few = l; doing = doing-none (released levels) (map cell-of (take k words)) σ }
+
+module _ {levels : ℕ} {words : List ℤ} {k : ℕ} {σ₀ : Store} {i : ℕ} {σ : Store}
+    (r : Releasing levels words k σ₀ i σ) where
+  names-length : length (map cell-of (take k words)) ≡ k
+  names-length = omega (arith, length-map (take k words) cell-of, length-take k words, r .long, r .few)
+
+  pub releasing-more : i < k → (c : ℕ) → c ≡ cell-of (getD words i (pos 0)) → (σ′ : Store) → σ′ ≡ released levels c σ →
+      Releasing levels words k σ₀ (i + 1) σ′
+  releasing-more h c q σ′ s = record {
+    long = r .long;
+    few = r .few;
+    doing = doing-more (r .doing) (omega (arith, names-length)) (cell-of (pos 0)) c
+        (List·getD-map cell-of (take k words) i (pos 0) ∙ ap cell-of (getD-take k words i (pos 0) h) ∙ sym q) s;
+  }
+
+  pub releasing-all : i ≡ k → σ ≡ each (released levels) (map cell-of (take k words)) σ₀
+  releasing-all h = doing-all (r .doing) (h ∙ sym names-length)

@@ -1,0 +1,84 @@
+-- `store::retain` meets its contract.
+use native.Mathlib.Omega.{arith}
+use borrow.Author.Needs.{needs}
+use Rattle.store.proofs.Retaining.{retain-out, retain-one, retain-full}
+use Rattle.store.proofs.retain.Statement.{statement}
+use Rattle.store.proofs.retain.Tie as tie
+use Rattle.store.proofs.retain.Reads as reads
+use Rattle.store.proofs.retain.Lts as lts
+use Rattle.store_words.proofs.cells.Reads as cells-reads
+
+cells-requires : tie.Need-cells-requires
+cells-requires c κs = search needs
+
+mul-n : tie.Need-mul-n
+mul-n c = search needs
+
+add-n : tie.Need-add-n
+add-n c = search needs
+
+mul-n-2 : tie.Need-mul-n-2
+mul-n-2 c = search needs
+
+slice-read-n : tie.Need-slice-read-n
+slice-read-n c = search needs
+
+add-heads : tie.Need-add-heads
+add-heads c = search needs
+
+mul-heads : tie.Need-mul-heads
+mul-heads c = search needs
+
+add-heads-2 : tie.Need-add-heads-2
+add-heads-2 c = search needs
+
+mul-heads-2 : tie.Need-mul-heads-2
+mul-heads-2 c = search needs
+
+slice-write-heads : tie.Need-slice-write-heads
+slice-write-heads c = search needs
+
+same-length : tie.Need-same-length
+same-length c = search needs
+
+returns : tie.Need-returns
+returns c =
+    let a = c .before .before .before .before .before .before .args in
+    retain-one (a .slots .now) (a .heads .now) (a .c) (omega arith) (omega arith)
+
+same-length-2 : tie.Need-same-length-2
+same-length-2 c = search needs
+
+returns-2 : tie.Need-returns-2
+returns-2 c =
+    let a = c .before .before .before .before .before .before .args in
+    retain-full (a .slots .now) (a .heads .now) (a .c) (omega arith) (omega arith)
+
+same-length-3 : tie.Need-same-length-3
+same-length-3 c = search needs
+
+returns-3 : tie.Need-returns-3
+returns-3 c =
+    let a = c .before .before .before .before .args in
+    retain-out (a .slots .now) (a .heads .now) (a .c) (omega arith)
+
+pub retain-spec : {M : Type 1} → statement M
+retain-spec =
+    tie.close
+    (tie.spec
+    cells-requires
+    mul-n
+    add-n
+    mul-n-2
+    slice-read-n
+    add-heads
+    mul-heads
+    add-heads-2
+    mul-heads-2
+    slice-write-heads
+    same-length
+    returns
+    same-length-2
+    returns-2
+    same-length-3
+    returns-3)

@@ -1,0 +1,126 @@
+// The operations of the counted store on the two arrays that a caller lends. Every public function is total: it works
+// on arrays of any length and content, and a cell that is not there takes no write.
+ghost use mathlib.Core.Path.{_≡_};
+ghost use Prim.Native.Nat.{_+_, _*_, _<_};
+ghost use lib.ListN.{length};
+ghost use Rattle.semantics.specs.Store.{retained, acquired, appended, freed, released};
+ghost use Rattle.semantics.specs.Words.{slots-at, store-of};
+ghost use Rattle.store.specs.Acquiring.{next-cell};
+
+// One reference more to a cell.
+pub fn retain(slots: &[i64], heads: &mut [u32], c: usize)
+    ensures { λ _. ⌜ store-of (now (slots .entry)) (now (heads .exit))
+        ≡ retained c (store-of (now (slots .entry)) (now (heads .entry))) ⌝ }
+{
+    if c < store_words::cells(slots, heads) {
+        let n = heads[1 + 4 * c];
+        if n < 4294967295 {
+            heads[1 + 4 * c] = n + 1;
+        }
+    }
+}
+
+// What an acquire answers: the cell, or that none is free.
+pub enum Acquired {
+    Cell(usize),
+    NoneFree,
+}
+
+// Acquires the free list's first cell with these words, the first 16 of them, as elements of this depth.
+pub fn acquire(slots: &mut [i64], heads: &mut [u32], depth: u32, words: &[i64]) -> Acquired
+    ensures { λ r. ⌜ (r ≡ next-cell (store-of (now (slots .entry)) (now (heads .entry))))
+        × (store-of (now (slots .exit)) (now (heads .exit))
+        ≡ acquired depth (now (words .entry)) (store-of (now (slots .entry)) (now (heads .entry)))) ⌝ }
+{
+    let n = store_words::cells(slots, heads);
+    if n == 0 {
+        return Acquired::NoneFree;
+    }
+    let c = heads[0] as usize;
+    if n <= c {
+        return Acquired::NoneFree;
+    }
+    let size = store_words::at_most(words.len(), 16);
+    let next = heads[4 + 4 * c];
+    heads[0] = next;
+    store_words::write_head(heads, c, 1, size as u32, depth, 0);
+    store_words::fill_slots(slots, c, words);
+    Acquired::Cell(c)
+}
+
+// One element more in a cell that has room.
+pub fn append(slots: &mut [i64], heads: &mut [u32], c: usize, w: i64)
+    ensures { λ _. ⌜ store-of (now (slots .exit)) (now (heads .exit))
+        ≡ appended c w (store-of (now (slots .entry)) (now (heads .entry))) ⌝ }
+{
+    if c < store_words::cells(slots, heads) {
+        let size = heads[2 + 4 * c];
+        if size < 16 {
+            slots[1 + 16 * c + size as usize] = w;
+            heads[2 + 4 * c] = size + 1;
+        }
+    }
+}
+
+// The sixteen slots of a cell.
+fn slots_of(slots: &[i64], c: usize) -> [i64; 16]
+    requires { ⌜ (c < 256) × (16 * c + 16 < length (now slots)) ⌝ }
+    ensures { λ r. ⌜ r ≡ slots-at (now (slots .entry)) c ⌝ }
+{
+    let mut r = [0; 16];
+    let mut i: usize = 0;
+    while i < 16 {
+        r[i] = slots[1 + 16 * c + i];
+        i = i + 1;
+    }
+    r
+}
+
+// Clears a cell and puts it at the head of the free list.
+fn free(slots: &mut [i64], heads: &mut [u32], c: usize)
+    requires { ⌜ (c < 256) × (4 * c + 4 < length (now heads)) × (16 * c + 16 < length (now slots)) ⌝ }
+    ensures { λ _. ⌜ store-of (now (slots .exit)) (now (heads .exit))
+        ≡ freed c (store-of (now (slots .entry)) (now (heads .entry))) ⌝ }
+{
+    let zeros = [0; 16];
+    let first = heads[0];
+    let freed = c as u32;
+    heads[0] = freed;
+    store_words::write_head(heads, c, 0, 0, 0, first);
+    store_words::fill_slots(slots, c, &zeros);
+}
+
+// One reference fewer to a cell. The last one frees it, and then its elements are released, first to last; this goes
+// down the given levels.
+pub fn release(slots: &mut [i64], heads: &mut [u32], c: usize, levels: u32)
+    ensures { λ _. ⌜ store-of (now (slots .exit)) (now (heads .exit))
+        ≡ released levels c (store-of (now (slots .entry)) (now (heads .entry))) ⌝ }
+{
+    if levels == 0 {
+        return;
+    }
+    if store_words::cells(slots, heads) <= c {
+        return;
+    }
+    let n = heads[1 + 4 * c];
+    if n == 0 {
+        return;
+    }
+    if 1 < n {
+        heads[1 + 4 * c] = n - 1;
+        return;
+    }
+    let size = heads[2 + 4 * c];
+    let depth = heads[3 + 4 * c];
+    let words = slots_of(slots, c);
+    free(slots, heads, c);
+    if depth == 0 {
+        return;
+    }
+    let k = store_words::at_most(size as usize, 16);
+    let mut i: usize = 0;
+    while i < k {
+        release(slots, heads, store_words::named_cell(words[i]), levels - 1);
+        i = i + 1;
+    }
+}

@@ -1,0 +1,171 @@
+-- `store_check::count_cell` meets its contract.
+use mathlib.Core.List.{map}
+use mathlib.Core.Path.{_≡_, refl, _∙_, sym}
+use Prim.Native.Nat.{_+_, _*_, _-_, _≤_}
+use native.Mathlib.Omega.{arith}
+use lib.IntN.{pos}
+use lib.ListN.{length, getD, take}
+use mir.Facts.{toZ-ofZ}
+use borrow.Author.Needs.{needs}
+use Rattle.semantics.specs.Words.{slots-at}
+use Rattle.semantics.specs.Store.{cell-of}
+use Rattle.store_words.proofs.CellWords.{to-cells}
+use Rattle.store_words.proofs.Each.{Doing, doing-none, doing-more, doing-all}
+use Rattle.store_check.proofs.Places.{flat-cell, deep-cell, names-length, name-is}
+use Rattle.store_check.specs.Tallies.{tally-one}
+use Rattle.store_check.proofs.count_cell.Statement.{statement}
+use Rattle.store_check.proofs.count_cell.Tie as tie
+use Rattle.store_check.proofs.count_cell.Reads as reads
+use Rattle.store_check.proofs.count_cell.Lts as lts
+use Rattle.store_words.proofs.at_most.Reads as at-most-reads
+use Rattle.store_words.proofs.named_cell.Reads as named-cell-reads
+use Rattle.store_check.proofs.count_one.Reads as count-one-reads
+
+abbrev Inv-loop : tie.InvT-loop
+Inv-loop slots heads c named₀ k i₀ named i =
+    (i ≤ k) × (length named ≡ length named₀)
+    × Doing tally-one (map cell-of (take k (slots-at slots c))) named₀ i named
+
+abbrev μ-loop : tie.MeasureT-loop
+μ-loop slots heads c named₀ k i₀ named i = k - i
+
+mul-if1 : tie.Need-mul-if1 Inv-loop μ-loop
+mul-if1 c = search needs
+
+add-if1 : tie.Need-add-if1 Inv-loop μ-loop
+add-if1 c = search needs
+
+mul-if1-2 : tie.Need-mul-if1-2 Inv-loop μ-loop
+mul-if1-2 c = search needs
+
+shared-slice-read-if1 : tie.Need-shared-slice-read-if1 Inv-loop μ-loop
+shared-slice-read-if1 c = search needs
+
+returns : tie.Need-returns Inv-loop μ-loop
+returns c = let a = c .before .before .before .before .args in flat-cell (a .slots .now) (a .heads .now) (a .c)
+    (to-cells _ _ _ (omega arith) (omega arith) (omega arith)) (a .named .now) (c .if1 .taken)
+
+mul-at-most : tie.Need-mul-at-most Inv-loop μ-loop
+mul-at-most c = search needs
+
+add-at-most : tie.Need-add-at-most Inv-loop μ-loop
+add-at-most c = search needs
+
+mul-at-most-2 : tie.Need-mul-at-most-2 Inv-loop μ-loop
+mul-at-most-2 c = search needs
+
+shared-slice-read-at-most : tie.Need-shared-slice-read-at-most Inv-loop μ-loop
+shared-slice-read-at-most c = search needs
+
+cast-at-most : tie.Need-cast-at-most Inv-loop μ-loop
+cast-at-most c =
+    record {
+      fits = omega (
+        arith,
+        c .shared-slice-known3 .given
+            (2 + 4 * c .before .before .before .before .before .args .c),
+      );
+    }
+
+at-most-requires : tie.Need-at-most-requires Inv-loop μ-loop
+at-most-requires c κs = search needs
+
+loop-holds : tie.Need-loop-holds Inv-loop μ-loop
+loop-holds c = let a = c .before .before .before .before .before .before .args in (
+  omega arith,
+  refl,
+  doing-none tally-one (map cell-of (take (c .at-most .result) (slots-at (a .slots .now) (a .c)))) (a .named .now),
+)
+
+mul-named-cell : tie.Need-mul-named-cell Inv-loop μ-loop
+mul-named-cell c = search needs
+
+add-named-cell : tie.Need-add-named-cell Inv-loop μ-loop
+add-named-cell c = search needs
+
+add-named-cell-2 : tie.Need-add-named-cell-2 Inv-loop μ-loop
+add-named-cell-2 c = search needs
+
+mul-named-cell-2 : tie.Need-mul-named-cell-2 Inv-loop μ-loop
+mul-named-cell-2 c = search needs
+
+shared-slice-copy-out-named-cell : tie.Need-shared-slice-copy-out-named-cell Inv-loop μ-loop
+shared-slice-copy-out-named-cell c = search needs
+
+named-cell-requires : tie.Need-named-cell-requires Inv-loop μ-loop
+named-cell-requires c κs = search needs
+
+count-one-requires : tie.Need-count-one-requires Inv-loop μ-loop
+count-one-requires c κs = search needs
+
+add-i : tie.Need-add-i Inv-loop μ-loop
+add-i c = search needs
+
+loop-less : tie.Need-loop-less Inv-loop μ-loop
+loop-less c = search needs
+
+loop-again : tie.Need-loop-again Inv-loop μ-loop
+loop-again c =
+    let a = c .before .before .before .before .before .before .before .before .before .before .before .before
+    .before .before .args in
+    let i = c .before .before .before .before .before .before .before .loop .i in
+    let w = getD (a .slots .now) (1 + 16 * a .c + i) (pos 0) in (
+      omega arith,
+      c .before .before .count-one .kept .0
+          ∙ c .before .before .before .before .before .before .before .loop .inv .1,
+      doing-more (c .before .before .before .before .before .before .before .loop .inv .2)
+          (omega (
+            arith,
+            names-length (a .slots .now) (a .c)
+                (c .before .before .before .before .before .before .before .before .at-most .result) (omega arith),
+          ))
+          (cell-of (pos 0)) (c .before .before .before .named-cell .result)
+          (name-is (a .slots .now) (a .c) (c .before .before .before .before .before .before .before .before .at-most
+          .result) (omega arith) i (omega arith)
+          ∙ sym (rw (toZ-ofZ {z = w} (record { sfits = c .before .before .before .before .named-cell-arg .given })) at
+          (c .before .before .before .named-cell .ensures)))
+          (c .before .before .count-one .ensures),
+    )
+
+same-length : tie.Need-same-length Inv-loop μ-loop
+same-length c = search needs
+
+returns-2 : tie.Need-returns-2 Inv-loop μ-loop
+returns-2 c =
+    let a = c .before .before .before .before .before .before .before .before .args in
+    deep-cell (a .slots .now) (a .heads .now) (a .c)
+    (to-cells _ _ _ (omega arith) (omega arith) (omega arith)) (a .named .now)
+    (c .before .before .before .before .if1 .left)
+    (rw (c .before .before .at-most .ensures) at (doing-all (c .before .loop .inv .2)
+    (omega (arith, names-length (a .slots .now) (a .c) (c .before .before .at-most .result) (omega arith)))))
+
+pub count-cell-spec : {M : Type 1} → statement M
+count-cell-spec =
+    tie.close
+    (tie.spec
+    Inv-loop
+    μ-loop
+    mul-if1
+    add-if1
+    mul-if1-2
+    shared-slice-read-if1
+    returns
+    mul-at-most
+    add-at-most
+    mul-at-most-2
+    shared-slice-read-at-most
+    cast-at-most
+    at-most-requires
+    loop-holds
+    mul-named-cell
+    add-named-cell
+    add-named-cell-2
+    mul-named-cell-2
+    shared-slice-copy-out-named-cell
+    named-cell-requires
+    count-one-requires
+    add-i
+    loop-less
+    loop-again
+    same-length
+    returns-2)

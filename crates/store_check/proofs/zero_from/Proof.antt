@@ -1,0 +1,86 @@
+-- `store_check::zero_from` meets its contract.
+use mathlib.Core.Path.{ap, _∙_}
+use Prim.Native.Nat.{_+_, _-_, _*_}
+use native.Mathlib.Omega.{arith}
+use lib.IntN.{pos}
+use lib.ListN.{getD}
+use borrow.Author.Needs.{needs}
+use Rattle.semantics.specs.Words.{slots-at}
+use Rattle.semantics.specs.Number.{is-zero}
+use Rattle.store_words.proofs.CellWords.{slot-is}
+use Rattle.store_check.proofs.CellTests.{zero-at, zero-is, zero-not, zeros-are}
+use Rattle.store_check.proofs.Ranges.{Testing, testing-none, testing-more, testing-fails, testing-all}
+use Rattle.store_check.proofs.zero_from.Statement.{statement}
+use Rattle.store_check.proofs.zero_from.Tie as tie
+use Rattle.store_check.proofs.zero_from.Reads as reads
+use Rattle.store_check.proofs.zero_from.Lts as lts
+
+abbrev Inv-loop : tie.InvT-loop
+Inv-loop slots c from i₀ i = Testing (zero-at (slots-at slots c)) from 16 i
+
+abbrev μ-loop : tie.MeasureT-loop
+μ-loop slots c from i₀ i = 16 - i
+
+loop-holds : tie.Need-loop-holds Inv-loop μ-loop
+loop-holds c = let a = c .args in testing-none (zero-at (slots-at (a .slots .now) (a .c))) (a .from) 16
+
+mul-w : tie.Need-mul-w Inv-loop μ-loop
+mul-w c = search needs
+
+add-w : tie.Need-add-w Inv-loop μ-loop
+add-w c = search needs
+
+add-w-2 : tie.Need-add-w-2 Inv-loop μ-loop
+add-w-2 c = search needs
+
+mul-w-2 : tie.Need-mul-w-2 Inv-loop μ-loop
+mul-w-2 c = search needs
+
+shared-slice-copy-out-w : tie.Need-shared-slice-copy-out-w Inv-loop μ-loop
+shared-slice-copy-out-w c = search needs
+
+returns : tie.Need-returns Inv-loop μ-loop
+returns c =
+    let a = c .before .before .before .before .args in
+    let i = c .before .before .before .loop .i in
+    let inside = c .before .before .loop-test .taken in
+    zeros-are (slots-at (a .slots .now) (a .c)) (a .from)
+    (testing-fails (c .before .before .before .loop .inv) inside (ap is-zero (slot-is (a .slots .now) (a .c) i inside)
+    ∙ zero-not (getD (a .slots .now) (1 + 16 * a .c + i) (pos 0)) (c .if1 .taken)))
+
+add-i : tie.Need-add-i Inv-loop μ-loop
+add-i c = search needs
+
+loop-less : tie.Need-loop-less Inv-loop μ-loop
+loop-less c = search needs
+
+loop-again : tie.Need-loop-again Inv-loop μ-loop
+loop-again c =
+    let a = c .before .before .before .before .args in
+    let i = c .before .before .before .loop .i in
+    let inside = c .before .before .loop-test .taken in
+    testing-more (c .before .before .before .loop .inv) inside (ap is-zero (slot-is (a .slots .now) (a .c) i inside)
+    ∙ zero-is (getD (a .slots .now) (1 + 16 * a .c + i) (pos 0)) (c .before .w .given) (c .if1 .left))
+
+returns-2 : tie.Need-returns-2 Inv-loop μ-loop
+returns-2 c =
+    let a = c .before .before .args in
+    zeros-are (slots-at (a .slots .now) (a .c)) (a .from) (testing-all (c .before .loop .inv) (omega arith))
+
+pub zero-from-spec : {M : Type 1} → statement M
+zero-from-spec =
+    tie.close
+    (tie.spec
+    Inv-loop
+    μ-loop
+    loop-holds
+    mul-w
+    add-w
+    add-w-2
+    mul-w-2
+    shared-slice-copy-out-w
+    returns
+    add-i
+    loop-less
+    loop-again
+    returns-2)

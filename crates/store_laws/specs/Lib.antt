@@ -1,0 +1,9 @@
+pub mod Counts
+pub mod Tests
+pub mod SoundMeans
+pub mod TestMeans
+pub mod CellLaws
+pub mod Releases
+pub mod Restored
+pub mod Opened
+pub mod Trials

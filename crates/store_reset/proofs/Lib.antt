@@ -1,0 +1,4 @@
+pub mod Copying
+pub mod Linking
+pub mod Opening
+pub mod Saved

@@ -1,0 +1,9 @@
+pub mod Tables
+pub mod Each
+pub mod CellWords
+pub mod Naming
+pub mod Puts
+pub mod SlotLoops
+pub mod Written
+pub mod Counting
+pub mod Spelling

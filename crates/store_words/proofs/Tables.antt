@@ -1,0 +1,48 @@
+-- Laws of tables: their length, their elements, and one element changed.
+use mathlib.Core.Path.{_≡_, refl, sym, ap, ap₂, _∙_}
+use mathlib.Core.Logic.{_≢_}
+use mathlib.Core.List.{List, _∷_}
+use Prim.Native.Nat.{ℕ, zero, suc, _+_, _<_, _≤_}
+use native.Mathlib.Omega.{arith}
+use native.Mathlib.Decide.{ℕ-discrete}
+use lib.ListN.{length, getD, set, length-set}
+use lib.Seq.{ext-getD, getD-set-same, getD-set-other}
+use Rattle.semantics.specs.Basics.{tabulate}
+
+module _ {A : Type 0} where
+  pub length-tabulate : (i n : ℕ) (f : ℕ → A) → length (tabulate i n f) ≡ n
+  unfolding tabulate
+  length-tabulate i zero f = refl
+  length-tabulate i (suc n) f = ap suc (length-tabulate (suc i) n f)
+
+  getD-tabulate : (i n : ℕ) (f : ℕ → A) (j : ℕ) (d : A) → j < n → getD (tabulate i n f) j d ≡ f (i + j)
+  unfolding tabulate
+  getD-tabulate i zero f j d h = absurd (omega arith)
+  getD-tabulate i (suc n) f zero d h = ap f (omega arith)
+  getD-tabulate i (suc n) f (suc j) d h = getD-tabulate (suc i) n f j d (omega arith) ∙ ap f (omega arith)
+
+  pub tabulate-at : (n : ℕ) (f : ℕ → A) (j : ℕ) (d : A) → j < n → getD (tabulate 0 n f) j d ≡ f j
+  tabulate-at n f j d h = getD-tabulate 0 n f j d h ∙ ap f (omega arith)
+
+  -- functions that agree below n have the same table
+  pub tabulate-same : (n : ℕ) (f g : ℕ → A) → ((j : ℕ) → j < n → f j ≡ g j) → tabulate 0 n f ≡ tabulate 0 n g
+  unfolding tabulate
+  tabulate-same n f g h = go n 0 (λ j a b. h j b) (omega arith)
+    where
+      go : (m i : ℕ) → ((j : ℕ) → i ≤ j → j < n → f j ≡ g j) → i + m ≤ n → tabulate i m f ≡ tabulate i m g
+      go zero i k b = refl
+      go (suc m) i k b = ap₂ {C = List A} _∷_ (k i (omega arith) (omega arith))
+          (go m (suc i) (λ j a c. k j (omega arith) c) (omega arith))
+
+  -- functions that agree but at j
+  pub set-tabulate : (n : ℕ) (f g : ℕ → A) (j : ℕ) (v : A) → j < n → g j ≡ v →
+      ((i : ℕ) → i < n → i ≢ j → g i ≡ f i) → tabulate 0 n g ≡ set (tabulate 0 n f) j v
+  set-tabulate n f g j v h e k = ext-getD v (tabulate 0 n g) (set (tabulate 0 n f) j v)
+      (length-tabulate 0 n g ∙ sym (length-set (tabulate 0 n f) j v ∙ length-tabulate 0 n f))
+      (λ i l. go i (omega (arith, length-tabulate 0 n g)) (ℕ-discrete i j))
+    where
+      go : (i : ℕ) → i < n → Dec (i ≡ j) → getD (tabulate 0 n g) i v ≡ getD (set (tabulate 0 n f) j v) i v
+      go i l (yes p) = tabulate-at n g i v l ∙ ap g p ∙ e ∙ sym (ap (λ (x : ℕ). getD (set (tabulate 0 n f) j v) x v) p
+          ∙ getD-set-same (tabulate 0 n f) j v v (omega (arith, length-tabulate 0 n f)))
+      go i l (no p) = tabulate-at n g i v l ∙ k i l p
+          ∙ sym (getD-set-other (tabulate 0 n f) j i v v p ∙ tabulate-at n f i v l)

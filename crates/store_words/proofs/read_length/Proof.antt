@@ -1,0 +1,62 @@
+-- `store_words::read_length` meets its contract.
+use mathlib.Core.Path.{_∙_}
+use Prim.Native.Nat.{_+_, _*_}
+use native.Mathlib.Omega.{arith}
+use borrow.Author.Needs.{needs}
+use Rattle.store_words.proofs.CellWords.{length-in, length-out}
+use Rattle.store_words.proofs.read_length.Statement.{statement}
+use Rattle.store_words.proofs.read_length.Tie as tie
+use Rattle.store_words.proofs.read_length.Reads as reads
+use Rattle.store_words.proofs.read_length.Lts as lts
+use Rattle.store_words.proofs.at_most.Reads as at-most-reads
+use Rattle.store_words.proofs.cells.Reads as cells-reads
+
+cells-requires : tie.Need-cells-requires
+cells-requires c κs = search needs
+
+returns : tie.Need-returns
+returns c = let a = c .before .before .before .args in length-out (a .slots .now) (a .heads .now) (a .c) (omega arith)
+
+mul-at-most : tie.Need-mul-at-most
+mul-at-most c = search needs
+
+add-at-most : tie.Need-add-at-most
+add-at-most c = search needs
+
+mul-at-most-2 : tie.Need-mul-at-most-2
+mul-at-most-2 c = search needs
+
+shared-slice-read-at-most : tie.Need-shared-slice-read-at-most
+shared-slice-read-at-most c = search needs
+
+cast-at-most : tie.Need-cast-at-most
+cast-at-most c =
+    record {
+      fits = omega (
+        arith,
+        c .shared-slice-known2 .given
+            (2 + 4 * c .before .before .before .before .args .c),
+      );
+    }
+
+at-most-requires : tie.Need-at-most-requires
+at-most-requires c κs = search needs
+
+returns-2 : tie.Need-returns-2
+returns-2 c =
+    let a = c .before .before .before .before .before .args in
+    c .at-most .ensures ∙ length-in (a .slots .now) (a .heads .now) (a .c) (omega arith)
+
+pub read-length-spec : {M : Type 1} → statement M
+read-length-spec =
+    tie.close
+    (tie.spec
+    cells-requires
+    returns
+    mul-at-most
+    add-at-most
+    mul-at-most-2
+    shared-slice-read-at-most
+    cast-at-most
+    at-most-requires
+    returns-2)

@@ -1,0 +1,94 @@
+-- `store_words::read_slot` meets its contract.
+use Prim.Native.Nat.{_+_, _*_}
+use native.Mathlib.Omega.{arith}
+use lib.IntN.{pos}
+use lib.ListN.{getD}
+use mir.Facts.{toZ-ofZ}
+use borrow.Author.Needs.{needs}
+use Rattle.store_words.proofs.CellWords.{length-in, length-out, element-in, element-out}
+use Rattle.store_words.proofs.read_slot.Statement.{statement}
+use Rattle.store_words.proofs.read_slot.Tie as tie
+use Rattle.store_words.proofs.read_slot.Reads as reads
+use Rattle.store_words.proofs.read_slot.Lts as lts
+use Rattle.store_words.proofs.at_most.Reads as at-most-reads
+use Rattle.store_words.proofs.cells.Reads as cells-reads
+
+cells-requires : tie.Need-cells-requires
+cells-requires c κs = search needs
+
+returns : tie.Need-returns
+returns c = let a = c .before .before .before .args in
+    element-out (a .slots .now) (a .heads .now) (a .c) (a .i)
+    (omega (arith, length-out (a .slots .now) (a .heads .now) (a .c) (omega arith)))
+
+mul-at-most : tie.Need-mul-at-most
+mul-at-most c = search needs
+
+add-at-most : tie.Need-add-at-most
+add-at-most c = search needs
+
+mul-at-most-2 : tie.Need-mul-at-most-2
+mul-at-most-2 c = search needs
+
+shared-slice-read-at-most : tie.Need-shared-slice-read-at-most
+shared-slice-read-at-most c = search needs
+
+cast-at-most : tie.Need-cast-at-most
+cast-at-most c =
+    record {
+      fits = omega (
+        arith,
+        c .shared-slice-known2 .given
+            (2 + 4 * c .before .before .before .before .args .c),
+      );
+    }
+
+at-most-requires : tie.Need-at-most-requires
+at-most-requires c κs = search needs
+
+returns-2 : tie.Need-returns-2
+returns-2 c = let a = c .before .before .before .before .before .before .args in
+    element-out (a .slots .now) (a .heads .now) (a .c) (a .i)
+    (omega (arith, length-in (a .slots .now) (a .heads .now) (a .c) (omega arith), c .before .at-most .ensures))
+
+mul-result : tie.Need-mul-result
+mul-result c = search needs
+
+add-result : tie.Need-add-result
+add-result c = search needs
+
+add-result-2 : tie.Need-add-result-2
+add-result-2 c = search needs
+
+mul-result-2 : tie.Need-mul-result-2
+mul-result-2 c = search needs
+
+shared-slice-copy-out-result : tie.Need-shared-slice-copy-out-result
+shared-slice-copy-out-result c = search needs
+
+returns-3 : tie.Need-returns-3
+returns-3 c =
+    let a = c .before .before .before .before .before .before .before .args in
+    rw (toZ-ofZ {z = getD (a .slots .now) (1 + 16 * a .c + a .i) (pos 0)} (record { sfits = c .result .given }))
+    (element-in (a .slots .now) (a .heads .now) (a .c) (a .i) (omega arith)
+    (omega (arith, c .before .before .at-most .ensures)))
+
+pub read-slot-spec : {M : Type 1} → statement M
+read-slot-spec =
+    tie.close
+    (tie.spec
+    cells-requires
+    returns
+    mul-at-most
+    add-at-most
+    mul-at-most-2
+    shared-slice-read-at-most
+    cast-at-most
+    at-most-requires
+    returns-2
+    mul-result
+    add-result
+    add-result-2
+    mul-result-2
+    shared-slice-copy-out-result
+    returns-3)

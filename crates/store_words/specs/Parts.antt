@@ -1,0 +1,26 @@
+-- What the store's small functions promise of the two lent arrays.
+use Prim.Native.Nat.{ℕ, _+_, _-_, _*_, _<_, _≤_}
+use mathlib.Core.Path.{_≡_}
+use mathlib.Core.Logic.{_≢_}
+use mathlib.Core.List.{List}
+use lib.IntN.{ℤ, pos}
+use lib.ListN.{length, getD, set}
+use Rattle.semantics.specs.Words.{cells-in}
+
+-- the arrays hold n cells, and have room for each of them
+pub record Holds (slots : List ℤ) (heads : List ℕ) (n : ℕ) : Type 0 where
+  pub is : n ≡ cells-in slots heads
+  pub in-heads : 4 * n ≤ length heads - 1
+  pub in-slots : 16 * n ≤ length slots - 1
+  pub most : n ≤ 256
+
+-- the sixteen slots of cell c have these words, then zeros; every other word is as before
+pub record Filled (slots : List ℤ) (c : ℕ) (words slots′ : List ℤ) : Type 0 where
+  pub inside : (k : ℕ) → k < 16 → getD slots′ (1 + 16 * c + k) (pos 0) ≡ getD words k (pos 0)
+  pub outside : (d k : ℕ) → k < 16 → d ≢ c → getD slots′ (1 + 16 * d + k) (pos 0) ≡ getD slots (1 + 16 * d + k) (pos 0)
+  pub totals : getD slots′ 0 (pos 0) ≡ getD slots 0 (pos 0)
+
+-- the four numbers of a cell's head written
+abbrev pub with-head : List ℕ → ℕ → ℕ → ℕ → ℕ → ℕ → List ℕ
+with-head heads c count size depth next =
+    set (set (set (set heads (1 + 4 * c) count) (2 + 4 * c) size) (3 + 4 * c) depth) (4 + 4 * c) next

@@ -1,0 +1,29 @@
+-- Numbers of more bytes from numbers of fewer.
+use mathlib.Core.Path.{_≡_}
+use mathlib.Core.List.{List}
+use Prim.Native.Nat.{ℕ, _+_, _*_}
+use native.Mathlib.Omega.{arith}
+use lib.ListN.{getD}
+use Rattle.semantics.specs.Number.{bytes-at}
+
+module _ (l : List ℕ) (i : ℕ) where
+  pub two : (a b : ℕ) → a ≡ getD l i 0 → b ≡ getD l (i + 1) 0 → a + 256 * b ≡ bytes-at 2 l i
+  unfolding bytes-at
+  two a b e f = omega arith
+
+  pub four : (a b c d : ℕ) → a ≡ getD l i 0 → b ≡ getD l (i + 1) 0 → c ≡ getD l (i + 2) 0 → d ≡ getD l (i + 3) 0 →
+      a + 256 * b + 65536 * c + 16777216 * d ≡ bytes-at 4 l i
+  unfolding bytes-at
+  four a b c d e f g h =
+      let p : i + 2 ≡ i + 1 + 1 = omega arith in
+      let q : i + 3 ≡ i + 1 + 1 + 1 = omega arith in
+      let r : c ≡ getD l (i + 1 + 1) 0 = rw (← p) g in
+      let s : d ≡ getD l (i + 1 + 1 + 1) 0 = rw (← q) h in
+      omega arith
+
+  pub eight : (a b : ℕ) → a ≡ bytes-at 4 l i → b ≡ bytes-at 4 l (i + 4) → a + 4294967296 * b ≡ bytes-at 8 l i
+  unfolding bytes-at
+  eight a b e f =
+      let p : i + 4 ≡ i + 1 + 1 + 1 + 1 = omega arith in
+      let g : b ≡ bytes-at 4 l (i + 1 + 1 + 1 + 1) = rw (← p) f in
+      omega arith

@@ -1,0 +1,60 @@
+-- `words::signed_of` meets its contract.
+use mathlib.Core.Path.{_≡_, refl, ap, _∙_}
+use Prim.Native.Nat.{ℕ, zero, suc, _-_, _<_, _≤_, _^_}
+use native.Mathlib.Nat.{zero-add}
+use native.Mathlib.Omega.{arith}
+use lib.IntN.{ℤ, pos, negsuc, _-ℤ_}
+use lib.Signed.{mag}
+use Rattle.semantics.specs.Number.{signed}
+use mir.Syntax.{w64}
+use mir.Val.{toZ, ofZ}
+use mir.Facts.{toZ-ofZ}
+use borrow.Author.Tests.{lt-ltb, le-ltb}
+use borrow.Author.Needs.{needs}
+use Rattle.words.proofs.signed_of.Statement.{statement}
+use Rattle.words.proofs.signed_of.Tie as tie
+
+neg-less : (n : ℕ) → n < 2 ^ 63 → negsuc 0 -ℤ pos n ≡ negsuc n
+neg-less zero h = refl
+neg-less (suc n) h = rw zero-add
+
+low : (n : ℕ) → n < 2 ^ 63 → toZ w64 n ≡ pos n
+low n h = rw (lt-ltb n (2 ^ 63) h)
+
+negative : (v : ℕ) → 9223372036854775808 ≤ v → v < 2 ^ 64 →
+    (mag (negsuc 0 -ℤ toZ w64 (18446744073709551615 - v)) < 2 ^ 63)
+    × (toZ w64 (ofZ w64 (negsuc 0 -ℤ toZ w64 (18446744073709551615 - v))) ≡ signed v)
+negative v l h =
+    let n = 18446744073709551615 - v in
+    let e : negsuc 0 -ℤ toZ w64 n ≡ negsuc n =
+    ap (λ (z : ℤ). negsuc 0 -ℤ z) (low n (omega arith)) ∙ neg-less n (omega arith) in (
+      rw e (omega arith),
+      rw (e, toZ-ofZ {w = w64} {z = negsuc n} (record { sfits = omega arith }), le-ltb v (2 ^ 63) l)
+          (ap negsuc (omega arith)),
+    )
+
+cast-result : tie.Need-cast-result
+cast-result c = search needs
+
+sub-result : tie.Need-sub-result
+sub-result c = search needs
+
+sub-result-2 : tie.Need-sub-result-2
+sub-result-2 c = search needs
+
+cast-result-2 : tie.Need-cast-result-2
+cast-result-2 c = search needs
+
+sub-result-3 : tie.Need-sub-result-3
+sub-result-3 c = record { sfits = negative (c .before .args .v) (c .if1 .left) (c .before .fits .v .fits) .0 }
+
+returns : tie.Need-returns
+returns c = search needs
+
+returns-2 : tie.Need-returns-2
+returns-2 c = negative (c .before .args .v) (c .if1 .left) (c .before .fits .v .fits) .1
+
+pub signed-of-spec : {M : Type 1} → statement M
+signed-of-spec =
+    tie.close
+    (tie.spec cast-result sub-result sub-result-2 cast-result-2 sub-result-3 returns returns-2)

@@ -1,0 +1,21 @@
+-- What the answers of this crate's functions say, in the terms of the definitions.
+use mathlib.Core.Path.{_≡_}
+use mathlib.Core.Bool.{cond}
+use Prim.Native.Nat.{ℕ, _<_, _^_}
+use lib.IntN.{ℤ}
+use Rattle.semantics.specs.Number.{fits}
+use Rattle.semantics.specs.Calls.{packed}
+use Rattle.words.specs.declared.Exact.{Exact}
+use Rattle.words.specs.declared.Exact.the-variants.{Value, Overflow}
+use Rattle.words.specs.declared.Answer.{Answer}
+
+-- a number where it is in 64 bits
+unfoldable pub checked : ℤ → Exact
+checked z = cond (fits z) (Value z) Overflow
+
+-- the one way to part an answer
+pub record Unpacked (answer : ℕ) (r : Answer) : Type 0 where
+  pub is : packed (r .number) (r .node) (r .count) (r .cells) ≡ answer
+  pub number-fits : r .number < 2 ^ 8
+  pub node-fits : r .node < 2 ^ 16
+  pub count-fits : r .count < 2 ^ 24
