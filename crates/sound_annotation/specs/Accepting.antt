@@ -1,4 +1,4 @@
--- Every function of an accepted script is disciplined, and main has main's shape.
+-- `functions-disciplined`: every function of an accepted script is disciplined. `main-shape-of`: main has main's shape.
 use Prim.Native.Nat.{ℕ, zero, suc, _+_, _≤_}
 use native.Mathlib.Omega.{arith}
 use mathlib.Core.Path.{_≡_, refl, sym, ap, subst}
@@ -105,28 +105,44 @@ roomy-here : (b : Bool) (p : ℕ) (o : Option ℕ) → cond b (some p) o ≡ non
 roomy-here true p o e = not-some p (sym e)
 roomy-here false p o e = (refl, e)
 
-accepted-at : (fs : Script) (functions : ℕ) (shape : Bool) (gs : List Function) (p : ℕ) (f : ℕ) →
-    AllOf FunctionLimits gs →
-    unknown-in functions gs p ≡ [] → function-faults (signatures-of fs) shape gs p ≡ [] → too-many-names-from gs p ≡ none →
-    Accepted fs (getD gs f no-function)
-unfolding unknown-in function-faults too-many-names-from
-accepted-at fs functions shape [] p f l n t c = none-accepted fs
-accepted-at fs functions shape (g ∷ gs) p zero l n t c =
-    let named = append-empty (unknown-from functions (g .parameters) (λ _. false) (p + 1) (g .body)) _ n in
-    let typed = append-empty (check-function (signatures-of fs) shape g p .faults) _ t in
-    let room = roomy-here (ltb 256 (length (g .parameters) + fresh (g .body))) p
-    (too-many-names-from gs (p + function-size g)) c in
-    record {
-      typed = function-typed (signatures-of fs) shape g p (l .0 .body) (typed .0) .1;
-      distinct = distinct-of functions (g .parameters) (λ _. false) (p + 1) (g .body) (named .0);
-      few = ltb-false 256 (length (g .parameters) + fresh (g .body)) (room .0);
-    }
-accepted-at fs functions shape (g ∷ gs) p (suc f) l n t c =
-    let named = append-empty (unknown-from functions (g .parameters) (λ _. false) (p + 1) (g .body)) _ n in
-    let typed = append-empty (check-function (signatures-of fs) shape g p .faults) _ t in
-    let room = roomy-here (ltb 256 (length (g .parameters) + fresh (g .body))) p
-    (too-many-names-from gs (p + function-size g)) c in
-    accepted-at fs functions true gs (p + function-size g) f (l .1) (named .1) (typed .1) (room .1)
+-- some functions of the script fs from node p on, without fault
+record Faultless (fs : Script) (functions : ℕ) (shape : Bool) (gs : List Function) (p : ℕ) : Type 0 where
+  names : unknown-in functions gs p ≡ []
+  types : function-faults (signatures-of fs) shape gs p ≡ []
+  roomy : too-many-names-from gs p ≡ none
+
+module _ (fs : Script) (functions : ℕ) where
+  first-accepted : (shape : Bool) (g : Function) (gs : List Function) (p : ℕ) → FunctionLimits g →
+      Faultless fs functions shape (g ∷ gs) p → Accepted fs g
+  unfolding unknown-in function-faults too-many-names-from
+  first-accepted shape g gs p l h =
+      let crowd = length (g .parameters) + fresh (g .body) in
+      record {
+        typed = function-typed (signatures-of fs) shape g p (l .body)
+            (append-empty (check-function (signatures-of fs) shape g p .faults) _ (h .types) .0) .1;
+        distinct = distinct-of functions (g .parameters) (λ _. false) (p + 1) (g .body)
+            (append-empty (unknown-from functions (g .parameters) (λ _. false) (p + 1) (g .body)) _ (h .names) .0);
+        few = ltb-false 256 crowd (roomy-here (ltb 256 crowd) p (too-many-names-from gs (p + function-size g)) (h .roomy) .0);
+      }
+
+  rest-faultless : (shape : Bool) (g : Function) (gs : List Function) (p : ℕ) →
+      Faultless fs functions shape (g ∷ gs) p → Faultless fs functions true gs (p + function-size g)
+  unfolding unknown-in function-faults too-many-names-from
+  rest-faultless shape g gs p h =
+      let crowd = length (g .parameters) + fresh (g .body) in
+      record {
+        names = append-empty (unknown-from functions (g .parameters) (λ _. false) (p + 1) (g .body)) _ (h .names) .1;
+        types = append-empty (check-function (signatures-of fs) shape g p .faults) _ (h .types) .1;
+        roomy = roomy-here (ltb 256 crowd) p (too-many-names-from gs (p + function-size g)) (h .roomy) .1;
+      }
+
+  accepted-at : (shape : Bool) (gs : List Function) (p f : ℕ) → AllOf FunctionLimits gs →
+      Faultless fs functions shape gs p →
+      Accepted fs (getD gs f no-function)
+  accepted-at shape [] p f l h = none-accepted fs
+  accepted-at shape (g ∷ gs) p zero l h = first-accepted shape g gs p (l .0) h
+  accepted-at shape (g ∷ gs) p (suc f) l h =
+      accepted-at true gs (p + function-size g) f (l .1) (rest-faultless shape g gs p h)
 
 -- ---- accepted scripts
 
@@ -135,9 +151,10 @@ pub functions-disciplined : (node : ℕ) (file : List ℕ) (fs : Script) → jud
 unfolding name-faults type-faults
 functions-disciplined node file fs e f =
     let clean = judged-clean node file fs e in
-    function-disciplined fs f
-    (accepted-at fs (length fs) (main-shape (signatures-of fs 0)) fs 0 f (clean .limits .1) (clean .names)
-    (clean .types) (clean .roomy))
+    let shape = main-shape (signatures-of fs 0) in
+    let faultless : Faultless fs (length fs) shape fs 0 =
+    record { names = clean .names; types = clean .types; roomy = clean .roomy } in
+    function-disciplined fs f (accepted-at fs (length fs) shape fs 0 f (clean .limits .1) faultless)
 
 -- a script has a first function
 shaped : (fs : Script) (shape : Bool) (gs : List Function) → 1 ≤ length gs → AllOf FunctionLimits gs →

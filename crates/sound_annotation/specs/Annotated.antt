@@ -1,4 +1,5 @@
--- Annotation gives disciplined trees: at each point exactly the live arrays hold one reference each.
+-- `annotated-disciplined`: annotation gives disciplined trees, in which at each point exactly the live arrays hold one
+-- reference each.
 use Prim.Native.Nat.{ℕ, _+_, _≤_, min, max}
 use native.Mathlib.Omega.{arith}
 use mathlib.Core.Path.{_≡_}

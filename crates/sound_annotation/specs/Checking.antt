@@ -1,4 +1,4 @@
--- An expression in which the check finds no fault is typed: one lemma for each kind of node.
+-- `check-typed`: an expression in which the check finds no fault is typed. One lemma for each kind of node.
 use Prim.Native.Nat.{ℕ, suc, _+_}
 use mathlib.Core.Path.{_≡_, refl, sym, ap, _∙_, subst}
 use mathlib.Core.Bool.{true, false, cond}
@@ -13,7 +13,7 @@ use Rattle.semantics.specs.Syntax.{map-over, Exprs, size}
 use Rattle.semantics.specs.Types.{Depths, and-more, part-depths, part-faults, all-are, same, Signature, number-rule}
 use Rattle.semantics.specs.Types.{let-rule, call-rule, literal-rule, index-rule, length-rule, if-rule, element}
 use Rattle.semantics.specs.Types.{is-number, check, checks}
-use Rattle.sound_annotation.specs.Typed.{Limited, AllLimited, Typed, AllTyped}
+use Rattle.sound_annotation.specs.Typed.{Limited, AllLimited, LiteralType, Typed, AllTyped}
 use Rattle.sound_annotation.specs.Rules.{some-same, some-if-holds, all-equal, same-lists, number-typed}
 use Rattle.sound_annotation.specs.Rules.{index-typed, length-typed, if-typed, map-typed, append-empty}
 use Rattle.sound_annotation.specs.Rules.{node-parts, node-depth, two-parts, two-depth, three-parts, map-parts}
@@ -88,7 +88,9 @@ module _ (signatures : ℕ → Signature) where
   literal-found r es Δ δ p l e fs =
       let whole = node-depth p (literal-rule r) (checks signatures es Δ (p + 1)) (fs .0) e (fs .1) in
       let holds = some-if-holds (all-are r (fs .0)) (suc r) (whole .0) (whole .2) in
-      (whole .0, whole .1, (fs .0, holds .1, l .0, l .1, all-equal r (fs .0) (holds .0), fs .2))
+      let literal-type : LiteralType r es (fs .0) (whole .0) =
+      record { result = holds .1; few = l .0; shallow = l .1; elements = all-equal r (fs .0) (holds .0) } in
+      (whole .0, whole .1, (fs .0, literal-type, fs .2))
 
   index-found : (a b : Expr) (Δ : Depths) (δ : ℕ → ℕ) (p : ℕ) → Faultless (index a b) Δ p →
       Found a Δ δ (p + 1) → Found b Δ δ (p + 1 + size a) → Found (index a b) Δ δ p
@@ -150,7 +152,7 @@ module _ (signatures : ℕ → Signature) where
       let cb = check signatures b (updated Δ x (element (ca .depth))) (p + 1 + size a) in
       let whole = map-depth p ca cb (fa .0) (fb .0) e (fa .1) (fb .1) in
       let typed = map-typed (fa .0) (fb .0) (whole .0) (whole .2) in
-      (whole .0, whole .1, (j, fb .0, typed .1, typed .0, array, fb .2))
+      (whole .0, whole .1, (j, fb .0, record { result = typed .1; shallow = typed .0 }, array, fb .2))
 
   -- ---- the whole tree
 

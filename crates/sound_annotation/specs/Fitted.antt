@@ -1,4 +1,5 @@
--- Typed expressions whose new names have the right depths in a table, and that the table of their lines is such a one.
+-- Expressions whose new names have the right depths in a table. `typed-fitted`: the table of a typed expression's own
+-- lines is such a one.
 use Prim.Native.Nat.{ℕ, suc, _+_, _≤_, _<_, pred}
 use native.Mathlib.Omega.{arith}
 use mathlib.Core.Path.{_≡_, refl, sym, ap, _∙_}
@@ -14,7 +15,7 @@ use Rattle.semantics.specs.Code.{Atom, number, name}
 use Rattle.semantics.specs.Normal.{Meanings, fresh, fresh-all, atom}
 use Rattle.semantics.specs.Annotate.{NameDepths, atom-depth}
 use Rattle.sound_normal.specs.Agree.{Below, updated-same, updated-other, below-more, below-updated, atom-below}
-use Rattle.sound_annotation.specs.Typed.{count, AllEqual, Typed, AllTyped}
+use Rattle.sound_annotation.specs.Typed.{LiteralType, MapType, Typed, AllTyped}
 use Rattle.sound_annotation.specs.Tables.{table, tables, table-off, tables-off}
 
 -- ---- the atoms of the written names
@@ -75,8 +76,7 @@ module _ (signatures : ℕ → Signature) (Γ : NameDepths) where
         (signatures f .result ≡ d) × AllFitted es δ (signatures f .parameters) n
         × (Γ (n + fresh-all es) ≡ signatures f .result)
     Fitted (S.literal r es) δ d n =
-        (ds : List ℕ) × (suc r ≡ d) × (count es ≤ 16) × (r ≤ 3) × AllEqual r ds × AllFitted es δ ds n
-        × (Γ (n + fresh-all es) ≡ suc r)
+        (ds : List ℕ) × LiteralType r es ds d × AllFitted es δ ds n × (Γ (n + fresh-all es) ≡ suc r)
     Fitted (S.index a b) δ d n = Fitted a δ (suc d) n × Fitted b δ 0 (n + fresh a) × (Γ (n + fresh a + fresh b) ≡ d)
     Fitted (S.length-of a) δ d n = (j : ℕ) × (d ≡ 0) × Fitted a δ (suc j) n × (Γ (n + fresh a) ≡ 0)
     Fitted (S.if-else a b c) δ d n =
@@ -84,7 +84,7 @@ module _ (signatures : ℕ → Signature) (Γ : NameDepths) where
         Fitted a δ 0 n × Fitted b δ d (x + 1) × Fitted c δ d (x + 1 + fresh b) × (Γ x ≡ d)
     Fitted (S.map-over y a b) δ d n =
         let x = n + fresh a in
-        (j k : ℕ) × (suc k ≡ d) × (k ≤ 3) × Fitted a δ (suc j) n × Fitted b (updated δ y j) k (x + 2)
+        (j k : ℕ) × MapType k d × Fitted a δ (suc j) n × Fitted b (updated δ y j) k (x + 2)
         × (Γ x ≡ suc k) × (Γ (x + 1) ≡ j)
 
     pub AllFitted : Exprs → (ℕ → ℕ) → List ℕ → ℕ → Type 0
@@ -104,11 +104,11 @@ module _ (signatures : ℕ → Signature) (Γ : NameDepths) where
       (standing-updated μ δ (n + fresh a) Γ x (atom a μ n) (f .0) (atom-below a μ n (s .below))
       (atom-fitted a μ δ (f .0) n (f .1) s) (standing-up μ δ n (n + fresh a) Γ (omega arith) s))
   atom-fitted (S.call g es) μ δ d n f s = f .2 ∙ f .0
-  atom-fitted (S.literal r es) μ δ d n f s = f .6 ∙ f .1
+  atom-fitted (S.literal r es) μ δ d n f s = f .3 ∙ f .1 .result
   atom-fitted (S.index a b) μ δ d n f s = f .2
   atom-fitted (S.length-of a) μ δ d n f s = f .3 ∙ sym (f .1)
   atom-fitted (S.if-else a b c) μ δ d n f s = f .3
-  atom-fitted (S.map-over y a b) μ δ d n f s = f .6 ∙ f .2
+  atom-fitted (S.map-over y a b) μ δ d n f s = f .5 ∙ f .2 .result
 
 module _ (signatures : ℕ → Signature) where
   abbrev results : ℕ → ℕ
@@ -140,11 +140,6 @@ module _ (signatures : ℕ → Signature) where
       Standing μ δ n Γ → Standing μ δ m (table results a μ n Γ)
   standing-table a μ δ n m Γ le s =
       standing-kept μ δ n m Γ (table results a μ n Γ) le (λ y h. table-off results a μ n Γ y (λ p q. omega arith)) s
-
-  standing-tables : (es : Exprs) (μ : Meanings) (δ : ℕ → ℕ) (n m : ℕ) (Γ : NameDepths) → n ≤ m →
-      Standing μ δ n Γ → Standing μ δ m (tables results es μ n Γ)
-  standing-tables es μ δ n m Γ le s =
-      standing-kept μ δ n m Γ (tables results es μ n Γ) le (λ y h. tables-off results es μ n Γ y (λ p q. omega arith)) s
 
   -- an expression that fits the table of its own lines
   atom-after : (e : Expr) (μ : Meanings) (δ : ℕ → ℕ) (d n : ℕ) (Γ : NameDepths) → Standing μ δ n Γ →
@@ -201,10 +196,7 @@ module _ (signatures : ℕ → Signature) where
         let Γ₁ = tables results es μ n Γ₀ in (
           t .0,
           t .1,
-          t .2,
-          t .3,
-          t .4,
-          all-typed-fitted es μ δ (t .0) n Γ₀ Γ (t .5) s
+          all-typed-fitted es μ δ (t .0) n Γ₀ Γ (t .2) s
               (agrees-inner Γ Γ₁ x (suc r) n _ n x (omega arith) (omega arith) (λ y p q e. omega arith) g),
           g .same x (omega arith) (omega arith) ∙ updated-same Γ₁ x (suc r),
         )
@@ -273,7 +265,7 @@ module _ (signatures : ℕ → Signature) where
         let Γ₃ = table results b μ′ (x + 2) Γ₂ in
         let v = suc (atom-depth Γ₃ w) in
         let array : atom-depth Γ₁ u ≡ suc j =
-        atom-after a μ δ (suc j) n Γ₀ s (typed-fitted a μ δ (suc j) n Γ₀ Γ₁ (t .4) s (agrees-self Γ₁ n x)) in
+        atom-after a μ δ (suc j) n Γ₀ s (typed-fitted a μ δ (suc j) n Γ₀ Γ₁ (t .3) s (agrees-self Γ₁ n x)) in
         let element : Γ₂ (x + 1) ≡ j = updated-same Γ₁ (x + 1) r ∙ omega arith in
         let s₁ = standing-table a μ δ n (x + 1) Γ₀ (omega arith) s in
         let s₂ : Standing μ δ (x + 2) Γ₂ = standing-kept μ δ (x + 1) (x + 2) Γ₁ Γ₂ (omega arith)
@@ -288,13 +280,12 @@ module _ (signatures : ℕ → Signature) where
         (agrees-before Γ Γ₂ b μ′ n x (x + 2) (omega arith) lower) in
         let depth : atom-depth Γ₃ w ≡ k =
         atom-after b μ′ (updated δ z j) k (x + 2) Γ₂ s₃
-        (typed-fitted b μ′ (updated δ z j) k (x + 2) Γ₂ Γ₃ (t .5) s₃ (agrees-self Γ₃ (x + 2) (x + 2 + fresh b))) in (
+        (typed-fitted b μ′ (updated δ z j) k (x + 2) Γ₂ Γ₃ (t .4) s₃ (agrees-self Γ₃ (x + 2) (x + 2 + fresh b))) in (
           j,
           k,
           t .2,
-          t .3,
-          typed-fitted a μ δ (suc j) n Γ₀ Γ (t .4) s first,
-          typed-fitted b μ′ (updated δ z j) k (x + 2) Γ₂ Γ (t .5) s₃
+          typed-fitted a μ δ (suc j) n Γ₀ Γ (t .3) s first,
+          typed-fitted b μ′ (updated δ z j) k (x + 2) Γ₂ Γ (t .4) s₃
               (agrees-part Γ Γ₃ (x + 1) (x + 2 + fresh b) (x + 2) (x + 2 + fresh b) (omega arith) (omega arith) upper),
           g .same x (omega arith) (omega arith) ∙ updated-same Γ₃ x v ∙ ap suc depth,
           upper .same (x + 1) (omega arith) (omega arith)

@@ -16,9 +16,6 @@ use Rattle.sound_machine.specs.Discipline.{hold-of, Covered, Fresh, Disciplined
 
 -- ---- equal counts
 
-alike-back : (H H₁ M : List ℕ) → H ≈ H₁ → H ≈ M → H₁ ≈ M
-alike-back H H₁ M h g n = sym (h n) ∙ g n
-
 alike-in : (H H₁ : List ℕ) → H ≈ H₁ → (n : ℕ) → n ∈ H → n ∈ H₁
 alike-in H H₁ h n g = omega (arith, h n)
 

@@ -1,4 +1,4 @@
--- The normal form of a fitting expression is well formed.
+-- `lines-formed`: the normal form of an expression whose new names have the right depths is well formed.
 use Prim.Native.Nat.{ℕ, suc, _+_, _≤_, _<_}
 use native.Mathlib.Omega.{arith}
 use mathlib.Core.Path.{_≡_, refl, sym, ap, _∙_, subst}
@@ -174,16 +174,16 @@ module _ (signatures : ℕ → Signature) (Γ : NameDepths) where
         )
     lines-formed (E.literal t es) μ δ d n S k r f s next =
         let x = n + fresh-all es in
-        let depths = atoms-fitted es μ δ (f .0) n (f .5) (s .standing) in
-        all-lines-formed es μ δ (f .0) n S (line (literal x t (atoms es μ n)) k) r (f .5) s λ R more within seen. (
+        let depths = atoms-fitted es μ δ (f .0) n (f .2) (s .standing) in
+        all-lines-formed es μ δ (f .0) n S (line (literal x t (atoms es μ n)) k) r (f .2) s λ R more within seen. (
           n + fresh (E.literal t es),
           record { above = omega arith; below = omega arith },
           record {
             seen = seen;
-            elements = all-of-depth t (atoms es μ n) (subst (AllEqual t) (sym depths) (f .4));
-            few = omega (arith, atoms-count es μ n, f .2);
-            shallow = f .3;
-            result = f .6;
+            elements = all-of-depth t (atoms es μ n) (subst (AllEqual t) (sym depths) (f .1 .elements));
+            few = omega (arith, atoms-count es μ n, f .1 .few);
+            shallow = f .1 .shallow;
+            result = f .3;
           },
           bound-then k S R x _ r more within (omega arith) next,
         )
@@ -250,28 +250,28 @@ module _ (signatures : ℕ → Signature) (Γ : NameDepths) where
         let μ′ = updated μ z (name (x + 1)) in
         let w = atom b μ′ (x + 2) in
         let t = lines b μ′ (x + 2) (end w) in
-        lines-formed a μ δ (suc j) n S _ r (f .4) s λ R more within seen.
+        lines-formed a μ δ (suc j) n S _ r (f .3) s λ R more within seen.
         let R′ = R ∪ only (x + 1) in
         let s₁ = scoped-more μ δ n (x + 2) S R′ (omega arith) (extends-bound S R (x + 1) more)
         (within-bound R (x + 1) x (x + 2) (omega arith) (omega arith) within) s in
-        let s₂ = scoped-updated μ δ (x + 2) R′ z (name (x + 1)) j (omega arith) (bound-visible R (x + 1)) (f .7) s₁ in
+        let s₂ = scoped-updated μ δ (x + 2) R′ z (name (x + 1)) j (omega arith) (bound-visible R (x + 1)) (f .6) s₁ in
         let depth : atom-depth Γ (ending t) ≡ i =
         ap (atom-depth Γ) (ending-lines b μ′ (x + 2) (end w))
-        ∙ atom-fitted signatures Γ b μ′ (updated δ z j) i (x + 2) (f .5) (s₂ .standing) in (
+        ∙ atom-fitted signatures Γ b μ′ (updated δ z j) i (x + 2) (f .4) (s₂ .standing) in (
           n + fresh (E.map-over z a b),
           record { above = omega arith; below = omega arith },
           (
             record {
               seen = seen;
               after = omega arith;
-              array = atom-fitted signatures Γ a μ δ (suc j) n (f .4) (s .standing) ∙ ap suc (sym (f .7));
-              shallow = omega (arith, f .3);
-              result = f .6 ∙ ap suc (sym depth);
+              array = atom-fitted signatures Γ a μ δ (suc j) n (f .3) (s .standing) ∙ ap suc (sym (f .6));
+              shallow = omega (arith, f .2 .shallow);
+              result = f .5 ∙ ap suc (sym depth);
             },
             (
               x + 2,
               omega arith,
-              lines-formed b μ′ (updated δ z j) i (x + 2) R′ (end w) (atom-depth Γ (ending t)) (f .5) s₂
+              lines-formed b μ′ (updated δ z j) i (x + 2) R′ (end w) (atom-depth Γ (ending t)) (f .4) s₂
                   (λ Q more₁ within₁ seen₁. (seen₁, ap (atom-depth Γ) (sym (ending-lines b μ′ (x + 2) (end w))))),
             ),
           ),

@@ -1,4 +1,4 @@
--- What the reader answers is within its limits: operands are at most what their kind allows.
+-- What the reader answers is within its limits (`file-limited`): operands are at most what their kind allows.
 use Prim.Native.Nat.{ℕ, zero, suc, _+_, _*_, _≤_, _/_, _%_}
 use native.Mathlib.Omega.{arith}
 use mathlib.Core.Path.{_≡_, refl, ap, _∙_}
@@ -98,10 +98,11 @@ node-fits : (a b k : ℕ) (z : ℤ) → NodeFits a b (node-of a b k z)
 unfolding node-of
 node-fits a b k z = go (leb a k) refl (leb k b) refl
   where
+    allowed : Node
+    allowed = cond (eqb k 2) (fits (record { kind = 2; low = 0; high = 0; value = z })) (in-parts k z)
+
     go : (s : Bool) → leb a k ≡ s → (t : Bool) → leb k b ≡ t →
-        NodeFits a b (cond s (cond t (cond (eqb k 2) (fits (record { kind = 2; low = 0; high = 0; value = z }))
-        (in-parts k z))
-        wrong-kind) wrong-kind)
+        NodeFits a b (cond s (cond t allowed wrong-kind) wrong-kind)
     go true e true f = number-fits a b k z (eqb k 2) (leb-true a k e) (leb-true k b f) refl
     go true e false f = tt
     go false e true f = tt

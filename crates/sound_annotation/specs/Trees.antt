@@ -72,8 +72,7 @@ module _ (signatures : ℕ → Signature) (Γ : NameDepths) (few : Few Γ) where
           names Γ B,
           record {
             guard = f .0 .guard;
-            fresh = fresh-name signatures Γ few L c x (names Γ B) after p
-                (gone Γ few x A);
+            fresh = fresh-name signatures Γ few L c x (names Γ B) after p (gone Γ few x A);
           },
           subst (λ M. Disciplined signatures Γ (branch Γ x t e A) H [] (names Γ B) (Γ x) (M ∖ x)) (sym q)
               (branch-holds x t e A H first second count D₁),

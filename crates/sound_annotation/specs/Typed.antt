@@ -38,6 +38,18 @@ abbrev pub AllEqual : ℕ → List ℕ → Type 0
 AllEqual r [] = Unit {0}
 AllEqual r (d ∷ ds) = (d ≡ r) × AllEqual r ds
 
+-- a literal with elements of depth r, which are of the depths ds
+pub record LiteralType (r : ℕ) (es : Exprs) (ds : List ℕ) (d : ℕ) : Type 0 where
+  pub result : suc r ≡ d
+  pub few : count es ≤ 16
+  pub shallow : r ≤ 3
+  pub elements : AllEqual r ds
+
+-- a map with a body of depth k
+pub record MapType (k d : ℕ) : Type 0 where
+  pub result : suc k ≡ d
+  pub shallow : k ≤ 3
+
 module _ (signatures : ℕ → Signature) where
   -- an expression of depth d, where δ gives the depths of the written names
   abbrev mutual
@@ -47,12 +59,11 @@ module _ (signatures : ℕ → Signature) where
     Typed (operation o a b) δ d = (d ≡ 0) × Typed a δ 0 × Typed b δ 0
     Typed (let-in x a b) δ d = (j : ℕ) × Typed a δ j × Typed b (updated δ x j) d
     Typed (call f es) δ d = (signatures f .result ≡ d) × AllTyped es δ (signatures f .parameters)
-    Typed (literal r es) δ d =
-        (ds : List ℕ) × (suc r ≡ d) × (count es ≤ 16) × (r ≤ 3) × AllEqual r ds × AllTyped es δ ds
+    Typed (literal r es) δ d = (ds : List ℕ) × LiteralType r es ds d × AllTyped es δ ds
     Typed (index a b) δ d = Typed a δ (suc d) × Typed b δ 0
     Typed (length-of a) δ d = (j : ℕ) × (d ≡ 0) × Typed a δ (suc j)
     Typed (if-else a b c) δ d = Typed a δ 0 × Typed b δ d × Typed c δ d
-    Typed (map-over x a b) δ d = (j k : ℕ) × (suc k ≡ d) × (k ≤ 3) × Typed a δ (suc j) × Typed b (updated δ x j) k
+    Typed (map-over x a b) δ d = (j k : ℕ) × MapType k d × Typed a δ (suc j) × Typed b (updated δ x j) k
 
     pub AllTyped : Exprs → (ℕ → ℕ) → List ℕ → Type 0
     AllTyped S.none δ ds = ds ≡ []

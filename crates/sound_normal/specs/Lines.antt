@@ -1,4 +1,4 @@
--- The lines of an expression do what the expression means, whatever the callee.
+-- `normal-run`: the lines of an expression do what the expression means, whatever the callee.
 use Prim.Native.Nat.{ℕ, _+_, _≤_}
 use native.Mathlib.Omega.{arith}
 use mathlib.Core.List.{[], _∷_, map}

@@ -1,4 +1,5 @@
--- A run only adds to the trace, and each step that it adds is one less that is left.
+-- `running-grows`, `meaning-grows`: a run only adds to the trace, and each step that it adds is one less that is left.
+-- `wants-stays`: what a step wants does not change with later steps.
 use Prim.Native.Nat.{ℕ, zero, suc, _+_, _≤_}
 use native.Mathlib.Omega.{arith}
 use mathlib.Core.Bool.{Bool, true, false, cond}
