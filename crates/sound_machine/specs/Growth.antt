@@ -1,19 +1,19 @@
 -- A run on values only adds to the trace: a step that wanted a cell is found so in every later trace.
-use Prim.Native.Nat.{ℕ, zero, suc, _≤_}
+use Prim.Native.Nat.{ℕ, suc, _≤_}
 use native.Mathlib.Omega.{arith}
 use mathlib.Core.Bool.{Bool, true, false, cond}
 use mathlib.Core.Path.{_≡_, refl, ap, _∙_}
 use mathlib.Core.List.{List, [], _∷_}
 use lib.ListN.{length}
 use lib.Dec.{eqb}
-use borrow.Author.Tests.{ne-eqb, eqb-true}
+use borrow.Author.Tests.{eqb-true}
 use Rattle.semantics.specs.Outcome.{Outcome, done, stop, Run, onward, _>>=_, give, require, passes}
 use Rattle.semantics.specs.Value.{Value}
 use Rattle.semantics.specs.Code.{Tree}
-use Rattle.semantics.specs.Meaning.{Meter, Callee, Env, step, stepped, step-wants, meter-of, do-pass}
+use Rattle.semantics.specs.Meaning.{Meter, Callee, Env, step, step-wants, meter-of, do-pass}
 use Rattle.sound_base.specs.Plain.{run}
 use Rattle.sound_normal.specs.Trace as Trace
-use Rattle.sound_normal.specs.Trace.{CalleeGrows, wants-stays, run-grows}
+use Rattle.sound_normal.specs.Trace.{CalleeGrows, wants-stays, run-grows, grows-give, grows-require, grows-step}
 
 -- ---- the trace
 
@@ -26,10 +26,6 @@ wants-within k (w ∷ l) h = go (wants-within k l) (eqb k (suc (length l))) refl
         (b : Bool) → eqb k (suc (length l)) ≡ b → cond b w (step-wants k l) ≡ true → k ≤ suc (length l)
     go within true e g = omega (arith, eqb-true k (suc (length l)) e)
     go within false e g = omega (arith, within g)
-
-pub wants-later : (k : ℕ) (w : Bool) (l : List Bool) → step-wants k l ≡ true → step-wants k (w ∷ l) ≡ true
-unfolding step-wants
-wants-later k w l h = rw (ne-eqb k (suc (length l)) (λ e. omega (arith, e, wants-within k l h))) h
 
 -- ---- runs that only add to the trace
 
@@ -56,21 +52,13 @@ module _ {A B : Type 0} where
   bind-grows {f} {g} grows next = record { later = λ m k h. onward-grows g next (f m) k (grows .later m k h) }
 
 pub give-grows : {A : Type 0} (a : A) → Grows (give a)
-give-grows a = record { later = λ m k h. h }
+give-grows a = grown (grows-give a)
 
 pub require-grows : (t : Bool) (n : ℕ) → Grows (require t n)
-unfolding require
-require-grows true n = record { later = λ m k h. h }
-require-grows false n = record { later = λ m k h. h }
+require-grows t n = grown (grows-require t n)
 
 pub step-grows : (wants : Bool) → Grows (step wants)
-unfolding step stepped
-step-grows wants = record { later = λ m k h. go (m .left) (m .trace) k h }
-  where
-    go : (n : ℕ) (l : List Bool) (k : ℕ) → step-wants k l ≡ true →
-        step-wants k (meter-of (stepped wants n l) .trace) ≡ true
-    go zero l k h = h
-    go (suc n) l k h = wants-later k wants l h
+step-grows wants = grown (grows-step wants)
 
 pub passes-grow : {A B : Type 0} (f : B → A → Run Meter B) → ((b : B) (a : A) → Grows (f b a)) → (b : B) (l : List A) →
     Grows (passes f b l)

@@ -54,15 +54,15 @@ grows-then {A} {B} work f first next m = go (work m) (first m)
     go (done a m′) h = later-trans h (next a m′)
     go (stop n m′) h = h
 
-grows-give : {A : Type 0} (a : A) → Grows (give a)
+pub grows-give : {A : Type 0} (a : A) → Grows (give a)
 grows-give a m = later-same m
 
-grows-require : (t : Bool) (n : ℕ) → Grows (require t n)
+pub grows-require : (t : Bool) (n : ℕ) → Grows (require t n)
 unfolding require
 grows-require true n m = later-same m
 grows-require false n m = later-same m
 
-grows-step : (wants : Bool) → Grows (step wants)
+pub grows-step : (wants : Bool) → Grows (step wants)
 unfolding step stepped
 grows-step wants m = go (m .left) refl
   where

@@ -16,7 +16,7 @@ use Rattle.semantics.specs.Store.{Store, cell-count}
 use Rattle.semantics.specs.Annotate.{code}
 use Rattle.semantics.specs.Machine.{State, delivery, starting}
 use Rattle.semantics.specs.Calls.{accepted, judged, code-fits, request-fits}
-use Rattle.sound_store.specs.Tests.{and-says}
+use Rattle.store_laws.specs.Tests.{both-hold}
 use Rattle.sound_annotation.specs.Accepting.{functions-disciplined, main-shape-of}
 use Rattle.sound_machine.specs.Agreement.{Start}
 use Rattle.sound_machine.specs.Calls.{ScriptDisciplined}
@@ -33,7 +33,7 @@ few-lines fs lines h e = omega (arith, leb-true (length (code fs)) lines e)
 few-readings : (readings : List ℤ) (budget : ℕ) → request-fits readings budget ≡ true → length readings ≤ 16
 unfolding request-fits
 few-readings readings budget e =
-    leb-true (length readings) 16 (and-says (leb (length readings) 16) (leb budget 1000000) e .0)
+    leb-true (length readings) 16 (both-hold (leb (length readings) 16) (leb budget 1000000) e .0)
 
 -- a finished delivery leaves a settled store
 pub finished-settled : {budget d : ℕ} {σ : Store} {s : State} {v w : Value} {m : Meter} → Settled d σ v →

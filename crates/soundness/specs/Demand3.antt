@@ -15,7 +15,7 @@ use Rattle.semantics.specs.Calls.{packed, number-of, accepted, refused, judged,
 use Rattle.semantics.specs.Calls.{StoreReply, refusing, answering, open-for, deliver-for, engine-open, engine-deliver}
 use Rattle.semantics.specs.Ledger.{Delivery, entry, meant, value-after}
 use Rattle.semantics.specs.Demands.{reply-to, entry-for, History, Demand3}
-use Rattle.sound_store.specs.Tests.{and-says}
+use Rattle.store_laws.specs.Tests.{both-hold}
 use Rattle.soundness.specs.Answers.{number-packed}
 use Rattle.soundness.specs.Settled.{opened-settles}
 use Rattle.sound_annotation.specs.Accepting.{main-shape-of}
@@ -71,7 +71,7 @@ module _ (node : ℕ) (file : List ℕ) (fs : Script) (ok : judged node file ≡
     unfolding shaped
     some-cells e =
         let n = cells-in slots heads in
-        ltb-true 0 n (and-says (ltb 0 n) _ e .0)
+        ltb-true 0 n (both-hold (ltb 0 n) _ e .0)
 
     -- a store just opened stands, with totals that hold nothing yet
     opening-stands : number-of (opening .answer) ≡ 0 →

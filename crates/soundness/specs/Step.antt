@@ -20,7 +20,7 @@ use Rattle.semantics.specs.Calls.{StoreReply, request-fits, refusing, answering
 use Rattle.semantics.specs.Ledger as L
 use Rattle.semantics.specs.Ledger.{Delivery, Entry, worked, meant, entry-by, dry-steps, wants-cell, value-after}
 use Rattle.semantics.specs.Demands.{value-of, Agrees, Worked, LeftAlone, OutOfCells}
-use Rattle.sound_store.specs.Tests.{and-says}
+use Rattle.store_laws.specs.Tests.{both-hold}
 use Rattle.soundness.specs.Answers.{number-packed, not-dry, dry-packed}
 use Rattle.soundness.specs.Settled.{Settled, sound-settles, settled-sound, settled-words, settled-rests}
 use Rattle.soundness.specs.Settled.{relinked-settles, relinked-alone}
@@ -139,7 +139,7 @@ module _ (fs : Script) (slots : List ℤ) (heads : List ℕ) (v : Value) (δ : D
     few-steps : request-fits (δ .readings) (δ .budget) ≡ true → (k : ℕ) → δ .budget - k < 2 ^ 24
     unfolding request-fits
     few-steps requested k =
-        let e = and-says (leb (length (δ .readings)) 16) (leb (δ .budget) 1000000) requested .1 in
+        let e = both-hold (leb (length (δ .readings)) 16) (leb (δ .budget) 1000000) requested .1 in
         omega (arith, leb-true (δ .budget) 1000000 e)
 
     -- the reply, with the entry that the ledger makes of it
