@@ -106,10 +106,10 @@ roomy-here true p o e = not-some p (sym e)
 roomy-here false p o e = (refl, e)
 
 -- some functions of the script fs from node p on, without fault
-record Faultless (fs : Script) (functions : ℕ) (shape : Bool) (gs : List Function) (p : ℕ) : Type 0 where
-  names : unknown-in functions gs p ≡ []
-  types : function-faults (signatures-of fs) shape gs p ≡ []
-  roomy : too-many-names-from gs p ≡ none
+pub record Faultless (fs : Script) (functions : ℕ) (shape : Bool) (gs : List Function) (p : ℕ) : Type 0 where
+  pub names : unknown-in functions gs p ≡ []
+  pub types : function-faults (signatures-of fs) shape gs p ≡ []
+  pub roomy : too-many-names-from gs p ≡ none
 
 module _ (fs : Script) (functions : ℕ) where
   first-accepted : (shape : Bool) (g : Function) (gs : List Function) (p : ℕ) → FunctionLimits g →
@@ -136,7 +136,7 @@ module _ (fs : Script) (functions : ℕ) where
         roomy = roomy-here (ltb 256 crowd) p (too-many-names-from gs (p + function-size g)) (h .roomy) .1;
       }
 
-  accepted-at : (shape : Bool) (gs : List Function) (p f : ℕ) → AllOf FunctionLimits gs →
+  pub accepted-at : (shape : Bool) (gs : List Function) (p f : ℕ) → AllOf FunctionLimits gs →
       Faultless fs functions shape gs p →
       Accepted fs (getD gs f no-function)
   accepted-at shape [] p f l h = none-accepted fs

@@ -108,7 +108,7 @@ module _ (fs : Script) (g : Function) (ok : Accepted fs g) where
   abbrev given : Set
   given = λ y. ltb y arity
 
-  given-within : Within given arity
+  pub given-within : Within given arity
   given-within = record { below = λ y e. ltb-true y arity e }
 
   standing-first : Standing μ δ arity Γ₀
@@ -136,7 +136,7 @@ module _ (fs : Script) (g : Function) (ok : Accepted fs g) where
       typed-fitted signatures (g .body) μ δ (g .result) arity Γ₀ Γ (ok .typed) standing-first
       (record { same = λ y p q i. depths-table i y })
 
-  formed : Formed signatures Γ (normal-body g) given arity (g .result)
+  pub formed : Formed signatures Γ (normal-body g) given arity (g .result)
   unfolding normal-body normal
   formed =
       let last = atom-fitted signatures Γ (g .body) μ δ (g .result) arity fitted (scoped .standing) in

@@ -1,0 +1,368 @@
+// The machine: workers for a tree, a line and the passes of a map that call each other. What falls is the steps left,
+// and where no step is taken the lines left. `calls` is the call depth left, and f the function that is worked.
+use machine_code::Atom;
+use machine_code::Line;
+use machine_lines::Out;
+use store::Acquired;
+ghost use mathlib.Core.Path.{_≡_};
+ghost use Prim.Native.Nat.{_<_, _≤_};
+ghost use lib.ListN.{length};
+ghost use Rattle.semantics.specs.Words.{store-of};
+ghost use Rattle.machine_lines.specs.Lines.{memory};
+ghost use Rattle.machine_positions.specs.Machine.{code, Ended, if-line, call-line, map-line, passes-on, line-on};
+ghost use Rattle.machine_positions.specs.Machine.{tree-on, call-on};
+
+// Works the tree at a position.
+pub fn work_tree(
+    kinds: &[u8],
+    operands: &[i64],
+    table: &[u8],
+    slots: &mut [i64],
+    heads: &mut [u32],
+    env: &mut [i64],
+    steps: u64,
+    lines: u64,
+    calls: usize,
+    f: u8,
+    at: usize,
+) -> Out
+    ensures { λ r. ⌜ Ended (tree-on lines (call-on calls (code (now (kinds .entry)) (now (operands .entry)) (now (table .entry))))
+        (code (now (kinds .entry)) (now (operands .entry)) (now (table .entry))) calls f at steps
+        (memory (store-of (now (slots .entry)) (now (heads .entry))) (now (env .entry))))
+        steps r (now (slots .exit)) (now (heads .exit)) (now (env .exit)) ⌝ }
+{
+    let mut p = at;
+    let mut s = steps;
+    let mut left = lines;
+    while 0 < left {
+        if kinds.len() <= p {
+            return machine_lines::halted(99, s);
+        }
+        let l = machine_code::line_at(kinds, operands, p);
+        if let Line::End(a) = l {
+            let w = machine_lines::word_of(env, calls, a);
+            return machine_lines::done(w, p + 2, s);
+        }
+        let r = work_line(
+            kinds,
+            operands,
+            table,
+            slots,
+            heads,
+            env,
+            s,
+            left - 1,
+            calls,
+            f,
+            p,
+            l,
+        );
+        let stop = r.stop;
+        if stop != 0 {
+            return r;
+        }
+        p = r.next;
+        s = r.steps;
+        left = left - 1;
+    }
+    machine_lines::halted(99, s)
+}
+
+// Works a line that stands at a position.
+fn work_line(
+    kinds: &[u8],
+    operands: &[i64],
+    table: &[u8],
+    slots: &mut [i64],
+    heads: &mut [u32],
+    env: &mut [i64],
+    steps: u64,
+    lines: u64,
+    calls: usize,
+    f: u8,
+    at: usize,
+    l: Line,
+) -> Out
+    requires { ⌜ at < length (now kinds) ⌝ }
+    ensures { λ r. ⌜ Ended (line-on
+        (tree-on lines (call-on calls (code (now (kinds .entry)) (now (operands .entry)) (now (table .entry))))
+        (code (now (kinds .entry)) (now (operands .entry)) (now (table .entry))) calls f)
+        (call-on calls (code (now (kinds .entry)) (now (operands .entry)) (now (table .entry))))
+        (code (now (kinds .entry)) (now (operands .entry)) (now (table .entry))) calls f at steps
+        (memory (store-of (now (slots .entry)) (now (heads .entry))) (now (env .entry))) l)
+        steps r (now (slots .exit)) (now (heads .exit)) (now (env .exit)) ⌝ }
+{
+    match l {
+        Line::If(x, g) => work_if(
+            kinds,
+            operands,
+            table,
+            slots,
+            heads,
+            env,
+            steps,
+            lines,
+            calls,
+            f,
+            at,
+            x,
+            g,
+        ),
+        Line::Call(x, g) => work_call(
+            kinds,
+            operands,
+            table,
+            slots,
+            heads,
+            env,
+            steps,
+            calls,
+            at,
+            x,
+            g,
+        ),
+        Line::Map(x, p, a) => work_map(
+            kinds,
+            operands,
+            table,
+            slots,
+            heads,
+            env,
+            steps,
+            lines,
+            calls,
+            f,
+            at,
+            x,
+            p,
+            a,
+        ),
+        _ => machine_lines::work_leaf(kinds, operands, slots, heads, env, l, calls, at, steps),
+    }
+}
+
+// Works one tree of an if.
+fn work_if(
+    kinds: &[u8],
+    operands: &[i64],
+    table: &[u8],
+    slots: &mut [i64],
+    heads: &mut [u32],
+    env: &mut [i64],
+    steps: u64,
+    lines: u64,
+    calls: usize,
+    f: u8,
+    at: usize,
+    x: u8,
+    g: Atom,
+) -> Out
+    requires { ⌜ at < length (now kinds) ⌝ }
+    ensures { λ r. ⌜ Ended (if-line
+        (tree-on lines (call-on calls (code (now (kinds .entry)) (now (operands .entry)) (now (table .entry))))
+        (code (now (kinds .entry)) (now (operands .entry)) (now (table .entry))) calls f)
+        (now (kinds .entry)) calls x g at steps
+        (memory (store-of (now (slots .entry)) (now (heads .entry))) (now (env .entry))))
+        steps r (now (slots .exit)) (now (heads .exit)) (now (env .exit)) ⌝ }
+{
+    if steps == 0 {
+        return machine_lines::halted(21, steps);
+    }
+    let guard = machine_lines::word_of(env, calls, g);
+    let start = machine_lines::branch_start(kinds, guard, at + 2);
+    let r = work_tree(
+        kinds,
+        operands,
+        table,
+        slots,
+        heads,
+        env,
+        steps - 1,
+        lines,
+        calls,
+        f,
+        start,
+    );
+    let stop = r.stop;
+    if stop != 0 {
+        return r;
+    }
+    let w = r.value;
+    let next = machine_lines::branch_end(kinds, guard, r.next);
+    machine_lines::bind(env, calls, x, w);
+    machine_lines::done(w, next, r.steps)
+}
+
+// Works the tree of a function that is called.
+fn work_call(
+    kinds: &[u8],
+    operands: &[i64],
+    table: &[u8],
+    slots: &mut [i64],
+    heads: &mut [u32],
+    env: &mut [i64],
+    steps: u64,
+    calls: usize,
+    at: usize,
+    x: u8,
+    g: u8,
+) -> Out
+    requires { ⌜ at < length (now kinds) ⌝ }
+    ensures { λ r. ⌜ Ended (call-line
+        (call-on calls (code (now (kinds .entry)) (now (operands .entry)) (now (table .entry))))
+        (code (now (kinds .entry)) (now (operands .entry)) (now (table .entry))) calls x g at steps
+        (memory (store-of (now (slots .entry)) (now (heads .entry))) (now (env .entry))))
+        steps r (now (slots .exit)) (now (heads .exit)) (now (env .exit)) ⌝ }
+{
+    if steps == 0 {
+        return machine_lines::halted(21, steps);
+    }
+    if calls == 0 {
+        return machine_lines::halted(22, steps - 1);
+    }
+    let below = calls - 1;
+    let n = machine_lines::pass_arguments(kinds, operands, env, calls, below, at + 1);
+    let start = machine_code::start_in(table, g);
+    let r = work_tree(
+        kinds,
+        operands,
+        table,
+        slots,
+        heads,
+        env,
+        steps - 1,
+        4096,
+        below,
+        g,
+        start,
+    );
+    let stop = r.stop;
+    if stop != 0 {
+        return r;
+    }
+    let w = r.value;
+    machine_lines::bind(env, calls, x, w);
+    machine_lines::done(w, at + 1 + n, r.steps)
+}
+
+// Works a map: its result's cell first, then its passes.
+fn work_map(
+    kinds: &[u8],
+    operands: &[i64],
+    table: &[u8],
+    slots: &mut [i64],
+    heads: &mut [u32],
+    env: &mut [i64],
+    steps: u64,
+    lines: u64,
+    calls: usize,
+    f: u8,
+    at: usize,
+    x: u8,
+    p: u8,
+    a: Atom,
+) -> Out
+    requires { ⌜ at < length (now kinds) ⌝ }
+    ensures { λ r. ⌜ Ended (map-line
+        (tree-on lines (call-on calls (code (now (kinds .entry)) (now (operands .entry)) (now (table .entry))))
+        (code (now (kinds .entry)) (now (operands .entry)) (now (table .entry))) calls f)
+        (code (now (kinds .entry)) (now (operands .entry)) (now (table .entry))) calls f x p a at steps
+        (memory (store-of (now (slots .entry)) (now (heads .entry))) (now (env .entry))))
+        steps r (now (slots .exit)) (now (heads .exit)) (now (env .exit)) ⌝ }
+{
+    if steps == 0 {
+        return machine_lines::halted(21, steps);
+    }
+    let from = store_words::named_cell(machine_lines::word_of(env, calls, a));
+    let count = store_words::read_length(slots, heads, from);
+    let depth = machine_code::element_depth(table, f, x);
+    match machine_lines::acquire_empty(slots, heads, depth) {
+        Acquired::Cell(c) => {
+            let r = work_pass(
+                kinds,
+                operands,
+                table,
+                slots,
+                heads,
+                env,
+                steps - 1,
+                lines,
+                calls,
+                f,
+                at + 2,
+                p,
+                from,
+                c,
+                count,
+            );
+            let stop = r.stop;
+            if stop != 0 {
+                return r;
+            }
+            let w = machine_lines::word_from(c);
+            machine_lines::bind(env, calls, x, w);
+            let next = machine_code::after_tree(kinds, at + 2);
+            machine_lines::done(w, next, r.steps)
+        }
+        Acquired::NoneFree => machine_lines::halted(25, steps - 1),
+    }
+}
+
+// Works a map's tree, at a position, once for each element of the cell `from`; the results go to the cell `into`.
+fn work_pass(
+    kinds: &[u8],
+    operands: &[i64],
+    table: &[u8],
+    slots: &mut [i64],
+    heads: &mut [u32],
+    env: &mut [i64],
+    steps: u64,
+    lines: u64,
+    calls: usize,
+    f: u8,
+    at: usize,
+    p: u8,
+    from: usize,
+    into: usize,
+    count: usize,
+) -> Out
+    ensures { λ r. ⌜ Ended (passes-on count
+        (tree-on lines (call-on calls (code (now (kinds .entry)) (now (operands .entry)) (now (table .entry))))
+        (code (now (kinds .entry)) (now (operands .entry)) (now (table .entry))) calls f at)
+        calls p from into 0 steps
+        (memory (store-of (now (slots .entry)) (now (heads .entry))) (now (env .entry))))
+        steps r (now (slots .exit)) (now (heads .exit)) (now (env .exit)) ⌝ }
+{
+    let mut s = steps;
+    let mut i: usize = 0;
+    while i < count {
+        if s == 0 {
+            return machine_lines::halted(21, s);
+        }
+        let w = store_words::read_slot(slots, heads, from, i);
+        machine_lines::bind(env, calls, p, w);
+        let r = work_tree(
+            kinds,
+            operands,
+            table,
+            slots,
+            heads,
+            env,
+            s - 1,
+            lines,
+            calls,
+            f,
+            at,
+        );
+        let stop = r.stop;
+        if stop != 0 {
+            return r;
+        }
+        let v = r.value;
+        store::append(slots, heads, into, v);
+        let rest = r.steps;
+        s = rest;
+        i = i + 1;
+    }
+    machine_lines::done(0, 0, s)
+}

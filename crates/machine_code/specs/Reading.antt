@@ -1,0 +1,67 @@
+-- The code read at a position: what stands past the end is 0.
+use mathlib.Core.Bool.{Bool, true, false, cond, _||_}
+use mathlib.Core.List.{List}
+use Prim.Native.Nat.{ℕ, zero, suc, _+_, _-_, _*_, _/_, _%_}
+use lib.IntN.{ℤ, pos, negsuc}
+use lib.Dec.{ltb, leb, eqb}
+use lib.ListN.{getD, length}
+use Rattle.machine_code.specs.declared.Atom.{Atom}
+use Rattle.machine_code.specs.declared.Atom.the-variants.{Number, Name}
+use Rattle.machine_code.specs.declared.Line.{Line}
+use Rattle.machine_code.specs.declared.Line.the-variants.{Operation, Call, Literal, Index, Length, If, Map}
+use Rattle.machine_code.specs.declared.Line.the-variants.{Retain, Release, End}
+
+-- an operand that is a natural number; a negative one counts as 0
+abbrev pub natural : ℤ → ℕ
+natural (pos n) = n
+natural (negsuc n) = 0
+
+unfoldable pub atom-at : List ℕ → List ℤ → ℕ → Atom
+atom-at kinds operands at =
+    cond (eqb (getD kinds at 0) 2) (Number (getD operands at (pos 0))) (Name (natural (getD operands at (pos 0)) %
+    256))
+
+abbrev pub is-atom : ℕ → Bool
+is-atom kind = eqb kind 2 || eqb kind 3
+
+-- which line a kind is, with its operand n and the two atoms after it
+abbrev pub line-of : ℕ → ℕ → Atom → Atom → Line
+line-of kind n a b =
+    cond (eqb kind 8) (Call (n % 256) (n / 256 % 256))
+    (cond (eqb kind 9) (Literal (n % 256) (n / 65536 % 256))
+    (cond (eqb kind 10) (Index (n % 256) a b)
+    (cond (eqb kind 11) (Length (n % 256) a)
+    (cond (eqb kind 12) (If (n % 256) a)
+    (cond (eqb kind 13) (Map (n % 256) (n / 256 % 256) a)
+    (cond (eqb kind 14) (Retain (n % 256))
+    (cond (eqb kind 15) (Release (n % 256))
+    (cond (eqb kind 16) (End a)
+    (Operation kind (n % 256) a b)))))))))
+
+unfoldable pub line-at : List ℕ → List ℤ → ℕ → Line
+line-at kinds operands at =
+    line-of (getD kinds at 0) (natural (getD operands at (pos 0)))
+    (atom-at kinds operands (at + 1)) (atom-at kinds operands (at + 2))
+
+-- how many trees follow a line of this kind
+abbrev pub trees-of : ℕ → ℕ
+trees-of kind = cond (eqb kind 12) 2 (cond (eqb kind 13) 1 0)
+
+-- the position after the last of some trees, from a position on, over so many rows at most
+unfoldable pub after : ℕ → ℕ → ℕ → List ℕ → ℕ
+after zero trees at kinds = at
+after (suc n) trees at kinds =
+    cond (ltb at (length kinds))
+    (cond (eqb (getD kinds at 0) 16)
+    (cond (leb trees 1) (at + 2) (after n (trees - 1) (at + 1) kinds))
+    (after n (trees + trees-of (getD kinds at 0)) (at + 1) kinds))
+    at
+
+-- ---- the table of a script's functions: 256 depths of names for each of 32 functions, then the positions of their
+-- trees, two bytes each, low byte first
+
+unfoldable pub depth-in : List ℕ → ℕ → ℕ → ℕ
+depth-in table f x = getD table (256 * f + x) 0
+
+unfoldable pub start-in : List ℕ → ℕ → ℕ
+start-in table f = getD table (8192 + 2 * f) 0 + 256 * getD table (8192 + 2 * f + 1) 0

@@ -1,0 +1,165 @@
+// Reading the code: atoms, lines, the position after a tree, and the table of a script's functions.
+// Every reader is total: what stands past the end of an array is 0.
+ghost use mathlib.Core.Path.{_≡_};
+ghost use Prim.Native.Nat.{_+_, _-_, _*_, _<_};
+ghost use lib.IntN.{pos};
+ghost use lib.ListN.{length, getD};
+ghost use Rattle.machine_code.specs.Reading.{natural, atom-at, line-at, trees-of, after, is-atom, depth-in};
+ghost use Rattle.machine_code.specs.Reading.{start-in};
+
+// An atom: a number or a name.
+pub enum Atom {
+    Number(i64),
+    Name(u8),
+}
+
+// A line without its trees; it begins with the name that it binds, an operation's with its kind.
+// The atoms of a call and a literal stay in the code. A row of any other kind reads as an operation.
+pub enum Line {
+    Operation(u8, u8, Atom, Atom),
+    Call(u8, u8),
+    Literal(u8, u8),
+    Index(u8, Atom, Atom),
+    Length(u8, Atom),
+    If(u8, Atom),
+    Map(u8, u8, Atom),
+    Retain(u8),
+    Release(u8),
+    End(Atom),
+}
+
+// The kind at a position.
+pub fn kind_at(kinds: &[u8], at: usize) -> u8
+    ensures { λ r. ⌜ r ≡ getD (now (kinds .entry)) at 0 ⌝ }
+{
+    if at < kinds.len() { kinds[at] } else { 0 }
+}
+
+// The operand at a position.
+pub fn operand_at(operands: &[i64], at: usize) -> i64
+    ensures { λ r. ⌜ r ≡ getD (now (operands .entry)) at (pos 0) ⌝ }
+{
+    if at < operands.len() { operands[at] } else { 0 }
+}
+
+// The operand at a position as a natural number; a negative one counts as 0.
+pub fn natural_at(operands: &[i64], at: usize) -> u64
+    ensures { λ r. ⌜ r ≡ natural (getD (now (operands .entry)) at (pos 0)) ⌝ }
+{
+    let z = operand_at(operands, at);
+    if z < 0 { 0 } else { z as u64 }
+}
+
+// The atom at a position.
+pub fn atom_at(kinds: &[u8], operands: &[i64], at: usize) -> Atom
+    ensures { λ r. ⌜ r ≡ atom-at (now (kinds .entry)) (now (operands .entry)) at ⌝ }
+{
+    if kind_at(kinds, at) == 2 {
+        Atom::Number(operand_at(operands, at))
+    } else {
+        Atom::Name((natural_at(operands, at) % 256) as u8)
+    }
+}
+
+// Whether an atom stands at a position.
+pub fn atom_stands(kinds: &[u8], at: usize) -> bool
+    ensures { λ r. ⌜ r ≡ is-atom (getD (now (kinds .entry)) at 0) ⌝ }
+{
+    let kind = kind_at(kinds, at);
+    if kind == 2 { true } else { kind == 3 }
+}
+
+// The line that begins at a position.
+pub fn line_at(kinds: &[u8], operands: &[i64], at: usize) -> Line
+    requires { ⌜ at < length (now kinds) ⌝ }
+    ensures { λ r. ⌜ r ≡ line-at (now (kinds .entry)) (now (operands .entry)) at ⌝ }
+{
+    let kind = kinds[at];
+    let n = natural_at(operands, at);
+    let x = (n % 256) as u8;
+    let y = (n / 256 % 256) as u8;
+    let a = atom_at(kinds, operands, at + 1);
+    match kind {
+        8 => Line::Call(x, y),
+        9 => Line::Literal(x, (n / 65536 % 256) as u8),
+        10 => Line::Index(x, a, atom_at(kinds, operands, at + 2)),
+        11 => Line::Length(x, a),
+        12 => Line::If(x, a),
+        13 => Line::Map(x, y, a),
+        14 => Line::Retain(x),
+        15 => Line::Release(x),
+        16 => Line::End(a),
+        _ => Line::Operation(kind, x, a, atom_at(kinds, operands, at + 2)),
+    }
+}
+
+// How many trees follow a line of this kind.
+fn trees_of(kind: u8) -> usize
+    ensures { λ r. ⌜ r ≡ trees-of kind ⌝ }
+{
+    if kind == 12 {
+        2
+    } else {
+        if kind == 13 { 1 } else { 0 }
+    }
+}
+
+// The position after the tree that begins at a position.
+pub fn after_tree(kinds: &[u8], at: usize) -> usize
+    ensures { λ r. ⌜ r ≡ after 4096 1 at (now (kinds .entry)) ⌝ }
+{
+    let mut left: usize = 4096;
+    let mut trees: usize = 1;
+    let mut p = at;
+    while 0 < left {
+        if kinds.len() <= p {
+            return p;
+        }
+        let kind = kinds[p];
+        if kind == 16 {
+            if trees <= 1 {
+                return p + 2;
+            }
+            trees = trees - 1;
+        } else {
+            trees = trees + trees_of(kind);
+        }
+        p = p + 1;
+        left = left - 1;
+    }
+    p
+}
+
+// A byte of the table.
+fn byte_at(table: &[u8], i: usize) -> usize
+    ensures { λ r. ⌜ (r ≡ getD (now (table .entry)) i 0) × (r < 256) ⌝ }
+{
+    if i < table.len() {
+        table[i] as usize
+    } else {
+        0
+    }
+}
+
+// The depth of a name of a function.
+pub fn depth_in(table: &[u8], f: u8, x: u8) -> u32
+    ensures { λ r. ⌜ r ≡ depth-in (now (table .entry)) f x ⌝ }
+{
+    byte_at(table, 256 * (f as usize) + x as usize) as u32
+}
+
+// The element depth of an array by its name: one less than the name's depth.
+pub fn element_depth(table: &[u8], f: u8, x: u8) -> u32
+    ensures { λ r. ⌜ r ≡ depth-in (now (table .entry)) f x - 1 ⌝ }
+{
+    let d = depth_in(table, f, x);
+    if d == 0 { 0 } else { d - 1 }
+}
+
+// The position of a function's tree.
+pub fn start_in(table: &[u8], f: u8) -> usize
+    ensures { λ r. ⌜ r ≡ start-in (now (table .entry)) f ⌝ }
+{
+    let at = 8192 + 2 * (f as usize);
+    byte_at(table, at) + 256 * byte_at(table, at + 1)
+}

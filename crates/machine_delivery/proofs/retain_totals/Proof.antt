@@ -1,0 +1,34 @@
+use mir.Facts.{toZ-ofZ}
+use native.Mathlib.Omega.{arith}
+use mathlib.Core.Path.{sym, refl, ap, _∙_}
+use Rattle.semantics.specs.Words.{store-of}
+use Rattle.machine_delivery.proofs.Laws.{retain-some, retain-none}
+use borrow.Author.Needs.{needs}
+use Rattle.machine_delivery.proofs.retain_totals.Statement.{statement}
+use Rattle.machine_delivery.proofs.retain_totals.Tie as tie
+
+named-cell-requires : tie.Need-named-cell-requires
+named-cell-requires c κs = search needs
+
+retain-requires : tie.Need-retain-requires
+retain-requires c κs = search needs
+
+same-length : tie.Need-same-length
+same-length c = search needs
+
+returns : tie.Need-returns
+returns c = retain-some (c .before .before .before .before .before .before .before .args .depth) (c .before .before
+    .before .named-cell .result) (c .before .before .before .before .before .before .before .args .old) (rw (toZ-ofZ
+    {z = c .before .before .before .before .before .before .before .args .old} (c .before .before .before .before
+    .before .before .before .fits .old)) at (c .before .before .before .named-cell .ensures)) (store-of (c .before
+    .before .before .before .before .before .before .args .slots .now) (c .before .before .before .before .before
+    .before .before .args .heads .now)) _ (c .before .before .before .before .before .if1 .taken) (c .before .before
+    .retain .ensures)
+
+returns-2 : tie.Need-returns-2
+returns-2 c = retain-none (c .before .before .args .depth) (c .before .before .args .old) (store-of (c .before
+    .before .args .slots .now) (c .before .before .args .heads .now)) (c .if1 .left)
+
+pub retain-totals-spec : {M : Type 1} → statement M
+retain-totals-spec =
+    tie.close (tie.spec named-cell-requires retain-requires same-length returns returns-2)

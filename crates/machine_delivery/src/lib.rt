@@ -1,0 +1,156 @@
+// A delivery on the code of a script and a store: the readings' cell, main, the result in the totals' place; and after
+// a stop the old store, linked anew.
+use machine_lines::Out;
+use store::Acquired;
+ghost use mathlib.Core.Path.{_≡_};
+ghost use mathlib.Core.Bool.{true};
+ghost use Prim.Native.Nat.{ℕ, _<_};
+ghost use lib.IntN.{pos};
+ghost use lib.ListN.{length};
+ghost use Rattle.semantics.specs.Words.{store-of, shaped};
+ghost use Rattle.machine_positions.specs.Machine.{code};
+ghost use Rattle.machine_positions.specs.Delivery.{retained-totals, released-totals, main-on, attempt-on, delivered-on};
+ghost use Rattle.machine_delivery.specs.Promises.{Tries, Delivers};
+
+// How a delivery ends: the number of its stop or 0, and the steps taken.
+pub struct Delivery {
+    pub number: u8,
+    pub steps: u64,
+}
+
+// One reference more to the totals, where they are an array.
+fn retain_totals(slots: &[i64], heads: &mut [u32], depth: u32, old: i64)
+    ensures { λ _. ⌜ store-of (now (slots .entry)) (now (heads .exit))
+        ≡ retained-totals depth old (store-of (now (slots .entry)) (now (heads .entry))) ⌝ }
+{
+    if depth != 0 {
+        store::retain(slots, heads, store_words::named_cell(old));
+    }
+}
+
+// One reference fewer.
+fn release_totals(slots: &mut [i64], heads: &mut [u32], depth: u32, old: i64)
+    ensures { λ _. ⌜ store-of (now (slots .exit)) (now (heads .exit))
+        ≡ released-totals depth old (store-of (now (slots .entry)) (now (heads .entry))) ⌝ }
+{
+    if depth != 0 {
+        store::release(slots, heads, store_words::named_cell(old), 4);
+    }
+}
+
+// Main on the totals and the readings' cell.
+fn work_main(
+    kinds: &[u8],
+    operands: &[i64],
+    table: &[u8],
+    slots: &mut [i64],
+    heads: &mut [u32],
+    depth: u32,
+    old: i64,
+    readings: i64,
+    budget: u64,
+) -> Out
+    requires { ⌜ 0 < length (now slots) ⌝ }
+    ensures { λ r. ⌜ ((k : ℕ) → readings ≡ pos k → Tries
+        (main-on (code (now (kinds .entry)) (now (operands .entry)) (now (table .entry))) depth old k budget
+        (store-of (now (slots .entry)) (now (heads .entry))))
+        budget r (now (slots .exit)) (now (heads .exit))) ⌝ }
+{
+    retain_totals(slots, heads, depth, old);
+    let mut env = [0i64; 8192];
+    machine_lines::bind(&mut env, 31, 0, old);
+    machine_lines::bind(&mut env, 31, 1, readings);
+    let start = machine_code::start_in(table, 0);
+    let r = machine::work_tree(
+        kinds,
+        operands,
+        table,
+        slots,
+        heads,
+        &mut env,
+        budget,
+        4096,
+        31,
+        0,
+        start,
+    );
+    let stop = r.stop;
+    if stop != 0 {
+        return r;
+    }
+    let w = r.value;
+    store_words::set_totals(slots, w);
+    release_totals(slots, heads, depth, old);
+    r
+}
+
+// The delivery without the clearing after a stop.
+fn attempt(
+    kinds: &[u8],
+    operands: &[i64],
+    table: &[u8],
+    slots: &mut [i64],
+    heads: &mut [u32],
+    readings: &[i64],
+    depth: u32,
+    budget: u64,
+) -> Out
+    requires { ⌜ 0 < length (now slots) ⌝ }
+    ensures { λ r. ⌜ Tries
+        (attempt-on (code (now (kinds .entry)) (now (operands .entry)) (now (table .entry))) (now (readings .entry)) depth
+        budget (store-of (now (slots .entry)) (now (heads .entry))))
+        budget r (now (slots .exit)) (now (heads .exit)) ⌝ }
+{
+    let old = store_words::word_at(slots, 0);
+    match store::acquire(slots, heads, 0, readings) {
+        Acquired::Cell(c) => {
+            let w = machine_lines::word_from(c);
+            work_main(kinds, operands, table, slots, heads, depth, old, w, budget)
+        }
+        Acquired::NoneFree => machine_lines::halted(25, budget),
+    }
+}
+
+// A delivery of these readings, with totals of this depth.
+pub fn deliver_on(
+    kinds: &[u8],
+    operands: &[i64],
+    table: &[u8],
+    slots: &mut [i64],
+    heads: &mut [u32],
+    readings: &[i64],
+    depth: u32,
+    budget: u64,
+) -> Delivery
+    requires { ⌜ shaped (now slots) (now heads) ≡ true ⌝ }
+    ensures { λ r. ⌜ Delivers
+        (delivered-on (code (now (kinds .entry)) (now (operands .entry)) (now (table .entry))) (now (readings .entry)) depth
+        budget (store-of (now (slots .entry)) (now (heads .entry))))
+        r (now (slots .exit)) (now (heads .exit)) ⌝ }
+{
+    let old_slots = store_reset::saved_slots(slots);
+    let old_heads = store_reset::saved_heads(heads);
+    let r = attempt(
+        kinds,
+        operands,
+        table,
+        slots,
+        heads,
+        readings,
+        depth,
+        budget,
+    );
+    let number = r.stop;
+    let left = r.steps;
+    if number != 0 {
+        store_reset::put_back(slots, heads, &old_slots, &old_heads);
+        return Delivery {
+            number,
+            steps: budget - left,
+        };
+    }
+    Delivery {
+        number: 0,
+        steps: budget - left,
+    }
+}

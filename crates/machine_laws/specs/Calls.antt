@@ -1,0 +1,138 @@
+-- Calls: the machine over positions, with some call depth left, is the machine of the definitions.
+use mathlib.Core.Path.{_≡_, refl, sym, ap, ap₂, subst, _∙_}
+use mathlib.Core.Bool.{Bool, true, false, cond}
+use mathlib.Core.List.{List, [], _∷_}
+use Prim.Native.Nat.{ℕ, zero, suc, _+_, _-_, _*_, _<_, _≤_}
+use native.Mathlib.Omega.{arith}
+use lib.IntN.{ℤ, pos}
+use lib.Dec.{eqb, ltb}
+use lib.ListN.{getD, set, length, length-set}
+use lib.Seq.{getD-set-same, getD-set-other}
+use borrow.Author.Tests.{eq-eqb, ne-eqb, ltb-true}
+use Rattle.semantics.specs.Basics.{updated}
+use Rattle.semantics.specs.Outcome.{Outcome, done, stop}
+use Rattle.semantics.specs.Code.{rows}
+use Rattle.semantics.specs.Live.{Set, empty}
+use Rattle.semantics.specs.Annotate.{NameDepths}
+use Rattle.semantics.specs.Machine as M
+use Rattle.semantics.specs.Machine.{State, Frame, Routine, no-routine, frame-from, machine}
+use Rattle.machine_code.specs.Reading.{depth-in, start-in}
+use Rattle.machine_lines.specs.Frames.{place, put-all}
+use Rattle.machine_lines.specs.Lines.{Memory, memory, Ran}
+use Rattle.machine_positions.specs.Machine.{Code, Callee, call-on, tree-on}
+use Rattle.machine_laws.specs.Rows.{At}
+use Rattle.machine_laws.specs.Scopes.{Functions, Scoped, Bounded, Agrees, Kept}
+use Rattle.machine_laws.specs.Same.{Rel, TreeDone, CallDone, rel-map}
+use Rattle.machine_laws.specs.Trees.{CalleeSame, tree-same}
+
+-- ---- the words of the arguments
+
+pub length-put : (ws : List ℤ) (p : ℕ) (env : List ℤ) → length (put-all ws p env) ≡ length env
+unfolding put-all
+length-put [] p env = refl
+length-put (w ∷ ws) p env = length-put ws (p + 1) (set env p w) ∙ length-set env p w
+
+pub put-below : (ws : List ℤ) (p : ℕ) (env : List ℤ) (q : ℕ) → q < p →
+    getD (put-all ws p env) q (pos 0) ≡ getD env q (pos 0)
+unfolding put-all
+put-below [] p env q h = refl
+put-below (w ∷ ws) p env q h =
+    put-below ws (p + 1) (set env p w) q (omega arith)
+    ∙ getD-set-other env p q w (pos 0) (λ e. omega (arith, e, h))
+
+pub put-there : (ws : List ℤ) (p : ℕ) (env : List ℤ) (i : ℕ) → i < length ws → p + length ws ≤ length env →
+    getD (put-all ws p env) (p + i) (pos 0) ≡ getD ws i (pos 0)
+unfolding put-all
+put-there [] p env i h l = absurd (omega arith)
+put-there (w ∷ ws) p env zero h l =
+    ap (λ (q : ℕ). getD (put-all ws (p + 1) (set env p w)) q (pos 0)) (let z : p + 0 ≡ p = omega arith in z)
+    ∙ put-below ws (p + 1) (set env p w) p (omega arith)
+    ∙ getD-set-same env p w (pos 0) (omega arith)
+put-there (w ∷ ws) p env (suc i) h l =
+    ap (λ (q : ℕ). getD (put-all ws (p + 1) (set env p w)) q (pos 0)) (let z : p + suc i ≡ p + 1 + i = omega arith
+    in z)
+    ∙ put-there ws (p + 1) (set env p w) i (omega arith) (omega (arith, length-set env p w))
+
+frame-at : (ws : List ℤ) (n i : ℕ) → i < length ws → frame-from ws n (n + i) ≡ getD ws i (pos 0)
+unfolding frame-from updated
+frame-at [] n i h = absurd (omega arith)
+frame-at (w ∷ ws) n zero h = ap (λ (t : Bool). cond t w (frame-from ws (suc n) (n + 0))) (eq-eqb n (n + 0) (omega
+    arith))
+frame-at (w ∷ ws) n (suc i) h =
+    ap (λ (t : Bool). cond t w (frame-from ws (suc n) (n + suc i))) (ne-eqb n (n + suc i) (λ e. omega (arith, e)))
+    ∙ ap (frame-from ws (suc n)) (let z : n + suc i ≡ suc n + i = omega arith in z)
+    ∙ frame-at ws (suc n) i (omega arith)
+
+-- the parameters of a function with n of them
+abbrev pub parameters : ℕ → Set
+parameters n = λ x. ltb x n
+
+pub bounded-parameters : (n : ℕ) → n ≤ 16 → Bounded (parameters n)
+bounded-parameters n h = record { below = λ x e. omega (arith, h, ltb-true x n e) }
+
+pub arguments-agree : (calls : ℕ) (ws : List ℤ) (env : List ℤ) → length ws ≤ 16 → 8192 ≤ length env →
+    Agrees calls (put-all ws (place calls 0) env) (frame-from ws 0) (parameters (length ws))
+arguments-agree calls ws env few long = record {
+  agree = λ x e.
+      ap (λ (q : ℕ). getD (put-all ws (place calls 0) env) q (pos 0)) (let z : place calls x ≡ place calls 0 + x =
+      omega arith in z)
+      ∙ put-there ws (place calls 0) env x (ltb-true x (length ws) e) (omega (arith, few, long))
+      ∙ sym (ap (frame-from ws 0) (let z : x ≡ 0 + x = omega arith in z) ∙ frame-at ws 0 x (ltb-true x (length ws) e));
+}
+
+-- ---- the functions of a script in the code
+
+-- function g stands in the code and in the table
+pub record Stands (F : Functions) (c : Code) (g : ℕ) (r : Routine) : Type 0 where
+  pub scoped : Scoped (r .depths) F (r .tree) (parameters (F .arity g))
+  pub written : At (c .kinds) (c .operands) (start-in (c .table) g) (rows (r .tree))
+  pub short : length (rows (r .tree)) ≤ 4096
+  pub depths : (x : ℕ) → x < 256 → depth-in (c .table) g x ≡ r .depths x
+  pub few : F .arity g ≤ 16
+
+module _ (F : Functions) (c : Code) (rs : List Routine) (all : (g : ℕ) → g < F .count → Stands F c g (getD rs g
+    no-routine)) where
+  -- a function's tree, with some call depth left
+  pub function-same : (n : ℕ) → n ≤ 31 → CalleeSame F n (call-on n c) (machine rs n) → (R : List ℕ) (g : ℕ) (ws :
+      List ℤ)
+      (env : List ℤ) (s : State) → g < F .count → length ws ≡ F .arity g → 8192 ≤ length env →
+      Rel (TreeDone (start-in (c .table) g + length (rows (getD rs g no-routine .tree))) n
+      (put-all ws (place n 0) env) (parameters (length ws)))
+      (tree-on 4096 (call-on n c) c n g (start-in (c .table) g) (s .left) (memory (s .store) (put-all ws (place n 0)
+      env)))
+      (machine rs (suc n) R g ws s)
+  unfolding machine
+  function-same n small calling R g ws env s h a long =
+      let st = all g h in
+      tree-same (machine rs n) (getD rs g no-routine .depths) F c n g (call-on n c) (st .depths) calling
+      (getD rs g no-routine .tree) 4096 (st .short) (omega arith) (parameters (length ws))
+      (subst (λ (k : ℕ). Scoped (getD rs g no-routine .depths) F (getD rs g no-routine .tree) (parameters k)) (sym
+      a) (st .scoped))
+      (bounded-parameters (length ws) (omega (arith, a, st .few))) (start-in (c .table) g) (st .written) empty R
+      (frame-from ws 0) s
+      (put-all ws (place n 0) env) (arguments-agree n ws env (omega (arith, a, st .few)) long)
+      (omega (arith, length-put ws (place n 0) env, long))
+
+  pub calls-same : (n : ℕ) → n ≤ 31 → CalleeSame F n (call-on n c) (machine rs n)
+  unfolding call-on machine
+  calls-same zero small = record {
+    same = λ R g ws env s h a long. record { stop = refl; real = λ z. omega arith; steps = refl };
+  }
+  calls-same (suc n) small = record {
+    same = λ R g ws env s h a long.
+        rel-map (TreeDone (start-in (c .table) g + length (rows (getD rs g no-routine .tree))) n (put-all ws (place n
+        0) env) (parameters (length ws)))
+        (CallDone (suc n) env)
+        (tree-on 4096 (call-on n c) c n g (start-in (c .table) g) (s .left) (memory (s .store) (put-all ws (place n
+        0) env)))
+        (machine rs (suc n) R g ws s)
+        (λ v s′ d. record {
+          value = d .value;
+          steps = d .steps;
+          store = d .store;
+          frames = λ q l. d .kept .callers q (omega (arith, l, small)) ∙ put-below ws (place n 0) env q (omega
+              (arith, l, small));
+          long = d .kept .long ∙ length-put ws (place n 0) env;
+        })
+        (function-same n (omega arith) (calls-same n (omega arith)) R g ws env s h a long);
+  }

@@ -1,0 +1,8 @@
+pub mod Rows
+pub mod Skipped
+pub mod Scopes
+pub mod Same
+pub mod Leaves
+pub mod Trees
+pub mod Calls
+pub mod Delivery

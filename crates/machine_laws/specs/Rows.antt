@@ -1,0 +1,111 @@
+-- Rows that stand in the code arrays from a position on, and what is read there.
+use mathlib.Core.Path.{_≡_, refl, sym, ap, ap₂, subst, _∙_}
+use mathlib.Core.Bool.{Bool, true, false, cond}
+use mathlib.Core.List.{List, [], _∷_, _++_, map}
+use Prim.Native.Nat.{ℕ, zero, suc, _+_, _*_, _/_, _%_, _<_, _≤_}
+use native.Mathlib.Omega.{arith}
+use lib.IntN.{ℤ, pos}
+use lib.ListN.{getD, length, length-append}
+use Rattle.semantics.specs.Number.{Operation, sum, difference, less}
+use Rattle.semantics.specs.Code as C
+use Rattle.semantics.specs.Code.{Row, row, atom-row, operation-kind, rows, line-rows}
+use Rattle.machine_code.specs.Reading.{natural, atom-at, is-atom, line-of, line-at}
+use Rattle.machine_code.specs.declared.Atom.{Atom}
+use Rattle.machine_code.specs.declared.Atom.the-variants.{Number, Name}
+use Rattle.machine_code.specs.declared.Line.{Line}
+use Rattle.machine_code.specs.declared.Line.the-variants as L
+use Rattle.machine_lines.specs.Lines.{operation-of}
+
+-- a row stands at a position
+pub record Here (kinds : List ℕ) (operands : List ℤ) (at : ℕ) (r : Row) : Type 0 where
+  pub kind : getD kinds at 0 ≡ r .kind
+  pub operand : getD operands at (pos 0) ≡ r .operand
+  pub within : at < length kinds
+
+-- rows stand from a position on
+abbrev pub At : List ℕ → List ℤ → ℕ → List Row → Type 0
+At kinds operands at [] = Unit {0}
+At kinds operands at (r ∷ rs) = Here kinds operands at r × At kinds operands (at + 1) rs
+
+module _ (kinds : List ℕ) (operands : List ℤ) where
+  pub at-first : (at : ℕ) (xs ys : List Row) → At kinds operands at (xs ++ ys) → At kinds operands at xs
+  at-first at [] ys h = tt
+  at-first at (x ∷ xs) ys h = (h .0, at-first (at + 1) xs ys (h .1))
+
+  pub at-second : (at : ℕ) (xs ys : List Row) → At kinds operands at (xs ++ ys) → At kinds operands (at + length xs)
+      ys
+  at-second at [] ys h = let z : at ≡ at + 0 = omega arith in subst (λ (p : ℕ). At kinds operands p ys) z h
+  at-second at (x ∷ xs) ys h =
+      let z : at + 1 + length xs ≡ at + suc (length xs) = omega arith in
+      subst (λ (p : ℕ). At kinds operands p ys) z (at-second (at + 1) xs ys (h .1))
+
+-- an atom as the code has it
+abbrev pub coded : C.Atom → Atom
+coded (C.number z) = Number z
+coded (C.name x) = Name x
+
+-- a name that fits a byte
+abbrev pub Small : C.Atom → Type 0
+Small (C.number z) = Unit {0}
+Small (C.name x) = x < 256
+
+module _ (kinds : List ℕ) (operands : List ℤ) (at : ℕ) where
+  pub atom-here : (a : C.Atom) → Small a → Here kinds operands at (atom-row a) → atom-at kinds operands at ≡ coded a
+  unfolding atom-at
+  atom-here (C.number z) h e = rw (e .kind, e .operand) refl
+  atom-here (C.name x) h e = rw (e .kind, e .operand) (ap Name (let z : x % 256 ≡ x = omega arith in z))
+
+  pub atom-kind : (a : C.Atom) → Here kinds operands at (atom-row a) → is-atom (getD kinds at 0) ≡ true
+  atom-kind (C.number z) e = rw (e .kind) refl
+  atom-kind (C.name x) e = rw (e .kind) refl
+
+  -- the line of a kind and an operand
+  pub line-read : (k n : ℕ) (a b : Atom) → getD kinds at 0 ≡ k → getD operands at (pos 0) ≡ pos n →
+      atom-at kinds operands (at + 1) ≡ a → atom-at kinds operands (at + 2) ≡ b →
+      line-at kinds operands at ≡ line-of k n a b
+  unfolding line-at
+  line-read k n a b e f g h = rw (e, f, g, h) refl
+
+pub operation-back : (o : Operation) → operation-of (operation-kind o) ≡ o
+operation-back sum = refl
+operation-back difference = refl
+operation-back less = refl
+
+-- the rows of a tree begin with no atom
+pub no-atom : (kinds : List ℕ) (operands : List ℤ) (at : ℕ) (t : C.Tree) → At kinds operands at (rows t) →
+    is-atom (getD kinds at 0) ≡ false
+unfolding rows line-rows
+no-atom kinds operands at (C.end a) h = ap is-atom (h .0 .kind)
+no-atom kinds operands at (C.line (C.operation x sum a b) t) h = ap is-atom (h .0 .kind)
+no-atom kinds operands at (C.line (C.operation x difference a b) t) h = ap is-atom (h .0 .kind)
+no-atom kinds operands at (C.line (C.operation x less a b) t) h = ap is-atom (h .0 .kind)
+no-atom kinds operands at (C.line (C.call x f us) t) h = ap is-atom (h .0 .kind)
+no-atom kinds operands at (C.line (C.literal x d us) t) h = ap is-atom (h .0 .kind)
+no-atom kinds operands at (C.line (C.index x a b) t) h = ap is-atom (h .0 .kind)
+no-atom kinds operands at (C.line (C.length-of x a) t) h = ap is-atom (h .0 .kind)
+no-atom kinds operands at (C.line (C.if-else x g t e) k) h = ap is-atom (h .0 .kind)
+no-atom kinds operands at (C.line (C.map-over x p a t) k) h = ap is-atom (h .0 .kind)
+no-atom kinds operands at (C.line (C.retain x) t) h = ap is-atom (h .0 .kind)
+no-atom kinds operands at (C.line (C.release x) t) h = ap is-atom (h .0 .kind)
+
+-- a tree stands within the code
+pub tree-within : (kinds : List ℕ) (operands : List ℤ) (at : ℕ) (t : C.Tree) → At kinds operands at (rows t) →
+    at < length kinds
+unfolding rows line-rows
+tree-within kinds operands at (C.end a) h = h .0 .within
+tree-within kinds operands at (C.line (C.operation x sum a b) t) h = h .0 .within
+tree-within kinds operands at (C.line (C.operation x difference a b) t) h = h .0 .within
+tree-within kinds operands at (C.line (C.operation x less a b) t) h = h .0 .within
+tree-within kinds operands at (C.line (C.call x f us) t) h = h .0 .within
+tree-within kinds operands at (C.line (C.literal x d us) t) h = h .0 .within
+tree-within kinds operands at (C.line (C.index x a b) t) h = h .0 .within
+tree-within kinds operands at (C.line (C.length-of x a) t) h = h .0 .within
+tree-within kinds operands at (C.line (C.if-else x g t e) k) h = h .0 .within
+tree-within kinds operands at (C.line (C.map-over x p a t) k) h = h .0 .within
+tree-within kinds operands at (C.line (C.retain x) t) h = h .0 .within
+tree-within kinds operands at (C.line (C.release x) t) h = h .0 .within
+
+pub rows-some : (t : C.Tree) → 2 ≤ length (rows t)
+unfolding rows
+rows-some (C.end a) = omega arith
+rows-some (C.line l t) = omega (arith, rows-some t, length-append (line-rows l) (rows t))

@@ -1,0 +1,1 @@
+// Laws only: the machine over positions is the machine of the definitions.

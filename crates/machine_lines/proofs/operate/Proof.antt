@@ -1,0 +1,56 @@
+use Rattle.words.specs.declared.Exact.the-variants.{Value}
+use mir.Facts.{toZ-ofZ}
+use mathlib.Core.Path.{sym, refl, ap, _∙_}
+use borrow.Author.Tests.{ne-eqb}
+use Rattle.machine_lines.proofs.Lines.{less-fits}
+use borrow.Author.Needs.{needs}
+use Rattle.machine_lines.proofs.operate.Statement.{statement}
+use Rattle.machine_lines.proofs.operate.Tie as tie
+
+exact-sum-requires : tie.Need-exact-sum-requires
+exact-sum-requires c κs = search needs
+
+returns : tie.Need-returns
+returns c = rw (c .before .if1 .taken) (rw (
+  toZ-ofZ {z = c .before .before .args .a} (c .before .before .fits .a),
+  toZ-ofZ {z = c .before .before .args .b} (c .before .before .fits .b),
+) at (c .exact-sum .ensures))
+
+exact-difference-requires : tie.Need-exact-difference-requires
+exact-difference-requires c κs = search needs
+
+returns-2 : tie.Need-returns-2
+returns-2 c = rw (c .before .if2 .taken) (rw (
+  toZ-ofZ {z = c .before .before .before .args .a} (c .before .before
+      .before .fits .a),
+  toZ-ofZ {z = c .before .before .before .args .b} (c .before .before .before .fits .b),
+) at (c
+    .exact-difference .ensures))
+
+is-less-requires : tie.Need-is-less-requires
+is-less-requires c κs = search needs
+
+returns-3 : tie.Need-returns-3
+returns-3 c = rw (
+  ne-eqb _ 4 (c .before .before .if1 .left),
+  ne-eqb _ 5 (c .before .if2 .left),
+  toZ-ofZ {z = c
+      .is-less .result} (record { sfits = c .is-less .ok }),
+) (ap Value (rw (
+  toZ-ofZ {z = c .before .before .before
+      .args .a} (c .before .before .before .fits .a),
+  toZ-ofZ {z = c .before .before .before .args .b} (c .before
+      .before .before .fits .b),
+) at (c .is-less .ensures)) ∙ less-fits (c .before .before .before .args .a) (c .before
+    .before .before .args .b))
+
+pub operate-spec : {M : Type 1} → statement M
+operate-spec =
+    tie.close
+    (tie.spec
+    exact-sum-requires
+    returns
+    exact-difference-requires
+    returns-2
+    is-less-requires
+    returns-3)

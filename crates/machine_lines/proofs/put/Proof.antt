@@ -1,0 +1,23 @@
+use mathlib.Core.Path.{sym}
+use lib.Seq.{set-out}
+use borrow.Author.Needs.{needs}
+use Rattle.machine_lines.proofs.put.Statement.{statement}
+use Rattle.machine_lines.proofs.put.Tie as tie
+
+mul-w : tie.Need-mul-w
+mul-w c = search needs
+
+slice-set-from-w : tie.Need-slice-set-from-w
+slice-set-from-w c = search needs
+
+same-length : tie.Need-same-length
+same-length c = search needs
+
+returns : tie.Need-returns
+returns c = search needs
+
+returns-2 : tie.Need-returns-2
+returns-2 c = sym (set-out (c .before .args .env .now) (c .before .args .i) _ (c .if1 .left))
+
+pub put-spec : {M : Type 1} → statement M
+put-spec = tie.close (tie.spec mul-w slice-set-from-w same-length returns returns-2)

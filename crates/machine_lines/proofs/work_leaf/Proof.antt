@@ -1,0 +1,293 @@
+use mir.Facts.{toZ-ofZ}
+use native.Mathlib.Omega.{arith}
+use mathlib.Core.Path.{sym, refl, ap, _∙_}
+use Rattle.semantics.specs.Words.{store-of}
+use Rattle.machine_lines.specs.Lines.{memory}
+use Rattle.machine_lines.proofs.Lines.{leaf-operation, leaf-index, leaf-length, leaf-literal, leaf-retain}
+use Rattle.machine_lines.proofs.Lines.{leaf-release, leaf-other}
+use borrow.Author.Needs.{needs}
+use Rattle.machine_lines.proofs.work_leaf.Statement.{statement}
+use Rattle.machine_lines.proofs.work_leaf.Tie as tie
+
+enum-known-l : tie.Need-enum-known-l
+enum-known-l c = search needs
+
+add-work-operation : tie.Need-add-work-operation
+add-work-operation c = search needs
+
+work-operation-requires : tie.Need-work-operation-requires
+work-operation-requires c κs = search needs
+
+enum-known-l-2 : tie.Need-enum-known-l-2
+enum-known-l-2 c = search needs
+
+work-literal-requires : tie.Need-work-literal-requires
+work-literal-requires c κs = search needs
+
+enum-known-l-3 : tie.Need-enum-known-l-3
+enum-known-l-3 c = search needs
+
+add-work-index : tie.Need-add-work-index
+add-work-index c = search needs
+
+work-index-requires : tie.Need-work-index-requires
+work-index-requires c κs = search needs
+
+enum-known-l-4 : tie.Need-enum-known-l-4
+enum-known-l-4 c = search needs
+
+add-work-length : tie.Need-add-work-length
+add-work-length c = search needs
+
+work-length-requires : tie.Need-work-length-requires
+work-length-requires c κs = search needs
+
+enum-known-l-5 : tie.Need-enum-known-l-5
+enum-known-l-5 c = search needs
+
+word-of-requires : tie.Need-word-of-requires
+word-of-requires c κs = search needs
+
+named-cell-requires : tie.Need-named-cell-requires
+named-cell-requires c κs = search needs
+
+retain-requires : tie.Need-retain-requires
+retain-requires c κs = search needs
+
+add-done : tie.Need-add-done
+add-done c = search needs
+
+done-requires : tie.Need-done-requires
+done-requires c κs = search needs
+
+enum-known-l-6 : tie.Need-enum-known-l-6
+enum-known-l-6 c = search needs
+
+word-of-requires-2 : tie.Need-word-of-requires-2
+word-of-requires-2 c κs = search needs
+
+named-cell-requires-2 : tie.Need-named-cell-requires-2
+named-cell-requires-2 c κs = search needs
+
+release-requires : tie.Need-release-requires
+release-requires c κs = search needs
+
+add-done-2 : tie.Need-add-done-2
+add-done-2 c = search needs
+
+done-requires-2 : tie.Need-done-requires-2
+done-requires-2 c κs = search needs
+
+halted-requires : tie.Need-halted-requires
+halted-requires c κs = search needs
+
+same-length : tie.Need-same-length
+same-length c = search needs
+
+returns : tie.Need-returns
+returns c = leaf-operation (c .before .before .before .before .before .before .before .before .args .kinds .now) (c
+    .before .before .before .before .before .before .before .before .args .operands .now) (c .before .before .before
+    .before .before .before .before .before .args .calls) (c .before .before .before .before .before .before .before
+    .before .args .at) (c .before .before .before .before .before .before .before .before .args .steps) (memory
+    (store-of (c .before .before .before .before .before .before .before .before .args .slots .now) (c .before
+    .before .before .before .before .before .before .before .args .heads .now)) (c .before .before .before .before
+    .before .before .before .before .args .env .now)) (c .before .before .before .before .before .before .before
+    .before .args .l) (c .before .before .before .before .l .given .0 .0) (c .before .before .before .before .l
+    .given .0 .1 .0) (c .before .before .before .before .l .given .0 .1 .1 .0) (c .before .before .before .before .l
+    .given .0 .1 .1 .1 .0) (c .before .before .before .before .l .given .1) (c .before .work-operation .result) (c
+    .before .work-operation .last .0) (c .before .work-operation .ensures)
+
+same-length-2 : tie.Need-same-length-2
+same-length-2 c = search needs
+
+same-length-3 : tie.Need-same-length-3
+same-length-3 c = search needs
+
+same-length-4 : tie.Need-same-length-4
+same-length-4 c = search needs
+
+returns-2 : tie.Need-returns-2
+returns-2 c = leaf-literal (c .before .before .before .before .before .before .before .before .before .before
+    .before .before .before .args .kinds .now) (c .before .before .before .before .before .before .before .before
+    .before .before .before .before .before .args .operands .now) (c .before .before .before .before .before .before
+    .before .before .before .before .before .before .before .args .calls) (c .before .before .before .before .before
+    .before .before .before .before .before .before .before .before .args .at) (c .before .before .before .before
+    .before .before .before .before .before .before .before .before .before .args .steps) (memory (store-of (c
+    .before .before .before .before .before .before .before .before .before .before .before .before .before .args
+    .slots .now) (c .before .before .before .before .before .before .before .before .before .before .before .before
+    .before .args .heads .now)) (c .before .before .before .before .before .before .before .before .before .before
+    .before .before .before .args .env .now)) (c .before .before .before .before .before .before .before .before
+    .before .before .before .before .before .args .l) (c .before .before .before .before .before .before .before
+    .before .before .l2 .given .0 .0) (c .before .before .before .before .before .before .before .before .before .l2
+    .given .0 .1 .0) (c .before .before .before .before .before .before .before .before .before .l2 .given .1) _ (c
+    .before .before .before .before .work-literal .ensures)
+
+same-length-5 : tie.Need-same-length-5
+same-length-5 c = search needs
+
+same-length-6 : tie.Need-same-length-6
+same-length-6 c = search needs
+
+same-length-7 : tie.Need-same-length-7
+same-length-7 c = search needs
+
+returns-3 : tie.Need-returns-3
+returns-3 c = leaf-index (c .before .before .before .before .before .before .before .before .before .before .args
+    .kinds .now) (c .before .before .before .before .before .before .before .before .before .before .args .operands
+    .now) (c .before .before .before .before .before .before .before .before .before .before .args .calls) (c
+    .before .before .before .before .before .before .before .before .before .before .args .at) (c .before .before
+    .before .before .before .before .before .before .before .before .args .steps) (memory (store-of (c .before
+    .before .before .before .before .before .before .before .before .before .args .slots .now) (c .before .before
+    .before .before .before .before .before .before .before .before .args .heads .now)) (c .before .before .before
+    .before .before .before .before .before .before .before .args .env .now)) (c .before .before .before .before
+    .before .before .before .before .before .before .args .l) (c .before .before .before .before .before .before .l3
+    .given .0 .0) (c .before .before .before .before .before .before .l3 .given .0 .1 .0) (c .before .before .before
+    .before .before .before .l3 .given .0 .1 .1 .0) (c .before .before .before .before .before .before .l3 .given
+    .1) (c .before .work-index .result) (c .before .work-index .last .1 .1 .0) (c .before .work-index .ensures)
+
+same-length-8 : tie.Need-same-length-8
+same-length-8 c = search needs
+
+same-length-9 : tie.Need-same-length-9
+same-length-9 c = search needs
+
+same-length-10 : tie.Need-same-length-10
+same-length-10 c = search needs
+
+returns-4 : tie.Need-returns-4
+returns-4 c = leaf-length (c .before .before .before .before .before .before .before .before .before .before .args
+    .kinds .now) (c .before .before .before .before .before .before .before .before .before .before .args .operands
+    .now) (c .before .before .before .before .before .before .before .before .before .before .args .calls) (c
+    .before .before .before .before .before .before .before .before .before .before .args .at) (c .before .before
+    .before .before .before .before .before .before .before .before .args .steps) (memory (store-of (c .before
+    .before .before .before .before .before .before .before .before .before .args .slots .now) (c .before .before
+    .before .before .before .before .before .before .before .before .args .heads .now)) (c .before .before .before
+    .before .before .before .before .before .before .before .args .env .now)) (c .before .before .before .before
+    .before .before .before .before .before .before .args .l) (c .before .before .before .before .before .before .l4
+    .given .0 .0) (c .before .before .before .before .before .before .l4 .given .0 .1 .0) (c .before .before .before
+    .before .before .before .l4 .given .1) (c .before .work-length .result) (c .before .work-length .last .1 .1 .0)
+    (c .before .work-length .ensures)
+
+same-length-11 : tie.Need-same-length-11
+same-length-11 c = search needs
+
+same-length-12 : tie.Need-same-length-12
+same-length-12 c = search needs
+
+same-length-13 : tie.Need-same-length-13
+same-length-13 c = search needs
+
+returns-5 : tie.Need-returns-5
+returns-5 c = leaf-retain (c .before .before .before .before .before .before .before .before .before .before .before
+    .before .before .before .args .kinds .now) (c .before .before .before .before .before .before .before .before
+    .before .before .before .before .before .before .args .operands .now) (c .before .before .before .before .before
+    .before .before .before .before .before .before .before .before .before .args .calls) (c .before .before .before
+    .before .before .before .before .before .before .before .before .before .before .before .args .at) (c .before
+    .before .before .before .before .before .before .before .before .before .before .before .before .before .args
+    .steps) (memory (store-of (c .before .before .before .before .before .before .before .before .before .before
+    .before .before .before .before .args .slots .now) (c .before .before .before .before .before .before .before
+    .before .before .before .before .before .before .before .args .heads .now)) (c .before .before .before .before
+    .before .before .before .before .before .before .before .before .before .before .args .env .now)) (c .before
+    .before .before .before .before .before .before .before .before .before .before .before .before .before .args
+    .l) (c .before .before .before .before .before .before .before .before .before .before .l5 .given .0 .0) (c
+    .before .before .before .before .before .before .before .word-of .result) (c .before .before .before .before
+    .before .before .before .word-of .ensures) (c .before .before .before .before .before .before .named-cell
+    .result) (rw (toZ-ofZ {z = c .before .before .before .before .before .before .before .word-of .result} (record {
+      sfits = c .before .before .before .before .before .before .before .word-of .ok;
+    })) at (c .before .before .before
+    .before .before .before .named-cell .ensures)) _ (c .done .result) (c .done .ensures) (c .before .before .before
+    .before .before .before .before .before .before .before .l5 .given .1) (c .before .before .before .retain
+    .ensures)
+
+same-length-14 : tie.Need-same-length-14
+same-length-14 c = search needs
+
+same-length-15 : tie.Need-same-length-15
+same-length-15 c = search needs
+
+same-length-16 : tie.Need-same-length-16
+same-length-16 c = search needs
+
+returns-6 : tie.Need-returns-6
+returns-6 c = leaf-release (c .before .before .before .before .before .before .before .before .before .before
+    .before .before .before .before .before .args .kinds .now) (c .before .before .before .before .before .before
+    .before .before .before .before .before .before .before .before .before .args .operands .now) (c .before .before
+    .before .before .before .before .before .before .before .before .before .before .before .before .before .args
+    .calls) (c .before .before .before .before .before .before .before .before .before .before .before .before
+    .before .before .before .args .at) (c .before .before .before .before .before .before .before .before .before
+    .before .before .before .before .before .before .args .steps) (memory (store-of (c .before .before .before
+    .before .before .before .before .before .before .before .before .before .before .before .before .args .slots
+    .now) (c .before .before .before .before .before .before .before .before .before .before .before .before .before
+    .before .before .args .heads .now)) (c .before .before .before .before .before .before .before .before .before
+    .before .before .before .before .before .before .args .env .now)) (c .before .before .before .before .before
+    .before .before .before .before .before .before .before .before .before .before .args .l) (c .before .before
+    .before .before .before .before .before .before .before .before .before .l6 .given .0 .0) (c .before .before
+    .before .before .before .before .before .before .word-of2 .result) (c .before .before .before .before .before
+    .before .before .before .word-of2 .ensures) (c .before .before .before .before .before .before .before
+    .named-cell2 .result) (rw (toZ-ofZ {z = c .before .before .before .before .before .before .before .before
+    .word-of2 .result} (record {
+      sfits = c .before .before .before .before .before .before .before .before .word-of2
+          .ok;
+    })) at (c .before .before .before .before .before .before .before .named-cell2 .ensures)) _ (c .done2
+    .result) (c .done2 .ensures) (c .before .before .before .before .before .before .before .before .before .before
+    .before .l6 .given .1) (c .before .before .before .before .release .ensures)
+
+returns-7 : tie.Need-returns-7
+returns-7 c = leaf-other (c .before .before .before .before .args .kinds .now) (c .before .before .before .before
+    .args .operands .now) (c .before .before .before .before .args .calls) (c .before .before .before .before .args
+    .at) (c .before .before .before .before .args .steps) (memory (store-of (c .before .before .before .before .args
+    .slots .now) (c .before .before .before .before .args .heads .now)) (c .before .before .before .before .args
+    .env .now)) (c .before .before .before .before .args .l) (c .before .match .keys7) (c .halted .result) (c
+    .halted .ensures)
+
+pub work-leaf-spec : {M : Type 1} → statement M
+work-leaf-spec =
+    tie.close
+    (tie.spec
+    enum-known-l
+    add-work-operation
+    work-operation-requires
+    enum-known-l-2
+    work-literal-requires
+    enum-known-l-3
+    add-work-index
+    work-index-requires
+    enum-known-l-4
+    add-work-length
+    work-length-requires
+    enum-known-l-5
+    word-of-requires
+    named-cell-requires
+    retain-requires
+    add-done
+    done-requires
+    enum-known-l-6
+    word-of-requires-2
+    named-cell-requires-2
+    release-requires
+    add-done-2
+    done-requires-2
+    halted-requires
+    same-length
+    returns
+    same-length-2
+    same-length-3
+    same-length-4
+    returns-2
+    same-length-5
+    same-length-6
+    same-length-7
+    returns-3
+    same-length-8
+    same-length-9
+    same-length-10
+    returns-4
+    same-length-11
+    same-length-12
+    same-length-13
+    returns-5
+    same-length-14
+    same-length-15
+    same-length-16
+    returns-6
+    returns-7)

@@ -1,0 +1,46 @@
+-- The frames of all calls in progress in one list of words: 256 for each, main's first.
+use mathlib.Core.Bool.{cond}
+use mathlib.Core.List.{List, [], _∷_}
+use Prim.Native.Nat.{ℕ, zero, suc, _+_, _-_, _*_, _≤_}
+use lib.IntN.{ℤ, pos}
+use lib.ListN.{getD, set, length}
+use mathlib.Core.Path.{_≡_}
+use Rattle.semantics.specs.Number.{is-zero}
+use Rattle.machine_code.specs.Reading.{atom-at, is-atom, after}
+use Rattle.machine_code.specs.declared.Atom.{Atom}
+use Rattle.machine_code.specs.declared.Atom.the-variants.{Number, Name}
+
+-- the place of a name's word, in the frame of a call below which so many more can be nested
+abbrev pub place : ℕ → ℕ → ℕ
+place calls x = 256 * (31 - calls) + x
+
+abbrev pub word-of : ℕ → List ℤ → Atom → ℤ
+word-of calls env (Number z) = z
+word-of calls env (Name x) = getD env (place calls x) (pos 0)
+
+-- the words of the atoms that stand from a position on, at most n
+unfoldable pub words-at : ℕ → List ℕ → List ℤ → ℕ → List ℤ → ℕ → List ℤ
+words-at zero kinds operands calls env at = []
+words-at (suc n) kinds operands calls env at =
+    cond (is-atom (getD kinds at 0))
+    (word-of calls env (atom-at kinds operands at) ∷ words-at n kinds operands calls env (at + 1))
+    []
+
+-- words written one after another from a place on
+unfoldable pub put-all : List ℤ → ℕ → List ℤ → List ℤ
+put-all [] p env = env
+put-all (w ∷ ws) p env = put-all ws (p + 1) (set env p w)
+
+-- the words ws were written as the first ones of the frame of a call
+pub record Passed (ws : List ℤ) (calls n : ℕ) (env env′ : List ℤ) : Type 0 where
+  pub frames : env′ ≡ put-all ws (place calls 0) env
+  pub count : n ≡ length ws
+  pub few : n ≤ 16
+
+-- the first of an if's trees is at a position; the guard other than 0 takes it
+abbrev pub branch-start : List ℕ → ℤ → ℕ → ℕ
+branch-start kinds guard at = cond (is-zero guard) (after 4096 1 at kinds) at
+
+-- the position after an if, by the position after the tree that was worked
+abbrev pub branch-end : List ℕ → ℤ → ℕ → ℕ
+branch-end kinds guard next = cond (is-zero guard) next (after 4096 1 next kinds)

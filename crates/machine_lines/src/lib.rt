@@ -1,0 +1,368 @@
+// The lines that work no tree, on a memory of two store arrays and one array of frames: 256 words for each call in
+// progress, main's first. `calls` is the call depth left, 31 in main.
+use machine_code::Atom;
+use machine_code::Line;
+use store::Acquired;
+use words::Exact;
+ghost use mathlib.Core.Path.{_≡_};
+ghost use Prim.Native.Nat.{_+_, _≤_, _<_};
+ghost use lib.IntN.{pos};
+ghost use lib.ListN.{length, set, take};
+ghost use mathlib.Core.List.{[]};
+ghost use Rattle.semantics.specs.Number.{exact};
+ghost use Rattle.semantics.specs.Store.{acquired};
+ghost use Rattle.semantics.specs.Words.{store-of};
+ghost use Rattle.words.specs.Words.{checked};
+ghost use Rattle.store.specs.Acquiring.{next-cell};
+ghost use Rattle.machine_lines.specs.Frames.{place, word-of, words-at, put-all, Passed, branch-start, branch-end};
+ghost use Rattle.machine_lines.specs.Lines.{out, left, memory, operation-of, operation-line, index-line};
+ghost use Rattle.machine_lines.specs.Lines.{length-line, literal-line, leaf, Ends};
+
+// How work ends: the number of its stop or 0, its value, the position where the code goes on, the steps left.
+pub struct Out {
+    pub stop: u8,
+    pub value: i64,
+    pub next: usize,
+    pub steps: u64,
+}
+
+// A stop.
+pub fn halted(stop: u8, steps: u64) -> Out
+    ensures { λ r. ⌜ r ≡ out stop (pos 0) 0 steps ⌝ }
+{
+    Out {
+        stop,
+        value: 0,
+        next: 0,
+        steps,
+    }
+}
+
+// Work that goes on.
+pub fn done(value: i64, next: usize, steps: u64) -> Out
+    ensures { λ r. ⌜ r ≡ out 0 value next steps ⌝ }
+{
+    Out {
+        stop: 0,
+        value,
+        next,
+        steps,
+    }
+}
+
+// The place of a name's word among the frames.
+pub fn place(calls: usize, x: u8) -> usize
+    ensures { λ r. ⌜ (r ≡ place calls x) × (r < 8192) ⌝ }
+{
+    if calls < 31 {
+        256 * (31 - calls) + x as usize
+    } else {
+        x as usize
+    }
+}
+
+// The word of an atom.
+pub fn word_of(env: &[i64], calls: usize, a: Atom) -> i64
+    ensures { λ r. ⌜ r ≡ word-of calls (now (env .entry)) a ⌝ }
+{
+    match a {
+        Atom::Number(z) => z,
+        Atom::Name(x) => store_words::word_at(env, place(calls, x)),
+    }
+}
+
+// Writes a word where there is such a place.
+fn put(env: &mut [i64], i: usize, w: i64)
+    ensures { λ _. ⌜ now (env .exit) ≡ set (now (env .entry)) i w ⌝ }
+{
+    if i < env.len() {
+        env[i] = w;
+    }
+}
+
+// Binds a name.
+pub fn bind(env: &mut [i64], calls: usize, x: u8, w: i64)
+    ensures { λ _. ⌜ now (env .exit) ≡ set (now (env .entry)) (place calls x) w ⌝ }
+{
+    put(env, place(calls, x), w);
+}
+
+// Copies the words of the atoms that stand from a position on, at most 16; how many they are.
+pub fn gather(
+    kinds: &[u8],
+    operands: &[i64],
+    env: &[i64],
+    calls: usize,
+    at: usize,
+    words: &mut [i64; 16],
+) -> usize
+    requires { ⌜ length (now words) ≡ 16 ⌝ }
+    ensures { λ r. ⌜ (take r (now (words .exit))
+        ≡ words-at 16 (now (kinds .entry)) (now (operands .entry)) calls (now (env .entry)) at)
+        × (r ≤ 16) × (length (now (words .exit)) ≡ 16) ⌝ }
+{
+    let mut i: usize = 0;
+    let mut p = at;
+    while i < 16 {
+        if kinds.len() <= p {
+            return i;
+        }
+        if !machine_code::atom_stands(kinds, p) {
+            return i;
+        }
+        let a = machine_code::atom_at(kinds, operands, p);
+        let w = word_of(env, calls, a);
+        words[i] = w;
+        p = p + 1;
+        i = i + 1;
+    }
+    i
+}
+
+// Writes words as the first ones of a call's frame.
+pub fn put_words(env: &mut [i64], calls: usize, words: &[i64])
+    requires { ⌜ length (now words) ≤ 16 ⌝ }
+    ensures { λ _. ⌜ now (env .exit) ≡ put-all (now (words .entry)) (place calls 0) (now (env .entry)) ⌝ }
+{
+    let mut p = place(calls, 0);
+    let mut i: usize = 0;
+    while i < words.len() {
+        let w = words[i];
+        put(env, p, w);
+        p = p + 1;
+        i = i + 1;
+    }
+}
+
+// The arguments of a call as the first words of its frame; how many they are.
+pub fn pass_arguments(
+    kinds: &[u8],
+    operands: &[i64],
+    env: &mut [i64],
+    calls: usize,
+    below: usize,
+    at: usize,
+) -> usize
+    ensures { λ r. ⌜ Passed (words-at 16 (now (kinds .entry)) (now (operands .entry)) calls (now (env .entry)) at)
+        below r (now (env .entry)) (now (env .exit)) ⌝ }
+{
+    let mut words = [0i64; 16];
+    let n = gather(kinds, operands, env, calls, at, &mut words);
+    put_words(env, below, &words[0..n]);
+    n
+}
+
+// Where the branch of an if begins, by the word of its guard: the first tree, at a position, or the second.
+pub fn branch_start(kinds: &[u8], guard: i64, at: usize) -> usize
+    ensures { λ r. ⌜ r ≡ branch-start (now (kinds .entry)) guard at ⌝ }
+{
+    if guard == 0 {
+        machine_code::after_tree(kinds, at)
+    } else {
+        at
+    }
+}
+
+// Where the code goes on after an if, by the word of its guard and the position after the tree that was worked.
+pub fn branch_end(kinds: &[u8], guard: i64, next: usize) -> usize
+    ensures { λ r. ⌜ r ≡ branch-end (now (kinds .entry)) guard next ⌝ }
+{
+    if guard == 0 {
+        next
+    } else {
+        machine_code::after_tree(kinds, next)
+    }
+}
+
+// The exact result of an operation, if it is in 64 bits.
+fn operate(kind: u8, a: i64, b: i64) -> Exact
+    ensures { λ r. ⌜ r ≡ checked (exact (operation-of kind) a b) ⌝ }
+{
+    if kind == 4 {
+        return words::exact_sum(a, b);
+    }
+    if kind == 5 {
+        return words::exact_difference(a, b);
+    }
+    Exact::Value(words::is_less(a, b))
+}
+
+// A small number as a word.
+pub fn word_from(n: usize) -> i64
+    requires { ⌜ n < 9223372036854775808 ⌝ }
+    ensures { λ r. ⌜ r ≡ pos n ⌝ }
+{
+    n as i64
+}
+
+// A sum, a difference or a comparison.
+fn work_operation(
+    env: &mut [i64],
+    calls: usize,
+    kind: u8,
+    x: u8,
+    a: Atom,
+    b: Atom,
+    next: usize,
+    steps: u64,
+) -> Out
+    ensures { λ r. ⌜ left r (now (env .exit)) ≡ operation-line calls kind x a b next steps (now (env .entry)) ⌝ }
+{
+    if steps == 0 {
+        return halted(21, steps);
+    }
+    let v = word_of(env, calls, a);
+    let w = word_of(env, calls, b);
+    match operate(kind, v, w) {
+        Exact::Value(z) => {
+            bind(env, calls, x, z);
+            done(z, next, steps - 1)
+        }
+        Exact::Overflow => halted(24, steps - 1),
+    }
+}
+
+// An element of an array.
+fn work_index(
+    slots: &[i64],
+    heads: &[u32],
+    env: &mut [i64],
+    calls: usize,
+    x: u8,
+    a: Atom,
+    b: Atom,
+    next: usize,
+    steps: u64,
+) -> Out
+    ensures { λ r. ⌜ left r (now (env .exit))
+        ≡ index-line (store-of (now (slots .entry)) (now (heads .entry))) calls x a b next steps (now (env .entry)) ⌝ }
+{
+    if steps == 0 {
+        return halted(21, steps);
+    }
+    let cell = store_words::named_cell(word_of(env, calls, a));
+    let w = word_of(env, calls, b);
+    if w < 0 {
+        return halted(23, steps - 1);
+    }
+    let i = w as usize;
+    if store_words::read_length(slots, heads, cell) <= i {
+        return halted(23, steps - 1);
+    }
+    let v = store_words::read_slot(slots, heads, cell, i);
+    bind(env, calls, x, v);
+    done(v, next, steps - 1)
+}
+
+// The length of an array.
+fn work_length(
+    slots: &[i64],
+    heads: &[u32],
+    env: &mut [i64],
+    calls: usize,
+    x: u8,
+    a: Atom,
+    next: usize,
+    steps: u64,
+) -> Out
+    ensures { λ r. ⌜ left r (now (env .exit))
+        ≡ length-line (store-of (now (slots .entry)) (now (heads .entry))) calls x a next steps (now (env .entry)) ⌝ }
+{
+    if steps == 0 {
+        return halted(21, steps);
+    }
+    let cell = store_words::named_cell(word_of(env, calls, a));
+    let n = word_from(store_words::read_length(slots, heads, cell));
+    bind(env, calls, x, n);
+    done(n, next, steps - 1)
+}
+
+// A new array of the atoms that follow the line.
+fn work_literal(
+    kinds: &[u8],
+    operands: &[i64],
+    slots: &mut [i64],
+    heads: &mut [u32],
+    env: &mut [i64],
+    calls: usize,
+    x: u8,
+    depth: u8,
+    at: usize,
+    steps: u64,
+) -> Out
+    requires { ⌜ at < length (now kinds) ⌝ }
+    ensures { λ r. ⌜ Ends (literal-line (now (kinds .entry)) (now (operands .entry)) calls x depth at steps
+        (memory (store-of (now (slots .entry)) (now (heads .entry))) (now (env .entry))))
+        r (now (slots .exit)) (now (heads .exit)) (now (env .exit)) ⌝ }
+{
+    if steps == 0 {
+        return halted(21, steps);
+    }
+    let mut words = [0i64; 16];
+    let n = gather(kinds, operands, env, calls, at + 1, &mut words);
+    match store::acquire(slots, heads, depth as u32, &words[0..n]) {
+        Acquired::Cell(c) => {
+            let w = word_from(c);
+            bind(env, calls, x, w);
+            done(w, at + 1 + n, steps - 1)
+        }
+        Acquired::NoneFree => halted(25, steps - 1),
+    }
+}
+
+// Acquires an empty cell.
+pub fn acquire_empty(slots: &mut [i64], heads: &mut [u32], depth: u32) -> Acquired
+    ensures { λ r. ⌜ (r ≡ next-cell (store-of (now (slots .entry)) (now (heads .entry))))
+        × (store-of (now (slots .exit)) (now (heads .exit))
+        ≡ acquired depth [] (store-of (now (slots .entry)) (now (heads .entry)))) ⌝ }
+{
+    let none = [0i64; 1];
+    store::acquire(slots, heads, depth, &none[0..0])
+}
+
+// A line that works no tree.
+pub fn work_leaf(
+    kinds: &[u8],
+    operands: &[i64],
+    slots: &mut [i64],
+    heads: &mut [u32],
+    env: &mut [i64],
+    l: Line,
+    calls: usize,
+    at: usize,
+    steps: u64,
+) -> Out
+    requires { ⌜ at < length (now kinds) ⌝ }
+    ensures { λ r. ⌜ Ends (leaf (now (kinds .entry)) (now (operands .entry)) calls at steps
+        (memory (store-of (now (slots .entry)) (now (heads .entry))) (now (env .entry))) l)
+        r (now (slots .exit)) (now (heads .exit)) (now (env .exit)) ⌝ }
+{
+    match l {
+        Line::Operation(kind, x, a, b) => work_operation(env, calls, kind, x, a, b, at + 3, steps),
+        Line::Literal(x, d) => work_literal(
+            kinds,
+            operands,
+            slots,
+            heads,
+            env,
+            calls,
+            x,
+            d,
+            at,
+            steps,
+        ),
+        Line::Index(x, a, b) => work_index(slots, heads, env, calls, x, a, b, at + 3, steps),
+        Line::Length(x, a) => work_length(slots, heads, env, calls, x, a, at + 2, steps),
+        Line::Retain(x) => {
+            let cell = store_words::named_cell(word_of(env, calls, Atom::Name(x)));
+            store::retain(slots, heads, cell);
+            done(0, at + 1, steps)
+        }
+        Line::Release(x) => {
+            let cell = store_words::named_cell(word_of(env, calls, Atom::Name(x)));
+            store::release(slots, heads, cell, 4);
+            done(0, at + 1, steps)
+        }
+        _ => halted(99, steps),
+    }
+}

@@ -1,0 +1,4 @@
+pub mod Limits
+pub mod Annotated
+pub mod Script
+pub mod Starts

@@ -1,0 +1,32 @@
+use mathlib.Core.Path.{_≡_, refl, sym, ap, _∙_}
+use native.Mathlib.Omega.{arith}
+use Prim.Native.Nat.{ℕ, zero, suc, _+_, _-_, _*_, _/_, _%_, _<_, _≤_}
+use lib.ListN.{length, getD, set, take, drop, replicate, length-drop, List·getD-eq-default, length-set}
+use lib.Seq.{getD-drop}
+use mathlib.Core.List.{List, [], _∷_, _++_, map}
+use lib.IntN.{pos}
+use Rattle.normal.proofs.Moves.{pad-at, moved-more, moved-all, target-long}
+use borrow.Author.Needs.{needs}
+use Rattle.normal.proofs.later_kinds.Statement.{statement}
+use Rattle.normal.proofs.later_kinds.Tie as tie
+use Rattle.normal.proofs.later_kinds.Reads as reads
+use Rattle.normal.proofs.later_kinds.Lts as lts
+
+sub-if1 : tie.Need-sub-if1
+sub-if1 c = search needs
+
+add-result : tie.Need-add-result
+add-result c = search needs
+
+shared-slice-read-result : tie.Need-shared-slice-read-result
+shared-slice-read-result c = search needs
+
+returns : tie.Need-returns
+returns c = sym (getD-drop (c .before .before .args .at) (c .before .before .args .from .now) (c .before .before .args .i) 0)
+
+returns-2 : tie.Need-returns-2
+returns-2 c = sym (List·getD-eq-default (drop (c .before .args .at) (c .before .args .from .now)) 0 (omega (arith, length-drop (c .before .args .at) (c .before .args .from .now), c .if1 .left)))
+
+pub later-kinds-spec : {M : Type 1} → statement M
+later-kinds-spec =
+    tie.close (tie.spec sub-if1 add-result shared-slice-read-result returns returns-2)

@@ -1,0 +1,37 @@
+use mir.Facts.{toZ-ofZ}
+use mathlib.Core.Path.{_≡_, refl, sym, ap, _∙_}
+use native.Mathlib.Omega.{arith}
+use Prim.Native.Nat.{ℕ, zero, suc, _+_, _-_, _*_, _/_, _%_, _<_, _≤_}
+use lib.ListN.{length, getD, set, take, drop, replicate, length-drop, List·getD-eq-default, length-set}
+use lib.Seq.{getD-drop}
+use mathlib.Core.List.{List, [], _∷_, _++_, map}
+use lib.IntN.{pos}
+use Rattle.normal.proofs.Moves.{pad-at, moved-more, moved-all, target-long}
+use borrow.Author.Needs.{needs}
+use Rattle.normal.proofs.later_ops.Statement.{statement}
+use Rattle.normal.proofs.later_ops.Tie as tie
+use Rattle.normal.proofs.later_ops.Reads as reads
+use Rattle.normal.proofs.later_ops.Lts as lts
+
+sub-if1 : tie.Need-sub-if1
+sub-if1 c = search needs
+
+add-result : tie.Need-add-result
+add-result c = search needs
+
+mul-result : tie.Need-mul-result
+mul-result c = search needs
+
+shared-slice-copy-out-result : tie.Need-shared-slice-copy-out-result
+shared-slice-copy-out-result c = search needs
+
+returns : tie.Need-returns
+returns c = let a = c .before .before .args in rw (toZ-ofZ {z = getD (a .from .now) (a .at + a .i) (pos 0)} (record { sfits = c .result .given })) (sym (getD-drop (a .at) (a .from .now) (a .i) (pos 0)))
+
+returns-2 : tie.Need-returns-2
+returns-2 c = sym (List·getD-eq-default (drop (c .before .args .at) (c .before .args .from .now)) (pos 0) (omega (arith, length-drop (c .before .args .at) (c .before .args .from .now), c .if1 .left)))
+
+pub later-ops-spec : {M : Type 1} → statement M
+later-ops-spec =
+    tie.close
+    (tie.spec sub-if1 add-result mul-result shared-slice-copy-out-result returns returns-2)

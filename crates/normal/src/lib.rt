@@ -1,0 +1,98 @@
+// The translation of an accepted script: its code at the front of two lent arrays, and zeros past it.
+ghost use mathlib.Core.Path.{_≡_};
+ghost use mathlib.Core.List.{_++_};
+ghost use Prim.Native.Nat.{_+_, _-_, _*_, _<_, _≤_};
+ghost use lib.IntN.{pos};
+ghost use lib.ListN.{length, getD, drop, replicate};
+ghost use Rattle.semantics.specs.File.{script};
+ghost use Rattle.normal_script.specs.Script.{Translatable};
+ghost use Rattle.normal.specs.Left.{Leaves};
+ghost use Rattle.normal.specs.declared.Laid.the-variants.{TooLong};
+
+// How many lines the code has, or that they do not fit.
+pub enum Laid {
+    Lines(usize),
+    TooLong,
+}
+
+// The i-th of `from` from `at` on, or 0.
+fn later_kinds(from: &[u8], at: usize, i: usize) -> u8
+    requires { ⌜ at ≤ length (now from) ⌝ }
+    ensures { λ r. ⌜ r ≡ getD (drop at (now (from .entry))) i 0 ⌝ }
+{
+    if i < from.len() - at { from[at + i] } else { 0 }
+}
+
+// The part of `from` from `at` on, and zeros after it.
+fn move_kinds(to: &mut [u8], from: &[u8], at: usize)
+    requires { ⌜ (at ≤ length (now from)) × (length (now from) - at ≤ length (now to)) ⌝ }
+    ensures { λ _. ⌜ now (to .exit) ≡ drop at (now (from .entry)) ++ replicate (length (now (to .entry)) - (length (now (from .entry)) - at)) 0 ⌝ }
+{
+    let mut i: usize = 0;
+    while i < to.len() {
+        let v = later_kinds(from, at, i);
+        to[i] = v;
+        i = i + 1;
+    }
+}
+
+// The i-th of `from` from `at` on, or 0.
+fn later_ops(from: &[i64], at: usize, i: usize) -> i64
+    requires { ⌜ at ≤ length (now from) ⌝ }
+    ensures { λ r. ⌜ r ≡ getD (drop at (now (from .entry))) i (pos 0) ⌝ }
+{
+    if i < from.len() - at { from[at + i] } else { 0 }
+}
+
+// The part of `from` from `at` on, and zeros after it.
+fn move_ops(to: &mut [i64], from: &[i64], at: usize)
+    requires { ⌜ (at ≤ length (now from)) × (length (now from) - at ≤ length (now to)) ⌝ }
+    ensures { λ _. ⌜ now (to .exit) ≡ drop at (now (from .entry)) ++ replicate (length (now (to .entry)) - (length (now (from .entry)) - at)) (pos 0) ⌝ }
+{
+    let mut i: usize = 0;
+    while i < to.len() {
+        let v = later_ops(from, at, i);
+        to[i] = v;
+        i = i + 1;
+    }
+}
+
+// Both arrays all zero.
+fn refuse(ks: &mut [u8], os: &mut [i64]) -> Laid
+    ensures { λ r. ⌜ (r ≡ TooLong) × ((now (ks .exit) ≡ replicate (length (now (ks .entry))) 0) × (now (os .exit) ≡ replicate (length (now (os .entry))) (pos 0))) ⌝ }
+{
+    let zk = [0u8; 1];
+    let zo = [0i64; 1];
+    move_kinds(ks, &zk, 1);
+    move_ops(os, &zo, 1);
+    Laid::TooLong
+}
+
+// Translates an accepted script: the file's kinds, its operands and how many functions it has.
+pub fn translate_accepted(
+    kinds: &[u8],
+    operands: &[u8],
+    functions: usize,
+    ks: &mut [u8],
+    os: &mut [i64],
+) -> Laid
+    requires { ⌜ Translatable (now kinds) (now operands) functions ⌝ }
+    ensures { λ r. ⌜ Leaves (script (now (kinds .entry)) (now (operands .entry)) functions 0) (now (ks .entry)) (now (os .entry)) (record { answer = r; kinds = now (ks .exit); operands = now (os .exit) }) ⌝ }
+{
+    let mut bk = [0u8; 4097];
+    let mut bo = [0i64; 4097];
+    let at = normal_script::script_code(kinds, operands, functions, &mut bk, &mut bo);
+    if at == 0 {
+        return refuse(ks, os);
+    }
+    let n = 4097 - at;
+    if ks.len() < n {
+        return refuse(ks, os);
+    }
+    if os.len() < n {
+        return refuse(ks, os);
+    }
+    move_kinds(ks, &bk, at);
+    move_ops(os, &bo, at);
+    Laid::Lines(n)
+}

@@ -1,0 +1,28 @@
+use native.Mathlib.Omega.{arith}
+use mathlib.Core.Path.{sym}
+use lib.ListN.{List·getD-eq-default}
+use Rattle.normal_code.proofs.Rows.{getD-any}
+use borrow.Author.Needs.{needs}
+use Rattle.normal_code.proofs.note_at.Statement.{statement}
+use Rattle.normal_code.proofs.note_at.Tie as tie
+use Rattle.normal_code.proofs.note_at.Reads as reads
+use Rattle.normal_code.proofs.note_at.Lts as lts
+
+mul-result : tie.Need-mul-result
+mul-result c = search needs
+
+shared-slice-read-result : tie.Need-shared-slice-read-result
+shared-slice-read-result c = search needs
+
+cast-result : tie.Need-cast-result
+cast-result c = omega (arith, c .shared-slice-known .given (c .before .before .args .at))
+
+returns : tie.Need-returns
+returns c = getD-any (c .before .before .args .notes .now) (c .before .before .args .at) 0 (c .before .before .args .at) (c .before .if1 .taken)
+
+returns-2 : tie.Need-returns-2
+returns-2 c = sym (List·getD-eq-default (c .before .args .notes .now) (c .before .args .at) (c .if1 .left))
+
+pub note-at-spec : {M : Type 1} → statement M
+note-at-spec =
+    tie.close (tie.spec mul-result shared-slice-read-result cast-result returns returns-2)

@@ -1,0 +1,4 @@
+pub mod Size
+pub mod Parameters
+pub mod Whole
+pub mod Accepted

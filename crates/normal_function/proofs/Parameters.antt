@@ -1,0 +1,149 @@
+-- Laws of the parameters: bound and written from the last to the first.
+use mathlib.Core.Path.{_≡_, refl, sym, ap, _∙_, fun-ext}
+use mathlib.Core.Bool.{Bool, true, false, cond}
+use mathlib.Core.List.{List, [], _∷_, _++_}
+use Prim.Native.Nat.{ℕ, zero, suc, _+_, _-_, _*_, _<_, _≤_}
+use native.Mathlib.Omega.{arith}
+use native.Mathlib.Decide.{decLt}
+use lib.IntN.{ℤ, pos}
+use lib.Dec.{ltb}
+use lib.ListN.{length, getD, set, length-set, replicate}
+use borrow.Author.Tests.{lt-ltb, le-ltb}
+use Rattle.semantics.specs.Basics.{updated}
+use Rattle.semantics.specs.Syntax.{Parameter}
+use Rattle.semantics.specs.Code as C
+use Rattle.semantics.specs.Code.{Row, row}
+use Rattle.semantics.specs.File as S
+use Rattle.semantics.specs.File.{node-at, low-limits, high-limits}
+use Rattle.semantics.specs.Normal.{parameter-names}
+use Rattle.semantics.specs.Annotate.{parameter-depths-from, parameter-rows}
+use Rattle.script_read.specs.Told.{Parts, low-at, high-at, low-of, high-of}
+use Rattle.script_read.proofs.Nodes.{Within, node-within}
+use Rattle.script_read.proofs.Tables.{none-set}
+use Rattle.semantics.specs.Live.{Set}
+use Rattle.normal_code.specs.Plain.{meant, placed, set-of}
+use Rattle.normal_code.proofs.Sets.{Making, making-none, making-set, making-all}
+use Rattle.normal_lay.specs.Laid.{meanings, nowhere}
+use Rattle.normal_write.specs.Wrote.{Wrote}
+use Rattle.normal_write.specs.Parts.{depth-in}
+use Rattle.normal_write.proofs.Rows.{wrote-none, wrote-then, wrote-as}
+use Rattle.normal_made.specs.Made.{Low}
+use Rattle.normal_made.proofs.Chains.{SetAs, low-set}
+use Rattle.normal_made.proofs.Trees.{depth-set, name-placed}
+use Rattle.normal_made.proofs.Nodes.{nowhere-placed}
+use Rattle.normal_made.proofs.Members.{meanings-set}
+use Rattle.normal_function.specs.Read.{parameters-at, Binds}
+use Rattle.normal_function.specs.declared.Bound.{Bound}
+
+-- the operand of a function's or a parameter's node is in range
+low-in : (a : ℕ) (v : S.Node) → Within a a v → low-of v ≤ getD low-limits a 0
+low-in a (S.fits h) i = let e : h .kind ≡ a = omega (arith, i .0, i .1) in rw e at (i .2)
+low-in a S.wrong-kind i = omega arith
+low-in a S.wrong-operand i = omega arith
+
+high-in : (a : ℕ) (v : S.Node) → Within a a v → high-of v ≤ getD high-limits a 0
+high-in a (S.fits h) i = let e : h .kind ≡ a = omega (arith, i .0, i .1) in rw e at (i .3)
+high-in a S.wrong-kind i = omega arith
+high-in a S.wrong-operand i = omega arith
+
+pub low-most : (k w : List ℕ) (a p : ℕ) → low-at k w a p ≤ getD low-limits a 0
+unfolding low-at
+low-most k w a p = low-in a (node-at k w a a p) (node-within k w a a p)
+
+pub high-most : (k w : List ℕ) (a p : ℕ) → high-at k w a p ≤ getD high-limits a 0
+unfolding high-at
+high-most k w a p = high-in a (node-at k w a a p) (node-within k w a a p)
+
+module _ (k w : List ℕ) (at : ℕ) where
+  abbrev pub Rest : ℕ → ℕ → List Parameter
+  Rest i m = parameters-at k w (at + i) (m - i)
+
+  pub rest-none : (m : ℕ) → Rest m m ≡ []
+  unfolding parameters-at
+  rest-none m = ap (parameters-at k w (at + m)) (let e : m - m ≡ 0 = omega arith in e)
+
+  pub rest-more : (i m : ℕ) → 0 < i → i ≤ m →
+      Rest (i - 1) m ≡ record { id = low-at k w 1 (at + (i - 1)); depth = high-at k w 1 (at + (i - 1)) } ∷ Rest i m
+  unfolding parameters-at
+  rest-more i m g h =
+      ap (parameters-at k w (at + (i - 1))) (let e : m - (i - 1) ≡ suc (m - i) = omega arith in e)
+      ∙ ap (λ (j : ℕ). record { id = low-at k w 1 (at + (i - 1)); depth = high-at k w 1 (at + (i - 1)) } ∷ parameters-at k w j (m - i))
+      (let e : at + (i - 1) + 1 ≡ at + i = omega arith in e)
+
+  pub rest-all : (i m : ℕ) → i ≤ 0 → Rest i m ≡ parameters-at k w at m
+  rest-all i m h =
+      let e : at + i ≡ at = omega arith in
+      let f : m - i ≡ m = omega arith in
+      rw (e, f)
+
+  -- ---- binding
+
+  pub bind-begin : (m : ℕ) → length w ≤ 8192 → Binds w (Rest m m) m (record { places = replicate 256 65535; depths = replicate 256 0 })
+  unfolding parameter-names parameter-depths-from
+  bind-begin m h = rw (rest-none m) (record {
+    means = fun-ext (λ y. ap (λ (v : ℕ). meant (placed w v)) (none-set {A = ℕ} 65535 256 y) ∙ nowhere-placed w h);
+    deep = fun-ext (λ y. none-set {A = ℕ} 0 256 y);
+    low = record { at = λ i. omega (arith, none-set {A = ℕ} 0 256 i) };
+    long = (refl, refl);
+  })
+
+  pub bind-go : (i m x d : ℕ) {ps ds : List ℕ} → 0 < i → i ≤ m → m ≤ 8 → x < 256 → x ≡ low-at k w 1 (at + (i - 1)) → d ≡ high-at k w 1 (at + (i - 1)) →
+      Binds w (Rest i m) i (record { places = ps; depths = ds }) →
+      Binds w (Rest (i - 1) m) (i - 1) (record { places = set ps x (i - 1); depths = set ds (i - 1) d })
+  unfolding parameter-names parameter-depths-from
+  bind-go i m x d {ps} {ds} g h b s e f B =
+      let z : i ≡ suc (i - 1) = omega arith in
+      rw (rest-more i m g h) (record {
+        means = meanings-set w ps x (i - 1) (omega (arith, B .long .0))
+            ∙ rw (B .means, name-placed w (i - 1) (omega arith), ← e) (ap (λ (j : ℕ). updated (parameter-names (Rest i m) j) x (C.name (i - 1))) z);
+        deep = depth-set ds (i - 1) d (omega (arith, B .long .1))
+            ∙ rw (B .deep, ← f) (ap (λ (j : ℕ). updated (parameter-depths-from (Rest i m) j) (i - 1) d) z);
+        low = low-set 0 (i - 1) d (B .low) (record { is = refl }) (omega (arith, B .long .1)) (omega arith) (omega (arith, f, high-most k w 1 (at + (i - 1))));
+        long = (length-set ps x (i - 1) ∙ B .long .0, length-set ds (i - 1) d ∙ B .long .1);
+      })
+
+  pub bind-end : (i m : ℕ) {r : Bound} → i ≤ 0 → Binds w (Rest i m) i r → Binds w (parameters-at k w at m) 0 r
+  bind-end i m h B =
+      let e : i ≡ 0 = omega arith in
+      let f : at + 0 ≡ at = omega arith in
+      let g : m - 0 ≡ m = omega arith in
+      rw (e, f, g) at B
+
+  -- ---- rows
+
+  pub rows-begin : (m : ℕ) {ks : List ℕ} {os : List ℤ} {v : ℕ} → Wrote ks os ks os v v (parameter-rows (Rest m m) m)
+  unfolding parameter-rows
+  rows-begin m = wrote-as (sym (ap (λ (l : List Parameter). parameter-rows l m) (rest-none m))) wrote-none
+
+  pub rows-go : (i m d : ℕ) → 0 < i → i ≤ m → d ≡ high-at k w 1 (at + (i - 1)) →
+      {ks ks₁ ks₂ : List ℕ} {os os₁ os₂ : List ℤ} {v v₁ v₂ : ℕ} → Wrote ks os ks₁ os₁ v v₁ (parameter-rows (Rest i m) i) →
+      Wrote ks₁ os₁ ks₂ os₂ v₁ v₂ (row 1 (i - 1 + 256 * d) ∷ []) → Wrote ks os ks₂ os₂ v v₂ (parameter-rows (Rest (i - 1) m) (i - 1))
+  unfolding parameter-rows
+  rows-go i m d g h e x y =
+      wrote-as
+      (rw (e) (sym (ap (λ (l : List Parameter). parameter-rows l (i - 1)) (rest-more i m g h)
+      ∙ ap (λ (j : ℕ). row 1 (i - 1 + 256 * high-at k w 1 (at + (i - 1))) ∷ parameter-rows (Rest i m) j) (let z : suc (i - 1) ≡ i = omega arith in z))))
+      (wrote-then x y)
+
+  pub rows-end : (i m : ℕ) → i ≤ 0 → {ks ks₁ : List ℕ} {os os₁ : List ℤ} {v v₁ : ℕ} → Wrote ks os ks₁ os₁ v v₁ (parameter-rows (Rest i m) i) →
+      Wrote ks os ks₁ os₁ v v₁ (parameter-rows (parameters-at k w at m) 0)
+  rows-end i m h x = let e : i ≡ 0 = omega arith in wrote-as (ap (parameter-rows (Rest i m)) e ∙ ap (λ (l : List Parameter). parameter-rows l 0) (rest-all i m h)) x
+
+  pub length-parameters : (p n : ℕ) → length (parameters-at k w p n) ≡ n
+  unfolding parameters-at
+  length-parameters p zero = refl
+  length-parameters p (suc n) = ap suc (length-parameters (p + 1) n)
+
+-- ---- the names below a number
+
+pub record Below (n : ℕ) (a r : List Bool) (i : ℕ) : Type 0 where
+  pub made : Making (λ x. ltb x n) a r i
+
+pub below-none : (n : ℕ) (a : List Bool) → Below n a a 0
+below-none n a = record { made = making-none (λ x. ltb x n) a }
+
+pub below-set : {n i : ℕ} {a r : List Bool} → Below n a r i → (v : Bool) → i < length a → v ≡ ltb i n → Below n a (set r i v) (i + 1)
+below-set b v h e = record { made = making-set (b .made) v h e }
+
+pub below-all : {n i : ℕ} {a r : List Bool} → Below n a r i → length a ≤ i → n ≤ i → _≡_ {A = Set} (set-of r) (λ x. ltb x n)
+below-all {n} {i} b h g = making-all (b .made) h (λ k l. le-ltb k n (omega arith))

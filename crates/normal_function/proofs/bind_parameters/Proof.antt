@@ -1,0 +1,83 @@
+use Rattle.normal_function.specs.Read.{Binds}
+use Rattle.normal_function.proofs.Parameters.{Rest, bind-begin, bind-go, bind-end}
+use mathlib.Core.Path.{_≡_, refl, sym, ap, _∙_}
+use native.Mathlib.Omega.{arith}
+use Prim.Native.Nat.{ℕ, _+_, _-_, _*_, _<_, _≤_}
+use lib.ListN.{length}
+use borrow.Author.Needs.{needs}
+use Rattle.normal_function.proofs.bind_parameters.Statement.{statement}
+use Rattle.normal_function.proofs.bind_parameters.Tie as tie
+use Rattle.normal_function.proofs.bind_parameters.Reads as reads
+use Rattle.normal_function.proofs.bind_parameters.Lts as lts
+use Rattle.script_read.proofs.high_at.Reads as high-at-reads
+use Rattle.script_read.proofs.low_at.Reads as low-at-reads
+
+abbrev Inv-loop : tie.InvT-loop
+Inv-loop kinds operands at count places₀ depths₀ i₀ places depths i =
+    (i ≤ count) × Binds operands (Rest kinds operands at i count) i (record { places = places; depths = depths })
+
+abbrev μ-loop : tie.MeasureT-loop
+μ-loop kinds operands at count places₀ depths₀ i₀ places depths i = i
+
+loop-holds : tie.Need-loop-holds Inv-loop μ-loop
+loop-holds c = (omega arith, bind-begin (c .before .before .args .kinds .now) (c .before .before .args .operands .now) (c .before .before .args .at) (c .before .before .args .count) (omega (arith, c .before .before .pre .0 .few, c .before .before .pre .0 .whole)))
+
+sub-i : tie.Need-sub-i Inv-loop μ-loop
+sub-i c = omega arith
+
+add-low-at : tie.Need-add-low-at Inv-loop μ-loop
+add-low-at c = omega (arith, c .before .loop .inv .0)
+
+low-at-requires : tie.Need-low-at-requires Inv-loop μ-loop
+low-at-requires c κs = (c .before .before .before .before .pre .0, omega arith)
+
+add-high-at : tie.Need-add-high-at Inv-loop μ-loop
+add-high-at c = omega (arith, c .before .before .loop .inv .0)
+
+high-at-requires : tie.Need-high-at-requires Inv-loop μ-loop
+high-at-requires c κs = (c .before .before .before .before .before .pre .0, omega arith)
+
+cast-places : tie.Need-cast-places Inv-loop μ-loop
+cast-places c = search needs
+
+cast-places-2 : tie.Need-cast-places-2 Inv-loop μ-loop
+cast-places-2 c = omega (arith, c .before .before .before .loop .inv .0)
+
+mul-places : tie.Need-mul-places Inv-loop μ-loop
+mul-places c = search needs
+
+array-write-places : tie.Need-array-write-places Inv-loop μ-loop
+array-write-places c = search needs
+
+array-write-depths : tie.Need-array-write-depths Inv-loop μ-loop
+array-write-depths c = omega (arith, c .before .before .before .loop .inv .0, c .before .before .before .before .before .before .pre .1 .1)
+
+loop-less : tie.Need-loop-less Inv-loop μ-loop
+loop-less c = omega arith
+
+loop-again : tie.Need-loop-again Inv-loop μ-loop
+loop-again c = let v = c .before .before .before .loop .inv in (omega arith, bind-go (c .before .before .before .before .before .before .args .kinds .now) (c .before .before .before .before .before .before .args .operands .now) (c .before .before .before .before .before .before .args .at) (c .before .before .before .loop .i) (c .before .before .before .before .before .before .args .count) (c .before .low-at .result) (c .high-at .result) (c .before .before .loop-test .taken) (v .0) (c .before .before .before .before .before .before .pre .1 .1) (omega (arith, c .before .low-at .ok)) (c .before .low-at .ensures) (c .high-at .ensures) (v .1))
+
+returns : tie.Need-returns Inv-loop μ-loop
+returns c = bind-end (c .before .before .before .before .args .kinds .now) (c .before .before .before .before .args .operands .now) (c .before .before .before .before .args .at) (c .before .loop .i) (c .before .before .before .before .args .count) (c .loop-test .left) (c .before .loop .inv .1)
+
+pub bind-parameters-spec : {M : Type 1} → statement M
+bind-parameters-spec =
+    tie.close
+    (tie.spec
+    Inv-loop
+    μ-loop
+    loop-holds
+    sub-i
+    add-low-at
+    low-at-requires
+    add-high-at
+    high-at-requires
+    cast-places
+    cast-places-2
+    mul-places
+    array-write-places
+    array-write-depths
+    loop-less
+    loop-again
+    returns)

@@ -1,0 +1,77 @@
+use Rattle.semantics.specs.Annotate.{parameter-rows}
+use Rattle.normal_write.specs.Wrote.{Wrote}
+use Rattle.normal_write.proofs.Rows.{lower}
+use Rattle.normal_function.proofs.Parameters.{Rest, rows-begin, rows-go, rows-end, high-most}
+use mathlib.Core.Path.{_≡_, refl, sym, ap, _∙_}
+use native.Mathlib.Omega.{arith}
+use Prim.Native.Nat.{ℕ, _+_, _-_, _*_, _<_, _≤_}
+use lib.ListN.{length}
+use borrow.Author.Needs.{needs}
+use Rattle.normal_function.proofs.put_parameters.Statement.{statement}
+use Rattle.normal_function.proofs.put_parameters.Tie as tie
+use Rattle.normal_function.proofs.put_parameters.Reads as reads
+use Rattle.normal_function.proofs.put_parameters.Lts as lts
+use Rattle.normal_write.proofs.put_row.Reads as put-row-reads
+use Rattle.script_read.proofs.high_at.Reads as high-at-reads
+
+abbrev Inv-loop : tie.InvT-loop
+Inv-loop ks₀ os₀ kinds operands at count w v₀ i₀ ks os v i =
+    (i ≤ count) × (v ≤ 4097) × Wrote ks₀ os₀ ks os w v (parameter-rows (Rest kinds operands at i count) i)
+
+abbrev μ-loop : tie.MeasureT-loop
+μ-loop ks₀ os₀ kinds operands at count w v₀ i₀ ks os v i = i
+
+loop-holds : tie.Need-loop-holds Inv-loop μ-loop
+loop-holds c = (omega arith, omega arith, rows-begin (c .before .before .args .kinds .now) (c .before .before .args .operands .now) (c .before .before .args .at) (c .before .before .args .count))
+
+sub-i : tie.Need-sub-i Inv-loop μ-loop
+sub-i c = omega arith
+
+add-high-at : tie.Need-add-high-at Inv-loop μ-loop
+add-high-at c = omega (arith, c .before .loop .inv .0)
+
+high-at-requires : tie.Need-high-at-requires Inv-loop μ-loop
+high-at-requires c κs = (c .before .before .before .before .pre .0, omega arith)
+
+cast-put-row : tie.Need-cast-put-row Inv-loop μ-loop
+cast-put-row c = omega (arith, c .before .before .before .before .loop .inv .0)
+
+cast-put-row-2 : tie.Need-cast-put-row-2 Inv-loop μ-loop
+cast-put-row-2 c = search needs
+
+mul-put-row : tie.Need-mul-put-row Inv-loop μ-loop
+mul-put-row c = omega (arith, c .before .before .high-at .ensures, high-most (c .before .before .before .before .before .before .before .args .kinds .now) (c .before .before .before .before .before .before .before .args .operands .now) 1 (c .before .before .before .before .before .before .before .args .at + (c .before .before .before .before .loop .i - 1)))
+
+add-put-row : tie.Need-add-put-row Inv-loop μ-loop
+add-put-row c = omega (arith, c .before .before .before .before .loop .inv .0, c .before .before .high-at .ensures, high-most (c .before .before .before .before .before .before .before .args .kinds .now) (c .before .before .before .before .before .before .before .args .operands .now) 1 (c .before .before .before .before .before .before .before .args .at + (c .before .before .before .before .loop .i - 1)))
+
+put-row-requires : tie.Need-put-row-requires Inv-loop μ-loop
+put-row-requires c κs = c .before .before .before .before .loop .inv .1
+
+loop-less : tie.Need-loop-less Inv-loop μ-loop
+loop-less c = omega arith
+
+loop-again : tie.Need-loop-again Inv-loop μ-loop
+loop-again c = let v = c .before .before .before .before .before .loop .inv in (omega arith, lower (c .put-row .ensures) (v .1), rows-go (c .before .before .before .before .before .before .before .before .args .kinds .now) (c .before .before .before .before .before .before .before .before .args .operands .now) (c .before .before .before .before .before .before .before .before .args .at) (c .before .before .before .before .before .loop .i) (c .before .before .before .before .before .before .before .before .args .count) (c .before .before .before .high-at .result) (c .before .before .before .before .loop-test .taken) (v .0) (c .before .before .before .high-at .ensures) (v .2) (c .put-row .ensures))
+
+returns : tie.Need-returns Inv-loop μ-loop
+returns c = rows-end (c .before .before .before .before .args .kinds .now) (c .before .before .before .before .args .operands .now) (c .before .before .before .before .args .at) (c .before .loop .i) (c .before .before .before .before .args .count) (c .loop-test .left) (c .before .loop .inv .2)
+
+pub put-parameters-spec : {M : Type 1} → statement M
+put-parameters-spec =
+    tie.close
+    (tie.spec
+    Inv-loop
+    μ-loop
+    loop-holds
+    sub-i
+    add-high-at
+    high-at-requires
+    cast-put-row
+    cast-put-row-2
+    mul-put-row
+    add-put-row
+    put-row-requires
+    loop-less
+    loop-again
+    returns)

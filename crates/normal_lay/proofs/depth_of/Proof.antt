@@ -1,0 +1,21 @@
+use Rattle.normal_lay.proofs.Laws.{depth-name, depth-number}
+use mathlib.Core.Path.{_≡_, refl, sym, ap, _∙_}
+use native.Mathlib.Omega.{arith}
+use Prim.Native.Nat.{ℕ, _+_, _-_, _*_, _<_, _≤_}
+use borrow.Author.Needs.{needs}
+use Rattle.normal_lay.proofs.depth_of.Statement.{statement}
+use Rattle.normal_lay.proofs.depth_of.Tie as tie
+use Rattle.normal_lay.proofs.depth_of.Reads as reads
+use Rattle.normal_lay.proofs.depth_of.Lts as lts
+
+element-copy-out-result : tie.Need-element-copy-out-result
+element-copy-out-result c = search needs
+
+returns : tie.Need-returns
+returns c = depth-name (c .before .before .args .depths .now) (c .before .before .args .place) (c .before .if1 .taken)
+
+returns-2 : tie.Need-returns-2
+returns-2 c = depth-number (c .before .args .depths .now) (c .before .args .place) (c .if1 .left)
+
+pub depth-of-spec : {M : Type 1} → statement M
+depth-of-spec = tie.close (tie.spec element-copy-out-result returns returns-2)

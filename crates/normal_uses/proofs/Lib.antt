@@ -1,0 +1,4 @@
+pub mod Atoms
+pub mod Bits
+pub mod Effects
+pub mod Walks

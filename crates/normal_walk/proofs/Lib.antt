@@ -1,0 +1,4 @@
+pub mod Trees
+pub mod Lines
+pub mod Annotated
+pub mod Right

@@ -1,0 +1,201 @@
+-- Laws of the names that are released and retained.
+use mathlib.Core.Path.{_≡_, refl, sym, ap, _∙_, fun-ext}
+use mathlib.Core.Bool.{Bool, true, false, not, _&&_, _||_}
+use mathlib.Core.List.{List, [], _∷_, _++_, map}
+use Prim.Native.Nat.{ℕ, zero, suc, _+_, _-_, _*_, _<_, _≤_}
+use native.Mathlib.Omega.{arith}
+use native.Mathlib.Decide.{ℕ-discrete}
+use lib.IntN.{ℤ}
+use lib.Dec.{ltb, eqb}
+use lib.ListN.{length, getD}
+use borrow.Author.Tests.{lt-ltb, le-ltb, eq-eqb, ne-eqb}
+use Rattle.semantics.specs.Basics.{with-if}
+use Rattle.semantics.specs.Code.{Atom, number, name, Row, row, atom-row}
+use Rattle.semantics.specs.Live.{Set, empty, is, only, among, _∪_, members-from, members}
+use Rattle.semantics.specs.Annotate.{NameDepths, is-array, dying, handed-again}
+use Rattle.normal_code.specs.Plain.{meant, placed, atoms-at, set-of}
+use Rattle.normal_code.specs.declared.Atom as P
+use Rattle.normal_code.proofs.Trees.{atoms-more, atoms-none, atoms-all}
+use Rattle.normal_write.specs.Wrote.{Wrote}
+use Rattle.normal_write.specs.Parts.{retain-rows, release-rows, handed-one, indexing}
+use Rattle.normal_write.proofs.Rows.{map-append, append-none, wrote-none, wrote-then, wrote-as}
+
+and-false : (b : Bool) → b && false ≡ false
+and-false true = refl
+and-false false = refl
+
+-- ---- releases
+
+-- the test of a name that is released
+abbrev pub dies : NameDepths → Set → Set → Set
+dies Γ used A = λ x. used x && (is-array Γ x && not (A x))
+
+-- the releases of the names from i on
+abbrev pub releases-from : NameDepths → Set → Set → ℕ → List Row
+releases-from Γ used A i = release-rows (members-from (256 - i) i (dies Γ used A))
+
+with-if-append : (b : Bool) (x : ℕ) (l : List ℕ) → with-if b x l ≡ with-if b x [] ++ l
+with-if-append true x l = refl
+with-if-append false x l = refl
+
+module _ (Γ : NameDepths) (used A : Set) where
+  pub release-none : {k : List ℕ} {o : List ℤ} {w : ℕ} → Wrote k o k o w w (releases-from Γ used A 256)
+  unfolding members-from
+  release-none = wrote-none
+
+  pub release-more : (i : ℕ) → 0 < i → i ≤ 256 →
+      release-rows (with-if (dies Γ used A (i - 1)) (i - 1) []) ++ releases-from Γ used A i ≡ releases-from Γ used A (i - 1)
+  unfolding members-from
+  release-more i g h =
+      sym (ap (λ (n : ℕ). release-rows (members-from n (i - 1) (dies Γ used A))) (let e : 256 - (i - 1) ≡ suc (256 - i) = omega arith in e)
+      ∙ ap (λ (n : ℕ). release-rows (with-if (dies Γ used A (i - 1)) (i - 1) (members-from (256 - i) n (dies Γ used A)))) (let e : suc (i - 1) ≡ i = omega arith in e)
+      ∙ ap (λ (l : List ℕ). release-rows l) (with-if-append (dies Γ used A (i - 1)) (i - 1) (members-from (256 - i) i (dies Γ used A)))
+      ∙ map-append _ (with-if (dies Γ used A (i - 1)) (i - 1) []) (members-from (256 - i) i (dies Γ used A)))
+
+  pub release-all : {k k₁ : List ℕ} {o o₁ : List ℤ} {w w₁ i : ℕ} → i ≤ 0 → Wrote k o k₁ o₁ w w₁ (releases-from Γ used A i) →
+      Wrote k o k₁ o₁ w w₁ (release-rows (dying Γ used A))
+  unfolding dying members
+  release-all {i = i} h r = let e : i ≡ 0 = omega arith in rw e at r
+
+-- one name
+no-member : (n i x : ℕ) (P : Set) → x < i → members-from n i (λ y. eqb x y && P y) ≡ []
+unfolding members-from
+no-member zero i x P h = refl
+no-member (suc n) i x P h = rw (ne-eqb x i (λ e. omega arith)) (no-member n (suc i) x P (omega arith))
+
+one-member : (n i x : ℕ) (P : Set) → i ≤ x → x < i + n → members-from n i (λ y. eqb x y && P y) ≡ with-if (P x) x []
+unfolding members-from
+one-member zero i x P h g = absurd (let f : ⊥ = omega arith in f)
+one-member (suc n) i x P h g = go (ℕ-discrete x i) (λ f. one-member n (suc i) x P (omega (arith, f)) (omega arith))
+  where
+    go : Dec (x ≡ i) → ((x ≡ i → ⊥) → members-from n (suc i) (λ y. eqb x y && P y) ≡ with-if (P x) x []) →
+        with-if (eqb x i && P i) i (members-from n (suc i) (λ y. eqb x y && P y)) ≡ with-if (P x) x []
+    go (yes e) later = rw (← e, eq-eqb x x refl, no-member n (suc x) x P (omega arith))
+    go (no f) later = rw (ne-eqb x i f) (later f)
+
+nothing-from : (n i : ℕ) → members-from n i empty ≡ []
+unfolding members-from
+nothing-from zero i = refl
+nothing-from (suc n) i = nothing-from n (suc i)
+
+module _ (Γ : NameDepths) where
+  pub dying-one : (x : ℕ) (A : Set) → x < 256 → with-if (is-array Γ x && not (A x)) x [] ≡ dying Γ (only x) A
+  unfolding dying members
+  dying-one x A h = sym (one-member 256 0 x (λ y. is-array Γ y && not (A y)) (omega arith) (omega arith))
+
+  pub dying-none : (A : Set) → [] ≡ dying Γ empty A
+  unfolding dying members
+  dying-none A = sym (nothing-from 256 0)
+
+-- whether one name is released
+module _ (x : ℕ) where
+  pub release-unused : (u l : Bool) (d : ℕ) → u ≡ false → [] ≡ release-rows (with-if (u && (ltb 0 d && not l)) x [])
+  release-unused u l d e = rw e
+
+  pub release-number : (u l : Bool) (e d : ℕ) → e ≡ d → e ≤ 0 → [] ≡ release-rows (with-if (u && (ltb 0 d && not l)) x [])
+  release-number u l e d f h = rw (← f, le-ltb 0 e h, and-false u)
+
+  pub release-live : (u l : Bool) (d : ℕ) → l ≡ true → [] ≡ release-rows (with-if (u && (ltb 0 d && not l)) x [])
+  release-live u l d e = rw (e, and-false (ltb 0 d), and-false u)
+
+  pub release-on : (u l : Bool) (e d : ℕ) → u ≡ true → e ≡ d → 0 < e → l ≡ false →
+      row 15 x ∷ [] ≡ release-rows (with-if (u && (ltb 0 d && not l)) x [])
+  release-on u l e d f g h i = rw (f, ← g, lt-ltb 0 e h, i)
+
+-- ---- retains
+
+module _ (x : ℕ) where
+  pub retain-on : (e d : ℕ) → e ≡ d → 0 < e → row 14 x ∷ [] ≡ retain-rows (with-if (ltb 0 d) x [])
+  retain-on e d f h = rw (← f, lt-ltb 0 e h)
+
+  pub retain-off : (e d : ℕ) → e ≡ d → e ≤ 0 → [] ≡ retain-rows (with-if (ltb 0 d) x [])
+  retain-off e d f h = rw (← f, le-ltb 0 e h)
+
+module _ (Γ : NameDepths) where
+  pub handed-on : (x : ℕ) (A : Set) → A x ≡ true → with-if (ltb 0 (Γ x)) x [] ≡ handed-one Γ (name x) A
+  unfolding handed-one
+  handed-on x A e = rw e (go (ltb 0 (Γ x)))
+    where
+      go : (b : Bool) → with-if b x [] ≡ with-if (b && true) x []
+      go true = refl
+      go false = refl
+
+  pub handed-off : (x : ℕ) (A : Set) → A x ≡ false → [] ≡ handed-one Γ (name x) A
+  unfolding handed-one
+  handed-off x A e = rw (e, and-false (ltb 0 (Γ x)))
+
+  pub handed-number : (z : ℤ) (A : Set) → [] ≡ handed-one Γ (number z) A
+  unfolding handed-one
+  handed-number z A = refl
+
+  pub handed-cons : (a : Atom) (us : List Atom) (A : Set) → handed-one Γ a (among us A) ++ handed-again Γ us A ≡ handed-again Γ (a ∷ us) A
+  unfolding handed-one handed-again
+  handed-cons (number z) us A = refl
+  handed-cons (name x) us A = sym (with-if-append (is-array Γ x && among us A x) x (handed-again Γ us A))
+
+-- ---- atoms, from the last to the first
+
+module _ (w rows : List ℕ) (at : ℕ) where
+  pub atoms-begin : (m : ℕ) {k : List ℕ} {o : List ℤ} {v : ℕ} → Wrote k o k o v v (map atom-row (atoms-at w rows (at + m) (m - m)))
+  atoms-begin m = wrote-as (sym (ap (map atom-row) (atoms-none w rows (at + m) m))) wrote-none
+
+  pub atoms-go : (i m r : ℕ) (a : P.Atom) → 0 < i → i ≤ m → r ≡ getD rows (at + (i - 1)) 0 → a ≡ placed w r →
+      {k k₁ k₂ : List ℕ} {o o₁ o₂ : List ℤ} {v v₁ v₂ : ℕ} →
+      Wrote k o k₁ o₁ v v₁ (map atom-row (atoms-at w rows (at + i) (m - i))) → Wrote k₁ o₁ k₂ o₂ v₁ v₂ (atom-row (meant a) ∷ []) →
+      Wrote k o k₂ o₂ v v₂ (map atom-row (atoms-at w rows (at + (i - 1)) (m - (i - 1))))
+  atoms-go i m r a g h e f x y =
+      wrote-as (sym (ap (map atom-row) (atoms-more w rows at i m g h) ∙ rw (← e, ← f))) (wrote-then x y)
+
+  pub atoms-end : (i m : ℕ) → i ≤ 0 → {k k₁ : List ℕ} {o o₁ : List ℤ} {v v₁ : ℕ} →
+      Wrote k o k₁ o₁ v v₁ (map atom-row (atoms-at w rows (at + i) (m - i))) → Wrote k o k₁ o₁ v v₁ (map atom-row (atoms-at w rows at m))
+  atoms-end i m h x = wrote-as (ap (map atom-row) (atoms-all w rows at i m (omega arith))) x
+
+  module _ (Γ : NameDepths) (A : Set) where
+    abbrev pub retains-at : ℕ → ℕ → List Row
+    retains-at i m = retain-rows (handed-again Γ (atoms-at w rows (at + i) (m - i)) A)
+
+    pub retains-begin : (m : ℕ) {k : List ℕ} {o : List ℤ} {v : ℕ} → Wrote k o k o v v (retains-at m m)
+    unfolding handed-again
+    retains-begin m =
+        wrote-as (sym (ap (λ (us : List Atom). retain-rows (handed-again Γ us A)) (atoms-none w rows (at + m) m))) wrote-none
+
+    pub retains-go : (i m r : ℕ) (a : P.Atom) (S : Set) → 0 < i → i ≤ m → r ≡ getD rows (at + (i - 1)) 0 → a ≡ placed w r →
+        S ≡ among (atoms-at w rows (at + i) (m - i)) A → {k k₁ k₂ : List ℕ} {o o₁ o₂ : List ℤ} {v v₁ v₂ : ℕ} →
+        Wrote k o k₁ o₁ v v₁ (retains-at i m) → Wrote k₁ o₁ k₂ o₂ v₁ v₂ (retain-rows (handed-one Γ (meant a) S)) →
+        Wrote k o k₂ o₂ v v₂ (retains-at (i - 1) m)
+    retains-go i m r a S g h e f s x y =
+        wrote-as
+        (sym (map-append _ (handed-one Γ (meant a) S) (handed-again Γ (atoms-at w rows (at + i) (m - i)) A))
+        ∙ ap (λ (l : List ℕ). retain-rows l) (names s (meant a) (ap meant (f ∙ ap (placed w) e))))
+        (wrote-then x y)
+      where
+        names : S ≡ among (atoms-at w rows (at + i) (m - i)) A → (b : Atom) → b ≡ meant (placed w (getD rows (at + (i - 1)) 0)) →
+            handed-one Γ b S ++ handed-again Γ (atoms-at w rows (at + i) (m - i)) A
+            ≡ handed-again Γ (atoms-at w rows (at + (i - 1)) (m - (i - 1))) A
+        names s b q =
+            rw (s, q, atoms-more w rows at i m g h)
+            (handed-cons Γ (meant (placed w (getD rows (at + (i - 1)) 0))) (atoms-at w rows (at + i) (m - i)) A)
+
+    pub retains-end : (i m : ℕ) → i ≤ 0 → {k k₁ : List ℕ} {o o₁ : List ℤ} {v v₁ : ℕ} → Wrote k o k₁ o₁ v v₁ (retains-at i m) →
+        Wrote k o k₁ o₁ v v₁ (retain-rows (handed-again Γ (atoms-at w rows at m) A))
+    retains-end i m h x =
+        wrote-as (ap (λ (us : List Atom). retain-rows (handed-again Γ us A)) (atoms-all w rows at i m (omega arith))) x
+
+-- ---- sets of one and two names
+
+union-none : (A : Set) → A ∪ empty ≡ A
+union-none A = fun-ext (λ x. go (A x))
+  where
+    go : (b : Bool) → b || false ≡ b
+    go true = refl
+    go false = refl
+
+pub only-one : (x : ℕ) (N O : Set) → N ≡ empty → O ≡ only x ∪ N → O ≡ only x
+only-one x N O e f = f ∙ ap (λ (S : Set). only x ∪ S) e ∙ union-none (only x)
+
+pub index-rows : (Γ : NameDepths) (x : ℕ) (a b : Atom) (N O U A : Set) → N ≡ empty → O ≡ only x ∪ N → U ≡ is a ∪ O →
+    (row 10 x ∷ []) ++ ((atom-row a ∷ []) ++ ((atom-row b ∷ []) ++ (retain-rows (with-if (is-array Γ x) x []) ++ release-rows (dying Γ U A))))
+    ≡ indexing Γ x a b A
+index-rows Γ x a b N O U A e f g =
+    ap (λ (S : Set). row 10 x ∷ (atom-row a ∷ (atom-row b ∷ (retain-rows (with-if (is-array Γ x) x []) ++ release-rows (dying Γ S A)))))
+    (g ∙ ap (λ (S : Set). is a ∪ S) (only-one x N O e f))

@@ -1,0 +1,21 @@
+use borrow.Author.Tests.{ne-eqb}
+use mathlib.Core.Path.{_≡_, refl, sym, ap, _∙_}
+use native.Mathlib.Omega.{arith}
+use Prim.Native.Nat.{ℕ, _+_, _-_, _*_, _<_, _≤_}
+use borrow.Author.Needs.{needs}
+use Rattle.normal_write.proofs.operation_kind.Statement.{statement}
+use Rattle.normal_write.proofs.operation_kind.Tie as tie
+use Rattle.normal_write.proofs.operation_kind.Reads as reads
+use Rattle.normal_write.proofs.operation_kind.Lts as lts
+
+returns : tie.Need-returns
+returns c = rw (c .if1 .taken)
+
+returns-2 : tie.Need-returns-2
+returns-2 c = rw (ne-eqb (c .before .before .args .kind) 4 (c .before .if1 .left), c .if2 .taken)
+
+returns-3 : tie.Need-returns-3
+returns-3 c = rw (ne-eqb (c .before .before .args .kind) 4 (c .before .if1 .left), ne-eqb (c .before .before .args .kind) 5 (c .if2 .left))
+
+pub operation-kind-spec : {M : Type 1} → statement M
+operation-kind-spec = tie.close (tie.spec returns returns-2 returns-3)

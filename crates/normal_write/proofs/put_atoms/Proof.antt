@@ -1,0 +1,67 @@
+use mathlib.Core.List.{List, map}
+use Rattle.semantics.specs.Code.{atom-row}
+use Rattle.normal_code.specs.Plain.{atoms-at}
+use Rattle.normal_write.specs.Wrote.{Wrote}
+use Rattle.normal_write.proofs.Rows.{lower}
+use Rattle.normal_write.proofs.Names.{atoms-begin, atoms-go, atoms-end}
+use mathlib.Core.Path.{_≡_, refl, sym, ap, _∙_}
+use native.Mathlib.Omega.{arith}
+use Prim.Native.Nat.{ℕ, _+_, _-_, _*_, _<_, _≤_}
+use borrow.Author.Needs.{needs}
+use Rattle.normal_write.proofs.put_atoms.Statement.{statement}
+use Rattle.normal_write.proofs.put_atoms.Tie as tie
+use Rattle.normal_write.proofs.put_atoms.Reads as reads
+use Rattle.normal_write.proofs.put_atoms.Lts as lts
+use Rattle.normal_code.proofs.atom_of.Reads as atom-of-reads
+use Rattle.normal_code.proofs.row_at.Reads as row-at-reads
+use Rattle.normal_write.proofs.put_atom.Reads as put-atom-reads
+
+abbrev Inv-loop : tie.InvT-loop
+Inv-loop ks₀ os₀ operands rows at m w v₀ i₀ ks os v i =
+    (i ≤ m) × (m < 256) × (v ≤ 4097) × Wrote ks₀ os₀ ks os w v (map atom-row (atoms-at operands rows (at + i) (m - i)))
+
+abbrev μ-loop : tie.MeasureT-loop
+μ-loop ks₀ os₀ operands rows at m w v₀ i₀ ks os v i = i
+
+loop-holds : tie.Need-loop-holds Inv-loop μ-loop
+loop-holds c = (omega arith, omega arith, omega arith, atoms-begin (c .before .before .args .operands .now) (c .before .before .args .rows .now) (c .before .before .args .at) (c .before .before .args .m))
+
+sub-i : tie.Need-sub-i Inv-loop μ-loop
+sub-i c = search needs
+
+add-row-at : tie.Need-add-row-at Inv-loop μ-loop
+add-row-at c = search needs
+
+row-at-requires : tie.Need-row-at-requires Inv-loop μ-loop
+row-at-requires c κs = search needs
+
+atom-of-requires : tie.Need-atom-of-requires Inv-loop μ-loop
+atom-of-requires c κs = search needs
+
+put-atom-requires : tie.Need-put-atom-requires Inv-loop μ-loop
+put-atom-requires c κs = search needs
+
+loop-less : tie.Need-loop-less Inv-loop μ-loop
+loop-less c = search needs
+
+loop-again : tie.Need-loop-again Inv-loop μ-loop
+loop-again c = let v = c .before .before .before .before .before .before .loop .inv in (omega arith, v .1, lower (c .put-atom .ensures) (v .2), atoms-go (c .before .before .before .before .before .before .before .before .before .args .operands .now) (c .before .before .before .before .before .before .before .before .before .args .rows .now) (c .before .before .before .before .before .before .before .before .before .args .at) (c .before .before .before .before .before .before .loop .i) (c .before .before .before .before .before .before .before .before .before .args .m) (c .before .before .before .before .row-at .result) (c .before .before .before .atom-of .result) (c .before .before .before .before .before .loop-test .taken) (v .0) (c .before .before .before .before .row-at .ensures) (c .before .before .before .atom-of .ensures) (v .3) (c .put-atom .ensures))
+
+returns : tie.Need-returns Inv-loop μ-loop
+returns c = atoms-end (c .before .before .before .before .args .operands .now) (c .before .before .before .before .args .rows .now) (c .before .before .before .before .args .at) (c .before .loop .i) (c .before .before .before .before .args .m) (c .loop-test .left) (c .before .loop .inv .3)
+
+pub put-atoms-spec : {M : Type 1} → statement M
+put-atoms-spec =
+    tie.close
+    (tie.spec
+    Inv-loop
+    μ-loop
+    loop-holds
+    sub-i
+    add-row-at
+    row-at-requires
+    atom-of-requires
+    put-atom-requires
+    loop-less
+    loop-again
+    returns)

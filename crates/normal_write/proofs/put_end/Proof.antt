@@ -1,0 +1,27 @@
+use Rattle.normal_write.proofs.Rows.{wrote-then, lower}
+use mathlib.Core.Path.{_≡_, refl, sym, ap, _∙_}
+use native.Mathlib.Omega.{arith}
+use Prim.Native.Nat.{ℕ, _+_, _-_, _*_, _<_, _≤_}
+use borrow.Author.Needs.{needs}
+use Rattle.normal_write.proofs.put_end.Statement.{statement}
+use Rattle.normal_write.proofs.put_end.Tie as tie
+use Rattle.normal_write.proofs.put_end.Reads as reads
+use Rattle.normal_write.proofs.put_end.Lts as lts
+use Rattle.normal_write.proofs.put_atom.Reads as put-atom-reads
+use Rattle.normal_write.proofs.put_row.Reads as put-row-reads
+use Rattle.normal_write.proofs.retain_atom.Reads as retain-atom-reads
+
+put-atom-requires : tie.Need-put-atom-requires
+put-atom-requires c κs = search needs
+
+put-row-requires : tie.Need-put-row-requires
+put-row-requires c κs = lower (c .before .before .put-atom .ensures) (omega arith)
+
+retain-atom-requires : tie.Need-retain-atom-requires
+retain-atom-requires c κs = lower (c .before .before .put-row .ensures) (lower (c .before .before .before .before .before .put-atom .ensures) (omega arith))
+
+returns : tie.Need-returns
+returns c = wrote-then (wrote-then (c .before .before .before .before .before .before .put-atom .ensures) (c .before .before .before .put-row .ensures)) (c .retain-atom .ensures)
+
+pub put-end-spec : {M : Type 1} → statement M
+put-end-spec = tie.close (tie.spec put-atom-requires put-row-requires retain-atom-requires returns)

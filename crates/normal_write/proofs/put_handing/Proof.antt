@@ -1,0 +1,36 @@
+use native.Mathlib.Omega.{arith}
+use Rattle.normal_write.proofs.Rows.{wrote-then, lower}
+use borrow.Author.Needs.{needs}
+use Rattle.normal_write.proofs.put_handing.Statement.{statement}
+use Rattle.normal_write.proofs.put_handing.Tie as tie
+use Rattle.normal_write.proofs.put_handing.Reads as reads
+use Rattle.normal_write.proofs.put_handing.Lts as lts
+use Rattle.normal_write.proofs.put_atoms.Reads as put-atoms-reads
+use Rattle.normal_write.proofs.put_release.Reads as put-release-reads
+use Rattle.normal_write.proofs.put_retains.Reads as put-retains-reads
+use Rattle.normal_write.proofs.put_row.Reads as put-row-reads
+
+put-release-requires : tie.Need-put-release-requires
+put-release-requires c κs = search needs
+
+put-atoms-requires : tie.Need-put-atoms-requires
+put-atoms-requires c κs = (omega arith, lower (c .before .before .put-release .ensures) (omega arith))
+
+put-row-requires : tie.Need-put-row-requires
+put-row-requires c κs = lower (c .before .before .put-atoms .ensures) (lower (c .before .before .before .before .before .put-release .ensures) (omega arith))
+
+put-retains-requires : tie.Need-put-retains-requires
+put-retains-requires c κs = (omega arith, lower (c .before .before .put-row .ensures) (lower (c .before .before .before .before .before .put-atoms .ensures) (lower (c .before .before .before .before .before .before .before .before .put-release .ensures) (omega arith))))
+
+returns : tie.Need-returns
+returns c = wrote-then (wrote-then (wrote-then (c .before .before .before .before .before .before .before .before .before .put-release .ensures) (c .before .before .before .before .before .before .put-atoms .ensures)) (c .before .before .before .put-row .ensures)) (c .put-retains .ensures)
+
+pub put-handing-spec : {M : Type 1} → statement M
+put-handing-spec =
+    tie.close
+    (tie.spec
+    put-release-requires
+    put-atoms-requires
+    put-row-requires
+    put-retains-requires
+    returns)

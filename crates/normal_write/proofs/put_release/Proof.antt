@@ -1,0 +1,26 @@
+use Rattle.normal_code.specs.Plain.{set-of}
+use Rattle.normal_write.specs.Parts.{depth-in, release-rows}
+use Rattle.normal_write.proofs.Rows.{wrote-as}
+use Rattle.normal_write.proofs.Names.{dying-one}
+use mathlib.Core.List.{List}
+use mathlib.Core.Path.{_≡_, refl, sym, ap, _∙_}
+use native.Mathlib.Omega.{arith}
+use Prim.Native.Nat.{ℕ, _+_, _-_, _*_, _<_, _≤_}
+use borrow.Author.Needs.{needs}
+use Rattle.normal_write.proofs.put_release.Statement.{statement}
+use Rattle.normal_write.proofs.put_release.Tie as tie
+use Rattle.normal_write.proofs.put_release.Reads as reads
+use Rattle.normal_write.proofs.put_release.Lts as lts
+use Rattle.normal_write.proofs.release_one.Reads as release-one-reads
+
+array-read-l : tie.Need-array-read-l
+array-read-l c = search needs
+
+release-one-requires : tie.Need-release-one-requires
+release-one-requires c κs = search needs
+
+returns : tie.Need-returns
+returns c = wrote-as (ap (λ (l : List ℕ). release-rows l) (dying-one (depth-in (c .before .before .before .before .args .depths .now)) (c .before .before .before .before .args .x) (set-of (c .before .before .before .before .args .t5)) (search needs))) (c .release-one .ensures)
+
+pub put-release-spec : {M : Type 1} → statement M
+put-release-spec = tie.close (tie.spec array-read-l release-one-requires returns)

@@ -1,0 +1,27 @@
+use Rattle.normal_write.proofs.Rows.{wrote-none, wrote-as}
+use Rattle.normal_write.proofs.Names.{retain-on, retain-off}
+use mathlib.Core.Path.{_≡_, refl, sym, ap, _∙_}
+use native.Mathlib.Omega.{arith}
+use Prim.Native.Nat.{ℕ, _+_, _-_, _*_, _<_, _≤_}
+use borrow.Author.Needs.{needs}
+use Rattle.normal_write.proofs.put_retain.Statement.{statement}
+use Rattle.normal_write.proofs.put_retain.Tie as tie
+use Rattle.normal_write.proofs.put_retain.Reads as reads
+use Rattle.normal_write.proofs.put_retain.Lts as lts
+use Rattle.normal_write.proofs.depth_at.Reads as depth-at-reads
+use Rattle.normal_write.proofs.put_row.Reads as put-row-reads
+
+depth-at-requires : tie.Need-depth-at-requires
+depth-at-requires c κs = search needs
+
+put-row-requires : tie.Need-put-row-requires
+put-row-requires c κs = search needs
+
+returns : tie.Need-returns
+returns c = wrote-as (retain-on (c .before .before .before .before .before .before .args .x) (c .before .before .before .before .depth-at .result) _ (c .before .before .before .before .depth-at .ensures) (c .before .before .before .if1 .taken)) (c .put-row .ensures)
+
+returns-2 : tie.Need-returns-2
+returns-2 c = wrote-as (retain-off (c .before .before .before .args .x) (c .before .depth-at .result) _ (c .before .depth-at .ensures) (c .if1 .left)) wrote-none
+
+pub put-retain-spec : {M : Type 1} → statement M
+put-retain-spec = tie.close (tie.spec depth-at-requires put-row-requires returns returns-2)
