@@ -77,7 +77,8 @@ arguments-agree calls ws env few long = record {
       ap (λ (q : ℕ). getD (put-all ws (place calls 0) env) q (pos 0)) (let z : place calls x ≡ place calls 0 + x =
       omega arith in z)
       ∙ put-there ws (place calls 0) env x (ltb-true x (length ws) e) (omega (arith, few, long))
-      ∙ sym (ap (frame-from ws 0) (let z : x ≡ 0 + x = omega arith in z) ∙ frame-at ws 0 x (ltb-true x (length ws) e));
+      ∙ sym (ap (frame-from ws 0) (let z : x ≡ 0 + x = omega arith in z) ∙ frame-at ws 0 x (ltb-true x (length ws)
+      e));
 }
 
 -- ---- the functions of a script in the code
@@ -120,7 +121,8 @@ module _ (F : Functions) (c : Code) (rs : List Routine) (all : (g : ℕ) → g <
   }
   calls-same (suc n) small = record {
     same = λ R g ws env s h a long.
-        rel-map (TreeDone (start-in (c .table) g + length (rows (getD rs g no-routine .tree))) n (put-all ws (place n
+        rel-map (TreeDone (start-in (c .table) g + length (rows (getD rs g no-routine .tree))) n (put-all ws (place
+        n
         0) env) (parameters (length ws)))
         (CallDone (suc n) env)
         (tree-on 4096 (call-on n c) c n g (start-in (c .table) g) (s .left) (memory (s .store) (put-all ws (place n

@@ -266,7 +266,8 @@ module _ (callee : Callee) (Γ : NameDepths) (kinds : List ℕ) (operands : List
         refl,
         bound-done calls env env ρ S b g long (kept-none calls env S) x fresh (getD l
             (natAbs w) (pos 0))
-            (at + 3) n (s .store) (M.with-store (with-left s n) (s .store) (touching (s .store) (cell-of (word ρ a))))
+            (at + 3) n (s .store) (M.with-store (with-left s n) (s .store) (touching (s .store) (cell-of (word ρ
+            a))))
             refl refl,
       )
       go n l w false e = rw e (record { stop = refl; real = λ z. omega arith; steps = refl })

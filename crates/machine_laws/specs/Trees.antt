@@ -131,7 +131,8 @@ module _ (callee : M.Callee) (Γ : NameDepths) (F : Functions) (c : Code) (calls
       refl,
       subst (λ (y : ℤ). LineDone next′ calls env S (S ∪ only x) (binding calls x next′ w) (updated ρ x y) s′) (h
           .value)
-          (bound-done calls env (w .memory .env) ρ S b g long (h .kept) x fresh (w .out .value) next′ (w .out .steps)
+          (bound-done calls env (w .memory .env) ρ S b g long (h .kept) x fresh (w .out .value) next′ (w .out
+          .steps)
           (w .memory .store) s′ (h .steps) (h .store)),
     )
 

@@ -187,11 +187,21 @@ module _ (signatures : ℕ → Signature) (Γ : NameDepths) (F : Functions)
             fresh-from x S c c′ w p (h .0),
             scoped-releases S (dying Γ (uses e) (live t B)) (annotate Γ t B)
                 (in-dying S (uses e) (live t B) (uses-in e S (f .2 .0) (Γ x) (f .2 .2)))
-                (tree-scoped t S B (f .1 .0) (Γ x) (f .1 .2) (within-up S c (f .1 .0) (omega (arith, p .above, f .1 .1))
+                (tree-scoped t S B (f .1 .0) (Γ x) (f .1 .2) (within-up S c (f .1 .0) (omega (
+                  arith,
+                  p .above,
+                  f .1
+                      .1,
+                ))
                 w) (h .1)),
             scoped-releases S (dying Γ (uses t) (live e B)) (annotate Γ e B)
                 (in-dying S (uses t) (live e B) (uses-in t S (f .1 .0) (Γ x) (f .1 .2)))
-                (tree-scoped e S B (f .2 .0) (Γ x) (f .2 .2) (within-up S c (f .2 .0) (omega (arith, p .above, f .2 .1))
+                (tree-scoped e S B (f .2 .0) (Γ x) (f .2 .2) (within-up S c (f .2 .0) (omega (
+                  arith,
+                  p .above,
+                  f .2
+                      .1,
+                ))
                 w) (h .2)),
           ),
           scoped-releases (S ∪ only x) (dying Γ (only x) A) k (in-dying (S ∪ only x) (only x) A (new-in S x)) (r

@@ -96,7 +96,8 @@ front-written (r ∷ rs) ks ps os qs e = (
       (subst (λ (l : List ℕ). At l (qs ++ (r .operand ∷ (map (λ x. x .operand) rs ++ os))) (length (ps ++ (r .kind ∷
       []))) rs)
       (append-assoc ps (r .kind ∷ []) (map (λ x. x .kind) rs ++ ks))
-      (subst (λ (l : List ℤ). At ((ps ++ (r .kind ∷ [])) ++ (map (λ x. x .kind) rs ++ ks)) l (length (ps ++ (r .kind ∷
+      (subst (λ (l : List ℤ). At ((ps ++ (r .kind ∷ [])) ++ (map (λ x. x .kind) rs ++ ks)) l (length (ps ++ (r .kind
+      ∷
       []))) rs)
       (append-assoc qs (r .operand ∷ []) (map (λ x. x .operand) rs ++ os))
       (front-written rs ks (ps ++ (r .kind ∷ [])) os (qs ++ (r .operand ∷ [])) y))),

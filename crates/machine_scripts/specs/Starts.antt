@@ -29,7 +29,8 @@ length-start table f start =
     ∙ length-set table (8192 + 2 * f) (start % 256)
 
 -- what stands before a function's position stays
-start-below : (table : List ℕ) (f start i : ℕ) → i < 8192 + 2 * f → getD (with-start table f start) i 0 ≡ getD table i 0
+start-below : (table : List ℕ) (f start i : ℕ) → i < 8192 + 2 * f → getD (with-start table f start) i 0 ≡ getD table
+    i 0
 start-below table f start i h =
     getD-set-other (set table (8192 + 2 * f) (start % 256)) (8192 + 2 * f + 1) i (start / 256 % 256) 0
     (λ e. omega (arith, e, h))
@@ -40,7 +41,8 @@ start-read : (table : List ℕ) (f start : ℕ) → Roomy table → f < 32 → s
 unfolding start-in
 start-read table f start long h small =
     let low : getD (with-start table f start) (8192 + 2 * f) 0 ≡ start % 256 =
-    getD-set-other (set table (8192 + 2 * f) (start % 256)) (8192 + 2 * f + 1) (8192 + 2 * f) (start / 256 % 256) 0
+    getD-set-other (set table (8192 + 2 * f) (start % 256)) (8192 + 2 * f + 1) (8192 + 2 * f) (start / 256 %
+    256) 0
     (λ e. omega (arith, e))
     ∙ getD-set-same table (8192 + 2 * f) (start % 256) 0 (omega (arith, long, h)) in
     let high : getD (with-start table f start) (8192 + 2 * f + 1) 0 ≡ start / 256 % 256 =
@@ -60,7 +62,8 @@ module _ (kinds : List ℕ) (operands : List ℤ) (fs : Script) where
     where
       go : (t : Bool) →
           getD (starts-from n kinds operands (f + 1) (after 4096 1 (tree-start operands p) kinds)
-          (with-start table f (tree-start operands p))) i 0 ≡ getD (with-start table f (tree-start operands p)) i 0 →
+          (with-start table f (tree-start operands p))) i 0 ≡ getD (with-start table f (tree-start operands p)) i
+          0 →
           getD (cond t (starts-from n kinds operands (f + 1) (after 4096 1 (tree-start operands p) kinds)
           (with-start table f (tree-start operands p))) table) i 0 ≡ getD table i 0
       go true e = e ∙ start-below table f (tree-start operands p) i h
@@ -77,10 +80,12 @@ module _ (kinds : List ℕ) (operands : List ℤ) (fs : Script) where
       tree-start operands p ≡ p + (1 + length (g .parameters))
   unfolding function-rows
   start-is g p h few = rw (h .0 .operand)
-      (let z : (length (g .parameters) + 256 * g .result) % 256 ≡ length (g .parameters) = omega (arith, few) in omega (arith, z))
+      (let z : (length (g .parameters) + 256 * g .result) % 256 ≡ length (g .parameters) = omega (arith, few) in
+      omega (arith, z))
 
   next-is : (g : Function) (p : ℕ) → At kinds operands p (function-rows fs g) → length (g .parameters) ≤ 8 →
-      p + length (function-rows fs g) ≤ 4096 → after 4096 1 (tree-start operands p) kinds ≡ p + length (function-rows fs g)
+      p + length (function-rows fs g) ≤ 4096 → after 4096 1 (tree-start operands p) kinds ≡ p + length
+      (function-rows fs g)
   unfolding function-rows
   next-is g p h few short =
       let l = length-append (parameter-rows (g .parameters) 0) (rows (annotated-body fs g)) in
@@ -107,7 +112,8 @@ module _ (kinds : List ℕ) (operands : List ℤ) (fs : Script) where
   -- each position that the pass writes is that of the function's tree
   pub starts-stand : (gs : List Function) (f p : ℕ) (table : List ℕ) → At kinds operands p (functions-rows fs gs) →
       AllOf FunctionLimits gs → Roomy table → f + length gs ≤ 32 → p + length (functions-rows fs gs) ≤ 4096 →
-      (g : ℕ) → g < length gs → start-in (starts-from (length gs) kinds operands f p table) (f + g) ≡ p + body-at fs gs g
+      (g : ℕ) → g < length gs → start-in (starts-from (length gs) kinds operands f p table) (f + g) ≡ p + body-at fs
+      gs g
   unfolding functions-rows body-at function-rows
   starts-stand [] f p table h few long room short g l = absurd (omega arith)
   starts-stand (k ∷ gs) f p table h few long room short g l =
@@ -134,12 +140,14 @@ module _ (kinds : List ℕ) (operands : List ℤ) (fs : Script) where
           start-in (starts-from (length gs) kinds operands (f + 1) (p + length (function-rows fs k))
           (with-start table f (tree-start operands p))) (f + g) ≡ p + body-at fs (k ∷ gs) g
       by zero l more =
-          let e = start-is k p (at-first kinds operands p (function-rows fs k) (functions-rows fs gs) h) (few .0 .parameters) in
+          let e = start-is k p (at-first kinds operands p (function-rows fs k) (functions-rows fs gs) h) (few .0
+          .parameters) in
           ap (start-in (starts-from (length gs) kinds operands (f + 1) (p + length (function-rows fs k))
           (with-start table f (tree-start operands p)))) (let z : f + 0 ≡ f = omega arith in z)
           ∙ start-same (starts-from (length gs) kinds operands (f + 1) (p + length (function-rows fs k))
           (with-start table f (tree-start operands p))) (with-start table f (tree-start operands p)) f
-          (λ i m. starts-below (length gs) (f + 1) (p + length (function-rows fs k)) (with-start table f (tree-start operands p)) i m)
+          (λ i m. starts-below (length gs) (f + 1) (p + length (function-rows fs k)) (with-start table f
+          (tree-start operands p)) i m)
           ∙ start-read table f (tree-start operands p) long (omega (arith, room)) (omega (
             arith,
             e,
@@ -152,4 +160,5 @@ module _ (kinds : List ℕ) (operands : List ℤ) (fs : Script) where
           ap (start-in (starts-from (length gs) kinds operands (f + 1) (p + length (function-rows fs k))
           (with-start table f (tree-start operands p)))) (let z : f + suc j ≡ f + 1 + j = omega arith in z)
           ∙ more j (omega arith)
-          ∙ (let z : p + length (function-rows fs k) + body-at fs gs j ≡ p + (length (function-rows fs k) + body-at fs gs j) = omega arith in z)
+          ∙ (let z : p + length (function-rows fs k) + body-at fs gs j ≡ p + (length (function-rows fs k) + body-at
+          fs gs j) = omega arith in z)

@@ -11,15 +11,17 @@ use Rattle.machine_code.proofs.Reading.{less-one}
 use Rattle.machine_table.specs.Starts.{with-start, tree-start, starts-from}
 
 -- f functions are done; what is left gives what the whole gives
-pub record Filling (kinds : List ℕ) (operands : List ℤ) (functions : ℕ) (table₀ table : List ℕ) (f p : ℕ) : Type 0 where
-  pub same : starts-from functions kinds operands 0 0 table₀ ≡ starts-from (functions - f) kinds operands f p table
-  pub few : f ≤ functions
-  pub long : length table ≡ length table₀
+pub record Filling (kinds : List ℕ) (operands : List ℤ) (functions : ℕ) (table₀ table : List ℕ) (f p : ℕ) : Type 0
+  where
+    pub same : starts-from functions kinds operands 0 0 table₀ ≡ starts-from (functions - f) kinds operands f p table
+    pub few : f ≤ functions
+    pub long : length table ≡ length table₀
 
 pub filling-starts : (kinds : List ℕ) (operands : List ℤ) (functions : ℕ) (table : List ℕ) →
     Filling kinds operands functions table table 0 0
 filling-starts kinds operands functions table = record {
-  same = ap (λ (n : ℕ). starts-from n kinds operands 0 0 table) (let z : functions ≡ functions - 0 = omega arith in z);
+  same = ap (λ (n : ℕ). starts-from n kinds operands 0 0 table) (let z : functions ≡ functions - 0 = omega arith in
+      z);
   few = omega arith;
   long = refl;
 }

@@ -24,7 +24,8 @@ word-from-requires c κs = omega (
   next-small (c .before .before .before .before .before .before .before
       .before .before .before .before .before .before .before .args .slots .now) (c .before .before .before .before
       .before .before .before .before .before .before .before .before .before .before .args .heads .now) (c .before
-      .before .before .before .before .before .acquire .result) (c .before .c .given .0 .0) (c .before .before .before
+      .before .before .before .before .before .acquire .result) (c .before .c .given .0 .0) (c .before .before
+      .before
       .before .before .before .acquire .ensures .0) (c .before .c .given .1),
 )
 

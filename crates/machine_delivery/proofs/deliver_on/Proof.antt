@@ -21,7 +21,8 @@ attempt-requires c κs = omega (
   arith,
   shaped-means (c .before .before .before .before .before .before .before
       .before .before .args .slots .now) (c .before .before .before .before .before .before .before .before .before
-      .args .heads .now) (c .before .before .before .before .before .before .before .before .before .pre) .slots-long,
+      .args .heads .now) (c .before .before .before .before .before .before .before .before .before .pre)
+      .slots-long,
 )
 
 slice-aggregate-put-back : tie.Need-slice-aggregate-put-back

@@ -195,8 +195,10 @@ returns-2 c = λ k e. main-goes (code (c .before .before .before .before .before
     .before .before .before .work-tree .result .value) (omega (
       arith,
       c .before .before .before .before .before
-          .before .before .before .before .before .before .before .before .before .before .before .before .before .before
-          .before .before .before .before .before .before .before .before .before .before .before .before .before .before
+          .before .before .before .before .before .before .before .before .before .before .before .before .before
+          .before
+          .before .before .before .before .before .before .before .before .before .before .before .before .before
+          .before
           .before .pre,
       c .before .before .before .before .before .before .before .before .before .before .before .before
           .before .before .before .work-tree .kept .1 .1 .1 .0,

@@ -4,11 +4,6 @@ use Rattle.machine_table.proofs.Filling.{Filling, filling-starts, fille
 use borrow.Author.Needs.{needs}
 use Rattle.machine_table.proofs.fill_starts.Statement.{statement}
 use Rattle.machine_table.proofs.fill_starts.Tie as tie
-use Rattle.machine_table.proofs.fill_starts.Reads as reads
-use Rattle.machine_table.proofs.fill_starts.Lts as lts
-use Rattle.machine_code.proofs.after_tree.Reads as after-tree-reads
-use Rattle.machine_code.proofs.natural_at.Reads as natural-at-reads
-use Rattle.machine_table.proofs.put.Reads as put-reads
 
 abbrev Inv-loop : tie.InvT-loop
 Inv-loop kinds operands functions table₀ f₀ p₀ table f p = Filling kinds operands functions table₀ table f p
@@ -16,87 +11,105 @@ Inv-loop kinds operands functions table₀ f₀ p₀ table f p = Filling kinds o
 abbrev μ-loop : tie.MeasureT-loop
 μ-loop kinds operands functions table₀ f₀ p₀ table f p = functions - f
 
--- src/lib.rt:24:5
 loop-holds : tie.Need-loop-holds Inv-loop μ-loop
-loop-holds c = filling-starts (c .before .before .args .kinds .now) (c .before .before .args .operands .now) (c .before .before .args .functions) (c .before .before .args .table .now)
+loop-holds c = filling-starts (c .before .before .args .kinds .now) (c .before .before .args .operands .now) (c
+    .before .before .args .functions) (c .before .before .args .table .now)
 
--- src/lib.rt:26:13
 same-length : tie.Need-same-length Inv-loop μ-loop
 same-length c = c .before .before .loop .inv .long
 
--- src/lib.rt:26:13
 returns : tie.Need-returns Inv-loop μ-loop
 returns c = filled-past (c .before .before .loop .inv) (c .if1 .taken)
 
--- src/lib.rt:28:21
 natural-at-requires : tie.Need-natural-at-requires Inv-loop μ-loop
 natural-at-requires c κs = search needs
 
--- src/lib.rt:29:21
 add-start : tie.Need-add-start Inv-loop μ-loop
 add-start c = search needs
 
--- src/lib.rt:29:21
 add-start-2 : tie.Need-add-start-2 Inv-loop μ-loop
 add-start-2 c = search needs
 
--- src/lib.rt:30:27
 mul-put : tie.Need-mul-put Inv-loop μ-loop
-mul-put c = omega (arith, c .before .before .before .loop-test .taken, c .before .before .before .before .before .before .before .pre)
+mul-put c = omega (
+  arith,
+  c .before .before .before .loop-test .taken,
+  c .before .before .before .before .before
+      .before .before .pre,
+)
 
--- src/lib.rt:30:20
 add-put : tie.Need-add-put Inv-loop μ-loop
-add-put c = omega (arith, c .before .before .before .loop-test .taken, c .before .before .before .before .before .before .before .pre)
+add-put c = omega (
+  arith,
+  c .before .before .before .loop-test .taken,
+  c .before .before .before .before .before
+      .before .before .pre,
+)
 
--- src/lib.rt:30:34
 cast-put : tie.Need-cast-put Inv-loop μ-loop
 cast-put c = search needs
 
--- src/lib.rt:30:9
 put-requires : tie.Need-put-requires Inv-loop μ-loop
 put-requires c κs = search needs
 
--- src/lib.rt:31:27
 mul-put-2 : tie.Need-mul-put-2 Inv-loop μ-loop
-mul-put-2 c = omega (arith, c .before .before .before .before .before .before .before .loop-test .taken, c .before .before .before .before .before .before .before .before .before .before .before .pre)
+mul-put-2 c = omega (
+  arith,
+  c .before .before .before .before .before .before .before .loop-test .taken,
+  c .before
+      .before .before .before .before .before .before .before .before .before .before .pre,
+)
 
--- src/lib.rt:31:20
 add-put-2 : tie.Need-add-put-2 Inv-loop μ-loop
-add-put-2 c = omega (arith, c .before .before .before .before .before .before .before .loop-test .taken, c .before .before .before .before .before .before .before .before .before .before .before .pre)
+add-put-2 c = omega (
+  arith,
+  c .before .before .before .before .before .before .before .loop-test .taken,
+  c .before
+      .before .before .before .before .before .before .before .before .before .before .pre,
+)
 
--- src/lib.rt:31:20
 add-put-3 : tie.Need-add-put-3 Inv-loop μ-loop
-add-put-3 c = omega (arith, c .before .before .before .before .before .before .before .loop-test .taken, c .before .before .before .before .before .before .before .before .before .before .before .pre)
+add-put-3 c = omega (
+  arith,
+  c .before .before .before .before .before .before .before .loop-test .taken,
+  c .before
+      .before .before .before .before .before .before .before .before .before .before .pre,
+)
 
--- src/lib.rt:31:38
 cast-put-2 : tie.Need-cast-put-2 Inv-loop μ-loop
 cast-put-2 c = search needs
 
--- src/lib.rt:31:9
 put-requires-2 : tie.Need-put-requires-2 Inv-loop μ-loop
 put-requires-2 c κs = search needs
 
--- src/lib.rt:32:9
 after-tree-requires : tie.Need-after-tree-requires Inv-loop μ-loop
 after-tree-requires c κs = search needs
 
--- src/lib.rt:33:13
 add-f : tie.Need-add-f Inv-loop μ-loop
-add-f c = omega (arith, c .before .before .before .before .before .before .before .before .before .before .before .loop-test .taken, c .before .before .before .before .before .before .before .before .before .before .before .before .before .before .before .pre)
+add-f c = omega (
+  arith,
+  c .before .before .before .before .before .before .before .before .before .before .before
+      .loop-test .taken,
+  c .before .before .before .before .before .before .before .before .before .before .before
+      .before .before .before .before .pre,
+)
 
--- src/lib.rt:24:5
 loop-less : tie.Need-loop-less Inv-loop μ-loop
 loop-less c = search needs
 
--- src/lib.rt:24:5
 loop-again : tie.Need-loop-again Inv-loop μ-loop
-loop-again c = fill-more (c .before .before .before .before .before .before .before .before .before .before .before .before .loop .inv) (c .before .before .before .before .before .before .before .before .before .before .before .loop-test .taken) (c .before .before .before .before .before .before .before .before .before .before .if1 .left) (c .before .before .before .before .before .before .before .before .before .natural-at .result) (c .before .before .before .before .before .before .before .before .before .natural-at .ensures) (c .before .before .before .before .before .before .before .put .last .0) (c .before .before .before .put2 .last .0) (c .after-tree .result) (c .before .before .before .before .before .before .before .put .ensures) (c .before .before .before .put2 .ensures) (c .after-tree .ensures)
+loop-again c = fill-more (c .before .before .before .before .before .before .before .before .before .before .before
+    .before .loop .inv) (c .before .before .before .before .before .before .before .before .before .before .before
+    .loop-test .taken) (c .before .before .before .before .before .before .before .before .before .before .if1
+    .left) (c .before .before .before .before .before .before .before .before .before .natural-at .result) (c
+    .before .before .before .before .before .before .before .before .before .natural-at .ensures) (c .before .before
+    .before .before .before .before .before .put .last .0) (c .before .before .before .put2 .last .0) (c .after-tree
+    .result) (c .before .before .before .before .before .before .before .put .ensures) (c .before .before .before
+    .put2 .ensures) (c .after-tree .ensures)
 
--- src/lib.rt:17:1
 same-length-2 : tie.Need-same-length-2 Inv-loop μ-loop
 same-length-2 c = c .before .loop .inv .long
 
--- src/lib.rt:17:1
 returns-2 : tie.Need-returns-2 Inv-loop μ-loop
 returns-2 c = filled (c .before .loop .inv) (omega arith)
 
