@@ -1,11 +1,14 @@
 -- One law for each way out of the store's part of a call.
-use Prim.Native.Nat.{ℕ}
+use Prim.Native.Nat.{ℕ, zero, suc, _+_, _≤_}
+use native.Mathlib.Omega.{arith}
 use mathlib.Core.Bool.{true, false}
 use mathlib.Core.Path.{_≡_, refl, sym, ap, _∙_}
-use mathlib.Core.List.{List}
+use mathlib.Core.List.{List, [], _∷_}
+use lib.ListN.{length}
 use lib.IntN.{ℤ}
-use Rattle.semantics.specs.Store.{Store, opened, cells-taken}
-use Rattle.semantics.specs.Words.{cells-in, store-of, shaped, slot-words, head-words}
+use Rattle.semantics.specs.Basics.{tabulate}
+use Rattle.semantics.specs.Store.{Cell, Store, opened, one-if-used, used-cells, cells-taken}
+use Rattle.semantics.specs.Words.{cells-in, cell-at, store-of, shaped, slot-words, head-words}
 use Rattle.semantics.specs.Sound.{sound, sound-words}
 use Rattle.store_laws.specs.Tests.{both-hold}
 use Rattle.store_words.proofs.Puts.{Kept}
@@ -44,3 +47,29 @@ unfolding checked-left sound-words
 checks d slots heads n e counted =
     let fit = both-hold (shaped slots heads) (sound d (store-of slots heads)) e .0 in
     rw e (words-left (record { slots-long = refl; heads-long = refl }) fit refl counted)
+
+-- ---- how many cells there are
+
+used-few : (l : List Cell) → used-cells l ≤ length l
+unfolding used-cells
+used-few [] = omega arith
+used-few (x ∷ l) = go (used-few l) (x .count)
+  where
+    go : used-cells l ≤ length l → (n : ℕ) → one-if-used n + used-cells l ≤ suc (length l)
+    go h zero = omega (arith, h)
+    go h (suc n) = omega (arith, h)
+
+tabulate-length : {A : Type 0} (i n : ℕ) (f : ℕ → A) → length (tabulate i n f) ≡ n
+unfolding tabulate
+tabulate-length i zero f = refl
+tabulate-length i (suc n) f = ap suc (tabulate-length (suc i) n f)
+
+pub taken-few : (slots : List ℤ) (heads : List ℕ) (n : ℕ) → n ≡ cells-taken (store-of slots heads) → n ≤ 256
+unfolding store-of cells-in
+taken-few slots heads n e =
+    omega (
+      arith,
+      e,
+      used-few (store-of slots heads .cells),
+      tabulate-length 0 (cells-in slots heads) (cell-at slots heads),
+    )

@@ -1,5 +1,5 @@
 -- What the store's part of a call answers and leaves in the two arrays.
-use Prim.Native.Nat.{ℕ}
+use Prim.Native.Nat.{ℕ, _≤_}
 use mathlib.Core.Bool.{cond}
 use mathlib.Core.List.{List}
 use lib.IntN.{ℤ}
@@ -28,3 +28,8 @@ opened-left d slots heads =
 unfoldable pub checked-left : ℕ → List ℤ → List ℕ → Left
 checked-left d slots heads =
     cond (sound-words d slots heads) (left-by (store-of slots heads)) (left Unsound slots heads)
+
+-- there are at most 256 cells
+abbrev pub FewCells : Stored → Type 0
+FewCells (Cells n) = n ≤ 256
+FewCells Unsound = Unit {0}

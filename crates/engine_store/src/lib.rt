@@ -1,6 +1,6 @@
 // The store's part of the calls: opening it and checking it, with every word of the two lent arrays promised.
 ghost use mathlib.Core.Path.{_≡_};
-ghost use Rattle.engine_store.specs.Left.{left, opened-left, checked-left};
+ghost use Rattle.engine_store.specs.Left.{left, opened-left, checked-left, FewCells};
 
 // How many cells are taken as the call ends, or that the store is not sound.
 pub enum Stored {
@@ -12,6 +12,7 @@ pub enum Stored {
 pub fn open_words(slots: &mut [i64], heads: &mut [u32], depth: u32) -> Stored
     ensures { λ r. ⌜ left r (now (slots .exit)) (now (heads .exit))
         ≡ opened-left depth (now (slots .entry)) (now (heads .entry)) ⌝ }
+    ensures { λ r. ⌜ FewCells r ⌝ }
 {
     if !store_words::lengths_fit(slots, heads) {
         return Stored::Unsound;
@@ -24,6 +25,7 @@ pub fn open_words(slots: &mut [i64], heads: &mut [u32], depth: u32) -> Stored
 pub fn check_words(slots: &[i64], heads: &[u32], depth: u32) -> Stored
     ensures { λ r. ⌜ left r (now (slots .entry)) (now (heads .entry))
         ≡ checked-left depth (now (slots .entry)) (now (heads .entry)) ⌝ }
+    ensures { λ r. ⌜ FewCells r ⌝ }
 {
     if !store_check::is_sound(slots, heads, depth) {
         return Stored::Unsound;

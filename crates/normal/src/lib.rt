@@ -58,7 +58,7 @@ fn move_ops(to: &mut [i64], from: &[i64], at: usize)
 }
 
 // Both arrays all zero.
-fn refuse(ks: &mut [u8], os: &mut [i64]) -> Laid
+pub fn refuse(ks: &mut [u8], os: &mut [i64]) -> Laid
     ensures { λ r. ⌜ (r ≡ TooLong) × ((now (ks .exit) ≡ replicate (length (now (ks .entry))) 0) × (now (os .exit) ≡ replicate (length (now (os .entry))) (pos 0))) ⌝ }
 {
     let zk = [0u8; 1];

@@ -2,7 +2,7 @@
 use mathlib.Core.Path.{sym, _∙_}
 use borrow.Author.Needs.{needs}
 use borrow.Author.Tests.{not-true, not-false}
-use Rattle.engine_store.proofs.Laws.{not-checked, checks}
+use Rattle.engine_store.proofs.Laws.{not-checked, checks, taken-few}
 use Rattle.engine_store.proofs.check_words.Statement.{statement}
 use Rattle.engine_store.proofs.check_words.Tie as tie
 use Rattle.engine_store.proofs.check_words.Reads as reads
@@ -18,9 +18,11 @@ is-sound-requires c κs = search needs
 returns : tie.Need-returns
 returns c =
     let a = c .before .before .before .args in
-    let test = c .before .is-sound in
-    not-checked (a .depth) (a .slots .now) (a .heads .now)
-    (sym (test .ensures) ∙ not-true (test .result) (c .if1 .taken))
+    let test = c .before .is-sound in (
+      not-checked (a .depth) (a .slots .now) (a .heads .now)
+          (sym (test .ensures) ∙ not-true (test .result) (c .if1 .taken)),
+      tt,
+    )
 
 -- src/lib.rt:31:19
 cells-taken-requires : tie.Need-cells-taken-requires
@@ -30,9 +32,11 @@ cells-taken-requires c κs = search needs
 returns-2 : tie.Need-returns-2
 returns-2 c =
     let a = c .before .before .before .before .args in
-    let test = c .before .before .is-sound in
-    checks (a .depth) (a .slots .now) (a .heads .now) (c .cells-taken .result)
-    (sym (test .ensures) ∙ not-false (test .result) (c .before .if1 .left)) (c .cells-taken .ensures)
+    let test = c .before .before .is-sound in (
+      checks (a .depth) (a .slots .now) (a .heads .now) (c .cells-taken .result)
+          (sym (test .ensures) ∙ not-false (test .result) (c .before .if1 .left)) (c .cells-taken .ensures),
+      taken-few (a .slots .now) (a .heads .now) (c .cells-taken .result) (c .cells-taken .ensures),
+    )
 
 pub check-words-spec : {M : Type 1} → statement M
 check-words-spec = tie.close (tie.spec is-sound-requires returns cells-taken-requires returns-2)

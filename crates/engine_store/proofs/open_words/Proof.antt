@@ -2,7 +2,7 @@
 use mathlib.Core.Path.{sym, _∙_}
 use borrow.Author.Needs.{needs}
 use borrow.Author.Tests.{not-true, not-false}
-use Rattle.engine_store.proofs.Laws.{not-opened, opens}
+use Rattle.engine_store.proofs.Laws.{not-opened, opens, taken-few}
 use Rattle.engine_store.proofs.open_words.Statement.{statement}
 use Rattle.engine_store.proofs.open_words.Tie as tie
 use Rattle.engine_store.proofs.open_words.Reads as reads
@@ -27,9 +27,11 @@ same-length-2 c = search needs
 returns : tie.Need-returns
 returns c =
     let a = c .before .before .before .before .before .args in
-    let fit = c .before .lengths-fit in
-    not-opened (a .depth) (a .slots .now) (a .heads .now)
-    (sym (fit .ensures) ∙ not-true (fit .result) (c .if1 .taken))
+    let fit = c .before .lengths-fit in (
+      not-opened (a .depth) (a .slots .now) (a .heads .now)
+          (sym (fit .ensures) ∙ not-true (fit .result) (c .if1 .taken)),
+      tt,
+    )
 
 -- src/lib.rt:19:5
 open-store-requires : tie.Need-open-store-requires
@@ -52,10 +54,12 @@ returns-2 : tie.Need-returns-2
 returns-2 c =
     let a = c .before .before .before .before .before .before .before .before .before .before .before .before .before .before .args in
     let fit = c .before .before .before .before .before .before .before .before .before .before .lengths-fit in
-    let store = c .before .before .before .before .before .before .open-store in
-    opens (a .depth) (a .slots .now) (a .heads .now) (store .last .0) (store .last .1 .0) (c .cells-taken .result)
-    (sym (fit .ensures) ∙ not-false (fit .result) (c .before .before .before .before .before .before .before .before .before .if1 .left))
-    (record { slots-long = store .kept .0; heads-long = store .kept .1 .0 }) (store .ensures) (c .cells-taken .ensures)
+    let store = c .before .before .before .before .before .before .open-store in (
+      opens (a .depth) (a .slots .now) (a .heads .now) (store .last .0) (store .last .1 .0) (c .cells-taken .result)
+          (sym (fit .ensures) ∙ not-false (fit .result) (c .before .before .before .before .before .before .before .before .before .if1 .left))
+          (record { slots-long = store .kept .0; heads-long = store .kept .1 .0 }) (store .ensures) (c .cells-taken .ensures),
+      taken-few (store .last .0) (store .last .1 .0) (c .cells-taken .result) (c .cells-taken .ensures),
+    )
 
 pub open-words-spec : {M : Type 1} → statement M
 open-words-spec =

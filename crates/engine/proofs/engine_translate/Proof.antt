@@ -1,0 +1,84 @@
+-- `engine::engine_translate` meets its contract.
+use native.Mathlib.Omega.{arith}
+use mathlib.Core.Path.{sym, subst}
+use Rattle.engine_load.specs.Loading.{Loads}
+use Rattle.engine.specs.Promises.{Translates}
+use Rattle.engine.proofs.Laws.{translates, translates-not, few-lines}
+use borrow.Author.Needs.{needs}
+use Rattle.engine.proofs.engine_translate.Statement.{statement}
+use Rattle.engine.proofs.engine_translate.Tie as tie
+use Rattle.engine.proofs.engine_translate.Reads as reads
+use Rattle.engine.proofs.engine_translate.Lts as lts
+use Rattle.engine_load.proofs.load.Reads as load-reads
+use Rattle.words.proofs.pack.Reads as pack-reads
+
+-- src/lib.rt:13:11
+load-requires : tie.Need-load-requires
+load-requires c κs = search needs
+
+-- src/lib.rt:14:23
+enum-known-lines : tie.Need-enum-known-lines
+enum-known-lines c = search needs
+
+-- src/lib.rt:14:36
+pack-requires : tie.Need-pack-requires
+pack-requires c κs =
+    let a = c .before .before .before .before .before .before .before .before .before .before .before .args in
+    let loaded = c .before .before .before .before .before .before .load in
+    let h = subst (λ r. Loads (a .file .now) (a .kinds .now) (a .operands .now) r (loaded .last .1 .0) (loaded .last .1 .1 .0))
+    (c .before .lines .given .1) (loaded .ensures) in
+    (omega arith, omega arith, omega (arith, few-lines h), omega arith)
+
+-- src/lib.rt:15:25
+enum-known-answer : tie.Need-enum-known-answer
+enum-known-answer c = search needs
+
+-- src/lib.rt:8:1
+same-length : tie.Need-same-length
+same-length c = search needs
+
+-- src/lib.rt:8:1
+same-length-2 : tie.Need-same-length-2
+same-length-2 c = search needs
+
+-- src/lib.rt:8:1
+returns : tie.Need-returns
+returns c =
+    let a = c .before .before .before .before .before .before .before .before .before .before .before .before .args in
+    let loaded = c .before .before .before .before .before .before .before .load in
+    let h = subst (λ r. Loads (a .file .now) (a .kinds .now) (a .operands .now) r (loaded .last .1 .0) (loaded .last .1 .1 .0))
+    (c .before .before .lines .given .1) (loaded .ensures) in
+    subst (λ x. Translates (a .file .now) (a .kinds .now) (a .operands .now) x (loaded .last .1 .0) (loaded .last .1 .1 .0))
+    (sym (c .pack .ensures)) (translates h)
+
+-- src/lib.rt:8:1
+same-length-3 : tie.Need-same-length-3
+same-length-3 c = search needs
+
+-- src/lib.rt:8:1
+same-length-4 : tie.Need-same-length-4
+same-length-4 c = search needs
+
+-- src/lib.rt:8:1
+returns-2 : tie.Need-returns-2
+returns-2 c =
+    let a = c .before .before .before .before .before .before .before .before .before .before .before .args in
+    let loaded = c .before .before .before .before .before .before .load in
+    let h = subst (λ r. Loads (a .file .now) (a .kinds .now) (a .operands .now) r (loaded .last .1 .0) (loaded .last .1 .1 .0))
+    (c .before .answer .given .1) (loaded .ensures) in
+    translates-not h
+
+pub engine-translate-spec : {M : Type 1} → statement M
+engine-translate-spec =
+    tie.close
+    (tie.spec
+    load-requires
+    enum-known-lines
+    pack-requires
+    enum-known-answer
+    same-length
+    same-length-2
+    returns
+    same-length-3
+    same-length-4
+    returns-2)

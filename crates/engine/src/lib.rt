@@ -1,0 +1,69 @@
+// The calls for C. Each takes the script file and the two code arrays, translates afresh, and answers one packed number.
+use engine_load::Loaded;
+use engine_store::Stored;
+ghost use Rattle.semantics.specs.Calls.{engine-open, engine-check};
+ghost use Rattle.engine.specs.Promises.{Translates, Replies};
+
+// Translates a script: its code in the two arrays, and its lines in the answer.
+#[no_mangle]
+pub extern "C" fn engine_translate(file: &[u8], kinds: &mut [u8], operands: &mut [i64]) -> u64
+    ensures { λ r. ⌜ Translates (now (file .entry)) (now (kinds .entry)) (now (operands .entry)) r
+        (now (kinds .exit)) (now (operands .exit)) ⌝ }
+{
+    match engine_load::load(file, kinds, operands) {
+        Loaded::Ready(lines, _) => words::pack(0, 0, lines as u64, 0),
+        Loaded::Refused(answer) => answer,
+    }
+}
+
+// Opens a store for a script.
+#[no_mangle]
+pub extern "C" fn engine_open(
+    file: &[u8],
+    kinds: &mut [u8],
+    operands: &mut [i64],
+    slots: &mut [i64],
+    heads: &mut [u32],
+) -> u64
+    ensures { λ r. ⌜ Replies (now (file .entry))
+        (λ node. engine-open node (now (file .entry)) (now (kinds .entry)) (now (operands .entry))
+        (now (slots .entry)) (now (heads .entry)))
+        r (now (kinds .exit)) (now (operands .exit)) (now (slots .exit)) (now (heads .exit)) ⌝ }
+{
+    match engine_load::load(file, kinds, operands) {
+        Loaded::Ready(_, depth) => match engine_store::open_words(slots, heads, depth) {
+            Stored::Cells(n) => words::pack(0, 0, 0, n as u64),
+            Stored::Unsound => {
+                normal::refuse(kinds, operands);
+                11
+            }
+        },
+        Loaded::Refused(answer) => answer,
+    }
+}
+
+// Checks the store of a script; its words stay as they are.
+#[no_mangle]
+pub extern "C" fn engine_check(
+    file: &[u8],
+    kinds: &mut [u8],
+    operands: &mut [i64],
+    slots: &[i64],
+    heads: &[u32],
+) -> u64
+    ensures { λ r. ⌜ Replies (now (file .entry))
+        (λ node. engine-check node (now (file .entry)) (now (kinds .entry)) (now (operands .entry))
+        (now (slots .entry)) (now (heads .entry)))
+        r (now (kinds .exit)) (now (operands .exit)) (now (slots .entry)) (now (heads .entry)) ⌝ }
+{
+    match engine_load::load(file, kinds, operands) {
+        Loaded::Ready(_, depth) => match engine_store::check_words(slots, heads, depth) {
+            Stored::Cells(n) => words::pack(0, 0, 0, n as u64),
+            Stored::Unsound => {
+                normal::refuse(kinds, operands);
+                11
+            }
+        },
+        Loaded::Refused(answer) => answer,
+    }
+}

@@ -1,0 +1,193 @@
+-- `engine_load::load` meets its contract.
+use native.Mathlib.Omega.{arith}
+use mathlib.Core.Path.{subst, sym, _∙_}
+use borrow.Author.Needs.{needs}
+use Rattle.script.specs.declared.Verdict.the-variants.{Accepted, Refused}
+use Rattle.script.specs.Verdicts.{Judges}
+use Rattle.engine_load.specs.Loading.{Loads}
+use Rattle.engine_load.proofs.Laws.{ready, accepted-file, file-taken, translatable, node-fits, loads-laid}
+use Rattle.engine_load.proofs.Laws.{loads-refusal}
+use Rattle.engine_load.proofs.load.Statement.{statement}
+use Rattle.engine_load.proofs.load.Tie as tie
+use Rattle.engine_load.proofs.load.Reads as reads
+use Rattle.engine_load.proofs.load.Lts as lts
+use Rattle.normal.proofs.refuse.Reads as refuse-reads
+use Rattle.normal.proofs.translate_accepted.Reads as translate-accepted-reads
+use Rattle.script.proofs.judge.Reads as judge-reads
+use Rattle.script_read.proofs.high_at.Reads as high-at-reads
+use Rattle.words.proofs.pack.Reads as pack-reads
+
+-- the verdict, once it is known to accept
+verdict : (c : tie.After-known-told) → Judges (c .before .before .before .before .before .before .args .file .now)
+    (Accepted (c .before .functions .given .0 .0) (c .before .functions .given .0 .1 .0))
+verdict c = subst (Judges (c .before .before .before .before .before .before .args .file .now))
+    (c .before .functions .given .1) (c .before .before .before .judge .ensures)
+
+-- the verdict, once it is known to refuse
+refusal : (c : tie.After-known-told3) → Judges (c .before .before .before .before .before .before .args .file .now)
+    (Refused (c .before .number .given .0 .0) (c .before .number .given .0 .1 .0))
+refusal c = subst (Judges (c .before .before .before .before .before .before .args .file .now))
+    (c .before .number .given .1) (c .before .before .before .judge .ensures)
+
+-- src/lib.rt:17:11
+judge-requires : tie.Need-judge-requires
+judge-requires c κs = search needs
+
+-- src/lib.rt:18:27
+enum-known-functions : tie.Need-enum-known-functions
+enum-known-functions c = search needs
+
+-- src/lib.rt:19:23
+add-end : tie.Need-add-end
+add-end c =
+    let t = file-taken (accepted-file _ _ _ (verdict c)) in
+    record { fits = omega (arith, t .sized, t .readable .parts .few) }
+
+-- src/lib.rt:20:30
+sub-file-kinds : tie.Need-sub-file-kinds
+sub-file-kinds c = search needs
+
+-- src/lib.rt:20:30
+part-file-kinds-start : tie.Need-part-file-kinds-start
+part-file-kinds-start c = search needs
+
+-- src/lib.rt:20:30
+part-file-kinds-end : tie.Need-part-file-kinds-end
+part-file-kinds-end c =
+    omega (arith, file-taken (accepted-file _ _ _ (verdict c)) .long)
+
+-- src/lib.rt:21:33
+sub-file-operands : tie.Need-sub-file-operands
+sub-file-operands c =
+    omega (arith, file-taken (accepted-file _ _ _ (verdict (c .before))) .long)
+
+-- src/lib.rt:21:33
+part-file-operands-start : tie.Need-part-file-operands-start
+part-file-operands-start c =
+    omega (arith, file-taken (accepted-file _ _ _ (verdict (c .before))) .long)
+
+-- src/lib.rt:21:33
+part-file-operands-end : tie.Need-part-file-operands-end
+part-file-operands-end c = search needs
+
+-- src/lib.rt:22:17
+high-at-requires : tie.Need-high-at-requires
+high-at-requires c κs =
+    (file-taken (accepted-file _ _ _ (verdict (c .before .before))) .readable .parts, omega arith)
+
+-- src/lib.rt:23:19
+translate-accepted-requires : tie.Need-translate-accepted-requires
+translate-accepted-requires c κs =
+    translatable (accepted-file _ _ _ (verdict (c .before .before .before .before .before)))
+
+-- src/lib.rt:24:29
+enum-known-n : tie.Need-enum-known-n
+enum-known-n c = search needs
+
+-- src/lib.rt:24:52
+cast-t26 : tie.Need-cast-t26
+cast-t26 c = search needs
+
+-- src/lib.rt:25:34
+enum-told : tie.Need-enum-told
+enum-told c = search needs
+
+-- src/lib.rt:28:26
+enum-known-number : tie.Need-enum-known-number
+enum-known-number c = search needs
+
+-- src/lib.rt:29:13
+refuse-requires : tie.Need-refuse-requires
+refuse-requires c κs = search needs
+
+-- src/lib.rt:30:41
+cast-pack : tie.Need-cast-pack
+cast-pack c = search needs
+
+-- src/lib.rt:30:29
+pack-requires : tie.Need-pack-requires
+pack-requires c κs =
+    let told = c .before .before .before .before .before .before .known-told3 in
+    (omega (arith, told .given .0 .1), omega (arith, node-fits (refusal (c .before .before .before .before .before .before))), omega arith, omega arith)
+
+-- src/lib.rt:13:1
+same-length : tie.Need-same-length
+same-length c = search needs
+
+-- src/lib.rt:13:1
+same-length-2 : tie.Need-same-length-2
+same-length-2 c = search needs
+
+-- src/lib.rt:13:1
+returns : tie.Need-returns
+returns c =
+    let laid = c .before .before .before .before .before .before .translate-accepted in
+    let d = c .before .before .before .before .before .before .before .before .before .high-at in
+    let a = c .before .before .before .before .before .before .before .before .before .before .before .before .before .before .before .before .before .before .args in
+    subst (λ r. Loads (a .file .now) (a .kinds .now) (a .operands .now) (ready (d .result) r)
+    (laid .last .1 .1 .1 .0) (laid .last .1 .1 .1 .1 .0)) (c .before .n .given .1)
+    (loads-laid (laid .result) (d .result) (verdict (c .before .before .before .before .before .before .before .before .before .before .before .before)) (d .ensures) (laid .ensures))
+
+-- src/lib.rt:13:1
+same-length-3 : tie.Need-same-length-3
+same-length-3 c = search needs
+
+-- src/lib.rt:13:1
+same-length-4 : tie.Need-same-length-4
+same-length-4 c = search needs
+
+-- src/lib.rt:13:1
+returns-2 : tie.Need-returns-2
+returns-2 c =
+    let laid = c .before .before .before .before .before .translate-accepted in
+    let d = c .before .before .before .before .before .before .before .before .high-at in
+    let a = c .before .before .before .before .before .before .before .before .before .before .before .before .before .before .before .before .before .args in
+    subst (λ r. Loads (a .file .now) (a .kinds .now) (a .operands .now) (ready (d .result) r)
+    (laid .last .1 .1 .1 .0) (laid .last .1 .1 .1 .1 .0)) (c .enum-told .given .1)
+    (loads-laid (laid .result) (d .result) (verdict (c .before .before .before .before .before .before .before .before .before .before .before)) (d .ensures) (laid .ensures))
+
+-- src/lib.rt:13:1
+same-length-5 : tie.Need-same-length-5
+same-length-5 c = search needs
+
+-- src/lib.rt:13:1
+same-length-6 : tie.Need-same-length-6
+same-length-6 c = search needs
+
+-- src/lib.rt:13:1
+returns-3 : tie.Need-returns-3
+returns-3 c =
+    let cleared = c .before .before .before .before .refuse in
+    loads-refusal (refusal (c .before .before .before .before .before .before .before)) (c .pack .ensures) (cleared .ensures .1 .0) (cleared .ensures .1 .1)
+
+pub load-spec : {M : Type 1} → statement M
+load-spec =
+    tie.close
+    (tie.spec
+    judge-requires
+    enum-known-functions
+    add-end
+    sub-file-kinds
+    part-file-kinds-start
+    part-file-kinds-end
+    sub-file-operands
+    part-file-operands-start
+    part-file-operands-end
+    high-at-requires
+    translate-accepted-requires
+    enum-known-n
+    cast-t26
+    enum-told
+    enum-known-number
+    refuse-requires
+    cast-pack
+    pack-requires
+    same-length
+    same-length-2
+    returns
+    same-length-3
+    same-length-4
+    returns-2
+    same-length-5
+    same-length-6
+    returns-3)

@@ -1,0 +1,33 @@
+-- What loading a script leaves: the code and its lines, or a refusal 1 to 9 with both code arrays zero.
+use Prim.Native.Nat.{ℕ}
+use mathlib.Core.Path.{_≡_}
+use mathlib.Core.List.{List}
+use lib.IntN.{ℤ, pos}
+use lib.ListN.{length, replicate}
+use Rattle.semantics.specs.Syntax.{main-depth}
+use Rattle.semantics.specs.Annotate.{code}
+use Rattle.semantics.specs.Calls.{Verdict, accepted, refused, Faulty, packed, admitted, room, code-kinds, code-operands}
+use Rattle.engine_load.specs.declared.Loaded.{Loaded}
+use Rattle.engine_load.specs.declared.Loaded.the-variants.{Ready, Refused}
+
+-- the lines of the code and main's depth, or the packed answer
+abbrev pub told-load : Verdict → Loaded
+told-load (accepted fs) = Ready (length (code fs)) (main-depth fs)
+told-load (refused n p) = Refused (packed n p 0 0)
+
+abbrev pub kinds-after : Verdict → List ℕ → List ℕ
+kinds-after (accepted fs) kinds = code-kinds fs kinds
+kinds-after (refused n p) kinds = replicate (length kinds) 0
+
+abbrev pub operands-after : Verdict → List ℤ → List ℤ
+operands-after (accepted fs) operands = code-operands fs operands
+operands-after (refused n p) operands = replicate (length operands) (pos 0)
+
+-- the verdict on a file with refusal 9, for a node that breaks the rule where 6 or 7 is given
+pub record Loads (file kinds : List ℕ) (operands : List ℤ) (r : Loaded) (kinds′ : List ℕ) (operands′ : List ℤ)
+    : Type 0 where
+  pub node : ℕ
+  pub faulty : Faulty file node
+  pub is : r ≡ told-load (admitted node file (room kinds operands))
+  pub kinds-are : kinds′ ≡ kinds-after (admitted node file (room kinds operands)) kinds
+  pub operands-are : operands′ ≡ operands-after (admitted node file (room kinds operands)) operands

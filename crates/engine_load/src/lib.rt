@@ -1,0 +1,39 @@
+// Loading a script: refusals 1 to 9, or its code in the two lent arrays.
+use normal::Laid;
+use script::Verdict;
+ghost use Rattle.engine_load.specs.Loading.{Loads};
+
+// How many lines the code has and main's depth, or the packed answer of a refusal.
+pub enum Loaded {
+    Ready(usize, u32),
+    Refused(u64),
+}
+
+// Judges a file and translates its script.
+pub fn load(file: &[u8], kinds: &mut [u8], operands: &mut [i64]) -> Loaded
+    ensures { λ r. ⌜ Loads (now (file .entry)) (now (kinds .entry)) (now (operands .entry)) r
+        (now (kinds .exit)) (now (operands .exit)) ⌝ }
+{
+    match script::judge(file) {
+        Verdict::Accepted(functions, nodes) => {
+            let end = 4 + nodes;
+            let file_kinds = &file[4..end];
+            let file_operands = &file[end..];
+            let depth = script_read::high_at(file_kinds, file_operands, 0, 0);
+            match normal::translate_accepted(
+                file_kinds,
+                file_operands,
+                functions,
+                kinds,
+                operands,
+            ) {
+                Laid::Lines(n) => Loaded::Ready(n, depth as u32),
+                Laid::TooLong => Loaded::Refused(9),
+            }
+        }
+        Verdict::Refused(number, node) => {
+            normal::refuse(kinds, operands);
+            Loaded::Refused(words::pack(number as u64, node as u64, 0, 0))
+        }
+    }
+}

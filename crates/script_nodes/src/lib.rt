@@ -1,0 +1,1 @@
+// The proof that a refusal gives a node of the file is in specs/; this crate has no code.
