@@ -39,7 +39,8 @@ module _ (k w : List ℕ) where
         written-tree k w (g .body) 64 (p + 1 + length (g .parameters)) (h .body),
       )
 
-  pub fitting : (results : List ℕ) (g : Function) (p : ℕ) → FunctionWritten k w g p → Parts k w → ((f : ℕ) → getD results f 0 ≤ 4) →
+  pub fitting : (results : List ℕ) (g : Function) (p : ℕ) → FunctionWritten k w g p → Parts k w → ((f : ℕ) → getD
+      results f 0 ≤ 4) →
       p + function-size g ≤ 1024 → length (g .parameters) + fresh (g .body) ≤ 256 → Fitting k w results p
   unfolding function-size
   fitting results g p h s l n m = record {

@@ -67,7 +67,8 @@ module _ (k w : List ℕ) (at : ℕ) where
   unfolding parameters-at
   rest-more i m g h =
       ap (parameters-at k w (at + (i - 1))) (let e : m - (i - 1) ≡ suc (m - i) = omega arith in e)
-      ∙ ap (λ (j : ℕ). record { id = low-at k w 1 (at + (i - 1)); depth = high-at k w 1 (at + (i - 1)) } ∷ parameters-at k w j (m - i))
+      ∙ ap (λ (j : ℕ). record { id = low-at k w 1 (at + (i - 1)); depth = high-at k w 1 (at + (i - 1)) } ∷
+      parameters-at k w j (m - i))
       (let e : at + (i - 1) + 1 ≡ at + i = omega arith in e)
 
   pub rest-all : (i m : ℕ) → i ≤ 0 → Rest i m ≡ parameters-at k w at m
@@ -78,7 +79,11 @@ module _ (k w : List ℕ) (at : ℕ) where
 
   -- ---- binding
 
-  pub bind-begin : (m : ℕ) → length w ≤ 8192 → Binds w (Rest m m) m (record { places = replicate 256 65535; depths = replicate 256 0 })
+  pub bind-begin : (m : ℕ) → length w ≤ 8192 → Binds w (Rest m m) m (record {
+    places = replicate 256 65535;
+    depths =
+        replicate 256 0;
+  })
   unfolding parameter-names parameter-depths-from
   bind-begin m h = rw (rest-none m) (record {
     means = fun-ext (λ y. ap (λ (v : ℕ). meant (placed w v)) (none-set {A = ℕ} 65535 256 y) ∙ nowhere-placed w h);
@@ -87,7 +92,8 @@ module _ (k w : List ℕ) (at : ℕ) where
     long = (refl, refl);
   })
 
-  pub bind-go : (i m x d : ℕ) {ps ds : List ℕ} → 0 < i → i ≤ m → m ≤ 8 → x < 256 → x ≡ low-at k w 1 (at + (i - 1)) → d ≡ high-at k w 1 (at + (i - 1)) →
+  pub bind-go : (i m x d : ℕ) {ps ds : List ℕ} → 0 < i → i ≤ m → m ≤ 8 → x < 256 → x ≡ low-at k w 1 (at + (i - 1)) →
+      d ≡ high-at k w 1 (at + (i - 1)) →
       Binds w (Rest i m) i (record { places = ps; depths = ds }) →
       Binds w (Rest (i - 1) m) (i - 1) (record { places = set ps x (i - 1); depths = set ds (i - 1) d })
   unfolding parameter-names parameter-depths-from
@@ -95,10 +101,12 @@ module _ (k w : List ℕ) (at : ℕ) where
       let z : i ≡ suc (i - 1) = omega arith in
       rw (rest-more i m g h) (record {
         means = meanings-set w ps x (i - 1) (omega (arith, B .long .0))
-            ∙ rw (B .means, name-placed w (i - 1) (omega arith), ← e) (ap (λ (j : ℕ). updated (parameter-names (Rest i m) j) x (C.name (i - 1))) z);
+            ∙ rw (B .means, name-placed w (i - 1) (omega arith), ← e)
+            (ap (λ (j : ℕ). updated (parameter-names (Rest i m) j) x (C.name (i - 1))) z);
         deep = depth-set ds (i - 1) d (omega (arith, B .long .1))
             ∙ rw (B .deep, ← f) (ap (λ (j : ℕ). updated (parameter-depths-from (Rest i m) j) (i - 1) d) z);
-        low = low-set 0 (i - 1) d (B .low) (record { is = refl }) (omega (arith, B .long .1)) (omega arith) (omega (arith, f, high-most k w 1 (at + (i - 1))));
+        low = low-set 0 (i - 1) d (B .low) (record { is = refl }) (omega (arith, B .long .1)) (omega arith)
+            (omega (arith, f, high-most k w 1 (at + (i - 1))));
         long = (length-set ps x (i - 1) ∙ B .long .0, length-set ds (i - 1) d ∙ B .long .1);
       })
 
@@ -116,18 +124,23 @@ module _ (k w : List ℕ) (at : ℕ) where
   rows-begin m = wrote-as (sym (ap (λ (l : List Parameter). parameter-rows l m) (rest-none m))) wrote-none
 
   pub rows-go : (i m d : ℕ) → 0 < i → i ≤ m → d ≡ high-at k w 1 (at + (i - 1)) →
-      {ks ks₁ ks₂ : List ℕ} {os os₁ os₂ : List ℤ} {v v₁ v₂ : ℕ} → Wrote ks os ks₁ os₁ v v₁ (parameter-rows (Rest i m) i) →
-      Wrote ks₁ os₁ ks₂ os₂ v₁ v₂ (row 1 (i - 1 + 256 * d) ∷ []) → Wrote ks os ks₂ os₂ v v₂ (parameter-rows (Rest (i - 1) m) (i - 1))
+      {ks ks₁ ks₂ : List ℕ} {os os₁ os₂ : List ℤ} {v v₁ v₂ : ℕ} → Wrote ks os ks₁ os₁ v v₁ (parameter-rows
+      (Rest i m) i) →
+      Wrote ks₁ os₁ ks₂ os₂ v₁ v₂ (row 1 (i - 1 + 256 * d) ∷ []) → Wrote ks os ks₂ os₂ v v₂ (parameter-rows
+      (Rest (i - 1) m) (i - 1))
   unfolding parameter-rows
   rows-go i m d g h e x y =
       wrote-as
       (rw (e) (sym (ap (λ (l : List Parameter). parameter-rows l (i - 1)) (rest-more i m g h)
-      ∙ ap (λ (j : ℕ). row 1 (i - 1 + 256 * high-at k w 1 (at + (i - 1))) ∷ parameter-rows (Rest i m) j) (let z : suc (i - 1) ≡ i = omega arith in z))))
+      ∙ ap (λ (j : ℕ). row 1 (i - 1 + 256 * high-at k w 1 (at + (i - 1))) ∷ parameter-rows (Rest i m) j)
+      (let z : suc (i - 1) ≡ i = omega arith in z))))
       (wrote-then x y)
 
-  pub rows-end : (i m : ℕ) → i ≤ 0 → {ks ks₁ : List ℕ} {os os₁ : List ℤ} {v v₁ : ℕ} → Wrote ks os ks₁ os₁ v v₁ (parameter-rows (Rest i m) i) →
+  pub rows-end : (i m : ℕ) → i ≤ 0 → {ks ks₁ : List ℕ} {os os₁ : List ℤ} {v v₁ : ℕ} → Wrote ks os ks₁ os₁ v v₁
+      (parameter-rows (Rest i m) i) →
       Wrote ks os ks₁ os₁ v v₁ (parameter-rows (parameters-at k w at m) 0)
-  rows-end i m h x = let e : i ≡ 0 = omega arith in wrote-as (ap (parameter-rows (Rest i m)) e ∙ ap (λ (l : List Parameter). parameter-rows l 0) (rest-all i m h)) x
+  rows-end i m h x = let e : i ≡ 0 = omega arith in wrote-as (ap (parameter-rows (Rest i m)) e ∙ ap
+      (λ (l : List Parameter). parameter-rows l 0) (rest-all i m h)) x
 
   pub length-parameters : (p n : ℕ) → length (parameters-at k w p n) ≡ n
   unfolding parameters-at
@@ -142,8 +155,10 @@ pub record Below (n : ℕ) (a r : List Bool) (i : ℕ) : Type 0 where
 pub below-none : (n : ℕ) (a : List Bool) → Below n a a 0
 below-none n a = record { made = making-none (λ x. ltb x n) a }
 
-pub below-set : {n i : ℕ} {a r : List Bool} → Below n a r i → (v : Bool) → i < length a → v ≡ ltb i n → Below n a (set r i v) (i + 1)
+pub below-set : {n i : ℕ} {a r : List Bool} → Below n a r i → (v : Bool) → i < length a → v ≡ ltb i n → Below n a
+    (set r i v) (i + 1)
 below-set b v h e = record { made = making-set (b .made) v h e }
 
-pub below-all : {n i : ℕ} {a r : List Bool} → Below n a r i → length a ≤ i → n ≤ i → _≡_ {A = Set} (set-of r) (λ x. ltb x n)
+pub below-all : {n i : ℕ} {a r : List Bool} → Below n a r i → length a ≤ i → n ≤ i → _≡_ {A = Set} (set-of r)
+    (λ x. ltb x n)
 below-all {n} {i} b h g = making-all (b .made) h (λ k l. le-ltb k n (omega arith))

@@ -24,7 +24,8 @@ module _ (ws : List ℕ) (p : ℕ) where
   unfolding laid firsts
   places-go l i m v h e =
       ap (λ (j : ℕ). laid l (p + i) (firsts ws i j)) (let f : m - i ≡ suc (m - (i + 1)) = omega arith in f)
-      ∙ rw (← e) (ap (λ (j : ℕ). laid (set l (p + i) v) j (firsts ws (i + 1) (m - (i + 1)))) (let f : p + i + 1 ≡ p + (i + 1) = omega arith in f))
+      ∙ rw (← e) (ap (λ (j : ℕ). laid (set l (p + i) v) j (firsts ws (i + 1) (m - (i + 1)))) (let f : p + i + 1 ≡ p
+      + (i + 1) = omega arith in f))
 
   pub places-end : (l : List ℕ) (i m : ℕ) → m ≤ i → laid l (p + i) (firsts ws i (m - i)) ≡ l
   unfolding laid firsts
@@ -72,7 +73,8 @@ unfolding firsts
 firsts-at l i zero j h = absurd (let f : ⊥ = omega arith in f)
 firsts-at l i (suc m) zero h = ap (λ (n : ℕ). getD l n 0) (let e : i ≡ i + 0 = omega arith in e)
 firsts-at l i (suc m) (suc j) h =
-    firsts-at l (i + 1) m j (omega arith) ∙ ap (λ (n : ℕ). getD l n 0) (let e : i + 1 + j ≡ i + suc j = omega arith in e)
+    firsts-at l (i + 1) m j (omega arith) ∙ ap (λ (n : ℕ). getD l n 0) (let e : i + 1 + j ≡ i + suc j = omega arith
+    in e)
 
 -- ---- depths
 
@@ -89,7 +91,8 @@ module _ (rs ds : List ℕ) (y v : ℕ) where
   pub depth-literal : (kind : ℕ) → (kind ≡ 8 → ⊥) → kind ≡ 9 → y + 1 ≡ line-depth rs ds kind y v
   depth-literal kind n k = rw k (let e : y + 1 ≡ suc y = omega arith in e)
 
-  pub depth-index : (kind d : ℕ) → (kind ≡ 8 → ⊥) → (kind ≡ 9 → ⊥) → kind ≡ 10 → d ≡ pred (place-depth ds v) → d ≡ line-depth rs ds kind y v
+  pub depth-index : (kind d : ℕ) → (kind ≡ 8 → ⊥) → (kind ≡ 9 → ⊥) → kind ≡ 10 → d ≡ pred (place-depth ds v) → d ≡
+      line-depth rs ds kind y v
   depth-index kind d n₈ n₉ k e = rw k e
 
   pub depth-other : (kind : ℕ) → (kind ≡ 8 → ⊥) → (kind ≡ 9 → ⊥) → (kind ≡ 10 → ⊥) → 0 ≡ line-depth rs ds kind y v

@@ -36,13 +36,15 @@ same-less q u s g h = record { rows = λ i l. s .rows i (omega arith); notes = �
 pub same-then : {X Y Z : State} {p t : ℕ} → Same X Y p t → Same Y Z p t → Same X Z p t
 same-then a b = record { rows = λ i h. b .rows i h ∙ a .rows i h; notes = λ i h. b .notes i h ∙ a .notes i h }
 
-pub same-laid : {k k₁ nt d d₁ : List ℕ} {p : ℕ} {vs : List ℕ} (t : ℕ) → LaidAs k k₁ p vs → Same (state k nt d) (state k₁ nt d₁) p t
+pub same-laid : {k k₁ nt d d₁ : List ℕ} {p : ℕ} {vs : List ℕ} (t : ℕ) → LaidAs k k₁ p vs → Same (state k nt d)
+    (state k₁ nt d₁) p t
 same-laid {k} {k₁} {nt} {d} {d₁} {p} {vs} t e = record {
   rows = λ i h. ap (λ (x : List ℕ). getD x i 0) (e .is) ∙ laid-below k p vs i h;
   notes = λ i h. refl;
 }
 
-pub same-note : {k nt nt₁ d d₁ : List ℕ} (i v p t : ℕ) → SetAs nt nt₁ i v → t < i → Same (state k nt d) (state k nt₁ d₁) p t
+pub same-note : {k nt nt₁ d d₁ : List ℕ} (i v p t : ℕ) → SetAs nt nt₁ i v → t < i → Same (state k nt d)
+    (state k nt₁ d₁) p t
 same-note {k} {nt} {nt₁} i v p t e h = record {
   rows = λ j l. refl;
   notes = λ j l. ap (λ (x : List ℕ). getD x j j) (e .is) ∙ getD-set-other nt i j v j (λ f. omega arith);
@@ -52,16 +54,19 @@ same-note {k} {nt} {nt₁} i v p t e h = record {
 pub same-depths : {k nt d d₁ : List ℕ} {X : State} {p t : ℕ} → Same X (state k nt d) p t → Same X (state k nt d₁) p t
 same-depths s = record { rows = s .rows; notes = s .notes }
 
-pub agrees-depths : {k nt d d₁ : List ℕ} {F : Plain} {lo hi top : ℕ} → Agrees (state k nt d₁) F lo hi top → Agrees (state k nt d) F lo hi top
+pub agrees-depths : {k nt d d₁ : List ℕ} {F : Plain} {lo hi top : ℕ} → Agrees (state k nt d₁) F lo hi top → Agrees
+    (state k nt d) F lo hi top
 agrees-depths s = record { rows = s .rows; notes = s .notes }
 
-pub agrees-back : {Y Z : State} {F : Plain} {lo hi top : ℕ} (q t : ℕ) → Agrees Z F lo hi top → Same Y Z q t → q ≤ hi → t ≤ top → Agrees Y F lo q t
+pub agrees-back : {Y Z : State} {F : Plain} {lo hi top : ℕ} (q t : ℕ) → Agrees Z F lo hi top → Same Y Z q t → q ≤ hi
+    → t ≤ top → Agrees Y F lo q t
 agrees-back q t a s g h = record {
   rows = λ i l m. a .rows i l (omega arith) ∙ s .rows i m;
   notes = λ i l m. a .notes i l (omega arith) ∙ s .notes i m;
 }
 
-pub agrees-from : {Y : State} {F : Plain} {lo hi top : ℕ} (p : ℕ) → Agrees Y F lo hi top → lo ≤ p → Agrees Y F p hi top
+pub agrees-from : {Y : State} {F : Plain} {lo hi top : ℕ} (p : ℕ) → Agrees Y F lo hi top → lo ≤ p → Agrees Y F p hi
+    top
 agrees-from p a h = record {
   rows = λ i l m. a .rows i (omega arith) m;
   notes = λ i l m. a .notes i (omega arith) m;
@@ -73,10 +78,11 @@ note-set nt nt₁ i v e h = ap (λ (x : List ℕ). getD x i i) (e .is) ∙ getD-
 -- ---- a row that was laid, read back
 
 module _ {k k₁ nt d : List ℕ} {p : ℕ} {vs : List ℕ} (l : LaidAs k k₁ p vs) {F : Plain} {lo hi top : ℕ}
-    (a : Agrees (state k₁ nt d) F lo hi top) (h : lo ≤ p) (g : p + length vs ≤ hi) (s : p + length vs ≤ length k) where
-  pub row-back : (i j : ℕ) → j ≡ p + i → i < length vs → getD (F .rows) j 0 ≡ getD vs i 0
-  row-back i j e u =
-      a .rows j (omega arith) (omega arith) ∙ ap (λ (x : List ℕ). getD x j 0) (l .is) ∙ rw e (laid-at k p vs i u s)
+    (a : Agrees (state k₁ nt d) F lo hi top) (h : lo ≤ p) (g : p + length vs ≤ hi) (s : p + length vs ≤ length k)
+  where
+    pub row-back : (i j : ℕ) → j ≡ p + i → i < length vs → getD (F .rows) j 0 ≡ getD vs i 0
+    row-back i j e u =
+        a .rows j (omega arith) (omega arith) ∙ ap (λ (x : List ℕ). getD x j 0) (l .is) ∙ rw e (laid-at k p vs i u s)
 
 pub packed-parts : (kind x y m : ℕ) → kind < 256 → x < 256 → y < 256 → m < 256 →
     (packed-row kind x y m % 256 ≡ kind) × (packed-row kind x y m / 256 % 256 ≡ x)
@@ -101,7 +107,8 @@ chains-none {F} {p} {d₀} = record {
   first = λ f. ap (λ (i : ℕ). start (F .notes) i p) (let e : f + 0 ≡ f = omega arith in e);
 }
 
-pub chains-then : {F : Plain} {p q r v w d₀ : ℕ} {g h : Tree → Tree} → Chains F p q v d₀ g → Chains F q r w d₀ h → Chains F p r (v + w) d₀ (λ t. g (h t))
+pub chains-then : {F : Plain} {p q r v w d₀ : ℕ} {g h : Tree → Tree} → Chains F p q v d₀ g → Chains F q r w d₀ h →
+    Chains F p r (v + w) d₀ (λ t. g (h t))
 chains-then {F} {p} {q} {r} {v} {w} {d₀} {g} {h} a b = record {
   chain = λ d f l t.
       ap (λ (i : ℕ). back F (tree-to F d) i r t) (let e : f + (v + w) ≡ f + v + w = omega arith in e)
@@ -111,21 +118,25 @@ chains-then {F} {p} {q} {r} {v} {w} {d₀} {g} {h} a b = record {
       ∙ b .first (f + v) ∙ a .first f;
 }
 
-pub chains-more : {F : Plain} {p q w d₀ : ℕ} (d₁ : ℕ) {g : Tree → Tree} → d₀ ≤ d₁ → Chains F p q w d₀ g → Chains F p q w d₁ g
+pub chains-more : {F : Plain} {p q w d₀ : ℕ} (d₁ : ℕ) {g : Tree → Tree} → d₀ ≤ d₁ → Chains F p q w d₀ g → Chains F p
+    q w d₁ g
 chains-more d₁ h c = record { chain = λ d f l t. c .chain d f (omega arith) t; first = c .first }
 
-pub chains-as : {F : Plain} {p q w d₀ : ℕ} {g : Tree → Tree} (h : Tree → Tree) → ((t : Tree) → g t ≡ h t) → Chains F p q w d₀ g → Chains F p q w d₀ h
+pub chains-as : {F : Plain} {p q w d₀ : ℕ} {g : Tree → Tree} (h : Tree → Tree) → ((t : Tree) → g t ≡ h t) → Chains F
+    p q w d₀ g → Chains F p q w d₀ h
 chains-as {F} {p} h e c = record {
   chain = λ d f l t. c .chain d f l t ∙ ap (λ (u : Tree). back F (tree-to F d) f p u) (e t);
   first = c .first;
 }
 
 pub chains-line : {F : Plain} {p q d₀ : ℕ} (L : C.Line) → note (F .notes) q ≡ p → p < q →
-    ((d : ℕ) → d₀ ≤ d → as-line F (tree-to F d) p q (line-at (F .operands) (F .rows) p) ≡ L) → Chains F p q 1 d₀ (λ t. line L t)
+    ((d : ℕ) → d₀ ≤ d → as-line F (tree-to F d) p q (line-at (F .operands) (F .rows) p) ≡ L) → Chains F p q 1 d₀
+    (λ t. line L t)
 chains-line {F} {p} {q} {d₀} L e h s = record {
   chain = λ d f l t.
       back-goes F (tree-to F d) (f + 1) q p t (omega arith) (sym e) h
-      ∙ ap (λ (i : ℕ). back F (tree-to F d) i p (line (as-line F (tree-to F d) p q (line-at (F .operands) (F .rows) p)) t)) (let e : f + 1 - 1 ≡ f = omega arith in e)
+      ∙ ap (λ (i : ℕ). back F (tree-to F d) i p (line (as-line F (tree-to F d) p q (line-at (F .operands) (F .rows)
+      p)) t)) (let e : f + 1 - 1 ≡ f = omega arith in e)
       ∙ ap (λ (i : C.Line). back F (tree-to F d) f p (line i t)) (s d l);
   first = λ f.
       start-goes (F .notes) (f + 1) q p (omega arith) (sym e) h
@@ -133,7 +144,8 @@ chains-line {F} {p} {q} {d₀} L e h s = record {
 }
 
 -- a chain of lines is a tree's, where the note at its first row says that it is the first
-module _ {F : Plain} {p q w d₀ : ℕ} {g : Tree → Tree} (c : Chains F p q w d₀ g) (h : p ≤ note (F .notes) p) (s : w ≤ 4096) where
+module _ {F : Plain} {p q w d₀ : ℕ} {g : Tree → Tree} (c : Chains F p q w d₀ g) (h : p ≤ note (F .notes) p)
+    (s : w ≤ 4096) where
   pub chains-tree : (d : ℕ) → d₀ ≤ d → tree-to F (suc d) q ≡ g (end-at F q)
   chains-tree d l =
       tree-some F (suc d) q (omega arith)
@@ -150,7 +162,8 @@ module _ {F : Plain} {p q w d₀ : ℕ} {g : Tree → Tree} (c : Chains F p q w 
 
 -- ---- sizes
 
-pub sized-laid : {k k₁ nt d : List ℕ} {p : ℕ} {vs : List ℕ} → Sized (state k nt d) → LaidAs k k₁ p vs → Sized (state k₁ nt d)
+pub sized-laid : {k k₁ nt d : List ℕ} {p : ℕ} {vs : List ℕ} → Sized (state k nt d) → LaidAs k k₁ p vs → Sized
+    (state k₁ nt d)
 sized-laid {k} {k₁} {nt} {d} {p} {vs} s e =
     record { rows = ap length (e .is) ∙ length-laid k p vs ∙ s .rows; notes = s .notes; depths = s .depths }
 
@@ -165,7 +178,8 @@ sized-depth {d = d} {i = i} {v = v} s e =
 pub low-more : {d : List ℕ} {c : ℕ} (m : ℕ) → Low d c → c ≤ m → Low d m
 low-more m s h = record { at = λ i. omega (arith, s .at i) }
 
-pub low-set : {d d₁ : List ℕ} {c : ℕ} (m x v : ℕ) → Low d c → SetAs d d₁ x v → x < length d → c ≤ m → 2 * v ≤ 8 + m → Low d₁ m
+pub low-set : {d d₁ : List ℕ} {c : ℕ} (m x v : ℕ) → Low d c → SetAs d d₁ x v → x < length d → c ≤ m → 2 * v ≤ 8 + m
+    → Low d₁ m
 low-set {d} {d₁} {c} m x v s e g h i = record { at = λ j. rw (e .is) (go j (ℕ-discrete j x)) }
   where
     go : (j : ℕ) → Dec (j ≡ x) → 2 * getD (set d x v) j 0 ≤ 8 + m

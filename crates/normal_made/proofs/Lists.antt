@@ -42,7 +42,8 @@ two-line kind x (a ∷ (b ∷ [])) = cond (eqb kind 10) (C.index x a b) (C.opera
 two-line kind x (a ∷ (b ∷ (c ∷ us))) = C.retain x
 
 abbrev pub compound-line : ℕ → ℕ → ℕ → List C.Atom → C.Line
-compound-line kind y x us = cond (eqb kind 8) (C.call x y us) (cond (eqb kind 9) (C.literal x y us) (two-line kind x us))
+compound-line kind y x us = cond (eqb kind 8) (C.call x y us) (cond (eqb kind 9) (C.literal x y us) (two-line kind x
+    us))
 
 -- the atoms of some places
 abbrev pub placed-all : List ℕ → List ℕ → List C.Atom
@@ -55,9 +56,11 @@ pub record Shaped (kind y : ℕ) (m : ℕ) (es : Exprs) : Type 0 where
   pub rows : laid-rows (compound kind y es) ≡ laid-all es + 1
   pub gives : (μ : Meanings) (n : ℕ) → atom (compound kind y es) μ n ≡ C.name (n + fresh-all es)
   pub lays : (μ : Meanings) (n : ℕ) (k : Tree) →
-      lines (compound kind y es) μ n k ≡ all-lines es μ n (line (compound-line kind y (n + fresh-all es) (atoms es μ n)) k)
+      lines (compound kind y es) μ n k ≡ all-lines es μ n (line (compound-line kind y (n + fresh-all es)
+      (atoms es μ n)) k)
   pub reads : (F : Plain) (T : ℕ → Tree) (p q x : ℕ) →
-      as-line F T p q (line-of kind x y m (placed (F .operands) (getD (F .rows) (p + 1) 0)) (placed (F .operands) (getD (F .rows) (p + 2) 0)))
+      as-line F T p q (line-of kind x y m (placed (F .operands) (getD (F .rows) (p + 1) 0)) (placed (F .operands)
+      (getD (F .rows) (p + 2) 0)))
       ≡ compound-line kind y x (atoms-at (F .operands) (F .rows) (p + 1) m)
   pub deep : (w rs ds vs : List ℕ) (x : ℕ) →
       line-depths (λ f. getD rs f 0) (compound-line kind y x (placed-all w (firsts vs 0 m))) (depth-in ds)
@@ -92,12 +95,14 @@ module _ (R : ℕ → Expr) (y at : ℕ) where
     names = omega arith;
     rows = omega arith;
     gives = λ μ n. ap C.name (let e : n + fresh (R at) ≡ n + (fresh (R at) + 0) = omega arith in e);
-    lays = λ μ n k. ap (λ (x : ℕ). lines (R at) μ n (line (C.length-of x (atom (R at) μ n)) k)) (let e : n + fresh (R at) ≡ n + (fresh (R at) + 0) = omega arith in e);
+    lays = λ μ n k. ap (λ (x : ℕ). lines (R at) μ n (line (C.length-of x (atom (R at) μ n)) k)) (let e : n + fresh
+        (R at) ≡ n + (fresh (R at) + 0) = omega arith in e);
     reads = λ F T p q x. refl;
     deep = λ w rs ds vs x. refl;
   }
 
-  sum-is : (n : ℕ) → n + fresh (R at) + fresh (R (at + size (R at))) ≡ n + (fresh (R at) + (fresh (R (at + size (R at))) + 0))
+  sum-is : (n : ℕ) → n + fresh (R at) + fresh (R (at + size (R at))) ≡ n + (fresh (R at) +
+      (fresh (R (at + size (R at))) + 0))
   sum-is n = omega arith
 
   shape-index : Shaped 10 y 2 (several R 2 at)
@@ -107,8 +112,10 @@ module _ (R : ℕ → Expr) (y at : ℕ) where
     rows = omega arith;
     gives = λ μ n. ap C.name (sum-is n);
     lays = λ μ n k.
-        ap (λ (x : ℕ). lines (R at) μ n (lines (R (at + size (R at))) μ (n + fresh (R at)) (line (C.index x (atom (R at) μ n) (atom (R (at + size (R at))) μ (n + fresh (R at)))) k))) (sum-is n);
-    reads = λ F T p q x. ap (λ (i : ℕ). C.index x (meant (placed (F .operands) (getD (F .rows) (p + 1) 0))) (meant (placed (F .operands) (getD (F .rows) i 0)))) (let e : p + 2 ≡ p + 1 + 1 = omega arith in e);
+        ap (λ (x : ℕ). lines (R at) μ n (lines (R (at + size (R at))) μ (n + fresh (R at))
+        (line (C.index x (atom (R at) μ n) (atom (R (at + size (R at))) μ (n + fresh (R at)))) k))) (sum-is n);
+    reads = λ F T p q x. ap (λ (i : ℕ). C.index x (meant (placed (F .operands) (getD (F .rows) (p + 1) 0)))
+        (meant (placed (F .operands) (getD (F .rows) i 0)))) (let e : p + 2 ≡ p + 1 + 1 = omega arith in e);
     deep = λ w rs ds vs x. ap (λ (i : ℕ). updated (depth-in ds) x (pred i)) (sym (place-atom w ds (getD vs 0 0)));
   }
 
@@ -126,9 +133,13 @@ module _ (R : ℕ → Expr) (y at : ℕ) where
         rows = rw (n₈, n₉, n₁₀) (omega arith);
         gives = λ μ n. rw (n₈, n₉, n₁₀) (ap C.name (sum-is n));
         lays = λ μ n k. rw (n₈, n₉, n₁₀)
-            (ap (λ (x : ℕ). lines (R at) μ n (lines (R (at + size (R at))) μ (n + fresh (R at)) (line (C.operation x (operation-of kind) (atom (R at) μ n) (atom (R (at + size (R at))) μ (n + fresh (R at)))) k))) (sum-is n));
+            (ap (λ (x : ℕ). lines (R at) μ n (lines (R (at + size (R at))) μ (n + fresh (R at))
+            (line (C.operation x (operation-of kind) (atom (R at) μ n) (atom (R (at + size (R at))) μ
+            (n + fresh (R at)))) k))) (sum-is n));
         reads = λ F T p q x. rw (n₈, n₉, n₁₀, n₁₁, n₁₂, n₁₃)
-            (ap (λ (i : ℕ). C.operation x (operation-of kind) (meant (placed (F .operands) (getD (F .rows) (p + 1) 0))) (meant (placed (F .operands) (getD (F .rows) i 0)))) (let e : p + 2 ≡ p + 1 + 1 = omega arith in e));
+            (ap (λ (i : ℕ). C.operation x (operation-of kind) (meant (placed (F .operands) (getD (F .rows) (p + 1)
+            0))) (meant (placed (F .operands) (getD (F .rows) i 0)))) (let e : p + 2 ≡ p + 1 + 1 = omega arith
+            in e));
         deep = λ w rs ds vs x. rw (n₈, n₉, n₁₀);
       }
 
@@ -142,7 +153,8 @@ module _ (R : ℕ → Expr) (y at : ℕ) where
 -- ---- the parts
 
 -- i of m parts are laid: their places stand in vs
-pub record Listing (w : List ℕ) (res : ℕ → ℕ) (R : ℕ → Expr) (m at : ℕ) (μ : Meanings) (X Y : State) (n p d₀ : ℕ) (vs : List ℕ) (i a x q : ℕ) : Type 0 where
+pub record Listing (w : List ℕ) (res : ℕ → ℕ) (R : ℕ → Expr) (m at : ℕ) (μ : Meanings) (X Y : State) (n p d₀ : ℕ)
+    (vs : List ℕ) (i a x q : ℕ) : Type 0 where
   pub within : i ≤ m
   pub nodes : at + sizes (several R m at) ≡ a + sizes (several R (m - i) a)
   pub count : n + fresh-all (several R m at) ≡ x + fresh-all (several R (m - i) a)
@@ -174,7 +186,8 @@ firsts-more w vs j (suc i) v h =
     let e : j + suc i ≡ j + 1 + i = omega arith in
     let f : suc i + 1 ≡ suc (i + 1) = omega arith in
     rw (f, e)
-    (ap (λ (u : ℕ). meant (placed w u) ∷ placed-all w (firsts (set vs (j + 1 + i) v) (j + 1) (i + 1))) (getD-set-other vs (j + 1 + i) j v 0 (λ g. omega arith))
+    (ap (λ (u : ℕ). meant (placed w u) ∷ placed-all w (firsts (set vs (j + 1 + i) v) (j + 1) (i + 1)))
+    (getD-set-other vs (j + 1 + i) j v 0 (λ g. omega arith))
     ∙ ap (λ (us : List C.Atom). meant (placed w (getD vs j 0)) ∷ us) (firsts-more w vs (j + 1) i v (omega arith)))
 
 module _ {w : List ℕ} {res : ℕ → ℕ} {R : ℕ → Expr} {m at : ℕ} {μ : Meanings} {X : State} {n p d₀ : ℕ} where
@@ -203,89 +216,104 @@ module _ {w : List ℕ} {res : ℕ → ℕ} {R : ℕ → Expr} {m at : ℕ} {μ 
         depths = λ t. rw e;
       }
 
-  module _ {Y : State} {vs : List ℕ} {i a x q : ℕ} (L : Listing w res R m at μ X Y n p d₀ vs i a x q) (h : i < m) where
-    left : m - i ≡ suc (m - (i + 1))
-    left = omega arith
+  module _ {Y : State} {vs : List ℕ} {i a x q : ℕ} (L : Listing w res R m at μ X Y n p d₀ vs i a x q) (h : i < m)
+    where
+      left : m - i ≡ suc (m - (i + 1))
+      left = omega arith
 
-    -- the next part, and what comes after it
-    nodes-next : at + sizes (several R m at) ≡ a + (size (R a) + sizes (several R (m - (i + 1)) (a + size (R a))))
-    unfolding several size
-    nodes-next = rw left at (L .nodes)
+      -- the next part, and what comes after it
+      nodes-next : at + sizes (several R m at) ≡ a + (size (R a) + sizes (several R (m - (i + 1)) (a + size (R a))))
+      unfolding several size
+      nodes-next = rw left at (L .nodes)
 
-    count-next : n + fresh-all (several R m at) ≡ x + (fresh (R a) + fresh-all (several R (m - (i + 1)) (a + size (R a))))
-    unfolding several fresh
-    count-next = rw left at (L .count)
+      count-next : n + fresh-all (several R m at) ≡ x + (fresh (R a) + fresh-all (several R (m - (i + 1))
+          (a + size (R a))))
+      unfolding several fresh
+      count-next = rw left at (L .count)
 
-    reach-next : p + laid-all (several R m at) ≡ q + i + (laid-rows (R a) + 1 + laid-all (several R (m - (i + 1)) (a + size (R a))))
-    unfolding several laid-rows
-    reach-next = rw left at (L .reach)
+      reach-next : p + laid-all (several R m at) ≡ q + i + (laid-rows (R a) + 1 + laid-all (several R (m - (i + 1))
+          (a + size (R a))))
+      unfolding several laid-rows
+      reach-next = rw left at (L .reach)
 
-    gives-next : atoms (several R m at) μ n
-        ≡ placed-all w (firsts vs 0 i) ++ (atom (R a) μ x ∷ atoms (several R (m - (i + 1)) (a + size (R a))) μ (x + fresh (R a)))
-    unfolding several atom
-    gives-next = rw left at (L .gives)
+      gives-next : atoms (several R m at) μ n
+          ≡ placed-all w (firsts vs 0 i) ++ (atom (R a) μ x ∷ atoms (several R (m - (i + 1)) (a + size (R a))) μ
+          (x + fresh (R a)))
+      unfolding several atom
+      gives-next = rw left at (L .gives)
 
-    whole-next : (t : Tree) → all-lines (several R m at) μ n t
-        ≡ L .go (lines (R a) μ x (all-lines (several R (m - (i + 1)) (a + size (R a))) μ (x + fresh (R a)) t))
-    unfolding several lines
-    whole-next t = rw left at (L .whole t)
+      whole-next : (t : Tree) → all-lines (several R m at) μ n t
+          ≡ L .go (lines (R a) μ x (all-lines (several R (m - (i + 1)) (a + size (R a))) μ (x + fresh (R a)) t))
+      unfolding several lines
+      whole-next t = rw left at (L .whole t)
 
-    depths-next : (t : Tree) → tree-depths res (all-lines (several R m at) μ n t) (depth-in (X .depths))
-        ≡ tree-depths res (lines (R a) μ x (all-lines (several R (m - (i + 1)) (a + size (R a))) μ (x + fresh (R a)) t)) (depth-in (Y .depths))
-    unfolding several lines
-    depths-next t = rw left at (L .depths t)
+      depths-next : (t : Tree) → tree-depths res (all-lines (several R m at) μ n t) (depth-in (X .depths))
+          ≡ tree-depths res (lines (R a) μ x (all-lines (several R (m - (i + 1)) (a + size (R a))) μ (x + fresh (R a))
+          t)) (depth-in (Y .depths))
+      unfolding several lines
+      depths-next t = rw left at (L .depths t)
 
-    pub listing-ready : (c : ℕ) → Low (X .depths) c → c ≤ n → at + sizes (several R m at) ≤ 1024 → n + fresh-all (several R m at) ≤ 256 →
-        p + laid-all (several R m at) ≤ 4060 → Ready Y (R a) (a + size (R a)) x q
-    listing-ready c s b f g j = record {
-      sized = L .sized;
-      credit = c + L .taken;
-      low = L .low c s;
-      below = omega (arith, L .taken-is);
-      nodes = omega (arith, nodes-next);
-      names = omega (arith, count-next);
-      rows = omega (arith, reach-next);
-    }
+      pub listing-ready : (c : ℕ) → Low (X .depths) c → c ≤ n → at + sizes (several R m at) ≤ 1024 → n + fresh-all
+          (several R m at) ≤ 256 →
+          p + laid-all (several R m at) ≤ 4060 → Ready Y (R a) (a + size (R a)) x q
+      listing-ready c s b f g j = record {
+        sized = L .sized;
+        credit = c + L .taken;
+        low = L .low c s;
+        below = omega (arith, L .taken-is);
+        nodes = omega (arith, nodes-next);
+        names = omega (arith, count-next);
+        rows = omega (arith, reach-next);
+      }
 
-    pub listing-goes : {Z : State} {r : Out} → Made w res (R a) μ Y Z x q d₀ (a + size (R a)) r → m ≤ 16 →
-        Listing w res R m at μ X Z n p d₀ (set vs i (r .place)) (i + 1) (r .next) (r .n) (r .p)
-    listing-goes {Z} {r} B g =
-        rw (B .next) (record {
-          within = omega arith;
-          nodes = omega (arith, nodes-next);
-          count = omega (arith, count-next, B .count);
-          reach = omega (arith, reach-next, B .reach);
-          on = omega (arith, L .on, B .reach);
-          taken = L .taken + fresh (R a);
-          taken-is = omega (arith, L .taken-is, B .count);
-          sized = B .sized;
-          low = λ c s. low-more (c + (L .taken + fresh (R a))) (B .low (c + L .taken) (L .low c s)) (omega arith);
-          long = length-set vs i (r .place) ∙ L .long;
-          gives = gives-next ∙ atoms-there;
-          same = same-then (L .same) (same-less p p (B .same) (L .on) (L .on));
-          width = L .width + B .width;
-          thin = omega (arith, L .thin, B .thin);
-          go = λ t. L .go (lines (R a) μ x t);
-          whole = λ t. whole-next t ∙ ap (λ (j : ℕ). L .go (lines (R a) μ x (all-lines (several R (m - (i + 1)) (a + size (R a))) μ j t))) (sym (B .count));
-          chains = λ F u f. chains-then
-              (L .chains F u (agrees-back q q f (B .same) (omega (arith, B .reach)) (omega (arith, B .reach))))
-              (B .chains F u (agrees-from q f (L .on)));
-          depths = λ t. depths-next t ∙ B .depths _
-              ∙ ap (λ (j : ℕ). tree-depths res (all-lines (several R (m - (i + 1)) (a + size (R a))) μ j t) (depth-in (Z .depths))) (sym (B .count));
-        })
-      where
-        atoms-there : placed-all w (firsts vs 0 i) ++ (atom (R a) μ x ∷ atoms (several R (m - (i + 1)) (a + size (R a))) μ (x + fresh (R a)))
-            ≡ placed-all w (firsts (set vs i (r .place)) 0 (i + 1)) ++ atoms (several R (m - (i + 1)) (a + size (R a))) μ (r .n)
-        atoms-there =
-            rw (B .count)
-            (sym (ap (λ (j : ℕ). placed-all w (firsts (set vs j (r .place)) 0 (i + 1)) ++ atoms (several R (m - (i + 1)) (a + size (R a))) μ (x + fresh (R a))) (let e : i ≡ 0 + i = omega arith in e)
-            ∙ ap (λ (us : List C.Atom). us ++ atoms (several R (m - (i + 1)) (a + size (R a))) μ (x + fresh (R a))) (firsts-more w vs 0 i (r .place) (omega (arith, L .long)))
-            ∙ append-assoc (placed-all w (firsts vs 0 i)) (meant (placed w (r .place)) ∷ []) _
-            ∙ ap (λ (z : C.Atom). placed-all w (firsts vs 0 i) ++ (z ∷ atoms (several R (m - (i + 1)) (a + size (R a))) μ (x + fresh (R a)))) (B .gives)))
+      pub listing-goes : {Z : State} {r : Out} → Made w res (R a) μ Y Z x q d₀ (a + size (R a)) r → m ≤ 16 →
+          Listing w res R m at μ X Z n p d₀ (set vs i (r .place)) (i + 1) (r .next) (r .n) (r .p)
+      listing-goes {Z} {r} B g =
+          rw (B .next) (record {
+            within = omega arith;
+            nodes = omega (arith, nodes-next);
+            count = omega (arith, count-next, B .count);
+            reach = omega (arith, reach-next, B .reach);
+            on = omega (arith, L .on, B .reach);
+            taken = L .taken + fresh (R a);
+            taken-is = omega (arith, L .taken-is, B .count);
+            sized = B .sized;
+            low = λ c s. low-more (c + (L .taken + fresh (R a))) (B .low (c + L .taken) (L .low c s)) (omega arith);
+            long = length-set vs i (r .place) ∙ L .long;
+            gives = gives-next ∙ atoms-there;
+            same = same-then (L .same) (same-less p p (B .same) (L .on) (L .on));
+            width = L .width + B .width;
+            thin = omega (arith, L .thin, B .thin);
+            go = λ t. L .go (lines (R a) μ x t);
+            whole = λ t. whole-next t ∙ ap (λ (j : ℕ). L .go (lines (R a) μ x (all-lines (several R (m - (i + 1))
+                (a + size (R a))) μ j t))) (sym (B .count));
+            chains = λ F u f. chains-then
+                (L .chains F u (agrees-back q q f (B .same) (omega (arith, B .reach)) (omega (arith, B .reach))))
+                (B .chains F u (agrees-from q f (L .on)));
+            depths = λ t. depths-next t ∙ B .depths _
+                ∙ ap (λ (j : ℕ). tree-depths res (all-lines (several R (m - (i + 1)) (a + size (R a))) μ j t)
+                (depth-in (Z .depths))) (sym (B .count));
+          })
+        where
+          atoms-there : placed-all w (firsts vs 0 i) ++ (atom (R a) μ x ∷ atoms (several R (m - (i + 1))
+              (a + size (R a))) μ (x + fresh (R a)))
+              ≡ placed-all w (firsts (set vs i (r .place)) 0 (i + 1)) ++ atoms (several R (m - (i + 1))
+              (a + size (R a))) μ (r .n)
+          atoms-there =
+              rw (B .count)
+              (sym (ap (λ (j : ℕ). placed-all w (firsts (set vs j (r .place)) 0 (i + 1)) ++ atoms
+              (several R (m - (i + 1)) (a + size (R a))) μ (x + fresh (R a))) (let e : i ≡ 0 + i = omega arith in
+              e)
+              ∙ ap (λ (us : List C.Atom). us ++ atoms (several R (m - (i + 1)) (a + size (R a))) μ (x + fresh (R a)))
+              (firsts-more w vs 0 i (r .place) (omega (arith, L .long)))
+              ∙ append-assoc (placed-all w (firsts vs 0 i)) (meant (placed w (r .place)) ∷ []) _
+              ∙ ap (λ (z : C.Atom). placed-all w (firsts vs 0 i) ++ (z ∷ atoms (several R (m - (i + 1))
+              (a + size (R a))) μ (x + fresh (R a)))) (B .gives)))
 
 -- ---- the line
 
-atoms-placed : (w rows : List ℕ) (at : ℕ) (vs : List ℕ) (j m : ℕ) → ((i : ℕ) → i < m → getD rows (at + i) 0 ≡ getD vs (j + i) 0) →
+atoms-placed : (w rows : List ℕ) (at : ℕ) (vs : List ℕ) (j m : ℕ) → ((i : ℕ) → i < m → getD rows (at + i) 0 ≡ getD
+    vs (j + i) 0) →
     atoms-at w rows at m ≡ placed-all w (firsts vs j m)
 unfolding atoms-at firsts
 atoms-placed w rows at vs j zero h = refl
@@ -304,7 +332,8 @@ atoms-placed w rows at vs j (suc m) h =
         let f : j + 1 + i ≡ j + suc i = omega arith in
         rw (e, f) (h (suc i) (omega arith))
 
-depth-low : (rs ds : List ℕ) (kind y v c : ℕ) → Low ds c → ((f : ℕ) → getD rs f 0 ≤ 4) → (kind ≡ 9 → y ≤ 3) → 2 * line-depth rs ds kind y v ≤ 8 + c
+depth-low : (rs ds : List ℕ) (kind y v c : ℕ) → Low ds c → ((f : ℕ) → getD rs f 0 ≤ 4) → (kind ≡ 9 → y ≤ 3) → 2 *
+    line-depth rs ds kind y v ≤ 8 + c
 depth-low rs ds kind y v c s g h = go (ℕ-discrete kind 8) (ℕ-discrete kind 9) (ℕ-discrete kind 10)
   where
     go : Dec (kind ≡ 8) → Dec (kind ≡ 9) → Dec (kind ≡ 10) → 2 * line-depth rs ds kind y v ≤ 8 + c
@@ -313,11 +342,14 @@ depth-low rs ds kind y v c s g h = go (ℕ-discrete kind 8) (ℕ-discrete kind 9
     go (no a) (no b) (yes e) = rw e (omega (arith, low-place s v, pred-le (place-depth ds v)))
     go (no a) (no b) (no z) = rw (ne-eqb kind 8 a, ne-eqb kind 9 b, ne-eqb kind 10 z) (omega arith)
 
-module _ (results : List ℕ) {w : List ℕ} {R : ℕ → Expr} {m at : ℕ} {μ : Meanings} {X : State} {k k₁ nt nt₁ d d₁ : List ℕ} {n p d₀ : ℕ} {vs : List ℕ} {i a x q v : ℕ}
-    (kind y : ℕ) (L₀ : Listing w (λ f. getD results f 0) R m at μ X (state k nt d) n p d₀ vs i a x q) (ie : m ≤ i) (c : Counted kind y m)
+module _ (results : List ℕ) {w : List ℕ} {R : ℕ → Expr} {m at : ℕ} {μ : Meanings} {X : State} {k k₁ nt nt₁ d d₁ :
+    List ℕ} {n p d₀ : ℕ} {vs : List ℕ} {i a x q v : ℕ}
+    (kind y : ℕ) (L₀ : Listing w (λ f. getD results f 0) R m at μ X (state k nt d) n p d₀ vs i a x q) (ie : m ≤ i)
+    (c : Counted kind y m)
     (l : LaidAs k k₁ q (packed-row kind x y m ∷ firsts vs 0 m)) (e : SetAs nt nt₁ (q + 1 + m) q)
     (ve : v ≡ line-depth results d kind y (getD vs 0 0)) (f : SetAs d d₁ x v) (small : (j : ℕ) → getD results j 0 ≤ 4)
-    (names : n + fresh (compound kind y (several R m at)) ≤ 256) (room : p + laid-rows (compound kind y (several R m at)) ≤ 4060) where
+    (names : n + fresh (compound kind y (several R m at)) ≤ 256) (room : p + laid-rows (compound kind y
+    (several R m at)) ≤ 4060) where
   S-is : Shaped kind y m (several R m at)
   S-is = shaped R y at kind m c
 
@@ -353,7 +385,8 @@ module _ (results : List ℕ) {w : List ℕ} {R : ℕ → Expr} {m at : ℕ} {μ
   unfolding several lines
   whole-is t = rw none-left at (L₀ .whole t)
 
-  depths-is : (t : Tree) → tree-depths (λ f. getD results f 0) (all-lines (several R m at) μ n t) (depth-in (X .depths)) ≡ tree-depths (λ f. getD results f 0) t (depth-in d)
+  depths-is : (t : Tree) → tree-depths (λ f. getD results f 0) (all-lines (several R m at) μ n t)
+      (depth-in (X .depths)) ≡ tree-depths (λ f. getD results f 0) t (depth-in d)
   unfolding several lines
   depths-is t = rw none-left at (L₀ .depths t)
 
@@ -363,22 +396,33 @@ module _ (results : List ℕ) {w : List ℕ} {R : ℕ → Expr} {m at : ℕ} {μ
   the-line : C.Line
   the-line = compound-line kind y (n + fresh-all (several R m at)) (atoms (several R m at) μ n)
 
-  line-there : (F : Plain) → F .operands ≡ w → Agrees (state k₁ nt₁ d₁) F p (q + 1 + m) (q + 1 + m) → (j : ℕ) → d₀ + 1 ≤ j →
+  line-there : (F : Plain) → F .operands ≡ w → Agrees (state k₁ nt₁ d₁) F p (q + 1 + m) (q + 1 + m) → (j : ℕ) → d₀ +
+      1 ≤ j →
       as-line F (tree-to F j) q (q + 1 + m) (line-at (F .operands) (F .rows) q) ≡ the-line
   unfolding the-line
   line-there F u g j h =
       ap (as-line F (tree-to F j) q (q + 1 + m))
-      (line-back F q kind x y m (getD (F .rows) (q + 1) 0) (kind-low (c .plain)) (omega (arith, few)) (omega (arith, c .second)) (omega (arith, c .parts)) (row 0 q (omega arith) (omega (arith, length-firsts vs 0 m))) refl)
+      (line-back F q kind x y m (getD (F .rows) (q + 1) 0) (kind-low (c .plain)) (omega (arith, few))
+      (omega (arith, c .second)) (omega (arith, c .parts)) (row 0 q (omega arith) (omega (
+        arith,
+        length-firsts
+            vs 0 m,
+      ))) refl)
       ∙ S-is .reads F (tree-to F j) q (q + 1 + m) x
-      ∙ rw (u, x-is, atoms-is) (ap (compound-line kind y x) (atoms-placed w (F .rows) (q + 1) vs 0 m (λ z b. at-place z b)))
+      ∙ rw (u, x-is, atoms-is) (ap (compound-line kind y x) (atoms-placed w (F .rows) (q + 1) vs 0 m
+      (λ z b. at-place z b)))
     where
-      kind-low : (kind ≡ 8) ⊎ ((kind ≡ 9) ⊎ (((kind ≡ 11) × (m ≡ 1)) ⊎ (((kind ≡ 10) × (m ≡ 2)) ⊎ ((kind ≤ 6) × ((4 ≤ kind) × (m ≡ 2)))))) → kind < 256
+      kind-low : (kind ≡ 8) ⊎ ((kind ≡ 9) ⊎ (((kind ≡ 11) × (m ≡ 1)) ⊎ (((kind ≡ 10) × (m ≡ 2)) ⊎ ((kind ≤ 6) ×
+          ((4 ≤ kind) × (m ≡ 2)))))) → kind < 256
       kind-low z =
-          ⊎-elim (λ b. omega arith) (⊎-elim (λ b. omega arith) (⊎-elim (λ b. omega (arith, b .0)) (⊎-elim (λ b. omega (arith, b .0)) (λ b. omega (arith, b .0))))) z
+          ⊎-elim (λ b. omega arith) (⊎-elim (λ b. omega arith) (⊎-elim (λ b. omega (arith, b .0))
+          (⊎-elim (λ b. omega (arith, b .0)) (λ b. omega (arith, b .0))))) z
 
-      row : (s t : ℕ) → t ≡ q + s → s < suc (length (firsts vs 0 m)) → getD (F .rows) t 0 ≡ getD (packed-row kind x y m ∷ firsts vs 0 m) s 0
+      row : (s t : ℕ) → t ≡ q + s → s < suc (length (firsts vs 0 m)) → getD (F .rows) t 0 ≡ getD (packed-row kind x
+          y m ∷ firsts vs 0 m) s 0
       row s t b o =
-          row-back {nt = nt₁} {d = d₁} l g (L₀ .on) (omega (arith, length-firsts vs 0 m)) (omega (arith, length-firsts vs 0 m, L₀ .sized .rows, short)) s t b o
+          row-back {nt = nt₁} {d = d₁} l g (L₀ .on) (omega (arith, length-firsts vs 0 m))
+          (omega (arith, length-firsts vs 0 m, L₀ .sized .rows, short)) s t b o
 
       at-place : (z : ℕ) → z < m → getD (F .rows) (q + 1 + z) 0 ≡ getD vs (0 + z) 0
       at-place z b =
@@ -388,14 +432,16 @@ module _ (results : List ℕ) {w : List ℕ} {R : ℕ → Expr} {m at : ℕ} {μ
   unfolding the-line
   line-deep = first ∙ second
     where
-      first : line-depths (λ f. getD results f 0) (compound-line kind y (n + fresh-all (several R m at)) (atoms (several R m at) μ n)) (depth-in d)
+      first : line-depths (λ f. getD results f 0) (compound-line kind y (n + fresh-all (several R m at))
+          (atoms (several R m at) μ n)) (depth-in d)
           ≡ updated (depth-in d) x (line-depth results d kind y (getD vs 0 0))
       first = rw (x-is, atoms-is) (S-is .deep w results d vs x)
 
       second : updated (depth-in d) x (line-depth results d kind y (getD vs 0 0)) ≡ depth-in d₁
       second = rw (← ve) (sym (ap depth-in (f .is) ∙ depth-set d x v (omega (arith, L₀ .sized .depths, few))))
 
-  pub made-compound : Made w (λ f. getD results f 0) (compound kind y (several R m at)) μ X (state k₁ nt₁ d₁) n p (d₀ + 1) (at + sizes (several R m at)) (out x a (x + 1) (q + 1 + m))
+  pub made-compound : Made w (λ f. getD results f 0) (compound kind y (several R m at)) μ X (state k₁ nt₁ d₁) n p
+      (d₀ + 1) (at + sizes (several R m at)) (out x a (x + 1) (q + 1 + m))
   unfolding the-line tree-depths
   made-compound = record {
     next = sym node-is;
@@ -404,8 +450,16 @@ module _ (results : List ℕ) {w : List ℕ} {R : ℕ → Expr} {m at : ℕ} {μ
     sized = sized-depth (sized-note (sized-laid (L₀ .sized) l) e) f;
     low = λ j s.
         let t = L₀ .low j s in
-        low-set (j + fresh (compound kind y (several R m at))) x v t f (omega (arith, L₀ .sized .depths, few)) (omega (arith, S-is .names, x-is, L₀ .taken-is))
-        (omega (arith, ve, depth-low results d kind y (getD vs 0 0) (j + L₀ .taken) t small (c .depth), S-is .names, x-is, L₀ .taken-is));
+        low-set (j + fresh (compound kind y (several R m at))) x v t f (omega (arith, L₀ .sized .depths, few))
+        (omega (arith, S-is .names, x-is, L₀ .taken-is))
+        (omega (
+          arith,
+          ve,
+          depth-low results d kind y (getD vs 0 0) (j + L₀ .taken) t small (c .depth),
+          S-is .names,
+          x-is,
+          L₀ .taken-is,
+        ));
     gives = name-placed w x (omega (arith, few)) ∙ ap C.name (sym x-is) ∙ sym (S-is .gives μ n);
     same = same-then (L₀ .same) (same-less p p keep (L₀ .on) (L₀ .on));
     width = L₀ .width + 1;
@@ -415,7 +469,8 @@ module _ (results : List ℕ) {w : List ℕ} {R : ℕ → Expr} {m at : ℕ} {μ
         (λ t. sym (S-is .lays μ n t ∙ whole-is (line the-line t)))
         (chains-then
         (chains-more (d₀ + 1) (omega arith) (L₀ .chains F u (agrees-back q q g keep (omega arith) (omega arith))))
-        (chains-line the-line (g .notes (q + 1 + m) (omega (arith, L₀ .on)) (omega arith) ∙ note-set nt nt₁ (q + 1 + m) q e (omega (arith, L₀ .sized .notes, short))) (omega arith) (line-there F u g)));
+        (chains-line the-line (g .notes (q + 1 + m) (omega (arith, L₀ .on)) (omega arith) ∙ note-set nt nt₁
+        (q + 1 + m) q e (omega (arith, L₀ .sized .notes, short))) (omega arith) (line-there F u g)));
     depths = λ t.
         ap (λ (z : Tree). tree-depths (λ f. getD results f 0) z (depth-in (X .depths))) (S-is .lays μ n t)
         ∙ depths-is (line the-line t)

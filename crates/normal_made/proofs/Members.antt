@@ -29,36 +29,57 @@ use Rattle.normal_made.proofs.Lists.{made-compound}
 
 -- ---- the meanings of names
 
-pub meanings-set : (w ps : List ℕ) (x v : ℕ) → x < length ps → meanings w (set ps x v) ≡ updated (meanings w ps) x (meant (placed w v))
+pub meanings-set : (w ps : List ℕ) (x v : ℕ) → x < length ps → meanings w (set ps x v) ≡ updated (meanings w ps) x
+    (meant (placed w v))
 unfolding updated
 meanings-set w ps x v h = fun-ext (λ y. go y (ℕ-discrete x y))
   where
-    go : (y : ℕ) → Dec (x ≡ y) → meant (placed w (getD (set ps x v) y nowhere)) ≡ cond (eqb x y) (meant (placed w v)) (meant (placed w (getD ps y nowhere)))
+    go : (y : ℕ) → Dec (x ≡ y) → meant (placed w (getD (set ps x v) y nowhere)) ≡ cond (eqb x y)
+        (meant (placed w v)) (meant (placed w (getD ps y nowhere)))
     go y (yes e) = rw (← e, eq-eqb x x refl) (ap (λ (i : ℕ). meant (placed w i)) (getD-set-same ps x v nowhere h))
-    go y (no f) = rw (ne-eqb x y f) (ap (λ (i : ℕ). meant (placed w i)) (getD-set-other ps x y v nowhere (λ p. f (sym p))))
+    go y (no f) = rw (ne-eqb x y f) (ap (λ (i : ℕ). meant (placed w i)) (getD-set-other ps x y v nowhere
+        (λ p. f (sym p))))
 
 pub given-bound : {k w r ps : List ℕ} (ps₁ : List ℕ) (x v : ℕ) → Given k w r ps → ps₁ ≡ set ps x v → Given k w r ps₁
-given-bound {ps = ps} ps₁ x v g e = record { parts = g .parts; low = g .low; long = ap length e ∙ length-set ps x v ∙ g .long }
+given-bound {ps = ps} ps₁ x v g e = record {
+  parts = g .parts;
+  low = g .low;
+  long = ap length e ∙ length-set ps x v
+      ∙ g .long;
+}
 
 -- ---- room
 
-pub ready-as : {X : State} {e : Expr} {n p : ℕ} (e′ : Expr) (at l : ℕ) → Ready X e (at + size e) n p → e ≡ e′ → l ≡ at + size e′ → Ready X e′ l n p
+pub ready-as : {X : State} {e : Expr} {n p : ℕ} (e′ : Expr) (at l : ℕ) → Ready X e (at + size e) n p → e ≡ e′ → l ≡
+    at + size e′ → Ready X e′ l n p
 ready-as {X} {e} {n} {p} e′ at l r q i = go (rw q at r)
   where
     go : Ready X e′ (at + size e′) n p → Ready X e′ l n p
-    go s = record { sized = s .sized; credit = s .credit; low = s .low; below = s .below; nodes = omega (arith, s .nodes); names = s .names; rows = s .rows }
+    go s = record {
+      sized = s .sized;
+      credit = s .credit;
+      low = s .low;
+      below = s .below;
+      nodes = omega
+          (arith, s .nodes);
+      names = s .names;
+      rows = s .rows;
+    }
 
-pub ready-made : (w : List ℕ) (res : ℕ → ℕ) {e e′ : Expr} {μ : Meanings} {X Y : State} {n p d l : ℕ} {r : Out} (d′ at : ℕ) → e ≡ e′ → d ≡ d′ → l ≡ at + size e′ →
+pub ready-made : (w : List ℕ) (res : ℕ → ℕ) {e e′ : Expr} {μ : Meanings} {X Y : State} {n p d l : ℕ} {r : Out}
+    (d′ at : ℕ) → e ≡ e′ → d ≡ d′ → l ≡ at + size e′ →
     Made w res e′ μ X Y n p d l r → Made w res e μ X Y n p d′ (at + size e) r
 ready-made w res d′ at q i j m = rw (q, ← i, ← j) m
 
 -- a number, or what stands for one
-pub number-laid : (w : List ℕ) (res : ℕ → ℕ) {e : Expr} {μ : Meanings} {X : State} {n p : ℕ} (d at v : ℕ) (z : ℤ) → e ≡ S.number z → meant (placed w v) ≡ C.number z →
+pub number-laid : (w : List ℕ) (res : ℕ → ℕ) {e : Expr} {μ : Meanings} {X : State} {n p : ℕ} (d at v : ℕ) (z : ℤ) →
+    e ≡ S.number z → meant (placed w v) ≡ C.number z →
     Sized X → Made w res e μ X X n p d (at + size e) (out v (at + 1) n p)
 unfolding size
 number-laid w res {e} {μ} {X} {n} {p} d at v z q g s = rw q (made-number w res z μ X n p d (at + 1) v s g)
 
-pub name-laid : (w : List ℕ) (res : ℕ → ℕ) {e : Expr} (ps : List ℕ) {X : State} {n p : ℕ} (d at v x : ℕ) → e ≡ S.name x → v ≡ getD ps x nowhere →
+pub name-laid : (w : List ℕ) (res : ℕ → ℕ) {e : Expr} (ps : List ℕ) {X : State} {n p : ℕ} (d at v x : ℕ) → e ≡
+    S.name x → v ≡ getD ps x nowhere →
     Sized X → Made w res e (meanings w ps) X X n p d (at + size e) (out v (at + 1) n p)
 unfolding size
 name-laid w res {e} ps {X} {n} {p} d at v x q g s =
@@ -80,7 +101,8 @@ one-node (S.map-over x a b) = omega arith
 module _ (w : List ℕ) (res : ℕ → ℕ) (R : ℕ → Expr) where
   -- ---- a let
 
-  pub let-first : {x at n p : ℕ} {X : State} → Ready X (let-from R x at) (at + size (R at) + size (R (at + size (R at)))) n p →
+  pub let-first : {x at n p : ℕ} {X : State} → Ready X (let-from R x at) (at + size (R at) + size
+      (R (at + size (R at)))) n p →
       Ready X (R at) (at + size (R at)) n p
   unfolding fresh laid-rows
   let-first r = record {
@@ -94,7 +116,8 @@ module _ (w : List ℕ) (res : ℕ → ℕ) (R : ℕ → Expr) where
   }
 
   pub let-second : {x at n p d : ℕ} {μ : Meanings} {X Y : State} {ra : Out} →
-      Ready X (let-from R x at) (at + size (R at) + size (R (at + size (R at)))) n p → Made w res (R at) μ X Y n p d (at + size (R at)) ra →
+      Ready X (let-from R x at) (at + size (R at) + size (R (at + size (R at)))) n p → Made w res (R at) μ X Y n p d
+      (at + size (R at)) ra →
       Ready Y (R (ra .next)) (ra .next + size (R (ra .next))) (ra .n) (ra .p)
   unfolding fresh laid-rows
   let-second {at = at} r A = rw (A .next) (record {
@@ -107,12 +130,14 @@ module _ (w : List ℕ) (res : ℕ → ℕ) (R : ℕ → Expr) where
     rows = omega (arith, r .rows, A .reach);
   })
 
-  pub let-laid : {at n p d : ℕ} (x : ℕ) (ps inner : List ℕ) {X Y Z : State} {ra rb : Out} → length ps ≡ 256 → x < 256 → inner ≡ set ps x (ra .place) →
+  pub let-laid : {at n p d : ℕ} (x : ℕ) (ps inner : List ℕ) {X Y Z : State} {ra rb : Out} → length ps ≡ 256 → x <
+      256 → inner ≡ set ps x (ra .place) →
       Made w res (R at) (meanings w ps) X Y n p d (at + size (R at)) ra →
       Made w res (R (ra .next)) (meanings w inner) Y Z (ra .n) (ra .p) d (ra .next + size (R (ra .next))) rb →
       Made w res (let-from R x at) (meanings w ps) X Z n p (d + 1) (at + size (R at) + size (R (at + size (R at)))) rb
   let-laid x ps inner {ra = ra} h g e A B₀ =
-      made-let w res (meanings w inner) x A (ap (meanings w) e ∙ meanings-set w ps x (ra .place) (omega arith)) (rw (A .next) at B₀)
+      made-let w res (meanings w inner) x A (ap (meanings w) e ∙ meanings-set w ps x (ra .place) (omega arith))
+      (rw (A .next) at B₀)
 
   -- ---- an if
 
@@ -120,9 +145,11 @@ module _ (w : List ℕ) (res : ℕ → ℕ) (R : ℕ → Expr) where
   If at = if-from R at
 
   abbrev If-end : ℕ → ℕ
-  If-end at = at + size (R at) + size (R (at + size (R at))) + size (R (at + size (R at) + size (R (at + size (R at)))))
+  If-end at = at + size (R at) + size (R (at + size (R at))) + size (R (at + size (R at) + size
+      (R (at + size (R at)))))
 
-  pub if-first : {at n p : ℕ} {X : State} → Ready X (if-from R at) (If-end at) n p → Ready X (R at) (at + size (R at)) n p
+  pub if-first : {at n p : ℕ} {X : State} → Ready X (if-from R at) (If-end at) n p → Ready X (R at)
+      (at + size (R at)) n p
   unfolding fresh laid-rows
   if-first r = record {
     sized = r .sized;
@@ -134,7 +161,8 @@ module _ (w : List ℕ) (res : ℕ → ℕ) (R : ℕ → Expr) where
     rows = omega (arith, r .rows);
   }
 
-  module _ {at n p d : ℕ} {μ : Meanings} {X : State} {k₁ n₁ d₁ : List ℕ} {rg : Out} (r : Ready X (if-from R at) (If-end at) n p)
+  module _ {at n p d : ℕ} {μ : Meanings} {X : State} {k₁ n₁ d₁ : List ℕ} {rg : Out} (r : Ready X (if-from R at)
+      (If-end at) n p)
       (A : Made w res (R at) μ X (state k₁ n₁ d₁) n p d (at + size (R at)) rg) where
     pub if-place : (rg .n < 256) × (rg .p + 6 ≤ 4060)
     unfolding fresh laid-rows
@@ -155,8 +183,10 @@ module _ (w : List ℕ) (res : ℕ → ℕ) (R : ℕ → Expr) where
       })
 
       module _ {k₄ n₄ d₄ : List ℕ} {rt : Out}
-          (B₀ : TreeMade w res (R (rg .next)) μ (state k₂ n₂ d₁) (state k₄ n₄ d₄) (rg .n + 1) (rg .p + 2) d (rg .next + size (R (rg .next))) rt) where
-        B-there : TreeMade w res (R (at + size (R at))) μ (state k₂ n₂ d₁) (state k₄ n₄ d₄) (rg .n + 1) (rg .p + 2) d (at + size (R at) + size (R (at + size (R at)))) rt
+          (B₀ : TreeMade w res (R (rg .next)) μ (state k₂ n₂ d₁) (state k₄ n₄ d₄) (rg .n + 1) (rg .p + 2) d
+          (rg .next + size (R (rg .next))) rt) where
+        B-there : TreeMade w res (R (at + size (R at))) μ (state k₂ n₂ d₁) (state k₄ n₄ d₄) (rg .n + 1) (rg .p + 2)
+            d (at + size (R at) + size (R (at + size (R at)))) rt
         B-there = rw (A .next) at B₀
 
         pub if-middle : rt .p ≤ 4060
@@ -177,16 +207,20 @@ module _ (w : List ℕ) (res : ℕ → ℕ) (R : ℕ → Expr) where
           })
 
           module _ {k₆ n₆ d₆ : List ℕ} {re : Out}
-              (C₀ : TreeMade w res (R (rt .next)) μ (state k₄ n₅ d₄) (state k₆ n₆ d₆) (rt .n) (rt .p) d (rt .next + size (R (rt .next))) re) where
-            C-there : TreeMade w res (R (at + size (R at) + size (R (at + size (R at))))) μ (state k₄ n₅ d₄) (state k₆ n₆ d₆) (rt .n) (rt .p) d (If-end at) re
+              (C₀ : TreeMade w res (R (rt .next)) μ (state k₄ n₅ d₄) (state k₆ n₆ d₆) (rt .n) (rt .p) d
+              (rt .next + size (R (rt .next))) re) where
+            C-there : TreeMade w res (R (at + size (R at) + size (R (at + size (R at))))) μ (state k₄ n₅ d₄)
+                (state k₆ n₆ d₆) (rt .n) (rt .p) d (If-end at) re
             C-there = rw (B-there .next) at C₀
 
             pub if-end : re .p ≤ 4060
             unfolding laid-rows
             if-end = omega (arith, r .rows, A .reach, B-there .reach, C-there .reach)
 
-            pub if-laid : {n₇ d₇ : List ℕ} {v : ℕ} → SetAs n₆ n₇ (re .p) (rg .p) → v ≡ place-depth d₆ (rt .place) → SetAs d₆ d₇ (rg .n) v →
-                Made w res (if-from R at) μ X (state k₆ n₇ d₇) n p (d + 1) (If-end at) (out (rg .n) (re .next) (re .n) (re .p))
+            pub if-laid : {n₇ d₇ : List ℕ} {v : ℕ} → SetAs n₆ n₇ (re .p) (rg .p) → v ≡ place-depth d₆ (rt .place) →
+                SetAs d₆ d₇ (rg .n) v →
+                Made w res (if-from R at) μ X (state k₆ n₇ d₇) n p (d + 1) (If-end at) (out (rg .n) (re .next)
+                (re .n) (re .p))
             if-laid e₇ ve e₈ = made-if w res A l e₂ B-there e₅ C-there e₇ ve e₈ (r .names) (r .rows)
 
   -- ---- a map
@@ -194,7 +228,8 @@ module _ (w : List ℕ) (res : ℕ → ℕ) (R : ℕ → Expr) where
   abbrev Map-end : ℕ → ℕ
   Map-end at = at + size (R at) + size (R (at + size (R at)))
 
-  pub map-first : {y at n p : ℕ} {X : State} → Ready X (map-from R y at) (Map-end at) n p → Ready X (R at) (at + size (R at)) n p
+  pub map-first : {y at n p : ℕ} {X : State} → Ready X (map-from R y at) (Map-end at) n p → Ready X (R at)
+      (at + size (R at)) n p
   unfolding fresh laid-rows
   map-first r = record {
     sized = r .sized;
@@ -206,18 +241,22 @@ module _ (w : List ℕ) (res : ℕ → ℕ) (R : ℕ → Expr) where
     rows = omega (arith, r .rows);
   }
 
-  module _ (ps : List ℕ) {y at n p d : ℕ} {X : State} {k₁ n₁ d₁ : List ℕ} {ra : Out} (r : Ready X (map-from R y at) (Map-end at) n p)
+  module _ (ps : List ℕ) {y at n p d : ℕ} {X : State} {k₁ n₁ d₁ : List ℕ} {ra : Out} (r : Ready X (map-from R y at)
+      (Map-end at) n p)
       (A : Made w res (R at) (meanings w ps) X (state k₁ n₁ d₁) n p d (at + size (R at)) ra) where
     pub map-place : (ra .n + 1 < 256) × (ra .p + 4 ≤ 4060)
     unfolding fresh laid-rows
     map-place = (omega (arith, r .names, A .count), omega (arith, r .rows, A .reach))
 
-    module _ {k₂ n₂ d₂ : List ℕ} {u : ℕ} (l : LaidAs k₁ k₂ (ra .p) (packed-row 13 (ra .n) (ra .n + 1) 0 ∷ (ra .place ∷ [])))
-        (e₂ : SetAs n₁ n₂ (ra .p + 2) (ra .p + 2)) (ue : u ≡ pred (place-depth d₁ (ra .place))) (e₃ : SetAs d₁ d₂ (ra .n + 1) u) where
+    module _ {k₂ n₂ d₂ : List ℕ} {u : ℕ} (l : LaidAs k₁ k₂ (ra .p) (packed-row 13 (ra .n) (ra .n + 1) 0 ∷
+        (ra .place ∷ [])))
+        (e₂ : SetAs n₁ n₂ (ra .p + 2) (ra .p + 2)) (ue : u ≡ pred (place-depth d₁ (ra .place))) (e₃ : SetAs d₁ d₂
+        (ra .n + 1) u) where
       map-low : Low d₂ (r .credit + fresh (R at))
       map-low =
           let s = A .low (r .credit) (r .low) in
-          low-set (r .credit + fresh (R at)) (ra .n + 1) u s e₃ (omega (arith, A .sized .depths, map-place .0)) (omega arith)
+          low-set (r .credit + fresh (R at)) (ra .n + 1) u s e₃ (omega (arith, A .sized .depths, map-place .0))
+          (omega arith)
           (omega (arith, ue, low-place s (ra .place), pred-le (place-depth d₁ (ra .place))))
 
       pub map-tree : Ready (state k₂ n₂ d₂) (R (ra .next)) (ra .next + size (R (ra .next))) (ra .n + 2) (ra .p + 2)
@@ -233,8 +272,10 @@ module _ (w : List ℕ) (res : ℕ → ℕ) (R : ℕ → Expr) where
       })
 
       module _ (inner : List ℕ) {k₄ n₄ d₄ : List ℕ} {rt : Out}
-          (B₀ : TreeMade w res (R (ra .next)) (meanings w inner) (state k₂ n₂ d₂) (state k₄ n₄ d₄) (ra .n + 2) (ra .p + 2) d (ra .next + size (R (ra .next))) rt) where
-        T-there : TreeMade w res (R (at + size (R at))) (meanings w inner) (state k₂ n₂ d₂) (state k₄ n₄ d₄) (ra .n + 2) (ra .p + 2) d (Map-end at) rt
+          (B₀ : TreeMade w res (R (ra .next)) (meanings w inner) (state k₂ n₂ d₂) (state k₄ n₄ d₄) (ra .n + 2)
+          (ra .p + 2) d (ra .next + size (R (ra .next))) rt) where
+        T-there : TreeMade w res (R (at + size (R at))) (meanings w inner) (state k₂ n₂ d₂) (state k₄ n₄ d₄)
+            (ra .n + 2) (ra .p + 2) d (Map-end at) rt
         T-there = rw (A .next) at B₀
 
         pub map-end : rt .p ≤ 4060
@@ -243,14 +284,22 @@ module _ (w : List ℕ) (res : ℕ → ℕ) (R : ℕ → Expr) where
 
         pub map-deep : place-depth d₄ (rt .place) ≤ 200
         unfolding fresh
-        map-deep = omega (arith, low-place (T-there .low (r .credit + fresh (R at)) map-low) (rt .place), r .below, r .names)
+        map-deep = omega (
+          arith,
+          low-place (T-there .low (r .credit + fresh (R at)) map-low) (rt .place),
+          r .below,
+          r .names,
+        )
 
-        pub map-laid : {n₅ d₅ : List ℕ} {v : ℕ} → length ps ≡ 256 → y < 256 → inner ≡ set ps y (ra .n + 1) → SetAs n₄ n₅ (rt .p) (ra .p) →
+        pub map-laid : {n₅ d₅ : List ℕ} {v : ℕ} → length ps ≡ 256 → y < 256 → inner ≡ set ps y (ra .n + 1) → SetAs
+            n₄ n₅ (rt .p) (ra .p) →
             v ≡ place-depth d₄ (rt .place) + 1 → SetAs d₄ d₅ (ra .n) v →
-            Made w res (map-from R y at) (meanings w ps) X (state k₄ n₅ d₅) n p (d + 1) (Map-end at) (out (ra .n) (rt .next) (rt .n) (rt .p))
+            Made w res (map-from R y at) (meanings w ps) X (state k₄ n₅ d₅) n p (d + 1) (Map-end at)
+            (out (ra .n) (rt .next) (rt .n) (rt .p))
         map-laid h g e e₇ ve e₈ =
             made-map w res y A l e₂ ue e₃
-            (ap (meanings w) e ∙ meanings-set w ps y (ra .n + 1) (omega arith) ∙ ap (updated (meanings w ps) y) (name-placed w (ra .n + 1) (map-place .0)))
+            (ap (meanings w) e ∙ meanings-set w ps y (ra .n + 1) (omega arith) ∙ ap (updated (meanings w ps) y)
+            (name-placed w (ra .n + 1) (map-place .0)))
             T-there e₇ ve e₈ (r .names) (r .rows)
 
 -- ---- a line without trees
@@ -259,17 +308,21 @@ module _ (w results : List ℕ) (R : ℕ → Expr) where
   abbrev pub Res : ℕ → ℕ
   Res = λ f. getD results f 0
 
-  module _ (at d : ℕ) (ps : List ℕ) {kind y m n p : ℕ} {X : State} (c : Counted kind y m) (r : Ready X (compound kind y (several R m at)) (at + sizes (several R m at)) n p) where
+  module _ (at d : ℕ) (ps : List ℕ) {kind y m n p : ℕ} {X : State} (c : Counted kind y m)
+      (r : Ready X (compound kind y (several R m at)) (at + sizes (several R m at)) n p) where
     shape : Shaped kind y m (several R m at)
     shape = shaped R y at kind m c
 
-    pub part-ready : {Y : State} {vs : List ℕ} {i a x q : ℕ} → Listing w Res R m at (meanings w ps) X Y n p d vs i a x q → i < m →
+    pub part-ready : {Y : State} {vs : List ℕ} {i a x q : ℕ} → Listing w Res R m at (meanings w ps) X Y n p d vs i a
+        x q → i < m →
         Ready Y (R a) (a + size (R a)) x q
     part-ready L h =
-        listing-ready L h (r .credit) (r .low) (r .below) (r .nodes) (omega (arith, shape .names, r .names)) (omega (arith, shape .rows, r .rows))
+        listing-ready L h (r .credit) (r .low) (r .below) (r .nodes) (omega (arith, shape .names, r .names))
+        (omega (arith, shape .rows, r .rows))
 
     -- after the last part
-    pub end-ready : {Y : State} {vs : List ℕ} {i a x q : ℕ} → Listing w Res R m at (meanings w ps) X Y n p d vs i a x q → m ≤ i → (x < 256) × (q + 1 + m ≤ 4060)
+    pub end-ready : {Y : State} {vs : List ℕ} {i a x q : ℕ} → Listing w Res R m at (meanings w ps) X Y n p d vs i a
+        x q → m ≤ i → (x < 256) × (q + 1 + m ≤ 4060)
     unfolding several fresh laid-rows
     end-ready {i = i} {a = a} {x = x} {q = q} L h =
         let z : m - i ≡ 0 = omega arith in
@@ -277,9 +330,13 @@ module _ (w results : List ℕ) (R : ℕ → Expr) where
         let v = rw z at (L .reach) in
         (omega (arith, u, shape .names, r .names), omega (arith, v, L .within, shape .rows, r .rows))
 
-    pub compound-laid : {k k₁ nt nt₁ ds ds₁ vs : List ℕ} {i a x q q′ v : ℕ} → Listing w Res R m at (meanings w ps) X (state k nt ds) n p d vs i a x q → m ≤ i →
-        k₁ ≡ laid k q (packed-row kind x y m ∷ firsts vs 0 m) → (q′ ≡ q + 1 + m) × (nt₁ ≡ set nt q′ q) → v ≡ line-depth results ds kind y (getD vs 0 0) → ds₁ ≡ set ds x v →
+    pub compound-laid : {k k₁ nt nt₁ ds ds₁ vs : List ℕ} {i a x q q′ v : ℕ} → Listing w Res R m at (meanings w ps) X
+        (state k nt ds) n p d vs i a x q → m ≤ i →
+        k₁ ≡ laid k q (packed-row kind x y m ∷ firsts vs 0 m) → (q′ ≡ q + 1 + m) × (nt₁ ≡ set nt q′ q) → v ≡
+        line-depth results ds kind y (getD vs 0 0) → ds₁ ≡ set ds x v →
         ((j : ℕ) → getD results j 0 ≤ 4) →
-        Made w Res (compound kind y (several R m at)) (meanings w ps) X (state k₁ nt₁ ds₁) n p (d + 1) (at + sizes (several R m at)) (out x a (x + 1) q′)
+        Made w Res (compound kind y (several R m at)) (meanings w ps) X (state k₁ nt₁ ds₁) n p (d + 1)
+        (at + sizes (several R m at)) (out x a (x + 1) q′)
     compound-laid L h l e ve f small =
-        rw (e .0) (made-compound results kind y L h c (record { is = l }) (record { is = rw (e .0) at (e .1) }) ve (record { is = f }) small (r .names) (r .rows))
+        rw (e .0) (made-compound results kind y L h c (record { is = l }) (record { is = rw (e .0) at (e .1) }) ve
+        (record { is = f }) small (r .names) (r .rows))

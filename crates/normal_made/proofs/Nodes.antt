@@ -35,7 +35,8 @@ pub record Seen (k w : List ℕ) (p kind low high : ℕ) : Type 0 where
   pub low-is : head .low ≡ low
   pub high-is : head .high ≡ high
 
-pub seen : (k w : List ℕ) (p kind low high : ℕ) → Fits kind low high ≡ told-node (node-at k w 2 13 p) → Seen k w p kind low high
+pub seen : (k w : List ℕ) (p kind low high : ℕ) → Fits kind low high ≡ told-node (node-at k w 2 13 p) → Seen k w p
+    kind low high
 seen k w p kind low high e = go (node-at k w 2 13 p) refl e
   where
     go : (v : S.Node) → node-at k w 2 13 p ≡ v → Fits kind low high ≡ told-node v → Seen k w p kind low high
@@ -74,14 +75,26 @@ module _ (k w : List ℕ) (d p : ℕ) (some : d ≡ 0 → ⊥) where
     map-is e = tree-is ∙ rw (s .kind-is, e, s .low-is)
 
     pub compound-is : (kind ≡ 2 → ⊥) → (kind ≡ 3 → ⊥) → (kind ≡ 7 → ⊥) → (kind ≡ 12 → ⊥) → (kind ≡ 13 → ⊥) →
-        tree-at k w d p ≡ compound kind (second-part kind low high) (several (tree-at k w (d - 1)) (part-count kind low high) (p + 1))
+        tree-at k w d p ≡ compound kind (second-part kind low high) (several (tree-at k w (d - 1)) (part-count kind
+        low high) (p + 1))
     compound-is n₂ n₃ n₇ n₁₂ n₁₃ =
         tree-is
-        ∙ rw (s .kind-is, s .low-is, s .high-is, ne-eqb kind 2 n₂, ne-eqb kind 3 n₃, ne-eqb kind 7 n₇, ne-eqb kind 12 n₁₂, ne-eqb kind 13 n₁₃)
+        ∙ rw (
+          s .kind-is,
+          s .low-is,
+          s .high-is,
+          ne-eqb kind 2 n₂,
+          ne-eqb kind 3 n₃,
+          ne-eqb kind 7 n₇,
+          ne-eqb kind
+              12 n₁₂,
+          ne-eqb kind 13 n₁₃,
+        )
 
 -- ---- how many parts
 
-counted-by : (kind low high : ℕ) → 2 ≤ kind → kind ≤ 13 → low ≤ getD low-limits kind 0 → high ≤ getD high-limits kind 0 →
+counted-by : (kind low high : ℕ) → 2 ≤ kind → kind ≤ 13 → low ≤ getD low-limits kind 0 → high ≤ getD high-limits
+    kind 0 →
     (kind ≡ 2 → ⊥) → (kind ≡ 3 → ⊥) → (kind ≡ 7 → ⊥) → (kind ≡ 12 → ⊥) → (kind ≡ 13 → ⊥) →
     Counted kind (second-part kind low high) (part-count kind low high)
 unfolding part-count
@@ -89,17 +102,62 @@ counted-by zero low high g h l u n₂ n₃ n₇ n₁₂ n₁₃ = absurd (let f 
 counted-by (suc zero) low high g h l u n₂ n₃ n₇ n₁₂ n₁₃ = absurd (let f : ⊥ = omega arith in f)
 counted-by (suc (suc zero)) low high g h l u n₂ n₃ n₇ n₁₂ n₁₃ = absurd (n₂ refl)
 counted-by (suc (suc (suc zero))) low high g h l u n₂ n₃ n₇ n₁₂ n₁₃ = absurd (n₃ refl)
-counted-by (suc (suc (suc (suc zero)))) low high g h l u n₂ n₃ n₇ n₁₂ n₁₃ = record { plain = inr (inr (inr (inr (omega arith, (omega arith, refl))))); parts = omega arith; second = omega arith; depth = λ e. absurd (let f : ⊥ = omega arith in f) }
-counted-by (suc (suc (suc (suc (suc zero))))) low high g h l u n₂ n₃ n₇ n₁₂ n₁₃ = record { plain = inr (inr (inr (inr (omega arith, (omega arith, refl))))); parts = omega arith; second = omega arith; depth = λ e. absurd (let f : ⊥ = omega arith in f) }
-counted-by (suc (suc (suc (suc (suc (suc zero)))))) low high g h l u n₂ n₃ n₇ n₁₂ n₁₃ = record { plain = inr (inr (inr (inr (omega arith, (omega arith, refl))))); parts = omega arith; second = omega arith; depth = λ e. absurd (let f : ⊥ = omega arith in f) }
+counted-by (suc (suc (suc (suc zero)))) low high g h l u n₂ n₃ n₇ n₁₂ n₁₃ = record {
+  plain = inr
+      (inr (inr (inr (omega arith, (omega arith, refl)))));
+  parts = omega arith;
+  second = omega arith;
+  depth = λ e.
+      absurd (let f : ⊥ = omega arith in f);
+}
+counted-by (suc (suc (suc (suc (suc zero))))) low high g h l u n₂ n₃ n₇ n₁₂ n₁₃ = record {
+  plain = inr
+      (inr (inr (inr (omega arith, (omega arith, refl)))));
+  parts = omega arith;
+  second = omega arith;
+  depth = λ e.
+      absurd (let f : ⊥ = omega arith in f);
+}
+counted-by (suc (suc (suc (suc (suc (suc zero)))))) low high g h l u n₂ n₃ n₇ n₁₂ n₁₃ = record {
+  plain = inr
+      (inr (inr (inr (omega arith, (omega arith, refl)))));
+  parts = omega arith;
+  second = omega arith;
+  depth = λ e.
+      absurd (let f : ⊥ = omega arith in f);
+}
 counted-by (suc (suc (suc (suc (suc (suc (suc zero))))))) low high g h l u n₂ n₃ n₇ n₁₂ n₁₃ = absurd (n₇ refl)
-counted-by (suc (suc (suc (suc (suc (suc (suc (suc zero)))))))) low high g h l u n₂ n₃ n₇ n₁₂ n₁₃ = record { plain = inl refl; parts = omega arith; second = omega arith; depth = λ e. absurd (let f : ⊥ = omega arith in f) }
-counted-by (suc (suc (suc (suc (suc (suc (suc (suc (suc zero))))))))) low high g h l u n₂ n₃ n₇ n₁₂ n₁₃ = record { plain = inr (inl refl); parts = omega arith; second = omega arith; depth = λ e. omega arith }
-counted-by (suc (suc (suc (suc (suc (suc (suc (suc (suc (suc zero)))))))))) low high g h l u n₂ n₃ n₇ n₁₂ n₁₃ = record { plain = inr (inr (inr (inl (refl, refl)))); parts = omega arith; second = omega arith; depth = λ e. absurd (let f : ⊥ = omega arith in f) }
-counted-by (suc (suc (suc (suc (suc (suc (suc (suc (suc (suc (suc zero))))))))))) low high g h l u n₂ n₃ n₇ n₁₂ n₁₃ = record { plain = inr (inr (inl (refl, refl))); parts = omega arith; second = omega arith; depth = λ e. absurd (let f : ⊥ = omega arith in f) }
-counted-by (suc (suc (suc (suc (suc (suc (suc (suc (suc (suc (suc (suc zero)))))))))))) low high g h l u n₂ n₃ n₇ n₁₂ n₁₃ = absurd (n₁₂ refl)
-counted-by (suc (suc (suc (suc (suc (suc (suc (suc (suc (suc (suc (suc (suc zero))))))))))))) low high g h l u n₂ n₃ n₇ n₁₂ n₁₃ = absurd (n₁₃ refl)
-counted-by (suc (suc (suc (suc (suc (suc (suc (suc (suc (suc (suc (suc (suc (suc k)))))))))))))) low high g h l u n₂ n₃ n₇ n₁₂ n₁₃ = absurd (let f : ⊥ = omega arith in f)
+counted-by (suc (suc (suc (suc (suc (suc (suc (suc zero)))))))) low high g h l u n₂ n₃ n₇ n₁₂ n₁₃ = record {
+  plain = inl refl;
+  parts = omega arith;
+  second = omega arith;
+  depth = λ e. absurd (let f : ⊥ = omega arith in
+      f);
+}
+counted-by (suc (suc (suc (suc (suc (suc (suc (suc (suc zero))))))))) low high g h l u n₂ n₃ n₇ n₁₂ n₁₃ = record
+    { plain = inr (inl refl); parts = omega arith; second = omega arith; depth = λ e. omega arith }
+counted-by (suc (suc (suc (suc (suc (suc (suc (suc (suc (suc zero)))))))))) low high g h l u n₂ n₃ n₇ n₁₂ n₁₃ =
+    record {
+      plain = inr (inr (inr (inl (refl, refl))));
+      parts = omega arith;
+      second = omega arith;
+      depth = λ e.
+          absurd (let f : ⊥ = omega arith in f);
+    }
+counted-by (suc (suc (suc (suc (suc (suc (suc (suc (suc (suc (suc zero))))))))))) low high g h l u n₂ n₃ n₇ n₁₂ n₁₃
+    = record {
+      plain = inr (inr (inl (refl, refl)));
+      parts = omega arith;
+      second = omega arith;
+      depth = λ e. absurd
+          (let f : ⊥ = omega arith in f);
+    }
+counted-by (suc (suc (suc (suc (suc (suc (suc (suc (suc (suc (suc (suc zero)))))))))))) low high g h l u n₂ n₃ n₇
+    n₁₂ n₁₃ = absurd (n₁₂ refl)
+counted-by (suc (suc (suc (suc (suc (suc (suc (suc (suc (suc (suc (suc (suc zero))))))))))))) low high g h l u n₂ n₃
+    n₇ n₁₂ n₁₃ = absurd (n₁₃ refl)
+counted-by (suc (suc (suc (suc (suc (suc (suc (suc (suc (suc (suc (suc (suc (suc k)))))))))))))) low high g h l u n₂
+    n₃ n₇ n₁₂ n₁₃ = absurd (let f : ⊥ = omega arith in f)
 
 pub counted : {k w : List ℕ} {p kind low high : ℕ} → Seen k w p kind low high →
     (kind ≡ 2 → ⊥) → (kind ≡ 3 → ⊥) → (kind ≡ 7 → ⊥) → (kind ≡ 12 → ⊥) → (kind ≡ 13 → ⊥) →
@@ -131,7 +189,8 @@ kind-in-parts : (c : ℕ) (v : ℤ) → kind-or (in-parts c v) c ≡ c
 kind-in-parts c (pos n) = go (leb (n % 256) (getD low-limits c 0)) (leb (n / 256) (getD high-limits c 0))
   where
     go : (a b : Bool) →
-        kind-or (cond a (cond b (S.fits (record { kind = c; low = n % 256; high = n / 256; value = pos 0 })) S.wrong-operand) S.wrong-operand) c ≡ c
+        kind-or (cond a (cond b (S.fits (record { kind = c; low = n % 256; high = n / 256; value = pos 0 }))
+        S.wrong-operand) S.wrong-operand) c ≡ c
     go true true = refl
     go true false = refl
     go false b = refl
@@ -158,7 +217,8 @@ number-value c v h e f = go (ℕ-discrete c 2)
     go (no g) = absurd (g (sym (ap (λ n. kind-or n c) (sym e) ∙ kind-kept c v g) ∙ f))
 
 -- the place of a node's number means that number
-pub number-placed : (k w : List ℕ) (p : ℕ) (h : S.Head) → Parts k w → p < length k → node-at k w 2 13 p ≡ S.fits h → h .kind ≡ 2 →
+pub number-placed : (k w : List ℕ) (p : ℕ) (h : S.Head) → Parts k w → p < length k → node-at k w 2 13 p ≡ S.fits h →
+    h .kind ≡ 2 →
     meant (placed w (256 + p)) ≡ C.number (h .value)
 unfolding placed number-at
 number-placed k w p h s g e f =
@@ -179,7 +239,8 @@ pub within-file : (k w : List ℕ) (p : ℕ) (h : S.Head) → node-at k w 2 13 p
 within-file k w p h e = go (decLt p (length k))
   where
     past : length k ≤ p → node-of 2 13 (getD k p 255) (signed (bytes-at 8 w (8 * p))) ≡ S.wrong-kind
-    past g = ap (λ (c : ℕ). node-of 2 13 c (signed (bytes-at 8 w (8 * p)))) (List·getD-eq-default k 255 g) ∙ wrong-255 (signed (bytes-at 8 w (8 * p)))
+    past g = ap (λ (c : ℕ). node-of 2 13 c (signed (bytes-at 8 w (8 * p)))) (List·getD-eq-default k 255 g) ∙
+        wrong-255 (signed (bytes-at 8 w (8 * p)))
 
     go : Dec (p < length k) → p < length k
     go (yes g) = g
@@ -197,26 +258,61 @@ module _ (k w : List ℕ) where
     written-tree (name x) zero p h = absurd h
     written-tree (name x) (suc d) p h = rw (h .is)
     written-tree (operation sum a b) zero p h = absurd h
-    written-tree (operation sum a b) (suc d) p h = rw (h .0 .is, written-tree a d (p + 1) (h .1), written-tree b d (p + 1 + size a) (h .2))
+    written-tree (operation sum a b) (suc d) p h = rw (
+      h .0 .is,
+      written-tree a d (p + 1) (h .1),
+      written-tree b d
+          (p + 1 + size a) (h .2),
+    )
     written-tree (operation difference a b) zero p h = absurd h
-    written-tree (operation difference a b) (suc d) p h = rw (h .0 .is, written-tree a d (p + 1) (h .1), written-tree b d (p + 1 + size a) (h .2))
+    written-tree (operation difference a b) (suc d) p h = rw (
+      h .0 .is,
+      written-tree a d (p + 1) (h .1),
+      written-tree b d (p + 1 + size a) (h .2),
+    )
     written-tree (operation less a b) zero p h = absurd h
-    written-tree (operation less a b) (suc d) p h = rw (h .0 .is, written-tree a d (p + 1) (h .1), written-tree b d (p + 1 + size a) (h .2))
+    written-tree (operation less a b) (suc d) p h = rw (
+      h .0 .is,
+      written-tree a d (p + 1) (h .1),
+      written-tree b d
+          (p + 1 + size a) (h .2),
+    )
     written-tree (let-in x a b) zero p h = absurd h
-    written-tree (let-in x a b) (suc d) p h = rw (h .0 .is, written-tree a d (p + 1) (h .1), written-tree b d (p + 1 + size a) (h .2))
+    written-tree (let-in x a b) (suc d) p h = rw (
+      h .0 .is,
+      written-tree a d (p + 1) (h .1),
+      written-tree b d
+          (p + 1 + size a) (h .2),
+    )
     written-tree (call f es) zero p h = absurd h
     written-tree (call f es) (suc d) p h = rw (h .0 .is, written-trees es d (p + 1) (h .1))
     written-tree (literal t es) zero p h = absurd h
     written-tree (literal t es) (suc d) p h = rw (h .0 .is, written-trees es d (p + 1) (h .1))
     written-tree (index a b) zero p h = absurd h
-    written-tree (index a b) (suc d) p h = rw (h .0 .is, written-tree a d (p + 1) (h .1), written-tree b d (p + 1 + size a) (h .2))
+    written-tree (index a b) (suc d) p h = rw (
+      h .0 .is,
+      written-tree a d (p + 1) (h .1),
+      written-tree b d
+          (p + 1 + size a) (h .2),
+    )
     written-tree (length-of a) zero p h = absurd h
     written-tree (length-of a) (suc d) p h = rw (h .0 .is, written-tree a d (p + 1) (h .1))
     written-tree (if-else a b c) zero p h = absurd h
     written-tree (if-else a b c) (suc d) p h =
-        rw (h .0 .is, written-tree a d (p + 1) (h .1), written-tree b d (p + 1 + size a) (h .2), written-tree c d (p + 1 + size a + size b) (h .3))
+        rw (
+          h .0 .is,
+          written-tree a d (p + 1) (h .1),
+          written-tree b d (p + 1 + size a) (h .2),
+          written-tree c d
+              (p + 1 + size a + size b) (h .3),
+        )
     written-tree (map-over x a b) zero p h = absurd h
-    written-tree (map-over x a b) (suc d) p h = rw (h .0 .is, written-tree a d (p + 1) (h .1), written-tree b d (p + 1 + size a) (h .2))
+    written-tree (map-over x a b) (suc d) p h = rw (
+      h .0 .is,
+      written-tree a d (p + 1) (h .1),
+      written-tree b d
+          (p + 1 + size a) (h .2),
+    )
 
     written-trees : (es : Exprs) (d p : ℕ) → AllWritten k w es d p → several (tree-at k w d) (amount es) p ≡ es
     written-trees none d p h = refl
@@ -232,19 +328,24 @@ pub wrong-tree : (k w : List ℕ) (d p : ℕ) → (d ≡ 0 → ⊥) → (n : Nod
     (n ≡ WrongKind) ⊎ (n ≡ WrongOperand) → tree-at k w d p ≡ number (pos 0)
 wrong-tree k w d p some n e f = go (node-at k w 2 13 p) refl e f
   where
-    go : (v : S.Node) → node-at k w 2 13 p ≡ v → n ≡ told-node v → (n ≡ WrongKind) ⊎ (n ≡ WrongOperand) → tree-at k w d p ≡ number (pos 0)
+    go : (v : S.Node) → node-at k w 2 13 p ≡ v → n ≡ told-node v → (n ≡ WrongKind) ⊎ (n ≡ WrongOperand) → tree-at k
+        w d p ≡ number (pos 0)
     go (S.fits h) i e (inl f) = absurd (let z : _≡_ {A = ℕ} 0 1 = cc in omega arith)
     go (S.fits h) i e (inr f) = absurd (let z : _≡_ {A = ℕ} 0 1 = cc in omega arith)
     go S.wrong-kind i e f = tree-none k w d p some S.wrong-kind i
     go S.wrong-operand i e f = tree-none k w d p some S.wrong-operand i
 
-pub compound-as : (k w : List ℕ) (d p : ℕ) → (d ≡ 0 → ⊥) → {kind low high : ℕ} → Seen k w p kind low high → (y m : ℕ) → y ≡ second-part kind low high →
-    m ≡ part-count kind low high → (kind ≡ 2 → ⊥) → (kind ≡ 3 → ⊥) → (kind ≡ 7 → ⊥) → (kind ≡ 12 → ⊥) → (kind ≡ 13 → ⊥) →
+pub compound-as : (k w : List ℕ) (d p : ℕ) → (d ≡ 0 → ⊥) → {kind low high : ℕ} → Seen k w p kind low high →
+    (y m : ℕ) → y ≡ second-part kind low high →
+    m ≡ part-count kind low high → (kind ≡ 2 → ⊥) → (kind ≡ 3 → ⊥) → (kind ≡ 7 → ⊥) → (kind ≡ 12 → ⊥) →
+    (kind ≡ 13 → ⊥) →
     tree-at k w d p ≡ compound kind y (several (tree-at k w (d - 1)) m (p + 1))
 compound-as k w d p some s y m e f n₂ n₃ n₇ n₁₂ n₁₃ = compound-is k w d p some s n₂ n₃ n₇ n₁₂ n₁₃ ∙ rw (e, f)
 
-pub counted-as : {k w : List ℕ} {p kind low high : ℕ} → Seen k w p kind low high → (y m : ℕ) → y ≡ second-part kind low high →
-    m ≡ part-count kind low high → (kind ≡ 2 → ⊥) → (kind ≡ 3 → ⊥) → (kind ≡ 7 → ⊥) → (kind ≡ 12 → ⊥) → (kind ≡ 13 → ⊥) → Counted kind y m
+pub counted-as : {k w : List ℕ} {p kind low high : ℕ} → Seen k w p kind low high → (y m : ℕ) → y ≡ second-part kind
+    low high →
+    m ≡ part-count kind low high → (kind ≡ 2 → ⊥) → (kind ≡ 3 → ⊥) → (kind ≡ 7 → ⊥) → (kind ≡ 12 → ⊥) →
+    (kind ≡ 13 → ⊥) → Counted kind y m
 counted-as s y m e f n₂ n₃ n₇ n₁₂ n₁₃ = rw (e, f) (counted s n₂ n₃ n₇ n₁₂ n₁₃)
 
 -- the node after a tree, from the node of its first part
@@ -261,14 +362,21 @@ unfolding size
 three-after at a b c = omega arith
 
 pub compound-after : (k w : List ℕ) (d p kind y m : ℕ) → Counted kind y m →
-    p + 1 + sizes (several (tree-at k w (d - 1)) m (p + 1)) ≡ p + size (compound kind y (several (tree-at k w (d - 1)) m (p + 1)))
+    p + 1 + sizes (several (tree-at k w (d - 1)) m (p + 1)) ≡ p + size (compound kind y
+    (several (tree-at k w (d - 1)) m (p + 1)))
 unfolding size several
 compound-after k w d p kind y m c =
     ⊎-elim (λ e. rw e (omega arith))
     (⊎-elim (λ e. rw e (omega arith))
     (⊎-elim (λ e. rw (e .0, e .1) (omega arith))
     (⊎-elim (λ e. rw (e .0, e .1) (omega arith))
-    (λ e. rw (e .1 .1, ne-eqb kind 8 (λ i. omega (arith, e .0)), ne-eqb kind 9 (λ i. omega (arith, e .0)), ne-eqb kind 10 (λ i. omega (arith, e .0))) (omega arith))))) (c .plain)
+    (λ e. rw (
+      e .1 .1,
+      ne-eqb kind 8 (λ i. omega (arith, e .0)),
+      ne-eqb kind 9 (λ i. omega (arith, e .0)),
+      ne-eqb
+          kind 10 (λ i. omega (arith, e .0)),
+    ) (omega arith))))) (c .plain)
 
 pub any-default : (l : List ℕ) (x : ℕ) → length l ≡ 256 → x < 256 → getD l x 0 ≡ getD l x 65535
 any-default l x h g = same l x (omega arith)

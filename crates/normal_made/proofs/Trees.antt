@@ -67,7 +67,8 @@ mutual
   lines-ending (S.number z) μ n k = refl
   lines-ending (S.name x) μ n k = refl
   lines-ending (S.operation o a b) μ n k = lines-ending a μ n _ ∙ lines-ending b μ (n + fresh a) _
-  lines-ending (S.let-in x a b) μ n k = lines-ending a μ n _ ∙ lines-ending b (updated μ x (atom a μ n)) (n + fresh a) k
+  lines-ending (S.let-in x a b) μ n k = lines-ending a μ n _ ∙ lines-ending b (updated μ x (atom a μ n))
+      (n + fresh a) k
   lines-ending (S.call f es) μ n k = all-ending es μ n _
   lines-ending (S.literal d es) μ n k = all-ending es μ n _
   lines-ending (S.index a b) μ n k = lines-ending a μ n _ ∙ lines-ending b μ (n + fresh a) _
@@ -83,15 +84,18 @@ normal-ending : (e : Expr) (μ : Meanings) (n : ℕ) → ending (normal e μ n) 
 unfolding normal ending
 normal-ending e μ n = lines-ending e μ n (end (atom e μ n))
 
-same-if : {x y : ℕ} {a b : C.Atom} {t u e f : Tree} → x ≡ y → a ≡ b → t ≡ u → e ≡ f → C.if-else x a t e ≡ C.if-else y b u f
+same-if : {x y : ℕ} {a b : C.Atom} {t u e f : Tree} → x ≡ y → a ≡ b → t ≡ u → e ≡ f → C.if-else x a t e ≡ C.if-else
+    y b u f
 same-if g h i j = cc
 
-same-map : {x y p q : ℕ} {a b : C.Atom} {t u : Tree} → x ≡ y → p ≡ q → a ≡ b → t ≡ u → C.map-over x p a t ≡ C.map-over y q b u
+same-map : {x y p q : ℕ} {a b : C.Atom} {t u : Tree} → x ≡ y → p ≡ q → a ≡ b → t ≡ u → C.map-over x p a t ≡
+    C.map-over y q b u
 same-map g h i j = cc
 
 -- over the file's operands and the results of the functions
 module _ (w : List ℕ) (res : ℕ → ℕ) where
-  pub made-number : (z : ℤ) (μ : Meanings) (X : State) (n p d₀ last v : ℕ) → Sized X → meant (placed w v) ≡ C.number z →
+  pub made-number : (z : ℤ) (μ : Meanings) (X : State) (n p d₀ last v : ℕ) → Sized X → meant (placed w v) ≡ C.number
+      z →
       Made w res (S.number z) μ X X n p d₀ last (out v last n p)
   unfolding fresh atom lines laid-rows
   made-number z μ X n p d₀ last v s e = record {
@@ -126,14 +130,17 @@ module _ (w : List ℕ) (res : ℕ → ℕ) where
   }
 
   -- ---- a let
-  pub made-let : {a b : Expr} {μ : Meanings} (ν : Meanings) {X X₁ X₂ : State} {n p d₀ l₁ l₂ : ℕ} {ra rb : Out} (x : ℕ) →
-      Made w res a μ X X₁ n p d₀ l₁ ra → ν ≡ updated μ x (meant (placed w (ra .place))) → Made w res b ν X₁ X₂ (ra .n) (ra .p) d₀ l₂ rb →
+  pub made-let : {a b : Expr} {μ : Meanings} (ν : Meanings) {X X₁ X₂ : State} {n p d₀ l₁ l₂ : ℕ} {ra rb : Out}
+      (x : ℕ) →
+      Made w res a μ X X₁ n p d₀ l₁ ra → ν ≡ updated μ x (meant (placed w (ra .place))) → Made w res b ν X₁ X₂
+      (ra .n) (ra .p) d₀ l₂ rb →
       Made w res (S.let-in x a b) μ X X₂ n p (d₀ + 1) l₂ rb
   unfolding fresh atom lines laid-rows
   made-let {a} {b} {μ} ν {X} {X₁} {X₂} {n} {p} {d₀} {l₁} {l₂} {ra} {rb} x A e B₀ =
       go (rw (e ∙ ap (updated μ x) (A .gives), A .count) at B₀)
     where
-      go : Made w res b (updated μ x (atom a μ n)) X₁ X₂ (n + fresh a) (ra .p) d₀ l₂ rb → Made w res (S.let-in x a b) μ X X₂ n p (d₀ + 1) l₂ rb
+      go : Made w res b (updated μ x (atom a μ n)) X₁ X₂ (n + fresh a) (ra .p) d₀ l₂ rb → Made w res (S.let-in x a
+          b) μ X X₂ n p (d₀ + 1) l₂ rb
       go B = record {
         next = B .next;
         count = omega (arith, A .count, B .count);
@@ -145,14 +152,16 @@ module _ (w : List ℕ) (res : ℕ → ℕ) where
         width = A .width + B .width;
         thin = omega (arith, A .thin, B .thin);
         chains = λ F u g. chains-more (d₀ + 1) (omega arith) (chains-then
-            (A .chains F u (agrees-back (ra .p) (ra .p) g (B .same) (omega (arith, B .reach)) (omega (arith, B .reach))))
+            (A .chains F u (agrees-back (ra .p) (ra .p) g (B .same) (omega (arith, B .reach))
+            (omega (arith, B .reach))))
             (B .chains F u (agrees-from (ra .p) g (omega (arith, A .reach)))));
         depths = λ k. A .depths _ ∙ B .depths k;
       }
 
   -- ---- a tree of its own
   pub tree-made : {e : Expr} {μ : Meanings} {X : State} {k k₁ nt d : List ℕ} {n p d₀ last : ℕ} {r : Out} →
-      Made w res e μ X (state k nt d) n p d₀ last r → LaidAs k k₁ (r .p) (packed-row 16 0 0 0 ∷ (r .place ∷ [])) → r .p ≤ 4060 →
+      Made w res e μ X (state k nt d) n p d₀ last r → LaidAs k k₁ (r .p) (packed-row 16 0 0 0 ∷ (r .place ∷ [])) → r
+      .p ≤ 4060 →
       TreeMade w res e μ X (state k₁ nt d) n p d₀ last (out (r .place) (r .next) (r .n) (r .p + 2))
   unfolding normal tree-depths
   tree-made {e} {μ} {X} {k} {k₁} {nt} {d} {n} {p} {d₀} {last} {r} A l s = record {
@@ -162,24 +171,31 @@ module _ (w : List ℕ) (res : ℕ → ℕ) where
     sized = sized-laid (A .sized) l;
     low = A .low;
     gives = A .gives;
-    same = same-then (A .same) (same-less p p (same-laid (r .p) l) (omega (arith, A .reach)) (omega (arith, A .reach)));
-    tree = λ F u g h j m. rw (← A .reach) (chains-tree (lines-there F u g) h (omega (arith, A .thin)) j m ∙ ap (λ (t : Tree). lines e μ n t) (end-there F u g));
+    same = same-then (A .same) (same-less p p (same-laid (r .p) l) (omega (arith, A .reach))
+        (omega (arith, A .reach)));
+    tree = λ F u g h j m. rw (← A .reach) (chains-tree (lines-there F u g) h (omega (arith, A .thin)) j m ∙ ap
+        (λ (t : Tree). lines e μ n t) (end-there F u g));
     first = λ F u g h. rw (← A .reach) (chains-start (lines-there F u g) h (omega (arith, A .thin)));
     depths = A .depths (end (atom e μ n));
   }
     where
-      lines-there : (F : Plain) → F .operands ≡ w → Agrees (state k₁ nt d) F p (r .p + 2) (p + laid-rows e) → Chains F p (r .p) (A .width) d₀ (λ t. lines e μ n t)
-      lines-there F u g = A .chains F u (agrees-back (r .p) (r .p) g (same-laid (r .p) l) (omega arith) (omega (arith, A .reach)))
+      lines-there : (F : Plain) → F .operands ≡ w → Agrees (state k₁ nt d) F p (r .p + 2) (p + laid-rows e) → Chains
+          F p (r .p) (A .width) d₀ (λ t. lines e μ n t)
+      lines-there F u g = A .chains F u (agrees-back (r .p) (r .p) g (same-laid (r .p) l) (omega arith)
+          (omega (arith, A .reach)))
 
-      end-there : (F : Plain) → F .operands ≡ w → Agrees (state k₁ nt d) F p (r .p + 2) (p + laid-rows e) → end-at F (r .p) ≡ end (atom e μ n)
+      end-there : (F : Plain) → F .operands ≡ w → Agrees (state k₁ nt d) F p (r .p + 2) (p + laid-rows e) → end-at F
+          (r .p) ≡ end (atom e μ n)
       end-there F u g =
           ap (λ (v : ℕ). end (meant (placed (F .operands) v)))
-          (row-back {nt = nt} {d = d} l g (omega (arith, A .reach)) (omega arith) (omega (arith, A .sized .rows, s)) 1 (r .p + 1) refl (omega arith))
+          (row-back {nt = nt} {d = d} l g (omega (arith, A .reach)) (omega arith) (omega (arith, A .sized .rows, s))
+          1 (r .p + 1) refl (omega arith))
           ∙ ap (λ (z : List ℕ). end (meant (placed z (r .place)))) u
           ∙ ap (λ (x : C.Atom). end x) (A .gives)
 
   -- ---- an if
-  module _ {g b c : Expr} {μ : Meanings} {X : State} {k₁ k₂ k₄ k₆ n₁ n₂ n₄ n₅ n₆ n₇ d₁ d₄ d₆ d₇ : List ℕ} {n p d₀ l₁ l₂ l₃ v : ℕ} {rg rt re : Out}
+  module _ {g b c : Expr} {μ : Meanings} {X : State} {k₁ k₂ k₄ k₆ n₁ n₂ n₄ n₅ n₆ n₇ d₁ d₄ d₆ d₇ : List ℕ}
+      {n p d₀ l₁ l₂ l₃ v : ℕ} {rg rt re : Out}
       (A : Made w res g μ X (state k₁ n₁ d₁) n p d₀ l₁ rg)
       (l : LaidAs k₁ k₂ (rg .p) (packed-row 12 (rg .n) 0 0 ∷ (rg .place ∷ [])))
       (e₂ : SetAs n₁ n₂ (rg .p + 2) (rg .p + 2))
@@ -210,57 +226,82 @@ module _ (w : List ℕ) (res : ℕ → ℕ) where
     keep₆ = same-note (re .p) (rg .p) (re .p) (re .p - 2) e₇ (omega (arith, end-is))
 
     keep₅ : Same (state k₄ n₅ d₄) (state k₆ n₇ d₇) (rt .p) (rt .p)
-    keep₅ = same-then (C-is .same) (same-less (rt .p) (rt .p) keep₆ (omega (arith, C-is .reach)) (omega (arith, C-is .reach)))
+    keep₅ = same-then (C-is .same) (same-less (rt .p) (rt .p) keep₆ (omega (arith, C-is .reach))
+        (omega (arith, C-is .reach)))
 
     keep₄ : Same (state k₄ n₄ d₄) (state k₆ n₇ d₇) (rt .p) (rt .p - 2)
-    keep₄ = same-then (same-note (rt .p) (rt .p) (rt .p) (rt .p - 2) e₅ (omega (arith, B-is .reach))) (same-less (rt .p) (rt .p - 2) keep₅ (omega arith) (omega arith))
+    keep₄ = same-then (same-note (rt .p) (rt .p) (rt .p) (rt .p - 2) e₅ (omega (arith, B-is .reach)))
+        (same-less (rt .p) (rt .p - 2) keep₅ (omega arith) (omega arith))
 
     keep₃ : Same (state k₂ n₂ d₁) (state k₆ n₇ d₇) (rg .p + 2) (rg .p + 2)
-    keep₃ = same-then (B-is .same) (same-less (rg .p + 2) (rg .p + 2) keep₄ (omega (arith, B-is .reach)) (omega (arith, B-is .reach)))
+    keep₃ = same-then (B-is .same) (same-less (rg .p + 2) (rg .p + 2) keep₄ (omega (arith, B-is .reach))
+        (omega (arith, B-is .reach)))
 
     keep₂ : Same (state k₂ n₁ d₁) (state k₆ n₇ d₇) (rg .p + 2) (rg .p)
-    keep₂ = same-then (same-note (rg .p + 2) (rg .p + 2) (rg .p + 2) (rg .p) e₂ (omega arith)) (same-less (rg .p + 2) (rg .p) keep₃ (omega arith) (omega arith))
+    keep₂ = same-then (same-note (rg .p + 2) (rg .p + 2) (rg .p + 2) (rg .p) e₂ (omega arith))
+        (same-less (rg .p + 2) (rg .p) keep₃ (omega arith) (omega arith))
 
     keep₁ : Same (state k₁ n₁ d₁) (state k₆ n₇ d₇) (rg .p) (rg .p)
     keep₁ = same-then (same-laid {d₁ = d₁} (rg .p) l) (same-less (rg .p) (rg .p) keep₂ (omega arith) (omega arith))
 
     if-line : C.Line
-    if-line = C.if-else (n + fresh g) (atom g μ n) (normal b μ (n + fresh g + 1)) (normal c μ (n + fresh g + 1 + fresh b))
+    if-line = C.if-else (n + fresh g) (atom g μ n) (normal b μ (n + fresh g + 1)) (normal c μ (n + fresh g + 1 +
+        fresh b))
 
     if-there : (F : Plain) → F .operands ≡ w → Agrees (state k₆ n₇ d₇) F p (re .p) (re .p) → (d : ℕ) → d₀ + 1 ≤ d →
         as-line F (tree-to F d) (rg .p) (re .p) (line-at (F .operands) (F .rows) (rg .p)) ≡ if-line
     unfolding as-line if-line
     if-there F u a d h =
         ap (as-line F (tree-to F d) (rg .p) (re .p))
-        (line-back F (rg .p) 12 (rg .n) 0 0 (rg .place) (omega arith) (omega (arith, A .count, few)) (omega arith) (omega arith)
-        (row-back {nt = n₁} {d = d₁} l in₂ (omega (arith, A .reach)) (omega arith) (omega (arith, A .sized .rows, end-is, short, A .reach)) 0 (rg .p) (omega arith) (omega arith))
-        (row-back {nt = n₁} {d = d₁} l in₂ (omega (arith, A .reach)) (omega arith) (omega (arith, A .sized .rows, end-is, short, A .reach)) 1 (rg .p + 1) refl (omega arith)))
+        (line-back F (rg .p) 12 (rg .n) 0 0 (rg .place) (omega arith) (omega (arith, A .count, few)) (omega arith)
+        (omega arith)
+        (row-back {nt = n₁} {d = d₁} l in₂ (omega (arith, A .reach)) (omega arith) (omega (
+          arith,
+          A .sized .rows,
+          end-is,
+          short,
+          A .reach,
+        )) 0 (rg .p) (omega arith) (omega arith))
+        (row-back {nt = n₁} {d = d₁} l in₂ (omega (arith, A .reach)) (omega arith) (omega (
+          arith,
+          A .sized .rows,
+          end-is,
+          short,
+          A .reach,
+        )) 1 (rg .p + 1) refl (omega arith)))
         ∙ same-if (A .count) (ap (λ (z : List ℕ). meant (placed z (rg .place))) u ∙ A .gives)
         (ap (λ (i : ℕ). tree-to F d (start (F .notes) 4096 i - 2)) last-two ∙ ap (tree-to F d) first-two ∙ own)
         (ap (tree-to F d) last-two ∙ other)
       where
         in₂ : Agrees (state k₂ n₁ d₁) F p (rg .p + 2) (rg .p)
-        in₂ = agrees-back (rg .p + 2) (rg .p) a keep₂ (omega (arith, end-is, A .reach)) (omega (arith, end-is, A .reach))
+        in₂ = agrees-back (rg .p + 2) (rg .p) a keep₂ (omega (arith, end-is, A .reach))
+            (omega (arith, end-is, A .reach))
 
         at-own : rg .p + 2 ≤ note (F .notes) (rg .p + 2)
         at-own = omega (
           arith,
-          a .notes (rg .p + 2) (omega (arith, A .reach)) (omega (arith, end-is, A .reach)) ∙ keep₃ .notes (rg .p + 2) (omega arith)
+          a .notes (rg .p + 2) (omega (arith, A .reach)) (omega (arith, end-is, A .reach)) ∙ keep₃ .notes
+              (rg .p + 2) (omega arith)
               ∙ note-set n₁ n₂ (rg .p + 2) (rg .p + 2) e₂ (omega (arith, A .sized .notes, end-is, short, A .reach)),
         )
 
         at-other : rt .p ≤ note (F .notes) (rt .p)
         at-other = omega (
           arith,
-          a .notes (rt .p) (omega (arith, A .reach, B-is .reach)) (omega (arith, C-is .reach)) ∙ keep₅ .notes (rt .p) (omega arith)
+          a .notes (rt .p) (omega (arith, A .reach, B-is .reach)) (omega (arith, C-is .reach)) ∙ keep₅ .notes
+              (rt .p) (omega arith)
               ∙ note-set n₄ n₅ (rt .p) (rt .p) e₅ (omega (arith, B-is .sized .notes, end-is, short, C-is .reach)),
         )
 
         in₄ : Agrees (state k₄ n₄ d₄) F (rg .p + 2) (rt .p) (rg .p + 2 + laid-rows b)
-        in₄ = agrees-from (rg .p + 2) (agrees-back (rt .p) (rg .p + 2 + laid-rows b) a (same-less (rt .p) (rg .p + 2 + laid-rows b) keep₄ (omega arith) (omega (arith, B-is .reach))) (omega (arith, C-is .reach)) (omega (arith, B-is .reach, C-is .reach))) (omega (arith, A .reach))
+        in₄ = agrees-from (rg .p + 2) (agrees-back (rt .p) (rg .p + 2 + laid-rows b) a (same-less (rt .p)
+            (rg .p + 2 + laid-rows b) keep₄ (omega arith) (omega (arith, B-is .reach))) (omega (arith, C-is .reach))
+            (omega (arith, B-is .reach, C-is .reach))) (omega (arith, A .reach))
 
         in₆ : Agrees (state k₆ n₆ d₆) F (rt .p) (re .p) (rt .p + laid-rows c)
-        in₆ = agrees-from (rt .p) (agrees-back (re .p) (rt .p + laid-rows c) a (same-less (re .p) (rt .p + laid-rows c) keep₆ (omega arith) (omega (arith, C-is .reach))) (omega arith) (omega (arith, C-is .reach))) (omega (arith, A .reach, B-is .reach))
+        in₆ = agrees-from (rt .p) (agrees-back (re .p) (rt .p + laid-rows c) a (same-less (re .p) (rt .p + laid-rows
+            c) keep₆ (omega arith) (omega (arith, C-is .reach))) (omega arith) (omega (arith, C-is .reach)))
+            (omega (arith, A .reach, B-is .reach))
 
         last-two : re .p - 2 ≡ rt .p + laid-rows c
         last-two = omega (arith, C-is .reach)
@@ -269,18 +310,30 @@ module _ (w : List ℕ) (res : ℕ → ℕ) where
         first-two = omega (arith, C-is .first F u in₆ at-other, B-is .reach)
 
         own : tree-to F d (rg .p + 2 + laid-rows b) ≡ normal b μ (n + fresh g + 1)
-        own = ap (λ (i : ℕ). tree-to F i (rg .p + 2 + laid-rows b)) (let e : d ≡ suc (d - 1) = omega arith in e) ∙ B-is .tree F u in₄ at-own (d - 1) (omega arith)
+        own = ap (λ (i : ℕ). tree-to F i (rg .p + 2 + laid-rows b)) (let e : d ≡ suc (d - 1) = omega arith in e) ∙
+            B-is .tree F u in₄ at-own (d - 1) (omega arith)
 
         other : tree-to F d (rt .p + laid-rows c) ≡ normal c μ (n + fresh g + 1 + fresh b)
-        other = ap (λ (i : ℕ). tree-to F i (rt .p + laid-rows c)) (let e : d ≡ suc (d - 1) = omega arith in e) ∙ C-is .tree F u in₆ at-other (d - 1) (omega arith)
+        other = ap (λ (i : ℕ). tree-to F i (rt .p + laid-rows c)) (let e : d ≡ suc (d - 1) = omega arith in e) ∙
+            C-is .tree F u in₆ at-other (d - 1) (omega arith)
 
     if-depths : line-depths res if-line (depth-in d₁) ≡ depth-in d₇
     unfolding tree-depths if-line
     if-depths =
-        rw (B-is .depths, C-is .depths, normal-ending b μ (n + fresh g + 1), ← B-is .gives, ← place-atom w d₆ (rt .place), ← ve, ← A .count)
+        rw (
+          B-is .depths,
+          C-is .depths,
+          normal-ending b μ (n + fresh g + 1),
+          ← B-is .gives,
+          ← place-atom w d₆
+              (rt .place),
+          ← ve,
+          ← A .count,
+        )
         (sym (ap depth-in (e₈ .is) ∙ depth-set d₆ (rg .n) v (omega (arith, C-is .sized .depths, A .count, few))))
 
-    pub made-if : Made w res (S.if-else g b c) μ X (state k₆ n₇ d₇) n p (d₀ + 1) l₃ (out (rg .n) (re .next) (re .n) (re .p))
+    pub made-if : Made w res (S.if-else g b c) μ X (state k₆ n₇ d₇) n p (d₀ + 1) l₃ (out (rg .n) (re .next) (re .n)
+        (re .p))
     unfolding fresh atom lines laid-rows normal if-line tree-depths
     made-if = record {
       next = C-is .next;
@@ -289,25 +342,35 @@ module _ (w : List ℕ) (res : ℕ → ℕ) where
       sized = sized-depth (sized-note (C-is .sized) e₇) e₈;
       low = λ j h.
           let s = C-is .low (j + fresh g + fresh b) (B-is .low (j + fresh g) (A .low j h)) in
-          low-set (j + (fresh g + 1 + fresh b + fresh c)) (rg .n) v s e₈ (omega (arith, C-is .sized .depths, A .count, few)) (omega arith)
+          low-set (j + (fresh g + 1 + fresh b + fresh c)) (rg .n) v s e₈ (omega (
+            arith,
+            C-is .sized .depths,
+            A
+                .count,
+            few,
+          )) (omega arith)
           (omega (arith, ve, low-place s (rt .place)));
       gives = name-placed w (rg .n) (omega (arith, A .count, few)) ∙ ap C.name (A .count);
       same = same-then (A .same) (same-less p p keep₁ (omega (arith, A .reach)) (omega (arith, A .reach)));
       width = A .width + 1;
       thin = omega (arith, A .thin, A .reach, end-is);
       chains = λ F u a. chains-then
-          (chains-more (d₀ + 1) (omega arith) (A .chains F u (agrees-back (rg .p) (rg .p) a keep₁ (omega (arith, A .reach, end-is)) (omega (arith, A .reach, end-is)))))
+          (chains-more (d₀ + 1) (omega arith) (A .chains F u (agrees-back (rg .p) (rg .p) a keep₁
+          (omega (arith, A .reach, end-is)) (omega (arith, A .reach, end-is)))))
           (chains-line if-line
-          (a .notes (re .p) (omega (arith, end-is)) (omega arith) ∙ note-set n₆ n₇ (re .p) (rg .p) e₇ (omega (arith, C-is .sized .notes, end-is, short)))
+          (a .notes (re .p) (omega (arith, end-is)) (omega arith) ∙ note-set n₆ n₇ (re .p) (rg .p) e₇
+          (omega (arith, C-is .sized .notes, end-is, short)))
           (omega (arith, A .reach, end-is)) (if-there F u a));
       depths = λ k. A .depths _ ∙ ap (tree-depths res k) if-depths;
     }
 
   -- ---- a map
-  module _ {a b : Expr} {μ ν : Meanings} {X : State} {k₁ k₂ k₄ n₁ n₂ n₄ n₅ d₁ d₂ d₄ d₅ : List ℕ} {n p d₀ l₁ l₂ v u₀ : ℕ} {ra rt : Out}
+  module _ {a b : Expr} {μ ν : Meanings} {X : State} {k₁ k₂ k₄ n₁ n₂ n₄ n₅ d₁ d₂ d₄ d₅ : List ℕ} {n p d₀ l₁ l₂ v u₀
+      : ℕ} {ra rt : Out}
       (y : ℕ) (A : Made w res a μ X (state k₁ n₁ d₁) n p d₀ l₁ ra)
       (l : LaidAs k₁ k₂ (ra .p) (packed-row 13 (ra .n) (ra .n + 1) 0 ∷ (ra .place ∷ [])))
-      (e₂ : SetAs n₁ n₂ (ra .p + 2) (ra .p + 2)) (ue : u₀ ≡ pred (place-depth d₁ (ra .place))) (e₃ : SetAs d₁ d₂ (ra .n + 1) u₀)
+      (e₂ : SetAs n₁ n₂ (ra .p + 2) (ra .p + 2)) (ue : u₀ ≡ pred (place-depth d₁ (ra .place))) (e₃ : SetAs d₁ d₂
+      (ra .n + 1) u₀)
       (νe : ν ≡ updated μ y (C.name (ra .n + 1)))
       (B₀ : TreeMade w res b ν (state k₂ n₂ d₂) (state k₄ n₄ d₄) (ra .n + 2) (ra .p + 2) d₀ l₂ rt)
       (e₇ : SetAs n₄ n₅ (rt .p) (ra .p)) (ve : v ≡ place-depth d₄ (rt .place) + 1) (e₈ : SetAs d₄ d₅ (ra .n) v)
@@ -334,10 +397,12 @@ module _ (w : List ℕ) (res : ℕ → ℕ) where
     held₄ = same-note (rt .p) (ra .p) (rt .p) (rt .p - 2) e₇ (omega (arith, stop-is))
 
     held₃ : Same (state k₂ n₂ d₂) (state k₄ n₅ d₅) (ra .p + 2) (ra .p + 2)
-    held₃ = same-then (T-is .same) (same-less (ra .p + 2) (ra .p + 2) held₄ (omega (arith, T-is .reach)) (omega (arith, T-is .reach)))
+    held₃ = same-then (T-is .same) (same-less (ra .p + 2) (ra .p + 2) held₄ (omega (arith, T-is .reach))
+        (omega (arith, T-is .reach)))
 
     held₂ : Same (state k₂ n₁ d₁) (state k₄ n₅ d₅) (ra .p + 2) (ra .p)
-    held₂ = same-then (same-note {d₁ = d₂} (ra .p + 2) (ra .p + 2) (ra .p + 2) (ra .p) e₂ (omega arith)) (same-less (ra .p + 2) (ra .p) held₃ (omega arith) (omega arith))
+    held₂ = same-then (same-note {d₁ = d₂} (ra .p + 2) (ra .p + 2) (ra .p + 2) (ra .p) e₂ (omega arith))
+        (same-less (ra .p + 2) (ra .p) held₃ (omega arith) (omega arith))
 
     held₁ : Same (state k₁ n₁ d₁) (state k₄ n₅ d₅) (ra .p) (ra .p)
     held₁ = same-then (same-laid {d₁ = d₁} (ra .p) l) (same-less (ra .p) (ra .p) held₂ (omega arith) (omega arith))
@@ -350,30 +415,49 @@ module _ (w : List ℕ) (res : ℕ → ℕ) where
     unfolding as-line map-line
     map-there F u g d h =
         ap (as-line F (tree-to F d) (ra .p) (rt .p))
-        (line-back F (ra .p) 13 (ra .n) (ra .n + 1) 0 (ra .place) (omega arith) (omega (arith, A .count, some)) (omega (arith, A .count, some)) (omega arith)
-        (row-back {nt = n₁} {d = d₁} l in₂ (omega (arith, A .reach)) (omega arith) (omega (arith, A .sized .rows, stop-is, brief, A .reach)) 0 (ra .p) (omega arith) (omega arith))
-        (row-back {nt = n₁} {d = d₁} l in₂ (omega (arith, A .reach)) (omega arith) (omega (arith, A .sized .rows, stop-is, brief, A .reach)) 1 (ra .p + 1) refl (omega arith)))
-        ∙ same-map (A .count) (ap (λ (i : ℕ). i + 1) (A .count)) (ap (λ (z : List ℕ). meant (placed z (ra .place))) u ∙ A .gives)
+        (line-back F (ra .p) 13 (ra .n) (ra .n + 1) 0 (ra .place) (omega arith) (omega (arith, A .count, some))
+        (omega (arith, A .count, some)) (omega arith)
+        (row-back {nt = n₁} {d = d₁} l in₂ (omega (arith, A .reach)) (omega arith) (omega (
+          arith,
+          A .sized .rows,
+          stop-is,
+          brief,
+          A .reach,
+        )) 0 (ra .p) (omega arith) (omega arith))
+        (row-back {nt = n₁} {d = d₁} l in₂ (omega (arith, A .reach)) (omega arith) (omega (
+          arith,
+          A .sized .rows,
+          stop-is,
+          brief,
+          A .reach,
+        )) 1 (ra .p + 1) refl (omega arith)))
+        ∙ same-map (A .count) (ap (λ (i : ℕ). i + 1) (A .count)) (ap (λ (z : List ℕ). meant (placed z (ra .place)))
+        u ∙ A .gives)
         (ap (tree-to F d) last-two ∙ body)
       where
         in₂ : Agrees (state k₂ n₁ d₁) F p (ra .p + 2) (ra .p)
-        in₂ = agrees-back (ra .p + 2) (ra .p) g held₂ (omega (arith, stop-is, A .reach)) (omega (arith, stop-is, A .reach))
+        in₂ = agrees-back (ra .p + 2) (ra .p) g held₂ (omega (arith, stop-is, A .reach))
+            (omega (arith, stop-is, A .reach))
 
         at-tree : ra .p + 2 ≤ note (F .notes) (ra .p + 2)
         at-tree = omega (
           arith,
-          g .notes (ra .p + 2) (omega (arith, A .reach)) (omega (arith, stop-is, A .reach)) ∙ held₃ .notes (ra .p + 2) (omega arith)
+          g .notes (ra .p + 2) (omega (arith, A .reach)) (omega (arith, stop-is, A .reach)) ∙ held₃ .notes
+              (ra .p + 2) (omega arith)
               ∙ note-set n₁ n₂ (ra .p + 2) (ra .p + 2) e₂ (omega (arith, A .sized .notes, stop-is, brief, A .reach)),
         )
 
         in₄ : Agrees (state k₄ n₄ d₄) F (ra .p + 2) (rt .p) (ra .p + 2 + laid-rows b)
-        in₄ = agrees-from (ra .p + 2) (agrees-back (rt .p) (ra .p + 2 + laid-rows b) g (same-less (rt .p) (ra .p + 2 + laid-rows b) held₄ (omega arith) (omega (arith, T-is .reach))) (omega arith) (omega (arith, T-is .reach))) (omega (arith, A .reach))
+        in₄ = agrees-from (ra .p + 2) (agrees-back (rt .p) (ra .p + 2 + laid-rows b) g (same-less (rt .p)
+            (ra .p + 2 + laid-rows b) held₄ (omega arith) (omega (arith, T-is .reach))) (omega arith)
+            (omega (arith, T-is .reach))) (omega (arith, A .reach))
 
         last-two : rt .p - 2 ≡ ra .p + 2 + laid-rows b
         last-two = omega (arith, T-is .reach)
 
         body : tree-to F d (ra .p + 2 + laid-rows b) ≡ normal b inner (n + fresh a + 2)
-        body = ap (λ (i : ℕ). tree-to F i (ra .p + 2 + laid-rows b)) (let e : d ≡ suc (d - 1) = omega arith in e) ∙ T-is .tree F u in₄ at-tree (d - 1) (omega arith)
+        body = ap (λ (i : ℕ). tree-to F i (ra .p + 2 + laid-rows b)) (let e : d ≡ suc (d - 1) = omega arith in e) ∙
+            T-is .tree F u in₄ at-tree (d - 1) (omega arith)
 
     array-depth : depth-in d₂ ≡ updated (depth-in d₁) (n + fresh a + 1) (pred (atom-depth (depth-in d₁) (atom a μ n)))
     array-depth =
@@ -388,11 +472,20 @@ module _ (w : List ℕ) (res : ℕ → ℕ) where
     map-depths : line-depths res map-line (depth-in d₁) ≡ depth-in d₅
     unfolding tree-depths map-line
     map-depths =
-        rw (← array-depth, T-is .depths, normal-ending b inner (n + fresh a + 2), ← T-is .gives, ← place-atom w d₄ (rt .place), ← A .count)
+        rw (
+          ← array-depth,
+          T-is .depths,
+          normal-ending b inner (n + fresh a + 2),
+          ← T-is .gives,
+          ← place-atom w d₄
+              (rt .place),
+          ← A .count,
+        )
         (sym (ap depth-in (e₈ .is) ∙ depth-set d₄ (ra .n) v (omega (arith, T-is .sized .depths, A .count, some))
         ∙ ap (updated (depth-in d₄) (ra .n)) (let e : v ≡ suc (place-depth d₄ (rt .place)) = omega (arith, ve) in e)))
 
-    pub made-map : Made w res (S.map-over y a b) μ X (state k₄ n₅ d₅) n p (d₀ + 1) l₂ (out (ra .n) (rt .next) (rt .n) (rt .p))
+    pub made-map : Made w res (S.map-over y a b) μ X (state k₄ n₅ d₅) n p (d₀ + 1) l₂ (out (ra .n) (rt .next)
+        (rt .n) (rt .p))
     unfolding fresh atom lines laid-rows normal map-line inner tree-depths
     made-map = record {
       next = T-is .next;
@@ -401,16 +494,19 @@ module _ (w : List ℕ) (res : ℕ → ℕ) where
       sized = sized-depth (sized-note (T-is .sized) e₇) e₈;
       low = λ j h.
           let s = T-is .low (j + fresh a) (array-low j (A .low j h)) in
-          low-set (j + (fresh a + 2 + fresh b)) (ra .n) v s e₈ (omega (arith, T-is .sized .depths, A .count, some)) (omega arith)
+          low-set (j + (fresh a + 2 + fresh b)) (ra .n) v s e₈ (omega (arith, T-is .sized .depths, A .count, some))
+          (omega arith)
           (omega (arith, ve, low-place s (rt .place)));
       gives = name-placed w (ra .n) (omega (arith, A .count, some)) ∙ ap C.name (A .count);
       same = same-then (A .same) (same-less p p held₁ (omega (arith, A .reach)) (omega (arith, A .reach)));
       width = A .width + 1;
       thin = omega (arith, A .thin, A .reach, stop-is);
       chains = λ F u g. chains-then
-          (chains-more (d₀ + 1) (omega arith) (A .chains F u (agrees-back (ra .p) (ra .p) g held₁ (omega (arith, A .reach, stop-is)) (omega (arith, A .reach, stop-is)))))
+          (chains-more (d₀ + 1) (omega arith) (A .chains F u (agrees-back (ra .p) (ra .p) g held₁
+          (omega (arith, A .reach, stop-is)) (omega (arith, A .reach, stop-is)))))
           (chains-line map-line
-          (g .notes (rt .p) (omega (arith, stop-is)) (omega arith) ∙ note-set n₄ n₅ (rt .p) (ra .p) e₇ (omega (arith, T-is .sized .notes, stop-is, brief)))
+          (g .notes (rt .p) (omega (arith, stop-is)) (omega arith) ∙ note-set n₄ n₅ (rt .p) (ra .p) e₇
+          (omega (arith, T-is .sized .notes, stop-is, brief)))
           (omega (arith, A .reach, stop-is)) (map-there F u g));
       depths = λ k. A .depths _ ∙ ap (tree-depths res k) map-depths;
     }

@@ -34,7 +34,8 @@ use Rattle.normal_script.specs.declared.Heads.{Heads}
 
 -- ---- the script that was read
 
-pub known : {k w : List ℕ} {n : ℕ} (t : Translatable k w n) → ScriptWritten k w (t .tree) 0 × ((length (t .tree) ≡ n) × (total (t .tree) ≤ 1024))
+pub known : {k w : List ℕ} {n : ℕ} (t : Translatable k w n) → ScriptWritten k w (t .tree) 0 ×
+    ((length (t .tree) ≡ n) × (total (t .tree) ≤ 1024))
 known {k} {w} {n} t = go (rw (t .reads) at (script-written k w n 0))
   where
     go : ScriptWritten k w (t .tree) 0 × (length (t .tree) ≡ n) × (length k ≤ 0 + total (t .tree)) →
@@ -42,33 +43,43 @@ known {k} {w} {n} t = go (rw (t .reads) at (script-written k w n 0))
     go h = (h .0, (h .1, omega (arith, script-ends k w (t .tree) 0 (h .0) (omega arith), t .parts .few)))
 
 module _ (k w : List ℕ) where
-  written-at : (gs : Script) (p j : ℕ) → j < length gs → ScriptWritten k w gs p → FunctionWritten k w (function-at gs j) (start-of gs p j)
+  written-at : (gs : Script) (p j : ℕ) → j < length gs → ScriptWritten k w gs p → FunctionWritten k w
+      (function-at gs j) (start-of gs p j)
   written-at [] p j h x = absurd (let f : ⊥ = omega arith in f)
   written-at (g ∷ gs) p zero h x = x .0
   written-at (g ∷ gs) p (suc j) h x = written-at gs (p + function-size g) j (omega arith) (x .1)
 
-  ends-at : (gs : Script) (p j : ℕ) → j < length gs → start-of gs p j + function-size (function-at gs j) ≤ p + total gs
+  ends-at : (gs : Script) (p j : ℕ) → j < length gs → start-of gs p j + function-size (function-at gs j) ≤ p + total
+      gs
   ends-at [] p j h = absurd (let f : ⊥ = omega arith in f)
   ends-at (g ∷ gs) p zero h = omega arith
   ends-at (g ∷ gs) p (suc j) h = omega (arith, ends-at gs (p + function-size g) j (omega arith))
 
-  few-names : (gs : Script) (p j : ℕ) → j < length gs → too-many-names-from gs p ≡ none → length (function-at gs j .parameters) + fresh (function-at gs j .body) ≤ 256
+  few-names : (gs : Script) (p j : ℕ) → j < length gs → too-many-names-from gs p ≡ none → length (function-at gs j
+      .parameters) + fresh (function-at gs j .body) ≤ 256
   unfolding too-many-names-from
   few-names [] p j h e = absurd (let f : ⊥ = omega arith in f)
-  few-names (g ∷ gs) p j h e = go (ltb 256 (length (g .parameters) + fresh (g .body))) refl j h e (λ i l f. few-names gs (p + function-size g) i l f)
+  few-names (g ∷ gs) p j h e = go (ltb 256 (length (g .parameters) + fresh (g .body))) refl j h e
+      (λ i l f. few-names gs (p + function-size g) i l f)
     where
       go : (b : Bool) → ltb 256 (length (g .parameters) + fresh (g .body)) ≡ b → (j : ℕ) → j < suc (length gs) →
           cond b (some p) (too-many-names-from gs (p + function-size g)) ≡ none →
-          ((i : ℕ) → i < length gs → too-many-names-from gs (p + function-size g) ≡ none → length (function-at gs i .parameters) + fresh (function-at gs i .body) ≤ 256) →
+          ((i : ℕ) → i < length gs → too-many-names-from gs (p + function-size g) ≡ none → length (function-at gs i
+          .parameters) + fresh (function-at gs i .body) ≤ 256) →
           length (function-at (g ∷ gs) j .parameters) + fresh (function-at (g ∷ gs) j .body) ≤ 256
       go true f j h e later = absurd (let z : _≡_ {A = ℕ} 0 1 = cc in omega arith)
       go false f zero h e later = ltb-false 256 (length (g .parameters) + fresh (g .body)) f
       go false f (suc j) h e later = later j (omega arith) e
 
-  next-there : (g : Function) (p : ℕ) → FunctionWritten k w g p → node-of (told (part k w 64 (p + 1 + low-at k w 0 p))) ≡ p + function-size g
+  next-there : (g : Function) (p : ℕ) → FunctionWritten k w g p → node-of
+      (told (part k w 64 (p + 1 + low-at k w 0 p))) ≡ p + function-size g
   unfolding function-size
   next-there g p h =
-      rw (low-there k w (h .head), reads k w (g .body) 64 (p + 1 + length (g .parameters)) (p + 1 + length (g .parameters)) refl (h .body)) (omega arith)
+      rw (
+        low-there k w (h .head),
+        reads k w (g .body) 64 (p + 1 + length (g .parameters)) (p + 1 + length
+            (g .parameters)) refl (h .body),
+      ) (omega arith)
 
 -- ---- where the functions stand
 
@@ -91,7 +102,8 @@ pub record Scanning (k w : List ℕ) (fs : Script) (i p : ℕ) (starts results :
   pub results-done : (j : ℕ) → j < i → getD results j 0 ≡ result-of fs j
   pub blank : (j : ℕ) → i ≤ j → getD results j 0 ≡ 0
 
-pub scan-begins : (k w : List ℕ) (n : ℕ) (t : Translatable k w n) → Scanning k w (t .tree) 0 0 (replicate 32 0) (replicate 32 0)
+pub scan-begins : (k w : List ℕ) (n : ℕ) (t : Translatable k w n) → Scanning k w (t .tree) 0 0 (replicate 32 0)
+    (replicate 32 0)
 scan-begins k w n t = record {
   rest = t .tree;
   written = known t .0;
@@ -107,11 +119,13 @@ scan-begins k w n t = record {
 }
 
 module _ {k w : List ℕ} {fs : Script} {i p : ℕ} {ss rs : List ℕ} (s : Scanning k w fs i p ss rs) where
-  pub scan-goes : (d q : ℕ) → i < length fs → length fs ≤ 32 → d ≡ high-at k w 0 p → q ≡ node-of (told (part k w 64 (p + 1 + low-at k w 0 p))) →
+  pub scan-goes : (d q : ℕ) → i < length fs → length fs ≤ 32 → d ≡ high-at k w 0 p → q ≡ node-of
+      (told (part k w 64 (p + 1 + low-at k w 0 p))) →
       Scanning k w fs (i + 1) q (set ss i p) (set rs i d)
   scan-goes d q h few e f = go (s .rest) (s .written) (s .count) (s .room) (s .same) (s .place)
     where
-      go : (gs : Script) → ScriptWritten k w gs p → i + length gs ≡ length fs → p + total gs ≤ 1024 → ((j : ℕ) → function-at fs (i + j) ≡ function-at gs j) →
+      go : (gs : Script) → ScriptWritten k w gs p → i + length gs ≡ length fs → p + total gs ≤ 1024 →
+          ((j : ℕ) → function-at fs (i + j) ≡ function-at gs j) →
           ((j : ℕ) → start-of fs 0 (i + j) ≡ start-of gs p j) → Scanning k w fs (i + 1) q (set ss i p) (set rs i d)
       go [] x c r m l = absurd (let z : ⊥ = omega arith in z)
       go (g ∷ gs) x c r m l =
@@ -138,7 +152,8 @@ module _ {k w : List ℕ} {fs : Script} {i p : ℕ} {ss rs : List ℕ} (s : Scan
 
           second : (j : ℕ) → j < i + 1 → Dec (j ≡ i) → getD (set rs i d) j 0 ≡ result-of fs j
           second j h (yes z) =
-              rw z (getD-set-same rs i d 0 (omega (arith, s .results-long)) ∙ e ∙ high-there k w (x .0 .head) ∙ sym (ap (λ (y : Function). y .result) (rw here at (m 0))))
+              rw z (getD-set-same rs i d 0 (omega (arith, s .results-long)) ∙ e ∙ high-there k w (x .0 .head) ∙ sym
+              (ap (λ (y : Function). y .result) (rw here at (m 0))))
           second j h (no z) = getD-set-other rs i j d 0 z ∙ s .results-done j (omega (arith, z))
 
   pub scan-ends : length fs ≤ i → Headed fs (record { starts = ss; results = rs })
@@ -149,7 +164,8 @@ module _ {k w : List ℕ} {fs : Script} {i p : ℕ} {ss rs : List ℕ} (s : Scan
     where
       go : (f : ℕ) → Dec (f < i) → getD rs f 0 ≡ result-of fs f
       go f (yes l) = s .results-done f l
-      go f (no l) = s .blank f (omega (arith, l)) ∙ sym (ap (λ (y : Function). y .result) (function-past fs f (omega (arith, l))))
+      go f (no l) = s .blank f (omega (arith, l)) ∙ sym (ap (λ (y : Function). y .result) (function-past fs f
+          (omega (arith, l))))
 
 -- ---- the code of the functions from i on
 
@@ -166,19 +182,33 @@ module _ {k w : List ℕ} {n : ℕ} (t : Translatable k w n) {r : Heads} (hd : H
     where
       go : Dec (f < length (t .tree)) → getD (r .results) f 0 ≤ 4
       go (yes h) =
-          omega (arith, hd .results f, high-there k w (written-at k w (t .tree) 0 f h (known t .0) .head), high-most k w 0 (start-of (t .tree) 0 f))
-      go (no h) = omega (arith, hd .results f, ap (λ (y : Function). y .result) (function-past (t .tree) f (omega (arith, h))))
+          omega (
+            arith,
+            hd .results f,
+            high-there k w (written-at k w (t .tree) 0 f h (known t .0) .head),
+            high-most
+                k w 0 (start-of (t .tree) 0 f),
+          )
+      go (no h) = omega (
+        arith,
+        hd .results f,
+        ap (λ (y : Function). y .result) (function-past (t .tree) f
+            (omega (arith, h))),
+      )
 
   pub fits-at : (i at : ℕ) → i < n → at ≡ getD (r .starts) i 0 → Fitting k w (r .results) at
   fits-at i at h e =
       let l : i < length (t .tree) = omega (arith, known t .1 .0) in
       rw (e ∙ hd .starts i l)
-      (fitting k w (r .results) (function-at (t .tree) i) (start-of (t .tree) 0 i) (written-at k w (t .tree) 0 i l (known t .0)) (t .parts) low-results
+      (fitting k w (r .results) (function-at (t .tree) i) (start-of (t .tree) 0 i) (written-at k w (t .tree) 0 i l
+      (known t .0)) (t .parts) low-results
       (omega (arith, ends-at k w (t .tree) 0 i l, known t .1 .1)) (few-names k w (t .tree) 0 i l (t .names)))
 
-  pub code-begins : {ks : List ℕ} {os : List ℤ} → Wrote ks os ks os 4097 4097 (functions-rows (t .tree) (drop n (t .tree)))
+  pub code-begins : {ks : List ℕ} {os : List ℤ} → Wrote ks os ks os 4097 4097 (functions-rows (t .tree)
+      (drop n (t .tree)))
   unfolding functions-rows
-  code-begins = wrote-as (sym (ap (functions-rows (t .tree)) (none-left (t .tree) n (omega (arith, known t .1 .0))))) wrote-none
+  code-begins = wrote-as (sym (ap (functions-rows (t .tree)) (none-left (t .tree) n
+      (omega (arith, known t .1 .0))))) wrote-none
     where
       none-left : (gs : Script) (i : ℕ) → length gs ≤ i → drop i gs ≡ []
       none-left [] zero h = refl
@@ -186,7 +216,8 @@ module _ {k w : List ℕ} {n : ℕ} (t : Translatable k w n) {r : Heads} (hd : H
       none-left (g ∷ gs) zero h = absurd (let f : ⊥ = omega arith in f)
       none-left (g ∷ gs) (suc i) h = none-left gs i (omega arith)
 
-  pub code-goes : (i at : ℕ) {ks ks₁ ks₂ : List ℕ} {os os₁ os₂ : List ℤ} {v v₂ : ℕ} → 0 < i → i ≤ n → at ≡ getD (r .starts) (i - 1) 0 →
+  pub code-goes : (i at : ℕ) {ks ks₁ ks₂ : List ℕ} {os os₁ os₂ : List ℤ} {v v₂ : ℕ} → 0 < i → i ≤ n → at ≡ getD
+      (r .starts) (i - 1) 0 →
       Wrote ks os ks₁ os₁ 4097 v (functions-rows (t .tree) (drop i (t .tree))) →
       Wrote ks₁ os₁ ks₂ os₂ v v₂ (rows-by (λ f. getD (r .results) f 0) (read-function k w at)) →
       Wrote ks os ks₂ os₂ 4097 v₂ (functions-rows (t .tree) (drop (i - 1) (t .tree)))
@@ -194,19 +225,24 @@ module _ {k w : List ℕ} {n : ℕ} (t : Translatable k w n) {r : Heads} (hd : H
   code-goes i at {ks} {ks₁} {ks₂} {os} {os₁} {os₂} {v} {v₂} g h e x y =
       wrote-as
       (ap (λ (l : List Row). l ++ functions-rows (t .tree) (drop i (t .tree))) rows-there
-      ∙ sym (ap (functions-rows (t .tree)) (drop-at (t .tree) (i - 1) l ∙ ap (λ (j : ℕ). function-at (t .tree) (i - 1) ∷ drop j (t .tree)) (let z : suc (i - 1) ≡ i = omega arith in z))))
+      ∙ sym (ap (functions-rows (t .tree)) (drop-at (t .tree) (i - 1) l ∙ ap (λ (j : ℕ). function-at (t .tree)
+      (i - 1) ∷ drop j (t .tree)) (let z : suc (i - 1) ≡ i = omega arith in z))))
       (wrote-then x y)
     where
       l : i - 1 < length (t .tree)
       l = omega (arith, known t .1 .0)
 
-      rows-there : rows-by (λ f. getD (r .results) f 0) (read-function k w at) ≡ function-rows (t .tree) (function-at (t .tree) (i - 1))
+      rows-there : rows-by (λ f. getD (r .results) f 0) (read-function k w at) ≡ function-rows (t .tree)
+          (function-at (t .tree) (i - 1))
       rows-there =
           ap (λ (q : ℕ → ℕ). rows-by q (read-function k w at)) (fun-ext (λ f. hd .results f))
-          ∙ ap (rows-by (result-of (t .tree))) (ap (read-function k w) (e ∙ hd .starts (i - 1) l) ∙ function-is k w (function-at (t .tree) (i - 1)) (start-of (t .tree) 0 (i - 1)) (written-at k w (t .tree) 0 (i - 1) l (known t .0)))
+          ∙ ap (rows-by (result-of (t .tree))) (ap (read-function k w) (e ∙ hd .starts (i - 1) l) ∙ function-is k w
+          (function-at (t .tree) (i - 1)) (start-of (t .tree) 0 (i - 1)) (written-at k w (t .tree) 0 (i - 1) l
+          (known t .0)))
           ∙ rows-same (t .tree) (function-at (t .tree) (i - 1))
 
-  pub code-ends : (i : ℕ) {ks ks₁ : List ℕ} {os os₁ : List ℤ} {v : ℕ} → i ≤ 0 → Wrote ks os ks₁ os₁ 4097 v (functions-rows (t .tree) (drop i (t .tree))) →
+  pub code-ends : (i : ℕ) {ks ks₁ : List ℕ} {os os₁ : List ℤ} {v : ℕ} → i ≤ 0 → Wrote ks os ks₁ os₁ 4097 v
+      (functions-rows (t .tree) (drop i (t .tree))) →
       Wrote ks os ks₁ os₁ 4097 v (code (t .tree))
   unfolding code
   code-ends i h x = let e : i ≡ 0 = omega arith in rw e at x

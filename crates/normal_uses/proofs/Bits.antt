@@ -23,7 +23,8 @@ digit-back true n e = rw e
 digit-back false n e = rw e
 
 -- the digits of a byte
-module _ (a b c d e f g h : ℕ) (ha : a ≤ 1) (hb : b ≤ 1) (hc : c ≤ 1) (hd : d ≤ 1) (he : e ≤ 1) (hf : f ≤ 1) (hg : g ≤ 1) (hh : h ≤ 1) where
+module _ (a b c d e f g h : ℕ) (ha : a ≤ 1) (hb : b ≤ 1) (hc : c ≤ 1) (hd : d ≤ 1) (he : e ≤ 1) (hf : f ≤ 1)
+    (hg : g ≤ 1) (hh : h ≤ 1) where
   abbrev sum-of : ℕ
   sum-of = a + 2 * b + 4 * c + 8 * d + 16 * e + 32 * f + 64 * g + 128 * h
 
@@ -62,25 +63,42 @@ module _ (s : List Bool) (i : ℕ) where
   byte-bit : (k : ℕ) → k < 8 → bit (byte-of s i) k ≡ getD s (8 * i + k) false
   unfolding bit
   byte-bit zero h =
-      digit-back (at (8 * i)) _ (digit-0 _ _ _ _ _ _ _ _ (digit-le (at (8 * i))) (digit-le (at (8 * i + 1))) (digit-le (at (8 * i + 2))) (digit-le (at (8 * i + 3))) (digit-le (at (8 * i + 4))) (digit-le (at (8 * i + 5))) (digit-le (at (8 * i + 6))) (digit-le (at (8 * i + 7))))
+      digit-back (at (8 * i)) _ (digit-0 _ _ _ _ _ _ _ _ (digit-le (at (8 * i))) (digit-le (at (8 * i + 1)))
+      (digit-le (at (8 * i + 2))) (digit-le (at (8 * i + 3))) (digit-le (at (8 * i + 4)))
+      (digit-le (at (8 * i + 5))) (digit-le (at (8 * i + 6))) (digit-le (at (8 * i + 7))))
       ∙ ap at (let e : 8 * i ≡ 8 * i + 0 = omega arith in e)
   byte-bit (suc (zero)) h =
-      digit-back (at (8 * i + 1)) _ (digit-1 _ _ _ _ _ _ _ _ (digit-le (at (8 * i))) (digit-le (at (8 * i + 1))) (digit-le (at (8 * i + 2))) (digit-le (at (8 * i + 3))) (digit-le (at (8 * i + 4))) (digit-le (at (8 * i + 5))) (digit-le (at (8 * i + 6))) (digit-le (at (8 * i + 7))))
+      digit-back (at (8 * i + 1)) _ (digit-1 _ _ _ _ _ _ _ _ (digit-le (at (8 * i))) (digit-le (at (8 * i + 1)))
+      (digit-le (at (8 * i + 2))) (digit-le (at (8 * i + 3))) (digit-le (at (8 * i + 4)))
+      (digit-le (at (8 * i + 5))) (digit-le (at (8 * i + 6))) (digit-le (at (8 * i + 7))))
   byte-bit (suc (suc (zero))) h =
-      digit-back (at (8 * i + 2)) _ (digit-2 _ _ _ _ _ _ _ _ (digit-le (at (8 * i))) (digit-le (at (8 * i + 1))) (digit-le (at (8 * i + 2))) (digit-le (at (8 * i + 3))) (digit-le (at (8 * i + 4))) (digit-le (at (8 * i + 5))) (digit-le (at (8 * i + 6))) (digit-le (at (8 * i + 7))))
+      digit-back (at (8 * i + 2)) _ (digit-2 _ _ _ _ _ _ _ _ (digit-le (at (8 * i))) (digit-le (at (8 * i + 1)))
+      (digit-le (at (8 * i + 2))) (digit-le (at (8 * i + 3))) (digit-le (at (8 * i + 4)))
+      (digit-le (at (8 * i + 5))) (digit-le (at (8 * i + 6))) (digit-le (at (8 * i + 7))))
   byte-bit (suc (suc (suc (zero)))) h =
-      digit-back (at (8 * i + 3)) _ (digit-3 _ _ _ _ _ _ _ _ (digit-le (at (8 * i))) (digit-le (at (8 * i + 1))) (digit-le (at (8 * i + 2))) (digit-le (at (8 * i + 3))) (digit-le (at (8 * i + 4))) (digit-le (at (8 * i + 5))) (digit-le (at (8 * i + 6))) (digit-le (at (8 * i + 7))))
+      digit-back (at (8 * i + 3)) _ (digit-3 _ _ _ _ _ _ _ _ (digit-le (at (8 * i))) (digit-le (at (8 * i + 1)))
+      (digit-le (at (8 * i + 2))) (digit-le (at (8 * i + 3))) (digit-le (at (8 * i + 4)))
+      (digit-le (at (8 * i + 5))) (digit-le (at (8 * i + 6))) (digit-le (at (8 * i + 7))))
   byte-bit (suc (suc (suc (suc (zero))))) h =
-      digit-back (at (8 * i + 4)) _ (digit-4 _ _ _ _ _ _ _ _ (digit-le (at (8 * i))) (digit-le (at (8 * i + 1))) (digit-le (at (8 * i + 2))) (digit-le (at (8 * i + 3))) (digit-le (at (8 * i + 4))) (digit-le (at (8 * i + 5))) (digit-le (at (8 * i + 6))) (digit-le (at (8 * i + 7))))
+      digit-back (at (8 * i + 4)) _ (digit-4 _ _ _ _ _ _ _ _ (digit-le (at (8 * i))) (digit-le (at (8 * i + 1)))
+      (digit-le (at (8 * i + 2))) (digit-le (at (8 * i + 3))) (digit-le (at (8 * i + 4)))
+      (digit-le (at (8 * i + 5))) (digit-le (at (8 * i + 6))) (digit-le (at (8 * i + 7))))
   byte-bit (suc (suc (suc (suc (suc (zero)))))) h =
-      digit-back (at (8 * i + 5)) _ (digit-5 _ _ _ _ _ _ _ _ (digit-le (at (8 * i))) (digit-le (at (8 * i + 1))) (digit-le (at (8 * i + 2))) (digit-le (at (8 * i + 3))) (digit-le (at (8 * i + 4))) (digit-le (at (8 * i + 5))) (digit-le (at (8 * i + 6))) (digit-le (at (8 * i + 7))))
+      digit-back (at (8 * i + 5)) _ (digit-5 _ _ _ _ _ _ _ _ (digit-le (at (8 * i))) (digit-le (at (8 * i + 1)))
+      (digit-le (at (8 * i + 2))) (digit-le (at (8 * i + 3))) (digit-le (at (8 * i + 4)))
+      (digit-le (at (8 * i + 5))) (digit-le (at (8 * i + 6))) (digit-le (at (8 * i + 7))))
   byte-bit (suc (suc (suc (suc (suc (suc (zero))))))) h =
-      digit-back (at (8 * i + 6)) _ (digit-6 _ _ _ _ _ _ _ _ (digit-le (at (8 * i))) (digit-le (at (8 * i + 1))) (digit-le (at (8 * i + 2))) (digit-le (at (8 * i + 3))) (digit-le (at (8 * i + 4))) (digit-le (at (8 * i + 5))) (digit-le (at (8 * i + 6))) (digit-le (at (8 * i + 7))))
+      digit-back (at (8 * i + 6)) _ (digit-6 _ _ _ _ _ _ _ _ (digit-le (at (8 * i))) (digit-le (at (8 * i + 1)))
+      (digit-le (at (8 * i + 2))) (digit-le (at (8 * i + 3))) (digit-le (at (8 * i + 4)))
+      (digit-le (at (8 * i + 5))) (digit-le (at (8 * i + 6))) (digit-le (at (8 * i + 7))))
   byte-bit (suc (suc (suc (suc (suc (suc (suc (zero)))))))) h =
-      digit-back (at (8 * i + 7)) _ (digit-7 _ _ _ _ _ _ _ _ (digit-le (at (8 * i))) (digit-le (at (8 * i + 1))) (digit-le (at (8 * i + 2))) (digit-le (at (8 * i + 3))) (digit-le (at (8 * i + 4))) (digit-le (at (8 * i + 5))) (digit-le (at (8 * i + 6))) (digit-le (at (8 * i + 7))))
+      digit-back (at (8 * i + 7)) _ (digit-7 _ _ _ _ _ _ _ _ (digit-le (at (8 * i))) (digit-le (at (8 * i + 1)))
+      (digit-le (at (8 * i + 2))) (digit-le (at (8 * i + 3))) (digit-le (at (8 * i + 4)))
+      (digit-le (at (8 * i + 5))) (digit-le (at (8 * i + 6))) (digit-le (at (8 * i + 7))))
   byte-bit (suc (suc (suc (suc (suc (suc (suc (suc k)))))))) h = absurd (let f : ⊥ = omega arith in f)
 
-pub seven : (k : ℕ) → k < 8 → (k ≡ 0 → ⊥) → (k ≡ 1 → ⊥) → (k ≡ 2 → ⊥) → (k ≡ 3 → ⊥) → (k ≡ 4 → ⊥) → (k ≡ 5 → ⊥) → (k ≡ 6 → ⊥) → k ≡ 7
+pub seven : (k : ℕ) → k < 8 → (k ≡ 0 → ⊥) → (k ≡ 1 → ⊥) → (k ≡ 2 → ⊥) → (k ≡ 3 → ⊥) → (k ≡ 4 → ⊥) → (k ≡ 5 → ⊥) →
+    (k ≡ 6 → ⊥) → k ≡ 7
 seven zero h n₀ n₁ n₂ n₃ n₄ n₅ n₆ = absurd (n₀ refl)
 seven (suc zero) h n₀ n₁ n₂ n₃ n₄ n₅ n₆ = absurd (n₁ refl)
 seven (suc (suc zero)) h n₀ n₁ n₂ n₃ n₄ n₅ n₆ = absurd (n₂ refl)
@@ -104,7 +122,8 @@ storing-none t slot s h =
     record { long = h; here = λ j l. absurd (let f : ⊥ = omega arith in f); off = λ z j l n. refl }
 
 module _ {t₀ t : List ℕ} {slot : ℕ} {s : List Bool} {i : ℕ} (v : Storing t₀ t slot s i) where
-  pub storing-set : (b : ℕ) → b ≡ byte-of s i → i < 32 → slot < 512 → Storing t₀ (set t (32 * slot + i) b) slot s (i + 1)
+  pub storing-set : (b : ℕ) → b ≡ byte-of s i → i < 32 → slot < 512 → Storing t₀ (set t (32 * slot + i) b) slot s
+      (i + 1)
   storing-set b e h g = record {
     long = length-set t (32 * slot + i) b ∙ v .long;
     here = λ j l. go j l (ℕ-discrete j i);
@@ -113,16 +132,19 @@ module _ {t₀ t : List ℕ} {slot : ℕ} {s : List Bool} {i : ℕ} (v : Storing
     where
       go : (j : ℕ) → j < i + 1 → Dec (j ≡ i) → getD (set t (32 * slot + i) b) (32 * slot + j) 0 ≡ byte-of s j
       go j l (yes p) = rw p (getD-set-same t (32 * slot + i) b 0 (omega (arith, v .long)) ∙ e)
-      go j l (no f) = getD-set-other t (32 * slot + i) (32 * slot + j) b 0 (λ p. f (omega arith)) ∙ v .here j (omega (arith, f))
+      go j l (no f) = getD-set-other t (32 * slot + i) (32 * slot + j) b 0 (λ p. f (omega arith)) ∙ v .here j
+          (omega (arith, f))
 
   pub stored : length s ≡ 256 → i ≡ 32 → sets-of t ≡ updated (sets-of t₀) slot (set-of s)
   unfolding sets-of updated
   stored h e = fun-ext (λ z. go z (ℕ-discrete slot z))
     where
-      own : (y : ℕ) → Dec (y < 256) → cond (ltb y 256) (bit (getD t (32 * slot + y / 8) 0) (y % 8)) false ≡ getD s y false
+      own : (y : ℕ) → Dec (y < 256) → cond (ltb y 256) (bit (getD t (32 * slot + y / 8) 0) (y % 8)) false ≡ getD s y
+          false
       own y (yes l) =
           rw (lt-ltb y 256 l, v .here (y / 8) (omega arith))
-          (byte-bit s (y / 8) (y % 8) (omega arith) ∙ ap (λ (n : ℕ). getD s n false) (let f : 8 * (y / 8) + y % 8 ≡ y = omega arith in f))
+          (byte-bit s (y / 8) (y % 8) (omega arith) ∙ ap (λ (n : ℕ). getD s n false) (let f : 8 * (y / 8) + y % 8 ≡
+          y = omega arith in f))
       own y (no f) = rw (le-ltb y 256 (omega (arith, f))) (sym (List·getD-eq-default s false (omega (arith, f))))
 
       go : (z : ℕ) → Dec (slot ≡ z) →
@@ -147,7 +169,8 @@ pub loading-none : (t : List ℕ) (slot : ℕ) (a : List Bool) → Loading t slo
 loading-none t slot a = record { made = making-none (sets-of t slot) a }
 
 module _ {t : List ℕ} {slot : ℕ} {a r : List Bool} {y : ℕ} where
-  pub loading-set : Loading t slot a r y → (b : ℕ) (v : Bool) → length a ≡ 256 → y < 256 → b ≡ getD t (32 * slot + y / 8) 0 →
+  pub loading-set : Loading t slot a r y → (b : ℕ) (v : Bool) → length a ≡ 256 → y < 256 → b ≡ getD t (32 * slot + y
+      / 8) 0 →
       v ≡ bit b (y % 8) → Loading t slot a (set r y v) (y + 1)
   unfolding sets-of
   loading-set l b v h g e f = record { made = making-set (l .made) v (omega arith) (rw (lt-ltb y 256 g, f, e)) }

@@ -51,7 +51,8 @@ one-split false true false = refl
 one-split false false true = refl
 one-split false false false = refl
 
-if-split : (g t k j e x a : Bool) → g || ((t || ((not x && a) && not k)) || (e || ((not x && a) && not j))) ≡ (g || ((t || ((not x && false) && not k)) || (e || ((not x && false) && not j)))) || (a && not (x || (k && j)))
+if-split : (g t k j e x a : Bool) → g || ((t || ((not x && a) && not k)) || (e || ((not x && a) && not j))) ≡
+    (g || ((t || ((not x && false) && not k)) || (e || ((not x && false) && not j)))) || (a && not (x || (k && j)))
 if-split true t k j e x a = refl
 if-split false true k j e x a = refl
 if-split false false true true true true true = refl
@@ -87,7 +88,8 @@ if-split false false false false false true false = refl
 if-split false false false false false false true = refl
 if-split false false false false false false false = refl
 
-pub branches : (g t e w k j : Bool) → g || (t || (e || (w && not (k && not (k && not j))))) ≡ g || ((t || (w && not k)) || (e || (w && not j)))
+pub branches : (g t e w k j : Bool) → g || (t || (e || (w && not (k && not (k && not j))))) ≡ g ||
+    ((t || (w && not k)) || (e || (w && not j)))
 branches true t e w k j = refl
 branches false true e w k j = refl
 branches false false true true true true = refl
@@ -129,7 +131,8 @@ among-split (a ∷ us) A y = rw (among-split us A y) (go (is a y) (among us empt
     go true m a = refl
     go false m a = refl
 
-atoms-split : (us : List Atom) (x : ℕ) (A : Set) (y : ℕ) → among us (A ∖ x) y ≡ among us (empty ∖ x) y || (A y && not (eqb x y))
+atoms-split : (us : List Atom) (x : ℕ) (A : Set) (y : ℕ) → among us (A ∖ x) y ≡ among us (empty ∖ x) y ||
+    (A y && not (eqb x y))
 atoms-split us x A y =
     rw (among-split us (A ∖ x) y, among-split us (empty ∖ x) y) (one-split (among us empty y) (eqb x y) (A y))
 

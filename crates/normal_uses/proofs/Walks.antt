@@ -37,7 +37,8 @@ pub record Begun (F : Plain) (e : ℕ) (s k : List Bool) : Type 0 where
   pub used : set-of s ≡ is (meant atom) ∪ set-of k
   pub none : set-of k ≡ empty
 
-pub begun : (F : Plain) (e : ℕ) (s k : List Bool) (a : Atom) (v : ℕ) → v ≡ getD (F .rows) (e + 1) 0 → a ≡ placed (F .operands) v →
+pub begun : (F : Plain) (e : ℕ) (s k : List Bool) (a : Atom) (v : ℕ) → v ≡ getD (F .rows) (e + 1) 0 → a ≡ placed
+    (F .operands) v →
     set-of s ≡ is (meant a) ∪ set-of k → set-of k ≡ empty → Begun F e s k
 begun F e s k a v h g u n = record { atom = a; ends = record { place = v; at = h; is-atom = g }; used = u; none = n }
 
@@ -61,7 +62,8 @@ pub record Walking (F : Plain) (d e left q : ℕ) (s k : List Bool) (t₀ t : Li
   pub few : left ≤ 4096
 
 module _ {F : Plain} {d e : ℕ} {t₀ : List ℕ} where
-  unfoldable pub walk-begins : {s k : List Bool} → Begun F e s k → (d ≡ 0 → ⊥) → e ≤ 4096 → Walking F d e 4096 e s k t₀ t₀
+  unfoldable pub walk-begins : {s k : List Bool} → Begun F e s k → (d ≡ 0 → ⊥) → e ≤ 4096 → Walking F d e 4096 e s k
+      t₀ t₀
   unfolding bound noted
   walk-begins b h g = record {
     tree = end-at F e;
@@ -73,7 +75,8 @@ module _ {F : Plain} {d e : ℕ} {t₀ : List ℕ} where
   }
 
   module _ {left q : ℕ} {s k : List Bool} {t : List ℕ} (w : Walking F d e left q s k t₀ t) where
-    unfoldable pub walk-goes : (p : ℕ) (l : Line) (t₁ : List ℕ) (r : Effect) → 0 < left → p ≡ note (F .notes) q → p < q →
+    unfoldable pub walk-goes : (p : ℕ) (l : Line) (t₁ : List ℕ) (r : Effect) → 0 < left → p ≡ note (F .notes) q → p
+        < q →
         l ≡ line-at (F .operands) (F .rows) p →
         LineNoted (as-line F (tree-to F (d - 1)) p q l) (set-of s) (set-of k) t t₁ r →
         Walking F d e (left - 1) p (r .uses) (r .binds) t₀ t₁
@@ -91,7 +94,8 @@ module _ {F : Plain} {d e : ℕ} {t₀ : List ℕ} where
       few = omega (arith, w .few);
     }
 
-    pub walk-stops : (p : ℕ) → p ≡ note (F .notes) q → q ≤ p → TreeNoted (tree-to F d e) t₀ t (record { uses = s; binds = k })
+    pub walk-stops : (p : ℕ) → p ≡ note (F .notes) q → q ≤ p → TreeNoted (tree-to F d e) t₀ t
+        (record { uses = s; binds = k })
     walk-stops p f h = rw (w .whole ∙ back-stops F (tree-to F (d - 1)) left q p (w .tree) f h) (w .done)
 
     pub walk-ends : left ≤ 0 → TreeNoted (tree-to F d e) t₀ t (record { uses = s; binds = k })
@@ -138,7 +142,8 @@ abbrev pub Done : Plain → ℕ → Set → Set → Effect → Line → ℕ → 
 Done F p U B r l x = (set-of (r .uses) ≡ line-uses (F .operands) (F .rows) p l U) × (set-of (r .binds) ≡ only x ∪ B)
 
 module _ (F : Plain) (T : ℕ → Tree) (p q : ℕ) (U B : Set) (t : List ℕ) (r : Effect) where
-  pub noted-operation : (x k : ℕ) (a b : Atom) → Done F p U B r (Operation x k a b) x → LineNoted (as-line F T p q (Operation x k a b)) U B t t r
+  pub noted-operation : (x k : ℕ) (a b : Atom) → Done F p U B r (Operation x k a b) x → LineNoted (as-line F T p q
+      (Operation x k a b)) U B t t r
   unfolding live bound noted as-line line-uses
   noted-operation x k a b h = record { used = h .0; binds = h .1; table = refl }
 
@@ -146,15 +151,18 @@ module _ (F : Plain) (T : ℕ → Tree) (p q : ℕ) (U B : Set) (t : List ℕ) (
   unfolding live bound noted as-line line-uses
   noted-call x f m h = record { used = h .0; binds = h .1; table = refl }
 
-  pub noted-literal : (x d m : ℕ) → Done F p U B r (Literal x d m) x → LineNoted (as-line F T p q (Literal x d m)) U B t t r
+  pub noted-literal : (x d m : ℕ) → Done F p U B r (Literal x d m) x → LineNoted (as-line F T p q (Literal x d m)) U
+      B t t r
   unfolding live bound noted as-line line-uses
   noted-literal x d m h = record { used = h .0; binds = h .1; table = refl }
 
-  pub noted-index : (x : ℕ) (a b : Atom) → Done F p U B r (Index x a b) x → LineNoted (as-line F T p q (Index x a b)) U B t t r
+  pub noted-index : (x : ℕ) (a b : Atom) → Done F p U B r (Index x a b) x → LineNoted (as-line F T p q
+      (Index x a b)) U B t t r
   unfolding live bound noted as-line line-uses
   noted-index x a b h = record { used = h .0; binds = h .1; table = refl }
 
-  pub noted-length : (x : ℕ) (a : Atom) → Done F p U B r (Length x a) x → LineNoted (as-line F T p q (Length x a)) U B t t r
+  pub noted-length : (x : ℕ) (a : Atom) → Done F p U B r (Length x a) x → LineNoted (as-line F T p q (Length x a)) U
+      B t t r
   unfolding live bound noted as-line line-uses
   noted-length x a h = record { used = h .0; binds = h .1; table = refl }
 
@@ -171,7 +179,8 @@ module _ (F : Plain) (T : ℕ → Tree) (p q : ℕ) (U B : Set) (x : ℕ) (g : A
   unfolding live
   if-used O K J R S M N L o k j r s m n =
       rw (n, m, s, r, j, k, o)
-      (fun-ext (λ y. branches (is (meant g) y) (uses (T c) y) (uses (T e) y) ((U ∖ x) y) (bound (T c) y) (bound (T e) y)
+      (fun-ext (λ y. branches (is (meant g) y) (uses (T c) y) (uses (T e) y) ((U ∖ x) y) (bound (T c) y)
+      (bound (T e) y)
       ∙ rw (← live-split (T c) (U ∖ x) y, ← live-split (T e) (U ∖ x) y)))
 
   if-binds : (O K M N : Set) → O ≡ bound (T c) ⊖ bound (T e) → K ≡ bound (T c) ⊖ O → M ≡ K ∪ B → N ≡ only x ∪ M →
@@ -180,17 +189,20 @@ module _ (F : Plain) (T : ℕ → Tree) (p q : ℕ) (U B : Set) (x : ℕ) (g : A
   if-binds O K M N o k m n =
       rw (n, m, k, o) (fun-ext (λ y. both-bind (eqb x y) (bound (T c) y) (bound (T e) y) (B y)))
 
-  pub noted-if : {t t₁ t₂ : List ℕ} (t₃ : List ℕ) {t₄ : List ℕ} {re rt r : Effect} → TreeNoted (T e) t t₁ re → TreeNoted (T c) t₁ t₂ rt →
+  pub noted-if : {t t₁ t₂ : List ℕ} (t₃ : List ℕ) {t₄ : List ℕ} {re rt r : Effect} → TreeNoted (T e) t t₁ re →
+      TreeNoted (T c) t₁ t₂ rt →
       sets-of t₃ ≡ updated (sets-of t₂) (2 * x) (set-of (rt .uses)) →
       sets-of t₄ ≡ updated (sets-of t₃) (2 * x + 1) (set-of (re .uses)) →
-      (O K J R S M L : Set) → O ≡ set-of (rt .binds) ⊖ set-of (re .binds) → K ≡ set-of (rt .binds) ⊖ O → J ≡ U ∖ x → R ≡ J ⊖ K →
+      (O K J R S M L : Set) → O ≡ set-of (rt .binds) ⊖ set-of (re .binds) → K ≡ set-of (rt .binds) ⊖ O → J ≡ U ∖ x →
+      R ≡ J ⊖ K →
       S ≡ set-of (re .uses) ∪ R → M ≡ set-of (rt .uses) ∪ S → set-of (r .uses) ≡ is (meant g) ∪ M →
       L ≡ K ∪ B → set-of (r .binds) ≡ only x ∪ L →
       LineNoted (as-line F T p q (If x g)) U B t t₄ r
   unfolding noted
   noted-if _ E D t₃ t₄ O K J R S M L o k j r s m n l b =
       rw if-is (record {
-        used = if-used O K J R S M _ L (rw (← D .binds, ← E .binds) o) (rw (← D .binds) k) j r (rw (← E .used) s) (rw (← D .used) m) n;
+        used = if-used O K J R S M _ L (rw (← D .binds, ← E .binds) o) (rw (← D .binds) k) j r (rw (← E .used) s)
+            (rw (← D .used) m) n;
         binds = if-binds O K L _ (rw (← D .binds, ← E .binds) o) (rw (← D .binds) k) l b;
         table = t₄ ∙ rw (t₃, D .used, E .used, D .table, E .table);
       })

@@ -67,7 +67,8 @@ three : (a b c d e f t : List Row) → a ≡ d → b ≡ e → c ≡ f ++ t → 
 three a b c d e f t g h i = rw (g, h, i) (simp append-assoc)
 
 module _ (Γ : NameDepths) where
-  rows-handing : (us : List Atom) (x : ℕ) (A : Set) (l : Line) (r : Row) (k : Tree) → line-rows l ≡ r ∷ map atom-row us →
+  rows-handing : (us : List Atom) (x : ℕ) (A : Set) (l : Line) (r : Row) (k : Tree) → line-rows l ≡ r ∷ map atom-row
+      us →
       (retain-rows (handed-again Γ us A) ++ ((r ∷ map atom-row us) ++ release-rows (dying Γ (only x) A))) ++ rows k
       ≡ rows (retain-all (handed-again Γ us A) (line l (release-all (dying Γ (only x) A) k)))
   unfolding rows
@@ -90,7 +91,8 @@ module _ (Γ : NameDepths) where
       walked-right (line l t) L h =
           rw (lives-right U t L (h .1), walked-right t L (h .1)) (part-right l (live t L) (annotate Γ t L) (h .0))
 
-      part-right : (l : Line) (A : Set) (k : Tree) → RightLine U l → part U Γ l A ++ rows k ≡ rows (annotate-line Γ l A k)
+      part-right : (l : Line) (A : Set) (k : Tree) → RightLine U l → part U Γ l A ++ rows k ≡ rows (annotate-line Γ
+          l A k)
       part-right (operation x o a b) A k h = refl
       part-right (call x f us) A k h = rows-handing us x A (call x f us) (row 8 (x + 256 * f)) k refl
       part-right (literal x d us) A k h =
@@ -102,16 +104,31 @@ module _ (Γ : NameDepths) where
       part-right (length-of x a) A k h =
           sym (ap (λ (l : List Row). row 11 x ∷ (atom-row a ∷ l)) (rows-releases (dying Γ (is a) A) k))
       part-right (if-else x g t e) A k h =
-          rw (h .0, h .1, lives-right U t (A ∖ x) (h .2), lives-right U e (A ∖ x) (h .3), walked-right t (A ∖ x) (h .2), walked-right e (A ∖ x) (h .3))
+          rw (
+            h .0,
+            h .1,
+            lives-right U t (A ∖ x) (h .2),
+            lives-right U e (A ∖ x) (h .3),
+            walked-right t (A ∖ x)
+                (h .2),
+            walked-right e (A ∖ x) (h .3),
+          )
           (sym (ap (λ (l : List Row). row 12 x ∷ (atom-row g ∷ l)) (three _ _ _ _ _ _ (rows k)
           (rows-releases (dying Γ (uses e) (live t (A ∖ x))) (annotate Γ t (A ∖ x)))
           (rows-releases (dying Γ (uses t) (live e (A ∖ x))) (annotate Γ e (A ∖ x)))
           (rows-releases (dying Γ (only x) A) k))))
       part-right (map-over x p a t) A k h =
-          rw (h .0, lives-right U t (after-map x p (uses t) A) (h .1), walked-right t (after-map x p (uses t) A) (h .1))
+          rw (
+            h .0,
+            lives-right U t (after-map x p (uses t) A) (h .1),
+            walked-right t (after-map x p (uses t) A)
+                (h .1),
+          )
           (sym (ap (λ (l : List Row). row 13 (x + 256 * p) ∷ (atom-row a ∷ l)) (two _ _ _ _ (rows k)
-          (rows-retains (with-if (is-array Γ p) p []) (release-all (dying Γ (only p) (live t (after-map x p (uses t) A))) (annotate Γ t (after-map x p (uses t) A)))
-          ∙ ap (λ (l : List Row). retain-rows (with-if (is-array Γ p) p []) ++ l) (rows-releases (dying Γ (only p) (live t (after-map x p (uses t) A))) (annotate Γ t (after-map x p (uses t) A))))
+          (rows-retains (with-if (is-array Γ p) p []) (release-all (dying Γ (only p) (live t (after-map x p (uses t)
+          A))) (annotate Γ t (after-map x p (uses t) A)))
+          ∙ ap (λ (l : List Row). retain-rows (with-if (is-array Γ p) p []) ++ l) (rows-releases (dying Γ (only p)
+          (live t (after-map x p (uses t) A))) (annotate Γ t (after-map x p (uses t) A))))
           (rows-releases (dying Γ (is a ∪ uses t ∖ p ∪ only x) A) k))))
         where
           two : (a c d f t : List Row) → a ≡ d → c ≡ f ++ t → a ++ c ≡ (d ++ f) ++ t

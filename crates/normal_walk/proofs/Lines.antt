@@ -26,21 +26,26 @@ use Rattle.normal_walk.proofs.Trees.{done-at}
 
 module _ (F : Plain) (T : ℕ → Tree) (U : Sets) (Γ : NameDepths) (p q : ℕ) (A : Set)
     {k k₁ : List ℕ} {o o₁ : List ℤ} {w v : ℕ} {s : List Bool} where
-  pub operation-done : (x kind : ℕ) (a b : Atom) → set-of s ≡ line-uses (F .operands) (F .rows) p (Operation x kind a b) A →
+  pub operation-done : (x kind : ℕ) (a b : Atom) → set-of s ≡ line-uses (F .operands) (F .rows) p (Operation x kind
+      a b) A →
       Wrote k o k₁ o₁ w v (operating Γ (operation-kind (operation-of kind)) x (meant a) (meant b)) →
-      Done (before U (as-line F T p q (Operation x kind a b)) A) (part U Γ (as-line F T p q (Operation x kind a b)) A) k o k₁ o₁ w (done-at s v)
+      Done (before U (as-line F T p q (Operation x kind a b)) A) (part U Γ (as-line F T p q (Operation x kind a b))
+      A) k o k₁ o₁ w (done-at s v)
   unfolding lives walked as-line line-uses
   operation-done x kind a b e y = record { seen = e; wrote = y }
 
   pub call-done : (x f m : ℕ) → set-of s ≡ line-uses (F .operands) (F .rows) p (Call x f m) A →
       Wrote k o k₁ o₁ w v (handing Γ x (row 8 (x + 256 * f)) (atoms-at (F .operands) (F .rows) (p + 1) m) A) →
-      Done (before U (as-line F T p q (Call x f m)) A) (part U Γ (as-line F T p q (Call x f m)) A) k o k₁ o₁ w (done-at s v)
+      Done (before U (as-line F T p q (Call x f m)) A) (part U Γ (as-line F T p q (Call x f m)) A) k o k₁ o₁ w
+      (done-at s v)
   unfolding lives walked as-line line-uses
   call-done x f m e y = record { seen = e; wrote = y }
 
   pub literal-done : (x d m : ℕ) → set-of s ≡ line-uses (F .operands) (F .rows) p (Literal x d m) A →
-      Wrote k o k₁ o₁ w v (handing Γ x (row 9 (x + 256 * m + 65536 * d)) (atoms-at (F .operands) (F .rows) (p + 1) m) A) →
-      Done (before U (as-line F T p q (Literal x d m)) A) (part U Γ (as-line F T p q (Literal x d m)) A) k o k₁ o₁ w (done-at s v)
+      Wrote k o k₁ o₁ w v (handing Γ x (row 9 (x + 256 * m + 65536 * d)) (atoms-at (F .operands) (F .rows) (p + 1)
+      m) A) →
+      Done (before U (as-line F T p q (Literal x d m)) A) (part U Γ (as-line F T p q (Literal x d m)) A) k o k₁ o₁ w
+      (done-at s v)
   unfolding lives walked as-line line-uses
   literal-done x d m e y = record {
     seen = e;
@@ -52,13 +57,15 @@ module _ (F : Plain) (T : ℕ → Tree) (U : Sets) (Γ : NameDepths) (p q : ℕ)
 
   pub index-done : (x : ℕ) (a b : Atom) → set-of s ≡ line-uses (F .operands) (F .rows) p (Index x a b) A →
       Wrote k o k₁ o₁ w v (indexing Γ x (meant a) (meant b) A) →
-      Done (before U (as-line F T p q (Index x a b)) A) (part U Γ (as-line F T p q (Index x a b)) A) k o k₁ o₁ w (done-at s v)
+      Done (before U (as-line F T p q (Index x a b)) A) (part U Γ (as-line F T p q (Index x a b)) A) k o k₁ o₁ w
+      (done-at s v)
   unfolding lives walked as-line line-uses
   index-done x a b e y = record { seen = e; wrote = y }
 
   pub length-done : (x : ℕ) (a : Atom) → set-of s ≡ line-uses (F .operands) (F .rows) p (Length x a) A →
       Wrote k o k₁ o₁ w v (measuring Γ x (meant a) A) →
-      Done (before U (as-line F T p q (Length x a)) A) (part U Γ (as-line F T p q (Length x a)) A) k o k₁ o₁ w (done-at s v)
+      Done (before U (as-line F T p q (Length x a)) A) (part U Γ (as-line F T p q (Length x a)) A) k o k₁ o₁ w
+      (done-at s v)
   unfolding lives walked as-line line-uses
   length-done x a e y = record { seen = e; wrote = y }
 
@@ -73,13 +80,15 @@ module _ (F : Plain) (T : ℕ → Tree) (U : Sets) (Γ : NameDepths) (q : ℕ) (
   unfolding walked as-line
   if-rows x g e f c E W B he hf hc hW hE b = rw (hE, hW, b, hc, hf, he)
 
-  if-seen : (x : ℕ) (g : Atom) (e f c : ℕ) (B Z Y J R : Set) → e ≡ q - 2 → f ≡ start (F .notes) 4096 e → c ≡ f - 2 → B ≡ A ∖ x →
+  if-seen : (x : ℕ) (g : Atom) (e f c : ℕ) (B Z Y J R : Set) → e ≡ q - 2 → f ≡ start (F .notes) 4096 e → c ≡ f - 2 →
+      B ≡ A ∖ x →
       Z ≡ lives U (T e) B → Y ≡ lives U (T c) B → J ≡ Y ∪ Z → R ≡ is (meant g) ∪ J →
       R ≡ before U (as-line F T 0 q (If x g)) A
   unfolding lives as-line
   if-seen x g e f c B Z Y J R he hf hc b z y j r = rw (r, j, y, z, b, hc, hf, he)
 
-  map-rows : (x y : ℕ) (a : Atom) (e : ℕ) (I O B D N J P S : Set) → e ≡ q - 2 → I ≡ U (first-of x) → O ≡ I ∖ y → B ≡ A ∖ x →
+  map-rows : (x y : ℕ) (a : Atom) (e : ℕ) (I O B D N J P S : Set) → e ≡ q - 2 → I ≡ U (first-of x) → O ≡ I ∖ y → B ≡
+      A ∖ x →
       D ≡ O ∪ B → N ≡ empty → J ≡ only x ∪ N → P ≡ O ∪ J → S ≡ is (meant a) ∪ P →
       (row 13 (x + 256 * y) ∷ []) ++ ((atom-row (meant a) ∷ []) ++ (retain-rows (with-if (is-array Γ y) y [])
       ++ (release-rows (dying Γ (only y) (lives U (T e) D)) ++ (walked U Γ (T e) D ++ release-rows (dying Γ S A)))))
@@ -98,7 +107,8 @@ module _ (F : Plain) (T : ℕ → Tree) (U : Sets) (Γ : NameDepths) (q : ℕ) (
       {k k₁ k₂ k₃ k₄ k₅ : List ℕ} {o o₁ o₂ o₃ o₄ o₅ : List ℤ} {w w₁ v₂ v₃ : ℕ} {r₁ r₂ : Walked} →
       Wrote k o k₁ o₁ w w₁ (release-rows (dying Γ (only x) A)) →
       Done (lives U (T e) B) (release-rows (dying Γ W (lives U (T e) B)) ++ walked U Γ (T e) B) k₁ o₁ k₂ o₂ w₁ r₁ →
-      Done (lives U (T c) B) (release-rows (dying Γ E (lives U (T c) B)) ++ walked U Γ (T c) B) k₂ o₂ k₃ o₃ (r₁ .at) r₂ →
+      Done (lives U (T c) B) (release-rows (dying Γ E (lives U (T c) B)) ++ walked U Γ (T c) B) k₂ o₂ k₃ o₃ (r₁ .at)
+      r₂ →
       Wrote k₃ o₃ k₄ o₄ (r₂ .at) v₂ (atom-row (meant g) ∷ []) → Wrote k₄ o₄ k₅ o₅ v₂ v₃ (row 12 x ∷ []) →
       (J : Set) (s : List Bool) → J ≡ set-of (r₂ .names) ∪ set-of (r₁ .names) → set-of s ≡ is (meant g) ∪ J →
       Done (before U (as-line F T 0 q (If x g)) A) (part U Γ (as-line F T 0 q (If x g)) A) k o k₅ o₅ w (done-at s v₃)
@@ -108,15 +118,18 @@ module _ (F : Plain) (T : ℕ → Tree) (U : Sets) (Γ : NameDepths) (q : ℕ) (
         (wrote-then (wrote-then (wrote-then (wrote-then y₁ (d₁ .wrote)) (d₂ .wrote)) y₂) y₃);
   }
 
-  pub map-done : (x y : ℕ) (a : Atom) (e : ℕ) (I O B D N J P S : Set) → e ≡ q - 2 → I ≡ U (2 * x) → O ≡ I ∖ y → B ≡ A ∖ x →
+  pub map-done : (x y : ℕ) (a : Atom) (e : ℕ) (I O B D N J P S : Set) → e ≡ q - 2 → I ≡ U (2 * x) → O ≡ I ∖ y → B ≡
+      A ∖ x →
       D ≡ O ∪ B → N ≡ empty → J ≡ only x ∪ N → P ≡ O ∪ J → S ≡ is (meant a) ∪ P →
       {k k₁ k₂ k₃ k₄ k₅ k₆ : List ℕ} {o o₁ o₂ o₃ o₄ o₅ o₆ : List ℤ} {w w₁ w₂ w₃ w₄ w₅ : ℕ} {t : Walked} →
-      Wrote k o k₁ o₁ w w₁ (release-rows (dying Γ S A)) → Done (lives U (T e) D) (walked U Γ (T e) D) k₁ o₁ k₂ o₂ w₁ t →
+      Wrote k o k₁ o₁ w w₁ (release-rows (dying Γ S A)) → Done (lives U (T e) D) (walked U Γ (T e) D) k₁ o₁ k₂ o₂ w₁
+      t →
       Wrote k₂ o₂ k₃ o₃ (t .at) w₂ (release-rows (dying Γ (only y) (set-of (t .names)))) →
       Wrote k₃ o₃ k₄ o₄ w₂ w₃ (retain-rows (with-if (is-array Γ y) y [])) →
       Wrote k₄ o₄ k₅ o₅ w₃ w₄ (atom-row (meant a) ∷ []) → Wrote k₅ o₅ k₆ o₆ w₄ w₅ (row 13 (x + 256 * y) ∷ []) →
       (s : List Bool) → set-of s ≡ is (meant a) ∪ D →
-      Done (before U (as-line F T 0 q (Map x y a)) A) (part U Γ (as-line F T 0 q (Map x y a)) A) k o k₆ o₆ w (done-at s w₅)
+      Done (before U (as-line F T 0 q (Map x y a)) A) (part U Γ (as-line F T 0 q (Map x y a)) A) k o k₆ o₆ w
+      (done-at s w₅)
   map-done x y a e I O B D N J P S he hI hO hB hD n hJ hP hS y₁ d y₂ y₃ y₄ y₅ s r = record {
     seen = map-seen x y a e I O B D _ hI hO hB hD r;
     wrote = wrote-as (map-rows x y a e I O B D N J P S he hI hO hB hD n hJ hP hS)

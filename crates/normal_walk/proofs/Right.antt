@@ -44,33 +44,42 @@ mutual
   keeps (S.name x) μ n k U z h = refl
   keeps (S.operation o a b) μ n k U z h =
       keeps a μ n _ U z (off-part n _ n (n + fresh a) z h (omega arith) (omega arith))
-      ∙ keeps b μ (n + fresh a) _ U z (off-part n _ (n + fresh a) (n + fresh a + fresh b) z h (omega arith) (omega arith))
+      ∙ keeps b μ (n + fresh a) _ U z (off-part n _ (n + fresh a) (n + fresh a + fresh b) z h (omega arith)
+      (omega arith))
   keeps (S.let-in x a b) μ n k U z h =
       keeps a μ n _ U z (off-part n _ n (n + fresh a) z h (omega arith) (omega arith))
-      ∙ keeps b (updated μ x (atom a μ n)) (n + fresh a) k U z (off-part n _ (n + fresh a) (n + fresh a + fresh b) z h (omega arith) (omega arith))
-  keeps (S.call f es) μ n k U z h = all-keeps es μ n _ U z (off-part n _ n (n + fresh-all es) z h (omega arith) (omega arith))
-  keeps (S.literal d es) μ n k U z h = all-keeps es μ n _ U z (off-part n _ n (n + fresh-all es) z h (omega arith) (omega arith))
+      ∙ keeps b (updated μ x (atom a μ n)) (n + fresh a) k U z (off-part n _ (n + fresh a) (n + fresh a + fresh b) z
+      h (omega arith) (omega arith))
+  keeps (S.call f es) μ n k U z h = all-keeps es μ n _ U z (off-part n _ n (n + fresh-all es) z h (omega arith)
+      (omega arith))
+  keeps (S.literal d es) μ n k U z h = all-keeps es μ n _ U z (off-part n _ n (n + fresh-all es) z h (omega arith)
+      (omega arith))
   keeps (S.index a b) μ n k U z h =
       keeps a μ n _ U z (off-part n _ n (n + fresh a) z h (omega arith) (omega arith))
-      ∙ keeps b μ (n + fresh a) _ U z (off-part n _ (n + fresh a) (n + fresh a + fresh b) z h (omega arith) (omega arith))
+      ∙ keeps b μ (n + fresh a) _ U z (off-part n _ (n + fresh a) (n + fresh a + fresh b) z h (omega arith)
+      (omega arith))
   keeps (S.length-of a) μ n k U z h = keeps a μ n _ U z (off-part n _ n (n + fresh a) z h (omega arith) (omega arith))
   keeps (S.if-else a b c) μ n k U z h =
       keeps a μ n _ U z (off-part n _ n (n + fresh a) z h (omega arith) (omega arith))
       ∙ update-other _ (second-of (n + fresh a)) z _ (λ e. ⊎-elim (λ l. omega arith) (λ l. omega arith) h)
       ∙ update-other _ (first-of (n + fresh a)) z _ (λ e. ⊎-elim (λ l. omega arith) (λ l. omega arith) h)
-      ∙ keeps b μ (n + fresh a + 1) _ _ z (off-part n _ (n + fresh a + 1) (n + fresh a + 1 + fresh b) z h (omega arith) (omega arith))
-      ∙ keeps c μ (n + fresh a + 1 + fresh b) _ _ z (off-part n _ (n + fresh a + 1 + fresh b) (n + fresh a + 1 + fresh b + fresh c) z h (omega arith) (omega arith))
+      ∙ keeps b μ (n + fresh a + 1) _ _ z (off-part n _ (n + fresh a + 1) (n + fresh a + 1 + fresh b) z h
+      (omega arith) (omega arith))
+      ∙ keeps c μ (n + fresh a + 1 + fresh b) _ _ z (off-part n _ (n + fresh a + 1 + fresh b) (n + fresh a + 1 +
+      fresh b + fresh c) z h (omega arith) (omega arith))
   keeps (S.map-over y a b) μ n k U z h =
       keeps a μ n _ U z (off-part n _ n (n + fresh a) z h (omega arith) (omega arith))
       ∙ update-other _ (first-of (n + fresh a)) z _ (λ e. ⊎-elim (λ l. omega arith) (λ l. omega arith) h)
-      ∙ keeps b (updated μ y (C.name (n + fresh a + 1))) (n + fresh a + 2) _ _ z (off-part n _ (n + fresh a + 2) (n + fresh a + 2 + fresh b) z h (omega arith) (omega arith))
+      ∙ keeps b (updated μ y (C.name (n + fresh a + 1))) (n + fresh a + 2) _ _ z (off-part n _ (n + fresh a + 2)
+      (n + fresh a + 2 + fresh b) z h (omega arith) (omega arith))
 
   all-keeps : (es : Exprs) (μ : Meanings) (n : ℕ) (k : Tree) (U : Sets) (z : ℕ) → Off n (n + fresh-all es) z →
       noted (all-lines es μ n k) U z ≡ noted k U z
   all-keeps S.none μ n k U z h = refl
   all-keeps (S.more e es) μ n k U z h =
       keeps e μ n _ U z (off-part n _ n (n + fresh e) z h (omega arith) (omega arith))
-      ∙ all-keeps es μ (n + fresh e) k U z (off-part n _ (n + fresh e) (n + fresh e + fresh-all es) z h (omega arith) (omega arith))
+      ∙ all-keeps es μ (n + fresh e) k U z (off-part n _ (n + fresh e) (n + fresh e + fresh-all es) z h
+      (omega arith) (omega arith))
 
 -- ---- what is noted is right
 
@@ -88,13 +97,15 @@ module _ (W : Sets) where
   mutual
     unfolding noted lines fresh
 
-    right : (e : Expr) (μ : Meanings) (n : ℕ) (k : Tree) (U : Sets) → Has W (noted (lines e μ n k) U) n (n + fresh e) →
+    right : (e : Expr) (μ : Meanings) (n : ℕ) (k : Tree) (U : Sets) → Has W (noted (lines e μ n k) U) n
+        (n + fresh e) →
         Right W k → Right W (lines e μ n k)
     right (S.number v) μ n k U h r = r
     right (S.name x) μ n k U h r = r
     right (S.operation o a b) μ n k U h r =
         right a μ n _ U (λ z x y. h z x (omega arith))
-        (right b μ (n + fresh a) _ U (later a μ n _ U n _ h (n + fresh a) (n + fresh a + fresh b) (omega arith) (omega arith) (omega arith)) (tt, r))
+        (right b μ (n + fresh a) _ U (later a μ n _ U n _ h (n + fresh a) (n + fresh a + fresh b) (omega arith)
+        (omega arith) (omega arith)) (tt, r))
     right (S.let-in x a b) μ n k U h r =
         right a μ n _ U (λ z x y. h z x (omega arith))
         (right b (updated μ x (atom a μ n)) (n + fresh a) k U
@@ -103,13 +114,15 @@ module _ (W : Sets) where
     right (S.literal d es) μ n k U h r = all-right es μ n _ U (λ z x y. h z x (omega arith)) (tt, r)
     right (S.index a b) μ n k U h r =
         right a μ n _ U (λ z x y. h z x (omega arith))
-        (right b μ (n + fresh a) _ U (later a μ n _ U n _ h (n + fresh a) (n + fresh a + fresh b) (omega arith) (omega arith) (omega arith)) (tt, r))
+        (right b μ (n + fresh a) _ U (later a μ n _ U n _ h (n + fresh a) (n + fresh a + fresh b) (omega arith)
+        (omega arith) (omega arith)) (tt, r))
     right (S.length-of a) μ n k U h r = right a μ n _ U (λ z x y. h z x (omega arith)) (tt, r)
     right (S.if-else a b c) μ n k U h r =
         let m : ℕ = n + fresh a in
         let t : Tree = lines b μ (m + 1) (end (atom b μ (m + 1))) in
         let e : Tree = lines c μ (m + 1 + fresh b) (end (atom c μ (m + 1 + fresh b))) in
-        let g : Has W (noted (line (C.if-else m (atom a μ n) t e) k) U) m (n + (fresh a + 1 + fresh b + fresh c)) = later a μ n _ U n _ h m _ (omega arith) (omega arith) (omega arith) in
+        let g : Has W (noted (line (C.if-else m (atom a μ n) t e) k) U) m (n + (fresh a + 1 + fresh b + fresh c)) =
+        later a μ n _ U n _ h m _ (omega arith) (omega arith) (omega arith) in
         right a μ n _ U (λ z x y. h z x (omega arith)) (
           (
             g (first-of m) (omega arith) (omega arith)
@@ -134,7 +147,8 @@ module _ (W : Sets) where
         let m : ℕ = n + fresh a in
         let μ′ : Meanings = updated μ y (C.name (m + 1)) in
         let t : Tree = lines b μ′ (m + 2) (end (atom b μ′ (m + 2))) in
-        let g : Has W (noted (line (C.map-over m (m + 1) (atom a μ n) t) k) U) m (n + (fresh a + 2 + fresh b)) = later a μ n _ U n _ h m _ (omega arith) (omega arith) (omega arith) in
+        let g : Has W (noted (line (C.map-over m (m + 1) (atom a μ n) t) k) U) m (n + (fresh a + 2 + fresh b)) =
+        later a μ n _ U n _ h m _ (omega arith) (omega arith) (omega arith) in
         right a μ n _ U (λ z x y. h z x (omega arith)) (
           (
             g (first-of m) (omega arith) (omega arith) ∙ update-same _ (first-of m) _,
@@ -151,7 +165,8 @@ module _ (W : Sets) where
     all-right (S.more e es) μ n k U h r =
         right e μ n _ U (λ z x y. h z x (omega arith))
         (all-right es μ (n + fresh e) k U
-        (later e μ n _ U n _ h (n + fresh e) (n + fresh e + fresh-all es) (omega arith) (omega arith) (omega arith)) r)
+        (later e μ n _ U n _ h (n + fresh e) (n + fresh e + fresh-all es) (omega arith) (omega arith) (omega arith))
+        r)
 
 pub right-normal : (e : Expr) (μ : Meanings) (n : ℕ) (U : Sets) → Right (noted (normal e μ n) U) (normal e μ n)
 unfolding normal

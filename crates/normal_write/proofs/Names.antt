@@ -44,15 +44,20 @@ module _ (Γ : NameDepths) (used A : Set) where
   release-none = wrote-none
 
   pub release-more : (i : ℕ) → 0 < i → i ≤ 256 →
-      release-rows (with-if (dies Γ used A (i - 1)) (i - 1) []) ++ releases-from Γ used A i ≡ releases-from Γ used A (i - 1)
+      release-rows (with-if (dies Γ used A (i - 1)) (i - 1) []) ++ releases-from Γ used A i ≡ releases-from Γ used A
+      (i - 1)
   unfolding members-from
   release-more i g h =
-      sym (ap (λ (n : ℕ). release-rows (members-from n (i - 1) (dies Γ used A))) (let e : 256 - (i - 1) ≡ suc (256 - i) = omega arith in e)
-      ∙ ap (λ (n : ℕ). release-rows (with-if (dies Γ used A (i - 1)) (i - 1) (members-from (256 - i) n (dies Γ used A)))) (let e : suc (i - 1) ≡ i = omega arith in e)
-      ∙ ap (λ (l : List ℕ). release-rows l) (with-if-append (dies Γ used A (i - 1)) (i - 1) (members-from (256 - i) i (dies Γ used A)))
+      sym (ap (λ (n : ℕ). release-rows (members-from n (i - 1) (dies Γ used A))) (let e : 256 - (i - 1) ≡ suc
+      (256 - i) = omega arith in e)
+      ∙ ap (λ (n : ℕ). release-rows (with-if (dies Γ used A (i - 1)) (i - 1) (members-from (256 - i) n
+      (dies Γ used A)))) (let e : suc (i - 1) ≡ i = omega arith in e)
+      ∙ ap (λ (l : List ℕ). release-rows l) (with-if-append (dies Γ used A (i - 1)) (i - 1) (members-from (256 - i)
+      i (dies Γ used A)))
       ∙ map-append _ (with-if (dies Γ used A (i - 1)) (i - 1) []) (members-from (256 - i) i (dies Γ used A)))
 
-  pub release-all : {k k₁ : List ℕ} {o o₁ : List ℤ} {w w₁ i : ℕ} → i ≤ 0 → Wrote k o k₁ o₁ w w₁ (releases-from Γ used A i) →
+  pub release-all : {k k₁ : List ℕ} {o o₁ : List ℤ} {w w₁ i : ℕ} → i ≤ 0 → Wrote k o k₁ o₁ w w₁ (releases-from Γ
+      used A i) →
       Wrote k o k₁ o₁ w w₁ (release-rows (dying Γ used A))
   unfolding dying members
   release-all {i = i} h r = let e : i ≡ 0 = omega arith in rw e at r
@@ -92,7 +97,8 @@ module _ (x : ℕ) where
   pub release-unused : (u l : Bool) (d : ℕ) → u ≡ false → [] ≡ release-rows (with-if (u && (ltb 0 d && not l)) x [])
   release-unused u l d e = rw e
 
-  pub release-number : (u l : Bool) (e d : ℕ) → e ≡ d → e ≤ 0 → [] ≡ release-rows (with-if (u && (ltb 0 d && not l)) x [])
+  pub release-number : (u l : Bool) (e d : ℕ) → e ≡ d → e ≤ 0 → [] ≡ release-rows (with-if (u && (ltb 0 d && not l))
+      x [])
   release-number u l e d f h = rw (← f, le-ltb 0 e h, and-false u)
 
   pub release-live : (u l : Bool) (d : ℕ) → l ≡ true → [] ≡ release-rows (with-if (u && (ltb 0 d && not l)) x [])
@@ -128,7 +134,8 @@ module _ (Γ : NameDepths) where
   unfolding handed-one
   handed-number z A = refl
 
-  pub handed-cons : (a : Atom) (us : List Atom) (A : Set) → handed-one Γ a (among us A) ++ handed-again Γ us A ≡ handed-again Γ (a ∷ us) A
+  pub handed-cons : (a : Atom) (us : List Atom) (A : Set) → handed-one Γ a (among us A) ++ handed-again Γ us A ≡
+      handed-again Γ (a ∷ us) A
   unfolding handed-one handed-again
   handed-cons (number z) us A = refl
   handed-cons (name x) us A = sym (with-if-append (is-array Γ x && among us A x) x (handed-again Γ us A))
@@ -136,18 +143,21 @@ module _ (Γ : NameDepths) where
 -- ---- atoms, from the last to the first
 
 module _ (w rows : List ℕ) (at : ℕ) where
-  pub atoms-begin : (m : ℕ) {k : List ℕ} {o : List ℤ} {v : ℕ} → Wrote k o k o v v (map atom-row (atoms-at w rows (at + m) (m - m)))
+  pub atoms-begin : (m : ℕ) {k : List ℕ} {o : List ℤ} {v : ℕ} → Wrote k o k o v v (map atom-row (atoms-at w rows
+      (at + m) (m - m)))
   atoms-begin m = wrote-as (sym (ap (map atom-row) (atoms-none w rows (at + m) m))) wrote-none
 
   pub atoms-go : (i m r : ℕ) (a : P.Atom) → 0 < i → i ≤ m → r ≡ getD rows (at + (i - 1)) 0 → a ≡ placed w r →
       {k k₁ k₂ : List ℕ} {o o₁ o₂ : List ℤ} {v v₁ v₂ : ℕ} →
-      Wrote k o k₁ o₁ v v₁ (map atom-row (atoms-at w rows (at + i) (m - i))) → Wrote k₁ o₁ k₂ o₂ v₁ v₂ (atom-row (meant a) ∷ []) →
+      Wrote k o k₁ o₁ v v₁ (map atom-row (atoms-at w rows (at + i) (m - i))) → Wrote k₁ o₁ k₂ o₂ v₁ v₂
+      (atom-row (meant a) ∷ []) →
       Wrote k o k₂ o₂ v v₂ (map atom-row (atoms-at w rows (at + (i - 1)) (m - (i - 1))))
   atoms-go i m r a g h e f x y =
       wrote-as (sym (ap (map atom-row) (atoms-more w rows at i m g h) ∙ rw (← e, ← f))) (wrote-then x y)
 
   pub atoms-end : (i m : ℕ) → i ≤ 0 → {k k₁ : List ℕ} {o o₁ : List ℤ} {v v₁ : ℕ} →
-      Wrote k o k₁ o₁ v v₁ (map atom-row (atoms-at w rows (at + i) (m - i))) → Wrote k o k₁ o₁ v v₁ (map atom-row (atoms-at w rows at m))
+      Wrote k o k₁ o₁ v v₁ (map atom-row (atoms-at w rows (at + i) (m - i))) → Wrote k o k₁ o₁ v v₁ (map atom-row
+      (atoms-at w rows at m))
   atoms-end i m h x = wrote-as (ap (map atom-row) (atoms-all w rows at i m (omega arith))) x
 
   module _ (Γ : NameDepths) (A : Set) where
@@ -157,9 +167,11 @@ module _ (w rows : List ℕ) (at : ℕ) where
     pub retains-begin : (m : ℕ) {k : List ℕ} {o : List ℤ} {v : ℕ} → Wrote k o k o v v (retains-at m m)
     unfolding handed-again
     retains-begin m =
-        wrote-as (sym (ap (λ (us : List Atom). retain-rows (handed-again Γ us A)) (atoms-none w rows (at + m) m))) wrote-none
+        wrote-as (sym (ap (λ (us : List Atom). retain-rows (handed-again Γ us A)) (atoms-none w rows (at + m) m)))
+        wrote-none
 
-    pub retains-go : (i m r : ℕ) (a : P.Atom) (S : Set) → 0 < i → i ≤ m → r ≡ getD rows (at + (i - 1)) 0 → a ≡ placed w r →
+    pub retains-go : (i m r : ℕ) (a : P.Atom) (S : Set) → 0 < i → i ≤ m → r ≡ getD rows (at + (i - 1)) 0 → a ≡
+        placed w r →
         S ≡ among (atoms-at w rows (at + i) (m - i)) A → {k k₁ k₂ : List ℕ} {o o₁ o₂ : List ℤ} {v v₁ v₂ : ℕ} →
         Wrote k o k₁ o₁ v v₁ (retains-at i m) → Wrote k₁ o₁ k₂ o₂ v₁ v₂ (retain-rows (handed-one Γ (meant a) S)) →
         Wrote k o k₂ o₂ v v₂ (retains-at (i - 1) m)
@@ -169,17 +181,20 @@ module _ (w rows : List ℕ) (at : ℕ) where
         ∙ ap (λ (l : List ℕ). retain-rows l) (names s (meant a) (ap meant (f ∙ ap (placed w) e))))
         (wrote-then x y)
       where
-        names : S ≡ among (atoms-at w rows (at + i) (m - i)) A → (b : Atom) → b ≡ meant (placed w (getD rows (at + (i - 1)) 0)) →
+        names : S ≡ among (atoms-at w rows (at + i) (m - i)) A → (b : Atom) → b ≡ meant
+            (placed w (getD rows (at + (i - 1)) 0)) →
             handed-one Γ b S ++ handed-again Γ (atoms-at w rows (at + i) (m - i)) A
             ≡ handed-again Γ (atoms-at w rows (at + (i - 1)) (m - (i - 1))) A
         names s b q =
             rw (s, q, atoms-more w rows at i m g h)
             (handed-cons Γ (meant (placed w (getD rows (at + (i - 1)) 0))) (atoms-at w rows (at + i) (m - i)) A)
 
-    pub retains-end : (i m : ℕ) → i ≤ 0 → {k k₁ : List ℕ} {o o₁ : List ℤ} {v v₁ : ℕ} → Wrote k o k₁ o₁ v v₁ (retains-at i m) →
+    pub retains-end : (i m : ℕ) → i ≤ 0 → {k k₁ : List ℕ} {o o₁ : List ℤ} {v v₁ : ℕ} → Wrote k o k₁ o₁ v v₁
+        (retains-at i m) →
         Wrote k o k₁ o₁ v v₁ (retain-rows (handed-again Γ (atoms-at w rows at m) A))
     retains-end i m h x =
-        wrote-as (ap (λ (us : List Atom). retain-rows (handed-again Γ us A)) (atoms-all w rows at i m (omega arith))) x
+        wrote-as (ap (λ (us : List Atom). retain-rows (handed-again Γ us A)) (atoms-all w rows at i m
+        (omega arith))) x
 
 -- ---- sets of one and two names
 
@@ -194,8 +209,10 @@ pub only-one : (x : ℕ) (N O : Set) → N ≡ empty → O ≡ only x ∪ N → 
 only-one x N O e f = f ∙ ap (λ (S : Set). only x ∪ S) e ∙ union-none (only x)
 
 pub index-rows : (Γ : NameDepths) (x : ℕ) (a b : Atom) (N O U A : Set) → N ≡ empty → O ≡ only x ∪ N → U ≡ is a ∪ O →
-    (row 10 x ∷ []) ++ ((atom-row a ∷ []) ++ ((atom-row b ∷ []) ++ (retain-rows (with-if (is-array Γ x) x []) ++ release-rows (dying Γ U A))))
+    (row 10 x ∷ []) ++ ((atom-row a ∷ []) ++ ((atom-row b ∷ []) ++ (retain-rows (with-if (is-array Γ x) x []) ++
+    release-rows (dying Γ U A))))
     ≡ indexing Γ x a b A
 index-rows Γ x a b N O U A e f g =
-    ap (λ (S : Set). row 10 x ∷ (atom-row a ∷ (atom-row b ∷ (retain-rows (with-if (is-array Γ x) x []) ++ release-rows (dying Γ S A)))))
+    ap (λ (S : Set). row 10 x ∷ (atom-row a ∷ (atom-row b ∷ (retain-rows (with-if (is-array Γ x) x []) ++
+    release-rows (dying Γ S A)))))
     (g ∙ ap (λ (S : Set). is a ∪ S) (only-one x N O e f))

@@ -20,7 +20,8 @@ pub append-none : {A : Type 0} (a : List A) → a ++ [] ≡ a
 append-none [] = refl
 append-none (x ∷ a) = ap (λ (l : List _). x ∷ l) (append-none a)
 
-backed-append : {A : Type 0} (l : List A) (w : ℕ) (rs qs : List A) → backed (backed l w rs) (w - length rs) qs ≡ backed l w (qs ++ rs)
+backed-append : {A : Type 0} (l : List A) (w : ℕ) (rs qs : List A) → backed (backed l w rs) (w - length rs) qs ≡
+    backed l w (qs ++ rs)
 unfolding backed
 backed-append l w rs [] = refl
 backed-append l w rs (q ∷ qs) =
@@ -40,12 +41,14 @@ pub wrote-then : {k k₁ k₂ : List ℕ} {o o₁ o₂ : List ℤ} {w w₁ w₂ 
 wrote-then {k} {k₁} {k₂} {o} {o₁} {o₂} {w} {w₁} {w₂} {rs} {qs} a b = record {
   kinds = backed-then k k₁ k₂ w w₁ (kinds-of rs) (kinds-of qs) (kinds-of (qs ++ rs)) (a .kinds) (b .kinds)
       (a .at ∙ ap (λ (n : ℕ). w - n) (sym (map-length _ rs))) (map-append _ qs rs);
-  operands = backed-then o o₁ o₂ w w₁ (operands-of rs) (operands-of qs) (operands-of (qs ++ rs)) (a .operands) (b .operands)
+  operands = backed-then o o₁ o₂ w w₁ (operands-of rs) (operands-of qs) (operands-of (qs ++ rs)) (a .operands)
+      (b .operands)
       (a .at ∙ ap (λ (n : ℕ). w - n) (sym (map-length _ rs))) (map-append _ qs rs);
   at = omega (arith, a .at, b .at, length-append qs rs);
 }
 
-pub wrote-as : {k k₁ : List ℕ} {o o₁ : List ℤ} {w w₁ : ℕ} {rs qs : List Row} → rs ≡ qs → Wrote k o k₁ o₁ w w₁ rs → Wrote k o k₁ o₁ w w₁ qs
+pub wrote-as : {k k₁ : List ℕ} {o o₁ : List ℤ} {w w₁ : ℕ} {rs qs : List Row} → rs ≡ qs → Wrote k o k₁ o₁ w w₁ rs →
+    Wrote k o k₁ o₁ w w₁ qs
 wrote-as e a = rw e at a
 
 pub wrote-one : {k k₁ : List ℕ} {o o₁ : List ℤ} {w i : ℕ} {r : Row} → i ≡ w - 1 → k₁ ≡ set k i (r .kind) →
@@ -56,5 +59,6 @@ wrote-one {w = w} e f g =
     record { kinds = rw (h, ← e) f; operands = rw (h, ← e) g; at = e }
 
 -- the place stays in range
-pub lower : {k k₁ : List ℕ} {o o₁ : List ℤ} {w w₁ : ℕ} {rs : List Row} → Wrote k o k₁ o₁ w w₁ rs → w ≤ 4097 → w₁ ≤ 4097
+pub lower : {k k₁ : List ℕ} {o o₁ : List ℤ} {w w₁ : ℕ} {rs : List Row} → Wrote k o k₁ o₁ w w₁ rs → w ≤ 4097 → w₁ ≤
+    4097
 lower r h = omega (arith, r .at)

@@ -30,10 +30,12 @@ enum-known-q-2 : tie.Need-enum-known-q-2
 enum-known-q-2 c = search needs
 
 returns : tie.Need-returns
-returns c = rw (← c .before .before .before .before .low-at .ensures) (ap node-of (sym (c .before .q .given .1) ∙ c .before .before .before .read-part .ensures))
+returns c = rw (← c .before .before .before .before .low-at .ensures) (ap node-of (sym (c .before .q .given .1) ∙ c
+    .before .before .before .read-part .ensures))
 
 returns-2 : tie.Need-returns-2
-returns-2 c = rw (← c .before .before .before .before .low-at .ensures) (ap node-of (sym (c .before .q2 .given .1) ∙ c .before .before .before .read-part .ensures))
+returns-2 c = rw (← c .before .before .before .before .low-at .ensures) (ap node-of (sym (c .before .q2 .given .1) ∙
+    c .before .before .before .read-part .ensures))
 
 pub after-function-spec : {M : Type 1} → statement M
 after-function-spec =

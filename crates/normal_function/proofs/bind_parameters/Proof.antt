@@ -20,7 +20,16 @@ abbrev μ-loop : tie.MeasureT-loop
 μ-loop kinds operands at count places₀ depths₀ i₀ places depths i = i
 
 loop-holds : tie.Need-loop-holds Inv-loop μ-loop
-loop-holds c = (omega arith, bind-begin (c .before .before .args .kinds .now) (c .before .before .args .operands .now) (c .before .before .args .at) (c .before .before .args .count) (omega (arith, c .before .before .pre .0 .few, c .before .before .pre .0 .whole)))
+loop-holds c = (
+  omega arith,
+  bind-begin (c .before .before .args .kinds .now) (c .before .before .args .operands
+      .now) (c .before .before .args .at) (c .before .before .args .count) (omega (
+        arith,
+        c .before .before .pre .0
+            .few,
+        c .before .before .pre .0 .whole,
+      )),
+)
 
 sub-i : tie.Need-sub-i Inv-loop μ-loop
 sub-i c = omega arith
@@ -50,16 +59,32 @@ array-write-places : tie.Need-array-write-places Inv-loop μ-loop
 array-write-places c = search needs
 
 array-write-depths : tie.Need-array-write-depths Inv-loop μ-loop
-array-write-depths c = omega (arith, c .before .before .before .loop .inv .0, c .before .before .before .before .before .before .pre .1 .1)
+array-write-depths c = omega (
+  arith,
+  c .before .before .before .loop .inv .0,
+  c .before .before .before .before
+      .before .before .pre .1 .1,
+)
 
 loop-less : tie.Need-loop-less Inv-loop μ-loop
 loop-less c = omega arith
 
 loop-again : tie.Need-loop-again Inv-loop μ-loop
-loop-again c = let v = c .before .before .before .loop .inv in (omega arith, bind-go (c .before .before .before .before .before .before .args .kinds .now) (c .before .before .before .before .before .before .args .operands .now) (c .before .before .before .before .before .before .args .at) (c .before .before .before .loop .i) (c .before .before .before .before .before .before .args .count) (c .before .low-at .result) (c .high-at .result) (c .before .before .loop-test .taken) (v .0) (c .before .before .before .before .before .before .pre .1 .1) (omega (arith, c .before .low-at .ok)) (c .before .low-at .ensures) (c .high-at .ensures) (v .1))
+loop-again c = let v = c .before .before .before .loop .inv in (
+  omega arith,
+  bind-go (c .before .before .before
+      .before .before .before .args .kinds .now) (c .before .before .before .before .before .before .args .operands
+      .now) (c .before .before .before .before .before .before .args .at) (c .before .before .before .loop .i)
+      (c .before .before .before .before .before .before .args .count) (c .before .low-at .result)
+      (c .high-at .result) (c .before .before .loop-test .taken) (v .0) (c .before .before .before .before .before
+      .before .pre .1 .1) (omega (arith, c .before .low-at .ok)) (c .before .low-at .ensures) (c .high-at .ensures)
+      (v .1),
+)
 
 returns : tie.Need-returns Inv-loop μ-loop
-returns c = bind-end (c .before .before .before .before .args .kinds .now) (c .before .before .before .before .args .operands .now) (c .before .before .before .before .args .at) (c .before .loop .i) (c .before .before .before .before .args .count) (c .loop-test .left) (c .before .loop .inv .1)
+returns c = bind-end (c .before .before .before .before .args .kinds .now) (c .before .before .before .before .args
+    .operands .now) (c .before .before .before .before .args .at) (c .before .loop .i) (c .before .before .before
+    .before .args .count) (c .loop-test .left) (c .before .loop .inv .1)
 
 pub bind-parameters-spec : {M : Type 1} → statement M
 bind-parameters-spec =

@@ -22,7 +22,12 @@ abbrev μ-loop : tie.MeasureT-loop
 μ-loop ks₀ os₀ kinds operands at count w v₀ i₀ ks os v i = i
 
 loop-holds : tie.Need-loop-holds Inv-loop μ-loop
-loop-holds c = (omega arith, omega arith, rows-begin (c .before .before .args .kinds .now) (c .before .before .args .operands .now) (c .before .before .args .at) (c .before .before .args .count))
+loop-holds c = (
+  omega arith,
+  omega arith,
+  rows-begin (c .before .before .args .kinds .now) (c .before .before .args
+      .operands .now) (c .before .before .args .at) (c .before .before .args .count),
+)
 
 sub-i : tie.Need-sub-i Inv-loop μ-loop
 sub-i c = omega arith
@@ -40,10 +45,24 @@ cast-put-row-2 : tie.Need-cast-put-row-2 Inv-loop μ-loop
 cast-put-row-2 c = search needs
 
 mul-put-row : tie.Need-mul-put-row Inv-loop μ-loop
-mul-put-row c = omega (arith, c .before .before .high-at .ensures, high-most (c .before .before .before .before .before .before .before .args .kinds .now) (c .before .before .before .before .before .before .before .args .operands .now) 1 (c .before .before .before .before .before .before .before .args .at + (c .before .before .before .before .loop .i - 1)))
+mul-put-row c = omega (
+  arith,
+  c .before .before .high-at .ensures,
+  high-most (c .before .before .before .before
+      .before .before .before .args .kinds .now) (c .before .before .before .before .before .before .before .args
+      .operands .now) 1 (c .before .before .before .before .before .before .before .args .at + (c .before .before
+      .before .before .loop .i - 1)),
+)
 
 add-put-row : tie.Need-add-put-row Inv-loop μ-loop
-add-put-row c = omega (arith, c .before .before .before .before .loop .inv .0, c .before .before .high-at .ensures, high-most (c .before .before .before .before .before .before .before .args .kinds .now) (c .before .before .before .before .before .before .before .args .operands .now) 1 (c .before .before .before .before .before .before .before .args .at + (c .before .before .before .before .loop .i - 1)))
+add-put-row c = omega (
+  arith,
+  c .before .before .before .before .loop .inv .0,
+  c .before .before .high-at .ensures,
+  high-most (c .before .before .before .before .before .before .before .args .kinds .now) (c .before .before
+      .before .before .before .before .before .args .operands .now) 1 (c .before .before .before .before .before
+      .before .before .args .at + (c .before .before .before .before .loop .i - 1)),
+)
 
 put-row-requires : tie.Need-put-row-requires Inv-loop μ-loop
 put-row-requires c κs = c .before .before .before .before .loop .inv .1
@@ -52,10 +71,22 @@ loop-less : tie.Need-loop-less Inv-loop μ-loop
 loop-less c = omega arith
 
 loop-again : tie.Need-loop-again Inv-loop μ-loop
-loop-again c = let v = c .before .before .before .before .before .loop .inv in (omega arith, lower (c .put-row .ensures) (v .1), rows-go (c .before .before .before .before .before .before .before .before .args .kinds .now) (c .before .before .before .before .before .before .before .before .args .operands .now) (c .before .before .before .before .before .before .before .before .args .at) (c .before .before .before .before .before .loop .i) (c .before .before .before .before .before .before .before .before .args .count) (c .before .before .before .high-at .result) (c .before .before .before .before .loop-test .taken) (v .0) (c .before .before .before .high-at .ensures) (v .2) (c .put-row .ensures))
+loop-again c = let v = c .before .before .before .before .before .loop .inv in (
+  omega arith,
+  lower
+      (c .put-row .ensures) (v .1),
+  rows-go (c .before .before .before .before .before .before .before .before .args
+      .kinds .now) (c .before .before .before .before .before .before .before .before .args .operands .now)
+      (c .before .before .before .before .before .before .before .before .args .at) (c .before .before .before .before
+      .before .loop .i) (c .before .before .before .before .before .before .before .before .args .count)
+      (c .before .before .before .high-at .result) (c .before .before .before .before .loop-test .taken) (v .0)
+      (c .before .before .before .high-at .ensures) (v .2) (c .put-row .ensures),
+)
 
 returns : tie.Need-returns Inv-loop μ-loop
-returns c = rows-end (c .before .before .before .before .args .kinds .now) (c .before .before .before .before .args .operands .now) (c .before .before .before .before .args .at) (c .before .loop .i) (c .before .before .before .before .args .count) (c .loop-test .left) (c .before .loop .inv .2)
+returns c = rows-end (c .before .before .before .before .args .kinds .now) (c .before .before .before .before .args
+    .operands .now) (c .before .before .before .before .args .at) (c .before .loop .i) (c .before .before .before
+    .before .args .count) (c .loop-test .left) (c .before .loop .inv .2)
 
 pub put-parameters-spec : {M : Type 1} → statement M
 put-parameters-spec =

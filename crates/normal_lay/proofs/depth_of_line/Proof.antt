@@ -14,22 +14,33 @@ result-of-requires : tie.Need-result-of-requires
 result-of-requires c κs = search needs
 
 returns : tie.Need-returns
-returns c = depth-call (c .before .before .before .args .results .now) (c .before .before .before .args .depths .now) (c .before .before .before .args .y) (c .before .before .before .args .place) (c .before .before .before .args .kind) _ (c .before .if1 .taken) (c .result-of .ensures)
+returns c = depth-call (c .before .before .before .args .results .now) (c .before .before .before .args .depths
+    .now) (c .before .before .before .args .y) (c .before .before .before .args .place) (c .before .before .before
+    .args .kind) _ (c .before .if1 .taken) (c .result-of .ensures)
 
 add-result : tie.Need-add-result
 add-result c = search needs
 
 returns-2 : tie.Need-returns-2
-returns-2 c = depth-literal (c .before .before .before .args .results .now) (c .before .before .before .args .depths .now) (c .before .before .before .args .y) (c .before .before .before .args .place) (c .before .before .before .args .kind) (c .before .if1 .left) (c .if2 .taken)
+returns-2 c = depth-literal (c .before .before .before .args .results .now) (c .before .before .before .args .depths
+    .now) (c .before .before .before .args .y) (c .before .before .before .args .place) (c .before .before .before
+    .args .kind) (c .before .if1 .left) (c .if2 .taken)
 
 element-depth-requires : tie.Need-element-depth-requires
 element-depth-requires c κs = search needs
 
 returns-3 : tie.Need-returns-3
-returns-3 c = depth-index (c .before .before .before .before .before .args .results .now) (c .before .before .before .before .before .args .depths .now) (c .before .before .before .before .before .args .y) (c .before .before .before .before .before .args .place) (c .before .before .before .before .before .args .kind) _ (c .before .before .before .if1 .left) (c .before .before .if2 .left) (c .before .if3 .taken) (c .element-depth .ensures)
+returns-3 c = depth-index (c .before .before .before .before .before .args .results .now) (c .before .before .before
+    .before .before .args .depths .now) (c .before .before .before .before .before .args .y) (c .before .before
+    .before .before .before .args .place) (c .before .before .before .before .before .args .kind) _
+    (c .before .before .before .if1 .left) (c .before .before .if2 .left) (c .before .if3 .taken) (c .element-depth
+    .ensures)
 
 returns-4 : tie.Need-returns-4
-returns-4 c = depth-other (c .before .before .before .before .args .results .now) (c .before .before .before .before .args .depths .now) (c .before .before .before .before .args .y) (c .before .before .before .before .args .place) (c .before .before .before .before .args .kind) (c .before .before .if1 .left) (c .before .if2 .left) (c .if3 .left)
+returns-4 c = depth-other (c .before .before .before .before .args .results .now) (c .before .before .before .before
+    .args .depths .now) (c .before .before .before .before .args .y) (c .before .before .before .before .args
+    .place) (c .before .before .before .before .args .kind) (c .before .before .if1 .left) (c .before .if2 .left)
+    (c .if3 .left)
 
 pub depth-of-line-spec : {M : Type 1} → statement M
 depth-of-line-spec =

@@ -44,7 +44,12 @@ element-write-notes : tie.Need-element-write-notes
 element-write-notes c = search needs
 
 returns : tie.Need-returns
-returns c = ((refl, refl), rw (← c .before .before .packed-row .ensures) (laid-then (c .before .before .before .args .rows .now) _ (c .before .before .before .args .p) (c .before .before .packed-row .result) _ (c .lay-places .ensures)))
+returns c = (
+  (refl, refl),
+  rw (← c .before .before .packed-row .ensures) (laid-then (c .before .before .before .args
+      .rows .now) _ (c .before .before .before .args .p) (c .before .before .packed-row .result) _ (c .lay-places
+      .ensures)),
+)
 
 pub lay-line-spec : {M : Type 1} → statement M
 lay-line-spec =

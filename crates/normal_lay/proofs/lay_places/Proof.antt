@@ -45,10 +45,17 @@ loop-less : tie.Need-loop-less Inv-loop μ-loop
 loop-less c = search needs
 
 loop-again : tie.Need-loop-again Inv-loop μ-loop
-loop-again c = let v = c .before .before .before .loop .inv in (omega arith, v .1 ∙ places-go (c .before .before .before .before .args .places .now) (c .before .before .before .before .args .p) (c .before .before .before .loop .rows) (c .before .before .before .loop .i) (c .before .before .before .before .args .m) (c .wide .result) (c .before .before .loop-test .taken) (c .wide .ensures))
+loop-again c = let v = c .before .before .before .loop .inv in (
+  omega arith,
+  v .1 ∙ places-go (c .before .before
+      .before .before .args .places .now) (c .before .before .before .before .args .p) (c .before .before .before
+      .loop .rows) (c .before .before .before .loop .i) (c .before .before .before .before .args .m) (c .wide .result)
+      (c .before .before .loop-test .taken) (c .wide .ensures),
+)
 
 returns : tie.Need-returns Inv-loop μ-loop
-returns c = sym (c .before .loop .inv .1 ∙ places-end (c .before .before .args .places .now) (c .before .before .args .p) (c .before .loop .rows) (c .before .loop .i) (c .before .before .args .m) (c .loop-test .left))
+returns c = sym (c .before .loop .inv .1 ∙ places-end (c .before .before .args .places .now) (c .before .before
+    .args .p) (c .before .loop .rows) (c .before .loop .i) (c .before .before .args .m) (c .loop-test .left))
 
 pub lay-places-spec : {M : Type 1} → statement M
 lay-places-spec =

@@ -27,7 +27,16 @@ find-heads-requires : tie.Need-find-heads-requires Inv-loop μ-loop
 find-heads-requires c κs = c .before .before .pre
 
 loop-holds : tie.Need-loop-holds Inv-loop μ-loop
-loop-holds c = (c .before .before .before .before .before .pre, rw (c .before .before .before .before .before .pre .reads) at (c .before .before .find-heads .ensures), omega arith, omega arith, code-begins (c .before .before .before .before .before .pre) (rw (c .before .before .before .before .before .pre .reads) at (c .before .before .find-heads .ensures)))
+loop-holds c = (
+  c .before .before .before .before .before .pre,
+  rw (c .before .before .before .before .before .pre
+      .reads) at (c .before .before .find-heads .ensures),
+  omega arith,
+  omega arith,
+  code-begins (c .before .before
+      .before .before .before .pre) (rw (c .before .before .before .before .before .pre .reads) at (c .before .before
+      .find-heads .ensures)),
+)
 
 sub-i : tie.Need-sub-i Inv-loop μ-loop
 sub-i c = omega arith
@@ -42,16 +51,35 @@ slice-aggregate-function-code : tie.Need-slice-aggregate-function-code Inv-loop 
 slice-aggregate-function-code c = search needs
 
 function-code-requires : tie.Need-function-code-requires Inv-loop μ-loop
-function-code-requires c κs = (fits-at (c .before .before .before .before .loop .inv .0) (c .before .before .before .before .loop .inv .1) (c .before .before .before .before .loop .i - 1) _ (omega (arith, c .before .before .before .before .loop .inv .2, c .before .before .before .loop-test .taken)) refl, c .before .before .before .before .loop .inv .3)
+function-code-requires c κs = (
+  fits-at (c .before .before .before .before .loop .inv .0) (c .before .before .before
+      .before .loop .inv .1) (c .before .before .before .before .loop .i - 1) _ (omega (
+        arith,
+        c .before .before
+            .before .before .loop .inv .2,
+        c .before .before .before .loop-test .taken,
+      )) refl,
+  c .before .before .before
+      .before .loop .inv .3,
+)
 
 loop-less : tie.Need-loop-less Inv-loop μ-loop
 loop-less c = omega arith
 
 loop-again : tie.Need-loop-again Inv-loop μ-loop
-loop-again c = let v = c .before .before .before .before .before .loop .inv in (v .0, v .1, omega arith, lower (c .function-code .ensures .0) (v .3), code-goes (v .0) (v .1) (c .before .before .before .before .before .loop .i) _ (c .before .before .before .before .loop-test .taken) (v .2) refl (v .4) (c .function-code .ensures .0))
+loop-again c = let v = c .before .before .before .before .before .loop .inv in (
+  v .0,
+  v .1,
+  omega arith,
+  lower
+      (c .function-code .ensures .0) (v .3),
+  code-goes (v .0) (v .1) (c .before .before .before .before .before .loop
+      .i) _ (c .before .before .before .before .loop-test .taken) (v .2) refl (v .4) (c .function-code .ensures .0),
+)
 
 returns : tie.Need-returns Inv-loop μ-loop
-returns c = let v = c .before .loop .inv in rw (v .0 .reads) (code-ends (v .0) (v .1) (c .before .loop .i) (c .loop-test .left) (v .4))
+returns c = let v = c .before .loop .inv in rw (v .0 .reads) (code-ends (v .0) (v .1) (c .before .loop .i)
+    (c .loop-test .left) (v .4))
 
 pub script-code-spec : {M : Type 1} → statement M
 script-code-spec =

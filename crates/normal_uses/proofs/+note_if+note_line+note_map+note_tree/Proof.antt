@@ -81,31 +81,109 @@ note-tree-below t =
     and 4 note-tree-kinds.ps (falls 4 note-tree-kinds.ps _<_ μ-note-tree t) note-tree.Pre
 
 abbrev note-if-claims : ℕ → note-if-lts.Claims
-note-if-claims t = (less-two-reads.Asked, less-two-reads.Learnt, first-row-reads.Asked, first-row-reads.Learnt, note-tree-below t, note-tree.Post, store-reads.Asked, store-reads.Learnt, less-reads.Asked, less-reads.Learnt, without-reads.Asked, without-reads.Learnt, joined-reads.Asked, joined-reads.Learnt, add-reads.Asked, add-reads.Learnt, with-reads.Asked, with-reads.Learnt)
+note-if-claims t = (
+  less-two-reads.Asked,
+  less-two-reads.Learnt,
+  first-row-reads.Asked,
+  first-row-reads.Learnt,
+  note-tree-below t,
+  note-tree.Post,
+  store-reads.Asked,
+  store-reads.Learnt,
+  less-reads.Asked,
+  less-reads.Learnt,
+  without-reads.Asked,
+  without-reads.Learnt,
+  joined-reads.Asked,
+  joined-reads.Learnt,
+  add-reads.Asked,
+  add-reads.Learnt,
+  with-reads.Asked,
+  with-reads.Learnt,
+)
 
 abbrev note-line-claims : ℕ → note-line-lts.Claims
-note-line-claims t = (note-plain-reads.Asked, note-plain-reads.Learnt, note-if-below t, note-if.Post, note-map-below t, note-map.Post)
+note-line-claims t = (
+  note-plain-reads.Asked,
+  note-plain-reads.Learnt,
+  note-if-below t,
+  note-if.Post,
+  note-map-below
+      t,
+  note-map.Post,
+)
 
 abbrev note-map-claims : ℕ → note-map-lts.Claims
-note-map-claims t = (less-two-reads.Asked, less-two-reads.Learnt, note-tree-below t, note-tree.Post, store-reads.Asked, store-reads.Learnt, without-reads.Asked, without-reads.Learnt, joined-reads.Asked, joined-reads.Learnt, add-reads.Asked, add-reads.Learnt, with-reads.Asked, with-reads.Learnt)
+note-map-claims t = (
+  less-two-reads.Asked,
+  less-two-reads.Learnt,
+  note-tree-below t,
+  note-tree.Post,
+  store-reads.Asked,
+  store-reads.Learnt,
+  without-reads.Asked,
+  without-reads.Learnt,
+  joined-reads.Asked,
+  joined-reads.Learnt,
+  add-reads.Asked,
+  add-reads.Learnt,
+  with-reads.Asked,
+  with-reads.Learnt,
+)
 
 abbrev note-tree-claims : ℕ → note-tree-lts.Claims
-note-tree-claims t = (row-at-reads.Asked, row-at-reads.Learnt, atom-of-reads.Asked, atom-of-reads.Learnt, none-reads.Asked, none-reads.Learnt, add-reads.Asked, add-reads.Learnt, note-at-reads.Asked, note-at-reads.Learnt, line-at-reads.Asked, line-at-reads.Learnt, note-line-below t, note-line.Post)
+note-tree-claims t = (
+  row-at-reads.Asked,
+  row-at-reads.Learnt,
+  atom-of-reads.Asked,
+  atom-of-reads.Learnt,
+  none-reads.Asked,
+  none-reads.Learnt,
+  add-reads.Asked,
+  add-reads.Learnt,
+  note-at-reads.Asked,
+  note-at-reads.Learnt,
+  line-at-reads.Asked,
+  line-at-reads.Learnt,
+  note-line-below t,
+  note-line.Post,
+)
 
-note-if-less-two-requires : (t : ℕ) → note-if-lts.Need-less-two-requires (note-if-claims t) (note-if-at t) note-if.Post
+note-if-less-two-requires : (t : ℕ) → note-if-lts.Need-less-two-requires (note-if-claims t) (note-if-at t)
+    note-if.Post
 note-if-less-two-requires t c κs = search needs
 
-note-if-first-row-requires : (t : ℕ) → note-if-lts.Need-first-row-requires (note-if-claims t) (note-if-at t) note-if.Post
+note-if-first-row-requires : (t : ℕ) → note-if-lts.Need-first-row-requires (note-if-claims t) (note-if-at t)
+    note-if.Post
 note-if-first-row-requires t c κs = search needs
 
-note-if-less-two-requires-2 : (t : ℕ) → note-if-lts.Need-less-two-requires-2 (note-if-claims t) (note-if-at t) note-if.Post
+note-if-less-two-requires-2 : (t : ℕ) → note-if-lts.Need-less-two-requires-2 (note-if-claims t) (note-if-at t)
+    note-if.Post
 note-if-less-two-requires-2 t c κs = search needs
 
-note-if-note-tree-requires : (t : ℕ) → note-if-lts.Need-note-tree-requires (note-if-claims t) (note-if-at t) note-if.Post
-note-if-note-tree-requires t c κs = (omega arith, (omega arith, c .before .before .before .before .before .before .before .pre .1 .1))
+note-if-note-tree-requires : (t : ℕ) → note-if-lts.Need-note-tree-requires (note-if-claims t) (note-if-at t)
+    note-if.Post
+note-if-note-tree-requires t c κs = (
+  omega arith,
+  (
+    omega arith,
+    c .before .before .before .before .before .before
+        .before .pre .1 .1,
+  ),
+)
 
-note-if-note-tree-requires-2 : (t : ℕ) → note-if-lts.Need-note-tree-requires-2 (note-if-claims t) (note-if-at t) note-if.Post
-note-if-note-tree-requires-2 t c κs = let h = start-le (c .before .before .before .before .before .before .before .before .before .args .notes .now) 4096 (c .before .before .before .before .before .less-two .result) in let g = c .before .before .before .before .first-row .ensures in (omega arith, (omega arith, c .before .note-tree .ensures .1))
+note-if-note-tree-requires-2 : (t : ℕ) → note-if-lts.Need-note-tree-requires-2 (note-if-claims t) (note-if-at t)
+    note-if.Post
+note-if-note-tree-requires-2 t c κs = let h = start-le (c .before .before .before .before .before .before .before
+    .before .before .args .notes .now) 4096 (c .before .before .before .before .before .less-two .result) in let g =
+    c .before .before .before .before .first-row .ensures in (
+      omega arith,
+      (
+        omega arith,
+        c .before .note-tree
+            .ensures .1,
+      ),
+    )
 
 note-if-mul-store : (t : ℕ) → note-if-lts.Need-mul-store (note-if-claims t) (note-if-at t) note-if.Post
 note-if-mul-store t c = search needs
@@ -137,77 +215,198 @@ note-if-less-requires-3 t c κs = search needs
 note-if-joined-requires : (t : ℕ) → note-if-lts.Need-joined-requires (note-if-claims t) (note-if-at t) note-if.Post
 note-if-joined-requires t c κs = search needs
 
-note-if-joined-requires-2 : (t : ℕ) → note-if-lts.Need-joined-requires-2 (note-if-claims t) (note-if-at t) note-if.Post
+note-if-joined-requires-2 : (t : ℕ) → note-if-lts.Need-joined-requires-2 (note-if-claims t) (note-if-at t)
+    note-if.Post
 note-if-joined-requires-2 t c κs = search needs
 
 note-if-add-requires : (t : ℕ) → note-if-lts.Need-add-requires (note-if-claims t) (note-if-at t) note-if.Post
 note-if-add-requires t c κs = search needs
 
-note-if-joined-requires-3 : (t : ℕ) → note-if-lts.Need-joined-requires-3 (note-if-claims t) (note-if-at t) note-if.Post
+note-if-joined-requires-3 : (t : ℕ) → note-if-lts.Need-joined-requires-3 (note-if-claims t) (note-if-at t)
+    note-if.Post
 note-if-joined-requires-3 t c κs = search needs
 
 note-if-with-requires : (t : ℕ) → note-if-lts.Need-with-requires (note-if-claims t) (note-if-at t) note-if.Post
 note-if-with-requires t c κs = search needs
 
 note-if-returns : (t : ℕ) → note-if-lts.Need-returns (note-if-claims t) (note-if-at t) note-if.Post
-note-if-returns t c = (noted-if (plain (c .before .before .before .before .before .before .before .before .before .before .before .before .before .before .before .before .before .before .before .before .before .before .before .before .before .before .before .args .operands .now) (c .before .before .before .before .before .before .before .before .before .before .before .before .before .before .before .before .before .before .before .before .before .before .before .before .before .before .before .args .rows .now) (c .before .before .before .before .before .before .before .before .before .before .before .before .before .before .before .before .before .before .before .before .before .before .before .before .before .before .before .args .notes .now)) (tree-to (plain (c .before .before .before .before .before .before .before .before .before .before .before .before .before .before .before .before .before .before .before .before .before .before .before .before .before .before .before .args .operands .now) (c .before .before .before .before .before .before .before .before .before .before .before .before .before .before .before .before .before .before .before .before .before .before .before .before .before .before .before .args .rows .now) (c .before .before .before .before .before .before .before .before .before .before .before .before .before .before .before .before .before .before .before .before .before .before .before .before .before .before .before .args .notes .now)) (c .before .before .before .before .before .before .before .before .before .before .before .before .before .before .before .before .before .before .before .before .before .before .before .before .before .before .before .args .levels)) 0 (c .before .before .before .before .before .before .before .before .before .before .before .before .before .before .before .before .before .before .before .before .before .before .before .before .before .before .before .args .q) (set-of (c .before .before .before .before .before .before .before .before .before .before .before .before .before .before .before .before .before .before .before .before .before .before .before .before .before .before .before .args .uses)) (set-of (c .before .before .before .before .before .before .before .before .before .before .before .before .before .before .before .before .before .before .before .before .before .before .before .before .before .before .before .args .binds)) (c .before .before .before .before .before .before .before .before .before .before .before .before .before .before .before .before .before .before .before .before .before .before .before .before .before .before .before .args .x) (c .before .before .before .before .before .before .before .before .before .before .before .before .before .before .before .before .before .before .before .before .before .before .before .before .before .before .before .args .g) (c .before .before .before .before .before .before .before .before .before .before .before .before .before .before .before .before .before .before .before .before .before .before .before .less-two .ensures) (c .before .before .before .before .before .before .before .before .before .before .before .before .before .before .before .before .before .before .before .before .before .before .first-row .ensures) (c .before .before .before .before .before .before .before .before .before .before .before .before .before .before .before .before .before .before .before .before .before .less-two2 .ensures) _ (c .before .before .before .before .before .before .before .before .before .before .before .before .before .before .before .before .before .before .before .note-tree .ensures .0) (c .before .before .before .before .before .before .before .before .before .before .before .before .before .before .before .before .before .note-tree2 .ensures .0) (c .before .before .before .before .before .before .before .before .before .before .before .before .before .store .ensures .0) (c .before .before .before .before .before .before .before .before .before .before .before .store2 .ensures .0) _ _ _ _ _ _ _ (c .before .before .before .before .before .before .before .before .less .ensures) (c .before .before .before .before .before .before .before .less2 .ensures) (c .before .before .before .before .before .before .without .ensures) (c .before .before .before .before .before .less3 .ensures) (c .before .before .before .before .joined .ensures) (c .before .before .before .joined2 .ensures) (c .before .before .add .ensures) (c .before .joined3 .ensures) (c .with .ensures), c .before .before .before .before .before .before .before .before .before .before .before .store2 .ensures .1)
+note-if-returns t c = (
+  noted-if (plain (c .before .before .before .before .before .before .before .before .before
+      .before .before .before .before .before .before .before .before .before .before .before .before .before .before
+      .before .before .before .before .args .operands .now) (c .before .before .before .before .before .before .before
+      .before .before .before .before .before .before .before .before .before .before .before .before .before .before
+      .before .before .before .before .before .before .args .rows .now) (c .before .before .before .before .before
+      .before .before .before .before .before .before .before .before .before .before .before .before .before .before
+      .before .before .before .before .before .before .before .before .args .notes .now))
+      (tree-to (plain (c .before .before .before .before .before .before .before .before .before .before .before
+      .before .before .before .before .before .before .before .before .before .before .before .before .before .before
+      .before .before .args .operands .now) (c .before .before .before .before .before .before .before .before .before
+      .before .before .before .before .before .before .before .before .before .before .before .before .before .before
+      .before .before .before .before .args .rows .now) (c .before .before .before .before .before .before .before
+      .before .before .before .before .before .before .before .before .before .before .before .before .before .before
+      .before .before .before .before .before .before .args .notes .now)) (c .before .before .before .before .before
+      .before .before .before .before .before .before .before .before .before .before .before .before .before .before
+      .before .before .before .before .before .before .before .before .args .levels)) 0 (c .before .before .before
+      .before .before .before .before .before .before .before .before .before .before .before .before .before .before
+      .before .before .before .before .before .before .before .before .before .before .args .q)
+      (set-of (c .before .before .before .before .before .before .before .before .before .before .before .before
+      .before .before .before .before .before .before .before .before .before .before .before .before .before .before
+      .before .args .uses)) (set-of (c .before .before .before .before .before .before .before .before .before .before
+      .before .before .before .before .before .before .before .before .before .before .before .before .before .before
+      .before .before .before .args .binds)) (c .before .before .before .before .before .before .before .before
+      .before .before .before .before .before .before .before .before .before .before .before .before .before .before
+      .before .before .before .before .before .args .x) (c .before .before .before .before .before .before .before
+      .before .before .before .before .before .before .before .before .before .before .before .before .before .before
+      .before .before .before .before .before .before .args .g) (c .before .before .before .before .before .before
+      .before .before .before .before .before .before .before .before .before .before .before .before .before .before
+      .before .before .before .less-two .ensures) (c .before .before .before .before .before .before .before .before
+      .before .before .before .before .before .before .before .before .before .before .before .before .before .before
+      .first-row .ensures) (c .before .before .before .before .before .before .before .before .before .before .before
+      .before .before .before .before .before .before .before .before .before .before .less-two2 .ensures) _
+      (c .before .before .before .before .before .before .before .before .before .before .before .before .before
+      .before .before .before .before .before .before .note-tree .ensures .0) (c .before .before .before .before
+      .before .before .before .before .before .before .before .before .before .before .before .before .before
+      .note-tree2 .ensures .0) (c .before .before .before .before .before .before .before .before .before .before
+      .before .before .before .store .ensures .0) (c .before .before .before .before .before .before .before .before
+      .before .before .before .store2 .ensures .0) _ _ _ _ _ _ _ (c .before .before .before .before .before .before
+      .before .before .less .ensures) (c .before .before .before .before .before .before .before .less2 .ensures)
+      (c .before .before .before .before .before .before .without .ensures) (c .before .before .before .before .before
+      .less3 .ensures) (c .before .before .before .before .joined .ensures) (c .before .before .before .joined2
+      .ensures) (c .before .before .add .ensures) (c .before .joined3 .ensures) (c .with .ensures),
+  c .before .before
+      .before .before .before .before .before .before .before .before .before .store2 .ensures .1,
+)
 
-note-line-enum-known-l : (t : ℕ) → note-line-lts.Need-enum-known-l (note-line-claims t) (note-line-at t) note-line.Post
+note-line-enum-known-l : (t : ℕ) → note-line-lts.Need-enum-known-l (note-line-claims t) (note-line-at t)
+    note-line.Post
 note-line-enum-known-l t c = search needs
 
-note-line-note-plain-requires : (t : ℕ) → note-line-lts.Need-note-plain-requires (note-line-claims t) (note-line-at t) note-line.Post
+note-line-note-plain-requires : (t : ℕ) → note-line-lts.Need-note-plain-requires (note-line-claims t) (note-line-at
+    t) note-line.Post
 note-line-note-plain-requires t c κs = search needs
 
-note-line-enum-known-l-2 : (t : ℕ) → note-line-lts.Need-enum-known-l-2 (note-line-claims t) (note-line-at t) note-line.Post
+note-line-enum-known-l-2 : (t : ℕ) → note-line-lts.Need-enum-known-l-2 (note-line-claims t) (note-line-at t)
+    note-line.Post
 note-line-enum-known-l-2 t c = search needs
 
-note-line-note-plain-requires-2 : (t : ℕ) → note-line-lts.Need-note-plain-requires-2 (note-line-claims t) (note-line-at t) note-line.Post
+note-line-note-plain-requires-2 : (t : ℕ) → note-line-lts.Need-note-plain-requires-2 (note-line-claims t)
+    (note-line-at t) note-line.Post
 note-line-note-plain-requires-2 t c κs = search needs
 
-note-line-enum-known-l-3 : (t : ℕ) → note-line-lts.Need-enum-known-l-3 (note-line-claims t) (note-line-at t) note-line.Post
+note-line-enum-known-l-3 : (t : ℕ) → note-line-lts.Need-enum-known-l-3 (note-line-claims t) (note-line-at t)
+    note-line.Post
 note-line-enum-known-l-3 t c = search needs
 
-note-line-note-plain-requires-3 : (t : ℕ) → note-line-lts.Need-note-plain-requires-3 (note-line-claims t) (note-line-at t) note-line.Post
+note-line-note-plain-requires-3 : (t : ℕ) → note-line-lts.Need-note-plain-requires-3 (note-line-claims t)
+    (note-line-at t) note-line.Post
 note-line-note-plain-requires-3 t c κs = search needs
 
-note-line-enum-known-l-4 : (t : ℕ) → note-line-lts.Need-enum-known-l-4 (note-line-claims t) (note-line-at t) note-line.Post
+note-line-enum-known-l-4 : (t : ℕ) → note-line-lts.Need-enum-known-l-4 (note-line-claims t) (note-line-at t)
+    note-line.Post
 note-line-enum-known-l-4 t c = search needs
 
-note-line-note-plain-requires-4 : (t : ℕ) → note-line-lts.Need-note-plain-requires-4 (note-line-claims t) (note-line-at t) note-line.Post
+note-line-note-plain-requires-4 : (t : ℕ) → note-line-lts.Need-note-plain-requires-4 (note-line-claims t)
+    (note-line-at t) note-line.Post
 note-line-note-plain-requires-4 t c κs = search needs
 
-note-line-enum-known-l-5 : (t : ℕ) → note-line-lts.Need-enum-known-l-5 (note-line-claims t) (note-line-at t) note-line.Post
+note-line-enum-known-l-5 : (t : ℕ) → note-line-lts.Need-enum-known-l-5 (note-line-claims t) (note-line-at t)
+    note-line.Post
 note-line-enum-known-l-5 t c = search needs
 
-note-line-note-plain-requires-5 : (t : ℕ) → note-line-lts.Need-note-plain-requires-5 (note-line-claims t) (note-line-at t) note-line.Post
+note-line-note-plain-requires-5 : (t : ℕ) → note-line-lts.Need-note-plain-requires-5 (note-line-claims t)
+    (note-line-at t) note-line.Post
 note-line-note-plain-requires-5 t c κs = search needs
 
-note-line-enum-known-l-6 : (t : ℕ) → note-line-lts.Need-enum-known-l-6 (note-line-claims t) (note-line-at t) note-line.Post
+note-line-enum-known-l-6 : (t : ℕ) → note-line-lts.Need-enum-known-l-6 (note-line-claims t) (note-line-at t)
+    note-line.Post
 note-line-enum-known-l-6 t c = search needs
 
-note-line-note-if-requires : (t : ℕ) → note-line-lts.Need-note-if-requires (note-line-claims t) (note-line-at t) note-line.Post
+note-line-note-if-requires : (t : ℕ) → note-line-lts.Need-note-if-requires (note-line-claims t) (note-line-at t)
+    note-line.Post
 note-line-note-if-requires t c κs = search needs
 
-note-line-enum-known-l-7 : (t : ℕ) → note-line-lts.Need-enum-known-l-7 (note-line-claims t) (note-line-at t) note-line.Post
+note-line-enum-known-l-7 : (t : ℕ) → note-line-lts.Need-enum-known-l-7 (note-line-claims t) (note-line-at t)
+    note-line.Post
 note-line-enum-known-l-7 t c = search needs
 
-note-line-note-map-requires : (t : ℕ) → note-line-lts.Need-note-map-requires (note-line-claims t) (note-line-at t) note-line.Post
+note-line-note-map-requires : (t : ℕ) → note-line-lts.Need-note-map-requires (note-line-claims t) (note-line-at t)
+    note-line.Post
 note-line-note-map-requires t c κs = search needs
 
 note-line-returns : (t : ℕ) → note-line-lts.Need-returns (note-line-claims t) (note-line-at t) note-line.Post
-note-line-returns t c = rw (c .before .before .l .given .1) (noted-operation (plain (c .before .before .before .before .before .before .before .args .operands .now) (c .before .before .before .before .before .before .before .args .rows .now) (c .before .before .before .before .before .before .before .args .notes .now)) (tree-to (plain (c .before .before .before .before .before .before .before .args .operands .now) (c .before .before .before .before .before .before .before .args .rows .now) (c .before .before .before .before .before .before .before .args .notes .now)) (c .before .before .before .before .before .before .before .args .levels)) (c .before .before .before .before .before .before .before .args .p) (c .before .before .before .before .before .before .before .args .q) (set-of (c .before .before .before .before .before .before .before .args .uses)) (set-of (c .before .before .before .before .before .before .before .args .binds)) _ _ _ _ _ _ (c .note-plain .ensures), c .before .before .before .before .before .before .before .pre .1 .1)
+note-line-returns t c = rw (c .before .before .l .given .1) (
+  noted-operation (plain (c .before .before .before
+      .before .before .before .before .args .operands .now) (c .before .before .before .before .before .before .before
+      .args .rows .now) (c .before .before .before .before .before .before .before .args .notes .now))
+      (tree-to (plain (c .before .before .before .before .before .before .before .args .operands .now)
+      (c .before .before .before .before .before .before .before .args .rows .now) (c .before .before .before .before
+      .before .before .before .args .notes .now)) (c .before .before .before .before .before .before .before .args
+      .levels)) (c .before .before .before .before .before .before .before .args .p) (c .before .before .before
+      .before .before .before .before .args .q) (set-of (c .before .before .before .before .before .before .before
+      .args .uses)) (set-of (c .before .before .before .before .before .before .before .args .binds)) _ _ _ _ _ _
+      (c .note-plain .ensures),
+  c .before .before .before .before .before .before .before .pre .1 .1,
+)
 
 note-line-returns-2 : (t : ℕ) → note-line-lts.Need-returns-2 (note-line-claims t) (note-line-at t) note-line.Post
-note-line-returns-2 t c = rw (c .before .before .l2 .given .1) (noted-call (plain (c .before .before .before .before .before .before .before .args .operands .now) (c .before .before .before .before .before .before .before .args .rows .now) (c .before .before .before .before .before .before .before .args .notes .now)) (tree-to (plain (c .before .before .before .before .before .before .before .args .operands .now) (c .before .before .before .before .before .before .before .args .rows .now) (c .before .before .before .before .before .before .before .args .notes .now)) (c .before .before .before .before .before .before .before .args .levels)) (c .before .before .before .before .before .before .before .args .p) (c .before .before .before .before .before .before .before .args .q) (set-of (c .before .before .before .before .before .before .before .args .uses)) (set-of (c .before .before .before .before .before .before .before .args .binds)) _ _ _ _ _ (c .note-plain2 .ensures), c .before .before .before .before .before .before .before .pre .1 .1)
+note-line-returns-2 t c = rw (c .before .before .l2 .given .1) (
+  noted-call (plain (c .before .before .before .before
+      .before .before .before .args .operands .now) (c .before .before .before .before .before .before .before .args
+      .rows .now) (c .before .before .before .before .before .before .before .args .notes .now))
+      (tree-to (plain (c .before .before .before .before .before .before .before .args .operands .now)
+      (c .before .before .before .before .before .before .before .args .rows .now) (c .before .before .before .before
+      .before .before .before .args .notes .now)) (c .before .before .before .before .before .before .before .args
+      .levels)) (c .before .before .before .before .before .before .before .args .p) (c .before .before .before
+      .before .before .before .before .args .q) (set-of (c .before .before .before .before .before .before .before
+      .args .uses)) (set-of (c .before .before .before .before .before .before .before .args .binds)) _ _ _ _ _
+      (c .note-plain2 .ensures),
+  c .before .before .before .before .before .before .before .pre .1 .1,
+)
 
 note-line-returns-3 : (t : ℕ) → note-line-lts.Need-returns-3 (note-line-claims t) (note-line-at t) note-line.Post
-note-line-returns-3 t c = rw (c .before .before .l3 .given .1) (noted-literal (plain (c .before .before .before .before .before .before .before .args .operands .now) (c .before .before .before .before .before .before .before .args .rows .now) (c .before .before .before .before .before .before .before .args .notes .now)) (tree-to (plain (c .before .before .before .before .before .before .before .args .operands .now) (c .before .before .before .before .before .before .before .args .rows .now) (c .before .before .before .before .before .before .before .args .notes .now)) (c .before .before .before .before .before .before .before .args .levels)) (c .before .before .before .before .before .before .before .args .p) (c .before .before .before .before .before .before .before .args .q) (set-of (c .before .before .before .before .before .before .before .args .uses)) (set-of (c .before .before .before .before .before .before .before .args .binds)) _ _ _ _ _ (c .note-plain3 .ensures), c .before .before .before .before .before .before .before .pre .1 .1)
+note-line-returns-3 t c = rw (c .before .before .l3 .given .1) (
+  noted-literal (plain (c .before .before .before
+      .before .before .before .before .args .operands .now) (c .before .before .before .before .before .before .before
+      .args .rows .now) (c .before .before .before .before .before .before .before .args .notes .now))
+      (tree-to (plain (c .before .before .before .before .before .before .before .args .operands .now)
+      (c .before .before .before .before .before .before .before .args .rows .now) (c .before .before .before .before
+      .before .before .before .args .notes .now)) (c .before .before .before .before .before .before .before .args
+      .levels)) (c .before .before .before .before .before .before .before .args .p) (c .before .before .before
+      .before .before .before .before .args .q) (set-of (c .before .before .before .before .before .before .before
+      .args .uses)) (set-of (c .before .before .before .before .before .before .before .args .binds)) _ _ _ _ _
+      (c .note-plain3 .ensures),
+  c .before .before .before .before .before .before .before .pre .1 .1,
+)
 
 note-line-returns-4 : (t : ℕ) → note-line-lts.Need-returns-4 (note-line-claims t) (note-line-at t) note-line.Post
-note-line-returns-4 t c = rw (c .before .before .l4 .given .1) (noted-index (plain (c .before .before .before .before .before .before .before .args .operands .now) (c .before .before .before .before .before .before .before .args .rows .now) (c .before .before .before .before .before .before .before .args .notes .now)) (tree-to (plain (c .before .before .before .before .before .before .before .args .operands .now) (c .before .before .before .before .before .before .before .args .rows .now) (c .before .before .before .before .before .before .before .args .notes .now)) (c .before .before .before .before .before .before .before .args .levels)) (c .before .before .before .before .before .before .before .args .p) (c .before .before .before .before .before .before .before .args .q) (set-of (c .before .before .before .before .before .before .before .args .uses)) (set-of (c .before .before .before .before .before .before .before .args .binds)) _ _ _ _ _ (c .note-plain4 .ensures), c .before .before .before .before .before .before .before .pre .1 .1)
+note-line-returns-4 t c = rw (c .before .before .l4 .given .1) (
+  noted-index (plain (c .before .before .before
+      .before .before .before .before .args .operands .now) (c .before .before .before .before .before .before .before
+      .args .rows .now) (c .before .before .before .before .before .before .before .args .notes .now))
+      (tree-to (plain (c .before .before .before .before .before .before .before .args .operands .now)
+      (c .before .before .before .before .before .before .before .args .rows .now) (c .before .before .before .before
+      .before .before .before .args .notes .now)) (c .before .before .before .before .before .before .before .args
+      .levels)) (c .before .before .before .before .before .before .before .args .p) (c .before .before .before
+      .before .before .before .before .args .q) (set-of (c .before .before .before .before .before .before .before
+      .args .uses)) (set-of (c .before .before .before .before .before .before .before .args .binds)) _ _ _ _ _
+      (c .note-plain4 .ensures),
+  c .before .before .before .before .before .before .before .pre .1 .1,
+)
 
 note-line-returns-5 : (t : ℕ) → note-line-lts.Need-returns-5 (note-line-claims t) (note-line-at t) note-line.Post
-note-line-returns-5 t c = rw (c .before .before .l5 .given .1) (noted-length (plain (c .before .before .before .before .before .before .before .args .operands .now) (c .before .before .before .before .before .before .before .args .rows .now) (c .before .before .before .before .before .before .before .args .notes .now)) (tree-to (plain (c .before .before .before .before .before .before .before .args .operands .now) (c .before .before .before .before .before .before .before .args .rows .now) (c .before .before .before .before .before .before .before .args .notes .now)) (c .before .before .before .before .before .before .before .args .levels)) (c .before .before .before .before .before .before .before .args .p) (c .before .before .before .before .before .before .before .args .q) (set-of (c .before .before .before .before .before .before .before .args .uses)) (set-of (c .before .before .before .before .before .before .before .args .binds)) _ _ _ _ (c .note-plain5 .ensures), c .before .before .before .before .before .before .before .pre .1 .1)
+note-line-returns-5 t c = rw (c .before .before .l5 .given .1) (
+  noted-length (plain (c .before .before .before
+      .before .before .before .before .args .operands .now) (c .before .before .before .before .before .before .before
+      .args .rows .now) (c .before .before .before .before .before .before .before .args .notes .now))
+      (tree-to (plain (c .before .before .before .before .before .before .before .args .operands .now)
+      (c .before .before .before .before .before .before .before .args .rows .now) (c .before .before .before .before
+      .before .before .before .args .notes .now)) (c .before .before .before .before .before .before .before .args
+      .levels)) (c .before .before .before .before .before .before .before .args .p) (c .before .before .before
+      .before .before .before .before .args .q) (set-of (c .before .before .before .before .before .before .before
+      .args .uses)) (set-of (c .before .before .before .before .before .before .before .args .binds)) _ _ _ _
+      (c .note-plain5 .ensures),
+  c .before .before .before .before .before .before .before .pre .1 .1,
+)
 
 note-line-returns-6 : (t : ℕ) → note-line-lts.Need-returns-6 (note-line-claims t) (note-line-at t) note-line.Post
 unfolding as-line
@@ -217,11 +416,20 @@ note-line-returns-7 : (t : ℕ) → note-line-lts.Need-returns-7 (note-line-clai
 unfolding as-line
 note-line-returns-7 t c = rw (c .before .before .before .l7 .given .1) (c .note-map .ensures)
 
-note-map-less-two-requires : (t : ℕ) → note-map-lts.Need-less-two-requires (note-map-claims t) (note-map-at t) note-map.Post
+note-map-less-two-requires : (t : ℕ) → note-map-lts.Need-less-two-requires (note-map-claims t) (note-map-at t)
+    note-map.Post
 note-map-less-two-requires t c κs = search needs
 
-note-map-note-tree-requires : (t : ℕ) → note-map-lts.Need-note-tree-requires (note-map-claims t) (note-map-at t) note-map.Post
-note-map-note-tree-requires t c κs = (omega arith, (omega arith, c .before .before .before .before .before .pre .1 .1))
+note-map-note-tree-requires : (t : ℕ) → note-map-lts.Need-note-tree-requires (note-map-claims t) (note-map-at t)
+    note-map.Post
+note-map-note-tree-requires t c κs = (
+  omega arith,
+  (
+    omega arith,
+    c .before .before .before .before .before .pre .1
+        .1,
+  ),
+)
 
 note-map-mul-store : (t : ℕ) → note-map-lts.Need-mul-store (note-map-claims t) (note-map-at t) note-map.Post
 note-map-mul-store t c = search needs
@@ -229,13 +437,16 @@ note-map-mul-store t c = search needs
 note-map-store-requires : (t : ℕ) → note-map-lts.Need-store-requires (note-map-claims t) (note-map-at t) note-map.Post
 note-map-store-requires t c κs = (omega arith, c .before .before .note-tree .ensures .1)
 
-note-map-without-requires : (t : ℕ) → note-map-lts.Need-without-requires (note-map-claims t) (note-map-at t) note-map.Post
+note-map-without-requires : (t : ℕ) → note-map-lts.Need-without-requires (note-map-claims t) (note-map-at t)
+    note-map.Post
 note-map-without-requires t c κs = search needs
 
-note-map-without-requires-2 : (t : ℕ) → note-map-lts.Need-without-requires-2 (note-map-claims t) (note-map-at t) note-map.Post
+note-map-without-requires-2 : (t : ℕ) → note-map-lts.Need-without-requires-2 (note-map-claims t) (note-map-at t)
+    note-map.Post
 note-map-without-requires-2 t c κs = search needs
 
-note-map-joined-requires : (t : ℕ) → note-map-lts.Need-joined-requires (note-map-claims t) (note-map-at t) note-map.Post
+note-map-joined-requires : (t : ℕ) → note-map-lts.Need-joined-requires (note-map-claims t) (note-map-at t)
+    note-map.Post
 note-map-joined-requires t c κs = search needs
 
 note-map-add-requires : (t : ℕ) → note-map-lts.Need-add-requires (note-map-claims t) (note-map-at t) note-map.Post
@@ -245,7 +456,30 @@ note-map-with-requires : (t : ℕ) → note-map-lts.Need-with-requires (note-map
 note-map-with-requires t c κs = search needs
 
 note-map-returns : (t : ℕ) → note-map-lts.Need-returns (note-map-claims t) (note-map-at t) note-map.Post
-note-map-returns t c = (noted-map (plain (c .before .before .before .before .before .before .before .before .before .before .before .before .before .before .args .operands .now) (c .before .before .before .before .before .before .before .before .before .before .before .before .before .before .args .rows .now) (c .before .before .before .before .before .before .before .before .before .before .before .before .before .before .args .notes .now)) (tree-to (plain (c .before .before .before .before .before .before .before .before .before .before .before .before .before .before .args .operands .now) (c .before .before .before .before .before .before .before .before .before .before .before .before .before .before .args .rows .now) (c .before .before .before .before .before .before .before .before .before .before .before .before .before .before .args .notes .now)) (c .before .before .before .before .before .before .before .before .before .before .before .before .before .before .args .levels)) 0 (c .before .before .before .before .before .before .before .before .before .before .before .before .before .before .args .q) (set-of (c .before .before .before .before .before .before .before .before .before .before .before .before .before .before .args .uses)) (set-of (c .before .before .before .before .before .before .before .before .before .before .before .before .before .before .args .binds)) (c .before .before .before .before .before .before .before .before .before .before .before .before .before .before .args .x) (c .before .before .before .before .before .before .before .before .before .before .before .before .before .before .args .y) (c .before .before .before .before .before .before .before .before .before .before .before .before .before .before .args .a) (c .before .before .before .before .before .before .before .before .before .before .less-two .ensures) (c .before .before .before .before .before .before .before .before .note-tree .ensures .0) (c .before .before .before .before .before .store .ensures .0) _ _ _ (c .before .before .before .before .without .ensures) (c .before .before .before .without2 .ensures) (c .before .before .joined .ensures) (c .before .add .ensures) (c .with .ensures), c .before .before .before .before .before .store .ensures .1)
+note-map-returns t c = (
+  noted-map (plain (c .before .before .before .before .before .before .before .before .before
+      .before .before .before .before .before .args .operands .now) (c .before .before .before .before .before .before
+      .before .before .before .before .before .before .before .before .args .rows .now) (c .before .before .before
+      .before .before .before .before .before .before .before .before .before .before .before .args .notes .now))
+      (tree-to (plain (c .before .before .before .before .before .before .before .before .before .before .before
+      .before .before .before .args .operands .now) (c .before .before .before .before .before .before .before .before
+      .before .before .before .before .before .before .args .rows .now) (c .before .before .before .before .before
+      .before .before .before .before .before .before .before .before .before .args .notes .now)) (c .before .before
+      .before .before .before .before .before .before .before .before .before .before .before .before .args .levels))
+      0 (c .before .before .before .before .before .before .before .before .before .before .before .before .before
+      .before .args .q) (set-of (c .before .before .before .before .before .before .before .before .before .before
+      .before .before .before .before .args .uses)) (set-of (c .before .before .before .before .before .before .before
+      .before .before .before .before .before .before .before .args .binds)) (c .before .before .before .before
+      .before .before .before .before .before .before .before .before .before .before .args .x) (c .before .before
+      .before .before .before .before .before .before .before .before .before .before .before .before .args .y)
+      (c .before .before .before .before .before .before .before .before .before .before .before .before .before
+      .before .args .a) (c .before .before .before .before .before .before .before .before .before .before .less-two
+      .ensures) (c .before .before .before .before .before .before .before .before .note-tree .ensures .0)
+      (c .before .before .before .before .before .store .ensures .0) _ _ _ (c .before .before .before .before .without
+      .ensures) (c .before .before .before .without2 .ensures) (c .before .before .joined .ensures) (c .before .add
+      .ensures) (c .with .ensures),
+  c .before .before .before .before .before .store .ensures .1,
+)
 
 abbrev note-tree-Inv-loop : note-tree-lts.InvT-loop
 note-tree-Inv-loop operands rows notes table₀ e levels place binds₀ uses₀ q₀ left₀ table binds uses q left =
@@ -255,52 +489,108 @@ abbrev note-tree-μ-loop : note-tree-lts.MeasureT-loop
 note-tree-μ-loop operands rows notes table₀ e levels place binds₀ uses₀ q₀ left₀ table binds uses q left =
     left
 
-note-tree-add-row-at : (t : ℕ) → note-tree-lts.Need-add-row-at (note-tree-claims t) (note-tree-at t) note-tree.Post note-tree-Inv-loop note-tree-μ-loop
+note-tree-add-row-at : (t : ℕ) → note-tree-lts.Need-add-row-at (note-tree-claims t) (note-tree-at t) note-tree.Post
+    note-tree-Inv-loop note-tree-μ-loop
 note-tree-add-row-at t c = search needs
 
-note-tree-row-at-requires : (t : ℕ) → note-tree-lts.Need-row-at-requires (note-tree-claims t) (note-tree-at t) note-tree.Post note-tree-Inv-loop note-tree-μ-loop
+note-tree-row-at-requires : (t : ℕ) → note-tree-lts.Need-row-at-requires (note-tree-claims t) (note-tree-at t)
+    note-tree.Post note-tree-Inv-loop note-tree-μ-loop
 note-tree-row-at-requires t c κs = search needs
 
-note-tree-atom-of-requires : (t : ℕ) → note-tree-lts.Need-atom-of-requires (note-tree-claims t) (note-tree-at t) note-tree.Post note-tree-Inv-loop note-tree-μ-loop
+note-tree-atom-of-requires : (t : ℕ) → note-tree-lts.Need-atom-of-requires (note-tree-claims t) (note-tree-at t)
+    note-tree.Post note-tree-Inv-loop note-tree-μ-loop
 note-tree-atom-of-requires t c κs = search needs
 
-note-tree-none-requires : (t : ℕ) → note-tree-lts.Need-none-requires (note-tree-claims t) (note-tree-at t) note-tree.Post note-tree-Inv-loop note-tree-μ-loop
+note-tree-none-requires : (t : ℕ) → note-tree-lts.Need-none-requires (note-tree-claims t) (note-tree-at t)
+    note-tree.Post note-tree-Inv-loop note-tree-μ-loop
 note-tree-none-requires t c κs = search needs
 
-note-tree-add-requires : (t : ℕ) → note-tree-lts.Need-add-requires (note-tree-claims t) (note-tree-at t) note-tree.Post note-tree-Inv-loop note-tree-μ-loop
+note-tree-add-requires : (t : ℕ) → note-tree-lts.Need-add-requires (note-tree-claims t) (note-tree-at t)
+    note-tree.Post note-tree-Inv-loop note-tree-μ-loop
 note-tree-add-requires t c κs = search needs
 
-note-tree-returns : (t : ℕ) → note-tree-lts.Need-returns (note-tree-claims t) (note-tree-at t) note-tree.Post note-tree-Inv-loop note-tree-μ-loop
-note-tree-returns t c = (noted-none (begun (plain (c .before .before .before .before .before .before .before .before .args .operands .now) (c .before .before .before .before .before .before .before .before .args .rows .now) (c .before .before .before .before .before .before .before .before .args .notes .now)) (c .before .before .before .before .before .before .before .before .args .e) (c .before .add .result) (c .before .before .none .result) (c .before .before .before .atom-of .result) (c .before .before .before .before .row-at .result) (c .before .before .before .before .row-at .ensures) (c .before .before .before .atom-of .ensures) (c .before .add .ensures) (c .before .before .none .ensures)) (c .before .before .before .before .before .before .before .before .args .levels) _ (c .if1 .taken), c .before .before .before .before .before .before .before .before .pre .1 .1)
+note-tree-returns : (t : ℕ) → note-tree-lts.Need-returns (note-tree-claims t) (note-tree-at t) note-tree.Post
+    note-tree-Inv-loop note-tree-μ-loop
+note-tree-returns t c = (
+  noted-none (begun (plain (c .before .before .before .before .before .before .before .before
+      .args .operands .now) (c .before .before .before .before .before .before .before .before .args .rows .now)
+      (c .before .before .before .before .before .before .before .before .args .notes .now)) (c .before .before
+      .before .before .before .before .before .before .args .e) (c .before .add .result) (c .before .before .none
+      .result) (c .before .before .before .atom-of .result) (c .before .before .before .before .row-at .result)
+      (c .before .before .before .before .row-at .ensures) (c .before .before .before .atom-of .ensures)
+      (c .before .add .ensures) (c .before .before .none .ensures)) (c .before .before .before .before .before .before
+      .before .before .args .levels) _ (c .if1 .taken),
+  c .before .before .before .before .before .before .before
+      .before .pre .1 .1,
+)
 
-note-tree-loop-holds : (t : ℕ) → note-tree-lts.Need-loop-holds (note-tree-claims t) (note-tree-at t) note-tree.Post note-tree-Inv-loop note-tree-μ-loop
-note-tree-loop-holds t c = (walk-begins (begun (plain (c .before .before .before .before .before .before .before .before .args .operands .now) (c .before .before .before .before .before .before .before .before .args .rows .now) (c .before .before .before .before .before .before .before .before .args .notes .now)) (c .before .before .before .before .before .before .before .before .args .e) (c .before .add .result) (c .before .before .none .result) (c .before .before .before .atom-of .result) (c .before .before .before .before .row-at .result) (c .before .before .before .before .row-at .ensures) (c .before .before .before .atom-of .ensures) (c .before .add .ensures) (c .before .before .none .ensures)) (c .if1 .left) (omega arith), c .before .before .before .before .before .before .before .before .pre .1 .1)
+note-tree-loop-holds : (t : ℕ) → note-tree-lts.Need-loop-holds (note-tree-claims t) (note-tree-at t) note-tree.Post
+    note-tree-Inv-loop note-tree-μ-loop
+note-tree-loop-holds t c = (
+  walk-begins (begun (plain (c .before .before .before .before .before .before .before
+      .before .args .operands .now) (c .before .before .before .before .before .before .before .before .args .rows
+      .now) (c .before .before .before .before .before .before .before .before .args .notes .now)) (c .before .before
+      .before .before .before .before .before .before .args .e) (c .before .add .result) (c .before .before .none
+      .result) (c .before .before .before .atom-of .result) (c .before .before .before .before .row-at .result)
+      (c .before .before .before .before .row-at .ensures) (c .before .before .before .atom-of .ensures)
+      (c .before .add .ensures) (c .before .before .none .ensures)) (c .if1 .left) (omega arith),
+  c .before .before
+      .before .before .before .before .before .before .pre .1 .1,
+)
 
-note-tree-note-at-requires : (t : ℕ) → note-tree-lts.Need-note-at-requires (note-tree-claims t) (note-tree-at t) note-tree.Post note-tree-Inv-loop note-tree-μ-loop
+note-tree-note-at-requires : (t : ℕ) → note-tree-lts.Need-note-at-requires (note-tree-claims t) (note-tree-at t)
+    note-tree.Post note-tree-Inv-loop note-tree-μ-loop
 note-tree-note-at-requires t c κs = search needs
 
-note-tree-returns-2 : (t : ℕ) → note-tree-lts.Need-returns-2 (note-tree-claims t) (note-tree-at t) note-tree.Post note-tree-Inv-loop note-tree-μ-loop
-note-tree-returns-2 t c = (walk-stops (c .before .before .before .loop .inv .0) (c .before .note-at .result) (c .before .note-at .ensures) (c .if2 .taken), c .before .before .before .loop .inv .1)
+note-tree-returns-2 : (t : ℕ) → note-tree-lts.Need-returns-2 (note-tree-claims t) (note-tree-at t) note-tree.Post
+    note-tree-Inv-loop note-tree-μ-loop
+note-tree-returns-2 t c = (
+  walk-stops (c .before .before .before .loop .inv .0) (c .before .note-at .result)
+      (c .before .note-at .ensures) (c .if2 .taken),
+  c .before .before .before .loop .inv .1,
+)
 
-note-tree-line-at-requires : (t : ℕ) → note-tree-lts.Need-line-at-requires (note-tree-claims t) (note-tree-at t) note-tree.Post note-tree-Inv-loop note-tree-μ-loop
+note-tree-line-at-requires : (t : ℕ) → note-tree-lts.Need-line-at-requires (note-tree-claims t) (note-tree-at t)
+    note-tree.Post note-tree-Inv-loop note-tree-μ-loop
 note-tree-line-at-requires t c κs = search needs
 
-note-tree-sub-note-line : (t : ℕ) → note-tree-lts.Need-sub-note-line (note-tree-claims t) (note-tree-at t) note-tree.Post note-tree-Inv-loop note-tree-μ-loop
+note-tree-sub-note-line : (t : ℕ) → note-tree-lts.Need-sub-note-line (note-tree-claims t) (note-tree-at t)
+    note-tree.Post note-tree-Inv-loop note-tree-μ-loop
 note-tree-sub-note-line t c = search needs
 
-note-tree-note-line-requires : (t : ℕ) → note-tree-lts.Need-note-line-requires (note-tree-claims t) (note-tree-at t) note-tree.Post note-tree-Inv-loop note-tree-μ-loop
-note-tree-note-line-requires t c κs = (omega arith, ((omega arith, omega arith), c .before .before .before .before .before .loop .inv .1))
+note-tree-note-line-requires : (t : ℕ) → note-tree-lts.Need-note-line-requires (note-tree-claims t) (note-tree-at t)
+    note-tree.Post note-tree-Inv-loop note-tree-μ-loop
+note-tree-note-line-requires t c κs = (
+  omega arith,
+  (
+    (omega arith, omega arith),
+    c .before .before .before .before
+        .before .loop .inv .1,
+  ),
+)
 
-note-tree-sub-left : (t : ℕ) → note-tree-lts.Need-sub-left (note-tree-claims t) (note-tree-at t) note-tree.Post note-tree-Inv-loop note-tree-μ-loop
+note-tree-sub-left : (t : ℕ) → note-tree-lts.Need-sub-left (note-tree-claims t) (note-tree-at t) note-tree.Post
+    note-tree-Inv-loop note-tree-μ-loop
 note-tree-sub-left t c = search needs
 
-note-tree-loop-less : (t : ℕ) → note-tree-lts.Need-loop-less (note-tree-claims t) (note-tree-at t) note-tree.Post note-tree-Inv-loop note-tree-μ-loop
+note-tree-loop-less : (t : ℕ) → note-tree-lts.Need-loop-less (note-tree-claims t) (note-tree-at t) note-tree.Post
+    note-tree-Inv-loop note-tree-μ-loop
 note-tree-loop-less t c = search needs
 
-note-tree-loop-again : (t : ℕ) → note-tree-lts.Need-loop-again (note-tree-claims t) (note-tree-at t) note-tree.Post note-tree-Inv-loop note-tree-μ-loop
-note-tree-loop-again t c = (walk-goes (c .before .before .before .before .before .before .before .before .loop .inv .0) (c .before .before .before .before .before .before .note-at .result) (c .before .before .before .before .line-at .result) _ (c .before .before .note-line .result) (c .before .before .before .before .before .before .before .loop-test .taken) (c .before .before .before .before .before .before .note-at .ensures) (c .before .before .before .before .before .if2 .left) (c .before .before .before .before .line-at .ensures) (c .before .before .note-line .ensures .0), c .before .before .note-line .ensures .1)
+note-tree-loop-again : (t : ℕ) → note-tree-lts.Need-loop-again (note-tree-claims t) (note-tree-at t) note-tree.Post
+    note-tree-Inv-loop note-tree-μ-loop
+note-tree-loop-again t c = (
+  walk-goes (c .before .before .before .before .before .before .before .before .loop .inv
+      .0) (c .before .before .before .before .before .before .note-at .result) (c .before .before .before .before
+      .line-at .result) _ (c .before .before .note-line .result) (c .before .before .before .before .before .before
+      .before .loop-test .taken) (c .before .before .before .before .before .before .note-at .ensures)
+      (c .before .before .before .before .before .if2 .left) (c .before .before .before .before .line-at .ensures)
+      (c .before .before .note-line .ensures .0),
+  c .before .before .note-line .ensures .1,
+)
 
-note-tree-returns-3 : (t : ℕ) → note-tree-lts.Need-returns-3 (note-tree-claims t) (note-tree-at t) note-tree.Post note-tree-Inv-loop note-tree-μ-loop
+note-tree-returns-3 : (t : ℕ) → note-tree-lts.Need-returns-3 (note-tree-claims t) (note-tree-at t) note-tree.Post
+    note-tree-Inv-loop note-tree-μ-loop
 note-tree-returns-3 t c = (walk-ends (c .before .loop .inv .0) (c .loop-test .left), c .before .loop .inv .1)
 
 pub +note-if+note-line+note-map+note-tree-spec : {M : Type 1} → statement M

@@ -39,7 +39,8 @@ returns-7 c = rw (c .match .keys7)
 
 returns-8 : tie.Need-returns-8
 unfolding bit
-returns-8 c = let r = c .match .rest in rw (seven (c .before .args .k) (omega arith) (r .0 .0 .0 .0 .0 .0 .1) (r .0 .0 .0 .0 .0 .1) (r .0 .0 .0 .0 .1) (r .0 .0 .0 .1) (r .0 .0 .1) (r .0 .1) (r .1))
+returns-8 c = let r = c .match .rest in rw (seven (c .before .args .k) (omega arith) (r .0 .0 .0 .0 .0 .0 .1)
+    (r .0 .0 .0 .0 .0 .1) (r .0 .0 .0 .0 .1) (r .0 .0 .0 .1) (r .0 .0 .1) (r .0 .1) (r .1))
 
 pub bit-of-spec : {M : Type 1} → statement M
 bit-of-spec =

@@ -25,7 +25,8 @@ note-at-requires : tie.Need-note-at-requires Inv-loop μ-loop
 note-at-requires c κs = search needs
 
 returns : tie.Need-returns Inv-loop μ-loop
-returns c = let a = c .before .before .before .before .before .args in sym (c .before .before .before .loop .inv .1 ∙ start-stops (a .notes .now) _ _ (c .before .note-at .result) (c .before .note-at .ensures) (c .if1 .taken))
+returns c = let a = c .before .before .before .before .before .args in sym (c .before .before .before .loop .inv .1
+    ∙ start-stops (a .notes .now) _ _ (c .before .note-at .result) (c .before .note-at .ensures) (c .if1 .taken))
 
 sub-left : tie.Need-sub-left Inv-loop μ-loop
 sub-left c = search needs
@@ -34,10 +35,16 @@ loop-less : tie.Need-loop-less Inv-loop μ-loop
 loop-less c = search needs
 
 loop-again : tie.Need-loop-again Inv-loop μ-loop
-loop-again c = let a = c .before .before .before .before .before .args in (omega arith, c .before .before .before .loop .inv .1 ∙ start-goes (a .notes .now) _ _ (c .before .note-at .result) (c .before .before .loop-test .taken) (c .before .note-at .ensures) (c .if1 .left))
+loop-again c = let a = c .before .before .before .before .before .args in (
+  omega arith,
+  c .before .before .before
+      .loop .inv .1 ∙ start-goes (a .notes .now) _ _ (c .before .note-at .result) (c .before .before .loop-test
+      .taken) (c .before .note-at .ensures) (c .if1 .left),
+)
 
 returns-2 : tie.Need-returns-2 Inv-loop μ-loop
-returns-2 c = let a = c .before .before .before .args in sym (c .before .loop .inv .1 ∙ start-none (a .notes .now) (c .before .loop .left) (c .before .loop .q) (c .loop-test .left))
+returns-2 c = let a = c .before .before .before .args in sym (c .before .loop .inv .1 ∙ start-none (a .notes .now)
+    (c .before .loop .left) (c .before .loop .q) (c .loop-test .left))
 
 pub first-row-spec : {M : Type 1} → statement M
 first-row-spec =

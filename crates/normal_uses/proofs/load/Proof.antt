@@ -41,7 +41,12 @@ loop-less : tie.Need-loop-less Inv-loop μ-loop
 loop-less c = search needs
 
 loop-again : tie.Need-loop-again Inv-loop μ-loop
-loop-again c = let v = c .before .before .before .loop .inv in (v .0, omega arith, loading-set (v .2) _ (c .bit-of .result) (v .0) (c .before .before .loop-test .taken) refl (c .bit-of .ensures))
+loop-again c = let v = c .before .before .before .loop .inv in (
+  v .0,
+  omega arith,
+  loading-set (v .2) _
+      (c .bit-of .result) (v .0) (c .before .before .loop-test .taken) refl (c .bit-of .ensures),
+)
 
 returns : tie.Need-returns Inv-loop μ-loop
 returns c = let v = c .before .loop .inv in loaded (v .2) (v .0) (c .loop-test .left)

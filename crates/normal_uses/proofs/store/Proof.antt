@@ -38,7 +38,11 @@ loop-less : tie.Need-loop-less Inv-loop μ-loop
 loop-less c = search needs
 
 loop-again : tie.Need-loop-again Inv-loop μ-loop
-loop-again c = let v = c .before .before .loop .inv in (omega arith, storing-set (v .1) (c .byte-of .result) (c .byte-of .ensures) (c .before .loop-test .taken) (omega arith))
+loop-again c = let v = c .before .before .loop .inv in (
+  omega arith,
+  storing-set (v .1) (c .byte-of .result)
+      (c .byte-of .ensures) (c .before .loop-test .taken) (omega arith),
+)
 
 returns : tie.Need-returns Inv-loop μ-loop
 returns c = let v = c .before .loop .inv in (stored (v .1) (search needs) (omega arith), v .1 .long)

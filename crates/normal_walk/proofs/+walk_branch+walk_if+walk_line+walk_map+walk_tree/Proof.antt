@@ -109,40 +109,144 @@ abbrev walk-branch-claims : ℕ → walk-branch-lts.Claims
 walk-branch-claims t = (walk-tree-below t, walk-tree.Post, put-releases-reads.Asked, put-releases-reads.Learnt)
 
 abbrev walk-if-claims : ℕ → walk-if-lts.Claims
-walk-if-claims t = (less-two-reads.Asked, less-two-reads.Learnt, first-row-reads.Asked, first-row-reads.Learnt, load-reads.Asked, load-reads.Learnt, without-reads.Asked, without-reads.Learnt, put-release-reads.Asked, put-release-reads.Learnt, walk-branch-below t, walk-branch.Post, put-atom-reads.Asked, put-atom-reads.Learnt, put-row-reads.Asked, put-row-reads.Learnt, joined-reads.Asked, joined-reads.Learnt, add-reads.Asked, add-reads.Learnt)
+walk-if-claims t = (
+  less-two-reads.Asked,
+  less-two-reads.Learnt,
+  first-row-reads.Asked,
+  first-row-reads.Learnt,
+  load-reads.Asked,
+  load-reads.Learnt,
+  without-reads.Asked,
+  without-reads.Learnt,
+  put-release-reads.Asked,
+  put-release-reads.Learnt,
+  walk-branch-below t,
+  walk-branch.Post,
+  put-atom-reads.Asked,
+  put-atom-reads.Learnt,
+  put-row-reads.Asked,
+  put-row-reads.Learnt,
+  joined-reads.Asked,
+  joined-reads.Learnt,
+  add-reads.Asked,
+  add-reads.Learnt,
+)
 
 abbrev walk-line-claims : ℕ → walk-line-lts.Claims
-walk-line-claims t = (put-operation-reads.Asked, put-operation-reads.Learnt, before-line-reads.Asked, before-line-reads.Learnt, put-handing-reads.Asked, put-handing-reads.Learnt, put-index-reads.Asked, put-index-reads.Learnt, put-length-reads.Asked, put-length-reads.Learnt, walk-if-below t, walk-if.Post, walk-map-below t, walk-map.Post)
+walk-line-claims t = (
+  put-operation-reads.Asked,
+  put-operation-reads.Learnt,
+  before-line-reads.Asked,
+  before-line-reads.Learnt,
+  put-handing-reads.Asked,
+  put-handing-reads.Learnt,
+  put-index-reads.Asked,
+  put-index-reads.Learnt,
+  put-length-reads.Asked,
+  put-length-reads.Learnt,
+  walk-if-below t,
+  walk-if.Post,
+  walk-map-below t,
+  walk-map.Post,
+)
 
 abbrev walk-map-claims : ℕ → walk-map-lts.Claims
-walk-map-claims t = (less-two-reads.Asked, less-two-reads.Learnt, load-reads.Asked, load-reads.Learnt, without-reads.Asked, without-reads.Learnt, joined-reads.Asked, joined-reads.Learnt, none-reads.Asked, none-reads.Learnt, with-reads.Asked, with-reads.Learnt, add-reads.Asked, add-reads.Learnt, put-releases-reads.Asked, put-releases-reads.Learnt, walk-tree-below t, walk-tree.Post, put-release-reads.Asked, put-release-reads.Learnt, put-retain-reads.Asked, put-retain-reads.Learnt, put-atom-reads.Asked, put-atom-reads.Learnt, put-row-reads.Asked, put-row-reads.Learnt)
+walk-map-claims t = (
+  less-two-reads.Asked,
+  less-two-reads.Learnt,
+  load-reads.Asked,
+  load-reads.Learnt,
+  without-reads.Asked,
+  without-reads.Learnt,
+  joined-reads.Asked,
+  joined-reads.Learnt,
+  none-reads.Asked,
+  none-reads.Learnt,
+  with-reads.Asked,
+  with-reads.Learnt,
+  add-reads.Asked,
+  add-reads.Learnt,
+  put-releases-reads.Asked,
+  put-releases-reads.Learnt,
+  walk-tree-below t,
+  walk-tree.Post,
+  put-release-reads.Asked,
+  put-release-reads.Learnt,
+  put-retain-reads.Asked,
+  put-retain-reads.Learnt,
+  put-atom-reads.Asked,
+  put-atom-reads.Learnt,
+  put-row-reads.Asked,
+  put-row-reads.Learnt,
+)
 
 abbrev walk-tree-claims : ℕ → walk-tree-lts.Claims
-walk-tree-claims t = (row-at-reads.Asked, row-at-reads.Learnt, atom-of-reads.Asked, atom-of-reads.Learnt, put-end-reads.Asked, put-end-reads.Learnt, add-reads.Asked, add-reads.Learnt, note-at-reads.Asked, note-at-reads.Learnt, line-at-reads.Asked, line-at-reads.Learnt, walk-line-below t, walk-line.Post)
+walk-tree-claims t = (
+  row-at-reads.Asked,
+  row-at-reads.Learnt,
+  atom-of-reads.Asked,
+  atom-of-reads.Learnt,
+  put-end-reads.Asked,
+  put-end-reads.Learnt,
+  add-reads.Asked,
+  add-reads.Learnt,
+  note-at-reads.Asked,
+  note-at-reads.Learnt,
+  line-at-reads.Asked,
+  line-at-reads.Learnt,
+  walk-line-below t,
+  walk-line.Post,
+)
 
-walk-branch-walk-tree-requires : (t : ℕ) → walk-branch-lts.Need-walk-tree-requires (walk-branch-claims t) (walk-branch-at t) walk-branch.Post
-walk-branch-walk-tree-requires t c κs = (omega arith, c .before .before .before .before .before .before .before .pre .1)
+walk-branch-walk-tree-requires : (t : ℕ) → walk-branch-lts.Need-walk-tree-requires (walk-branch-claims t)
+    (walk-branch-at t) walk-branch.Post
+walk-branch-walk-tree-requires t c κs = (
+  omega arith,
+  c .before .before .before .before .before .before .before .pre
+      .1,
+)
 
-walk-branch-put-releases-requires : (t : ℕ) → walk-branch-lts.Need-put-releases-requires (walk-branch-claims t) (walk-branch-at t) walk-branch.Post
-walk-branch-put-releases-requires t c κs = lower (c .before .before .before .walk-tree .ensures .wrote) (c .before .before .before .before .before .before .before .before .before .before .before .pre .1 .1 .0)
+walk-branch-put-releases-requires : (t : ℕ) → walk-branch-lts.Need-put-releases-requires (walk-branch-claims t)
+    (walk-branch-at t) walk-branch.Post
+walk-branch-put-releases-requires t c κs = lower (c .before .before .before .walk-tree .ensures .wrote)
+    (c .before .before .before .before .before .before .before .before .before .before .before .pre .1 .1 .0)
 
-walk-branch-returns : (t : ℕ) → walk-branch-lts.Need-returns (walk-branch-claims t) (walk-branch-at t) walk-branch.Post
-walk-branch-returns t c = branch-done (sets-of (c .before .before .before .before .before .before .before .before .before .before .before .before .args .table .now)) (depth-in (c .before .before .before .before .before .before .before .before .before .before .before .before .args .depths .now)) (tree-to (plain (c .before .before .before .before .before .before .before .before .before .before .before .before .args .operands .now) (c .before .before .before .before .before .before .before .before .before .before .before .before .args .rows .now) (c .before .before .before .before .before .before .before .before .before .before .before .before .args .notes .now)) (c .before .before .before .before .before .before .before .before .before .before .before .before .args .levels) (c .before .before .before .before .before .before .before .before .before .before .before .before .args .e)) (set-of (c .before .before .before .before .before .before .before .before .before .before .before .before .args .after)) (set-of (c .before .before .before .before .before .before .before .before .before .before .before .before .args .used)) (c .before .before .before .before .walk-tree .result) (c .put-releases .result) (c .before .before .before .before .walk-tree .ensures) (c .put-releases .ensures)
+walk-branch-returns : (t : ℕ) → walk-branch-lts.Need-returns (walk-branch-claims t) (walk-branch-at t)
+    walk-branch.Post
+walk-branch-returns t c = branch-done (sets-of (c .before .before .before .before .before .before .before .before
+    .before .before .before .before .args .table .now)) (depth-in (c .before .before .before .before .before .before
+    .before .before .before .before .before .before .args .depths .now)) (tree-to (plain (c .before .before .before
+    .before .before .before .before .before .before .before .before .before .args .operands .now) (c .before .before
+    .before .before .before .before .before .before .before .before .before .before .args .rows .now)
+    (c .before .before .before .before .before .before .before .before .before .before .before .before .args .notes
+    .now)) (c .before .before .before .before .before .before .before .before .before .before .before .before .args
+    .levels) (c .before .before .before .before .before .before .before .before .before .before .before .before
+    .args .e)) (set-of (c .before .before .before .before .before .before .before .before .before .before .before
+    .before .args .after)) (set-of (c .before .before .before .before .before .before .before .before .before
+    .before .before .before .args .used)) (c .before .before .before .before .walk-tree .result) (c .put-releases
+    .result) (c .before .before .before .before .walk-tree .ensures) (c .put-releases .ensures)
 
-walk-if-less-two-requires : (t : ℕ) → walk-if-lts.Need-less-two-requires (walk-if-claims t) (walk-if-at t) walk-if.Post
+walk-if-less-two-requires : (t : ℕ) → walk-if-lts.Need-less-two-requires (walk-if-claims t) (walk-if-at t)
+    walk-if.Post
 walk-if-less-two-requires t c κs = search needs
 
-walk-if-first-row-requires : (t : ℕ) → walk-if-lts.Need-first-row-requires (walk-if-claims t) (walk-if-at t) walk-if.Post
+walk-if-first-row-requires : (t : ℕ) → walk-if-lts.Need-first-row-requires (walk-if-claims t) (walk-if-at t)
+    walk-if.Post
 walk-if-first-row-requires t c κs = search needs
 
-walk-if-less-two-requires-2 : (t : ℕ) → walk-if-lts.Need-less-two-requires-2 (walk-if-claims t) (walk-if-at t) walk-if.Post
+walk-if-less-two-requires-2 : (t : ℕ) → walk-if-lts.Need-less-two-requires-2 (walk-if-claims t) (walk-if-at t)
+    walk-if.Post
 walk-if-less-two-requires-2 t c κs = search needs
 
 walk-if-mul-load : (t : ℕ) → walk-if-lts.Need-mul-load (walk-if-claims t) (walk-if-at t) walk-if.Post
 walk-if-mul-load t c = search needs
 
 walk-if-load-requires : (t : ℕ) → walk-if-lts.Need-load-requires (walk-if-claims t) (walk-if-at t) walk-if.Post
-walk-if-load-requires t c κs = (omega arith, c .before .before .before .before .before .before .before .before .pre .1 .1 .1)
+walk-if-load-requires t c κs = (
+  omega arith,
+  c .before .before .before .before .before .before .before .before .pre
+      .1 .1 .1,
+)
 
 walk-if-mul-load-2 : (t : ℕ) → walk-if-lts.Need-mul-load-2 (walk-if-claims t) (walk-if-at t) walk-if.Post
 walk-if-mul-load-2 t c = search needs
@@ -151,25 +255,85 @@ walk-if-add-load : (t : ℕ) → walk-if-lts.Need-add-load (walk-if-claims t) (w
 walk-if-add-load t c = search needs
 
 walk-if-load-requires-2 : (t : ℕ) → walk-if-lts.Need-load-requires-2 (walk-if-claims t) (walk-if-at t) walk-if.Post
-walk-if-load-requires-2 t c κs = (omega arith, c .before .before .before .before .before .before .before .before .before .pre .1 .1 .1)
+walk-if-load-requires-2 t c κs = (
+  omega arith,
+  c .before .before .before .before .before .before .before .before
+      .before .pre .1 .1 .1,
+)
 
 walk-if-without-requires : (t : ℕ) → walk-if-lts.Need-without-requires (walk-if-claims t) (walk-if-at t) walk-if.Post
 walk-if-without-requires t c κs = search needs
 
-walk-if-put-release-requires : (t : ℕ) → walk-if-lts.Need-put-release-requires (walk-if-claims t) (walk-if-at t) walk-if.Post
+walk-if-put-release-requires : (t : ℕ) → walk-if-lts.Need-put-release-requires (walk-if-claims t) (walk-if-at t)
+    walk-if.Post
 walk-if-put-release-requires t c κs = search needs
 
-walk-if-walk-branch-requires : (t : ℕ) → walk-if-lts.Need-walk-branch-requires (walk-if-claims t) (walk-if-at t) walk-if.Post
-walk-if-walk-branch-requires t c κs = (omega arith, (omega arith, (lower (c .before .before .put-release .ensures) (c .before .before .before .before .before .before .before .before .before .before .before .before .before .before .before .before .pre .1 .1 .0), c .before .before .before .before .before .before .before .before .before .before .before .before .before .before .before .before .pre .1 .1 .1)))
+walk-if-walk-branch-requires : (t : ℕ) → walk-if-lts.Need-walk-branch-requires (walk-if-claims t) (walk-if-at t)
+    walk-if.Post
+walk-if-walk-branch-requires t c κs = (
+  omega arith,
+  (
+    omega arith,
+    (
+      lower (c .before .before .put-release .ensures)
+          (c .before .before .before .before .before .before .before .before .before .before .before .before .before
+          .before .before .before .pre .1 .1 .0),
+      c .before .before .before .before .before .before .before .before
+          .before .before .before .before .before .before .before .before .pre .1 .1 .1,
+    ),
+  ),
+)
 
-walk-if-walk-branch-requires-2 : (t : ℕ) → walk-if-lts.Need-walk-branch-requires-2 (walk-if-claims t) (walk-if-at t) walk-if.Post
-walk-if-walk-branch-requires-2 t c κs = let h = start-le (c .before .before .before .before .before .before .before .before .before .before .before .before .before .before .before .before .before .before .before .before .args .notes .now) 4096 (c .before .before .before .before .before .before .before .before .before .before .before .before .before .before .less-two .result) in let g = c .before .before .before .before .before .before .before .before .before .before .before .before .before .first-row .ensures in (omega (arith, c .before .before .before .before .before .before .before .before .before .before .before .before .before .before .before .before .before .before .before .before .pre .0), (omega (arith, c .before .before .before .before .before .before .before .before .before .before .before .before .before .before .before .before .before .before .before .before .pre .1 .0, c .before .before .before .before .before .before .before .before .before .before .before .before .before .before .less-two .ensures, c .before .before .before .before .before .before .before .before .before .before .before .before .less-two2 .ensures), (lower (c .before .before .before .walk-branch .ensures .wrote) (lower (c .before .before .before .before .before .before .put-release .ensures) (c .before .before .before .before .before .before .before .before .before .before .before .before .before .before .before .before .before .before .before .before .pre .1 .1 .0)), c .before .before .before .before .before .before .before .before .before .before .before .before .before .before .before .before .before .before .before .before .pre .1 .1 .1)))
+walk-if-walk-branch-requires-2 : (t : ℕ) → walk-if-lts.Need-walk-branch-requires-2 (walk-if-claims t) (walk-if-at t)
+    walk-if.Post
+walk-if-walk-branch-requires-2 t c κs = let h = start-le (c .before .before .before .before .before .before .before
+    .before .before .before .before .before .before .before .before .before .before .before .before .before .args
+    .notes .now) 4096 (c .before .before .before .before .before .before .before .before .before .before .before
+    .before .before .before .less-two .result) in let g = c .before .before .before .before .before .before .before
+    .before .before .before .before .before .before .first-row .ensures in (
+      omega (
+        arith,
+        c .before .before .before
+            .before .before .before .before .before .before .before .before .before .before .before .before .before .before
+            .before .before .before .pre .0,
+      ),
+      (
+        omega (
+          arith,
+          c .before .before .before .before .before .before .before
+              .before .before .before .before .before .before .before .before .before .before .before .before .before .pre .1
+              .0,
+          c .before .before .before .before .before .before .before .before .before .before .before .before .before
+              .before .less-two .ensures,
+          c .before .before .before .before .before .before .before .before .before .before
+              .before .before .less-two2 .ensures,
+        ),
+        (
+          lower (c .before .before .before .walk-branch .ensures .wrote)
+              (lower (c .before .before .before .before .before .before .put-release .ensures) (c .before .before .before
+              .before .before .before .before .before .before .before .before .before .before .before .before .before .before
+              .before .before .before .pre .1 .1 .0)),
+          c .before .before .before .before .before .before .before .before
+              .before .before .before .before .before .before .before .before .before .before .before .before .pre .1 .1 .1,
+        ),
+      ),
+    )
 
-walk-if-put-atom-requires : (t : ℕ) → walk-if-lts.Need-put-atom-requires (walk-if-claims t) (walk-if-at t) walk-if.Post
-walk-if-put-atom-requires t c κs = lower (c .before .before .before .walk-branch2 .ensures .wrote) (lower (c .before .before .before .before .before .before .before .walk-branch .ensures .wrote) (lower (c .before .before .before .before .before .before .before .before .before .before .put-release .ensures) (c .before .before .before .before .before .before .before .before .before .before .before .before .before .before .before .before .before .before .before .before .before .before .before .before .pre .1 .1 .0)))
+walk-if-put-atom-requires : (t : ℕ) → walk-if-lts.Need-put-atom-requires (walk-if-claims t) (walk-if-at t)
+    walk-if.Post
+walk-if-put-atom-requires t c κs = lower (c .before .before .before .walk-branch2 .ensures .wrote)
+    (lower (c .before .before .before .before .before .before .before .walk-branch .ensures .wrote)
+    (lower (c .before .before .before .before .before .before .before .before .before .before .put-release .ensures)
+    (c .before .before .before .before .before .before .before .before .before .before .before .before .before
+    .before .before .before .before .before .before .before .before .before .before .before .pre .1 .1 .0)))
 
 walk-if-put-row-requires : (t : ℕ) → walk-if-lts.Need-put-row-requires (walk-if-claims t) (walk-if-at t) walk-if.Post
-walk-if-put-row-requires t c κs = lower (c .before .before .put-atom .ensures) (lower (c .before .before .before .before .before .before .walk-branch2 .ensures .wrote) (lower (c .before .before .before .before .before .before .before .before .before .before .walk-branch .ensures .wrote) (lower (c .before .before .before .before .before .before .before .before .before .before .before .before .before .put-release .ensures) (c .before .before .before .before .before .before .before .before .before .before .before .before .before .before .before .before .before .before .before .before .before .before .before .before .before .before .before .pre .1 .1 .0))))
+walk-if-put-row-requires t c κs = lower (c .before .before .put-atom .ensures) (lower (c .before .before .before
+    .before .before .before .walk-branch2 .ensures .wrote) (lower (c .before .before .before .before .before .before
+    .before .before .before .before .walk-branch .ensures .wrote) (lower (c .before .before .before .before .before
+    .before .before .before .before .before .before .before .before .put-release .ensures) (c .before .before
+    .before .before .before .before .before .before .before .before .before .before .before .before .before .before
+    .before .before .before .before .before .before .before .before .before .before .before .pre .1 .1 .0))))
 
 walk-if-joined-requires : (t : ℕ) → walk-if-lts.Need-joined-requires (walk-if-claims t) (walk-if-at t) walk-if.Post
 walk-if-joined-requires t c κs = search needs
@@ -178,18 +342,69 @@ walk-if-add-requires : (t : ℕ) → walk-if-lts.Need-add-requires (walk-if-clai
 walk-if-add-requires t c κs = search needs
 
 walk-if-returns : (t : ℕ) → walk-if-lts.Need-returns (walk-if-claims t) (walk-if-at t) walk-if.Post
-walk-if-returns t c = if-done (plain (c .before .before .before .before .before .before .before .before .before .before .before .before .before .before .before .before .before .before .before .before .before .before .before .before .before .before .before .before .before .before .args .operands .now) (c .before .before .before .before .before .before .before .before .before .before .before .before .before .before .before .before .before .before .before .before .before .before .before .before .before .before .before .before .before .before .args .rows .now) (c .before .before .before .before .before .before .before .before .before .before .before .before .before .before .before .before .before .before .before .before .before .before .before .before .before .before .before .before .before .before .args .notes .now)) (tree-to (plain (c .before .before .before .before .before .before .before .before .before .before .before .before .before .before .before .before .before .before .before .before .before .before .before .before .before .before .before .before .before .before .args .operands .now) (c .before .before .before .before .before .before .before .before .before .before .before .before .before .before .before .before .before .before .before .before .before .before .before .before .before .before .before .before .before .before .args .rows .now) (c .before .before .before .before .before .before .before .before .before .before .before .before .before .before .before .before .before .before .before .before .before .before .before .before .before .before .before .before .before .before .args .notes .now)) (c .before .before .before .before .before .before .before .before .before .before .before .before .before .before .before .before .before .before .before .before .before .before .before .before .before .before .before .before .before .before .args .levels)) (sets-of (c .before .before .before .before .before .before .before .before .before .before .before .before .before .before .before .before .before .before .before .before .before .before .before .before .before .before .before .before .before .before .args .table .now)) (depth-in (c .before .before .before .before .before .before .before .before .before .before .before .before .before .before .before .before .before .before .before .before .before .before .before .before .before .before .before .before .before .before .args .depths .now)) (c .before .before .before .before .before .before .before .before .before .before .before .before .before .before .before .before .before .before .before .before .before .before .before .before .before .before .before .before .before .before .args .q) (set-of (c .before .before .before .before .before .before .before .before .before .before .before .before .before .before .before .before .before .before .before .before .before .before .before .before .before .before .before .before .before .before .args .after)) (c .before .before .before .before .before .before .before .before .before .before .before .before .before .before .before .before .before .before .before .before .before .before .before .before .before .before .before .before .before .before .args .x) (c .before .before .before .before .before .before .before .before .before .before .before .before .before .before .before .before .before .before .before .before .before .before .before .before .before .before .before .before .before .before .args .g) _ _ _ _ _ _ (c .before .before .before .before .before .before .before .before .before .before .before .before .before .before .before .before .before .before .before .before .before .before .before .before .less-two .ensures) (c .before .before .before .before .before .before .before .before .before .before .before .before .before .before .before .before .before .before .before .before .before .before .before .first-row .ensures) (c .before .before .before .before .before .before .before .before .before .before .before .before .before .before .before .before .before .before .before .before .before .before .less-two2 .ensures) (c .before .before .before .before .before .before .before .before .before .before .before .before .before .before .before .before .before .before .before .before .before .load .ensures) (c .before .before .before .before .before .before .before .before .before .before .before .before .before .before .before .before .before .before .before .before .load2 .ensures) (c .before .before .before .before .before .before .before .before .before .before .before .before .before .before .before .before .before .before .before .without .ensures) (c .before .before .before .before .before .before .before .before .before .before .before .before .before .before .before .before .put-release .ensures) (c .before .before .before .before .before .before .before .before .before .before .before .before .before .walk-branch .ensures) (c .before .before .before .before .before .before .before .before .before .walk-branch2 .ensures) (c .before .before .before .before .before .put-atom .ensures) (c .before .before .put-row .ensures) _ (c .add .result) (c .before .joined .ensures) (c .add .ensures)
+walk-if-returns t c = if-done (plain (c .before .before .before .before .before .before .before .before .before
+    .before .before .before .before .before .before .before .before .before .before .before .before .before .before
+    .before .before .before .before .before .before .before .args .operands .now) (c .before .before .before .before
+    .before .before .before .before .before .before .before .before .before .before .before .before .before .before
+    .before .before .before .before .before .before .before .before .before .before .before .before .args .rows
+    .now) (c .before .before .before .before .before .before .before .before .before .before .before .before .before
+    .before .before .before .before .before .before .before .before .before .before .before .before .before .before
+    .before .before .before .args .notes .now)) (tree-to (plain (c .before .before .before .before .before .before
+    .before .before .before .before .before .before .before .before .before .before .before .before .before .before
+    .before .before .before .before .before .before .before .before .before .before .args .operands .now)
+    (c .before .before .before .before .before .before .before .before .before .before .before .before .before
+    .before .before .before .before .before .before .before .before .before .before .before .before .before .before
+    .before .before .before .args .rows .now) (c .before .before .before .before .before .before .before .before
+    .before .before .before .before .before .before .before .before .before .before .before .before .before .before
+    .before .before .before .before .before .before .before .before .args .notes .now)) (c .before .before .before
+    .before .before .before .before .before .before .before .before .before .before .before .before .before .before
+    .before .before .before .before .before .before .before .before .before .before .before .before .before .args
+    .levels)) (sets-of (c .before .before .before .before .before .before .before .before .before .before .before
+    .before .before .before .before .before .before .before .before .before .before .before .before .before .before
+    .before .before .before .before .before .args .table .now)) (depth-in (c .before .before .before .before .before
+    .before .before .before .before .before .before .before .before .before .before .before .before .before .before
+    .before .before .before .before .before .before .before .before .before .before .before .args .depths .now))
+    (c .before .before .before .before .before .before .before .before .before .before .before .before .before
+    .before .before .before .before .before .before .before .before .before .before .before .before .before .before
+    .before .before .before .args .q) (set-of (c .before .before .before .before .before .before .before .before
+    .before .before .before .before .before .before .before .before .before .before .before .before .before .before
+    .before .before .before .before .before .before .before .before .args .after)) (c .before .before .before
+    .before .before .before .before .before .before .before .before .before .before .before .before .before .before
+    .before .before .before .before .before .before .before .before .before .before .before .before .before .args
+    .x) (c .before .before .before .before .before .before .before .before .before .before .before .before .before
+    .before .before .before .before .before .before .before .before .before .before .before .before .before .before
+    .before .before .before .args .g) _ _ _ _ _ _ (c .before .before .before .before .before .before .before .before
+    .before .before .before .before .before .before .before .before .before .before .before .before .before .before
+    .before .before .less-two .ensures) (c .before .before .before .before .before .before .before .before .before
+    .before .before .before .before .before .before .before .before .before .before .before .before .before .before
+    .first-row .ensures) (c .before .before .before .before .before .before .before .before .before .before .before
+    .before .before .before .before .before .before .before .before .before .before .before .less-two2 .ensures)
+    (c .before .before .before .before .before .before .before .before .before .before .before .before .before
+    .before .before .before .before .before .before .before .before .load .ensures) (c .before .before .before
+    .before .before .before .before .before .before .before .before .before .before .before .before .before .before
+    .before .before .before .load2 .ensures) (c .before .before .before .before .before .before .before .before
+    .before .before .before .before .before .before .before .before .before .before .before .without .ensures)
+    (c .before .before .before .before .before .before .before .before .before .before .before .before .before
+    .before .before .before .put-release .ensures) (c .before .before .before .before .before .before .before
+    .before .before .before .before .before .before .walk-branch .ensures) (c .before .before .before .before
+    .before .before .before .before .before .walk-branch2 .ensures) (c .before .before .before .before .before
+    .put-atom .ensures) (c .before .before .put-row .ensures) _ (c .add .result) (c .before .joined .ensures)
+    (c .add .ensures)
 
-walk-line-enum-known-l : (t : ℕ) → walk-line-lts.Need-enum-known-l (walk-line-claims t) (walk-line-at t) walk-line.Post
+walk-line-enum-known-l : (t : ℕ) → walk-line-lts.Need-enum-known-l (walk-line-claims t) (walk-line-at t)
+    walk-line.Post
 walk-line-enum-known-l t c = search needs
 
-walk-line-put-operation-requires : (t : ℕ) → walk-line-lts.Need-put-operation-requires (walk-line-claims t) (walk-line-at t) walk-line.Post
+walk-line-put-operation-requires : (t : ℕ) → walk-line-lts.Need-put-operation-requires (walk-line-claims t)
+    (walk-line-at t) walk-line.Post
 walk-line-put-operation-requires t c κs = search needs
 
-walk-line-before-line-requires : (t : ℕ) → walk-line-lts.Need-before-line-requires (walk-line-claims t) (walk-line-at t) walk-line.Post
+walk-line-before-line-requires : (t : ℕ) → walk-line-lts.Need-before-line-requires (walk-line-claims t)
+    (walk-line-at t) walk-line.Post
 walk-line-before-line-requires t c κs = search needs
 
-walk-line-enum-known-l-2 : (t : ℕ) → walk-line-lts.Need-enum-known-l-2 (walk-line-claims t) (walk-line-at t) walk-line.Post
+walk-line-enum-known-l-2 : (t : ℕ) → walk-line-lts.Need-enum-known-l-2 (walk-line-claims t) (walk-line-at t)
+    walk-line.Post
 walk-line-enum-known-l-2 t c = search needs
 
 walk-line-cast-n : (t : ℕ) → walk-line-lts.Need-cast-n (walk-line-claims t) (walk-line-at t) walk-line.Post
@@ -204,16 +419,20 @@ walk-line-mul-n t c = search needs
 walk-line-add-n : (t : ℕ) → walk-line-lts.Need-add-n (walk-line-claims t) (walk-line-at t) walk-line.Post
 walk-line-add-n t c = search needs
 
-walk-line-add-put-handing : (t : ℕ) → walk-line-lts.Need-add-put-handing (walk-line-claims t) (walk-line-at t) walk-line.Post
+walk-line-add-put-handing : (t : ℕ) → walk-line-lts.Need-add-put-handing (walk-line-claims t) (walk-line-at t)
+    walk-line.Post
 walk-line-add-put-handing t c = search needs
 
-walk-line-put-handing-requires : (t : ℕ) → walk-line-lts.Need-put-handing-requires (walk-line-claims t) (walk-line-at t) walk-line.Post
+walk-line-put-handing-requires : (t : ℕ) → walk-line-lts.Need-put-handing-requires (walk-line-claims t)
+    (walk-line-at t) walk-line.Post
 walk-line-put-handing-requires t c κs = search needs
 
-walk-line-before-line-requires-2 : (t : ℕ) → walk-line-lts.Need-before-line-requires-2 (walk-line-claims t) (walk-line-at t) walk-line.Post
+walk-line-before-line-requires-2 : (t : ℕ) → walk-line-lts.Need-before-line-requires-2 (walk-line-claims t)
+    (walk-line-at t) walk-line.Post
 walk-line-before-line-requires-2 t c κs = search needs
 
-walk-line-enum-known-l-3 : (t : ℕ) → walk-line-lts.Need-enum-known-l-3 (walk-line-claims t) (walk-line-at t) walk-line.Post
+walk-line-enum-known-l-3 : (t : ℕ) → walk-line-lts.Need-enum-known-l-3 (walk-line-claims t) (walk-line-at t)
+    walk-line.Post
 walk-line-enum-known-l-3 t c = search needs
 
 walk-line-cast-n-3 : (t : ℕ) → walk-line-lts.Need-cast-n-3 (walk-line-claims t) (walk-line-at t) walk-line.Post
@@ -237,59 +456,159 @@ walk-line-mul-n-3 t c = search needs
 walk-line-add-n-3 : (t : ℕ) → walk-line-lts.Need-add-n-3 (walk-line-claims t) (walk-line-at t) walk-line.Post
 walk-line-add-n-3 t c = search needs
 
-walk-line-add-put-handing-2 : (t : ℕ) → walk-line-lts.Need-add-put-handing-2 (walk-line-claims t) (walk-line-at t) walk-line.Post
+walk-line-add-put-handing-2 : (t : ℕ) → walk-line-lts.Need-add-put-handing-2 (walk-line-claims t) (walk-line-at t)
+    walk-line.Post
 walk-line-add-put-handing-2 t c = search needs
 
-walk-line-put-handing-requires-2 : (t : ℕ) → walk-line-lts.Need-put-handing-requires-2 (walk-line-claims t) (walk-line-at t) walk-line.Post
+walk-line-put-handing-requires-2 : (t : ℕ) → walk-line-lts.Need-put-handing-requires-2 (walk-line-claims t)
+    (walk-line-at t) walk-line.Post
 walk-line-put-handing-requires-2 t c κs = search needs
 
-walk-line-before-line-requires-3 : (t : ℕ) → walk-line-lts.Need-before-line-requires-3 (walk-line-claims t) (walk-line-at t) walk-line.Post
+walk-line-before-line-requires-3 : (t : ℕ) → walk-line-lts.Need-before-line-requires-3 (walk-line-claims t)
+    (walk-line-at t) walk-line.Post
 walk-line-before-line-requires-3 t c κs = search needs
 
-walk-line-enum-known-l-4 : (t : ℕ) → walk-line-lts.Need-enum-known-l-4 (walk-line-claims t) (walk-line-at t) walk-line.Post
+walk-line-enum-known-l-4 : (t : ℕ) → walk-line-lts.Need-enum-known-l-4 (walk-line-claims t) (walk-line-at t)
+    walk-line.Post
 walk-line-enum-known-l-4 t c = search needs
 
-walk-line-put-index-requires : (t : ℕ) → walk-line-lts.Need-put-index-requires (walk-line-claims t) (walk-line-at t) walk-line.Post
+walk-line-put-index-requires : (t : ℕ) → walk-line-lts.Need-put-index-requires (walk-line-claims t) (walk-line-at t)
+    walk-line.Post
 walk-line-put-index-requires t c κs = search needs
 
-walk-line-before-line-requires-4 : (t : ℕ) → walk-line-lts.Need-before-line-requires-4 (walk-line-claims t) (walk-line-at t) walk-line.Post
+walk-line-before-line-requires-4 : (t : ℕ) → walk-line-lts.Need-before-line-requires-4 (walk-line-claims t)
+    (walk-line-at t) walk-line.Post
 walk-line-before-line-requires-4 t c κs = search needs
 
-walk-line-enum-known-l-5 : (t : ℕ) → walk-line-lts.Need-enum-known-l-5 (walk-line-claims t) (walk-line-at t) walk-line.Post
+walk-line-enum-known-l-5 : (t : ℕ) → walk-line-lts.Need-enum-known-l-5 (walk-line-claims t) (walk-line-at t)
+    walk-line.Post
 walk-line-enum-known-l-5 t c = search needs
 
-walk-line-put-length-requires : (t : ℕ) → walk-line-lts.Need-put-length-requires (walk-line-claims t) (walk-line-at t) walk-line.Post
+walk-line-put-length-requires : (t : ℕ) → walk-line-lts.Need-put-length-requires (walk-line-claims t) (walk-line-at
+    t) walk-line.Post
 walk-line-put-length-requires t c κs = search needs
 
-walk-line-before-line-requires-5 : (t : ℕ) → walk-line-lts.Need-before-line-requires-5 (walk-line-claims t) (walk-line-at t) walk-line.Post
+walk-line-before-line-requires-5 : (t : ℕ) → walk-line-lts.Need-before-line-requires-5 (walk-line-claims t)
+    (walk-line-at t) walk-line.Post
 walk-line-before-line-requires-5 t c κs = search needs
 
-walk-line-enum-known-l-6 : (t : ℕ) → walk-line-lts.Need-enum-known-l-6 (walk-line-claims t) (walk-line-at t) walk-line.Post
+walk-line-enum-known-l-6 : (t : ℕ) → walk-line-lts.Need-enum-known-l-6 (walk-line-claims t) (walk-line-at t)
+    walk-line.Post
 walk-line-enum-known-l-6 t c = search needs
 
-walk-line-walk-if-requires : (t : ℕ) → walk-line-lts.Need-walk-if-requires (walk-line-claims t) (walk-line-at t) walk-line.Post
-walk-line-walk-if-requires t c κs = (omega arith, (c .before .before .before .before .before .before .before .before .before .before .pre .1 .0 .1, c .before .before .before .before .before .before .before .before .before .before .pre .1 .1))
+walk-line-walk-if-requires : (t : ℕ) → walk-line-lts.Need-walk-if-requires (walk-line-claims t) (walk-line-at t)
+    walk-line.Post
+walk-line-walk-if-requires t c κs = (
+  omega arith,
+  (
+    c .before .before .before .before .before .before .before .before
+        .before .before .pre .1 .0 .1,
+    c .before .before .before .before .before .before .before .before .before .before
+        .pre .1 .1,
+  ),
+)
 
-walk-line-enum-known-l-7 : (t : ℕ) → walk-line-lts.Need-enum-known-l-7 (walk-line-claims t) (walk-line-at t) walk-line.Post
+walk-line-enum-known-l-7 : (t : ℕ) → walk-line-lts.Need-enum-known-l-7 (walk-line-claims t) (walk-line-at t)
+    walk-line.Post
 walk-line-enum-known-l-7 t c = search needs
 
-walk-line-walk-map-requires : (t : ℕ) → walk-line-lts.Need-walk-map-requires (walk-line-claims t) (walk-line-at t) walk-line.Post
-walk-line-walk-map-requires t c κs = (omega arith, (c .before .before .before .before .before .before .before .before .before .before .pre .1 .0 .1, c .before .before .before .before .before .before .before .before .before .before .pre .1 .1))
+walk-line-walk-map-requires : (t : ℕ) → walk-line-lts.Need-walk-map-requires (walk-line-claims t) (walk-line-at t)
+    walk-line.Post
+walk-line-walk-map-requires t c κs = (
+  omega arith,
+  (
+    c .before .before .before .before .before .before .before
+        .before .before .before .pre .1 .0 .1,
+    c .before .before .before .before .before .before .before .before .before
+        .before .pre .1 .1,
+  ),
+)
 
 walk-line-returns : (t : ℕ) → walk-line-lts.Need-returns (walk-line-claims t) (walk-line-at t) walk-line.Post
-walk-line-returns t c = rw (c .before .before .before .before .before .l .given .1) (operation-done (plain (c .before .before .before .before .before .before .before .before .before .before .before .before .args .operands .now) (c .before .before .before .before .before .before .before .before .before .before .before .before .args .rows .now) (c .before .before .before .before .before .before .before .before .before .before .before .before .args .notes .now)) (tree-to (plain (c .before .before .before .before .before .before .before .before .before .before .before .before .args .operands .now) (c .before .before .before .before .before .before .before .before .before .before .before .before .args .rows .now) (c .before .before .before .before .before .before .before .before .before .before .before .before .args .notes .now)) (c .before .before .before .before .before .before .before .before .before .before .before .before .args .levels)) (sets-of (c .before .before .before .before .before .before .before .before .before .before .before .before .args .table .now)) (depth-in (c .before .before .before .before .before .before .before .before .before .before .before .before .args .depths .now)) (c .before .before .before .before .before .before .before .before .before .before .before .before .args .p) (c .before .before .before .before .before .before .before .before .before .before .before .before .args .q) (set-of (c .before .before .before .before .before .before .before .before .before .before .before .before .args .after)) _ _ _ _ (c .before-line .ensures) (c .before .put-operation .ensures))
+walk-line-returns t c = rw (c .before .before .before .before .before .l .given .1) (operation-done
+    (plain (c .before .before .before .before .before .before .before .before .before .before .before .before .args
+    .operands .now) (c .before .before .before .before .before .before .before .before .before .before .before
+    .before .args .rows .now) (c .before .before .before .before .before .before .before .before .before .before
+    .before .before .args .notes .now)) (tree-to (plain (c .before .before .before .before .before .before .before
+    .before .before .before .before .before .args .operands .now) (c .before .before .before .before .before .before
+    .before .before .before .before .before .before .args .rows .now) (c .before .before .before .before .before
+    .before .before .before .before .before .before .before .args .notes .now)) (c .before .before .before .before
+    .before .before .before .before .before .before .before .before .args .levels)) (sets-of (c .before .before
+    .before .before .before .before .before .before .before .before .before .before .args .table .now))
+    (depth-in (c .before .before .before .before .before .before .before .before .before .before .before .before
+    .args .depths .now)) (c .before .before .before .before .before .before .before .before .before .before .before
+    .before .args .p) (c .before .before .before .before .before .before .before .before .before .before .before
+    .before .args .q) (set-of (c .before .before .before .before .before .before .before .before .before .before
+    .before .before .args .after)) _ _ _ _ (c .before-line .ensures) (c .before .put-operation .ensures))
 
 walk-line-returns-2 : (t : ℕ) → walk-line-lts.Need-returns-2 (walk-line-claims t) (walk-line-at t) walk-line.Post
-walk-line-returns-2 t c = rw (c .before .before .before .before .before .l2 .given .1) (call-done (plain (c .before .before .before .before .before .before .before .before .before .before .before .before .args .operands .now) (c .before .before .before .before .before .before .before .before .before .before .before .before .args .rows .now) (c .before .before .before .before .before .before .before .before .before .before .before .before .args .notes .now)) (tree-to (plain (c .before .before .before .before .before .before .before .before .before .before .before .before .args .operands .now) (c .before .before .before .before .before .before .before .before .before .before .before .before .args .rows .now) (c .before .before .before .before .before .before .before .before .before .before .before .before .args .notes .now)) (c .before .before .before .before .before .before .before .before .before .before .before .before .args .levels)) (sets-of (c .before .before .before .before .before .before .before .before .before .before .before .before .args .table .now)) (depth-in (c .before .before .before .before .before .before .before .before .before .before .before .before .args .depths .now)) (c .before .before .before .before .before .before .before .before .before .before .before .before .args .p) (c .before .before .before .before .before .before .before .before .before .before .before .before .args .q) (set-of (c .before .before .before .before .before .before .before .before .before .before .before .before .args .after)) _ _ _ (c .before-line2 .ensures) (c .before .put-handing .ensures))
+walk-line-returns-2 t c = rw (c .before .before .before .before .before .l2 .given .1)
+    (call-done (plain (c .before .before .before .before .before .before .before .before .before .before .before
+    .before .args .operands .now) (c .before .before .before .before .before .before .before .before .before .before
+    .before .before .args .rows .now) (c .before .before .before .before .before .before .before .before .before
+    .before .before .before .args .notes .now)) (tree-to (plain (c .before .before .before .before .before .before
+    .before .before .before .before .before .before .args .operands .now) (c .before .before .before .before .before
+    .before .before .before .before .before .before .before .args .rows .now) (c .before .before .before .before
+    .before .before .before .before .before .before .before .before .args .notes .now)) (c .before .before .before
+    .before .before .before .before .before .before .before .before .before .args .levels))
+    (sets-of (c .before .before .before .before .before .before .before .before .before .before .before .before
+    .args .table .now)) (depth-in (c .before .before .before .before .before .before .before .before .before .before
+    .before .before .args .depths .now)) (c .before .before .before .before .before .before .before .before .before
+    .before .before .before .args .p) (c .before .before .before .before .before .before .before .before .before
+    .before .before .before .args .q) (set-of (c .before .before .before .before .before .before .before .before
+    .before .before .before .before .args .after)) _ _ _ (c .before-line2 .ensures) (c .before .put-handing
+    .ensures))
 
 walk-line-returns-3 : (t : ℕ) → walk-line-lts.Need-returns-3 (walk-line-claims t) (walk-line-at t) walk-line.Post
-walk-line-returns-3 t c = rw (c .before .before .before .before .before .l3 .given .1) (literal-done (plain (c .before .before .before .before .before .before .before .before .before .before .before .before .args .operands .now) (c .before .before .before .before .before .before .before .before .before .before .before .before .args .rows .now) (c .before .before .before .before .before .before .before .before .before .before .before .before .args .notes .now)) (tree-to (plain (c .before .before .before .before .before .before .before .before .before .before .before .before .args .operands .now) (c .before .before .before .before .before .before .before .before .before .before .before .before .args .rows .now) (c .before .before .before .before .before .before .before .before .before .before .before .before .args .notes .now)) (c .before .before .before .before .before .before .before .before .before .before .before .before .args .levels)) (sets-of (c .before .before .before .before .before .before .before .before .before .before .before .before .args .table .now)) (depth-in (c .before .before .before .before .before .before .before .before .before .before .before .before .args .depths .now)) (c .before .before .before .before .before .before .before .before .before .before .before .before .args .p) (c .before .before .before .before .before .before .before .before .before .before .before .before .args .q) (set-of (c .before .before .before .before .before .before .before .before .before .before .before .before .args .after)) _ _ _ (c .before-line3 .ensures) (c .before .put-handing2 .ensures))
+walk-line-returns-3 t c = rw (c .before .before .before .before .before .l3 .given .1) (literal-done
+    (plain (c .before .before .before .before .before .before .before .before .before .before .before .before .args
+    .operands .now) (c .before .before .before .before .before .before .before .before .before .before .before
+    .before .args .rows .now) (c .before .before .before .before .before .before .before .before .before .before
+    .before .before .args .notes .now)) (tree-to (plain (c .before .before .before .before .before .before .before
+    .before .before .before .before .before .args .operands .now) (c .before .before .before .before .before .before
+    .before .before .before .before .before .before .args .rows .now) (c .before .before .before .before .before
+    .before .before .before .before .before .before .before .args .notes .now)) (c .before .before .before .before
+    .before .before .before .before .before .before .before .before .args .levels)) (sets-of (c .before .before
+    .before .before .before .before .before .before .before .before .before .before .args .table .now))
+    (depth-in (c .before .before .before .before .before .before .before .before .before .before .before .before
+    .args .depths .now)) (c .before .before .before .before .before .before .before .before .before .before .before
+    .before .args .p) (c .before .before .before .before .before .before .before .before .before .before .before
+    .before .args .q) (set-of (c .before .before .before .before .before .before .before .before .before .before
+    .before .before .args .after)) _ _ _ (c .before-line3 .ensures) (c .before .put-handing2 .ensures))
 
 walk-line-returns-4 : (t : ℕ) → walk-line-lts.Need-returns-4 (walk-line-claims t) (walk-line-at t) walk-line.Post
-walk-line-returns-4 t c = rw (c .before .before .before .before .before .l4 .given .1) (index-done (plain (c .before .before .before .before .before .before .before .before .before .before .before .before .args .operands .now) (c .before .before .before .before .before .before .before .before .before .before .before .before .args .rows .now) (c .before .before .before .before .before .before .before .before .before .before .before .before .args .notes .now)) (tree-to (plain (c .before .before .before .before .before .before .before .before .before .before .before .before .args .operands .now) (c .before .before .before .before .before .before .before .before .before .before .before .before .args .rows .now) (c .before .before .before .before .before .before .before .before .before .before .before .before .args .notes .now)) (c .before .before .before .before .before .before .before .before .before .before .before .before .args .levels)) (sets-of (c .before .before .before .before .before .before .before .before .before .before .before .before .args .table .now)) (depth-in (c .before .before .before .before .before .before .before .before .before .before .before .before .args .depths .now)) (c .before .before .before .before .before .before .before .before .before .before .before .before .args .p) (c .before .before .before .before .before .before .before .before .before .before .before .before .args .q) (set-of (c .before .before .before .before .before .before .before .before .before .before .before .before .args .after)) _ _ _ (c .before-line4 .ensures) (c .before .put-index .ensures))
+walk-line-returns-4 t c = rw (c .before .before .before .before .before .l4 .given .1)
+    (index-done (plain (c .before .before .before .before .before .before .before .before .before .before .before
+    .before .args .operands .now) (c .before .before .before .before .before .before .before .before .before .before
+    .before .before .args .rows .now) (c .before .before .before .before .before .before .before .before .before
+    .before .before .before .args .notes .now)) (tree-to (plain (c .before .before .before .before .before .before
+    .before .before .before .before .before .before .args .operands .now) (c .before .before .before .before .before
+    .before .before .before .before .before .before .before .args .rows .now) (c .before .before .before .before
+    .before .before .before .before .before .before .before .before .args .notes .now)) (c .before .before .before
+    .before .before .before .before .before .before .before .before .before .args .levels))
+    (sets-of (c .before .before .before .before .before .before .before .before .before .before .before .before
+    .args .table .now)) (depth-in (c .before .before .before .before .before .before .before .before .before .before
+    .before .before .args .depths .now)) (c .before .before .before .before .before .before .before .before .before
+    .before .before .before .args .p) (c .before .before .before .before .before .before .before .before .before
+    .before .before .before .args .q) (set-of (c .before .before .before .before .before .before .before .before
+    .before .before .before .before .args .after)) _ _ _ (c .before-line4 .ensures) (c .before .put-index .ensures))
 
 walk-line-returns-5 : (t : ℕ) → walk-line-lts.Need-returns-5 (walk-line-claims t) (walk-line-at t) walk-line.Post
-walk-line-returns-5 t c = rw (c .before .before .before .before .before .l5 .given .1) (length-done (plain (c .before .before .before .before .before .before .before .before .before .before .before .before .args .operands .now) (c .before .before .before .before .before .before .before .before .before .before .before .before .args .rows .now) (c .before .before .before .before .before .before .before .before .before .before .before .before .args .notes .now)) (tree-to (plain (c .before .before .before .before .before .before .before .before .before .before .before .before .args .operands .now) (c .before .before .before .before .before .before .before .before .before .before .before .before .args .rows .now) (c .before .before .before .before .before .before .before .before .before .before .before .before .args .notes .now)) (c .before .before .before .before .before .before .before .before .before .before .before .before .args .levels)) (sets-of (c .before .before .before .before .before .before .before .before .before .before .before .before .args .table .now)) (depth-in (c .before .before .before .before .before .before .before .before .before .before .before .before .args .depths .now)) (c .before .before .before .before .before .before .before .before .before .before .before .before .args .p) (c .before .before .before .before .before .before .before .before .before .before .before .before .args .q) (set-of (c .before .before .before .before .before .before .before .before .before .before .before .before .args .after)) _ _ (c .before-line5 .ensures) (c .before .put-length .ensures))
+walk-line-returns-5 t c = rw (c .before .before .before .before .before .l5 .given .1)
+    (length-done (plain (c .before .before .before .before .before .before .before .before .before .before .before
+    .before .args .operands .now) (c .before .before .before .before .before .before .before .before .before .before
+    .before .before .args .rows .now) (c .before .before .before .before .before .before .before .before .before
+    .before .before .before .args .notes .now)) (tree-to (plain (c .before .before .before .before .before .before
+    .before .before .before .before .before .before .args .operands .now) (c .before .before .before .before .before
+    .before .before .before .before .before .before .before .args .rows .now) (c .before .before .before .before
+    .before .before .before .before .before .before .before .before .args .notes .now)) (c .before .before .before
+    .before .before .before .before .before .before .before .before .before .args .levels))
+    (sets-of (c .before .before .before .before .before .before .before .before .before .before .before .before
+    .args .table .now)) (depth-in (c .before .before .before .before .before .before .before .before .before .before
+    .before .before .args .depths .now)) (c .before .before .before .before .before .before .before .before .before
+    .before .before .before .args .p) (c .before .before .before .before .before .before .before .before .before
+    .before .before .before .args .q) (set-of (c .before .before .before .before .before .before .before .before
+    .before .before .before .before .args .after)) _ _ (c .before-line5 .ensures) (c .before .put-length .ensures))
 
 walk-line-returns-6 : (t : ℕ) → walk-line-lts.Need-returns-6 (walk-line-claims t) (walk-line-at t) walk-line.Post
 unfolding as-line
@@ -299,7 +618,8 @@ walk-line-returns-7 : (t : ℕ) → walk-line-lts.Need-returns-7 (walk-line-clai
 unfolding as-line
 walk-line-returns-7 t c = rw (c .before .before .before .before .l7 .given .1) (c .walk-map .ensures)
 
-walk-map-less-two-requires : (t : ℕ) → walk-map-lts.Need-less-two-requires (walk-map-claims t) (walk-map-at t) walk-map.Post
+walk-map-less-two-requires : (t : ℕ) → walk-map-lts.Need-less-two-requires (walk-map-claims t) (walk-map-at t)
+    walk-map.Post
 walk-map-less-two-requires t c κs = search needs
 
 walk-map-mul-load : (t : ℕ) → walk-map-lts.Need-mul-load (walk-map-claims t) (walk-map-at t) walk-map.Post
@@ -308,13 +628,16 @@ walk-map-mul-load t c = search needs
 walk-map-load-requires : (t : ℕ) → walk-map-lts.Need-load-requires (walk-map-claims t) (walk-map-at t) walk-map.Post
 walk-map-load-requires t c κs = (omega arith, c .before .before .before .before .before .before .pre .1 .1 .1)
 
-walk-map-without-requires : (t : ℕ) → walk-map-lts.Need-without-requires (walk-map-claims t) (walk-map-at t) walk-map.Post
+walk-map-without-requires : (t : ℕ) → walk-map-lts.Need-without-requires (walk-map-claims t) (walk-map-at t)
+    walk-map.Post
 walk-map-without-requires t c κs = search needs
 
-walk-map-without-requires-2 : (t : ℕ) → walk-map-lts.Need-without-requires-2 (walk-map-claims t) (walk-map-at t) walk-map.Post
+walk-map-without-requires-2 : (t : ℕ) → walk-map-lts.Need-without-requires-2 (walk-map-claims t) (walk-map-at t)
+    walk-map.Post
 walk-map-without-requires-2 t c κs = search needs
 
-walk-map-joined-requires : (t : ℕ) → walk-map-lts.Need-joined-requires (walk-map-claims t) (walk-map-at t) walk-map.Post
+walk-map-joined-requires : (t : ℕ) → walk-map-lts.Need-joined-requires (walk-map-claims t) (walk-map-at t)
+    walk-map.Post
 walk-map-joined-requires t c κs = search needs
 
 walk-map-none-requires : (t : ℕ) → walk-map-lts.Need-none-requires (walk-map-claims t) (walk-map-at t) walk-map.Post
@@ -323,41 +646,164 @@ walk-map-none-requires t c κs = search needs
 walk-map-with-requires : (t : ℕ) → walk-map-lts.Need-with-requires (walk-map-claims t) (walk-map-at t) walk-map.Post
 walk-map-with-requires t c κs = search needs
 
-walk-map-joined-requires-2 : (t : ℕ) → walk-map-lts.Need-joined-requires-2 (walk-map-claims t) (walk-map-at t) walk-map.Post
+walk-map-joined-requires-2 : (t : ℕ) → walk-map-lts.Need-joined-requires-2 (walk-map-claims t) (walk-map-at t)
+    walk-map.Post
 walk-map-joined-requires-2 t c κs = search needs
 
 walk-map-add-requires : (t : ℕ) → walk-map-lts.Need-add-requires (walk-map-claims t) (walk-map-at t) walk-map.Post
 walk-map-add-requires t c κs = search needs
 
-walk-map-put-releases-requires : (t : ℕ) → walk-map-lts.Need-put-releases-requires (walk-map-claims t) (walk-map-at t) walk-map.Post
+walk-map-put-releases-requires : (t : ℕ) → walk-map-lts.Need-put-releases-requires (walk-map-claims t)
+    (walk-map-at t) walk-map.Post
 walk-map-put-releases-requires t c κs = search needs
 
-walk-map-walk-tree-requires : (t : ℕ) → walk-map-lts.Need-walk-tree-requires (walk-map-claims t) (walk-map-at t) walk-map.Post
-walk-map-walk-tree-requires t c κs = (omega (arith, c .before .before .before .before .before .before .before .before .before .before .before .before .before .before .before .before .before .before .before .pre .0), (omega (arith, c .before .before .before .before .before .before .before .before .before .before .before .before .before .before .before .before .before .before .before .pre .1 .0, c .before .before .before .before .before .before .before .before .before .before .before .before .before .less-two .ensures), (lower (c .before .before .put-releases .ensures) (c .before .before .before .before .before .before .before .before .before .before .before .before .before .before .before .before .before .before .before .pre .1 .1 .0), c .before .before .before .before .before .before .before .before .before .before .before .before .before .before .before .before .before .before .before .pre .1 .1 .1)))
+walk-map-walk-tree-requires : (t : ℕ) → walk-map-lts.Need-walk-tree-requires (walk-map-claims t) (walk-map-at t)
+    walk-map.Post
+walk-map-walk-tree-requires t c κs = (
+  omega (
+    arith,
+    c .before .before .before .before .before .before .before
+        .before .before .before .before .before .before .before .before .before .before .before .before .pre .0,
+  ),
+  (
+    omega (
+      arith,
+      c .before .before .before .before .before .before .before .before .before .before .before .before
+          .before .before .before .before .before .before .before .pre .1 .0,
+      c .before .before .before .before .before
+          .before .before .before .before .before .before .before .before .less-two .ensures,
+    ),
+    (
+      lower (c .before .before .put-releases .ensures) (c .before .before .before .before .before .before .before
+          .before .before .before .before .before .before .before .before .before .before .before .before .pre .1 .1 .0),
+      c .before .before .before .before .before .before .before .before .before .before .before .before .before
+          .before .before .before .before .before .before .pre .1 .1 .1,
+    ),
+  ),
+)
 
-walk-map-put-release-requires : (t : ℕ) → walk-map-lts.Need-put-release-requires (walk-map-claims t) (walk-map-at t) walk-map.Post
-walk-map-put-release-requires t c κs = lower (c .before .before .before .walk-tree .ensures .wrote) (lower (c .before .before .before .before .before .before .put-releases .ensures) (c .before .before .before .before .before .before .before .before .before .before .before .before .before .before .before .before .before .before .before .before .before .before .before .pre .1 .1 .0))
+walk-map-put-release-requires : (t : ℕ) → walk-map-lts.Need-put-release-requires (walk-map-claims t) (walk-map-at t)
+    walk-map.Post
+walk-map-put-release-requires t c κs = lower (c .before .before .before .walk-tree .ensures .wrote)
+    (lower (c .before .before .before .before .before .before .put-releases .ensures) (c .before .before .before
+    .before .before .before .before .before .before .before .before .before .before .before .before .before .before
+    .before .before .before .before .before .before .pre .1 .1 .0))
 
-walk-map-put-retain-requires : (t : ℕ) → walk-map-lts.Need-put-retain-requires (walk-map-claims t) (walk-map-at t) walk-map.Post
-walk-map-put-retain-requires t c κs = lower (c .before .before .put-release .ensures) (lower (c .before .before .before .before .before .before .walk-tree .ensures .wrote) (lower (c .before .before .before .before .before .before .before .before .before .put-releases .ensures) (c .before .before .before .before .before .before .before .before .before .before .before .before .before .before .before .before .before .before .before .before .before .before .before .before .before .before .pre .1 .1 .0)))
+walk-map-put-retain-requires : (t : ℕ) → walk-map-lts.Need-put-retain-requires (walk-map-claims t) (walk-map-at t)
+    walk-map.Post
+walk-map-put-retain-requires t c κs = lower (c .before .before .put-release .ensures)
+    (lower (c .before .before .before .before .before .before .walk-tree .ensures .wrote)
+    (lower (c .before .before .before .before .before .before .before .before .before .put-releases .ensures)
+    (c .before .before .before .before .before .before .before .before .before .before .before .before .before
+    .before .before .before .before .before .before .before .before .before .before .before .before .before .pre .1
+    .1 .0)))
 
-walk-map-put-atom-requires : (t : ℕ) → walk-map-lts.Need-put-atom-requires (walk-map-claims t) (walk-map-at t) walk-map.Post
-walk-map-put-atom-requires t c κs = lower (c .before .before .put-retain .ensures) (lower (c .before .before .before .before .before .put-release .ensures) (lower (c .before .before .before .before .before .before .before .before .before .walk-tree .ensures .wrote) (lower (c .before .before .before .before .before .before .before .before .before .before .before .before .put-releases .ensures) (c .before .before .before .before .before .before .before .before .before .before .before .before .before .before .before .before .before .before .before .before .before .before .before .before .before .before .before .before .before .pre .1 .1 .0))))
+walk-map-put-atom-requires : (t : ℕ) → walk-map-lts.Need-put-atom-requires (walk-map-claims t) (walk-map-at t)
+    walk-map.Post
+walk-map-put-atom-requires t c κs = lower (c .before .before .put-retain .ensures) (lower (c .before .before .before
+    .before .before .put-release .ensures) (lower (c .before .before .before .before .before .before .before .before
+    .before .walk-tree .ensures .wrote) (lower (c .before .before .before .before .before .before .before .before
+    .before .before .before .before .put-releases .ensures) (c .before .before .before .before .before .before
+    .before .before .before .before .before .before .before .before .before .before .before .before .before .before
+    .before .before .before .before .before .before .before .before .before .pre .1 .1 .0))))
 
 walk-map-mul-put-row : (t : ℕ) → walk-map-lts.Need-mul-put-row (walk-map-claims t) (walk-map-at t) walk-map.Post
-walk-map-mul-put-row t c = omega (arith, c .before .before .before .before .before .before .before .before .before .before .before .before .before .before .before .before .before .before .before .before .before .before .before .before .before .before .before .before .before .before .before .before .fits .y)
+walk-map-mul-put-row t c = omega (
+  arith,
+  c .before .before .before .before .before .before .before .before .before
+      .before .before .before .before .before .before .before .before .before .before .before .before .before .before
+      .before .before .before .before .before .before .before .before .before .fits .y,
+)
 
 walk-map-add-put-row : (t : ℕ) → walk-map-lts.Need-add-put-row (walk-map-claims t) (walk-map-at t) walk-map.Post
-walk-map-add-put-row t c = omega (arith, c .before .before .before .before .before .before .before .before .before .before .before .before .before .before .before .before .before .before .before .before .before .before .before .before .before .before .before .before .before .before .before .before .fits .x, c .before .before .before .before .before .before .before .before .before .before .before .before .before .before .before .before .before .before .before .before .before .before .before .before .before .before .before .before .before .before .before .before .fits .y)
+walk-map-add-put-row t c = omega (
+  arith,
+  c .before .before .before .before .before .before .before .before .before
+      .before .before .before .before .before .before .before .before .before .before .before .before .before .before
+      .before .before .before .before .before .before .before .before .before .fits .x,
+  c .before .before .before
+      .before .before .before .before .before .before .before .before .before .before .before .before .before .before
+      .before .before .before .before .before .before .before .before .before .before .before .before .before .before
+      .before .fits .y,
+)
 
-walk-map-put-row-requires : (t : ℕ) → walk-map-lts.Need-put-row-requires (walk-map-claims t) (walk-map-at t) walk-map.Post
-walk-map-put-row-requires t c κs = lower (c .before .before .put-atom .ensures) (lower (c .before .before .before .before .before .put-retain .ensures) (lower (c .before .before .before .before .before .before .before .before .put-release .ensures) (lower (c .before .before .before .before .before .before .before .before .before .before .before .before .walk-tree .ensures .wrote) (lower (c .before .before .before .before .before .before .before .before .before .before .before .before .before .before .before .put-releases .ensures) (c .before .before .before .before .before .before .before .before .before .before .before .before .before .before .before .before .before .before .before .before .before .before .before .before .before .before .before .before .before .before .before .before .pre .1 .1 .0)))))
+walk-map-put-row-requires : (t : ℕ) → walk-map-lts.Need-put-row-requires (walk-map-claims t) (walk-map-at t)
+    walk-map.Post
+walk-map-put-row-requires t c κs = lower (c .before .before .put-atom .ensures) (lower (c .before .before .before
+    .before .before .put-retain .ensures) (lower (c .before .before .before .before .before .before .before .before
+    .put-release .ensures) (lower (c .before .before .before .before .before .before .before .before .before .before
+    .before .before .walk-tree .ensures .wrote) (lower (c .before .before .before .before .before .before .before
+    .before .before .before .before .before .before .before .before .put-releases .ensures) (c .before .before
+    .before .before .before .before .before .before .before .before .before .before .before .before .before .before
+    .before .before .before .before .before .before .before .before .before .before .before .before .before .before
+    .before .before .pre .1 .1 .0)))))
 
 walk-map-add-requires-2 : (t : ℕ) → walk-map-lts.Need-add-requires-2 (walk-map-claims t) (walk-map-at t) walk-map.Post
 walk-map-add-requires-2 t c κs = search needs
 
 walk-map-returns : (t : ℕ) → walk-map-lts.Need-returns (walk-map-claims t) (walk-map-at t) walk-map.Post
-walk-map-returns t c = map-done (plain (c .before .before .before .before .before .before .before .before .before .before .before .before .before .before .before .before .before .before .before .before .before .before .before .before .before .before .before .before .before .before .before .before .before .before .args .operands .now) (c .before .before .before .before .before .before .before .before .before .before .before .before .before .before .before .before .before .before .before .before .before .before .before .before .before .before .before .before .before .before .before .before .before .before .args .rows .now) (c .before .before .before .before .before .before .before .before .before .before .before .before .before .before .before .before .before .before .before .before .before .before .before .before .before .before .before .before .before .before .before .before .before .before .args .notes .now)) (tree-to (plain (c .before .before .before .before .before .before .before .before .before .before .before .before .before .before .before .before .before .before .before .before .before .before .before .before .before .before .before .before .before .before .before .before .before .before .args .operands .now) (c .before .before .before .before .before .before .before .before .before .before .before .before .before .before .before .before .before .before .before .before .before .before .before .before .before .before .before .before .before .before .before .before .before .before .args .rows .now) (c .before .before .before .before .before .before .before .before .before .before .before .before .before .before .before .before .before .before .before .before .before .before .before .before .before .before .before .before .before .before .before .before .before .before .args .notes .now)) (c .before .before .before .before .before .before .before .before .before .before .before .before .before .before .before .before .before .before .before .before .before .before .before .before .before .before .before .before .before .before .before .before .before .before .args .levels)) (sets-of (c .before .before .before .before .before .before .before .before .before .before .before .before .before .before .before .before .before .before .before .before .before .before .before .before .before .before .before .before .before .before .before .before .before .before .args .table .now)) (depth-in (c .before .before .before .before .before .before .before .before .before .before .before .before .before .before .before .before .before .before .before .before .before .before .before .before .before .before .before .before .before .before .before .before .before .before .args .depths .now)) (c .before .before .before .before .before .before .before .before .before .before .before .before .before .before .before .before .before .before .before .before .before .before .before .before .before .before .before .before .before .before .before .before .before .before .args .q) (set-of (c .before .before .before .before .before .before .before .before .before .before .before .before .before .before .before .before .before .before .before .before .before .before .before .before .before .before .before .before .before .before .before .before .before .before .args .after)) (c .before .before .before .before .before .before .before .before .before .before .before .before .before .before .before .before .before .before .before .before .before .before .before .before .before .before .before .before .before .before .before .before .before .before .args .x) (c .before .before .before .before .before .before .before .before .before .before .before .before .before .before .before .before .before .before .before .before .before .before .before .before .before .before .before .before .before .before .before .before .before .before .args .y) (c .before .before .before .before .before .before .before .before .before .before .before .before .before .before .before .before .before .before .before .before .before .before .before .before .before .before .before .before .before .before .before .before .before .before .args .a) _ _ _ _ _ _ _ _ _ (c .before .before .before .before .before .before .before .before .before .before .before .before .before .before .before .before .before .before .before .before .before .before .before .before .before .before .before .before .less-two .ensures) (c .before .before .before .before .before .before .before .before .before .before .before .before .before .before .before .before .before .before .before .before .before .before .before .before .before .before .before .load .ensures) (c .before .before .before .before .before .before .before .before .before .before .before .before .before .before .before .before .before .before .before .before .before .before .before .before .before .before .without .ensures) (c .before .before .before .before .before .before .before .before .before .before .before .before .before .before .before .before .before .before .before .before .before .before .before .before .before .without2 .ensures) (c .before .before .before .before .before .before .before .before .before .before .before .before .before .before .before .before .before .before .before .before .before .before .before .before .joined .ensures) (c .before .before .before .before .before .before .before .before .before .before .before .before .before .before .before .before .before .before .before .before .before .before .before .none .ensures) (c .before .before .before .before .before .before .before .before .before .before .before .before .before .before .before .before .before .before .before .before .before .before .with .ensures) (c .before .before .before .before .before .before .before .before .before .before .before .before .before .before .before .before .before .before .before .before .before .joined2 .ensures) (c .before .before .before .before .before .before .before .before .before .before .before .before .before .before .before .before .before .before .before .before .add .ensures) (c .before .before .before .before .before .before .before .before .before .before .before .before .before .before .before .before .before .put-releases .ensures) (c .before .before .before .before .before .before .before .before .before .before .before .before .before .before .walk-tree .ensures) (c .before .before .before .before .before .before .before .before .before .before .put-release .ensures) (c .before .before .before .before .before .before .before .put-retain .ensures) (c .before .before .before .before .put-atom .ensures) (c .before .put-row .ensures) (c .add2 .result) (c .add2 .ensures)
+walk-map-returns t c = map-done (plain (c .before .before .before .before .before .before .before .before .before
+    .before .before .before .before .before .before .before .before .before .before .before .before .before .before
+    .before .before .before .before .before .before .before .before .before .before .before .args .operands .now)
+    (c .before .before .before .before .before .before .before .before .before .before .before .before .before
+    .before .before .before .before .before .before .before .before .before .before .before .before .before .before
+    .before .before .before .before .before .before .before .args .rows .now) (c .before .before .before .before
+    .before .before .before .before .before .before .before .before .before .before .before .before .before .before
+    .before .before .before .before .before .before .before .before .before .before .before .before .before .before
+    .before .before .args .notes .now)) (tree-to (plain (c .before .before .before .before .before .before .before
+    .before .before .before .before .before .before .before .before .before .before .before .before .before .before
+    .before .before .before .before .before .before .before .before .before .before .before .before .before .args
+    .operands .now) (c .before .before .before .before .before .before .before .before .before .before .before
+    .before .before .before .before .before .before .before .before .before .before .before .before .before .before
+    .before .before .before .before .before .before .before .before .before .args .rows .now) (c .before .before
+    .before .before .before .before .before .before .before .before .before .before .before .before .before .before
+    .before .before .before .before .before .before .before .before .before .before .before .before .before .before
+    .before .before .before .before .args .notes .now)) (c .before .before .before .before .before .before .before
+    .before .before .before .before .before .before .before .before .before .before .before .before .before .before
+    .before .before .before .before .before .before .before .before .before .before .before .before .before .args
+    .levels)) (sets-of (c .before .before .before .before .before .before .before .before .before .before .before
+    .before .before .before .before .before .before .before .before .before .before .before .before .before .before
+    .before .before .before .before .before .before .before .before .before .args .table .now))
+    (depth-in (c .before .before .before .before .before .before .before .before .before .before .before .before
+    .before .before .before .before .before .before .before .before .before .before .before .before .before .before
+    .before .before .before .before .before .before .before .before .args .depths .now)) (c .before .before .before
+    .before .before .before .before .before .before .before .before .before .before .before .before .before .before
+    .before .before .before .before .before .before .before .before .before .before .before .before .before .before
+    .before .before .before .args .q) (set-of (c .before .before .before .before .before .before .before .before
+    .before .before .before .before .before .before .before .before .before .before .before .before .before .before
+    .before .before .before .before .before .before .before .before .before .before .before .before .args .after))
+    (c .before .before .before .before .before .before .before .before .before .before .before .before .before
+    .before .before .before .before .before .before .before .before .before .before .before .before .before .before
+    .before .before .before .before .before .before .before .args .x) (c .before .before .before .before .before
+    .before .before .before .before .before .before .before .before .before .before .before .before .before .before
+    .before .before .before .before .before .before .before .before .before .before .before .before .before .before
+    .before .args .y) (c .before .before .before .before .before .before .before .before .before .before .before
+    .before .before .before .before .before .before .before .before .before .before .before .before .before .before
+    .before .before .before .before .before .before .before .before .before .args .a) _ _ _ _ _ _ _ _ _
+    (c .before .before .before .before .before .before .before .before .before .before .before .before .before
+    .before .before .before .before .before .before .before .before .before .before .before .before .before .before
+    .before .less-two .ensures) (c .before .before .before .before .before .before .before .before .before .before
+    .before .before .before .before .before .before .before .before .before .before .before .before .before .before
+    .before .before .before .load .ensures) (c .before .before .before .before .before .before .before .before
+    .before .before .before .before .before .before .before .before .before .before .before .before .before .before
+    .before .before .before .before .without .ensures) (c .before .before .before .before .before .before .before
+    .before .before .before .before .before .before .before .before .before .before .before .before .before .before
+    .before .before .before .before .without2 .ensures) (c .before .before .before .before .before .before .before
+    .before .before .before .before .before .before .before .before .before .before .before .before .before .before
+    .before .before .before .joined .ensures) (c .before .before .before .before .before .before .before .before
+    .before .before .before .before .before .before .before .before .before .before .before .before .before .before
+    .before .none .ensures) (c .before .before .before .before .before .before .before .before .before .before
+    .before .before .before .before .before .before .before .before .before .before .before .before .with .ensures)
+    (c .before .before .before .before .before .before .before .before .before .before .before .before .before
+    .before .before .before .before .before .before .before .before .joined2 .ensures) (c .before .before .before
+    .before .before .before .before .before .before .before .before .before .before .before .before .before .before
+    .before .before .before .add .ensures) (c .before .before .before .before .before .before .before .before
+    .before .before .before .before .before .before .before .before .before .put-releases .ensures)
+    (c .before .before .before .before .before .before .before .before .before .before .before .before .before
+    .before .walk-tree .ensures) (c .before .before .before .before .before .before .before .before .before .before
+    .put-release .ensures) (c .before .before .before .before .before .before .before .put-retain .ensures)
+    (c .before .before .before .before .put-atom .ensures) (c .before .put-row .ensures) (c .add2 .result)
+    (c .add2 .ensures)
 
 abbrev walk-tree-Inv-loop : walk-tree-lts.InvT-loop
 walk-tree-Inv-loop ks₀ os₀ operands rows notes table depths e levels w place v₀ s₀ q₀ left₀ ks os v s q left =
@@ -366,53 +812,138 @@ walk-tree-Inv-loop ks₀ os₀ operands rows notes table depths e levels w place
 abbrev walk-tree-μ-loop : walk-tree-lts.MeasureT-loop
 walk-tree-μ-loop ks₀ os₀ operands rows notes table depths e levels w place v₀ s₀ q₀ left₀ ks os v s q left = left
 
-walk-tree-add-row-at : (t : ℕ) → walk-tree-lts.Need-add-row-at (walk-tree-claims t) (walk-tree-at t) walk-tree.Post walk-tree-Inv-loop walk-tree-μ-loop
+walk-tree-add-row-at : (t : ℕ) → walk-tree-lts.Need-add-row-at (walk-tree-claims t) (walk-tree-at t) walk-tree.Post
+    walk-tree-Inv-loop walk-tree-μ-loop
 walk-tree-add-row-at t c = search needs
 
-walk-tree-row-at-requires : (t : ℕ) → walk-tree-lts.Need-row-at-requires (walk-tree-claims t) (walk-tree-at t) walk-tree.Post walk-tree-Inv-loop walk-tree-μ-loop
+walk-tree-row-at-requires : (t : ℕ) → walk-tree-lts.Need-row-at-requires (walk-tree-claims t) (walk-tree-at t)
+    walk-tree.Post walk-tree-Inv-loop walk-tree-μ-loop
 walk-tree-row-at-requires t c κs = search needs
 
-walk-tree-atom-of-requires : (t : ℕ) → walk-tree-lts.Need-atom-of-requires (walk-tree-claims t) (walk-tree-at t) walk-tree.Post walk-tree-Inv-loop walk-tree-μ-loop
+walk-tree-atom-of-requires : (t : ℕ) → walk-tree-lts.Need-atom-of-requires (walk-tree-claims t) (walk-tree-at t)
+    walk-tree.Post walk-tree-Inv-loop walk-tree-μ-loop
 walk-tree-atom-of-requires t c κs = search needs
 
-walk-tree-put-end-requires : (t : ℕ) → walk-tree-lts.Need-put-end-requires (walk-tree-claims t) (walk-tree-at t) walk-tree.Post walk-tree-Inv-loop walk-tree-μ-loop
+walk-tree-put-end-requires : (t : ℕ) → walk-tree-lts.Need-put-end-requires (walk-tree-claims t) (walk-tree-at t)
+    walk-tree.Post walk-tree-Inv-loop walk-tree-μ-loop
 walk-tree-put-end-requires t c κs = search needs
 
-walk-tree-add-requires : (t : ℕ) → walk-tree-lts.Need-add-requires (walk-tree-claims t) (walk-tree-at t) walk-tree.Post walk-tree-Inv-loop walk-tree-μ-loop
+walk-tree-add-requires : (t : ℕ) → walk-tree-lts.Need-add-requires (walk-tree-claims t) (walk-tree-at t)
+    walk-tree.Post walk-tree-Inv-loop walk-tree-μ-loop
 walk-tree-add-requires t c κs = search needs
 
-walk-tree-returns : (t : ℕ) → walk-tree-lts.Need-returns (walk-tree-claims t) (walk-tree-at t) walk-tree.Post walk-tree-Inv-loop walk-tree-μ-loop
-walk-tree-returns t c = none-done (plain (c .before .before .before .before .before .before .before .before .before .before .before .before .args .operands .now) (c .before .before .before .before .before .before .before .before .before .before .before .before .args .rows .now) (c .before .before .before .before .before .before .before .before .before .before .before .before .args .notes .now)) (sets-of (c .before .before .before .before .before .before .before .before .before .before .before .before .args .table .now)) (depth-in (c .before .before .before .before .before .before .before .before .before .before .before .before .args .depths .now)) (c .before .before .before .before .before .before .before .before .before .before .before .before .args .e) (c .before .before .before .before .before .before .before .before .before .before .before .before .args .levels) (set-of (c .before .before .before .before .before .before .before .before .before .before .before .before .args .after)) (c .if1 .taken) (end-done (plain (c .before .before .before .before .before .before .before .before .before .before .before .before .args .operands .now) (c .before .before .before .before .before .before .before .before .before .before .before .before .args .rows .now) (c .before .before .before .before .before .before .before .before .before .before .before .before .args .notes .now)) (sets-of (c .before .before .before .before .before .before .before .before .before .before .before .before .args .table .now)) (depth-in (c .before .before .before .before .before .before .before .before .before .before .before .before .args .depths .now)) (c .before .before .before .before .before .before .before .before .before .before .before .before .args .e) (c .before .before .before .before .before .atom-of .result) (c .before .before .before .before .before .before .row-at .result) (set-of (c .before .before .before .before .before .before .before .before .before .before .before .before .args .after)) (c .before .before .before .before .before .before .row-at .ensures) (c .before .before .before .before .before .atom-of .ensures) (c .before .add .ensures) (c .before .before .put-end .ensures))
+walk-tree-returns : (t : ℕ) → walk-tree-lts.Need-returns (walk-tree-claims t) (walk-tree-at t) walk-tree.Post
+    walk-tree-Inv-loop walk-tree-μ-loop
+walk-tree-returns t c = none-done (plain (c .before .before .before .before .before .before .before .before .before
+    .before .before .before .args .operands .now) (c .before .before .before .before .before .before .before .before
+    .before .before .before .before .args .rows .now) (c .before .before .before .before .before .before .before
+    .before .before .before .before .before .args .notes .now)) (sets-of (c .before .before .before .before .before
+    .before .before .before .before .before .before .before .args .table .now)) (depth-in (c .before .before .before
+    .before .before .before .before .before .before .before .before .before .args .depths .now)) (c .before .before
+    .before .before .before .before .before .before .before .before .before .before .args .e) (c .before .before
+    .before .before .before .before .before .before .before .before .before .before .args .levels)
+    (set-of (c .before .before .before .before .before .before .before .before .before .before .before .before .args
+    .after)) (c .if1 .taken) (end-done (plain (c .before .before .before .before .before .before .before .before
+    .before .before .before .before .args .operands .now) (c .before .before .before .before .before .before .before
+    .before .before .before .before .before .args .rows .now) (c .before .before .before .before .before .before
+    .before .before .before .before .before .before .args .notes .now)) (sets-of (c .before .before .before .before
+    .before .before .before .before .before .before .before .before .args .table .now)) (depth-in (c .before .before
+    .before .before .before .before .before .before .before .before .before .before .args .depths .now))
+    (c .before .before .before .before .before .before .before .before .before .before .before .before .args .e)
+    (c .before .before .before .before .before .atom-of .result) (c .before .before .before .before .before .before
+    .row-at .result) (set-of (c .before .before .before .before .before .before .before .before .before .before
+    .before .before .args .after)) (c .before .before .before .before .before .before .row-at .ensures)
+    (c .before .before .before .before .before .atom-of .ensures) (c .before .add .ensures) (c .before .before
+    .put-end .ensures))
 
-walk-tree-loop-holds : (t : ℕ) → walk-tree-lts.Need-loop-holds (walk-tree-claims t) (walk-tree-at t) walk-tree.Post walk-tree-Inv-loop walk-tree-μ-loop
-walk-tree-loop-holds t c = walk-begins (c .if1 .left) (omega arith) (lower (c .before .before .put-end .ensures) (c .before .before .before .before .before .before .before .before .before .before .before .before .pre .1 .1 .0))
+walk-tree-loop-holds : (t : ℕ) → walk-tree-lts.Need-loop-holds (walk-tree-claims t) (walk-tree-at t) walk-tree.Post
+    walk-tree-Inv-loop walk-tree-μ-loop
+walk-tree-loop-holds t c = walk-begins (c .if1 .left) (omega arith) (lower (c .before .before .put-end .ensures)
+    (c .before .before .before .before .before .before .before .before .before .before .before .before .pre .1 .1
+    .0))
 
-walk-tree-note-at-requires : (t : ℕ) → walk-tree-lts.Need-note-at-requires (walk-tree-claims t) (walk-tree-at t) walk-tree.Post walk-tree-Inv-loop walk-tree-μ-loop
+walk-tree-note-at-requires : (t : ℕ) → walk-tree-lts.Need-note-at-requires (walk-tree-claims t) (walk-tree-at t)
+    walk-tree.Post walk-tree-Inv-loop walk-tree-μ-loop
 walk-tree-note-at-requires t c κs = search needs
 
-walk-tree-returns-2 : (t : ℕ) → walk-tree-lts.Need-returns-2 (walk-tree-claims t) (walk-tree-at t) walk-tree.Post walk-tree-Inv-loop walk-tree-μ-loop
-walk-tree-returns-2 t c = walk-stops (c .before .before .before .loop .inv) (c .before .note-at .result) (set-of (c .before .before .before .before .before .before .before .before .before .before .before .before .before .before .before .before .args .after)) (c .before .note-at .ensures) (c .if2 .taken) (end-done (plain (c .before .before .before .before .before .before .before .before .before .before .before .before .before .before .before .before .args .operands .now) (c .before .before .before .before .before .before .before .before .before .before .before .before .before .before .before .before .args .rows .now) (c .before .before .before .before .before .before .before .before .before .before .before .before .before .before .before .before .args .notes .now)) (sets-of (c .before .before .before .before .before .before .before .before .before .before .before .before .before .before .before .before .args .table .now)) (depth-in (c .before .before .before .before .before .before .before .before .before .before .before .before .before .before .before .before .args .depths .now)) (c .before .before .before .before .before .before .before .before .before .before .before .before .before .before .before .before .args .e) (c .before .before .before .before .before .before .before .before .before .atom-of .result) (c .before .before .before .before .before .before .before .before .before .before .row-at .result) (set-of (c .before .before .before .before .before .before .before .before .before .before .before .before .before .before .before .before .args .after)) (c .before .before .before .before .before .before .before .before .before .before .row-at .ensures) (c .before .before .before .before .before .before .before .before .before .atom-of .ensures) (c .before .before .before .before .before .add .ensures) (c .before .before .before .before .before .before .put-end .ensures))
+walk-tree-returns-2 : (t : ℕ) → walk-tree-lts.Need-returns-2 (walk-tree-claims t) (walk-tree-at t) walk-tree.Post
+    walk-tree-Inv-loop walk-tree-μ-loop
+walk-tree-returns-2 t c = walk-stops (c .before .before .before .loop .inv) (c .before .note-at .result)
+    (set-of (c .before .before .before .before .before .before .before .before .before .before .before .before
+    .before .before .before .before .args .after)) (c .before .note-at .ensures) (c .if2 .taken)
+    (end-done (plain (c .before .before .before .before .before .before .before .before .before .before .before
+    .before .before .before .before .before .args .operands .now) (c .before .before .before .before .before .before
+    .before .before .before .before .before .before .before .before .before .before .args .rows .now)
+    (c .before .before .before .before .before .before .before .before .before .before .before .before .before
+    .before .before .before .args .notes .now)) (sets-of (c .before .before .before .before .before .before .before
+    .before .before .before .before .before .before .before .before .before .args .table .now))
+    (depth-in (c .before .before .before .before .before .before .before .before .before .before .before .before
+    .before .before .before .before .args .depths .now)) (c .before .before .before .before .before .before .before
+    .before .before .before .before .before .before .before .before .before .args .e) (c .before .before .before
+    .before .before .before .before .before .before .atom-of .result) (c .before .before .before .before .before
+    .before .before .before .before .before .row-at .result) (set-of (c .before .before .before .before .before
+    .before .before .before .before .before .before .before .before .before .before .before .args .after))
+    (c .before .before .before .before .before .before .before .before .before .before .row-at .ensures)
+    (c .before .before .before .before .before .before .before .before .before .atom-of .ensures) (c .before .before
+    .before .before .before .add .ensures) (c .before .before .before .before .before .before .put-end .ensures))
 
-walk-tree-line-at-requires : (t : ℕ) → walk-tree-lts.Need-line-at-requires (walk-tree-claims t) (walk-tree-at t) walk-tree.Post walk-tree-Inv-loop walk-tree-μ-loop
+walk-tree-line-at-requires : (t : ℕ) → walk-tree-lts.Need-line-at-requires (walk-tree-claims t) (walk-tree-at t)
+    walk-tree.Post walk-tree-Inv-loop walk-tree-μ-loop
 walk-tree-line-at-requires t c κs = search needs
 
-walk-tree-sub-walk-line : (t : ℕ) → walk-tree-lts.Need-sub-walk-line (walk-tree-claims t) (walk-tree-at t) walk-tree.Post walk-tree-Inv-loop walk-tree-μ-loop
+walk-tree-sub-walk-line : (t : ℕ) → walk-tree-lts.Need-sub-walk-line (walk-tree-claims t) (walk-tree-at t)
+    walk-tree.Post walk-tree-Inv-loop walk-tree-μ-loop
 walk-tree-sub-walk-line t c = search needs
 
-walk-tree-walk-line-requires : (t : ℕ) → walk-tree-lts.Need-walk-line-requires (walk-tree-claims t) (walk-tree-at t) walk-tree.Post walk-tree-Inv-loop walk-tree-μ-loop
-walk-tree-walk-line-requires t c κs = (omega arith, ((omega arith, omega arith), (c .before .before .before .before .before .before .loop .inv .place, c .before .before .before .before .before .before .before .before .before .before .before .before .before .before .before .before .before .before .before .pre .1 .1 .1)))
+walk-tree-walk-line-requires : (t : ℕ) → walk-tree-lts.Need-walk-line-requires (walk-tree-claims t) (walk-tree-at t)
+    walk-tree.Post walk-tree-Inv-loop walk-tree-μ-loop
+walk-tree-walk-line-requires t c κs = (
+  omega arith,
+  (
+    (omega arith, omega arith),
+    (
+      c .before .before .before .before
+          .before .before .loop .inv .place,
+      c .before .before .before .before .before .before .before .before .before
+          .before .before .before .before .before .before .before .before .before .before .pre .1 .1 .1,
+    ),
+  ),
+)
 
-walk-tree-sub-left : (t : ℕ) → walk-tree-lts.Need-sub-left (walk-tree-claims t) (walk-tree-at t) walk-tree.Post walk-tree-Inv-loop walk-tree-μ-loop
+walk-tree-sub-left : (t : ℕ) → walk-tree-lts.Need-sub-left (walk-tree-claims t) (walk-tree-at t) walk-tree.Post
+    walk-tree-Inv-loop walk-tree-μ-loop
 walk-tree-sub-left t c = search needs
 
-walk-tree-loop-less : (t : ℕ) → walk-tree-lts.Need-loop-less (walk-tree-claims t) (walk-tree-at t) walk-tree.Post walk-tree-Inv-loop walk-tree-μ-loop
+walk-tree-loop-less : (t : ℕ) → walk-tree-lts.Need-loop-less (walk-tree-claims t) (walk-tree-at t) walk-tree.Post
+    walk-tree-Inv-loop walk-tree-μ-loop
 walk-tree-loop-less t c = search needs
 
-walk-tree-loop-again : (t : ℕ) → walk-tree-lts.Need-loop-again (walk-tree-claims t) (walk-tree-at t) walk-tree.Post walk-tree-Inv-loop walk-tree-μ-loop
-walk-tree-loop-again t c = walk-goes (c .before .before .before .before .before .before .before .before .loop .inv) (c .before .before .before .before .before .before .note-at .result) (c .before .before .before .before .line-at .result) (c .before .walk-line .result) _ _ (c .before .before .before .before .before .before .before .loop-test .taken) (c .before .before .before .before .before .before .note-at .ensures) (c .before .before .before .before .before .if2 .left) (c .before .before .before .before .line-at .ensures) (c .before .walk-line .ensures)
+walk-tree-loop-again : (t : ℕ) → walk-tree-lts.Need-loop-again (walk-tree-claims t) (walk-tree-at t) walk-tree.Post
+    walk-tree-Inv-loop walk-tree-μ-loop
+walk-tree-loop-again t c = walk-goes (c .before .before .before .before .before .before .before .before .loop .inv)
+    (c .before .before .before .before .before .before .note-at .result) (c .before .before .before .before .line-at
+    .result) (c .before .walk-line .result) _ _ (c .before .before .before .before .before .before .before
+    .loop-test .taken) (c .before .before .before .before .before .before .note-at .ensures) (c .before .before
+    .before .before .before .if2 .left) (c .before .before .before .before .line-at .ensures) (c .before .walk-line
+    .ensures)
 
-walk-tree-returns-3 : (t : ℕ) → walk-tree-lts.Need-returns-3 (walk-tree-claims t) (walk-tree-at t) walk-tree.Post walk-tree-Inv-loop walk-tree-μ-loop
-walk-tree-returns-3 t c = walk-ends (c .before .loop .inv) (set-of (c .before .before .before .before .before .before .before .before .before .before .before .before .before .before .args .after)) (c .loop-test .left) (end-done (plain (c .before .before .before .before .before .before .before .before .before .before .before .before .before .before .args .operands .now) (c .before .before .before .before .before .before .before .before .before .before .before .before .before .before .args .rows .now) (c .before .before .before .before .before .before .before .before .before .before .before .before .before .before .args .notes .now)) (sets-of (c .before .before .before .before .before .before .before .before .before .before .before .before .before .before .args .table .now)) (depth-in (c .before .before .before .before .before .before .before .before .before .before .before .before .before .before .args .depths .now)) (c .before .before .before .before .before .before .before .before .before .before .before .before .before .before .args .e) (c .before .before .before .before .before .before .before .atom-of .result) (c .before .before .before .before .before .before .before .before .row-at .result) (set-of (c .before .before .before .before .before .before .before .before .before .before .before .before .before .before .args .after)) (c .before .before .before .before .before .before .before .before .row-at .ensures) (c .before .before .before .before .before .before .before .atom-of .ensures) (c .before .before .before .add .ensures) (c .before .before .before .before .put-end .ensures))
+walk-tree-returns-3 : (t : ℕ) → walk-tree-lts.Need-returns-3 (walk-tree-claims t) (walk-tree-at t) walk-tree.Post
+    walk-tree-Inv-loop walk-tree-μ-loop
+walk-tree-returns-3 t c = walk-ends (c .before .loop .inv) (set-of (c .before .before .before .before .before
+    .before .before .before .before .before .before .before .before .before .args .after)) (c .loop-test .left)
+    (end-done (plain (c .before .before .before .before .before .before .before .before .before .before .before
+    .before .before .before .args .operands .now) (c .before .before .before .before .before .before .before .before
+    .before .before .before .before .before .before .args .rows .now) (c .before .before .before .before .before
+    .before .before .before .before .before .before .before .before .before .args .notes .now))
+    (sets-of (c .before .before .before .before .before .before .before .before .before .before .before .before
+    .before .before .args .table .now)) (depth-in (c .before .before .before .before .before .before .before .before
+    .before .before .before .before .before .before .args .depths .now)) (c .before .before .before .before .before
+    .before .before .before .before .before .before .before .before .before .args .e) (c .before .before .before
+    .before .before .before .before .atom-of .result) (c .before .before .before .before .before .before .before
+    .before .row-at .result) (set-of (c .before .before .before .before .before .before .before .before .before
+    .before .before .before .before .before .args .after)) (c .before .before .before .before .before .before
+    .before .before .row-at .ensures) (c .before .before .before .before .before .before .before .atom-of .ensures)
+    (c .before .before .before .add .ensures) (c .before .before .before .before .put-end .ensures))
 
 pub +walk-branch+walk-if+walk-line+walk-map+walk-tree-spec : {M : Type 1} → statement M
 +walk-branch+walk-if+walk-line+walk-map+walk-tree-spec =

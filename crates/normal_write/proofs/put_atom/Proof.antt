@@ -26,7 +26,9 @@ put-row-requires : tie.Need-put-row-requires
 put-row-requires c κs = search needs
 
 returns : tie.Need-returns
-returns c = rw (c .before .before .before .before .a .given .1) (rw (toZ-ofZ {z = c .before .before .before .before .a .given .0 .0} (record { sfits = c .before .before .before .known-told .given .0 .1 })) at (c .put-back .ensures))
+returns c = rw (c .before .before .before .before .a .given .1) (rw (toZ-ofZ {z = c .before .before .before .before
+    .a .given .0 .0} (record { sfits = c .before .before .before .known-told .given .0 .1 })) at
+    (c .put-back .ensures))
 
 returns-2 : tie.Need-returns-2
 returns-2 c = rw (c .before .before .before .before .a2 .given .1) (c .put-row .ensures)

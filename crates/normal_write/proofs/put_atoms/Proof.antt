@@ -18,13 +18,20 @@ use Rattle.normal_write.proofs.put_atom.Reads as put-atom-reads
 
 abbrev Inv-loop : tie.InvT-loop
 Inv-loop ks₀ os₀ operands rows at m w v₀ i₀ ks os v i =
-    (i ≤ m) × (m < 256) × (v ≤ 4097) × Wrote ks₀ os₀ ks os w v (map atom-row (atoms-at operands rows (at + i) (m - i)))
+    (i ≤ m) × (m < 256) × (v ≤ 4097) × Wrote ks₀ os₀ ks os w v (map atom-row (atoms-at operands rows (at + i)
+    (m - i)))
 
 abbrev μ-loop : tie.MeasureT-loop
 μ-loop ks₀ os₀ operands rows at m w v₀ i₀ ks os v i = i
 
 loop-holds : tie.Need-loop-holds Inv-loop μ-loop
-loop-holds c = (omega arith, omega arith, omega arith, atoms-begin (c .before .before .args .operands .now) (c .before .before .args .rows .now) (c .before .before .args .at) (c .before .before .args .m))
+loop-holds c = (
+  omega arith,
+  omega arith,
+  omega arith,
+  atoms-begin (c .before .before .args .operands .now)
+      (c .before .before .args .rows .now) (c .before .before .args .at) (c .before .before .args .m),
+)
 
 sub-i : tie.Need-sub-i Inv-loop μ-loop
 sub-i c = search needs
@@ -45,10 +52,24 @@ loop-less : tie.Need-loop-less Inv-loop μ-loop
 loop-less c = search needs
 
 loop-again : tie.Need-loop-again Inv-loop μ-loop
-loop-again c = let v = c .before .before .before .before .before .before .loop .inv in (omega arith, v .1, lower (c .put-atom .ensures) (v .2), atoms-go (c .before .before .before .before .before .before .before .before .before .args .operands .now) (c .before .before .before .before .before .before .before .before .before .args .rows .now) (c .before .before .before .before .before .before .before .before .before .args .at) (c .before .before .before .before .before .before .loop .i) (c .before .before .before .before .before .before .before .before .before .args .m) (c .before .before .before .before .row-at .result) (c .before .before .before .atom-of .result) (c .before .before .before .before .before .loop-test .taken) (v .0) (c .before .before .before .before .row-at .ensures) (c .before .before .before .atom-of .ensures) (v .3) (c .put-atom .ensures))
+loop-again c = let v = c .before .before .before .before .before .before .loop .inv in (
+  omega arith,
+  v .1,
+  lower
+      (c .put-atom .ensures) (v .2),
+  atoms-go (c .before .before .before .before .before .before .before .before
+      .before .args .operands .now) (c .before .before .before .before .before .before .before .before .before .args
+      .rows .now) (c .before .before .before .before .before .before .before .before .before .args .at)
+      (c .before .before .before .before .before .before .loop .i) (c .before .before .before .before .before .before
+      .before .before .before .args .m) (c .before .before .before .before .row-at .result) (c .before .before .before
+      .atom-of .result) (c .before .before .before .before .before .loop-test .taken) (v .0) (c .before .before
+      .before .before .row-at .ensures) (c .before .before .before .atom-of .ensures) (v .3) (c .put-atom .ensures),
+)
 
 returns : tie.Need-returns Inv-loop μ-loop
-returns c = atoms-end (c .before .before .before .before .args .operands .now) (c .before .before .before .before .args .rows .now) (c .before .before .before .before .args .at) (c .before .loop .i) (c .before .before .before .before .args .m) (c .loop-test .left) (c .before .loop .inv .3)
+returns c = atoms-end (c .before .before .before .before .args .operands .now) (c .before .before .before .before
+    .args .rows .now) (c .before .before .before .before .args .at) (c .before .loop .i) (c .before .before .before
+    .before .args .m) (c .loop-test .left) (c .before .loop .inv .3)
 
 pub put-atoms-spec : {M : Type 1} → statement M
 put-atoms-spec =

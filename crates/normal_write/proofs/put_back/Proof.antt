@@ -23,7 +23,8 @@ element-set-from-operand : tie.Need-element-set-from-operand
 element-set-from-operand c = search needs
 
 returns : tie.Need-returns
-returns c = wrote-one (c .less-one .ensures) refl (rw (toZ-ofZ {z = c .before .args .operand} (c .before .fits .operand)))
+returns c = wrote-one (c .less-one .ensures) refl (rw (toZ-ofZ {z = c .before .args .operand} (c .before .fits
+    .operand)))
 
 pub put-back-spec : {M : Type 1} → statement M
 put-back-spec =

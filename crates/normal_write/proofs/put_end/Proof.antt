@@ -18,10 +18,12 @@ put-row-requires : tie.Need-put-row-requires
 put-row-requires c κs = lower (c .before .before .put-atom .ensures) (omega arith)
 
 retain-atom-requires : tie.Need-retain-atom-requires
-retain-atom-requires c κs = lower (c .before .before .put-row .ensures) (lower (c .before .before .before .before .before .put-atom .ensures) (omega arith))
+retain-atom-requires c κs = lower (c .before .before .put-row .ensures) (lower (c .before .before .before .before
+    .before .put-atom .ensures) (omega arith))
 
 returns : tie.Need-returns
-returns c = wrote-then (wrote-then (c .before .before .before .before .before .before .put-atom .ensures) (c .before .before .before .put-row .ensures)) (c .retain-atom .ensures)
+returns c = wrote-then (wrote-then (c .before .before .before .before .before .before .put-atom .ensures)
+    (c .before .before .before .put-row .ensures)) (c .retain-atom .ensures)
 
 pub put-end-spec : {M : Type 1} → statement M
 put-end-spec = tie.close (tie.spec put-atom-requires put-row-requires retain-atom-requires returns)

@@ -17,13 +17,21 @@ put-atoms-requires : tie.Need-put-atoms-requires
 put-atoms-requires c κs = (omega arith, lower (c .before .before .put-release .ensures) (omega arith))
 
 put-row-requires : tie.Need-put-row-requires
-put-row-requires c κs = lower (c .before .before .put-atoms .ensures) (lower (c .before .before .before .before .before .put-release .ensures) (omega arith))
+put-row-requires c κs = lower (c .before .before .put-atoms .ensures) (lower (c .before .before .before .before
+    .before .put-release .ensures) (omega arith))
 
 put-retains-requires : tie.Need-put-retains-requires
-put-retains-requires c κs = (omega arith, lower (c .before .before .put-row .ensures) (lower (c .before .before .before .before .before .put-atoms .ensures) (lower (c .before .before .before .before .before .before .before .before .put-release .ensures) (omega arith))))
+put-retains-requires c κs = (
+  omega arith,
+  lower (c .before .before .put-row .ensures)
+      (lower (c .before .before .before .before .before .put-atoms .ensures) (lower (c .before .before .before .before
+      .before .before .before .before .put-release .ensures) (omega arith))),
+)
 
 returns : tie.Need-returns
-returns c = wrote-then (wrote-then (wrote-then (c .before .before .before .before .before .before .before .before .before .put-release .ensures) (c .before .before .before .before .before .before .put-atoms .ensures)) (c .before .before .before .put-row .ensures)) (c .put-retains .ensures)
+returns c = wrote-then (wrote-then (wrote-then (c .before .before .before .before .before .before .before .before
+    .before .put-release .ensures) (c .before .before .before .before .before .before .put-atoms .ensures))
+    (c .before .before .before .put-row .ensures)) (c .put-retains .ensures)
 
 pub put-handing-spec : {M : Type 1} → statement M
 put-handing-spec =

@@ -33,16 +33,38 @@ put-retain-requires : tie.Need-put-retain-requires
 put-retain-requires c κs = lower (c .before .before .put-releases .ensures) (omega arith)
 
 put-atom-requires : tie.Need-put-atom-requires
-put-atom-requires c κs = lower (c .before .before .put-retain .ensures) (lower (c .before .before .before .before .before .put-releases .ensures) (omega arith))
+put-atom-requires c κs = lower (c .before .before .put-retain .ensures) (lower (c .before .before .before .before
+    .before .put-releases .ensures) (omega arith))
 
 put-atom-requires-2 : tie.Need-put-atom-requires-2
-put-atom-requires-2 c κs = lower (c .before .before .put-atom .ensures) (lower (c .before .before .before .before .before .put-retain .ensures) (lower (c .before .before .before .before .before .before .before .before .put-releases .ensures) (omega arith)))
+put-atom-requires-2 c κs = lower (c .before .before .put-atom .ensures) (lower (c .before .before .before .before
+    .before .put-retain .ensures) (lower (c .before .before .before .before .before .before .before .before
+    .put-releases .ensures) (omega arith)))
 
 put-row-requires : tie.Need-put-row-requires
-put-row-requires c κs = lower (c .before .before .put-atom2 .ensures) (lower (c .before .before .before .before .before .put-atom .ensures) (lower (c .before .before .before .before .before .before .before .before .put-retain .ensures) (lower (c .before .before .before .before .before .before .before .before .before .before .before .put-releases .ensures) (omega arith))))
+put-row-requires c κs = lower (c .before .before .put-atom2 .ensures) (lower (c .before .before .before .before
+    .before .put-atom .ensures) (lower (c .before .before .before .before .before .before .before .before
+    .put-retain .ensures) (lower (c .before .before .before .before .before .before .before .before .before .before
+    .before .put-releases .ensures) (omega arith))))
 
 returns : tie.Need-returns
-returns c = wrote-as (index-rows (depth-in (c .before .before .before .before .before .before .before .before .before .before .before .before .before .before .before .before .before .before .before .args .depths .now)) (c .before .before .before .before .before .before .before .before .before .before .before .before .before .before .before .before .before .before .before .args .x) (meant (c .before .before .before .before .before .before .before .before .before .before .before .before .before .before .before .before .before .before .before .args .a)) (meant (c .before .before .before .before .before .before .before .before .before .before .before .before .before .before .before .before .before .before .before .args .b)) _ _ _ (set-of (c .before .before .before .before .before .before .before .before .before .before .before .before .before .before .before .before .before .before .before .args .after)) (c .before .before .before .before .before .before .before .before .before .before .before .before .before .before .before .before .before .none .ensures) (c .before .before .before .before .before .before .before .before .before .before .before .before .before .before .before .before .with .ensures) (c .before .before .before .before .before .before .before .before .before .before .before .before .before .before .before .add .ensures)) (wrote-then (wrote-then (wrote-then (wrote-then (c .before .before .before .before .before .before .before .before .before .before .before .before .put-releases .ensures) (c .before .before .before .before .before .before .before .before .before .put-retain .ensures)) (c .before .before .before .before .before .before .put-atom .ensures)) (c .before .before .before .put-atom2 .ensures)) (c .put-row .ensures))
+returns c = wrote-as (index-rows (depth-in (c .before .before .before .before .before .before .before .before
+    .before .before .before .before .before .before .before .before .before .before .before .args .depths .now))
+    (c .before .before .before .before .before .before .before .before .before .before .before .before .before
+    .before .before .before .before .before .before .args .x) (meant (c .before .before .before .before .before
+    .before .before .before .before .before .before .before .before .before .before .before .before .before .before
+    .args .a)) (meant (c .before .before .before .before .before .before .before .before .before .before .before
+    .before .before .before .before .before .before .before .before .args .b)) _ _ _
+    (set-of (c .before .before .before .before .before .before .before .before .before .before .before .before
+    .before .before .before .before .before .before .before .args .after)) (c .before .before .before .before
+    .before .before .before .before .before .before .before .before .before .before .before .before .before .none
+    .ensures) (c .before .before .before .before .before .before .before .before .before .before .before .before
+    .before .before .before .before .with .ensures) (c .before .before .before .before .before .before .before
+    .before .before .before .before .before .before .before .before .add .ensures))
+    (wrote-then (wrote-then (wrote-then (wrote-then (c .before .before .before .before .before .before .before
+    .before .before .before .before .before .put-releases .ensures) (c .before .before .before .before .before
+    .before .before .before .before .put-retain .ensures)) (c .before .before .before .before .before .before
+    .put-atom .ensures)) (c .before .before .before .put-atom2 .ensures)) (c .put-row .ensures))
 
 pub put-index-spec : {M : Type 1} → statement M
 put-index-spec =

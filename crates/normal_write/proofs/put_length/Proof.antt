@@ -18,10 +18,12 @@ put-atom-requires : tie.Need-put-atom-requires
 put-atom-requires c κs = lower (c .before .before .release-atom .ensures) (omega arith)
 
 put-row-requires : tie.Need-put-row-requires
-put-row-requires c κs = lower (c .before .before .put-atom .ensures) (lower (c .before .before .before .before .before .release-atom .ensures) (omega arith))
+put-row-requires c κs = lower (c .before .before .put-atom .ensures) (lower (c .before .before .before .before
+    .before .release-atom .ensures) (omega arith))
 
 returns : tie.Need-returns
-returns c = wrote-then (wrote-then (c .before .before .before .before .before .before .release-atom .ensures) (c .before .before .before .put-atom .ensures)) (c .put-row .ensures)
+returns c = wrote-then (wrote-then (c .before .before .before .before .before .before .release-atom .ensures)
+    (c .before .before .before .put-atom .ensures)) (c .put-row .ensures)
 
 pub put-length-spec : {M : Type 1} → statement M
 put-length-spec =

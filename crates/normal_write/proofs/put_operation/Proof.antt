@@ -21,10 +21,13 @@ operation-kind-requires : tie.Need-operation-kind-requires
 operation-kind-requires c κs = search needs
 
 put-row-requires : tie.Need-put-row-requires
-put-row-requires c κs = lower (c .before .before .before .put-atom2 .ensures) (lower (c .before .before .before .before .before .before .put-atom .ensures) (omega arith))
+put-row-requires c κs = lower (c .before .before .before .put-atom2 .ensures) (lower (c .before .before .before
+    .before .before .before .put-atom .ensures) (omega arith))
 
 returns : tie.Need-returns
-returns c = rw (c .before .before .before .operation-kind .ensures) at (wrote-then (wrote-then (c .before .before .before .before .before .before .before .put-atom .ensures) (c .before .before .before .before .put-atom2 .ensures)) (c .put-row .ensures))
+returns c = rw (c .before .before .before .operation-kind .ensures) at (wrote-then (wrote-then (c .before .before
+    .before .before .before .before .before .put-atom .ensures) (c .before .before .before .before .put-atom2
+    .ensures)) (c .put-row .ensures))
 
 pub put-operation-spec : {M : Type 1} → statement M
 put-operation-spec =

@@ -20,7 +20,9 @@ release-one-requires : tie.Need-release-one-requires
 release-one-requires c κs = search needs
 
 returns : tie.Need-returns
-returns c = wrote-as (ap (λ (l : List ℕ). release-rows l) (dying-one (depth-in (c .before .before .before .before .args .depths .now)) (c .before .before .before .before .args .x) (set-of (c .before .before .before .before .args .t5)) (search needs))) (c .release-one .ensures)
+returns c = wrote-as (ap (λ (l : List ℕ). release-rows l) (dying-one (depth-in (c .before .before .before .before
+    .args .depths .now)) (c .before .before .before .before .args .x) (set-of (c .before .before .before .before
+    .args .t5)) (search needs))) (c .release-one .ensures)
 
 pub put-release-spec : {M : Type 1} → statement M
 put-release-spec = tie.close (tie.spec array-read-l release-one-requires returns)

@@ -22,7 +22,12 @@ abbrev μ-loop : tie.MeasureT-loop
 μ-loop ks₀ os₀ depths w used live at₀ i₀ ks os at i = i
 
 loop-holds : tie.Need-loop-holds Inv-loop μ-loop
-loop-holds c = (omega arith, omega arith, release-none (depth-in (c .before .args .depths .now)) (set-of (c .before .args .t4)) (set-of (c .before .args .t5)))
+loop-holds c = (
+  omega arith,
+  omega arith,
+  release-none (depth-in (c .before .args .depths .now))
+      (set-of (c .before .args .t4)) (set-of (c .before .args .t5)),
+)
 
 sub-i : tie.Need-sub-i Inv-loop μ-loop
 sub-i c = search needs
@@ -40,10 +45,19 @@ loop-less : tie.Need-loop-less Inv-loop μ-loop
 loop-less c = search needs
 
 loop-again : tie.Need-loop-again Inv-loop μ-loop
-loop-again c = let v = c .before .before .before .before .loop .inv in (omega arith, lower (c .release-one .ensures) (v .1), wrote-as (release-more (depth-in (c .before .before .before .before .before .before .args .depths .now)) (set-of (c .before .before .before .before .before .before .args .t4)) (set-of (c .before .before .before .before .before .before .args .t5)) (c .before .before .before .before .loop .i) (c .before .before .before .loop-test .taken) (v .0)) (wrote-then (v .2) (c .release-one .ensures)))
+loop-again c = let v = c .before .before .before .before .loop .inv in (
+  omega arith,
+  lower (c .release-one .ensures)
+      (v .1),
+  wrote-as (release-more (depth-in (c .before .before .before .before .before .before .args .depths .now))
+      (set-of (c .before .before .before .before .before .before .args .t4)) (set-of (c .before .before .before
+      .before .before .before .args .t5)) (c .before .before .before .before .loop .i) (c .before .before .before
+      .loop-test .taken) (v .0)) (wrote-then (v .2) (c .release-one .ensures)),
+)
 
 returns : tie.Need-returns Inv-loop μ-loop
-returns c = release-all (depth-in (c .before .before .before .args .depths .now)) (set-of (c .before .before .before .args .t4)) (set-of (c .before .before .before .args .t5)) (c .loop-test .left) (c .before .loop .inv .2)
+returns c = release-all (depth-in (c .before .before .before .args .depths .now)) (set-of (c .before .before .before
+    .args .t4)) (set-of (c .before .before .before .args .t5)) (c .loop-test .left) (c .before .loop .inv .2)
 
 pub put-releases-spec : {M : Type 1} → statement M
 put-releases-spec =

@@ -18,10 +18,13 @@ put-row-requires : tie.Need-put-row-requires
 put-row-requires c κs = search needs
 
 returns : tie.Need-returns
-returns c = wrote-as (retain-on (c .before .before .before .before .before .before .args .x) (c .before .before .before .before .depth-at .result) _ (c .before .before .before .before .depth-at .ensures) (c .before .before .before .if1 .taken)) (c .put-row .ensures)
+returns c = wrote-as (retain-on (c .before .before .before .before .before .before .args .x) (c .before .before
+    .before .before .depth-at .result) _ (c .before .before .before .before .depth-at .ensures) (c .before .before
+    .before .if1 .taken)) (c .put-row .ensures)
 
 returns-2 : tie.Need-returns-2
-returns-2 c = wrote-as (retain-off (c .before .before .before .args .x) (c .before .depth-at .result) _ (c .before .depth-at .ensures) (c .if1 .left)) wrote-none
+returns-2 c = wrote-as (retain-off (c .before .before .before .args .x) (c .before .depth-at .result) _
+    (c .before .depth-at .ensures) (c .if1 .left)) wrote-none
 
 pub put-retain-spec : {M : Type 1} → statement M
 put-retain-spec = tie.close (tie.spec depth-at-requires put-row-requires returns returns-2)

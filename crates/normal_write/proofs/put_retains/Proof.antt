@@ -29,7 +29,18 @@ abbrev μ-loop : tie.MeasureT-loop
 μ-loop ks₀ os₀ depths operands rows at m w later₀ v₀ i₀ ks os later v i = i
 
 loop-holds : tie.Need-loop-holds Inv-loop μ-loop
-loop-holds c = (omega arith, omega arith, omega arith, retains-begin (c .before .before .before .args .operands .now) (c .before .before .before .args .rows .now) (c .before .before .before .args .at) (depth-in (c .before .before .before .args .depths .now)) (set-of (c .before .before .before .args .live)) (c .before .before .before .args .m), among-none (c .before .before .before .args .operands .now) (c .before .before .before .args .rows .now) (c .before .before .before .args .at) (c .before .before .before .args .m) (set-of (c .before .before .before .args .live)))
+loop-holds c = (
+  omega arith,
+  omega arith,
+  omega arith,
+  retains-begin (c .before .before .before .args .operands
+      .now) (c .before .before .before .args .rows .now) (c .before .before .before .args .at)
+      (depth-in (c .before .before .before .args .depths .now)) (set-of (c .before .before .before .args .live))
+      (c .before .before .before .args .m),
+  among-none (c .before .before .before .args .operands .now)
+      (c .before .before .before .args .rows .now) (c .before .before .before .args .at) (c .before .before .before
+      .args .m) (set-of (c .before .before .before .args .live)),
+)
 
 sub-i : tie.Need-sub-i Inv-loop μ-loop
 sub-i c = search needs
@@ -53,10 +64,39 @@ loop-less : tie.Need-loop-less Inv-loop μ-loop
 loop-less c = search needs
 
 loop-again : tie.Need-loop-again Inv-loop μ-loop
-loop-again c = let v = c .before .before .before .before .before .before .before .loop .inv in (omega arith, v .1, lower (c .before .retain-atom .ensures) (v .2), retains-go (c .before .before .before .before .before .before .before .before .before .before .before .args .operands .now) (c .before .before .before .before .before .before .before .before .before .before .before .args .rows .now) (c .before .before .before .before .before .before .before .before .before .before .before .args .at) (depth-in (c .before .before .before .before .before .before .before .before .before .before .before .args .depths .now)) (set-of (c .before .before .before .before .before .before .before .before .before .before .before .args .live)) (c .before .before .before .before .before .before .before .loop .i) (c .before .before .before .before .before .before .before .before .before .before .before .args .m) (c .before .before .before .before .before .row-at .result) (c .before .before .before .before .atom-of .result) _ (c .before .before .before .before .before .before .loop-test .taken) (v .0) (c .before .before .before .before .before .row-at .ensures) (c .before .before .before .before .atom-of .ensures) (v .4) (v .3) (c .before .retain-atom .ensures), among-more (c .before .before .before .before .before .before .before .before .before .before .before .args .operands .now) (c .before .before .before .before .before .before .before .before .before .before .before .args .rows .now) (c .before .before .before .before .before .before .before .before .before .before .before .args .at) (c .before .before .before .before .before .before .before .loop .i) (c .before .before .before .before .before .before .before .before .before .before .before .args .m) (c .before .before .before .before .before .row-at .result) (set-of (c .before .before .before .before .before .before .before .before .before .before .before .args .live)) (set-of (c .before .before .before .before .before .before .before .loop .later)) _ (c .before .before .before .before .atom-of .result) (c .before .before .before .before .before .before .loop-test .taken) (v .0) (v .4) (c .before .before .before .before .before .row-at .ensures) (c .before .before .before .before .atom-of .ensures) (c .add .ensures))
+loop-again c = let v = c .before .before .before .before .before .before .before .loop .inv in (
+  omega arith,
+  v .1,
+  lower (c .before .retain-atom .ensures) (v .2),
+  retains-go (c .before .before .before .before .before .before
+      .before .before .before .before .before .args .operands .now) (c .before .before .before .before .before .before
+      .before .before .before .before .before .args .rows .now) (c .before .before .before .before .before .before
+      .before .before .before .before .before .args .at) (depth-in (c .before .before .before .before .before .before
+      .before .before .before .before .before .args .depths .now)) (set-of (c .before .before .before .before .before
+      .before .before .before .before .before .before .args .live)) (c .before .before .before .before .before .before
+      .before .loop .i) (c .before .before .before .before .before .before .before .before .before .before .before
+      .args .m) (c .before .before .before .before .before .row-at .result) (c .before .before .before .before
+      .atom-of .result) _ (c .before .before .before .before .before .before .loop-test .taken) (v .0)
+      (c .before .before .before .before .before .row-at .ensures) (c .before .before .before .before .atom-of
+      .ensures) (v .4) (v .3) (c .before .retain-atom .ensures),
+  among-more (c .before .before .before .before .before
+      .before .before .before .before .before .before .args .operands .now) (c .before .before .before .before .before
+      .before .before .before .before .before .before .args .rows .now) (c .before .before .before .before .before
+      .before .before .before .before .before .before .args .at) (c .before .before .before .before .before .before
+      .before .loop .i) (c .before .before .before .before .before .before .before .before .before .before .before
+      .args .m) (c .before .before .before .before .before .row-at .result) (set-of (c .before .before .before .before
+      .before .before .before .before .before .before .before .args .live)) (set-of (c .before .before .before .before
+      .before .before .before .loop .later)) _ (c .before .before .before .before .atom-of .result) (c .before .before
+      .before .before .before .before .loop-test .taken) (v .0) (v .4) (c .before .before .before .before .before
+      .row-at .ensures) (c .before .before .before .before .atom-of .ensures) (c .add .ensures),
+)
 
 returns : tie.Need-returns Inv-loop μ-loop
-returns c = retains-end (c .before .before .before .before .before .args .operands .now) (c .before .before .before .before .before .args .rows .now) (c .before .before .before .before .before .args .at) (depth-in (c .before .before .before .before .before .args .depths .now)) (set-of (c .before .before .before .before .before .args .live)) (c .before .loop .i) (c .before .before .before .before .before .args .m) (c .loop-test .left) (c .before .loop .inv .3)
+returns c = retains-end (c .before .before .before .before .before .args .operands .now) (c .before .before .before
+    .before .before .args .rows .now) (c .before .before .before .before .before .args .at)
+    (depth-in (c .before .before .before .before .before .args .depths .now)) (set-of (c .before .before .before
+    .before .before .args .live)) (c .before .loop .i) (c .before .before .before .before .before .args .m)
+    (c .loop-test .left) (c .before .loop .inv .3)
 
 pub put-retains-spec : {M : Type 1} → statement M
 put-retains-spec =

@@ -18,7 +18,8 @@ put-back-requires : tie.Need-put-back-requires
 put-back-requires c κs = search needs
 
 returns : tie.Need-returns
-returns c = rw (toZ-ofZ {w = w64} {z = pos (c .before .before .before .args .n)} (record { sfits = omega arith })) at (c .put-back .ensures)
+returns c = rw (toZ-ofZ {w = w64} {z = pos (c .before .before .before .args .n)} (record { sfits = omega arith }))
+    at (c .put-back .ensures)
 
 pub put-row-spec : {M : Type 1} → statement M
 put-row-spec = tie.close (tie.spec cast-put-back put-back-requires returns)

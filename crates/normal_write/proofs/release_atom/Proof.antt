@@ -23,7 +23,9 @@ put-release-requires : tie.Need-put-release-requires
 put-release-requires c κs = search needs
 
 returns : tie.Need-returns
-returns c = rw (c .enum-told .given .1) (wrote-as (ap (λ (l : List ℕ). release-rows l) (dying-none (depth-in (c .before .before .before .args .depths .now)) (set-of (c .before .before .before .args .live)))) wrote-none)
+returns c = rw (c .enum-told .given .1) (wrote-as (ap (λ (l : List ℕ). release-rows l)
+    (dying-none (depth-in (c .before .before .before .args .depths .now)) (set-of (c .before .before .before .args
+    .live)))) wrote-none)
 
 returns-2 : tie.Need-returns-2
 returns-2 c = rw (c .before .before .before .before .a .given .1) (c .put-release .ensures)

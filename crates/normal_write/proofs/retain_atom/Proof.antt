@@ -29,13 +29,20 @@ put-retain-requires : tie.Need-put-retain-requires
 put-retain-requires c κs = search needs
 
 returns : tie.Need-returns
-returns c = rw (c .before .before .before .before .before .a .given .1) (wrote-as (ap (λ (l : List ℕ). retain-rows l) (handed-on (depth-in (c .before .before .before .before .before .before .before .before .args .depths .now)) _ (set-of (c .before .before .before .before .before .before .before .before .args .t5)) (c .before .before .before .if1 .taken))) (c .put-retain .ensures))
+returns c = rw (c .before .before .before .before .before .a .given .1) (wrote-as (ap (λ (l : List ℕ). retain-rows
+    l) (handed-on (depth-in (c .before .before .before .before .before .before .before .before .args .depths .now))
+    _ (set-of (c .before .before .before .before .before .before .before .before .args .t5)) (c .before .before
+    .before .if1 .taken))) (c .put-retain .ensures))
 
 returns-2 : tie.Need-returns-2
-returns-2 c = rw (c .enum-told .given .1) (wrote-as (ap (λ (l : List ℕ). retain-rows l) (handed-number (depth-in (c .before .before .before .args .depths .now)) _ (set-of (c .before .before .before .args .t5)))) wrote-none)
+returns-2 c = rw (c .enum-told .given .1) (wrote-as (ap (λ (l : List ℕ). retain-rows l) (handed-number
+    (depth-in (c .before .before .before .args .depths .now)) _ (set-of (c .before .before .before .args .t5))))
+    wrote-none)
 
 returns-3 : tie.Need-returns-3
-returns-3 c = rw (c .before .before .a .given .1) (wrote-as (ap (λ (l : List ℕ). retain-rows l) (handed-off (depth-in (c .before .before .before .before .before .args .depths .now)) _ (set-of (c .before .before .before .before .before .args .t5)) (c .if1 .left))) wrote-none)
+returns-3 c = rw (c .before .before .a .given .1) (wrote-as (ap (λ (l : List ℕ). retain-rows l)
+    (handed-off (depth-in (c .before .before .before .before .before .args .depths .now)) _
+    (set-of (c .before .before .before .before .before .args .t5)) (c .if1 .left))) wrote-none)
 
 pub retain-atom-spec : {M : Type 1} → statement M
 retain-atom-spec =
