@@ -51,9 +51,6 @@ module _ (x : ℤ) (h : SFits w64 x) (e : ltZ (toZ w64 (ofZ w64 x)) (pos 0) ≡ 
   difference-natural : T (nonNeg difference) × Fits w64 (natAbs difference)
   difference-natural = rw difference-is (tt, record { fits = omega (arith, of-x .small) })
 
-  next-fits : Fits w64 (natAbs difference + 1)
-  next-fits = rw difference-is (record { fits = omega (arith, of-x .small) })
-
   next-is : natAbs difference + 1 ≡ natAbs x
   next-is = rw difference-is (of-x .next)
 
@@ -64,7 +61,10 @@ cast-result : tie.Need-cast-result
 cast-result c = difference-natural (c .before .args .x) (c .before .fits .x) (c .if1 .taken)
 
 add-result : tie.Need-add-result
-add-result c = next-fits (c .before .args .x) (c .before .fits .x) (c .if1 .taken)
+add-result c =
+    let d = of-x (c .before .args .x) (c .before .fits .x) (c .if1 .taken) in
+    rw (difference-is (c .before .args .x) (c .before .fits .x) (c .if1 .taken))
+    (record { fits = omega (arith, d .small) })
 
 cast-result-2 : tie.Need-cast-result-2
 cast-result-2 c =
