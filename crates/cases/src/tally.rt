@@ -1,7 +1,5 @@
 // The text of a program's cases, and how many of its cases agree.
 use libc::STDOUT_FILENO;
-ghost use mathlib.Core.Path.{_≡_};
-ghost use lib.ListN.{length};
 ghost use Rattle.io.specs.Counts.{Counts};
 
 // Reads a file of cases, and answers how many bytes it has; 0 if it cannot be read.
@@ -19,10 +17,8 @@ pub fn read_text(name: &[u8], text: &mut [u8]) -> usize
 }
 
 // One more under this number.
-pub fn count(counts: &mut [u64], number: usize)
-    ensures { λ r. ⌜ length (now (counts .exit)) ≡ length (now (counts .entry)) ⌝ }
-{
-    if number < counts.len() {
+pub fn count(counts: &mut [u64; 32], number: usize) {
+    if number < 32 {
         counts[number] = std::num::wrapping_add_u64(counts[number], 1);
     }
 }
@@ -48,14 +44,11 @@ fn print_number(number: usize, agreed: u64, all: u64) {
 }
 
 // Prints a line for each number that occurs, and the total.
-pub fn print_tallies(agreed: &[u64], all: &[u64]) {
+pub fn print_tallies(agreed: &[u64; 32], all: &[u64; 32]) {
     let mut agreed_total: u64 = 0;
     let mut total: u64 = 0;
     let mut number = 0;
-    while number < all.len() {
-        if agreed.len() <= number {
-            return;
-        }
+    while number < 32 {
         print_number(number, agreed[number], all[number]);
         agreed_total = std::num::wrapping_add_u64(agreed_total, agreed[number]);
         total = std::num::wrapping_add_u64(total, all[number]);

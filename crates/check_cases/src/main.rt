@@ -5,9 +5,10 @@
 fn is_left(file: &[u8], answer: u64, kinds: &[u8], operands: &[i64]) -> bool {
     let mut wanted_kinds = [0u8; 4096];
     let mut wanted_operands = [0i64; 4096];
-    if cases::number_of(answer) == 0 {
-        engine::engine_translate(file, &mut wanted_kinds, &mut wanted_operands);
+    if cases::number_of(answer) != 0 {
+        return cases::same_code(kinds, operands, &wanted_kinds, &wanted_operands);
     }
+    engine::engine_translate(file, &mut wanted_kinds, &mut wanted_operands);
     cases::same_code(kinds, operands, &wanted_kinds, &wanted_operands)
 }
 
@@ -27,7 +28,13 @@ fn agrees_with(case: &[u8], file: &[u8], kinds: &mut [u8], operands: &mut [i64])
     let mut heads = [0u32; 1025];
     cases::fill_slots(slots_line, 2, &mut slots);
     cases::fill_heads(heads_line, 2, &mut heads);
-    let answer = engine::engine_check(file, kinds, operands, &slots[0..slots_length], &heads[0..heads_length]);
+    let answer = engine::engine_check(
+        file,
+        kinds,
+        operands,
+        &slots[0..slots_length],
+        &heads[0..heads_length],
+    );
     if cases::is_right(case, answer) {
         return is_left(file, answer, kinds, operands);
     }
@@ -49,7 +56,12 @@ fn agrees(case: &[u8]) -> bool {
     }
     let mut kinds = [170u8; 4096];
     let mut operands = [-170i64; 4096];
-    agrees_with(case, &file[0..count], &mut kinds[0..kinds_length], &mut operands[0..operands_length])
+    agrees_with(
+        case,
+        &file[0..count],
+        &mut kinds[0..kinds_length],
+        &mut operands[0..operands_length],
+    )
 }
 
 // Runs each case of a text.

@@ -1,6 +1,5 @@
 -- `cases::tally::print_tallies` meets its contract.
 use Prim.Native.Nat.{_-_}
-use lib.ListN.{length}
 use borrow.Author.Needs.{needs}
 use Rattle.cases.proofs.tally.print_tallies.Statement.{statement}
 use Rattle.cases.proofs.tally.print_tallies.Tie as tie
@@ -9,25 +8,22 @@ abbrev Inv-loop : tie.InvT-loop
 Inv-loop agreed all agreed-total₀ total₀ number₀ t6 agreed-total total number = Unit {0}
 
 abbrev μ-loop : tie.MeasureT-loop
-μ-loop agreed all agreed-total₀ total₀ number₀ t6 agreed-total total number = length all - number
+μ-loop agreed all agreed-total₀ total₀ number₀ t6 agreed-total total number = 32 - number
 
 loop-holds : tie.Need-loop-holds Inv-loop μ-loop
 loop-holds c = search needs
 
-returns : tie.Need-returns Inv-loop μ-loop
-returns c = search needs
-
 mul-print-number : tie.Need-mul-print-number Inv-loop μ-loop
 mul-print-number c = search needs
 
-shared-slice-read-print-number : tie.Need-shared-slice-read-print-number Inv-loop μ-loop
-shared-slice-read-print-number c = search needs
+element-copy-out-print-number : tie.Need-element-copy-out-print-number Inv-loop μ-loop
+element-copy-out-print-number c = search needs
 
 mul-print-number-2 : tie.Need-mul-print-number-2 Inv-loop μ-loop
 mul-print-number-2 c = search needs
 
-shared-slice-read-print-number-2 : tie.Need-shared-slice-read-print-number-2 Inv-loop μ-loop
-shared-slice-read-print-number-2 c = search needs
+element-copy-out-print-number-2 : tie.Need-element-copy-out-print-number-2 Inv-loop μ-loop
+element-copy-out-print-number-2 c = search needs
 
 print-number-requires : tie.Need-print-number-requires Inv-loop μ-loop
 print-number-requires c κs = search needs
@@ -35,8 +31,8 @@ print-number-requires c κs = search needs
 mul-wrapping-add-u64 : tie.Need-mul-wrapping-add-u64 Inv-loop μ-loop
 mul-wrapping-add-u64 c = search needs
 
-shared-slice-read-wrapping-add-u64 : tie.Need-shared-slice-read-wrapping-add-u64 Inv-loop μ-loop
-shared-slice-read-wrapping-add-u64 c = search needs
+element-copy-out-wrapping-add-u64 : tie.Need-element-copy-out-wrapping-add-u64 Inv-loop μ-loop
+element-copy-out-wrapping-add-u64 c = search needs
 
 wrapping-add-u64-requires : tie.Need-wrapping-add-u64-requires Inv-loop μ-loop
 wrapping-add-u64-requires c κs = search needs
@@ -44,9 +40,8 @@ wrapping-add-u64-requires c κs = search needs
 mul-wrapping-add-u64-2 : tie.Need-mul-wrapping-add-u64-2 Inv-loop μ-loop
 mul-wrapping-add-u64-2 c = search needs
 
-shared-slice-read-wrapping-add-u64-2 :
-    tie.Need-shared-slice-read-wrapping-add-u64-2 Inv-loop μ-loop
-shared-slice-read-wrapping-add-u64-2 c = search needs
+element-copy-out-wrapping-add-u64-2 : tie.Need-element-copy-out-wrapping-add-u64-2 Inv-loop μ-loop
+element-copy-out-wrapping-add-u64-2 c = search needs
 
 wrapping-add-u64-requires-2 : tie.Need-wrapping-add-u64-requires-2 Inv-loop μ-loop
 wrapping-add-u64-requires-2 c κs = search needs
@@ -66,8 +61,8 @@ slice-aggregate-print-agreed c = search needs
 print-agreed-requires : tie.Need-print-agreed-requires Inv-loop μ-loop
 print-agreed-requires c κs = search needs
 
-returns-2 : tie.Need-returns-2 Inv-loop μ-loop
-returns-2 c = search needs
+returns : tie.Need-returns Inv-loop μ-loop
+returns c = search needs
 
 pub print-tallies-spec : {M : Type 1} → statement M
 print-tallies-spec =
@@ -76,21 +71,20 @@ print-tallies-spec =
     Inv-loop
     μ-loop
     loop-holds
-    returns
     mul-print-number
-    shared-slice-read-print-number
+    element-copy-out-print-number
     mul-print-number-2
-    shared-slice-read-print-number-2
+    element-copy-out-print-number-2
     print-number-requires
     mul-wrapping-add-u64
-    shared-slice-read-wrapping-add-u64
+    element-copy-out-wrapping-add-u64
     wrapping-add-u64-requires
     mul-wrapping-add-u64-2
-    shared-slice-read-wrapping-add-u64-2
+    element-copy-out-wrapping-add-u64-2
     wrapping-add-u64-requires-2
     add-number
     loop-less
     loop-again
     slice-aggregate-print-agreed
     print-agreed-requires
-    returns-2)
+    returns)
