@@ -4,6 +4,7 @@ use crate::number::natural_at;
 use crate::number::signed_at;
 use crate::text::after;
 use crate::text::byte_at;
+use crate::text::line_of;
 use crate::text::past;
 use crate::text::word;
 ghost use mathlib.Core.Path.{_≡_};
@@ -22,11 +23,12 @@ fn paired(high: u8, low: u8) -> u8 {
     16 * high + low
 }
 
-// Puts the bytes of a line's word into an array, and answers how many there are.
-pub fn bytes_of(line: &[u8], index: usize, bytes: &mut [u8]) -> usize
+// Puts the bytes of a case's script file into an array, and answers how many there are.
+pub fn file_of(case: &[u8], bytes: &mut [u8]) -> usize
     ensures { λ r. ⌜ Counts r (now (bytes .exit)) ⌝ }
 {
-    let mut at = word(line, index);
+    let line = line_of(case, b"file");
+    let mut at = word(line, 1);
     let mut n = 0;
     while n < bytes.len() {
         let high = digit(byte_at(line, at));

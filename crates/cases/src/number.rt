@@ -83,3 +83,14 @@ pub fn natural(line: &[u8], index: usize) -> u64 {
 pub fn signed(line: &[u8], index: usize) -> i64 {
     signed_at(line, word(line, index))
 }
+
+// A word of a line as a length that is at most `most`.
+pub fn length_of(line: &[u8], index: usize, most: usize) -> usize
+    ensures { λ r. ⌜ r ≤ most ⌝ }
+{
+    let length = natural(line, index) as usize;
+    if most < length {
+        return most;
+    }
+    length
+}

@@ -16,14 +16,8 @@ fn is_left(file: &[u8], answer: u64, kinds: &[u8], operands: &[i64]) -> bool {
 fn agrees_with(case: &[u8], file: &[u8], kinds: &mut [u8], operands: &mut [i64]) -> bool {
     let slots_line = cases::line_of(case, b"slots");
     let heads_line = cases::line_of(case, b"heads");
-    let slots_length = cases::natural(slots_line, 1) as usize;
-    let heads_length = cases::natural(heads_line, 1) as usize;
-    if 4097 < slots_length {
-        return false;
-    }
-    if 1025 < heads_length {
-        return false;
-    }
+    let slots_length = cases::length_of(slots_line, 1, 4097);
+    let heads_length = cases::length_of(heads_line, 1, 1025);
     let mut slots = [0i64; 4097];
     let mut heads = [0u32; 1025];
     cases::fill_slots(slots_line, 2, &mut slots);
@@ -44,16 +38,10 @@ fn agrees_with(case: &[u8], file: &[u8], kinds: &mut [u8], operands: &mut [i64])
 // Whether a case agrees. The code arrays hold something else before the call.
 fn agrees(case: &[u8]) -> bool {
     let mut file = [0u8; 9220];
-    let count = cases::bytes_of(cases::line_of(case, b"file"), 1, &mut file);
+    let count = cases::file_of(case, &mut file);
     let arrays = cases::line_of(case, b"arrays");
-    let kinds_length = cases::natural(arrays, 1) as usize;
-    let operands_length = cases::natural(arrays, 2) as usize;
-    if 4096 < kinds_length {
-        return false;
-    }
-    if 4096 < operands_length {
-        return false;
-    }
+    let kinds_length = cases::length_of(arrays, 1, 4096);
+    let operands_length = cases::length_of(arrays, 2, 4096);
     let mut kinds = [170u8; 4096];
     let mut operands = [-170i64; 4096];
     agrees_with(

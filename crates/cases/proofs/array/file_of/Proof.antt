@@ -1,18 +1,24 @@
--- `cases::array::bytes_of` meets its contract.
+-- `cases::array::file_of` meets its contract.
+use mathlib.Core.Path.{_≡_}
 use Prim.Native.Nat.{_-_, _≤_}
 use native.Mathlib.Omega.{arith}
-use mathlib.Core.Path.{_≡_}
 use lib.ListN.{length, length-set}
 use Rattle.io.proofs.Counting.{counts}
 use borrow.Author.Needs.{needs}
-use Rattle.cases.proofs.array.bytes_of.Statement.{statement}
-use Rattle.cases.proofs.array.bytes_of.Tie as tie
+use Rattle.cases.proofs.array.file_of.Statement.{statement}
+use Rattle.cases.proofs.array.file_of.Tie as tie
 
 abbrev Inv-loop : tie.InvT-loop
-Inv-loop line index bytes₀ at₀ n₀ bytes at n = (n ≤ length bytes) × (length bytes ≡ length bytes₀)
+Inv-loop case bytes₀ line at₀ n₀ bytes at n = (n ≤ length bytes) × (length bytes ≡ length bytes₀)
 
 abbrev μ-loop : tie.MeasureT-loop
-μ-loop line index bytes₀ at₀ n₀ bytes at n = length bytes₀ - n
+μ-loop case bytes₀ line at₀ n₀ bytes at n = length bytes₀ - n
+
+slice-aggregate-line-of : tie.Need-slice-aggregate-line-of Inv-loop μ-loop
+slice-aggregate-line-of c = search needs
+
+line-of-requires : tie.Need-line-of-requires Inv-loop μ-loop
+line-of-requires c κs = search needs
 
 word-requires : tie.Need-word-requires Inv-loop μ-loop
 word-requires c κs = search needs
@@ -65,12 +71,14 @@ same-length-2 c = search needs
 returns-2 : tie.Need-returns-2 Inv-loop μ-loop
 returns-2 c = counts _ _ (omega arith)
 
-pub bytes-of-spec : {M : Type 1} → statement M
-bytes-of-spec =
+pub file-of-spec : {M : Type 1} → statement M
+file-of-spec =
     tie.close
     (tie.spec
     Inv-loop
     μ-loop
+    slice-aggregate-line-of
+    line-of-requires
     word-requires
     loop-holds
     byte-at-requires
