@@ -47,7 +47,8 @@ pub fn past(text: &[u8], at: usize, byte: u8) -> usize
 
 // Whether these bytes stand at a position.
 pub fn stands_at(text: &[u8], at: usize, bytes: &[u8]) -> bool
-    ensures { λ r. ⌜ (r ≡ true → take (length (now (bytes .entry))) (drop at (now (text .entry))) ≡ now (bytes .entry)) ⌝ }
+    ensures { λ r. ⌜ (r ≡ true →
+        take (length (now (bytes .entry))) (drop at (now (text .entry))) ≡ now (bytes .entry)) ⌝ }
 {
     if text.len() < at {
         return false;

@@ -7,7 +7,8 @@ use Rattle.translate_cases.proofs.fill_lines.Statement.{statement}
 use Rattle.translate_cases.proofs.fill_lines.Tie as tie
 
 abbrev Inv-loop : tie.InvT-loop
-Inv-loop case kinds₀ operands₀ start lines at₀ i₀ kinds operands at i = (length kinds ≡ length kinds₀) × (length operands ≡ length operands₀)
+Inv-loop case kinds₀ operands₀ start lines at₀ i₀ kinds operands at i =
+    (length kinds ≡ length kinds₀) × (length operands ≡ length operands₀)
 
 abbrev μ-loop : tie.MeasureT-loop
 μ-loop case kinds₀ operands₀ start lines at₀ i₀ kinds operands at i = lines - i

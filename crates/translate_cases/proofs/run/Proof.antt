@@ -6,10 +6,10 @@ use Rattle.translate_cases.proofs.run.Statement.{statement}
 use Rattle.translate_cases.proofs.run.Tie as tie
 
 abbrev Inv-loop : tie.InvT-loop
-Inv-loop text all₀ agreed₀ at₀ all agreed at = at ≤ length text
+Inv-loop text agreed₀ all₀ at₀ agreed all at = at ≤ length text
 
 abbrev μ-loop : tie.MeasureT-loop
-μ-loop text all₀ agreed₀ at₀ all agreed at = length text - at
+μ-loop text agreed₀ all₀ at₀ agreed all at = length text - at
 
 loop-holds : tie.Need-loop-holds Inv-loop μ-loop
 loop-holds c = search needs
@@ -17,41 +17,23 @@ loop-holds c = search needs
 case-end-requires : tie.Need-case-end-requires Inv-loop μ-loop
 case-end-requires c κs = search needs
 
-sub-case : tie.Need-sub-case Inv-loop μ-loop
-sub-case c = search needs
+sub-run-case : tie.Need-sub-run-case Inv-loop μ-loop
+sub-run-case c = search needs
 
-part-case-start : tie.Need-part-case-start Inv-loop μ-loop
-part-case-start c = search needs
+part-run-case-start : tie.Need-part-run-case-start Inv-loop μ-loop
+part-run-case-start c = search needs
 
-part-case-end : tie.Need-part-case-end Inv-loop μ-loop
-part-case-end c = search needs
+part-run-case-end : tie.Need-part-run-case-end Inv-loop μ-loop
+part-run-case-end c = search needs
 
-answer-of-requires : tie.Need-answer-of-requires Inv-loop μ-loop
-answer-of-requires c κs = search needs
-
-number-of-requires : tie.Need-number-of-requires Inv-loop μ-loop
-number-of-requires c κs = search needs
-
-count-requires : tie.Need-count-requires Inv-loop μ-loop
-count-requires c κs = search needs
-
-agrees-requires : tie.Need-agrees-requires Inv-loop μ-loop
-agrees-requires c κs = search needs
-
-count-requires-2 : tie.Need-count-requires-2 Inv-loop μ-loop
-count-requires-2 c κs = search needs
+run-case-requires : tie.Need-run-case-requires Inv-loop μ-loop
+run-case-requires c κs = search needs
 
 loop-less : tie.Need-loop-less Inv-loop μ-loop
 loop-less c = search needs
 
 loop-again : tie.Need-loop-again Inv-loop μ-loop
 loop-again c = search needs
-
-loop-less-2 : tie.Need-loop-less-2 Inv-loop μ-loop
-loop-less-2 c = search needs
-
-loop-again-2 : tie.Need-loop-again-2 Inv-loop μ-loop
-loop-again-2 c = search needs
 
 print-tallies-requires : tie.Need-print-tallies-requires Inv-loop μ-loop
 print-tallies-requires c κs = search needs
@@ -67,17 +49,11 @@ run-spec =
     μ-loop
     loop-holds
     case-end-requires
-    sub-case
-    part-case-start
-    part-case-end
-    answer-of-requires
-    number-of-requires
-    count-requires
-    agrees-requires
-    count-requires-2
+    sub-run-case
+    part-run-case-start
+    part-run-case-end
+    run-case-requires
     loop-less
     loop-again
-    loop-less-2
-    loop-again-2
     print-tallies-requires
     returns)
