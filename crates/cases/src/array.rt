@@ -9,18 +9,16 @@ use crate::text::past;
 use crate::text::word;
 ghost use mathlib.Core.Path.{_≡_};
 ghost use mathlib.Core.Bool.{true};
+ghost use Prim.Native.Nat.{_+_, _*_, _≤_};
 ghost use lib.ListN.{length, take};
 ghost use Rattle.io.specs.Counts.{Counts};
 
 // The byte that two digits of base 16 give.
-fn paired(high: u8, low: u8) -> u8 {
-    if 15 < high {
-        return 0;
-    }
-    if 15 < low {
-        return 0;
-    }
-    16 * high + low
+fn paired(high: u64, low: u64) -> u8
+    requires { ⌜ (high ≤ 15) × (low ≤ 15) ⌝ }
+    ensures { λ r. ⌜ r ≡ 16 * high + low ⌝ }
+{
+    (16 * high + low) as u8
 }
 
 // Puts the bytes of a case's script file into an array, and answers how many there are.
@@ -32,18 +30,22 @@ pub fn file_of(case: &[u8], bytes: &mut [u8]) -> usize
     let mut n = 0;
     while n < bytes.len() {
         let high = digit(byte_at(line, at));
+        at = after(line, at);
+        let low = digit(byte_at(line, at));
+        at = after(line, at);
         if 15 < high {
             return n;
         }
-        at = after(line, at);
-        bytes[n] = paired(high, digit(byte_at(line, at)));
-        at = after(line, at);
+        if 15 < low {
+            return n;
+        }
+        bytes[n] = paired(high, low);
         n = n + 1;
     }
     n
 }
 
-// Puts a code line's kind into an array, if it has that place.
+// Puts the low 8 bits of a number into an array, if it has that place.
 pub fn put_kind(kinds: &mut [u8], index: usize, value: u64)
     ensures { λ r. ⌜ length (now (kinds .exit)) ≡ length (now (kinds .entry)) ⌝ }
 {
@@ -61,7 +63,7 @@ pub fn put_slot(slots: &mut [i64], index: usize, value: i64)
     }
 }
 
-// Puts an unsigned word into an array, if it has that place.
+// Puts the low 32 bits of a number into an array, if it has that place.
 fn put_head(heads: &mut [u32], index: usize, value: u64)
     ensures { λ r. ⌜ length (now (heads .exit)) ≡ length (now (heads .entry)) ⌝ }
 {

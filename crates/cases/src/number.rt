@@ -3,36 +3,28 @@ use crate::text::after;
 use crate::text::byte_at;
 use crate::text::word;
 ghost use mathlib.Core.Path.{_≡_};
-ghost use Prim.Native.Nat.{_+_, _*_, _^_, _≤_, min};
+ghost use Prim.Native.Nat.{_+_, _*_, _≤_, min};
 
 const MOST: i64 = 9223372036854775807;
 
 const LEAST: i64 = -9223372036854775808;
 
 // What a digit is worth in base 16; 16 for any other byte.
-pub fn digit(byte: u8) -> u8
+pub fn digit(byte: u8) -> u64
     ensures { λ r. ⌜ r ≤ 16 ⌝ }
 {
     match byte {
-        b'0'..=b'9' => byte - b'0',
-        b'a'..=b'f' => byte - b'a' + 10,
+        b'0'..=b'9' => (byte - b'0') as u64,
+        b'a'..=b'f' => (byte - b'a') as u64 + 10,
         _ => 16,
     }
 }
 
-fn wide(digit: u8) -> u64
-    ensures { λ r. ⌜ r ≡ digit ⌝ }
-{
-    digit as u64
-}
-
 // A number with one digit more.
 fn with_digit(value: u64, digit: u64) -> u64
-    ensures { λ r. ⌜ (digit ≤ 9 → r ≡ min (10 * value + digit) 18446744073709551615) ⌝ }
+    requires { ⌜ digit ≤ 9 ⌝ }
+    ensures { λ r. ⌜ r ≡ min (10 * value + digit) 18446744073709551615 ⌝ }
 {
-    if 9 < digit {
-        return value;
-    }
     if (18446744073709551615 - digit) / 10 < value {
         return 18446744073709551615;
     }
@@ -48,7 +40,7 @@ pub fn natural_at(text: &[u8], at: usize) -> u64 {
         if 9 < next {
             return value;
         }
-        value = with_digit(value, wide(next));
+        value = with_digit(value, next);
         i = i + 1;
     }
     value

@@ -1,5 +1,5 @@
 -- `cases::number::natural_at` meets its contract.
-use Prim.Native.Nat.{_-_, _≤_}
+use Prim.Native.Nat.{_-_}
 use lib.ListN.{length}
 use borrow.Author.Needs.{needs}
 use Rattle.cases.proofs.number.natural_at.Statement.{statement}
@@ -22,9 +22,6 @@ digit-requires c κs = search needs
 
 returns : tie.Need-returns Inv-loop μ-loop
 returns c = search needs
-
-wide-requires : tie.Need-wide-requires Inv-loop μ-loop
-wide-requires c κs = search needs
 
 with-digit-requires : tie.Need-with-digit-requires Inv-loop μ-loop
 with-digit-requires c κs = search needs
@@ -51,7 +48,6 @@ natural-at-spec =
     shared-slice-read-digit
     digit-requires
     returns
-    wide-requires
     with-digit-requires
     add-i
     loop-less
