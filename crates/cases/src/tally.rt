@@ -17,8 +17,8 @@ pub fn read_text(name: &[u8], text: &mut [u8]) -> usize
 }
 
 // One more under this number.
-pub fn count(counts: &mut [u64; 32], number: usize) {
-    if number < 32 {
+pub fn count(counts: &mut [u64; 256], number: usize) {
+    if number < 256 {
         counts[number] = std::num::wrapping_add_u64(counts[number], 1);
     }
 }
@@ -44,11 +44,11 @@ fn print_number(number: usize, agreed: u64, all: u64) {
 }
 
 // Prints a line for each number that occurs, and the total.
-pub fn print_tallies(agreed: &[u64; 32], all: &[u64; 32]) {
+pub fn print_tallies(agreed: &[u64; 256], all: &[u64; 256]) {
     let mut agreed_total: u64 = 0;
     let mut total: u64 = 0;
     let mut number = 0;
-    while number < 32 {
+    while number < 256 {
         print_number(number, agreed[number], all[number]);
         agreed_total = std::num::wrapping_add_u64(agreed_total, agreed[number]);
         total = std::num::wrapping_add_u64(total, all[number]);

@@ -53,7 +53,7 @@ fn agrees(case: &[u8]) -> bool {
 }
 
 // Runs a case and counts it under its number.
-fn run_case(case: &[u8], agreed: &mut [u64; 32], all: &mut [u64; 32]) {
+fn run_case(case: &[u8], agreed: &mut [u64; 256], all: &mut [u64; 256]) {
     let number = cases::number_of(cases::answer_of(case));
     cases::count(all, number);
     if agrees(case) {
@@ -63,8 +63,8 @@ fn run_case(case: &[u8], agreed: &mut [u64; 32], all: &mut [u64; 32]) {
 
 // Runs each case of a text.
 fn run(text: &[u8]) {
-    let mut agreed = [0u64; 32];
-    let mut all = [0u64; 32];
+    let mut agreed = [0u64; 256];
+    let mut all = [0u64; 256];
     let mut at = 0;
     while at < text.len() {
         let end = cases::case_end(text, at);

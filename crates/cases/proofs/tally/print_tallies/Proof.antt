@@ -8,7 +8,7 @@ abbrev Inv-loop : tie.InvT-loop
 Inv-loop agreed all agreed-total₀ total₀ number₀ t6 agreed-total total number = Unit {0}
 
 abbrev μ-loop : tie.MeasureT-loop
-μ-loop agreed all agreed-total₀ total₀ number₀ t6 agreed-total total number = 32 - number
+μ-loop agreed all agreed-total₀ total₀ number₀ t6 agreed-total total number = 256 - number
 
 loop-holds : tie.Need-loop-holds Inv-loop μ-loop
 loop-holds c = search needs
