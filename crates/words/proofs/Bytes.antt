@@ -1,15 +1,18 @@
 -- Numbers of more bytes from numbers of fewer.
 use mathlib.Core.Path.{_≡_}
-use mathlib.Core.List.{List}
+use mathlib.Core.List.{List, [], _∷_}
 use Prim.Native.Nat.{ℕ, _+_, _*_}
+use native.Mathlib.Nat.{add-zero, add-assoc}
 use native.Mathlib.Omega.{arith}
 use lib.ListN.{getD}
 use Rattle.semantics.specs.Number.{bytes-at}
 
 module _ (l : List ℕ) (i : ℕ) where
-  pub two : (a b : ℕ) → a ≡ getD l i 0 → b ≡ getD l (i + 1) 0 → a + 256 * b ≡ bytes-at 2 l i
+  pub two : (a b : ℕ) → a ≡ getD l (i + 0) 0 → b ≡ getD l (i + 1) 0 → a + 256 * b ≡ bytes-at 2 l i
   unfolding bytes-at
-  two a b e f = omega arith
+  two a b e f =
+      let g : a ≡ getD l i 0 = rw (add-zero i) at e in
+      omega arith
 
   pub four : (a b c d : ℕ) → a ≡ getD l i 0 → b ≡ getD l (i + 1) 0 → c ≡ getD l (i + 2) 0 → d ≡ getD l (i + 3) 0 →
       a + 256 * b + 65536 * c + 16777216 * d ≡ bytes-at 4 l i
@@ -27,3 +30,10 @@ module _ (l : List ℕ) (i : ℕ) where
       let p : i + 4 ≡ i + 1 + 1 + 1 + 1 = omega arith in
       let g : b ≡ bytes-at 4 l (i + 1 + 1 + 1 + 1) = rw (← p) f in
       omega arith
+
+  -- eight bytes that are copied one by one
+  pub copied : {a b c d e f g h : ℕ} → a ≡ getD l (i + 0) 0 → b ≡ getD l (i + 1) 0 → c ≡ getD l (i + 2) 0 →
+      d ≡ getD l (i + 3) 0 → e ≡ getD l (i + 4) 0 → f ≡ getD l (i + 5) 0 → g ≡ getD l (i + 6) 0 →
+      h ≡ getD l (i + 7) 0 → bytes-at 8 (a ∷ b ∷ c ∷ d ∷ e ∷ f ∷ g ∷ h ∷ []) 0 ≡ bytes-at 8 l i
+  unfolding bytes-at
+  copied p q r s t u v w = simp (add-zero, add-assoc, p, q, r, s, t, u, v, w)

@@ -1,21 +1,19 @@
 -- `words::short_at` meets its contract, by the laws of `Bytes`.
+use mathlib.Core.Path.{_∙_}
 use native.Mathlib.Omega.{arith}
 use Rattle.words.proofs.Bytes.{two}
 use borrow.Author.Needs.{needs}
 use Rattle.words.proofs.short_at.Statement.{statement}
 use Rattle.words.proofs.short_at.Tie as tie
 
-shared-slice-read-wide : tie.Need-shared-slice-read-wide
-shared-slice-read-wide c = search needs
+byte-at-requires : tie.Need-byte-at-requires
+byte-at-requires c κs = search needs
 
 wide-requires : tie.Need-wide-requires
 wide-requires c κs = search needs
 
-add-wide : tie.Need-add-wide
-add-wide c = search needs
-
-shared-slice-read-wide-2 : tie.Need-shared-slice-read-wide-2
-shared-slice-read-wide-2 c = search needs
+byte-at-requires-2 : tie.Need-byte-at-requires-2
+byte-at-requires-2 c κs = search needs
 
 wide-requires-2 : tie.Need-wide-requires-2
 wide-requires-2 c κs = search needs
@@ -28,9 +26,10 @@ add-result c = search needs
 
 returns : tie.Need-returns
 returns c = (
-  two (c .before .before .before .before .before .args .bytes .now)
-      (c .before .before .before .before .before .args .i) (c .before .before .wide .result) (c .wide2 .result)
-      (c .before .before .wide .ensures .0) (c .wide2 .ensures .0),
+  two (c .before .before .before .before .before .args .bytes .now) (c .before .before .before .before .before .args .i)
+      (c .before .before .wide .result) (c .wide2 .result)
+      (c .before .before .wide .ensures .0 ∙ c .before .before .before .byte-at .ensures)
+      (c .wide2 .ensures .0 ∙ c .before .byte-at2 .ensures),
   omega arith,
 )
 
@@ -38,10 +37,9 @@ pub short-at-spec : {M : Type 1} → statement M
 short-at-spec =
     tie.close
     (tie.spec
-    shared-slice-read-wide
+    byte-at-requires
     wide-requires
-    add-wide
-    shared-slice-read-wide-2
+    byte-at-requires-2
     wide-requires-2
     mul-result
     add-result
