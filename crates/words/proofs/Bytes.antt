@@ -1,11 +1,17 @@
 -- Numbers of more bytes from numbers of fewer.
-use mathlib.Core.Path.{_≡_}
+use mathlib.Core.Path.{_≡_, refl}
 use mathlib.Core.List.{List, [], _∷_}
-use Prim.Native.Nat.{ℕ, _+_, _*_}
+use Prim.Native.Nat.{ℕ, zero, suc, _+_, _*_, _≤_}
 use native.Mathlib.Nat.{add-zero, add-assoc}
 use native.Mathlib.Omega.{arith}
-use lib.ListN.{getD}
+use lib.ListN.{length, getD, List·getD-eq-default}
 use Rattle.semantics.specs.Number.{bytes-at}
+
+-- past the end all bytes are 0
+pub none-past : (n : ℕ) (l : List ℕ) (i : ℕ) → length l ≤ i → bytes-at n l i ≡ 0
+unfolding bytes-at
+none-past zero l i h = refl
+none-past (suc n) l i h = omega (arith, List·getD-eq-default l 0 {n = i} h, none-past n l (i + 1) (omega arith))
 
 module _ (l : List ℕ) (i : ℕ) where
   pub two : (a b : ℕ) → a ≡ getD l (i + 0) 0 → b ≡ getD l (i + 1) 0 → a + 256 * b ≡ bytes-at 2 l i
