@@ -11,22 +11,18 @@ kind-at-requires c κs = search needs
 returns : tie.Need-returns
 returns c = let a = c .before .before .before .before .args in
     early (a .kinds .now) (a .operands .now) (a .first) (a .last) (a .at) (c .before .kind-at .result)
-    (c .before .kind-at .ensures)
-    (c .if1 .taken)
+    (c .before .kind-at .ensures) (c .if1 .taken)
 
 returns-2 : tie.Need-returns-2
 returns-2 c = let a = c .before .before .before .before .before .args in
     late (a .kinds .now) (a .operands .now) (a .first) (a .last) (a .at) (c .before .before .kind-at .result)
-    (c .before .before .kind-at .ensures)
-    (c .if2 .taken)
+    (c .before .before .kind-at .ensures) (c .if2 .taken)
 
 returns-3 : tie.Need-returns-3
 returns-3 c = let a = c .before .before .before .before .before .before .args in
     number (a .kinds .now) (a .operands .now) (a .first) (a .last) (a .at) (c .before .before .before .kind-at .result)
     (c .before .before .before .kind-at .ensures)
-    (c .before .before .if1 .left)
-    (c .before .if2 .left)
-    (c .if3 .taken)
+    (c .before .before .if1 .left) (c .before .if2 .left) (c .if3 .taken)
 
 operand-at-requires : tie.Need-operand-at-requires
 operand-at-requires c κs = search needs
@@ -39,13 +35,13 @@ wide-requires c κs = search needs
 
 returns-4 : tie.Need-returns-4
 returns-4 c = let a = c .before .before .before .before .before .before .before .before .before .before .args in
-    judged (a .kinds .now) (a .operands .now) (a .first) (a .last) (a .at) (c .before .before .before .before .before .before .before .kind-at .result)
-    (c .before .before .before .before .before .before .before .kind-at .ensures)
+    let k = c .before .before .before .before .before .before .before .kind-at in
+    let n = c .before .before .before .operand-at in
+    judged (a .kinds .now) (a .operands .now) (a .first) (a .last) (a .at) (k .result) (k .ensures)
     (c .before .before .before .before .before .before .if1 .left)
     (c .before .before .before .before .before .if2 .left)
     (c .before .before .before .before .if3 .left)
-    (c .before .before .before .operand-at .result) (c .before .before .before .operand-at .ensures) _
-    (low-wrong (c .before .before .before .before .before .before .before .kind-at .result) (c .before .before .before .operand-at .result) (omega arith))
+    (n .result) (n .ensures) _ (low-wrong (k .result) (n .result) (omega arith))
 
 high-limit-requires : tie.Need-high-limit-requires
 high-limit-requires c κs = search needs
@@ -54,15 +50,16 @@ wide-requires-2 : tie.Need-wide-requires-2
 wide-requires-2 c κs = search needs
 
 returns-5 : tie.Need-returns-5
-returns-5 c = let a = c .before .before .before .before .before .before .before .before .before .before .before .before .before .args in
-    judged (a .kinds .now) (a .operands .now) (a .first) (a .last) (a .at) (c .before .before .before .before .before .before .before .before .before .before .kind-at .result)
-    (c .before .before .before .before .before .before .before .before .before .before .kind-at .ensures)
+returns-5 c = let a =
+    c .before .before .before .before .before .before .before .before .before .before .before .before .before
+    .args in
+    let k = c .before .before .before .before .before .before .before .before .before .before .kind-at in
+    let n = c .before .before .before .before .before .before .operand-at in
+    judged (a .kinds .now) (a .operands .now) (a .first) (a .last) (a .at) (k .result) (k .ensures)
     (c .before .before .before .before .before .before .before .before .before .if1 .left)
     (c .before .before .before .before .before .before .before .before .if2 .left)
     (c .before .before .before .before .before .before .before .if3 .left)
-    (c .before .before .before .before .before .before .operand-at .result) (c .before .before .before .before .before .before .operand-at .ensures) _
-    (high-wrong (c .before .before .before .before .before .before .before .before .before .before .kind-at .result)
-    (c .before .before .before .before .before .before .operand-at .result) (omega arith))
+    (n .result) (n .ensures) _ (high-wrong (k .result) (n .result) (omega arith))
 
 cast-t12 : tie.Need-cast-t12
 cast-t12 c = search needs
@@ -71,14 +68,16 @@ cast-t13 : tie.Need-cast-t13
 cast-t13 c = search needs
 
 returns-6 : tie.Need-returns-6
-returns-6 c = let a = c .before .before .before .before .before .before .before .before .before .before .before .before .before .args in
-    judged (a .kinds .now) (a .operands .now) (a .first) (a .last) (a .at) (c .before .before .before .before .before .before .before .before .before .before .kind-at .result)
-    (c .before .before .before .before .before .before .before .before .before .before .kind-at .ensures)
+returns-6 c = let a =
+    c .before .before .before .before .before .before .before .before .before .before .before .before .before
+    .args in
+    let k = c .before .before .before .before .before .before .before .before .before .before .kind-at in
+    let n = c .before .before .before .before .before .before .operand-at in
+    judged (a .kinds .now) (a .operands .now) (a .first) (a .last) (a .at) (k .result) (k .ensures)
     (c .before .before .before .before .before .before .before .before .before .if1 .left)
     (c .before .before .before .before .before .before .before .before .if2 .left)
     (c .before .before .before .before .before .before .before .if3 .left)
-    (c .before .before .before .before .before .before .operand-at .result) (c .before .before .before .before .before .before .operand-at .ensures) _
-    (in-range _ _ (omega arith) (omega arith) (omega arith))
+    (n .result) (n .ensures) _ (in-range _ _ (omega arith) (omega arith) (omega arith))
 
 pub node-at-spec : {M : Type 1} → statement M
 node-at-spec =
