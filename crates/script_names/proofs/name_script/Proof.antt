@@ -13,10 +13,11 @@ use Rattle.script_names.proofs.name_script.Tie as tie
 
 abbrev Inv-loop : tie.InvT-loop
 Inv-loop kinds operands functions starts₀ p₀ i₀ left₀ starts p i left =
-    (i + left ≡ functions) × (length starts ≡ length starts₀) × (repeated functions
-    (names-function kinds operands functions) 0 ≡ repeated left (names-function kinds operands functions) p) × (marked functions
-    (names-function kinds operands functions) 0 0 starts₀ ≡ marked left (names-function kinds operands functions) p i
-    starts)
+    (i + left ≡ functions) × (length starts ≡ length starts₀)
+    × (repeated functions (names-function kinds operands functions) 0
+    ≡ repeated left (names-function kinds operands functions) p)
+    × (marked functions (names-function kinds operands functions) 0 0 starts₀
+    ≡ marked left (names-function kinds operands functions) p i starts)
 
 abbrev μ-loop : tie.MeasureT-loop
 μ-loop kinds operands functions starts₀ p₀ i₀ left₀ starts p i left = left
