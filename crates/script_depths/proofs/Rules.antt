@@ -74,7 +74,7 @@ module _ (k w : List ℕ) (p n : ℕ) (ds : List ℕ) (l : n ≤ length ds) wher
       sym (v ∙ rw (e, drop-of-length-le (take n ds) {i = i} (simp length-take (omega arith))))
 
 -- past the nodes a function has no parameters and the depth 0
-signature-past : (k w : List ℕ) (p : ℕ) → length k ≤ p → signature-at k w p ≡ record { parameters = []; result = 0 }
+pub signature-past : (k w : List ℕ) (p : ℕ) → length k ≤ p → signature-at k w p ≡ record { parameters = []; result = 0 }
 unfolding signature-at depths-from
 signature-past k w p h =
     let u = unfit k w 0 0 p WrongKind (past k w 0 0 p h (omega arith)) (inl refl) in

@@ -321,7 +321,13 @@ fn type_plain(
 }
 
 // The body of a function, under the depths of its parameters.
-pub fn type_body(kinds: &[u8], operands: &[u8], starts: &[usize], table: [u8; 256], at: usize) -> Typed
+pub fn type_body(
+    kinds: &[u8],
+    operands: &[u8],
+    starts: &[usize],
+    table: [u8; 256],
+    at: usize,
+) -> Typed
     ensures { λ r. ⌜
         r ≡ types (now (kinds .entry)) (now (operands .entry)) (now (starts .entry)) 64 (depths table) at ⌝ }
 {

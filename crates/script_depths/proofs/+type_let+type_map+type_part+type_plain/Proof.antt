@@ -144,9 +144,9 @@ type-let-type-part-requires-2 : (t : ℕ) →
 type-let-type-part-requires-2 t c κs = (
   omega arith,
   simp length-set (ap length
-        (c .before .before .before .before .before .before .before .type-part .ensures .1)
-        ∙ c .before .before .before .before .before .before .before .before .before .before .before .before .before
-        .pre .1),
+      (c .before .before .before .before .before .before .before .type-part .ensures .1)
+      ∙ c .before .before .before .before .before .before .before .before .before .before .before .before .before
+      .pre .1),
 )
 
 type-let-slice-write-table-2 : (t : ℕ) →
@@ -243,9 +243,9 @@ type-map-type-part-requires-2 : (t : ℕ) →
 type-map-type-part-requires-2 t c κs = (
   omega arith,
   simp length-set (ap length
-        (c .before .before .before .before .before .before .before .before .type-part .ensures .1)
-        ∙ c .before .before .before .before .before .before .before .before .before .before .before .before .before
-        .before .pre .1 .0),
+      (c .before .before .before .before .before .before .before .before .type-part .ensures .1)
+      ∙ c .before .before .before .before .before .before .before .before .before .before .before .before .before
+      .before .pre .1 .0),
 )
 
 type-map-slice-write-table-2 : (t : ℕ) →
@@ -492,7 +492,7 @@ type-plain-type-part-requires : (t : ℕ) →
 type-plain-type-part-requires t c κs = (
   omega arith,
   ap length (c .before .before .loop .inv .1)
-        ∙ c .before .before .before .before .before .before .before .before .pre .1 .0,
+      ∙ c .before .before .before .before .before .before .before .before .pre .1 .0,
 )
 
 type-plain-enum-known-d : (t : ℕ) →

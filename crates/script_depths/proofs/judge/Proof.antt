@@ -20,14 +20,18 @@ start-of-requires c κs = search needs
 
 judge-call-requires : tie.Need-judge-call-requires
 judge-call-requires c κs = (
-  omega (arith, c .before .before .before .before .before .before .pre .0, rw (c .before .if1 .taken) at (c .before .before .before .before .before .before .pre .2)),
+  omega (
+    arith,
+    c .before .before .before .before .before .before .pre .0,
+    rw (c .before .if1 .taken) at (c .before .before .before .before .before .before .pre .2),
+  ),
   omega (arith, c .start-of .ensures),
 )
 
 returns : tie.Need-returns
 returns c =
-    call-says (signatures (c .before .before .before .before .before .before .before)) _ _ _ _ (c .before .before .before .before .before .before .before .pre .0)
-    (c .before .before .if1 .taken) _
+    call-says (signatures (c .before .before .before .before .before .before .before)) _ _ _ _
+    (c .before .before .before .before .before .before .before .pre .0) (c .before .before .if1 .taken) _
     (rw (at-the-end _ _ _ (c .before .start-of .result) (c .before .start-of .ensures)) at (c .judge-call .ensures))
 
 all-are-requires : tie.Need-all-are-requires
