@@ -3,12 +3,11 @@ use Prim.Native.Nat.{ℕ, zero, suc, _+_, _≤_}
 use native.Mathlib.Omega.{arith}
 use mathlib.Core.Bool.{Bool, true, false, cond, _&&_}
 use mathlib.Core.List.{List, [], _∷_, map}
-use mathlib.Core.Logic.{inl}
 use mathlib.Core.Path.{_≡_, refl, sym, ap, _∙_, subst, fun-ext}
 use lib.Dec.{eqb}
 use lib.ListN.{length, getD}
 use Rattle.semantics.specs.Basics.{updated}
-use Rattle.semantics.specs.Syntax.{Expr, size, Parameter, Function, Script, function-size, no-function, function-at}
+use Rattle.semantics.specs.Syntax.{Expr, size, Parameter, Function, Script, function-size, function-at}
 use Rattle.semantics.specs.Types.{Checked, Signature, signature, check, parameter-depths, result-rule, node, some-if}
 use Rattle.semantics.specs.Types.{check-function, function-faults, signatures-of, main-shape, type-faults}
 use Rattle.script_read.specs.Told.{low-at, high-at, repeated}
