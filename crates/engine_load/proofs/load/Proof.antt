@@ -4,6 +4,7 @@ use mathlib.Core.Path.{subst, sym, _∙_}
 use borrow.Author.Needs.{needs}
 use Rattle.script.specs.declared.Verdict.the-variants.{Accepted, Refused}
 use Rattle.script.specs.Verdicts.{Judges}
+use Rattle.words.proofs.Packing.{packed-small}
 use Rattle.engine_load.specs.Loading.{Loads}
 use Rattle.engine_load.proofs.Laws.{ready, accepted-file, file-taken, translatable, node-fits, loads-laid}
 use Rattle.engine_load.proofs.Laws.{loads-refusal}
@@ -72,8 +73,7 @@ part-file-operands-end c = search needs
 
 -- src/lib.rt:22:17
 high-at-requires : tie.Need-high-at-requires
-high-at-requires c κs =
-    (file-taken (accepted-file _ _ _ (verdict (c .before .before))) .readable .parts, omega arith)
+high-at-requires c κs = search needs
 
 -- src/lib.rt:23:19
 translate-accepted-requires : tie.Need-translate-accepted-requires
@@ -106,9 +106,7 @@ cast-pack c = search needs
 
 -- src/lib.rt:30:29
 pack-requires : tie.Need-pack-requires
-pack-requires c κs =
-    let told = c .before .before .before .before .before .before .known-told3 in
-    (omega (arith, told .given .0 .1), omega (arith, node-fits (refusal (c .before .before .before .before .before .before))), omega arith, omega arith)
+pack-requires c κs = search needs
 
 -- src/lib.rt:13:1
 same-length : tie.Need-same-length
@@ -157,8 +155,13 @@ same-length-6 c = search needs
 -- src/lib.rt:13:1
 returns-3 : tie.Need-returns-3
 returns-3 c =
+    let told = c .before .before .before .before .before .before .before .known-told3 in
+    let parts = c .before .before .before .before .before .before .before .before .number .given .0 in
     let cleared = c .before .before .before .before .refuse in
-    loads-refusal (refusal (c .before .before .before .before .before .before .before)) (c .pack .ensures) (cleared .ensures .1 .0) (cleared .ensures .1 .1)
+    let refused = refusal (c .before .before .before .before .before .before .before) in
+    let small = packed-small {number = parts .0} {node = parts .1 .0} {count = 0} {cells = 0}
+    (omega (arith, told .given .0 .1)) (omega (arith, node-fits refused)) (omega arith) (omega arith) in
+    loads-refusal refused (c .pack .ensures ∙ small) (cleared .ensures .1 .0) (cleared .ensures .1 .1)
 
 pub load-spec : {M : Type 1} → statement M
 load-spec =
