@@ -68,26 +68,25 @@ pub fn wide(byte: u8) -> u64
     byte as u64
 }
 
-// The byte k places after i; 0 past the end.
-fn byte_at(bytes: &[u8], i: usize, k: usize) -> u8
-    ensures { λ r. ⌜ r ≡ getD (now (bytes .entry)) (i + k) 0 ⌝ }
+// So many bytes at i, low byte first; past the end they are 0.
+fn bytes_from(bytes: &[u8], i: usize, count: u64) -> u64
+    requires { ⌜ count ≤ 8 ⌝ }
+    ensures { λ r. ⌜ (r ≡ bytes-at count (now (bytes .entry)) i) × (r < 256 ^ count) ⌝ }
 {
+    if count == 0 {
+        return 0;
+    }
     if bytes.len() <= i {
         return 0;
     }
-    if bytes.len() - i <= k {
-        return 0;
-    }
-    bytes[i + k]
+    wide(bytes[i]) + 256 * bytes_from(bytes, i + 1, count - 1)
 }
 
 // Two bytes at i, low byte first.
 pub fn short_at(bytes: &[u8], i: usize) -> usize
     ensures { λ r. ⌜ (r ≡ bytes-at 2 (now (bytes .entry)) i) × (r < 65536) ⌝ }
 {
-    let low = wide(byte_at(bytes, i, 0));
-    let high = wide(byte_at(bytes, i, 1));
-    (low + 256 * high) as usize
+    bytes_from(bytes, i, 2) as usize
 }
 
 // Four bytes at i, low byte first.
@@ -121,17 +120,7 @@ pub fn word_at(bytes: &[u8], i: usize) -> u64
             return whole_at(bytes, i);
         }
     }
-    let last = [
-        byte_at(bytes, i, 0),
-        byte_at(bytes, i, 1),
-        byte_at(bytes, i, 2),
-        byte_at(bytes, i, 3),
-        byte_at(bytes, i, 4),
-        byte_at(bytes, i, 5),
-        byte_at(bytes, i, 6),
-        byte_at(bytes, i, 7),
-    ];
-    whole_at(&last[..], 0)
+    bytes_from(bytes, i, 8)
 }
 
 // The signed number whose bits are v.
