@@ -1,8 +1,8 @@
--- `words::word_at` meets its contract, by the laws of `Bytes`.
+-- `words::whole_at` meets its contract, by the laws of `Bytes`.
 use Rattle.words.proofs.Bytes.{eight}
 use borrow.Author.Needs.{needs}
-use Rattle.words.proofs.word_at.Statement.{statement}
-use Rattle.words.proofs.word_at.Tie as tie
+use Rattle.words.proofs.whole_at.Statement.{statement}
+use Rattle.words.proofs.whole_at.Tie as tie
 
 half-at-requires : tie.Need-half-at-requires
 half-at-requires c κs = search needs
@@ -24,7 +24,7 @@ returns c =
     eight (c .before .before .before .args .bytes .now) (c .before .before .before .args .i)
     (c .before .half-at .result) (c .half-at2 .result) (c .before .half-at .ensures .0) (c .half-at2 .ensures .0)
 
-pub word-at-spec : {M : Type 1} → statement M
-word-at-spec =
+pub whole-at-spec : {M : Type 1} → statement M
+whole-at-spec =
     tie.close
     (tie.spec half-at-requires add-half-at half-at-requires-2 mul-result add-result returns)
