@@ -29,8 +29,7 @@ returns : tie.Need-returns
 returns c =
     let a = c .before .before .before .before .before .before .before .before .before .before .before .before .before .before .before .before .args in
     let σ = store-of (a .slots .now) (a .heads .now) in
-    let e = sym (c .before .before .before .before .before .before .before .c .given .1) ∙ c .before .before .before .before .before .before .before .before .before .before .before .before .acquire-empty .ensures .0 in
-    (
+    let e = sym (c .before .before .before .before .before .before .before .c .given .1) ∙ c .before .before .before .before .before .before .before .before .before .before .before .before .acquire-empty .ensures .0 in (
       e,
       c .before .before .before .append-all .ensures
           ∙ ap (appended-all (c .before .before .before .before .before .before .before .c .given .0 .0) (a .words .now)) (c .before .before .before .before .before .before .before .before .before .before .before .before .acquire-empty .ensures .1)

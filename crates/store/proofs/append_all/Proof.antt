@@ -42,8 +42,7 @@ loop-again : tie.Need-loop-again Inv-loop μ-loop
 loop-again c =
     let a = c .before .before .before .before .before .before .before .before .before .before .args in
     let i = c .before .before .before .before .before .before .before .before .loop .i in
-    let w = getD (a .words .now) i (pos 0) in
-    (
+    let w = getD (a .words .now) i (pos 0) in (
       omega arith,
       c .before .before .before .append .kept .0 ∙ c .before .before .before .before .before .before .before .before .loop .inv .1,
       c .before .before .before .append .kept .1 .0 ∙ c .before .before .before .before .before .before .before .before .loop .inv .2,
