@@ -85,17 +85,10 @@ same-length : tie.Need-same-length
 same-length c = search needs
 
 returns : tie.Need-returns
-returns c = leaf-operation (c .before .before .before .before .before .before .before .before .args .kinds .now) (c
-    .before .before .before .before .before .before .before .before .args .operands .now) (c .before .before .before
-    .before .before .before .before .before .args .calls) (c .before .before .before .before .before .before .before
-    .before .args .at) (c .before .before .before .before .before .before .before .before .args .steps) (memory
-    (store-of (c .before .before .before .before .before .before .before .before .args .slots .now) (c .before
-    .before .before .before .before .before .before .before .args .heads .now)) (c .before .before .before .before
-    .before .before .before .before .args .env .now)) (c .before .before .before .before .before .before .before
-    .before .args .l) (c .before .before .before .before .l .given .0 .0) (c .before .before .before .before .l
-    .given .0 .1 .0) (c .before .before .before .before .l .given .0 .1 .1 .0) (c .before .before .before .before .l
-    .given .0 .1 .1 .1 .0) (c .before .before .before .before .l .given .1) (c .before .work-operation .result) (c
-    .before .work-operation .last .0) (c .before .work-operation .ensures)
+returns c = leaf-operation (c .before .before .before .before .before .before .before .args .kinds .now) (c .before .before .before .before .before .before .before .args .operands .now) (c .before .before .before .before .before .before .before .args .calls) (c .before .before .before .before .before .before .before .args .at) (c .before .before .before .before .before .before .before .args .steps) (memory
+    (store-of (c .before .before .before .before .before .before .before .args .slots .now) (c .before .before .before .before .before .before .before .args .heads .now)) (c .before .before .before .before .before .before .before .args .env .now)) (c .before .before .before .before .before .before .before .args .l) (c .before .before .before .l .given .0 .0) (c .before .before .before .l
+    .given .0 .1 .0) (c .before .before .before .l .given .0 .1 .1 .0) (c .before .before .before .l
+    .given .0 .1 .1 .1 .0) (c .before .before .before .l .given .1) (c .work-operation .result) (c .work-operation .last .0) (c .work-operation .ensures)
 
 same-length-2 : tie.Need-same-length-2
 same-length-2 c = search needs
@@ -107,20 +100,9 @@ same-length-4 : tie.Need-same-length-4
 same-length-4 c = search needs
 
 returns-2 : tie.Need-returns-2
-returns-2 c = leaf-literal (c .before .before .before .before .before .before .before .before .before .before
-    .before .before .before .args .kinds .now) (c .before .before .before .before .before .before .before .before
-    .before .before .before .before .before .args .operands .now) (c .before .before .before .before .before .before
-    .before .before .before .before .before .before .before .args .calls) (c .before .before .before .before .before
-    .before .before .before .before .before .before .before .before .args .at) (c .before .before .before .before
-    .before .before .before .before .before .before .before .before .before .args .steps) (memory (store-of (c
-    .before .before .before .before .before .before .before .before .before .before .before .before .before .args
-    .slots .now) (c .before .before .before .before .before .before .before .before .before .before .before .before
-    .before .args .heads .now)) (c .before .before .before .before .before .before .before .before .before .before
-    .before .before .before .args .env .now)) (c .before .before .before .before .before .before .before .before
-    .before .before .before .before .before .args .l) (c .before .before .before .before .before .before .before
-    .before .before .l2 .given .0 .0) (c .before .before .before .before .before .before .before .before .before .l2
-    .given .0 .1 .0) (c .before .before .before .before .before .before .before .before .before .l2 .given .1) _ (c
-    .before .before .before .before .work-literal .ensures)
+returns-2 c = leaf-literal (c .before .before .before .before .before .before .before .before .before .before .before .before .args .kinds .now) (c .before .before .before .before .before .before .before .before .before .before .before .before .args .operands .now) (c .before .before .before .before .before .before .before .before .before .before .before .before .args .calls) (c .before .before .before .before .before .before .before .before .before .before .before .before .args .at) (c .before .before .before .before .before .before .before .before .before .before .before .before .args .steps) (memory (store-of (c .before .before .before .before .before .before .before .before .before .before .before .before .args
+    .slots .now) (c .before .before .before .before .before .before .before .before .before .before .before .before .args .heads .now)) (c .before .before .before .before .before .before .before .before .before .before .before .before .args .env .now)) (c .before .before .before .before .before .before .before .before .before .before .before .before .args .l) (c .before .before .before .before .before .before .before .before .l2 .given .0 .0) (c .before .before .before .before .before .before .before .before .l2
+    .given .0 .1 .0) (c .before .before .before .before .before .before .before .before .l2 .given .1) _ (c .before .before .before .work-literal .ensures)
 
 same-length-5 : tie.Need-same-length-5
 same-length-5 c = search needs
@@ -132,18 +114,11 @@ same-length-7 : tie.Need-same-length-7
 same-length-7 c = search needs
 
 returns-3 : tie.Need-returns-3
-returns-3 c = leaf-index (c .before .before .before .before .before .before .before .before .before .before .args
-    .kinds .now) (c .before .before .before .before .before .before .before .before .before .before .args .operands
-    .now) (c .before .before .before .before .before .before .before .before .before .before .args .calls) (c
-    .before .before .before .before .before .before .before .before .before .before .args .at) (c .before .before
-    .before .before .before .before .before .before .before .before .args .steps) (memory (store-of (c .before
-    .before .before .before .before .before .before .before .before .before .args .slots .now) (c .before .before
-    .before .before .before .before .before .before .before .before .args .heads .now)) (c .before .before .before
-    .before .before .before .before .before .before .before .args .env .now)) (c .before .before .before .before
-    .before .before .before .before .before .before .args .l) (c .before .before .before .before .before .before .l3
-    .given .0 .0) (c .before .before .before .before .before .before .l3 .given .0 .1 .0) (c .before .before .before
-    .before .before .before .l3 .given .0 .1 .1 .0) (c .before .before .before .before .before .before .l3 .given
-    .1) (c .before .work-index .result) (c .before .work-index .last .1 .1 .0) (c .before .work-index .ensures)
+returns-3 c = leaf-index (c .before .before .before .before .before .before .before .before .before .args
+    .kinds .now) (c .before .before .before .before .before .before .before .before .before .args .operands
+    .now) (c .before .before .before .before .before .before .before .before .before .args .calls) (c .before .before .before .before .before .before .before .before .before .args .at) (c .before .before .before .before .before .before .before .before .before .args .steps) (memory (store-of (c .before .before .before .before .before .before .before .before .before .args .slots .now) (c .before .before .before .before .before .before .before .before .before .args .heads .now)) (c .before .before .before .before .before .before .before .before .before .args .env .now)) (c .before .before .before .before .before .before .before .before .before .args .l) (c .before .before .before .before .before .l3
+    .given .0 .0) (c .before .before .before .before .before .l3 .given .0 .1 .0) (c .before .before .before .before .before .l3 .given .0 .1 .1 .0) (c .before .before .before .before .before .l3 .given
+    .1) (c .work-index .result) (c .work-index .last .1 .1 .0) (c .work-index .ensures)
 
 same-length-8 : tie.Need-same-length-8
 same-length-8 c = search needs
@@ -155,90 +130,35 @@ same-length-10 : tie.Need-same-length-10
 same-length-10 c = search needs
 
 returns-4 : tie.Need-returns-4
-returns-4 c = leaf-length (c .before .before .before .before .before .before .before .before .before .before .args
-    .kinds .now) (c .before .before .before .before .before .before .before .before .before .before .args .operands
-    .now) (c .before .before .before .before .before .before .before .before .before .before .args .calls) (c
-    .before .before .before .before .before .before .before .before .before .before .args .at) (c .before .before
-    .before .before .before .before .before .before .before .before .args .steps) (memory (store-of (c .before
-    .before .before .before .before .before .before .before .before .before .args .slots .now) (c .before .before
-    .before .before .before .before .before .before .before .before .args .heads .now)) (c .before .before .before
-    .before .before .before .before .before .before .before .args .env .now)) (c .before .before .before .before
-    .before .before .before .before .before .before .args .l) (c .before .before .before .before .before .before .l4
-    .given .0 .0) (c .before .before .before .before .before .before .l4 .given .0 .1 .0) (c .before .before .before
-    .before .before .before .l4 .given .1) (c .before .work-length .result) (c .before .work-length .last .1 .1 .0)
-    (c .before .work-length .ensures)
-
-same-length-11 : tie.Need-same-length-11
-same-length-11 c = search needs
-
-same-length-12 : tie.Need-same-length-12
-same-length-12 c = search needs
-
-same-length-13 : tie.Need-same-length-13
-same-length-13 c = search needs
+returns-4 c = leaf-length (c .before .before .before .before .before .before .before .before .before .args
+    .kinds .now) (c .before .before .before .before .before .before .before .before .before .args .operands
+    .now) (c .before .before .before .before .before .before .before .before .before .args .calls) (c .before .before .before .before .before .before .before .before .before .args .at) (c .before .before .before .before .before .before .before .before .before .args .steps) (memory (store-of (c .before .before .before .before .before .before .before .before .before .args .slots .now) (c .before .before .before .before .before .before .before .before .before .args .heads .now)) (c .before .before .before .before .before .before .before .before .before .args .env .now)) (c .before .before .before .before .before .before .before .before .before .args .l) (c .before .before .before .before .before .l4
+    .given .0 .0) (c .before .before .before .before .before .l4 .given .0 .1 .0) (c .before .before .before .before .before .l4 .given .1) (c .work-length .result) (c .work-length .last .1 .1 .0)
+    (c .work-length .ensures)
 
 returns-5 : tie.Need-returns-5
-returns-5 c = leaf-retain (c .before .before .before .before .before .before .before .before .before .before .before
-    .before .before .before .args .kinds .now) (c .before .before .before .before .before .before .before .before
-    .before .before .before .before .before .before .args .operands .now) (c .before .before .before .before .before
-    .before .before .before .before .before .before .before .before .before .args .calls) (c .before .before .before
-    .before .before .before .before .before .before .before .before .before .before .before .args .at) (c .before
-    .before .before .before .before .before .before .before .before .before .before .before .before .before .args
-    .steps) (memory (store-of (c .before .before .before .before .before .before .before .before .before .before
-    .before .before .before .before .args .slots .now) (c .before .before .before .before .before .before .before
-    .before .before .before .before .before .before .before .args .heads .now)) (c .before .before .before .before
-    .before .before .before .before .before .before .before .before .before .before .args .env .now)) (c .before
-    .before .before .before .before .before .before .before .before .before .before .before .before .before .args
-    .l) (c .before .before .before .before .before .before .before .before .before .before .l5 .given .0 .0) (c
-    .before .before .before .before .before .before .before .word-of .result) (c .before .before .before .before
-    .before .before .before .word-of .ensures) (c .before .before .before .before .before .before .named-cell
+returns-5 c = leaf-retain (c .before .before .before .before .before .before .before .before .before .before .before .before .before .before .args .kinds .now) (c .before .before .before .before .before .before .before .before .before .before .before .before .before .before .args .operands .now) (c .before .before .before .before .before .before .before .before .before .before .before .before .before .before .args .calls) (c .before .before .before .before .before .before .before .before .before .before .before .before .before .before .args .at) (c .before .before .before .before .before .before .before .before .before .before .before .before .before .before .args
+    .steps) (memory (store-of (c .before .before .before .before .before .before .before .before .before .before .before .before .before .before .args .slots .now) (c .before .before .before .before .before .before .before .before .before .before .before .before .before .before .args .heads .now)) (c .before .before .before .before .before .before .before .before .before .before .before .before .before .before .args .env .now)) (c .before .before .before .before .before .before .before .before .before .before .before .before .before .before .args
+    .l) (c .before .before .before .before .before .before .before .before .before .before .l5 .given .0 .0) (c .before .before .before .before .before .before .before .word-of .result) (c .before .before .before .before .before .before .before .word-of .ensures) (c .before .before .before .before .before .before .named-cell
     .result) (rw (toZ-ofZ {z = c .before .before .before .before .before .before .before .word-of .result} (record {
       sfits = c .before .before .before .before .before .before .before .word-of .ok;
-    })) at (c .before .before .before
-    .before .before .before .named-cell .ensures)) _ (c .done .result) (c .done .ensures) (c .before .before .before
-    .before .before .before .before .before .before .before .l5 .given .1) (c .before .before .before .retain
+    })) at (c .before .before .before .before .before .before .named-cell .ensures)) _ (c .done .result) (c .done .ensures) (c .before .before .before .before .before .before .before .before .before .before .l5 .given .1) (c .before .before .before .retain
     .ensures)
 
-same-length-14 : tie.Need-same-length-14
-same-length-14 c = search needs
-
-same-length-15 : tie.Need-same-length-15
-same-length-15 c = search needs
-
-same-length-16 : tie.Need-same-length-16
-same-length-16 c = search needs
-
 returns-6 : tie.Need-returns-6
-returns-6 c = leaf-release (c .before .before .before .before .before .before .before .before .before .before
-    .before .before .before .before .before .args .kinds .now) (c .before .before .before .before .before .before
-    .before .before .before .before .before .before .before .before .before .args .operands .now) (c .before .before
-    .before .before .before .before .before .before .before .before .before .before .before .before .before .args
-    .calls) (c .before .before .before .before .before .before .before .before .before .before .before .before
-    .before .before .before .args .at) (c .before .before .before .before .before .before .before .before .before
-    .before .before .before .before .before .before .args .steps) (memory (store-of (c .before .before .before
-    .before .before .before .before .before .before .before .before .before .before .before .before .args .slots
-    .now) (c .before .before .before .before .before .before .before .before .before .before .before .before .before
-    .before .before .args .heads .now)) (c .before .before .before .before .before .before .before .before .before
-    .before .before .before .before .before .before .args .env .now)) (c .before .before .before .before .before
-    .before .before .before .before .before .before .before .before .before .before .args .l) (c .before .before
-    .before .before .before .before .before .before .before .before .before .l6 .given .0 .0) (c .before .before
-    .before .before .before .before .before .before .word-of2 .result) (c .before .before .before .before .before
-    .before .before .before .word-of2 .ensures) (c .before .before .before .before .before .before .before
-    .named-cell2 .result) (rw (toZ-ofZ {z = c .before .before .before .before .before .before .before .before
-    .word-of2 .result} (record {
+returns-6 c = leaf-release (c .before .before .before .before .before .before .before .before .before .before .before .before .before .before .before .args .kinds .now) (c .before .before .before .before .before .before .before .before .before .before .before .before .before .before .before .args .operands .now) (c .before .before .before .before .before .before .before .before .before .before .before .before .before .before .before .args
+    .calls) (c .before .before .before .before .before .before .before .before .before .before .before .before .before .before .before .args .at) (c .before .before .before .before .before .before .before .before .before .before .before .before .before .before .before .args .steps) (memory (store-of (c .before .before .before .before .before .before .before .before .before .before .before .before .before .before .before .args .slots
+    .now) (c .before .before .before .before .before .before .before .before .before .before .before .before .before .before .before .args .heads .now)) (c .before .before .before .before .before .before .before .before .before .before .before .before .before .before .before .args .env .now)) (c .before .before .before .before .before .before .before .before .before .before .before .before .before .before .before .args .l) (c .before .before .before .before .before .before .before .before .before .before .before .l6 .given .0 .0) (c .before .before .before .before .before .before .before .before .word-of2 .result) (c .before .before .before .before .before .before .before .before .word-of2 .ensures) (c .before .before .before .before .before .before .before .named-cell2 .result) (rw (toZ-ofZ {z = c .before .before .before .before .before .before .before .before .word-of2 .result} (record {
       sfits = c .before .before .before .before .before .before .before .before .word-of2
           .ok;
     })) at (c .before .before .before .before .before .before .before .named-cell2 .ensures)) _ (c .done2
-    .result) (c .done2 .ensures) (c .before .before .before .before .before .before .before .before .before .before
-    .before .l6 .given .1) (c .before .before .before .before .release .ensures)
+    .result) (c .done2 .ensures) (c .before .before .before .before .before .before .before .before .before .before .before .l6 .given .1) (c .before .before .before .before .release .ensures)
 
 returns-7 : tie.Need-returns-7
-returns-7 c = leaf-other (c .before .before .before .before .args .kinds .now) (c .before .before .before .before
-    .args .operands .now) (c .before .before .before .before .args .calls) (c .before .before .before .before .args
+returns-7 c = leaf-other (c .before .before .before .before .args .kinds .now) (c .before .before .before .before .args .operands .now) (c .before .before .before .before .args .calls) (c .before .before .before .before .args
     .at) (c .before .before .before .before .args .steps) (memory (store-of (c .before .before .before .before .args
     .slots .now) (c .before .before .before .before .args .heads .now)) (c .before .before .before .before .args
-    .env .now)) (c .before .before .before .before .args .l) (c .before .match .keys7) (c .halted .result) (c
-    .halted .ensures)
+    .env .now)) (c .before .before .before .before .args .l) (c .before .match .keys7) (c .halted .result) (c .halted .ensures)
 
 pub work-leaf-spec : {M : Type 1} → statement M
 work-leaf-spec =
@@ -268,26 +188,20 @@ work-leaf-spec =
     add-done-2
     done-requires-2
     halted-requires
-    same-length
     returns
+    same-length
     same-length-2
+    returns-2
     same-length-3
     same-length-4
-    returns-2
+    returns-3
     same-length-5
     same-length-6
+    returns-4
     same-length-7
-    returns-3
     same-length-8
+    returns-5
     same-length-9
     same-length-10
-    returns-4
-    same-length-11
-    same-length-12
-    same-length-13
-    returns-5
-    same-length-14
-    same-length-15
-    same-length-16
     returns-6
     returns-7)

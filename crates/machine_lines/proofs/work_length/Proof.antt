@@ -13,9 +13,7 @@ halted-requires c κs = search needs
 
 returns : tie.Need-returns
 returns c = length-spent (store-of (c .before .before .before .args .slots .now) (c .before .before .before .args
-    .heads .now)) (c .before .before .before .args .calls) (c .before .before .before .args .x) (c .before .before
-    .before .args .a) (c .before .before .before .args .next) (c .before .before .before .args .steps) (c .before
-    .before .before .args .env .now) (c .halted .result) (c .before .if1 .taken) (c .halted .ensures)
+    .heads .now)) (c .before .before .before .args .calls) (c .before .before .before .args .x) (c .before .before .before .args .a) (c .before .before .before .args .next) (c .before .before .before .args .steps) (c .before .before .before .args .env .now) (c .halted .result) (c .before .if1 .taken) (c .halted .ensures)
 
 word-of-requires : tie.Need-word-of-requires
 word-of-requires c κs = search needs
@@ -30,9 +28,7 @@ word-from-requires : tie.Need-word-from-requires
 word-from-requires c κs = omega (
   arith,
   c .read-length .ensures,
-  few-elements (c .before .before .before .before
-      .before .before .args .slots .now) (c .before .before .before .before .before .before .args .heads .now) (c
-      .before .named-cell .result),
+  few-elements (c .before .before .before .before .before .before .args .slots .now) (c .before .before .before .before .before .before .args .heads .now) (c .before .named-cell .result),
 )
 
 bind-requires : tie.Need-bind-requires
@@ -44,33 +40,15 @@ sub-done c = search needs
 done-requires : tie.Need-done-requires
 done-requires c κs = search needs
 
-same-length : tie.Need-same-length
-same-length c = search needs
-
 returns-2 : tie.Need-returns-2
-returns-2 c = length-value (store-of (c .before .before .before .before .before .before .before .before .before
-    .before .before .args .slots .now) (c .before .before .before .before .before .before .before .before .before
-    .before .before .args .heads .now)) (c .before .before .before .before .before .before .before .before .before
-    .before .before .args .calls) (c .before .before .before .before .before .before .before .before .before .before
-    .before .args .x) (c .before .before .before .before .before .before .before .before .before .before .before
-    .args .a) (c .before .before .before .before .before .before .before .before .before .before .before .args
-    .next) (c .before .before .before .before .before .before .before .before .before .before .before .args .steps)
-    (c .before .before .before .before .before .before .before .before .before .before .before .args .env .now) (c
-    .before .before .before .before .before .before .before .before .before .if1 .left) (c .before .before .before
-    .before .before .before .before .word-of .result) (c .before .before .before .before .before .before .before
-    .word-of .ensures) (c .before .before .before .before .before .before .named-cell .result) (rw (toZ-ofZ {z = c
-    .before .before .before .before .before .before .before .word-of .result} (record {
-      sfits = c .before .before
-          .before .before .before .before .before .word-of .ok;
-    })) at (c .before .before .before .before .before .before
-    .named-cell .ensures)) (c .before .before .before .before .word-from .result) (c .before .before .before .before
-    .word-from .ensures ∙ ap pos (c .before .before .before .before .before .read-length .ensures)) _ (rw (toZ-ofZ
-    {z = c .before .before .before .before .word-from .result} (record {
-      sfits = c .before .before .before .before
-          .word-from .ok;
-    })) at (c .before .before .bind .ensures)) (c .done .result) (rw (toZ-ofZ {z = c .before .before
-    .before .before .word-from .result} (record { sfits = c .before .before .before .before .word-from .ok })) at (c
-    .done .ensures))
+returns-2 c = length-value (store-of (c .before .before .before .before .before .before .before .before .before .before .args .slots .now) (c .before .before .before .before .before .before .before .before .before .before .args .heads .now)) (c .before .before .before .before .before .before .before .before .before .before .args .calls) (c .before .before .before .before .before .before .before .before .before .before .args .x) (c .before .before .before .before .before .before .before .before .before .before .args .a) (c .before .before .before .before .before .before .before .before .before .before .args
+    .next) (c .before .before .before .before .before .before .before .before .before .before .args .steps)
+    (c .before .before .before .before .before .before .before .before .before .before .args .env .now) (c .before .before .before .before .before .before .before .before .if1 .left) (c .before .before .before .before .before .before .word-of .result) (c .before .before .before .before .before .before .word-of .ensures) (c .before .before .before .before .before .named-cell .result) (rw (toZ-ofZ {z = c .before .before .before .before .before .before .word-of .result} (record {
+      sfits = c .before .before .before .before .before .before .word-of .ok;
+    })) at (c .before .before .before .before .before .named-cell .ensures)) (c .before .before .before .word-from .result) (c .before .before .before .word-from .ensures ∙ ap pos (c .before .before .before .before .read-length .ensures)) _ (rw (toZ-ofZ
+    {z = c .before .before .before .word-from .result} (record {
+      sfits = c .before .before .before .word-from .ok;
+    })) at (c .before .bind .ensures)) (c .done .result) (rw (toZ-ofZ {z = c .before .before .before .word-from .result} (record { sfits = c .before .before .before .word-from .ok })) at (c .done .ensures))
 
 pub work-length-spec : {M : Type 1} → statement M
 work-length-spec =
@@ -85,5 +63,4 @@ work-length-spec =
     bind-requires
     sub-done
     done-requires
-    same-length
     returns-2)

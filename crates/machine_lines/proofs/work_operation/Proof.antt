@@ -9,9 +9,7 @@ halted-requires : tie.Need-halted-requires
 halted-requires c κs = search needs
 
 returns : tie.Need-returns
-returns c = operation-spent (c .before .before .args .calls) (c .before .before .args .kind) (c .before .before
-    .args .x) (c .before .before .args .a) (c .before .before .args .b) (c .before .before .args .next) (c .before
-    .before .args .steps) (c .before .before .args .env .now) (c .halted .result) (c .before .if1 .taken) (c .halted
+returns c = operation-spent (c .before .before .args .calls) (c .before .before .args .kind) (c .before .before .args .x) (c .before .before .args .a) (c .before .before .args .b) (c .before .before .args .next) (c .before .before .args .steps) (c .before .before .args .env .now) (c .halted .result) (c .before .if1 .taken) (c .halted
     .ensures)
 
 word-of-requires : tie.Need-word-of-requires
@@ -44,65 +42,31 @@ sub-halted c = search needs
 halted-requires-2 : tie.Need-halted-requires-2
 halted-requires-2 c κs = search needs
 
-same-length : tie.Need-same-length
-same-length c = search needs
-
 returns-2 : tie.Need-returns-2
-returns-2 c = operation-value (c .before .before .before .before .before .before .before .before .before .before
-    .before .before .before .args .calls) (c .before .before .before .before .before .before .before .before .before
-    .before .before .before .before .args .kind) (c .before .before .before .before .before .before .before .before
-    .before .before .before .before .before .args .x) (c .before .before .before .before .before .before .before
-    .before .before .before .before .before .before .args .a) (c .before .before .before .before .before .before
-    .before .before .before .before .before .before .before .args .b) (c .before .before .before .before .before
-    .before .before .before .before .before .before .before .before .args .next) (c .before .before .before .before
-    .before .before .before .before .before .before .before .before .before .args .steps) (c .before .before .before
-    .before .before .before .before .before .before .before .before .before .before .args .env .now) (c .before
-    .before .before .before .before .before .before .before .before .before .before .before .if1 .left) (c .before
-    .before .before .before .before .before .before .before .before .before .word-of .result) (c .before .before
-    .before .before .before .before .before .before .word-of2 .result) (c .before .before .before .before .before
-    .before .before .before .before .before .word-of .ensures) (c .before .before .before .before .before .before
-    .before .before .word-of2 .ensures) (c .before .before .before .before .before .before .before .operate .result)
+returns-2 c = operation-value (c .before .before .before .before .before .before .before .before .before .before .before .before .args .calls) (c .before .before .before .before .before .before .before .before .before .before .before .before .args .kind) (c .before .before .before .before .before .before .before .before .before .before .before .before .args .x) (c .before .before .before .before .before .before .before .before .before .before .before .before .args .a) (c .before .before .before .before .before .before .before .before .before .before .before .before .args .b) (c .before .before .before .before .before .before .before .before .before .before .before .before .args .next) (c .before .before .before .before .before .before .before .before .before .before .before .before .args .steps) (c .before .before .before .before .before .before .before .before .before .before .before .before .args .env .now) (c .before .before .before .before .before .before .before .before .before .before .before .if1 .left) (c .before .before .before .before .before .before .before .before .before .word-of .result) (c .before .before .before .before .before .before .before .word-of2 .result) (c .before .before .before .before .before .before .before .before .before .word-of .ensures) (c .before .before .before .before .before .before .before .word-of2 .ensures) (c .before .before .before .before .before .before .operate .result)
     (rw (
-      toZ-ofZ {z = c .before .before .before .before .before .before .before .before .before .before .word-of
+      toZ-ofZ {z = c .before .before .before .before .before .before .before .before .before .word-of
           .result} (record {
-            sfits = c .before .before .before .before .before .before .before .before .before .before
-                .word-of .ok;
+            sfits = c .before .before .before .before .before .before .before .before .before .word-of .ok;
           }),
-      toZ-ofZ {z = c .before .before .before .before .before .before .before .before .word-of2
-          .result} (record { sfits = c .before .before .before .before .before .before .before .before .word-of2 .ok }),
+      toZ-ofZ {z = c .before .before .before .before .before .before .before .word-of2
+          .result} (record { sfits = c .before .before .before .before .before .before .before .word-of2 .ok }),
     )
-    at (c .before .before .before .before .before .before .before .operate .ensures)) (c .before .before .before
-    .before .before .z .given .0 .0) (c .before .before .before .before .before .z .given .1) _ (rw (toZ-ofZ {z = c
-    .before .before .before .before .before .z .given .0 .0} (record {
-      sfits = c .before .before .before .before
-          .known-told .given .0 .1;
-    })) at (c .before .before .bind .ensures)) (c .done .result) (rw (toZ-ofZ {z = c
-    .before .before .before .before .before .z .given .0 .0} (record {
-      sfits = c .before .before .before .before
-          .known-told .given .0 .1;
+    at (c .before .before .before .before .before .before .operate .ensures)) (c .before .before .before .before .z .given .0 .0) (c .before .before .before .before .z .given .1) _ (rw (toZ-ofZ {z = c .before .before .before .before .z .given .0 .0} (record {
+      sfits = c .before .before .before .known-told .given .0 .1;
+    })) at (c .before .bind .ensures)) (c .done .result) (rw (toZ-ofZ {z = c .before .before .before .before .z .given .0 .0} (record {
+      sfits = c .before .before .before .known-told .given .0 .1;
     })) at (c .done .ensures))
-
-same-length-2 : tie.Need-same-length-2
-same-length-2 c = search needs
 
 returns-3 : tie.Need-returns-3
 returns-3 c = operation-over (c .before .before .before .before .before .before .before .before .before .args
-    .calls) (c .before .before .before .before .before .before .before .before .before .args .kind) (c .before
-    .before .before .before .before .before .before .before .before .args .x) (c .before .before .before .before
-    .before .before .before .before .before .args .a) (c .before .before .before .before .before .before .before
-    .before .before .args .b) (c .before .before .before .before .before .before .before .before .before .args
-    .next) (c .before .before .before .before .before .before .before .before .before .args .steps) (c .before
-    .before .before .before .before .before .before .before .before .args .env .now) (c .before .before .before
-    .before .before .before .before .before .if1 .left) (c .before .before .before .before .before .before .word-of
-    .result) (c .before .before .before .before .word-of2 .result) (c .before .before .before .before .before
-    .before .word-of .ensures) (c .before .before .before .before .word-of2 .ensures) (c .before .before .before
-    .operate .result) (rw (
+    .calls) (c .before .before .before .before .before .before .before .before .before .args .kind) (c .before .before .before .before .before .before .before .before .before .args .x) (c .before .before .before .before .before .before .before .before .before .args .a) (c .before .before .before .before .before .before .before .before .before .args .b) (c .before .before .before .before .before .before .before .before .before .args
+    .next) (c .before .before .before .before .before .before .before .before .before .args .steps) (c .before .before .before .before .before .before .before .before .before .args .env .now) (c .before .before .before .before .before .before .before .before .if1 .left) (c .before .before .before .before .before .before .word-of
+    .result) (c .before .before .before .before .word-of2 .result) (c .before .before .before .before .before .before .word-of .ensures) (c .before .before .before .before .word-of2 .ensures) (c .before .before .before .operate .result) (rw (
       toZ-ofZ {z = c .before .before .before .before .before .before .word-of .result} (record
           { sfits = c .before .before .before .before .before .before .word-of .ok }),
-      toZ-ofZ {z = c .before .before
-          .before .before .word-of2 .result} (record { sfits = c .before .before .before .before .word-of2 .ok }),
-    ) at (c
-    .before .before .before .operate .ensures)) (c .before .enum-told .given .1) (c .halted2 .result) (c .halted2
+      toZ-ofZ {z = c .before .before .before .before .word-of2 .result} (record { sfits = c .before .before .before .before .word-of2 .ok }),
+    ) at (c .before .before .before .operate .ensures)) (c .before .enum-told .given .1) (c .halted2 .result) (c .halted2
     .ensures)
 
 pub work-operation-spec : {M : Type 1} → statement M
@@ -121,7 +85,5 @@ work-operation-spec =
     enum-told
     sub-halted
     halted-requires-2
-    same-length
     returns-2
-    same-length-2
     returns-3)
