@@ -27,7 +27,8 @@ pub fn work_tree(
     at: usize,
 ) -> Out
     requires { ⌜ (calls < 32) × (length (now env) ≡ 8192) ⌝ }
-    ensures { λ r. ⌜ Ended (tree-on lines (call-on calls (code (now (kinds .entry)) (now (operands .entry)) (now (table .entry))))
+    ensures { λ r. ⌜ Ended (tree-on lines
+        (call-on calls (code (now (kinds .entry)) (now (operands .entry)) (now (table .entry))))
         (code (now (kinds .entry)) (now (operands .entry)) (now (table .entry))) calls f at steps
         (memory (store-of (now (slots .entry)) (now (heads .entry))) (now (env .entry))))
         steps r (now (slots .exit)) (now (heads .exit)) (now (env .exit)) ⌝ }

@@ -62,7 +62,8 @@ module _ (kinds : List ℕ) (operands : List ℤ) (calls : ℕ) (env : List ℤ)
     where
       go : (t : Bool) → word-of calls (set env q v)
           (cond t (Number (getD operands p (pos 0))) (Name (natural (getD operands p (pos 0)) % 256)))
-          ≡ word-of calls env (cond t (Number (getD operands p (pos 0))) (Name (natural (getD operands p (pos 0)) % 256)))
+          ≡ word-of calls env
+          (cond t (Number (getD operands p (pos 0))) (Name (natural (getD operands p (pos 0)) % 256)))
       go true = refl
       go false = getD-set-other env q (place calls (natural (getD operands p (pos 0)) % 256)) v (pos 0)
           (λ e. omega arith)

@@ -11,7 +11,8 @@ ghost use lib.ListN.{length, set};
 ghost use Rattle.semantics.specs.Number.{exact};
 ghost use Rattle.semantics.specs.Words.{store-of};
 ghost use Rattle.words.specs.Words.{checked};
-ghost use Rattle.machine_lines.specs.Frames.{place, word-of, words-at, Passed, Appended, branch-start, branch-end};
+ghost use Rattle.machine_lines.specs.Frames.{place, word-of, words-at, Passed, Appended};
+ghost use Rattle.machine_lines.specs.Frames.{branch-start, branch-end};
 ghost use Rattle.machine_lines.specs.Lines.{out, left, memory, operation-of, operation-line, index-line};
 ghost use Rattle.machine_lines.specs.Lines.{length-line, literal-line, leaf, Ends};
 

@@ -118,7 +118,8 @@ module _ (W : Work) (w : (at s : ℕ) (m : Memory) → Keeps m (W at s m)) where
       (λ v k. passes-keeps n at calls p from into (i + 1) (v .out .steps)
       (memory (appended into (v .out .value) (v .memory .store)) (v .memory .env)) ∙ k)
 
-  map-keeps : (c : Code) (calls f x p : ℕ) (a : Atom) (at s : ℕ) (m : Memory) → Keeps m (map-line W c calls f x p a at s m)
+  map-keeps : (c : Code) (calls f x p : ℕ) (a : Atom) (at s : ℕ) (m : Memory) →
+      Keeps m (map-line W c calls f x p a at s m)
   unfolding map-line stepping
   map-keeps c calls f x p a at zero m = refl
   map-keeps c calls f x p a at (suc s) m = go (next-cell (m .store))
@@ -149,7 +150,8 @@ module _ (W : Work) (w : (at s : ℕ) (m : Memory) → Keeps m (W at s m)) where
 
     line-keeps : (calls f at s : ℕ) (m : Memory) (l : Line) → Keeps m (line-on W C c calls f at s m l)
     unfolding line-on
-    line-keeps calls f at s m (L.Operation kind x a b) = leaf-keeps (c .kinds) (c .operands) calls at s m (L.Operation kind x a b)
+    line-keeps calls f at s m (L.Operation kind x a b) = leaf-keeps (c .kinds) (c .operands) calls at s m
+        (L.Operation kind x a b)
     line-keeps calls f at s m (L.Call x g) = call-keeps calls x g at s m
     line-keeps calls f at s m (L.Literal x d) = leaf-keeps (c .kinds) (c .operands) calls at s m (L.Literal x d)
     line-keeps calls f at s m (L.Index x a b) = leaf-keeps (c .kinds) (c .operands) calls at s m (L.Index x a b)

@@ -30,8 +30,10 @@ add-result : tie.Need-add-result Inv-loop μ-loop
 add-result c = search needs
 
 returns-2 : tie.Need-returns-2 Inv-loop μ-loop
-returns-2 c = let l = c .before .before .before .before .before .before .loop in
-    sym (l .inv .same ∙ sym (after-last (l .left) (l .trees) (l .p) (c .before .before .before .before .before .before .before .before .args .kinds .now) (c .before .before .before .before .before .loop-test .taken)
+returns-2 c =
+    let l = c .before .before .before .before .before .before .loop in
+    sym (l .inv .same ∙ sym (after-last (l .left) (l .trees) (l .p) (c .before .before .before .before .before .before
+    .before .before .args .kinds .now) (c .before .before .before .before .before .loop-test .taken)
     (c .before .before .before .before .if1 .left) (c .before .if3 .taken) (c .if4 .taken)))
 
 sub-trees : tie.Need-sub-trees Inv-loop μ-loop
@@ -41,12 +43,15 @@ trees-of-requires : tie.Need-trees-of-requires Inv-loop μ-loop
 trees-of-requires c κs = search needs
 
 add-trees : tie.Need-add-trees Inv-loop μ-loop
-add-trees c = omega (
-  arith,
-  c .before .before .before .before .before .before .loop .inv .few,
-  c .trees-of .ensures,
-  few-trees (getD (c .before .before .before .before .before .before .before .before .args .kinds .now) (c .before .before .before .before .before .before .loop .p) 0),
-)
+add-trees c =
+    let o = c .before .before .before .before .before .before .loop in
+    omega (
+      arith,
+      o .inv .few,
+      c .trees-of .ensures,
+      few-trees (getD (c .before .before .before .before .before .before
+          .before .before .args .kinds .now) (o .p) 0),
+    )
 
 add-p : tie.Need-add-p Inv-loop μ-loop
 add-p c = search needs

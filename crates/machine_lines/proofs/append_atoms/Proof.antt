@@ -7,12 +7,14 @@ use mir.Facts.{toZ-ofZ}
 use borrow.Author.Tests.{not-true, not-false}
 use borrow.Author.Needs.{needs}
 use Rattle.semantics.specs.Words.{store-of}
-use Rattle.machine_lines.proofs.Gathering.{Appending, appending-none, appending-more, appended-end, appended-full}
+use Rattle.machine_lines.proofs.Gathering.{Appending, appending-none, appending-more, appended-end}
+use Rattle.machine_lines.proofs.Gathering.{appended-full}
 use Rattle.machine_lines.proofs.append_atoms.Statement.{statement}
 use Rattle.machine_lines.proofs.append_atoms.Tie as tie
 
 abbrev Inv-loop : tie.InvT-loop
-Inv-loop kinds operands slots₀ heads₀ env calls c at n₀ slots heads n = (length slots ≡ length slots₀) × (length heads ≡ length heads₀)
+Inv-loop kinds operands slots₀ heads₀ env calls c at n₀ slots heads n =
+    (length slots ≡ length slots₀) × (length heads ≡ length heads₀)
     × Appending kinds operands calls at env c (store-of slots₀ heads₀) (store-of slots heads) n
 
 abbrev μ-loop : tie.MeasureT-loop
@@ -38,7 +40,9 @@ same-length-2 : tie.Need-same-length-2 Inv-loop μ-loop
 same-length-2 c = search needs
 
 returns : tie.Need-returns Inv-loop μ-loop
-returns c = appended-end (c .before .before .before .loop .inv .2) (sym (c .before .atom-stands .ensures) ∙ not-true (c .before .atom-stands .result) (c .if1 .taken))
+returns c =
+    appended-end (c .before .before .before .loop .inv .2) (sym (c .before .atom-stands .ensures) ∙ not-true
+    (c .before .atom-stands .result) (c .if1 .taken))
 
 add-atom-at : tie.Need-add-atom-at Inv-loop μ-loop
 add-atom-at c = search needs
@@ -59,14 +63,21 @@ loop-less : tie.Need-loop-less Inv-loop μ-loop
 loop-less c = search needs
 
 loop-again : tie.Need-loop-again Inv-loop μ-loop
-loop-again c = (
-  c .before .before .before .append .kept .0 ∙ c .before .before .before .before .before .before .before .before .before .before .before .loop .inv .0,
-  c .before .before .before .append .kept .1 .0 ∙ c .before .before .before .before .before .before .before .before .before .before .before .loop .inv .1,
-  appending-more (c .before .before .before .before .before .before .before .before .before .before .before .loop .inv .2) (c .before .before .before .before .before .before .before .before .before .before .loop-test .taken)
-      (sym (c .before .before .before .before .before .before .before .before .before .atom-stands .ensures) ∙ not-false (c .before .before .before .before .before .before .before .before .before .atom-stands .result) (c .before .before .before .before .before .before .before .before .if1 .left))
-      (c .before .before .before .before .before .before .before .atom-at .result) (c .before .before .before .before .before .before .word-of .result) (c .before .before .before .before .before .before .before .atom-at .ensures) (c .before .before .before .before .before .before .word-of .ensures) _
-      (rw (toZ-ofZ {z = c .before .before .before .before .before .before .word-of .result} (record { sfits = c .before .before .before .before .before .before .word-of .ok })) at (c .before .before .before .append .ensures)),
-)
+loop-again c =
+    let o = c .before .before .before .before .before .before .before .before .before .before .before .loop in
+    let word = c .before .before .before .before .before .before .word-of in
+    let one = c .before .before .before .append in (
+      one .kept .0 ∙ o .inv .0,
+      one .kept .1 .0 ∙ o .inv .1,
+      appending-more (o .inv .2)
+          (c .before .before .before .before .before .before .before .before .before .before .loop-test .taken) (sym
+          (c .before .before .before .before .before .before .before .before .before .atom-stands .ensures) ∙ not-false
+          (c .before .before .before .before .before .before .before .before .before .atom-stands .result)
+          (c .before .before .before .before .before .before .before .before .if1 .left))
+          (c .before .before .before .before .before .before .before .atom-at .result) (word .result)
+          (c .before .before .before .before .before .before .before .atom-at .ensures) (word .ensures) _ (rw (toZ-ofZ {z
+          = word .result} (record { sfits = word .ok })) at (one .ensures)),
+    )
 
 same-length-3 : tie.Need-same-length-3 Inv-loop μ-loop
 same-length-3 c = search needs

@@ -29,7 +29,9 @@ atom-stands-requires : tie.Need-atom-stands-requires Inv-loop μ-loop
 atom-stands-requires c κs = search needs
 
 returns : tie.Need-returns Inv-loop μ-loop
-returns c = copied-end (c .before .before .before .loop .inv) (sym (c .before .atom-stands .ensures) ∙ not-true (c .before .atom-stands .result) (c .if1 .taken))
+returns c =
+    copied-end (c .before .before .before .loop .inv) (sym (c .before .atom-stands .ensures) ∙ not-true
+    (c .before .atom-stands .result) (c .if1 .taken))
 
 add-atom-at : tie.Need-add-atom-at Inv-loop μ-loop
 add-atom-at c = search needs
@@ -47,7 +49,12 @@ mul-w : tie.Need-mul-w Inv-loop μ-loop
 mul-w c = search (needs, c .before .before .before .before .before .before .before .place .ensures)
 
 element-set-from-w : tie.Need-element-set-from-w Inv-loop μ-loop
-element-set-from-w c = search (needs, c .before .before .before .before .before .before .loop .inv .long, c .before .before .before .before .before .before .before .place .ensures)
+element-set-from-w c =
+    search (
+      needs,
+      c .before .before .before .before .before .before .loop .inv .long,
+      c .before .before .before .before .before .before .before .place .ensures,
+    )
 
 add-i : tie.Need-add-i Inv-loop μ-loop
 add-i c = search needs
@@ -56,11 +63,16 @@ loop-less : tie.Need-loop-less Inv-loop μ-loop
 loop-less c = search needs
 
 loop-again : tie.Need-loop-again Inv-loop μ-loop
-loop-again c = rw (toZ-ofZ {z = c .word-of .result} (record { sfits = c .word-of .ok }))
-    (copying-more (c .before .before .before .before .before .before .loop .inv) (c .before .before .before .before .before .loop-test .taken) (c .before .before .before .before .before .before .before .before .before .pre .1) (c .before .before .before .before .before .before .before .before .before .pre .2)
-    (sym (c .before .before .before .before .atom-stands .ensures) ∙ not-false (c .before .before .before .before .atom-stands .result) (c .before .before .before .if1 .left))
-    (c .before .before .atom-at .result) (c .word-of .result) (c .before .before .atom-at .ensures) (c .word-of .ensures)
-    (c .before .before .before .before .before .before .before .place .result + c .before .before .before .before .before .before .loop .i) (omega (arith, c .before .before .before .before .before .before .before .place .ensures)))
+loop-again c =
+    let o = c .before .before .before .before .before .before .loop in
+    rw (toZ-ofZ {z = c .word-of .result} (record { sfits = c .word-of .ok })) (copying-more (o .inv)
+    (c .before .before .before .before .before .loop-test .taken) (c .before .before .before .before .before .before
+    .before .before .before .pre .1) (c .before .before .before .before .before .before
+    .before .before .before .pre .2) (sym (c .before .before .before .before .atom-stands .ensures) ∙ not-false
+    (c .before .before .before .before .atom-stands .result) (c .before .before .before .if1 .left))
+    (c .before .before .atom-at .result) (c .word-of .result) (c .before .before .atom-at .ensures)
+    (c .word-of .ensures) (c .before .before .before .before .before .before .before .place .result + o .i) (omega
+    (arith, c .before .before .before .before .before .before .before .place .ensures)))
 
 returns-2 : tie.Need-returns-2 Inv-loop μ-loop
 returns-2 c = copied-full (c .before .loop .inv) (omega arith)

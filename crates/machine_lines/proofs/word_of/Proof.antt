@@ -25,8 +25,10 @@ element-copy-out-result : tie.Need-element-copy-out-result
 element-copy-out-result c = search needs
 
 returns : tie.Need-returns
-returns c = rw (toZ-ofZ {z = c .before .a .given .0 .0} (record { sfits = c .known-told .given .0 .1 }))
-    (ap (word-of (c .before .before .before .args .calls) (c .before .before .before .args .env .now)) (sym (c .before .a .given .1)))
+returns c =
+    let a = c .before .before .before .args in
+    rw (toZ-ofZ {z = c .before .a .given .0 .0} (record { sfits = c .known-told .given .0 .1 })) (ap (word-of (a .calls)
+    (a .env .now)) (sym (c .before .a .given .1)))
 
 returns-2 : tie.Need-returns-2
 returns-2 c = let a = c .before .before .before .before .before .args in

@@ -35,11 +35,17 @@ append-atoms-requires : tie.Need-append-atoms-requires
 append-atoms-requires c κs = search needs
 
 word-from-requires : tie.Need-word-from-requires
-word-from-requires c κs = let a = c .before .before .before .before .before .before .before .before .before .before .before .before .before .before .before .before .before .before .before .args in
+word-from-requires c κs =
+    let a = c .before .before .before .before .before .before .before .before .before .before .before .before
+    .before .before .before .before .before .before .before .args in
     omega (
       arith,
-      next-small (a .slots .now) (a .heads .now) (c .before .before .before .before .before .before .before .before .before .before .before .before .before .acquire-empty .result) (c .before .before .before .before .before .before .before .before .c .given .0 .0)
-          (c .before .before .before .before .before .before .before .before .before .before .before .before .before .acquire-empty .ensures .0) (c .before .before .before .before .before .before .before .before .c .given .1),
+      next-small (a .slots .now) (a .heads .now) (c .before .before .before .before .before .before
+          .before .before .before .before .before .before .before .acquire-empty .result)
+          (c .before .before .before .before .before .before .before .before .c .given .0 .0)
+          (c .before .before .before .before .before .before .before .before .before .before .before .before
+          .before .acquire-empty .ensures .0) (c .before .before .before .before .before .before
+          .before .before .c .given .1),
     )
 
 bind-requires : tie.Need-bind-requires
@@ -73,20 +79,40 @@ same-length-2 : tie.Need-same-length-2
 same-length-2 c = search needs
 
 returns-2 : tie.Need-returns-2
-returns-2 c = let a = c .before .before .before .before .before .before .before .before .before .before .before .before .before .before .before .before .before .before .before .before .before .before .before .args in
+returns-2 c =
+    let a = c .before .before .before .before .before .before .before .before .before .before .before .before
+    .before .before .before .before .before .before .before .before .before .before .before .args in
     let m = memory (store-of (a .slots .now) (a .heads .now)) (a .env .now) in
     let ws = words-at 16 (a .kinds .now) (a .operands .now) (a .calls) (a .env .now) (a .at + 1) in
     literal-cell (a .kinds .now) (a .operands .now) (a .calls) (a .x) (a .depth) (a .at) (a .steps) m
-    (c .before .before .before .before .before .before .before .before .before .before .before .before .before .before .before .before .before .before .before .before .if1 .left) ws refl (c .before .before .before .before .before .before .before .before .before .before .before .before .before .before .before .before .before .acquire-empty .result) (c .before .before .before .before .before .before .before .before .before .before .before .before .before .before .before .before .before .acquire-empty .ensures .0)
-    (store-of (c .before .before .before .before .before .before .before .append-atoms .last .1 .1 .0) (c .before .before .before .before .before .before .before .append-atoms .last .1 .1 .1 .0))
-    (c .before .before .before .before .before .before .before .append-atoms .ensures .store
-    ∙ ap (appended-all (c .before .before .before .before .before .before .before .before .before .before .before .before .c .given .0 .0) ws) (c .before .before .before .before .before .before .before .before .before .before .before .before .before .before .before .before .before .acquire-empty .ensures .1)
-    ∙ filled-by-appending (a .depth) (m .store) (c .before .before .before .before .before .before .before .before .before .before .before .before .c .given .0 .0) ws
-    (sym (c .before .before .before .before .before .before .before .before .before .before .before .before .c .given .1) ∙ c .before .before .before .before .before .before .before .before .before .before .before .before .before .before .before .before .before .acquire-empty .ensures .0))
-    (c .before .before .before .before .before .before .before .before .before .before .before .before .c .given .0 .0) (c .before .before .before .before .before .before .before .before .before .before .before .before .c .given .1) (c .before .before .before .word-from .result) (c .before .before .before .word-from .ensures) _
-    (rw (toZ-ofZ {z = c .before .before .before .word-from .result} (record { sfits = c .before .before .before .word-from .ok })) at (c .before .bind .ensures))
-    (c .before .before .before .before .before .before .before .append-atoms .result) (c .before .before .before .before .before .before .before .append-atoms .ensures .count) (c .done .result)
-    (rw (toZ-ofZ {z = c .before .before .before .word-from .result} (record { sfits = c .before .before .before .word-from .ok })) at (c .done .ensures))
+    (c .before .before .before .before .before .before .before .before .before .before .before .before
+    .before .before .before .before .before .before .before .before .if1 .left) ws refl
+    (c .before .before .before .before .before .before .before .before .before .before .before .before
+    .before .before .before .before .before .acquire-empty .result)
+    (c .before .before .before .before .before .before .before .before .before .before .before .before
+    .before .before .before .before .before .acquire-empty .ensures .0) (store-of
+    (c .before .before .before .before .before .before .before .append-atoms .last .1 .1 .0)
+    (c .before .before .before .before .before .before .before .append-atoms .last .1 .1 .1 .0))
+    (c .before .before .before .before .before .before .before .append-atoms .ensures .store ∙ ap (appended-all
+    (c .before .before .before .before .before .before .before .before .before .before .before .before
+    .c .given .0 .0) ws) (c .before .before .before .before .before .before
+    .before .before .before .before .before .before .before .before .before .before .before .acquire-empty
+    .ensures .1) ∙ filled-by-appending (a .depth) (m .store) (c .before .before .before .before .before .before
+    .before .before .before .before .before .before .c .given .0 .0) ws (sym
+    (c .before .before .before .before .before .before .before .before .before .before .before .before .c .given .1)
+    ∙ c .before .before .before .before .before .before .before .before .before .before .before .before
+    .before .before .before .before .before .acquire-empty .ensures .0))
+    (c .before .before .before .before .before .before .before .before .before .before .before .before
+    .c .given .0 .0) (c .before .before .before .before .before .before
+    .before .before .before .before .before .before .c .given .1) (c .before .before .before .word-from .result)
+    (c .before .before .before .word-from .ensures) _ (rw (toZ-ofZ {z =
+    c .before .before .before .word-from .result} (record { sfits = c .before .before .before .word-from .ok })) at
+    (c .before .bind .ensures)) (c .before .before .before .before .before .before .before .append-atoms .result)
+    (c .before .before .before .before .before .before .before .append-atoms .ensures .count) (c .done .result) (rw
+    (toZ-ofZ {z = c .before .before .before .word-from .result} (record {
+      sfits =
+          c .before .before .before .word-from .ok;
+    })) at (c .done .ensures))
 
 same-length-3 : tie.Need-same-length-3
 same-length-3 c = search needs
@@ -95,15 +121,19 @@ same-length-4 : tie.Need-same-length-4
 same-length-4 c = search needs
 
 returns-3 : tie.Need-returns-3
-returns-3 c = let a = c .before .before .before .before .before .before .before .before .before .before .before .before .args in
+returns-3 c =
+    let a = c .before .before .before .before .before .before .before .before .before .before .before .before .args in
     let m = memory (store-of (a .slots .now) (a .heads .now)) (a .env .now) in
     let ws = words-at 16 (a .kinds .now) (a .operands .now) (a .calls) (a .env .now) (a .at + 1) in
     literal-none (a .kinds .now) (a .operands .now) (a .calls) (a .x) (a .depth) (a .at) (a .steps) m
-    (c .before .before .before .before .before .before .before .before .before .if1 .left) ws refl (c .before .before .before .before .before .before .acquire-empty .result) (c .before .before .before .before .before .before .acquire-empty .ensures .0)
-    (store-of (c .before .before .before .before .before .before .acquire-empty .last .0) (c .before .before .before .before .before .before .acquire-empty .last .1 .0))
-    (c .before .before .before .before .before .before .acquire-empty .ensures .1 ∙ none-given (a .depth) (m .store) ws
-    (sym (c .before .enum-told .given .1) ∙ c .before .before .before .before .before .before .acquire-empty .ensures .0))
-    (c .before .enum-told .given .1) (c .halted2 .result) (c .halted2 .ensures)
+    (c .before .before .before .before .before .before .before .before .before .if1 .left) ws refl
+    (c .before .before .before .before .before .before .acquire-empty .result)
+    (c .before .before .before .before .before .before .acquire-empty .ensures .0) (store-of
+    (c .before .before .before .before .before .before .acquire-empty .last .0)
+    (c .before .before .before .before .before .before .acquire-empty .last .1 .0))
+    (c .before .before .before .before .before .before .acquire-empty .ensures .1 ∙ none-given (a .depth) (m .store)
+    ws (sym (c .before .enum-told .given .1) ∙ c .before .before .before .before .before .before
+    .acquire-empty .ensures .0)) (c .before .enum-told .given .1) (c .halted2 .result) (c .halted2 .ensures)
 
 pub work-literal-spec : {M : Type 1} → statement M
 work-literal-spec =

@@ -27,13 +27,18 @@ same-length-2 c = search needs
 
 returns : tie.Need-returns
 returns c =
-    let a = c .before .before .before .before .before .before .before .before .before .before .before .before .before .before .before .before .args in
+    let a = c .before .before .before .before .before .before .before .before .before .before .before .before
+    .before .before .before .before .args in
     let σ = store-of (a .slots .now) (a .heads .now) in
-    let e = sym (c .before .before .before .before .before .before .before .c .given .1) ∙ c .before .before .before .before .before .before .before .before .before .before .before .before .acquire-empty .ensures .0 in (
+    let e = sym (c .before .before .before .before .before .before .before .c .given .1) ∙
+    c .before .before .before .before .before .before .before .before .before .before .before .before
+    .acquire-empty .ensures .0 in (
       e,
-      c .before .before .before .append-all .ensures
-          ∙ ap (appended-all (c .before .before .before .before .before .before .before .c .given .0 .0) (a .words .now)) (c .before .before .before .before .before .before .before .before .before .before .before .before .acquire-empty .ensures .1)
-          ∙ filled-by-appending (a .depth) σ (c .before .before .before .before .before .before .before .c .given .0 .0) (a .words .now) e,
+      c .before .before .before .append-all .ensures ∙ ap (appended-all
+          (c .before .before .before .before .before .before .before .c .given .0 .0) (a .words .now))
+          (c .before .before .before .before .before .before .before .before .before .before .before .before
+          .acquire-empty .ensures .1) ∙ filled-by-appending (a .depth) σ
+          (c .before .before .before .before .before .before .before .c .given .0 .0) (a .words .now) e,
     )
 
 same-length-3 : tie.Need-same-length-3
@@ -46,8 +51,11 @@ returns-2 : tie.Need-returns-2
 returns-2 c =
     let a = c .before .before .before .before .before .before .before .before .before .args in
     let σ = store-of (a .slots .now) (a .heads .now) in
-    let e = sym (c .enum-told .given .1) ∙ c .before .before .before .before .before .acquire-empty .ensures .0 in
-    (e, c .before .before .before .before .before .acquire-empty .ensures .1 ∙ none-given (a .depth) σ (a .words .now) e)
+    let e = sym (c .enum-told .given .1) ∙ c .before .before .before .before .before .acquire-empty .ensures .0 in (
+      e,
+      c .before .before .before .before .before .acquire-empty .ensures .1 ∙ none-given (a .depth) σ (a .words .now)
+          e,
+    )
 
 pub acquire-spec : {M : Type 1} → statement M
 acquire-spec =

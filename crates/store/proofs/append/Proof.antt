@@ -40,7 +40,8 @@ mul-w-2 : tie.Need-mul-w-2
 mul-w-2 c = search (needs, c .before .before .before .is-cell .ensures .there (c .before .before .if1 .taken))
 
 slice-set-from-w : tie.Need-slice-set-from-w
-slice-set-from-w c = search (needs, c .before .before .before .is-cell .ensures .there (c .before .before .if1 .taken))
+slice-set-from-w c =
+    search (needs, c .before .before .before .is-cell .ensures .there (c .before .before .if1 .taken))
 
 add-heads : tie.Need-add-heads
 add-heads c = search needs
@@ -55,7 +56,8 @@ mul-heads-2 : tie.Need-mul-heads-2
 mul-heads-2 c = search (needs, c .before .before .before .is-cell .ensures .there (c .before .before .if1 .taken))
 
 slice-write-heads : tie.Need-slice-write-heads
-slice-write-heads c = search (needs, c .before .before .before .is-cell .ensures .there (c .before .before .if1 .taken))
+slice-write-heads c =
+    search (needs, c .before .before .before .is-cell .ensures .there (c .before .before .if1 .taken))
 
 same-length : tie.Need-same-length
 same-length c = search needs
@@ -64,9 +66,18 @@ same-length-2 : tie.Need-same-length-2
 same-length-2 c = search needs
 
 returns : tie.Need-returns
-returns c = let a = c .before .before .before .before .before .before .before .args in
-    rw (toZ-ofZ {z = a .w} (c .before .before .before .before .before .before .before .fits .w))
-    (append-one (a .slots .now) (a .heads .now) (a .c) (a .w) (omega (arith, c .before .before .before .is-cell .ensures .there (c .before .before .if1 .taken))) (omega (arith, c .before .before .before .is-cell .ensures .there (c .before .before .if1 .taken))))
+returns c =
+    let a = c .before .before .before .before .before .before .before .args in
+    rw (toZ-ofZ {z = a .w} (c .before .before .before .before .before .before .before .fits .w)) (append-one
+    (a .slots .now) (a .heads .now) (a .c) (a .w) (omega (
+      arith,
+      c .before .before .before .is-cell .ensures .there
+          (c .before .before .if1 .taken),
+    )) (omega (
+      arith,
+      c .before .before .before .is-cell .ensures .there
+          (c .before .before .if1 .taken),
+    )))
 
 same-length-3 : tie.Need-same-length-3
 same-length-3 c = search needs
@@ -77,7 +88,13 @@ same-length-4 c = search needs
 returns-2 : tie.Need-returns-2
 returns-2 c =
     let a = c .before .before .before .before .before .before .before .args in
-    append-full (a .slots .now) (a .heads .now) (a .c) (a .w) (omega (arith, c .before .before .before .is-cell .ensures .there (c .before .before .if1 .taken))) (omega (arith, c .before .before .before .is-cell .ensures .there (c .before .before .if1 .taken)))
+    append-full (a .slots .now) (a .heads .now) (a .c) (a .w) (omega (
+      arith,
+      c .before .before .before .is-cell .ensures .there (c .before .before .if1 .taken),
+    )) (omega (
+      arith,
+      c .before .before .before .is-cell .ensures .there (c .before .before .if1 .taken),
+    ))
 
 same-length-5 : tie.Need-same-length-5
 same-length-5 c = search needs
@@ -88,7 +105,11 @@ same-length-6 c = search needs
 returns-3 : tie.Need-returns-3
 returns-3 c =
     let a = c .before .before .before .before .before .args in
-    append-out (a .slots .now) (a .heads .now) (a .c) (a .w) (omega (arith, c .before .is-cell .ensures .gone (c .if1 .left)))
+    append-out (a .slots .now) (a .heads .now) (a .c) (a .w) (omega (
+      arith,
+      c .before .is-cell .ensures .gone
+          (c .if1 .left),
+    ))
 
 pub append-spec : {M : Type 1} → statement M
 append-spec =

@@ -44,12 +44,17 @@ loop-again c =
     let i = c .before .before .before .before .before .before .before .before .loop .i in
     let w = getD (a .words .now) i (pos 0) in (
       omega arith,
-      c .before .before .before .append .kept .0 ∙ c .before .before .before .before .before .before .before .before .loop .inv .1,
-      c .before .before .before .append .kept .1 .0 ∙ c .before .before .before .before .before .before .before .before .loop .inv .2,
-      c .before .before .before .before .before .before .before .before .loop .inv .3
-          ∙ appended-next (a .c) (a .words .now) i w _ (c .before .before .before .before .before .before .before .loop-test .taken) refl
-          ∙ ap (appended-all (a .c) (drop (i + 1) (a .words .now)))
-          (sym (rw (toZ-ofZ {z = w} (record { sfits = c .before .before .before .before .before .before .w .given })) at (c .before .before .before .append .ensures))),
+      c .before .before .before .append .kept .0 ∙ c .before .before .before .before .before .before
+          .before .before .loop .inv .1,
+      c .before .before .before .append .kept .1 .0 ∙
+          c .before .before .before .before .before .before .before .before .loop .inv .2,
+      c .before .before .before .before .before .before .before .before .loop .inv .3 ∙ appended-next (a .c)
+          (a .words .now) i w _ (c .before .before .before .before .before .before .before .loop-test .taken) refl ∙ ap
+          (appended-all (a .c) (drop (i + 1) (a .words .now))) (sym (rw (toZ-ofZ {z = w} (record {
+            sfits =
+                c .before .before .before .before .before .before .w .given;
+          })) at
+          (c .before .before .before .append .ensures))),
     )
 
 same-length : tie.Need-same-length Inv-loop μ-loop

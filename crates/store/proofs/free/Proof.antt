@@ -32,9 +32,8 @@ same-length c = search needs
 
 same-length-2 : tie.Need-same-length-2
 same-length-2 c =
-    c .before .before .before .before .before .write-head .kept .0
-    ∙ length-set (c .before .before .before .before .before .before .before .before .before .args .heads
-    .now) 0 _
+    c .before .before .before .before .before .write-head .kept .0 ∙ length-set
+    (c .before .before .before .before .before .before .before .before .before .args .heads .now) 0 _
 
 returns : tie.Need-returns
 returns c = freed-store

@@ -36,7 +36,8 @@ mul-heads-2 : tie.Need-mul-heads-2
 mul-heads-2 c = search (needs, c .before .before .before .is-cell .ensures .there (c .before .before .if1 .taken))
 
 slice-write-heads : tie.Need-slice-write-heads
-slice-write-heads c = search (needs, c .before .before .before .is-cell .ensures .there (c .before .before .if1 .taken))
+slice-write-heads c =
+    search (needs, c .before .before .before .is-cell .ensures .there (c .before .before .if1 .taken))
 
 same-length : tie.Need-same-length
 same-length c = search needs
@@ -44,7 +45,15 @@ same-length c = search needs
 returns : tie.Need-returns
 returns c =
     let a = c .before .before .before .before .before .before .args in
-    retain-one (a .slots .now) (a .heads .now) (a .c) (omega (arith, c .before .before .before .is-cell .ensures .there (c .before .before .if1 .taken))) (omega (arith, c .before .before .before .is-cell .ensures .there (c .before .before .if1 .taken)))
+    retain-one (a .slots .now) (a .heads .now) (a .c) (omega (
+      arith,
+      c .before .before .before .is-cell .ensures .there
+          (c .before .before .if1 .taken),
+    )) (omega (
+      arith,
+      c .before .before .before .is-cell .ensures .there
+          (c .before .before .if1 .taken),
+    ))
 
 same-length-2 : tie.Need-same-length-2
 same-length-2 c = search needs
@@ -52,7 +61,15 @@ same-length-2 c = search needs
 returns-2 : tie.Need-returns-2
 returns-2 c =
     let a = c .before .before .before .before .before .before .args in
-    retain-full (a .slots .now) (a .heads .now) (a .c) (omega (arith, c .before .before .before .is-cell .ensures .there (c .before .before .if1 .taken))) (omega (arith, c .before .before .before .is-cell .ensures .there (c .before .before .if1 .taken)))
+    retain-full (a .slots .now) (a .heads .now) (a .c) (omega (
+      arith,
+      c .before .before .before .is-cell .ensures .there
+          (c .before .before .if1 .taken),
+    )) (omega (
+      arith,
+      c .before .before .before .is-cell .ensures .there
+          (c .before .before .if1 .taken),
+    ))
 
 same-length-3 : tie.Need-same-length-3
 same-length-3 c = search needs

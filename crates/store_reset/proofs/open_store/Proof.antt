@@ -48,11 +48,11 @@ returns : tie.Need-returns
 returns c =
     let a = c .before .before .before .before .before .before .before .before .before .before .before .before
     .before .before .before .before .before .before .before .args in
-    open-flat (cells-in (a .slots .now) (a .heads .now)) (a .depth) (c .if1 .taken)
-    (zeros-hold (a .slots .now) (a .heads .now) (c .before .before .before .before .before .before .before .before
-    .before .before .before .before .before .before .copy-slots .ensures) (c .before .before .before .before
-    .before .before .before .before .before .copy-heads .ensures)) (c .before .before .before .before .relink
-    .ensures)
+    open-flat (cells-in (a .slots .now) (a .heads .now)) (a .depth) (c .if1 .taken) (zeros-hold (a .slots .now)
+    (a .heads .now) (c .before .before .before .before .before .before
+    .before .before .before .before .before .before .before .before .copy-slots .ensures)
+    (c .before .before .before .before .before .before .before .before .before .copy-heads .ensures))
+    (c .before .before .before .before .relink .ensures)
 
 sub-acquire-empty : tie.Need-sub-acquire-empty
 sub-acquire-empty c = search needs
@@ -68,10 +68,15 @@ same-length-4 c = search needs
 
 returns-2 : tie.Need-returns-2
 returns-2 c =
-    let a = c .before .before .before .before .before .before .before .before .before .before .before .before .before .before .before .before .before .before .before .before .before .before .before .before .before .args in
-    open-deep (cells-in (a .slots .now) (a .heads .now)) (a .depth) (c .before .before .before .before .before .before .if1 .left)
-    (zeros-hold (a .slots .now) (a .heads .now) (c .before .before .before .before .before .before .before .before .before .before .before .before .before .before .before .before .before .before .before .before .copy-slots .ensures) (c .before .before .before .before .before .before .before .before .before .before .before .before .before .before .before .copy-heads .ensures))
-    (c .before .before .before .before .before .before .before .before .before .before .relink .ensures) (c .before .before .before .acquire-empty .ensures .1)
+    let a = c .before .before .before .before .before .before .before .before .before .before .before .before
+    .before .before .before .before .before .before .before .before .before .before .before .before .before .args in
+    open-deep (cells-in (a .slots .now) (a .heads .now)) (a .depth) (c .before .before .before .before .before .before
+    .if1 .left) (zeros-hold (a .slots .now) (a .heads .now) (c .before .before .before .before .before .before
+    .before .before .before .before .before .before .before .before .before .before .before .before
+    .before .before .copy-slots .ensures) (c .before .before .before .before .before .before
+    .before .before .before .before .before .before .before .before .before .copy-heads .ensures))
+    (c .before .before .before .before .before .before .before .before .before .before .relink .ensures)
+    (c .before .before .before .acquire-empty .ensures .1)
 
 pub open-store-spec : {M : Type 1} → statement M
 open-store-spec =

@@ -45,11 +45,9 @@ same-length-2 c = search needs
 returns-2 : tie.Need-returns-2
 returns-2 c =
     let a = c .before .before .before .before .before .before .before .before .before .before .args in
-    link-free (a .slots .now) (a .heads .now) (a .c) (a .head)
-    (to-cells _ _ _ (omega arith) (omega arith) (omega arith))
-    (c .before .before .before .before .before .before .before .if1 .left)
-    (c .before .clear-slots .kept .0) (c .before .clear-slots .ensures)
-    (c .before .before .before .before .before .write-head .ensures)
+    link-free (a .slots .now) (a .heads .now) (a .c) (a .head) (to-cells _ _ _ (omega arith) (omega arith) (omega
+    arith)) (c .before .before .before .before .before .before .before .if1 .left) (c .before .clear-slots .kept .0)
+    (c .before .clear-slots .ensures) (c .before .before .before .before .before .write-head .ensures)
 
 pub relink-cell-spec : {M : Type 1} → statement M
 relink-cell-spec =

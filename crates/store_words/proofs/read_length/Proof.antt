@@ -16,19 +16,30 @@ is-cell-requires : tie.Need-is-cell-requires
 is-cell-requires c κs = search needs
 
 returns : tie.Need-returns
-returns c = let a = c .before .before .before .args in length-out (a .slots .now) (a .heads .now) (a .c) (omega (arith, c .before .is-cell .ensures .gone (not-true (c .before .is-cell .result) (c .if1 .taken))))
+returns c =
+    let a = c .before .before .before .args in
+    length-out (a .slots .now) (a .heads .now) (a .c) (omega (
+      arith,
+      c .before .is-cell .ensures .gone (not-true
+          (c .before .is-cell .result) (c .if1 .taken)),
+    ))
 
 mul-at-most : tie.Need-mul-at-most
-mul-at-most c = search (needs, c .before .is-cell .ensures .there (not-false (c .before .is-cell .result) (c .if1 .left)))
+mul-at-most c =
+    search (needs, c .before .is-cell .ensures .there (not-false (c .before .is-cell .result) (c .if1 .left)))
 
 add-at-most : tie.Need-add-at-most
-add-at-most c = search (needs, c .before .is-cell .ensures .there (not-false (c .before .is-cell .result) (c .if1 .left)))
+add-at-most c =
+    search (needs, c .before .is-cell .ensures .there (not-false (c .before .is-cell .result) (c .if1 .left)))
 
 mul-at-most-2 : tie.Need-mul-at-most-2
-mul-at-most-2 c = search (needs, c .before .is-cell .ensures .there (not-false (c .before .is-cell .result) (c .if1 .left)))
+mul-at-most-2 c =
+    search (needs, c .before .is-cell .ensures .there (not-false (c .before .is-cell .result) (c .if1 .left)))
 
 shared-slice-read-at-most : tie.Need-shared-slice-read-at-most
-shared-slice-read-at-most c = search (needs, c .before .before .is-cell .ensures .there (not-false (c .before .before .is-cell .result) (c .before .if1 .left)))
+shared-slice-read-at-most c =
+    let there = c .before .before .is-cell in
+    search (needs, there .ensures .there (not-false (there .result) (c .before .if1 .left)))
 
 cast-at-most : tie.Need-cast-at-most
 cast-at-most c =
@@ -46,7 +57,11 @@ at-most-requires c κs = search needs
 returns-2 : tie.Need-returns-2
 returns-2 c =
     let a = c .before .before .before .before .before .args in
-    c .at-most .ensures ∙ length-in (a .slots .now) (a .heads .now) (a .c) (omega (arith, c .before .before .before .is-cell .ensures .there (not-false (c .before .before .before .is-cell .result) (c .before .before .if1 .left))))
+    c .at-most .ensures ∙ length-in (a .slots .now) (a .heads .now) (a .c) (omega (
+      arith,
+      c .before .before .before .is-cell .ensures .there (not-false (c .before .before .before .is-cell .result)
+          (c .before .before .if1 .left)),
+    ))
 
 pub read-length-spec : {M : Type 1} → statement M
 read-length-spec =

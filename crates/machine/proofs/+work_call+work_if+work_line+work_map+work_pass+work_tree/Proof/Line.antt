@@ -47,15 +47,16 @@ pub work-line-same-length-2 : (t : ℕ) → work-line-lts.Need-same-length-2 (wo
 work-line-same-length-2 t c = search needs
 
 pub work-line-returns : (t : ℕ) → work-line-lts.Need-returns (work-line-claims t) (work-line-at t) work-line.Post
-work-line-returns t c = let a = c .before .before .before .before .before .before .before .before .before .before
-    .before .before .before .args in
+work-line-returns t c =
+    let a = c .before .before .before .before .before .before .before .before .before .before .before .before
+    .before .args in
     let k = code (a .kinds .now) (a .operands .now) (a .table .now) in
-    let line = c .before .before .before .before .before .before .before .before .l in
+    let read = c .before .before .before .before .before .before .before .before .l in
     let branch = c .before .before .before .work-if in
-    line-if (tree-on (a .lines) (call-on (a .calls) k) k (a .calls) (a .f)) (call-on (a .calls) k) k (a .calls) (a
-    .f) (a .at) (a .steps) (a .slots .now) (a .heads .now) (a .env .now) (a .l) (branch .result) (branch .last .1 .1
-    .1 .0) (branch .last .1 .1 .1 .1 .0) (branch .last .1 .1 .1 .1 .1 .0) (line .given .0 .0) (line .given .0 .1 .0)
-    (line .given .1) (branch .ensures)
+    line-if (tree-on (a .lines) (call-on (a .calls) k) k (a .calls) (a .f)) (call-on (a .calls) k) k (a .calls) (a .f)
+    (a .at) (a .steps) (a .slots .now) (a .heads .now) (a .env .now) (a .l) (branch .result)
+    (branch .last .1 .1 .1 .0) (branch .last .1 .1 .1 .1 .0) (branch .last .1 .1 .1 .1 .1 .0) (read .given .0 .0)
+    (read .given .0 .1 .0) (read .given .1) (branch .ensures)
 
 pub work-line-same-length-3 : (t : ℕ) → work-line-lts.Need-same-length-3 (work-line-claims t) (work-line-at t)
     work-line.Post
@@ -66,16 +67,18 @@ pub work-line-same-length-4 : (t : ℕ) → work-line-lts.Need-same-length-4 (wo
 work-line-same-length-4 t c = search needs
 
 pub work-line-returns-2 : (t : ℕ) → work-line-lts.Need-returns-2 (work-line-claims t) (work-line-at t) work-line.Post
-work-line-returns-2 t c = let a = c .before .before .before .before .before .before .before .before .before .before
-    .before .before .before .args in
+work-line-returns-2 t c =
+    let a = c .before .before .before .before .before .before .before .before .before .before .before .before
+    .before .args in
     let k = code (a .kinds .now) (a .operands .now) (a .table .now) in
     let called = c .before .before .before .work-call in
     line-call (tree-on (a .lines) (call-on (a .calls) k) k (a .calls) (a .f)) (call-on (a .calls) k) k (a .calls) (a
-    .f) (a .at) (a .steps) (a .slots .now) (a .heads .now) (a .env .now) (a .l) (called .result) (called .last .1 .1
-    .1 .0) (called .last .1 .1 .1 .1 .0) (called .last .1 .1 .1 .1 .1 .0) (c .before .before .before .before .before
-    .before .before .before .l2 .given .0 .0) (c .before .before .before .before .before .before .before .before .l2
-    .given .0 .1 .0) (c .before .before .before .before .before .before .before .before .l2 .given .1) (called
-    .ensures)
+    .f)
+    (a .at) (a .steps) (a .slots .now) (a .heads .now) (a .env .now) (a .l) (called .result)
+    (called .last .1 .1 .1 .0) (called .last .1 .1 .1 .1 .0) (called .last .1 .1 .1 .1 .1 .0)
+    (c .before .before .before .before .before .before .before .before .l2 .given .0 .0)
+    (c .before .before .before .before .before .before .before .before .l2 .given .0 .1 .0)
+    (c .before .before .before .before .before .before .before .before .l2 .given .1) (called .ensures)
 
 pub work-line-same-length-5 : (t : ℕ) → work-line-lts.Need-same-length-5 (work-line-claims t) (work-line-at t)
     work-line.Post
@@ -86,16 +89,19 @@ pub work-line-same-length-6 : (t : ℕ) → work-line-lts.Need-same-length-6 (wo
 work-line-same-length-6 t c = search needs
 
 pub work-line-returns-3 : (t : ℕ) → work-line-lts.Need-returns-3 (work-line-claims t) (work-line-at t) work-line.Post
-work-line-returns-3 t c = let a = c .before .before .before .before .before .before .before .before .before .before
-    .before .before .before .args in
+work-line-returns-3 t c =
+    let a = c .before .before .before .before .before .before .before .before .before .before .before .before
+    .before .args in
     let k = code (a .kinds .now) (a .operands .now) (a .table .now) in
     let mapped = c .before .before .before .work-map in
     line-map (tree-on (a .lines) (call-on (a .calls) k) k (a .calls) (a .f)) (call-on (a .calls) k) k (a .calls) (a
-    .f) (a .at) (a .steps) (a .slots .now) (a .heads .now) (a .env .now) (a .l) (mapped .result) (mapped .last .1 .1
-    .1 .0) (mapped .last .1 .1 .1 .1 .0) (mapped .last .1 .1 .1 .1 .1 .0) (c .before .before .before .before .before
-    .before .before .before .l3 .given .0 .0) (c .before .before .before .before .before .before .before .before .l3
-    .given .0 .1 .0) (c .before .before .before .before .before .before .before .before .l3 .given .0 .1 .1 .0) (c
-    .before .before .before .before .before .before .before .before .l3 .given .1) (mapped .ensures)
+    .f)
+    (a .at) (a .steps) (a .slots .now) (a .heads .now) (a .env .now) (a .l) (mapped .result)
+    (mapped .last .1 .1 .1 .0) (mapped .last .1 .1 .1 .1 .0) (mapped .last .1 .1 .1 .1 .1 .0)
+    (c .before .before .before .before .before .before .before .before .l3 .given .0 .0)
+    (c .before .before .before .before .before .before .before .before .l3 .given .0 .1 .0)
+    (c .before .before .before .before .before .before .before .before .l3 .given .0 .1 .1 .0)
+    (c .before .before .before .before .before .before .before .before .l3 .given .1) (mapped .ensures)
 
 pub work-line-same-length-7 : (t : ℕ) → work-line-lts.Need-same-length-7 (work-line-claims t) (work-line-at t)
     work-line.Post
@@ -106,11 +112,12 @@ pub work-line-same-length-8 : (t : ℕ) → work-line-lts.Need-same-length-8 (wo
 work-line-same-length-8 t c = search needs
 
 pub work-line-returns-4 : (t : ℕ) → work-line-lts.Need-returns-4 (work-line-claims t) (work-line-at t) work-line.Post
-work-line-returns-4 t c = let a = c .before .before .before .before .before .before .before .before .before .before
-    .before .args in
+work-line-returns-4 t c =
+    let a = c .before .before .before .before .before .before .before .before .before .before .before .args in
     let k = code (a .kinds .now) (a .operands .now) (a .table .now) in
     let leaf = c .before .before .before .work-leaf in
     line-leaf (tree-on (a .lines) (call-on (a .calls) k) k (a .calls) (a .f)) (call-on (a .calls) k) k (a .calls) (a
-    .f) (a .at) (a .steps) (a .slots .now) (a .heads .now) (a .env .now) (a .l) (leaf .result) (leaf .last .1 .1 .0)
-    (leaf .last .1 .1 .1 .0) (leaf .last .1 .1 .1 .1 .0) (c .before .before .before .before .before .before .before
-    .match .keys4) (leaf .ensures)
+    .f)
+    (a .at) (a .steps) (a .slots .now) (a .heads .now) (a .env .now) (a .l) (leaf .result) (leaf .last .1 .1 .0)
+    (leaf .last .1 .1 .1 .0) (leaf .last .1 .1 .1 .1 .0) (c .before .before .before .before .before .before
+    .before .match .keys4) (leaf .ensures)

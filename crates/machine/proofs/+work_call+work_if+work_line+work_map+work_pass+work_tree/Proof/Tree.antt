@@ -30,10 +30,11 @@ work-tree-μ-loop kinds operands table slots₀ heads₀ env₀ steps lines call
 pub work-tree-loop-holds : (t : ℕ) → work-tree-lts.Need-loop-holds (work-tree-claims t) (work-tree-at t)
     work-tree.Post
     work-tree-Inv-loop work-tree-μ-loop
-work-tree-loop-holds t c = let a = c .before .before .before .args in
+work-tree-loop-holds t c =
+    let a = c .before .before .before .args in
     let k = code (a .kinds .now) (a .operands .now) (a .table .now) in
-    working-starts (call-on (a .calls) k) k (a .calls) (a .f) (a .lines) (a .at) (a .steps) (a .slots .now) (a
-    .heads .now) (a .env .now)
+    working-starts (call-on (a .calls) k) k (a .calls) (a .f) (a .lines) (a .at) (a .steps) (a .slots .now)
+    (a .heads .now) (a .env .now)
 
 pub work-tree-halted-requires : (t : ℕ) → work-tree-lts.Need-halted-requires (work-tree-claims t) (work-tree-at t)
     work-tree.Post work-tree-Inv-loop work-tree-μ-loop
@@ -86,16 +87,16 @@ work-tree-same-length-4 t c = search needs
 
 pub work-tree-returns-2 : (t : ℕ) → work-tree-lts.Need-returns-2 (work-tree-claims t) (work-tree-at t) work-tree.Post
     work-tree-Inv-loop work-tree-μ-loop
-work-tree-returns-2 t c = let a = c .before .before .before .before .before .before .before .before .before .before
-    .before .before .args in
+work-tree-returns-2 t c =
+    let a = c .before .before .before .before .before .before .before .before .before .before .before .before .args in
     let atom = c .before .before .before .atom-at in
-    tree-closed (c .before .before .before .before .before .before .before .before .loop .inv) (L.End (atom
-    .result)) (c .before .before .before .before .before .before .before .loop-test .taken) (c .before .before
-    .before .before .before .before .if1 .left)
-    (end-here (a .kinds .now) (a .operands .now) (c .before .before .before .before .before .before .before .before
-    .loop .p) (atom .result) (c .before .before .before .before .if2 .taken) (atom .ensures))
-    (atom .result) refl (c .before .word-of .result) (c .before .word-of .ensures) (c .done .result)
-    (rw (toZ-ofZ {z = c .before .word-of .result} (record { sfits = c .before .word-of .ok })) at (c .done .ensures))
+    tree-closed (c .before .before .before .before .before .before .before .before .loop .inv) (L.End (atom .result))
+    (c .before .before .before .before .before .before .before .loop-test .taken)
+    (c .before .before .before .before .before .before .if1 .left) (end-here (a .kinds .now) (a .operands .now)
+    (c .before .before .before .before .before .before .before .before .loop .p) (atom .result)
+    (c .before .before .before .before .if2 .taken) (atom .ensures)) (atom .result) refl
+    (c .before .word-of .result) (c .before .word-of .ensures) (c .done .result) (rw (toZ-ofZ {z =
+    c .before .word-of .result} (record { sfits = c .before .word-of .ok })) at (c .done .ensures))
 
 pub work-tree-line-at-requires : (t : ℕ) → work-tree-lts.Need-line-at-requires (work-tree-claims t) (work-tree-at t)
     work-tree.Post work-tree-Inv-loop work-tree-μ-loop
@@ -120,17 +121,18 @@ work-tree-same-length-6 t c = search needs
 
 pub work-tree-returns-3 : (t : ℕ) → work-tree-lts.Need-returns-3 (work-tree-claims t) (work-tree-at t) work-tree.Post
     work-tree-Inv-loop work-tree-μ-loop
-work-tree-returns-3 t c = let a = c .before .before .before .before .before .before .before .before .before .before
-    .before .before .before .before .before .before .before .args in
+work-tree-returns-3 t c =
+    let a = c .before .before .before .before .before .before .before .before .before .before .before .before
+    .before .before .before .before .before .args in
     let w = c .before .before .before .before .work-line in
     let l = c .before .before .before .before .before .before .before .before .line-at in
     tree-stops (c .before .before .before .before .before .before .before .before .before .before .before .before
-    .before .loop .inv) (l .result) (c .before .before .before .before .before .before .before .before .before
-    .before .before .before .loop-test .taken) (c .before .before .before .before .before .before .before .before
-    .before .before .before .if1 .left) (l .ensures)
-    (not-end (a .kinds .now) (a .operands .now) (c .before .before .before .before .before .before .before .before
-    .before .before .before .before .before .loop .p) (l .result) (c .before .before .before .before .before .before
-    .before .before .before .if2 .left) (l .ensures)) (w .result)
+    .before .loop .inv) (l .result) (c .before .before .before .before .before .before
+    .before .before .before .before .before .before .loop-test .taken)
+    (c .before .before .before .before .before .before .before .before .before .before .before .if1 .left)
+    (l .ensures) (not-end (a .kinds .now) (a .operands .now) (c .before .before .before .before .before .before
+    .before .before .before .before .before .before .before .loop .p) (l .result)
+    (c .before .before .before .before .before .before .before .before .before .if2 .left) (l .ensures)) (w .result)
     (w .last .1 .1 .1 .0) (w .last .1 .1 .1 .1 .0) (w .last .1 .1 .1 .1 .1 .0) (w .ensures) (c .if3 .taken)
 
 pub work-tree-sub-left : (t : ℕ) → work-tree-lts.Need-sub-left (work-tree-claims t) (work-tree-at t) work-tree.Post
@@ -144,25 +146,26 @@ work-tree-loop-less t c = search needs
 pub work-tree-loop-again : (t : ℕ) → work-tree-lts.Need-loop-again (work-tree-claims t) (work-tree-at t)
     work-tree.Post
     work-tree-Inv-loop work-tree-μ-loop
-work-tree-loop-again t c = let a = c .before .before .before .before .before .before .before .before .before .before
-    .before .before .before .before .before .before .before .args in
+work-tree-loop-again t c =
+    let a = c .before .before .before .before .before .before .before .before .before .before .before .before
+    .before .before .before .before .before .args in
     let k = code (a .kinds .now) (a .operands .now) (a .table .now) in
     let o = c .before .before .before .before .before .before .before .before .before .before .before .before
     .before .loop in
     let w = c .before .before .before .before .work-line in
     let l = c .before .before .before .before .before .before .before .before .line-at in
     tree-goes (c .before .before .before .before .before .before .before .before .before .before .before .before
-    .before .loop .inv) (l .result) (c .before .before .before .before .before .before .before .before .before
-    .before .before .before .loop-test .taken) (c .before .before .before .before .before .before .before .before
-    .before .before .before .if1 .left) (l .ensures)
-    (not-end (a .kinds .now) (a .operands .now) (c .before .before .before .before .before .before .before .before
-    .before .before .before .before .before .loop .p) (l .result) (c .before .before .before .before .before .before
-    .before .before .before .if2 .left) (l .ensures)) (w .result)
+    .before .loop .inv) (l .result) (c .before .before .before .before .before .before
+    .before .before .before .before .before .before .loop-test .taken)
+    (c .before .before .before .before .before .before .before .before .before .before .before .if1 .left)
+    (l .ensures) (not-end (a .kinds .now) (a .operands .now) (c .before .before .before .before .before .before
+    .before .before .before .before .before .before .before .loop .p) (l .result)
+    (c .before .before .before .before .before .before .before .before .before .if2 .left) (l .ensures)) (w .result)
     (w .last .1 .1 .1 .0) (w .last .1 .1 .1 .1 .0) (w .last .1 .1 .1 .1 .1 .0) (w .ensures) (c .if3 .left) (record {
       slots-long = w .kept .1 .1 .1 .0;
       heads-long = w .kept .1 .1 .1 .1 .0;
-      env-long = line-long k (o .left - 1) (a .calls) (a .f) (o .p) (o .s)
-          (memory (store-of (o .slots) (o .heads)) (o .env)) (l .result) (w .ensures);
+      env-long = line-long k (o .left - 1)
+          (a .calls) (a .f) (o .p) (o .s) (memory (store-of (o .slots) (o .heads)) (o .env)) (l .result) (w .ensures);
     })
 
 pub work-tree-halted-requires-2 : (t : ℕ) → work-tree-lts.Need-halted-requires-2 (work-tree-claims t) (work-tree-at t)
@@ -179,5 +182,5 @@ work-tree-same-length-8 t c = search needs
 
 pub work-tree-returns-4 : (t : ℕ) → work-tree-lts.Need-returns-4 (work-tree-claims t) (work-tree-at t) work-tree.Post
     work-tree-Inv-loop work-tree-μ-loop
-work-tree-returns-4 t c = tree-out (c .before .before .loop .inv) (inl (omega arith)) (c .halted2 .result) (c
-    .halted2 .ensures)
+work-tree-returns-4 t c =
+    tree-out (c .before .before .loop .inv) (inl (omega arith)) (c .halted2 .result) (c .halted2 .ensures)
