@@ -40,6 +40,8 @@ extern "C" {
 #define ENGINE_CELL_HEADS 4        /* words of a cell in the second: count, length, element depth, next free cell */
 #define ENGINE_SLOTS_LENGTH(cells) (1 + ENGINE_CELL_SLOTS * (size_t)(cells))
 #define ENGINE_HEADS_LENGTH(cells) (1 + ENGINE_CELL_HEADS * (size_t)(cells))
+#define ENGINE_SLOTS_OF(cell) (1 + ENGINE_CELL_SLOTS * (size_t)(cell)) /* where a cell's words begin */
+#define ENGINE_HEADS_OF(cell) (1 + ENGINE_CELL_HEADS * (size_t)(cell))
 
 /* A delivery. */
 #define ENGINE_READINGS_MAX 16
