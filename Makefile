@@ -63,6 +63,7 @@ check-rust: build/rust_link_test
 
 check-tool: all
 	tests/tool_test
+	tests/manual_test
 
 # ---- measurements ----
 
