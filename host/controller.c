@@ -11,8 +11,8 @@
 static const char usage[] =
     "usage: controller [OPTION..] SCRIPT [DAY]\n"
     "  SCRIPT      a script file\n"
-    "  DAY         the deliveries, a line each: readings, then 'budget N' if it has a budget of its own; 'none' stands\n"
-    "              for no readings, and '#' begins a comment. Without DAY, or for '-', standard input is read\n"
+    "  DAY         the deliveries, a line each: readings, then 'budget N' if it has a budget of its own; 'none' is for\n"
+    "              no readings, and '#' begins a comment. Without DAY, or for '-', standard input is read\n"
     "  --cells N   cells of the store, 1 to 256 (default 64)\n"
     "  --budget N  steps that a delivery may take (default 10000)\n"
     "  --check     check the store after opening and after each delivery\n"
@@ -198,7 +198,8 @@ int main(int count, char **arguments)
     if (engine_answer_number(answer) != ENGINE_DONE)
         refuse("script", answer);
     c->depth = (unsigned)(c->operands[0] / 256); /* line 0 is main: parameters + 256 x depth of its result */
-    printf("script       %zu nodes, %" PRIu32 " lines of code\n", (c->file_length - 4) / 9, engine_answer_lines(answer));
+    printf("script       %zu nodes, %" PRIu32 " lines of code\n", (c->file_length - 4) / 9,
+           engine_answer_lines(answer));
     answer = open_store(c);
     if (engine_answer_number(answer) != ENGINE_DONE)
         refuse("store", answer);

@@ -28,7 +28,10 @@ impl Tally {
             self.differ += 1;
             if self.differ < 4 {
                 let bytes: String = file.iter().map(|byte| format!("{byte:02x}")).collect();
-                eprintln!("{call}: engine {:#x}, model {:#x} {:?}\n  file {bytes}", engine.0, model.0.packed, model.0.nodes);
+                eprintln!(
+                    "{call}: engine {:#x}, model {:#x} {:?}\n  file {bytes}",
+                    engine.0, model.0.packed, model.0.nodes
+                );
             }
         }
         engine.1

@@ -10,6 +10,8 @@ pub struct Shape {
     pub nodes: usize,
     /// deep and thin rather than flat and broad
     pub spine: bool,
+    /// the level from which on there are leaves only; above 64 the script may be refused
+    pub levels: usize,
 }
 
 struct Signature {
@@ -21,7 +23,7 @@ struct Generator<'a> {
     random: &'a mut Random,
     signatures: Vec<Signature>,
     nodes: Vec<(u8, i64)>,
-    spine: bool,
+    shape: Shape,
     /// nodes that the present function may still have
     left: usize,
 }
@@ -37,7 +39,7 @@ pub fn script(random: &mut Random, shape: Shape) -> Vec<u8> {
         let parameters = (0..count).map(|_| low_depth(random)).collect();
         signatures.push(Signature { parameters, depth: low_depth(random) });
     }
-    let mut generator = Generator { random, signatures, nodes: Vec::new(), spine: shape.spine, left: 0 };
+    let mut generator = Generator { random, signatures, nodes: Vec::new(), shape, left: 0 };
     for function in 0..shape.functions {
         generator.left = shape.nodes;
         generator.function(function);
@@ -93,7 +95,7 @@ impl Generator<'_> {
 
     /// A part that is worked before its node: thin where the script is a spine.
     fn side(&mut self, depth: usize, level: usize, scope: &Scope) {
-        if self.spine {
+        if self.shape.spine {
             self.leaf(depth, scope);
         } else {
             self.part(depth, level, scope);
@@ -118,8 +120,8 @@ impl Generator<'_> {
     }
 
     fn part(&mut self, depth: usize, level: usize, scope: &Scope) {
-        let stops = if self.spine { self.random.once_in(40) } else { self.random.once_in(6) };
-        if self.left == 0 || level >= 63 || stops {
+        let stops = self.random.once_in(if self.shape.spine { 40 } else { 6 });
+        if self.left == 0 || level >= self.shape.levels || stops {
             return self.leaf(depth, scope);
         }
         let next = level + 1;
@@ -213,6 +215,20 @@ impl Generator<'_> {
     }
 }
 
+/// Changes the low or high part of an operand that has parts, mostly within its range: names, counts and depths.
+fn damage_parts(random: &mut Random, file: &mut [u8], nodes: usize) {
+    let with_parts: Vec<usize> = (0..nodes).filter(|node| [0, 1, 3, 7, 8, 9, 13].contains(&file[4 + node])).collect();
+    if with_parts.is_empty() {
+        return;
+    }
+    let operand = 4 + nodes + 8 * *random.pick(&with_parts);
+    if random.once_in(2) {
+        file[operand] = random.below(9) as u8;
+    } else {
+        file[operand + 1] = random.below(5) as u8;
+    }
+}
+
 /// Damages a file in one or more places.
 pub fn damage(random: &mut Random, file: &mut Vec<u8>) {
     for _ in 0..1 + random.below(3) {
@@ -223,8 +239,7 @@ pub fn damage(random: &mut Random, file: &mut Vec<u8>) {
         }
         let nodes = (length - 4) / 9;
         let node = random.below(nodes);
-        let operand = 4 + nodes + 8 * node;
-        match random.below(9) {
+        match random.below(12) {
             0 => file.truncate(random.below(length)),
             1 => file.push(random.next() as u8),
             2 => {
@@ -232,17 +247,13 @@ pub fn damage(random: &mut Random, file: &mut Vec<u8>) {
                 file[byte] = file[byte].wrapping_add(1 + random.below(3) as u8);
             }
             3 => file[4 + node] = random.below(18) as u8,
-            4 => {
-                let other = random.below(nodes);
-                file.swap(4 + node, 4 + other);
-            }
-            5 => file[operand] = random.below(20) as u8,
-            6 => file[operand + 1] = random.below(6) as u8,
-            7 => file[operand + random.below(8)] = random.next() as u8,
-            _ => {
+            4 => file.swap(4 + node, 4 + random.below(nodes)),
+            5 => file[4 + nodes + 8 * node + random.below(8)] = random.next() as u8,
+            6 => {
                 let byte = random.below(length);
                 file[byte] ^= 1 << random.below(8);
             }
+            _ => damage_parts(random, file, nodes),
         }
     }
 }

@@ -37,7 +37,7 @@ fn code_lengths(random: &mut Random) -> (usize, usize) {
 fn shape(random: &mut Random) -> Shape {
     let functions = 1 + random.below(6).min(random.below(6));
     let nodes = *random.pick(&[4, 12, 30, 60, 120, 250]);
-    Shape { functions, nodes, spine: random.once_in(4) }
+    Shape { functions, nodes, spine: random.once_in(4), levels: 63 }
 }
 
 fn readings(random: &mut Random) -> Vec<i64> {
@@ -81,20 +81,16 @@ fn damage_store(random: &mut Random, lent: &mut Lent) {
 fn files(random: &mut Random, count: usize) -> Tally {
     let mut tally = Tally::default();
     for turn in 0..count {
-        let mut file = match turn % 16 {
-            0 => (0..random.below(40)).map(|_| random.next() as u8).collect(),
-            1 => {
-                let functions = 1 + random.below(33);
-                generate::script(random, Shape { functions, nodes: 30, spine: false })
-            }
-            2 => generate::script(random, Shape { functions: 2, nodes: 400, spine: false }),
-            3 => generate::script(random, Shape { functions: 1, nodes: 300, spine: true }),
-            _ => {
-                let shape = shape(random);
-                generate::script(random, shape)
-            }
+        let shape = match turn % 16 {
+            1 => Shape { functions: 1 + random.below(33), nodes: 30, spine: false, levels: 63 },
+            2 => Shape { functions: 2, nodes: 400, spine: false, levels: 63 },
+            3 => Shape { functions: 1, nodes: 300, spine: true, levels: 66 },
+            _ => shape(random),
         };
-        if turn % 3 == 0 {
+        let mut file = generate::script(random, shape);
+        if turn % 16 == 0 {
+            file = (0..random.below(40)).map(|_| random.next() as u8).collect();
+        } else if turn % 3 == 0 {
             generate::damage(random, &mut file);
         }
         let (kinds, operands) = code_lengths(random);
@@ -107,7 +103,7 @@ fn files(random: &mut Random, count: usize) -> Tally {
 /// Every shorter file of a script, and one byte more.
 fn cut_files(random: &mut Random) -> Tally {
     let mut tally = Tally::default();
-    let mut file = generate::script(random, Shape { functions: 3, nodes: 40, spine: false });
+    let mut file = generate::script(random, Shape { functions: 3, nodes: 40, spine: false, levels: 63 });
     file.push(0);
     for length in 0..=file.len() {
         let mut arrays = lent(random, 4096, 4096, 2);

@@ -11,13 +11,20 @@ pub enum Atom {
     Name(usize),
 }
 
+/// What a line without trees does; a call has its function, a literal its element depth.
+#[derive(Clone, Copy, PartialEq, Eq, Debug)]
+pub enum Operation {
+    Arithmetic(Arithmetic),
+    Call(usize),
+    Literal(usize),
+    Index,
+    Length,
+}
+
+/// A line, with the name that it binds first, then a map's parameter.
 #[derive(Clone, Debug)]
 pub enum Line {
-    Arithmetic(usize, Arithmetic, [Atom; 2]),
-    Call(usize, usize, Vec<Atom>),
-    Literal(usize, usize, Vec<Atom>),
-    Index(usize, [Atom; 2]),
-    Length(usize, Atom),
+    Plain(usize, Operation, Vec<Atom>),
     If(usize, Atom, Tree, Tree),
     Map(usize, usize, Atom, Tree),
     Retain(usize),
@@ -86,73 +93,85 @@ impl Lowering<'_> {
 
     /// Writes the lines of a node, and gives its atom.
     fn lines(&mut self, node: &Node, scope: &[Atom; 256], lines: &mut Vec<Line>) -> Atom {
-        let name = match &node.form {
-            Form::Number(value) => return Atom::Number(*value),
-            Form::Name(name) => return scope[*name],
+        match &node.form {
+            Form::Number(value) => Atom::Number(*value),
+            Form::Name(name) => scope[*name],
             Form::Let(name, parts) => {
                 let mut inner = *scope;
                 inner[*name] = self.lines(&parts[0], scope, lines);
-                return self.lines(&parts[1], &inner, lines);
+                self.lines(&parts[1], &inner, lines)
             }
             Form::Arithmetic(operation, parts) => {
-                let atoms = [0, 1].map(|i| self.lines(&parts[i], scope, lines));
-                let name = self.new_name(0);
-                lines.push(Line::Arithmetic(name, *operation, atoms));
-                name
+                self.plain(Operation::Arithmetic(*operation), parts.as_slice(), scope, lines)
             }
-            Form::Call(function, parts) => {
-                let atoms = parts.iter().map(|part| self.lines(part, scope, lines)).collect();
-                let name = self.new_name(self.functions[*function].depth);
-                lines.push(Line::Call(name, *function, atoms));
-                name
-            }
-            Form::Literal(depth, parts) => {
-                let atoms = parts.iter().map(|part| self.lines(part, scope, lines)).collect();
-                let name = self.new_name(depth + 1);
-                lines.push(Line::Literal(name, *depth, atoms));
-                name
-            }
-            Form::Index(parts) => {
-                let atoms = [0, 1].map(|i| self.lines(&parts[i], scope, lines));
-                let name = self.new_name(self.depth(atoms[0]) - 1);
-                lines.push(Line::Index(name, atoms));
-                name
-            }
-            Form::Length(part) => {
-                let atom = self.lines(part, scope, lines);
-                let name = self.new_name(0);
-                lines.push(Line::Length(name, atom));
-                name
-            }
-            Form::If(parts) => {
-                let guard = self.lines(&parts[0], scope, lines);
-                let name = self.new_name(0);
-                let first = self.tree(&parts[1], scope);
-                let second = self.tree(&parts[2], scope);
-                self.depths[name] = self.depth(first.end);
-                lines.push(Line::If(name, guard, first, second));
-                name
-            }
-            Form::Map(parameter, parts) => {
-                let array = self.lines(&parts[0], scope, lines);
-                let name = self.new_name(0);
-                let element = self.new_name(self.depth(array) - 1);
-                let mut inner = *scope;
-                inner[*parameter] = Atom::Name(element);
-                let tree = self.tree(&parts[1], &inner);
-                self.depths[name] = self.depth(tree.end) + 1;
-                lines.push(Line::Map(name, element, array, tree));
-                name
-            }
+            Form::Call(function, parts) => self.plain(Operation::Call(*function), parts, scope, lines),
+            Form::Literal(depth, parts) => self.plain(Operation::Literal(*depth), parts, scope, lines),
+            Form::Index(parts) => self.plain(Operation::Index, parts.as_slice(), scope, lines),
+            Form::Length(part) => self.plain(Operation::Length, std::slice::from_ref(part.as_ref()), scope, lines),
+            Form::If(parts) => self.choice(parts, scope, lines),
+            Form::Map(parameter, parts) => self.map(*parameter, parts, scope, lines),
+        }
+    }
+
+    /// A line after the lines of its parts.
+    fn plain(&mut self, operation: Operation, parts: &[Node], scope: &[Atom; 256], lines: &mut Vec<Line>) -> Atom {
+        let atoms: Vec<Atom> = parts.iter().map(|part| self.lines(part, scope, lines)).collect();
+        let depth = match operation {
+            Operation::Arithmetic(_) | Operation::Length => 0,
+            Operation::Call(function) => self.functions[function].depth,
+            Operation::Literal(depth) => depth + 1,
+            Operation::Index => self.depth(atoms[0]) - 1,
         };
+        let name = self.new_name(depth);
+        lines.push(Line::Plain(name, operation, atoms));
+        Atom::Name(name)
+    }
+
+    fn choice(&mut self, parts: &[Node; 3], scope: &[Atom; 256], lines: &mut Vec<Line>) -> Atom {
+        let guard = self.lines(&parts[0], scope, lines);
+        let name = self.new_name(0);
+        let first = self.tree(&parts[1], scope);
+        let second = self.tree(&parts[2], scope);
+        self.depths[name] = self.depth(first.end);
+        lines.push(Line::If(name, guard, first, second));
+        Atom::Name(name)
+    }
+
+    fn map(&mut self, parameter: usize, parts: &[Node; 2], scope: &[Atom; 256], lines: &mut Vec<Line>) -> Atom {
+        let array = self.lines(&parts[0], scope, lines);
+        let name = self.new_name(0);
+        let element = self.new_name(self.depth(array) - 1);
+        let mut inner = *scope;
+        inner[parameter] = Atom::Name(element);
+        let tree = self.tree(&parts[1], &inner);
+        self.depths[name] = self.depth(tree.end) + 1;
+        lines.push(Line::Map(name, element, array, tree));
         Atom::Name(name)
     }
 }
 
 // ---- Live sets ----
 
-fn named<'a>(atoms: impl IntoIterator<Item = &'a Atom>) -> Names {
-    atoms.into_iter().filter_map(|atom| if let Atom::Name(name) = atom { Some(*name) } else { None }).collect()
+impl Line {
+    /// The name that it binds.
+    fn name(&self) -> Option<usize> {
+        match self {
+            Line::Plain(name, ..) | Line::If(name, ..) | Line::Map(name, ..) => Some(*name),
+            Line::Retain(_) | Line::Release(_) => None,
+        }
+    }
+
+    fn atoms(&self) -> &[Atom] {
+        match self {
+            Line::Plain(_, _, atoms) => atoms,
+            Line::If(_, atom, ..) | Line::Map(_, _, atom, _) => std::slice::from_ref(atom),
+            Line::Retain(_) | Line::Release(_) => &[],
+        }
+    }
+}
+
+fn named(atoms: &[Atom]) -> Names {
+    atoms.iter().filter_map(|atom| if let Atom::Name(name) = atom { Some(*name) } else { None }).collect()
 }
 
 fn without(names: &Names, name: usize) -> Names {
@@ -163,34 +182,18 @@ fn without(names: &Names, name: usize) -> Names {
 
 /// The names from outside that a tree uses.
 fn outer_uses(tree: &Tree) -> Names {
-    let mut uses = named([&tree.end]);
+    let mut uses = named(&[tree.end]);
     let mut inside = Names::new();
     for line in &tree.lines {
+        uses.extend(named(line.atoms()));
+        inside.extend(line.name());
         match line {
-            Line::Arithmetic(name, _, atoms) | Line::Index(name, atoms) => {
-                uses.extend(named(atoms));
-                inside.insert(*name);
-            }
-            Line::Call(name, _, atoms) | Line::Literal(name, _, atoms) => {
-                uses.extend(named(atoms));
-                inside.insert(*name);
-            }
-            Line::Length(name, atom) => {
-                uses.extend(named([atom]));
-                inside.insert(*name);
-            }
-            Line::If(name, guard, first, second) => {
-                uses.extend(named([guard]));
+            Line::If(_, _, first, second) => {
                 uses.extend(outer_uses(first));
                 uses.extend(outer_uses(second));
-                inside.insert(*name);
             }
-            Line::Map(name, parameter, array, tree) => {
-                uses.extend(named([array]));
-                uses.extend(without(&outer_uses(tree), *parameter));
-                inside.insert(*name);
-            }
-            Line::Retain(_) | Line::Release(_) => {}
+            Line::Map(_, parameter, _, tree) => uses.extend(without(&outer_uses(tree), *parameter)),
+            _ => {}
         }
     }
     &uses - &inside
@@ -198,7 +201,7 @@ fn outer_uses(tree: &Tree) -> Names {
 
 /// What is live before a tree, after which `after` is live.
 fn live(tree: &Tree, after: &Names) -> Names {
-    let mut names = &named([&tree.end]) | after;
+    let mut names = &named(&[tree.end]) | after;
     for line in tree.lines.iter().rev() {
         names = live_before(line, &names);
     }
@@ -211,17 +214,16 @@ fn after_pass(name: usize, parameter: usize, tree: &Tree, after: &Names) -> Name
 }
 
 fn live_before(line: &Line, after: &Names) -> Names {
+    let atoms = named(line.atoms());
     match line {
-        Line::Arithmetic(name, _, atoms) | Line::Index(name, atoms) => &named(atoms) | &without(after, *name),
-        Line::Call(name, _, atoms) | Line::Literal(name, _, atoms) => &named(atoms) | &without(after, *name),
-        Line::Length(name, atom) => &named([atom]) | &without(after, *name),
-        Line::If(name, guard, first, second) => {
+        Line::Plain(name, ..) => &atoms | &without(after, *name),
+        Line::If(name, _, first, second) => {
             let after = without(after, *name);
-            &(&named([guard]) | &live(first, &after)) | &live(second, &after)
+            &(&atoms | &live(first, &after)) | &live(second, &after)
         }
-        Line::Map(name, parameter, array, tree) => {
+        Line::Map(name, parameter, _, tree) => {
             let after = after_pass(*name, *parameter, tree, after);
-            &named([array]) | &without(&live(tree, &after), *parameter)
+            &atoms | &without(&live(tree, &after), *parameter)
         }
         Line::Retain(_) | Line::Release(_) => after.clone(),
     }
@@ -249,7 +251,7 @@ impl Annotation<'_> {
 
     /// A tree with its retains and releases; `after` is live after it.
     fn tree(&self, plain: &Tree, after: &Names) -> Tree {
-        let mut lives = vec![&named([&plain.end]) | after];
+        let mut lives = vec![&named(&[plain.end]) | after];
         for line in plain.lines.iter().rev() {
             lives.push(live_before(line, lives.last().unwrap()));
         }
@@ -275,52 +277,52 @@ impl Annotation<'_> {
 
     /// A line, with what stands before and after it.
     fn line(&self, line: &Line, after: &Names, lines: &mut Vec<Line>) {
-        let mut done_with = Names::new();
+        let mut done_with: Names = line.name().into_iter().collect();
         match line {
-            Line::Call(name, _, atoms) | Line::Literal(name, _, atoms) => {
+            Line::Plain(_, Operation::Call(_) | Operation::Literal(_), atoms) => {
                 self.retain_handed(atoms, after, lines);
                 lines.push(line.clone());
-                done_with.insert(*name);
             }
-            Line::Index(name, atoms) => {
+            Line::Plain(name, operation, atoms) => {
                 lines.push(line.clone());
-                if self.is_array(*name) {
+                if *operation == Operation::Index && self.is_array(*name) {
                     lines.push(Line::Retain(*name));
                 }
                 done_with.extend(named(atoms));
-                done_with.insert(*name);
             }
             Line::If(name, guard, first, second) => {
-                let branch_after = without(after, *name);
-                let branch = |own: &Tree, other: &Tree| {
-                    let mut tree = self.tree(own, &branch_after);
-                    self.open_with_releases(&mut tree, &(&outer_uses(other) - &live(own, &branch_after)));
-                    tree
-                };
-                lines.push(Line::If(*name, *guard, branch(first, second), branch(second, first)));
-                done_with.insert(*name);
+                let after = without(after, *name);
+                let trees = (self.branch(first, second, &after), self.branch(second, first, &after));
+                lines.push(Line::If(*name, *guard, trees.0, trees.1));
             }
             Line::Map(name, parameter, array, tree) => {
-                let mut annotated = self.tree(tree, &after_pass(*name, *parameter, tree, after));
-                if self.is_array(*parameter) {
-                    if !outer_uses(tree).contains(parameter) {
-                        annotated.lines.insert(0, Line::Release(*parameter));
-                    }
-                    annotated.lines.insert(0, Line::Retain(*parameter));
-                }
+                let annotated = self.pass(*parameter, tree, &after_pass(*name, *parameter, tree, after));
                 lines.push(Line::Map(*name, *parameter, *array, annotated));
-                done_with.extend(named([array]));
+                done_with.extend(named(&[*array]));
                 done_with.extend(without(&outer_uses(tree), *parameter));
-                done_with.insert(*name);
             }
-            Line::Length(name, atom) => {
-                lines.push(line.clone());
-                done_with.extend(named([atom]));
-                done_with.insert(*name);
-            }
-            Line::Arithmetic(..) | Line::Retain(_) | Line::Release(_) => lines.push(line.clone()),
+            Line::Retain(_) | Line::Release(_) => lines.push(line.clone()),
         }
         lines.extend(self.releases(&(&done_with - after)));
+    }
+
+    /// A branch opens by releasing what only the other one uses.
+    fn branch(&self, own: &Tree, other: &Tree, after: &Names) -> Tree {
+        let mut tree = self.tree(own, after);
+        self.open_with_releases(&mut tree, &(&outer_uses(other) - &live(own, after)));
+        tree
+    }
+
+    /// A map's tree opens by retaining its parameter, and by releasing it if it is unused.
+    fn pass(&self, parameter: usize, plain: &Tree, after: &Names) -> Tree {
+        let mut tree = self.tree(plain, after);
+        if self.is_array(parameter) {
+            if !outer_uses(plain).contains(&parameter) {
+                tree.lines.insert(0, Line::Release(parameter));
+            }
+            tree.lines.insert(0, Line::Retain(parameter));
+        }
+        tree
     }
 }
 
@@ -345,42 +347,40 @@ fn atom_row(atom: &Atom) -> (u8, i64) {
     }
 }
 
+/// The kind of a line, and what its operand has above the name.
+fn operation_row(operation: Operation, atoms: usize) -> (u8, usize) {
+    match operation {
+        Operation::Arithmetic(Arithmetic::Sum) => (4, 0),
+        Operation::Arithmetic(Arithmetic::Difference) => (5, 0),
+        Operation::Arithmetic(Arithmetic::Less) => (6, 0),
+        Operation::Call(function) => (8, 256 * function),
+        Operation::Literal(depth) => (9, 256 * atoms + 65536 * depth),
+        Operation::Index => (10, 0),
+        Operation::Length => (11, 0),
+    }
+}
+
 fn tree_rows(tree: &Tree, rows: &mut Vec<(u8, i64)>) {
     for line in &tree.lines {
+        let (kind, operand) = match line {
+            Line::Plain(name, operation, atoms) => {
+                let (kind, above) = operation_row(*operation, atoms.len());
+                (kind, name + above)
+            }
+            Line::If(name, ..) => (12, *name),
+            Line::Map(name, parameter, ..) => (13, name + 256 * parameter),
+            Line::Retain(name) => (14, *name),
+            Line::Release(name) => (15, *name),
+        };
+        rows.push((kind, operand as i64));
+        rows.extend(line.atoms().iter().map(atom_row));
         match line {
-            Line::Arithmetic(name, operation, atoms) => {
-                let kind = match operation {
-                    Arithmetic::Sum => 4,
-                    Arithmetic::Difference => 5,
-                    Arithmetic::Less => 6,
-                };
-                rows.push((kind, *name as i64));
-                rows.extend(atoms.iter().map(atom_row));
-            }
-            Line::Call(name, function, atoms) => {
-                rows.push((8, (name + 256 * function) as i64));
-                rows.extend(atoms.iter().map(atom_row));
-            }
-            Line::Literal(name, depth, atoms) => {
-                rows.push((9, (name + 256 * atoms.len() + 65536 * depth) as i64));
-                rows.extend(atoms.iter().map(atom_row));
-            }
-            Line::Index(name, atoms) => {
-                rows.push((10, *name as i64));
-                rows.extend(atoms.iter().map(atom_row));
-            }
-            Line::Length(name, atom) => rows.extend([(11, *name as i64), atom_row(atom)]),
-            Line::If(name, guard, first, second) => {
-                rows.extend([(12, *name as i64), atom_row(guard)]);
+            Line::If(_, _, first, second) => {
                 tree_rows(first, rows);
                 tree_rows(second, rows);
             }
-            Line::Map(name, parameter, array, tree) => {
-                rows.extend([(13, (name + 256 * parameter) as i64), atom_row(array)]);
-                tree_rows(tree, rows);
-            }
-            Line::Retain(name) => rows.push((14, *name as i64)),
-            Line::Release(name) => rows.push((15, *name as i64)),
+            Line::Map(_, _, _, tree) => tree_rows(tree, rows),
+            _ => {}
         }
     }
     rows.extend([(16, 0), atom_row(&tree.end)]);

@@ -1,6 +1,6 @@
 //! The code of a script worked on a store: one delivery.
 
-use super::code::{Atom, Coded, Line, Tree};
+use super::code::{Atom, Coded, Line, Operation, Tree};
 use super::script::Arithmetic;
 use super::store::Store;
 
@@ -68,7 +68,7 @@ impl Machine<'_> {
     }
 
     fn line(&mut self, coded: &Coded, line: &Line, names: &mut Vec<i64>, call_depth: usize) -> Result<(), u64> {
-        match line {
+        let (name, result) = match line {
             Line::Retain(name) => {
                 self.store.retain(names[*name] as usize);
                 return Ok(());
@@ -77,40 +77,18 @@ impl Machine<'_> {
                 self.store.release(names[*name] as usize);
                 return Ok(());
             }
-            _ => self.step()?,
-        }
-        let (name, result) = match line {
-            Line::Arithmetic(name, operation, atoms) => {
-                let [a, b] = [value(&atoms[0], names), value(&atoms[1], names)];
-                let result = match operation {
-                    Arithmetic::Sum => a.checked_add(b).ok_or(24u64)?,
-                    Arithmetic::Difference => a.checked_sub(b).ok_or(24u64)?,
-                    Arithmetic::Less => i64::from(a < b),
-                };
-                (*name, result)
+            Line::Plain(name, operation, atoms) => {
+                self.step()?;
+                let atoms = atoms.iter().map(|atom| value(atom, names)).collect();
+                (*name, self.operation(*operation, atoms, call_depth)?)
             }
-            Line::Call(name, function, atoms) => {
-                if call_depth == CALL_DEPTH_MAX {
-                    return Err(22);
-                }
-                let arguments = atoms.iter().map(|atom| value(atom, names)).collect();
-                (*name, self.function(*function, arguments, call_depth + 1)?)
-            }
-            Line::Literal(name, depth, atoms) => {
-                let elements: Vec<i64> = atoms.iter().map(|atom| value(atom, names)).collect();
-                (*name, self.store.acquire(*depth as u32, &elements).ok_or(25u64)? as i64)
-            }
-            Line::Index(name, atoms) => {
-                let elements = self.store.elements(value(&atoms[0], names) as usize);
-                let position = usize::try_from(value(&atoms[1], names)).map_err(|_| 23u64)?;
-                (*name, *elements.get(position).ok_or(23u64)?)
-            }
-            Line::Length(name, atom) => (*name, self.store.elements(value(atom, names) as usize).len() as i64),
             Line::If(name, guard, first, second) => {
+                self.step()?;
                 let tree = if value(guard, names) != 0 { first } else { second };
                 (*name, self.tree(coded, tree, names, call_depth)?)
             }
             Line::Map(name, parameter, array, tree) => {
+                self.step()?;
                 let made = self.store.acquire(coded.depths[*name] as u32 - 1, &[]).ok_or(25u64)?;
                 for element in self.store.elements(value(array, names) as usize).to_vec() {
                     self.step()?;
@@ -120,10 +98,26 @@ impl Machine<'_> {
                 }
                 (*name, made as i64)
             }
-            Line::Retain(_) | Line::Release(_) => unreachable!(),
         };
         names[name] = result;
         Ok(())
+    }
+
+    /// What a line without trees gives for the values of its atoms.
+    fn operation(&mut self, operation: Operation, atoms: Vec<i64>, call_depth: usize) -> Result<i64, u64> {
+        match operation {
+            Operation::Arithmetic(Arithmetic::Sum) => atoms[0].checked_add(atoms[1]).ok_or(24),
+            Operation::Arithmetic(Arithmetic::Difference) => atoms[0].checked_sub(atoms[1]).ok_or(24),
+            Operation::Arithmetic(Arithmetic::Less) => Ok(i64::from(atoms[0] < atoms[1])),
+            Operation::Call(_) if call_depth == CALL_DEPTH_MAX => Err(22),
+            Operation::Call(function) => self.function(function, atoms, call_depth + 1),
+            Operation::Literal(depth) => Ok(self.store.acquire(depth as u32, &atoms).ok_or(25u64)? as i64),
+            Operation::Index => {
+                let elements = self.store.elements(atoms[0] as usize);
+                usize::try_from(atoms[1]).ok().and_then(|i| elements.get(i).copied()).ok_or(23)
+            }
+            Operation::Length => Ok(self.store.elements(atoms[0] as usize).len() as i64),
+        }
     }
 }
 

@@ -313,13 +313,7 @@ impl Depths<'_> {
         }
     }
 
-    fn of_map(
-        &mut self,
-        node: &Node,
-        name: usize,
-        parts: &[Node; 2],
-        scope: &Scope<Option<usize>>,
-    ) -> Option<usize> {
+    fn of_map(&mut self, node: &Node, name: usize, parts: &[Node; 2], scope: &Scope<Option<usize>>) -> Option<usize> {
         let array = self.of(&parts[0], scope);
         let element = array.and_then(|depth| depth.checked_sub(1));
         let body = self.of(&parts[1], &bound(scope, name, element));
