@@ -36,7 +36,7 @@ target/staticlib/libengine.a: $(SOURCES)
 build:
 	mkdir -p build
 
-build/controller: host/controller.c host/input.c host/display.c $(HOST_HEADERS) $(LIBRARY) | build
+build/controller: host/controller.c host/input.c host/display.c host/store_file.c $(HOST_HEADERS) $(LIBRARY) | build
 	$(CC) $(CFLAGS) -Iinclude -o $@ $(filter %.c,$^) $(LIBRARY)
 
 build/script_tool: host/script_tool.c host/input.c $(HOST_HEADERS) | build

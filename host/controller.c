@@ -3,6 +3,7 @@
 #include "display.h"
 #include "engine.h"
 #include "input.h"
+#include "store_file.h"
 
 #include <inttypes.h>
 #include <stdlib.h>
@@ -16,6 +17,7 @@ static const char usage[] =
     "  --cells N   cells of the store, 1 to 256 (default 64)\n"
     "  --budget N  steps that a delivery may take (default 10000)\n"
     "  --check     check the store after opening and after each delivery\n"
+    "  --store F   go on with the store that the file F has, if there is one, and keep the store in it after the day\n"
     "Exit status: 0 the day was played; 1 the engine refused the script or the store; 2 bad usage or a bad file";
 
 enum { DAY_BYTES_MAX = 1 << 20, LINE_READINGS_MAX = 64, DEFAULT_CELLS = 64, DEFAULT_BUDGET = 10000 };
@@ -23,6 +25,7 @@ enum { DAY_BYTES_MAX = 1 << 20, LINE_READINGS_MAX = 64, DEFAULT_CELLS = 64, DEFA
 struct options {
     const char *script;
     const char *day;
+    const char *store;
     size_t cells;
     uint64_t budget;
     bool check;
@@ -64,6 +67,8 @@ static struct options options_of(int count, char **arguments)
             options.budget = option_number(word, arguments[++i], 0, INT64_MAX);
         else if (strcmp(word, "--check") == 0)
             options.check = true;
+        else if (strcmp(word, "--store") == 0 && arguments[i + 1] != NULL)
+            options.store = arguments[++i];
         else if (strncmp(word, "--", 2) == 0 || plain == 2)
             fail("%s", usage);
         else if (plain++ == 0)
@@ -168,6 +173,20 @@ static void check_after(struct controller *c)
         refuse("check", answer);
 }
 
+/* Goes on with the store that was kept, which must be sound, or opens one. */
+static void begin(struct controller *c, const struct options *options)
+{
+    bool is_kept = options->store != NULL && load_store(options->store, c->slots, c->heads, c->cells);
+    uint64_t answer = is_kept ? check_store(c) : open_store(c);
+    if (engine_answer_number(answer) != ENGINE_DONE)
+        refuse("store", answer);
+    printf("%-12s  0 done                      %4u of %zu cells  ", is_kept ? "checked" : "opened",
+           engine_answer_cells(answer), c->cells);
+    print_totals(c);
+    if (options->check)
+        check_after(c);
+}
+
 static void play(struct controller *c, const struct options *options)
 {
     size_t length = read_whole(options->day, day_bytes, sizeof day_bytes);
@@ -200,13 +219,9 @@ int main(int count, char **arguments)
     c->depth = (unsigned)(c->operands[0] / 256); /* line 0 is main: parameters + 256 x depth of its result */
     printf("script       %zu nodes, %" PRIu32 " lines of code\n", (c->file_length - 4) / 9,
            engine_answer_lines(answer));
-    answer = open_store(c);
-    if (engine_answer_number(answer) != ENGINE_DONE)
-        refuse("store", answer);
-    printf("opened        0 done                      %4u of %zu cells  ", engine_answer_cells(answer), c->cells);
-    print_totals(c);
-    if (options.check)
-        check_after(c);
+    begin(c, &options);
     play(c, &options);
+    if (options.store != NULL)
+        save_store(options.store, c->slots, c->heads, c->cells);
     return 0;
 }

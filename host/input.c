@@ -1,10 +1,9 @@
-/* Whole files, and text cut into lines and words. */
+/* Whole files, numbers in bytes, and text cut into lines and words. */
 #include "input.h"
 
 #include <errno.h>
 #include <inttypes.h>
 #include <stdarg.h>
-#include <stdio.h>
 #include <stdlib.h>
 #include <string.h>
 
@@ -34,6 +33,31 @@ size_t read_whole(const char *path, uint8_t *buffer, size_t capacity)
     if (!is_standard)
         fclose(file);
     return length;
+}
+
+void close_output(FILE *file, const char *path)
+{
+    if (ferror(file) || fclose(file) != 0)
+        fail("%s: cannot be written", path);
+}
+
+uint64_t number_at(const uint8_t *at, unsigned length)
+{
+    uint64_t number = 0;
+    for (unsigned i = length; i-- > 0;)
+        number = number << 8 | at[i];
+    return number;
+}
+
+void put_number(FILE *file, uint64_t number, unsigned length)
+{
+    for (unsigned i = 0; i < length; i++)
+        fputc((int)(number >> (8 * i) & 0xff), file);
+}
+
+int64_t signed_of(uint64_t bits)
+{
+    return bits <= INT64_MAX ? (int64_t)bits : -(int64_t)(UINT64_MAX - bits) - 1;
 }
 
 struct text text_of(const char *path, const uint8_t *bytes, size_t length)

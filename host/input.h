@@ -1,10 +1,11 @@
-/* What the host programs read: whole files, and text cut into lines and words. */
+/* What the host programs read and write: whole files, numbers in bytes, and text cut into lines and words. */
 #ifndef INPUT_H
 #define INPUT_H
 
 #include <stdbool.h>
 #include <stddef.h>
 #include <stdint.h>
+#include <stdio.h>
 
 /* Exit statuses: the engine refused or a check failed; the arguments or a file cannot be used. */
 enum { STATUS_REFUSED = 1, STATUS_UNUSABLE = 2 };
@@ -14,6 +15,16 @@ _Noreturn void fail(const char *format, ...) __attribute__((format(printf, 1, 2)
 
 /* Reads a whole file, or standard input for "-", into a buffer, and gives its length. Fails where it has more bytes. */
 size_t read_whole(const char *path, uint8_t *buffer, size_t capacity);
+
+/* Closes a file that was written. Fails where not all of it was. */
+void close_output(FILE *file, const char *path);
+
+/* A number in so many bytes, low byte first. */
+uint64_t number_at(const uint8_t *at, unsigned length);
+void put_number(FILE *file, uint64_t number, unsigned length);
+
+/* The signed number with these 64 bits. */
+int64_t signed_of(uint64_t bits);
 
 /* Text that is read line by line, word by word. '#' begins a comment. */
 struct text {

@@ -142,18 +142,6 @@ static FILE *output(const char *path)
     return file;
 }
 
-static void close_output(FILE *file, const char *path)
-{
-    if (ferror(file) || fclose(file) != 0)
-        fail("%s: cannot be written", path);
-}
-
-static void put_number(FILE *file, uint64_t number, unsigned length)
-{
-    for (unsigned i = 0; i < length; i++)
-        fputc((int)(number >> (8 * i) & 0xff), file);
-}
-
 static void assemble(struct script *s, const char *from, const char *to)
 {
     struct text text = text_of(from, bytes, read_whole(from, bytes, sizeof bytes));
@@ -167,20 +155,6 @@ static void assemble(struct script *s, const char *from, const char *to)
     for (size_t i = 0; i < s->count; i++)
         put_number(file, (uint64_t)s->nodes[i].operand, 8);
     close_output(file, to);
-}
-
-static uint64_t number_at(const uint8_t *at, unsigned length)
-{
-    uint64_t number = 0;
-    for (unsigned i = length; i-- > 0;)
-        number = number << 8 | at[i];
-    return number;
-}
-
-/* The signed number with these 64 bits. */
-static int64_t signed_of(uint64_t bits)
-{
-    return bits <= INT64_MAX ? (int64_t)bits : -(int64_t)(UINT64_MAX - bits) - 1;
 }
 
 static void read_nodes(struct script *s, const char *path)
