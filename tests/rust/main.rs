@@ -145,9 +145,9 @@ fn main() {
         agreed &= vectors::run(&path);
     }
     let mut random = Random(1);
-    agreed &= files(&mut random, 6_000).report("files");
+    agreed &= files(&mut random, 12_000).report("files");
     agreed &= cut_files(&mut random).report("cut files");
-    agreed &= histories(&mut random, 2_500).report("histories");
+    agreed &= histories(&mut random, 4_000).report("histories");
     println!("{}", if agreed { "all agree" } else { "NOT ALL AGREE" });
     std::process::exit(if agreed { 0 } else { 1 });
 }

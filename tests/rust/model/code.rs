@@ -1,9 +1,7 @@
 //! The annotated A-normal code of a script, as trees of lines and as rows.
 
+use super::names::Names;
 use super::script::{Arithmetic, Form, Function, Node};
-use std::collections::BTreeSet;
-
-type Names = BTreeSet<usize>;
 
 #[derive(Clone, Copy, PartialEq, Eq, Debug)]
 pub enum Atom {
@@ -58,11 +56,12 @@ fn translate_function(function: &Function, functions: &[Function]) -> Coded {
         scope[parameter.name] = Atom::Name(name);
     }
     let plain = lowering.tree(&function.body, &scope);
-    let parameters: Names = (0..function.parameters.len()).collect();
+    let parameters = function.parameters.len();
     let annotation = Annotation { depths: &lowering.depths };
-    let mut tree = annotation.tree(&plain, &Names::new());
-    annotation.open_with_releases(&mut tree, &(&parameters - &live(&plain, &Names::new())));
-    Coded { depth: function.depth, parameters: parameters.len(), depths: lowering.depths, tree }
+    let mut tree = annotation.tree(&plain, Names::default());
+    let unused = (0..parameters).collect::<Names>() - live(&plain, Names::default());
+    annotation.open_with_releases(&mut tree, unused);
+    Coded { depth: function.depth, parameters, depths: lowering.depths, tree }
 }
 
 // ---- The normal form ----
@@ -174,58 +173,44 @@ fn named(atoms: &[Atom]) -> Names {
     atoms.iter().filter_map(|atom| if let Atom::Name(name) = atom { Some(*name) } else { None }).collect()
 }
 
-fn without(names: &Names, name: usize) -> Names {
-    let mut rest = names.clone();
-    rest.remove(&name);
-    rest
-}
-
 /// The names from outside that a tree uses.
 fn outer_uses(tree: &Tree) -> Names {
     let mut uses = named(&[tree.end]);
-    let mut inside = Names::new();
+    let mut inside = Names::default();
     for line in &tree.lines {
-        uses.extend(named(line.atoms()));
-        inside.extend(line.name());
-        match line {
-            Line::If(_, _, first, second) => {
-                uses.extend(outer_uses(first));
-                uses.extend(outer_uses(second));
-            }
-            Line::Map(_, parameter, _, tree) => uses.extend(without(&outer_uses(tree), *parameter)),
-            _ => {}
-        }
+        uses = uses | named(line.atoms()) | inner_uses(line);
+        inside = inside | line.name().into_iter().collect();
     }
-    &uses - &inside
+    uses - inside
+}
+
+/// The names from outside that a line's trees use.
+fn inner_uses(line: &Line) -> Names {
+    match line {
+        Line::If(_, _, first, second) => outer_uses(first) | outer_uses(second),
+        Line::Map(_, parameter, _, tree) => outer_uses(tree).without(*parameter),
+        _ => Names::default(),
+    }
 }
 
 /// What is live before a tree, after which `after` is live.
-fn live(tree: &Tree, after: &Names) -> Names {
-    let mut names = &named(&[tree.end]) | after;
-    for line in tree.lines.iter().rev() {
-        names = live_before(line, &names);
-    }
-    names
+fn live(tree: &Tree, after: Names) -> Names {
+    tree.lines.iter().rev().fold(named(&[tree.end]) | after, |after, line| live_before(line, after))
 }
 
-/// What is live after each pass of a map's tree.
-fn after_pass(name: usize, parameter: usize, tree: &Tree, after: &Names) -> Names {
-    &without(after, name) | &without(&outer_uses(tree), parameter)
-}
-
-fn live_before(line: &Line, after: &Names) -> Names {
+fn live_before(line: &Line, after: Names) -> Names {
     let atoms = named(line.atoms());
     match line {
-        Line::Plain(name, ..) => &atoms | &without(after, *name),
+        Line::Plain(name, ..) => atoms | after.without(*name),
         Line::If(name, _, first, second) => {
-            let after = without(after, *name);
-            &(&atoms | &live(first, &after)) | &live(second, &after)
+            let after = after.without(*name);
+            atoms | live(first, after) | live(second, after)
         }
         Line::Map(name, parameter, _, tree) => {
-            let after = after_pass(*name, *parameter, tree, after);
-            &atoms | &without(&live(tree, &after), *parameter)
+            let after = after.without(*name) | inner_uses(line);
+            atoms | live(tree, after).without(*parameter)
         }
-        Line::Retain(_) | Line::Release(_) => after.clone(),
+        Line::Retain(_) | Line::Release(_) => after,
     }
 }
 
@@ -240,35 +225,34 @@ impl Annotation<'_> {
         self.depths[name] > 0
     }
 
-    fn releases<'b>(&'b self, names: &'b Names) -> impl Iterator<Item = Line> + 'b {
-        names.iter().copied().filter(|name| self.is_array(*name)).map(Line::Release)
+    fn releases(&self, names: Names) -> Vec<Line> {
+        names.rising().filter(|name| self.is_array(*name)).map(Line::Release).collect()
     }
 
-    fn open_with_releases(&self, tree: &mut Tree, names: &Names) {
-        let opening: Vec<Line> = self.releases(names).collect();
-        tree.lines.splice(0..0, opening);
+    fn open_with_releases(&self, tree: &mut Tree, names: Names) {
+        tree.lines.splice(0..0, self.releases(names));
     }
 
     /// A tree with its retains and releases; `after` is live after it.
-    fn tree(&self, plain: &Tree, after: &Names) -> Tree {
-        let mut lives = vec![&named(&[plain.end]) | after];
+    fn tree(&self, plain: &Tree, after: Names) -> Tree {
+        let mut lives = vec![named(&[plain.end]) | after];
         for line in plain.lines.iter().rev() {
-            lives.push(live_before(line, lives.last().unwrap()));
+            lives.push(live_before(line, lives[lives.len() - 1]));
         }
         lives.reverse();
         let mut lines = Vec::new();
         for (i, line) in plain.lines.iter().enumerate() {
-            self.line(line, &lives[i + 1], &mut lines);
+            self.line(line, lives[i + 1], &mut lines);
         }
         self.retain_handed(&[plain.end], after, &mut lines);
         Tree { lines, end: plain.end }
     }
 
     /// Retains each handed-over atom that is live after the line or occurs again on it.
-    fn retain_handed(&self, atoms: &[Atom], after: &Names, lines: &mut Vec<Line>) {
+    fn retain_handed(&self, atoms: &[Atom], after: Names, lines: &mut Vec<Line>) {
         for (i, atom) in atoms.iter().enumerate() {
             if let Atom::Name(name) = atom {
-                if self.is_array(*name) && (after.contains(name) || atoms[i + 1..].contains(atom)) {
+                if self.is_array(*name) && (after.has(*name) || atoms[i + 1..].contains(atom)) {
                     lines.push(Line::Retain(*name));
                 }
             }
@@ -276,7 +260,7 @@ impl Annotation<'_> {
     }
 
     /// A line, with what stands before and after it.
-    fn line(&self, line: &Line, after: &Names, lines: &mut Vec<Line>) {
+    fn line(&self, line: &Line, after: Names, lines: &mut Vec<Line>) {
         let mut done_with: Names = line.name().into_iter().collect();
         match line {
             Line::Plain(_, Operation::Call(_) | Operation::Literal(_), atoms) => {
@@ -288,36 +272,35 @@ impl Annotation<'_> {
                 if *operation == Operation::Index && self.is_array(*name) {
                     lines.push(Line::Retain(*name));
                 }
-                done_with.extend(named(atoms));
+                done_with = done_with | named(atoms);
             }
             Line::If(name, guard, first, second) => {
-                let after = without(after, *name);
-                let trees = (self.branch(first, second, &after), self.branch(second, first, &after));
+                let after = after.without(*name);
+                let trees = (self.branch(first, second, after), self.branch(second, first, after));
                 lines.push(Line::If(*name, *guard, trees.0, trees.1));
             }
             Line::Map(name, parameter, array, tree) => {
-                let annotated = self.pass(*parameter, tree, &after_pass(*name, *parameter, tree, after));
+                let annotated = self.pass(*parameter, tree, after.without(*name) | inner_uses(line));
                 lines.push(Line::Map(*name, *parameter, *array, annotated));
-                done_with.extend(named(&[*array]));
-                done_with.extend(without(&outer_uses(tree), *parameter));
+                done_with = done_with | named(&[*array]) | inner_uses(line);
             }
             Line::Retain(_) | Line::Release(_) => lines.push(line.clone()),
         }
-        lines.extend(self.releases(&(&done_with - after)));
+        lines.extend(self.releases(done_with - after));
     }
 
     /// A branch opens by releasing what only the other one uses.
-    fn branch(&self, own: &Tree, other: &Tree, after: &Names) -> Tree {
+    fn branch(&self, own: &Tree, other: &Tree, after: Names) -> Tree {
         let mut tree = self.tree(own, after);
-        self.open_with_releases(&mut tree, &(&outer_uses(other) - &live(own, after)));
+        self.open_with_releases(&mut tree, outer_uses(other) - live(own, after));
         tree
     }
 
     /// A map's tree opens by retaining its parameter, and by releasing it if it is unused.
-    fn pass(&self, parameter: usize, plain: &Tree, after: &Names) -> Tree {
+    fn pass(&self, parameter: usize, plain: &Tree, after: Names) -> Tree {
         let mut tree = self.tree(plain, after);
         if self.is_array(parameter) {
-            if !outer_uses(plain).contains(&parameter) {
+            if !outer_uses(plain).has(parameter) {
                 tree.lines.insert(0, Line::Release(parameter));
             }
             tree.lines.insert(0, Line::Retain(parameter));

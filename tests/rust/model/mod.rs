@@ -2,6 +2,7 @@
 
 pub mod code;
 pub mod machine;
+pub mod names;
 pub mod script;
 pub mod store;
 
