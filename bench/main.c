@@ -1,5 +1,5 @@
 /* Measures the four calls and prints a line for each case: its name and values as KEY=VALUE, for bench/report.
- * Times are of this thread's processor time, in nanoseconds a call: the least of several rounds. */
+ * Times are of this thread's processor time, in nanoseconds a call: the least of several rounds, many calls each. */
 #define _POSIX_C_SOURCE 200809L
 #include "scripts.h"
 #include "stack.h"
@@ -9,7 +9,7 @@
 #include <stdlib.h>
 #include <time.h>
 
-enum { ROUNDS = 7, ROUND_NANOSECONDS = 30000000 };
+enum { ROUNDS = 25, ROUND_NANOSECONDS = 10000000 };
 
 struct bench_case {
     const char *name;
@@ -94,17 +94,26 @@ static uint64_t repeated(void (*work)(void *), uint64_t times)
     return now() - start;
 }
 
-static double nanoseconds(void (*work)(void *))
+/* A call that is timed. */
+struct timed {
+    const char *name;
+    void (*work)(void *);
+    uint64_t times; /* that make a round long enough */
+    uint64_t least; /* time of a round */
+};
+
+static void calibrate(struct timed *timed)
 {
-    uint64_t times = 1;
-    while (repeated(work, times) < ROUND_NANOSECONDS)
-        times *= 2;
-    uint64_t least = UINT64_MAX;
-    for (int round = 0; round < ROUNDS; round++) {
-        uint64_t taken = repeated(work, times);
-        least = taken < least ? taken : least;
-    }
-    return (double)least / (double)times;
+    timed->times = 1;
+    while (repeated(timed->work, timed->times) < ROUND_NANOSECONDS)
+        timed->times *= 2;
+    timed->least = UINT64_MAX;
+}
+
+static void time_round(struct timed *timed)
+{
+    uint64_t taken = repeated(timed->work, timed->times);
+    timed->least = taken < timed->least ? taken : timed->least;
 }
 
 /* ---- Cases ---- */
@@ -130,15 +139,21 @@ static void measure(const struct bench_case *c)
     uint32_t lines = engine_answer_lines(bench.answer);
     bench.lines = c->lines == 0 ? lines : c->lines;
     printf("%s nodes=%zu lines=%" PRIu32 " cells=%zu", c->name, (bench.script.length - 4) / 9, lines, c->cells);
-    printf(" translate=%.0f translate_stack=%zu", nanoseconds(translate), stack_of(translate, &bench));
-    printf(" open=%.0f open_stack=%zu", nanoseconds(open_store), stack_of(open_store, &bench));
-    demand(c->name, "open", ENGINE_DONE);
-    deliver(&bench); /* the first delivery may go another way than the rest */
-    printf(" check=%.0f check_stack=%zu", nanoseconds(check_store), stack_of(check_store, &bench));
-    demand(c->name, "check", ENGINE_DONE);
-    printf(" deliver=%.0f deliver_stack=%zu", nanoseconds(deliver), stack_of(deliver, &bench));
+    struct timed calls[] = { { "translate", translate, 0, 0 }, { "open", open_store, 0, 0 },
+                             { "check", check_store, 0, 0 }, { "deliver", deliver, 0, 0 } };
+    enum { CALLS = sizeof calls / sizeof *calls };
+    for (int i = 0; i < CALLS; i++)
+        calibrate(&calls[i]);
     demand(c->name, "deliver", c->number);
-    printf(" steps=%" PRIu32 "\n", engine_answer_steps(bench.answer));
+    uint32_t steps = engine_answer_steps(bench.answer);
+    for (int round = 0; round < ROUNDS; round++) /* in turn, so that all see the same of the machine */
+        for (int i = 0; i < CALLS; i++)
+            time_round(&calls[i]);
+    demand(c->name, "deliver", c->number);
+    for (int i = 0; i < CALLS; i++)
+        printf(" %s=%.0f %s_stack=%zu", calls[i].name, (double)calls[i].least / (double)calls[i].times, calls[i].name,
+               stack_of(calls[i].work, &bench));
+    printf(" steps=%" PRIu32 "\n", steps);
 }
 
 int main(void)

@@ -12,8 +12,8 @@
 static const char usage[] =
     "usage: controller [OPTION..] SCRIPT [DAY]\n"
     "  SCRIPT      a script file\n"
-    "  DAY         the deliveries, a line each: readings, then 'budget N' if it has a budget of its own; 'none' is for\n"
-    "              no readings, and '#' begins a comment. Without DAY, or for '-', standard input is read\n"
+    "  DAY         the deliveries, a line each: readings, then 'budget N' if it has a budget of its own; 'none' is\n"
+    "              for no readings, and '#' begins a comment. Without DAY, or for '-', standard input is read\n"
     "  --cells N   cells of the store, 1 to 256 (default 64)\n"
     "  --budget N  steps that a delivery may take (default 10000)\n"
     "  --check     check the store after opening and after each delivery\n"

@@ -12,6 +12,8 @@ pub struct Shape {
     pub spine: bool,
     /// the level from which on there are leaves only; above 64 the script may be refused
     pub levels: usize,
+    /// some maps have elements of depth 4, which no array may have
+    pub faulty: bool,
 }
 
 struct Signature {
@@ -134,6 +136,9 @@ impl Generator<'_> {
             _ if depth > 0 => self.literal(depth, next, scope),
             6 => {
                 self.put(11, 0);
+                if self.shape.faulty && self.random.once_in(4) {
+                    return self.map(5, next + 1, scope);
+                }
                 let of = 1 + low_depth(self.random).min(3);
                 self.part(of, next, scope);
             }

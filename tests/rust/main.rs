@@ -37,7 +37,7 @@ fn code_lengths(random: &mut Random) -> (usize, usize) {
 fn shape(random: &mut Random) -> Shape {
     let functions = 1 + random.below(6).min(random.below(6));
     let nodes = *random.pick(&[4, 12, 30, 60, 120, 250]);
-    Shape { functions, nodes, spine: random.once_in(4), levels: 63 }
+    Shape { functions, nodes, spine: random.once_in(4), levels: 63, faulty: false }
 }
 
 fn readings(random: &mut Random) -> Vec<i64> {
@@ -82,9 +82,10 @@ fn files(random: &mut Random, count: usize) -> Tally {
     let mut tally = Tally::default();
     for turn in 0..count {
         let shape = match turn % 16 {
-            1 => Shape { functions: 1 + random.below(33), nodes: 30, spine: false, levels: 63 },
-            2 => Shape { functions: 2, nodes: 400, spine: false, levels: 63 },
-            3 => Shape { functions: 1, nodes: 300, spine: true, levels: 66 },
+            1 => Shape { functions: 1 + random.below(33), nodes: 30, spine: false, levels: 63, faulty: false },
+            2 => Shape { functions: 2, nodes: 400, spine: false, levels: 63, faulty: false },
+            3 => Shape { functions: 1, nodes: 300, spine: true, levels: 66, faulty: false },
+            4 => Shape { functions: 2, nodes: 60, spine: false, levels: 63, faulty: true },
             _ => shape(random),
         };
         let mut file = generate::script(random, shape);
@@ -103,7 +104,7 @@ fn files(random: &mut Random, count: usize) -> Tally {
 /// Every shorter file of a script, and one byte more.
 fn cut_files(random: &mut Random) -> Tally {
     let mut tally = Tally::default();
-    let mut file = generate::script(random, Shape { functions: 3, nodes: 40, spine: false, levels: 63 });
+    let mut file = generate::script(random, Shape { functions: 3, nodes: 40, spine: false, levels: 63, faulty: false });
     file.push(0);
     for length in 0..=file.len() {
         let mut arrays = lent(random, 4096, 4096, 2);
