@@ -2,8 +2,8 @@
  *
  * Every call takes the script file and the two code arrays, and translates the script afresh; nothing is kept between
  * calls but the store, in the host's two store arrays. The engine has no global data, allocates nothing, calls no
- * function of the host's but memcpy and memset, and always returns. It believes nothing that is lent to it: any bytes may be a script file, and any words a
- * store. The host sees to three things only:
+ * function of the host's but memcpy and memset, and always returns. It believes nothing that is lent to it: any bytes
+ * may be a script file, and any words a store. The host sees to three things only:
  *   - a pointer is aligned and not null, and has at least the number of elements that follows it (so also for 0);
  *   - the arrays of one call lie apart in memory;
  *   - calls on one store come one after another.
