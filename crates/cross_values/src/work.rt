@@ -43,7 +43,7 @@ fn work_part(
     if stop != 0 {
         return Worked::Stop(stop);
     }
-    work_after(
+    work_node(
         script,
         names,
         memory,
@@ -85,7 +85,7 @@ fn work_parts(
 }
 
 // Works a node whose first parts are worked.
-fn work_after(
+fn work_node(
     script: &[u64],
     names: &mut [u64],
     memory: &mut [u64],
@@ -101,7 +101,7 @@ fn work_after(
     match kind {
         7 => {
             let body = rows::part_at(script, node, 1);
-            work_bound(
+            work_let(
                 script,
                 names,
                 memory,
@@ -139,8 +139,8 @@ fn work_after(
     }
 }
 
-// Works a body under one name more, which is put back after it.
-fn work_bound(
+// Works a body under one name more, which is put back after it: a let, or one pass of a map.
+fn work_let(
     script: &[u64],
     names: &mut [u64],
     memory: &mut [u64],
@@ -181,7 +181,7 @@ fn work_map(
             return Worked::Stop(21);
         }
         let element = arena::element_at(memory, array, i);
-        match work_bound(
+        match work_let(
             script,
             names,
             memory,
