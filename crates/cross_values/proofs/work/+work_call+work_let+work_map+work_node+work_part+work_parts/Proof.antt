@@ -108,33 +108,94 @@ work-parts-below t =
     and 5 work-parts-kinds.ps (falls 5 work-parts-kinds.ps _<_ μ-work-parts t) work-parts.Pre
 
 abbrev work-call-claims : ℕ → call-lts.Claims
-work-call-claims t = (step-reads.Asked, step-reads.Learnt, end-after-reads.Asked, end-after-reads.Learnt,
-    bind-parameters-reads.Asked, bind-parameters-reads.Learnt, work-part-below t, work-part.Post)
+work-call-claims t = (
+  step-reads.Asked,
+  step-reads.Learnt,
+  end-after-reads.Asked,
+  end-after-reads.Learnt,
+  bind-parameters-reads.Asked,
+  bind-parameters-reads.Learnt,
+  work-part-below t,
+  work-part.Post,
+)
 
 abbrev work-let-claims : ℕ → let-lts.Claims
-work-let-claims t = (word-reads.Asked, word-reads.Learnt, put-reads.Asked, put-reads.Learnt, work-part-below t,
-    work-part.Post)
+work-let-claims t = (
+  word-reads.Asked,
+  word-reads.Learnt,
+  put-reads.Asked,
+  put-reads.Learnt,
+  work-part-below t,
+  work-part.Post,
+)
 
 abbrev work-map-claims : ℕ → map-lts.Claims
-work-map-claims t = (step-reads.Asked, step-reads.Learnt, length-at-reads.Asked, length-at-reads.Learnt,
-    element-at-reads.Asked, element-at-reads.Learnt, work-let-below t, work-let.Post, put-reads.Asked,
-    put-reads.Learnt, new-array-reads.Asked, new-array-reads.Learnt)
+work-map-claims t = (
+  step-reads.Asked,
+  step-reads.Learnt,
+  length-at-reads.Asked,
+  length-at-reads.Learnt,
+  element-at-reads.Asked,
+  element-at-reads.Learnt,
+  work-let-below t,
+  work-let.Post,
+  put-reads.Asked,
+  put-reads.Learnt,
+  new-array-reads.Asked,
+  new-array-reads.Learnt,
+)
 
 abbrev work-node-claims : ℕ → node-lts.Claims
-work-node-claims t = (kind-at-reads.Asked, kind-at-reads.Learnt, operand-at-reads.Asked, operand-at-reads.Learnt,
-    word-reads.Asked, word-reads.Learnt, part-at-reads.Asked, part-at-reads.Learnt, work-let-below t,
-    work-let.Post, work-call-below t, work-call.Post, step-reads.Asked, step-reads.Learnt, branch-at-reads.Asked,
-    branch-at-reads.Learnt, work-part-below t, work-part.Post, work-map-below t, work-map.Post,
-    work-values-reads.Asked, work-values-reads.Learnt)
+work-node-claims t = (
+  kind-at-reads.Asked,
+  kind-at-reads.Learnt,
+  operand-at-reads.Asked,
+  operand-at-reads.Learnt,
+  word-reads.Asked,
+  word-reads.Learnt,
+  part-at-reads.Asked,
+  part-at-reads.Learnt,
+  work-let-below t,
+  work-let.Post,
+  work-call-below t,
+  work-call.Post,
+  step-reads.Asked,
+  step-reads.Learnt,
+  branch-at-reads.Asked,
+  branch-at-reads.Learnt,
+  work-part-below t,
+  work-part.Post,
+  work-map-below t,
+  work-map.Post,
+  work-values-reads.Asked,
+  work-values-reads.Learnt,
+)
 
 abbrev work-part-claims : ℕ → part-lts.Claims
-work-part-claims t = (kind-at-reads.Asked, kind-at-reads.Learnt, operand-at-reads.Asked, operand-at-reads.Learnt,
-    word-reads.Asked, word-reads.Learnt, first-parts-reads.Asked, first-parts-reads.Learnt, work-parts-below t,
-    work-parts.Post, work-node-below t, work-node.Post)
+work-part-claims t = (
+  kind-at-reads.Asked,
+  kind-at-reads.Learnt,
+  operand-at-reads.Asked,
+  operand-at-reads.Learnt,
+  word-reads.Asked,
+  word-reads.Learnt,
+  first-parts-reads.Asked,
+  first-parts-reads.Learnt,
+  work-parts-below t,
+  work-parts.Post,
+  work-node-below t,
+  work-node.Post,
+)
 
 abbrev work-parts-claims : ℕ → parts-lts.Claims
-work-parts-claims t = (work-part-below t, work-part.Post, put-reads.Asked, put-reads.Learnt, end-at-reads.Asked,
-    end-at-reads.Learnt)
+work-parts-claims t = (
+  work-part-below t,
+  work-part.Post,
+  put-reads.Asked,
+  put-reads.Learnt,
+  end-at-reads.Asked,
+  end-at-reads.Learnt,
+)
 
 work-call-step-requires : (t : ℕ) → call-lts.Need-step-requires (work-call-claims t)
     (work-call-at t) work-call.Post
