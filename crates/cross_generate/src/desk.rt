@@ -2,7 +2,7 @@
 ghost use Prim.Native.Nat.{_<_, _≤_};
 
 // Single words: the seed, the nodes written, the items on the agenda, the functions, the function that is written,
-// whether that function calls itself with a falling number, and the nodes after which only leaves are written.
+// the nodes after which only leaves are written, and whether a spine came to its last level.
 const SEED: usize = 0;
 
 pub const NODES: usize = 1;
@@ -14,6 +14,8 @@ pub const FUNCTIONS: usize = 3;
 pub const FUNCTION: usize = 4;
 
 pub const LIMIT: usize = 5;
+
+pub const LAST_LEVEL: usize = 6;
 
 // Regions: for each name 0 or its depth + 1; 16 words for each function; the agenda; two words for each node.
 const SCOPE: usize = 16;
@@ -84,6 +86,13 @@ pub fn choose(desk: &mut [u64], n: u64) -> u64
     seed / 8 % n
 }
 
+// Notes that a spine came to its last level, where it did.
+pub fn note_spine(desk: &mut [u64], spine: bool) {
+    if spine {
+        put(desk, LAST_LEVEL, 1);
+    }
+}
+
 // Puts a seed on the desk; the sequence stays at 0 where it is 0, so it is not.
 pub fn plant(desk: &mut [u64], seed: u64) {
     put(desk, SEED, seed % 2147483646 + 1);
@@ -120,7 +129,7 @@ pub fn push(desk: &mut [u64], tag: u64, first: u64, second: u64) {
     }
 }
 
-// Takes the agenda's top item; 4 where there is none.
+// Takes the agenda's top item; 3 where there is none.
 pub fn pop(desk: &mut [u64]) -> u64 {
     let items = word(desk, ITEMS);
     if items == 0 {

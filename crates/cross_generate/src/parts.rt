@@ -187,11 +187,15 @@ fn make_tested_index(desk: &mut [u64], depth: u64, levels: u64)
     push_test(desk, name, position)
 }
 
-// How many elements a literal has: mostly a few, at times 16.
-fn literal_length(desk: &mut [u64]) -> u64
+// How many elements a literal has: mostly a few, at times 16, and on a spine at least one.
+fn literal_length(desk: &mut [u64], spine: bool) -> u64
     ensures { λ r. ⌜ r ≤ 16 ⌝ }
 {
-    if desk::choose(desk, 12) == 0 {
+    let many = desk::choose(desk, 12) == 0;
+    if spine {
+        return 1 + desk::choose(desk, 3);
+    }
+    if many {
         return 16;
     }
     desk::choose(desk, 4)
@@ -201,7 +205,7 @@ fn literal_length(desk: &mut [u64]) -> u64
 fn make_literal(desk: &mut [u64], depth: u64, levels: u64, spine: bool)
     requires { ⌜ (0 < levels) × (0 < depth) × (depth ≤ 4) ⌝ }
 {
-    let length = literal_length(desk);
+    let length = literal_length(desk, spine);
     desk::write(desk, 9, length + 256 * (depth - 1));
     push_elements(desk, depth - 1, levels, spine, length)
 }
@@ -381,7 +385,7 @@ fn make_compound(desk: &mut [u64], depth: u64, levels: u64, spine: bool)
             return make_tested_index(desk, depth, levels);
         }
     }
-    if choice < 7 && !spine && 3 < levels {
+    if choice < 9 && !spine && 3 < levels {
         return make_call(desk, depth, levels);
     }
     if depth == 0 {
@@ -396,6 +400,7 @@ pub fn make_part(desk: &mut [u64], depth: u64, levels: u64, spine: bool)
 {
     let leaf = desk::choose(desk, 8) == 0;
     if levels < 2 {
+        desk::note_spine(desk, spine);
         return make_leaf(desk, depth);
     }
     if desk::word(desk, desk::LIMIT) < desk::word(desk, desk::NODES) {

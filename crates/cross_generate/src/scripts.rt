@@ -136,7 +136,8 @@ fn push_body(desk: &mut [u64], function: u64, result: u64) {
     if desk::signature(desk, function, desk::RECURSIVE) == 1 {
         return push_recursive(desk, result);
     }
-    if desk::choose(desk, 8) == 0 {
+    if desk::choose(desk, 10) == 0 {
+        desk::put(desk, desk::LIMIT, 1000);
         return parts::push_part(desk, result, 64, true);
     }
     let levels = 4 + desk::choose(desk, 8);
@@ -165,7 +166,7 @@ fn write_function(desk: &mut [u64], function: u64) {
 pub fn make_script(desk: &mut [u64], seed: u64) {
     desk::plant(desk, seed);
     desk::put(desk, desk::NODES, 0);
-    let functions = 1 + desk::choose(desk, 4);
+    let functions = 1 + desk::choose(desk, 5);
     choose_signatures(desk, functions);
     let mut function: u64 = 0;
     while function < functions {
@@ -181,7 +182,7 @@ fn put_byte(file: &mut [u8], i: usize, value: u64) {
 }
 
 // Eight bytes, low byte first.
-fn put_bits(file: &mut [u8], i: usize, bits: u64)
+pub fn put_bits(file: &mut [u8], i: usize, bits: u64)
     requires { ⌜ i ≤ 65536 ⌝ }
 {
     let mut k: usize = 0;

@@ -1,6 +1,5 @@
 -- `cross_generate::parts::push_elements` ends: the elements left fall. The invariant: the desk keeps its length.
 use mathlib.Core.Path.{_≡_}
-
 use lib.ListN.{length}
 use borrow.Author.Needs.{needs}
 use Rattle.cross_generate.proofs.parts.push_elements.Statement.{statement}

@@ -7,7 +7,7 @@ use Rattle.cross_generate.proofs.scripts.make_script.Statement.{stateme
 use Rattle.cross_generate.proofs.scripts.make_script.Tie as tie
 
 abbrev Inv-loop : tie.InvT-loop
-Inv-loop desk₀ seed functions function₀ desk function = (function ≤ functions) × (functions ≤ 4) × (length desk ≡ length desk₀)
+Inv-loop desk₀ seed functions function₀ desk function = (function ≤ functions) × (functions ≤ 5) × (length desk ≡ length desk₀)
 
 abbrev μ-loop : tie.MeasureT-loop
 μ-loop desk₀ seed functions function₀ desk function = functions - function

@@ -1,0 +1,159 @@
+// Runs the engine and a second interpreter on the same scripts and deliveries: document 01's remaining trials, and
+// scripts made from seeds. It prints how many deliveries agree in number, steps and totals, by number.
+mod both;
+mod ledger;
+mod tally;
+mod trials;
+
+use cross_generate::desk;
+use cross_generate::requests;
+use cross_generate::scripts;
+use libc::STDOUT_FILENO;
+ghost use Prim.Native.Nat.{_<_, _≤_};
+ghost use lib.ListN.{length};
+
+const SCRIPTS: u64 = 400;
+
+const DELIVERIES: u64 = 6;
+
+// Says where the engine and the second interpreter differ.
+fn print_difference(seed: u64, delivery: u64) {
+    io::write_all(STDOUT_FILENO, b"differs: seed ");
+    io::print_decimal(STDOUT_FILENO, seed);
+    io::write_all(STDOUT_FILENO, b", delivery ");
+    io::print_decimal(STDOUT_FILENO, delivery);
+    io::write_all(STDOUT_FILENO, b"\n");
+}
+
+// One delivery with readings and a budget from the desk.
+fn run_delivery(
+    file: &[u8],
+    kinds: &mut [u8],
+    operands: &mut [i64],
+    slots: &mut [i64],
+    heads: &mut [u32],
+    script: &[u64],
+    memory: &mut [u64],
+    book: &mut [u64],
+    draft: &mut [u64],
+) -> u64 {
+    let mut readings = [0u64; 17];
+    let count = requests::choose_readings(draft, &mut readings[..]);
+    let budget = requests::choose_budget(draft);
+    both::deliver_both(
+        file,
+        kinds,
+        operands,
+        slots,
+        heads,
+        script,
+        memory,
+        book,
+        &readings[..count],
+        budget,
+    )
+}
+
+// Some deliveries to a store.
+fn run_deliveries(
+    file: &[u8],
+    kinds: &mut [u8],
+    operands: &mut [i64],
+    slots: &mut [i64],
+    heads: &mut [u32],
+    script: &[u64],
+    memory: &mut [u64],
+    book: &mut [u64],
+    draft: &mut [u64],
+    counts: &mut [u64],
+    seed: u64,
+) {
+    let mut delivery: u64 = 0;
+    while delivery < DELIVERIES {
+        let number = run_delivery(
+            file,
+            kinds,
+            operands,
+            slots,
+            heads,
+            script,
+            memory,
+            book,
+            draft,
+        );
+        tally::count(counts, number as usize);
+        if number == both::DIFFERS {
+            return print_difference(seed, delivery);
+        }
+        delivery = delivery + 1;
+    }
+}
+
+// A script in a fresh store.
+fn run_file(file: &[u8], draft: &mut [u64], counts: &mut [u64], seed: u64) {
+    let mut kinds = [0u8; 4096];
+    let mut operands = [0i64; 4096];
+    let mut slots = [0i64; 4097];
+    let mut heads = [0u32; 1025];
+    let mut script = [0u64; 3072];
+    let mut memory = [0u64; 131072];
+    let mut book = [0u64; 6];
+    let cells = requests::choose_cells(draft);
+    let slot_end = 1 + 16 * cells;
+    let head_end = 1 + 4 * cells;
+    if !both::open_both(
+        file,
+        &mut kinds[..],
+        &mut operands[..],
+        &mut slots[..slot_end],
+        &mut heads[..head_end],
+        &mut script[..],
+        &mut memory[..],
+        &mut book[..],
+    ) {
+        return tally::count(counts, tally::REFUSED);
+    }
+    tally::count(counts, tally::OPENED);
+    tally::count(
+        counts,
+        tally::DEPTHS + ledger::totals_depth(&script[..]) as usize,
+    );
+    run_deliveries(
+        file,
+        &mut kinds[..],
+        &mut operands[..],
+        &mut slots[..slot_end],
+        &mut heads[..head_end],
+        &script[..],
+        &mut memory[..],
+        &mut book[..],
+        draft,
+        counts,
+        seed,
+    )
+}
+
+// The script of a seed.
+fn run_seed(seed: u64, counts: &mut [u64]) {
+    let mut draft = [0u64; 4896];
+    let mut file = [0u8; 9220];
+    scripts::make_script(&mut draft[..], seed);
+    tally::count_draft(&draft[..], counts);
+    let end = scripts::write_file(&draft[..], &mut file[..]);
+    run_file(&file[..end], &mut draft[..], counts, seed)
+}
+
+fn run_seeds(counts: &mut [u64]) {
+    let mut seed: u64 = 0;
+    while seed < SCRIPTS {
+        run_seed(seed, counts);
+        seed = seed + 1;
+    }
+}
+
+fn main() {
+    trials::run_trials();
+    let mut counts = [0u64; 64];
+    run_seeds(&mut counts[..]);
+    tally::print_tally(&counts[..]);
+}

@@ -1,0 +1,122 @@
+// Document 01's trials that its theorems leave: 16 and 17 readings with the printed script, and a call depth of 32 and
+// of 33. Each is one delivery to a fresh store.
+use super::both;
+use super::ledger;
+use cross_generate::desk;
+use cross_generate::scripts;
+use libc::STDOUT_FILENO;
+ghost use Prim.Native.Nat.{_≤_};
+ghost use lib.ListN.{length};
+
+// Writes nodes from bytes, three each: the kind, and the operand's low and high byte.
+fn write_nodes(draft: &mut [u64], bytes: &[u8]) {
+    let mut i: usize = 0;
+    while i + 2 < bytes.len() {
+        let low = wide(bytes[i + 1]);
+        let high = wide(bytes[i + 2]);
+        desk::write(draft, wide(bytes[i]), low % 256 + 256 * (high % 256));
+        i = i + 3;
+    }
+}
+
+fn wide(byte: u8) -> u64 {
+    byte as u64
+}
+
+// The printed script: the first totals are the first reading, and later readings are added.
+fn write_printed(draft: &mut [u64]) {
+    desk::put(draft, desk::FUNCTIONS, 1);
+    write_nodes(
+        draft,
+        b"\x00\x02\x01\x01\x00\x01\x01\x01\x01\x0c\x00\x00\x0b\x00\x00\x03\x00\x00\x09\x01\x00\x04\x00\x00\x0a\x00\x00",
+    );
+    write_nodes(
+        draft,
+        b"\x03\x00\x00\x02\x00\x00\x0a\x00\x00\x03\x01\x00\x02\x00\x00\x09\x01\x00\x0a\x00\x00\x03\x01\x00\x02\x00\x00",
+    );
+}
+
+// Main calls a function with the first reading n, which calls itself n times: f(n) = if n then f(n - 1) else 0.
+fn write_nested(draft: &mut [u64]) {
+    desk::put(draft, desk::FUNCTIONS, 2);
+    write_nodes(
+        draft,
+        b"\x00\x02\x00\x01\x00\x00\x01\x01\x01\x08\x01\x01\x0a\x00\x00\x03\x01\x00\x02\x00\x00",
+    );
+    write_nodes(
+        draft,
+        b"\x00\x01\x00\x01\x00\x00\x0c\x00\x00\x03\x00\x00\x08\x01\x01\x05\x00\x00\x03\x00\x00\x02\x01\x00\x02\x00\x00",
+    );
+}
+
+// A delivery to a fresh store of two cells, in both; the number.
+fn number_of(file: &[u8], readings: &[u64]) -> u64
+    requires { ⌜ length (now readings) ≤ 17 ⌝ }
+{
+    let mut kinds = [0u8; 64];
+    let mut operands = [0i64; 64];
+    let mut slots = [0i64; 33];
+    let mut heads = [0u32; 9];
+    let mut script = [0u64; 3072];
+    let mut memory = [0u64; 1024];
+    let mut book = [0u64; 6];
+    if !both::open_both(
+        file,
+        &mut kinds[..],
+        &mut operands[..],
+        &mut slots[..],
+        &mut heads[..],
+        &mut script[..],
+        &mut memory[..],
+        &mut book[..],
+    ) {
+        return both::DIFFERS;
+    }
+    both::deliver_both(
+        file,
+        &mut kinds[..],
+        &mut operands[..],
+        &mut slots[..],
+        &mut heads[..],
+        &script[..],
+        &mut memory[..],
+        &mut book[..],
+        readings,
+        1000000,
+    )
+}
+
+// Prints what a trial is, and its number in both.
+fn print_trial(label: &[u8], number: u64) {
+    io::write_all(STDOUT_FILENO, label);
+    io::write_all(STDOUT_FILENO, b": ");
+    io::print_decimal(STDOUT_FILENO, number);
+    io::write_all(STDOUT_FILENO, b"\n");
+}
+
+// 16 and 17 readings.
+fn run_printed() {
+    let mut draft = [0u64; 4896];
+    let mut file = [0u8; 9220];
+    write_printed(&mut draft[..]);
+    let end = scripts::write_file(&draft[..], &mut file[..]);
+    let readings = [7u64; 17];
+    print_trial(b"16 readings", number_of(&file[..end], &readings[..16]));
+    print_trial(b"17 readings", number_of(&file[..end], &readings[..17]));
+}
+
+// Main is the first call, and the function with the reading n makes n + 1 more.
+fn run_nested() {
+    let mut draft = [0u64; 4896];
+    let mut file = [0u8; 9220];
+    write_nested(&mut draft[..]);
+    let end = scripts::write_file(&draft[..], &mut file[..]);
+    let readings = [30u64, 31];
+    print_trial(b"call depth 32", number_of(&file[..end], &readings[..1]));
+    print_trial(b"call depth 33", number_of(&file[..end], &readings[1..]));
+}
+
+pub fn run_trials() {
+    run_printed();
+    run_nested();
+}
