@@ -107,7 +107,7 @@ pub fn judge(
 // The number with these bits.
 pub fn signed(bits: u64) -> i64 {
     let mut bytes = [0u8; 8];
-    cross_generate::scripts::put_bits(&mut bytes[..], 0, bits);
+    cross_draft::file::put_bits(&mut bytes[..], 0, bits);
     words::signed_at(&bytes[..], 0)
 }
 

@@ -5,8 +5,7 @@ mod ledger;
 mod tally;
 mod trials;
 
-use cross_generate::desk;
-use cross_generate::requests;
+use cross_draft::requests;
 use cross_generate::scripts;
 use libc::STDOUT_FILENO;
 ghost use Prim.Native.Nat.{_<_, _≤_};
@@ -135,11 +134,11 @@ fn run_file(file: &[u8], draft: &mut [u64], counts: &mut [u64], seed: u64) {
 
 // The script of a seed.
 fn run_seed(seed: u64, counts: &mut [u64]) {
-    let mut draft = [0u64; 4896];
-    let mut file = [0u8; 9220];
+    let mut draft = [0u64; cross_draft::DESK_WORDS];
+    let mut file = [0u8; cross_draft::FILE_BYTES];
     scripts::make_script(&mut draft[..], seed);
     tally::count_draft(&draft[..], counts);
-    let end = scripts::write_file(&draft[..], &mut file[..]);
+    let end = cross_draft::file::write_file(&draft[..], &mut file[..]);
     run_file(&file[..end], &mut draft[..], counts, seed)
 }
 

@@ -1,6 +1,5 @@
 // What a run counts, in one slice of words, and how it is printed.
 use super::both;
-use cross_generate::desk;
 use libc::STDOUT_FILENO;
 ghost use Prim.Native.Nat.{_≤_};
 
@@ -21,23 +20,23 @@ pub const TALLY_WORDS: usize = 64;
 
 // Counts one more.
 pub fn count(tally: &mut [u64], i: usize) {
-    let n = desk::word(tally, i);
-    desk::put(tally, i, std::num::wrapping_add_u64(n, 1));
+    let n = cross_draft::word(tally, i);
+    cross_draft::put(tally, i, std::num::wrapping_add_u64(n, 1));
 }
 
 // Counts the nodes of a draft by kind, and whether it comes to the last level.
 pub fn count_draft(draft: &[u64], tally: &mut [u64]) {
-    if desk::word(draft, desk::LAST_LEVEL) == 1 {
+    if cross_draft::word(draft, cross_draft::LAST_LEVEL) == 1 {
         count(tally, LAST_LEVEL);
     }
     count_nodes(draft, tally)
 }
 
 fn count_nodes(draft: &[u64], tally: &mut [u64]) {
-    let nodes = desk::word(draft, desk::NODES) % 1025;
+    let nodes = cross_draft::word(draft, cross_draft::NODES) % 1025;
     let mut node: u64 = 0;
     while node < nodes {
-        let kind = desk::kind_at(draft, node) % 16;
+        let kind = cross_draft::kind_at(draft, node) % 16;
         count(tally, KINDS + kind as usize);
         node = node + 1;
     }
@@ -57,7 +56,7 @@ fn print_words(tally: &[u64], start: usize, first: u64, past: u64)
 {
     let mut i = first;
     while i < past {
-        print_line(i, desk::word(tally, start + i as usize));
+        print_line(i, cross_draft::word(tally, start + i as usize));
         i = i + 1;
     }
 }
@@ -71,22 +70,22 @@ fn print_count(label: &[u8], count: u64) {
 
 // Prints the tally of a run.
 pub fn print_tally(tally: &[u64]) {
-    print_count(b"scripts opened: ", desk::word(tally, OPENED));
-    print_count(b"scripts refused: ", desk::word(tally, REFUSED));
+    print_count(b"scripts opened: ", cross_draft::word(tally, OPENED));
+    print_count(b"scripts refused: ", cross_draft::word(tally, REFUSED));
     print_count(
         b"scripts that reach level 64: ",
-        desk::word(tally, LAST_LEVEL),
+        cross_draft::word(tally, LAST_LEVEL),
     );
     io::write_all(STDOUT_FILENO, b"scripts by the depth of the totals\n");
     print_words(tally, DEPTHS, 0, 5);
     io::write_all(STDOUT_FILENO, b"nodes by kind\n");
     print_words(tally, KINDS, 0, 14);
     io::write_all(STDOUT_FILENO, b"deliveries that agree, by number\n");
-    print_line(0, desk::word(tally, 0));
-    print_line(10, desk::word(tally, 10));
+    print_line(0, cross_draft::word(tally, 0));
+    print_line(10, cross_draft::word(tally, 10));
     print_words(tally, 0, 21, 26);
     print_count(
         b"deliveries that differ: ",
-        desk::word(tally, both::DIFFERS as usize),
+        cross_draft::word(tally, both::DIFFERS as usize),
     );
 }

@@ -2,8 +2,6 @@
 // of 33. Each is one delivery to a fresh store.
 use super::both;
 use super::ledger;
-use cross_generate::desk;
-use cross_generate::scripts;
 use libc::STDOUT_FILENO;
 ghost use Prim.Native.Nat.{_≤_};
 ghost use lib.ListN.{length};
@@ -14,7 +12,7 @@ fn write_nodes(draft: &mut [u64], bytes: &[u8]) {
     while i + 2 < bytes.len() {
         let low = wide(bytes[i + 1]);
         let high = wide(bytes[i + 2]);
-        desk::write(draft, wide(bytes[i]), low % 256 + 256 * (high % 256));
+        cross_draft::write(draft, wide(bytes[i]), low % 256 + 256 * (high % 256));
         i = i + 3;
     }
 }
@@ -25,7 +23,7 @@ fn wide(byte: u8) -> u64 {
 
 // The printed script: the first totals are the first reading, and later readings are added.
 fn write_printed(draft: &mut [u64]) {
-    desk::put(draft, desk::FUNCTIONS, 1);
+    cross_draft::put(draft, cross_draft::FUNCTIONS, 1);
     write_nodes(
         draft,
         b"\x00\x02\x01\x01\x00\x01\x01\x01\x01\x0c\x00\x00\x0b\x00\x00\x03\x00\x00\x09\x01\x00\x04\x00\x00\x0a\x00\x00",
@@ -38,7 +36,7 @@ fn write_printed(draft: &mut [u64]) {
 
 // Main calls a function with the first reading n, which calls itself n times: f(n) = if n then f(n - 1) else 0.
 fn write_nested(draft: &mut [u64]) {
-    desk::put(draft, desk::FUNCTIONS, 2);
+    cross_draft::put(draft, cross_draft::FUNCTIONS, 2);
     write_nodes(
         draft,
         b"\x00\x02\x00\x01\x00\x00\x01\x01\x01\x08\x01\x01\x0a\x00\x00\x03\x01\x00\x02\x00\x00",
@@ -96,10 +94,10 @@ fn print_trial(label: &[u8], number: u64) {
 
 // 16 and 17 readings.
 fn run_printed() {
-    let mut draft = [0u64; 4896];
-    let mut file = [0u8; 9220];
+    let mut draft = [0u64; cross_draft::DESK_WORDS];
+    let mut file = [0u8; cross_draft::FILE_BYTES];
     write_printed(&mut draft[..]);
-    let end = scripts::write_file(&draft[..], &mut file[..]);
+    let end = cross_draft::file::write_file(&draft[..], &mut file[..]);
     let readings = [7u64; 17];
     print_trial(b"16 readings", number_of(&file[..end], &readings[..16]));
     print_trial(b"17 readings", number_of(&file[..end], &readings[..17]));
@@ -107,10 +105,10 @@ fn run_printed() {
 
 // Main is the first call, and the function with the reading n makes n + 1 more.
 fn run_nested() {
-    let mut draft = [0u64; 4896];
-    let mut file = [0u8; 9220];
+    let mut draft = [0u64; cross_draft::DESK_WORDS];
+    let mut file = [0u8; cross_draft::FILE_BYTES];
     write_nested(&mut draft[..]);
-    let end = scripts::write_file(&draft[..], &mut file[..]);
+    let end = cross_draft::file::write_file(&draft[..], &mut file[..]);
     let readings = [30u64, 31];
     print_trial(b"call depth 32", number_of(&file[..end], &readings[..1]));
     print_trial(b"call depth 33", number_of(&file[..end], &readings[1..]));

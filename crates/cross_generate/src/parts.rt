@@ -1,12 +1,6 @@
 // Parts of a script. A node is written when its item is taken, and items for its parts go on the agenda, the last
 // part first. `levels` is how deep a part may go; on a spine one part goes as deep as it may.
-use super::desk;
 ghost use Prim.Native.Nat.{_<_, _≤_};
-
-// The greatest and the least number, as bits.
-const GREATEST: u64 = 9223372036854775807;
-
-const LEAST: u64 = 9223372036854775808;
 
 // One of the eight names that scripts use, from both ends of their range.
 pub fn name_of(i: u64) -> u64
@@ -23,11 +17,11 @@ pub fn name_of(i: u64) -> u64
 fn find_name(desk: &mut [u64], depth: u64) -> u64
     requires { ⌜ depth ≤ 4 ⌝ }
 {
-    let start = desk::choose(desk, 8);
+    let start = cross_draft::choose(desk, 8);
     let mut i: u64 = 0;
     while i < 8 {
         let name = name_of(start + i);
-        if desk::known(desk, name) == depth + 1 {
+        if cross_draft::known(desk, name) == depth + 1 {
             return name;
         }
         i = i + 1;
@@ -37,35 +31,25 @@ fn find_name(desk: &mut [u64], depth: u64) -> u64
 
 // A name to bind; the falling number of a function that calls itself keeps its name.
 fn binding_name(desk: &mut [u64]) -> u64 {
-    let function = desk::word(desk, desk::FUNCTION);
-    if desk::signature(desk, function, desk::RECURSIVE) == 0 {
-        return name_of(desk::choose(desk, 8));
+    let function = cross_draft::word(desk, cross_draft::FUNCTION);
+    if cross_draft::signature(desk, function, cross_draft::RECURSIVE) == 0 {
+        return name_of(cross_draft::choose(desk, 8));
     }
-    name_of(desk::choose(desk, 7) + 1)
-}
-
-// The bits of a number: small, negative, or at the ends of the range.
-pub fn number(desk: &mut [u64]) -> u64 {
-    match desk::choose(desk, 9) {
-        0 => 18446744073709551615 - desk::choose(desk, 3),
-        1 => GREATEST - desk::choose(desk, 2),
-        2 => LEAST + desk::choose(desk, 2),
-        _ => desk::choose(desk, 5),
-    }
+    name_of(cross_draft::choose(desk, 7) + 1)
 }
 
 // Asks for a part of this depth.
 pub fn push_part(desk: &mut [u64], depth: u64, levels: u64, spine: bool) {
     let code = depth % 8 + levels % 128 * 8;
     if spine {
-        desk::push(desk, desk::PART, code + 1024, 0);
+        cross_draft::push(desk, cross_draft::PART, code + 1024, 0);
     } else {
-        desk::push(desk, desk::PART, code, 0);
+        cross_draft::push(desk, cross_draft::PART, code, 0);
     }
 }
 
 fn push_node(desk: &mut [u64], kind: u64, operand: u64) {
-    desk::push(desk, desk::NODE, kind, operand);
+    cross_draft::push(desk, cross_draft::NODE, kind, operand);
 }
 
 // Asks for a part of a node that has `levels`. On a spine only the chosen part goes deep.
@@ -78,8 +62,8 @@ fn push_child(desk: &mut [u64], depth: u64, levels: u64, spine: bool, chosen: bo
         }
         return push_part(desk, depth, 1, false);
     }
-    let few = desk::choose(desk, 5);
-    if desk::choose(desk, 2) == 0 {
+    let few = cross_draft::choose(desk, 5);
+    if cross_draft::choose(desk, 2) == 0 {
         if few < levels {
             return push_part(desk, depth, few, false);
         }
@@ -91,7 +75,7 @@ fn push_child(desk: &mut [u64], depth: u64, levels: u64, spine: bool, chosen: bo
 pub fn some_depth(desk: &mut [u64]) -> u64
     ensures { λ r. ⌜ r ≤ 4 ⌝ }
 {
-    match desk::choose(desk, 10) {
+    match cross_draft::choose(desk, 10) {
         0 => 4,
         1 => 3,
         2 | 3 => 2,
@@ -105,15 +89,15 @@ fn make_leaf(desk: &mut [u64], depth: u64)
     requires { ⌜ depth ≤ 4 ⌝ }
 {
     let name = find_name(desk, depth);
-    let other = desk::choose(desk, 5) == 0;
+    let other = cross_draft::choose(desk, 5) == 0;
     if name < 256 && !other {
-        return desk::write(desk, 3, name);
+        return cross_draft::write(desk, 3, name);
     }
     if depth == 0 {
-        let bits = number(desk);
-        return desk::write(desk, 2, bits);
+        let bits = cross_draft::requests::number(desk);
+        return cross_draft::write(desk, 2, bits);
     }
-    desk::write(desk, 9, 256 * (depth - 1))
+    cross_draft::write(desk, 9, 256 * (depth - 1))
 }
 
 // Writes a let.
@@ -122,12 +106,12 @@ fn make_let(desk: &mut [u64], depth: u64, levels: u64, spine: bool)
 {
     let name = binding_name(desk);
     let bound = some_depth(desk);
-    let old = desk::known(desk, name);
-    let deep_body = desk::choose(desk, 2) == 0;
-    desk::write(desk, 7, name);
-    desk::push(desk, desk::BINDING, name, old);
+    let old = cross_draft::known(desk, name);
+    let deep_body = cross_draft::choose(desk, 2) == 0;
+    cross_draft::write(desk, 7, name);
+    cross_draft::push(desk, cross_draft::BINDING, name, old);
     push_child(desk, depth, levels, spine, deep_body);
-    desk::push(desk, desk::BINDING, name, bound + 1);
+    cross_draft::push(desk, cross_draft::BINDING, name, bound + 1);
     push_child(desk, bound, levels, spine, !deep_body);
 }
 
@@ -135,8 +119,8 @@ fn make_let(desk: &mut [u64], depth: u64, levels: u64, spine: bool)
 fn make_if(desk: &mut [u64], depth: u64, levels: u64, spine: bool)
     requires { ⌜ 0 < levels ⌝ }
 {
-    let chosen = desk::choose(desk, 3);
-    desk::write(desk, 12, 0);
+    let chosen = cross_draft::choose(desk, 3);
+    cross_draft::write(desk, 12, 0);
     push_child(desk, depth, levels, spine, chosen == 2);
     push_child(desk, depth, levels, spine, chosen == 1);
     push_child(desk, 0, levels, spine, chosen == 0);
@@ -146,10 +130,10 @@ fn make_if(desk: &mut [u64], depth: u64, levels: u64, spine: bool)
 fn push_position(desk: &mut [u64], levels: u64, spine: bool)
     requires { ⌜ 0 < levels ⌝ }
 {
-    if desk::choose(desk, 5) == 0 {
+    if cross_draft::choose(desk, 5) == 0 {
         return push_child(desk, 0, levels, spine, false);
     }
-    let position = desk::choose(desk, 2);
+    let position = cross_draft::choose(desk, 2);
     push_node(desk, 2, position)
 }
 
@@ -157,7 +141,7 @@ fn push_position(desk: &mut [u64], levels: u64, spine: bool)
 fn make_index(desk: &mut [u64], depth: u64, levels: u64, spine: bool)
     requires { ⌜ (0 < levels) × (depth < 4) ⌝ }
 {
-    desk::write(desk, 10, 0);
+    cross_draft::write(desk, 10, 0);
     push_position(desk, levels, spine);
     push_child(desk, depth + 1, levels, spine, true)
 }
@@ -178,8 +162,8 @@ fn make_tested_index(desk: &mut [u64], depth: u64, levels: u64)
     if 255 < name {
         return make_let(desk, depth, levels, false);
     }
-    let position = desk::choose(desk, 3);
-    desk::write(desk, 12, 0);
+    let position = cross_draft::choose(desk, 3);
+    cross_draft::write(desk, 12, 0);
     push_part(desk, depth, 1, false);
     push_node(desk, 2, position);
     push_node(desk, 3, name);
@@ -191,14 +175,14 @@ fn make_tested_index(desk: &mut [u64], depth: u64, levels: u64)
 fn literal_length(desk: &mut [u64], spine: bool) -> u64
     ensures { λ r. ⌜ r ≤ 16 ⌝ }
 {
-    let many = desk::choose(desk, 12) == 0;
+    let many = cross_draft::choose(desk, 12) == 0;
     if spine {
-        return 1 + desk::choose(desk, 3);
+        return 1 + cross_draft::choose(desk, 3);
     }
     if many {
         return 16;
     }
-    desk::choose(desk, 4)
+    cross_draft::choose(desk, 4)
 }
 
 // Writes a literal.
@@ -206,7 +190,7 @@ fn make_literal(desk: &mut [u64], depth: u64, levels: u64, spine: bool)
     requires { ⌜ (0 < levels) × (0 < depth) × (depth ≤ 4) ⌝ }
 {
     let length = literal_length(desk, spine);
-    desk::write(desk, 9, length + 256 * (depth - 1));
+    cross_draft::write(desk, 9, length + 256 * (depth - 1));
     push_elements(desk, depth - 1, levels, spine, length)
 }
 
@@ -225,13 +209,13 @@ fn make_map(desk: &mut [u64], depth: u64, levels: u64, spine: bool)
     requires { ⌜ (0 < levels) × (0 < depth) ⌝ }
 {
     let name = binding_name(desk);
-    let element = desk::choose(desk, 4);
-    let old = desk::known(desk, name);
-    let deep_body = desk::choose(desk, 3) != 0;
-    desk::write(desk, 13, name);
-    desk::push(desk, desk::BINDING, name, old);
+    let element = cross_draft::choose(desk, 4);
+    let old = cross_draft::known(desk, name);
+    let deep_body = cross_draft::choose(desk, 3) != 0;
+    cross_draft::write(desk, 13, name);
+    cross_draft::push(desk, cross_draft::BINDING, name, old);
     push_child(desk, depth - 1, levels, spine, deep_body);
-    desk::push(desk, desk::BINDING, name, element + 1);
+    cross_draft::push(desk, cross_draft::BINDING, name, element + 1);
     push_child(desk, element + 1, levels, spine, !deep_body);
 }
 
@@ -239,9 +223,9 @@ fn make_map(desk: &mut [u64], depth: u64, levels: u64, spine: bool)
 fn make_operation(desk: &mut [u64], levels: u64, spine: bool)
     requires { ⌜ 0 < levels ⌝ }
 {
-    let kind = 4 + desk::choose(desk, 3);
-    let deep_first = desk::choose(desk, 2) == 0;
-    desk::write(desk, kind, 0);
+    let kind = 4 + cross_draft::choose(desk, 3);
+    let deep_first = cross_draft::choose(desk, 2) == 0;
+    cross_draft::write(desk, kind, 0);
     push_child(desk, 0, levels, spine, !deep_first);
     push_child(desk, 0, levels, spine, deep_first);
 }
@@ -250,32 +234,32 @@ fn make_operation(desk: &mut [u64], levels: u64, spine: bool)
 fn make_length(desk: &mut [u64], levels: u64, spine: bool)
     requires { ⌜ 0 < levels ⌝ }
 {
-    let element = desk::choose(desk, 4);
-    desk::write(desk, 11, 0);
+    let element = cross_draft::choose(desk, 4);
+    cross_draft::write(desk, 11, 0);
     push_child(desk, element + 1, levels, spine, true);
 }
 
 // Whether the function that is written may call another: one after it, itself if it has a falling number, and at
 // times any.
 fn may_call(desk: &mut [u64], callee: u64) -> bool {
-    let function = desk::word(desk, desk::FUNCTION);
+    let function = cross_draft::word(desk, cross_draft::FUNCTION);
     if function < callee {
         return true;
     }
     if function == callee {
-        if desk::signature(desk, function, desk::RECURSIVE) == 1 {
+        if cross_draft::signature(desk, function, cross_draft::RECURSIVE) == 1 {
             return true;
         }
     }
-    desk::choose(desk, 24) == 0
+    cross_draft::choose(desk, 24) == 0
 }
 
 // Whether a function is there, gives this depth and may be called here.
 fn fits_call(desk: &mut [u64], callee: u64, depth: u64) -> bool {
-    if desk::word(desk, desk::FUNCTIONS) <= callee {
+    if cross_draft::word(desk, cross_draft::FUNCTIONS) <= callee {
         return false;
     }
-    if desk::signature(desk, callee, desk::RESULT) != depth {
+    if cross_draft::signature(desk, callee, cross_draft::RESULT) != depth {
         return false;
     }
     may_call(desk, callee)
@@ -283,7 +267,7 @@ fn fits_call(desk: &mut [u64], callee: u64, depth: u64) -> bool {
 
 // A function to call here that gives this depth; 32 where there is none.
 fn find_callee(desk: &mut [u64], depth: u64) -> u64 {
-    let start = desk::choose(desk, 32);
+    let start = cross_draft::choose(desk, 32);
     let mut i: u64 = 0;
     while i < 32 {
         let callee = (start + i) % 32;
@@ -297,18 +281,18 @@ fn find_callee(desk: &mut [u64], depth: u64) -> u64 {
 
 // Where the falling number of a function starts: also near the greatest call depth.
 fn falling_start(desk: &mut [u64]) -> u64 {
-    match desk::choose(desk, 8) {
+    match cross_draft::choose(desk, 8) {
         0 => 29,
         1 => 30,
         2 => 31,
         3 => 40,
-        _ => desk::choose(desk, 5),
+        _ => cross_draft::choose(desk, 5),
     }
 }
 
 // Asks for the falling number of a function: within the function it is its own number less 1.
 fn push_falling(desk: &mut [u64], callee: u64) {
-    if callee == desk::word(desk, desk::FUNCTION) {
+    if callee == cross_draft::word(desk, cross_draft::FUNCTION) {
         push_node(desk, 2, 1);
         push_node(desk, 3, name_of(0));
         return push_node(desk, 5, 0);
@@ -323,9 +307,9 @@ fn push_arguments(desk: &mut [u64], callee: u64, count: u64, levels: u64)
     let mut left = count;
     while 0 < left {
         left = left - 1;
-        let depth = desk::signature(desk, callee, desk::FIRST_DEPTH + left);
+        let depth = cross_draft::signature(desk, callee, cross_draft::FIRST_DEPTH + left);
         if left == 0 {
-            if desk::signature(desk, callee, desk::RECURSIVE) == 1 {
+            if cross_draft::signature(desk, callee, cross_draft::RECURSIVE) == 1 {
                 return push_falling(desk, callee);
             }
         }
@@ -341,8 +325,8 @@ fn make_call(desk: &mut [u64], depth: u64, levels: u64)
     if 31 < callee {
         return make_if(desk, depth, levels, false);
     }
-    let count = desk::signature(desk, callee, desk::COUNT) % 9;
-    desk::write(desk, 8, callee + 256 * count);
+    let count = cross_draft::signature(desk, callee, cross_draft::COUNT) % 9;
+    cross_draft::write(desk, 8, callee + 256 * count);
     push_arguments(desk, callee, count, levels)
 }
 
@@ -350,7 +334,7 @@ fn make_call(desk: &mut [u64], depth: u64, levels: u64)
 fn make_number(desk: &mut [u64], levels: u64, spine: bool)
     requires { ⌜ 0 < levels ⌝ }
 {
-    if desk::choose(desk, 4) == 0 {
+    if cross_draft::choose(desk, 4) == 0 {
         return make_length(desk, levels, spine);
     }
     make_operation(desk, levels, spine)
@@ -360,7 +344,7 @@ fn make_number(desk: &mut [u64], levels: u64, spine: bool)
 fn make_array(desk: &mut [u64], depth: u64, levels: u64, spine: bool)
     requires { ⌜ (0 < levels) × (0 < depth) × (depth ≤ 4) ⌝ }
 {
-    if desk::choose(desk, 5) < 2 {
+    if cross_draft::choose(desk, 5) < 2 {
         return make_map(desk, depth, levels, spine);
     }
     make_literal(desk, depth, levels, spine)
@@ -370,7 +354,7 @@ fn make_array(desk: &mut [u64], depth: u64, levels: u64, spine: bool)
 fn make_compound(desk: &mut [u64], depth: u64, levels: u64, spine: bool)
     requires { ⌜ (0 < levels) × (depth ≤ 4) ⌝ }
 {
-    let choice = desk::choose(desk, 14);
+    let choice = cross_draft::choose(desk, 14);
     if choice < 2 {
         return make_let(desk, depth, levels, spine);
     }
@@ -398,12 +382,12 @@ fn make_compound(desk: &mut [u64], depth: u64, levels: u64, spine: bool)
 pub fn make_part(desk: &mut [u64], depth: u64, levels: u64, spine: bool)
     requires { ⌜ depth ≤ 4 ⌝ }
 {
-    let leaf = desk::choose(desk, 8) == 0;
+    let leaf = cross_draft::choose(desk, 8) == 0;
     if levels < 2 {
-        desk::note_spine(desk, spine);
+        cross_draft::note_spine(desk, spine);
         return make_leaf(desk, depth);
     }
-    if desk::word(desk, desk::LIMIT) < desk::word(desk, desk::NODES) {
+    if cross_draft::word(desk, cross_draft::LIMIT) < cross_draft::word(desk, cross_draft::NODES) {
         return make_leaf(desk, depth);
     }
     if leaf && !spine {

@@ -1,13 +1,26 @@
-// What a delivery is given: cells, readings and a budget.
-use super::desk;
-use super::parts;
+// Numbers, and what a delivery is given: cells, readings and a budget.
 ghost use Prim.Native.Nat.{_<_, _≤_};
+
+// The greatest and the least number, as bits.
+const GREATEST: u64 = 9223372036854775807;
+
+const LEAST: u64 = 9223372036854775808;
+
+// The bits of a number: small, negative, or at the ends of the range.
+pub fn number(desk: &mut [u64]) -> u64 {
+    match super::choose(desk, 9) {
+        0 => 18446744073709551615 - super::choose(desk, 3),
+        1 => GREATEST - super::choose(desk, 2),
+        2 => LEAST + super::choose(desk, 2),
+        _ => super::choose(desk, 5),
+    }
+}
 
 // How many cells a store has.
 pub fn choose_cells(desk: &mut [u64]) -> usize
     ensures { λ r. ⌜ (0 < r) × (r ≤ 256) ⌝ }
 {
-    match desk::choose(desk, 10) {
+    match super::choose(desk, 10) {
         0 => 1,
         1 => 2,
         2 => 3,
@@ -24,7 +37,7 @@ pub fn choose_cells(desk: &mut [u64]) -> usize
 fn reading_count(desk: &mut [u64]) -> usize
     ensures { λ r. ⌜ r ≤ 17 ⌝ }
 {
-    let choice = desk::choose(desk, 120);
+    let choice = super::choose(desk, 120);
     if choice < 5 {
         return 17;
     }
@@ -41,8 +54,8 @@ pub fn choose_readings(desk: &mut [u64], readings: &mut [u64]) -> usize
     let count = reading_count(desk);
     let mut i: usize = 0;
     while i < 17 {
-        let bits = parts::number(desk);
-        desk::put(readings, i, bits);
+        let bits = number(desk);
+        super::put(readings, i, bits);
         i = i + 1;
     }
     count
@@ -50,10 +63,10 @@ pub fn choose_readings(desk: &mut [u64], readings: &mut [u64]) -> usize
 
 // A budget: mostly ample, at times small, and at times too large.
 pub fn choose_budget(desk: &mut [u64]) -> u64 {
-    match desk::choose(desk, 20) {
+    match super::choose(desk, 20) {
         0 => 1000001,
-        1 | 2 => desk::choose(desk, 10),
-        3 | 4 => desk::choose(desk, 100),
+        1 | 2 => super::choose(desk, 10),
+        3 | 4 => super::choose(desk, 100),
         _ => 4000,
     }
 }

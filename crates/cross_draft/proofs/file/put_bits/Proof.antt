@@ -1,10 +1,10 @@
--- `cross_generate::scripts::put_bits` ends: the bytes left fall. The invariant: the file keeps its length.
+-- `cross_draft::file::put_bits` ends: the bytes left fall. The invariant: the file keeps its length.
 use mathlib.Core.Path.{_≡_}
 use Prim.Native.Nat.{_≤_, _-_}
 use lib.ListN.{length}
 use borrow.Author.Needs.{needs}
-use Rattle.cross_generate.proofs.scripts.put_bits.Statement.{statement}
-use Rattle.cross_generate.proofs.scripts.put_bits.Tie as tie
+use Rattle.cross_draft.proofs.file.put_bits.Statement.{statement}
+use Rattle.cross_draft.proofs.file.put_bits.Tie as tie
 
 abbrev Inv-loop : tie.InvT-loop
 Inv-loop file₀ i bits k₀ left₀ file k left = (k ≤ 8) × (length file ≡ length file₀)

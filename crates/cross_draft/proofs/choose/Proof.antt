@@ -1,8 +1,8 @@
--- `cross_generate::desk::choose` gives a number below n: it is a remainder by n.
+-- `cross_draft::choose` gives a number below n: it is a remainder by n.
 use native.Mathlib.Nat.{mod-lt}
 use borrow.Author.Needs.{needs}
-use Rattle.cross_generate.proofs.desk.choose.Statement.{statement}
-use Rattle.cross_generate.proofs.desk.choose.Tie as tie
+use Rattle.cross_draft.proofs.choose.Statement.{statement}
+use Rattle.cross_draft.proofs.choose.Tie as tie
 
 word-requires : tie.Need-word-requires
 word-requires c κs = search needs

@@ -1,10 +1,10 @@
--- `cross_generate::scripts::write_file` ends: the nodes left fall. The invariant: the file keeps its length.
+-- `cross_draft::file::write_file` ends: the nodes left fall. The invariant: the file keeps its length.
 use mathlib.Core.Path.{_≡_}
 use Prim.Native.Nat.{_≤_, _-_}
 use lib.ListN.{length}
 use borrow.Author.Needs.{needs}
-use Rattle.cross_generate.proofs.scripts.write_file.Statement.{statement}
-use Rattle.cross_generate.proofs.scripts.write_file.Tie as tie
+use Rattle.cross_draft.proofs.file.write_file.Statement.{statement}
+use Rattle.cross_draft.proofs.file.write_file.Tie as tie
 
 abbrev Inv-loop : tie.InvT-loop
 Inv-loop desk file₀ nodes node₀ file node = (node ≤ nodes) × (nodes ≤ 1024) × (length file ≡ length file₀)

@@ -1,5 +1,16 @@
-// The desk: its words and regions, the pseudo-random sequence, the agenda, the names in scope and the draft.
+// The draft of a script that is made from a seed. All of it stands in one slice of words, the desk: the seed, what is
+// known of each name, the functions' signatures, an agenda of what is still to be written, and the nodes written so
+// far. A word past the end reads as 0, and storing there does nothing.
+pub mod file;
+pub mod requests;
+
 ghost use Prim.Native.Nat.{_<_, _≤_};
+
+// The words of a desk.
+pub const DESK_WORDS: usize = 4896;
+
+// The bytes of the longest script file.
+pub const FILE_BYTES: usize = 9220;
 
 // Single words: the seed, the nodes written, the items on the agenda, the functions, the function that is written,
 // the nodes after which only leaves are written, and whether a spine came to its last level.
