@@ -1,8 +1,6 @@
 // One store in the engine and its ledger beside it: opened and worked together, and compared after each call.
 use super::ledger;
 use cross_values::rows;
-ghost use Prim.Native.Nat.{_<_, _≤_};
-ghost use lib.ListN.{length};
 
 // Given instead of a number where the engine and the second interpreter differ.
 pub const DIFFERS: u64 = 26;
@@ -16,21 +14,20 @@ fn set_numbers(numbers: &mut [i64], readings: &[u64]) {
     }
 }
 
-// The engine's answer to a delivery.
+// The engine's answer to a delivery of the first of these numbers.
 fn answer_of(
     file: &[u8],
     kinds: &mut [u8],
     operands: &mut [i64],
     slots: &mut [i64],
     heads: &mut [u32],
-    readings: &[u64],
+    numbers: &[i64],
+    count: usize,
     budget: u64,
-) -> u64
-    requires { ⌜ length (now readings) ≤ 17 ⌝ }
-{
-    let mut numbers = [0i64; 17];
-    set_numbers(&mut numbers[..], readings);
-    let count = readings.len();
+) -> u64 {
+    if numbers.len() < count {
+        return 0;
+    }
     engine::engine_deliver(
         file,
         kinds,
@@ -89,7 +86,7 @@ pub fn open_both(
     ledger::has_totals(script, slots, heads, memory, book)
 }
 
-// Works a delivery in both; the number of the answer if all agrees.
+// Works a delivery in both; the number of the answer if all agrees. Of the readings there are at most 17.
 pub fn deliver_both(
     file: &[u8],
     kinds: &mut [u8],
@@ -101,10 +98,20 @@ pub fn deliver_both(
     book: &mut [u64],
     readings: &[u64],
     budget: u64,
-) -> u64
-    requires { ⌜ length (now readings) ≤ 17 ⌝ }
-{
-    let answer = answer_of(file, kinds, operands, slots, heads, readings, budget);
+) -> u64 {
+    let mut numbers = [0i64; 17];
+    set_numbers(&mut numbers[..], readings);
+    let count = readings.len();
+    let answer = answer_of(
+        file,
+        kinds,
+        operands,
+        slots,
+        heads,
+        &numbers[..],
+        count,
+        budget,
+    );
     if !ledger::judge(script, memory, book, readings, budget, answer) {
         return DIFFERS;
     }

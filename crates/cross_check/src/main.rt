@@ -8,8 +8,6 @@ mod trials;
 use cross_draft::requests;
 use cross_generate::scripts;
 use libc::STDOUT_FILENO;
-ghost use Prim.Native.Nat.{_<_, _≤_};
-ghost use lib.ListN.{length};
 
 const SCRIPTS: u64 = 400;
 
@@ -24,7 +22,7 @@ fn print_difference(seed: u64, delivery: u64) {
     io::write_all(STDOUT_FILENO, b"\n");
 }
 
-// One delivery with readings and a budget from the desk.
+// One delivery of the first of these readings.
 fn run_delivery(
     file: &[u8],
     kinds: &mut [u8],
@@ -34,11 +32,13 @@ fn run_delivery(
     script: &[u64],
     memory: &mut [u64],
     book: &mut [u64],
-    draft: &mut [u64],
+    readings: &[u64],
+    count: usize,
+    budget: u64,
 ) -> u64 {
-    let mut readings = [0u64; 17];
-    let count = requests::choose_readings(draft, &mut readings[..]);
-    let budget = requests::choose_budget(draft);
+    if readings.len() < count {
+        return both::DIFFERS;
+    }
     both::deliver_both(
         file,
         kinds,
@@ -67,8 +67,11 @@ fn run_deliveries(
     counts: &mut [u64],
     seed: u64,
 ) {
+    let mut readings = [0u64; 17];
     let mut delivery: u64 = 0;
     while delivery < DELIVERIES {
+        let count = requests::choose_readings(draft, &mut readings[..]);
+        let budget = requests::choose_budget(draft);
         let number = run_delivery(
             file,
             kinds,
@@ -78,7 +81,9 @@ fn run_deliveries(
             script,
             memory,
             book,
-            draft,
+            &readings[..],
+            count,
+            budget,
         );
         tally::count(counts, number as usize);
         if number == both::DIFFERS {
@@ -88,24 +93,26 @@ fn run_deliveries(
     }
 }
 
-// A script in a fresh store.
-fn run_file(file: &[u8], draft: &mut [u64], counts: &mut [u64], seed: u64) {
+// Opens a store for a script and makes deliveries to it.
+fn run_store(
+    file: &[u8],
+    slots: &mut [i64],
+    heads: &mut [u32],
+    draft: &mut [u64],
+    counts: &mut [u64],
+    seed: u64,
+) {
     let mut kinds = [0u8; 4096];
     let mut operands = [0i64; 4096];
-    let mut slots = [0i64; 4097];
-    let mut heads = [0u32; 1025];
     let mut script = [0u64; 3072];
     let mut memory = [0u64; 131072];
     let mut book = [0u64; 6];
-    let cells = requests::choose_cells(draft);
-    let slot_end = 1 + 16 * cells;
-    let head_end = 1 + 4 * cells;
     if !both::open_both(
         file,
         &mut kinds[..],
         &mut operands[..],
-        &mut slots[..slot_end],
-        &mut heads[..head_end],
+        slots,
+        heads,
         &mut script[..],
         &mut memory[..],
         &mut book[..],
@@ -121,11 +128,31 @@ fn run_file(file: &[u8], draft: &mut [u64], counts: &mut [u64], seed: u64) {
         file,
         &mut kinds[..],
         &mut operands[..],
-        &mut slots[..slot_end],
-        &mut heads[..head_end],
+        slots,
+        heads,
         &script[..],
         &mut memory[..],
         &mut book[..],
+        draft,
+        counts,
+        seed,
+    )
+}
+
+// A script, the first bytes of these, in a store of some cells.
+fn run_file(file: &[u8], end: usize, draft: &mut [u64], counts: &mut [u64], seed: u64) {
+    if file.len() < end {
+        return;
+    }
+    let mut slots = [0i64; 4097];
+    let mut heads = [0u32; 1025];
+    let cells = requests::choose_cells(draft);
+    let slot_end = 1 + 16 * cells;
+    let head_end = 1 + 4 * cells;
+    run_store(
+        &file[..end],
+        &mut slots[..slot_end],
+        &mut heads[..head_end],
         draft,
         counts,
         seed,
@@ -139,7 +166,7 @@ fn run_seed(seed: u64, counts: &mut [u64]) {
     scripts::make_script(&mut draft[..], seed);
     tally::count_draft(&draft[..], counts);
     let end = cross_draft::file::write_file(&draft[..], &mut file[..]);
-    run_file(&file[..end], &mut draft[..], counts, seed)
+    run_file(&file[..], end, &mut draft[..], counts, seed)
 }
 
 fn run_seeds(counts: &mut [u64]) {

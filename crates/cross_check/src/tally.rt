@@ -24,12 +24,12 @@ pub fn count(tally: &mut [u64], i: usize) {
     cross_draft::put(tally, i, std::num::wrapping_add_u64(n, 1));
 }
 
-// Counts the nodes of a draft by kind, and whether it comes to the last level.
+// Counts a draft: its nodes by kind, and whether it comes to the last level.
 pub fn count_draft(draft: &[u64], tally: &mut [u64]) {
+    count_nodes(draft, tally);
     if cross_draft::word(draft, cross_draft::LAST_LEVEL) == 1 {
         count(tally, LAST_LEVEL);
     }
-    count_nodes(draft, tally)
 }
 
 fn count_nodes(draft: &[u64], tally: &mut [u64]) {

@@ -1,23 +1,25 @@
 // Document 01's trials that its theorems leave: 16 and 17 readings with the printed script, and a call depth of 32 and
 // of 33. Each is one delivery to a fresh store.
 use super::both;
-use super::ledger;
 use libc::STDOUT_FILENO;
-ghost use Prim.Native.Nat.{_≤_};
-ghost use lib.ListN.{length};
+ghost use Prim.Native.Nat.{_<_};
 
 // Writes nodes from bytes, three each: the kind, and the operand's low and high byte.
 fn write_nodes(draft: &mut [u64], bytes: &[u8]) {
     let mut i: usize = 0;
-    while i + 2 < bytes.len() {
-        let low = wide(bytes[i + 1]);
-        let high = wide(bytes[i + 2]);
-        cross_draft::write(draft, wide(bytes[i]), low % 256 + 256 * (high % 256));
+    while i < bytes.len() {
+        if bytes.len() - i < 3 {
+            return;
+        }
+        let operand = wide(bytes[i + 1]) + 256 * wide(bytes[i + 2]);
+        cross_draft::write(draft, wide(bytes[i]), operand);
         i = i + 3;
     }
 }
 
-fn wide(byte: u8) -> u64 {
+fn wide(byte: u8) -> u64
+    ensures { λ r. ⌜ r < 256 ⌝ }
+{
     byte as u64
 }
 
@@ -47,10 +49,8 @@ fn write_nested(draft: &mut [u64]) {
     );
 }
 
-// A delivery to a fresh store of two cells, in both; the number.
-fn number_of(file: &[u8], readings: &[u64]) -> u64
-    requires { ⌜ length (now readings) ≤ 17 ⌝ }
-{
+// A delivery of some readings to a fresh store of two cells, in both; the number.
+fn number_of(file: &[u8], readings: &[u64]) -> u64 {
     let mut kinds = [0u8; 64];
     let mut operands = [0i64; 64];
     let mut slots = [0i64; 33];
@@ -84,8 +84,15 @@ fn number_of(file: &[u8], readings: &[u64]) -> u64
     )
 }
 
-// Prints what a trial is, and its number in both.
-fn print_trial(label: &[u8], number: u64) {
+// Prints what a trial is, and its number in both. The script and the readings are the first of these.
+fn run_trial(label: &[u8], file: &[u8], end: usize, readings: &[u64], count: usize) {
+    if file.len() < end {
+        return;
+    }
+    if readings.len() < count {
+        return;
+    }
+    let number = number_of(&file[..end], &readings[..count]);
     io::write_all(STDOUT_FILENO, label);
     io::write_all(STDOUT_FILENO, b": ");
     io::print_decimal(STDOUT_FILENO, number);
@@ -99,8 +106,8 @@ fn run_printed() {
     write_printed(&mut draft[..]);
     let end = cross_draft::file::write_file(&draft[..], &mut file[..]);
     let readings = [7u64; 17];
-    print_trial(b"16 readings", number_of(&file[..end], &readings[..16]));
-    print_trial(b"17 readings", number_of(&file[..end], &readings[..17]));
+    run_trial(b"16 readings", &file[..], end, &readings[..], 16);
+    run_trial(b"17 readings", &file[..], end, &readings[..], 17);
 }
 
 // Main is the first call, and the function with the reading n makes n + 1 more.
@@ -109,9 +116,10 @@ fn run_nested() {
     let mut file = [0u8; cross_draft::FILE_BYTES];
     write_nested(&mut draft[..]);
     let end = cross_draft::file::write_file(&draft[..], &mut file[..]);
-    let readings = [30u64, 31];
-    print_trial(b"call depth 32", number_of(&file[..end], &readings[..1]));
-    print_trial(b"call depth 33", number_of(&file[..end], &readings[1..]));
+    let most = [30u64];
+    let over = [31u64];
+    run_trial(b"call depth 32", &file[..], end, &most[..], 1);
+    run_trial(b"call depth 33", &file[..], end, &over[..], 1);
 }
 
 pub fn run_trials() {
