@@ -133,26 +133,34 @@ module _ (kinds : List ℕ) (operands : List ℤ) where
 
 -- ---- the ways out of such a call
 
+-- loading refused the script
+pub replies-refusal : {file kinds : List ℕ} {operands slots : List ℤ} {heads : List ℕ} (call : Verdict → StoreReply)
+    {a : ℕ} {kinds′ : List ℕ} {operands′ : List ℤ} → ((n p : ℕ) → call (refused n p) ≡ refusing kinds operands slots heads n p) →
+    Loads file kinds operands (Refused a) kinds′ operands′ →
+    Replies file (λ node. call (admitted node file (room kinds operands))) a kinds′ operands′ slots heads
+unfolding refusing
+replies-refusal {file} {kinds} {operands} {slots} {heads} call {a} refuses h = record {
+  node = h .node;
+  faulty = h .faulty;
+  is = rw (h .kinds-are, h .operands-are) (by (admitted (h .node) file (room kinds operands)) (h .is));
+}
+  where
+    by : (verdict : Verdict) → Refused a ≡ told-load verdict → record {
+      answer = a;
+      kinds = kinds-after verdict kinds;
+      operands = operands-after verdict operands;
+      slots = slots;
+      heads = heads;
+    } ≡ call verdict
+    by (accepted fs) e = absurd (let z : _≡_ {A = ℕ} 0 1 = cc in omega arith)
+    by (refused n p) e = let same : a ≡ packed n p 0 0 = cc in rw same (sym (refuses n p))
+
 module _ {file kinds : List ℕ} {operands slots : List ℤ} {heads : List ℕ} {call : Verdict → StoreReply}
     {part : ℕ → Left} (s : Serves kinds operands slots heads call part) where
   pub replies-refused : {a : ℕ} {kinds′ : List ℕ} {operands′ : List ℤ} →
-      Loads file kinds operands (Refused a) kinds′ operands′ → Replies file (λ node. call (admitted node file (room kinds operands))) a kinds′ operands′ slots heads
-  unfolding refusing
-  replies-refused {a} h = record {
-    node = h .node;
-    faulty = h .faulty;
-    is = rw (h .kinds-are, h .operands-are) (by (admitted (h .node) file (room kinds operands)) (h .is));
-  }
-    where
-      by : (verdict : Verdict) → Refused a ≡ told-load verdict → record {
-        answer = a;
-        kinds = kinds-after verdict kinds;
-        operands = operands-after verdict operands;
-        slots = slots;
-        heads = heads;
-      } ≡ call verdict
-      by (accepted fs) e = absurd (let z : _≡_ {A = ℕ} 0 1 = cc in omega arith)
-      by (refused n p) e = let same : a ≡ packed n p 0 0 = cc in rw same (sym (s .refuses n p))
+      Loads file kinds operands (Refused a) kinds′ operands′ →
+      Replies file (λ node. call (admitted node file (room kinds operands))) a kinds′ operands′ slots heads
+  replies-refused h = replies-refusal call (s .refuses) h
 
   -- the store's part counted its cells
   pub replies-cells : {l d n : ℕ} {kinds′ : List ℕ} {operands′ : List ℤ} {slots′ : List ℤ} {heads′ : List ℕ} →

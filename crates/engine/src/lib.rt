@@ -1,7 +1,8 @@
 // The calls for C. Each takes the script file and the two code arrays, translates afresh, and answers one packed number.
+use engine_delivery::Ended;
 use engine_load::Loaded;
 use engine_store::Stored;
-ghost use Rattle.semantics.specs.Calls.{engine-open, engine-check};
+ghost use Rattle.semantics.specs.Calls.{engine-open, engine-check, engine-deliver};
 ghost use Rattle.engine.specs.Promises.{Translates, Replies};
 
 // Translates a script: its code in the two arrays, and its lines in the answer.
@@ -62,6 +63,49 @@ pub extern "C" fn engine_check(
             Stored::Unsound => {
                 normal::refuse(kinds, operands);
                 11
+            }
+        },
+        Loaded::Refused(answer) => answer,
+    }
+}
+
+// Delivers readings to a script on its store, within a budget of steps.
+#[no_mangle]
+pub extern "C" fn engine_deliver(
+    file: &[u8],
+    kinds: &mut [u8],
+    operands: &mut [i64],
+    slots: &mut [i64],
+    heads: &mut [u32],
+    readings: &[i64],
+    budget: u64,
+) -> u64
+    ensures { λ r. ⌜ Replies (now (file .entry))
+        (λ node. engine-deliver node (now (file .entry)) (now (kinds .entry)) (now (operands .entry))
+        (now (slots .entry)) (now (heads .entry)) (now (readings .entry)) budget)
+        r (now (kinds .exit)) (now (operands .exit)) (now (slots .exit)) (now (heads .exit)) ⌝ }
+{
+    let mut table = [0u8; 8256];
+    match engine_load::load_with(file, kinds, operands, &mut table) {
+        Loaded::Ready(_, depth) => match engine_delivery::deliver_words(
+            kinds,
+            operands,
+            &table,
+            slots,
+            heads,
+            readings,
+            depth,
+            budget,
+        ) {
+            Ended::Stopped(number, steps, cells) => words::pack(
+                number as u64,
+                0,
+                steps,
+                cells as u64,
+            ),
+            Ended::Refused(number) => {
+                normal::refuse(kinds, operands);
+                number as u64
             }
         },
         Loaded::Refused(answer) => answer,

@@ -41,7 +41,7 @@ no-equation e = absurd (omega arith)
 pub record AcceptedFile (file : List ℕ) (f n : ℕ) : Type 0 where
   pub tree : Script
   pub last : ℕ
-  pub judged-so : judged 0 file ≡ C.accepted tree
+  pub judged-so : (node : ℕ) → judged node file ≡ C.accepted tree
   pub reads : read-file file ≡ done tree last
   pub names : too-many-names tree ≡ none
   pub functions : f ≡ bytes-at 2 file 0
@@ -51,13 +51,17 @@ pub accepted-file : (file : List ℕ) (f n : ℕ) → Judges file (Accepted f n)
 unfolding judged
 accepted-file file f n h = go (read-file file) refl (h .is)
   where
+    by-node : (node : ℕ) (fs : Script) (q : ℕ) → read-file file ≡ done fs q → name-faults fs ≡ [] →
+        type-faults fs ≡ [] → too-many-names fs ≡ none → judged node file ≡ C.accepted fs
+    by-node node fs q r a b c = rw (r, a, b, c) refl
+
     by : (fs : Script) (q : ℕ) → read-file file ≡ done fs q → (l m : List ℕ) (o : Option ℕ) → name-faults fs ≡ l →
         type-faults fs ≡ m → too-many-names fs ≡ o →
         Accepted f n ≡ told-verdict file (judged-script 0 fs l m o) → AcceptedFile file f n
     by fs q r [] [] none a b c e = record {
       tree = fs;
       last = q;
-      judged-so = rw (r, a, b, c) refl;
+      judged-so = λ node. by-node node fs q r a b c;
       reads = r;
       names = c;
       functions = let z : f ≡ bytes-at 2 file 0 = cc in z;
@@ -76,7 +80,7 @@ module _ {file : List ℕ} {f n : ℕ} (a : AcceptedFile file f n) where
   pub file-taken : Taken file f n
   file-taken = taken file f n (a .last) (a .functions) (a .nodes) (rw (a .reads) refl)
 
-  script-reads : script (kinds-of file n) (operands-of file n) f 0 ≡ done (a .tree) (a .last)
+  pub script-reads : script (kinds-of file n) (operands-of file n) f 0 ≡ done (a .tree) (a .last)
   script-reads = file-taken .same ∙ a .reads
 
   pub translatable : Translatable (kinds-of file n) (operands-of file n) f
@@ -104,7 +108,7 @@ module _ {file : List ℕ} {f n : ℕ} (a : AcceptedFile file f n) where
 -- ---- the ways out
 
 -- the verdict is a refusal 1 to 8
-refused-so : {file : List ℕ} {n p : ℕ} → Judges file (Refused n p) → judged p file ≡ C.refused n p
+pub refused-so : {file : List ℕ} {n p : ℕ} → Judges file (Refused n p) → judged p file ≡ C.refused n p
 refused-so {file} {n} {p} j = go (judged p file) (j .is)
   where
     go : (v : C.Verdict) → Refused n p ≡ told-verdict file v → v ≡ C.refused n p
@@ -144,18 +148,18 @@ module _ {file : List ℕ} {kinds : List ℕ} {operands : List ℤ} {kinds′ : 
           record {
             node = 0;
             faulty = j .faulty;
-            is = rw (a .judged-so, q, e, depth-read a) (ap (λ l. ready (main-depth fs) (l .answer)) s);
-            kinds-are = rw (a .judged-so, q) (ap (λ l. l .kinds) s);
-            operands-are = rw (a .judged-so, q) (ap (λ l. l .operands) s);
+            is = rw (a .judged-so 0, q, e, depth-read a) (ap (λ l. ready (main-depth fs) (l .answer)) s);
+            kinds-are = rw (a .judged-so 0, q) (ap (λ l. l .kinds) s);
+            operands-are = rw (a .judged-so 0, q) (ap (λ l. l .operands) s);
           }
       by false q g =
           let s = rw q at g in
           record {
             node = 0;
             faulty = j .faulty;
-            is = rw (a .judged-so, q) (ap (λ l. ready d (l .answer)) s);
-            kinds-are = rw (a .judged-so, q) (ap (λ l. l .kinds) s);
-            operands-are = rw (a .judged-so, q) (ap (λ l. l .operands) s);
+            is = rw (a .judged-so 0, q) (ap (λ l. ready d (l .answer)) s);
+            kinds-are = rw (a .judged-so 0, q) (ap (λ l. l .kinds) s);
+            operands-are = rw (a .judged-so 0, q) (ap (λ l. l .operands) s);
           }
 
   pub loads-refusal : {n p a : ℕ} → Judges file (Refused n p) → a ≡ packed n p 0 0 →

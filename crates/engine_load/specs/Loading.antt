@@ -1,12 +1,14 @@
 -- What loading a script leaves: the code and its lines, or a refusal 1 to 9 with both code arrays zero.
-use Prim.Native.Nat.{ℕ}
+use Prim.Native.Nat.{ℕ, _≤_}
 use mathlib.Core.Path.{_≡_}
 use mathlib.Core.List.{List}
 use lib.IntN.{ℤ, pos}
 use lib.ListN.{length, replicate}
-use Rattle.semantics.specs.Syntax.{main-depth}
+use Rattle.semantics.specs.Syntax.{Script, main-depth}
 use Rattle.semantics.specs.Annotate.{code}
 use Rattle.semantics.specs.Calls.{Verdict, accepted, refused, Faulty, packed, admitted, room, code-kinds, code-operands}
+use Rattle.machine_positions.specs.Machine as M
+use Rattle.machine_scripts.specs.Script.{Coded}
 use Rattle.engine_load.specs.declared.Loaded.{Loaded}
 use Rattle.engine_load.specs.declared.Loaded.the-variants.{Ready, Refused}
 
@@ -31,3 +33,11 @@ pub record Loads (file kinds : List ℕ) (operands : List ℤ) (r : Loaded) (kin
   pub is : r ≡ told-load (admitted node file (room kinds operands))
   pub kinds-are : kinds′ ≡ kinds-after (admitted node file (room kinds operands)) kinds
   pub operands-are : operands′ ≡ operands-after (admitted node file (room kinds operands)) operands
+
+-- and where the script is ready, code and table are what the machine needs; the table has 256 depths for each of 32
+-- functions, and then two bytes for the position of each
+pub record LoadsWith (file kinds : List ℕ) (operands : List ℤ) (table : List ℕ) (r : Loaded) (kinds′ : List ℕ)
+    (operands′ : List ℤ) (table′ : List ℕ) : Type 0 where
+  pub loads : Loads file kinds operands r kinds′ operands′
+  pub coded : (node : ℕ) (fs : Script) → admitted node file (room kinds operands) ≡ accepted fs →
+      8256 ≤ length table → (length fs ≤ 32) × Coded fs (M.code kinds′ operands′ table′)

@@ -1,7 +1,7 @@
-// Loading a script: refusals 1 to 9, or its code in the two lent arrays.
+// Loading a script: refusals 1 to 9, or its code in the two lent arrays and what the machine needs beside it.
 use normal::Laid;
 use script::Verdict;
-ghost use Rattle.engine_load.specs.Loading.{Loads};
+ghost use Rattle.engine_load.specs.Loading.{Loads, LoadsWith};
 
 // How many lines the code has and main's depth, or the packed answer of a refusal.
 pub enum Loaded {
@@ -9,10 +9,10 @@ pub enum Loaded {
     Refused(u64),
 }
 
-// Judges a file and translates its script.
-pub fn load(file: &[u8], kinds: &mut [u8], operands: &mut [i64]) -> Loaded
-    ensures { λ r. ⌜ Loads (now (file .entry)) (now (kinds .entry)) (now (operands .entry)) r
-        (now (kinds .exit)) (now (operands .exit)) ⌝ }
+// Judges a file and translates its script; the table gets the depths of the names and the functions' positions.
+pub fn load_with(file: &[u8], kinds: &mut [u8], operands: &mut [i64], table: &mut [u8]) -> Loaded
+    ensures { λ r. ⌜ LoadsWith (now (file .entry)) (now (kinds .entry)) (now (operands .entry)) (now (table .entry)) r
+        (now (kinds .exit)) (now (operands .exit)) (now (table .exit)) ⌝ }
 {
     match script::judge(file) {
         Verdict::Accepted(functions, nodes) => {
@@ -24,10 +24,14 @@ pub fn load(file: &[u8], kinds: &mut [u8], operands: &mut [i64]) -> Loaded
                 file_kinds,
                 file_operands,
                 functions,
+                table,
                 kinds,
                 operands,
             ) {
-                Laid::Lines(n) => Loaded::Ready(n, depth as u32),
+                Laid::Lines(n) => {
+                    machine_table::fill_starts(kinds, operands, functions, table);
+                    Loaded::Ready(n, depth as u32)
+                }
                 Laid::TooLong => Loaded::Refused(9),
             }
         }
@@ -36,4 +40,13 @@ pub fn load(file: &[u8], kinds: &mut [u8], operands: &mut [i64]) -> Loaded
             Loaded::Refused(words::pack(number as u64, node as u64, 0, 0))
         }
     }
+}
+
+// The same for a call that works no code.
+pub fn load(file: &[u8], kinds: &mut [u8], operands: &mut [i64]) -> Loaded
+    ensures { λ r. ⌜ Loads (now (file .entry)) (now (kinds .entry)) (now (operands .entry)) r
+        (now (kinds .exit)) (now (operands .exit)) ⌝ }
+{
+    let mut none = [0u8; 1];
+    load_with(file, kinds, operands, &mut none)
 }

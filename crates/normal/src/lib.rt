@@ -4,9 +4,13 @@ ghost use mathlib.Core.List.{_++_};
 ghost use Prim.Native.Nat.{_+_, _-_, _*_, _<_, _≤_};
 ghost use lib.IntN.{pos};
 ghost use lib.ListN.{length, getD, drop, replicate};
+ghost use Rattle.semantics.specs.Syntax.{Script};
 ghost use Rattle.semantics.specs.File.{script};
+ghost use Rattle.semantics.specs.Annotate.{code};
+ghost use Rattle.normal_write.specs.Wrote.{Wrote};
 ghost use Rattle.normal_script.specs.Script.{Translatable};
-ghost use Rattle.normal.specs.Left.{Leaves};
+ghost use Rattle.normal_script.specs.Depths.{Depths-by};
+ghost use Rattle.normal.specs.Left.{left-of, Leaves};
 ghost use Rattle.normal.specs.declared.Laid.the-variants.{TooLong};
 
 // How many lines the code has, or that they do not fit.
@@ -68,20 +72,14 @@ pub fn refuse(ks: &mut [u8], os: &mut [i64]) -> Laid
     Laid::TooLong
 }
 
-// Translates an accepted script: the file's kinds, its operands and how many functions it has.
-pub fn translate_accepted(
-    kinds: &[u8],
-    operands: &[u8],
-    functions: usize,
-    ks: &mut [u8],
-    os: &mut [i64],
-) -> Laid
-    requires { ⌜ Translatable (now kinds) (now operands) functions ⌝ }
-    ensures { λ r. ⌜ Leaves (script (now (kinds .entry)) (now (operands .entry)) functions 0) (now (ks .entry)) (now (os .entry)) (record { answer = r; kinds = now (ks .exit); operands = now (os .exit) }) ⌝ }
+// Moves the code whose kinds and operands stand from `at` to the end of two arrays to the front of the lent ones, if it has room there.
+fn lay_code(written: &[u8], numbers: &[i64], at: usize, ks: &mut [u8], os: &mut [i64]) -> Laid
+    requires { ⌜ (at ≤ 4097) × (length (now written) ≡ 4097) × (length (now numbers) ≡ 4097) ⌝ }
+    ensures { λ r. ⌜ ((fs : Script) →
+        Wrote (replicate 4097 0) (replicate 4097 (pos 0)) (now (written .entry)) (now (numbers .entry)) 4097 at (code fs) →
+        record { answer = r; kinds = now (ks .exit); operands = now (os .exit) }
+        ≡ left-of fs (now (ks .entry)) (now (os .entry))) ⌝ }
 {
-    let mut bk = [0u8; 4097];
-    let mut bo = [0i64; 4097];
-    let at = normal_script::script_code(kinds, operands, functions, &mut bk, &mut bo);
     if at == 0 {
         return refuse(ks, os);
     }
@@ -92,7 +90,30 @@ pub fn translate_accepted(
     if os.len() < n {
         return refuse(ks, os);
     }
-    move_kinds(ks, &bk, at);
-    move_ops(os, &bo, at);
+    move_kinds(ks, written, at);
+    move_ops(os, numbers, at);
     Laid::Lines(n)
+}
+
+// Translates an accepted script: the file's kinds, its operands and how many functions it has. The table gets the
+// depths of the names.
+pub fn translate_accepted(
+    kinds: &[u8],
+    operands: &[u8],
+    functions: usize,
+    table: &mut [u8],
+    ks: &mut [u8],
+    os: &mut [i64],
+) -> Laid
+    requires { ⌜ Translatable (now kinds) (now operands) functions ⌝ }
+    ensures { λ r. ⌜ Leaves (script (now (kinds .entry)) (now (operands .entry)) functions 0)
+        (now (ks .entry)) (now (os .entry))
+        (record { answer = r; kinds = now (ks .exit); operands = now (os .exit) }) ⌝ }
+    ensures { λ _. ⌜ Depths-by (script (now (kinds .entry)) (now (operands .entry)) functions 0)
+        (now (table .entry)) (now (table .exit)) ⌝ }
+{
+    let mut bk = [0u8; 4097];
+    let mut bo = [0i64; 4097];
+    let at = normal_script::script_code(kinds, operands, functions, table, &mut bk, &mut bo);
+    lay_code(&bk, &bo, at, ks, os)
 }

@@ -173,6 +173,10 @@ rows-same : (fs : Script) (g : Function) → rows-by (result-of fs) g ≡ functi
 unfolding rows-by depths-by function-rows annotated-body depths-of
 rows-same fs g = refl
 
+depths-same : (fs : Script) (g : Function) → depths-by (result-of fs) g ≡ depths-of fs g
+unfolding depths-by depths-of
+depths-same fs g = refl
+
 drop-at : (gs : Script) (i : ℕ) → i < length gs → drop i gs ≡ function-at gs i ∷ drop (suc i) gs
 drop-at gs i h = drop-cons gs i no-function h
 
@@ -204,6 +208,13 @@ module _ {k w : List ℕ} {n : ℕ} (t : Translatable k w n) {r : Heads} (hd : H
       (known t .0)) (t .parts) low-results
       (omega (arith, ends-at k w (t .tree) 0 i l, known t .1 .1)) (few-names k w (t .tree) 0 i l (t .names)))
 
+  function-there : (i at : ℕ) → i - 1 < length (t .tree) → at ≡ getD (r .starts) (i - 1) 0 →
+      read-function k w at ≡ function-at (t .tree) (i - 1)
+  function-there i at l e =
+      ap (read-function k w) (e ∙ hd .starts (i - 1) l)
+      ∙ function-is k w (function-at (t .tree) (i - 1)) (start-of (t .tree) 0 (i - 1))
+      (written-at k w (t .tree) 0 (i - 1) l (known t .0))
+
   pub code-begins : {ks : List ℕ} {os : List ℤ} → Wrote ks os ks os 4097 4097 (functions-rows (t .tree)
       (drop n (t .tree)))
   unfolding functions-rows
@@ -234,12 +245,18 @@ module _ {k w : List ℕ} {n : ℕ} (t : Translatable k w n) {r : Heads} (hd : H
 
       rows-there : rows-by (λ f. getD (r .results) f 0) (read-function k w at) ≡ function-rows (t .tree)
           (function-at (t .tree) (i - 1))
-      rows-there =
-          ap (λ (q : ℕ → ℕ). rows-by q (read-function k w at)) (fun-ext (λ f. hd .results f))
-          ∙ ap (rows-by (result-of (t .tree))) (ap (read-function k w) (e ∙ hd .starts (i - 1) l) ∙ function-is k w
-          (function-at (t .tree) (i - 1)) (start-of (t .tree) 0 (i - 1)) (written-at k w (t .tree) 0 (i - 1) l
-          (known t .0)))
+      rows-there = ap (λ (q : ℕ → ℕ). rows-by q (read-function k w at)) (fun-ext (λ f. hd .results f))
+          ∙ ap (rows-by (result-of (t .tree))) (function-there i at l e)
           ∙ rows-same (t .tree) (function-at (t .tree) (i - 1))
+
+  -- the depths of the names of the function that is written
+  pub depths-there : (i at : ℕ) → 0 < i → i ≤ n → at ≡ getD (r .starts) (i - 1) 0 →
+      depths-by (λ f. getD (r .results) f 0) (read-function k w at)
+      ≡ depths-of (t .tree) (function-at (t .tree) (i - 1))
+  depths-there i at g h e =
+      ap (λ (q : ℕ → ℕ). depths-by q (read-function k w at)) (fun-ext (λ f. hd .results f))
+      ∙ ap (depths-by (result-of (t .tree))) (function-there i at (omega (arith, known t .1 .0)) e)
+      ∙ depths-same (t .tree) (function-at (t .tree) (i - 1))
 
   pub code-ends : (i : ℕ) {ks ks₁ : List ℕ} {os os₁ : List ℤ} {v : ℕ} → i ≤ 0 → Wrote ks os ks₁ os₁ 4097 v
       (functions-rows (t .tree) (drop i (t .tree))) →

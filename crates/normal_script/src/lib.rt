@@ -1,9 +1,10 @@
-// The code of a whole script, written backwards from its last function to its first.
+// The code of a whole script, written backwards from its last function to its first, and the depths of its names.
 ghost use mathlib.Core.Path.{_≡_};
 ghost use Prim.Native.Nat.{_+_, _*_, _<_, _≤_};
 ghost use lib.ListN.{length};
 ghost use Rattle.semantics.specs.File.{script};
 ghost use Rattle.normal_script.specs.Script.{Translatable, Headed-by, Coded-by};
+ghost use Rattle.normal_script.specs.Depths.{Noted, Depths-by};
 
 // The node of each function, and the depth of its result.
 pub struct Heads {
@@ -31,16 +32,36 @@ fn find_heads(kinds: &[u8], operands: &[u8], functions: usize) -> Heads
     Heads { starts, results }
 }
 
-// Writes the code of a script so that it ends at the arrays' end; the answer is the place of its first row, or 0 if it is too long.
+// Notes the depths of the names of function f in a table that has 256 bytes for each function.
+fn note_depths(table: &mut [u8], f: usize, depths: &[u8; 256])
+    requires { ⌜ f < 32 ⌝ }
+    ensures { λ _. ⌜ Noted f (now (depths .entry)) (now (table .entry)) (now (table .exit)) ⌝ }
+{
+    let mut x: usize = 0;
+    while x < 256 {
+        let i = 256 * f + x;
+        if i < table.len() {
+            table[i] = depths[x];
+        }
+        x = x + 1;
+    }
+}
+
+// Writes the code of a script so that it ends at the arrays' end, and the depths of its names in a table; the answer
+// is the place of the first row, or 0 if the code is too long.
 pub fn script_code(
     kinds: &[u8],
     operands: &[u8],
     functions: usize,
+    table: &mut [u8],
     ks: &mut [u8; 4097],
     os: &mut [i64; 4097],
 ) -> usize
     requires { ⌜ Translatable (now kinds) (now operands) functions ⌝ }
-    ensures { λ r. ⌜ Coded-by (script (now (kinds .entry)) (now (operands .entry)) functions 0) (now (ks .entry)) (now (os .entry)) (now (ks .exit)) (now (os .exit)) r ⌝ }
+    ensures { λ r. ⌜ Coded-by (script (now (kinds .entry)) (now (operands .entry)) functions 0)
+        (now (ks .entry)) (now (os .entry)) (now (ks .exit)) (now (os .exit)) r ⌝ }
+    ensures { λ _. ⌜ Depths-by (script (now (kinds .entry)) (now (operands .entry)) functions 0)
+        (now (table .entry)) (now (table .exit)) ⌝ }
 {
     let head = find_heads(kinds, operands, functions);
     let starts = head.starts;
@@ -51,6 +72,8 @@ pub fn script_code(
         i = i - 1;
         let at = starts[i];
         let c = normal_function::function_code(kinds, operands, &results, at, ks, os, w);
+        let depths = c.depths;
+        note_depths(table, i, &depths);
         w = c.place;
     }
     w

@@ -121,10 +121,10 @@ pub fn signed_at(bytes: &[u8], i: usize) -> i64
 
 // The parts of a call's answer: number, node, steps or code lines, cells taken.
 pub struct Answer {
-    number: u64,
-    node: u64,
-    count: u64,
-    cells: u64,
+    pub number: u64,
+    pub node: u64,
+    pub count: u64,
+    pub cells: u64,
 }
 
 // An answer as one number.

@@ -1,0 +1,162 @@
+// Bytes and words of arrays, read from a line and compared.
+use crate::number::digit;
+use crate::number::natural_at;
+use crate::number::signed_at;
+use crate::text::after;
+use crate::text::byte_at;
+use crate::text::line_of;
+use crate::text::past;
+use crate::text::word;
+ghost use mathlib.Core.Path.{_≡_};
+ghost use mathlib.Core.Bool.{true};
+ghost use Prim.Native.Nat.{_+_, _*_, _≤_};
+ghost use lib.ListN.{length, take};
+ghost use Rattle.io.specs.Counts.{Counts};
+
+// The byte that two digits of base 16 give.
+fn paired(high: u64, low: u64) -> u8
+    requires { ⌜ (high ≤ 15) × (low ≤ 15) ⌝ }
+    ensures { λ r. ⌜ r ≡ 16 * high + low ⌝ }
+{
+    (16 * high + low) as u8
+}
+
+// Puts the bytes of a case's script file into an array, and answers how many there are.
+pub fn file_of(case: &[u8], bytes: &mut [u8]) -> usize
+    ensures { λ r. ⌜ Counts r (now (bytes .exit)) ⌝ }
+{
+    let line = line_of(case, b"file");
+    let mut at = word(line, 1);
+    let mut n = 0;
+    while n < bytes.len() {
+        let high = digit(byte_at(line, at));
+        at = after(line, at);
+        let low = digit(byte_at(line, at));
+        at = after(line, at);
+        if 15 < high {
+            return n;
+        }
+        if 15 < low {
+            return n;
+        }
+        bytes[n] = paired(high, low);
+        n = n + 1;
+    }
+    n
+}
+
+// Puts the low 8 bits of a number into an array, if it has that place.
+pub fn put_kind(kinds: &mut [u8], index: usize, value: u64)
+    ensures { λ r. ⌜ length (now (kinds .exit)) ≡ length (now (kinds .entry)) ⌝ }
+{
+    if index < kinds.len() {
+        kinds[index] = (value % 256) as u8;
+    }
+}
+
+// Puts a signed word into an array, if it has that place.
+pub fn put_slot(slots: &mut [i64], index: usize, value: i64)
+    ensures { λ r. ⌜ length (now (slots .exit)) ≡ length (now (slots .entry)) ⌝ }
+{
+    if index < slots.len() {
+        slots[index] = value;
+    }
+}
+
+// Puts the low 32 bits of a number into an array, if it has that place.
+fn put_head(heads: &mut [u32], index: usize, value: u64)
+    ensures { λ r. ⌜ length (now (heads .exit)) ≡ length (now (heads .entry)) ⌝ }
+{
+    if index < heads.len() {
+        heads[index] = (value % 4294967296) as u32;
+    }
+}
+
+// Puts the pairs INDEX=VALUE of a line, from a word on, into an array.
+pub fn fill_slots(line: &[u8], from: usize, slots: &mut [i64])
+    ensures { λ r. ⌜ length (now (slots .exit)) ≡ length (now (slots .entry)) ⌝ }
+{
+    let mut at = word(line, from);
+    while at < line.len() {
+        put_slot(
+            slots,
+            natural_at(line, at) as usize,
+            signed_at(line, past(line, at, b'=')),
+        );
+        at = past(line, at, b' ');
+    }
+}
+
+// The same for an array of unsigned words.
+pub fn fill_heads(line: &[u8], from: usize, heads: &mut [u32])
+    ensures { λ r. ⌜ length (now (heads .exit)) ≡ length (now (heads .entry)) ⌝ }
+{
+    let mut at = word(line, from);
+    while at < line.len() {
+        put_head(
+            heads,
+            natural_at(line, at) as usize,
+            natural_at(line, past(line, at, b'=')),
+        );
+        at = past(line, at, b' ');
+    }
+}
+
+// Whether two arrays hold the same words.
+pub fn same_slots(a: &[i64], b: &[i64]) -> bool
+    ensures { λ r. ⌜ (r ≡ true → now (a .entry) ≡ now (b .entry)) ⌝ }
+{
+    if a.len() != b.len() {
+        return false;
+    }
+    let mut i = 0;
+    while i < a.len() {
+        if a[i] != b[i] {
+            return false;
+        }
+        i = i + 1;
+    }
+    true
+}
+
+// The same for arrays of unsigned words.
+pub fn same_heads(a: &[u32], b: &[u32]) -> bool
+    ensures { λ r. ⌜ (r ≡ true → now (a .entry) ≡ now (b .entry)) ⌝ }
+{
+    if a.len() != b.len() {
+        return false;
+    }
+    let mut i = 0;
+    while i < a.len() {
+        if a[i] != b[i] {
+            return false;
+        }
+        i = i + 1;
+    }
+    true
+}
+
+// Whether both code arrays hold what two arrays that are at least as long begin with.
+pub fn same_code(
+    kinds: &[u8],
+    operands: &[i64],
+    wanted_kinds: &[u8],
+    wanted_operands: &[i64],
+) -> bool
+    ensures { λ r. ⌜ (r ≡ true →
+        (now (kinds .entry) ≡ take (length (now (kinds .entry))) (now («wanted_kinds» .entry)))
+        × (now (operands .entry) ≡ take (length (now (operands .entry))) (now («wanted_operands» .entry)))) ⌝ }
+{
+    let lines = kinds.len();
+    let words = operands.len();
+    if wanted_kinds.len() < lines {
+        return false;
+    }
+    if wanted_operands.len() < words {
+        return false;
+    }
+    if check::same(kinds, &wanted_kinds[..lines]) {
+        return same_slots(operands, &wanted_operands[..words]);
+    }
+    false
+}

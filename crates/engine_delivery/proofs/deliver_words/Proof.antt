@@ -1,0 +1,97 @@
+-- `engine_delivery::deliver_words` meets its contract.
+use native.Mathlib.Omega.{arith}
+use mathlib.Core.Path.{sym, _∙_}
+use borrow.Author.Needs.{needs}
+use borrow.Author.Tests.{not-true, not-false}
+use Rattle.engine_store.proofs.Laws.{taken-few}
+use Rattle.engine_delivery.proofs.Laws.{refuses-10, refuses-11, sound-fits, delivers, steps-few}
+use Rattle.engine_delivery.proofs.deliver_words.Statement.{statement}
+use Rattle.engine_delivery.proofs.deliver_words.Tie as tie
+use Rattle.engine_delivery.proofs.deliver_words.Reads as reads
+use Rattle.engine_delivery.proofs.deliver_words.Lts as lts
+use Rattle.engine_delivery.proofs.request_fits.Reads as request-fits-reads
+use Rattle.machine_delivery.proofs.deliver_on.Reads as deliver-on-reads
+use Rattle.store_check.proofs.is_sound.Reads as is-sound-reads
+use Rattle.store_words.proofs.cells_taken.Reads as cells-taken-reads
+
+request-fits-requires : tie.Need-request-fits-requires
+request-fits-requires c κs = search needs
+
+returns : tie.Need-returns
+returns c =
+    let a = c .before .before .before .before .before .args in
+    let asked = c .before .request-fits in (
+      λ node file fs ok few coded same. refuses-10 fs (a .readings .now) (a .budget) (a .slots .now) (a .heads .now)
+          (sym (asked .ensures) ∙ not-true (asked .result) (c .if1 .taken)),
+      tt,
+    )
+
+is-sound-requires : tie.Need-is-sound-requires
+is-sound-requires c κs = search needs
+
+same-length : tie.Need-same-length
+same-length c = search needs
+
+same-length-2 : tie.Need-same-length-2
+same-length-2 c = search needs
+
+returns-2 : tie.Need-returns-2
+returns-2 c =
+    let a = c .before .before .before .before .before .before .before .before .before .args in
+    let asked = c .before .before .before .before .before .request-fits in
+    let test = c .before .is-sound in (
+      λ node file fs ok few coded same. refuses-11 fs (a .readings .now) (a .budget) (a .slots .now) (a .heads .now)
+          (sym (asked .ensures) ∙ not-false (asked .result) (c .before .before .before .before .if1 .left)) (a .depth) same
+          (sym (test .ensures) ∙ not-true (test .result) (c .if2 .taken)),
+      tt,
+    )
+
+deliver-on-requires : tie.Need-deliver-on-requires
+deliver-on-requires c κs =
+    let a = c .before .before .before .before .before .before .before .before .before .before .before .args in
+    let test = c .before .before .before .is-sound in
+    sound-fits (a .depth) (a .slots .now) (a .heads .now)
+    (sym (test .ensures) ∙ not-false (test .result) (c .before .before .if2 .left))
+
+cells-taken-requires : tie.Need-cells-taken-requires
+cells-taken-requires c κs = search needs
+
+same-length-3 : tie.Need-same-length-3
+same-length-3 c = search needs
+
+same-length-4 : tie.Need-same-length-4
+same-length-4 c = search needs
+
+returns-3 : tie.Need-returns-3
+returns-3 c =
+    let a = c .before .before .before .before .before .before .before .before .before .before .before .before .before .before .before .before .before .before .args in
+    let asked = c .before .before .before .before .before .before .before .before .before .before .before .before .before .before .request-fits in
+    let request = sym (asked .ensures) ∙ not-false (asked .result) (c .before .before .before .before .before .before .before .before .before .before .before .before .before .if1 .left) in
+    let test = c .before .before .before .before .before .before .before .before .before .before .is-sound in
+    let fine = sym (test .ensures) ∙ not-false (test .result) (c .before .before .before .before .before .before .before .before .before .if2 .left) in
+    let end = c .before .before .before .before .before .before .deliver-on in (
+      λ node file fs ok few coded same. delivers node file fs ok few _ coded (a .readings .now) (a .budget)
+          (a .slots .now) (a .heads .now) (a .depth) same request fine
+          (record { slots-long = end .kept .1 .1 .1 .0; heads-long = end .kept .1 .1 .1 .1 .0 })
+          (end .ensures .store) (end .ensures .number) (end .ensures .steps) (c .cells-taken .ensures),
+      (
+        steps-few _ (a .readings .now) (a .depth) (a .budget) _ request (end .ensures .steps),
+        taken-few _ _ (c .cells-taken .result) (c .cells-taken .ensures),
+      ),
+    )
+
+pub deliver-words-spec : {M : Type 1} → statement M
+deliver-words-spec =
+    tie.close
+    (tie.spec
+    request-fits-requires
+    returns
+    is-sound-requires
+    same-length
+    same-length-2
+    returns-2
+    deliver-on-requires
+    cells-taken-requires
+    same-length-3
+    same-length-4
+    returns-3)

@@ -1,0 +1,105 @@
+-- `normal::lay_code` meets its contract.
+use native.Mathlib.Omega.{arith}
+use Prim.Native.Nat.{ℕ, _+_, _-_, _*_, _<_, _≤_}
+use Rattle.normal.proofs.Moves.{refused-is, all-fits}
+use borrow.Author.Needs.{needs}
+use Rattle.normal.proofs.lay_code.Statement.{statement}
+use Rattle.normal.proofs.lay_code.Tie as tie
+use Rattle.normal.proofs.lay_code.Reads as reads
+use Rattle.normal.proofs.lay_code.Lts as lts
+use Rattle.normal.proofs.move_kinds.Reads as move-kinds-reads
+use Rattle.normal.proofs.move_ops.Reads as move-ops-reads
+use Rattle.normal.proofs.refuse.Reads as refuse-reads
+
+refuse-requires : tie.Need-refuse-requires
+refuse-requires c κs = search needs
+
+same-length : tie.Need-same-length
+same-length c = search needs
+
+same-length-2 : tie.Need-same-length-2
+same-length-2 c = search needs
+
+returns : tie.Need-returns
+returns c =
+    let a = c .before .before .before .before .before .before .before .before .before .args in
+    λ fs w. refused-is fs (a .ks .now) (a .os .now) (a .at) w (omega (arith, w .at, c .before .before .before .before .before .before .if1 .taken)) _ _ _
+    (c .before .before .before .refuse .ensures)
+
+sub-n : tie.Need-sub-n
+sub-n c = omega (arith, c .before .before .before .pre .0)
+
+refuse-requires-2 : tie.Need-refuse-requires-2
+refuse-requires-2 c κs = search needs
+
+same-length-3 : tie.Need-same-length-3
+same-length-3 c = search needs
+
+same-length-4 : tie.Need-same-length-4
+same-length-4 c = search needs
+
+returns-2 : tie.Need-returns-2
+returns-2 c =
+    let a = c .before .before .before .before .before .before .before .before .before .before .args in
+    λ fs w. refused-is fs (a .ks .now) (a .os .now) (a .at) w (omega (arith, w .at, c .before .before .before .before .before .before .before .if1 .left, c .before .before .before .before .before .before .if2 .taken)) _ _ _
+    (c .before .before .before .refuse2 .ensures)
+
+refuse-requires-3 : tie.Need-refuse-requires-3
+refuse-requires-3 c κs = search needs
+
+same-length-5 : tie.Need-same-length-5
+same-length-5 c = search needs
+
+same-length-6 : tie.Need-same-length-6
+same-length-6 c = search needs
+
+returns-3 : tie.Need-returns-3
+returns-3 c =
+    let a = c .before .before .before .before .before .before .before .before .before .before .before .args in
+    λ fs w. refused-is fs (a .ks .now) (a .os .now) (a .at) w (omega (arith, w .at, c .before .before .before .before .before .before .before .before .if1 .left, c .before .before .before .before .before .before .if3 .taken)) _ _ _
+    (c .before .before .before .refuse3 .ensures)
+
+move-kinds-requires : tie.Need-move-kinds-requires
+move-kinds-requires c κs =
+    let long = c .before .before .before .before .before .before .pre in
+    (omega (arith, long .0, long .1), omega (arith, long .1, c .before .before .if2 .left))
+
+move-ops-requires : tie.Need-move-ops-requires
+move-ops-requires c κs =
+    let long = c .before .before .before .before .before .before .before .before .before .before .pre in
+    (omega (arith, long .0, long .2), omega (arith, long .2, c .before .before .before .before .before .if3 .left))
+
+same-length-7 : tie.Need-same-length-7
+same-length-7 c = search needs
+
+same-length-8 : tie.Need-same-length-8
+same-length-8 c = search needs
+
+returns-4 : tie.Need-returns-4
+returns-4 c =
+    let a = c .before .before .before .before .before .before .before .before .before .before .before .before .args in
+    λ fs w. all-fits fs (a .ks .now) (a .os .now) (a .at) w (c .before .before .before .before .before .before .before .before .before .if1 .left) (c .before .before .before .before .before .before .before .before .if2 .left)
+    (c .before .before .before .before .before .before .before .if3 .left) _ _ (c .before .before .before .before .before .move-kinds .ensures) (c .before .move-ops .ensures)
+
+pub lay-code-spec : {M : Type 1} → statement M
+lay-code-spec =
+    tie.close
+    (tie.spec
+    refuse-requires
+    same-length
+    same-length-2
+    returns
+    sub-n
+    refuse-requires-2
+    same-length-3
+    same-length-4
+    returns-2
+    refuse-requires-3
+    same-length-5
+    same-length-6
+    returns-3
+    move-kinds-requires
+    move-ops-requires
+    same-length-7
+    same-length-8
+    returns-4)

@@ -1,0 +1,88 @@
+-- `normal_script::note_depths` meets its contract.
+use mathlib.Core.Logic.{⊎-elim}
+use mathlib.Core.Path.{_≡_, refl, subst}
+use native.Mathlib.Omega.{arith}
+use Prim.Native.Nat.{_+_, _-_, _*_, _<_, _≤_}
+use borrow.Author.Needs.{needs}
+use Rattle.normal_script.specs.Depths.{NotedTo}
+use Rattle.normal_script.proofs.Depths.{noted-none, noted-one, noted-past}
+use Rattle.normal_script.proofs.note_depths.Statement.{statement}
+use Rattle.normal_script.proofs.note_depths.Tie as tie
+use Rattle.normal_script.proofs.note_depths.Reads as reads
+use Rattle.normal_script.proofs.note_depths.Lts as lts
+
+abbrev Inv-loop : tie.InvT-loop
+Inv-loop table₀ f depths x₀ table x =
+    (x ≤ 256) × (f < 32) × NotedTo x f depths table₀ table
+
+abbrev μ-loop : tie.MeasureT-loop
+μ-loop table₀ f depths x₀ table x = 256 - x
+
+-- src/lib.rt:41:5
+loop-holds : tie.Need-loop-holds Inv-loop μ-loop
+loop-holds c = (omega arith, c .pre, noted-none)
+
+-- src/lib.rt:42:17
+mul-i : tie.Need-mul-i Inv-loop μ-loop
+mul-i c = search needs
+
+-- src/lib.rt:42:17
+add-i : tie.Need-add-i Inv-loop μ-loop
+add-i c = search needs
+
+-- src/lib.rt:44:24
+element-copy-out-table : tie.Need-element-copy-out-table Inv-loop μ-loop
+element-copy-out-table c = search needs
+
+-- src/lib.rt:44:13
+slice-write-table : tie.Need-slice-write-table Inv-loop μ-loop
+slice-write-table c = search needs
+
+-- src/lib.rt:46:13
+add-x : tie.Need-add-x Inv-loop μ-loop
+add-x c = search needs
+
+-- src/lib.rt:41:5
+loop-less : tie.Need-loop-less Inv-loop μ-loop
+loop-less c = search needs
+
+-- src/lib.rt:41:5
+loop-again : tie.Need-loop-again Inv-loop μ-loop
+loop-again c =
+    let v = c .before .before .loop .inv in (
+      omega (arith, c .before .loop-test .taken),
+      v .1,
+      ⊎-elim
+          (λ w. rw (w .2) (noted-one (v .2) (omega (arith, w .0 .taken))))
+          (λ w. rw (w .1) (noted-past (v .2) (omega (arith, w .0 .left))))
+          (c .if1 .came),
+    )
+
+-- src/lib.rt:36:1
+same-length : tie.Need-same-length Inv-loop μ-loop
+same-length c = search needs
+
+-- src/lib.rt:36:1
+returns : tie.Need-returns Inv-loop μ-loop
+returns c =
+    let v = c .before .loop .inv in
+    let all : c .before .loop .x ≡ 256 = omega (arith, v .0, c .loop-test .left) in
+    subst (λ n. NotedTo n (c .before .before .args .f) (c .before .before .args .depths .now)
+    (c .before .before .args .table .now) (c .before .loop .table)) all (v .2)
+
+pub note-depths-spec : {M : Type 1} → statement M
+note-depths-spec =
+    tie.close
+    (tie.spec
+    Inv-loop
+    μ-loop
+    loop-holds
+    mul-i
+    add-i
+    element-copy-out-table
+    slice-write-table
+    add-x
+    loop-less
+    loop-again
+    same-length
+    returns)
