@@ -12,37 +12,11 @@ Inv-loop counts₀ seed₀ counts seed = (seed ≤ 400) × (length counts ≡ le
 abbrev μ-loop : tie.MeasureT-loop
 μ-loop counts₀ seed₀ counts seed = 400 - seed
 
-loop-holds : tie.Need-loop-holds Inv-loop μ-loop
-loop-holds c = search needs
-
-run-seed-requires : tie.Need-run-seed-requires Inv-loop μ-loop
-run-seed-requires c κs = search needs
-
-add-seed : tie.Need-add-seed Inv-loop μ-loop
-add-seed c = search needs
-
-loop-less : tie.Need-loop-less Inv-loop μ-loop
-loop-less c = search needs
-
-loop-again : tie.Need-loop-again Inv-loop μ-loop
-loop-again c = search needs
-
-same-length : tie.Need-same-length Inv-loop μ-loop
-same-length c = search needs
-
-returns : tie.Need-returns Inv-loop μ-loop
-returns c = search needs
-
 pub run-seeds-spec : {M : Type 1} → statement M
 run-seeds-spec =
     tie.close
     (tie.spec
     Inv-loop
     μ-loop
-    loop-holds
-    run-seed-requires
-    add-seed
-    loop-less
-    loop-again
-    same-length
-    returns)
+    (λ c. search needs) (λ c κs. search needs) (λ c. search needs) (λ c. search needs) (λ c. search needs)
+    (λ c. search needs) (λ c. search needs))

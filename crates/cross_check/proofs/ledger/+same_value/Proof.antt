@@ -50,94 +50,13 @@ same-value-claims t = (
   same-value.Post,
 )
 
-same-value-signed-requires : (t : ℕ) → same-value-lts.Need-signed-requires (same-value-claims t)
-    (same-value-at t) same-value.Post same-value-Inv-loop same-value-μ-loop
-same-value-signed-requires t c κs = search needs
-
-same-value-returns : (t : ℕ) → same-value-lts.Need-returns (same-value-claims t)
-    (same-value-at t) same-value.Post same-value-Inv-loop same-value-μ-loop
-same-value-returns t c = search needs
-
-same-value-cell-of-requires : (t : ℕ) → same-value-lts.Need-cell-of-requires (same-value-claims t)
-    (same-value-at t) same-value.Post same-value-Inv-loop same-value-μ-loop
-same-value-cell-of-requires t c κs = search needs
-
-same-value-length-at-requires : (t : ℕ) → same-value-lts.Need-length-at-requires (same-value-claims t)
-    (same-value-at t) same-value.Post same-value-Inv-loop same-value-μ-loop
-same-value-length-at-requires t c κs = search needs
-
-same-value-sub-has-head : (t : ℕ) → same-value-lts.Need-sub-has-head (same-value-claims t)
-    (same-value-at t) same-value.Post same-value-Inv-loop same-value-μ-loop
-same-value-sub-has-head t c = search needs
-
-same-value-has-head-requires : (t : ℕ) → same-value-lts.Need-has-head-requires (same-value-claims t)
-    (same-value-at t) same-value.Post same-value-Inv-loop same-value-μ-loop
-same-value-has-head-requires t c κs = search needs
-
-same-value-returns-2 : (t : ℕ) → same-value-lts.Need-returns-2 (same-value-claims t)
-    (same-value-at t) same-value.Post same-value-Inv-loop same-value-μ-loop
-same-value-returns-2 t c = search needs
-
-same-value-loop-holds : (t : ℕ) → same-value-lts.Need-loop-holds (same-value-claims t)
-    (same-value-at t) same-value.Post same-value-Inv-loop same-value-μ-loop
-same-value-loop-holds t c = search needs
-
-same-value-element-in-requires : (t : ℕ) → same-value-lts.Need-element-in-requires (same-value-claims t)
-    (same-value-at t) same-value.Post same-value-Inv-loop same-value-μ-loop
-same-value-element-in-requires t c κs = search needs
-
-same-value-element-at-requires : (t : ℕ) → same-value-lts.Need-element-at-requires (same-value-claims t)
-    (same-value-at t) same-value.Post same-value-Inv-loop same-value-μ-loop
-same-value-element-at-requires t c κs = search needs
-
-same-value-sub-same-value : (t : ℕ) → same-value-lts.Need-sub-same-value (same-value-claims t)
-    (same-value-at t) same-value.Post same-value-Inv-loop same-value-μ-loop
-same-value-sub-same-value t c = search needs
-
-same-value-same-value-requires : (t : ℕ) → same-value-lts.Need-same-value-requires (same-value-claims t)
-    (same-value-at t) same-value.Post same-value-Inv-loop same-value-μ-loop
-same-value-same-value-requires t c κs = search needs
-
-same-value-returns-3 : (t : ℕ) → same-value-lts.Need-returns-3 (same-value-claims t)
-    (same-value-at t) same-value.Post same-value-Inv-loop same-value-μ-loop
-same-value-returns-3 t c = search needs
-
-same-value-add-i : (t : ℕ) → same-value-lts.Need-add-i (same-value-claims t)
-    (same-value-at t) same-value.Post same-value-Inv-loop same-value-μ-loop
-same-value-add-i t c = search needs
-
-same-value-loop-less : (t : ℕ) → same-value-lts.Need-loop-less (same-value-claims t)
-    (same-value-at t) same-value.Post same-value-Inv-loop same-value-μ-loop
-same-value-loop-less t c = search needs
-
-same-value-loop-again : (t : ℕ) → same-value-lts.Need-loop-again (same-value-claims t)
-    (same-value-at t) same-value.Post same-value-Inv-loop same-value-μ-loop
-same-value-loop-again t c = search needs
-
-same-value-returns-4 : (t : ℕ) → same-value-lts.Need-returns-4 (same-value-claims t)
-    (same-value-at t) same-value.Post same-value-Inv-loop same-value-μ-loop
-same-value-returns-4 t c = search needs
-
 pub +same-value-spec : {M : Type 1} → statement M
 +same-value-spec = close μ-same-value λ t. same-value-lts.spec (same-value-claims t)
     (same-value-at t)
     same-value.Post
     same-value-Inv-loop
     same-value-μ-loop
-    (same-value-signed-requires t)
-    (same-value-returns t)
-    (same-value-cell-of-requires t)
-    (same-value-length-at-requires t)
-    (same-value-sub-has-head t)
-    (same-value-has-head-requires t)
-    (same-value-returns-2 t)
-    (same-value-loop-holds t)
-    (same-value-element-in-requires t)
-    (same-value-element-at-requires t)
-    (same-value-sub-same-value t)
-    (same-value-same-value-requires t)
-    (same-value-returns-3 t)
-    (same-value-add-i t)
-    (same-value-loop-less t)
-    (same-value-loop-again t)
-    (same-value-returns-4 t)
+    (λ c κs. search needs) (λ c. search needs) (λ c κs. search needs) (λ c κs. search needs) (λ c. search needs)
+    (λ c κs. search needs) (λ c. search needs) (λ c. search needs) (λ c κs. search needs) (λ c κs. search needs)
+    (λ c. search needs) (λ c κs. search needs) (λ c. search needs) (λ c. search needs) (λ c. search needs)
+    (λ c. search needs) (λ c. search needs)

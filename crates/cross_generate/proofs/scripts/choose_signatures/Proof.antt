@@ -1,4 +1,5 @@
--- `cross_generate::scripts::choose_signatures` ends: the functions left fall. The invariant: the desk keeps its length.
+-- `cross_generate::scripts::choose_signatures` ends: the functions left fall. The invariant: the desk keeps its
+-- length.
 use mathlib.Core.Path.{_≡_}
 use Prim.Native.Nat.{_≤_, _-_}
 use lib.ListN.{length}
@@ -12,41 +13,11 @@ Inv-loop desk₀ functions function₀ desk function = (function ≤ functions) 
 abbrev μ-loop : tie.MeasureT-loop
 μ-loop desk₀ functions function₀ desk function = functions - function
 
-put-requires : tie.Need-put-requires Inv-loop μ-loop
-put-requires c κs = search needs
-
-loop-holds : tie.Need-loop-holds Inv-loop μ-loop
-loop-holds c = search needs
-
-choose-signature-requires : tie.Need-choose-signature-requires Inv-loop μ-loop
-choose-signature-requires c κs = search needs
-
-add-function : tie.Need-add-function Inv-loop μ-loop
-add-function c = search needs
-
-loop-less : tie.Need-loop-less Inv-loop μ-loop
-loop-less c = search needs
-
-loop-again : tie.Need-loop-again Inv-loop μ-loop
-loop-again c = search needs
-
-same-length : tie.Need-same-length Inv-loop μ-loop
-same-length c = search needs
-
-returns : tie.Need-returns Inv-loop μ-loop
-returns c = search needs
-
 pub choose-signatures-spec : {M : Type 1} → statement M
 choose-signatures-spec =
     tie.close
     (tie.spec
     Inv-loop
     μ-loop
-    put-requires
-    loop-holds
-    choose-signature-requires
-    add-function
-    loop-less
-    loop-again
-    same-length
-    returns)
+    (λ c κs. search needs) (λ c. search needs) (λ c κs. search needs) (λ c. search needs) (λ c. search needs)
+    (λ c. search needs) (λ c. search needs) (λ c. search needs))
