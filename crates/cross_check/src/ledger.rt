@@ -12,18 +12,22 @@ const TOTALS: usize = 5;
 // The words of a ledger.
 pub const LEDGER_WORDS: usize = 6;
 
+// The number of an answer for want of a cell.
 pub const DRY: u64 = 25;
 
+// The number of an answer.
 pub fn number_of(answer: u64) -> u64
     ensures { λ r. ⌜ r < 256 ⌝ }
 {
     answer % 256
 }
 
+// The steps of an answer.
 pub fn steps_of(answer: u64) -> u64 {
     answer / 16777216 % 16777216
 }
 
+// The cells taken as a call ends.
 pub fn cells_of(answer: u64) -> u64 {
     answer / 281474976710656
 }
@@ -137,6 +141,7 @@ fn head(heads: &[u32], i: usize) -> u64 {
     0
 }
 
+// A head's word as a wider number.
 fn wide(word: u32) -> u64 {
     word as u64
 }

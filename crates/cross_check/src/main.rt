@@ -7,8 +7,10 @@ mod trials;
 
 use cross_draft::requests;
 use cross_generate::scripts;
+use cross_values::rows;
 use libc::STDOUT_FILENO;
 
+// How many scripts are made, and how many deliveries each store gets.
 const SCRIPTS: u64 = 400;
 
 const DELIVERIES: u64 = 6;
@@ -104,9 +106,9 @@ fn run_store(
 ) {
     let mut kinds = [0u8; 4096];
     let mut operands = [0i64; 4096];
-    let mut script = [0u64; 3072];
+    let mut script = [0u64; rows::ROW_WORDS];
     let mut memory = [0u64; 131072];
-    let mut book = [0u64; 6];
+    let mut book = [0u64; ledger::LEDGER_WORDS];
     if !both::open_both(
         file,
         &mut kinds[..],
@@ -169,6 +171,7 @@ fn run_seed(seed: u64, counts: &mut [u64]) {
     run_file(&file[..], end, &mut draft[..], counts, seed)
 }
 
+// The scripts of all seeds.
 fn run_seeds(counts: &mut [u64]) {
     let mut seed: u64 = 0;
     while seed < SCRIPTS {
@@ -179,7 +182,7 @@ fn run_seeds(counts: &mut [u64]) {
 
 fn main() {
     trials::run_trials();
-    let mut counts = [0u64; 64];
+    let mut counts = [0u64; tally::TALLY_WORDS];
     run_seeds(&mut counts[..]);
     tally::print_tally(&counts[..]);
 }

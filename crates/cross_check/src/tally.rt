@@ -3,8 +3,8 @@ use super::both;
 use libc::STDOUT_FILENO;
 ghost use Prim.Native.Nat.{_≤_};
 
-// The deliveries stand at their numbers. Then come the scripts that were opened, those refused, and regions: the
-// scripts by the depth of their totals, and the nodes by kind.
+// The deliveries stand at their numbers. Then come the scripts that were opened, those refused and those that come to
+// level 64; and two regions: the scripts by the depth of their totals, and the nodes by kind.
 pub const OPENED: usize = 32;
 
 pub const REFUSED: usize = 33;
@@ -32,6 +32,7 @@ pub fn count_draft(draft: &[u64], tally: &mut [u64]) {
     }
 }
 
+// Counts the nodes of a draft by kind.
 fn count_nodes(draft: &[u64], tally: &mut [u64]) {
     let nodes = cross_draft::word(draft, cross_draft::NODES) % 1025;
     let mut node: u64 = 0;
@@ -42,6 +43,7 @@ fn count_nodes(draft: &[u64], tally: &mut [u64]) {
     }
 }
 
+// Prints a number and how often it was counted.
 fn print_line(label: u64, count: u64) {
     io::write_all(STDOUT_FILENO, b"  ");
     io::print_decimal(STDOUT_FILENO, label);

@@ -1,6 +1,8 @@
 // Document 01's trials that its theorems leave: 16 and 17 readings with the printed script, and a call depth of 32 and
 // of 33. Each is one delivery to a fresh store.
 use super::both;
+use super::ledger;
+use cross_values::rows;
 use libc::STDOUT_FILENO;
 ghost use Prim.Native.Nat.{_<_};
 
@@ -17,6 +19,7 @@ fn write_nodes(draft: &mut [u64], bytes: &[u8]) {
     }
 }
 
+// A byte as a wider number.
 fn wide(byte: u8) -> u64
     ensures { λ r. ⌜ r < 256 ⌝ }
 {
@@ -55,9 +58,9 @@ fn number_of(file: &[u8], readings: &[u64]) -> u64 {
     let mut operands = [0i64; 64];
     let mut slots = [0i64; 33];
     let mut heads = [0u32; 9];
-    let mut script = [0u64; 3072];
+    let mut script = [0u64; rows::ROW_WORDS];
     let mut memory = [0u64; 1024];
-    let mut book = [0u64; 6];
+    let mut book = [0u64; ledger::LEDGER_WORDS];
     if !both::open_both(
         file,
         &mut kinds[..],
@@ -122,6 +125,7 @@ fn run_nested() {
     run_trial(b"call depth 33", &file[..], end, &over[..], 1);
 }
 
+// Runs all trials.
 pub fn run_trials() {
     run_printed();
     run_nested();

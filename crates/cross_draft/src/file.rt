@@ -1,6 +1,7 @@
 // The draft as a script file.
 ghost use Prim.Native.Nat.{_≤_};
 
+// Stores a byte; past the end nothing is stored.
 fn put_byte(file: &mut [u8], i: usize, value: u64) {
     if i < file.len() {
         file[i] = (value % 256) as u8;

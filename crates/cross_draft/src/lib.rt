@@ -79,6 +79,7 @@ fn region_word(desk: &[u64], region: usize, i: u64) -> u64
     0
 }
 
+// Stores a word of a region.
 fn put_region(desk: &mut [u64], region: usize, i: u64, value: u64)
     requires { ⌜ region ≤ 65536 ⌝ }
 {
@@ -104,7 +105,7 @@ pub fn note_spine(desk: &mut [u64], spine: bool) {
     }
 }
 
-// Puts a seed on the desk; the sequence stays at 0 where it is 0, so it is not.
+// Starts the sequence from a seed; it would stay at 0, so it never starts there.
 pub fn plant(desk: &mut [u64], seed: u64) {
     put(desk, SEED, seed % 2147483646 + 1);
 }
@@ -114,14 +115,17 @@ pub fn known(desk: &[u64], name: u64) -> u64 {
     region_word(desk, SCOPE, name % 256)
 }
 
+// Sets what is known of a name.
 pub fn set_known(desk: &mut [u64], name: u64, depth_and_one: u64) {
     put_region(desk, SCOPE, name % 256, depth_and_one);
 }
 
+// A column of a function's signature.
 pub fn signature(desk: &[u64], function: u64, column: u64) -> u64 {
     region_word(desk, SIGNATURES, function % 32 * 16 + column % 16)
 }
 
+// Sets a column of a function's signature.
 pub fn set_signature(desk: &mut [u64], function: u64, column: u64, value: u64) {
     put_region(desk, SIGNATURES, function % 32 * 16 + column % 16, value);
 }
@@ -160,10 +164,12 @@ pub fn write(desk: &mut [u64], kind: u64, operand: u64) {
     }
 }
 
+// The kind of a node that is written.
 pub fn kind_at(desk: &[u64], node: u64) -> u64 {
     region_word(desk, DRAFT, node % 1024 * 2)
 }
 
+// The operand of a node that is written.
 pub fn operand_at(desk: &[u64], node: u64) -> u64 {
     region_word(desk, DRAFT, node % 1024 * 2 + 1)
 }

@@ -48,6 +48,7 @@ pub fn push_part(desk: &mut [u64], depth: u64, levels: u64, spine: bool) {
     }
 }
 
+// Asks for a node that is fixed.
 fn push_node(desk: &mut [u64], kind: u64, operand: u64) {
     cross_draft::push(desk, cross_draft::NODE, kind, operand);
 }
@@ -194,6 +195,7 @@ fn make_literal(desk: &mut [u64], depth: u64, levels: u64, spine: bool)
     push_elements(desk, depth - 1, levels, spine, length)
 }
 
+// Asks for the elements of a literal.
 fn push_elements(desk: &mut [u64], depth: u64, levels: u64, spine: bool, count: u64)
     requires { ⌜ 0 < levels ⌝ }
 {
@@ -301,6 +303,7 @@ fn push_falling(desk: &mut [u64], callee: u64) {
     push_node(desk, 2, start)
 }
 
+// Asks for the arguments of a call.
 fn push_arguments(desk: &mut [u64], callee: u64, count: u64, levels: u64)
     requires { ⌜ (0 < levels) × (count ≤ 8) ⌝ }
 {

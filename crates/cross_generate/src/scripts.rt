@@ -42,6 +42,7 @@ fn choose_signature(desk: &mut [u64], function: u64) {
     cross_draft::set_signature(desk, function, cross_draft::COUNT, count)
 }
 
+// Chooses the depths of a function's parameters.
 fn choose_depths(desk: &mut [u64], function: u64) {
     let mut i: u64 = 0;
     while i < 8 {
@@ -51,6 +52,7 @@ fn choose_depths(desk: &mut [u64], function: u64) {
     }
 }
 
+// Chooses the signatures of all functions.
 fn choose_signatures(desk: &mut [u64], functions: u64)
     requires { ⌜ functions ≤ 32 ⌝ }
 {
@@ -131,6 +133,7 @@ fn push_recursive(desk: &mut [u64], result: u64) {
     cross_draft::push(desk, cross_draft::NODE, 12, 0);
 }
 
+// Asks for the body of a function; at times it is a spine to the last level.
 fn push_body(desk: &mut [u64], function: u64, result: u64) {
     if cross_draft::signature(desk, function, cross_draft::RECURSIVE) == 1 {
         return push_recursive(desk, result);
@@ -153,6 +156,7 @@ fn start_function(desk: &mut [u64], function: u64) {
     clear_names(desk)
 }
 
+// Writes a function.
 fn write_function(desk: &mut [u64], function: u64) {
     start_function(desk, function);
     let count = cross_draft::signature(desk, function, cross_draft::COUNT) % 9;

@@ -79,6 +79,7 @@ pub fn new_array(arena: &mut [u64], meter: &mut [u64], values: &[u64], count: u6
     Worked::Value(place as u64)
 }
 
+// Whether a number is below 0.
 fn is_negative(a: u64) -> bool {
     SIGN <= a
 }

@@ -4,6 +4,9 @@ ghost use Prim.Native.Nat.{_<_, _≤_, _^_};
 // The most nodes that a script has.
 pub const MOST_NODES: usize = 1024;
 
+// The words of its rows.
+pub const ROW_WORDS: usize = 3072;
+
 // A byte of the file; 0 past its end.
 fn byte_at(file: &[u8], i: usize) -> u64
     ensures { λ r. ⌜ r < 256 ⌝ }
@@ -14,6 +17,7 @@ fn byte_at(file: &[u8], i: usize) -> u64
     0
 }
 
+// A byte as a wider number.
 fn wide(byte: u8) -> u64
     ensures { λ r. ⌜ r < 256 ⌝ }
 {
@@ -81,10 +85,12 @@ fn row_word(rows: &[u64], node: usize, column: usize) -> u64
     0
 }
 
+// The kind of a node.
 pub fn kind_at(rows: &[u64], node: usize) -> u64 {
     row_word(rows, node, 0)
 }
 
+// The operand of a node, as its bits.
 pub fn operand_at(rows: &[u64], node: usize) -> u64 {
     row_word(rows, node, 1)
 }
@@ -137,6 +143,7 @@ pub fn bind_parameters(rows: &[u64], function: usize, values: &[u64], names: &mu
     part_at(rows, function, count)
 }
 
+// Fills in the row of a node; those of later nodes are there.
 fn read_row(file: &[u8], nodes: usize, node: usize, rows: &mut [u64])
     requires { ⌜ (nodes ≤ 1024) × (node < 1024) ⌝ }
 {
