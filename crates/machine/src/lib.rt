@@ -19,14 +19,16 @@ pub fn work_tree(
     table: &[u8],
     slots: &mut [i64],
     heads: &mut [u32],
-    env: &mut [i64],
+    env: &mut [i64; 8192],
     steps: u64,
     lines: u64,
     calls: usize,
     f: u8,
     at: usize,
 ) -> Out
-    ensures { λ r. ⌜ Ended (tree-on lines (call-on calls (code (now (kinds .entry)) (now (operands .entry)) (now (table .entry))))
+    requires { ⌜ (calls < 32) × (length (now env) ≡ 8192) ⌝ }
+    ensures { λ r. ⌜ Ended (tree-on lines
+        (call-on calls (code (now (kinds .entry)) (now (operands .entry)) (now (table .entry))))
         (code (now (kinds .entry)) (now (operands .entry)) (now (table .entry))) calls f at steps
         (memory (store-of (now (slots .entry)) (now (heads .entry))) (now (env .entry))))
         steps r (now (slots .exit)) (now (heads .exit)) (now (env .exit)) ⌝ }
@@ -38,11 +40,12 @@ pub fn work_tree(
         if kinds.len() <= p {
             return machine_lines::halted(99, s);
         }
-        let l = machine_code::line_at(kinds, operands, p);
-        if let Line::End(a) = l {
+        if kinds[p] == 16 {
+            let a = machine_code::atom_at(kinds, operands, p + 1);
             let w = machine_lines::word_of(env, calls, a);
             return machine_lines::done(w, p + 2, s);
         }
+        let l = machine_code::line_at(kinds, operands, p);
         let r = work_line(
             kinds,
             operands,
@@ -75,7 +78,7 @@ fn work_line(
     table: &[u8],
     slots: &mut [i64],
     heads: &mut [u32],
-    env: &mut [i64],
+    env: &mut [i64; 8192],
     steps: u64,
     lines: u64,
     calls: usize,
@@ -83,7 +86,7 @@ fn work_line(
     at: usize,
     l: Line,
 ) -> Out
-    requires { ⌜ at < length (now kinds) ⌝ }
+    requires { ⌜ (at < length (now kinds)) × (calls < 32) × (length (now env) ≡ 8192) ⌝ }
     ensures { λ r. ⌜ Ended (line-on
         (tree-on lines (call-on calls (code (now (kinds .entry)) (now (operands .entry)) (now (table .entry))))
         (code (now (kinds .entry)) (now (operands .entry)) (now (table .entry))) calls f)
@@ -148,7 +151,7 @@ fn work_if(
     table: &[u8],
     slots: &mut [i64],
     heads: &mut [u32],
-    env: &mut [i64],
+    env: &mut [i64; 8192],
     steps: u64,
     lines: u64,
     calls: usize,
@@ -157,7 +160,7 @@ fn work_if(
     x: u8,
     g: Atom,
 ) -> Out
-    requires { ⌜ at < length (now kinds) ⌝ }
+    requires { ⌜ (at < length (now kinds)) × (calls < 32) × (length (now env) ≡ 8192) ⌝ }
     ensures { λ r. ⌜ Ended (if-line
         (tree-on lines (call-on calls (code (now (kinds .entry)) (now (operands .entry)) (now (table .entry))))
         (code (now (kinds .entry)) (now (operands .entry)) (now (table .entry))) calls f)
@@ -200,14 +203,14 @@ fn work_call(
     table: &[u8],
     slots: &mut [i64],
     heads: &mut [u32],
-    env: &mut [i64],
+    env: &mut [i64; 8192],
     steps: u64,
     calls: usize,
     at: usize,
     x: u8,
     g: u8,
 ) -> Out
-    requires { ⌜ at < length (now kinds) ⌝ }
+    requires { ⌜ (at < length (now kinds)) × (calls < 32) × (length (now env) ≡ 8192) ⌝ }
     ensures { λ r. ⌜ Ended (call-line
         (call-on calls (code (now (kinds .entry)) (now (operands .entry)) (now (table .entry))))
         (code (now (kinds .entry)) (now (operands .entry)) (now (table .entry))) calls x g at steps
@@ -252,7 +255,7 @@ fn work_map(
     table: &[u8],
     slots: &mut [i64],
     heads: &mut [u32],
-    env: &mut [i64],
+    env: &mut [i64; 8192],
     steps: u64,
     lines: u64,
     calls: usize,
@@ -262,7 +265,7 @@ fn work_map(
     p: u8,
     a: Atom,
 ) -> Out
-    requires { ⌜ at < length (now kinds) ⌝ }
+    requires { ⌜ (at < length (now kinds)) × (calls < 32) × (length (now env) ≡ 8192) ⌝ }
     ensures { λ r. ⌜ Ended (map-line
         (tree-on lines (call-on calls (code (now (kinds .entry)) (now (operands .entry)) (now (table .entry))))
         (code (now (kinds .entry)) (now (operands .entry)) (now (table .entry))) calls f)
@@ -276,7 +279,7 @@ fn work_map(
     let from = store_words::named_cell(machine_lines::word_of(env, calls, a));
     let count = store_words::read_length(slots, heads, from);
     let depth = machine_code::element_depth(table, f, x);
-    match machine_lines::acquire_empty(slots, heads, depth) {
+    match store::acquire_empty(slots, heads, depth) {
         Acquired::Cell(c) => {
             let r = work_pass(
                 kinds,
@@ -315,7 +318,7 @@ fn work_pass(
     table: &[u8],
     slots: &mut [i64],
     heads: &mut [u32],
-    env: &mut [i64],
+    env: &mut [i64; 8192],
     steps: u64,
     lines: u64,
     calls: usize,
@@ -326,6 +329,7 @@ fn work_pass(
     into: usize,
     count: usize,
 ) -> Out
+    requires { ⌜ (calls < 32) × (length (now env) ≡ 8192) ⌝ }
     ensures { λ r. ⌜ Ended (passes-on count
         (tree-on lines (call-on calls (code (now (kinds .entry)) (now (operands .entry)) (now (table .entry))))
         (code (now (kinds .entry)) (now (operands .entry)) (now (table .entry))) calls f at)

@@ -1,5 +1,5 @@
 -- Laws of the readers, in the terms of the code.
-use mathlib.Core.Path.{_≡_, refl, sym, ap, _∙_}
+use mathlib.Core.Path.{_≡_, refl, sym, ap, subst, _∙_}
 use mathlib.Core.Bool.{Bool, true, false, cond}
 use mathlib.Core.List.{List}
 use Prim.Native.Nat.{ℕ, zero, suc, _+_, _-_, _*_, _^_, _%_, _<_, _≤_}
@@ -152,3 +152,10 @@ module _ {kinds : List ℕ} {at left trees p : ℕ} (inv : Skipping kinds at lef
         ∙ ap (λ (m : ℕ). after (left - 1) (trees + m) (p + 1) kinds) (sym h);
     few = omega (arith, inv .few, few-trees (getD kinds p 0), h);
   }
+
+  -- a row of an atom or of a line that has no tree
+  pub row-stays : getD kinds p 0 ≤ 11 → Skipping kinds at (left - 1) trees (p + 1)
+  row-stays h = let z : trees + 0 ≡ trees = omega arith in
+      subst (λ (n : ℕ). Skipping kinds at (left - 1) n (p + 1)) z
+      (row-passes 0 (λ e. omega arith)
+      (rw (ne-eqb (getD kinds p 0) 12 (λ e. omega arith), ne-eqb (getD kinds p 0) 13 (λ e. omega arith)) refl))

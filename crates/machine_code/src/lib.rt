@@ -116,13 +116,15 @@ pub fn after_tree(kinds: &[u8], at: usize) -> usize
             return p;
         }
         let kind = kinds[p];
-        if kind == 16 {
-            if trees <= 1 {
-                return p + 2;
+        if 11 < kind {
+            if kind == 16 {
+                if trees <= 1 {
+                    return p + 2;
+                }
+                trees = trees - 1;
+            } else {
+                trees = trees + trees_of(kind);
             }
-            trees = trees - 1;
-        } else {
-            trees = trees + trees_of(kind);
         }
         p = p + 1;
         left = left - 1;

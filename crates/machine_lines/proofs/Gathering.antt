@@ -1,108 +1,180 @@
--- The loops over words: the atoms that follow a line, and the words written into a frame.
+-- The loops over the atoms that follow a line: their words copied into a frame, and appended to a cell.
 use mathlib.Core.Path.{_≡_, refl, sym, ap, ap₂, _∙_}
-use mathlib.Core.Bool.{true, false, cond}
-use mathlib.Core.List.{List, [], _∷_, _++_, append-assoc, append-nil}
-use Prim.Native.Nat.{ℕ, zero, suc, _+_, _-_, _*_, _^_, _<_, _≤_}
+use mathlib.Core.Bool.{Bool, true, false, cond}
+use mathlib.Core.List.{List, [], _∷_}
+use Prim.Native.Nat.{ℕ, zero, suc, _+_, _-_, _*_, _%_, _^_, _<_, _≤_}
 use native.Mathlib.Omega.{arith}
 use lib.IntN.{ℤ, pos, negsuc}
 use lib.Signed.{mag}
+use lib.Dec.{eqb}
 use mir.Syntax.{w64}
 use mir.Val.{ofZ}
+use lib.ListN.{getD, set, length, length-set}
+use lib.Seq.{getD-set-other}
 use Rattle.semantics.specs.Number.{is-zero}
-use lib.ListN.{getD, set, take, drop, length, length-set, List·getD-eq-default, drop-of-length-le}
-use lib.Seq.{take-suc, drop-cons, getD-set-same, take-set-le}
-use Rattle.machine_code.specs.Reading.{is-atom, atom-at}
+use Rattle.semantics.specs.Store.{Store, appended}
+use Rattle.store.specs.Acquiring.{appended-all}
+use Rattle.machine_code.specs.Reading.{natural, is-atom, atom-at}
 use Rattle.machine_code.specs.declared.Atom.{Atom}
-use Rattle.machine_lines.specs.Frames.{word-of, words-at, put-all}
+use Rattle.machine_code.specs.declared.Atom.the-variants.{Number, Name}
+use Rattle.machine_lines.specs.Frames.{place, word-of, words-at, put-all, Passed, Appended}
 
--- ---- the atoms that follow a line
+-- ---- the words that are left after i of them
 
-module _ (kinds : List ℕ) (operands : List ℤ) (calls : ℕ) (env : List ℤ) where
-  words-none : (n at : ℕ) → is-atom (getD kinds at 0) ≡ false → words-at n kinds operands calls env at ≡ []
+module _ (kinds : List ℕ) (operands : List ℤ) (calls : ℕ) (env : List ℤ) (at : ℕ) where
+  abbrev pub words-left : ℕ → List ℤ
+  words-left i = words-at (16 - i) kinds operands calls env (at + i)
+
+  pub words-start : words-at 16 kinds operands calls env at ≡ words-left 0
+  words-start = ap (λ (p : ℕ). words-at 16 kinds operands calls env p) (let z : at ≡ at + 0 = omega arith in z)
+
+  pub words-end : (i : ℕ) → is-atom (getD kinds (at + i) 0) ≡ false → words-left i ≡ []
   unfolding words-at
-  words-none zero at e = refl
-  words-none (suc n) at e = rw e
+  words-end i e = go (16 - i)
+    where
+      go : (n : ℕ) → words-at n kinds operands calls env (at + i) ≡ []
+      go zero = refl
+      go (suc n) = rw e
 
-  words-more : (n at : ℕ) → 0 < n → is-atom (getD kinds at 0) ≡ true →
-      words-at n kinds operands calls env at
-      ≡ word-of calls env (atom-at kinds operands at) ∷ words-at (n - 1) kinds operands calls env (at + 1)
+  pub words-full : (i : ℕ) → 16 ≤ i → words-left i ≡ []
   unfolding words-at
-  words-more zero at h e = absurd (omega arith)
-  words-more (suc n) at h e = let z : n ≡ suc n - 1 = omega arith in
-      rw e (ap (λ (k : ℕ). word-of calls env (atom-at kinds operands at) ∷ words-at k kinds operands calls env (at +
-      1)) z)
+  words-full i h = ap (λ (n : ℕ). words-at n kinds operands calls env (at + i))
+      (let z : 16 - i ≡ 0 = omega arith in z)
 
--- i words are copied, and p is the position of the next atom
-pub record Gathering (kinds : List ℕ) (operands : List ℤ) (env : List ℤ) (calls at : ℕ) (words : List ℤ) (i p : ℕ)
-    : Type 0 where
-  pub same : words-at 16 kinds operands calls env at ≡ take i words ++ words-at (16 - i) kinds operands calls env p
+  pub words-next : (i : ℕ) → i < 16 → is-atom (getD kinds (at + i) 0) ≡ true → (a : Atom) (v : ℤ) →
+      a ≡ atom-at kinds operands (at + i) → v ≡ word-of calls env a → words-left i ≡ v ∷ words-left (i + 1)
+  unfolding words-at
+  words-next i h e a v ae ve =
+      ap (λ (n : ℕ). words-at n kinds operands calls env (at + i))
+      (let z : 16 - i ≡ suc (16 - (i + 1)) = omega arith in z)
+      ∙ rw e (ap₂ (λ (w : ℤ) (p : ℕ). w ∷ words-at (16 - (i + 1)) kinds operands calls env p)
+      (sym (ve ∙ ap (word-of calls env) ae)) (let z : at + i + 1 ≡ at + (i + 1) = omega arith in z))
+
+-- ---- words written to another frame
+
+-- the words of a frame are as they were after a write behind it
+module _ (kinds : List ℕ) (operands : List ℤ) (calls : ℕ) (env : List ℤ) (q : ℕ) (v : ℤ)
+    (h : 256 * (31 - calls) + 256 ≤ q) where
+  word-same : (p : ℕ) → word-of calls (set env q v) (atom-at kinds operands p) ≡ word-of calls env (atom-at kinds
+      operands p)
+  unfolding atom-at
+  word-same p = go (eqb (getD kinds p 0) 2)
+    where
+      go : (t : Bool) → word-of calls (set env q v)
+          (cond t (Number (getD operands p (pos 0))) (Name (natural (getD operands p (pos 0)) % 256)))
+          ≡ word-of calls env
+          (cond t (Number (getD operands p (pos 0))) (Name (natural (getD operands p (pos 0)) % 256)))
+      go true = refl
+      go false = getD-set-other env q (place calls (natural (getD operands p (pos 0)) % 256)) v (pos 0)
+          (λ e. omega arith)
+
+  pub words-same : (n p : ℕ) → words-at n kinds operands calls (set env q v) p ≡ words-at n kinds operands calls env p
+  unfolding words-at
+  words-same zero p = refl
+  words-same (suc n) p = ap₂ (λ (w : ℤ) (l : List ℤ). cond (is-atom (getD kinds p 0)) (w ∷ l) []) (word-same p)
+      (words-same n (p + 1))
+
+-- i words are copied from the frame of a call to the frame of one below it
+pub record Copying (kinds : List ℕ) (operands : List ℤ) (calls below at : ℕ) (env₀ env : List ℤ) (i : ℕ) : Type 0 where
+  pub same : put-all (words-at 16 kinds operands calls env₀ at) (place below 0) env₀
+      ≡ put-all (words-left kinds operands calls env at i) (place below 0 + i) env
+  pub count : length (words-at 16 kinds operands calls env₀ at)
+      ≡ i + length (words-left kinds operands calls env at i)
   pub few : i ≤ 16
-  pub long : length words ≡ 16
-
-pub take-more : {A : Type 0} (l : List A) (i : ℕ) (a : A) → i < length l → take (i + 1) (set l i a) ≡ take i l ++ (a
-    ∷ [])
-take-more l i a h = let z : i + 1 ≡ suc i = omega arith in
-    ap (λ (n : ℕ). take n (set l i a)) z
-    ∙ take-suc (set l i a) i a (omega (arith, length-set l i a))
-    ∙ ap₂ (λ (x : List _) (y : _). x ++ (y ∷ [])) (take-set-le i l i a (omega arith)) (getD-set-same l i a a h)
-
-module _ {kinds : List ℕ} {operands : List ℤ} {env : List ℤ} {calls at : ℕ} {words : List ℤ} {i p : ℕ}
-    (inv : Gathering kinds operands env calls at words i p) where
-  pub gathered : is-atom (getD kinds p 0) ≡ false → take i words ≡ words-at 16 kinds operands calls env at
-  gathered e = sym (inv .same ∙ ap (λ (l : List ℤ). take i words ++ l) (words-none kinds operands calls env (16 - i)
-      p e)
-      ∙ append-nil (take i words))
-
-  pub gathered-past : length kinds ≤ p → take i words ≡ words-at 16 kinds operands calls env at
-  gathered-past h = gathered (ap is-atom (List·getD-eq-default kinds 0 h))
-
-  pub gathered-full : i ≡ 16 → take i words ≡ words-at 16 kinds operands calls env at
-  unfolding words-at
-  gathered-full e = sym (inv .same
-      ∙ ap (λ (n : ℕ). take i words ++ words-at n kinds operands calls env p) (let z : 16 - i ≡ 0 = omega arith in
-      z)
-      ∙ append-nil (take i words))
-
-  pub gather-more : i < 16 → is-atom (getD kinds p 0) ≡ true → (a : Atom) (v : ℤ) → a ≡ atom-at kinds operands p →
-      v ≡ word-of calls env a → Gathering kinds operands env calls at (set words i v) (i + 1) (p + 1)
-  gather-more h e a v ae ve = record {
-    same = inv .same
-        ∙ ap (λ (l : List ℤ). take i words ++ l) (words-more kinds operands calls env (16 - i) p (omega arith) e)
-        ∙ ap (λ (z : ℤ). take i words ++ (z ∷ words-at (16 - i - 1) kinds operands calls env (p + 1)))
-        (sym (ve ∙ ap (word-of calls env) ae))
-        ∙ ap (λ (n : ℕ). take i words ++ (v ∷ words-at n kinds operands calls env (p + 1)))
-        (let z : 16 - i - 1 ≡ 16 - (i + 1) = omega arith in z)
-        ∙ sym (append-assoc (take i words) (v ∷ []) (words-at (16 - (i + 1)) kinds operands calls env (p + 1)))
-        ∙ ap (λ (l : List ℤ). l ++ words-at (16 - (i + 1)) kinds operands calls env (p + 1))
-        (sym (take-more words i v (omega (arith, inv .long))));
-    few = omega arith;
-    long = length-set words i v ∙ inv .long;
-  }
-
--- ---- words written into a frame
-
-pub record Putting (words : List ℤ) (start : ℕ) (env₀ env : List ℤ) (p i : ℕ) : Type 0 where
-  pub same : put-all words start env₀ ≡ put-all (drop i words) p env
-  pub few : i ≤ length words
-  pub near : p ≡ start + i
   pub long : length env ≡ length env₀
 
-module _ {words : List ℤ} {start : ℕ} {env₀ env : List ℤ} {p i : ℕ} (inv : Putting words start env₀ env p i) where
-  pub put-more : i < length words → (env′ : List ℤ) (w : ℤ) → w ≡ getD words i (pos 0) → env′ ≡ set env p w →
-      Putting words start env₀ env′ (p + 1) (i + 1)
+pub copying-none : (kinds : List ℕ) (operands : List ℤ) (calls below at : ℕ) (env : List ℤ) →
+    Copying kinds operands calls below at env env 0
+copying-none kinds operands calls below at env = record {
+  same = ap₂ (λ (l : List ℤ) (p : ℕ). put-all l p env) (words-start kinds operands calls env at)
+      (let z : place below 0 ≡ place below 0 + 0 = omega arith in z);
+  count = omega (arith, ap length (words-start kinds operands calls env at));
+  few = omega arith;
+  long = refl;
+}
+
+module _ {kinds : List ℕ} {operands : List ℤ} {calls below at : ℕ} {env₀ env : List ℤ} {i : ℕ}
+    (inv : Copying kinds operands calls below at env₀ env i) where
+  copied : words-left kinds operands calls env at i ≡ [] →
+      Passed (words-at 16 kinds operands calls env₀ at) below i env₀ env
   unfolding put-all
-  put-more h env′ w we e = record {
-    same = inv .same ∙ ap (λ (l : List ℤ). put-all l p env) (drop-cons words i (pos 0) h)
-        ∙ ap₂ (λ (n : ℕ) (l : List ℤ). put-all (drop n words) (p + 1) l) (let z : suc i ≡ i + 1 = omega arith in z)
-        (ap (set env p) (sym we) ∙ sym e);
-    few = omega arith;
-    near = omega (arith, inv .near);
-    long = ap length e ∙ length-set env p w ∙ inv .long;
+  copied e = record {
+    frames = sym (inv .same ∙ ap (λ (l : List ℤ). put-all l (place below 0 + i) env) e);
+    count = omega (arith, inv .count, ap length e);
+    few = inv .few;
   }
 
-  pub put-done : length words ≤ i → env ≡ put-all words start env₀
+  pub copied-end : is-atom (getD kinds (at + i) 0) ≡ false →
+      Passed (words-at 16 kinds operands calls env₀ at) below i env₀ env
+  copied-end e = copied (words-end kinds operands calls env at i e)
+
+  pub copied-full : 16 ≤ i → Passed (words-at 16 kinds operands calls env₀ at) below i env₀ env
+  copied-full h = copied (words-full kinds operands calls env at i h)
+
+  pub copying-more : i < 16 → below < calls → calls < 32 → is-atom (getD kinds (at + i) 0) ≡ true →
+      (a : Atom) (v : ℤ) → a ≡ atom-at kinds operands (at + i) → v ≡ word-of calls env a → (p : ℕ) →
+      p ≡ place below 0 + i → Copying kinds operands calls below at env₀ (set env p v) (i + 1)
   unfolding put-all
-  put-done h = sym (inv .same ∙ ap (λ (l : List ℤ). put-all l p env) (drop-of-length-le words h))
+  copying-more h b d e a v ae ve p pe = let next = words-next kinds operands calls env at i h e a v ae ve in record {
+    same = inv .same ∙ ap (λ (l : List ℤ). put-all l (place below 0 + i) env) next
+        ∙ ap₂ (λ (n : ℕ) (l : List ℤ). put-all (words-left kinds operands calls env at (i + 1)) n l)
+        (let z : place below 0 + i + 1 ≡ place below 0 + (i + 1) = omega arith in z)
+        (ap (λ (n : ℕ). set env n v) (sym pe))
+        ∙ ap (λ (l : List ℤ). put-all l (place below 0 + (i + 1)) (set env p v)) (sym kept);
+    count = omega (arith, inv .count, ap length next, ap length kept);
+    few = omega arith;
+    long = length-set env p v ∙ inv .long;
+  }
+    where
+      kept : words-left kinds operands calls (set env p v) at (i + 1) ≡ words-left kinds operands calls env at (i + 1)
+      kept = words-same kinds operands calls env p v (omega arith) (16 - (i + 1)) (at + (i + 1))
+
+-- ---- words appended to a cell
+
+pub record Appending (kinds : List ℕ) (operands : List ℤ) (calls at : ℕ) (env : List ℤ) (c : ℕ) (σ₀ σ : Store) (i : ℕ)
+    : Type 0 where
+  pub same : appended-all c (words-at 16 kinds operands calls env at) σ₀
+      ≡ appended-all c (words-left kinds operands calls env at i) σ
+  pub count : length (words-at 16 kinds operands calls env at)
+      ≡ i + length (words-left kinds operands calls env at i)
+  pub few : i ≤ 16
+
+pub appending-none : (kinds : List ℕ) (operands : List ℤ) (calls at : ℕ) (env : List ℤ) (c : ℕ) (σ : Store) →
+    Appending kinds operands calls at env c σ σ 0
+appending-none kinds operands calls at env c σ = record {
+  same = ap (λ (l : List ℤ). appended-all c l σ) (words-start kinds operands calls env at);
+  count = omega (arith, ap length (words-start kinds operands calls env at));
+  few = omega arith;
+}
+
+module _ {kinds : List ℕ} {operands : List ℤ} {calls at : ℕ} {env : List ℤ} {c : ℕ} {σ₀ σ : Store} {i : ℕ}
+    (inv : Appending kinds operands calls at env c σ₀ σ i) where
+  appended-left : words-left kinds operands calls env at i ≡ [] →
+      Appended (words-at 16 kinds operands calls env at) c i σ₀ σ
+  unfolding appended-all
+  appended-left e = record {
+    store = sym (inv .same ∙ ap (λ (l : List ℤ). appended-all c l σ) e);
+    count = omega (arith, inv .count, ap length e);
+    few = inv .few;
+  }
+
+  pub appended-end : is-atom (getD kinds (at + i) 0) ≡ false →
+      Appended (words-at 16 kinds operands calls env at) c i σ₀ σ
+  appended-end e = appended-left (words-end kinds operands calls env at i e)
+
+  pub appended-full : 16 ≤ i → Appended (words-at 16 kinds operands calls env at) c i σ₀ σ
+  appended-full h = appended-left (words-full kinds operands calls env at i h)
+
+  pub appending-more : i < 16 → is-atom (getD kinds (at + i) 0) ≡ true → (a : Atom) (v : ℤ) →
+      a ≡ atom-at kinds operands (at + i) → v ≡ word-of calls env a → (σ′ : Store) → σ′ ≡ appended c v σ →
+      Appending kinds operands calls at env c σ₀ σ′ (i + 1)
+  unfolding appended-all
+  appending-more h e a v ae ve σ′ s = let next = words-next kinds operands calls env at i h e a v ae ve in record {
+    same = inv .same ∙ ap (λ (l : List ℤ). appended-all c l σ) next
+        ∙ ap (appended-all c (words-left kinds operands calls env at (i + 1))) (sym s);
+    count = omega (arith, inv .count, ap length next);
+    few = omega arith;
+  }
 
 -- ---- a guard
 

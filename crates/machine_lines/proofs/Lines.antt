@@ -25,6 +25,7 @@ use Rattle.words.specs.declared.Exact.the-variants.{Value, Overflow}
 use Rattle.store.specs.Acquiring.{next-cell}
 use Rattle.store.specs.declared.Acquired.{Acquired}
 use Rattle.store.specs.declared.Acquired.the-variants.{Cell, NoneFree}
+use Rattle.store.proofs.Filling.{cell-given}
 use Rattle.store_words.proofs.CellWords.{few-cells, store-size, length-in, length-out}
 use Rattle.machine_code.specs.declared.Atom.{Atom}
 use Rattle.machine_code.specs.declared.Atom.the-variants.{Name}
@@ -152,32 +153,16 @@ module _ (σ : Store) (calls x : ℕ) (a : Atom) (next steps : ℕ) (env : List 
 -- ---- a literal
 
 -- the cell that an acquire answers is small
-pub next-small : (slots : List ℤ) (heads : List ℕ) (q : Acquired) (c : ℕ) → q ≡ next-cell (store-of slots heads) → q
-    ≡ Cell c → c < 256
-unfolding next-cell has-free
-next-small slots heads q c e h = go (ltb (store-of slots heads .first) (cell-count (store-of slots heads))) refl
-    (sym h ∙ e)
-  where
-    small : Acquired → ℕ
-    small (Cell k) = k
-    small NoneFree = 0
-
-    go : (t : Bool) → ltb (store-of slots heads .first) (cell-count (store-of slots heads)) ≡ t →
-        Cell c ≡ cond (ltb (store-of slots heads .first) (cell-count (store-of slots heads))) (Cell (store-of slots
-        heads .first)) NoneFree → c < 256
-    go true f g = omega (
-      arith,
-      ap small (g ∙ ap (λ (u : Bool). cond u (Cell (store-of slots heads .first))
-          NoneFree) f),
-      ltb-true (store-of slots heads .first) (cell-count (store-of slots heads)) f,
-      store-size slots heads,
-      few-cells slots heads,
-    )
-    go false f g = omega (
-      arith,
-      ap small (g ∙ ap (λ (u : Bool). cond u (Cell (store-of slots heads .first))
-          NoneFree) f),
-    )
+pub next-small : (slots : List ℤ) (heads : List ℕ) (q : Acquired) (c : ℕ) → q ≡ next-cell (store-of slots heads) →
+    q ≡ Cell c → c < 256
+unfolding has-free
+next-small slots heads q c e h = let given = cell-given (store-of slots heads) c (sym h ∙ e) in omega (
+  arith,
+  given .1,
+  ltb-true (store-of slots heads .first) (cell-count (store-of slots heads)) (given .0),
+  store-size slots heads,
+  few-cells slots heads,
+)
 
 module _ (kinds : List ℕ) (operands : List ℤ) (calls x d at steps : ℕ) (m : Memory) where
   pub literal-spent : (r : Out) → steps ≡ 0 → r ≡ out 21 (pos 0) 0 steps →
@@ -207,13 +192,6 @@ module _ (kinds : List ℕ) (operands : List ℤ) (calls x d at steps : ℕ) (m 
     literal-none h r p = sym (literal-is
         ∙ ap (acquired-line calls x (at + 1 + length ws) (steps - 1) (memory σ (m .env))) h
         ∙ ap (λ (y : Out). ran y (memory σ (m .env))) (sym p))
-
--- the first n words of sixteen, as a part of an array
-pub part-is : (words : List ℤ) (n : ℕ) → take (n - 0) (drop 0 words) ≡ take n words
-part-is words n = let z : n - 0 ≡ n = omega arith in ap (λ (k : ℕ). take k words) z
-
-pub part-length : (words : List ℤ) (n : ℕ) → n ≤ 16 → length words ≡ 16 → n ≡ length (take (n - 0) (drop 0 words))
-part-length words n h e = sym (ap length (part-is words n) ∙ length-take-le n words (omega arith))
 
 -- ---- any leaf
 

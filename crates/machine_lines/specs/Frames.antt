@@ -6,6 +6,8 @@ use lib.IntN.{ℤ, pos}
 use lib.ListN.{getD, set, length}
 use mathlib.Core.Path.{_≡_}
 use Rattle.semantics.specs.Number.{is-zero}
+use Rattle.semantics.specs.Store.{Store}
+use Rattle.store.specs.Acquiring.{appended-all}
 use Rattle.machine_code.specs.Reading.{atom-at, is-atom, after}
 use Rattle.machine_code.specs.declared.Atom.{Atom}
 use Rattle.machine_code.specs.declared.Atom.the-variants.{Number, Name}
@@ -34,6 +36,12 @@ put-all (w ∷ ws) p env = put-all ws (p + 1) (set env p w)
 -- the words ws were written as the first ones of the frame of a call
 pub record Passed (ws : List ℤ) (calls n : ℕ) (env env′ : List ℤ) : Type 0 where
   pub frames : env′ ≡ put-all ws (place calls 0) env
+  pub count : n ≡ length ws
+  pub few : n ≤ 16
+
+-- the words ws were appended to a cell
+pub record Appended (ws : List ℤ) (c n : ℕ) (σ σ′ : Store) : Type 0 where
+  pub store : σ′ ≡ appended-all c ws σ
   pub count : n ≡ length ws
   pub few : n ≤ 16
 

@@ -7,14 +7,12 @@ use words::Exact;
 ghost use mathlib.Core.Path.{_≡_};
 ghost use Prim.Native.Nat.{_+_, _≤_, _<_};
 ghost use lib.IntN.{pos};
-ghost use lib.ListN.{length, set, take};
-ghost use mathlib.Core.List.{[]};
+ghost use lib.ListN.{length, set};
 ghost use Rattle.semantics.specs.Number.{exact};
-ghost use Rattle.semantics.specs.Store.{acquired};
 ghost use Rattle.semantics.specs.Words.{store-of};
 ghost use Rattle.words.specs.Words.{checked};
-ghost use Rattle.store.specs.Acquiring.{next-cell};
-ghost use Rattle.machine_lines.specs.Frames.{place, word-of, words-at, put-all, Passed, branch-start, branch-end};
+ghost use Rattle.machine_lines.specs.Frames.{place, word-of, words-at, Passed, Appended};
+ghost use Rattle.machine_lines.specs.Frames.{branch-start, branch-end};
 ghost use Rattle.machine_lines.specs.Lines.{out, left, memory, operation-of, operation-line, index-line};
 ghost use Rattle.machine_lines.specs.Lines.{length-line, literal-line, leaf, Ends};
 
@@ -52,104 +50,57 @@ pub fn done(value: i64, next: usize, steps: u64) -> Out
 
 // The place of a name's word among the frames.
 pub fn place(calls: usize, x: u8) -> usize
+    requires { ⌜ calls < 32 ⌝ }
     ensures { λ r. ⌜ (r ≡ place calls x) × (r < 8192) ⌝ }
 {
-    if calls < 31 {
-        256 * (31 - calls) + x as usize
-    } else {
-        x as usize
-    }
+    256 * (31 - calls) + x as usize
 }
 
 // The word of an atom.
-pub fn word_of(env: &[i64], calls: usize, a: Atom) -> i64
+pub fn word_of(env: &[i64; 8192], calls: usize, a: Atom) -> i64
+    requires { ⌜ (calls < 32) × (length (now env) ≡ 8192) ⌝ }
     ensures { λ r. ⌜ r ≡ word-of calls (now (env .entry)) a ⌝ }
 {
     match a {
         Atom::Number(z) => z,
-        Atom::Name(x) => store_words::word_at(env, place(calls, x)),
-    }
-}
-
-// Writes a word where there is such a place.
-fn put(env: &mut [i64], i: usize, w: i64)
-    ensures { λ _. ⌜ now (env .exit) ≡ set (now (env .entry)) i w ⌝ }
-{
-    if i < env.len() {
-        env[i] = w;
+        Atom::Name(x) => env[place(calls, x)],
     }
 }
 
 // Binds a name.
-pub fn bind(env: &mut [i64], calls: usize, x: u8, w: i64)
+pub fn bind(env: &mut [i64; 8192], calls: usize, x: u8, w: i64)
+    requires { ⌜ (calls < 32) × (length (now env) ≡ 8192) ⌝ }
     ensures { λ _. ⌜ now (env .exit) ≡ set (now (env .entry)) (place calls x) w ⌝ }
 {
-    put(env, place(calls, x), w);
+    env[place(calls, x)] = w;
 }
 
-// Copies the words of the atoms that stand from a position on, at most 16; how many they are.
-pub fn gather(
-    kinds: &[u8],
-    operands: &[i64],
-    env: &[i64],
-    calls: usize,
-    at: usize,
-    words: &mut [i64; 16],
-) -> usize
-    requires { ⌜ length (now words) ≡ 16 ⌝ }
-    ensures { λ r. ⌜ (take r (now (words .exit))
-        ≡ words-at 16 (now (kinds .entry)) (now (operands .entry)) calls (now (env .entry)) at)
-        × (r ≤ 16) × (length (now (words .exit)) ≡ 16) ⌝ }
-{
-    let mut i: usize = 0;
-    let mut p = at;
-    while i < 16 {
-        if kinds.len() <= p {
-            return i;
-        }
-        if !machine_code::atom_stands(kinds, p) {
-            return i;
-        }
-        let a = machine_code::atom_at(kinds, operands, p);
-        let w = word_of(env, calls, a);
-        words[i] = w;
-        p = p + 1;
-        i = i + 1;
-    }
-    i
-}
-
-// Writes words as the first ones of a call's frame.
-pub fn put_words(env: &mut [i64], calls: usize, words: &[i64])
-    requires { ⌜ length (now words) ≤ 16 ⌝ }
-    ensures { λ _. ⌜ now (env .exit) ≡ put-all (now (words .entry)) (place calls 0) (now (env .entry)) ⌝ }
-{
-    let mut p = place(calls, 0);
-    let mut i: usize = 0;
-    while i < words.len() {
-        let w = words[i];
-        put(env, p, w);
-        p = p + 1;
-        i = i + 1;
-    }
-}
-
-// The arguments of a call as the first words of its frame; how many they are.
+// Copies the words of the atoms that stand from a position on, at most 16, to the first words of the frame of a call
+// `below` the one in progress; how many they are.
 pub fn pass_arguments(
     kinds: &[u8],
     operands: &[i64],
-    env: &mut [i64],
+    env: &mut [i64; 8192],
     calls: usize,
     below: usize,
     at: usize,
 ) -> usize
+    requires { ⌜ (at ≤ length (now kinds)) × (below < calls) × (calls < 32) × (length (now env) ≡ 8192) ⌝ }
     ensures { λ r. ⌜ Passed (words-at 16 (now (kinds .entry)) (now (operands .entry)) calls (now (env .entry)) at)
         below r (now (env .entry)) (now (env .exit)) ⌝ }
 {
-    let mut words = [0i64; 16];
-    let n = gather(kinds, operands, env, calls, at, &mut words);
-    put_words(env, below, &words[0..n]);
-    n
+    let first = place(below, 0);
+    let mut i: usize = 0;
+    while i < 16 {
+        if !machine_code::atom_stands(kinds, at + i) {
+            return i;
+        }
+        let a = machine_code::atom_at(kinds, operands, at + i);
+        let w = word_of(env, calls, a);
+        env[first + i] = w;
+        i = i + 1;
+    }
+    i
 }
 
 // Where the branch of an if begins, by the word of its guard: the first tree, at a position, or the second.
@@ -197,7 +148,7 @@ pub fn word_from(n: usize) -> i64
 
 // A sum, a difference or a comparison.
 fn work_operation(
-    env: &mut [i64],
+    env: &mut [i64; 8192],
     calls: usize,
     kind: u8,
     x: u8,
@@ -206,6 +157,7 @@ fn work_operation(
     next: usize,
     steps: u64,
 ) -> Out
+    requires { ⌜ (calls < 32) × (length (now env) ≡ 8192) ⌝ }
     ensures { λ r. ⌜ left r (now (env .exit)) ≡ operation-line calls kind x a b next steps (now (env .entry)) ⌝ }
 {
     if steps == 0 {
@@ -226,7 +178,7 @@ fn work_operation(
 fn work_index(
     slots: &[i64],
     heads: &[u32],
-    env: &mut [i64],
+    env: &mut [i64; 8192],
     calls: usize,
     x: u8,
     a: Atom,
@@ -234,6 +186,7 @@ fn work_index(
     next: usize,
     steps: u64,
 ) -> Out
+    requires { ⌜ (calls < 32) × (length (now env) ≡ 8192) ⌝ }
     ensures { λ r. ⌜ left r (now (env .exit))
         ≡ index-line (store-of (now (slots .entry)) (now (heads .entry))) calls x a b next steps (now (env .entry)) ⌝ }
 {
@@ -258,13 +211,14 @@ fn work_index(
 fn work_length(
     slots: &[i64],
     heads: &[u32],
-    env: &mut [i64],
+    env: &mut [i64; 8192],
     calls: usize,
     x: u8,
     a: Atom,
     next: usize,
     steps: u64,
 ) -> Out
+    requires { ⌜ (calls < 32) × (length (now env) ≡ 8192) ⌝ }
     ensures { λ r. ⌜ left r (now (env .exit))
         ≡ length-line (store-of (now (slots .entry)) (now (heads .entry))) calls x a next steps (now (env .entry)) ⌝ }
 {
@@ -277,20 +231,48 @@ fn work_length(
     done(n, next, steps - 1)
 }
 
+// Appends the words of the atoms that stand from a position on, at most 16, to a cell; how many they are.
+fn append_atoms(
+    kinds: &[u8],
+    operands: &[i64],
+    slots: &mut [i64],
+    heads: &mut [u32],
+    env: &[i64; 8192],
+    calls: usize,
+    c: usize,
+    at: usize,
+) -> usize
+    requires { ⌜ (at ≤ length (now kinds)) × (calls < 32) × (length (now env) ≡ 8192) ⌝ }
+    ensures { λ r. ⌜ Appended (words-at 16 (now (kinds .entry)) (now (operands .entry)) calls (now (env .entry)) at) c r
+        (store-of (now (slots .entry)) (now (heads .entry))) (store-of (now (slots .exit)) (now (heads .exit))) ⌝ }
+{
+    let mut n: usize = 0;
+    while n < 16 {
+        if !machine_code::atom_stands(kinds, at + n) {
+            return n;
+        }
+        let a = machine_code::atom_at(kinds, operands, at + n);
+        let w = word_of(env, calls, a);
+        store::append(slots, heads, c, w);
+        n = n + 1;
+    }
+    n
+}
+
 // A new array of the atoms that follow the line.
 fn work_literal(
     kinds: &[u8],
     operands: &[i64],
     slots: &mut [i64],
     heads: &mut [u32],
-    env: &mut [i64],
+    env: &mut [i64; 8192],
     calls: usize,
     x: u8,
     depth: u8,
     at: usize,
     steps: u64,
 ) -> Out
-    requires { ⌜ at < length (now kinds) ⌝ }
+    requires { ⌜ (at < length (now kinds)) × (calls < 32) × (length (now env) ≡ 8192) ⌝ }
     ensures { λ r. ⌜ Ends (literal-line (now (kinds .entry)) (now (operands .entry)) calls x depth at steps
         (memory (store-of (now (slots .entry)) (now (heads .entry))) (now (env .entry))))
         r (now (slots .exit)) (now (heads .exit)) (now (env .exit)) ⌝ }
@@ -298,10 +280,9 @@ fn work_literal(
     if steps == 0 {
         return halted(21, steps);
     }
-    let mut words = [0i64; 16];
-    let n = gather(kinds, operands, env, calls, at + 1, &mut words);
-    match store::acquire(slots, heads, depth as u32, &words[0..n]) {
+    match store::acquire_empty(slots, heads, depth as u32) {
         Acquired::Cell(c) => {
+            let n = append_atoms(kinds, operands, slots, heads, env, calls, c, at + 1);
             let w = word_from(c);
             bind(env, calls, x, w);
             done(w, at + 1 + n, steps - 1)
@@ -310,29 +291,19 @@ fn work_literal(
     }
 }
 
-// Acquires an empty cell.
-pub fn acquire_empty(slots: &mut [i64], heads: &mut [u32], depth: u32) -> Acquired
-    ensures { λ r. ⌜ (r ≡ next-cell (store-of (now (slots .entry)) (now (heads .entry))))
-        × (store-of (now (slots .exit)) (now (heads .exit))
-        ≡ acquired depth [] (store-of (now (slots .entry)) (now (heads .entry)))) ⌝ }
-{
-    let none = [0i64; 1];
-    store::acquire(slots, heads, depth, &none[0..0])
-}
-
 // A line that works no tree.
 pub fn work_leaf(
     kinds: &[u8],
     operands: &[i64],
     slots: &mut [i64],
     heads: &mut [u32],
-    env: &mut [i64],
+    env: &mut [i64; 8192],
     l: Line,
     calls: usize,
     at: usize,
     steps: u64,
 ) -> Out
-    requires { ⌜ at < length (now kinds) ⌝ }
+    requires { ⌜ (at < length (now kinds)) × (calls < 32) × (length (now env) ≡ 8192) ⌝ }
     ensures { λ r. ⌜ Ends (leaf (now (kinds .entry)) (now (operands .entry)) calls at steps
         (memory (store-of (now (slots .entry)) (now (heads .entry))) (now (env .entry))) l)
         r (now (slots .exit)) (now (heads .exit)) (now (env .exit)) ⌝ }

@@ -1,5 +1,6 @@
 pub mod Machine
 pub mod Parts
 pub mod TreeLaws
+pub mod Lengths
 pub mod LineLaws
 pub mod Delivery

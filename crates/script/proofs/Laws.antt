@@ -13,12 +13,11 @@ use Rattle.script_read.specs.Told.{repeated, marked, found}
 use Rattle.script_read.specs.declared.Read.{Read}
 use Rattle.script_read.specs.declared.Read.the-variants as R
 use Rattle.script_read.proofs.Written.{ScriptWritten, script-written, total}
-use Rattle.script_read.proofs.Starts.{Walks, start-of, marked-at, marked-length, start-near}
+use Rattle.script_read.proofs.Starts.{Walks, start-of, marked-at}
 use Rattle.script_read.proofs.Tables.{none-set}
 use Rattle.script_names.specs.Walk.{names-function}
 use Rattle.script_names.proofs.Tree.{names-script}
 use Rattle.script_names.proofs.Starts.{names-walk}
-use Rattle.script_depths.specs.Walk.{Starts}
 use Rattle.script_types.specs.Functions.{types-script}
 use Rattle.script_types.proofs.Script.{types-faults}
 use Rattle.script_count.specs.Count.{crowd, told-crowd}
@@ -84,16 +83,6 @@ module _ {k w : List ℕ} {f : ℕ} (a : Readable k w f) where
           (te ∙ ap (λ (m : ℕ). marked m (names-function k w f) 0 0 (replicate 32 1024)) (sym (written .1)))
           ∙ (rw z at (marked-at (names-function k w f) (a .tree) 0 0 (replicate 32 1024) walks
           (omega (arith, written .1, a .few)) (λ i. none-set 1024 32 (0 + i)) j))
-
-      pub starts-ready : Starts k w t
-      starts-ready = record {
-        parts = a .parts;
-        long =
-            ap length (te ∙ ap (λ (m : ℕ). marked m (names-function k w f) 0 0 (replicate 32 1024))
-            (sym (written .1)))
-            ∙ marked-length (names-function k w f) (a .tree) 0 0 (replicate 32 1024) walks;
-        near = λ j. omega (arith, placed j, start-near k w (a .tree) 0 j (a .parts .few) (written .0));
-      }
 
       module _ (r₂ : Read) (e₂ : r₂ ≡ types-script k w t f) where
         types-answer : (q : ℕ) × (r₂ ≡ found 7 (type-faults (a .tree)) q)

@@ -3,7 +3,7 @@ use mathlib.Core.Path.{_≡_, refl, _∙_}
 use mathlib.Core.Bool.{Bool, true, false, cond, _&&_}
 use mathlib.Core.List.{List, [], _∷_}
 use mathlib.Core.Option.{Option, none, some}
-use Prim.Native.Nat.{ℕ, _+_, _-_, _*_}
+use Prim.Native.Nat.{ℕ, _+_, _-_, _*_, _≤_}
 use native.Mathlib.Omega.{arith}
 use lib.Dec.{leb, ltb, eqb}
 use lib.ListN.{length, take, drop, length-take, length-drop}
@@ -18,9 +18,8 @@ use Rattle.semantics.specs.Names.{name-faults}
 use Rattle.semantics.specs.Types.{type-faults}
 use Rattle.semantics.specs.Normal.{too-many-names}
 use Rattle.semantics.specs.Calls.{judged, judged-script, Faulty-in}
-use Rattle.script_read.specs.Told.{told}
+use Rattle.script_read.specs.Told.{Parts, told}
 use Rattle.script_read.specs.declared.Read.the-variants as R
-use Rattle.script_read.proofs.Whole.{few, file-parts}
 use Rattle.script.specs.Verdicts.{Readable, told-verdict, node-of, Judges, refused-by, listed, checked-as}
 use Rattle.script.specs.declared.Verdict.{Verdict}
 use Rattle.script.specs.declared.Verdict.the-variants.{Accepted, Refused}
@@ -31,6 +30,12 @@ kinds-of l n = take (4 + n - 4) (drop 4 l)
 
 abbrev pub operands-of : List ℕ → ℕ → List ℕ
 operands-of l n = take (length l - (4 + n)) (drop (4 + n) l)
+
+file-parts : (l : List ℕ) (n : ℕ) → n ≤ 1024 → length l ≡ 4 + 9 * n → Parts (kinds-of l n) (operands-of l n)
+file-parts l n h e = record {
+  few = simp (length-take, length-drop) (omega arith);
+  whole = simp (length-take, length-drop) (omega arith);
+}
 
 -- a file that the reader takes, with its sizes
 pub record Taken (l : List ℕ) (f n : ℕ) : Type 0 where
@@ -76,10 +81,11 @@ module _ (l : List ℕ) (f n q : ℕ) (fe : f ≡ bytes-at 2 l 0) (ne : n ≡ by
           let whole = eqb-true (length l) (4 + 9 * n) g in
           let sizes = both (between 1 32 f) (between 1 1024 n) j in
           let functions = both (leb 1 f) (leb f 32) (sizes .0) in
+          let nodes = both (leb 1 n) (leb n 1024) (sizes .1) in
           record {
             long = whole;
             readable = record {
-              parts = file-parts l n (few f n j) whole;
+              parts = file-parts l n (leb-true n 1024 (nodes .1)) whole;
               one = leb-true 1 f (functions .0);
               few = leb-true f 32 (functions .1);
               tree = v .0;

@@ -1,26 +1,54 @@
 -- The pass over the kinds, in the terms of the code.
-use mathlib.Core.Path.{_≡_, ap, _∙_}
-use mathlib.Core.Bool.{true, false, cond}
+use mathlib.Core.Path.{_≡_, refl, ap, _∙_}
+use mathlib.Core.Bool.{Bool, true, false, cond, _&&_}
 use mathlib.Core.List.{List}
 use mathlib.Core.Option.{Option, none, some}
-use Prim.Native.Nat.{ℕ, suc, _+_, _-_, _*_, _<_, _≤_}
+use Prim.Native.Nat.{ℕ, zero, suc, _+_, _-_, _*_, _<_, _≤_}
 use native.Mathlib.Omega.{arith}
-use lib.Dec.{ltb}
+use lib.Dec.{eqb, ltb}
 use lib.ListN.{length, getD}
-use borrow.Author.Tests.{lt-ltb, le-ltb}
-use Rattle.script_count.specs.Count.{crowd-ends, start-after, count-after, crowd, told-crowd}
+use borrow.Author.Tests.{ltb-true, lt-ltb, le-ltb}
+use Rattle.script_count.specs.Count.{new-names, crowd-ends, start-after, count-after, counted-on, crowd}
+use Rattle.script_count.specs.Count.{told-crowd}
 use Rattle.script_count.specs.declared.Counted.the-variants.{Within, Over}
+
+-- how far a count is over 256 makes no difference
+over : (k : List ℕ) (n p s c d : ℕ) → 256 < c → 256 < d → crowd k n p s c ≡ crowd k n p s d
+unfolding crowd
+over k zero p s c d g h = rw (lt-ltb 256 c g, lt-ltb 256 d h)
+over k (suc n) p s c d g h =
+    rw (lt-ltb 256 c g, lt-ltb 256 d h)
+    (go (eqb (getD k p 0) 0) (over k n (p + 1) s _ _ (omega arith) (omega arith)))
+  where
+    go : (b : Bool) →
+        crowd k n (p + 1) s (c + getD new-names (getD k p 0) 0) ≡
+        crowd k n (p + 1) s (d + getD new-names (getD k p 0) 0) →
+        cond (b && true) (some s) (crowd k n (p + 1) (cond b p s) (cond b 0 (c + getD new-names (getD k p 0) 0))) ≡
+        cond (b && true) (some s) (crowd k n (p + 1) (cond b p s) (cond b 0 (d + getD new-names (getD k p 0) 0)))
+    go true e = refl
+    go false e = e
+
+stands-still : (k : List ℕ) (kind n p s c : ℕ) → crowd k n p s (count-after kind c) ≡ crowd k n p s (counted-on kind c)
+stands-still k kind n p s c = go (eqb kind 0) (ltb 256 c) refl
+  where
+    go : (b t : Bool) → ltb 256 c ≡ t →
+        crowd k n p s (cond b 0 (c + getD new-names kind 0)) ≡
+        crowd k n p s (cond b 0 (cond t c (c + getD new-names kind 0)))
+    go true t e = refl
+    go false true e =
+        let h = ltb-true 256 c e in
+        over k n p s _ _ (omega arith) h
+    go false false e = refl
 
 -- The pass stands before node p, in the function at s with c new names; the whole gives o.
 pub record Passing (k : List ℕ) (o : Option ℕ) (p s c : ℕ) : Type 0 where
   pub under : p ≤ length k
-  pub few : c ≤ 256 * p
   pub same : o ≡ crowd k (length k - p) p s c
 
 pub pass-starts : (k : List ℕ) → Passing k (crowd k (length k) 0 0 0) 0 0 0
 pass-starts k =
     let e : length k - 0 ≡ length k = omega arith in
-    record { under = omega arith; few = omega arith; same = rw e }
+    record { under = omega arith; same = rw e }
 
 module _ {k : List ℕ} {o : Option ℕ} {p s c : ℕ} (v : Passing k o p s c) where
   turn : p < length k →
@@ -34,11 +62,10 @@ module _ {k : List ℕ} {o : Option ℕ} {p s c : ℕ} (v : Passing k o p s c) w
   pass-stops h e = rw (v .same, turn h, e)
 
   pub pass-goes : p < length k → crowd-ends (getD k p 0) c ≡ false → (s′ c′ : ℕ) →
-      s′ ≡ start-after (getD k p 0) p s → c′ ≡ count-after (getD k p 0) c → c′ ≤ c + 256 → Passing k o (p + 1) s′ c′
-  pass-goes h e s′ c′ f g l = record {
+      s′ ≡ start-after (getD k p 0) p s → c′ ≡ counted-on (getD k p 0) c → Passing k o (p + 1) s′ c′
+  pass-goes h e s′ c′ f g = record {
     under = omega arith;
-    few = omega (arith, v .few);
-    same = v .same ∙ turn h ∙ rw (e, ← f, ← g);
+    same = v .same ∙ turn h ∙ rw (e, ← f, g) (stands-still k (getD k p 0) _ _ _ c);
   }
 
   ended : length k ≤ p → o ≡ cond (ltb 256 c) (some s) none

@@ -22,6 +22,10 @@ start-after kind p start = cond (eqb kind 0) p start
 abbrev pub count-after : ℕ → ℕ → ℕ
 count-after kind count = cond (eqb kind 0) 0 (count + getD new-names kind 0)
 
+-- the same, but a count over 256 stands still: how far it is over makes no difference
+abbrev pub counted-on : ℕ → ℕ → ℕ
+counted-on kind count = cond (eqb kind 0) 0 (cond (ltb 256 count) count (count + getD new-names kind 0))
+
 -- so many nodes from p on, in the function at start that has so many new names already
 unfoldable pub crowd : List ℕ → ℕ → ℕ → ℕ → ℕ → Option ℕ
 crowd kinds zero p start count = cond (ltb 256 count) (some start) none

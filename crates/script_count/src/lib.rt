@@ -4,7 +4,7 @@ ghost use mathlib.Core.Bool.{_&&_, cond};
 ghost use Prim.Native.Nat.{_+_, _*_, _^_, _<_, _≤_};
 ghost use lib.Dec.{eqb, ltb};
 ghost use lib.ListN.{length, getD};
-ghost use Rattle.script_count.specs.Count.{new-names, crowd-ends, start-after, count-after, crowd, told-crowd};
+ghost use Rattle.script_count.specs.Count.{new-names, crowd-ends, start-after, counted-on, crowd, told-crowd};
 
 // The node of a function with too many names, if there is one.
 pub enum Counted {
@@ -39,20 +39,21 @@ fn start_after(kind: u8, p: usize, start: usize) -> usize
     if kind == 0 { p } else { start }
 }
 
-// The present function's new names, after a node of this kind.
+// The present function's new names, after a node of this kind; over 256 the count stands still.
 fn count_after(kind: u8, count: u64) -> u64
-    requires { ⌜ count ≤ 262144 ⌝ }
-    ensures { λ r. ⌜ (r ≡ count-after kind count) × (r ≤ count + 256) ⌝ }
+    ensures { λ r. ⌜ r ≡ counted-on kind count ⌝ }
 {
     if kind == 0 {
         return 0;
+    }
+    if 256 < count {
+        return count;
     }
     count + words::wide(new_names(kind))
 }
 
 // The first function with too many new names.
 pub fn count_script(kinds: &[u8]) -> Counted
-    requires { ⌜ length (now kinds) ≤ 1024 ⌝ }
     ensures { λ r. ⌜ r ≡ told-crowd (crowd (now (kinds .entry)) (length (now (kinds .entry))) 0 0 0) ⌝ }
 {
     let mut p: usize = 0;

@@ -1,18 +1,20 @@
 -- The rules by kind, and the loops over depths that decide them.
 use mathlib.Core.Path.{_≡_, refl, sym, ap, _∙_}
 use mathlib.Core.Bool.{Bool, true, false, cond, _&&_}
+use mathlib.Core.Logic.{inl}
 use mathlib.Core.List.{List, [], _∷_}
-use Prim.Native.Nat.{ℕ, zero, suc, _+_, _-_, _<_, _≤_}
+use Prim.Native.Nat.{ℕ, zero, suc, _+_, _-_, _<_, _≤_, min}
 use native.Mathlib.Omega.{arith}
 use native.Mathlib.Numerals.{add-one}
-use lib.Dec.{leb, eqb}
+use lib.Dec.{leb, ltb, eqb}
 use lib.ListN.{length, getD, take, drop, length-take, drop-of-length-le}
 use lib.Seq.{drop-cons, getD-take}
-use borrow.Author.Tests.{eqb-true, eq-eqb, ne-eqb, le-leb, lt-leb, leb-true}
+use borrow.Author.Tests.{eqb-true, eq-eqb, ne-eqb, le-leb, lt-leb, leb-true, ltb-true, ltb-false}
 use Rattle.semantics.specs.File.{part-count, part-counts, low-limits, high-limits}
 use Rattle.semantics.specs.Types.{Signature, all-are, same, call-rule, index-rule, length-rule}
 use Rattle.script_read.specs.Told.{low-at, high-at}
-use Rattle.script_read.proofs.Nodes.{getD-any}
+use Rattle.script_read.specs.declared.Node.the-variants.{WrongKind}
+use Rattle.script_read.proofs.Nodes.{past, unfit, low-none, high-none}
 use Rattle.script_depths.specs.declared.Typed.{Typed}
 use Rattle.script_depths.specs.declared.Typed.the-variants.{Depth, Fault}
 use Rattle.script_depths.specs.declared.Judged.{Judged}
@@ -71,9 +73,21 @@ module _ (k w : List ℕ) (p n : ℕ) (ds : List ℕ) (l : n ≤ length ds) wher
       let e : n - i ≡ 0 = omega arith in
       sym (v ∙ rw (e, drop-of-length-le (take n ds) {i = i} (simp length-take (omega arith))))
 
--- where a function stands
-pub start-at : (starts : List ℕ) (f : ℕ) → length starts ≡ 32 → f ≤ 31 → getD starts f 0 ≡ getD starts f 1024
-start-at starts f l h = getD-any starts f 0 1024 (omega arith)
+-- past the nodes a function has no parameters and the depth 0
+pub signature-past : (k w : List ℕ) (p : ℕ) → length k ≤ p → signature-at k w p ≡ record { parameters = []; result = 0 }
+unfolding signature-at depths-from
+signature-past k w p h =
+    let u = unfit k w 0 0 p WrongKind (past k w 0 0 p h (omega arith)) (inl refl) in
+    rw (← low-none u, ← high-none u)
+
+pub at-the-end : (k w : List ℕ) (p q : ℕ) → q ≡ min p (length k) → signature-at k w q ≡ signature-at k w p
+at-the-end k w p q e = go (ltb p (length k)) refl
+  where
+    go : (t : Bool) → ltb p (length k) ≡ t → signature-at k w q ≡ signature-at k w p
+    go true g = let h = ltb-true p (length k) g in ap (signature-at k w) (omega arith)
+    go false g =
+        let h = ltb-false p (length k) g in
+        signature-past k w q (omega arith) ∙ sym (signature-past k w p h)
 
 -- a call's parts
 and-false : (b : Bool) {c : Bool} → false ≡ c → false ≡ (b && c)

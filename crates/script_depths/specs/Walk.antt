@@ -11,7 +11,7 @@ use Rattle.semantics.specs.File as S
 use Rattle.semantics.specs.File.{node-at, part-count}
 use Rattle.semantics.specs.Types.{Rule, Signature, number-rule, literal-rule, call-rule, index-rule, length-rule}
 use Rattle.semantics.specs.Types.{if-rule}
-use Rattle.script_read.specs.Told.{Parts, low-at, high-at}
+use Rattle.script_read.specs.Told.{low-at, high-at}
 use Rattle.script_read.specs.Table.{table}
 use Rattle.script_depths.specs.declared.Typed.{Typed}
 use Rattle.script_depths.specs.declared.Typed.the-variants.{Depth, Fault}
@@ -21,16 +21,6 @@ use Rattle.script_depths.specs.declared.Judged.the-variants.{Has, Broken
 -- the depths of the names, as a table says
 abbrev pub depths : List ℕ → ℕ → ℕ
 depths t = table 0 t
-
--- The nodes of the functions stand in a table of 32; 1,024 is past every file.
-pub record Starts (kinds operands starts : List ℕ) : Type 0 where
-  pub parts : Parts kinds operands
-  pub long : length starts ≡ 32
-  pub near : (f : ℕ) → getD starts f 1024 ≤ 1024
-
-pub record Ready (kinds operands starts table : List ℕ) : Type 0 where
-  pub functions : Starts kinds operands starts
-  pub whole : length table ≡ 256
 
 module _ (kinds operands : List ℕ) where
   -- the depths of so many parameters
@@ -45,6 +35,7 @@ module _ (kinds operands : List ℕ) where
     result = high-at kinds operands 0 p;
   }
 
+  -- the functions' nodes stand in a table; 1,024 is past every file
   abbrev pub signature-of : List ℕ → ℕ → Signature
   signature-of starts f = signature-at (getD starts f 1024)
 

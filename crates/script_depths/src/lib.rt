@@ -2,12 +2,11 @@
 // One table of the depths of the 256 names is changed at a let or a map and put back after it.
 use script_read::Node;
 ghost use mathlib.Core.Path.{_≡_};
-ghost use Prim.Native.Nat.{_+_, _*_, _^_, _<_, _≤_};
+ghost use Prim.Native.Nat.{_+_, _*_, _^_, _<_, _≤_, min};
 ghost use lib.ListN.{length, getD, set, take};
 ghost use Rattle.semantics.specs.File.{low-limits, high-limits, part-count};
 ghost use Rattle.semantics.specs.Types.{all-are, same, call-rule};
-ghost use Rattle.script_read.specs.Told.{Parts};
-ghost use Rattle.script_depths.specs.Walk.{Ready, Starts, depths, depths-from, signature-at, signature-of};
+ghost use Rattle.script_depths.specs.Walk.{depths, depths-from, signature-at, signature-of};
 ghost use Rattle.script_depths.specs.Walk.{rule-of, told-rule, wrapped, let-typed, map-typed, plain-typed};
 ghost use Rattle.script_depths.specs.Walk.{types};
 
@@ -40,7 +39,7 @@ fn all_are(ds: &[u8], n: usize, d: u8) -> bool
 
 // Whether the depths of the n parameters from node at on are the first n depths.
 fn parameters_match(kinds: &[u8], operands: &[u8], at: usize, ds: &[u8], n: usize) -> bool
-    requires { ⌜ Parts (now kinds) (now operands) × (n ≤ length (now ds)) × (n ≤ 255) × (at ≤ 1025) ⌝ }
+    requires { ⌜ (n ≤ length (now ds)) × (n ≤ 255) × (at ≤ length (now kinds) + 1) ⌝ }
     ensures { λ r. ⌜
         r ≡ same (depths-from (now (kinds .entry)) (now (operands .entry)) n at) (take n (now (ds .entry))) ⌝ }
 {
@@ -56,7 +55,7 @@ fn parameters_match(kinds: &[u8], operands: &[u8], at: usize, ds: &[u8], n: usiz
 
 // A call's depth: the function's head is at start, the call has n parts.
 fn judge_call(kinds: &[u8], operands: &[u8], start: usize, ds: &[u8], n: u8) -> Judged
-    requires { ⌜ Parts (now kinds) (now operands) × (n ≤ length (now ds)) × (start ≤ 1024) ⌝ }
+    requires { ⌜ (n ≤ length (now ds)) × (start ≤ length (now kinds)) ⌝ }
     ensures { λ r. ⌜
         r ≡ told-rule
         (call-rule (signature-at (now (kinds .entry)) (now (operands .entry)) start) (take n (now (ds .entry)))) ⌝ }
@@ -70,6 +69,24 @@ fn judge_call(kinds: &[u8], operands: &[u8], start: usize, ds: &[u8], n: u8) -> 
     Judged::Broken
 }
 
+// The lesser of two numbers.
+fn lesser(a: usize, b: usize) -> usize
+    ensures { λ r. ⌜ r ≡ min a b ⌝ }
+{
+    if a < b { a } else { b }
+}
+
+// The node of a function, as the table says; the end of the nodes where it is no node.
+fn start_of(kinds: &[u8], starts: &[usize], f: u8) -> usize
+    ensures { λ r. ⌜ r ≡ min (getD (now (starts .entry)) f 1024) (length (now (kinds .entry))) ⌝ }
+{
+    let i = f as usize;
+    if i < starts.len() {
+        return lesser(starts[i], kinds.len());
+    }
+    lesser(1024, kinds.len())
+}
+
 // The depth of a node by the depths of its parts; not for numbers, names, lets and maps.
 fn judge(
     kinds: &[u8],
@@ -81,15 +98,14 @@ fn judge(
     ds: &[u8],
 ) -> Judged
     requires { ⌜
-        Starts (now kinds) (now operands) (now starts) × (length (now ds) ≡ 16)
-        × (low ≤ getD low-limits kind 0) × (high ≤ getD high-limits kind 0) ⌝ }
+        (length (now ds) ≡ 16) × (low ≤ getD low-limits kind 0) × (high ≤ getD high-limits kind 0) ⌝ }
     ensures { λ r. ⌜
         r ≡ told-rule
         (rule-of (signature-of (now (kinds .entry)) (now (operands .entry)) (now (starts .entry))) kind low high
         (take (part-count kind low high) (now (ds .entry)))) ⌝ }
 {
     if kind == 8 {
-        return judge_call(kinds, operands, starts[low as usize], ds, high);
+        return judge_call(kinds, operands, start_of(kinds, starts, low), ds, high);
     }
     if kind == 9 {
         if all_are(ds, low as usize, high) {
@@ -148,7 +164,7 @@ fn wrap(at: usize, body: Typed) -> Typed
 }
 
 // A part, with so many levels left.
-pub fn type_part(
+fn type_part(
     kinds: &[u8],
     operands: &[u8],
     starts: &[usize],
@@ -156,7 +172,7 @@ pub fn type_part(
     at: usize,
     levels: u64,
 ) -> Typed
-    requires { ⌜ Ready (now kinds) (now operands) (now starts) (now table) ⌝ }
+    requires { ⌜ length (now table) ≡ 256 ⌝ }
     ensures { λ r. ⌜
         (r ≡ types (now (kinds .entry)) (now (operands .entry)) (now (starts .entry)) levels
         (depths (now (table .entry))) at)
@@ -206,7 +222,7 @@ fn type_let(
     x: u8,
     levels: u64,
 ) -> Typed
-    requires { ⌜ Ready (now kinds) (now operands) (now starts) (now table) ⌝ }
+    requires { ⌜ length (now table) ≡ 256 ⌝ }
     ensures { λ r. ⌜
         (r ≡ let-typed (types (now (kinds .entry)) (now (operands .entry)) (now (starts .entry)) levels)
         (depths (now (table .entry))) x
@@ -237,7 +253,7 @@ fn type_map(
     x: u8,
     levels: u64,
 ) -> Typed
-    requires { ⌜ Ready (now kinds) (now operands) (now starts) (now table) × (at ≤ 1024) ⌝ }
+    requires { ⌜ (length (now table) ≡ 256) × (at < length (now kinds)) ⌝ }
     ensures { λ r. ⌜
         (r ≡ map-typed (types (now (kinds .entry)) (now (operands .entry)) (now (starts .entry)) levels)
         (depths (now (table .entry))) x at
@@ -274,7 +290,7 @@ fn type_plain(
     levels: u64,
 ) -> Typed
     requires { ⌜
-        Ready (now kinds) (now operands) (now starts) (now table) × (at ≤ 1024)
+        (length (now table) ≡ 256) × (at < length (now kinds))
         × (low ≤ getD low-limits kind 0) × (high ≤ getD high-limits kind 0) ⌝ }
     ensures { λ r. ⌜
         (r ≡ plain-typed (now (kinds .entry)) (now (operands .entry)) (now (starts .entry))
@@ -302,4 +318,19 @@ fn type_plain(
         Judged::Has(d) => Typed::Depth(d, p),
         Judged::Broken => Typed::Fault(at),
     }
+}
+
+// The body of a function, under the depths of its parameters.
+pub fn type_body(
+    kinds: &[u8],
+    operands: &[u8],
+    starts: &[usize],
+    table: [u8; 256],
+    at: usize,
+) -> Typed
+    ensures { λ r. ⌜
+        r ≡ types (now (kinds .entry)) (now (operands .entry)) (now (starts .entry)) 64 (depths table) at ⌝ }
+{
+    let mut known = table;
+    type_part(kinds, operands, starts, &mut known[..], at, 64)
 }

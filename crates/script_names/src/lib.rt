@@ -7,7 +7,7 @@ ghost use mathlib.Core.Bool.{_&&_, _||_};
 ghost use Prim.Native.Nat.{_+_, _*_, _^_, _<_, _≤_};
 ghost use lib.Dec.{eqb, leb};
 ghost use lib.ListN.{length, getD, set};
-ghost use Rattle.script_read.specs.Told.{Parts, repeated, marked};
+ghost use Rattle.script_read.specs.Told.{repeated, marked};
 ghost use Rattle.script_names.specs.Walk.{scope, binds, calls-none, names, then-bound, names-from};
 ghost use Rattle.script_names.specs.Walk.{names-function};
 
@@ -32,7 +32,7 @@ fn calls_none(functions: u8, kind: u8, f: u8) -> bool
 }
 
 // A part, under the names that are known.
-pub fn name_part(
+fn name_part(
     kinds: &[u8],
     operands: &[u8],
     functions: u8,
@@ -40,7 +40,7 @@ pub fn name_part(
     at: usize,
     levels: u64,
 ) -> Read
-    requires { ⌜ Parts (now kinds) (now operands) × (length (now known) ≡ 256) ⌝ }
+    requires { ⌜ length (now known) ≡ 256 ⌝ }
     ensures { λ r. ⌜
         (r ≡ names (now (kinds .entry)) (now (operands .entry)) functions levels (scope (now (known .entry))) at)
         × (now (known .exit) ≡ now (known .entry)) ⌝ }
@@ -87,7 +87,7 @@ fn name_binding(
     x: u8,
     levels: u64,
 ) -> Read
-    requires { ⌜ Parts (now kinds) (now operands) × (length (now known) ≡ 256) ⌝ }
+    requires { ⌜ length (now known) ≡ 256 ⌝ }
     ensures { λ r. ⌜
         (r ≡ then-bound (names (now (kinds .entry)) (now (operands .entry)) functions levels) (scope (now (known .entry))) x
         (names (now (kinds .entry)) (now (operands .entry)) functions levels (scope (now (known .entry))) at))
@@ -116,7 +116,7 @@ fn name_parts(
     count: u8,
     levels: u64,
 ) -> Read
-    requires { ⌜ Parts (now kinds) (now operands) × (length (now known) ≡ 256) ⌝ }
+    requires { ⌜ length (now known) ≡ 256 ⌝ }
     ensures { λ r. ⌜
         (r ≡ repeated count (names (now (kinds .entry)) (now (operands .entry)) functions levels (scope (now (known .entry)))) at)
         × (now (known .exit) ≡ now (known .entry)) ⌝ }
@@ -146,7 +146,7 @@ fn name_parameters(
     at: usize,
     count: u8,
 ) -> Read
-    requires { ⌜ Parts (now kinds) (now operands) × (length (now known) ≡ 256) ⌝ }
+    requires { ⌜ length (now known) ≡ 256 ⌝ }
     ensures { λ r. ⌜
         r ≡ names-from (now (kinds .entry)) (now (operands .entry)) functions count (scope (now (known .entry))) at ⌝ }
 {
@@ -176,7 +176,6 @@ fn name_parameters(
 
 // A function, with no name known at first.
 fn name_function(kinds: &[u8], operands: &[u8], functions: u8, at: usize) -> Read
-    requires { ⌜ Parts (now kinds) (now operands) ⌝ }
     ensures { λ r. ⌜ r ≡ names-function (now (kinds .entry)) (now (operands .entry)) functions at ⌝ }
 {
     match script_read::node_at(kinds, operands, at, 0, 0) {
@@ -189,9 +188,17 @@ fn name_function(kinds: &[u8], operands: &[u8], functions: u8, at: usize) -> Rea
     }
 }
 
+// An entry of a table, written where the table has it.
+fn put(table: &mut [usize], i: usize, node: usize)
+    ensures { λ r. ⌜ now (table .exit) ≡ set (now (table .entry)) i node ⌝ }
+{
+    if i < table.len() {
+        table[i] = node;
+    }
+}
+
 // All functions of a script: refusal 6. The table gets the node of each function.
 pub fn name_script(kinds: &[u8], operands: &[u8], functions: u8, starts: &mut [usize]) -> Read
-    requires { ⌜ Parts (now kinds) (now operands) × (length (now starts) ≡ 32) × (functions ≤ 32) ⌝ }
     ensures { λ r. ⌜
         (r ≡ repeated functions (names-function (now (kinds .entry)) (now (operands .entry)) functions) 0)
         × (now (starts .exit) ≡ marked functions (names-function (now (kinds .entry)) (now (operands .entry)) functions) 0 0
@@ -201,7 +208,7 @@ pub fn name_script(kinds: &[u8], operands: &[u8], functions: u8, starts: &mut [u
     let mut i: usize = 0;
     let mut left = functions;
     while 0 < left {
-        starts[i] = p;
+        put(starts, i, p);
         match name_function(kinds, operands, functions, p) {
             Read::Next(q) => {
                 p = q;

@@ -67,25 +67,24 @@ module _ (k w : List ℕ) (a b p : ℕ) where
   unfolding node-at node-of
   past h l = rw (List·getD-eq-default k 255 {n = p} h, lt-leb 255 b (omega arith), either (leb a 255) S.wrong-kind)
 
-  module _ (h : p < length k) where
-    pub early : getD k p 0 < a → WrongKind ≡ told-node (node-at k w a b p)
+  module _ (d : ℕ) (is : d ≡ getD k p 255) where
+    pub early : d < a → WrongKind ≡ told-node (node-at k w a b p)
     unfolding node-at node-of
-    early l = rw (getD-any k p 255 0 h, lt-leb a (getD k p 0) l)
+    early l = rw (← is, lt-leb a d l)
 
-    pub late : b < getD k p 0 → WrongKind ≡ told-node (node-at k w a b p)
+    pub late : b < d → WrongKind ≡ told-node (node-at k w a b p)
     unfolding node-at node-of
-    late l = rw (getD-any k p 255 0 h, lt-leb (getD k p 0) b l, either (leb a (getD k p 0)) S.wrong-kind)
+    late l = rw (← is, lt-leb d b l, either (leb a d) S.wrong-kind)
 
-    module _ (l : a ≤ getD k p 0) (g : getD k p 0 ≤ b) where
-      pub number : getD k p 0 ≡ 2 → Fits 2 0 0 ≡ told-node (node-at k w a b p)
+    module _ (l : a ≤ d) (g : d ≤ b) where
+      pub number : d ≡ 2 → Fits 2 0 0 ≡ told-node (node-at k w a b p)
       unfolding node-at node-of
-      number e = rw (getD-any k p 255 0 h, le-leb a (getD k p 0) l, le-leb (getD k p 0) b g, eq-eqb (getD k p 0) 2 e)
+      number e = rw (← is, le-leb a d l, le-leb d b g, eq-eqb d 2 e)
 
-      pub judged : (getD k p 0 ≡ 2 → ⊥) → (u : ℕ) → u ≡ bytes-at 8 w (8 * p) → (r : Node) →
-          r ≡ told-node (in-parts (getD k p 0) (signed u)) → r ≡ told-node (node-at k w a b p)
+      pub judged : (d ≡ 2 → ⊥) → (u : ℕ) → u ≡ bytes-at 8 w (8 * p) → (r : Node) →
+          r ≡ told-node (in-parts d (signed u)) → r ≡ told-node (node-at k w a b p)
       unfolding node-at node-of
-      judged f u e r q =
-          rw (getD-any k p 255 0 h, le-leb a (getD k p 0) l, le-leb (getD k p 0) b g, ne-eqb (getD k p 0) 2 f, ← e) q
+      judged f u e r q = rw (← is, le-leb a d l, le-leb d b g, ne-eqb d 2 f, ← e) q
 
 -- the kind of a node that is taken is allowed
 abbrev pub Within : ℕ → ℕ → S.Node → Type 0

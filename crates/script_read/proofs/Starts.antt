@@ -2,16 +2,13 @@
 use Prim.Native.Nat.{ℕ, zero, suc, _+_, _<_, _≤_}
 use native.Mathlib.Omega.{arith}
 use mathlib.Core.List.{List, [], _∷_}
-use mathlib.Core.Path.{_≡_, refl, ap, _∙_}
+use mathlib.Core.Path.{_≡_, refl, _∙_}
 use lib.ListN.{length, getD, set, length-set}
 use lib.Seq.{getD-set-same, getD-set-other}
-use Rattle.semantics.specs.File.{node-at}
 use Rattle.semantics.specs.Syntax.{Script, function-size}
-use Rattle.script_read.specs.Told.{told-node, marked}
+use Rattle.script_read.specs.Told.{marked}
 use Rattle.script_read.specs.declared.Read.{Read}
 use Rattle.script_read.specs.declared.Read.the-variants.{Next}
-use Rattle.script_read.proofs.Nodes.{inside}
-use Rattle.script_read.proofs.Written.{HeadAt, ScriptWritten}
 
 -- the node of function f, in a script whose first function is at p; 1,024 past the last
 abbrev pub start-of : Script → ℕ → ℕ → ℕ
@@ -54,21 +51,3 @@ module _ (f : ℕ → Read) where
       still m =
           let e : i + 1 + m ≡ i + suc m = omega arith in
           getD-set-other t i (i + 1 + m) p 1024 (λ x. omega arith) ∙ rw e (blank (suc m))
-
-  pub marked-length : (gs : Script) (p i : ℕ) (t : List ℕ) → Walks f gs p →
-      length (marked (length gs) f p i t) ≡ length t
-  unfolding marked
-  marked-length [] p i t h = refl
-  marked-length (g ∷ gs) p i t h =
-      rw (h .0) (marked-length gs (p + function-size g) (i + 1) (set t i p) (h .1) ∙ simp length-set)
-
--- a function's node is in the file
-module _ (k w : List ℕ) where
-  pub head-inside : {a p y z : ℕ} → a ≤ 13 → HeadAt k w a p y z → p < length k
-  head-inside {a} {p} l h =
-      inside k w a a p _ _ _ (told-node (node-at k w a a p)) l refl (ap told-node (h .is))
-
-  pub start-near : (gs : Script) (p j : ℕ) → length k ≤ 1024 → ScriptWritten k w gs p → start-of gs p j ≤ 1024
-  start-near [] p j l h = omega arith
-  start-near (g ∷ gs) p zero l h = omega (arith, head-inside (omega arith) (h .0 .head))
-  start-near (g ∷ gs) p (suc j) l h = start-near gs (p + function-size g) j l (h .1)

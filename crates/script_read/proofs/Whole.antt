@@ -1,15 +1,14 @@
 -- The whole file: its sizes and its two parts.
-use mathlib.Core.Path.{_≡_, refl}
-use mathlib.Core.Bool.{Bool, true, false, _&&_}
+use mathlib.Core.Path.{_≡_}
+use mathlib.Core.Bool.{true, false, _&&_}
 use mathlib.Core.List.{List}
 use Prim.Native.Nat.{ℕ, _+_, _-_, _*_, _<_, _≤_}
 use native.Mathlib.Omega.{arith}
-use lib.Dec.{leb}
-use lib.ListN.{length, take, drop, length-take, length-drop}
+use lib.ListN.{length, take, drop, length-drop}
 use lib.Seq.{take-all}
-use borrow.Author.Tests.{leb-true, lt-ltb, le-ltb, eq-eqb, ne-eqb}
+use borrow.Author.Tests.{lt-ltb, le-ltb, eq-eqb, ne-eqb}
 use Rattle.semantics.specs.File.{parts, script, read-file, between}
-use Rattle.script_read.specs.Told.{Parts, told}
+use Rattle.script_read.specs.Told.{told}
 use Rattle.script_read.specs.declared.Read.{Read}
 use Rattle.script_read.specs.declared.Read.the-variants.{Refused}
 use Rattle.semantics.specs.Number.{bytes-at}
@@ -37,23 +36,3 @@ module _ (l : List ℕ) (h : 4 ≤ length l) (f n : ℕ) (fe : f ≡ bytes-at 2 
         let j : take (length l - (4 + n)) (drop (4 + n) l) ≡ drop (4 + n) l =
         take-all (length l - (4 + n)) (drop (4 + n) l) (omega (arith, length-drop (4 + n) l)) in
         rw (le-ltb (length l) 4 h, ← fe, ← ne, e, eq-eqb (length l) (4 + 9 * n) g) (rw (i, j) at q)
-
-false-true : {A : Type 0} → false ≡ true → A
-false-true e = let z : _≡_ {A = ℕ} 0 1 = cc in absurd (omega arith)
-
-pub few : (f n : ℕ) → (between 1 32 f && between 1 1024 n) ≡ true → n ≤ 1024
-few f n e = go (leb 1 f) (leb f 32) (leb 1 n) (leb n 1024) refl e
-  where
-    go : (s t u v : Bool) → leb n 1024 ≡ v → (s && t && (u && v)) ≡ true → n ≤ 1024
-    go true true true true g e = leb-true n 1024 g
-    go true true true false g e = false-true e
-    go true true false v g e = false-true e
-    go true false u v g e = false-true e
-    go false t u v g e = false-true e
-
-pub file-parts : (l : List ℕ) (n : ℕ) → n ≤ 1024 → length l ≡ 4 + 9 * n →
-    Parts (take (4 + n - 4) (drop 4 l)) (take (length l - (4 + n)) (drop (4 + n) l))
-file-parts l n h e = record {
-  few = simp (length-take, length-drop) (omega arith);
-  whole = simp (length-take, length-drop) (omega arith);
-}

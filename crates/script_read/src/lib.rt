@@ -3,9 +3,10 @@ ghost use mathlib.Core.Path.{_≡_};
 ghost use mathlib.Core.Bool.{_&&_};
 ghost use Prim.Native.Nat.{_+_, _*_, _^_, _<_, _≤_};
 ghost use lib.ListN.{length, getD, take, drop};
+ghost use Rattle.semantics.specs.Number.{bytes-at};
 ghost use Rattle.semantics.specs.File.{low-limits, high-limits, node-at, part-count, part, parameter, function};
 ghost use Rattle.semantics.specs.File.{script, read-file, between};
-ghost use Rattle.script_read.specs.Told.{Parts, told-node, told, low-at, high-at, repeated};
+ghost use Rattle.script_read.specs.Told.{told-node, told, low-at, high-at, repeated};
 
 // A node: its kind and the two parts of its operand (low + 256 * high), or what is wrong with it.
 pub enum Node {
@@ -28,30 +29,43 @@ const HIGH_LIMITS: [u8; 14] = [4, 4, 0, 0, 0, 0, 0, 0, 8, 3, 0, 0, 0, 0];
 const PART_COUNTS: [u8; 14] = [0, 0, 0, 0, 2, 2, 2, 2, 0, 0, 2, 1, 3, 2];
 
 // The greatest low part of an operand.
-fn low_limit(kind: usize) -> u8
-    requires { ⌜ kind < 14 ⌝ }
+fn low_limit(kind: u8) -> u8
     ensures { λ r. ⌜ r ≡ getD low-limits kind 0 ⌝ }
 {
-    LOW_LIMITS[kind]
+    let n = kind as usize;
+    if n < 14 { LOW_LIMITS[n] } else { 0 }
 }
 
 // The greatest high part of an operand.
-fn high_limit(kind: usize) -> u8
-    requires { ⌜ kind < 14 ⌝ }
+fn high_limit(kind: u8) -> u8
     ensures { λ r. ⌜ r ≡ getD high-limits kind 0 ⌝ }
 {
-    HIGH_LIMITS[kind]
+    let n = kind as usize;
+    if n < 14 { HIGH_LIMITS[n] } else { 0 }
+}
+
+// The kind of a node; past the end 255.
+fn kind_at(kinds: &[u8], at: usize) -> u8
+    ensures { λ r. ⌜ r ≡ getD (now (kinds .entry)) at 255 ⌝ }
+{
+    if at < kinds.len() { kinds[at] } else { 255 }
+}
+
+// The operand of a node as an unsigned number; 0 past the end.
+fn operand_at(operands: &[u8], at: usize) -> u64
+    ensures { λ r. ⌜ r ≡ bytes-at 8 (now (operands .entry)) (8 * at) ⌝ }
+{
+    if operands.len() / 8 < at {
+        return 0;
+    }
+    words::word_at(operands, 8 * at)
 }
 
 // The node at a place where the kinds from first to last are allowed.
 pub fn node_at(kinds: &[u8], operands: &[u8], at: usize, first: u8, last: u8) -> Node
-    requires { ⌜ Parts (now kinds) (now operands) × (last ≤ 13) ⌝ }
     ensures { λ r. ⌜ r ≡ told-node (node-at (now (kinds .entry)) (now (operands .entry)) first last at) ⌝ }
 {
-    if kinds.len() <= at {
-        return Node::WrongKind;
-    }
-    let kind = kinds[at];
+    let kind = kind_at(kinds, at);
     if kind < first {
         return Node::WrongKind;
     }
@@ -61,13 +75,13 @@ pub fn node_at(kinds: &[u8], operands: &[u8], at: usize, first: u8, last: u8) ->
     if kind == 2 {
         return Node::Fits(2, 0, 0);
     }
-    let n = words::word_at(operands, 8 * at);
+    let n = operand_at(operands, at);
     let low = n % 256;
     let high = n / 256;
-    if words::wide(low_limit(kind as usize)) < low {
+    if words::wide(low_limit(kind)) < low {
         return Node::WrongOperand;
     }
-    if words::wide(high_limit(kind as usize)) < high {
+    if words::wide(high_limit(kind)) < high {
         return Node::WrongOperand;
     }
     Node::Fits(kind, low as u8, high as u8)
@@ -75,7 +89,6 @@ pub fn node_at(kinds: &[u8], operands: &[u8], at: usize, first: u8, last: u8) ->
 
 // The lower part of the operand of a node of this kind; 0 where there is none.
 pub fn low_at(kinds: &[u8], operands: &[u8], at: usize, kind: u8) -> u8
-    requires { ⌜ Parts (now kinds) (now operands) × (kind ≤ 13) ⌝ }
     ensures { λ r. ⌜ r ≡ low-at (now (kinds .entry)) (now (operands .entry)) kind at ⌝ }
 {
     match node_at(kinds, operands, at, kind, kind) {
@@ -87,7 +100,6 @@ pub fn low_at(kinds: &[u8], operands: &[u8], at: usize, kind: u8) -> u8
 
 // The upper part of the operand of a node of this kind; 0 where there is none.
 pub fn high_at(kinds: &[u8], operands: &[u8], at: usize, kind: u8) -> u8
-    requires { ⌜ Parts (now kinds) (now operands) × (kind ≤ 13) ⌝ }
     ensures { λ r. ⌜ r ≡ high-at (now (kinds .entry)) (now (operands .entry)) kind at ⌝ }
 {
     match node_at(kinds, operands, at, kind, kind) {
@@ -113,7 +125,6 @@ pub fn parts_of(kind: u8, low: u8, high: u8) -> u8
 
 // A part, with so many levels left.
 pub fn read_part(kinds: &[u8], operands: &[u8], at: usize, levels: u64) -> Read
-    requires { ⌜ Parts (now kinds) (now operands) ⌝ }
     ensures { λ r. ⌜ r ≡ told (part (now (kinds .entry)) (now (operands .entry)) levels at) ⌝ }
 {
     match node_at(kinds, operands, at, 2, 13) {
@@ -136,7 +147,6 @@ pub fn read_part(kinds: &[u8], operands: &[u8], at: usize, levels: u64) -> Read
 
 // So many parts, one after the other.
 fn read_parts(kinds: &[u8], operands: &[u8], at: usize, count: u8, levels: u64) -> Read
-    requires { ⌜ Parts (now kinds) (now operands) ⌝ }
     ensures { λ r. ⌜ r ≡ repeated count (λ p. told (part (now (kinds .entry)) (now (operands .entry)) levels p)) at ⌝ }
 {
     let mut p = at;
@@ -157,7 +167,6 @@ fn read_parts(kinds: &[u8], operands: &[u8], at: usize, count: u8, levels: u64) 
 
 // So many parameters.
 fn read_parameters(kinds: &[u8], operands: &[u8], at: usize, count: u8) -> Read
-    requires { ⌜ Parts (now kinds) (now operands) ⌝ }
     ensures { λ r. ⌜ r ≡ repeated count (λ p. told (parameter (now (kinds .entry)) (now (operands .entry)) p)) at ⌝ }
 {
     let mut p = at;
@@ -181,7 +190,6 @@ fn read_parameters(kinds: &[u8], operands: &[u8], at: usize, count: u8) -> Read
 
 // A function: its parameters and its body, at level 1.
 fn read_function(kinds: &[u8], operands: &[u8], at: usize) -> Read
-    requires { ⌜ Parts (now kinds) (now operands) ⌝ }
     ensures { λ r. ⌜ r ≡ told (function (now (kinds .entry)) (now (operands .entry)) at) ⌝ }
 {
     match node_at(kinds, operands, at, 0, 0) {
@@ -196,7 +204,6 @@ fn read_function(kinds: &[u8], operands: &[u8], at: usize) -> Read
 
 // The functions of a script, with nothing left over.
 fn read_script(kinds: &[u8], operands: &[u8], functions: usize) -> Read
-    requires { ⌜ Parts (now kinds) (now operands) ⌝ }
     ensures { λ r. ⌜ r ≡ told (script (now (kinds .entry)) (now (operands .entry)) functions 0) ⌝ }
 {
     let mut p = 0;

@@ -3,25 +3,23 @@ use Prim.Native.Nat.{ℕ, zero, suc, _+_, _≤_}
 use native.Mathlib.Omega.{arith}
 use mathlib.Core.Bool.{Bool, true, false, cond, _&&_}
 use mathlib.Core.List.{List, [], _∷_, map}
-use mathlib.Core.Logic.{inl}
 use mathlib.Core.Path.{_≡_, refl, sym, ap, _∙_, subst, fun-ext}
 use lib.Dec.{eqb}
 use lib.ListN.{length, getD}
 use Rattle.semantics.specs.Basics.{updated}
-use Rattle.semantics.specs.Syntax.{Expr, size, Parameter, Function, Script, function-size, no-function, function-at}
+use Rattle.semantics.specs.Syntax.{Expr, size, Parameter, Function, Script, function-size, function-at}
 use Rattle.semantics.specs.Types.{Checked, Signature, signature, check, parameter-depths, result-rule, node, some-if}
 use Rattle.semantics.specs.Types.{check-function, function-faults, signatures-of, main-shape, type-faults}
 use Rattle.script_read.specs.Told.{low-at, high-at, repeated}
 use Rattle.script_read.specs.declared.Read.{Read}
 use Rattle.script_read.specs.declared.Read.the-variants.{Next, Refused}
-use Rattle.script_read.specs.declared.Node.the-variants.{WrongKind}
-use Rattle.script_read.proofs.Nodes.{past, unfit, low-none, high-none}
 use Rattle.script_read.proofs.Written.{Written, HeadAt, ParametersWritten, FunctionWritten, ScriptWritten}
 use Rattle.script_read.proofs.Found.{Finds, follow}
 use Rattle.script_read.proofs.Starts.{start-of}
 use Rattle.script_depths.specs.Walk.{depths-from, signature-at, signature-of, all, and-parts, by-rule, ruled}
 use Rattle.script_depths.specs.declared.Typed.{Typed}
 use Rattle.script_depths.specs.declared.Typed.the-variants.{Depth, Fault}
+use Rattle.script_depths.proofs.Rules.{signature-past}
 use Rattle.script_depths.proofs.Tree.{Tells, good, bad, by-its-rule, next-part, no-parts, known, entered, types-tree}
 use Rattle.script_types.specs.Functions.{types-from, types-function, types-script, ended}
 
@@ -47,15 +45,9 @@ module _ (k w : List ℕ) where
   function-signature g p h =
       rw (head-low (h .head), head-high (h .head), parameters-depths (g .parameters) (p + 1) (h .parameters))
 
-  no-signature : length k ≤ 1024 → signature-at k w 1024 ≡ signature no-function
-  unfolding signature-at depths-from
-  no-signature l =
-      let u = unfit k w 0 0 1024 WrongKind (past k w 0 0 1024 l (omega arith)) (inl refl) in
-      rw (← low-none u, ← high-none u)
-
   signature-found : (gs : Script) (p f : ℕ) → length k ≤ 1024 → ScriptWritten k w gs p →
       signature-at k w (start-of gs p f) ≡ signature (function-at gs f)
-  signature-found [] p f l h = no-signature l
+  signature-found [] p f l h = signature-past k w 1024 l
   signature-found (g ∷ gs) p zero l h = function-signature g p (h .0)
   signature-found (g ∷ gs) p (suc f) l h = signature-found gs (p + function-size g) f l (h .1)
 

@@ -6,13 +6,11 @@ ghost use mathlib.Core.Path.{_≡_};
 ghost use Prim.Native.Nat.{_+_, _*_, _^_, _<_, _≤_};
 ghost use lib.ListN.{length, getD, set};
 ghost use Rattle.semantics.specs.Types.{main-shape};
-ghost use Rattle.script_read.specs.Told.{Parts};
-ghost use Rattle.script_depths.specs.Walk.{Ready, Starts, depths, signature-at};
+ghost use Rattle.script_depths.specs.Walk.{depths, signature-at};
 ghost use Rattle.script_types.specs.Functions.{types-from, types-function, types-script};
 
 // Whether main takes the totals and the readings, and gives new totals.
 fn main_fits(kinds: &[u8], operands: &[u8]) -> bool
-    requires { ⌜ Parts (now kinds) (now operands) ⌝ }
     ensures { λ r. ⌜ r ≡ main-shape (signature-at (now (kinds .entry)) (now (operands .entry)) 0) ⌝ }
 {
     if script_read::low_at(kinds, operands, 0, 0) != 2 {
@@ -25,26 +23,26 @@ fn main_fits(kinds: &[u8], operands: &[u8]) -> bool
     script_read::high_at(kinds, operands, 2, 1) == 1
 }
 
-// So many parameters, whose depths the table gets, and then the body.
+// So many parameters, whose depths go into the table, and then the body.
 fn type_parameters(
     kinds: &[u8],
     operands: &[u8],
     starts: &[usize],
-    table: &mut [u8],
+    table: [u8; 256],
     at: usize,
     count: u8,
 ) -> Typed
-    requires { ⌜ Ready (now kinds) (now operands) (now starts) (now table) ⌝ }
     ensures { λ r. ⌜
         r ≡ types-from (now (kinds .entry)) (now (operands .entry)) (now (starts .entry)) count
-        (depths (now (table .entry))) at ⌝ }
+        (depths table) at ⌝ }
 {
+    let mut known = table;
     let mut p = at;
     let mut left = count;
     while 0 < left {
         match script_read::node_at(kinds, operands, p, 1, 1) {
             Node::Fits(_, low, high) => {
-                table[low as usize] = high;
+                known[low as usize] = high;
                 p = p + 1;
             }
             Node::WrongKind => {
@@ -56,18 +54,16 @@ fn type_parameters(
         }
         left = left - 1;
     }
-    script_depths::type_part(kinds, operands, starts, table, p, 64)
+    script_depths::type_body(kinds, operands, starts, known, p)
 }
 
 // A function: its body has the result's depth.
 fn type_function(kinds: &[u8], operands: &[u8], starts: &[usize], at: usize) -> Read
-    requires { ⌜ Starts (now kinds) (now operands) (now starts) ⌝ }
     ensures { λ r. ⌜ r ≡ types-function (now (kinds .entry)) (now (operands .entry)) (now (starts .entry)) at ⌝ }
 {
     match script_read::node_at(kinds, operands, at, 0, 0) {
         Node::Fits(_, count, result) => {
-            let mut table = [0u8; 256];
-            match type_parameters(kinds, operands, starts, &mut table[..], at + 1, count) {
+            match type_parameters(kinds, operands, starts, [0u8; 256], at + 1, count) {
                 Typed::Depth(d, q) => {
                     if d == result {
                         Read::Next(q)
@@ -85,7 +81,6 @@ fn type_function(kinds: &[u8], operands: &[u8], starts: &[usize], at: usize) -> 
 
 // All functions of a script: refusal 7.
 pub fn type_script(kinds: &[u8], operands: &[u8], starts: &[usize], functions: u8) -> Read
-    requires { ⌜ Starts (now kinds) (now operands) (now starts) ⌝ }
     ensures { λ r. ⌜ r ≡ types-script (now (kinds .entry)) (now (operands .entry)) (now (starts .entry)) functions ⌝ }
 {
     if !main_fits(kinds, operands) {

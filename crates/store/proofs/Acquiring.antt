@@ -1,11 +1,11 @@
 -- Acquiring a cell and freeing one: a law for each way out of the code.
 use mathlib.Core.Path.{_≡_, refl, sym}
 use mathlib.Core.Bool.{true, false}
-use mathlib.Core.List.{List}
-use Prim.Native.Nat.{ℕ, _+_, _*_, _<_, _≤_, min}
+use mathlib.Core.List.{List, []}
+use Prim.Native.Nat.{ℕ, _+_, _*_, _<_, _≤_}
 use native.Mathlib.Omega.{arith}
-use lib.IntN.{ℤ, pos}
-use lib.ListN.{length, getD, replicate}
+use lib.IntN.{ℤ}
+use lib.ListN.{getD}
 use borrow.Author.Tests.{lt-ltb, le-ltb}
 use Rattle.semantics.specs.Store.{cell-count, with-first, has-free, filled, acquired, freed}
 use Rattle.semantics.specs.Words.{cells-in, store-of}
@@ -17,7 +17,7 @@ use Rattle.store.specs.Acquiring.{next-cell}
 -- ---- a cell freed
 
 pub freed-store : {slots : List ℤ} {heads : List ℕ} {c : ℕ} {slots′ : List ℤ} {heads′ : List ℕ} →
-    Written slots heads c c 0 0 0 (getD heads 0 0) (replicate 16 (pos 0)) slots′ heads′ → c < cells-in slots heads →
+    Written slots heads c c 0 0 0 (getD heads 0 0) slots′ heads′ → c < cells-in slots heads →
     store-of slots′ heads′ ≡ freed c (store-of slots heads)
 unfolding freed store-of
 freed-store w h = cleared-store w h
@@ -35,21 +35,19 @@ module _ (slots : List ℤ) (heads : List ℕ) where
   first-out h = le-ltb (store-of slots heads .first) (cell-count (store-of slots heads))
       (omega (arith, store-size slots heads, first-is slots heads))
 
-  module _ (depth : ℕ) (words : List ℤ) where
-    pub none-acquired : cells-in slots heads ≤ getD heads 0 0 →
-        (NoneFree ≡ next-cell (store-of slots heads))
-        × (store-of slots heads ≡ acquired depth words (store-of slots heads))
-    unfolding next-cell acquired
-    none-acquired h = (sym (rw (first-out h) refl), sym (rw (first-out h) refl))
+  pub none-acquired : (depth : ℕ) (words : List ℤ) → cells-in slots heads ≤ getD heads 0 0 →
+      (NoneFree ≡ next-cell (store-of slots heads))
+      × (store-of slots heads ≡ acquired depth words (store-of slots heads))
+  unfolding next-cell acquired
+  none-acquired depth words h = (sym (rw (first-out h) refl), sym (rw (first-out h) refl))
 
-    pub one-acquired : {slots′ : List ℤ} {heads′ : List ℕ} →
-        Written slots heads (getD heads 0 0) (getD heads (4 + 4 * getD heads 0 0) 0) 1 (min (length words) 16) depth
-        0 words
-        slots′ heads′ → getD heads 0 0 < cells-in slots heads →
-        (Cell (getD heads 0 0) ≡ next-cell (store-of slots heads))
-        × (store-of slots′ heads′ ≡ acquired depth words (store-of slots heads))
-    unfolding next-cell acquired filled with-first store-of
-    one-acquired w h = (
-      sym (rw (first-in h, first-is slots heads) refl),
-      sym (rw (first-in h, first-is slots heads, next-is slots heads (getD heads 0 0) h) (sym (written-store w h))),
-    )
+  pub one-acquired : (depth : ℕ) {slots′ : List ℤ} {heads′ : List ℕ} →
+      Written slots heads (getD heads 0 0) (getD heads (4 + 4 * getD heads 0 0) 0) 1 0 depth 0 slots′ heads′ →
+      getD heads 0 0 < cells-in slots heads →
+      (Cell (getD heads 0 0) ≡ next-cell (store-of slots heads))
+      × (store-of slots′ heads′ ≡ acquired depth [] (store-of slots heads))
+  unfolding next-cell acquired filled with-first store-of
+  one-acquired depth w h = (
+    sym (rw (first-in h, first-is slots heads) refl),
+    sym (rw (first-in h, first-is slots heads, next-is slots heads (getD heads 0 0) h) (sym (written-store w h))),
+  )

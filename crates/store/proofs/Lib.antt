@@ -1,4 +1,5 @@
 pub mod Retaining
 pub mod Acquiring
 pub mod Appending
+pub mod Filling
 pub mod Releasing

@@ -2,17 +2,18 @@
 // on arrays of any length and content, and a cell that is not there takes no write.
 ghost use mathlib.Core.Path.{_≡_};
 ghost use Prim.Native.Nat.{_+_, _*_, _<_};
+ghost use mathlib.Core.List.{[]};
 ghost use lib.ListN.{length};
 ghost use Rattle.semantics.specs.Store.{retained, acquired, appended, freed, released};
 ghost use Rattle.semantics.specs.Words.{slots-at, store-of};
-ghost use Rattle.store.specs.Acquiring.{next-cell};
+ghost use Rattle.store.specs.Acquiring.{next-cell, appended-all};
 
 // One reference more to a cell.
 pub fn retain(slots: &[i64], heads: &mut [u32], c: usize)
     ensures { λ _. ⌜ store-of (now (slots .entry)) (now (heads .exit))
         ≡ retained c (store-of (now (slots .entry)) (now (heads .entry))) ⌝ }
 {
-    if c < store_words::cells(slots, heads) {
+    if store_words::is_cell(slots, heads, c) {
         let n = heads[1 + 4 * c];
         if n < 4294967295 {
             heads[1 + 4 * c] = n + 1;
@@ -26,25 +27,23 @@ pub enum Acquired {
     NoneFree,
 }
 
-// Acquires the free list's first cell with these words, the first 16 of them, as elements of this depth.
-pub fn acquire(slots: &mut [i64], heads: &mut [u32], depth: u32, words: &[i64]) -> Acquired
+// Acquires the free list's first cell, with no elements.
+pub fn acquire_empty(slots: &mut [i64], heads: &mut [u32], depth: u32) -> Acquired
     ensures { λ r. ⌜ (r ≡ next-cell (store-of (now (slots .entry)) (now (heads .entry))))
         × (store-of (now (slots .exit)) (now (heads .exit))
-        ≡ acquired depth (now (words .entry)) (store-of (now (slots .entry)) (now (heads .entry)))) ⌝ }
+        ≡ acquired depth [] (store-of (now (slots .entry)) (now (heads .entry)))) ⌝ }
 {
-    let n = store_words::cells(slots, heads);
-    if n == 0 {
+    if heads.len() == 0 {
         return Acquired::NoneFree;
     }
     let c = heads[0] as usize;
-    if n <= c {
+    if !store_words::is_cell(slots, heads, c) {
         return Acquired::NoneFree;
     }
-    let size = store_words::at_most(words.len(), 16);
     let next = heads[4 + 4 * c];
     heads[0] = next;
-    store_words::write_head(heads, c, 1, size as u32, depth, 0);
-    store_words::fill_slots(slots, c, words);
+    store_words::write_head(heads, c, 1, 0, depth, 0);
+    store_words::clear_slots(slots, c);
     Acquired::Cell(c)
 }
 
@@ -53,12 +52,40 @@ pub fn append(slots: &mut [i64], heads: &mut [u32], c: usize, w: i64)
     ensures { λ _. ⌜ store-of (now (slots .exit)) (now (heads .exit))
         ≡ appended c w (store-of (now (slots .entry)) (now (heads .entry))) ⌝ }
 {
-    if c < store_words::cells(slots, heads) {
+    if store_words::is_cell(slots, heads, c) {
         let size = heads[2 + 4 * c];
         if size < 16 {
             slots[1 + 16 * c + size as usize] = w;
             heads[2 + 4 * c] = size + 1;
         }
+    }
+}
+
+// These elements more in a cell, as far as it has room.
+fn append_all(slots: &mut [i64], heads: &mut [u32], c: usize, words: &[i64])
+    ensures { λ _. ⌜ store-of (now (slots .exit)) (now (heads .exit))
+        ≡ appended-all c (now (words .entry)) (store-of (now (slots .entry)) (now (heads .entry))) ⌝ }
+{
+    let mut i: usize = 0;
+    while i < words.len() {
+        let w = words[i];
+        append(slots, heads, c, w);
+        i = i + 1;
+    }
+}
+
+// Acquires the free list's first cell with these words, the first 16 of them, as elements of this depth.
+pub fn acquire(slots: &mut [i64], heads: &mut [u32], depth: u32, words: &[i64]) -> Acquired
+    ensures { λ r. ⌜ (r ≡ next-cell (store-of (now (slots .entry)) (now (heads .entry))))
+        × (store-of (now (slots .exit)) (now (heads .exit))
+        ≡ acquired depth (now (words .entry)) (store-of (now (slots .entry)) (now (heads .entry)))) ⌝ }
+{
+    match acquire_empty(slots, heads, depth) {
+        Acquired::Cell(c) => {
+            append_all(slots, heads, c, words);
+            Acquired::Cell(c)
+        }
+        Acquired::NoneFree => Acquired::NoneFree,
     }
 }
 
@@ -82,12 +109,11 @@ fn free(slots: &mut [i64], heads: &mut [u32], c: usize)
     ensures { λ _. ⌜ store-of (now (slots .exit)) (now (heads .exit))
         ≡ freed c (store-of (now (slots .entry)) (now (heads .entry))) ⌝ }
 {
-    let zeros = [0; 16];
     let first = heads[0];
     let freed = c as u32;
     heads[0] = freed;
     store_words::write_head(heads, c, 0, 0, 0, first);
-    store_words::fill_slots(slots, c, &zeros);
+    store_words::clear_slots(slots, c);
 }
 
 // One reference fewer to a cell. The last one frees it, and then its elements are released, first to last; this goes
@@ -99,7 +125,7 @@ pub fn release(slots: &mut [i64], heads: &mut [u32], c: usize, levels: u32)
     if levels == 0 {
         return;
     }
-    if store_words::cells(slots, heads) <= c {
+    if !store_words::is_cell(slots, heads, c) {
         return;
     }
     let n = heads[1 + 4 * c];

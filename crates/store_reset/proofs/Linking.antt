@@ -3,14 +3,14 @@ use mathlib.Core.Path.{_≡_, refl, sym, ap, ap₂, _∙_}
 use mathlib.Core.List.{List, [], _∷_, _++_, append-nil}
 use Prim.Native.Nat.{ℕ, zero, suc, _+_, _-_, _*_, _<_, _≤_}
 use native.Mathlib.Omega.{arith}
-use lib.IntN.{ℤ, pos}
-use lib.ListN.{length, getD, set, take, drop, replicate, List·getD-eq-default}
+use lib.IntN.{ℤ}
+use lib.ListN.{length, getD, set, take, drop, List·getD-eq-default}
 use lib.Seq.{drop-cons, drop-length, take-length, take-suc, set-at, getD-at, append-snoc, length-take-le, set-getD}
 use Rattle.semantics.specs.Store.{Cell, Store, cell, cell-count, clear, with-cell, with-first}
 use Rattle.semantics.specs.Store.{Linked, link, linked, relinked}
 use Rattle.semantics.specs.Words.{cells-in, store-of}
 use Rattle.store_laws.specs.CellLaws.{same-store}
-use Rattle.store_words.specs.Parts.{Filled, with-head}
+use Rattle.store_words.specs.Parts.{Cleared, with-head}
 use Rattle.store_words.proofs.CellWords.{store-size, count-is, first-is, with-self}
 use Rattle.store_words.proofs.Puts.{first-same, first-store}
 use Rattle.store_words.proofs.Written.{cleared-store}
@@ -32,7 +32,7 @@ module _ (slots : List ℤ) (heads : List ℕ) (c h : ℕ) where
       go (suc n) f = (refl, sym (with-self (store-of slots heads) c))
 
   pub link-free : {slots′ : List ℤ} {heads′ : List ℕ} → c < cells-in slots heads → getD heads (1 + 4 * c) 0 ≡ 0 →
-      length slots′ ≡ length slots → Filled slots c (replicate 16 (pos 0)) slots′ → heads′ ≡ with-head heads c 0 0 0 h →
+      length slots′ ≡ length slots → Cleared slots c slots′ → heads′ ≡ with-head heads c 0 0 0 h →
       (c ≡ head-linked (getD heads (1 + 4 * c) 0) c h)
       × (store-of slots′ heads′ ≡ with-cell (store-of slots heads) c
       (cell-linked (getD heads (1 + 4 * c) 0) (cell (store-of slots heads) c) h))
@@ -40,7 +40,7 @@ module _ (slots : List ℤ) (heads : List ℕ) (c h : ℕ) where
     refl,
     cleared-store (record {
       long = l;
-      slots-filled = f;
+      slots-cleared = f;
       heads-written = q ∙ ap (λ (hs : List ℕ). with-head hs c 0 0 0 h) (sym (set-getD heads 0 0));
     }) i
         ∙ first-same slots heads c (clear h),

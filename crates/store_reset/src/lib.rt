@@ -48,9 +48,8 @@ fn relink_cell(slots: &mut [i64], heads: &mut [u32], c: usize, head: u32) -> u32
     if heads[1 + 4 * c] != 0 {
         return head;
     }
-    let zeros = [0; 16];
     store_words::write_head(heads, c, 0, 0, 0, head);
-    store_words::fill_slots(slots, c, &zeros);
+    store_words::clear_slots(slots, c);
     c as u32
 }
 
@@ -85,7 +84,7 @@ pub fn open_store(slots: &mut [i64], heads: &mut [u32], depth: u32)
     if depth == 0 {
         return;
     }
-    let first = store::acquire(slots, heads, depth - 1, &no_words[0..0]);
+    let first = store::acquire_empty(slots, heads, depth - 1);
 }
 
 // The words of the first array, kept for a stop: as many as the greatest store has.

@@ -1,14 +1,18 @@
 -- What a cell of the store that two arrays hold has, word by word.
 use mathlib.Core.Path.{_≡_, refl, sym, ap, ap₂, _∙_}
+use mathlib.Core.Bool.{Bool}
 use mathlib.Core.List.{List, []}
 use Prim.Native.Nat.{ℕ, _+_, _*_, _<_, _≤_, min}
 use native.Mathlib.Omega.{arith}
 use lib.IntN.{ℤ, pos}
 use lib.ListN.{length, getD, take, length-take, List·getD-eq-default}
+use lib.Dec.{ltb}
 use lib.Seq.{set-out, set-getD, getD-take}
+use borrow.Author.Tests.{ltb-true, ltb-false}
 use Rattle.semantics.specs.Store.{Cell, Store, cell, cell-count, clear, elements, with-cell}
 use Rattle.semantics.specs.Words.{cells-in, slots-at, cell-at, store-of}
 use Rattle.store_laws.specs.CellLaws.{same-store}
+use Rattle.store_words.specs.Parts.{Stands}
 use Rattle.store_words.proofs.Tables.{length-tabulate, tabulate-at}
 
 -- a cell put back where it is
@@ -30,6 +34,14 @@ module _ (slots : List ℤ) (heads : List ℕ) where
   pub to-cells : (c : ℕ) → c < 256 → 4 * c + 4 < length heads → 16 * c + 16 < length slots → c < cells-in slots heads
   unfolding cells-in
   to-cells c a b d = omega arith
+
+  -- what a test for a cell that is there says
+  pub stands : (c : ℕ) (r : Bool) → r ≡ ltb c (cells-in slots heads) → Stands slots heads c r
+  stands c r e = record {
+    there = λ t. let h = ltb-true c (cells-in slots heads) (sym e ∙ t) in
+        (h, in-cells c h .0, in-cells c h .1, in-cells c h .2);
+    gone = λ f. ltb-false c (cells-in slots heads) (sym e ∙ f);
+  }
 
   pub few-cells : cells-in slots heads ≤ 256
   unfolding cells-in

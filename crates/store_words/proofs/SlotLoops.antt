@@ -1,7 +1,7 @@
--- The loops over the sixteen slots of a cell: writing them, and reading them into an array.
+-- The loops over the sixteen slots of a cell: clearing them, and reading them into an array.
 use mathlib.Core.Path.{_≡_, refl, sym, _∙_}
 use mathlib.Core.Logic.{_≢_}
-use mathlib.Core.List.{List}
+use mathlib.Core.List.{List, []}
 use Prim.Native.Nat.{ℕ, _+_, _*_, _<_, _≤_}
 use native.Mathlib.Omega.{arith}
 use native.Mathlib.Decide.{ℕ-discrete}
@@ -10,56 +10,55 @@ use lib.ListN.{length, getD, set, length-set}
 use lib.Seq.{ext-getD, getD-set-same, getD-set-other}
 use Rattle.semantics.specs.Store.{padded}
 use Rattle.semantics.specs.Words.{slots-at}
-use Rattle.store_words.specs.Parts.{Filled}
+use Rattle.store_words.specs.Parts.{Cleared}
 use Rattle.store_words.proofs.Tables.{tabulate-same}
 use Rattle.store_words.proofs.CellWords.{slots-length, slot-is}
 
--- i of the slots of cell c have their words
-pub record Filling (slots : List ℤ) (c : ℕ) (words slots′ : List ℤ) (i : ℕ) : Type 0 where
+-- i of the slots of cell c are zero
+pub record Clearing (slots : List ℤ) (c : ℕ) (slots′ : List ℤ) (i : ℕ) : Type 0 where
   pub long : length slots′ ≡ length slots
-  pub inside : (k : ℕ) → k < i → getD slots′ (1 + 16 * c + k) (pos 0) ≡ getD words k (pos 0)
+  pub inside : (k : ℕ) → k < i → getD slots′ (1 + 16 * c + k) (pos 0) ≡ pos 0
   pub outside : (d k : ℕ) → k < 16 → d ≢ c → getD slots′ (1 + 16 * d + k) (pos 0) ≡ getD slots (1 + 16 * d + k) (pos 0)
   pub totals : getD slots′ 0 (pos 0) ≡ getD slots 0 (pos 0)
 
-pub filling-none : (slots : List ℤ) (c : ℕ) (words : List ℤ) → Filling slots c words slots 0
-filling-none slots c words = record {
+pub clearing-none : (slots : List ℤ) (c : ℕ) → Clearing slots c slots 0
+clearing-none slots c = record {
   long = refl;
   inside = λ k h. absurd (omega arith);
   outside = λ d k h f. refl;
   totals = refl;
 }
 
-pub filling-more : {slots : List ℤ} {c : ℕ} {words slots′ : List ℤ} {i : ℕ} (v : ℤ) → Filling slots c words slots′ i →
-    i < 16 → 16 * c + 16 < length slots → v ≡ getD words i (pos 0) →
-    Filling slots c words (set slots′ (1 + 16 * c + i) v) (i + 1)
-filling-more {slots} {c} {words} {slots′} {i} v p h l e = record {
-  long = length-set slots′ (1 + 16 * c + i) v ∙ p .long;
+pub clearing-more : {slots : List ℤ} {c : ℕ} {slots′ : List ℤ} {i : ℕ} → Clearing slots c slots′ i →
+    i < 16 → 16 * c + 16 < length slots → Clearing slots c (set slots′ (1 + 16 * c + i) (pos 0)) (i + 1)
+clearing-more {slots} {c} {slots′} {i} p h l = record {
+  long = length-set slots′ (1 + 16 * c + i) (pos 0) ∙ p .long;
   inside = λ k b. go k b (ℕ-discrete k i);
-  outside = λ d k b f. getD-set-other slots′ (1 + 16 * c + i) (1 + 16 * d + k) v (pos 0) (λ q. f (omega arith))
+  outside = λ d k b f. getD-set-other slots′ (1 + 16 * c + i) (1 + 16 * d + k) (pos 0) (pos 0) (λ q. f (omega arith))
       ∙ p .outside d k b f;
-  totals = getD-set-other slots′ (1 + 16 * c + i) 0 v (pos 0) (λ q. omega arith) ∙ p .totals;
+  totals = getD-set-other slots′ (1 + 16 * c + i) 0 (pos 0) (pos 0) (λ q. omega arith) ∙ p .totals;
 }
   where
     go : (k : ℕ) → k < i + 1 → Dec (k ≡ i) →
-        getD (set slots′ (1 + 16 * c + i) v) (1 + 16 * c + k) (pos 0) ≡ getD words k (pos 0)
-    go k b (yes q) = rw q (getD-set-same slots′ (1 + 16 * c + i) v (pos 0) (omega (arith, p .long)) ∙ e)
-    go k b (no q) = getD-set-other slots′ (1 + 16 * c + i) (1 + 16 * c + k) v (pos 0) (λ x. q (omega arith))
+        getD (set slots′ (1 + 16 * c + i) (pos 0)) (1 + 16 * c + k) (pos 0) ≡ pos 0
+    go k b (yes q) = rw q (getD-set-same slots′ (1 + 16 * c + i) (pos 0) (pos 0) (omega (arith, p .long)))
+    go k b (no q) = getD-set-other slots′ (1 + 16 * c + i) (1 + 16 * c + k) (pos 0) (pos 0) (λ x. q (omega arith))
         ∙ p .inside k (omega (arith, q))
 
-pub filling-all : {slots : List ℤ} {c : ℕ} {words slots′ : List ℤ} {i : ℕ} → Filling slots c words slots′ i → 16 ≤ i →
-    Filled slots c words slots′
-filling-all p h = record { inside = λ k b. p .inside k (omega arith); outside = p .outside; totals = p .totals }
+pub clearing-all : {slots : List ℤ} {c : ℕ} {slots′ : List ℤ} {i : ℕ} → Clearing slots c slots′ i → 16 ≤ i →
+    Cleared slots c slots′
+clearing-all p h = record { inside = λ k b. p .inside k (omega arith); outside = p .outside; totals = p .totals }
 
--- what was filled is there, and the other cells' slots are as they were
-pub filled-slots : {slots : List ℤ} {c : ℕ} {words slots′ : List ℤ} → Filled slots c words slots′ →
-    slots-at slots′ c ≡ padded words
+-- what was cleared is zeros, and the other cells' slots are as they were
+pub cleared-slots : {slots : List ℤ} {c : ℕ} {slots′ : List ℤ} → Cleared slots c slots′ →
+    slots-at slots′ c ≡ padded []
 unfolding slots-at padded
-filled-slots p = tabulate-same 16 _ _ (λ k b. p .inside k b)
+cleared-slots p = tabulate-same 16 _ _ (λ k b. p .inside k b)
 
-pub filled-others : {slots : List ℤ} {c : ℕ} {words slots′ : List ℤ} → Filled slots c words slots′ →
+pub cleared-others : {slots : List ℤ} {c : ℕ} {slots′ : List ℤ} → Cleared slots c slots′ →
     (d : ℕ) → d ≢ c → slots-at slots′ d ≡ slots-at slots d
 unfolding slots-at
-filled-others p d f = tabulate-same 16 _ _ (λ k b. p .outside d k b f)
+cleared-others p d f = tabulate-same 16 _ _ (λ k b. p .outside d k b f)
 
 -- i of the slots of cell c are read into r
 pub record Reading (slots : List ℤ) (c : ℕ) (r : List ℤ) (i : ℕ) : Type 0 where

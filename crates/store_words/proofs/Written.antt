@@ -1,20 +1,19 @@
--- A whole cell written, its head and its slots, with another first free cell.
-use mathlib.Core.Path.{_≡_, ap, _∙_}
+-- A whole cell written, its head with its slots cleared, with another first free cell.
+use mathlib.Core.Path.{_≡_, _∙_}
 use mathlib.Core.Logic.{_≢_}
 use mathlib.Core.List.{List, []}
 use Prim.Native.Nat.{ℕ, _+_, _*_, _<_}
 use native.Mathlib.Omega.{arith}
 use lib.IntN.{ℤ, pos}
-use lib.ListN.{length, getD, set, length-set, replicate, getD-replicate}
+use lib.ListN.{length, getD, set, length-set}
 use lib.Seq.{getD-set-same, getD-set-other}
 use Rattle.semantics.specs.Store.{clear, padded, with-cell, with-first}
 use Rattle.semantics.specs.Words.{cells-in, cell-at, store-of}
 use Rattle.store_laws.specs.CellLaws.{same-cell}
-use Rattle.store_words.specs.Parts.{Filled, with-head}
-use Rattle.store_words.proofs.Tables.{tabulate-same}
+use Rattle.store_words.specs.Parts.{Cleared, with-head}
 use Rattle.store_words.proofs.CellWords.{in-cells}
 use Rattle.store_words.proofs.Puts.{Put, put-store}
-use Rattle.store_words.proofs.SlotLoops.{filled-slots, filled-others}
+use Rattle.store_words.proofs.SlotLoops.{cleared-slots, cleared-others}
 
 -- ---- the four numbers of a head
 
@@ -58,16 +57,16 @@ module _ (heads : List ℕ) (c count size depth next : ℕ) where
 
 -- ---- head, slots and the first free cell
 
-pub record Written (slots : List ℤ) (heads : List ℕ) (c first count size depth next : ℕ) (words slots′ : List ℤ)
+pub record Written (slots : List ℤ) (heads : List ℕ) (c first count size depth next : ℕ) (slots′ : List ℤ)
     (heads′ : List ℕ) : Type 0 where
   pub long : length slots′ ≡ length slots
-  pub slots-filled : Filled slots c words slots′
+  pub slots-cleared : Cleared slots c slots′
   pub heads-written : heads′ ≡ with-head (set heads 0 first) c count size depth next
 
-module _ {slots : List ℤ} {heads : List ℕ} {c first count size depth next : ℕ} {words slots′ : List ℤ} {heads′ : List ℕ}
-    (w : Written slots heads c first count size depth next words slots′ heads′) (h : c < cells-in slots heads) where
+module _ {slots : List ℤ} {heads : List ℕ} {c first count size depth next : ℕ} {slots′ : List ℤ} {heads′ : List ℕ}
+    (w : Written slots heads c first count size depth next slots′ heads′) (h : c < cells-in slots heads) where
   written-put : Put slots heads c
-      (record { count = count; size = size; depth = depth; next = next; slots = padded words }) first slots′ heads′
+      (record { count = count; size = size; depth = depth; next = next; slots = padded [] }) first slots′ heads′
   unfolding cell-at
   written-put = rw (w .heads-written) (record {
     kept = record {
@@ -77,7 +76,7 @@ module _ {slots : List ℤ} {heads : List ℕ} {c first count size depth next : 
     };
     here = same-cell _ _ (head-count hs c count size depth next there) (head-size hs c count size depth next there)
         (head-depth hs c count size depth next there) (head-next hs c count size depth next there)
-        (filled-slots (w .slots-filled));
+        (cleared-slots (w .slots-cleared));
     other = λ d f. same-cell _ _
         (off (1 + 4 * d) (λ q. f (omega arith)) (λ q. omega arith) (λ q. omega arith) (λ q. omega arith)
         (λ q. omega arith))
@@ -87,8 +86,8 @@ module _ {slots : List ℤ} {heads : List ℕ} {c first count size depth next : 
         (λ q. omega arith))
         (off (4 + 4 * d) (λ q. omega arith) (λ q. omega arith) (λ q. omega arith) (λ q. f (omega arith))
         (λ q. omega arith))
-        (filled-others (w .slots-filled) d f);
-    totals = w .slots-filled .totals;
+        (cleared-others (w .slots-cleared) d f);
+    totals = w .slots-cleared .totals;
     head = head-off hs c count size depth next 0 (λ q. omega arith) (λ q. omega arith) (λ q. omega arith)
         (λ q. omega arith)
         ∙ getD-set-same heads 0 first 0 (omega (arith, in-cells slots heads c h));
@@ -107,20 +106,13 @@ module _ {slots : List ℤ} {heads : List ℕ} {c first count size depth next : 
 
   pub written-store : store-of slots′ heads′
       ≡ with-first (with-cell (store-of slots heads) c
-      (record { count = count; size = size; depth = depth; next = next; slots = padded words })) first
+      (record { count = count; size = size; depth = depth; next = next; slots = padded [] })) first
   written-store = put-store written-put h
 
 -- ---- a cell cleared
 
--- sixteen zeros are what no words are padded to
-pub zero-padded : padded (replicate 16 (pos 0)) ≡ padded []
-unfolding padded
-zero-padded = tabulate-same 16 _ _ (λ k b. getD-replicate 16 k (pos 0) (pos 0) b)
-
 pub cleared-store : {slots : List ℤ} {heads : List ℕ} {c first next : ℕ} {slots′ : List ℤ} {heads′ : List ℕ} →
-    Written slots heads c first 0 0 0 next (replicate 16 (pos 0)) slots′ heads′ → c < cells-in slots heads →
+    Written slots heads c first 0 0 0 next slots′ heads′ → c < cells-in slots heads →
     store-of slots′ heads′ ≡ with-first (with-cell (store-of slots heads) c (clear next)) first
 unfolding clear
-cleared-store {slots} {heads} {c} {first} {next} w h = written-store w h
-    ∙ ap (λ (l : List ℤ). with-first (with-cell (store-of slots heads) c
-    (record { count = 0; size = 0; depth = 0; next = next; slots = l })) first) zero-padded
+cleared-store w h = written-store w h

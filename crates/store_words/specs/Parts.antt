@@ -3,6 +3,7 @@ use Prim.Native.Nat.{ℕ, _+_, _-_, _*_, _<_, _≤_}
 use mathlib.Core.Path.{_≡_}
 use mathlib.Core.Logic.{_≢_}
 use mathlib.Core.List.{List}
+use mathlib.Core.Bool.{Bool, true, false}
 use lib.IntN.{ℤ, pos}
 use lib.ListN.{length, getD, set}
 use Rattle.semantics.specs.Words.{cells-in}
@@ -14,9 +15,15 @@ pub record Holds (slots : List ℤ) (heads : List ℕ) (n : ℕ) : Type 0 where
   pub in-slots : 16 * n ≤ length slots - 1
   pub most : n ≤ 256
 
--- the sixteen slots of cell c have these words, then zeros; every other word is as before
-pub record Filled (slots : List ℤ) (c : ℕ) (words slots′ : List ℤ) : Type 0 where
-  pub inside : (k : ℕ) → k < 16 → getD slots′ (1 + 16 * c + k) (pos 0) ≡ getD words k (pos 0)
+-- the answer says whether cell c is there
+pub record Stands (slots : List ℤ) (heads : List ℕ) (c : ℕ) (r : Bool) : Type 0 where
+  pub there : r ≡ true → (c < cells-in slots heads) × (c < 256) × (4 * c + 4 < length heads)
+      × (16 * c + 16 < length slots)
+  pub gone : r ≡ false → cells-in slots heads ≤ c
+
+-- the sixteen slots of cell c are zeros; every other word is as before
+pub record Cleared (slots : List ℤ) (c : ℕ) (slots′ : List ℤ) : Type 0 where
+  pub inside : (k : ℕ) → k < 16 → getD slots′ (1 + 16 * c + k) (pos 0) ≡ pos 0
   pub outside : (d k : ℕ) → k < 16 → d ≢ c → getD slots′ (1 + 16 * d + k) (pos 0) ≡ getD slots (1 + 16 * d + k) (pos 0)
   pub totals : getD slots′ 0 (pos 0) ≡ getD slots 0 (pos 0)
 

@@ -7,7 +7,7 @@ ghost use lib.IntN.{pos};
 ghost use lib.ListN.{length, set, getD};
 ghost use Rattle.semantics.specs.Store.{cell, cell-of, elements, one-if-used, cells-taken};
 ghost use Rattle.semantics.specs.Words.{store-of, shaped};
-ghost use Rattle.store_words.specs.Parts.{Filled, Holds, with-head};
+ghost use Rattle.store_words.specs.Parts.{Cleared, Holds, Stands, with-head};
 
 // The smaller of two numbers.
 pub fn at_most(a: usize, b: usize) -> usize
@@ -29,6 +29,22 @@ pub fn cells(slots: &[i64], heads: &[u32]) -> usize
     let in_heads = (heads.len() - 1) / 4;
     let in_slots = (slots.len() - 1) / 16;
     at_most(256, at_most(in_heads, in_slots))
+}
+
+// Whether a cell is there.
+pub fn is_cell(slots: &[i64], heads: &[u32], c: usize) -> bool
+    ensures { λ r. ⌜ Stands (now (slots .entry)) (now (heads .entry)) c r ⌝ }
+{
+    if 256 <= c {
+        return false;
+    }
+    if slots.len() <= 16 * c + 16 {
+        return false;
+    }
+    if heads.len() <= 4 * c + 4 {
+        return false;
+    }
+    true
 }
 
 // Whether the lengths fit one number of cells, from 1 to 256.
@@ -63,7 +79,7 @@ pub fn word_at(words: &[i64], i: usize) -> i64
 pub fn read_length(slots: &[i64], heads: &[u32], c: usize) -> usize
     ensures { λ r. ⌜ r ≡ length (elements (cell (store-of (now (slots .entry)) (now (heads .entry))) c)) ⌝ }
 {
-    if cells(slots, heads) <= c {
+    if !is_cell(slots, heads, c) {
         return 0;
     }
     at_most(heads[2 + 4 * c] as usize, 16)
@@ -73,7 +89,7 @@ pub fn read_length(slots: &[i64], heads: &[u32], c: usize) -> usize
 pub fn read_slot(slots: &[i64], heads: &[u32], c: usize, i: usize) -> i64
     ensures { λ r. ⌜ r ≡ getD (elements (cell (store-of (now (slots .entry)) (now (heads .entry))) c)) i (pos 0) ⌝ }
 {
-    if cells(slots, heads) <= c {
+    if !is_cell(slots, heads, c) {
         return 0;
     }
     if at_most(heads[2 + 4 * c] as usize, 16) <= i {
@@ -86,7 +102,7 @@ pub fn read_slot(slots: &[i64], heads: &[u32], c: usize, i: usize) -> i64
 pub fn read_depth(slots: &[i64], heads: &[u32], c: usize) -> u32
     ensures { λ r. ⌜ r ≡ cell (store-of (now (slots .entry)) (now (heads .entry))) c .depth ⌝ }
 {
-    if cells(slots, heads) <= c {
+    if !is_cell(slots, heads, c) {
         return 0;
     }
     heads[3 + 4 * c]
@@ -122,14 +138,14 @@ pub fn set_totals(slots: &mut [i64], w: i64)
     }
 }
 
-// Writes the sixteen slots of a cell that is there: the words given, then zeros. (For the store's own crates.)
-pub fn fill_slots(slots: &mut [i64], c: usize, words: &[i64])
+// Clears the sixteen slots of a cell that is there. (For the store's own crates.)
+pub fn clear_slots(slots: &mut [i64], c: usize)
     requires { ⌜ (c < 256) × (16 * c + 16 < length (now slots)) ⌝ }
-    ensures { λ _. ⌜ Filled (now (slots .entry)) c (now (words .entry)) (now (slots .exit)) ⌝ }
+    ensures { λ _. ⌜ Cleared (now (slots .entry)) c (now (slots .exit)) ⌝ }
 {
     let mut i: usize = 0;
     while i < 16 {
-        slots[1 + 16 * c + i] = word_at(words, i);
+        slots[1 + 16 * c + i] = 0;
         i = i + 1;
     }
 }

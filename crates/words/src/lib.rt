@@ -1,7 +1,7 @@
 // Numbers: exact sums and differences, numbers in bytes, and the packed answer of a call.
 ghost use mathlib.Core.Path.{_≡_};
-ghost use Prim.Native.Nat.{_+_, _*_, _^_, _<_, _≤_, _/_, _%_};
-ghost use lib.ListN.{length};
+ghost use Prim.Native.Nat.{_+_, _*_, _^_, _<_, _≤_, _%_};
+ghost use lib.ListN.{length, getD};
 ghost use Rattle.semantics.specs.Number.{exact, sum, difference, less, bytes-at, signed};
 ghost use Rattle.semantics.specs.Calls.{packed};
 ghost use Rattle.words.specs.Words.{checked, Unpacked};
@@ -68,14 +68,25 @@ pub fn wide(byte: u8) -> u64
     byte as u64
 }
 
+// So many bytes at i, low byte first; past the end they are 0.
+fn bytes_from(bytes: &[u8], i: usize, count: u64) -> u64
+    requires { ⌜ count ≤ 8 ⌝ }
+    ensures { λ r. ⌜ (r ≡ bytes-at count (now (bytes .entry)) i) × (r < 256 ^ count) ⌝ }
+{
+    if count == 0 {
+        return 0;
+    }
+    if bytes.len() <= i {
+        return 0;
+    }
+    wide(bytes[i]) + 256 * bytes_from(bytes, i + 1, count - 1)
+}
+
 // Two bytes at i, low byte first.
 pub fn short_at(bytes: &[u8], i: usize) -> usize
-    requires { ⌜ i + 2 ≤ length (now bytes) ⌝ }
     ensures { λ r. ⌜ (r ≡ bytes-at 2 (now (bytes .entry)) i) × (r < 65536) ⌝ }
 {
-    let low = wide(bytes[i]);
-    let high = wide(bytes[i + 1]);
-    (low + 256 * high) as usize
+    bytes_from(bytes, i, 2) as usize
 }
 
 // Four bytes at i, low byte first.
@@ -90,14 +101,26 @@ fn half_at(bytes: &[u8], i: usize) -> u64
     a + 256 * b + 65536 * c + 16777216 * d
 }
 
-// Eight bytes at i, low byte first.
-pub fn word_at(bytes: &[u8], i: usize) -> u64
+// Eight bytes at i, low byte first, where all are there.
+fn whole_at(bytes: &[u8], i: usize) -> u64
     requires { ⌜ i + 8 ≤ length (now bytes) ⌝ }
     ensures { λ r. ⌜ r ≡ bytes-at 8 (now (bytes .entry)) i ⌝ }
 {
     let low = half_at(bytes, i);
     let high = half_at(bytes, i + 4);
     low + 4294967296 * high
+}
+
+// Eight bytes at i, low byte first.
+pub fn word_at(bytes: &[u8], i: usize) -> u64
+    ensures { λ r. ⌜ r ≡ bytes-at 8 (now (bytes .entry)) i ⌝ }
+{
+    if i < bytes.len() {
+        if 8 <= bytes.len() - i {
+            return whole_at(bytes, i);
+        }
+    }
+    bytes_from(bytes, i, 8)
 }
 
 // The signed number whose bits are v.
@@ -113,7 +136,6 @@ fn signed_of(v: u64) -> i64
 
 // Eight bytes at i as a signed number, low byte first.
 pub fn signed_at(bytes: &[u8], i: usize) -> i64
-    requires { ⌜ i + 8 ≤ length (now bytes) ⌝ }
     ensures { λ r. ⌜ r ≡ signed (bytes-at 8 (now (bytes .entry)) i) ⌝ }
 {
     signed_of(word_at(bytes, i))
@@ -127,12 +149,14 @@ pub struct Answer {
     pub cells: u64,
 }
 
-// An answer as one number.
+// An answer as one number. A part that is too great for its place loses its upper bits.
 pub fn pack(number: u64, node: u64, count: u64, cells: u64) -> u64
-    requires { ⌜ (number < 2 ^ 8) × (node < 2 ^ 16) × (count < 2 ^ 24) × (cells < 2 ^ 16) ⌝ }
-    ensures { λ r. ⌜ r ≡ packed number node count cells ⌝ }
+    ensures { λ r. ⌜ r ≡ packed (number % 2 ^ 8) (node % 2 ^ 16) (count % 2 ^ 24) (cells % 2 ^ 16) ⌝ }
 {
-    number + 256 * node + 16777216 * count + 281474976710656 * cells
+    number % 256
+        + 256 * (node % 65536)
+        + 16777216 * (count % 16777216)
+        + 281474976710656 * (cells % 65536)
 }
 
 // The parts of an answer that is one number.

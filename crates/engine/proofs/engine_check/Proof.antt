@@ -2,7 +2,8 @@
 use native.Mathlib.Omega.{arith}
 use lib.IntN.{pos}
 use lib.ListN.{length}
-use mathlib.Core.Path.{_≡_, sym, subst}
+use mathlib.Core.Path.{_≡_, sym, subst, _∙_}
+use Rattle.words.proofs.Packing.{packed-small}
 use Rattle.engine_load.specs.Loading.{Loads}
 use Rattle.semantics.specs.Calls.{packed, engine-check}
 use Rattle.engine_store.specs.Left.{left, checked-left, FewCells}
@@ -36,9 +37,7 @@ enum-known-n c = search needs
 
 -- src/lib.rt:61:33
 pack-requires : tie.Need-pack-requires
-pack-requires c κs =
-    let part = c .before .before .before .check-words in
-    (omega arith, omega arith, omega arith, omega (arith, subst FewCells (c .before .n .given .1) (part .ensures .1)))
+pack-requires c κs = search needs
 
 -- src/lib.rt:63:32
 enum-told : tie.Need-enum-told
@@ -71,8 +70,11 @@ returns c =
     let part = c .before .before .before .before .check-words in
     let e = subst (λ r. left r (a .slots .now) (a .heads .now) ≡ checked-left (c .before .before .before .before .before .before .depth .given .0 .1 .0) (a .slots .now) (a .heads .now))
     (c .before .before .n .given .1) (part .ensures .0) in
+    let few = subst FewCells (c .before .before .n .given .1) (part .ensures .1) in
+    let small = packed-small {number = 0} {node = 0} {count = 0} {cells = c .before .before .n .given .0 .0}
+    (omega arith) (omega arith) (omega arith) (omega (arith, few)) in
     subst (λ x. Replies (a .file .now) (λ node. engine-check node (a .file .now) (a .kinds .now) (a .operands .now) (a .slots .now) (a .heads .now)) x
-    (loaded .last .1 .0) (loaded .last .1 .1 .0) (a .slots .now) (a .heads .now)) (sym (c .pack .ensures))
+    (loaded .last .1 .0) (loaded .last .1 .1 .0) (a .slots .now) (a .heads .now)) (sym (c .pack .ensures ∙ small))
     (replies-cells (check-serves (a .kinds .now) (a .operands .now) (a .slots .now) (a .heads .now)) h e)
 
 -- src/lib.rt:46:1

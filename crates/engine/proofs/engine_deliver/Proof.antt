@@ -3,8 +3,9 @@ use native.Mathlib.Omega.{arith}
 use Prim.Native.Nat.{_≤_}
 use lib.IntN.{pos}
 use lib.ListN.{length, replicate}
-use mathlib.Core.Path.{_≡_, sym, subst}
+use mathlib.Core.Path.{_≡_, sym, subst, _∙_}
 use Rattle.semantics.specs.Calls.{packed, deliver-for, engine-deliver}
+use Rattle.words.proofs.Packing.{packed-small}
 use Rattle.engine_load.specs.Loading.{LoadsWith}
 use Rattle.engine_delivery.specs.Ends.{Delivers, Small}
 use Rattle.engine.specs.Promises.{Replies}
@@ -42,10 +43,7 @@ cast-pack : tie.Need-cast-pack
 cast-pack c = search needs
 
 pack-requires : tie.Need-pack-requires
-pack-requires c κs =
-    let part = c .before .before .before .before .before .before .deliver-words in
-    let small = subst Small (c .before .number .given .1) (part .ensures .1) in
-    (omega (arith, c .known-told2 .given .0 .1), omega arith, omega (arith, small .0), omega (arith, small .1))
+pack-requires c κs = search needs
 
 enum-known-number-2 : tie.Need-enum-known-number-2
 enum-known-number-2 c = search needs
@@ -81,9 +79,13 @@ returns c =
     let e = subst (λ r. Delivers (loaded .last .1 .0) (loaded .last .1 .1 .0) (loaded .last .1 .1 .1 .0) (a .slots .now)
     (a .heads .now) (a .readings .now) (c .before .before .before .before .before .before .before .before .before .before .before .before .before .before .depth .given .0 .1 .0) (a .budget) r (part .last .1 .1 .1 .0)
     (part .last .1 .1 .1 .1 .0)) (c .before .before .number .given .1) (part .ensures .0) in
+    let parts = c .before .before .number .given .0 in
+    let few = subst Small (c .before .before .number .given .1) (part .ensures .1) in
+    let small = packed-small {number = parts .0} {node = 0} {count = parts .1 .0} {cells = parts .1 .1 .0}
+    (omega (arith, c .before .known-told2 .given .0 .1)) (omega arith) (omega (arith, few .0)) (omega (arith, few .1)) in
     subst (λ x. Replies (a .file .now) (λ node. engine-deliver node (a .file .now) (a .kinds .now) (a .operands .now)
     (a .slots .now) (a .heads .now) (a .readings .now) (a .budget)) x (loaded .last .1 .0) (loaded .last .1 .1 .0)
-    (part .last .1 .1 .1 .0) (part .last .1 .1 .1 .1 .0)) (sym (c .pack .ensures)) (replies-stopped {table = replicate 8256 0} (a .slots .now) (a .heads .now)
+    (part .last .1 .1 .1 .0) (part .last .1 .1 .1 .1 .0)) (sym (c .pack .ensures ∙ small)) (replies-stopped {table = replicate 8256 0} (a .slots .now) (a .heads .now)
     (a .readings .now) (a .budget) h (omega arith) e)
 
 same-length-5 : tie.Need-same-length-5

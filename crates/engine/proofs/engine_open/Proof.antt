@@ -2,7 +2,8 @@
 use native.Mathlib.Omega.{arith}
 use lib.IntN.{pos}
 use lib.ListN.{length}
-use mathlib.Core.Path.{_≡_, sym, subst}
+use mathlib.Core.Path.{_≡_, sym, subst, _∙_}
+use Rattle.words.proofs.Packing.{packed-small}
 use Rattle.engine_load.specs.Loading.{Loads}
 use Rattle.semantics.specs.Calls.{packed, engine-open}
 use Rattle.engine_store.specs.Left.{left, opened-left, FewCells}
@@ -36,9 +37,7 @@ enum-known-n c = search needs
 
 -- src/lib.rt:35:33
 pack-requires : tie.Need-pack-requires
-pack-requires c κs =
-    let part = c .before .before .before .before .before .before .open-words in
-    (omega arith, omega arith, omega arith, omega (arith, subst FewCells (c .before .n .given .1) (part .ensures .1)))
+pack-requires c κs = search needs
 
 -- src/lib.rt:37:32
 enum-told : tie.Need-enum-told
@@ -79,8 +78,11 @@ returns c =
     let part = c .before .before .before .before .before .before .before .open-words in
     let e = subst (λ r. left r (c .before .before .before .before .before .before .before .open-words .last .0) (c .before .before .before .before .before .before .before .open-words .last .1 .0) ≡ opened-left (c .before .before .before .before .before .before .before .before .before .before .before .depth .given .0 .1 .0) (a .slots .now) (a .heads .now))
     (c .before .before .n .given .1) (part .ensures .0) in
+    let few = subst FewCells (c .before .before .n .given .1) (part .ensures .1) in
+    let small = packed-small {number = 0} {node = 0} {count = 0} {cells = c .before .before .n .given .0 .0}
+    (omega arith) (omega arith) (omega arith) (omega (arith, few)) in
     subst (λ x. Replies (a .file .now) (λ node. engine-open node (a .file .now) (a .kinds .now) (a .operands .now) (a .slots .now) (a .heads .now)) x
-    (loaded .last .1 .0) (loaded .last .1 .1 .0) (c .before .before .before .before .before .before .before .open-words .last .0) (c .before .before .before .before .before .before .before .open-words .last .1 .0)) (sym (c .pack .ensures))
+    (loaded .last .1 .0) (loaded .last .1 .1 .0) (c .before .before .before .before .before .before .before .open-words .last .0) (c .before .before .before .before .before .before .before .open-words .last .1 .0)) (sym (c .pack .ensures ∙ small))
     (replies-cells (open-serves (a .kinds .now) (a .operands .now) (a .slots .now) (a .heads .now)) h e)
 
 -- src/lib.rt:20:1

@@ -1,6 +1,7 @@
 -- `engine::engine_translate` meets its contract.
 use native.Mathlib.Omega.{arith}
-use mathlib.Core.Path.{sym, subst}
+use mathlib.Core.Path.{sym, subst, _∙_}
+use Rattle.words.proofs.Packing.{packed-small}
 use Rattle.engine_load.specs.Loading.{Loads}
 use Rattle.engine.specs.Promises.{Translates}
 use Rattle.engine.proofs.Laws.{translates, translates-not, few-lines}
@@ -22,12 +23,7 @@ enum-known-lines c = search needs
 
 -- src/lib.rt:14:36
 pack-requires : tie.Need-pack-requires
-pack-requires c κs =
-    let a = c .before .before .before .before .before .before .before .before .before .before .before .args in
-    let loaded = c .before .before .before .before .before .before .load in
-    let h = subst (λ r. Loads (a .file .now) (a .kinds .now) (a .operands .now) r (loaded .last .1 .0) (loaded .last .1 .1 .0))
-    (c .before .lines .given .1) (loaded .ensures) in
-    (omega arith, omega arith, omega (arith, few-lines h), omega arith)
+pack-requires c κs = search needs
 
 -- src/lib.rt:15:25
 enum-known-answer : tie.Need-enum-known-answer
@@ -48,8 +44,10 @@ returns c =
     let loaded = c .before .before .before .before .before .before .before .load in
     let h = subst (λ r. Loads (a .file .now) (a .kinds .now) (a .operands .now) r (loaded .last .1 .0) (loaded .last .1 .1 .0))
     (c .before .before .lines .given .1) (loaded .ensures) in
+    let small = packed-small {number = 0} {node = 0} {count = c .before .before .lines .given .0 .0} {cells = 0}
+    (omega arith) (omega arith) (omega (arith, few-lines h)) (omega arith) in
     subst (λ x. Translates (a .file .now) (a .kinds .now) (a .operands .now) x (loaded .last .1 .0) (loaded .last .1 .1 .0))
-    (sym (c .pack .ensures)) (translates h)
+    (sym (c .pack .ensures ∙ small)) (translates h)
 
 -- src/lib.rt:8:1
 same-length-3 : tie.Need-same-length-3

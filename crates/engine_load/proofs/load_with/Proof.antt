@@ -4,6 +4,7 @@ use mathlib.Core.Path.{subst, sym, _∙_}
 use borrow.Author.Needs.{needs}
 use Rattle.script.specs.declared.Verdict.the-variants.{Accepted, Refused}
 use Rattle.script.specs.Verdicts.{Judges}
+use Rattle.words.proofs.Packing.{packed-small}
 use Rattle.engine_load.specs.Loading.{LoadsWith}
 use Rattle.engine_load.proofs.Laws.{ready, accepted-file, file-taken, translatable, node-fits}
 use Rattle.engine_load.proofs.Tables.{filled, loads-with-laid, loads-with-refusal}
@@ -60,8 +61,7 @@ part-file-operands-end : tie.Need-part-file-operands-end
 part-file-operands-end c = search needs
 
 high-at-requires : tie.Need-high-at-requires
-high-at-requires c κs =
-    (file-taken (accepted-file _ _ _ (verdict (c .before .before))) .readable .parts, omega arith)
+high-at-requires c κs = search needs
 
 translate-accepted-requires : tie.Need-translate-accepted-requires
 translate-accepted-requires c κs = translatable (accepted-file _ _ _ (verdict (c .before .before .before .before .before .before)))
@@ -89,9 +89,7 @@ cast-pack : tie.Need-cast-pack
 cast-pack c = search needs
 
 pack-requires : tie.Need-pack-requires
-pack-requires c κs =
-    let told = c .before .before .before .before .before .before .known-told3 in
-    (omega (arith, told .given .0 .1), omega (arith, node-fits (refusal (c .before .before .before .before .before .before))), omega arith, omega arith)
+pack-requires c κs = search needs
 
 same-length : tie.Need-same-length
 same-length c = search needs
@@ -147,8 +145,13 @@ same-length-8 c = search needs
 
 returns-3 : tie.Need-returns-3
 returns-3 c =
+    let told = c .before .before .before .before .before .before .before .known-told3 in
+    let parts = c .before .before .before .before .before .before .before .before .number .given .0 in
     let cleared = c .before .before .before .before .refuse in
-    loads-with-refusal (refusal (c .before .before .before .before .before .before .before)) (c .pack .ensures) (cleared .ensures .1 .0) (cleared .ensures .1 .1)
+    let refused = refusal (c .before .before .before .before .before .before .before) in
+    let small = packed-small {number = parts .0} {node = parts .1 .0} {count = 0} {cells = 0}
+    (omega (arith, told .given .0 .1)) (omega (arith, node-fits refused)) (omega arith) (omega arith) in
+    loads-with-refusal refused (c .pack .ensures ∙ small) (cleared .ensures .1 .0) (cleared .ensures .1 .1)
 
 pub load-with-spec : {M : Type 1} → statement M
 load-with-spec =

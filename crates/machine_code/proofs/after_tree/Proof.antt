@@ -1,9 +1,10 @@
+-- `machine_code::after_tree` meets its contract.
 use lib.ListN.{getD}
 use native.Mathlib.Omega.{arith}
 use mathlib.Core.Path.{refl, sym, _∙_, ap}
 use mathlib.Core.Logic.{⊎-elim}
 use Rattle.machine_code.proofs.Reading.{Skipping, after-none, after-past, after-last, after-end, after-more}
-use Rattle.machine_code.proofs.Reading.{row-ends, row-passes, few-trees}
+use Rattle.machine_code.proofs.Reading.{row-ends, row-passes, row-stays, few-trees}
 use borrow.Author.Needs.{needs}
 use Rattle.machine_code.proofs.after_tree.Statement.{statement}
 use Rattle.machine_code.proofs.after_tree.Tie as tie
@@ -29,11 +30,11 @@ add-result : tie.Need-add-result Inv-loop μ-loop
 add-result c = search needs
 
 returns-2 : tie.Need-returns-2 Inv-loop μ-loop
-returns-2 c = sym (c .before .before .before .before .before .loop .inv .same ∙ sym (after-last (c .before .before
-    .before .before .before .loop .left) (c .before .before .before .before .before .loop .trees) (c .before .before
-    .before .before .before .loop .p) (c .before .before .before .before .before .before .before .args .kinds .now)
-    (c .before .before .before .before .loop-test .taken) (c .before .before .before .if1 .left) (c .before .if2
-    .taken) (c .if3 .taken)))
+returns-2 c =
+    let l = c .before .before .before .before .before .before .loop in
+    sym (l .inv .same ∙ sym (after-last (l .left) (l .trees) (l .p) (c .before .before .before .before .before .before
+    .before .before .args .kinds .now) (c .before .before .before .before .before .loop-test .taken)
+    (c .before .before .before .before .if1 .left) (c .before .if3 .taken) (c .if4 .taken)))
 
 sub-trees : tie.Need-sub-trees Inv-loop μ-loop
 sub-trees c = search needs
@@ -42,13 +43,15 @@ trees-of-requires : tie.Need-trees-of-requires Inv-loop μ-loop
 trees-of-requires c κs = search needs
 
 add-trees : tie.Need-add-trees Inv-loop μ-loop
-add-trees c = omega (
-  arith,
-  c .before .before .before .before .before .loop .inv .few,
-  c .trees-of .ensures,
-  few-trees (getD (c .before .before .before .before .before .before .before .args .kinds .now) (c .before .before
-      .before .before .before .loop .p) 0),
-)
+add-trees c =
+    let o = c .before .before .before .before .before .before .loop in
+    omega (
+      arith,
+      o .inv .few,
+      c .trees-of .ensures,
+      few-trees (getD (c .before .before .before .before .before .before
+          .before .before .args .kinds .now) (o .p) 0),
+    )
 
 add-p : tie.Need-add-p Inv-loop μ-loop
 add-p c = search needs
@@ -60,12 +63,12 @@ loop-less : tie.Need-loop-less Inv-loop μ-loop
 loop-less c = search needs
 
 loop-again : tie.Need-loop-again Inv-loop μ-loop
-loop-again c = let i = c .before .before .before .before .loop .inv in ⊎-elim
-    (λ w. rw (w .2) (row-ends i (c .before .before .before .loop-test .taken) (c .before .before .if1 .left) (w .0
-    .taken) (omega (arith, w .1 .left))))
-    (λ w. rw (w .2) (row-passes i (c .before .before .before .loop-test .taken) (c .before .before .if1 .left) (w .1
-    .result) (w .0 .left) (w .1 .ensures)))
-    (c .if2 .came)
+loop-again c = let i = c .before .before .before .before .loop .inv in
+    let some = c .before .before .before .loop-test .taken in
+    let here = c .before .before .if1 .left in
+    ⊎-elim (λ w. rw (w .3) (row-ends i some here (w .1 .taken) (omega (arith, w .2 .left))))
+    (⊎-elim (λ w. rw (w .3) (row-passes i some here (w .2 .result) (w .1 .left) (w .2 .ensures)))
+    (λ w. rw (w .1) (row-stays i some here (omega (arith, w .0 .left))))) (c .if2 .came)
 
 returns-3 : tie.Need-returns-3 Inv-loop μ-loop
 returns-3 c = sym (c .before .loop .inv .same ∙ sym (after-none (c .before .loop .left) (c .before .loop .trees) (c

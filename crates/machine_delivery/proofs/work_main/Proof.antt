@@ -1,13 +1,15 @@
+-- `machine_delivery::work_main` meets its contract.
 use mir.Facts.{toZ-ofZ}
 use native.Mathlib.Omega.{arith}
-use mathlib.Core.Path.{sym, refl, ap, _∙_}
+use mathlib.Core.Path.{ap, _∙_}
 use Rattle.semantics.specs.Words.{store-of}
-use lib.IntN.{ℤ}
+use lib.IntN.{ℤ, pos}
 use mathlib.Core.List.{List}
-use lib.ListN.{length}
-use Rattle.semantics.specs.Store.{Store, with-totals}
+use lib.ListN.{replicate, length-replicate}
 use Rattle.store_words.proofs.Puts.{totals-store}
 use Rattle.machine_positions.specs.Machine.{code}
+use Rattle.machine_lines.specs.Frames.{place}
+use Rattle.machine_positions.specs.Lengths.{bound-long}
 use Rattle.machine_positions.specs.Delivery.{released-totals}
 use Rattle.machine_delivery.proofs.Laws.{main-stops, main-goes}
 use borrow.Author.Needs.{needs}
@@ -17,26 +19,34 @@ use Rattle.machine_delivery.proofs.work_main.Tie as tie
 retain-totals-requires : tie.Need-retain-totals-requires
 retain-totals-requires c κs = search needs
 
-slice-aggregate-bind : tie.Need-slice-aggregate-bind
-slice-aggregate-bind c = search needs
-
 bind-requires : tie.Need-bind-requires
 bind-requires c κs = search needs
 
-slice-aggregate-bind-2 : tie.Need-slice-aggregate-bind-2
-slice-aggregate-bind-2 c = search needs
-
 bind-requires-2 : tie.Need-bind-requires-2
-bind-requires-2 c κs = search needs
+bind-requires-2 c κs =
+    let a = c .before .before .before .before .before .before .before .before .before .before .before .args in (
+      omega arith,
+      bound-long (replicate 8192 (pos 0)) (place 31 0) (a .old) (rw (toZ-ofZ {z = a .old}
+          (c .before .before .before .before .before .before .before .before .before .before .before .fits .old)) at
+          (c .before .bind .ensures)) ∙ length-replicate 8192 (pos 0),
+    )
 
 start-in-requires : tie.Need-start-in-requires
 start-in-requires c κs = search needs
 
-slice-aggregate-work-tree : tie.Need-slice-aggregate-work-tree
-slice-aggregate-work-tree c = search needs
-
 work-tree-requires : tie.Need-work-tree-requires
-work-tree-requires c κs = search needs
+work-tree-requires c κs =
+    let a = c .before .before .before .before .before .before .before .before .before .before .before .before
+    .before .before .before .before .args in (
+      omega arith,
+      bound-long (c .before .before .before .before .before .before .bind .last .0) (place 31 1)
+          (a .readings) (rw (toZ-ofZ {z = a .readings} (c .before .before .before .before .before .before
+          .before .before .before .before .before .before .before .before .before .before .fits .readings)) at
+          (c .before .before .before .before .bind2 .ensures)) ∙ bound-long (replicate 8192 (pos 0)) (place 31 0) (a .old)
+          (rw (toZ-ofZ {z = a .old} (c .before .before .before .before .before .before
+          .before .before .before .before .before .before .before .before .before .before .fits .old)) at
+          (c .before .before .before .before .before .before .bind .ensures)) ∙ length-replicate 8192 (pos 0),
+    )
 
 same-length : tie.Need-same-length
 same-length c = search needs
@@ -45,49 +55,28 @@ same-length-2 : tie.Need-same-length-2
 same-length-2 c = search needs
 
 returns : tie.Need-returns
-returns c = λ k e. main-stops (code (c .before .before .before .before .before .before .before .before .before
-    .before .before .before .before .before .before .before .before .before .before .before .before .before .before
-    .before .args .kinds .now) (c .before .before .before .before .before .before .before .before .before .before
-    .before .before .before .before .before .before .before .before .before .before .before .before .before .before
-    .args .operands .now) (c .before .before .before .before .before .before .before .before .before .before .before
-    .before .before .before .before .before .before .before .before .before .before .before .before .before .args
-    .table .now)) (c .before .before .before .before .before .before .before .before .before .before .before .before
-    .before .before .before .before .before .before .before .before .before .before .before .before .args .depth) (c
-    .before .before .before .before .before .before .before .before .before .before .before .before .before .before
-    .before .before .before .before .before .before .before .before .before .before .args .old) k (c .before .before
-    .before .before .before .before .before .before .before .before .before .before .before .before .before .before
-    .before .before .before .before .before .before .before .before .args .budget) (c .before .before .before
-    .before .before .before .before .before .before .before .before .before .before .before .before .before .before
-    .before .before .before .before .before .before .before .args .slots .now) (c .before .before .before .before
-    .before .before .before .before .before .before .before .before .before .before .before .before .before .before
-    .before .before .before .before .before .before .args .heads .now) (c .before .before .before .before .before
-    .before .before .before .before .before .before .before .before .before .before .before .before .before
-    .retain-totals .last .1 .0) (rw (toZ-ofZ {z = c .before .before .before .before .before .before .before .before
-    .before .before .before .before .before .before .before .before .before .before .before .before .before .before
-    .before .before .args .old} (c .before .before .before .before .before .before .before .before .before .before
-    .before .before .before .before .before .before .before .before .before .before .before .before .before .before
-    .fits .old)) at (c .before .before .before .before .before .before .before .before .before .before .before
-    .before .before .before .before .before .before .before .retain-totals .ensures)) (c .before .before .before
-    .before .before .before .before .before .before .before .before .before .before .before .before .before .before
-    .before .before .before .before .before .before .before .args .readings) e (c .before .before .before .before
-    .before .before .before .before .before .before .before .before .before .before .bind .last .0) (c .before
-    .before .before .before .before .before .before .before .before .before .before .bind2 .last .0) (rw (toZ-ofZ {z
-    = c .before .before .before .before .before .before .before .before .before .before .before .before .before
-    .before .before .before .before .before .before .before .before .before .before .before .args .old} (c .before
-    .before .before .before .before .before .before .before .before .before .before .before .before .before .before
-    .before .before .before .before .before .before .before .before .before .fits .old)) at (c .before .before
-    .before .before .before .before .before .before .before .before .before .before .before .before .bind .ensures))
-    (rw (toZ-ofZ {z = c .before .before .before .before .before .before .before .before .before .before .before
-    .before .before .before .before .before .before .before .before .before .before .before .before .before .args
-    .readings} (c .before .before .before .before .before .before .before .before .before .before .before .before
-    .before .before .before .before .before .before .before .before .before .before .before .before .fits
-    .readings)) at (c .before .before .before .before .before .before .before .before .before .before .before .bind2
-    .ensures)) (c .before .before .before .before .before .before .before .before .before .start-in .result) (c
-    .before .before .before .before .before .before .before .before .before .start-in .ensures) (c .before .before
-    .before .before .before .work-tree .result) (c .before .before .before .before .before .work-tree .last .1 .1 .1
-    .0) (c .before .before .before .before .before .work-tree .last .1 .1 .1 .1 .0) (c .before .before .before
-    .before .before .work-tree .last .1 .1 .1 .1 .1 .0) (c .before .before .before .before .before .work-tree
-    .ensures) (c .if1 .taken)
+returns c = λ k e.
+    let a = c .before .before .before .before .before .before .before .before .before .before .before .before
+    .before .before .before .before .before .before .before .before .before .args in
+    let old = toZ-ofZ {z = a .old} (c .before .before .before .before .before .before
+    .before .before .before .before .before .before .before .before .before .before .before .before
+    .before .before .before .fits .old) in
+    let tree = c .before .before .before .before .work-tree in
+    main-stops (code (a .kinds .now) (a .operands .now) (a .table .now)) (a .depth) (a .old) k (a .budget)
+    (a .slots .now) (a .heads .now) (c .before .before .before .before .before .before
+    .before .before .before .before .before .before .before .before .before .retain-totals .last .1 .0) (rw old at
+    (c .before .before .before .before .before .before .before .before .before .before .before .before
+    .before .before .before .retain-totals .ensures)) (a .readings) e
+    (c .before .before .before .before .before .before .before .before .before .before .before .bind .last .0)
+    (c .before .before .before .before .before .before .before .before .before .bind2 .last .0) (rw old at
+    (c .before .before .before .before .before .before .before .before .before .before .before .bind .ensures)) (rw
+    (toZ-ofZ {z = a .readings} (c .before .before .before .before .before .before
+    .before .before .before .before .before .before .before .before .before .before .before .before
+    .before .before .before .fits .readings)) at (c .before .before .before .before .before .before
+    .before .before .before .bind2 .ensures)) (c .before .before .before .before .before .before
+    .before .before .start-in .result) (c .before .before .before .before .before .before
+    .before .before .start-in .ensures) (tree .result) (tree .last .1 .1 .1 .0) (tree .last .1 .1 .1 .1 .0)
+    (tree .last .1 .1 .1 .1 .1 .0) (tree .ensures) (c .if1 .taken)
 
 set-totals-requires : tie.Need-set-totals-requires
 set-totals-requires c κs = search needs
@@ -99,109 +88,61 @@ same-length-3 : tie.Need-same-length-3
 same-length-3 c = search needs
 
 same-length-4 : tie.Need-same-length-4
-same-length-4 c = c .before .before .before .release-totals .kept .1 .0 ∙ c .before .before .before .before .before
-    .before .before .before .before .before .before .before .before .before .before .work-tree .kept .1 .1 .1 .1 .0
-    ∙ c .before .before .before .before .before .before .before .before .before .before .before .before .before
-    .before .before .before .before .before .before .before .before .before .before .before .before .before .before
+same-length-4 c =
+    c .before .before .before .release-totals .kept .1 .0 ∙ c .before .before .before .before .before .before
+    .before .before .before .before .before .before .before .before .work-tree .kept .1 .1 .1 .1 .0 ∙
+    c .before .before .before .before .before .before .before .before .before .before .before .before
+    .before .before .before .before .before .before .before .before .before .before .before .before
     .before .retain-totals .kept .1 .0
 
 returns-2 : tie.Need-returns-2
-returns-2 c = λ k e. main-goes (code (c .before .before .before .before .before .before .before .before .before
-    .before .before .before .before .before .before .before .before .before .before .before .before .before .before
-    .before .before .before .before .before .before .before .before .before .before .before .args .kinds .now) (c
-    .before .before .before .before .before .before .before .before .before .before .before .before .before .before
-    .before .before .before .before .before .before .before .before .before .before .before .before .before .before
-    .before .before .before .before .before .before .args .operands .now) (c .before .before .before .before .before
-    .before .before .before .before .before .before .before .before .before .before .before .before .before .before
-    .before .before .before .before .before .before .before .before .before .before .before .before .before .before
-    .before .args .table .now)) (c .before .before .before .before .before .before .before .before .before .before
-    .before .before .before .before .before .before .before .before .before .before .before .before .before .before
-    .before .before .before .before .before .before .before .before .before .before .args .depth) (c .before .before
-    .before .before .before .before .before .before .before .before .before .before .before .before .before .before
-    .before .before .before .before .before .before .before .before .before .before .before .before .before .before
-    .before .before .before .before .args .old) k (c .before .before .before .before .before .before .before .before
-    .before .before .before .before .before .before .before .before .before .before .before .before .before .before
-    .before .before .before .before .before .before .before .before .before .before .before .before .args .budget)
-    (c .before .before .before .before .before .before .before .before .before .before .before .before .before
-    .before .before .before .before .before .before .before .before .before .before .before .before .before .before
-    .before .before .before .before .before .before .before .args .slots .now) (c .before .before .before .before
-    .before .before .before .before .before .before .before .before .before .before .before .before .before .before
-    .before .before .before .before .before .before .before .before .before .before .before .before .before .before
-    .before .before .args .heads .now) (c .before .before .before .before .before .before .before .before .before
-    .before .before .before .before .before .before .before .before .before .before .before .before .before .before
-    .before .before .before .before .before .retain-totals .last .1 .0) (rw (toZ-ofZ {z = c .before .before .before
-    .before .before .before .before .before .before .before .before .before .before .before .before .before .before
-    .before .before .before .before .before .before .before .before .before .before .before .before .before .before
-    .before .before .before .args .old} (c .before .before .before .before .before .before .before .before .before
-    .before .before .before .before .before .before .before .before .before .before .before .before .before .before
-    .before .before .before .before .before .before .before .before .before .before .before .fits .old)) at (c
-    .before .before .before .before .before .before .before .before .before .before .before .before .before .before
-    .before .before .before .before .before .before .before .before .before .before .before .before .before .before
-    .retain-totals .ensures)) (c .before .before .before .before .before .before .before .before .before .before
-    .before .before .before .before .before .before .before .before .before .before .before .before .before .before
-    .before .before .before .before .before .before .before .before .before .before .args .readings) e (c .before
-    .before .before .before .before .before .before .before .before .before .before .before .before .before .before
-    .before .before .before .before .before .before .before .before .before .bind .last .0) (c .before .before
-    .before .before .before .before .before .before .before .before .before .before .before .before .before .before
-    .before .before .before .before .before .bind2 .last .0) (rw (toZ-ofZ {z = c .before .before .before .before
-    .before .before .before .before .before .before .before .before .before .before .before .before .before .before
-    .before .before .before .before .before .before .before .before .before .before .before .before .before .before
-    .before .before .args .old} (c .before .before .before .before .before .before .before .before .before .before
-    .before .before .before .before .before .before .before .before .before .before .before .before .before .before
-    .before .before .before .before .before .before .before .before .before .before .fits .old)) at (c .before
-    .before .before .before .before .before .before .before .before .before .before .before .before .before .before
-    .before .before .before .before .before .before .before .before .before .bind .ensures)) (rw (toZ-ofZ {z = c
-    .before .before .before .before .before .before .before .before .before .before .before .before .before .before
-    .before .before .before .before .before .before .before .before .before .before .before .before .before .before
-    .before .before .before .before .before .before .args .readings} (c .before .before .before .before .before
-    .before .before .before .before .before .before .before .before .before .before .before .before .before .before
-    .before .before .before .before .before .before .before .before .before .before .before .before .before .before
-    .before .fits .readings)) at (c .before .before .before .before .before .before .before .before .before .before
-    .before .before .before .before .before .before .before .before .before .before .before .bind2 .ensures)) (c
-    .before .before .before .before .before .before .before .before .before .before .before .before .before .before
-    .before .before .before .before .before .start-in .result) (c .before .before .before .before .before .before
-    .before .before .before .before .before .before .before .before .before .before .before .before .before
-    .start-in .ensures) (c .before .before .before .before .before .before .before .before .before .before .before
-    .before .before .before .before .work-tree .result) (c .before .before .before .before .before .before .before
-    .before .before .before .before .before .before .before .before .work-tree .last .1 .1 .1 .0) (c .before .before
-    .before .before .before .before .before .before .before .before .before .before .before .before .before
-    .work-tree .last .1 .1 .1 .1 .0) (c .before .before .before .before .before .before .before .before .before
-    .before .before .before .before .before .before .work-tree .last .1 .1 .1 .1 .1 .0) (c .before .before .before
-    .before .before .before .before .before .before .before .before .before .before .before .before .work-tree
-    .ensures) (c .before .before .before .before .before .before .before .before .before .before .if1 .left) (c
-    .before .before .before .release-totals .last .0) (c .before .before .before .release-totals .last .1 .0) (rw
-    (toZ-ofZ {z = c .before .before .before .before .before .before .before .before .before .before .before .before
-    .before .before .before .before .before .before .before .before .before .before .before .before .before .before
-    .before .before .before .before .before .before .before .before .args .old} (c .before .before .before .before
-    .before .before .before .before .before .before .before .before .before .before .before .before .before .before
-    .before .before .before .before .before .before .before .before .before .before .before .before .before .before
-    .before .before .fits .old)) at (c .before .before .before .release-totals .ensures) ∙ ap (released-totals (c
-    .before .before .before .before .before .before .before .before .before .before .before .before .before .before
-    .before .before .before .before .before .before .before .before .before .before .before .before .before .before
-    .before .before .before .before .before .before .args .depth) (c .before .before .before .before .before .before
-    .before .before .before .before .before .before .before .before .before .before .before .before .before .before
-    .before .before .before .before .before .before .before .before .before .before .before .before .before .before
-    .args .old)) (ap (λ (l : List ℤ). store-of l (c .before .before .before .before .before .before .before .before
-    .before .before .before .before .before .before .before .work-tree .last .1 .1 .1 .1 .0)) (rw (toZ-ofZ {z = c
-    .before .before .before .before .before .before .before .before .before .before .before .before .before .before
-    .before .work-tree .result .value} (record {
-      sfits = c .before .before .before .before .before .before .before
-          .before .before .struct-told .given .1 .0 .1;
-    })) at (c .before .before .before .before .before .before .before
-    .set-totals .ensures)) ∙ totals-store (c .before .before .before .before .before .before .before .before .before
-    .before .before .before .before .before .before .work-tree .last .1 .1 .1 .0) (c .before .before .before .before
-    .before .before .before .before .before .before .before .before .before .before .before .work-tree .last .1 .1
-    .1 .1 .0) (c .before .before .before .before .before .before .before .before .before .before .before .before
-    .before .before .before .work-tree .result .value) (omega (
+returns-2 c = λ k e.
+    let a = c .before .before .before .before .before .before .before .before .before .before .before .before
+    .before .before .before .before .before .before .before .before .before .before .before .before
+    .before .before .before .before .before .before .before .args in
+    let old = toZ-ofZ {z = a .old} (c .before .before .before .before .before .before
+    .before .before .before .before .before .before .before .before .before .before .before .before
+    .before .before .before .before .before .before .before .before .before .before .before .before
+    .before .fits .old) in
+    let tree = c .before .before .before .before .before .before .before .before .before .before .before .before
+    .before .before .work-tree in
+    main-goes (code (a .kinds .now) (a .operands .now) (a .table .now)) (a .depth) (a .old) k (a .budget)
+    (a .slots .now) (a .heads .now) (c .before .before .before .before .before .before
+    .before .before .before .before .before .before .before .before .before .before .before .before
+    .before .before .before .before .before .before .before .retain-totals .last .1 .0) (rw old at
+    (c .before .before .before .before .before .before .before .before .before .before .before .before
+    .before .before .before .before .before .before .before .before .before .before .before .before
+    .before .retain-totals .ensures)) (a .readings) e (c .before .before .before .before .before .before
+    .before .before .before .before .before .before .before .before .before .before .before .before
+    .before .before .before .bind .last .0) (c .before .before .before .before .before .before
+    .before .before .before .before .before .before .before .before .before .before .before .before
+    .before .bind2 .last .0) (rw old at (c .before .before .before .before .before .before
+    .before .before .before .before .before .before .before .before .before .before .before .before
+    .before .before .before .bind .ensures)) (rw (toZ-ofZ {z = a .readings}
+    (c .before .before .before .before .before .before .before .before .before .before .before .before
+    .before .before .before .before .before .before .before .before .before .before .before .before
+    .before .before .before .before .before .before .before .fits .readings)) at
+    (c .before .before .before .before .before .before .before .before .before .before .before .before
+    .before .before .before .before .before .before .before .bind2 .ensures))
+    (c .before .before .before .before .before .before .before .before .before .before .before .before
+    .before .before .before .before .before .before .start-in .result)
+    (c .before .before .before .before .before .before .before .before .before .before .before .before
+    .before .before .before .before .before .before .start-in .ensures) (tree .result) (tree .last .1 .1 .1 .0)
+    (tree .last .1 .1 .1 .1 .0) (tree .last .1 .1 .1 .1 .1 .0) (tree .ensures)
+    (c .before .before .before .before .before .before .before .before .before .before .if1 .left)
+    (c .before .before .before .release-totals .last .0) (c .before .before .before .release-totals .last .1 .0) (rw
+    old at (c .before .before .before .release-totals .ensures) ∙ ap (released-totals (a .depth) (a .old)) (ap (λ (l
+    : List ℤ). store-of l (tree .last .1 .1 .1 .1 .0)) (rw (toZ-ofZ {z = tree .result .value} (record {
+      sfits =
+          c .before .before .before .before .before .before .before .before .before .struct-told .given .1 .0 .1;
+    })) at
+    (c .before .before .before .before .before .before .before .set-totals .ensures)) ∙ totals-store
+    (tree .last .1 .1 .1 .0) (tree .last .1 .1 .1 .1 .0) (tree .result .value) (omega (
       arith,
-      c .before .before .before .before .before
-          .before .before .before .before .before .before .before .before .before .before .before .before .before
-          .before
-          .before .before .before .before .before .before .before .before .before .before .before .before .before
-          .before
-          .before .pre,
       c .before .before .before .before .before .before .before .before .before .before .before .before
-          .before .before .before .work-tree .kept .1 .1 .1 .0,
+          .before .before .before .before .before .before .before .before .before .before .before .before
+          .before .before .before .before .before .before .before .pre,
+      tree .kept .1 .1 .1 .0,
     ))))
 
 pub work-main-spec : {M : Type 1} → statement M
@@ -209,12 +150,9 @@ work-main-spec =
     tie.close
     (tie.spec
     retain-totals-requires
-    slice-aggregate-bind
     bind-requires
-    slice-aggregate-bind-2
     bind-requires-2
     start-in-requires
-    slice-aggregate-work-tree
     work-tree-requires
     same-length
     same-length-2

@@ -1,5 +1,6 @@
+-- `machine_lines::bind` meets its contract.
 use mir.Facts.{toZ-ofZ}
-use mathlib.Core.Path.{ap, _∙_}
+use mathlib.Core.Path.{ap}
 use Prim.Native.Nat.{ℕ}
 use lib.ListN.{set}
 use borrow.Author.Needs.{needs}
@@ -9,16 +10,15 @@ use Rattle.machine_lines.proofs.bind.Tie as tie
 place-requires : tie.Need-place-requires
 place-requires c κs = search needs
 
-put-requires : tie.Need-put-requires
-put-requires c κs = search needs
+mul-w : tie.Need-mul-w
+mul-w c = search needs
 
-same-length : tie.Need-same-length
-same-length c = search needs
+element-set-from-w : tie.Need-element-set-from-w
+element-set-from-w c = search needs
 
 returns : tie.Need-returns
-returns c = rw (toZ-ofZ {z = c .before .before .before .before .args .w} (c .before .before .before .before .fits
-    .w)) at (c .before .put .ensures) ∙ ap (λ (n : ℕ). set (c .before .before .before .before .args .env .now) n (c
-    .before .before .before .before .args .w)) (c .before .before .place .ensures .0)
+returns c = rw (toZ-ofZ {z = c .before .args .w} (c .before .fits .w))
+    (ap (λ (n : ℕ). set (c .before .args .env .now) n (c .before .args .w)) (c .place .ensures .0))
 
 pub bind-spec : {M : Type 1} → statement M
-bind-spec = tie.close (tie.spec place-requires put-requires same-length returns)
+bind-spec = tie.close (tie.spec place-requires mul-w element-set-from-w returns)

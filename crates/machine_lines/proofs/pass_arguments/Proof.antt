@@ -1,52 +1,100 @@
-use mathlib.Core.Path.{sym, ap, _∙_}
-use mathlib.Core.List.{List}
-use lib.IntN.{ℤ}
-use lib.ListN.{length}
-use Rattle.machine_lines.specs.Frames.{place, put-all}
-use Rattle.machine_lines.proofs.Lines.{part-is, part-length}
+-- `machine_lines::pass_arguments` meets its contract.
+use mathlib.Core.Path.{sym, _∙_}
+use Prim.Native.Nat.{_+_, _-_}
+use native.Mathlib.Omega.{arith}
+use mir.Facts.{toZ-ofZ}
+use borrow.Author.Tests.{not-true, not-false}
 use borrow.Author.Needs.{needs}
+use Rattle.machine_lines.proofs.Gathering.{Copying, copying-none, copying-more, copied-end, copied-full}
 use Rattle.machine_lines.proofs.pass_arguments.Statement.{statement}
 use Rattle.machine_lines.proofs.pass_arguments.Tie as tie
 
-gather-requires : tie.Need-gather-requires
-gather-requires c κs = search needs
+abbrev Inv-loop : tie.InvT-loop
+Inv-loop kinds operands env₀ calls below at first i₀ env i = Copying kinds operands calls below at env₀ env i
 
-sub-put-words : tie.Need-sub-put-words
-sub-put-words c = search needs
+abbrev μ-loop : tie.MeasureT-loop
+μ-loop kinds operands env₀ calls below at first i₀ env i = 16 - i
 
-part-put-words-start : tie.Need-part-put-words-start
-part-put-words-start c = search needs
+place-requires : tie.Need-place-requires Inv-loop μ-loop
+place-requires c κs = search needs
 
-part-put-words-end : tie.Need-part-put-words-end
-part-put-words-end c = search needs
+loop-holds : tie.Need-loop-holds Inv-loop μ-loop
+loop-holds c = let a = c .before .before .args in
+    copying-none (a .kinds .now) (a .operands .now) (a .calls) (a .below) (a .at) (a .env .now)
 
-put-words-requires : tie.Need-put-words-requires
-put-words-requires c κs = search needs
+add-atom-stands : tie.Need-add-atom-stands Inv-loop μ-loop
+add-atom-stands c = search needs
 
-same-length : tie.Need-same-length
-same-length c = search needs
+atom-stands-requires : tie.Need-atom-stands-requires Inv-loop μ-loop
+atom-stands-requires c κs = search needs
 
-returns : tie.Need-returns
-returns c = let e = part-is (c .before .before .before .before .before .gather .last .1 .1 .1 .1 .1 .0) (c .before
-    .before .before .before .before .gather .result) ∙ c .before .before .before .before .before .gather .ensures .0
-    in record {
-      frames = c .before .put-words .ensures ∙ ap (λ (l : List ℤ). put-all l (place (c .before .before .before .before
-          .before .before .before .before .before .args .below) 0) (c .before .before .before .before .before .before
-          .before .before .before .args .env .now)) e;
-      count = part-length (c .before .before .before .before .before .gather .last .1 .1 .1 .1 .1 .0) (c .before .before
-          .before .before .before .gather .result) (c .before .before .before .before .before .gather .ensures .1) (c
-          .before .before .before .before .before .gather .ensures .2) ∙ ap length e;
-      few = c .before .before .before .before .before .gather .ensures .1;
-    }
+returns : tie.Need-returns Inv-loop μ-loop
+returns c =
+    copied-end (c .before .before .before .loop .inv) (sym (c .before .atom-stands .ensures) ∙ not-true
+    (c .before .atom-stands .result) (c .if1 .taken))
+
+add-atom-at : tie.Need-add-atom-at Inv-loop μ-loop
+add-atom-at c = search needs
+
+atom-at-requires : tie.Need-atom-at-requires Inv-loop μ-loop
+atom-at-requires c κs = search needs
+
+word-of-requires : tie.Need-word-of-requires Inv-loop μ-loop
+word-of-requires c κs = search (needs, c .before .before .before .before .before .loop .inv .long)
+
+add-w : tie.Need-add-w Inv-loop μ-loop
+add-w c = search (needs, c .before .before .before .before .before .before .before .place .ensures)
+
+mul-w : tie.Need-mul-w Inv-loop μ-loop
+mul-w c = search (needs, c .before .before .before .before .before .before .before .place .ensures)
+
+element-set-from-w : tie.Need-element-set-from-w Inv-loop μ-loop
+element-set-from-w c =
+    search (
+      needs,
+      c .before .before .before .before .before .before .loop .inv .long,
+      c .before .before .before .before .before .before .before .place .ensures,
+    )
+
+add-i : tie.Need-add-i Inv-loop μ-loop
+add-i c = search needs
+
+loop-less : tie.Need-loop-less Inv-loop μ-loop
+loop-less c = search needs
+
+loop-again : tie.Need-loop-again Inv-loop μ-loop
+loop-again c =
+    let o = c .before .before .before .before .before .before .loop in
+    rw (toZ-ofZ {z = c .word-of .result} (record { sfits = c .word-of .ok })) (copying-more (o .inv)
+    (c .before .before .before .before .before .loop-test .taken) (c .before .before .before .before .before .before
+    .before .before .before .pre .1) (c .before .before .before .before .before .before
+    .before .before .before .pre .2) (sym (c .before .before .before .before .atom-stands .ensures) ∙ not-false
+    (c .before .before .before .before .atom-stands .result) (c .before .before .before .if1 .left))
+    (c .before .before .atom-at .result) (c .word-of .result) (c .before .before .atom-at .ensures)
+    (c .word-of .ensures) (c .before .before .before .before .before .before .before .place .result + o .i) (omega
+    (arith, c .before .before .before .before .before .before .before .place .ensures)))
+
+returns-2 : tie.Need-returns-2 Inv-loop μ-loop
+returns-2 c = copied-full (c .before .loop .inv) (omega arith)
 
 pub pass-arguments-spec : {M : Type 1} → statement M
 pass-arguments-spec =
     tie.close
     (tie.spec
-    gather-requires
-    sub-put-words
-    part-put-words-start
-    part-put-words-end
-    put-words-requires
-    same-length
-    returns)
+    Inv-loop
+    μ-loop
+    place-requires
+    loop-holds
+    add-atom-stands
+    atom-stands-requires
+    returns
+    add-atom-at
+    atom-at-requires
+    word-of-requires
+    add-w
+    mul-w
+    element-set-from-w
+    add-i
+    loop-less
+    loop-again
+    returns-2)

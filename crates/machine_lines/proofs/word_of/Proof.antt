@@ -1,3 +1,4 @@
+-- `machine_lines::word_of` meets its contract.
 use mir.Facts.{toZ-ofZ}
 use mathlib.Core.Path.{sym, ap, _∙_}
 use Prim.Native.Nat.{ℕ}
@@ -17,21 +18,32 @@ enum-known-a-2 c = search needs
 place-requires : tie.Need-place-requires
 place-requires c κs = search needs
 
-word-at-requires : tie.Need-word-at-requires
-word-at-requires c κs = search needs
+mul-result : tie.Need-mul-result
+mul-result c = search needs
+
+element-copy-out-result : tie.Need-element-copy-out-result
+element-copy-out-result c = search needs
 
 returns : tie.Need-returns
-returns c = rw (toZ-ofZ {z = c .before .a .given .0 .0} (record { sfits = c .known-told .given .0 .1 })) (ap
-    (word-of (c .before .before .before .args .calls) (c .before .before .before .args .env .now)) (sym (c .before
-    .a .given .1)))
+returns c =
+    let a = c .before .before .before .args in
+    rw (toZ-ofZ {z = c .before .a .given .0 .0} (record { sfits = c .known-told .given .0 .1 })) (ap (word-of (a .calls)
+    (a .env .now)) (sym (c .before .a .given .1)))
 
 returns-2 : tie.Need-returns-2
-returns-2 c = rw (toZ-ofZ {z = c .word-at .result} (record { sfits = c .word-at .ok })) (c .word-at .ensures ∙ ap (λ
-    (n : ℕ). getD (c .before .before .before .before .before .args .env .now) n (pos 0)) (c .before .place .ensures
-    .0) ∙ ap (word-of (c .before .before .before .before .before .args .calls) (c .before .before .before .before
-    .before .args .env .now)) (sym (c .before .before .before .a2 .given .1)))
+returns-2 c = let a = c .before .before .before .before .before .args in
+    rw (toZ-ofZ {z = getD (a .env .now) (c .before .place .result) (pos 0)} (record { sfits = c .result .given }))
+    (ap (λ (n : ℕ). getD (a .env .now) n (pos 0)) (c .before .place .ensures .0)
+    ∙ ap (word-of (a .calls) (a .env .now)) (sym (c .before .before .before .a2 .given .1)))
 
 pub word-of-spec : {M : Type 1} → statement M
 word-of-spec =
     tie.close
-    (tie.spec enum-known-a enum-known-a-2 place-requires word-at-requires returns returns-2)
+    (tie.spec
+    enum-known-a
+    enum-known-a-2
+    place-requires
+    mul-result
+    element-copy-out-result
+    returns
+    returns-2)

@@ -11,11 +11,10 @@ halted-requires : tie.Need-halted-requires
 halted-requires c κs = search needs
 
 returns : tie.Need-returns
-returns c = index-spent (store-of (c .before .before .before .args .slots .now) (c .before .before .before .args
-    .heads .now)) (c .before .before .before .args .calls) (c .before .before .before .args .x) (c .before .before
-    .before .args .a) (c .before .before .before .args .b) (c .before .before .before .args .next) (c .before
-    .before .before .args .steps) (c .before .before .before .args .env .now) (c .halted .result) (c .before .if1
-    .taken) (c .halted .ensures)
+returns c =
+    let a = c .before .before .before .args in
+    index-spent (store-of (a .slots .now) (a .heads .now)) (a .calls) (a .x) (a .a) (a .b) (a .next) (a .steps)
+    (a .env .now) (c .halted .result) (c .before .if1 .taken) (c .halted .ensures)
 
 word-of-requires : tie.Need-word-of-requires
 word-of-requires c κs = search needs
@@ -32,27 +31,19 @@ sub-halted c = search needs
 halted-requires-2 : tie.Need-halted-requires-2
 halted-requires-2 c κs = search needs
 
-same-length : tie.Need-same-length
-same-length c = search needs
-
 returns-2 : tie.Need-returns-2
-returns-2 c = index-negative (store-of (c .before .before .before .before .before .before .before .before .before
-    .args .slots .now) (c .before .before .before .before .before .before .before .before .before .args .heads
-    .now)) (c .before .before .before .before .before .before .before .before .before .args .calls) (c .before
-    .before .before .before .before .before .before .before .before .args .x) (c .before .before .before .before
-    .before .before .before .before .before .args .a) (c .before .before .before .before .before .before .before
-    .before .before .args .b) (c .before .before .before .before .before .before .before .before .before .args
-    .next) (c .before .before .before .before .before .before .before .before .before .args .steps) (c .before
-    .before .before .before .before .before .before .before .before .args .env .now) (c .before .before .before
-    .before .before .before .before .if1 .left) (c .before .before .before .before .before .word-of .result) (c
-    .before .before .word-of2 .result) (c .before .before .before .before .before .word-of .ensures) (c .before
-    .before .word-of2 .ensures) (c .before .before .before .before .named-cell .result) (rw (toZ-ofZ {z = c .before
-    .before .before .before .before .word-of .result} (record {
-      sfits = c .before .before .before .before .before
-          .word-of .ok;
-    })) at (c .before .before .before .before .named-cell .ensures)) (rw (toZ-ofZ {z = c .before
-    .before .word-of2 .result} (record { sfits = c .before .before .word-of2 .ok })) at (c .before .if2 .taken)) (c
-    .halted2 .result) (c .halted2 .ensures)
+returns-2 c =
+    let a = c .before .before .before .before .before .before .before .before .before .args in
+    let word = c .before .before .before .before .before .word-of in
+    let cell = c .before .before .before .before .named-cell in
+    let word2 = c .before .before .word-of2 in
+    index-negative (store-of (a .slots .now) (a .heads .now)) (a .calls) (a .x) (a .a) (a .b) (a .next) (a .steps)
+    (a .env .now) (c .before .before .before .before .before .before .before .if1 .left) (word .result)
+    (word2 .result) (word .ensures) (word2 .ensures) (cell .result) (rw (toZ-ofZ {z = word .result} (record {
+      sfits
+          = word .ok;
+    })) at (cell .ensures)) (rw (toZ-ofZ {z = word2 .result} (record { sfits = word2 .ok })) at
+    (c .before .if2 .taken)) (c .halted2 .result) (c .halted2 .ensures)
 
 cast-i : tie.Need-cast-i
 cast-i c = rw (toZ-ofZ {z = c .before .word-of2 .result} (record { sfits = c .before .word-of2 .ok })) (not-negative
@@ -69,32 +60,19 @@ sub-halted-2 c = search needs
 halted-requires-3 : tie.Need-halted-requires-3
 halted-requires-3 c κs = search needs
 
-same-length-2 : tie.Need-same-length-2
-same-length-2 c = search needs
-
 returns-3 : tie.Need-returns-3
-returns-3 c = index-past (store-of (c .before .before .before .before .before .before .before .before .before
-    .before .before .args .slots .now) (c .before .before .before .before .before .before .before .before .before
-    .before .before .args .heads .now)) (c .before .before .before .before .before .before .before .before .before
-    .before .before .args .calls) (c .before .before .before .before .before .before .before .before .before .before
-    .before .args .x) (c .before .before .before .before .before .before .before .before .before .before .before
-    .args .a) (c .before .before .before .before .before .before .before .before .before .before .before .args .b)
-    (c .before .before .before .before .before .before .before .before .before .before .before .args .next) (c
-    .before .before .before .before .before .before .before .before .before .before .before .args .steps) (c .before
-    .before .before .before .before .before .before .before .before .before .before .args .env .now) (c .before
-    .before .before .before .before .before .before .before .before .if1 .left) (c .before .before .before .before
-    .before .before .before .word-of .result) (c .before .before .before .before .word-of2 .result) (c .before
-    .before .before .before .before .before .before .word-of .ensures) (c .before .before .before .before .word-of2
-    .ensures) (c .before .before .before .before .before .before .named-cell .result) (rw (toZ-ofZ {z = c .before
-    .before .before .before .before .before .before .word-of .result} (record {
-      sfits = c .before .before .before
-          .before .before .before .before .word-of .ok;
-    })) at (c .before .before .before .before .before .before
-    .named-cell .ensures)) (c .before .before .read-length .result) (c .before .before .read-length .ensures) (rw
-    (toZ-ofZ {z = c .before .before .before .before .word-of2 .result} (record {
-      sfits = c .before .before .before
-          .before .word-of2 .ok;
-    })) at (c .before .if3 .taken)) (c .halted3 .result) (c .halted3 .ensures)
+returns-3 c =
+    let a = c .before .before .before .before .before .before .before .before .before .before .before .args in
+    let word = c .before .before .before .before .before .before .before .word-of in
+    let cell = c .before .before .before .before .before .before .named-cell in
+    let word2 = c .before .before .before .before .word-of2 in
+    let size = c .before .before .read-length in
+    index-past (store-of (a .slots .now) (a .heads .now)) (a .calls) (a .x) (a .a) (a .b) (a .next) (a .steps)
+    (a .env .now) (c .before .before .before .before .before .before .before .before .before .if1 .left)
+    (word .result) (word2 .result) (word .ensures) (word2 .ensures) (cell .result) (rw (toZ-ofZ {z = word .result}
+    (record { sfits = word .ok })) at (cell .ensures)) (size .result) (size .ensures) (rw (toZ-ofZ {z =
+    word2 .result} (record { sfits = word2 .ok })) at (c .before .if3 .taken)) (c .halted3 .result)
+    (c .halted3 .ensures)
 
 read-slot-requires : tie.Need-read-slot-requires
 read-slot-requires c κs = search needs
@@ -108,49 +86,27 @@ sub-done c = search needs
 done-requires : tie.Need-done-requires
 done-requires c κs = search needs
 
-same-length-3 : tie.Need-same-length-3
-same-length-3 c = search needs
-
 returns-4 : tie.Need-returns-4
-returns-4 c = index-value (store-of (c .before .before .before .before .before .before .before .before .before
-    .before .before .before .before .before .before .args .slots .now) (c .before .before .before .before .before
-    .before .before .before .before .before .before .before .before .before .before .args .heads .now)) (c .before
-    .before .before .before .before .before .before .before .before .before .before .before .before .before .before
-    .args .calls) (c .before .before .before .before .before .before .before .before .before .before .before .before
-    .before .before .before .args .x) (c .before .before .before .before .before .before .before .before .before
-    .before .before .before .before .before .before .args .a) (c .before .before .before .before .before .before
-    .before .before .before .before .before .before .before .before .before .args .b) (c .before .before .before
-    .before .before .before .before .before .before .before .before .before .before .before .before .args .next) (c
-    .before .before .before .before .before .before .before .before .before .before .before .before .before .before
-    .before .args .steps) (c .before .before .before .before .before .before .before .before .before .before .before
-    .before .before .before .before .args .env .now) (c .before .before .before .before .before .before .before
-    .before .before .before .before .before .before .if1 .left) (c .before .before .before .before .before .before
-    .before .before .before .before .before .word-of .result) (c .before .before .before .before .before .before
-    .before .before .word-of2 .result) (c .before .before .before .before .before .before .before .before .before
-    .before .before .word-of .ensures) (c .before .before .before .before .before .before .before .before .word-of2
-    .ensures) (c .before .before .before .before .before .before .before .before .before .before .named-cell
-    .result) (rw (toZ-ofZ {z = c .before .before .before .before .before .before .before .before .before .before
-    .before .word-of .result} (record {
-      sfits = c .before .before .before .before .before .before .before .before
-          .before .before .before .word-of .ok;
-    })) at (c .before .before .before .before .before .before .before .before
-    .before .before .named-cell .ensures)) (c .before .before .before .before .before .before .read-length .result)
-    (c .before .before .before .before .before .before .read-length .ensures) (rw (toZ-ofZ {z = c .before .before
-    .before .before .before .before .before .before .word-of2 .result} (record {
-      sfits = c .before .before .before
-          .before .before .before .before .before .word-of2 .ok;
-    })) at (c .before .before .before .before .before .before
-    .before .if2 .left)) (rw (toZ-ofZ {z = c .before .before .before .before .before .before .before .before
-    .word-of2 .result} (record {
-      sfits = c .before .before .before .before .before .before .before .before .word-of2
-          .ok;
-    })) at (c .before .before .before .before .before .if3 .left)) (c .before .before .before .before .read-slot
-    .result) (rw (toZ-ofZ {z = c .before .before .before .before .before .before .before .before .word-of2 .result}
-    (record { sfits = c .before .before .before .before .before .before .before .before .word-of2 .ok })) at (c
-    .before .before .before .before .read-slot .ensures)) _ (rw (toZ-ofZ {z = c .before .before .before .before
-    .read-slot .result} (record { sfits = c .before .before .before .before .read-slot .ok })) at (c .before .before
-    .bind .ensures)) (c .done .result) (rw (toZ-ofZ {z = c .before .before .before .before .read-slot .result}
-    (record { sfits = c .before .before .before .before .read-slot .ok })) at (c .done .ensures))
+returns-4 c =
+    let a = c .before .before .before .before .before .before .before .before .before .before .before .before
+    .before .before .args in
+    let word = c .before .before .before .before .before .before .before .before .before .before .word-of in
+    let cell = c .before .before .before .before .before .before .before .before .before .named-cell in
+    let word2 = c .before .before .before .before .before .before .before .word-of2 in
+    let size = c .before .before .before .before .before .read-length in
+    let read = c .before .before .before .read-slot in
+    index-value (store-of (a .slots .now) (a .heads .now)) (a .calls) (a .x) (a .a) (a .b) (a .next) (a .steps)
+    (a .env .now) (c .before .before .before .before .before .before .before .before .before .before .before .before
+    .if1 .left) (word .result) (word2 .result) (word .ensures) (word2 .ensures) (cell .result) (rw (toZ-ofZ {z =
+    word .result} (record { sfits = word .ok })) at (cell .ensures)) (size .result) (size .ensures) (rw (toZ-ofZ {z
+    = word2 .result} (record { sfits = word2 .ok })) at (c .before .before .before .before .before .before
+    .if2 .left)) (rw (toZ-ofZ {z = word2 .result} (record { sfits = word2 .ok })) at
+    (c .before .before .before .before .if3 .left)) (read .result) (rw (toZ-ofZ {z = word2 .result} (record {
+      sfits
+          = word2 .ok;
+    })) at (read .ensures)) _ (rw (toZ-ofZ {z = read .result} (record { sfits = read .ok })) at
+    (c .before .bind .ensures)) (c .done .result) (rw (toZ-ofZ {z = read .result} (record { sfits = read .ok })) at
+    (c .done .ensures))
 
 pub work-index-spec : {M : Type 1} → statement M
 work-index-spec =
@@ -163,17 +119,14 @@ work-index-spec =
     word-of-requires-2
     sub-halted
     halted-requires-2
-    same-length
     returns-2
     cast-i
     read-length-requires
     sub-halted-2
     halted-requires-3
-    same-length-2
     returns-3
     read-slot-requires
     bind-requires
     sub-done
     done-requires
-    same-length-3
     returns-4)

@@ -85,17 +85,13 @@ same-length : tie.Need-same-length
 same-length c = search needs
 
 returns : tie.Need-returns
-returns c = leaf-operation (c .before .before .before .before .before .before .before .before .args .kinds .now) (c
-    .before .before .before .before .before .before .before .before .args .operands .now) (c .before .before .before
-    .before .before .before .before .before .args .calls) (c .before .before .before .before .before .before .before
-    .before .args .at) (c .before .before .before .before .before .before .before .before .args .steps) (memory
-    (store-of (c .before .before .before .before .before .before .before .before .args .slots .now) (c .before
-    .before .before .before .before .before .before .before .args .heads .now)) (c .before .before .before .before
-    .before .before .before .before .args .env .now)) (c .before .before .before .before .before .before .before
-    .before .args .l) (c .before .before .before .before .l .given .0 .0) (c .before .before .before .before .l
-    .given .0 .1 .0) (c .before .before .before .before .l .given .0 .1 .1 .0) (c .before .before .before .before .l
-    .given .0 .1 .1 .1 .0) (c .before .before .before .before .l .given .1) (c .before .work-operation .result) (c
-    .before .work-operation .last .0) (c .before .work-operation .ensures)
+returns c =
+    let a = c .before .before .before .before .before .before .before .args in
+    let read = c .before .before .before .l in
+    leaf-operation (a .kinds .now) (a .operands .now) (a .calls) (a .at) (a .steps) (memory (store-of (a .slots .now)
+    (a .heads .now)) (a .env .now)) (a .l) (read .given .0 .0) (read .given .0 .1 .0) (read .given .0 .1 .1 .0)
+    (read .given .0 .1 .1 .1 .0) (read .given .1) (c .work-operation .result) (c .work-operation .last .0)
+    (c .work-operation .ensures)
 
 same-length-2 : tie.Need-same-length-2
 same-length-2 c = search needs
@@ -107,20 +103,13 @@ same-length-4 : tie.Need-same-length-4
 same-length-4 c = search needs
 
 returns-2 : tie.Need-returns-2
-returns-2 c = leaf-literal (c .before .before .before .before .before .before .before .before .before .before
-    .before .before .before .args .kinds .now) (c .before .before .before .before .before .before .before .before
-    .before .before .before .before .before .args .operands .now) (c .before .before .before .before .before .before
-    .before .before .before .before .before .before .before .args .calls) (c .before .before .before .before .before
-    .before .before .before .before .before .before .before .before .args .at) (c .before .before .before .before
-    .before .before .before .before .before .before .before .before .before .args .steps) (memory (store-of (c
-    .before .before .before .before .before .before .before .before .before .before .before .before .before .args
-    .slots .now) (c .before .before .before .before .before .before .before .before .before .before .before .before
-    .before .args .heads .now)) (c .before .before .before .before .before .before .before .before .before .before
-    .before .before .before .args .env .now)) (c .before .before .before .before .before .before .before .before
-    .before .before .before .before .before .args .l) (c .before .before .before .before .before .before .before
-    .before .before .l2 .given .0 .0) (c .before .before .before .before .before .before .before .before .before .l2
-    .given .0 .1 .0) (c .before .before .before .before .before .before .before .before .before .l2 .given .1) _ (c
-    .before .before .before .before .work-literal .ensures)
+returns-2 c =
+    let a = c .before .before .before .before .before .before .before .before .before .before .before .before .args in
+    leaf-literal (a .kinds .now) (a .operands .now) (a .calls) (a .at) (a .steps) (memory (store-of (a .slots .now)
+    (a .heads .now)) (a .env .now)) (a .l) (c .before .before .before .before .before .before
+    .before .before .l2 .given .0 .0) (c .before .before .before .before .before .before
+    .before .before .l2 .given .0 .1 .0) (c .before .before .before .before .before .before
+    .before .before .l2 .given .1) _ (c .before .before .before .work-literal .ensures)
 
 same-length-5 : tie.Need-same-length-5
 same-length-5 c = search needs
@@ -132,18 +121,13 @@ same-length-7 : tie.Need-same-length-7
 same-length-7 c = search needs
 
 returns-3 : tie.Need-returns-3
-returns-3 c = leaf-index (c .before .before .before .before .before .before .before .before .before .before .args
-    .kinds .now) (c .before .before .before .before .before .before .before .before .before .before .args .operands
-    .now) (c .before .before .before .before .before .before .before .before .before .before .args .calls) (c
-    .before .before .before .before .before .before .before .before .before .before .args .at) (c .before .before
-    .before .before .before .before .before .before .before .before .args .steps) (memory (store-of (c .before
-    .before .before .before .before .before .before .before .before .before .args .slots .now) (c .before .before
-    .before .before .before .before .before .before .before .before .args .heads .now)) (c .before .before .before
-    .before .before .before .before .before .before .before .args .env .now)) (c .before .before .before .before
-    .before .before .before .before .before .before .args .l) (c .before .before .before .before .before .before .l3
-    .given .0 .0) (c .before .before .before .before .before .before .l3 .given .0 .1 .0) (c .before .before .before
-    .before .before .before .l3 .given .0 .1 .1 .0) (c .before .before .before .before .before .before .l3 .given
-    .1) (c .before .work-index .result) (c .before .work-index .last .1 .1 .0) (c .before .work-index .ensures)
+returns-3 c =
+    let a = c .before .before .before .before .before .before .before .before .before .args in
+    leaf-index (a .kinds .now) (a .operands .now) (a .calls) (a .at) (a .steps) (memory (store-of (a .slots .now)
+    (a .heads .now)) (a .env .now)) (a .l) (c .before .before .before .before .before .l3 .given .0 .0)
+    (c .before .before .before .before .before .l3 .given .0 .1 .0) (c .before .before .before .before .before .l3
+    .given .0 .1 .1 .0) (c .before .before .before .before .before .l3 .given .1) (c .work-index .result)
+    (c .work-index .last .1 .1 .0) (c .work-index .ensures)
 
 same-length-8 : tie.Need-same-length-8
 same-length-8 c = search needs
@@ -155,90 +139,45 @@ same-length-10 : tie.Need-same-length-10
 same-length-10 c = search needs
 
 returns-4 : tie.Need-returns-4
-returns-4 c = leaf-length (c .before .before .before .before .before .before .before .before .before .before .args
-    .kinds .now) (c .before .before .before .before .before .before .before .before .before .before .args .operands
-    .now) (c .before .before .before .before .before .before .before .before .before .before .args .calls) (c
-    .before .before .before .before .before .before .before .before .before .before .args .at) (c .before .before
-    .before .before .before .before .before .before .before .before .args .steps) (memory (store-of (c .before
-    .before .before .before .before .before .before .before .before .before .args .slots .now) (c .before .before
-    .before .before .before .before .before .before .before .before .args .heads .now)) (c .before .before .before
-    .before .before .before .before .before .before .before .args .env .now)) (c .before .before .before .before
-    .before .before .before .before .before .before .args .l) (c .before .before .before .before .before .before .l4
-    .given .0 .0) (c .before .before .before .before .before .before .l4 .given .0 .1 .0) (c .before .before .before
-    .before .before .before .l4 .given .1) (c .before .work-length .result) (c .before .work-length .last .1 .1 .0)
-    (c .before .work-length .ensures)
-
-same-length-11 : tie.Need-same-length-11
-same-length-11 c = search needs
-
-same-length-12 : tie.Need-same-length-12
-same-length-12 c = search needs
-
-same-length-13 : tie.Need-same-length-13
-same-length-13 c = search needs
+returns-4 c =
+    let a = c .before .before .before .before .before .before .before .before .before .args in
+    leaf-length (a .kinds .now) (a .operands .now) (a .calls) (a .at) (a .steps) (memory (store-of (a .slots .now)
+    (a .heads .now)) (a .env .now)) (a .l) (c .before .before .before .before .before .l4 .given .0 .0)
+    (c .before .before .before .before .before .l4 .given .0 .1 .0) (c .before .before .before .before .before .l4
+    .given .1) (c .work-length .result) (c .work-length .last .1 .1 .0) (c .work-length .ensures)
 
 returns-5 : tie.Need-returns-5
-returns-5 c = leaf-retain (c .before .before .before .before .before .before .before .before .before .before .before
-    .before .before .before .args .kinds .now) (c .before .before .before .before .before .before .before .before
-    .before .before .before .before .before .before .args .operands .now) (c .before .before .before .before .before
-    .before .before .before .before .before .before .before .before .before .args .calls) (c .before .before .before
-    .before .before .before .before .before .before .before .before .before .before .before .args .at) (c .before
-    .before .before .before .before .before .before .before .before .before .before .before .before .before .args
-    .steps) (memory (store-of (c .before .before .before .before .before .before .before .before .before .before
-    .before .before .before .before .args .slots .now) (c .before .before .before .before .before .before .before
-    .before .before .before .before .before .before .before .args .heads .now)) (c .before .before .before .before
-    .before .before .before .before .before .before .before .before .before .before .args .env .now)) (c .before
-    .before .before .before .before .before .before .before .before .before .before .before .before .before .args
-    .l) (c .before .before .before .before .before .before .before .before .before .before .l5 .given .0 .0) (c
-    .before .before .before .before .before .before .before .word-of .result) (c .before .before .before .before
-    .before .before .before .word-of .ensures) (c .before .before .before .before .before .before .named-cell
-    .result) (rw (toZ-ofZ {z = c .before .before .before .before .before .before .before .word-of .result} (record {
-      sfits = c .before .before .before .before .before .before .before .word-of .ok;
-    })) at (c .before .before .before
-    .before .before .before .named-cell .ensures)) _ (c .done .result) (c .done .ensures) (c .before .before .before
-    .before .before .before .before .before .before .before .l5 .given .1) (c .before .before .before .retain
-    .ensures)
-
-same-length-14 : tie.Need-same-length-14
-same-length-14 c = search needs
-
-same-length-15 : tie.Need-same-length-15
-same-length-15 c = search needs
-
-same-length-16 : tie.Need-same-length-16
-same-length-16 c = search needs
+returns-5 c =
+    let a = c .before .before .before .before .before .before .before .before .before .before .before .before
+    .before .before .args in
+    let word = c .before .before .before .before .before .before .before .word-of in
+    let cell = c .before .before .before .before .before .before .named-cell in
+    leaf-retain (a .kinds .now) (a .operands .now) (a .calls) (a .at) (a .steps) (memory (store-of (a .slots .now)
+    (a .heads .now)) (a .env .now)) (a .l) (c .before .before .before .before .before .before
+    .before .before .before .before .l5 .given .0 .0) (word .result) (word .ensures) (cell .result) (rw (toZ-ofZ {z
+    = word .result} (record { sfits = word .ok })) at (cell .ensures)) _ (c .done .result) (c .done .ensures)
+    (c .before .before .before .before .before .before .before .before .before .before .l5 .given .1)
+    (c .before .before .before .retain .ensures)
 
 returns-6 : tie.Need-returns-6
-returns-6 c = leaf-release (c .before .before .before .before .before .before .before .before .before .before
-    .before .before .before .before .before .args .kinds .now) (c .before .before .before .before .before .before
-    .before .before .before .before .before .before .before .before .before .args .operands .now) (c .before .before
-    .before .before .before .before .before .before .before .before .before .before .before .before .before .args
-    .calls) (c .before .before .before .before .before .before .before .before .before .before .before .before
-    .before .before .before .args .at) (c .before .before .before .before .before .before .before .before .before
-    .before .before .before .before .before .before .args .steps) (memory (store-of (c .before .before .before
-    .before .before .before .before .before .before .before .before .before .before .before .before .args .slots
-    .now) (c .before .before .before .before .before .before .before .before .before .before .before .before .before
-    .before .before .args .heads .now)) (c .before .before .before .before .before .before .before .before .before
-    .before .before .before .before .before .before .args .env .now)) (c .before .before .before .before .before
-    .before .before .before .before .before .before .before .before .before .before .args .l) (c .before .before
-    .before .before .before .before .before .before .before .before .before .l6 .given .0 .0) (c .before .before
-    .before .before .before .before .before .before .word-of2 .result) (c .before .before .before .before .before
-    .before .before .before .word-of2 .ensures) (c .before .before .before .before .before .before .before
-    .named-cell2 .result) (rw (toZ-ofZ {z = c .before .before .before .before .before .before .before .before
-    .word-of2 .result} (record {
-      sfits = c .before .before .before .before .before .before .before .before .word-of2
-          .ok;
-    })) at (c .before .before .before .before .before .before .before .named-cell2 .ensures)) _ (c .done2
-    .result) (c .done2 .ensures) (c .before .before .before .before .before .before .before .before .before .before
-    .before .l6 .given .1) (c .before .before .before .before .release .ensures)
+returns-6 c =
+    let a = c .before .before .before .before .before .before .before .before .before .before .before .before
+    .before .before .before .args in
+    let word2 = c .before .before .before .before .before .before .before .before .word-of2 in
+    leaf-release (a .kinds .now) (a .operands .now) (a .calls) (a .at) (a .steps) (memory (store-of (a .slots .now)
+    (a .heads .now)) (a .env .now)) (a .l) (c .before .before .before .before .before .before
+    .before .before .before .before .before .l6 .given .0 .0) (word2 .result) (word2 .ensures)
+    (c .before .before .before .before .before .before .before .named-cell2 .result) (rw (toZ-ofZ {z =
+    word2 .result} (record { sfits = word2 .ok })) at (c .before .before .before .before .before .before
+    .before .named-cell2 .ensures)) _ (c .done2 .result) (c .done2 .ensures)
+    (c .before .before .before .before .before .before .before .before .before .before .before .l6 .given .1)
+    (c .before .before .before .before .release .ensures)
 
 returns-7 : tie.Need-returns-7
-returns-7 c = leaf-other (c .before .before .before .before .args .kinds .now) (c .before .before .before .before
-    .args .operands .now) (c .before .before .before .before .args .calls) (c .before .before .before .before .args
-    .at) (c .before .before .before .before .args .steps) (memory (store-of (c .before .before .before .before .args
-    .slots .now) (c .before .before .before .before .args .heads .now)) (c .before .before .before .before .args
-    .env .now)) (c .before .before .before .before .args .l) (c .before .match .keys7) (c .halted .result) (c
-    .halted .ensures)
+returns-7 c =
+    let a = c .before .before .before .before .args in
+    leaf-other (a .kinds .now) (a .operands .now) (a .calls) (a .at) (a .steps) (memory (store-of (a .slots .now)
+    (a .heads .now)) (a .env .now)) (a .l) (c .before .match .keys7) (c .halted .result) (c .halted .ensures)
 
 pub work-leaf-spec : {M : Type 1} → statement M
 work-leaf-spec =
@@ -268,26 +207,20 @@ work-leaf-spec =
     add-done-2
     done-requires-2
     halted-requires
-    same-length
     returns
+    same-length
     same-length-2
+    returns-2
     same-length-3
     same-length-4
-    returns-2
+    returns-3
     same-length-5
     same-length-6
+    returns-4
     same-length-7
-    returns-3
     same-length-8
+    returns-5
     same-length-9
     same-length-10
-    returns-4
-    same-length-11
-    same-length-12
-    same-length-13
-    returns-5
-    same-length-14
-    same-length-15
-    same-length-16
     returns-6
     returns-7)

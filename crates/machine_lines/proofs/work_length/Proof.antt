@@ -12,10 +12,10 @@ halted-requires : tie.Need-halted-requires
 halted-requires c κs = search needs
 
 returns : tie.Need-returns
-returns c = length-spent (store-of (c .before .before .before .args .slots .now) (c .before .before .before .args
-    .heads .now)) (c .before .before .before .args .calls) (c .before .before .before .args .x) (c .before .before
-    .before .args .a) (c .before .before .before .args .next) (c .before .before .before .args .steps) (c .before
-    .before .before .args .env .now) (c .halted .result) (c .before .if1 .taken) (c .halted .ensures)
+returns c =
+    let a = c .before .before .before .args in
+    length-spent (store-of (a .slots .now) (a .heads .now)) (a .calls) (a .x) (a .a) (a .next) (a .steps) (a .env .now)
+    (c .halted .result) (c .before .if1 .taken) (c .halted .ensures)
 
 word-of-requires : tie.Need-word-of-requires
 word-of-requires c κs = search needs
@@ -27,13 +27,9 @@ read-length-requires : tie.Need-read-length-requires
 read-length-requires c κs = search needs
 
 word-from-requires : tie.Need-word-from-requires
-word-from-requires c κs = omega (
-  arith,
-  c .read-length .ensures,
-  few-elements (c .before .before .before .before
-      .before .before .args .slots .now) (c .before .before .before .before .before .before .args .heads .now) (c
-      .before .named-cell .result),
-)
+word-from-requires c κs =
+    let a = c .before .before .before .before .before .before .args in
+    omega (arith, c .read-length .ensures, few-elements (a .slots .now) (a .heads .now) (c .before .named-cell .result))
 
 bind-requires : tie.Need-bind-requires
 bind-requires c κs = search needs
@@ -44,33 +40,18 @@ sub-done c = search needs
 done-requires : tie.Need-done-requires
 done-requires c κs = search needs
 
-same-length : tie.Need-same-length
-same-length c = search needs
-
 returns-2 : tie.Need-returns-2
-returns-2 c = length-value (store-of (c .before .before .before .before .before .before .before .before .before
-    .before .before .args .slots .now) (c .before .before .before .before .before .before .before .before .before
-    .before .before .args .heads .now)) (c .before .before .before .before .before .before .before .before .before
-    .before .before .args .calls) (c .before .before .before .before .before .before .before .before .before .before
-    .before .args .x) (c .before .before .before .before .before .before .before .before .before .before .before
-    .args .a) (c .before .before .before .before .before .before .before .before .before .before .before .args
-    .next) (c .before .before .before .before .before .before .before .before .before .before .before .args .steps)
-    (c .before .before .before .before .before .before .before .before .before .before .before .args .env .now) (c
-    .before .before .before .before .before .before .before .before .before .if1 .left) (c .before .before .before
-    .before .before .before .before .word-of .result) (c .before .before .before .before .before .before .before
-    .word-of .ensures) (c .before .before .before .before .before .before .named-cell .result) (rw (toZ-ofZ {z = c
-    .before .before .before .before .before .before .before .word-of .result} (record {
-      sfits = c .before .before
-          .before .before .before .before .before .word-of .ok;
-    })) at (c .before .before .before .before .before .before
-    .named-cell .ensures)) (c .before .before .before .before .word-from .result) (c .before .before .before .before
-    .word-from .ensures ∙ ap pos (c .before .before .before .before .before .read-length .ensures)) _ (rw (toZ-ofZ
-    {z = c .before .before .before .before .word-from .result} (record {
-      sfits = c .before .before .before .before
-          .word-from .ok;
-    })) at (c .before .before .bind .ensures)) (c .done .result) (rw (toZ-ofZ {z = c .before .before
-    .before .before .word-from .result} (record { sfits = c .before .before .before .before .word-from .ok })) at (c
-    .done .ensures))
+returns-2 c =
+    let a = c .before .before .before .before .before .before .before .before .before .before .args in
+    let word = c .before .before .before .before .before .before .word-of in
+    let cell = c .before .before .before .before .before .named-cell in
+    let number = c .before .before .before .word-from in
+    length-value (store-of (a .slots .now) (a .heads .now)) (a .calls) (a .x) (a .a) (a .next) (a .steps) (a .env .now)
+    (c .before .before .before .before .before .before .before .before .if1 .left) (word .result) (word .ensures)
+    (cell .result) (rw (toZ-ofZ {z = word .result} (record { sfits = word .ok })) at (cell .ensures))
+    (number .result) (number .ensures ∙ ap pos (c .before .before .before .before .read-length .ensures)) _ (rw
+    (toZ-ofZ {z = number .result} (record { sfits = number .ok })) at (c .before .bind .ensures)) (c .done .result)
+    (rw (toZ-ofZ {z = number .result} (record { sfits = number .ok })) at (c .done .ensures))
 
 pub work-length-spec : {M : Type 1} → statement M
 work-length-spec =
@@ -85,5 +66,4 @@ work-length-spec =
     bind-requires
     sub-done
     done-requires
-    same-length
     returns-2)

@@ -9,10 +9,10 @@ halted-requires : tie.Need-halted-requires
 halted-requires c κs = search needs
 
 returns : tie.Need-returns
-returns c = operation-spent (c .before .before .args .calls) (c .before .before .args .kind) (c .before .before
-    .args .x) (c .before .before .args .a) (c .before .before .args .b) (c .before .before .args .next) (c .before
-    .before .args .steps) (c .before .before .args .env .now) (c .halted .result) (c .before .if1 .taken) (c .halted
-    .ensures)
+returns c =
+    let a = c .before .before .args in
+    operation-spent (a .calls) (a .kind) (a .x) (a .a) (a .b) (a .next) (a .steps) (a .env .now) (c .halted .result)
+    (c .before .if1 .taken) (c .halted .ensures)
 
 word-of-requires : tie.Need-word-of-requires
 word-of-requires c κs = search needs
@@ -44,66 +44,41 @@ sub-halted c = search needs
 halted-requires-2 : tie.Need-halted-requires-2
 halted-requires-2 c κs = search needs
 
-same-length : tie.Need-same-length
-same-length c = search needs
-
 returns-2 : tie.Need-returns-2
-returns-2 c = operation-value (c .before .before .before .before .before .before .before .before .before .before
-    .before .before .before .args .calls) (c .before .before .before .before .before .before .before .before .before
-    .before .before .before .before .args .kind) (c .before .before .before .before .before .before .before .before
-    .before .before .before .before .before .args .x) (c .before .before .before .before .before .before .before
-    .before .before .before .before .before .before .args .a) (c .before .before .before .before .before .before
-    .before .before .before .before .before .before .before .args .b) (c .before .before .before .before .before
-    .before .before .before .before .before .before .before .before .args .next) (c .before .before .before .before
-    .before .before .before .before .before .before .before .before .before .args .steps) (c .before .before .before
-    .before .before .before .before .before .before .before .before .before .before .args .env .now) (c .before
-    .before .before .before .before .before .before .before .before .before .before .before .if1 .left) (c .before
-    .before .before .before .before .before .before .before .before .before .word-of .result) (c .before .before
-    .before .before .before .before .before .before .word-of2 .result) (c .before .before .before .before .before
-    .before .before .before .before .before .word-of .ensures) (c .before .before .before .before .before .before
-    .before .before .word-of2 .ensures) (c .before .before .before .before .before .before .before .operate .result)
-    (rw (
-      toZ-ofZ {z = c .before .before .before .before .before .before .before .before .before .before .word-of
-          .result} (record {
-            sfits = c .before .before .before .before .before .before .before .before .before .before
-                .word-of .ok;
-          }),
-      toZ-ofZ {z = c .before .before .before .before .before .before .before .before .word-of2
-          .result} (record { sfits = c .before .before .before .before .before .before .before .before .word-of2 .ok }),
-    )
-    at (c .before .before .before .before .before .before .before .operate .ensures)) (c .before .before .before
-    .before .before .z .given .0 .0) (c .before .before .before .before .before .z .given .1) _ (rw (toZ-ofZ {z = c
-    .before .before .before .before .before .z .given .0 .0} (record {
-      sfits = c .before .before .before .before
-          .known-told .given .0 .1;
-    })) at (c .before .before .bind .ensures)) (c .done .result) (rw (toZ-ofZ {z = c
-    .before .before .before .before .before .z .given .0 .0} (record {
-      sfits = c .before .before .before .before
-          .known-told .given .0 .1;
-    })) at (c .done .ensures))
-
-same-length-2 : tie.Need-same-length-2
-same-length-2 c = search needs
+returns-2 c =
+    let a = c .before .before .before .before .before .before .before .before .before .before .before .before .args in
+    let word = c .before .before .before .before .before .before .before .before .before .word-of in
+    let word2 = c .before .before .before .before .before .before .before .word-of2 in
+    let exact-is = c .before .before .before .before .before .before .operate in
+    let exact = c .before .before .before .before .z in
+    let told = c .before .before .before .known-told in
+    operation-value (a .calls) (a .kind) (a .x) (a .a) (a .b) (a .next) (a .steps) (a .env .now)
+    (c .before .before .before .before .before .before .before .before .before .before .before .if1 .left)
+    (word .result) (word2 .result) (word .ensures) (word2 .ensures) (exact-is .result) (rw (
+      toZ-ofZ {z =
+          word .result} (record { sfits = word .ok }),
+      toZ-ofZ {z = word2 .result} (record { sfits = word2 .ok }),
+    ) at
+    (exact-is .ensures)) (exact .given .0 .0) (exact .given .1) _ (rw (toZ-ofZ {z = exact .given .0 .0} (record {
+      sfits = told .given .0 .1;
+    })) at (c .before .bind .ensures)) (c .done .result) (rw (toZ-ofZ {z =
+    exact .given .0 .0} (record { sfits = told .given .0 .1 })) at (c .done .ensures))
 
 returns-3 : tie.Need-returns-3
-returns-3 c = operation-over (c .before .before .before .before .before .before .before .before .before .args
-    .calls) (c .before .before .before .before .before .before .before .before .before .args .kind) (c .before
-    .before .before .before .before .before .before .before .before .args .x) (c .before .before .before .before
-    .before .before .before .before .before .args .a) (c .before .before .before .before .before .before .before
-    .before .before .args .b) (c .before .before .before .before .before .before .before .before .before .args
-    .next) (c .before .before .before .before .before .before .before .before .before .args .steps) (c .before
-    .before .before .before .before .before .before .before .before .args .env .now) (c .before .before .before
-    .before .before .before .before .before .if1 .left) (c .before .before .before .before .before .before .word-of
-    .result) (c .before .before .before .before .word-of2 .result) (c .before .before .before .before .before
-    .before .word-of .ensures) (c .before .before .before .before .word-of2 .ensures) (c .before .before .before
-    .operate .result) (rw (
-      toZ-ofZ {z = c .before .before .before .before .before .before .word-of .result} (record
-          { sfits = c .before .before .before .before .before .before .word-of .ok }),
-      toZ-ofZ {z = c .before .before
-          .before .before .word-of2 .result} (record { sfits = c .before .before .before .before .word-of2 .ok }),
-    ) at (c
-    .before .before .before .operate .ensures)) (c .before .enum-told .given .1) (c .halted2 .result) (c .halted2
-    .ensures)
+returns-3 c =
+    let a = c .before .before .before .before .before .before .before .before .before .args in
+    let word = c .before .before .before .before .before .before .word-of in
+    let word2 = c .before .before .before .before .word-of2 in
+    let exact-is = c .before .before .before .operate in
+    operation-over (a .calls) (a .kind) (a .x) (a .a) (a .b) (a .next) (a .steps) (a .env .now)
+    (c .before .before .before .before .before .before .before .before .if1 .left) (word .result) (word2 .result)
+    (word .ensures) (word2 .ensures) (exact-is .result) (rw (
+      toZ-ofZ {z = word .result} (record {
+        sfits = word .ok;
+      }),
+      toZ-ofZ {z = word2 .result} (record { sfits = word2 .ok }),
+    ) at (exact-is .ensures))
+    (c .before .enum-told .given .1) (c .halted2 .result) (c .halted2 .ensures)
 
 pub work-operation-spec : {M : Type 1} → statement M
 work-operation-spec =
@@ -121,7 +96,5 @@ work-operation-spec =
     enum-told
     sub-halted
     halted-requires-2
-    same-length
     returns-2
-    same-length-2
     returns-3)

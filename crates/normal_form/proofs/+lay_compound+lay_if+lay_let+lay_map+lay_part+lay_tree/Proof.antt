@@ -1189,7 +1189,7 @@ lay-part-returns t c = number-laid (c .before .before .before .before .args .ope
 
 lay-part-node-at-requires : (t : ℕ) → lay-part-lts.Need-node-at-requires (lay-part-claims t) (lay-part-at t)
     lay-part.Post
-lay-part-node-at-requires t c κs = (c .before .before .before .before .pre .1 .0 .parts, omega arith)
+lay-part-node-at-requires t c κs = search needs
 
 lay-part-enum-known-kind : (t : ℕ) → lay-part-lts.Need-enum-known-kind (lay-part-claims t) (lay-part-at t)
     lay-part.Post

@@ -38,13 +38,13 @@ add-low-at : tie.Need-add-low-at Inv-loop μ-loop
 add-low-at c = omega (arith, c .before .loop .inv .0)
 
 low-at-requires : tie.Need-low-at-requires Inv-loop μ-loop
-low-at-requires c κs = (c .before .before .before .before .pre .0, omega arith)
+low-at-requires c κs = search needs
 
 add-high-at : tie.Need-add-high-at Inv-loop μ-loop
 add-high-at c = omega (arith, c .before .before .loop .inv .0)
 
 high-at-requires : tie.Need-high-at-requires Inv-loop μ-loop
-high-at-requires c κs = (c .before .before .before .before .before .pre .0, omega arith)
+high-at-requires c κs = search needs
 
 cast-places : tie.Need-cast-places Inv-loop μ-loop
 cast-places c = search needs

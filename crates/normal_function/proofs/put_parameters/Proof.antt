@@ -36,7 +36,7 @@ add-high-at : tie.Need-add-high-at Inv-loop μ-loop
 add-high-at c = omega (arith, c .before .loop .inv .0)
 
 high-at-requires : tie.Need-high-at-requires Inv-loop μ-loop
-high-at-requires c κs = (c .before .before .before .before .pre .0, omega arith)
+high-at-requires c κs = search needs
 
 cast-put-row : tie.Need-cast-put-row Inv-loop μ-loop
 cast-put-row c = omega (arith, c .before .before .before .before .loop .inv .0)

@@ -34,7 +34,7 @@ array-write-starts : tie.Need-array-write-starts Inv-loop μ-loop
 array-write-starts c = omega (arith, c .before .loop .inv .0 .few)
 
 high-at-requires : tie.Need-high-at-requires Inv-loop μ-loop
-high-at-requires c κs = (c .before .loop .inv .0 .parts, omega arith)
+high-at-requires c κs = search needs
 
 array-write-results : tie.Need-array-write-results Inv-loop μ-loop
 array-write-results c = omega (arith, c .before .before .loop .inv .0 .few)

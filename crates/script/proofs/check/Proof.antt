@@ -1,5 +1,5 @@
 -- `script::check` meets its contract, by the laws of `Laws`.
-use Rattle.script.proofs.Laws.{unknown-found, starts-ready, mismatch-found, crowd-found, accepted}
+use Rattle.script.proofs.Laws.{unknown-found, mismatch-found, crowd-found, accepted}
 use borrow.Author.Needs.{needs}
 use Rattle.script.proofs.check.Statement.{statement}
 use Rattle.script.proofs.check.Tie as tie
@@ -20,10 +20,7 @@ slice-aggregate-type-script : tie.Need-slice-aggregate-type-script
 slice-aggregate-type-script c = search needs
 
 type-script-requires : tie.Need-type-script-requires
-type-script-requires c κs =
-    starts-ready (c .before .before .before .before .before .before .before .before .pre) _
-    (c .before .before .before .before .name-script .ensures .0) _ (c .before .enum-told .given .1) _
-    (c .before .before .before .before .name-script .ensures .1)
+type-script-requires c κs = search needs
 
 enum-told-2 : tie.Need-enum-told-2
 enum-told-2 c = search needs

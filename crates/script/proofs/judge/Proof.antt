@@ -21,20 +21,10 @@ enum-told : tie.Need-enum-told
 enum-told c = search needs
 
 short-at-requires : tie.Need-short-at-requires
-short-at-requires c κs =
-    omega (
-      arith,
-      taken (c .before .before .before .before .args .file .now) _ _ _ refl refl
-          (sym (c .enum-told .given .1) ∙ c .before .before .read-file .ensures) .long,
-    )
+short-at-requires c κs = search needs
 
 short-at-requires-2 : tie.Need-short-at-requires-2
-short-at-requires-2 c κs =
-    omega (
-      arith,
-      taken (c .before .before .before .before .before .args .file .now) _ _ _ refl refl
-          (sym (c .before .enum-told .given .1) ∙ c .before .before .before .read-file .ensures) .long,
-    )
+short-at-requires-2 c κs = search needs
 
 add-end : tie.Need-add-end
 add-end c = search needs

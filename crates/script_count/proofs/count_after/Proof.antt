@@ -1,12 +1,14 @@
 -- `script_count::count_after` meets its contract.
-use native.Mathlib.Omega.{arith}
-use borrow.Author.Tests.{eq-eqb, ne-eqb}
+use borrow.Author.Tests.{eq-eqb, ne-eqb, lt-ltb, le-ltb}
 use borrow.Author.Needs.{needs}
 use Rattle.script_count.proofs.count_after.Statement.{statement}
 use Rattle.script_count.proofs.count_after.Tie as tie
 
 returns : tie.Need-returns
-returns c = (rw (eq-eqb _ _ (c .if1 .taken)), omega arith)
+returns c = rw (eq-eqb _ _ (c .if1 .taken))
+
+returns-2 : tie.Need-returns-2
+returns-2 c = rw (ne-eqb _ _ (c .before .if1 .left), lt-ltb _ _ (c .if2 .taken))
 
 new-names-requires : tie.Need-new-names-requires
 new-names-requires c κs = search needs
@@ -17,10 +19,15 @@ wide-requires c κs = search needs
 add-result : tie.Need-add-result
 add-result c = search needs
 
-returns-2 : tie.Need-returns-2
-returns-2 c =
-    (rw (ne-eqb _ _ (c .before .before .if1 .left), c .wide .ensures .0, c .before .new-names .ensures), omega arith)
+returns-3 : tie.Need-returns-3
+returns-3 c =
+    rw (
+      ne-eqb _ _ (c .before .before .before .if1 .left),
+      le-ltb _ _ (c .before .before .if2 .left),
+      c .wide .ensures .0,
+      c .before .new-names .ensures,
+    )
 
 pub count-after-spec : {M : Type 1} → statement M
 count-after-spec =
-    tie.close (tie.spec returns new-names-requires wide-requires add-result returns-2)
+    tie.close (tie.spec returns returns-2 new-names-requires wide-requires add-result returns-3)

@@ -33,13 +33,7 @@ start-after-requires : tie.Need-start-after-requires Inv-loop μ-loop
 start-after-requires c κs = search needs
 
 count-after-requires : tie.Need-count-after-requires Inv-loop μ-loop
-count-after-requires c κs =
-    omega (
-      arith,
-      c .before .before .before .before .before .loop .inv .few,
-      c .before .before .before .before .before .loop .inv .under,
-      c .before .before .before .before .before .before .before .pre,
-    )
+count-after-requires c κs = search needs
 
 add-p : tie.Need-add-p Inv-loop μ-loop
 add-p c = search needs
@@ -52,7 +46,7 @@ loop-again c =
     pass-goes (c .before .before .before .before .before .before .loop .inv)
     (c .before .before .before .before .before .loop-test .taken)
     (sym (c .before .before .before .crowd-ends .ensures) ∙ c .before .before .if1 .left) _ _
-    (c .before .start-after .ensures) (c .count-after .ensures .0) (c .count-after .ensures .1)
+    (c .before .start-after .ensures) (c .count-after .ensures)
 
 returns-2 : tie.Need-returns-2 Inv-loop μ-loop
 returns-2 c = pass-over (c .before .before .loop .inv) (c .before .loop-test .left) (c .if2 .taken)

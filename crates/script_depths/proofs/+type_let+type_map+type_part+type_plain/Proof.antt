@@ -143,15 +143,10 @@ type-let-type-part-requires-2 : (t : ℕ) →
     type-let-lts.Need-type-part-requires-2 (type-let-claims t) (type-let-at t) type-let.Post
 type-let-type-part-requires-2 t c κs = (
   omega arith,
-  record {
-    functions =
-        c .before .before .before .before .before .before .before .before .before .before .before .before .before .pre
-        .1 .functions;
-    whole = simp length-set (ap length
-        (c .before .before .before .before .before .before .before .type-part .ensures .1)
-        ∙ c .before .before .before .before .before .before .before .before .before .before .before .before .before
-        .pre .1 .whole);
-  },
+  simp length-set (ap length
+      (c .before .before .before .before .before .before .before .type-part .ensures .1)
+      ∙ c .before .before .before .before .before .before .before .before .before .before .before .before .before
+      .pre .1),
 )
 
 type-let-slice-write-table-2 : (t : ℕ) →
@@ -163,7 +158,7 @@ type-let-slice-write-table-2 t c =
       ap length
           (c .before .before .before .before .before .before .before .before .before .before .type-part .ensures .1),
       c .before .before .before .before .before .before .before .before .before .before .before .before .before
-          .before .before .before .pre .1 .whole,
+          .before .before .before .pre .1,
     )
 
 type-let-enum-known-n : (t : ℕ) → type-let-lts.Need-enum-known-n (type-let-claims t) (type-let-at t) type-let.Post
@@ -188,7 +183,7 @@ type-let-returns t c = (
       (c .before .before .before .before .before .before .before .before .before .before .before .before .before
       .before .before .before .args .x) _ _ _ _ _ _
       (c .before .before .before .before .before .before .before .before .before .before .before .before .before
-      .before .before .before .pre .1 .whole) (omega arith)
+      .before .before .before .pre .1) (omega arith)
       (c .before .before .before .before .before .before .before .before .before .before .type-part .ensures .1)
       (c .before .before .before .before .before .before .before .before .before .before .type-part .ensures .0)
       (c .before .before .before .before .before .before .d .given .1) (c .before .before .type-part2 .ensures .0)
@@ -247,15 +242,10 @@ type-map-type-part-requires-2 : (t : ℕ) →
     type-map-lts.Need-type-part-requires-2 (type-map-claims t) (type-map-at t) type-map.Post
 type-map-type-part-requires-2 t c κs = (
   omega arith,
-  record {
-    functions =
-        c .before .before .before .before .before .before .before .before .before .before .before .before .before
-        .before .pre .1 .0 .functions;
-    whole = simp length-set (ap length
-        (c .before .before .before .before .before .before .before .before .type-part .ensures .1)
-        ∙ c .before .before .before .before .before .before .before .before .before .before .before .before .before
-        .before .pre .1 .0 .whole);
-  },
+  simp length-set (ap length
+      (c .before .before .before .before .before .before .before .before .type-part .ensures .1)
+      ∙ c .before .before .before .before .before .before .before .before .before .before .before .before .before
+      .before .pre .1 .0),
 )
 
 type-map-slice-write-table-2 : (t : ℕ) →
@@ -268,7 +258,7 @@ type-map-slice-write-table-2 t c =
           (c .before .before .before .before .before .before .before .before .before .before .before .type-part
           .ensures .1),
       c .before .before .before .before .before .before .before .before .before .before .before .before .before
-          .before .before .before .before .pre .1 .0 .whole,
+          .before .before .before .before .pre .1 .0,
     )
 
 type-map-wrap-requires : (t : ℕ) → type-map-lts.Need-wrap-requires (type-map-claims t) (type-map-at t) type-map.Post
@@ -290,7 +280,7 @@ type-map-returns-2 t c = (
       (c .before .before .before .before .before .before .before .before .before .before .before .before .before
       .before .before .before .before .before .args .x) _ _ _ _ _ _
       (c .before .before .before .before .before .before .before .before .before .before .before .before .before
-      .before .before .before .before .before .pre .1 .0 .whole) (omega arith)
+      .before .before .before .before .before .pre .1 .0) (omega arith)
       (c .before .before .before .before .before .before .before .before .before .before .before .before
       .type-part .ensures .1) (c .before .before .before .before .before .before .before .before .before .before
       .before .before .type-part .ensures .0)
@@ -386,12 +376,7 @@ type-part-type-map-requires t c κs = (
   (
     c .before .before .before .before .before .before .before .before .before .before .before .before .before .before
         .pre .1,
-    omega (
-      arith,
-      there t (c .before .before .before .before .before),
-      c .before .before .before .before .before .before .before .before .before .before .before .before .before
-          .before .pre .1 .functions .parts .few,
-    ),
+    there t (c .before .before .before .before .before),
   ),
 )
 
@@ -418,12 +403,7 @@ type-part-type-plain-requires t c κs = (
   (
     c .before .before .before .before .before .before .before .before .before .before .before .before .before .before
         .pre .1,
-    omega (
-      arith,
-      there t (c .before .before .before .before .before),
-      c .before .before .before .before .before .before .before .before .before .before .before .before .before
-          .before .pre .1 .functions .parts .few,
-    ),
+    there t (c .before .before .before .before .before),
     node-seen t (c .before .before .before .before .before) .lowest,
     node-seen t (c .before .before .before .before .before) .highest,
   ),
@@ -511,12 +491,8 @@ type-plain-type-part-requires : (t : ℕ) →
     type-plain-μ-loop
 type-plain-type-part-requires t c κs = (
   omega arith,
-  record {
-    functions = c .before .before .before .before .before .before .before .before .pre .1 .0 .functions;
-    whole =
-        ap length (c .before .before .loop .inv .1)
-        ∙ c .before .before .before .before .before .before .before .before .pre .1 .0 .whole;
-  },
+  ap length (c .before .before .loop .inv .1)
+      ∙ c .before .before .before .before .before .before .before .before .pre .1 .0,
 )
 
 type-plain-enum-known-d : (t : ℕ) →
@@ -588,7 +564,6 @@ type-plain-judge-requires : (t : ℕ) →
     type-plain-lts.Need-judge-requires (type-plain-claims t) (type-plain-at t) type-plain.Post type-plain-Inv-loop
     type-plain-μ-loop
 type-plain-judge-requires t c κs = (
-  c .before .before .before .before .before .before .before .before .pre .1 .0 .functions,
   c .before .before .loop .inv .2 .long,
   c .before .before .before .before .before .before .before .before .pre .1 .2,
   c .before .before .before .before .before .before .before .before .pre .1 .3,

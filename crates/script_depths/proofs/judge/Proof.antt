@@ -2,10 +2,9 @@
 use mathlib.Core.Path.{_≡_}
 use native.Mathlib.Omega.{arith}
 use Prim.Native.Nat.{ℕ}
-use lib.ListN.{getD}
 use Rattle.semantics.specs.Types.{Signature}
 use Rattle.script_depths.specs.Walk.{signature-of}
-use Rattle.script_depths.proofs.Rules.{start-at, call-says, literal-good, literal-bad, index-number}
+use Rattle.script_depths.proofs.Rules.{at-the-end, call-says, literal-good, literal-bad, index-number}
 use Rattle.script_depths.proofs.Rules.{index-good, index-bad, length-number, length-good, if-guard, if-good}
 use Rattle.script_depths.proofs.Rules.{if-bad, numbers-good, numbers-bad, few-parts}
 use borrow.Author.Needs.{needs}
@@ -16,71 +15,51 @@ use Rattle.script_depths.proofs.judge.Tie as tie
 abbrev signatures : tie.Start → ℕ → Signature
 signatures c = signature-of (c .args .kinds .now) (c .args .operands .now) (c .args .starts .now)
 
--- where the called function stands
-start : (c : tie.Start) → c .args .kind ≡ 8 →
-    getD (c .args .starts .now) (c .args .low) 0 ≡ getD (c .args .starts .now) (c .args .low) 1024
-start c e = start-at (c .args .starts .now) (c .args .low) (c .pre .0 .long) (rw e at (c .pre .2))
-
-mul-judge-call : tie.Need-mul-judge-call
-mul-judge-call c = search needs
-
-shared-slice-read-judge-call : tie.Need-shared-slice-read-judge-call
-shared-slice-read-judge-call c =
-    omega (
-      arith,
-      c .before .before .before .before .before .before .pre .0 .long,
-      rw (c .before .if1 .taken) at (c .before .before .before .before .before .before .pre .2),
-    )
+start-of-requires : tie.Need-start-of-requires
+start-of-requires c κs = search needs
 
 judge-call-requires : tie.Need-judge-call-requires
 judge-call-requires c κs = (
-  c .before .before .before .before .before .before .pre .0 .parts,
   omega (
     arith,
-    c .before .before .before .before .before .before .pre .1,
-    rw (c .before .if1 .taken) at (c .before .before .before .before .before .before .pre .3),
+    c .before .before .before .before .before .before .pre .0,
+    rw (c .before .if1 .taken) at (c .before .before .before .before .before .before .pre .2),
   ),
-  omega (
-    arith,
-    start (c .before .before .before .before .before .before) (c .before .if1 .taken),
-    c .before .before .before .before .before .before .pre .0 .near
-        (c .before .before .before .before .before .before .args .low),
-  ),
+  omega (arith, c .start-of .ensures),
 )
 
 returns : tie.Need-returns
 returns c =
     call-says (signatures (c .before .before .before .before .before .before .before)) _ _ _ _
-    (c .before .before .before .before .before .before .before .pre .1) (c .before .before .if1 .taken) _
-    (rw (start (c .before .before .before .before .before .before .before)
-    (c .before .before .if1 .taken)) at (c .judge-call .ensures))
+    (c .before .before .before .before .before .before .before .pre .0) (c .before .before .if1 .taken) _
+    (rw (at-the-end _ _ _ (c .before .start-of .result) (c .before .start-of .ensures)) at (c .judge-call .ensures))
 
 all-are-requires : tie.Need-all-are-requires
 all-are-requires c κs =
     omega (
       arith,
-      c .before .before .before .before .before .before .pre .1,
-      rw (c .if2 .taken) at (c .before .before .before .before .before .before .pre .2),
+      c .before .before .before .before .before .before .pre .0,
+      rw (c .if2 .taken) at (c .before .before .before .before .before .before .pre .1),
     )
 
-add-t18 : tie.Need-add-t18
-add-t18 c =
+add-t15 : tie.Need-add-t15
+add-t15 c =
     omega (
       arith,
       rw (c .before .before .if2 .taken) at (c .before .before .before .before .before .before .before .before .pre
-          .3),
+          .2),
     )
 
 returns-2 : tie.Need-returns-2
 returns-2 c =
     literal-good (signatures (c .before .before .before .before .before .before .before .before)) _ _ _ _
-    (c .before .before .before .before .before .before .before .before .pre .1) (c .before .before .if2 .taken) _
+    (c .before .before .before .before .before .before .before .before .pre .0) (c .before .before .if2 .taken) _
     (c .before .all-are .ensures) (c .if3 .taken)
 
 returns-3 : tie.Need-returns-3
 returns-3 c =
     literal-bad (signatures (c .before .before .before .before .before .before .before .before)) _ _ _ _
-    (c .before .before .before .before .before .before .before .before .pre .1) (c .before .before .if2 .taken) _
+    (c .before .before .before .before .before .before .before .before .pre .0) (c .before .before .if2 .taken) _
     (c .before .all-are .ensures) (c .if3 .left)
 
 shared-slice-read-a : tie.Need-shared-slice-read-a
@@ -92,44 +71,44 @@ shared-slice-read-b c = search needs
 returns-4 : tie.Need-returns-4
 returns-4 c =
     index-number (signatures (c .before .before .before .before .before .before .before .before .before .before)) _ _
-    _ _ (c .before .before .before .before .before .before .before .before .before .before .pre .1)
+    _ _ (c .before .before .before .before .before .before .before .before .before .before .pre .0)
     (c .before .if4 .taken) (c .if5 .taken)
 
-sub-t23 : tie.Need-sub-t23
-sub-t23 c = search needs
+sub-t20 : tie.Need-sub-t20
+sub-t20 c = search needs
 
 returns-5 : tie.Need-returns-5
 returns-5 c =
     index-good (signatures
     (c .before .before .before .before .before .before .before .before .before .before .before)) _ _ _ _
-    (c .before .before .before .before .before .before .before .before .before .before .before .pre .1)
+    (c .before .before .before .before .before .before .before .before .before .before .before .pre .0)
     (c .before .before .if4 .taken) (c .before .if5 .left) (c .if6 .taken)
 
 returns-6 : tie.Need-returns-6
 returns-6 c =
     index-bad (signatures (c .before .before .before .before .before .before .before .before .before .before .before))
-    _ _ _ _ (c .before .before .before .before .before .before .before .before .before .before .before .pre .1)
+    _ _ _ _ (c .before .before .before .before .before .before .before .before .before .before .before .pre .0)
     (c .before .before .if4 .taken) (c .before .if5 .left) (c .if6 .left)
 
 returns-7 : tie.Need-returns-7
 returns-7 c =
     length-number (signatures
     (c .before .before .before .before .before .before .before .before .before .before .before)) _ _ _ _
-    (c .before .before .before .before .before .before .before .before .before .before .before .pre .1)
+    (c .before .before .before .before .before .before .before .before .before .before .before .pre .0)
     (c .before .if7 .taken) (c .if8 .taken)
 
 returns-8 : tie.Need-returns-8
 returns-8 c =
     length-good (signatures
     (c .before .before .before .before .before .before .before .before .before .before .before)) _ _ _ _
-    (c .before .before .before .before .before .before .before .before .before .before .before .pre .1)
+    (c .before .before .before .before .before .before .before .before .before .before .before .pre .0)
     (c .before .if7 .taken) (c .if8 .left)
 
 returns-9 : tie.Need-returns-9
 returns-9 c =
     if-guard (signatures
     (c .before .before .before .before .before .before .before .before .before .before .before .before)) _ _ _ _
-    (c .before .before .before .before .before .before .before .before .before .before .before .before .pre .1)
+    (c .before .before .before .before .before .before .before .before .before .before .before .before .pre .0)
     (c .before .if9 .taken) (c .if10 .taken)
 
 shared-slice-read-if11 : tie.Need-shared-slice-read-if11
@@ -140,7 +119,7 @@ returns-10 c =
     if-good (signatures
     (c .before .before .before .before .before .before .before .before .before .before .before .before .before
     .before)) _ _ _ _ (c .before .before .before .before .before .before .before .before .before .before .before
-    .before .before .before .pre .1) (c .before .before .before .if9 .taken) (c .before .before .if10 .left)
+    .before .before .before .pre .0) (c .before .before .before .if9 .taken) (c .before .before .if10 .left)
     (c .if11 .taken)
 
 returns-11 : tie.Need-returns-11
@@ -148,7 +127,7 @@ returns-11 c =
     if-bad (signatures
     (c .before .before .before .before .before .before .before .before .before .before .before .before .before
     .before)) _ _ _ _ (c .before .before .before .before .before .before .before .before .before .before .before
-    .before .before .before .pre .1) (c .before .before .before .if9 .taken) (c .before .before .if10 .left)
+    .before .before .before .pre .0) (c .before .before .before .if9 .taken) (c .before .before .if10 .left)
     (c .if11 .left)
 
 parts-of-requires : tie.Need-parts-of-requires
@@ -161,7 +140,7 @@ all-are-requires-2 : tie.Need-all-are-requires-2
 all-are-requires-2 c κs =
     omega (
       arith,
-      c .before .before .before .before .before .before .before .before .before .before .before .before .pre .1,
+      c .before .before .before .before .before .before .before .before .before .before .before .before .pre .0,
       c .parts-of .ensures,
       few-parts
           (c .before .before .before .before .before .before .before .before .before .before .before .before .args
@@ -170,8 +149,8 @@ all-are-requires-2 c κs =
           .low)
           (c .before .before .before .before .before .before .before .before .before .before .before .before .args
           .high)
-          (c .before .before .before .before .before .before .before .before .before .before .before .before .pre .2)
-          (c .before .before .before .before .before .before .before .before .before .before .before .before .pre .3),
+          (c .before .before .before .before .before .before .before .before .before .before .before .before .pre .1)
+          (c .before .before .before .before .before .before .before .before .before .before .before .before .pre .2),
     )
 
 returns-12 : tie.Need-returns-12
@@ -179,7 +158,7 @@ returns-12 c =
     numbers-good (signatures
     (c .before .before .before .before .before .before .before .before .before .before .before .before .before
     .before)) _ _ _ _ (c .before .before .before .before .before .before .before .before .before .before .before
-    .before .before .before .pre .1)
+    .before .before .before .pre .0)
     (c .before .before .before .before .before .before .before .before .before .if1 .left)
     (c .before .before .before .before .before .before .before .before .if2 .left)
     (c .before .before .before .before .before .if4 .left) (c .before .before .before .before .if7 .left)
@@ -191,7 +170,7 @@ returns-13 c =
     numbers-bad (signatures
     (c .before .before .before .before .before .before .before .before .before .before .before .before .before
     .before)) _ _ _ _ (c .before .before .before .before .before .before .before .before .before .before .before
-    .before .before .before .pre .1)
+    .before .before .before .pre .0)
     (c .before .before .before .before .before .before .before .before .before .if1 .left)
     (c .before .before .before .before .before .before .before .before .if2 .left)
     (c .before .before .before .before .before .if4 .left) (c .before .before .before .before .if7 .left)
@@ -202,18 +181,17 @@ pub judge-spec : {M : Type 1} → statement M
 judge-spec =
     tie.close
     (tie.spec
-    mul-judge-call
-    shared-slice-read-judge-call
+    start-of-requires
     judge-call-requires
     returns
     all-are-requires
-    add-t18
+    add-t15
     returns-2
     returns-3
     shared-slice-read-a
     shared-slice-read-b
     returns-4
-    sub-t23
+    sub-t20
     returns-5
     returns-6
     returns-7

@@ -9,7 +9,7 @@ low-at-requires c κs = search needs
 
 returns : tie.Need-returns
 returns c =
-    other-count _ _ _ _ _ (c .before .before .before .before .before .pre .1) (c .before .low-at .result)
+    other-count _ _ _ _ _ (c .before .before .before .before .before .pre .0) (c .before .low-at .result)
     (c .before .low-at .ensures) (c .if1 .taken)
 
 add-parameters-match : tie.Need-add-parameters-match

@@ -19,7 +19,7 @@ abbrev μ-loop : tie.MeasureT-loop
 μ-loop kinds operands at ds n i₀ i = n - i
 
 loop-holds : tie.Need-loop-holds Inv-loop μ-loop
-loop-holds c = (omega arith, match-starts _ _ _ _ _ (c .before .before .before .pre .1))
+loop-holds c = (omega arith, match-starts _ _ _ _ _ (c .before .before .before .pre .0))
 
 add-high-at : tie.Need-add-high-at Inv-loop μ-loop
 add-high-at c = search needs
@@ -32,7 +32,7 @@ shared-slice-read-if1 c = search needs
 
 returns : tie.Need-returns Inv-loop μ-loop
 returns c =
-    match-not _ _ _ _ _ (c .before .before .before .before .before .before .before .before .pre .1)
+    match-not _ _ _ _ _ (c .before .before .before .before .before .before .before .before .pre .0)
     (c .before .before .before .before .loop .i) (c .before .before .before .loop-test .taken)
     (λ e. c .if1 .taken (c .before .before .high-at .ensures ∙ e)) (c .before .before .before .before .loop .inv .1)
 
@@ -45,14 +45,14 @@ loop-less c = search needs
 loop-again : tie.Need-loop-again Inv-loop μ-loop
 loop-again c = (
   omega arith,
-  match-goes _ _ _ _ _ (c .before .before .before .before .before .before .before .before .pre .1)
+  match-goes _ _ _ _ _ (c .before .before .before .before .before .before .before .before .pre .0)
       (c .before .before .before .before .loop .i) (c .before .before .before .loop-test .taken)
       (sym (c .before .before .high-at .ensures) ∙ c .if1 .left) (c .before .before .before .before .loop .inv .1),
 )
 
 returns-2 : tie.Need-returns-2 Inv-loop μ-loop
 returns-2 c =
-    match-all _ _ _ _ _ (c .before .before .before .before .before .pre .1) (c .before .loop .i) (c .loop-test .left)
+    match-all _ _ _ _ _ (c .before .before .before .before .before .pre .0) (c .before .loop .i) (c .loop-test .left)
     (c .before .loop .inv .1)
 
 pub parameters-match-spec : {M : Type 1} → statement M

@@ -132,12 +132,8 @@ name-binding-name-part-requires-2 : (t : ℕ) →
     name-binding-lts.Need-name-part-requires-2 (name-binding-claims t) (name-binding-at t) name-binding.Post
 name-binding-name-part-requires-2 t c κs = (
   omega arith,
-  (
-    c .before .before .before .before .before .before .before .before .before .before .before .before .pre .1 .0,
-    simp length-set (ap length (c .before .before .before .before .before .before .before .name-part .ensures .1)
-        ∙ c .before .before .before .before .before .before .before .before .before .before .before .before .pre .1
-        .1),
-  ),
+  simp length-set (ap length (c .before .before .before .before .before .before .before .name-part .ensures .1)
+      ∙ c .before .before .before .before .before .before .before .before .before .before .before .before .pre .1),
 )
 
 name-binding-slice-write-known-2 : (t : ℕ) →
@@ -149,7 +145,7 @@ name-binding-slice-write-known-2 t c =
       ap length
           (c .before .before .before .before .before .before .before .before .before .before .name-part .ensures .1),
       c .before .before .before .before .before .before .before .before .before .before .before .before .before
-          .before .before .pre .1 .1,
+          .before .before .pre .1,
     )
 
 name-binding-enum-known-n : (t : ℕ) →
@@ -179,7 +175,7 @@ name-binding-returns t c = let a =
     (c .before .before .before .before .before .before .before .before .before .before .name-part .result)
     (c .before .before .name-part2 .result)
     (c .before .before .before .before .before .before .before .before .before .before .before .before .before
-    .before .before .pre .1 .1) (omega arith)
+    .before .before .pre .1) (omega arith)
     (c .before .before .before .before .before .before .before .before .before .before .name-part .ensures .1)
     (c .before .before .name-part2 .ensures .1)
     (c .before .before .before .before .before .before .before .before .before .before .name-part .ensures .0)
@@ -351,11 +347,7 @@ name-parts-name-part-requires : (t : ℕ) →
     name-parts-μ-loop
 name-parts-name-part-requires t c κs = (
   omega arith,
-  (
-    c .before .before .before .before .before .before .pre .1 .0,
-    ap length
-        (c .before .before .loop .inv .1) ∙ c .before .before .before .before .before .before .pre .1 .1,
-  ),
+  ap length (c .before .before .loop .inv .1) ∙ c .before .before .before .before .before .before .pre .1,
 )
 
 name-parts-enum-known-q : (t : ℕ) →

@@ -23,7 +23,6 @@ add-name-parameters c = let a = c .before .before .before .before .before .befor
       inside (a .kinds .now) (a .operands .now) 0 0 (a .at) _ _ _
           (c .before .before .before .before .node-at .result) (omega arith)
           (c .before .before .before .before .node-at .ensures) (c .before .before .count .given .1),
-      c .before .before .before .before .before .before .before .pre .few,
     )
 
 name-parameters-requires : tie.Need-name-parameters-requires

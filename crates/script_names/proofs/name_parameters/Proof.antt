@@ -20,7 +20,7 @@ abbrev μ-loop : tie.MeasureT-loop
 μ-loop kinds operands functions known₀ at count p₀ left₀ known p left = left
 
 loop-holds : tie.Need-loop-holds Inv-loop μ-loop
-loop-holds c = (omega arith, c .before .before .before .pre .1, refl)
+loop-holds c = (omega arith, c .before .before .before .pre, refl)
 
 node-at-requires : tie.Need-node-at-requires Inv-loop μ-loop
 node-at-requires c κs = search needs
@@ -61,7 +61,6 @@ add-p c = let a = c .before .before .before .before .before .before .before .bef
           (c .before .before .before .before .before .before .before .loop .p) _ _ _
           (c .before .before .before .before .before .node-at .result) (omega arith)
           (c .before .before .before .before .before .node-at .ensures) (c .before .before .before .low .given .1),
-      c .before .before .before .before .before .before .before .before .before .before .before .pre .0 .few,
     )
 
 enum-told : tie.Need-enum-told Inv-loop μ-loop
@@ -118,7 +117,7 @@ loop-again c = let a =
     )
 
 name-part-requires : tie.Need-name-part-requires Inv-loop μ-loop
-name-part-requires c κs = (c .before .before .before .before .before .before .pre .0, c .before .before .loop .inv .1)
+name-part-requires c κs = c .before .before .loop .inv .1
 
 same-length-4 : tie.Need-same-length-4 Inv-loop μ-loop
 same-length-4 c = search needs

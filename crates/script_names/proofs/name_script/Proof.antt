@@ -2,7 +2,7 @@
 use Prim.Native.Nat.{_+_}
 use native.Mathlib.Omega.{arith}
 use mathlib.Core.Path.{_≡_, refl, sym, _∙_}
-use lib.ListN.{length, length-set}
+use lib.ListN.{length}
 use Rattle.script_read.specs.Told.{repeated, marked}
 use Rattle.script_read.proofs.Turns.{repeated-goes, repeated-stops, repeated-none, marked-goes, marked-stops}
 use Rattle.script_read.proofs.Turns.{marked-ends}
@@ -13,22 +13,20 @@ use Rattle.script_names.proofs.name_script.Tie as tie
 
 abbrev Inv-loop : tie.InvT-loop
 Inv-loop kinds operands functions starts₀ p₀ i₀ left₀ starts p i left =
-    (i + left ≡ functions) × (length starts ≡ 32) × (repeated functions (names-function kinds operands functions)
-    0 ≡ repeated left (names-function kinds operands functions) p) × (marked functions
-    (names-function kinds operands functions) 0 0 starts₀ ≡ marked left (names-function kinds operands functions) p i
-    starts)
+    (i + left ≡ functions) × (length starts ≡ length starts₀)
+    × (repeated functions (names-function kinds operands functions) 0
+    ≡ repeated left (names-function kinds operands functions) p)
+    × (marked functions (names-function kinds operands functions) 0 0 starts₀
+    ≡ marked left (names-function kinds operands functions) p i starts)
 
 abbrev μ-loop : tie.MeasureT-loop
 μ-loop kinds operands functions starts₀ p₀ i₀ left₀ starts p i left = left
 
 loop-holds : tie.Need-loop-holds Inv-loop μ-loop
-loop-holds c = (omega arith, c .before .before .before .pre .1, refl, refl)
+loop-holds c = (omega arith, refl, refl, refl)
 
-mul-starts : tie.Need-mul-starts Inv-loop μ-loop
-mul-starts c = search needs
-
-slice-write-starts : tie.Need-slice-write-starts Inv-loop μ-loop
-slice-write-starts c = search needs
+put-requires : tie.Need-put-requires Inv-loop μ-loop
+put-requires c κs = search needs
 
 name-function-requires : tie.Need-name-function-requires Inv-loop μ-loop
 name-function-requires c κs = search needs
@@ -40,19 +38,17 @@ enum-known-n : tie.Need-enum-known-n Inv-loop μ-loop
 enum-known-n c = search needs
 
 same-length : tie.Need-same-length Inv-loop μ-loop
-same-length c =
-    simp length-set (c .before .before .before .before .before .loop .inv .1 ∙ sym
-    (c .before .before .before .before .before .before .before .before .before .pre .1))
+same-length c = search needs
 
 returns : tie.Need-returns Inv-loop μ-loop
-returns c = (
-  repeated-stops _ _ _ _ _ _ _ _ (c .before .before .before .before .before .loop .inv .2)
-      (c .before .before .before .before .loop-test .taken) (c .before .before .before .name-function .ensures)
-      (c .before .n .given .1),
-  marked-stops _ _ _ _ _ _ (c .before .before .before .before .before .loop .inv .3)
-      (c .before .before .before .before .loop-test .taken) _ (c .before .before .before .name-function .ensures) _ _
-      (c .before .n .given .1),
-)
+returns c =
+    let named = c .before .before .before .name-function in
+    let inv = c .before .before .before .before .before .before .before .before .before .loop .inv in
+    let test = c .before .before .before .before .before .before .before .before .loop-test in (
+      repeated-stops _ _ _ _ _ _ _ _ (inv .2) (test .taken) (named .ensures) (c .before .n .given .1),
+      c .before .before .before .before .before .before .put .ensures
+          ∙ marked-stops _ _ _ _ _ _ (inv .3) (test .taken) _ (named .ensures) _ _ (c .before .n .given .1),
+    )
 
 add-i : tie.Need-add-i Inv-loop μ-loop
 add-i c = search needs
@@ -64,21 +60,20 @@ loop-less : tie.Need-loop-less Inv-loop μ-loop
 loop-less c = search needs
 
 loop-again : tie.Need-loop-again Inv-loop μ-loop
-loop-again c = (
-  omega (arith, c .before .before .before .before .before .loop .inv .0),
-  simp length-set
-      (c .before .before .before .before .before .loop .inv .1),
-  repeated-goes _ _ _ _ _ _ _
-      (c .before .before .before .before .before .loop .inv .2) (c .before .before .before .before .loop-test .taken)
-      (c .before .before .before .name-function .ensures) (c .before .q .given .1),
-  marked-goes _ _ _ _ _ _
-      (c .before .before .before .before .before .loop .inv .3) (c .before .before .before .before .loop-test .taken)
-      _
-      (c .before .before .before .name-function .ensures) _ (c .before .q .given .1),
-)
+loop-again c =
+    let named = c .before .before .before .name-function in
+    let put = c .before .before .before .before .before .before .put in
+    let inv = c .before .before .before .before .before .before .before .before .before .loop .inv in
+    let test = c .before .before .before .before .before .before .before .before .loop-test in (
+      omega (arith, inv .0),
+      put .kept .0 ∙ inv .1,
+      repeated-goes _ _ _ _ _ _ _ (inv .2) (test .taken) (named .ensures) (c .before .q .given .1),
+      rw (put .ensures)
+          (marked-goes _ _ _ _ _ _ (inv .3) (test .taken) _ (named .ensures) _ (c .before .q .given .1)),
+    )
 
 same-length-2 : tie.Need-same-length-2 Inv-loop μ-loop
-same-length-2 c = c .before .loop .inv .1 ∙ sym (c .before .before .before .before .before .pre .1)
+same-length-2 c = search needs
 
 returns-2 : tie.Need-returns-2 Inv-loop μ-loop
 returns-2 c = (
@@ -94,8 +89,7 @@ name-script-spec =
     Inv-loop
     μ-loop
     loop-holds
-    mul-starts
-    slice-write-starts
+    put-requires
     name-function-requires
     enum-known-q
     enum-known-n

@@ -1,5 +1,5 @@
 -- `script_read::read_file` meets its contract, by the laws of `Whole`.
-use Rattle.script_read.proofs.Whole.{few, file-parts, too-short, out-of-range, other-length, whole-file}
+use Rattle.script_read.proofs.Whole.{too-short, out-of-range, other-length, whole-file}
 use Prim.Native.Nat.{_-_}
 use borrow.Author.Tests.{not-true, not-false}
 use native.Mathlib.Omega.{arith}
@@ -63,13 +63,7 @@ part-operands-end : tie.Need-part-operands-end
 part-operands-end c = search needs
 
 read-script-requires : tie.Need-read-script-requires
-read-script-requires c κs =
-    file-parts (c .before .before .before .before .before .before .before .before .before .args .bytes .now)
-    (c .before .before .before .before .before .short-at2 .result)
-    (few (c .before .before .before .before .before .before .short-at .result)
-    (c .before .before .before .before .before .short-at2 .result)
-    (sym (c .before .before .before .before .sizes-fit .ensures)
-    ∙ not-false _ (c .before .before .before .if2 .left))) (c .before .before .if3 .left)
+read-script-requires c κs = search needs
 
 returns-4 : tie.Need-returns-4
 returns-4 c =

@@ -13,17 +13,13 @@ node-at-requires c κs = search needs
 enum-known-count : tie.Need-enum-known-count
 enum-known-count c = search needs
 
-slice-aggregate-type-parameters : tie.Need-slice-aggregate-type-parameters
-slice-aggregate-type-parameters c = search needs
-
 add-type-parameters : tie.Need-add-type-parameters
 add-type-parameters c =
     omega (
       arith,
-      inside _ (c .before .before .before .before .before .before .before .before .args .operands .now) 0
-          0 _ _ _ _ (c .before .before .before .before .node-at .result) (omega arith)
-          (c .before .before .before .before .node-at .ensures) (c .before .before .count .given .1),
-      c .before .before .before .before .before .before .before .before .pre .parts .few,
+      inside _ (c .before .before .before .before .before .before .before .args .operands .now) 0
+          0 _ _ _ _ (c .before .before .before .node-at .result) (omega arith)
+          (c .before .before .before .node-at .ensures) (c .before .count .given .1),
     )
 
 type-parameters-requires : tie.Need-type-parameters-requires
@@ -44,28 +40,28 @@ enum-told-2 c = search needs
 returns : tie.Need-returns
 returns c =
     result-fits _ _ _ (seen _ _ 0 0 _
-    (c .before .before .before .before .before .before .before .before .before .before .node-at .result)
-    (c .before .before .before .before .before .before .before .before .before .before .node-at .ensures) _ _ _
-    (c .before .before .before .before .before .before .before .before .count .given .1)) _
-    (c .before .before .before .before .before .type-parameters .ensures) _ _ (c .before .before .d .given .1)
+    (c .before .before .before .before .before .before .before .before .node-at .result)
+    (c .before .before .before .before .before .before .before .before .node-at .ensures) _ _ _
+    (c .before .before .before .before .before .before .count .given .1)) _
+    (c .before .before .before .before .type-parameters .ensures) _ _ (c .before .before .d .given .1)
     (c .if1 .taken)
 
 returns-2 : tie.Need-returns-2
 returns-2 c =
     result-differs _ _ _ (seen _ _ 0 0 _
-    (c .before .before .before .before .before .before .before .before .before .before .node-at .result)
-    (c .before .before .before .before .before .before .before .before .before .before .node-at .ensures) _ _ _
-    (c .before .before .before .before .before .before .before .before .count .given .1)) _
-    (c .before .before .before .before .before .type-parameters .ensures) _ _ (c .before .before .d .given .1)
+    (c .before .before .before .before .before .before .before .before .node-at .result)
+    (c .before .before .before .before .before .before .before .before .node-at .ensures) _ _ _
+    (c .before .before .before .before .before .before .count .given .1)) _
+    (c .before .before .before .before .type-parameters .ensures) _ _ (c .before .before .d .given .1)
     (c .if1 .left)
 
 returns-3 : tie.Need-returns-3
 returns-3 c =
     body-faulty _ _ _ (seen _ _ 0 0 _
-    (c .before .before .before .before .before .before .before .before .before .node-at .result)
-    (c .before .before .before .before .before .before .before .before .before .node-at .ensures) _ _ _
-    (c .before .before .before .before .before .before .before .count .given .1)) _
-    (c .before .before .before .before .type-parameters .ensures) _ (c .before .n .given .1)
+    (c .before .before .before .before .before .before .before .node-at .result)
+    (c .before .before .before .before .before .before .before .node-at .ensures) _ _ _
+    (c .before .before .before .before .before .count .given .1)) _
+    (c .before .before .before .type-parameters .ensures) _ (c .before .n .given .1)
 
 returns-4 : tie.Need-returns-4
 returns-4 c =
@@ -83,7 +79,6 @@ type-function-spec =
     (tie.spec
     node-at-requires
     enum-known-count
-    slice-aggregate-type-parameters
     add-type-parameters
     type-parameters-requires
     enum-known-d

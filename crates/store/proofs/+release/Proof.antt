@@ -6,6 +6,7 @@ use lib.IntN.{pos}
 use lib.ListN.{length, getD}
 use mir.Facts.{toZ-ofZ}
 use borrow.Author.Needs.{needs}
+use borrow.Author.Tests.{not-true, not-false}
 use borrow.Fn.Kinds.{In}
 use borrow.Fn.PlainCycle.{Measures, is, falls, and}
 use Rattle.semantics.specs.Words.{store-of}
@@ -17,7 +18,7 @@ use Rattle.store.proofs.release.Reads as release
 use Rattle.store.proofs.release.Kinds as release-kinds
 use Rattle.store.proofs.+release.Lts-release as release-lts
 use Rattle.store_words.proofs.at_most.Reads as at-most-reads
-use Rattle.store_words.proofs.cells.Reads as cells-reads
+use Rattle.store_words.proofs.is_cell.Reads as is-cell-reads
 use Rattle.store.proofs.free.Reads as free-reads
 use Rattle.store_words.proofs.named_cell.Reads as named-cell-reads
 use Rattle.store.proofs.slots_of.Reads as slots-of-reads
@@ -43,8 +44,8 @@ release-μ-loop slots₀ heads₀ c levels n size depth words k i₀ slots heads
 
 abbrev release-claims : ℕ → release-lts.Claims
 release-claims t = (
-  cells-reads.Asked,
-  cells-reads.Learnt,
+  is-cell-reads.Asked,
+  is-cell-reads.Learnt,
   slots-of-reads.Asked,
   slots-of-reads.Learnt,
   free-reads.Asked,
@@ -63,9 +64,9 @@ release-returns t c =
     let a = c .before .before .args in
     no-levels (a .levels) (a .c) (store-of (a .slots .now) (a .heads .now)) (c .if1 .taken)
 
-release-cells-requires : (t : ℕ) →
-    release-lts.Need-cells-requires (release-claims t) (release-at t) release.Post release-Inv-loop release-μ-loop
-release-cells-requires t c κs = search needs
+release-is-cell-requires : (t : ℕ) →
+    release-lts.Need-is-cell-requires (release-claims t) (release-at t) release.Post release-Inv-loop release-μ-loop
+release-is-cell-requires t c κs = search needs
 
 release-same-length : (t : ℕ) → release-lts.Need-same-length (release-claims t) (release-at t) release.Post
     release-Inv-loop release-μ-loop
@@ -79,23 +80,32 @@ release-returns-2 : (t : ℕ) → release-lts.Need-returns-2 (release-claims t) 
     release-Inv-loop release-μ-loop
 release-returns-2 t c =
     let a = c .before .before .before .before .before .before .args in
-    released-out (a .slots .now) (a .heads .now) (a .levels) (a .c) (omega arith)
+    released-out (a .slots .now) (a .heads .now) (a .levels) (a .c) (omega (
+      arith,
+      c .before .is-cell .ensures .gone
+          (not-true (c .before .is-cell .result) (c .if2 .taken)),
+    ))
 
 release-mul-n : (t : ℕ) → release-lts.Need-mul-n (release-claims t) (release-at t) release.Post release-Inv-loop
     release-μ-loop
-release-mul-n t c = search needs
+release-mul-n t c =
+    search (needs, c .before .is-cell .ensures .there (not-false (c .before .is-cell .result) (c .if2 .left)))
 
 release-add-n : (t : ℕ) → release-lts.Need-add-n (release-claims t) (release-at t) release.Post release-Inv-loop
     release-μ-loop
-release-add-n t c = search needs
+release-add-n t c =
+    search (needs, c .before .is-cell .ensures .there (not-false (c .before .is-cell .result) (c .if2 .left)))
 
 release-mul-n-2 : (t : ℕ) → release-lts.Need-mul-n-2 (release-claims t) (release-at t) release.Post release-Inv-loop
     release-μ-loop
-release-mul-n-2 t c = search needs
+release-mul-n-2 t c =
+    search (needs, c .before .is-cell .ensures .there (not-false (c .before .is-cell .result) (c .if2 .left)))
 
 release-slice-read-n : (t : ℕ) → release-lts.Need-slice-read-n (release-claims t) (release-at t) release.Post
     release-Inv-loop release-μ-loop
-release-slice-read-n t c = search needs
+release-slice-read-n t c =
+    let there = c .before .before .is-cell in
+    search (needs, there .ensures .there (not-false (there .result) (c .before .if2 .left)))
 
 release-same-length-3 : (t : ℕ) → release-lts.Need-same-length-3 (release-claims t) (release-at t) release.Post
     release-Inv-loop release-μ-loop
@@ -109,7 +119,11 @@ release-returns-3 : (t : ℕ) → release-lts.Need-returns-3 (release-claims t) 
     release-Inv-loop release-μ-loop
 release-returns-3 t c =
     let a = c .before .before .before .before .before .before .before .before .args in
-    released-free (a .slots .now) (a .heads .now) (a .levels) (a .c) (omega arith) (c .if3 .taken)
+    released-free (a .slots .now) (a .heads .now) (a .levels) (a .c) (omega (
+      arith,
+      c .before .before .before .is-cell .ensures .there (not-false (c .before .before .before .is-cell .result)
+          (c .before .before .if2 .left)),
+    )) (c .if3 .taken)
 
 release-sub-heads : (t : ℕ) → release-lts.Need-sub-heads (release-claims t) (release-at t) release.Post
     release-Inv-loop release-μ-loop
@@ -117,20 +131,28 @@ release-sub-heads t c = search needs
 
 release-mul-heads : (t : ℕ) → release-lts.Need-mul-heads (release-claims t) (release-at t) release.Post
     release-Inv-loop release-μ-loop
-release-mul-heads t c = search needs
+release-mul-heads t c =
+    let there = c .before .before .before .before .is-cell in
+    search (needs, there .ensures .there (not-false (there .result) (c .before .before .before .if2 .left)))
 
 release-add-heads : (t : ℕ) → release-lts.Need-add-heads (release-claims t) (release-at t) release.Post
     release-Inv-loop release-μ-loop
-release-add-heads t c = search needs
+release-add-heads t c =
+    let there = c .before .before .before .before .is-cell in
+    search (needs, there .ensures .there (not-false (there .result) (c .before .before .before .if2 .left)))
 
 release-mul-heads-2 : (t : ℕ) → release-lts.Need-mul-heads-2 (release-claims t) (release-at t) release.Post
     release-Inv-loop release-μ-loop
-release-mul-heads-2 t c = search needs
+release-mul-heads-2 t c =
+    let there = c .before .before .before .before .is-cell in
+    search (needs, there .ensures .there (not-false (there .result) (c .before .before .before .if2 .left)))
 
 release-slice-write-heads : (t : ℕ) →
     release-lts.Need-slice-write-heads (release-claims t) (release-at t) release.Post release-Inv-loop
     release-μ-loop
-release-slice-write-heads t c = search needs
+release-slice-write-heads t c =
+    let there = c .before .before .before .before .is-cell in
+    search (needs, there .ensures .there (not-false (there .result) (c .before .before .before .if2 .left)))
 
 release-same-length-5 : (t : ℕ) → release-lts.Need-same-length-5 (release-claims t) (release-at t) release.Post
     release-Inv-loop release-μ-loop
@@ -142,49 +164,94 @@ release-same-length-6 t c = search needs
 
 release-returns-4 : (t : ℕ) → release-lts.Need-returns-4 (release-claims t) (release-at t) release.Post
     release-Inv-loop release-μ-loop
-release-returns-4 t c = let a = c .before .before .before .before .before .before .before .before .before .args in
-    released-less (a .slots .now) (a .heads .now) (a .levels) (a .c) (omega arith) (omega arith) (omega arith)
+release-returns-4 t c =
+    let a = c .before .before .before .before .before .before .before .before .before .args in
+    released-less (a .slots .now) (a .heads .now) (a .levels) (a .c) (omega (
+      arith,
+      c .before .before .before .before .is-cell .ensures .there (not-false
+          (c .before .before .before .before .is-cell .result) (c .before .before .before .if2 .left)),
+    )) (omega (
+      arith,
+      c .before .before .before .before .is-cell .ensures .there (not-false
+          (c .before .before .before .before .is-cell .result) (c .before .before .before .if2 .left)),
+    )) (omega (
+      arith,
+      c .before .before .before .before .is-cell .ensures .there (not-false
+          (c .before .before .before .before .is-cell .result) (c .before .before .before .if2 .left)),
+    ))
 
 release-mul-size : (t : ℕ) → release-lts.Need-mul-size (release-claims t) (release-at t) release.Post
     release-Inv-loop release-μ-loop
-release-mul-size t c = search needs
+release-mul-size t c =
+    let there = c .before .before .before .before .is-cell in
+    search (needs, there .ensures .there (not-false (there .result) (c .before .before .before .if2 .left)))
 
 release-add-size : (t : ℕ) → release-lts.Need-add-size (release-claims t) (release-at t) release.Post
     release-Inv-loop release-μ-loop
-release-add-size t c = search needs
+release-add-size t c =
+    let there = c .before .before .before .before .is-cell in
+    search (needs, there .ensures .there (not-false (there .result) (c .before .before .before .if2 .left)))
 
 release-mul-size-2 : (t : ℕ) → release-lts.Need-mul-size-2 (release-claims t) (release-at t) release.Post
     release-Inv-loop release-μ-loop
-release-mul-size-2 t c = search needs
+release-mul-size-2 t c =
+    let there = c .before .before .before .before .is-cell in
+    search (needs, there .ensures .there (not-false (there .result) (c .before .before .before .if2 .left)))
 
 release-slice-read-size : (t : ℕ) →
     release-lts.Need-slice-read-size (release-claims t) (release-at t) release.Post release-Inv-loop release-μ-loop
-release-slice-read-size t c = search needs
+release-slice-read-size t c =
+    let there = c .before .before .before .before .before .is-cell in
+    search (needs, there .ensures .there (not-false (there .result) (c .before .before .before .before .if2 .left)))
 
 release-mul-depth : (t : ℕ) → release-lts.Need-mul-depth (release-claims t) (release-at t) release.Post
     release-Inv-loop release-μ-loop
-release-mul-depth t c = search needs
+release-mul-depth t c =
+    let there = c .before .before .before .before .before .is-cell in
+    search (needs, there .ensures .there (not-false (there .result) (c .before .before .before .before .if2 .left)))
 
 release-add-depth : (t : ℕ) → release-lts.Need-add-depth (release-claims t) (release-at t) release.Post
     release-Inv-loop release-μ-loop
-release-add-depth t c = search needs
+release-add-depth t c =
+    let there = c .before .before .before .before .before .is-cell in
+    search (needs, there .ensures .there (not-false (there .result) (c .before .before .before .before .if2 .left)))
 
 release-mul-depth-2 : (t : ℕ) → release-lts.Need-mul-depth-2 (release-claims t) (release-at t) release.Post
     release-Inv-loop release-μ-loop
-release-mul-depth-2 t c = search needs
+release-mul-depth-2 t c =
+    let there = c .before .before .before .before .before .is-cell in
+    search (needs, there .ensures .there (not-false (there .result) (c .before .before .before .before .if2 .left)))
 
 release-slice-read-depth : (t : ℕ) →
     release-lts.Need-slice-read-depth (release-claims t) (release-at t) release.Post release-Inv-loop release-μ-loop
-release-slice-read-depth t c = search needs
+release-slice-read-depth t c =
+    let there = c .before .before .before .before .before .before .is-cell in
+    search (
+      needs,
+      there .ensures .there (not-false (there .result) (c .before .before .before .before .before .if2
+          .left)),
+    )
 
 release-slots-of-requires : (t : ℕ) →
     release-lts.Need-slots-of-requires (release-claims t) (release-at t) release.Post release-Inv-loop
     release-μ-loop
-release-slots-of-requires t c κs = search needs
+release-slots-of-requires t c κs =
+    let there = c .before .before .before .before .before .before .before .is-cell in
+    search (
+      needs,
+      there .ensures .there (not-false (there .result) (c .before .before .before .before .before .before
+          .if2 .left)),
+    )
 
 release-free-requires : (t : ℕ) → release-lts.Need-free-requires (release-claims t) (release-at t) release.Post
     release-Inv-loop release-μ-loop
-release-free-requires t c κs = search needs
+release-free-requires t c κs =
+    let there = c .before .before .before .before .before .before .before .before .before .before .is-cell in
+    search (
+      needs,
+      there .ensures .there (not-false (there .result) (c .before .before .before .before .before .before
+          .before .before .before .if2 .left)),
+    )
 
 release-same-length-7 : (t : ℕ) → release-lts.Need-same-length-7 (release-claims t) (release-at t) release.Post
     release-Inv-loop release-μ-loop
@@ -199,8 +266,28 @@ release-returns-5 : (t : ℕ) → release-lts.Need-returns-5 (release-claims t) 
 release-returns-5 t c =
     let a = c .before .before .before .before .before .before .before .before .before .before .before .before
     .before .before .before .before .before .before .before .before .args in
-    released-flat (a .slots .now) (a .heads .now) (a .levels) (a .c) (omega arith) (omega arith) (omega arith)
-    (c .before .before .before .before .free .ensures) (c .if5 .taken)
+    released-flat (a .slots .now) (a .heads .now) (a .levels) (a .c) (omega (
+      arith,
+      c .before .before .before .before .before .before .before .before .before .before .before .before
+          .before .before .before .is-cell .ensures .there (not-false (c .before .before .before .before .before .before
+          .before .before .before .before .before .before .before .before .before .is-cell .result)
+          (c .before .before .before .before .before .before .before .before .before .before .before .before
+          .before .before .if2 .left)),
+    )) (omega (
+      arith,
+      c .before .before .before .before .before .before
+          .before .before .before .before .before .before .before .before .before .is-cell .ensures .there (not-false
+          (c .before .before .before .before .before .before .before .before .before .before .before .before
+          .before .before .before .is-cell .result) (c .before .before .before .before .before .before
+          .before .before .before .before .before .before .before .before .if2 .left)),
+    )) (omega (
+      arith,
+      c .before .before .before .before .before .before .before .before .before .before .before .before
+          .before .before .before .is-cell .ensures .there (not-false (c .before .before .before .before .before .before
+          .before .before .before .before .before .before .before .before .before .is-cell .result)
+          (c .before .before .before .before .before .before .before .before .before .before .before .before
+          .before .before .if2 .left)),
+    )) (c .before .before .before .before .free .ensures) (c .if5 .taken)
 
 release-cast-at-most : (t : ℕ) → release-lts.Need-cast-at-most (release-claims t) (release-at t) release.Post
     release-Inv-loop release-μ-loop
@@ -208,9 +295,10 @@ release-cast-at-most t c =
     record {
       fits = omega (
         arith,
-        c .before .before .before .before .before .before .before .before .before .before
-            .slice-known3 .given (2 + 4 * c .before .before .before .before .before .before .before .before .before
-            .before .before .before .before .before .before .before .before .before .before .before .args .c),
+        c .before .before .before .before .before .before
+            .before .before .before .before .slice-known3 .given (2 + 4 * c .before .before .before .before .before .before
+            .before .before .before .before .before .before .before .before .before .before .before .before
+            .before .before .args .c),
       );
     }
 
@@ -226,10 +314,10 @@ release-loop-holds t c =
       omega arith,
       refl,
       refl,
-      releasing-none (a .levels - 1) (c .before .before .before .before .before .before .before .before .slots-of
-          .result) (c .at-most .result) _
-          (ap length (c .before .before .before .before .before .before .before .before .slots-of .ensures)
-          ∙ slots-length (a .slots .now) (a .c)) (omega arith),
+      releasing-none (a .levels - 1) (c .before .before .before .before .before .before
+          .before .before .slots-of .result) (c .at-most .result) _ (ap length
+          (c .before .before .before .before .before .before .before .before .slots-of .ensures) ∙ slots-length
+          (a .slots .now) (a .c)) (omega arith),
     )
 
 release-mul-named-cell : (t : ℕ) →
@@ -271,9 +359,13 @@ release-loop-again t c =
     (c .before .before .before .before .before .before .before .before .before .loop .i) (pos 0) in (
       omega arith,
       c .before .before .before .release .kept .0 ∙ inv .1,
-      c .before .before .before .release .kept .1 .0 ∙ inv .2,
-      releasing-more (inv .3) (c .before .before .before .before .before .before .before .before .loop-test .taken) _
-          (rw (toZ-ofZ {z = w} (record { sfits = c .before .before .before .before .before .named-cell-arg .given })) at
+      c .before .before .before .release .kept .1 .0 ∙
+          inv .2,
+      releasing-more (inv .3) (c .before .before .before .before .before .before
+          .before .before .loop-test .taken) _ (rw (toZ-ofZ {z = w} (record {
+            sfits =
+                c .before .before .before .before .before .named-cell-arg .given;
+          })) at
           (c .before .before .before .before .named-cell .ensures)) _ (c .before .before .before .release .ensures),
     )
 
@@ -290,14 +382,45 @@ release-returns-6 : (t : ℕ) → release-lts.Need-returns-6 (release-claims t) 
 release-returns-6 t c =
     let a = c .before .before .before .before .before .before .before .before .before .before .before .before
     .before .before .before .before .before .before .before .before .before .before .before .args in
-    released-all (a .slots .now) (a .heads .now) (a .levels) (a .c) (omega arith) (omega arith) (omega arith)
-    (c .before .before .before .if5 .left)
-    (rw (
+    released-all (a .slots .now) (a .heads .now) (a .levels) (a .c) (omega (
+      arith,
+      c .before .before .before .before .before .before .before .before .before .before .before .before
+          .before .before .before .before .before .before .is-cell .ensures .there (not-false
+          (c .before .before .before .before .before .before .before .before .before .before .before .before
+          .before .before .before .before .before .before .is-cell .result)
+          (c .before .before .before .before .before .before .before .before .before .before .before .before
+          .before .before .before .before .before .if2 .left)),
+    )) (omega (
+      arith,
+      c .before .before .before .before .before .before .before .before .before .before .before .before
+          .before .before .before .before .before .before .is-cell .ensures .there (not-false
+          (c .before .before .before .before .before .before .before .before .before .before .before .before
+          .before .before .before .before .before .before .is-cell .result)
+          (c .before .before .before .before .before .before .before .before .before .before .before .before
+          .before .before .before .before .before .if2 .left)),
+    )) (omega (
+      arith,
+      c .before .before .before .before .before .before .before .before .before .before .before .before
+          .before .before .before .before .before .before .is-cell .ensures .there (not-false
+          (c .before .before .before .before .before .before .before .before .before .before .before .before
+          .before .before .before .before .before .before .is-cell .result)
+          (c .before .before .before .before .before .before .before .before .before .before .before .before
+          .before .before .before .before .before .if2 .left)),
+    )) (c .before .before .before .if5 .left) (rw (
       c .before .before .at-most .ensures,
-      c .before .before .before .before .before .before .before .before .before .before .slots-of .ensures,
-      c .before .before .before .before .before .before .before .free .ensures,
-    ) at
-    (releasing-all (c .before .loop .inv .3) (omega arith)))
+      c .before .before .before .before .before .before
+          .before .before .before .before .slots-of .ensures,
+      c .before .before .before .before .before .before
+          .before .free .ensures,
+    ) at (releasing-all (c .before .loop .inv .3) (omega (
+      arith,
+      c .before .before .before .before .before .before .before .before .before .before .before .before
+          .before .before .before .before .before .before .is-cell .ensures .there (not-false
+          (c .before .before .before .before .before .before .before .before .before .before .before .before
+          .before .before .before .before .before .before .is-cell .result)
+          (c .before .before .before .before .before .before .before .before .before .before .before .before
+          .before .before .before .before .before .if2 .left)),
+    ))))
 
 pub +release-spec : {M : Type 1} → statement M
 +release-spec = close μ-release λ t. release-lts.spec (release-claims t)
@@ -306,7 +429,7 @@ pub +release-spec : {M : Type 1} → statement M
     release-Inv-loop
     release-μ-loop
     (release-returns t)
-    (release-cells-requires t)
+    (release-is-cell-requires t)
     (release-same-length t)
     (release-same-length-2 t)
     (release-returns-2 t)

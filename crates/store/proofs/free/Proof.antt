@@ -9,7 +9,7 @@ use Rattle.store.proofs.free.Statement.{statement}
 use Rattle.store.proofs.free.Tie as tie
 use Rattle.store.proofs.free.Reads as reads
 use Rattle.store.proofs.free.Lts as lts
-use Rattle.store_words.proofs.fill_slots.Reads as fill-slots-reads
+use Rattle.store_words.proofs.clear_slots.Reads as clear-slots-reads
 use Rattle.store_words.proofs.write_head.Reads as write-head-reads
 
 slice-read-first : tie.Need-slice-read-first
@@ -24,28 +24,24 @@ slice-write-heads c = search needs
 write-head-requires : tie.Need-write-head-requires
 write-head-requires c κs = search needs
 
-slice-aggregate-fill-slots : tie.Need-slice-aggregate-fill-slots
-slice-aggregate-fill-slots c = search needs
-
-fill-slots-requires : tie.Need-fill-slots-requires
-fill-slots-requires c κs = search needs
+clear-slots-requires : tie.Need-clear-slots-requires
+clear-slots-requires c κs = search needs
 
 same-length : tie.Need-same-length
 same-length c = search needs
 
 same-length-2 : tie.Need-same-length-2
 same-length-2 c =
-    c .before .before .before .before .before .before .write-head .kept .0
-    ∙ length-set (c .before .before .before .before .before .before .before .before .before .before .args .heads
-    .now) 0 _
+    c .before .before .before .before .before .write-head .kept .0 ∙ length-set
+    (c .before .before .before .before .before .before .before .before .before .args .heads .now) 0 _
 
 returns : tie.Need-returns
 returns c = freed-store
     (record {
-      long = c .before .fill-slots .kept .0;
-      slots-filled = c .before .fill-slots .ensures;
+      long = c .before .clear-slots .kept .0;
+      slots-cleared = c .before .clear-slots .ensures;
       heads-written =
-          c .before .before .before .before .before .before .write-head .ensures;
+          c .before .before .before .before .before .write-head .ensures;
     })
     (to-cells _ _ _ (omega arith) (omega arith) (omega arith))
 
@@ -57,8 +53,7 @@ free-spec =
     cast-freed
     slice-write-heads
     write-head-requires
-    slice-aggregate-fill-slots
-    fill-slots-requires
+    clear-slots-requires
     same-length
     same-length-2
     returns)

@@ -6,37 +6,38 @@ use Rattle.store.proofs.retain.Statement.{statement}
 use Rattle.store.proofs.retain.Tie as tie
 use Rattle.store.proofs.retain.Reads as reads
 use Rattle.store.proofs.retain.Lts as lts
-use Rattle.store_words.proofs.cells.Reads as cells-reads
+use Rattle.store_words.proofs.is_cell.Reads as is-cell-reads
 
-cells-requires : tie.Need-cells-requires
-cells-requires c κs = search needs
+is-cell-requires : tie.Need-is-cell-requires
+is-cell-requires c κs = search needs
 
 mul-n : tie.Need-mul-n
-mul-n c = search needs
+mul-n c = search (needs, c .before .is-cell .ensures .there (c .if1 .taken))
 
 add-n : tie.Need-add-n
-add-n c = search needs
+add-n c = search (needs, c .before .is-cell .ensures .there (c .if1 .taken))
 
 mul-n-2 : tie.Need-mul-n-2
-mul-n-2 c = search needs
+mul-n-2 c = search (needs, c .before .is-cell .ensures .there (c .if1 .taken))
 
 slice-read-n : tie.Need-slice-read-n
-slice-read-n c = search needs
+slice-read-n c = search (needs, c .before .before .is-cell .ensures .there (c .before .if1 .taken))
 
 add-heads : tie.Need-add-heads
 add-heads c = search needs
 
 mul-heads : tie.Need-mul-heads
-mul-heads c = search needs
+mul-heads c = search (needs, c .before .before .before .is-cell .ensures .there (c .before .before .if1 .taken))
 
 add-heads-2 : tie.Need-add-heads-2
-add-heads-2 c = search needs
+add-heads-2 c = search (needs, c .before .before .before .is-cell .ensures .there (c .before .before .if1 .taken))
 
 mul-heads-2 : tie.Need-mul-heads-2
-mul-heads-2 c = search needs
+mul-heads-2 c = search (needs, c .before .before .before .is-cell .ensures .there (c .before .before .if1 .taken))
 
 slice-write-heads : tie.Need-slice-write-heads
-slice-write-heads c = search needs
+slice-write-heads c =
+    search (needs, c .before .before .before .is-cell .ensures .there (c .before .before .if1 .taken))
 
 same-length : tie.Need-same-length
 same-length c = search needs
@@ -44,7 +45,15 @@ same-length c = search needs
 returns : tie.Need-returns
 returns c =
     let a = c .before .before .before .before .before .before .args in
-    retain-one (a .slots .now) (a .heads .now) (a .c) (omega arith) (omega arith)
+    retain-one (a .slots .now) (a .heads .now) (a .c) (omega (
+      arith,
+      c .before .before .before .is-cell .ensures .there
+          (c .before .before .if1 .taken),
+    )) (omega (
+      arith,
+      c .before .before .before .is-cell .ensures .there
+          (c .before .before .if1 .taken),
+    ))
 
 same-length-2 : tie.Need-same-length-2
 same-length-2 c = search needs
@@ -52,7 +61,15 @@ same-length-2 c = search needs
 returns-2 : tie.Need-returns-2
 returns-2 c =
     let a = c .before .before .before .before .before .before .args in
-    retain-full (a .slots .now) (a .heads .now) (a .c) (omega arith) (omega arith)
+    retain-full (a .slots .now) (a .heads .now) (a .c) (omega (
+      arith,
+      c .before .before .before .is-cell .ensures .there
+          (c .before .before .if1 .taken),
+    )) (omega (
+      arith,
+      c .before .before .before .is-cell .ensures .there
+          (c .before .before .if1 .taken),
+    ))
 
 same-length-3 : tie.Need-same-length-3
 same-length-3 c = search needs
@@ -60,13 +77,13 @@ same-length-3 c = search needs
 returns-3 : tie.Need-returns-3
 returns-3 c =
     let a = c .before .before .before .before .args in
-    retain-out (a .slots .now) (a .heads .now) (a .c) (omega arith)
+    retain-out (a .slots .now) (a .heads .now) (a .c) (omega (arith, c .before .is-cell .ensures .gone (c .if1 .left)))
 
 pub retain-spec : {M : Type 1} → statement M
 retain-spec =
     tie.close
     (tie.spec
-    cells-requires
+    is-cell-requires
     mul-n
     add-n
     mul-n-2

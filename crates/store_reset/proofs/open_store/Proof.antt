@@ -6,7 +6,7 @@ use Rattle.store_reset.proofs.open_store.Statement.{statement}
 use Rattle.store_reset.proofs.open_store.Tie as tie
 use Rattle.store_reset.proofs.open_store.Reads as reads
 use Rattle.store_reset.proofs.open_store.Lts as lts
-use Rattle.store.proofs.acquire.Reads as acquire-reads
+use Rattle.store.proofs.acquire_empty.Reads as acquire-empty-reads
 use Rattle.store_reset.proofs.copy_heads.Reads as copy-heads-reads
 use Rattle.store_reset.proofs.copy_slots.Reads as copy-slots-reads
 use Rattle.store_reset.proofs.relink.Reads as relink-reads
@@ -48,26 +48,17 @@ returns : tie.Need-returns
 returns c =
     let a = c .before .before .before .before .before .before .before .before .before .before .before .before
     .before .before .before .before .before .before .before .args in
-    open-flat (cells-in (a .slots .now) (a .heads .now)) (a .depth) (c .if1 .taken)
-    (zeros-hold (a .slots .now) (a .heads .now) (c .before .before .before .before .before .before .before .before
-    .before .before .before .before .before .before .copy-slots .ensures) (c .before .before .before .before
-    .before .before .before .before .before .copy-heads .ensures)) (c .before .before .before .before .relink
-    .ensures)
+    open-flat (cells-in (a .slots .now) (a .heads .now)) (a .depth) (c .if1 .taken) (zeros-hold (a .slots .now)
+    (a .heads .now) (c .before .before .before .before .before .before
+    .before .before .before .before .before .before .before .before .copy-slots .ensures)
+    (c .before .before .before .before .before .before .before .before .before .copy-heads .ensures))
+    (c .before .before .before .before .relink .ensures)
 
-sub-acquire : tie.Need-sub-acquire
-sub-acquire c = search needs
+sub-acquire-empty : tie.Need-sub-acquire-empty
+sub-acquire-empty c = search needs
 
-sub-acquire-2 : tie.Need-sub-acquire-2
-sub-acquire-2 c = search needs
-
-part-acquire-start : tie.Need-part-acquire-start
-part-acquire-start c = search needs
-
-part-acquire-end : tie.Need-part-acquire-end
-part-acquire-end c = search needs
-
-acquire-requires : tie.Need-acquire-requires
-acquire-requires c κs = search needs
+acquire-empty-requires : tie.Need-acquire-empty-requires
+acquire-empty-requires c κs = search needs
 
 same-length-3 : tie.Need-same-length-3
 same-length-3 c = search needs
@@ -78,16 +69,14 @@ same-length-4 c = search needs
 returns-2 : tie.Need-returns-2
 returns-2 c =
     let a = c .before .before .before .before .before .before .before .before .before .before .before .before
-    .before .before .before .before .before .before .before .before .before .before .before .before .before
-    .before .before .args in
-    open-deep (cells-in (a .slots .now) (a .heads .now)) (a .depth) (c .before .before .before .before .before
-    .before .before .before .if1 .left)
-    (zeros-hold (a .slots .now) (a .heads .now) (c .before .before .before .before .before .before .before .before
-    .before .before .before .before .before .before .before .before .before .before .before .before .before
-    .before .copy-slots .ensures) (c .before .before .before .before .before .before .before .before .before
-    .before .before .before .before .before .before .before .before .copy-heads .ensures)) (c .before .before
-    .before .before .before .before .before .before .before .before .before .before .relink .ensures)
-    (c .before .before .before .acquire .ensures .1)
+    .before .before .before .before .before .before .before .before .before .before .before .before .before .args in
+    open-deep (cells-in (a .slots .now) (a .heads .now)) (a .depth) (c .before .before .before .before .before .before
+    .if1 .left) (zeros-hold (a .slots .now) (a .heads .now) (c .before .before .before .before .before .before
+    .before .before .before .before .before .before .before .before .before .before .before .before
+    .before .before .copy-slots .ensures) (c .before .before .before .before .before .before
+    .before .before .before .before .before .before .before .before .before .copy-heads .ensures))
+    (c .before .before .before .before .before .before .before .before .before .before .relink .ensures)
+    (c .before .before .before .acquire-empty .ensures .1)
 
 pub open-store-spec : {M : Type 1} → statement M
 open-store-spec =
@@ -105,11 +94,8 @@ open-store-spec =
     same-length
     same-length-2
     returns
-    sub-acquire
-    sub-acquire-2
-    part-acquire-start
-    part-acquire-end
-    acquire-requires
+    sub-acquire-empty
+    acquire-empty-requires
     same-length-3
     same-length-4
     returns-2)

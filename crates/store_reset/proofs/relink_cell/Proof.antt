@@ -7,7 +7,7 @@ use Rattle.store_reset.proofs.relink_cell.Statement.{statement}
 use Rattle.store_reset.proofs.relink_cell.Tie as tie
 use Rattle.store_reset.proofs.relink_cell.Reads as reads
 use Rattle.store_reset.proofs.relink_cell.Lts as lts
-use Rattle.store_words.proofs.fill_slots.Reads as fill-slots-reads
+use Rattle.store_words.proofs.clear_slots.Reads as clear-slots-reads
 use Rattle.store_words.proofs.write_head.Reads as write-head-reads
 
 mul-if1 : tie.Need-mul-if1
@@ -30,11 +30,8 @@ returns c =
 write-head-requires : tie.Need-write-head-requires
 write-head-requires c κs = search needs
 
-slice-aggregate-fill-slots : tie.Need-slice-aggregate-fill-slots
-slice-aggregate-fill-slots c = search needs
-
-fill-slots-requires : tie.Need-fill-slots-requires
-fill-slots-requires c κs = search needs
+clear-slots-requires : tie.Need-clear-slots-requires
+clear-slots-requires c κs = search needs
 
 cast-result : tie.Need-cast-result
 cast-result c = search needs
@@ -47,12 +44,10 @@ same-length-2 c = search needs
 
 returns-2 : tie.Need-returns-2
 returns-2 c =
-    let a = c .before .before .before .before .before .before .before .before .before .before .before .args in
-    link-free (a .slots .now) (a .heads .now) (a .c) (a .head)
-    (to-cells _ _ _ (omega arith) (omega arith) (omega arith))
-    (c .before .before .before .before .before .before .before .before .if1 .left)
-    (c .before .fill-slots .kept .0) (c .before .fill-slots .ensures)
-    (c .before .before .before .before .before .before .write-head .ensures)
+    let a = c .before .before .before .before .before .before .before .before .before .before .args in
+    link-free (a .slots .now) (a .heads .now) (a .c) (a .head) (to-cells _ _ _ (omega arith) (omega arith) (omega
+    arith)) (c .before .before .before .before .before .before .before .if1 .left) (c .before .clear-slots .kept .0)
+    (c .before .clear-slots .ensures) (c .before .before .before .before .before .write-head .ensures)
 
 pub relink-cell-spec : {M : Type 1} → statement M
 relink-cell-spec =
@@ -64,8 +59,7 @@ relink-cell-spec =
     slice-read-if1
     returns
     write-head-requires
-    slice-aggregate-fill-slots
-    fill-slots-requires
+    clear-slots-requires
     cast-result
     same-length
     same-length-2

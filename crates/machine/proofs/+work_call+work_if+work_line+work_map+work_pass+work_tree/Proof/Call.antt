@@ -1,0 +1,168 @@
+-- What `work_call` has to show.
+use mathlib.Core.Path.{_∙_}
+use Prim.Native.Nat.{_-_, ℕ}
+use native.Mathlib.Omega.{arith}
+use mir.Facts.{toZ-ofZ}
+use Rattle.machine_positions.specs.Machine.{code}
+use Rattle.machine_positions.specs.LineLaws.{call-spent, call-deep, call-stops, call-goes}
+use borrow.Author.Needs.{needs}
+use Rattle.semantics.specs.Words.{store-of}
+use Rattle.machine_lines.specs.Lines.{memory}
+use Rattle.machine_positions.specs.Lengths.{passed-long, tree-long}
+use Rattle.machine.proofs.work_call.Reads as work-call
+use Rattle.machine.proofs.+work_call+work_if+work_line+work_map+work_pass+work_tree.Lts-work_call as work-call-lts
+use Rattle.machine.proofs.+work_call+work_if+work_line+work_map+work_pass+work_tree.Proof.Common.{work-call-at}
+use Rattle.machine.proofs.+work_call+work_if+work_line+work_map+work_pass+work_tree.Proof.Common.{work-call-claims}
+
+pub work-call-halted-requires : (t : ℕ) → work-call-lts.Need-halted-requires (work-call-claims t) (work-call-at t)
+    work-call.Post
+work-call-halted-requires t c κs = search needs
+
+pub work-call-returns : (t : ℕ) → work-call-lts.Need-returns (work-call-claims t) (work-call-at t) work-call.Post
+work-call-returns t c =
+    let a = c .before .before .before .before .before .args in
+    let k = code (a .kinds .now) (a .operands .now) (a .table .now) in
+    call-spent k (a .calls) (a .x) (a .g) (a .at) (a .steps) (a .slots .now) (a .heads .now) (a .env .now)
+    (c .halted .result) (c .before .if1 .taken) (c .halted .ensures)
+
+pub work-call-sub-halted : (t : ℕ) → work-call-lts.Need-sub-halted (work-call-claims t) (work-call-at t)
+    work-call.Post
+work-call-sub-halted t c = search needs
+
+pub work-call-halted-requires-2 : (t : ℕ) → work-call-lts.Need-halted-requires-2 (work-call-claims t) (work-call-at t)
+    work-call.Post
+work-call-halted-requires-2 t c κs = search needs
+
+pub work-call-returns-2 : (t : ℕ) → work-call-lts.Need-returns-2 (work-call-claims t) (work-call-at t) work-call.Post
+work-call-returns-2 t c =
+    let a = c .before .before .before .before .before .before .args in
+    let k = code (a .kinds .now) (a .operands .now) (a .table .now) in
+    call-deep k (a .calls) (a .x) (a .g) (a .at) (a .steps) (a .slots .now) (a .heads .now) (a .env .now)
+    (c .before .before .if1 .left) (c .before .if2 .taken) (c .halted2 .result) (c .halted2 .ensures)
+
+pub work-call-sub-below : (t : ℕ) → work-call-lts.Need-sub-below (work-call-claims t) (work-call-at t) work-call.Post
+work-call-sub-below t c = search needs
+
+pub work-call-add-pass-arguments : (t : ℕ) → work-call-lts.Need-add-pass-arguments (work-call-claims t)
+    (work-call-at t)
+    work-call.Post
+work-call-add-pass-arguments t c = search needs
+
+pub work-call-pass-arguments-requires : (t : ℕ) → work-call-lts.Need-pass-arguments-requires (work-call-claims t)
+    (work-call-at t) work-call.Post
+work-call-pass-arguments-requires t c κs = search needs
+
+pub work-call-start-in-requires : (t : ℕ) → work-call-lts.Need-start-in-requires (work-call-claims t) (work-call-at t)
+    work-call.Post
+work-call-start-in-requires t c κs = search needs
+
+pub work-call-sub-work-tree : (t : ℕ) → work-call-lts.Need-sub-work-tree (work-call-claims t) (work-call-at t)
+    work-call.Post
+work-call-sub-work-tree t c = search needs
+
+pub work-call-work-tree-requires : (t : ℕ) → work-call-lts.Need-work-tree-requires (work-call-claims t)
+    (work-call-at t)
+    work-call.Post
+work-call-work-tree-requires t c κs =
+    search (needs, passed-long (c .before .before .before .before .pass-arguments .ensures))
+
+pub work-call-same-length : (t : ℕ) → work-call-lts.Need-same-length (work-call-claims t) (work-call-at t)
+    work-call.Post
+work-call-same-length t c = search needs
+
+pub work-call-same-length-2 : (t : ℕ) → work-call-lts.Need-same-length-2 (work-call-claims t) (work-call-at t)
+    work-call.Post
+work-call-same-length-2 t c = search needs
+
+pub work-call-returns-3 : (t : ℕ) → work-call-lts.Need-returns-3 (work-call-claims t) (work-call-at t) work-call.Post
+work-call-returns-3 t c =
+    let a = c .before .before .before .before .before .before .before .before .before .before .before .before
+    .before .before .before .before .args in
+    let k = code (a .kinds .now) (a .operands .now) (a .table .now) in
+    let given = c .before .before .before .before .before .before .before .before .before .pass-arguments in
+    let start = c .before .before .before .before .before .before .before .before .start-in in
+    let tree = c .before .before .before .before .work-tree in
+    call-stops k (a .calls) (a .x) (a .g) (a .at) (a .steps) (a .slots .now) (a .heads .now) (a .env .now)
+    (c .before .before .before .before .before .before .before .before .before .before .before .before .if1 .left)
+    (c .before .before .before .before .before .before .before .before .before .before .before .if2 .left)
+    (given .result) (given .last .1 .1 .0) (given .ensures) (start .result) (start .ensures) (tree .result)
+    (tree .last .1 .1 .1 .0) (tree .last .1 .1 .1 .1 .0) (tree .last .1 .1 .1 .1 .1 .0) (tree .ensures)
+    (c .if3 .taken)
+
+pub work-call-bind-requires : (t : ℕ) → work-call-lts.Need-bind-requires (work-call-claims t) (work-call-at t)
+    work-call.Post
+work-call-bind-requires t c κs =
+    let a = c .before .before .before .before .before .before .before .before .before .before .before .before
+    .before .before .before .before .before .before .args in
+    let k = code (a .kinds .now) (a .operands .now) (a .table .now) in
+    let given = c .before .before .before .before .before .before
+    .before .before .before .before .before .pass-arguments in (
+      c .before .before .before .before .before .before .before .before .before .before .before .before
+          .before .before .before .before .before .before .pre .1 .1,
+      tree-long k 4096 (a .calls - 1) (a .g)
+          (c .before .before .before .before .before .before .before .before .before .before .start-in .result) (a .steps
+          - 1) (memory (store-of (a .slots .now) (a .heads .now)) (given .last .1 .1 .0))
+          (c .before .before .before .before .before .before .work-tree .ensures) ∙ passed-long (given .ensures) ∙
+          c .before .before .before .before .before .before .before .before .before .before .before .before
+          .before .before .before .before .before .before .pre .1 .2,
+    )
+
+pub work-call-add-done : (t : ℕ) → work-call-lts.Need-add-done (work-call-claims t) (work-call-at t) work-call.Post
+work-call-add-done t c =
+    omega (
+      arith,
+      c .before .before .before .before .before .before .before .before .before .before .before .before
+          .before .before .before .before .before .before .before .pre,
+      c .before .before .before .before .before .before
+          .before .before .before .before .before .before .before .before .before .before .before .before
+          .before .good .0,
+    )
+
+pub work-call-add-done-2 : (t : ℕ) → work-call-lts.Need-add-done-2 (work-call-claims t) (work-call-at t)
+    work-call.Post
+work-call-add-done-2 t c =
+    omega (
+      arith,
+      c .before .before .before .before .before .before .before .before .before .before .before .before
+          .before .before .before .before .before .before .before .pre,
+      c .before .before .before .before .before .before
+          .before .before .before .before .before .before .before .before .before .before .before .before
+          .before .good .0,
+      c .before .before .before .before .before .before
+          .before .before .before .before .before .before .pass-arguments .ensures .few,
+    )
+
+pub work-call-done-requires : (t : ℕ) → work-call-lts.Need-done-requires (work-call-claims t) (work-call-at t)
+    work-call.Post
+work-call-done-requires t c κs = search needs
+
+pub work-call-same-length-3 : (t : ℕ) → work-call-lts.Need-same-length-3 (work-call-claims t) (work-call-at t)
+    work-call.Post
+work-call-same-length-3 t c = search needs
+
+pub work-call-same-length-4 : (t : ℕ) → work-call-lts.Need-same-length-4 (work-call-claims t) (work-call-at t)
+    work-call.Post
+work-call-same-length-4 t c = search needs
+
+pub work-call-returns-4 : (t : ℕ) → work-call-lts.Need-returns-4 (work-call-claims t) (work-call-at t) work-call.Post
+work-call-returns-4 t c =
+    let a = c .before .before .before .before .before .before .before .before .before .before .before .before
+    .before .before .before .before .before .before .before .before .args in
+    let k = code (a .kinds .now) (a .operands .now) (a .table .now) in
+    let given = c .before .before .before .before .before .before .before .before .before .before .before .before
+    .before .pass-arguments in
+    let start = c .before .before .before .before .before .before .before .before .before .before .before .before
+    .start-in in
+    let tree = c .before .before .before .before .before .before .before .before .work-tree in
+    call-goes k (a .calls) (a .x) (a .g) (a .at) (a .steps) (a .slots .now) (a .heads .now) (a .env .now)
+    (c .before .before .before .before .before .before .before .before .before .before .before .before
+    .before .before .before .before .if1 .left) (c .before .before .before .before .before .before
+    .before .before .before .before .before .before .before .before .before .if2 .left) (given .result)
+    (given .last .1 .1 .0) (given .ensures) (start .result) (start .ensures) (tree .result) (tree .last .1 .1 .1 .0)
+    (tree .last .1 .1 .1 .1 .0) (tree .last .1 .1 .1 .1 .1 .0) (tree .ensures)
+    (c .before .before .before .before .if3 .left) (c .before .bind .last .0) (rw (toZ-ofZ {z = tree .result .value}
+    (record { sfits = c .before .before .before .struct-told .given .1 .0 .1 })) at (c .before .bind .ensures))
+    (c .done .result) (rw (toZ-ofZ {z = tree .result .value} (record {
+      sfits =
+          c .before .before .before .struct-told .given .1 .0 .1;
+    })) at (c .done .ensures))

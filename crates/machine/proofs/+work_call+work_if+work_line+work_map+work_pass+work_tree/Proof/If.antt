@@ -1,0 +1,120 @@
+-- What `work_if` has to show.
+use mathlib.Core.Path.{_∙_}
+use Prim.Native.Nat.{_-_, ℕ}
+use mir.Facts.{toZ-ofZ}
+use Rattle.machine_positions.specs.Machine.{code, tree-on, call-on}
+use Rattle.machine_positions.specs.LineLaws.{if-spent, if-stops, if-goes}
+use borrow.Author.Needs.{needs}
+use Rattle.semantics.specs.Words.{store-of}
+use Rattle.machine_lines.specs.Lines.{memory}
+use Rattle.machine_positions.specs.Lengths.{tree-long}
+use Rattle.machine.proofs.work_if.Reads as work-if
+use Rattle.machine.proofs.+work_call+work_if+work_line+work_map+work_pass+work_tree.Lts-work_if as work-if-lts
+use Rattle.machine.proofs.+work_call+work_if+work_line+work_map+work_pass+work_tree.Proof.Common.{work-if-at}
+use Rattle.machine.proofs.+work_call+work_if+work_line+work_map+work_pass+work_tree.Proof.Common.{work-if-claims}
+
+pub work-if-halted-requires : (t : ℕ) → work-if-lts.Need-halted-requires (work-if-claims t) (work-if-at t)
+    work-if.Post
+work-if-halted-requires t c κs = search needs
+
+pub work-if-returns : (t : ℕ) → work-if-lts.Need-returns (work-if-claims t) (work-if-at t) work-if.Post
+work-if-returns t c =
+    let a = c .before .before .before .before .before .args in
+    let k = code (a .kinds .now) (a .operands .now) (a .table .now) in
+    if-spent (tree-on (a .lines) (call-on (a .calls) k) k (a .calls) (a .f)) (a .kinds .now) (a .calls) (a .x) (a .g)
+    (a .at) (a .steps) (a .slots .now) (a .heads .now) (a .env .now) (c .halted .result) (c .before .if1 .taken)
+    (c .halted .ensures)
+
+pub work-if-word-of-requires : (t : ℕ) → work-if-lts.Need-word-of-requires (work-if-claims t) (work-if-at t)
+    work-if.Post
+work-if-word-of-requires t c κs = search needs
+
+pub work-if-add-branch-start : (t : ℕ) → work-if-lts.Need-add-branch-start (work-if-claims t) (work-if-at t)
+    work-if.Post
+work-if-add-branch-start t c = search needs
+
+pub work-if-branch-start-requires : (t : ℕ) → work-if-lts.Need-branch-start-requires (work-if-claims t) (work-if-at t)
+    work-if.Post
+work-if-branch-start-requires t c κs = search needs
+
+pub work-if-sub-work-tree : (t : ℕ) → work-if-lts.Need-sub-work-tree (work-if-claims t) (work-if-at t) work-if.Post
+work-if-sub-work-tree t c = search needs
+
+pub work-if-work-tree-requires : (t : ℕ) → work-if-lts.Need-work-tree-requires (work-if-claims t) (work-if-at t)
+    work-if.Post
+work-if-work-tree-requires t c κs = search needs
+
+pub work-if-same-length : (t : ℕ) → work-if-lts.Need-same-length (work-if-claims t) (work-if-at t) work-if.Post
+work-if-same-length t c = search needs
+
+pub work-if-same-length-2 : (t : ℕ) → work-if-lts.Need-same-length-2 (work-if-claims t) (work-if-at t) work-if.Post
+work-if-same-length-2 t c = search needs
+
+pub work-if-returns-2 : (t : ℕ) → work-if-lts.Need-returns-2 (work-if-claims t) (work-if-at t) work-if.Post
+work-if-returns-2 t c =
+    let a = c .before .before .before .before .before .before .before .before .before .before .before .before
+    .before .before .before .args in
+    let k = code (a .kinds .now) (a .operands .now) (a .table .now) in
+    let word = c .before .before .before .before .before .before .before .before .before .word-of in
+    let start = c .before .before .before .before .before .before .before .before .branch-start in
+    let tree = c .before .before .before .before .work-tree in
+    if-stops (tree-on (a .lines) (call-on (a .calls) k) k (a .calls) (a .f)) (a .kinds .now) (a .calls) (a .x) (a .g)
+    (a .at) (a .steps) (a .slots .now) (a .heads .now) (a .env .now)
+    (c .before .before .before .before .before .before .before .before .before .before .before .if1 .left)
+    (word .result) (word .ensures) (start .result) (rw (toZ-ofZ {z = word .result} (record { sfits = word .ok })) at
+    (start .ensures)) (tree .result) (tree .last .1 .1 .1 .0) (tree .last .1 .1 .1 .1 .0)
+    (tree .last .1 .1 .1 .1 .1 .0) (tree .ensures) (c .if2 .taken)
+
+pub work-if-branch-end-requires : (t : ℕ) → work-if-lts.Need-branch-end-requires (work-if-claims t) (work-if-at t)
+    work-if.Post
+work-if-branch-end-requires t c κs = search needs
+
+pub work-if-bind-requires : (t : ℕ) → work-if-lts.Need-bind-requires (work-if-claims t) (work-if-at t) work-if.Post
+work-if-bind-requires t c κs =
+    let a = c .before .before .before .before .before .before .before .before .before .before .before .before
+    .before .before .before .before .before .before .args in
+    let k = code (a .kinds .now) (a .operands .now) (a .table .now) in (
+      c .before .before .before .before .before .before .before .before .before .before .before .before
+          .before .before .before .before .before .before .pre .1 .1,
+      tree-long k (a .lines) (a .calls) (a .f)
+          (c .before .before .before .before .before .before .before .before .before .before .before .branch-start
+          .result) (a .steps - 1) (memory (store-of (a .slots .now) (a .heads .now)) (a .env .now))
+          (c .before .before .before .before .before .before .before .work-tree .ensures) ∙
+          c .before .before .before .before .before .before .before .before .before .before .before .before
+          .before .before .before .before .before .before .pre .1 .2,
+    )
+
+pub work-if-done-requires : (t : ℕ) → work-if-lts.Need-done-requires (work-if-claims t) (work-if-at t) work-if.Post
+work-if-done-requires t c κs = search needs
+
+pub work-if-same-length-3 : (t : ℕ) → work-if-lts.Need-same-length-3 (work-if-claims t) (work-if-at t) work-if.Post
+work-if-same-length-3 t c = search needs
+
+pub work-if-same-length-4 : (t : ℕ) → work-if-lts.Need-same-length-4 (work-if-claims t) (work-if-at t) work-if.Post
+work-if-same-length-4 t c = search needs
+
+pub work-if-returns-3 : (t : ℕ) → work-if-lts.Need-returns-3 (work-if-claims t) (work-if-at t) work-if.Post
+work-if-returns-3 t c =
+    let a = c .before .before .before .before .before .before .before .before .before .before .before .before
+    .before .before .before .before .before .before .before .before .args in
+    let k = code (a .kinds .now) (a .operands .now) (a .table .now) in
+    let word = c .before .before .before .before .before .before .before .before .before .before .before .before
+    .before .before .word-of in
+    let start = c .before .before .before .before .before .before .before .before .before .before .before .before
+    .before .branch-start in
+    let tree = c .before .before .before .before .before .before .before .before .before .work-tree in
+    let next = c .before .before .before .branch-end in
+    if-goes (tree-on (a .lines) (call-on (a .calls) k) k (a .calls) (a .f)) (a .kinds .now) (a .calls) (a .x) (a .g)
+    (a .at) (a .steps) (a .slots .now) (a .heads .now) (a .env .now)
+    (c .before .before .before .before .before .before .before .before .before .before .before .before
+    .before .before .before .before .if1 .left) (word .result) (word .ensures) (start .result) (rw (toZ-ofZ {z =
+    word .result} (record { sfits = word .ok })) at (start .ensures)) (tree .result) (tree .last .1 .1 .1 .0)
+    (tree .last .1 .1 .1 .1 .0) (tree .last .1 .1 .1 .1 .1 .0) (tree .ensures)
+    (c .before .before .before .before .before .if2 .left) (next .result) (rw (toZ-ofZ {z = word .result} (record {
+      sfits = word .ok;
+    })) at (next .ensures)) (c .before .bind .last .0) (rw (toZ-ofZ {z = tree .result .value}
+    (record { sfits = c .before .before .before .before .struct-told .given .1 .0 .1 })) at
+    (c .before .bind .ensures)) (c .done .result) (rw (toZ-ofZ {z = tree .result .value} (record {
+      sfits =
+          c .before .before .before .before .struct-told .given .1 .0 .1;
+    })) at (c .done .ensures))

@@ -1,0 +1,243 @@
+-- What `work_map` has to show.
+use mathlib.Core.Path.{_∙_}
+use Prim.Native.Nat.{_+_, _-_, ℕ}
+use native.Mathlib.Omega.{arith}
+use mir.Facts.{toZ-ofZ}
+use Rattle.machine_lines.proofs.Lines.{next-small}
+use Rattle.machine_positions.specs.Machine.{code, tree-on, call-on}
+use Rattle.machine_positions.specs.LineLaws.{map-spent, map-none, map-stops, map-goes}
+use borrow.Author.Needs.{needs}
+use Rattle.semantics.specs.Words.{store-of}
+use Rattle.machine_lines.specs.Lines.{memory}
+use Rattle.machine_positions.specs.Lengths.{passes-long}
+use Rattle.machine.proofs.work_map.Reads as work-map
+use Rattle.machine.proofs.+work_call+work_if+work_line+work_map+work_pass+work_tree.Lts-work_map as work-map-lts
+use Rattle.machine.proofs.+work_call+work_if+work_line+work_map+work_pass+work_tree.Proof.Common.{work-map-at}
+use Rattle.machine.proofs.+work_call+work_if+work_line+work_map+work_pass+work_tree.Proof.Common.{work-map-claims}
+
+pub work-map-halted-requires : (t : ℕ) → work-map-lts.Need-halted-requires (work-map-claims t) (work-map-at t)
+    work-map.Post
+work-map-halted-requires t c κs = search needs
+
+pub work-map-returns : (t : ℕ) → work-map-lts.Need-returns (work-map-claims t) (work-map-at t) work-map.Post
+work-map-returns t c =
+    let a = c .before .before .before .before .before .args in
+    let k = code (a .kinds .now) (a .operands .now) (a .table .now) in
+    map-spent (tree-on (a .lines) (call-on (a .calls) k) k (a .calls) (a .f)) k (a .calls) (a .f) (a .x) (a .p) (a .a)
+    (a .at) (a .steps) (a .slots .now) (a .heads .now) (a .env .now) (c .halted .result) (c .before .if1 .taken)
+    (c .halted .ensures)
+
+pub work-map-word-of-requires : (t : ℕ) → work-map-lts.Need-word-of-requires (work-map-claims t) (work-map-at t)
+    work-map.Post
+work-map-word-of-requires t c κs = search needs
+
+pub work-map-named-cell-requires : (t : ℕ) → work-map-lts.Need-named-cell-requires (work-map-claims t) (work-map-at t)
+    work-map.Post
+work-map-named-cell-requires t c κs = search needs
+
+pub work-map-read-length-requires : (t : ℕ) → work-map-lts.Need-read-length-requires (work-map-claims t)
+    (work-map-at t)
+    work-map.Post
+work-map-read-length-requires t c κs = search needs
+
+pub work-map-element-depth-requires : (t : ℕ) → work-map-lts.Need-element-depth-requires (work-map-claims t)
+    (work-map-at t) work-map.Post
+work-map-element-depth-requires t c κs = search needs
+
+pub work-map-acquire-empty-requires : (t : ℕ) → work-map-lts.Need-acquire-empty-requires (work-map-claims t)
+    (work-map-at t) work-map.Post
+work-map-acquire-empty-requires t c κs = search needs
+
+pub work-map-enum-known-c : (t : ℕ) → work-map-lts.Need-enum-known-c (work-map-claims t) (work-map-at t) work-map.Post
+work-map-enum-known-c t c = search needs
+
+pub work-map-sub-work-pass : (t : ℕ) → work-map-lts.Need-sub-work-pass (work-map-claims t) (work-map-at t)
+    work-map.Post
+work-map-sub-work-pass t c = search needs
+
+pub work-map-add-work-pass : (t : ℕ) → work-map-lts.Need-add-work-pass (work-map-claims t) (work-map-at t)
+    work-map.Post
+work-map-add-work-pass t c = search needs
+
+pub work-map-work-pass-requires : (t : ℕ) → work-map-lts.Need-work-pass-requires (work-map-claims t) (work-map-at t)
+    work-map.Post
+work-map-work-pass-requires t c κs = search needs
+
+pub work-map-same-length : (t : ℕ) → work-map-lts.Need-same-length (work-map-claims t) (work-map-at t) work-map.Post
+work-map-same-length t c = search needs
+
+pub work-map-same-length-2 : (t : ℕ) → work-map-lts.Need-same-length-2 (work-map-claims t) (work-map-at t)
+    work-map.Post
+work-map-same-length-2 t c = search needs
+
+pub work-map-returns-2 : (t : ℕ) → work-map-lts.Need-returns-2 (work-map-claims t) (work-map-at t) work-map.Post
+work-map-returns-2 t c =
+    let a = c .before .before .before .before .before .before .before .before .before .before .before .before
+    .before .before .before .before .before .before .before .before .before .before .before .before
+    .before .before .before .before .args in
+    let k = code (a .kinds .now) (a .operands .now) (a .table .now) in
+    let word = c .before .before .before .before .before .before .before .before .before .before .before .before
+    .before .before .before .before .before .before .before .before .before .before .word-of in
+    let cell = c .before .before .before .before .before .before .before .before .before .before .before .before
+    .before .before .before .before .before .before .before .before .before .named-cell in
+    let size = c .before .before .before .before .before .before .before .before .before .before .before .before
+    .before .before .before .before .before .before .read-length in
+    let depth = c .before .before .before .before .before .before .before .before .before .before .before .before
+    .before .before .before .before .before .element-depth in
+    let taken = c .before .before .before .before .before .before .before .before .before .before .before .before
+    .before .before .acquire-empty in
+    let chosen = c .before .before .before .before .before .before .before .before .before .c in
+    let passes = c .before .before .before .before .work-pass in
+    map-stops (tree-on (a .lines) (call-on (a .calls) k) k (a .calls) (a .f)) k (a .calls) (a .f) (a .x) (a .p) (a .a)
+    (a .at) (a .steps) (a .slots .now) (a .heads .now) (a .env .now)
+    (c .before .before .before .before .before .before .before .before .before .before .before .before
+    .before .before .before .before .before .before .before .before .before .before .before .before .if1 .left)
+    (word .result) (word .ensures) (cell .result) (rw (toZ-ofZ {z = word .result} (record { sfits = word .ok })) at
+    (cell .ensures)) (size .result) (size .ensures) (depth .result) (depth .ensures) (taken .result)
+    (taken .ensures .0) (taken .last .0) (taken .last .1 .0) (taken .ensures .1) (chosen .given .0 .0)
+    (chosen .given .1) (passes .result) (passes .last .1 .1 .1 .0) (passes .last .1 .1 .1 .1 .0)
+    (passes .last .1 .1 .1 .1 .1 .0) (passes .ensures) (c .if2 .taken)
+
+pub work-map-word-from-requires : (t : ℕ) → work-map-lts.Need-word-from-requires (work-map-claims t) (work-map-at t)
+    work-map.Post
+work-map-word-from-requires t c κs =
+    let a = c .before .before .before .before .before .before .before .before .before .before .before .before
+    .before .before .before .before .before .before .before .before .before .before .before .before
+    .before .before .before .before .args in
+    let taken = c .before .before .before .before .before .before .before .before .before .before .before .before
+    .before .before .acquire-empty in
+    let chosen = c .before .before .before .before .before .before .before .before .before .c in
+    omega (
+      arith,
+      next-small (a .slots .now) (a .heads .now) (taken .result) (chosen .given .0 .0) (taken .ensures .0)
+          (chosen .given .1),
+    )
+
+pub work-map-bind-requires : (t : ℕ) → work-map-lts.Need-bind-requires (work-map-claims t) (work-map-at t)
+    work-map.Post
+work-map-bind-requires t c κs =
+    let a = c .before .before .before .before .before .before .before .before .before .before .before .before
+    .before .before .before .before .before .before .before .before .before .before .before .before
+    .before .before .before .before .before .before .args in
+    let k = code (a .kinds .now) (a .operands .now) (a .table .now) in
+    let taken = c .before .before .before .before .before .before .before .before .before .before .before .before
+    .before .before .before .before .acquire-empty in (
+      c .before .before .before .before .before .before .before .before .before .before .before .before
+          .before .before .before .before .before .before .before .before .before .before .before .before
+          .before .before .before .before .before .before .pre .1 .1,
+      passes-long k (a .lines) (a .calls) (a .f)
+          (c .before .before .before .before .before .before .before .before .before .before .before .before
+          .before .before .before .before .before .before .before .before .read-length .result) (a .at + 2) (a .p)
+          (c .before .before .before .before .before .before .before .before .before .before .before .before
+          .before .before .before .before .before .before .before .before .before .before .before .named-cell .result)
+          (c .before .before .before .before .before .before .before .before .before .before .before .c .given .0 .0) 0
+          (a .steps - 1) (memory (store-of (taken .last .0) (taken .last .1 .0)) (a .env .now))
+          (c .before .before .before .before .before .before .work-pass .ensures) ∙
+          c .before .before .before .before .before .before .before .before .before .before .before .before
+          .before .before .before .before .before .before .before .before .before .before .before .before
+          .before .before .before .before .before .before .pre .1 .2,
+    )
+
+pub work-map-add-after-tree : (t : ℕ) → work-map-lts.Need-add-after-tree (work-map-claims t) (work-map-at t)
+    work-map.Post
+work-map-add-after-tree t c =
+    omega (
+      arith,
+      c .before .before .before .before .before .before .before .before .before .before .before .before
+          .before .before .before .before .before .before .before .before .before .before .before .before
+          .before .before .before .before .before .before .before .pre,
+      c .before .before .before .before .before .before
+          .before .before .before .before .before .before .before .before .before .before .before .before
+          .before .before .before .before .before .before .before .before .before .before .before .before
+          .before .good .0,
+    )
+
+pub work-map-after-tree-requires : (t : ℕ) → work-map-lts.Need-after-tree-requires (work-map-claims t) (work-map-at t)
+    work-map.Post
+work-map-after-tree-requires t c κs = search needs
+
+pub work-map-done-requires : (t : ℕ) → work-map-lts.Need-done-requires (work-map-claims t) (work-map-at t)
+    work-map.Post
+work-map-done-requires t c κs = search needs
+
+pub work-map-enum-told : (t : ℕ) → work-map-lts.Need-enum-told (work-map-claims t) (work-map-at t) work-map.Post
+work-map-enum-told t c = search needs
+
+pub work-map-sub-halted : (t : ℕ) → work-map-lts.Need-sub-halted (work-map-claims t) (work-map-at t) work-map.Post
+work-map-sub-halted t c = search needs
+
+pub work-map-halted-requires-2 : (t : ℕ) → work-map-lts.Need-halted-requires-2 (work-map-claims t) (work-map-at t)
+    work-map.Post
+work-map-halted-requires-2 t c κs = search needs
+
+pub work-map-same-length-3 : (t : ℕ) → work-map-lts.Need-same-length-3 (work-map-claims t) (work-map-at t)
+    work-map.Post
+work-map-same-length-3 t c = search needs
+
+pub work-map-same-length-4 : (t : ℕ) → work-map-lts.Need-same-length-4 (work-map-claims t) (work-map-at t)
+    work-map.Post
+work-map-same-length-4 t c = search needs
+
+pub work-map-returns-3 : (t : ℕ) → work-map-lts.Need-returns-3 (work-map-claims t) (work-map-at t) work-map.Post
+work-map-returns-3 t c =
+    let a = c .before .before .before .before .before .before .before .before .before .before .before .before
+    .before .before .before .before .before .before .before .before .before .before .before .before
+    .before .before .before .before .before .before .before .before .before .args in
+    let k = code (a .kinds .now) (a .operands .now) (a .table .now) in
+    let word = c .before .before .before .before .before .before .before .before .before .before .before .before
+    .before .before .before .before .before .before .before .before .before .before .before .before
+    .before .before .before .word-of in
+    let cell = c .before .before .before .before .before .before .before .before .before .before .before .before
+    .before .before .before .before .before .before .before .before .before .before .before .before
+    .before .before .named-cell in
+    let size = c .before .before .before .before .before .before .before .before .before .before .before .before
+    .before .before .before .before .before .before .before .before .before .before .before .read-length in
+    let depth = c .before .before .before .before .before .before .before .before .before .before .before .before
+    .before .before .before .before .before .before .before .before .before .before .element-depth in
+    let taken = c .before .before .before .before .before .before .before .before .before .before .before .before
+    .before .before .before .before .before .before .before .acquire-empty in
+    let chosen = c .before .before .before .before .before .before .before .before .before .before .before .before
+    .before .before .c in
+    let passes = c .before .before .before .before .before .before .before .before .before .work-pass in
+    let number = c .before .before .before .before .word-from in
+    map-goes (tree-on (a .lines) (call-on (a .calls) k) k (a .calls) (a .f)) k (a .calls) (a .f) (a .x) (a .p) (a .a)
+    (a .at) (a .steps) (a .slots .now) (a .heads .now) (a .env .now)
+    (c .before .before .before .before .before .before .before .before .before .before .before .before
+    .before .before .before .before .before .before .before .before .before .before .before .before
+    .before .before .before .before .before .if1 .left) (word .result) (word .ensures) (cell .result) (rw (toZ-ofZ
+    {z = word .result} (record { sfits = word .ok })) at (cell .ensures)) (size .result) (size .ensures)
+    (depth .result) (depth .ensures) (taken .result) (taken .ensures .0) (taken .last .0) (taken .last .1 .0)
+    (taken .ensures .1) (chosen .given .0 .0) (chosen .given .1) (passes .result) (passes .last .1 .1 .1 .0)
+    (passes .last .1 .1 .1 .1 .0) (passes .last .1 .1 .1 .1 .1 .0) (passes .ensures)
+    (c .before .before .before .before .before .if2 .left) (number .result) (number .ensures)
+    (c .before .before .bind .last .0) (rw (toZ-ofZ {z = number .result} (record { sfits = number .ok })) at
+    (c .before .before .bind .ensures)) (c .before .after-tree .result) (c .before .after-tree .ensures)
+    (c .done .result) (rw (toZ-ofZ {z = number .result} (record { sfits = number .ok })) at (c .done .ensures))
+
+pub work-map-same-length-5 : (t : ℕ) → work-map-lts.Need-same-length-5 (work-map-claims t) (work-map-at t)
+    work-map.Post
+work-map-same-length-5 t c = search needs
+
+pub work-map-same-length-6 : (t : ℕ) → work-map-lts.Need-same-length-6 (work-map-claims t) (work-map-at t)
+    work-map.Post
+work-map-same-length-6 t c = search needs
+
+pub work-map-returns-4 : (t : ℕ) → work-map-lts.Need-returns-4 (work-map-claims t) (work-map-at t) work-map.Post
+work-map-returns-4 t c =
+    let a = c .before .before .before .before .before .before .before .before .before .before .before .before
+    .before .before .before .before .before .before .before .before .args in
+    let k = code (a .kinds .now) (a .operands .now) (a .table .now) in
+    let word = c .before .before .before .before .before .before .before .before .before .before .before .before
+    .before .before .word-of in
+    let cell = c .before .before .before .before .before .before .before .before .before .before .before .before
+    .before .named-cell in
+    let size = c .before .before .before .before .before .before .before .before .before .before .read-length in
+    let depth = c .before .before .before .before .before .before .before .before .before .element-depth in
+    let taken = c .before .before .before .before .before .before .acquire-empty in
+    map-none (tree-on (a .lines) (call-on (a .calls) k) k (a .calls) (a .f)) k (a .calls) (a .f) (a .x) (a .p) (a .a)
+    (a .at) (a .steps) (a .slots .now) (a .heads .now) (a .env .now)
+    (c .before .before .before .before .before .before .before .before .before .before .before .before
+    .before .before .before .before .if1 .left) (word .result) (word .ensures) (cell .result) (rw (toZ-ofZ {z =
+    word .result} (record { sfits = word .ok })) at (cell .ensures)) (size .result) (size .ensures) (depth .result)
+    (depth .ensures) (taken .result) (taken .ensures .0) (taken .last .0) (taken .last .1 .0) (taken .ensures .1)
+    (c .before .enum-told .given .1) (c .halted2 .result) (c .halted2 .ensures)

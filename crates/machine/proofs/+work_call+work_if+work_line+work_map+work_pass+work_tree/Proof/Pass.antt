@@ -1,0 +1,182 @@
+-- What `work_pass` has to show.
+use mathlib.Core.Path.{_∙_}
+use Prim.Native.Nat.{_-_, ℕ}
+use native.Mathlib.Omega.{arith}
+use mir.Facts.{toZ-ofZ}
+use Rattle.machine_positions.specs.Machine.{code, tree-on, call-on}
+use Rattle.machine_positions.specs.Parts.{Passing, passing-starts, pass-dry, pass-end, pass-stops, pass-goes}
+use borrow.Author.Needs.{needs}
+use Rattle.semantics.specs.Words.{store-of}
+use Rattle.machine_lines.specs.Frames.{place}
+use Rattle.machine_lines.specs.Lines.{memory}
+use Rattle.machine_positions.specs.Lengths.{bound-long, tree-long}
+use Rattle.machine.proofs.work_pass.Reads as work-pass
+use Rattle.machine.proofs.+work_call+work_if+work_line+work_map+work_pass+work_tree.Lts-work_pass as work-pass-lts
+use Rattle.machine.proofs.+work_call+work_if+work_line+work_map+work_pass+work_tree.Proof.Common.{work-pass-at}
+use Rattle.machine.proofs.+work_call+work_if+work_line+work_map+work_pass+work_tree.Proof.Common.{work-pass-claims}
+
+abbrev pub work-pass-Inv-loop : work-pass-lts.InvT-loop
+work-pass-Inv-loop kinds operands table slots₀ heads₀ env₀ steps lines calls f at p from into count s₀ i₀ slots
+    heads env s i =
+    Passing (tree-on lines (call-on calls (code kinds operands table)) (code kinds operands table) calls f at) calls
+    p from into count steps slots₀ heads₀ env₀ s i slots heads env
+
+abbrev pub work-pass-μ-loop : work-pass-lts.MeasureT-loop
+work-pass-μ-loop kinds operands table slots₀ heads₀ env₀ steps lines calls f at p from into count s₀ i₀ slots heads
+    env s i = count - i
+
+pub work-pass-loop-holds : (t : ℕ) → work-pass-lts.Need-loop-holds (work-pass-claims t) (work-pass-at t)
+    work-pass.Post
+    work-pass-Inv-loop work-pass-μ-loop
+work-pass-loop-holds t c =
+    let a = c .before .before .before .args in
+    let k = code (a .kinds .now) (a .operands .now) (a .table .now) in
+    passing-starts (tree-on (a .lines) (call-on (a .calls) k) k (a .calls) (a .f) (a .at)) (a .calls) (a .p) (a .from)
+    (a .into) (a .count) (a .steps) (a .slots .now) (a .heads .now) (a .env .now)
+
+pub work-pass-halted-requires : (t : ℕ) → work-pass-lts.Need-halted-requires (work-pass-claims t) (work-pass-at t)
+    work-pass.Post work-pass-Inv-loop work-pass-μ-loop
+work-pass-halted-requires t c κs = search needs
+
+pub work-pass-same-length : (t : ℕ) → work-pass-lts.Need-same-length (work-pass-claims t) (work-pass-at t)
+    work-pass.Post work-pass-Inv-loop work-pass-μ-loop
+work-pass-same-length t c = search needs
+
+pub work-pass-same-length-2 : (t : ℕ) → work-pass-lts.Need-same-length-2 (work-pass-claims t) (work-pass-at t)
+    work-pass.Post work-pass-Inv-loop work-pass-μ-loop
+work-pass-same-length-2 t c = search needs
+
+pub work-pass-returns : (t : ℕ) → work-pass-lts.Need-returns (work-pass-claims t) (work-pass-at t) work-pass.Post
+    work-pass-Inv-loop work-pass-μ-loop
+work-pass-returns t c =
+    pass-dry (c .before .before .before .loop .inv) (c .before .before .loop-test .taken) (c .before .if1 .taken)
+    (c .halted .result) (c .halted .ensures)
+
+pub work-pass-read-slot-requires : (t : ℕ) → work-pass-lts.Need-read-slot-requires (work-pass-claims t)
+    (work-pass-at t)
+    work-pass.Post work-pass-Inv-loop work-pass-μ-loop
+work-pass-read-slot-requires t c κs = search needs
+
+pub work-pass-bind-requires : (t : ℕ) → work-pass-lts.Need-bind-requires (work-pass-claims t) (work-pass-at t)
+    work-pass.Post work-pass-Inv-loop work-pass-μ-loop
+work-pass-bind-requires t c κs = search needs
+
+pub work-pass-sub-work-tree : (t : ℕ) → work-pass-lts.Need-sub-work-tree (work-pass-claims t) (work-pass-at t)
+    work-pass.Post work-pass-Inv-loop work-pass-μ-loop
+work-pass-sub-work-tree t c = search needs
+
+pub work-pass-work-tree-requires : (t : ℕ) → work-pass-lts.Need-work-tree-requires (work-pass-claims t)
+    (work-pass-at t)
+    work-pass.Post work-pass-Inv-loop work-pass-μ-loop
+work-pass-work-tree-requires t c κs =
+    let a = c .before .before .before .before .before .before .before .before .before .before .before .before
+    .before .before .args in
+    let o = c .before .before .before .before .before .before .before .before .before .before .loop in
+    let read = c .before .before .before .before .before .read-slot in
+    search (
+      needs,
+      o .inv .sized .env-long,
+      bound-long (o .env) (place (a .calls) (a .p)) (read .result) (rw
+          (toZ-ofZ {z
+          = read .result} (record { sfits = read .ok })) at (c .before .before .before .bind .ensures)),
+    )
+
+pub work-pass-same-length-3 : (t : ℕ) → work-pass-lts.Need-same-length-3 (work-pass-claims t) (work-pass-at t)
+    work-pass.Post work-pass-Inv-loop work-pass-μ-loop
+work-pass-same-length-3 t c = search needs
+
+pub work-pass-same-length-4 : (t : ℕ) → work-pass-lts.Need-same-length-4 (work-pass-claims t) (work-pass-at t)
+    work-pass.Post work-pass-Inv-loop work-pass-μ-loop
+work-pass-same-length-4 t c = search needs
+
+pub work-pass-returns-2 : (t : ℕ) → work-pass-lts.Need-returns-2 (work-pass-claims t) (work-pass-at t) work-pass.Post
+    work-pass-Inv-loop work-pass-μ-loop
+work-pass-returns-2 t c =
+    let read = c .before .before .before .before .before .before .before .before .before .before .read-slot in
+    let tree = c .before .before .before .before .work-tree in
+    pass-stops (c .before .before .before .before .before .before .before .before .before .before .before .before
+    .before .before .before .loop .inv) (c .before .before .before .before .before .before
+    .before .before .before .before .before .before .before .before .loop-test .taken)
+    (c .before .before .before .before .before .before .before .before .before .before .before .before
+    .before .if1 .left) (read .result) (read .ensures) (c .before .before .before .before .before .before
+    .before .before .bind .last .0) (rw (toZ-ofZ {z = read .result} (record { sfits = read .ok })) at
+    (c .before .before .before .before .before .before .before .before .bind .ensures)) (tree .result)
+    (tree .last .1 .1 .1 .0) (tree .last .1 .1 .1 .1 .0) (tree .last .1 .1 .1 .1 .1 .0) (tree .ensures)
+    (c .if2 .taken)
+
+pub work-pass-append-requires : (t : ℕ) → work-pass-lts.Need-append-requires (work-pass-claims t) (work-pass-at t)
+    work-pass.Post work-pass-Inv-loop work-pass-μ-loop
+work-pass-append-requires t c κs = search needs
+
+pub work-pass-add-i : (t : ℕ) → work-pass-lts.Need-add-i (work-pass-claims t) (work-pass-at t) work-pass.Post
+    work-pass-Inv-loop work-pass-μ-loop
+work-pass-add-i t c =
+    omega (
+      arith,
+      c .before .before .before .before .before .before .before .before .before .before .before .before
+          .before .before .before .before .before .before .before .before .before .loop-test .taken,
+      c .before .before .before .before .before .before .before .before .before .before .before .before
+          .before .before .before .before .before .before .before .before .before .before .before .before
+          .before .before .fits .count,
+    )
+
+pub work-pass-loop-less : (t : ℕ) → work-pass-lts.Need-loop-less (work-pass-claims t) (work-pass-at t) work-pass.Post
+    work-pass-Inv-loop work-pass-μ-loop
+work-pass-loop-less t c = search needs
+
+pub work-pass-loop-again : (t : ℕ) → work-pass-lts.Need-loop-again (work-pass-claims t) (work-pass-at t)
+    work-pass.Post
+    work-pass-Inv-loop work-pass-μ-loop
+work-pass-loop-again t c =
+    let a = c .before .before .before .before .before .before .before .before .before .before .before .before
+    .before .before .before .before .before .before .before .before .before .before .before .before
+    .before .before .args in
+    let k = code (a .kinds .now) (a .operands .now) (a .table .now) in
+    let o = c .before .before .before .before .before .before .before .before .before .before .before .before
+    .before .before .before .before .before .before .before .before .before .before .loop in
+    let read = c .before .before .before .before .before .before .before .before .before .before .before .before
+    .before .before .before .before .before .read-slot in
+    let tree = c .before .before .before .before .before .before .before .before .before .before .before .work-tree in
+    pass-goes (o .inv) (c .before .before .before .before .before .before
+    .before .before .before .before .before .before .before .before .before .before .before .before
+    .before .before .before .loop-test .taken) (c .before .before .before .before .before .before
+    .before .before .before .before .before .before .before .before .before .before .before .before
+    .before .before .if1 .left) (read .result) (read .ensures) (c .before .before .before .before .before .before
+    .before .before .before .before .before .before .before .before .before .bind .last .0) (rw (toZ-ofZ {z =
+    read .result} (record { sfits = read .ok })) at (c .before .before .before .before .before .before
+    .before .before .before .before .before .before .before .before .before .bind .ensures)) (tree .result)
+    (tree .last .1 .1 .1 .0) (tree .last .1 .1 .1 .1 .0) (tree .last .1 .1 .1 .1 .1 .0) (tree .ensures)
+    (c .before .before .before .before .before .before .before .if2 .left)
+    (c .before .before .before .append .last .0) (c .before .before .before .append .last .1 .0) (rw (toZ-ofZ {z =
+    tree .result .value} (record {
+      sfits = c .before .before .before .before .before .before
+          .struct-told .given .1 .0 .1;
+    })) at (c .before .before .before .append .ensures)) (record {
+      slots-long =
+          c .before .before .before .append .kept .0 ∙ tree .kept .1 .1 .1 .0;
+      heads-long =
+          c .before .before .before .append .kept .1 .0 ∙ tree .kept .1 .1 .1 .1 .0;
+      env-long = tree-long k (a .lines)
+          (a .calls) (a .f) (a .at) (o .s - 1) (memory (store-of (o .slots) (o .heads))
+          (c .before .before .before .before .before .before .before .before .before .before .before .before
+          .before .before .before .bind .last .0)) (tree .ensures) ∙ bound-long (o .env) (place (a .calls) (a .p))
+          (read .result) (rw (toZ-ofZ {z = read .result} (record { sfits = read .ok })) at
+          (c .before .before .before .before .before .before .before .before .before .before .before .before
+          .before .before .before .bind .ensures));
+    })
+
+pub work-pass-done-requires : (t : ℕ) → work-pass-lts.Need-done-requires (work-pass-claims t) (work-pass-at t)
+    work-pass.Post work-pass-Inv-loop work-pass-μ-loop
+work-pass-done-requires t c κs = search needs
+
+pub work-pass-same-length-5 : (t : ℕ) → work-pass-lts.Need-same-length-5 (work-pass-claims t) (work-pass-at t)
+    work-pass.Post work-pass-Inv-loop work-pass-μ-loop
+work-pass-same-length-5 t c = search needs
+
+pub work-pass-same-length-6 : (t : ℕ) → work-pass-lts.Need-same-length-6 (work-pass-claims t) (work-pass-at t)
+    work-pass.Post work-pass-Inv-loop work-pass-μ-loop
+work-pass-same-length-6 t c = search needs
+
+pub work-pass-returns-3 : (t : ℕ) → work-pass-lts.Need-returns-3 (work-pass-claims t) (work-pass-at t) work-pass.Post
+    work-pass-Inv-loop work-pass-μ-loop
+work-pass-returns-3 t c = pass-end (c .before .before .loop .inv) (omega arith) (c .done .result) (c .done .ensures)

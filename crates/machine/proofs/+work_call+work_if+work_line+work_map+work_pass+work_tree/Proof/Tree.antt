@@ -1,0 +1,186 @@
+-- What `work_tree` has to show.
+use mathlib.Core.Logic.{inl, inr}
+use Prim.Native.Nat.{_-_, ℕ}
+use native.Mathlib.Omega.{arith}
+use mir.Facts.{toZ-ofZ}
+use Rattle.machine_positions.specs.Machine.{code, call-on}
+use Rattle.machine_positions.specs.TreeLaws.{Working, working-starts, not-end, tree-out, tree-closed, tree-stops}
+use Rattle.machine_positions.specs.TreeLaws.{tree-goes, end-here}
+use borrow.Author.Needs.{needs}
+use mathlib.Core.Path.{refl}
+use Rattle.semantics.specs.Words.{store-of}
+use Rattle.machine_lines.specs.Lines.{memory}
+use Rattle.machine_positions.specs.Lengths.{line-long}
+use Rattle.machine.proofs.work_tree.Reads as work-tree
+use Rattle.machine.proofs.+work_call+work_if+work_line+work_map+work_pass+work_tree.Lts-work_tree as work-tree-lts
+use Rattle.machine_code.specs.declared.Line.the-variants as L
+use Rattle.machine.proofs.+work_call+work_if+work_line+work_map+work_pass+work_tree.Proof.Common.{work-tree-at}
+use Rattle.machine.proofs.+work_call+work_if+work_line+work_map+work_pass+work_tree.Proof.Common.{work-tree-claims}
+
+abbrev pub work-tree-Inv-loop : work-tree-lts.InvT-loop
+work-tree-Inv-loop kinds operands table slots₀ heads₀ env₀ steps lines calls f at p₀ s₀ left₀ slots heads env p s
+    left =
+    Working (call-on calls (code kinds operands table)) (code kinds operands table) calls f lines at steps slots₀
+    heads₀ env₀ left p s slots heads env
+
+abbrev pub work-tree-μ-loop : work-tree-lts.MeasureT-loop
+work-tree-μ-loop kinds operands table slots₀ heads₀ env₀ steps lines calls f at p₀ s₀ left₀ slots heads env p s left
+    = left
+
+pub work-tree-loop-holds : (t : ℕ) → work-tree-lts.Need-loop-holds (work-tree-claims t) (work-tree-at t)
+    work-tree.Post
+    work-tree-Inv-loop work-tree-μ-loop
+work-tree-loop-holds t c =
+    let a = c .before .before .before .args in
+    let k = code (a .kinds .now) (a .operands .now) (a .table .now) in
+    working-starts (call-on (a .calls) k) k (a .calls) (a .f) (a .lines) (a .at) (a .steps) (a .slots .now)
+    (a .heads .now) (a .env .now)
+
+pub work-tree-halted-requires : (t : ℕ) → work-tree-lts.Need-halted-requires (work-tree-claims t) (work-tree-at t)
+    work-tree.Post work-tree-Inv-loop work-tree-μ-loop
+work-tree-halted-requires t c κs = search needs
+
+pub work-tree-same-length : (t : ℕ) → work-tree-lts.Need-same-length (work-tree-claims t) (work-tree-at t)
+    work-tree.Post work-tree-Inv-loop work-tree-μ-loop
+work-tree-same-length t c = search needs
+
+pub work-tree-same-length-2 : (t : ℕ) → work-tree-lts.Need-same-length-2 (work-tree-claims t) (work-tree-at t)
+    work-tree.Post work-tree-Inv-loop work-tree-μ-loop
+work-tree-same-length-2 t c = search needs
+
+pub work-tree-returns : (t : ℕ) → work-tree-lts.Need-returns (work-tree-claims t) (work-tree-at t) work-tree.Post
+    work-tree-Inv-loop work-tree-μ-loop
+work-tree-returns t c = tree-out (c .before .before .before .loop .inv) (inr (c .before .if1 .taken)) (c .halted
+    .result) (c .halted .ensures)
+
+pub work-tree-shared-slice-read-if2 : (t : ℕ) → work-tree-lts.Need-shared-slice-read-if2 (work-tree-claims t)
+    (work-tree-at t) work-tree.Post work-tree-Inv-loop work-tree-μ-loop
+work-tree-shared-slice-read-if2 t c = search needs
+
+pub work-tree-add-atom-at : (t : ℕ) → work-tree-lts.Need-add-atom-at (work-tree-claims t) (work-tree-at t)
+    work-tree.Post work-tree-Inv-loop work-tree-μ-loop
+work-tree-add-atom-at t c = search needs
+
+pub work-tree-atom-at-requires : (t : ℕ) → work-tree-lts.Need-atom-at-requires (work-tree-claims t) (work-tree-at t)
+    work-tree.Post work-tree-Inv-loop work-tree-μ-loop
+work-tree-atom-at-requires t c κs = search needs
+
+pub work-tree-word-of-requires : (t : ℕ) → work-tree-lts.Need-word-of-requires (work-tree-claims t) (work-tree-at t)
+    work-tree.Post work-tree-Inv-loop work-tree-μ-loop
+work-tree-word-of-requires t c κs = search needs
+
+pub work-tree-add-done : (t : ℕ) → work-tree-lts.Need-add-done (work-tree-claims t) (work-tree-at t) work-tree.Post
+    work-tree-Inv-loop work-tree-μ-loop
+work-tree-add-done t c = search needs
+
+pub work-tree-done-requires : (t : ℕ) → work-tree-lts.Need-done-requires (work-tree-claims t) (work-tree-at t)
+    work-tree.Post work-tree-Inv-loop work-tree-μ-loop
+work-tree-done-requires t c κs = search needs
+
+pub work-tree-same-length-3 : (t : ℕ) → work-tree-lts.Need-same-length-3 (work-tree-claims t) (work-tree-at t)
+    work-tree.Post work-tree-Inv-loop work-tree-μ-loop
+work-tree-same-length-3 t c = search needs
+
+pub work-tree-same-length-4 : (t : ℕ) → work-tree-lts.Need-same-length-4 (work-tree-claims t) (work-tree-at t)
+    work-tree.Post work-tree-Inv-loop work-tree-μ-loop
+work-tree-same-length-4 t c = search needs
+
+pub work-tree-returns-2 : (t : ℕ) → work-tree-lts.Need-returns-2 (work-tree-claims t) (work-tree-at t) work-tree.Post
+    work-tree-Inv-loop work-tree-μ-loop
+work-tree-returns-2 t c =
+    let a = c .before .before .before .before .before .before .before .before .before .before .before .before .args in
+    let atom = c .before .before .before .atom-at in
+    tree-closed (c .before .before .before .before .before .before .before .before .loop .inv) (L.End (atom .result))
+    (c .before .before .before .before .before .before .before .loop-test .taken)
+    (c .before .before .before .before .before .before .if1 .left) (end-here (a .kinds .now) (a .operands .now)
+    (c .before .before .before .before .before .before .before .before .loop .p) (atom .result)
+    (c .before .before .before .before .if2 .taken) (atom .ensures)) (atom .result) refl
+    (c .before .word-of .result) (c .before .word-of .ensures) (c .done .result) (rw (toZ-ofZ {z =
+    c .before .word-of .result} (record { sfits = c .before .word-of .ok })) at (c .done .ensures))
+
+pub work-tree-line-at-requires : (t : ℕ) → work-tree-lts.Need-line-at-requires (work-tree-claims t) (work-tree-at t)
+    work-tree.Post work-tree-Inv-loop work-tree-μ-loop
+work-tree-line-at-requires t c κs = search needs
+
+pub work-tree-sub-work-line : (t : ℕ) → work-tree-lts.Need-sub-work-line (work-tree-claims t) (work-tree-at t)
+    work-tree.Post work-tree-Inv-loop work-tree-μ-loop
+work-tree-sub-work-line t c = search needs
+
+pub work-tree-work-line-requires : (t : ℕ) → work-tree-lts.Need-work-line-requires (work-tree-claims t)
+    (work-tree-at t)
+    work-tree.Post work-tree-Inv-loop work-tree-μ-loop
+work-tree-work-line-requires t c κs = search needs
+
+pub work-tree-same-length-5 : (t : ℕ) → work-tree-lts.Need-same-length-5 (work-tree-claims t) (work-tree-at t)
+    work-tree.Post work-tree-Inv-loop work-tree-μ-loop
+work-tree-same-length-5 t c = search needs
+
+pub work-tree-same-length-6 : (t : ℕ) → work-tree-lts.Need-same-length-6 (work-tree-claims t) (work-tree-at t)
+    work-tree.Post work-tree-Inv-loop work-tree-μ-loop
+work-tree-same-length-6 t c = search needs
+
+pub work-tree-returns-3 : (t : ℕ) → work-tree-lts.Need-returns-3 (work-tree-claims t) (work-tree-at t) work-tree.Post
+    work-tree-Inv-loop work-tree-μ-loop
+work-tree-returns-3 t c =
+    let a = c .before .before .before .before .before .before .before .before .before .before .before .before
+    .before .before .before .before .before .args in
+    let w = c .before .before .before .before .work-line in
+    let l = c .before .before .before .before .before .before .before .before .line-at in
+    tree-stops (c .before .before .before .before .before .before .before .before .before .before .before .before
+    .before .loop .inv) (l .result) (c .before .before .before .before .before .before
+    .before .before .before .before .before .before .loop-test .taken)
+    (c .before .before .before .before .before .before .before .before .before .before .before .if1 .left)
+    (l .ensures) (not-end (a .kinds .now) (a .operands .now) (c .before .before .before .before .before .before
+    .before .before .before .before .before .before .before .loop .p) (l .result)
+    (c .before .before .before .before .before .before .before .before .before .if2 .left) (l .ensures)) (w .result)
+    (w .last .1 .1 .1 .0) (w .last .1 .1 .1 .1 .0) (w .last .1 .1 .1 .1 .1 .0) (w .ensures) (c .if3 .taken)
+
+pub work-tree-sub-left : (t : ℕ) → work-tree-lts.Need-sub-left (work-tree-claims t) (work-tree-at t) work-tree.Post
+    work-tree-Inv-loop work-tree-μ-loop
+work-tree-sub-left t c = search needs
+
+pub work-tree-loop-less : (t : ℕ) → work-tree-lts.Need-loop-less (work-tree-claims t) (work-tree-at t) work-tree.Post
+    work-tree-Inv-loop work-tree-μ-loop
+work-tree-loop-less t c = search needs
+
+pub work-tree-loop-again : (t : ℕ) → work-tree-lts.Need-loop-again (work-tree-claims t) (work-tree-at t)
+    work-tree.Post
+    work-tree-Inv-loop work-tree-μ-loop
+work-tree-loop-again t c =
+    let a = c .before .before .before .before .before .before .before .before .before .before .before .before
+    .before .before .before .before .before .args in
+    let k = code (a .kinds .now) (a .operands .now) (a .table .now) in
+    let o = c .before .before .before .before .before .before .before .before .before .before .before .before
+    .before .loop in
+    let w = c .before .before .before .before .work-line in
+    let l = c .before .before .before .before .before .before .before .before .line-at in
+    tree-goes (c .before .before .before .before .before .before .before .before .before .before .before .before
+    .before .loop .inv) (l .result) (c .before .before .before .before .before .before
+    .before .before .before .before .before .before .loop-test .taken)
+    (c .before .before .before .before .before .before .before .before .before .before .before .if1 .left)
+    (l .ensures) (not-end (a .kinds .now) (a .operands .now) (c .before .before .before .before .before .before
+    .before .before .before .before .before .before .before .loop .p) (l .result)
+    (c .before .before .before .before .before .before .before .before .before .if2 .left) (l .ensures)) (w .result)
+    (w .last .1 .1 .1 .0) (w .last .1 .1 .1 .1 .0) (w .last .1 .1 .1 .1 .1 .0) (w .ensures) (c .if3 .left) (record {
+      slots-long = w .kept .1 .1 .1 .0;
+      heads-long = w .kept .1 .1 .1 .1 .0;
+      env-long = line-long k (o .left - 1)
+          (a .calls) (a .f) (o .p) (o .s) (memory (store-of (o .slots) (o .heads)) (o .env)) (l .result) (w .ensures);
+    })
+
+pub work-tree-halted-requires-2 : (t : ℕ) → work-tree-lts.Need-halted-requires-2 (work-tree-claims t) (work-tree-at t)
+    work-tree.Post work-tree-Inv-loop work-tree-μ-loop
+work-tree-halted-requires-2 t c κs = search needs
+
+pub work-tree-same-length-7 : (t : ℕ) → work-tree-lts.Need-same-length-7 (work-tree-claims t) (work-tree-at t)
+    work-tree.Post work-tree-Inv-loop work-tree-μ-loop
+work-tree-same-length-7 t c = search needs
+
+pub work-tree-same-length-8 : (t : ℕ) → work-tree-lts.Need-same-length-8 (work-tree-claims t) (work-tree-at t)
+    work-tree.Post work-tree-Inv-loop work-tree-μ-loop
+work-tree-same-length-8 t c = search needs
+
+pub work-tree-returns-4 : (t : ℕ) → work-tree-lts.Need-returns-4 (work-tree-claims t) (work-tree-at t) work-tree.Post
+    work-tree-Inv-loop work-tree-μ-loop
+work-tree-returns-4 t c =
+    tree-out (c .before .before .loop .inv) (inl (omega arith)) (c .halted2 .result) (c .halted2 .ensures)

@@ -1,0 +1,87 @@
+-- `store::append_all` meets its contract.
+use mathlib.Core.Path.{_≡_, refl, sym, ap, _∙_}
+use Prim.Native.Nat.{_+_, _-_, _≤_}
+use native.Mathlib.Omega.{arith}
+use lib.IntN.{pos}
+use lib.ListN.{length, getD, drop}
+use mir.Facts.{toZ-ofZ}
+use borrow.Author.Needs.{needs}
+use Rattle.semantics.specs.Words.{store-of}
+use Rattle.store.specs.Acquiring.{appended-all}
+use Rattle.store.proofs.Filling.{appended-next, appended-end}
+use Rattle.store.proofs.append_all.Statement.{statement}
+use Rattle.store.proofs.append_all.Tie as tie
+
+abbrev Inv-loop : tie.InvT-loop
+Inv-loop slots₀ heads₀ c words i₀ slots heads i =
+    (i ≤ length words) × (length slots ≡ length slots₀) × (length heads ≡ length heads₀)
+    × (appended-all c words (store-of slots₀ heads₀) ≡ appended-all c (drop i words) (store-of slots heads))
+
+abbrev μ-loop : tie.MeasureT-loop
+μ-loop slots₀ heads₀ c words i₀ slots heads i = length words - i
+
+loop-holds : tie.Need-loop-holds Inv-loop μ-loop
+loop-holds c = (omega arith, refl, refl, refl)
+
+mul-w : tie.Need-mul-w Inv-loop μ-loop
+mul-w c = search needs
+
+shared-slice-copy-out-w : tie.Need-shared-slice-copy-out-w Inv-loop μ-loop
+shared-slice-copy-out-w c = search needs
+
+append-requires : tie.Need-append-requires Inv-loop μ-loop
+append-requires c κs = search needs
+
+add-i : tie.Need-add-i Inv-loop μ-loop
+add-i c = search needs
+
+loop-less : tie.Need-loop-less Inv-loop μ-loop
+loop-less c = search needs
+
+loop-again : tie.Need-loop-again Inv-loop μ-loop
+loop-again c =
+    let a = c .before .before .before .before .before .before .before .before .before .before .args in
+    let i = c .before .before .before .before .before .before .before .before .loop .i in
+    let w = getD (a .words .now) i (pos 0) in (
+      omega arith,
+      c .before .before .before .append .kept .0 ∙ c .before .before .before .before .before .before
+          .before .before .loop .inv .1,
+      c .before .before .before .append .kept .1 .0 ∙
+          c .before .before .before .before .before .before .before .before .loop .inv .2,
+      c .before .before .before .before .before .before .before .before .loop .inv .3 ∙ appended-next (a .c)
+          (a .words .now) i w _ (c .before .before .before .before .before .before .before .loop-test .taken) refl ∙ ap
+          (appended-all (a .c) (drop (i + 1) (a .words .now))) (sym (rw (toZ-ofZ {z = w} (record {
+            sfits =
+                c .before .before .before .before .before .before .w .given;
+          })) at
+          (c .before .before .before .append .ensures))),
+    )
+
+same-length : tie.Need-same-length Inv-loop μ-loop
+same-length c = search needs
+
+same-length-2 : tie.Need-same-length-2 Inv-loop μ-loop
+same-length-2 c = search needs
+
+returns : tie.Need-returns Inv-loop μ-loop
+returns c =
+    let a = c .before .before .before .args in
+    sym (c .before .loop .inv .3
+    ∙ appended-end (a .c) (a .words .now) (c .before .loop .i) _ (omega (arith, c .before .loop .inv .0)))
+
+pub append-all-spec : {M : Type 1} → statement M
+append-all-spec =
+    tie.close
+    (tie.spec
+    Inv-loop
+    μ-loop
+    loop-holds
+    mul-w
+    shared-slice-copy-out-w
+    append-requires
+    add-i
+    loop-less
+    loop-again
+    same-length
+    same-length-2
+    returns)

@@ -1,0 +1,186 @@
+/* The script engine's C interface: four calls, the sizes of what is lent to them, and the parts of their answers.
+ *
+ * Every call takes the script file and the two code arrays, and translates the script afresh; nothing is kept between
+ * calls but the store, in the host's two store arrays. The engine has no global data, allocates nothing, calls no
+ * function of the host's but memcpy and memset, and always returns. It believes nothing that is lent to it: any bytes may be a script file, and any words a
+ * store. The host sees to three things only:
+ *   - a pointer is aligned and not null, and has at least the number of elements that follows it (so also for 0);
+ *   - the arrays of one call lie apart in memory;
+ *   - calls on one store come one after another.
+ */
+#ifndef ENGINE_H
+#define ENGINE_H
+
+#include <stddef.h>
+#include <stdint.h>
+
+#ifdef __cplusplus
+extern "C" {
+#endif
+
+/* ---- Sizes ---- */
+
+/* A script file: 4 bytes, then one byte and one operand of 8 bytes for each node. */
+#define ENGINE_FUNCTIONS_MAX 32
+#define ENGINE_NODES_MAX 1024
+#define ENGINE_FILE_LENGTH(nodes) (4 + 9 * (size_t)(nodes))
+#define ENGINE_FILE_LENGTH_MAX ENGINE_FILE_LENGTH(ENGINE_NODES_MAX)
+#define ENGINE_LEVELS_MAX 64       /* a function's body is at level 1 */
+#define ENGINE_DEPTH_MAX 4         /* 0 is a number, d an array of depth d - 1 */
+#define ENGINE_PARAMETERS_MAX 8    /* of a function */
+#define ENGINE_NEW_NAMES_MAX 256   /* of a function, after translation */
+
+/* The code arrays need never be longer: a script whose code has more lines is refused. */
+#define ENGINE_CODE_LINES_MAX 4096
+
+/* The store arrays: the totals and the slots of each cell; the first free cell and the head of each cell. */
+#define ENGINE_CELLS_MIN 1
+#define ENGINE_CELLS_MAX 256
+#define ENGINE_CELL_SLOTS 16       /* words of a cell in the first array: the longest array that a script can make */
+#define ENGINE_CELL_HEADS 4        /* words of a cell in the second: count, length, element depth, next free cell */
+#define ENGINE_SLOTS_LENGTH(cells) (1 + ENGINE_CELL_SLOTS * (size_t)(cells))
+#define ENGINE_HEADS_LENGTH(cells) (1 + ENGINE_CELL_HEADS * (size_t)(cells))
+#define ENGINE_SLOTS_OF(cell) (1 + ENGINE_CELL_SLOTS * (size_t)(cell)) /* where a cell's words begin */
+#define ENGINE_HEADS_OF(cell) (1 + ENGINE_CELL_HEADS * (size_t)(cell))
+
+/* A delivery. */
+#define ENGINE_READINGS_MAX 16
+#define ENGINE_BUDGET_MAX 1000000
+#define ENGINE_CALL_DEPTH_MAX 32   /* main is at call depth 1 */
+
+/* ---- Numbers ---- */
+
+/* The number in an answer. The words that the service display shows are beside each; engine_word gives them. */
+enum engine_number {
+    ENGINE_DONE = 0,                 /* done */
+
+    /* Refusals: the code arrays are all zero, the store is unchanged. */
+    ENGINE_TRUNCATED = 1,            /* torn: under 4 bytes, or not the length that the file's sizes ask for */
+    ENGINE_SIZE_OUT_OF_RANGE = 2,    /* oversize: the number of functions or nodes */
+    ENGINE_MALFORMED = 3,            /* misfit: a kind not allowed there, nodes missing, or nodes left over */
+    ENGINE_OPERAND_OUT_OF_RANGE = 4, /* bad setting */
+    ENGINE_TOO_DEEP = 5,             /* deep: level 65 */
+    ENGINE_UNKNOWN_NAME = 6,         /* no such nozzle: a name or function not known, or a parameter's name repeated */
+    ENGINE_TYPE_MISMATCH = 7,        /* wrong grade: a count or depth does not match, or main's shape */
+    ENGINE_TOO_MANY_NAMES = 8,       /* crowded: a function with over 256 new names */
+    ENGINE_CODE_TOO_LONG = 9,        /* long hose: more lines than the shorter code array has, or than 4,096 */
+    ENGINE_BAD_REQUEST = 10,         /* bad ticket: over 16 readings, or a budget above 1,000,000 */
+    ENGINE_UNSOUND_STORE = 11,       /* bad tank: the store is not sound (on opening: the lengths do not fit) */
+
+    /* Stops of a delivery: the code stands, the totals and their cells are as before, the other cells are clear. */
+    ENGINE_OUT_OF_STEPS = 21,        /* spent: a step was due and none was left */
+    ENGINE_CALL_TOO_DEEP = 22,       /* nested: a 33rd call depth */
+    ENGINE_INDEX_OUT_OF_RANGE = 23,  /* off the end */
+    ENGINE_OVERFLOW = 24,            /* overrun: a sum or difference does not fit 64 bits */
+    ENGINE_OUT_OF_CELLS = 25         /* tank dry: a cell was wanted and none was free */
+};
+
+/* What the service display shows for a number. */
+static inline const char *engine_word(unsigned number)
+{
+    switch (number) {
+    case ENGINE_DONE: return "done";
+    case ENGINE_TRUNCATED: return "torn";
+    case ENGINE_SIZE_OUT_OF_RANGE: return "oversize";
+    case ENGINE_MALFORMED: return "misfit";
+    case ENGINE_OPERAND_OUT_OF_RANGE: return "bad setting";
+    case ENGINE_TOO_DEEP: return "deep";
+    case ENGINE_UNKNOWN_NAME: return "no such nozzle";
+    case ENGINE_TYPE_MISMATCH: return "wrong grade";
+    case ENGINE_TOO_MANY_NAMES: return "crowded";
+    case ENGINE_CODE_TOO_LONG: return "long hose";
+    case ENGINE_BAD_REQUEST: return "bad ticket";
+    case ENGINE_UNSOUND_STORE: return "bad tank";
+    case ENGINE_OUT_OF_STEPS: return "spent";
+    case ENGINE_CALL_TOO_DEEP: return "nested";
+    case ENGINE_INDEX_OUT_OF_RANGE: return "off the end";
+    case ENGINE_OVERFLOW: return "overrun";
+    case ENGINE_OUT_OF_CELLS: return "tank dry";
+    default: return "unknown number";
+    }
+}
+
+/* ---- The parts of an answer; one that does not apply is 0 ---- */
+
+static inline unsigned engine_answer_number(uint64_t answer)
+{
+    return (unsigned)(answer & 0xff);
+}
+
+/* The node that a refusal 3 to 8 names; for 3 it is the number of nodes where nodes are missing. */
+static inline unsigned engine_answer_node(uint64_t answer)
+{
+    return (unsigned)((answer >> 8) & 0xffff);
+}
+
+/* The code lines after engine_translate. */
+static inline uint32_t engine_answer_lines(uint64_t answer)
+{
+    return (uint32_t)((answer >> 24) & 0xffffff);
+}
+
+/* The steps that engine_deliver took, also where it stopped. */
+static inline uint32_t engine_answer_steps(uint64_t answer)
+{
+    return (uint32_t)((answer >> 24) & 0xffffff);
+}
+
+/* The cells taken as engine_open, engine_check or engine_deliver ends. */
+static inline unsigned engine_answer_cells(uint64_t answer)
+{
+    return (unsigned)(answer >> 48);
+}
+
+/* ---- The calls ----
+ *
+ * Each array is a pointer and its number of elements.
+ *
+ *   file       the script file; read only
+ *   kinds      first code array: the kind of each line
+ *   operands   second code array: the operand of each line
+ *              Both are written over their whole lengths whatever they held: the code and then zeros, or, after a
+ *              refusal, zeros alone. The code may take as many lines as the shorter has, and never more than 4,096.
+ *   slots      first store array, of ENGINE_SLOTS_LENGTH(S) words for a store of S cells: word 0 the totals (a number,
+ *              or the number of a cell where main's depth is 1 or more), words 1 + 16 c to 16 + 16 c the slots of cell c
+ *   heads      second store array, of ENGINE_HEADS_LENGTH(S) words: word 0 the first free cell (S where none is), words
+ *              1 + 4 c to 4 + 4 c the count, length, element depth and next free cell of cell c
+ *   readings   the readings of one delivery, at most ENGINE_READINGS_MAX; read only
+ *   budget     the steps that the delivery may take, at most ENGINE_BUDGET_MAX
+ */
+
+/* Translates a script. Numbers 0 to 9; the answer has the code's lines. */
+uint64_t engine_translate(const uint8_t *file, size_t file_length,
+                          uint8_t *kinds, size_t kinds_length,
+                          int64_t *operands, size_t operands_length);
+
+/* Opens a store for a script, whatever its words were: totals 0 or the empty array. Numbers 0 to 9 and 11; the answer
+ * has the cells taken, 0 or 1. */
+uint64_t engine_open(const uint8_t *file, size_t file_length,
+                     uint8_t *kinds, size_t kinds_length,
+                     int64_t *operands, size_t operands_length,
+                     int64_t *slots, size_t slots_length,
+                     uint32_t *heads, size_t heads_length);
+
+/* Works one delivery: main on the totals and the readings gives the new totals. All numbers; after 0 and 21 to 25 the
+ * answer has the steps and the cells taken. */
+uint64_t engine_deliver(const uint8_t *file, size_t file_length,
+                        uint8_t *kinds, size_t kinds_length,
+                        int64_t *operands, size_t operands_length,
+                        int64_t *slots, size_t slots_length,
+                        uint32_t *heads, size_t heads_length,
+                        const int64_t *readings, size_t readings_length,
+                        uint64_t budget);
+
+/* Checks that a store is sound for a script, and changes none of its words. Numbers 0 to 9 and 11; the answer has the
+ * cells taken. */
+uint64_t engine_check(const uint8_t *file, size_t file_length,
+                      uint8_t *kinds, size_t kinds_length,
+                      int64_t *operands, size_t operands_length,
+                      const int64_t *slots, size_t slots_length,
+                      const uint32_t *heads, size_t heads_length);
+
+#ifdef __cplusplus
+}
+#endif
+
+#endif

@@ -1,0 +1,247 @@
+/* The static library from C: the trials of document 01 on its printed script, the limits of each argument, damaged
+ * files and stores, and the test vectors that the arguments name. Every array ends at a page that may not be touched.
+ * Exit status 0 where all pass. */
+#include "lent.h"
+#include "vectors.h"
+
+#include <inttypes.h>
+#include <stdio.h>
+#include <string.h>
+
+static unsigned passed, failed;
+
+/* Counts a test, and says where one fails. */
+static void expect(bool holds, const char *what)
+{
+    if (holds) {
+        passed++;
+    } else {
+        failed++;
+        printf("  failed: %s\n", what);
+    }
+}
+
+/* An answer by its parts. */
+static uint64_t answer(unsigned number, unsigned node, uint32_t count, unsigned cells)
+{
+    return number + ((uint64_t)node << 8) + ((uint64_t)count << 24) + ((uint64_t)cells << 48);
+}
+
+struct row {
+    uint8_t kind;
+    int64_t operand;
+};
+
+/* Lends the script file of some nodes. */
+static void lend_script(unsigned functions, const struct row *rows, size_t count)
+{
+    lend_file(ENGINE_FILE_LENGTH(count));
+    const unsigned sizes[2] = { functions, (unsigned)count };
+    for (unsigned i = 0; i < 4; i++)
+        lent.file[i] = (uint8_t)(sizes[i / 2] >> (8 * (i % 2)));
+    for (size_t i = 0; i < count; i++) {
+        lent.file[4 + i] = rows[i].kind;
+        for (unsigned byte = 0; byte < 8; byte++)
+            lent.file[4 + count + 8 * i + byte] = (uint8_t)((uint64_t)rows[i].operand >> (8 * byte));
+    }
+}
+
+static const struct row printed[] = {
+    { 0, 258 }, { 1, 256 }, { 1, 257 }, { 12, 0 }, { 11, 0 }, { 3, 0 }, { 9, 1 }, { 4, 0 }, { 10, 0 },
+    { 3, 0 },   { 2, 0 },   { 10, 0 },  { 3, 1 },  { 2, 0 },  { 9, 1 }, { 10, 0 }, { 3, 1 }, { 2, 0 },
+};
+
+static const struct row printed_code[] = {
+    { 0, 258 }, { 1, 256 }, { 1, 257 }, { 11, 2 }, { 3, 0 },  { 12, 3 }, { 3, 2 }, { 10, 4 }, { 3, 0 },
+    { 2, 0 },   { 15, 0 },  { 10, 5 },  { 3, 1 },  { 2, 0 },  { 15, 1 }, { 4, 6 }, { 3, 4 },  { 3, 5 },
+    { 9, 263 }, { 3, 6 },   { 16, 0 },  { 3, 7 },  { 15, 0 }, { 10, 8 }, { 3, 1 }, { 2, 0 },  { 15, 1 },
+    { 9, 265 }, { 3, 8 },   { 16, 0 },  { 3, 9 },  { 16, 0 }, { 3, 3 },
+};
+
+#define COUNT(rows) (sizeof(rows) / sizeof *(rows))
+enum { PRINTED_LINES = COUNT(printed_code) };
+
+static void lend_printed(void)
+{
+    lend_script(1, printed, COUNT(printed));
+}
+
+/* Opens the printed script's store. */
+static void open_printed(unsigned cells)
+{
+    lend_printed();
+    lend_code(ENGINE_CODE_LINES_MAX, ENGINE_CODE_LINES_MAX);
+    lend_store(ENGINE_SLOTS_LENGTH(cells), ENGINE_HEADS_LENGTH(cells));
+    expect(open_store() == answer(0, 0, 0, 1), "the printed script's store opens");
+}
+
+static uint64_t deliver_one(int64_t reading, uint64_t budget)
+{
+    lend_readings(1);
+    lent.readings[0] = reading;
+    return deliver(budget);
+}
+
+/* Whether the totals are an array of this one number. */
+static bool totals_are(int64_t number)
+{
+    uint64_t cell = (uint64_t)lent.slots[0];
+    return lent.heads[ENGINE_HEADS_OF(cell) + 1] == 1 && lent.slots[ENGINE_SLOTS_OF(cell)] == number;
+}
+
+/* ---- Tests ---- */
+
+static void test_translate(void)
+{
+    lend_printed();
+    for (size_t kinds = 0; kinds < 40; kinds++) {
+        size_t operands = kinds % 3 == 0 ? kinds : 4200;
+        lend_code(kinds, operands);
+        uint64_t found = translate();
+        bool fits = kinds >= PRINTED_LINES;
+        expect(found == (fits ? answer(0, 0, PRINTED_LINES, 0) : answer(9, 0, 0, 0)), "code arrays of each length");
+        expect(code_is_zero_from(fits ? PRINTED_LINES : 0), "zero past the code");
+        for (size_t i = 0; fits && i < PRINTED_LINES; i++)
+            expect(lent.kinds[i] == printed_code[i].kind && lent.operands[i] == printed_code[i].operand, "a line");
+    }
+}
+
+static void test_cut_files(void)
+{
+    uint8_t whole[ENGINE_FILE_LENGTH(COUNT(printed))];
+    lend_printed();
+    memcpy(whole, lent.file, sizeof whole);
+    for (size_t length = 0; length < sizeof whole; length++) {
+        lend_file(length);
+        memcpy(lent.file, whole, length);
+        lend_code(50, 50);
+        expect(translate() == answer(1, 0, 0, 0) && code_is_zero_from(0), "a cut file");
+    }
+    lend_file(4);
+    memcpy(lent.file, (uint8_t[]){ 1, 0, 0, 0 }, 4);
+    expect(translate() == answer(2, 0, 0, 0), "no nodes");
+    memcpy(lent.file, (uint8_t[]){ 33, 0, 1, 0 }, 4);
+    expect(translate() == answer(2, 0, 0, 0), "33 functions");
+    memcpy(lent.file, (uint8_t[]){ 1, 0, 1, 4 }, 4);
+    expect(translate() == answer(2, 0, 0, 0), "1,025 nodes");
+}
+
+static void test_trials(void)
+{
+    open_printed(2);
+    expect(deliver_one(250, 1000) == answer(0, 0, 4, 1) && totals_are(250), "{250}: 4 steps");
+    expect(deliver_one(100, 1000) == answer(0, 0, 6, 1) && totals_are(350), "then {100}: 6 steps, {350}");
+    open_printed(2);
+    expect(deliver_one(250, 1000) == answer(0, 0, 4, 1), "{250}");
+    lend_readings(0);
+    expect(deliver(1000) == answer(23, 0, 4, 1) && totals_are(250), "then {}: 23 at step 4");
+    open_printed(2);
+    expect(deliver_one(250, 3) == answer(21, 0, 3, 1), "budget 3: 21");
+    expect(deliver_one(250, 4) == answer(0, 0, 4, 1), "budget 4: done");
+    open_printed(1);
+    expect(deliver_one(250, 1000) == answer(25, 0, 0, 1), "1 cell: 25 at step 0");
+    open_printed(256);
+    expect(deliver_one(INT64_MAX, 1000) == answer(0, 0, 4, 1), "the greatest total");
+    expect(deliver_one(1, 1000) == answer(24, 0, 5, 1) && totals_are(INT64_MAX), "and {1}: 24 at step 5");
+    expect(deliver_one(0, 1000) == answer(0, 0, 6, 1) && totals_are(INT64_MAX), "with {0}: done");
+}
+
+static void test_requests(void)
+{
+    open_printed(2);
+    for (size_t count = 1; count <= 20; count++) {
+        lend_readings(count);
+        memset(lent.readings, 0, count * sizeof *lent.readings);
+        unsigned number = engine_answer_number(deliver(1000));
+        expect(number == (count <= ENGINE_READINGS_MAX ? ENGINE_DONE : ENGINE_BAD_REQUEST), "16 readings pass");
+        expect(code_is_zero_from(number == ENGINE_DONE ? PRINTED_LINES : 0), "the code after 0 and 10");
+    }
+    expect(deliver_one(1, ENGINE_BUDGET_MAX) == answer(0, 0, 6, 1), "the greatest budget");
+    expect(deliver_one(1, ENGINE_BUDGET_MAX + 1) == answer(10, 0, 0, 0), "a greater budget");
+    expect(deliver_one(1, UINT64_MAX) == answer(10, 0, 0, 0), "the greatest number as budget");
+}
+
+/* Function 1 of a calls itself until its number is 0; main calls it with the first reading. */
+static void test_call_depth(void)
+{
+    static const struct row rows[] = {
+        { 0, 2 },  { 1, 0 }, { 1, 257 }, { 8, 257 }, { 10, 0 }, { 3, 1 }, { 2, 0 },
+        { 0, 1 },  { 1, 0 }, { 12, 0 },  { 3, 0 },   { 8, 257 }, { 5, 0 }, { 3, 0 }, { 2, 1 }, { 2, 7 },
+    };
+    lend_script(2, rows, COUNT(rows));
+    lend_code(100, 100);
+    lend_store(ENGINE_SLOTS_LENGTH(1), ENGINE_HEADS_LENGTH(1));
+    expect(open_store() == answer(0, 0, 0, 0), "opens without an array");
+    uint64_t deep = deliver_one(30, 1000);
+    expect(engine_answer_number(deep) == ENGINE_DONE && lent.slots[0] == 7, "call depth 32 passes");
+    expect(engine_answer_number(deliver_one(31, 1000)) == ENGINE_CALL_TOO_DEEP, "call depth 33 gives 22");
+}
+
+static void test_store_lengths(void)
+{
+    lend_printed();
+    for (size_t cells = 0; cells <= 257; cells++) {
+        for (int more = -1; more <= 1; more++) {
+            if (cells == 0 && more < 0)
+                continue;
+            lend_code(40, 40);
+            lend_store(ENGINE_SLOTS_LENGTH(cells), (size_t)((long)ENGINE_HEADS_LENGTH(cells) + more));
+            bool fits = more == 0 && cells >= ENGINE_CELLS_MIN && cells <= ENGINE_CELLS_MAX;
+            uint64_t found = open_store();
+            expect(found == (fits ? answer(0, 0, 0, 1) : answer(11, 0, 0, 0)), "lengths of a store");
+            expect(check_store() == found, "a check of the same");
+        }
+    }
+}
+
+/* Each word of a small sound store changed in turn. */
+static void test_damaged_store(void)
+{
+    open_printed(2);
+    expect(deliver_one(250, 1000) == answer(0, 0, 4, 1), "a store with totals {250}");
+    size_t cell = (size_t)lent.slots[0];
+    for (size_t i = 0; i < lent.heads_length; i++) {
+        bool is_free_choice = i == ENGINE_HEADS_OF(cell) + 1; /* one element more, which is 0 */
+        lent.heads[i]++;
+        expect(check_store() == (is_free_choice ? answer(0, 0, 0, 1) : answer(11, 0, 0, 0)), "a head changed");
+        expect(is_free_choice || deliver_one(1, 1000) == answer(11, 0, 0, 0), "no delivery to it");
+        lent.heads[i]--;
+    }
+    for (size_t i = 0; i < lent.slots_length; i++) {
+        bool is_free_choice = i == ENGINE_SLOTS_OF(cell); /* the number itself */
+        lent.slots[i] ^= INT64_MIN;
+        expect(check_store() == (is_free_choice ? answer(0, 0, 0, 1) : answer(11, 0, 0, 0)), "a slot changed");
+        lent.slots[i] ^= INT64_MIN;
+    }
+    expect(check_store() == answer(0, 0, 0, 1) && totals_are(250), "as it was");
+}
+
+static void test_header(void)
+{
+    uint64_t parts = answer(23, 1024, 1000000, 256);
+    expect(engine_answer_number(parts) == 23 && engine_answer_node(parts) == 1024, "number and node");
+    expect(engine_answer_steps(parts) == 1000000 && engine_answer_lines(parts) == 1000000, "steps and lines");
+    expect(engine_answer_cells(parts) == 256, "cells");
+    expect(strcmp(engine_word(ENGINE_UNKNOWN_NAME), "no such nozzle") == 0, "a word");
+    expect(strcmp(engine_word(12), "unknown number") == 0, "no word");
+    expect(ENGINE_FILE_LENGTH_MAX == 9220, "the longest file");
+    expect(ENGINE_SLOTS_LENGTH(256) == 4097 && ENGINE_HEADS_LENGTH(256) == 1025, "the largest store");
+}
+
+int main(int count, char **arguments)
+{
+    bool agreed = true;
+    lend();
+    for (int i = 1; i < count; i++)
+        agreed &= run_vectors(arguments[i]);
+    test_header();
+    test_translate();
+    test_cut_files();
+    test_trials();
+    test_requests();
+    test_call_depth();
+    test_store_lengths();
+    test_damaged_store();
+    printf("C link tests: %u passed, %u failed\n", passed, failed);
+    return agreed && failed == 0 ? 0 : 1;
+}

@@ -1,0 +1,154 @@
+//! The static library against a second implementation, on scripts and stores made at random, long and short, valid and
+//! damaged, and on the test vectors that the arguments name. Exit status 0 where all agree.
+
+mod compare;
+mod engine;
+mod generate;
+mod model;
+mod random;
+mod vectors;
+
+use compare::Tally;
+use generate::Shape;
+use model::Lent;
+use random::Random;
+
+/// Arrays of these lengths with something in them.
+fn lent(random: &mut Random, kinds: usize, operands: usize, cells: usize) -> Lent {
+    Lent {
+        kinds: (0..kinds).map(|_| random.next() as u8).collect(),
+        operands: (0..operands).map(|_| random.next() as i64).collect(),
+        slots: (0..1 + 16 * cells).map(|_| random.next() as i64).collect(),
+        heads: (0..1 + 4 * cells).map(|_| random.next() as u32).collect(),
+    }
+}
+
+/// Lengths of code arrays: ample, short, unlike, or more than can be used.
+fn code_lengths(random: &mut Random) -> (usize, usize) {
+    match random.below(8) {
+        0 => (random.below(60), random.below(60)),
+        1 => (4096, random.below(300)),
+        2 => (random.below(300), 4096),
+        3 => (5000, 4100),
+        _ => (4096, 4096),
+    }
+}
+
+fn shape(random: &mut Random) -> Shape {
+    let functions = 1 + random.below(6).min(random.below(6));
+    let nodes = *random.pick(&[4, 12, 30, 60, 120, 250]);
+    Shape { functions, nodes, spine: random.once_in(4), levels: 63, faulty: false }
+}
+
+fn readings(random: &mut Random) -> Vec<i64> {
+    let count = if random.once_in(20) { random.below(18) } else { random.below(5) };
+    (0..count).map(|_| random.number()).collect()
+}
+
+fn budget(random: &mut Random) -> u64 {
+    match random.below(10) {
+        0 => random.below(12) as u64,
+        1 => 1_000_000 + random.below(2) as u64,
+        _ => 50 + random.below(3000) as u64,
+    }
+}
+
+/// Changes a word or a length of a store.
+fn damage_store(random: &mut Random, lent: &mut Lent) {
+    match random.below(12) {
+        0 => lent.slots.push(0),
+        1 => drop(lent.heads.pop()),
+        2 | 3 => {
+            let at = random.below(lent.slots.len());
+            lent.slots[at] = random.number();
+        }
+        4 => {
+            let at = random.below(lent.heads.len());
+            lent.heads[at] = random.next() as u32;
+        }
+        5 => {
+            let (at, from) = (random.below(lent.heads.len()), random.below(lent.heads.len()));
+            lent.heads[at] = lent.heads[from];
+        }
+        _ => {
+            let at = random.below(lent.heads.len().min(40));
+            lent.heads[at] = lent.heads[at].wrapping_add_signed(random.below(3) as i32 - 1);
+        }
+    }
+}
+
+/// Files, valid and damaged, long and short, to be translated.
+fn files(random: &mut Random, count: usize) -> Tally {
+    let mut tally = Tally::default();
+    for turn in 0..count {
+        let shape = match turn % 16 {
+            1 => Shape { functions: 1 + random.below(33), nodes: 30, spine: false, levels: 63, faulty: false },
+            2 => Shape { functions: 2, nodes: 400, spine: false, levels: 63, faulty: false },
+            3 => Shape { functions: 1, nodes: 300, spine: true, levels: 66, faulty: false },
+            4 => Shape { functions: 2, nodes: 60, spine: false, levels: 63, faulty: true },
+            _ => shape(random),
+        };
+        let mut file = generate::script(random, shape);
+        if turn % 16 == 0 {
+            file = (0..random.below(40)).map(|_| random.next() as u8).collect();
+        } else if turn % 3 == 0 {
+            generate::damage(random, &mut file);
+        }
+        let (kinds, operands) = code_lengths(random);
+        let mut arrays = lent(random, kinds, operands, 1);
+        tally.translate(&file, &mut arrays);
+    }
+    tally
+}
+
+/// Every shorter file of a script, and one byte more.
+fn cut_files(random: &mut Random) -> Tally {
+    let mut tally = Tally::default();
+    let mut file = generate::script(random, Shape { functions: 3, nodes: 40, spine: false, levels: 63, faulty: false });
+    file.push(0);
+    for length in 0..=file.len() {
+        let mut arrays = lent(random, 4096, 4096, 2);
+        tally.translate(&file[..length], &mut arrays);
+        tally.open(&file[..length], &mut arrays);
+    }
+    tally
+}
+
+/// Stores that are opened, delivered to, checked, and at times damaged.
+fn histories(random: &mut Random, count: usize) -> Tally {
+    let mut tally = Tally::default();
+    for _ in 0..count {
+        let shape = shape(random);
+        let file = generate::script(random, shape);
+        let cells = *random.pick(&[1, 2, 3, 4, 6, 8, 16, 40, 255, 256]);
+        let mut arrays = lent(random, 4096, 4096, cells);
+        if random.once_in(20) {
+            damage_store(random, &mut arrays);
+        }
+        if tally.open(&file, &mut arrays) != 0 {
+            continue;
+        }
+        for _ in 0..1 + random.below(8) {
+            let (readings, budget) = (readings(random), budget(random));
+            tally.deliver(&file, &mut arrays, &readings, budget);
+            if random.once_in(12) {
+                damage_store(random, &mut arrays);
+            }
+            tally.check(&file, &mut arrays);
+        }
+    }
+    tally
+}
+
+fn main() {
+    let mut agreed = true;
+    for path in std::env::args().skip(1) {
+        agreed &= vectors::run(&path);
+    }
+    let mut random = Random(1);
+    agreed &= files(&mut random, 12_000).report("files");
+    agreed &= cut_files(&mut random).report("cut files");
+    agreed &= histories(&mut random, 4_000).report("histories");
+    println!("{}", if agreed { "all agree" } else { "NOT ALL AGREE" });
+    std::process::exit(if agreed { 0 } else { 1 });
+}

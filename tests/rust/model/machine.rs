@@ -1,0 +1,129 @@
+//! The code of a script worked on a store: one delivery.
+
+use super::code::{Atom, Coded, Line, Operation, Tree};
+use super::script::Arithmetic;
+use super::store::Store;
+
+pub const CALL_DEPTH_MAX: usize = 32;
+
+/// A delivery's end: its number and steps.
+pub struct Ended {
+    pub number: u64,
+    pub steps: u64,
+}
+
+struct Machine<'a> {
+    functions: &'a [Coded],
+    store: Store,
+    left: u64,
+}
+
+/// Works one delivery on a sound store.
+pub fn deliver(functions: &[Coded], store: &mut Store, readings: &[i64], budget: u64) -> Ended {
+    let mut machine = Machine { functions, store: store.clone(), left: budget };
+    match machine.delivery(readings) {
+        Ok(()) => {
+            *store = machine.store;
+            Ended { number: 0, steps: budget - machine.left }
+        }
+        Err(number) => {
+            store.chain_upwards();
+            Ended { number, steps: budget - machine.left }
+        }
+    }
+}
+
+impl Machine<'_> {
+    fn delivery(&mut self, readings: &[i64]) -> Result<(), u64> {
+        let cell = self.store.acquire(0, readings).ok_or(25u64)?;
+        let old = self.store.totals;
+        let is_array = self.functions[0].depth > 0;
+        if is_array {
+            self.store.retain(old as usize);
+        }
+        self.store.totals = self.function(0, vec![old, cell as i64], 1)?;
+        if is_array {
+            self.store.release(old as usize);
+        }
+        Ok(())
+    }
+
+    fn function(&mut self, function: usize, arguments: Vec<i64>, call_depth: usize) -> Result<i64, u64> {
+        let coded = &self.functions[function];
+        let mut names = arguments;
+        names.resize(coded.depths.len(), 0);
+        self.tree(coded, &coded.tree, &mut names, call_depth)
+    }
+
+    fn step(&mut self) -> Result<(), u64> {
+        self.left = self.left.checked_sub(1).ok_or(21u64)?;
+        Ok(())
+    }
+
+    fn tree(&mut self, coded: &Coded, tree: &Tree, names: &mut Vec<i64>, call_depth: usize) -> Result<i64, u64> {
+        for line in &tree.lines {
+            self.line(coded, line, names, call_depth)?;
+        }
+        Ok(value(&tree.end, names))
+    }
+
+    fn line(&mut self, coded: &Coded, line: &Line, names: &mut Vec<i64>, call_depth: usize) -> Result<(), u64> {
+        let (name, result) = match line {
+            Line::Retain(name) => {
+                self.store.retain(names[*name] as usize);
+                return Ok(());
+            }
+            Line::Release(name) => {
+                self.store.release(names[*name] as usize);
+                return Ok(());
+            }
+            Line::Plain(name, operation, atoms) => {
+                self.step()?;
+                let atoms = atoms.iter().map(|atom| value(atom, names)).collect();
+                (*name, self.operation(*operation, atoms, call_depth)?)
+            }
+            Line::If(name, guard, first, second) => {
+                self.step()?;
+                let tree = if value(guard, names) != 0 { first } else { second };
+                (*name, self.tree(coded, tree, names, call_depth)?)
+            }
+            Line::Map(name, parameter, array, tree) => {
+                self.step()?;
+                let made = self.store.acquire(coded.depths[*name] as u32 - 1, &[]).ok_or(25u64)?;
+                for element in self.store.elements(value(array, names) as usize).to_vec() {
+                    self.step()?;
+                    names[*parameter] = element;
+                    let result = self.tree(coded, tree, names, call_depth)?;
+                    self.store.append(made, result);
+                }
+                (*name, made as i64)
+            }
+        };
+        names[name] = result;
+        Ok(())
+    }
+
+    /// What a line without trees gives for the values of its atoms.
+    fn operation(&mut self, operation: Operation, atoms: Vec<i64>, call_depth: usize) -> Result<i64, u64> {
+        match operation {
+            Operation::Arithmetic(Arithmetic::Sum) => atoms[0].checked_add(atoms[1]).ok_or(24),
+            Operation::Arithmetic(Arithmetic::Difference) => atoms[0].checked_sub(atoms[1]).ok_or(24),
+            Operation::Arithmetic(Arithmetic::Less) => Ok(i64::from(atoms[0] < atoms[1])),
+            Operation::Call(_) if call_depth == CALL_DEPTH_MAX => Err(22),
+            Operation::Call(function) => self.function(function, atoms, call_depth + 1),
+            Operation::Literal(depth) => Ok(self.store.acquire(depth as u32, &atoms).ok_or(25u64)? as i64),
+            Operation::Index => {
+                let elements = self.store.elements(atoms[0] as usize);
+                usize::try_from(atoms[1]).ok().and_then(|i| elements.get(i).copied()).ok_or(23)
+            }
+            Operation::Length => Ok(self.store.elements(atoms[0] as usize).len() as i64),
+        }
+    }
+}
+
+fn value(atom: &Atom, names: &[i64]) -> i64 {
+    match atom {
+        Atom::Number(value) => *value,
+        Atom::Name(name) => names[*name],
+    }
+}

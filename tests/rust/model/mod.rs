@@ -1,0 +1,121 @@
+//! A second implementation of the four calls, written from document 01 alone: trees on the heap, no proof.
+
+pub mod code;
+pub mod machine;
+pub mod names;
+pub mod script;
+pub mod store;
+
+use code::Coded;
+use script::Refusal;
+use store::{cells_of, Store};
+
+/// What is lent to a call.
+#[derive(Clone, PartialEq, Eq, Debug)]
+pub struct Lent {
+    pub kinds: Vec<u8>,
+    pub operands: Vec<i64>,
+    pub slots: Vec<i64>,
+    pub heads: Vec<u32>,
+}
+
+/// An answer; `nodes` are those that may stand in a refusal's place for one.
+#[derive(Clone, PartialEq, Eq, Debug)]
+pub struct Answer {
+    pub packed: u64,
+    pub nodes: Vec<u64>,
+}
+
+pub fn pack(number: u64, node: u64, count: u64, cells: u64) -> u64 {
+    number + (node << 8) + (count << 24) + (cells << 48)
+}
+
+/// An answer without nodes.
+fn plain(number: u64, count: u64, cells: u64) -> Answer {
+    Answer { packed: pack(number, 0, count, cells), nodes: Vec::new() }
+}
+
+/// Refuses: the code arrays are zero, the store stays.
+fn refuse(lent: &mut Lent, refusal: Refusal) -> Answer {
+    lent.kinds.fill(0);
+    lent.operands.fill(0);
+    let nodes: Vec<u64> = refusal.nodes.iter().map(|node| *node as u64).collect();
+    Answer { packed: pack(refusal.number, nodes.first().copied().unwrap_or(0), 0, 0), nodes }
+}
+
+fn refuse_with(lent: &mut Lent, number: u64) -> Answer {
+    refuse(lent, Refusal { number, nodes: Default::default() })
+}
+
+/// The code of a file, also written to the lent arrays, or the refusal 1 to 9.
+fn load(file: &[u8], lent: &mut Lent) -> Result<(Vec<Coded>, usize), Answer> {
+    let functions = match script::judge(file) {
+        Ok(functions) => functions,
+        Err(refusal) => return Err(refuse(lent, refusal)),
+    };
+    let coded = code::translate(&functions);
+    let rows = code::rows(&coded);
+    if rows.len() > lent.kinds.len().min(lent.operands.len()).min(4096) {
+        return Err(refuse_with(lent, 9));
+    }
+    lent.kinds.fill(0);
+    lent.operands.fill(0);
+    for (i, (kind, operand)) in rows.iter().enumerate() {
+        lent.kinds[i] = *kind;
+        lent.operands[i] = *operand;
+    }
+    Ok((coded, rows.len()))
+}
+
+pub fn translate(file: &[u8], lent: &mut Lent) -> Answer {
+    match load(file, lent) {
+        Ok((_, lines)) => plain(0, lines as u64, 0),
+        Err(answer) => answer,
+    }
+}
+
+pub fn open(file: &[u8], lent: &mut Lent) -> Answer {
+    let coded = match load(file, lent) {
+        Ok((coded, _)) => coded,
+        Err(answer) => return answer,
+    };
+    let Some(cells) = cells_of(&lent.slots, &lent.heads) else {
+        return refuse_with(lent, 11);
+    };
+    let store = Store::opened(cells, coded[0].depth);
+    keep(lent, &store);
+    plain(0, 0, store.taken() as u64)
+}
+
+pub fn check(file: &[u8], lent: &mut Lent) -> Answer {
+    let coded = match load(file, lent) {
+        Ok((coded, _)) => coded,
+        Err(answer) => return answer,
+    };
+    match Store::from_words(&lent.slots, &lent.heads) {
+        Some(store) if store.is_sound(coded[0].depth) => plain(0, 0, store.taken() as u64),
+        _ => refuse_with(lent, 11),
+    }
+}
+
+pub fn deliver(file: &[u8], lent: &mut Lent, readings: &[i64], budget: u64) -> Answer {
+    let coded = match load(file, lent) {
+        Ok((coded, _)) => coded,
+        Err(answer) => return answer,
+    };
+    if readings.len() > 16 || budget > 1_000_000 {
+        return refuse_with(lent, 10);
+    }
+    let mut store = match Store::from_words(&lent.slots, &lent.heads) {
+        Some(store) if store.is_sound(coded[0].depth) => store,
+        _ => return refuse_with(lent, 11),
+    };
+    let ended = machine::deliver(&coded, &mut store, readings, budget);
+    keep(lent, &store);
+    plain(ended.number, ended.steps, store.taken() as u64)
+}
+
+fn keep(lent: &mut Lent, store: &Store) {
+    lent.slots = store.slot_words();
+    lent.heads = store.head_words();
+}
