@@ -1,0 +1,62 @@
+-- `cross_check::ledger::same_value` calls itself and ends: the depth falls. In its loop the elements left fall.
+use borrow.Author.Needs.{needs}
+use Prim.Native.Nat.{ℕ, _-_, _<_}
+use borrow.Fn.Kinds.{In}
+use borrow.Fn.PlainCycle.{Measures, is, falls, and}
+use Rattle.cross_check.proofs.ledger.same_value.Reads as same-value
+use Rattle.cross_check.proofs.ledger.same_value.Kinds as same-value-kinds
+use Rattle.cross_check.proofs.ledger.+same_value.Lts-same_value as same-value-lts
+use Rattle.cross_check.proofs.ledger.cell_of.Reads as cell-of-reads
+use Rattle.cross_check.proofs.ledger.element_in.Reads as element-in-reads
+use Rattle.cross_check.proofs.ledger.has_head.Reads as has-head-reads
+use Rattle.cross_check.proofs.ledger.signed.Reads as signed-reads
+use Rattle.cross_values.proofs.arena.element_at.Reads as element-at-reads
+use Rattle.cross_values.proofs.arena.length_at.Reads as length-at-reads
+use Rattle.cross_check.proofs.ledger.+same_value.{statement}
+use Rattle.cross_check.proofs.ledger.+same_value.Tie.{close}
+
+abbrev μ-same-value : Measures 3 same-value-kinds.ps ℕ
+μ-same-value κs a = a .1 .1 .1 .1 .1 .0
+
+abbrev same-value-at : ℕ → In 3 same-value-kinds.ps
+same-value-at t =
+    and 3 same-value-kinds.ps (is 3 same-value-kinds.ps μ-same-value t) same-value.Pre
+
+abbrev same-value-below : ℕ → In 3 same-value-kinds.ps
+same-value-below t =
+    and 3 same-value-kinds.ps (falls 3 same-value-kinds.ps _<_ μ-same-value t) same-value.Pre
+
+abbrev same-value-Inv-loop : same-value-lts.InvT-loop
+same-value-Inv-loop slots heads memory held value depth cell count i₀ i = Unit {0}
+
+abbrev same-value-μ-loop : same-value-lts.MeasureT-loop
+same-value-μ-loop slots heads memory held value depth cell count i₀ i = count - i
+
+abbrev same-value-claims : ℕ → same-value-lts.Claims
+same-value-claims t = (
+  signed-reads.Asked,
+  signed-reads.Learnt,
+  cell-of-reads.Asked,
+  cell-of-reads.Learnt,
+  length-at-reads.Asked,
+  length-at-reads.Learnt,
+  has-head-reads.Asked,
+  has-head-reads.Learnt,
+  element-in-reads.Asked,
+  element-in-reads.Learnt,
+  element-at-reads.Asked,
+  element-at-reads.Learnt,
+  same-value-below t,
+  same-value.Post,
+)
+
+pub +same-value-spec : {M : Type 1} → statement M
++same-value-spec = close μ-same-value λ t. same-value-lts.spec (same-value-claims t)
+    (same-value-at t)
+    same-value.Post
+    same-value-Inv-loop
+    same-value-μ-loop
+    (λ c κs. search needs) (λ c. search needs) (λ c κs. search needs) (λ c κs. search needs) (λ c. search needs)
+    (λ c κs. search needs) (λ c. search needs) (λ c. search needs) (λ c κs. search needs) (λ c κs. search needs)
+    (λ c. search needs) (λ c κs. search needs) (λ c. search needs) (λ c. search needs) (λ c. search needs)
+    (λ c. search needs) (λ c. search needs)

@@ -1,0 +1,44 @@
+-- `cross_check::ledger::cell_of` gives at most 256: a word that is neither negative nor above 255 is a number to 255.
+use mathlib.Core.Path.{_≡_}
+use mathlib.Core.Bool.{true, false}
+use Prim.Native.Nat.{ℕ, _≤_, _^_}
+use native.Mathlib.Omega.{arith}
+use lib.Dec.{T}
+use lib.IntN.{ℤ, pos, negsuc, natAbs}
+use lib.Signed.{ltZ, nonNeg}
+use mir.Syntax.{w64}
+use mir.Val.{Fits}
+use mir.Facts.{toZ-ofZ}
+use borrow.Author.Tests.{ltb-false}
+use borrow.Author.Needs.{needs}
+use Rattle.cross_check.proofs.ledger.cell_of.Statement.{statement}
+use Rattle.cross_check.proofs.ledger.cell_of.Tie as tie
+
+no-bool : {A : Type 0} → true ≡ false → A
+no-bool e = let z : _≡_ {A = ℕ} 0 1 = cc in absurd (let f : ⊥ = omega arith in f)
+
+small : (z : ℤ) → ltZ z (pos 0) ≡ false → ltZ (pos 255) z ≡ false →
+    (T (nonNeg z) × Fits w64 (natAbs z)) × (natAbs z ≤ 256)
+small (pos n) e f = let h = ltb-false 255 n f in ((tt, record { fits = omega arith }), omega arith)
+small (negsuc n) e f = no-bool e
+
+returns : tie.Need-returns
+returns c = search needs
+
+returns-2 : tie.Need-returns-2
+returns-2 c = search needs
+
+cast-result : tie.Need-cast-result
+cast-result c =
+    let z = c .before .before .args .held in
+    let e = toZ-ofZ {z = z} (c .before .before .fits .held) in
+    rw e (small z (rw e at (c .before .if1 .left)) (rw e at (c .if2 .left)) .0)
+
+returns-3 : tie.Need-returns-3
+returns-3 c =
+    let z = c .before .before .args .held in
+    let e = toZ-ofZ {z = z} (c .before .before .fits .held) in
+    rw e (small z (rw e at (c .before .if1 .left)) (rw e at (c .if2 .left)) .1)
+
+pub cell-of-spec : {M : Type 1} → statement M
+cell-of-spec = tie.close (tie.spec returns returns-2 cast-result returns-3)

@@ -1,0 +1,23 @@
+-- `cross_generate::parts::find_name` ends: the names left fall.
+use mathlib.Core.Path.{_≡_}
+use Prim.Native.Nat.{_≤_, _<_, _-_}
+use lib.ListN.{length}
+use borrow.Author.Needs.{needs}
+use Rattle.cross_generate.proofs.parts.find_name.Statement.{statement}
+use Rattle.cross_generate.proofs.parts.find_name.Tie as tie
+
+abbrev Inv-loop : tie.InvT-loop
+Inv-loop desk depth start i₀ i = (i ≤ 8) × (start < 8)
+
+abbrev μ-loop : tie.MeasureT-loop
+μ-loop desk depth start i₀ i = 8 - i
+
+pub find-name-spec : {M : Type 1} → statement M
+find-name-spec =
+    tie.close
+    (tie.spec
+    Inv-loop
+    μ-loop
+    (λ c κs. search needs) (λ c. search needs) (λ c. search needs) (λ c κs. search needs) (λ c κs. search needs)
+    (λ c. search needs) (λ c. search needs) (λ c. search needs) (λ c. search needs) (λ c. search needs)
+    (λ c. search needs) (λ c. search needs) (λ c. search needs))
