@@ -1,5 +1,5 @@
 -- One law for each way out of a call.
-use Prim.Native.Nat.{ℕ, _≤_}
+use Prim.Native.Nat.{ℕ, _^_, _%_, _<_, _≤_}
 use native.Mathlib.Omega.{arith}
 use mathlib.Core.Bool.{Bool, true, false, cond}
 use mathlib.Core.Path.{_≡_, refl, sym, ap, subst, _∙_}
@@ -16,14 +16,17 @@ use Rattle.semantics.specs.Calls.{Reply, StoreReply, translated, refusing, answ
 use Rattle.semantics.specs.Calls.{admitted-if, code-fits}
 use lib.Dec.{leb}
 use borrow.Author.Tests.{leb-true}
-use Rattle.engine_store.specs.declared.Stored.{Stored}
-use Rattle.semantics.specs.Calls.{engine-translate, engine-open, engine-check}
-use Rattle.engine_store.specs.declared.Stored.the-variants.{Cells, Unsound}
-use Rattle.engine_store.specs.Left.{Left, left, left-by, opened-left, checked-left}
+use Rattle.semantics.specs.Calls.{engine-translate, request-fits, deliver-in, deliver-for}
+use Rattle.semantics.specs.Machine.{delivered}
+use Rattle.engine_store.specs.declared.Ended.{Ended}
+use Rattle.engine_store.specs.declared.Ended.the-variants as E
+use Rattle.engine_store.specs.Left.{Left, left, left-by, opened-left, checked-left, Small}
+use Rattle.engine_delivery.specs.Delivered.{left-of, delivered-left}
 use Rattle.engine_load.specs.declared.Loaded.{Loaded}
 use Rattle.engine_load.specs.declared.Loaded.the-variants.{Ready, Refused}
 use Rattle.engine_load.specs.Loading.{told-load, kinds-after, operands-after, Loads}
 use Rattle.engine.specs.Promises.{Translates, Replies}
+use Rattle.engine.specs.Told.{Tells}
 
 -- ---- translate
 
@@ -85,16 +88,16 @@ few-lines {file} {kinds} {operands} {l} {d} h = go (judged (h .node) file) (h .i
 
 module _ (kinds : List ℕ) (operands : List ℤ) where
   -- the reply for an accepted script, by what the store's part leaves
-  abbrev pub reply-for : Script → Left → Stored → StoreReply
-  reply-for fs l (Cells n) = record {
-    answer = packed 0 0 0 n;
+  abbrev pub reply-for : Script → Left → Ended → StoreReply
+  reply-for fs l (E.Answered number steps cells) = record {
+    answer = packed number 0 steps cells;
     kinds = code-kinds fs kinds;
     operands = code-operands fs operands;
     slots = l .slots;
     heads = l .heads;
   }
-  reply-for fs l Unsound = record {
-    answer = packed 11 0 0 0;
+  reply-for fs l (E.Refused number) = record {
+    answer = packed number 0 0 0;
     kinds = replicate (length kinds) 0;
     operands = replicate (length operands) (pos 0);
     slots = l .slots;
@@ -102,112 +105,121 @@ module _ (kinds : List ℕ) (operands : List ℤ) where
   }
 
   -- a call refuses as the verdict does, and serves an accepted script by the store's part
-  pub record Serves (slots : List ℤ) (heads : List ℕ) (call : Verdict → StoreReply) (part : ℕ → Left) : Type 0 where
+  pub record Serves (slots : List ℤ) (heads : List ℕ) (call : Verdict → StoreReply) (part : Script → Left) : Type 0 where
     pub refuses : (n p : ℕ) → call (refused n p) ≡ refusing kinds operands slots heads n p
-    pub serves : (fs : Script) → call (accepted fs) ≡ reply-for fs (part (main-depth fs)) (part (main-depth fs) .answer)
+    pub serves : (fs : Script) → call (accepted fs) ≡ reply-for fs (part fs) (part fs .answer)
 
-  pub open-serves : (slots : List ℤ) (heads : List ℕ) →
-      Serves slots heads (open-for kinds operands slots heads) (λ d. opened-left d slots heads)
-  unfolding open-for opened-left answering refusing
-  open-serves slots heads = record { refuses = λ n p. refl; serves = λ fs. by fs (shaped slots heads) }
-    where
-      by : (fs : Script) (t : Bool) →
-          cond t (answering kinds operands slots heads fs 0 0 (opened (cells-in slots heads) (main-depth fs)))
-          (refusing kinds operands slots heads 11 0)
-          ≡ reply-for fs (cond t (left-by (opened (cells-in slots heads) (main-depth fs))) (left Unsound slots heads))
-          (cond t (left-by (opened (cells-in slots heads) (main-depth fs))) (left Unsound slots heads) .answer)
-      by fs true = refl
-      by fs false = refl
+  module _ (slots : List ℤ) (heads : List ℕ) where
+    pub open-serves : Serves slots heads (open-for kinds operands slots heads) (λ fs. opened-left (main-depth fs) slots heads)
+    unfolding open-for opened-left answering refusing
+    open-serves = record { refuses = λ n p. refl; serves = λ fs. by fs (shaped slots heads) }
+      where
+        by : (fs : Script) (t : Bool) →
+            let σ = opened (cells-in slots heads) (main-depth fs) in
+            let l = cond t (left-by 0 0 σ) (left (E.Refused 11) slots heads) in
+            cond t (answering kinds operands slots heads fs 0 0 σ) (refusing kinds operands slots heads 11 0)
+            ≡ reply-for fs l (l .answer)
+        by fs true = refl
+        by fs false = refl
 
-  pub check-serves : (slots : List ℤ) (heads : List ℕ) →
-      Serves slots heads (check-for kinds operands slots heads) (λ d. checked-left d slots heads)
-  unfolding check-for checked-left answering refusing
-  check-serves slots heads = record { refuses = λ n p. refl; serves = λ fs. by fs (sound-words (main-depth fs) slots heads) }
-    where
-      by : (fs : Script) (t : Bool) →
-          cond t (answering kinds operands slots heads fs 0 0 (store-of slots heads)) (refusing kinds operands slots heads 11 0)
-          ≡ reply-for fs (cond t (left-by (store-of slots heads)) (left Unsound slots heads))
-          (cond t (left-by (store-of slots heads)) (left Unsound slots heads) .answer)
-      by fs true = refl
-      by fs false = refl
+    pub check-serves : Serves slots heads (check-for kinds operands slots heads) (λ fs. checked-left (main-depth fs) slots heads)
+    unfolding check-for checked-left answering refusing
+    check-serves = record { refuses = λ n p. refl; serves = λ fs. by fs (sound-words (main-depth fs) slots heads) }
+      where
+        by : (fs : Script) (t : Bool) →
+            let l = cond t (left-by 0 0 (store-of slots heads)) (left (E.Refused 11) slots heads) in
+            cond t (answering kinds operands slots heads fs 0 0 (store-of slots heads))
+            (refusing kinds operands slots heads 11 0) ≡ reply-for fs l (l .answer)
+        by fs true = refl
+        by fs false = refl
+
+    pub deliver-serves : (readings : List ℤ) (budget : ℕ) →
+        Serves slots heads (deliver-for kinds operands slots heads readings budget)
+        (λ fs. delivered-left fs readings budget slots heads)
+    unfolding deliver-for delivered-left answering refusing
+    deliver-serves readings budget = record {
+      refuses = λ n p. refl;
+      serves = λ fs. by fs (request-fits readings budget) (sound-words (main-depth fs) slots heads);
+    }
+      where
+        by : (fs : Script) (t u : Bool) →
+            let d = delivered fs readings budget (store-of slots heads) in
+            let l = cond t (cond u (left-of d) (left (E.Refused 11) slots heads)) (left (E.Refused 10) slots heads) in
+            cond t (cond u (deliver-in kinds operands slots heads fs d) (refusing kinds operands slots heads 11 0))
+            (refusing kinds operands slots heads 10 0) ≡ reply-for fs l (l .answer)
+        by fs true true = refl
+        by fs true false = refl
+        by fs false u = refl
 
 -- ---- the ways out of such a call
 
--- loading refused the script
-pub replies-refusal : {file kinds : List ℕ} {operands slots : List ℤ} {heads : List ℕ} (call : Verdict → StoreReply)
-    {a : ℕ} {kinds′ : List ℕ} {operands′ : List ℤ} → ((n p : ℕ) → call (refused n p) ≡ refusing kinds operands slots heads n p) →
-    Loads file kinds operands (Refused a) kinds′ operands′ →
-    Replies file (λ node. call (admitted node file (room kinds operands))) a kinds′ operands′ slots heads
-unfolding refusing
-replies-refusal {file} {kinds} {operands} {slots} {heads} call {a} refuses h = record {
-  node = h .node;
-  faulty = h .faulty;
-  is = rw (h .kinds-are, h .operands-are) (by (admitted (h .node) file (room kinds operands)) (h .is));
-}
-  where
-    by : (verdict : Verdict) → Refused a ≡ told-load verdict → record {
-      answer = a;
-      kinds = kinds-after verdict kinds;
-      operands = operands-after verdict operands;
-      slots = slots;
-      heads = heads;
-    } ≡ call verdict
-    by (accepted fs) e = absurd (let z : _≡_ {A = ℕ} 0 1 = cc in omega arith)
-    by (refused n p) e = let same : a ≡ packed n p 0 0 = cc in rw same (sym (refuses n p))
+-- a number, and nothing else, as an answer
+pub packed-alone : (number : ℕ) → number ≡ packed number 0 0 0
+unfolding packed
+packed-alone number = omega arith
+
+-- parts that have room in an answer are packed as they are
+pub packed-number : (number steps cells : ℕ) → number < 2 ^ 8 →
+    packed (number % 2 ^ 8) (0 % 2 ^ 16) (steps % 2 ^ 24) (cells % 2 ^ 16)
+    ≡ packed number 0 (steps % 2 ^ 24) (cells % 2 ^ 16)
+unfolding packed
+packed-number number steps cells f = omega arith
+
+packed-counts : (number steps cells : ℕ) → steps ≤ 1000000 → cells ≤ 256 →
+    packed number 0 (steps % 2 ^ 24) (cells % 2 ^ 16) ≡ packed number 0 steps cells
+unfolding packed
+packed-counts number steps cells f g = omega arith
 
 module _ {file kinds : List ℕ} {operands slots : List ℤ} {heads : List ℕ} {call : Verdict → StoreReply}
-    {part : ℕ → Left} (s : Serves kinds operands slots heads call part) where
+    {part : Script → Left} (s : Serves kinds operands slots heads call part) where
+  -- loading refused the script
   pub replies-refused : {a : ℕ} {kinds′ : List ℕ} {operands′ : List ℤ} →
       Loads file kinds operands (Refused a) kinds′ operands′ →
       Replies file (λ node. call (admitted node file (room kinds operands))) a kinds′ operands′ slots heads
-  replies-refused h = replies-refusal call (s .refuses) h
-
-  -- the store's part counted its cells
-  pub replies-cells : {l d n : ℕ} {kinds′ : List ℕ} {operands′ : List ℤ} {slots′ : List ℤ} {heads′ : List ℕ} →
-      Loads file kinds operands (Ready l d) kinds′ operands′ → left (Cells n) slots′ heads′ ≡ part d →
-      Replies file (λ node. call (admitted node file (room kinds operands))) (packed 0 0 0 n) kinds′ operands′ slots′ heads′
-  replies-cells {l} {d} {n} {slots′ = slots′} {heads′} h e = record {
+  unfolding refusing
+  replies-refused {a} h = record {
     node = h .node;
     faulty = h .faulty;
     is = rw (h .kinds-are, h .operands-are) (by (admitted (h .node) file (room kinds operands)) (h .is));
   }
     where
-      by : (verdict : Verdict) → Ready l d ≡ told-load verdict → record {
-        answer = packed 0 0 0 n;
+      by : (verdict : Verdict) → Refused a ≡ told-load verdict → record {
+        answer = a;
         kinds = kinds-after verdict kinds;
         operands = operands-after verdict operands;
-        slots = slots′;
-        heads = heads′;
+        slots = slots;
+        heads = heads;
       } ≡ call verdict
-      by (refused m p) g = absurd (let z : _≡_ {A = ℕ} 0 1 = cc in omega arith)
-      by (accepted fs) g =
-          let same : d ≡ main-depth fs = cc in
-          ap (λ x. reply-for kinds operands fs x (x .answer)) (e ∙ ap part same) ∙ sym (s .serves fs)
+      by (accepted fs) e = absurd (let z : _≡_ {A = ℕ} 0 1 = cc in omega arith)
+      by (refused n p) e = let same : a ≡ packed n p 0 0 = cc in rw same (sym (s .refuses n p))
 
-  -- the store's part refused the store
-  pub replies-unsound : {l d : ℕ} {kinds′ kinds″ : List ℕ} {operands′ operands″ : List ℤ} {slots′ : List ℤ} {heads′ : List ℕ} →
-      Loads file kinds operands (Ready l d) kinds′ operands′ → left Unsound slots′ heads′ ≡ part d →
-      kinds″ ≡ replicate (length kinds) 0 → operands″ ≡ replicate (length operands) (pos 0) →
-      Replies file (λ node. call (admitted node file (room kinds operands))) (packed 11 0 0 0) kinds″ operands″ slots′ heads′
-  replies-unsound {l} {d} {slots′ = slots′} {heads′} h e k o = record {
-    node = h .node;
-    faulty = h .faulty;
-    is = rw (k, o) (by (admitted (h .node) file (room kinds operands)) (h .is));
-  }
-    where
-      by : (verdict : Verdict) → Ready l d ≡ told-load verdict → record {
-        answer = packed 11 0 0 0;
-        kinds = replicate (length kinds) 0;
-        operands = replicate (length operands) (pos 0);
-        slots = slots′;
-        heads = heads′;
-      } ≡ call verdict
-      by (refused m p) g = absurd (let z : _≡_ {A = ℕ} 0 1 = cc in omega arith)
-      by (accepted fs) g =
-          let same : d ≡ main-depth fs = cc in
-          ap (λ x. reply-for kinds operands fs x (x .answer)) (e ∙ ap part same) ∙ sym (s .serves fs)
+  -- the store's part ended, and that was told
+  module _ {l d : ℕ} {kinds′ : List ℕ} {operands′ : List ℤ} (h : Loads file kinds operands (Ready l d) kinds′ operands′)
+      (kinds-long : length kinds′ ≡ length kinds) (operands-long : length operands′ ≡ length operands)
+      {a : ℕ} {kinds″ : List ℕ} {operands″ : List ℤ} {slots′ : List ℤ} {heads′ : List ℕ} where
+    told : (fs : Script) → admitted (h .node) file (room kinds operands) ≡ accepted fs → (r : Ended) → Small r →
+        Tells r kinds′ operands′ a kinds″ operands″ →
+        _≡_ {A = StoreReply} (record { answer = a; kinds = kinds″; operands = operands″; slots = slots′; heads = heads′ })
+        (reply-for kinds operands fs (left r slots′ heads′) r)
+    told fs q (E.Answered number steps cells) few t =
+        rw (t .0 ∙ packed-counts number steps cells (few .0) (few .1), t .1 .0 ∙ rw q at (h .kinds-are),
+        t .1 .1 ∙ rw q at (h .operands-are)) refl
+    told fs q (E.Refused number) few t = rw (t .0, t .1 .0, t .1 .1, kinds-long, operands-long) refl
 
--- an array that was cleared, after its length was kept
-pub kept-zeros : {A : Type 0} (zero-word : A) (n m : ℕ) {l : List A} → n ≡ m → l ≡ replicate n zero-word →
-    l ≡ replicate m zero-word
-kept-zeros zero-word n m e h = h ∙ ap (λ k. replicate k zero-word) e
+    pub replies-told : (r : Ended) → ((fs : Script) → admitted (h .node) file (room kinds operands) ≡ accepted fs →
+        d ≡ main-depth fs → left r slots′ heads′ ≡ part fs) → Small r → Tells r kinds′ operands′ a kinds″ operands″ →
+        Replies file (λ node. call (admitted node file (room kinds operands))) a kinds″ operands″ slots′ heads′
+    replies-told r e few t = record {
+      node = h .node;
+      faulty = h .faulty;
+      is = by (admitted (h .node) file (room kinds operands)) refl (h .is);
+    }
+      where
+        by : (v : Verdict) → admitted (h .node) file (room kinds operands) ≡ v → Ready l d ≡ told-load v →
+            _≡_ {A = StoreReply} (record { answer = a; kinds = kinds″; operands = operands″; slots = slots′; heads = heads′ })
+            (call (admitted (h .node) file (room kinds operands)))
+        by (refused m p) q g = absurd (let z : _≡_ {A = ℕ} 0 1 = cc in omega arith)
+        by (accepted fs) q g =
+            let same : d ≡ main-depth fs = cc in
+            told fs q r few t ∙ ap (λ x. reply-for kinds operands fs x (x .answer)) (e fs q same) ∙ sym (s .serves fs)
+            ∙ ap call (sym q)

@@ -1,9 +1,23 @@
 // The calls for C. Each takes the script file and the two code arrays, translates afresh, and answers one packed number.
-use engine_delivery::Ended;
 use engine_load::Loaded;
-use engine_store::Stored;
+use engine_store::Ended;
 ghost use Rattle.semantics.specs.Calls.{engine-open, engine-check, engine-deliver};
 ghost use Rattle.engine.specs.Promises.{Translates, Replies};
+ghost use Rattle.engine.specs.Told.{Tells};
+
+// The packed answer to how the store's part of a call ended; a refusal zeroes both code arrays.
+fn tell(ended: Ended, kinds: &mut [u8], operands: &mut [i64]) -> u64
+    ensures { λ r. ⌜ Tells ended (now (kinds .entry)) (now (operands .entry)) r
+        (now (kinds .exit)) (now (operands .exit)) ⌝ }
+{
+    match ended {
+        Ended::Answered(number, steps, cells) => words::pack(number as u64, 0, steps, cells as u64),
+        Ended::Refused(number) => {
+            normal::refuse(kinds, operands);
+            number as u64
+        }
+    }
+}
 
 // Translates a script: its code in the two arrays, and its lines in the answer.
 #[no_mangle]
@@ -32,13 +46,10 @@ pub extern "C" fn engine_open(
         r (now (kinds .exit)) (now (operands .exit)) (now (slots .exit)) (now (heads .exit)) ⌝ }
 {
     match engine_load::load(file, kinds, operands) {
-        Loaded::Ready(_, depth) => match engine_store::open_words(slots, heads, depth) {
-            Stored::Cells(n) => words::pack(0, 0, 0, n as u64),
-            Stored::Unsound => {
-                normal::refuse(kinds, operands);
-                11
-            }
-        },
+        Loaded::Ready(_, depth) => {
+            let ended = engine_store::open_words(slots, heads, depth);
+            tell(ended, kinds, operands)
+        }
         Loaded::Refused(answer) => answer,
     }
 }
@@ -58,13 +69,10 @@ pub extern "C" fn engine_check(
         r (now (kinds .exit)) (now (operands .exit)) (now (slots .entry)) (now (heads .entry)) ⌝ }
 {
     match engine_load::load(file, kinds, operands) {
-        Loaded::Ready(_, depth) => match engine_store::check_words(slots, heads, depth) {
-            Stored::Cells(n) => words::pack(0, 0, 0, n as u64),
-            Stored::Unsound => {
-                normal::refuse(kinds, operands);
-                11
-            }
-        },
+        Loaded::Ready(_, depth) => {
+            let ended = engine_store::check_words(slots, heads, depth);
+            tell(ended, kinds, operands)
+        }
         Loaded::Refused(answer) => answer,
     }
 }
@@ -87,27 +95,19 @@ pub extern "C" fn engine_deliver(
 {
     let mut table = [0u8; 8256];
     match engine_load::load_with(file, kinds, operands, &mut table) {
-        Loaded::Ready(_, depth) => match engine_delivery::deliver_words(
-            kinds,
-            operands,
-            &table,
-            slots,
-            heads,
-            readings,
-            depth,
-            budget,
-        ) {
-            Ended::Stopped(number, steps, cells) => words::pack(
-                number as u64,
-                0,
-                steps,
-                cells as u64,
-            ),
-            Ended::Refused(number) => {
-                normal::refuse(kinds, operands);
-                number as u64
-            }
-        },
+        Loaded::Ready(_, depth) => {
+            let ended = engine_delivery::deliver_words(
+                kinds,
+                operands,
+                &table,
+                slots,
+                heads,
+                readings,
+                depth,
+                budget,
+            );
+            tell(ended, kinds, operands)
+        }
         Loaded::Refused(answer) => answer,
     }
 }

@@ -10,43 +10,35 @@ use lib.ListN.{length}
 use borrow.Author.Tests.{leb-true}
 use Rattle.semantics.specs.Syntax.{Script, main-depth}
 use Rattle.semantics.specs.Store.{Store, cells-taken}
-use Rattle.semantics.specs.Words.{store-of, shaped, slot-words, head-words}
+use Rattle.semantics.specs.Words.{store-of, shaped}
 use Rattle.semantics.specs.Sound.{sound, sound-words}
-use Rattle.semantics.specs.Machine.{Delivered, delivered}
+use Rattle.semantics.specs.Machine.{delivered}
 use Rattle.semantics.specs.Calls.{judged, accepted, request-fits}
 use Rattle.store_laws.specs.Tests.{both-hold}
 use Rattle.store_words.proofs.Puts.{Kept}
-use Rattle.store_words.proofs.Spelling.{shaped-means, words-are}
 use Rattle.machine_positions.specs.Machine as M
 use Rattle.machine_positions.specs.Delivery.{delivered-on}
 use Rattle.machine_scripts.specs.Script.{Coded, deliver-accepted}
-use Rattle.engine_delivery.specs.declared.Ended.the-variants.{Stopped, Refused}
-use Rattle.engine_delivery.specs.Ends.{end-at, end-of, delivery-end}
+use Rattle.engine_store.specs.declared.Ended.the-variants.{Answered, Refused}
+use Rattle.engine_store.specs.Left.{left}
+use Rattle.engine_store.proofs.Laws.{words-left}
+use Rattle.engine_delivery.specs.Delivered.{left-of, delivered-left}
 
 module _ (fs : Script) (readings : List ℤ) (budget : ℕ) (slots : List ℤ) (heads : List ℕ) where
   pub refuses-10 : request-fits readings budget ≡ false →
-      end-at (Refused 10) slots heads ≡ delivery-end fs readings budget slots heads
-  unfolding delivery-end
+      left (Refused 10) slots heads ≡ delivered-left fs readings budget slots heads
+  unfolding delivered-left
   refuses-10 e = rw e refl
 
   pub refuses-11 : request-fits readings budget ≡ true → (d : ℕ) → d ≡ main-depth fs →
-      sound-words d slots heads ≡ false → end-at (Refused 11) slots heads ≡ delivery-end fs readings budget slots heads
-  unfolding delivery-end
+      sound-words d slots heads ≡ false → left (Refused 11) slots heads ≡ delivered-left fs readings budget slots heads
+  unfolding delivered-left
   refuses-11 e d same f = rw (e, subst (λ x. sound-words x slots heads ≡ false) same f) refl
 
 -- a sound store has arrays of the right lengths
 pub sound-fits : (d : ℕ) (slots : List ℤ) (heads : List ℕ) → sound-words d slots heads ≡ true → shaped slots heads ≡ true
 unfolding sound-words
 sound-fits d slots heads e = both-hold (shaped slots heads) (sound d (store-of slots heads)) e .0
-
--- arrays of the right lengths that hold the store of a delivery
-ended : {slots : List ℤ} {heads : List ℕ} {slots′ : List ℤ} {heads′ : List ℕ} {number steps n : ℕ} (d : Delivered) →
-    Kept slots heads slots′ heads′ → shaped slots heads ≡ true → store-of slots′ heads′ ≡ d .store →
-    number ≡ d .number → steps ≡ d .steps → n ≡ cells-taken (store-of slots′ heads′) →
-    end-at (Stopped number steps n) slots′ heads′ ≡ end-of d
-ended {slots} {heads} d kept fit holds a b counted =
-    let words = words-are kept (shaped-means slots heads fit) holds in
-    rw (words .0, words .1, counted, holds, a, b) refl
 
 module _ (node : ℕ) (file : List ℕ) (fs : Script) (ok : judged node file ≡ accepted fs) (few : length fs ≤ 32)
     (c : M.Code) (coded : Coded fs c) (readings : List ℤ) (budget : ℕ) (slots : List ℤ) (heads : List ℕ) where
@@ -56,13 +48,13 @@ module _ (node : ℕ) (file : List ℕ) (fs : Script) (ok : judged node file ≡
       number ≡ delivered-on c readings d budget (store-of slots heads) .number →
       steps ≡ delivered-on c readings d budget (store-of slots heads) .steps →
       n ≡ cells-taken (store-of slots′ heads′) →
-      end-at (Stopped number steps n) slots′ heads′ ≡ delivery-end fs readings budget slots heads
-  unfolding delivery-end
+      left (Answered number steps n) slots′ heads′ ≡ delivered-left fs readings budget slots heads
+  unfolding delivered-left
   delivers d same request fine kept holds a b counted =
       rw (request, subst (λ x. sound-words x slots heads ≡ true) same fine)
-      (ended (delivered-on c readings d budget (store-of slots heads)) kept (sound-fits d slots heads fine) holds a b counted
-      ∙ ap (λ x. end-of (delivered-on c readings x budget (store-of slots heads))) same
-      ∙ ap end-of (deliver-accepted node file fs ok few c coded readings budget (store-of slots heads)))
+      (rw (a, b) (words-left kept (sound-fits d slots heads fine) holds counted)
+      ∙ ap (λ x. left-of (delivered-on c readings x budget (store-of slots heads))) same
+      ∙ ap left-of (deliver-accepted node file fs ok few c coded readings budget (store-of slots heads)))
 
 -- the steps of a delivery are at most its budget, and that is at most 1,000,000
 pub steps-few : (c : M.Code) (readings : List ℤ) (d budget : ℕ) (σ : Store) {n : ℕ} →

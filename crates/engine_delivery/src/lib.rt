@@ -1,13 +1,9 @@
 // The store's part of a delivery: refusals 10 and 11, the delivery itself, and every word of the two lent arrays.
+use engine_store::Ended;
 ghost use mathlib.Core.Path.{_≡_};
 ghost use Rattle.semantics.specs.Calls.{request-fits};
-ghost use Rattle.engine_delivery.specs.Ends.{Delivers, Small};
-
-// How a delivery ends: the number of its stop or 0, its steps and the cells taken; or a refusal 10 or 11.
-pub enum Ended {
-    Stopped(u8, u64, usize),
-    Refused(u8),
-}
+ghost use Rattle.engine_store.specs.Left.{Small};
+ghost use Rattle.engine_delivery.specs.Delivered.{Delivers};
 
 // Whether there are at most 16 readings and 1,000,000 steps.
 fn request_fits(readings: &[i64], budget: u64) -> bool
@@ -51,7 +47,7 @@ pub fn deliver_words(
         depth,
         budget,
     );
-    Ended::Stopped(
+    Ended::Answered(
         end.number,
         end.steps,
         store_words::cells_taken(slots, heads),

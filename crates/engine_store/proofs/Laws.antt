@@ -13,36 +13,36 @@ use Rattle.semantics.specs.Sound.{sound, sound-words}
 use Rattle.store_laws.specs.Tests.{both-hold}
 use Rattle.store_words.proofs.Puts.{Kept}
 use Rattle.store_words.proofs.Spelling.{shaped-means, words-are}
-use Rattle.engine_store.specs.declared.Stored.the-variants.{Cells, Unsound}
+use Rattle.engine_store.specs.declared.Ended.the-variants.{Answered, Refused}
 use Rattle.engine_store.specs.Left.{left, left-by, opened-left, checked-left}
 
 -- arrays of the right lengths that hold σ, with its cells counted
-pub words-left : {slots : List ℤ} {heads : List ℕ} {slots′ : List ℤ} {heads′ : List ℕ} {σ : Store} {n : ℕ} →
+pub words-left : {slots : List ℤ} {heads : List ℕ} {slots′ : List ℤ} {heads′ : List ℕ} {σ : Store} {number steps n : ℕ} →
     Kept slots heads slots′ heads′ → shaped slots heads ≡ true → store-of slots′ heads′ ≡ σ →
-    n ≡ cells-taken (store-of slots′ heads′) → left (Cells n) slots′ heads′ ≡ left-by σ
+    n ≡ cells-taken (store-of slots′ heads′) → left (Answered number steps n) slots′ heads′ ≡ left-by number steps σ
 words-left {slots} {heads} {slots′} {heads′} {σ} kept fit holds counted =
     let words = words-are kept (shaped-means slots heads fit) holds in
     rw (words .0, words .1, counted, holds)
 
 pub not-opened : (d : ℕ) (slots : List ℤ) (heads : List ℕ) → shaped slots heads ≡ false →
-    left Unsound slots heads ≡ opened-left d slots heads
+    left (Refused 11) slots heads ≡ opened-left d slots heads
 unfolding opened-left
 not-opened d slots heads e = rw e
 
 pub opens : (d : ℕ) (slots : List ℤ) (heads : List ℕ) (slots′ : List ℤ) (heads′ : List ℕ) (n : ℕ) →
     shaped slots heads ≡ true → Kept slots heads slots′ heads′ →
     store-of slots′ heads′ ≡ opened (cells-in slots heads) d → n ≡ cells-taken (store-of slots′ heads′) →
-    left (Cells n) slots′ heads′ ≡ opened-left d slots heads
+    left (Answered 0 0 n) slots′ heads′ ≡ opened-left d slots heads
 unfolding opened-left
 opens d slots heads slots′ heads′ n e kept holds counted = rw e (words-left kept e holds counted)
 
 pub not-checked : (d : ℕ) (slots : List ℤ) (heads : List ℕ) → sound-words d slots heads ≡ false →
-    left Unsound slots heads ≡ checked-left d slots heads
+    left (Refused 11) slots heads ≡ checked-left d slots heads
 unfolding checked-left
 not-checked d slots heads e = rw e
 
 pub checks : (d : ℕ) (slots : List ℤ) (heads : List ℕ) (n : ℕ) → sound-words d slots heads ≡ true →
-    n ≡ cells-taken (store-of slots heads) → left (Cells n) slots heads ≡ checked-left d slots heads
+    n ≡ cells-taken (store-of slots heads) → left (Answered 0 0 n) slots heads ≡ checked-left d slots heads
 unfolding checked-left sound-words
 checks d slots heads n e counted =
     let fit = both-hold (shaped slots heads) (sound d (store-of slots heads)) e .0 in

@@ -1,25 +1,20 @@
 -- `engine::engine_deliver` meets its contract.
 use native.Mathlib.Omega.{arith}
 use Prim.Native.Nat.{_≤_}
-use lib.IntN.{pos}
 use lib.ListN.{length, replicate}
-use mathlib.Core.Path.{_≡_, sym, subst, _∙_}
-use Rattle.semantics.specs.Calls.{packed, deliver-for, engine-deliver}
-use Rattle.words.proofs.Packing.{packed-small}
+use mathlib.Core.Path.{_≡_, subst}
+use Rattle.semantics.specs.Calls.{room, engine-deliver}
+use Rattle.script_nodes.specs.Free.{admitted-judged}
 use Rattle.engine_load.specs.Loading.{LoadsWith}
-use Rattle.engine_delivery.specs.Ends.{Delivers, Small}
-use Rattle.engine.specs.Promises.{Replies}
-use Rattle.engine.proofs.Laws.{replies-refusal, kept-zeros}
-use Rattle.engine.proofs.Delivery.{deliver-refuses, replies-stopped, replies-refused}
+use Rattle.engine.proofs.Laws.{deliver-serves, replies-refused, replies-told}
 use borrow.Author.Needs.{needs}
 use Rattle.engine.proofs.engine_deliver.Statement.{statement}
 use Rattle.engine.proofs.engine_deliver.Tie as tie
 use Rattle.engine.proofs.engine_deliver.Reads as reads
 use Rattle.engine.proofs.engine_deliver.Lts as lts
+use Rattle.engine.proofs.tell.Reads as tell-reads
 use Rattle.engine_delivery.proofs.deliver_words.Reads as deliver-words-reads
 use Rattle.engine_load.proofs.load_with.Reads as load-with-reads
-use Rattle.normal.proofs.refuse.Reads as refuse-reads
-use Rattle.words.proofs.pack.Reads as pack-reads
 
 slice-aggregate-load-with : tie.Need-slice-aggregate-load-with
 slice-aggregate-load-with c = search needs
@@ -36,23 +31,8 @@ slice-aggregate-deliver-words c = omega (arith, c .before .before .before .befor
 deliver-words-requires : tie.Need-deliver-words-requires
 deliver-words-requires c κs = search needs
 
-enum-known-number : tie.Need-enum-known-number
-enum-known-number c = search needs
-
-cast-pack : tie.Need-cast-pack
-cast-pack c = search needs
-
-pack-requires : tie.Need-pack-requires
-pack-requires c κs = search needs
-
-enum-known-number-2 : tie.Need-enum-known-number-2
-enum-known-number-2 c = search needs
-
-refuse-requires : tie.Need-refuse-requires
-refuse-requires c κs = search needs
-
-cast-result : tie.Need-cast-result
-cast-result c = search needs
+tell-requires : tie.Need-tell-requires
+tell-requires c κs = search needs
 
 enum-known-answer : tie.Need-enum-known-answer
 enum-known-answer c = search needs
@@ -70,23 +50,20 @@ same-length-4 : tie.Need-same-length-4
 same-length-4 c = search needs
 
 returns : tie.Need-returns
+unfolding engine-deliver
 returns c =
-    let a = c .before .before .before .before .before .before .before .before .before .before .before .before .before .before .before .before .before .before .before .before .before .before .before .before .before .before .before .args in
-    let loaded = c .before .before .before .before .before .before .before .before .before .before .before .before .before .before .before .before .before .before .before .before .load-with in
-    let h = subst (λ r. LoadsWith (a .file .now) (a .kinds .now) (a .operands .now) (replicate 8256 0) r (loaded .last .1 .0)
-    (loaded .last .1 .1 .0) (loaded .last .1 .1 .1 .0)) (c .before .before .before .before .before .before .before .before .before .before .before .before .before .before .depth .given .1) (loaded .ensures) in
-    let part = c .before .before .before .before .before .before .before .deliver-words in
-    let e = subst (λ r. Delivers (loaded .last .1 .0) (loaded .last .1 .1 .0) (loaded .last .1 .1 .1 .0) (a .slots .now)
-    (a .heads .now) (a .readings .now) (c .before .before .before .before .before .before .before .before .before .before .before .before .before .before .depth .given .0 .1 .0) (a .budget) r (part .last .1 .1 .1 .0)
-    (part .last .1 .1 .1 .1 .0)) (c .before .before .number .given .1) (part .ensures .0) in
-    let parts = c .before .before .number .given .0 in
-    let few = subst Small (c .before .before .number .given .1) (part .ensures .1) in
-    let small = packed-small {number = parts .0} {node = 0} {count = parts .1 .0} {cells = parts .1 .1 .0}
-    (omega (arith, c .before .known-told2 .given .0 .1)) (omega arith) (omega (arith, few .0)) (omega (arith, few .1)) in
-    subst (λ x. Replies (a .file .now) (λ node. engine-deliver node (a .file .now) (a .kinds .now) (a .operands .now)
-    (a .slots .now) (a .heads .now) (a .readings .now) (a .budget)) x (loaded .last .1 .0) (loaded .last .1 .1 .0)
-    (part .last .1 .1 .1 .0) (part .last .1 .1 .1 .1 .0)) (sym (c .pack .ensures ∙ small)) (replies-stopped {table = replicate 8256 0} (a .slots .now) (a .heads .now)
-    (a .readings .now) (a .budget) h (omega arith) e)
+    let a = c .before .before .before .before .before .before .before .before .before .before .before .before .before .before .before .before .before .before .before .before .before .before .before .before .before .before .before .before .before .args in
+    let loaded = c .before .before .before .before .before .before .before .before .before .before .before .before .before .before .before .before .before .before .before .before .before .before .load-with in
+    let part = c .before .before .before .before .before .before .before .before .before .deliver-words in
+    let h = subst (λ r. LoadsWith (a .file .now) (a .kinds .now) (a .operands .now) (replicate 8256 0) r
+    (loaded .last .1 .0) (loaded .last .1 .1 .0) (loaded .last .1 .1 .1 .0)) (c .before .before .before .before .before .before .before .before .before .before .before .before .before .before .before .before .depth .given .1) (loaded .ensures) in
+    let node = h .loads .node in
+    replies-told (deliver-serves (a .kinds .now) (a .operands .now) (a .slots .now) (a .heads .now) (a .readings .now)
+    (a .budget)) (h .loads) (loaded .kept .1 .0) (loaded .kept .1 .1 .0) (part .result)
+    (λ fs q same. let coded = h .coded node fs q (omega arith) in
+    part .ensures .0 node (a .file .now) fs
+    (admitted-judged node node fs (a .file .now) (room (a .kinds .now) (a .operands .now)) q) (coded .0) (coded .1) same)
+    (part .ensures .1) (c .before .before .before .tell .ensures)
 
 same-length-5 : tie.Need-same-length-5
 same-length-5 c = search needs
@@ -94,48 +71,14 @@ same-length-5 c = search needs
 same-length-6 : tie.Need-same-length-6
 same-length-6 c = search needs
 
-same-length-7 : tie.Need-same-length-7
-same-length-7 c = search needs
-
-same-length-8 : tie.Need-same-length-8
-same-length-8 c = search needs
-
 returns-2 : tie.Need-returns-2
-unfolding packed
-returns-2 c =
-    let a = c .before .before .before .before .before .before .before .before .before .before .before .before .before .before .before .before .before .before .before .before .before .before .before .before .before .before .before .before .before .before .before .before .args in
-    let loaded = c .before .before .before .before .before .before .before .before .before .before .before .before .before .before .before .before .before .before .before .before .before .before .before .before .before .load-with in
-    let h = subst (λ r. LoadsWith (a .file .now) (a .kinds .now) (a .operands .now) (replicate 8256 0) r (loaded .last .1 .0)
-    (loaded .last .1 .1 .0) (loaded .last .1 .1 .1 .0)) (c .before .before .before .before .before .before .before .before .before .before .before .before .before .before .before .before .before .before .before .depth .given .1) (loaded .ensures) in
-    let part = c .before .before .before .before .before .before .before .before .before .before .before .before .deliver-words in
-    let e = subst (λ r. Delivers (loaded .last .1 .0) (loaded .last .1 .1 .0) (loaded .last .1 .1 .1 .0) (a .slots .now)
-    (a .heads .now) (a .readings .now) (c .before .before .before .before .before .before .before .before .before .before .before .before .before .before .before .before .before .before .before .depth .given .0 .1 .0) (a .budget) r (part .last .1 .1 .1 .0)
-    (part .last .1 .1 .1 .1 .0)) (c .before .before .before .before .before .before .before .number2 .given .1) (part .ensures .0) in
-    let cleared = c .before .before .before .refuse in
-    let answer : c .before .before .before .before .before .before .before .number2 .given .0 .0 ≡ packed (c .before .before .before .before .before .before .before .number2 .given .0 .0) 0 0 0 = omega arith in
-    subst (λ x. Replies (a .file .now) (λ node. engine-deliver node (a .file .now) (a .kinds .now) (a .operands .now)
-    (a .slots .now) (a .heads .now) (a .readings .now) (a .budget)) x (cleared .last .0) (cleared .last .1 .0) (part .last .1 .1 .1 .0)
-    (part .last .1 .1 .1 .1 .0)) (sym answer)
-    (replies-refused {table = replicate 8256 0} (a .slots .now) (a .heads .now) (a .readings .now) (a .budget) h (omega arith) e
-    (kept-zeros 0 (length (loaded .last .1 .0)) (length (a .kinds .now)) (loaded .kept .1 .0) (cleared .ensures .1 .0))
-    (kept-zeros (pos 0) (length (loaded .last .1 .1 .0)) (length (a .operands .now)) (loaded .kept .1 .1 .0)
-    (cleared .ensures .1 .1)))
-
-same-length-9 : tie.Need-same-length-9
-same-length-9 c = search needs
-
-same-length-10 : tie.Need-same-length-10
-same-length-10 c = search needs
-
-returns-3 : tie.Need-returns-3
 unfolding engine-deliver
-returns-3 c =
+returns-2 c =
     let a = c .before .before .before .before .before .before .before .before .before .before .before .before .before .before .args in
     let loaded = c .before .before .before .before .before .before .before .load-with in
-    let h = subst (λ r. LoadsWith (a .file .now) (a .kinds .now) (a .operands .now) (replicate 8256 0) r (loaded .last .1 .0)
-    (loaded .last .1 .1 .0) (loaded .last .1 .1 .1 .0)) (c .before .answer .given .1) (loaded .ensures) in
-    replies-refusal (deliver-for (a .kinds .now) (a .operands .now) (a .slots .now) (a .heads .now) (a .readings .now)
-    (a .budget)) (deliver-refuses (a .kinds .now) (a .operands .now) (a .slots .now) (a .heads .now) (a .readings .now)
+    let h = subst (λ r. LoadsWith (a .file .now) (a .kinds .now) (a .operands .now) (replicate 8256 0) r
+    (loaded .last .1 .0) (loaded .last .1 .1 .0) (loaded .last .1 .1 .1 .0)) (c .before .answer .given .1) (loaded .ensures) in
+    replies-refused (deliver-serves (a .kinds .now) (a .operands .now) (a .slots .now) (a .heads .now) (a .readings .now)
     (a .budget)) (h .loads)
 
 pub engine-deliver-spec : {M : Type 1} → statement M
@@ -147,12 +90,7 @@ engine-deliver-spec =
     enum-known-depth
     slice-aggregate-deliver-words
     deliver-words-requires
-    enum-known-number
-    cast-pack
-    pack-requires
-    enum-known-number-2
-    refuse-requires
-    cast-result
+    tell-requires
     enum-known-answer
     same-length
     same-length-2
@@ -161,9 +99,4 @@ engine-deliver-spec =
     returns
     same-length-5
     same-length-6
-    same-length-7
-    same-length-8
-    returns-2
-    same-length-9
-    same-length-10
-    returns-3)
+    returns-2)

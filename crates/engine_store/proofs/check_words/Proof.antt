@@ -1,4 +1,5 @@
 -- `engine_store::check_words` meets its contract.
+use native.Mathlib.Omega.{arith}
 use mathlib.Core.Path.{sym, _∙_}
 use borrow.Author.Needs.{needs}
 use borrow.Author.Tests.{not-true, not-false}
@@ -35,7 +36,7 @@ returns-2 c =
     let test = c .before .before .is-sound in (
       checks (a .depth) (a .slots .now) (a .heads .now) (c .cells-taken .result)
           (sym (test .ensures) ∙ not-false (test .result) (c .before .if1 .left)) (c .cells-taken .ensures),
-      taken-few (a .slots .now) (a .heads .now) (c .cells-taken .result) (c .cells-taken .ensures),
+      (omega arith, taken-few (a .slots .now) (a .heads .now) (c .cells-taken .result) (c .cells-taken .ensures)),
     )
 
 pub check-words-spec : {M : Type 1} → statement M

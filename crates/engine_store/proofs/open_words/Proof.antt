@@ -1,4 +1,5 @@
 -- `engine_store::open_words` meets its contract.
+use native.Mathlib.Omega.{arith}
 use mathlib.Core.Path.{sym, _∙_}
 use borrow.Author.Needs.{needs}
 use borrow.Author.Tests.{not-true, not-false}
@@ -58,7 +59,7 @@ returns-2 c =
       opens (a .depth) (a .slots .now) (a .heads .now) (store .last .0) (store .last .1 .0) (c .cells-taken .result)
           (sym (fit .ensures) ∙ not-false (fit .result) (c .before .before .before .before .before .before .before .before .before .if1 .left))
           (record { slots-long = store .kept .0; heads-long = store .kept .1 .0 }) (store .ensures) (c .cells-taken .ensures),
-      taken-few (store .last .0) (store .last .1 .0) (c .cells-taken .result) (c .cells-taken .ensures),
+      (omega arith, taken-few (store .last .0) (store .last .1 .0) (c .cells-taken .result) (c .cells-taken .ensures)),
     )
 
 pub open-words-spec : {M : Type 1} → statement M
