@@ -54,6 +54,11 @@ fn start(ledger: &mut [u64], budget: u64, asked: u64) {
     cross_values::put(ledger, arena::WANTED, 0);
 }
 
+// The steps of the last answer that was judged.
+pub fn answered_steps(ledger: &[u64]) -> u64 {
+    cross_values::word(ledger, arena::ASKED)
+}
+
 // Whether a cell was wanted after the step that was asked about: for the readings, or by the node that took it.
 fn is_wanted(ledger: &[u64]) -> bool {
     if cross_values::word(ledger, arena::ASKED) == 0 {

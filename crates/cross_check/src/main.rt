@@ -41,7 +41,7 @@ fn run_delivery(
     if readings.len() < count {
         return both::DIFFERS;
     }
-    both::deliver_both(
+    both::deliver_twice(
         file,
         kinds,
         operands,
