@@ -202,8 +202,11 @@ module _ {file kinds : List ℕ} {operands slots : List ℤ} {heads : List ℕ} 
         _≡_ {A = StoreReply} (record { answer = a; kinds = kinds″; operands = operands″; slots = slots′; heads = heads′ })
         (reply-for kinds operands fs (left r slots′ heads′) r)
     told fs q (E.Answered number steps cells) few t =
-        rw (t .0 ∙ packed-counts number steps cells (few .0) (few .1), t .1 .0 ∙ rw q at (h .kinds-are),
-        t .1 .1 ∙ rw q at (h .operands-are)) refl
+        rw (
+          t .0 ∙ packed-counts number steps cells (few .0) (few .1),
+          t .1 .0 ∙ rw q at (h .kinds-are),
+          t .1 .1 ∙ rw q at (h .operands-are),
+        ) refl
     told fs q (E.Refused number) few t = rw (t .0, t .1 .0, t .1 .1, kinds-long, operands-long) refl
 
     pub replies-told : (r : Ended) → ((fs : Script) → admitted (h .node) file (room kinds operands) ≡ accepted fs →
