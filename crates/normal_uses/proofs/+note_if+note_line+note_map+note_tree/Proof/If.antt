@@ -92,49 +92,30 @@ pub note-if-with-requires : (t : ℕ) → note-if-lts.Need-with-requires (note-i
 note-if-with-requires t c κs = search needs
 
 pub note-if-returns : (t : ℕ) → note-if-lts.Need-returns (note-if-claims t) (note-if-at t) note-if.Post
-note-if-returns t c = (
-  noted-if (plain (c .before .before .before .before .before .before .before .before .before
-      .before .before .before .before .before .before .before .before .before .before .before .before .before .before
-      .before .before .before .before .args .operands .now) (c .before .before .before .before .before .before .before
-      .before .before .before .before .before .before .before .before .before .before .before .before .before .before
-      .before .before .before .before .before .before .args .rows .now) (c .before .before .before .before .before
-      .before .before .before .before .before .before .before .before .before .before .before .before .before .before
-      .before .before .before .before .before .before .before .before .args .notes .now))
-      (tree-to (plain (c .before .before .before .before .before .before .before .before .before .before .before
-      .before .before .before .before .before .before .before .before .before .before .before .before .before .before
-      .before .before .args .operands .now) (c .before .before .before .before .before .before .before .before .before
-      .before .before .before .before .before .before .before .before .before .before .before .before .before .before
-      .before .before .before .before .args .rows .now) (c .before .before .before .before .before .before .before
-      .before .before .before .before .before .before .before .before .before .before .before .before .before .before
-      .before .before .before .before .before .before .args .notes .now)) (c .before .before .before .before .before
-      .before .before .before .before .before .before .before .before .before .before .before .before .before .before
-      .before .before .before .before .before .before .before .before .args .levels)) 0 (c .before .before .before
-      .before .before .before .before .before .before .before .before .before .before .before .before .before .before
-      .before .before .before .before .before .before .before .before .before .before .args .q)
-      (set-of (c .before .before .before .before .before .before .before .before .before .before .before .before
-      .before .before .before .before .before .before .before .before .before .before .before .before .before .before
-      .before .args .uses)) (set-of (c .before .before .before .before .before .before .before .before .before .before
-      .before .before .before .before .before .before .before .before .before .before .before .before .before .before
-      .before .before .before .args .binds)) (c .before .before .before .before .before .before .before .before
-      .before .before .before .before .before .before .before .before .before .before .before .before .before .before
-      .before .before .before .before .before .args .x) (c .before .before .before .before .before .before .before
-      .before .before .before .before .before .before .before .before .before .before .before .before .before .before
-      .before .before .before .before .before .before .args .g) (c .before .before .before .before .before .before
-      .before .before .before .before .before .before .before .before .before .before .before .before .before .before
-      .before .before .before .less-two .ensures) (c .before .before .before .before .before .before .before .before
-      .before .before .before .before .before .before .before .before .before .before .before .before .before .before
-      .first-row .ensures) (c .before .before .before .before .before .before .before .before .before .before .before
-      .before .before .before .before .before .before .before .before .before .before .less-two2 .ensures) _
-      (c .before .before .before .before .before .before .before .before .before .before .before .before .before
-      .before .before .before .before .before .before .note-tree .ensures .0) (c .before .before .before .before
-      .before .before .before .before .before .before .before .before .before .before .before .before .before
-      .note-tree2 .ensures .0) (c .before .before .before .before .before .before .before .before .before .before
-      .before .before .before .store .ensures .0) (c .before .before .before .before .before .before .before .before
-      .before .before .before .store2 .ensures .0) _ _ _ _ _ _ _ (c .before .before .before .before .before .before
-      .before .before .less .ensures) (c .before .before .before .before .before .before .before .less2 .ensures)
-      (c .before .before .before .before .before .before .without .ensures) (c .before .before .before .before .before
-      .less3 .ensures) (c .before .before .before .before .joined .ensures) (c .before .before .before .joined2
-      .ensures) (c .before .before .add .ensures) (c .before .joined3 .ensures) (c .with .ensures),
-  c .before .before
-      .before .before .before .before .before .before .before .before .before .store2 .ensures .1,
-)
+note-if-returns t c =
+    let a = c .before .before .before .before .before .before .before .before .before .before .before .before .before
+    .before .before .before .before .before .before .before .before .before .before .before .before .before
+    .before .args in
+    let code = plain (a .operands .now) (a .rows .now) (a .notes .now) in (
+      noted-if code (tree-to code (a .levels)) 0 (a .q) (set-of (a .uses)) (set-of (a .binds)) (a .x) (a .g)
+          (c .before .before .before .before .before .before .before .before .before .before .before .before .before
+          .before .before .before .before .before .before .before .before .before .before .less-two .ensures)
+          (c .before .before .before .before .before .before .before .before .before .before .before .before .before
+          .before .before .before .before .before .before .before .before .before .first-row .ensures)
+          (c .before .before .before .before .before .before .before .before .before .before .before .before .before
+          .before .before .before .before .before .before .before .before .less-two2 .ensures) _
+          (c .before .before .before .before .before .before .before .before .before .before .before .before .before
+          .before .before .before .before .before .before .note-tree .ensures .0)
+          (c .before .before .before .before .before .before .before .before .before .before .before .before .before
+          .before .before .before .before .note-tree2 .ensures .0)
+          (c .before .before .before .before .before .before .before .before .before .before .before .before .before
+          .store .ensures .0)
+          (c .before .before .before .before .before .before .before .before .before .before .before .store2 .ensures
+          .0) _ _ _ _ _ _ _ (c .before .before .before .before .before .before .before .before .less .ensures)
+          (c .before .before .before .before .before .before .before .less2 .ensures)
+          (c .before .before .before .before .before .before .without .ensures)
+          (c .before .before .before .before .before .less3 .ensures)
+          (c .before .before .before .before .joined .ensures) (c .before .before .before .joined2 .ensures)
+          (c .before .before .add .ensures) (c .before .joined3 .ensures) (c .with .ensures),
+      c .before .before .before .before .before .before .before .before .before .before .before .store2 .ensures .1,
+    )

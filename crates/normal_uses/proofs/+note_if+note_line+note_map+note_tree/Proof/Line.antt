@@ -64,79 +64,64 @@ pub note-line-note-map-requires : (t : ℕ) → note-line-lts.Need-note-map-requ
 note-line-note-map-requires t c κs = search needs
 
 pub note-line-returns : (t : ℕ) → note-line-lts.Need-returns (note-line-claims t) (note-line-at t) note-line.Post
-note-line-returns t c = rw (c .before .before .l .given .1) (
-  noted-operation (plain (c .before .before .before
-      .before .before .before .before .args .operands .now) (c .before .before .before .before .before .before .before
-      .args .rows .now) (c .before .before .before .before .before .before .before .args .notes .now))
-      (tree-to (plain (c .before .before .before .before .before .before .before .args .operands .now)
-      (c .before .before .before .before .before .before .before .args .rows .now) (c .before .before .before .before
-      .before .before .before .args .notes .now)) (c .before .before .before .before .before .before .before .args
-      .levels)) (c .before .before .before .before .before .before .before .args .p) (c .before .before .before
-      .before .before .before .before .args .q) (set-of (c .before .before .before .before .before .before .before
-      .args .uses)) (set-of (c .before .before .before .before .before .before .before .args .binds)) _ _ _ _ _ _
-      (c .note-plain .ensures),
-  c .before .before .before .before .before .before .before .pre .1 .1,
-)
+note-line-returns t c =
+    let start = c .before .before .before .before .before .before .before in
+    let a = start .args in
+    let asked = start .pre in
+    let code = plain (a .operands .now) (a .rows .now) (a .notes .now) in
+    rw (c .before .before .l .given .1) (
+      noted-operation code (tree-to code (a .levels)) (a .p) (a .q) (set-of (a .uses)) (set-of (a .binds)) _ _ _ _ _ _
+          (c .note-plain .ensures),
+      asked .1 .1,
+    )
 
 pub note-line-returns-2 : (t : ℕ) → note-line-lts.Need-returns-2 (note-line-claims t) (note-line-at t) note-line.Post
-note-line-returns-2 t c = rw (c .before .before .l2 .given .1) (
-  noted-call (plain (c .before .before .before .before
-      .before .before .before .args .operands .now) (c .before .before .before .before .before .before .before .args
-      .rows .now) (c .before .before .before .before .before .before .before .args .notes .now))
-      (tree-to (plain (c .before .before .before .before .before .before .before .args .operands .now)
-      (c .before .before .before .before .before .before .before .args .rows .now) (c .before .before .before .before
-      .before .before .before .args .notes .now)) (c .before .before .before .before .before .before .before .args
-      .levels)) (c .before .before .before .before .before .before .before .args .p) (c .before .before .before
-      .before .before .before .before .args .q) (set-of (c .before .before .before .before .before .before .before
-      .args .uses)) (set-of (c .before .before .before .before .before .before .before .args .binds)) _ _ _ _ _
-      (c .note-plain2 .ensures),
-  c .before .before .before .before .before .before .before .pre .1 .1,
-)
+note-line-returns-2 t c =
+    let start = c .before .before .before .before .before .before .before in
+    let a = start .args in
+    let asked = start .pre in
+    let code = plain (a .operands .now) (a .rows .now) (a .notes .now) in
+    rw (c .before .before .l2 .given .1) (
+      noted-call code (tree-to code (a .levels)) (a .p) (a .q) (set-of (a .uses)) (set-of (a .binds)) _ _ _ _ _
+          (c .note-plain2 .ensures),
+      asked .1 .1,
+    )
 
 pub note-line-returns-3 : (t : ℕ) → note-line-lts.Need-returns-3 (note-line-claims t) (note-line-at t) note-line.Post
-note-line-returns-3 t c = rw (c .before .before .l3 .given .1) (
-  noted-literal (plain (c .before .before .before
-      .before .before .before .before .args .operands .now) (c .before .before .before .before .before .before .before
-      .args .rows .now) (c .before .before .before .before .before .before .before .args .notes .now))
-      (tree-to (plain (c .before .before .before .before .before .before .before .args .operands .now)
-      (c .before .before .before .before .before .before .before .args .rows .now) (c .before .before .before .before
-      .before .before .before .args .notes .now)) (c .before .before .before .before .before .before .before .args
-      .levels)) (c .before .before .before .before .before .before .before .args .p) (c .before .before .before
-      .before .before .before .before .args .q) (set-of (c .before .before .before .before .before .before .before
-      .args .uses)) (set-of (c .before .before .before .before .before .before .before .args .binds)) _ _ _ _ _
-      (c .note-plain3 .ensures),
-  c .before .before .before .before .before .before .before .pre .1 .1,
-)
+note-line-returns-3 t c =
+    let start = c .before .before .before .before .before .before .before in
+    let a = start .args in
+    let asked = start .pre in
+    let code = plain (a .operands .now) (a .rows .now) (a .notes .now) in
+    rw (c .before .before .l3 .given .1) (
+      noted-literal code (tree-to code (a .levels)) (a .p) (a .q) (set-of (a .uses)) (set-of (a .binds)) _ _ _ _ _
+          (c .note-plain3 .ensures),
+      asked .1 .1,
+    )
 
 pub note-line-returns-4 : (t : ℕ) → note-line-lts.Need-returns-4 (note-line-claims t) (note-line-at t) note-line.Post
-note-line-returns-4 t c = rw (c .before .before .l4 .given .1) (
-  noted-index (plain (c .before .before .before
-      .before .before .before .before .args .operands .now) (c .before .before .before .before .before .before .before
-      .args .rows .now) (c .before .before .before .before .before .before .before .args .notes .now))
-      (tree-to (plain (c .before .before .before .before .before .before .before .args .operands .now)
-      (c .before .before .before .before .before .before .before .args .rows .now) (c .before .before .before .before
-      .before .before .before .args .notes .now)) (c .before .before .before .before .before .before .before .args
-      .levels)) (c .before .before .before .before .before .before .before .args .p) (c .before .before .before
-      .before .before .before .before .args .q) (set-of (c .before .before .before .before .before .before .before
-      .args .uses)) (set-of (c .before .before .before .before .before .before .before .args .binds)) _ _ _ _ _
-      (c .note-plain4 .ensures),
-  c .before .before .before .before .before .before .before .pre .1 .1,
-)
+note-line-returns-4 t c =
+    let start = c .before .before .before .before .before .before .before in
+    let a = start .args in
+    let asked = start .pre in
+    let code = plain (a .operands .now) (a .rows .now) (a .notes .now) in
+    rw (c .before .before .l4 .given .1) (
+      noted-index code (tree-to code (a .levels)) (a .p) (a .q) (set-of (a .uses)) (set-of (a .binds)) _ _ _ _ _
+          (c .note-plain4 .ensures),
+      asked .1 .1,
+    )
 
 pub note-line-returns-5 : (t : ℕ) → note-line-lts.Need-returns-5 (note-line-claims t) (note-line-at t) note-line.Post
-note-line-returns-5 t c = rw (c .before .before .l5 .given .1) (
-  noted-length (plain (c .before .before .before
-      .before .before .before .before .args .operands .now) (c .before .before .before .before .before .before .before
-      .args .rows .now) (c .before .before .before .before .before .before .before .args .notes .now))
-      (tree-to (plain (c .before .before .before .before .before .before .before .args .operands .now)
-      (c .before .before .before .before .before .before .before .args .rows .now) (c .before .before .before .before
-      .before .before .before .args .notes .now)) (c .before .before .before .before .before .before .before .args
-      .levels)) (c .before .before .before .before .before .before .before .args .p) (c .before .before .before
-      .before .before .before .before .args .q) (set-of (c .before .before .before .before .before .before .before
-      .args .uses)) (set-of (c .before .before .before .before .before .before .before .args .binds)) _ _ _ _
-      (c .note-plain5 .ensures),
-  c .before .before .before .before .before .before .before .pre .1 .1,
-)
+note-line-returns-5 t c =
+    let start = c .before .before .before .before .before .before .before in
+    let a = start .args in
+    let asked = start .pre in
+    let code = plain (a .operands .now) (a .rows .now) (a .notes .now) in
+    rw (c .before .before .l5 .given .1) (
+      noted-length code (tree-to code (a .levels)) (a .p) (a .q) (set-of (a .uses)) (set-of (a .binds)) _ _ _ _
+          (c .note-plain5 .ensures),
+      asked .1 .1,
+    )
 
 pub note-line-returns-6 : (t : ℕ) → note-line-lts.Need-returns-6 (note-line-claims t) (note-line-at t) note-line.Post
 unfolding as-line

@@ -49,27 +49,15 @@ pub note-map-with-requires : (t : ℕ) → note-map-lts.Need-with-requires (note
 note-map-with-requires t c κs = search needs
 
 pub note-map-returns : (t : ℕ) → note-map-lts.Need-returns (note-map-claims t) (note-map-at t) note-map.Post
-note-map-returns t c = (
-  noted-map (plain (c .before .before .before .before .before .before .before .before .before
-      .before .before .before .before .before .args .operands .now) (c .before .before .before .before .before .before
-      .before .before .before .before .before .before .before .before .args .rows .now) (c .before .before .before
-      .before .before .before .before .before .before .before .before .before .before .before .args .notes .now))
-      (tree-to (plain (c .before .before .before .before .before .before .before .before .before .before .before
-      .before .before .before .args .operands .now) (c .before .before .before .before .before .before .before .before
-      .before .before .before .before .before .before .args .rows .now) (c .before .before .before .before .before
-      .before .before .before .before .before .before .before .before .before .args .notes .now)) (c .before .before
-      .before .before .before .before .before .before .before .before .before .before .before .before .args .levels))
-      0 (c .before .before .before .before .before .before .before .before .before .before .before .before .before
-      .before .args .q) (set-of (c .before .before .before .before .before .before .before .before .before .before
-      .before .before .before .before .args .uses)) (set-of (c .before .before .before .before .before .before .before
-      .before .before .before .before .before .before .before .args .binds)) (c .before .before .before .before
-      .before .before .before .before .before .before .before .before .before .before .args .x) (c .before .before
-      .before .before .before .before .before .before .before .before .before .before .before .before .args .y)
-      (c .before .before .before .before .before .before .before .before .before .before .before .before .before
-      .before .args .a) (c .before .before .before .before .before .before .before .before .before .before .less-two
-      .ensures) (c .before .before .before .before .before .before .before .before .note-tree .ensures .0)
-      (c .before .before .before .before .before .store .ensures .0) _ _ _ (c .before .before .before .before .without
-      .ensures) (c .before .before .before .without2 .ensures) (c .before .before .joined .ensures) (c .before .add
-      .ensures) (c .with .ensures),
-  c .before .before .before .before .before .store .ensures .1,
-)
+note-map-returns t c =
+    let a = c .before .before .before .before .before .before .before .before .before .before .before .before .before
+    .before .args in
+    let code = plain (a .operands .now) (a .rows .now) (a .notes .now) in (
+      noted-map code (tree-to code (a .levels)) 0 (a .q) (set-of (a .uses)) (set-of (a .binds)) (a .x) (a .y) (a .a)
+          (c .before .before .before .before .before .before .before .before .before .before .less-two .ensures)
+          (c .before .before .before .before .before .before .before .before .note-tree .ensures .0)
+          (c .before .before .before .before .before .store .ensures .0) _ _ _
+          (c .before .before .before .before .without .ensures) (c .before .before .before .without2 .ensures)
+          (c .before .before .joined .ensures) (c .before .add .ensures) (c .with .ensures),
+      c .before .before .before .before .before .store .ensures .1,
+    )

@@ -40,32 +40,33 @@ note-tree-add-requires t c κs = search needs
 
 pub note-tree-returns : (t : ℕ) → note-tree-lts.Need-returns (note-tree-claims t) (note-tree-at t) note-tree.Post
     note-tree-Inv-loop note-tree-μ-loop
-note-tree-returns t c = (
-  noted-none (begun (plain (c .before .before .before .before .before .before .before .before
-      .args .operands .now) (c .before .before .before .before .before .before .before .before .args .rows .now)
-      (c .before .before .before .before .before .before .before .before .args .notes .now)) (c .before .before
-      .before .before .before .before .before .before .args .e) (c .before .add .result) (c .before .before .none
-      .result) (c .before .before .before .atom-of .result) (c .before .before .before .before .row-at .result)
-      (c .before .before .before .before .row-at .ensures) (c .before .before .before .atom-of .ensures)
-      (c .before .add .ensures) (c .before .before .none .ensures)) (c .before .before .before .before .before .before
-      .before .before .args .levels) _ (c .if1 .taken),
-  c .before .before .before .before .before .before .before
-      .before .pre .1 .1,
-)
+note-tree-returns t c =
+    let start = c .before .before .before .before .before .before .before .before in
+    let a = start .args in
+    let asked = start .pre in (
+      noted-none
+          (begun (plain (a .operands .now) (a .rows .now) (a .notes .now)) (a .e) (c .before .add .result)
+          (c .before .before .none .result) (c .before .before .before .atom-of .result)
+          (c .before .before .before .before .row-at .result) (c .before .before .before .before .row-at .ensures)
+          (c .before .before .before .atom-of .ensures) (c .before .add .ensures)
+          (c .before .before .none .ensures)) (a .levels) _ (c .if1 .taken),
+      asked .1 .1,
+    )
 
 pub note-tree-loop-holds : (t : ℕ) → note-tree-lts.Need-loop-holds (note-tree-claims t) (note-tree-at t) note-tree.Post
     note-tree-Inv-loop note-tree-μ-loop
-note-tree-loop-holds t c = (
-  walk-begins (begun (plain (c .before .before .before .before .before .before .before
-      .before .args .operands .now) (c .before .before .before .before .before .before .before .before .args .rows
-      .now) (c .before .before .before .before .before .before .before .before .args .notes .now)) (c .before .before
-      .before .before .before .before .before .before .args .e) (c .before .add .result) (c .before .before .none
-      .result) (c .before .before .before .atom-of .result) (c .before .before .before .before .row-at .result)
-      (c .before .before .before .before .row-at .ensures) (c .before .before .before .atom-of .ensures)
-      (c .before .add .ensures) (c .before .before .none .ensures)) (c .if1 .left) (omega arith),
-  c .before .before
-      .before .before .before .before .before .before .pre .1 .1,
-)
+note-tree-loop-holds t c =
+    let start = c .before .before .before .before .before .before .before .before in
+    let a = start .args in
+    let asked = start .pre in (
+      walk-begins
+          (begun (plain (a .operands .now) (a .rows .now) (a .notes .now)) (a .e) (c .before .add .result)
+          (c .before .before .none .result) (c .before .before .before .atom-of .result)
+          (c .before .before .before .before .row-at .result) (c .before .before .before .before .row-at .ensures)
+          (c .before .before .before .atom-of .ensures) (c .before .add .ensures)
+          (c .before .before .none .ensures)) (c .if1 .left) (omega arith),
+      asked .1 .1,
+    )
 
 pub note-tree-note-at-requires : (t : ℕ) → note-tree-lts.Need-note-at-requires (note-tree-claims t) (note-tree-at t)
     note-tree.Post note-tree-Inv-loop note-tree-μ-loop
