@@ -27,45 +27,47 @@ lay-if-lay-part-requires t c κs =
 
 pub lay-if-cast-lay-head : (t : ℕ) → lay-if-lts.Need-cast-lay-head (lay-if-claims t) (lay-if-at t) lay-if.Post
 lay-if-cast-lay-head t c =
-    let a = c .before .before .before .before .before .before .before .before .args in
+    let start = c .before .before .before .before .before .before .before .before in
+    let a = start .args in
+    let asked = start .pre in
     omega (
       arith,
       (if-place (a .operands .now) (λ f. getD (a .results .now) f 0)
-          (tree-at (a .kinds .now) (a .operands .now) (a .levels))
-          (c .before .before .before .before .before .before .before .before .pre .1 .1)
-          (c .before .lay-part .ensures)) .0,
+          (tree-at (a .kinds .now) (a .operands .now) (a .levels)) (asked .1 .1) (c .before .lay-part .ensures)) .0,
     )
 
 pub lay-if-lay-head-requires : (t : ℕ) → lay-if-lts.Need-lay-head-requires (lay-if-claims t) (lay-if-at t) lay-if.Post
 lay-if-lay-head-requires t c κs =
-    let a = c .before .before .before .before .before .before .before .before .args in
+    let start = c .before .before .before .before .before .before .before .before in
+    let a = start .args in
+    let asked = start .pre in
     omega (
       arith,
       (if-place (a .operands .now) (λ f. getD (a .results .now) f 0)
-          (tree-at (a .kinds .now) (a .operands .now) (a .levels))
-          (c .before .before .before .before .before .before .before .before .pre .1 .1)
-          (c .before .lay-part .ensures)) .1,
+          (tree-at (a .kinds .now) (a .operands .now) (a .levels)) (asked .1 .1) (c .before .lay-part .ensures)) .1,
     )
 
 pub lay-if-add-put-note : (t : ℕ) → lay-if-lts.Need-add-put-note (lay-if-claims t) (lay-if-at t) lay-if.Post
 lay-if-add-put-note t c =
-    let a = c .before .before .before .before .before .before .before .before .before .before .args in
+    let start = c .before .before .before .before .before .before .before .before .before .before in
+    let a = start .args in
+    let asked = start .pre in
     omega (
       arith,
       (if-place (a .operands .now) (λ f. getD (a .results .now) f 0)
-          (tree-at (a .kinds .now) (a .operands .now) (a .levels))
-          (c .before .before .before .before .before .before .before .before .before .before .pre .1 .1)
+          (tree-at (a .kinds .now) (a .operands .now) (a .levels)) (asked .1 .1)
           (c .before .before .before .lay-part .ensures)) .1,
     )
 
 pub lay-if-add-put-note-2 : (t : ℕ) → lay-if-lts.Need-add-put-note-2 (lay-if-claims t) (lay-if-at t) lay-if.Post
 lay-if-add-put-note-2 t c =
-    let a = c .before .before .before .before .before .before .before .before .before .before .args in
+    let start = c .before .before .before .before .before .before .before .before .before .before in
+    let a = start .args in
+    let asked = start .pre in
     omega (
       arith,
       (if-place (a .operands .now) (λ f. getD (a .results .now) f 0)
-          (tree-at (a .kinds .now) (a .operands .now) (a .levels))
-          (c .before .before .before .before .before .before .before .before .before .before .pre .1 .1)
+          (tree-at (a .kinds .now) (a .operands .now) (a .levels)) (asked .1 .1)
           (c .before .before .before .lay-part .ensures)) .1,
     )
 
@@ -89,26 +91,28 @@ lay-if-put-note-requires t c κs =
 
 pub lay-if-add-lay-tree : (t : ℕ) → lay-if-lts.Need-add-lay-tree (lay-if-claims t) (lay-if-at t) lay-if.Post
 lay-if-add-lay-tree t c =
-    let a = c .before .before .before .before .before .before .before .before .before .before .before .before .before
-    .before .args in
+    let start = c .before .before .before .before .before .before .before .before .before .before .before .before
+    .before .before in
+    let a = start .args in
+    let asked = start .pre in
     omega (
       arith,
       (if-place (a .operands .now) (λ f. getD (a .results .now) f 0)
-          (tree-at (a .kinds .now) (a .operands .now) (a .levels))
-          (c .before .before .before .before .before .before .before .before .before .before .before .before .before
-          .before .pre .1 .1) (c .before .before .before .before .before .before .before .lay-part .ensures)) .0,
+          (tree-at (a .kinds .now) (a .operands .now) (a .levels)) (asked .1 .1)
+          (c .before .before .before .before .before .before .before .lay-part .ensures)) .0,
     )
 
 pub lay-if-add-lay-tree-2 : (t : ℕ) → lay-if-lts.Need-add-lay-tree-2 (lay-if-claims t) (lay-if-at t) lay-if.Post
 lay-if-add-lay-tree-2 t c =
-    let a = c .before .before .before .before .before .before .before .before .before .before .before .before .before
-    .before .args in
+    let start = c .before .before .before .before .before .before .before .before .before .before .before .before
+    .before .before in
+    let a = start .args in
+    let asked = start .pre in
     omega (
       arith,
       (if-place (a .operands .now) (λ f. getD (a .results .now) f 0)
-          (tree-at (a .kinds .now) (a .operands .now) (a .levels))
-          (c .before .before .before .before .before .before .before .before .before .before .before .before .before
-          .before .pre .1 .1) (c .before .before .before .before .before .before .before .lay-part .ensures)) .1,
+          (tree-at (a .kinds .now) (a .operands .now) (a .levels)) (asked .1 .1)
+          (c .before .before .before .before .before .before .before .lay-part .ensures)) .1,
     )
 
 pub lay-if-lay-tree-requires : (t : ℕ) → lay-if-lts.Need-lay-tree-requires (lay-if-claims t) (lay-if-at t) lay-if.Post
@@ -218,42 +222,40 @@ lay-if-depth-of-requires t c κs = search needs
 pub lay-if-element-write-depths : (t : ℕ) → lay-if-lts.Need-element-write-depths (lay-if-claims t) (lay-if-at t)
     lay-if.Post
 lay-if-element-write-depths t c =
-    let a = c .before .before .before .before .before .before .before .before .before .before .before .before .before
-    .before .before .before .before .before .before .before .before .before .before .before .before .args in
+    let start = c .before .before .before .before .before .before .before .before .before .before .before .before
+    .before .before .before .before .before .before .before .before .before .before .before .before .before in
+    let a = start .args in
+    let asked = start .pre in
     omega (
       arith,
       (if-place (a .operands .now) (λ f. getD (a .results .now) f 0)
-          (tree-at (a .kinds .now) (a .operands .now) (a .levels))
-          (c .before .before .before .before .before .before .before .before .before .before .before .before .before
-          .before .before .before .before .before .before .before .before .before .before .before .before .pre .1
-          .1)
+          (tree-at (a .kinds .now) (a .operands .now) (a .levels)) (asked .1 .1)
           (c .before .before .before .before .before .before .before .before .before .before .before .before .before
           .before .before .before .before .before .lay-part .ensures)) .0,
     )
 
 pub lay-if-cast-t40 : (t : ℕ) → lay-if-lts.Need-cast-t40 (lay-if-claims t) (lay-if-at t) lay-if.Post
 lay-if-cast-t40 t c =
-    let a = c .before .before .before .before .before .before .before .before .before .before .before .before .before
-    .before .before .before .before .before .before .before .before .before .before .before .before .args in
+    let start = c .before .before .before .before .before .before .before .before .before .before .before .before
+    .before .before .before .before .before .before .before .before .before .before .before .before .before in
+    let a = start .args in
+    let asked = start .pre in
     omega (
       arith,
       (if-place (a .operands .now) (λ f. getD (a .results .now) f 0)
-          (tree-at (a .kinds .now) (a .operands .now) (a .levels))
-          (c .before .before .before .before .before .before .before .before .before .before .before .before .before
-          .before .before .before .before .before .before .before .before .before .before .before .before .pre .1
-          .1)
+          (tree-at (a .kinds .now) (a .operands .now) (a .levels)) (asked .1 .1)
           (c .before .before .before .before .before .before .before .before .before .before .before .before .before
           .before .before .before .before .before .lay-part .ensures)) .0,
     )
 
 pub lay-if-returns : (t : ℕ) → lay-if-lts.Need-returns (lay-if-claims t) (lay-if-at t) lay-if.Post
 lay-if-returns t c =
-    let a = c .before .before .before .before .before .before .before .before .before .before .before .before .before
-    .before .before .before .before .before .before .before .before .before .before .before .before .args in
+    let start = c .before .before .before .before .before .before .before .before .before .before .before .before
+    .before .before .before .before .before .before .before .before .before .before .before .before .before in
+    let a = start .args in
+    let asked = start .pre in
     if-laid (a .operands .now) (λ f. getD (a .results .now) f 0)
-    (tree-at (a .kinds .now) (a .operands .now) (a .levels))
-    (c .before .before .before .before .before .before .before .before .before .before .before .before .before
-    .before .before .before .before .before .before .before .before .before .before .before .before .pre .1 .1)
+    (tree-at (a .kinds .now) (a .operands .now) (a .levels)) (asked .1 .1)
     (c .before .before .before .before .before .before .before .before .before .before .before .before .before
     .before .before .before .before .before .lay-part .ensures)
     (record {

@@ -44,12 +44,12 @@ lay-let-lay-part-requires-2 t c κs =
 
 pub lay-let-returns : (t : ℕ) → lay-let-lts.Need-returns (lay-let-claims t) (lay-let-at t) lay-let.Post
 lay-let-returns t c =
-    let a = c .before .before .before .before .before .before .before .before .before .before .before .before .before
-    .args in
+    let start = c .before .before .before .before .before .before .before .before .before .before .before .before
+    .before in
+    let a = start .args in
+    let asked = start .pre in
     let-laid (a .operands .now) (λ f. getD (a .results .now) f 0)
-    (tree-at (a .kinds .now) (a .operands .now) (a .levels)) (a .x) (a .places .now) _
-    (c .before .before .before .before .before .before .before .before .before .before .before .before .before
-    .pre .1 .0 .long)
+    (tree-at (a .kinds .now) (a .operands .now) (a .levels)) (a .x) (a .places .now) _ (asked .1 .0 .long)
     (omega (
       arith,
       c .before .before .before .before .before .before .before .before .before .before .before

@@ -28,68 +28,74 @@ lay-map-lay-part-requires t c κs =
 
 pub lay-map-cast-lay-head : (t : ℕ) → lay-map-lts.Need-cast-lay-head (lay-map-claims t) (lay-map-at t) lay-map.Post
 lay-map-cast-lay-head t c =
-    let a = c .before .before .before .before .before .before .before .before .args in
+    let start = c .before .before .before .before .before .before .before .before in
+    let a = start .args in
+    let asked = start .pre in
     omega (
       arith,
       (map-place (a .operands .now) (λ f. getD (a .results .now) f 0)
-          (tree-at (a .kinds .now) (a .operands .now) (a .levels)) (a .places .now)
-          (c .before .before .before .before .before .before .before .before .pre .1 .1)
+          (tree-at (a .kinds .now) (a .operands .now) (a .levels)) (a .places .now) (asked .1 .1)
           (c .before .lay-part .ensures)) .0,
     )
 
 pub lay-map-add-lay-head : (t : ℕ) → lay-map-lts.Need-add-lay-head (lay-map-claims t) (lay-map-at t) lay-map.Post
 lay-map-add-lay-head t c =
-    let a = c .before .before .before .before .before .before .before .before .args in
+    let start = c .before .before .before .before .before .before .before .before in
+    let a = start .args in
+    let asked = start .pre in
     omega (
       arith,
       (map-place (a .operands .now) (λ f. getD (a .results .now) f 0)
-          (tree-at (a .kinds .now) (a .operands .now) (a .levels)) (a .places .now)
-          (c .before .before .before .before .before .before .before .before .pre .1 .1)
+          (tree-at (a .kinds .now) (a .operands .now) (a .levels)) (a .places .now) (asked .1 .1)
           (c .before .lay-part .ensures)) .0,
     )
 
 pub lay-map-cast-lay-head-2 : (t : ℕ) → lay-map-lts.Need-cast-lay-head-2 (lay-map-claims t) (lay-map-at t) lay-map.Post
 lay-map-cast-lay-head-2 t c =
-    let a = c .before .before .before .before .before .before .before .before .args in
+    let start = c .before .before .before .before .before .before .before .before in
+    let a = start .args in
+    let asked = start .pre in
     omega (
       arith,
       (map-place (a .operands .now) (λ f. getD (a .results .now) f 0)
-          (tree-at (a .kinds .now) (a .operands .now) (a .levels)) (a .places .now)
-          (c .before .before .before .before .before .before .before .before .pre .1 .1)
+          (tree-at (a .kinds .now) (a .operands .now) (a .levels)) (a .places .now) (asked .1 .1)
           (c .before .lay-part .ensures)) .0,
     )
 
 pub lay-map-lay-head-requires : (t : ℕ) → lay-map-lts.Need-lay-head-requires (lay-map-claims t) (lay-map-at t)
     lay-map.Post
 lay-map-lay-head-requires t c κs =
-    let a = c .before .before .before .before .before .before .before .before .args in
+    let start = c .before .before .before .before .before .before .before .before in
+    let a = start .args in
+    let asked = start .pre in
     omega (
       arith,
       (map-place (a .operands .now) (λ f. getD (a .results .now) f 0)
-          (tree-at (a .kinds .now) (a .operands .now) (a .levels)) (a .places .now)
-          (c .before .before .before .before .before .before .before .before .pre .1 .1)
+          (tree-at (a .kinds .now) (a .operands .now) (a .levels)) (a .places .now) (asked .1 .1)
           (c .before .lay-part .ensures)) .1,
     )
 
 pub lay-map-add-put-note : (t : ℕ) → lay-map-lts.Need-add-put-note (lay-map-claims t) (lay-map-at t) lay-map.Post
 lay-map-add-put-note t c =
-    let a = c .before .before .before .before .before .before .before .before .before .before .args in
+    let start = c .before .before .before .before .before .before .before .before .before .before in
+    let a = start .args in
+    let asked = start .pre in
     omega (
       arith,
       (map-place (a .operands .now) (λ f. getD (a .results .now) f 0)
-          (tree-at (a .kinds .now) (a .operands .now) (a .levels)) (a .places .now)
-          (c .before .before .before .before .before .before .before .before .before .before .pre .1 .1)
+          (tree-at (a .kinds .now) (a .operands .now) (a .levels)) (a .places .now) (asked .1 .1)
           (c .before .before .before .lay-part .ensures)) .1,
     )
 
 pub lay-map-add-put-note-2 : (t : ℕ) → lay-map-lts.Need-add-put-note-2 (lay-map-claims t) (lay-map-at t) lay-map.Post
 lay-map-add-put-note-2 t c =
-    let a = c .before .before .before .before .before .before .before .before .before .before .args in
+    let start = c .before .before .before .before .before .before .before .before .before .before in
+    let a = start .args in
+    let asked = start .pre in
     omega (
       arith,
       (map-place (a .operands .now) (λ f. getD (a .results .now) f 0)
-          (tree-at (a .kinds .now) (a .operands .now) (a .levels)) (a .places .now)
-          (c .before .before .before .before .before .before .before .before .before .before .pre .1 .1)
+          (tree-at (a .kinds .now) (a .operands .now) (a .levels)) (a .places .now) (asked .1 .1)
           (c .before .before .before .lay-part .ensures)) .1,
     )
 
@@ -118,51 +124,55 @@ lay-map-element-depth-requires t c κs = search needs
 
 pub lay-map-add-depths : (t : ℕ) → lay-map-lts.Need-add-depths (lay-map-claims t) (lay-map-at t) lay-map.Post
 lay-map-add-depths t c =
-    let a = c .before .before .before .before .before .before .before .before .before .before .before .before .before
-    .args in
+    let start = c .before .before .before .before .before .before .before .before .before .before .before .before
+    .before in
+    let a = start .args in
+    let asked = start .pre in
     omega (
       arith,
       (map-place (a .operands .now) (λ f. getD (a .results .now) f 0)
-          (tree-at (a .kinds .now) (a .operands .now) (a .levels)) (a .places .now)
-          (c .before .before .before .before .before .before .before .before .before .before .before .before .before
-          .pre .1 .1) (c .before .before .before .before .before .before .lay-part .ensures)) .0,
+          (tree-at (a .kinds .now) (a .operands .now) (a .levels)) (a .places .now) (asked .1 .1)
+          (c .before .before .before .before .before .before .lay-part .ensures)) .0,
     )
 
 pub lay-map-element-write-depths : (t : ℕ) → lay-map-lts.Need-element-write-depths (lay-map-claims t) (lay-map-at t)
     lay-map.Post
 lay-map-element-write-depths t c =
-    let a = c .before .before .before .before .before .before .before .before .before .before .before .before .before
-    .args in
+    let start = c .before .before .before .before .before .before .before .before .before .before .before .before
+    .before in
+    let a = start .args in
+    let asked = start .pre in
     omega (
       arith,
       (map-place (a .operands .now) (λ f. getD (a .results .now) f 0)
-          (tree-at (a .kinds .now) (a .operands .now) (a .levels)) (a .places .now)
-          (c .before .before .before .before .before .before .before .before .before .before .before .before .before
-          .pre .1 .1) (c .before .before .before .before .before .before .lay-part .ensures)) .0,
+          (tree-at (a .kinds .now) (a .operands .now) (a .levels)) (a .places .now) (asked .1 .1)
+          (c .before .before .before .before .before .before .lay-part .ensures)) .0,
     )
 
 pub lay-map-add-bound : (t : ℕ) → lay-map-lts.Need-add-bound (lay-map-claims t) (lay-map-at t) lay-map.Post
 lay-map-add-bound t c =
-    let a = c .before .before .before .before .before .before .before .before .before .before .before .before .before
-    .args in
+    let start = c .before .before .before .before .before .before .before .before .before .before .before .before
+    .before in
+    let a = start .args in
+    let asked = start .pre in
     omega (
       arith,
       (map-place (a .operands .now) (λ f. getD (a .results .now) f 0)
-          (tree-at (a .kinds .now) (a .operands .now) (a .levels)) (a .places .now)
-          (c .before .before .before .before .before .before .before .before .before .before .before .before .before
-          .pre .1 .1) (c .before .before .before .before .before .before .lay-part .ensures)) .0,
+          (tree-at (a .kinds .now) (a .operands .now) (a .levels)) (a .places .now) (asked .1 .1)
+          (c .before .before .before .before .before .before .lay-part .ensures)) .0,
     )
 
 pub lay-map-cast-bound : (t : ℕ) → lay-map-lts.Need-cast-bound (lay-map-claims t) (lay-map-at t) lay-map.Post
 lay-map-cast-bound t c =
-    let a = c .before .before .before .before .before .before .before .before .before .before .before .before .before
-    .args in
+    let start = c .before .before .before .before .before .before .before .before .before .before .before .before
+    .before in
+    let a = start .args in
+    let asked = start .pre in
     omega (
       arith,
       (map-place (a .operands .now) (λ f. getD (a .results .now) f 0)
-          (tree-at (a .kinds .now) (a .operands .now) (a .levels)) (a .places .now)
-          (c .before .before .before .before .before .before .before .before .before .before .before .before .before
-          .pre .1 .1) (c .before .before .before .before .before .before .lay-part .ensures)) .0,
+          (tree-at (a .kinds .now) (a .operands .now) (a .levels)) (a .places .now) (asked .1 .1)
+          (c .before .before .before .before .before .before .lay-part .ensures)) .0,
     )
 
 pub lay-map-bound-requires : (t : ℕ) → lay-map-lts.Need-bound-requires (lay-map-claims t) (lay-map-at t) lay-map.Post
@@ -170,28 +180,28 @@ lay-map-bound-requires t c κs = search needs
 
 pub lay-map-add-lay-tree : (t : ℕ) → lay-map-lts.Need-add-lay-tree (lay-map-claims t) (lay-map-at t) lay-map.Post
 lay-map-add-lay-tree t c =
-    let a = c .before .before .before .before .before .before .before .before .before .before .before .before .before
-    .before .before .before .before .before .args in
+    let start = c .before .before .before .before .before .before .before .before .before .before .before .before
+    .before .before .before .before .before .before in
+    let a = start .args in
+    let asked = start .pre in
     omega (
       arith,
       (map-place (a .operands .now) (λ f. getD (a .results .now) f 0)
-          (tree-at (a .kinds .now) (a .operands .now) (a .levels)) (a .places .now)
-          (c .before .before .before .before .before .before .before .before .before .before .before .before .before
-          .before .before .before .before .before .pre .1 .1)
+          (tree-at (a .kinds .now) (a .operands .now) (a .levels)) (a .places .now) (asked .1 .1)
           (c .before .before .before .before .before .before .before .before .before .before .before .lay-part
           .ensures)) .0,
     )
 
 pub lay-map-add-lay-tree-2 : (t : ℕ) → lay-map-lts.Need-add-lay-tree-2 (lay-map-claims t) (lay-map-at t) lay-map.Post
 lay-map-add-lay-tree-2 t c =
-    let a = c .before .before .before .before .before .before .before .before .before .before .before .before .before
-    .before .before .before .before .before .args in
+    let start = c .before .before .before .before .before .before .before .before .before .before .before .before
+    .before .before .before .before .before .before in
+    let a = start .args in
+    let asked = start .pre in
     omega (
       arith,
       (map-place (a .operands .now) (λ f. getD (a .results .now) f 0)
-          (tree-at (a .kinds .now) (a .operands .now) (a .levels)) (a .places .now)
-          (c .before .before .before .before .before .before .before .before .before .before .before .before .before
-          .before .before .before .before .before .pre .1 .1)
+          (tree-at (a .kinds .now) (a .operands .now) (a .levels)) (a .places .now) (asked .1 .1)
           (c .before .before .before .before .before .before .before .before .before .before .before .lay-part
           .ensures)) .1,
     )
@@ -257,15 +267,15 @@ lay-map-depth-of-requires t c κs = search needs
 
 pub lay-map-add-depths-2 : (t : ℕ) → lay-map-lts.Need-add-depths-2 (lay-map-claims t) (lay-map-at t) lay-map.Post
 lay-map-add-depths-2 t c =
-    let a = c .before .before .before .before .before .before .before .before .before .before .before .before .before
-    .before .before .before .before .before .before .before .before .before .before .args in
+    let start = c .before .before .before .before .before .before .before .before .before .before .before .before
+    .before .before .before .before .before .before .before .before .before .before .before in
+    let a = start .args in
+    let asked = start .pre in
     omega (
       arith,
       c .depth-of .ensures,
       map-deep (a .operands .now) (λ f. getD (a .results .now) f 0)
-          (tree-at (a .kinds .now) (a .operands .now) (a .levels)) (a .places .now)
-          (c .before .before .before .before .before .before .before .before .before .before .before .before .before
-          .before .before .before .before .before .before .before .before .before .before .pre .1 .1)
+          (tree-at (a .kinds .now) (a .operands .now) (a .levels)) (a .places .now) (asked .1 .1)
           (c .before .before .before .before .before .before .before .before .before .before .before .before .before
           .before .before .before .lay-part .ensures)
           (record {
@@ -285,28 +295,28 @@ lay-map-add-depths-2 t c =
 pub lay-map-element-write-depths-2 : (t : ℕ) → lay-map-lts.Need-element-write-depths-2 (lay-map-claims t) (lay-map-at t)
     lay-map.Post
 lay-map-element-write-depths-2 t c =
-    let a = c .before .before .before .before .before .before .before .before .before .before .before .before .before
-    .before .before .before .before .before .before .before .before .before .before .args in
+    let start = c .before .before .before .before .before .before .before .before .before .before .before .before
+    .before .before .before .before .before .before .before .before .before .before .before in
+    let a = start .args in
+    let asked = start .pre in
     omega (
       arith,
       (map-place (a .operands .now) (λ f. getD (a .results .now) f 0)
-          (tree-at (a .kinds .now) (a .operands .now) (a .levels)) (a .places .now)
-          (c .before .before .before .before .before .before .before .before .before .before .before .before .before
-          .before .before .before .before .before .before .before .before .before .before .pre .1 .1)
+          (tree-at (a .kinds .now) (a .operands .now) (a .levels)) (a .places .now) (asked .1 .1)
           (c .before .before .before .before .before .before .before .before .before .before .before .before .before
           .before .before .before .lay-part .ensures)) .0,
     )
 
 pub lay-map-cast-t35 : (t : ℕ) → lay-map-lts.Need-cast-t35 (lay-map-claims t) (lay-map-at t) lay-map.Post
 lay-map-cast-t35 t c =
-    let a = c .before .before .before .before .before .before .before .before .before .before .before .before .before
-    .before .before .before .before .before .before .before .before .before .before .args in
+    let start = c .before .before .before .before .before .before .before .before .before .before .before .before
+    .before .before .before .before .before .before .before .before .before .before .before in
+    let a = start .args in
+    let asked = start .pre in
     omega (
       arith,
       (map-place (a .operands .now) (λ f. getD (a .results .now) f 0)
-          (tree-at (a .kinds .now) (a .operands .now) (a .levels)) (a .places .now)
-          (c .before .before .before .before .before .before .before .before .before .before .before .before .before
-          .before .before .before .before .before .before .before .before .before .before .pre .1 .1)
+          (tree-at (a .kinds .now) (a .operands .now) (a .levels)) (a .places .now) (asked .1 .1)
           (c .before .before .before .before .before .before .before .before .before .before .before .before .before
           .before .before .before .lay-part .ensures)) .0,
     )

@@ -339,24 +339,20 @@ lay-part-enum-told t c = search needs
 
 pub lay-part-add-t51 : (t : ℕ) → lay-part-lts.Need-add-t51 (lay-part-claims t) (lay-part-at t) lay-part.Post
 lay-part-add-t51 t c =
-    let a = c .before .before .before .before .before .before .before .args in
-    omega (
-      arith,
-      c .before .before .before .before .before .before .before .pre .1 .1 .nodes,
-      one-node (tree-at (a .kinds .now) (a .operands .now) (a .levels) (a .at)),
-    )
+    let start = c .before .before .before .before .before .before .before in
+    let a = start .args in
+    let asked = start .pre in
+    omega (arith, asked .1 .1 .nodes, one-node (tree-at (a .kinds .now) (a .operands .now) (a .levels) (a .at)))
 
 pub lay-part-enum-told-2 : (t : ℕ) → lay-part-lts.Need-enum-told-2 (lay-part-claims t) (lay-part-at t) lay-part.Post
 lay-part-enum-told-2 t c = search needs
 
 pub lay-part-add-t52 : (t : ℕ) → lay-part-lts.Need-add-t52 (lay-part-claims t) (lay-part-at t) lay-part.Post
 lay-part-add-t52 t c =
-    let a = c .before .before .before .before .before .before .before .args in
-    omega (
-      arith,
-      c .before .before .before .before .before .before .before .pre .1 .1 .nodes,
-      one-node (tree-at (a .kinds .now) (a .operands .now) (a .levels) (a .at)),
-    )
+    let start = c .before .before .before .before .before .before .before in
+    let a = start .args in
+    let asked = start .pre in
+    omega (arith, asked .1 .1 .nodes, one-node (tree-at (a .kinds .now) (a .operands .now) (a .levels) (a .at)))
 
 pub lay-part-returns-7 : (t : ℕ) → lay-part-lts.Need-returns-7 (lay-part-claims t) (lay-part-at t) lay-part.Post
 lay-part-returns-7 t c =

@@ -34,11 +34,9 @@ lay-tree-add-t18 t c = omega (
 
 pub lay-tree-returns : (t : ℕ) → lay-tree-lts.Need-returns (lay-tree-claims t) (lay-tree-at t) lay-tree.Post
 lay-tree-returns t c =
-    let a = c .before .before .before .before .before .before .before .before .before .before .args in
+    let start = c .before .before .before .before .before .before .before .before .before .before in
+    let a = start .args in
+    let asked = start .pre in
     tree-made (a .operands .now) (λ f. getD (a .results .now) f 0) (c .before .before .before .lay-part .ensures)
-    (record { is = c .before .lay-head .ensures }) (omega (
-      arith,
-      c .before .before .before .lay-part .ensures .reach,
-      c .before .before .before .before .before
-          .before .before .before .before .before .pre .1 .1 .rows,
-    ))
+    (record { is = c .before .lay-head .ensures })
+    (omega (arith, c .before .before .before .lay-part .ensures .reach, asked .1 .1 .rows))

@@ -26,15 +26,9 @@ walk-branch-put-releases-requires t c κs = lower (c .before .before .before .wa
 
 pub walk-branch-returns : (t : ℕ) → walk-branch-lts.Need-returns (walk-branch-claims t) (walk-branch-at t)
     walk-branch.Post
-walk-branch-returns t c = branch-done (sets-of (c .before .before .before .before .before .before .before .before
-    .before .before .before .before .args .table .now)) (depth-in (c .before .before .before .before .before .before
-    .before .before .before .before .before .before .args .depths .now)) (tree-to (plain (c .before .before .before
-    .before .before .before .before .before .before .before .before .before .args .operands .now) (c .before .before
-    .before .before .before .before .before .before .before .before .before .before .args .rows .now)
-    (c .before .before .before .before .before .before .before .before .before .before .before .before .args .notes
-    .now)) (c .before .before .before .before .before .before .before .before .before .before .before .before .args
-    .levels) (c .before .before .before .before .before .before .before .before .before .before .before .before
-    .args .e)) (set-of (c .before .before .before .before .before .before .before .before .before .before .before
-    .before .args .after)) (set-of (c .before .before .before .before .before .before .before .before .before
-    .before .before .before .args .used)) (c .before .before .before .before .walk-tree .result) (c .put-releases
-    .result) (c .before .before .before .before .walk-tree .ensures) (c .put-releases .ensures)
+walk-branch-returns t c =
+    let a = c .before .before .before .before .before .before .before .before .before .before .before .before .args in
+    branch-done (sets-of (a .table .now)) (depth-in (a .depths .now))
+    (tree-to (plain (a .operands .now) (a .rows .now) (a .notes .now)) (a .levels) (a .e)) (set-of (a .after))
+    (set-of (a .used)) (c .before .before .before .before .walk-tree .result) (c .put-releases .result)
+    (c .before .before .before .before .walk-tree .ensures) (c .put-releases .ensures)

@@ -58,51 +58,36 @@ walk-if-put-release-requires t c κs = search needs
 
 pub walk-if-walk-branch-requires : (t : ℕ) → walk-if-lts.Need-walk-branch-requires (walk-if-claims t) (walk-if-at t)
     walk-if.Post
-walk-if-walk-branch-requires t c κs = (
-  omega arith,
-  (
-    omega arith,
-    (
-      lower (c .before .before .put-release .ensures)
-          (c .before .before .before .before .before .before .before .before .before .before .before .before .before
-          .before .before .before .pre .1 .1 .0),
-      c .before .before .before .before .before .before .before .before
-          .before .before .before .before .before .before .before .before .pre .1 .1 .1,
-    ),
-  ),
-)
+walk-if-walk-branch-requires t c κs =
+    let asked = c .before .before .before .before .before .before .before .before .before .before .before .before
+    .before .before .before .before .pre in
+    (omega arith, (omega arith, (lower (c .before .before .put-release .ensures) (asked .1 .1 .0), asked .1 .1 .1)))
 
 pub walk-if-walk-branch-requires-2 : (t : ℕ) → walk-if-lts.Need-walk-branch-requires-2 (walk-if-claims t) (walk-if-at t)
     walk-if.Post
-walk-if-walk-branch-requires-2 t c κs = let h = start-le (c .before .before .before .before .before .before .before
-    .before .before .before .before .before .before .before .before .before .before .before .before .before .args
-    .notes .now) 4096 (c .before .before .before .before .before .before .before .before .before .before .before
-    .before .before .before .less-two .result) in let g = c .before .before .before .before .before .before .before
-    .before .before .before .before .before .before .first-row .ensures in (
-      omega (
-        arith,
-        c .before .before .before
-            .before .before .before .before .before .before .before .before .before .before .before .before .before .before
-            .before .before .before .pre .0,
-      ),
+walk-if-walk-branch-requires-2 t c κs =
+    let start = c .before .before .before .before .before .before .before .before .before .before .before .before
+    .before .before .before .before .before .before .before .before in
+    let a = start .args in
+    let asked = start .pre in
+    let h = start-le (a .notes .now) 4096 (c .before .before .before .before .before .before .before .before .before
+    .before .before .before .before .before .less-two .result) in
+    let g = c .before .before .before .before .before .before .before .before .before .before .before .before .before
+    .first-row .ensures in (
+      omega (arith, asked .0),
       (
         omega (
           arith,
-          c .before .before .before .before .before .before .before
-              .before .before .before .before .before .before .before .before .before .before .before .before .before .pre .1
-              .0,
+          asked .1 .0,
           c .before .before .before .before .before .before .before .before .before .before .before .before .before
               .before .less-two .ensures,
-          c .before .before .before .before .before .before .before .before .before .before
-              .before .before .less-two2 .ensures,
+          c .before .before .before .before .before .before .before .before .before .before .before .before .less-two2
+              .ensures,
         ),
         (
           lower (c .before .before .before .walk-branch .ensures .wrote)
-              (lower (c .before .before .before .before .before .before .put-release .ensures) (c .before .before .before
-              .before .before .before .before .before .before .before .before .before .before .before .before .before .before
-              .before .before .before .pre .1 .1 .0)),
-          c .before .before .before .before .before .before .before .before
-              .before .before .before .before .before .before .before .before .before .before .before .before .pre .1 .1 .1,
+              (lower (c .before .before .before .before .before .before .put-release .ensures) (asked .1 .1 .0)),
+          asked .1 .1 .1,
         ),
       ),
     )
@@ -131,51 +116,29 @@ pub walk-if-add-requires : (t : ℕ) → walk-if-lts.Need-add-requires (walk-if-
 walk-if-add-requires t c κs = search needs
 
 pub walk-if-returns : (t : ℕ) → walk-if-lts.Need-returns (walk-if-claims t) (walk-if-at t) walk-if.Post
-walk-if-returns t c = if-done (plain (c .before .before .before .before .before .before .before .before .before
-    .before .before .before .before .before .before .before .before .before .before .before .before .before .before
-    .before .before .before .before .before .before .before .args .operands .now) (c .before .before .before .before
-    .before .before .before .before .before .before .before .before .before .before .before .before .before .before
-    .before .before .before .before .before .before .before .before .before .before .before .before .args .rows
-    .now) (c .before .before .before .before .before .before .before .before .before .before .before .before .before
-    .before .before .before .before .before .before .before .before .before .before .before .before .before .before
-    .before .before .before .args .notes .now)) (tree-to (plain (c .before .before .before .before .before .before
-    .before .before .before .before .before .before .before .before .before .before .before .before .before .before
-    .before .before .before .before .before .before .before .before .before .before .args .operands .now)
+walk-if-returns t c =
+    let a = c .before .before .before .before .before .before .before .before .before .before .before .before .before
+    .before .before .before .before .before .before .before .before .before .before .before .before .before
+    .before .before .before .before .args in
+    let code = plain (a .operands .now) (a .rows .now) (a .notes .now) in
+    if-done code (tree-to code (a .levels)) (sets-of (a .table .now)) (depth-in (a .depths .now)) (a .q)
+    (set-of (a .after)) (a .x) (a .g) _ _ _ _ _ _
     (c .before .before .before .before .before .before .before .before .before .before .before .before .before
-    .before .before .before .before .before .before .before .before .before .before .before .before .before .before
-    .before .before .before .args .rows .now) (c .before .before .before .before .before .before .before .before
-    .before .before .before .before .before .before .before .before .before .before .before .before .before .before
-    .before .before .before .before .before .before .before .before .args .notes .now)) (c .before .before .before
-    .before .before .before .before .before .before .before .before .before .before .before .before .before .before
-    .before .before .before .before .before .before .before .before .before .before .before .before .before .args
-    .levels)) (sets-of (c .before .before .before .before .before .before .before .before .before .before .before
-    .before .before .before .before .before .before .before .before .before .before .before .before .before .before
-    .before .before .before .before .before .args .table .now)) (depth-in (c .before .before .before .before .before
-    .before .before .before .before .before .before .before .before .before .before .before .before .before .before
-    .before .before .before .before .before .before .before .before .before .before .before .args .depths .now))
+    .before .before .before .before .before .before .before .before .before .before .before .less-two .ensures)
     (c .before .before .before .before .before .before .before .before .before .before .before .before .before
-    .before .before .before .before .before .before .before .before .before .before .before .before .before .before
-    .before .before .before .args .q) (set-of (c .before .before .before .before .before .before .before .before
-    .before .before .before .before .before .before .before .before .before .before .before .before .before .before
-    .before .before .before .before .before .before .before .before .args .after)) (c .before .before .before
-    .before .before .before .before .before .before .before .before .before .before .before .before .before .before
-    .before .before .before .before .before .before .before .before .before .before .before .before .before .args
-    .x) (c .before .before .before .before .before .before .before .before .before .before .before .before .before
-    .before .before .before .before .before .before .before .before .before .before .before .before .before .before
-    .before .before .before .args .g) _ _ _ _ _ _ (c .before .before .before .before .before .before .before .before
-    .before .before .before .before .before .before .before .before .before .before .before .before .before .before
-    .before .before .less-two .ensures) (c .before .before .before .before .before .before .before .before .before
-    .before .before .before .before .before .before .before .before .before .before .before .before .before .before
-    .first-row .ensures) (c .before .before .before .before .before .before .before .before .before .before .before
-    .before .before .before .before .before .before .before .before .before .before .before .less-two2 .ensures)
+    .before .before .before .before .before .before .before .before .before .before .first-row .ensures)
     (c .before .before .before .before .before .before .before .before .before .before .before .before .before
-    .before .before .before .before .before .before .before .before .load .ensures) (c .before .before .before
-    .before .before .before .before .before .before .before .before .before .before .before .before .before .before
-    .before .before .before .load2 .ensures) (c .before .before .before .before .before .before .before .before
-    .before .before .before .before .before .before .before .before .before .before .before .without .ensures)
+    .before .before .before .before .before .before .before .before .before .less-two2 .ensures)
     (c .before .before .before .before .before .before .before .before .before .before .before .before .before
-    .before .before .before .put-release .ensures) (c .before .before .before .before .before .before .before
-    .before .before .before .before .before .before .walk-branch .ensures) (c .before .before .before .before
-    .before .before .before .before .before .walk-branch2 .ensures) (c .before .before .before .before .before
-    .put-atom .ensures) (c .before .before .put-row .ensures) _ (c .add .result) (c .before .joined .ensures)
-    (c .add .ensures)
+    .before .before .before .before .before .before .before .before .load .ensures)
+    (c .before .before .before .before .before .before .before .before .before .before .before .before .before
+    .before .before .before .before .before .before .before .load2 .ensures)
+    (c .before .before .before .before .before .before .before .before .before .before .before .before .before
+    .before .before .before .before .before .before .without .ensures)
+    (c .before .before .before .before .before .before .before .before .before .before .before .before .before
+    .before .before .before .put-release .ensures)
+    (c .before .before .before .before .before .before .before .before .before .before .before .before .before
+    .walk-branch .ensures)
+    (c .before .before .before .before .before .before .before .before .before .walk-branch2 .ensures)
+    (c .before .before .before .before .before .put-atom .ensures) (c .before .before .put-row .ensures) _
+    (c .add .result) (c .before .joined .ensures) (c .add .ensures)

@@ -53,28 +53,20 @@ walk-map-put-releases-requires t c κs = search needs
 
 pub walk-map-walk-tree-requires : (t : ℕ) → walk-map-lts.Need-walk-tree-requires (walk-map-claims t) (walk-map-at t)
     walk-map.Post
-walk-map-walk-tree-requires t c κs = (
-  omega (
-    arith,
-    c .before .before .before .before .before .before .before
-        .before .before .before .before .before .before .before .before .before .before .before .before .pre .0,
-  ),
-  (
-    omega (
-      arith,
-      c .before .before .before .before .before .before .before .before .before .before .before .before
-          .before .before .before .before .before .before .before .pre .1 .0,
-      c .before .before .before .before .before
-          .before .before .before .before .before .before .before .before .less-two .ensures,
-    ),
-    (
-      lower (c .before .before .put-releases .ensures) (c .before .before .before .before .before .before .before
-          .before .before .before .before .before .before .before .before .before .before .before .before .pre .1 .1 .0),
-      c .before .before .before .before .before .before .before .before .before .before .before .before .before
-          .before .before .before .before .before .before .pre .1 .1 .1,
-    ),
-  ),
-)
+walk-map-walk-tree-requires t c κs =
+    let asked = c .before .before .before .before .before .before .before .before .before .before .before .before
+    .before .before .before .before .before .before .before .pre in (
+      omega (arith, asked .0),
+      (
+        omega (
+          arith,
+          asked .1 .0,
+          c .before .before .before .before .before .before .before .before .before .before .before .before .before
+              .less-two .ensures,
+        ),
+        (lower (c .before .before .put-releases .ensures) (asked .1 .1 .0), asked .1 .1 .1),
+      ),
+    )
 
 pub walk-map-put-release-requires : (t : ℕ) → walk-map-lts.Need-put-release-requires (walk-map-claims t) (walk-map-at t)
     walk-map.Post
@@ -137,65 +129,40 @@ pub walk-map-add-requires-2 : (t : ℕ) →
 walk-map-add-requires-2 t c κs = search needs
 
 pub walk-map-returns : (t : ℕ) → walk-map-lts.Need-returns (walk-map-claims t) (walk-map-at t) walk-map.Post
-walk-map-returns t c = map-done (plain (c .before .before .before .before .before .before .before .before .before
-    .before .before .before .before .before .before .before .before .before .before .before .before .before .before
-    .before .before .before .before .before .before .before .before .before .before .before .args .operands .now)
+walk-map-returns t c =
+    let a = c .before .before .before .before .before .before .before .before .before .before .before .before .before
+    .before .before .before .before .before .before .before .before .before .before .before .before .before
+    .before .before .before .before .before .before .before .before .args in
+    let code = plain (a .operands .now) (a .rows .now) (a .notes .now) in
+    map-done code (tree-to code (a .levels)) (sets-of (a .table .now)) (depth-in (a .depths .now)) (a .q)
+    (set-of (a .after)) (a .x) (a .y) (a .a) _ _ _ _ _ _ _ _ _
     (c .before .before .before .before .before .before .before .before .before .before .before .before .before
-    .before .before .before .before .before .before .before .before .before .before .before .before .before .before
-    .before .before .before .before .before .before .before .args .rows .now) (c .before .before .before .before
-    .before .before .before .before .before .before .before .before .before .before .before .before .before .before
-    .before .before .before .before .before .before .before .before .before .before .before .before .before .before
-    .before .before .args .notes .now)) (tree-to (plain (c .before .before .before .before .before .before .before
-    .before .before .before .before .before .before .before .before .before .before .before .before .before .before
-    .before .before .before .before .before .before .before .before .before .before .before .before .before .args
-    .operands .now) (c .before .before .before .before .before .before .before .before .before .before .before
-    .before .before .before .before .before .before .before .before .before .before .before .before .before .before
-    .before .before .before .before .before .before .before .before .before .args .rows .now) (c .before .before
-    .before .before .before .before .before .before .before .before .before .before .before .before .before .before
-    .before .before .before .before .before .before .before .before .before .before .before .before .before .before
-    .before .before .before .before .args .notes .now)) (c .before .before .before .before .before .before .before
-    .before .before .before .before .before .before .before .before .before .before .before .before .before .before
-    .before .before .before .before .before .before .before .before .before .before .before .before .before .args
-    .levels)) (sets-of (c .before .before .before .before .before .before .before .before .before .before .before
-    .before .before .before .before .before .before .before .before .before .before .before .before .before .before
-    .before .before .before .before .before .before .before .before .before .args .table .now))
-    (depth-in (c .before .before .before .before .before .before .before .before .before .before .before .before
-    .before .before .before .before .before .before .before .before .before .before .before .before .before .before
-    .before .before .before .before .before .before .before .before .args .depths .now)) (c .before .before .before
-    .before .before .before .before .before .before .before .before .before .before .before .before .before .before
-    .before .before .before .before .before .before .before .before .before .before .before .before .before .before
-    .before .before .before .args .q) (set-of (c .before .before .before .before .before .before .before .before
-    .before .before .before .before .before .before .before .before .before .before .before .before .before .before
-    .before .before .before .before .before .before .before .before .before .before .before .before .args .after))
+    .before .before .before .before .before .before .before .before .before .before .before .before .before
+    .before .before .less-two .ensures)
     (c .before .before .before .before .before .before .before .before .before .before .before .before .before
-    .before .before .before .before .before .before .before .before .before .before .before .before .before .before
-    .before .before .before .before .before .before .before .args .x) (c .before .before .before .before .before
-    .before .before .before .before .before .before .before .before .before .before .before .before .before .before
-    .before .before .before .before .before .before .before .before .before .before .before .before .before .before
-    .before .args .y) (c .before .before .before .before .before .before .before .before .before .before .before
-    .before .before .before .before .before .before .before .before .before .before .before .before .before .before
-    .before .before .before .before .before .before .before .before .before .args .a) _ _ _ _ _ _ _ _ _
+    .before .before .before .before .before .before .before .before .before .before .before .before .before
+    .before .load .ensures)
     (c .before .before .before .before .before .before .before .before .before .before .before .before .before
-    .before .before .before .before .before .before .before .before .before .before .before .before .before .before
-    .before .less-two .ensures) (c .before .before .before .before .before .before .before .before .before .before
-    .before .before .before .before .before .before .before .before .before .before .before .before .before .before
-    .before .before .before .load .ensures) (c .before .before .before .before .before .before .before .before
-    .before .before .before .before .before .before .before .before .before .before .before .before .before .before
-    .before .before .before .before .without .ensures) (c .before .before .before .before .before .before .before
-    .before .before .before .before .before .before .before .before .before .before .before .before .before .before
-    .before .before .before .before .without2 .ensures) (c .before .before .before .before .before .before .before
-    .before .before .before .before .before .before .before .before .before .before .before .before .before .before
-    .before .before .before .joined .ensures) (c .before .before .before .before .before .before .before .before
-    .before .before .before .before .before .before .before .before .before .before .before .before .before .before
-    .before .none .ensures) (c .before .before .before .before .before .before .before .before .before .before
-    .before .before .before .before .before .before .before .before .before .before .before .before .with .ensures)
+    .before .before .before .before .before .before .before .before .before .before .before .before .before
+    .without .ensures)
     (c .before .before .before .before .before .before .before .before .before .before .before .before .before
-    .before .before .before .before .before .before .before .before .joined2 .ensures) (c .before .before .before
-    .before .before .before .before .before .before .before .before .before .before .before .before .before .before
-    .before .before .before .add .ensures) (c .before .before .before .before .before .before .before .before
-    .before .before .before .before .before .before .before .before .before .put-releases .ensures)
+    .before .before .before .before .before .before .before .before .before .before .before .before .without2
+    .ensures)
     (c .before .before .before .before .before .before .before .before .before .before .before .before .before
-    .before .walk-tree .ensures) (c .before .before .before .before .before .before .before .before .before .before
-    .put-release .ensures) (c .before .before .before .before .before .before .before .put-retain .ensures)
+    .before .before .before .before .before .before .before .before .before .before .before .joined .ensures)
+    (c .before .before .before .before .before .before .before .before .before .before .before .before .before
+    .before .before .before .before .before .before .before .before .before .before .none .ensures)
+    (c .before .before .before .before .before .before .before .before .before .before .before .before .before
+    .before .before .before .before .before .before .before .before .before .with .ensures)
+    (c .before .before .before .before .before .before .before .before .before .before .before .before .before
+    .before .before .before .before .before .before .before .before .joined2 .ensures)
+    (c .before .before .before .before .before .before .before .before .before .before .before .before .before
+    .before .before .before .before .before .before .before .add .ensures)
+    (c .before .before .before .before .before .before .before .before .before .before .before .before .before
+    .before .before .before .before .put-releases .ensures)
+    (c .before .before .before .before .before .before .before .before .before .before .before .before .before
+    .before .walk-tree .ensures)
+    (c .before .before .before .before .before .before .before .before .before .before .put-release .ensures)
+    (c .before .before .before .before .before .before .before .put-retain .ensures)
     (c .before .before .before .before .put-atom .ensures) (c .before .put-row .ensures) (c .add2 .result)
     (c .add2 .ensures)

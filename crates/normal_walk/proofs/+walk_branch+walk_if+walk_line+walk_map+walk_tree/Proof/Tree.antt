@@ -42,27 +42,16 @@ walk-tree-add-requires t c κs = search needs
 
 pub walk-tree-returns : (t : ℕ) → walk-tree-lts.Need-returns (walk-tree-claims t) (walk-tree-at t) walk-tree.Post
     walk-tree-Inv-loop walk-tree-μ-loop
-walk-tree-returns t c = none-done (plain (c .before .before .before .before .before .before .before .before .before
-    .before .before .before .args .operands .now) (c .before .before .before .before .before .before .before .before
-    .before .before .before .before .args .rows .now) (c .before .before .before .before .before .before .before
-    .before .before .before .before .before .args .notes .now)) (sets-of (c .before .before .before .before .before
-    .before .before .before .before .before .before .before .args .table .now)) (depth-in (c .before .before .before
-    .before .before .before .before .before .before .before .before .before .args .depths .now)) (c .before .before
-    .before .before .before .before .before .before .before .before .before .before .args .e) (c .before .before
-    .before .before .before .before .before .before .before .before .before .before .args .levels)
-    (set-of (c .before .before .before .before .before .before .before .before .before .before .before .before .args
-    .after)) (c .if1 .taken) (end-done (plain (c .before .before .before .before .before .before .before .before
-    .before .before .before .before .args .operands .now) (c .before .before .before .before .before .before .before
-    .before .before .before .before .before .args .rows .now) (c .before .before .before .before .before .before
-    .before .before .before .before .before .before .args .notes .now)) (sets-of (c .before .before .before .before
-    .before .before .before .before .before .before .before .before .args .table .now)) (depth-in (c .before .before
-    .before .before .before .before .before .before .before .before .before .before .args .depths .now))
-    (c .before .before .before .before .before .before .before .before .before .before .before .before .args .e)
-    (c .before .before .before .before .before .atom-of .result) (c .before .before .before .before .before .before
-    .row-at .result) (set-of (c .before .before .before .before .before .before .before .before .before .before
-    .before .before .args .after)) (c .before .before .before .before .before .before .row-at .ensures)
-    (c .before .before .before .before .before .atom-of .ensures) (c .before .add .ensures) (c .before .before
-    .put-end .ensures))
+walk-tree-returns t c =
+    let a = c .before .before .before .before .before .before .before .before .before .before .before .before .args in
+    let code = plain (a .operands .now) (a .rows .now) (a .notes .now) in
+    none-done code (sets-of (a .table .now)) (depth-in (a .depths .now)) (a .e) (a .levels) (set-of (a .after))
+    (c .if1 .taken) (end-done code (sets-of (a .table .now)) (depth-in (a .depths .now)) (a .e)
+    (c .before .before .before .before .before .atom-of .result)
+    (c .before .before .before .before .before .before .row-at .result) (set-of (a .after))
+    (c .before .before .before .before .before .before .row-at .ensures)
+    (c .before .before .before .before .before .atom-of .ensures) (c .before .add .ensures)
+    (c .before .before .put-end .ensures))
 
 pub walk-tree-loop-holds : (t : ℕ) → walk-tree-lts.Need-loop-holds (walk-tree-claims t) (walk-tree-at t) walk-tree.Post
     walk-tree-Inv-loop walk-tree-μ-loop
@@ -76,24 +65,20 @@ walk-tree-note-at-requires t c κs = search needs
 
 pub walk-tree-returns-2 : (t : ℕ) → walk-tree-lts.Need-returns-2 (walk-tree-claims t) (walk-tree-at t) walk-tree.Post
     walk-tree-Inv-loop walk-tree-μ-loop
-walk-tree-returns-2 t c = walk-stops (c .before .before .before .loop .inv) (c .before .note-at .result)
-    (set-of (c .before .before .before .before .before .before .before .before .before .before .before .before
-    .before .before .before .before .args .after)) (c .before .note-at .ensures) (c .if2 .taken)
-    (end-done (plain (c .before .before .before .before .before .before .before .before .before .before .before
-    .before .before .before .before .before .args .operands .now) (c .before .before .before .before .before .before
-    .before .before .before .before .before .before .before .before .before .before .args .rows .now)
-    (c .before .before .before .before .before .before .before .before .before .before .before .before .before
-    .before .before .before .args .notes .now)) (sets-of (c .before .before .before .before .before .before .before
-    .before .before .before .before .before .before .before .before .before .args .table .now))
-    (depth-in (c .before .before .before .before .before .before .before .before .before .before .before .before
-    .before .before .before .before .args .depths .now)) (c .before .before .before .before .before .before .before
-    .before .before .before .before .before .before .before .before .before .args .e) (c .before .before .before
-    .before .before .before .before .before .before .atom-of .result) (c .before .before .before .before .before
-    .before .before .before .before .before .row-at .result) (set-of (c .before .before .before .before .before
-    .before .before .before .before .before .before .before .before .before .before .before .args .after))
+walk-tree-returns-2 t c =
+    let a = c .before .before .before .before .before .before .before .before .before .before .before .before .before
+    .before .before .before .args in
+    walk-stops (c .before .before .before .loop .inv) (c .before .note-at .result) (set-of (a .after))
+    (c .before .note-at .ensures) (c .if2 .taken) (end-done
+    (plain (a .operands .now) (a .rows .now) (a .notes .now)) (sets-of (a .table .now))
+    (depth-in (a .depths .now)) (a .e)
+    (c .before .before .before .before .before .before .before .before .before .atom-of .result)
+    (c .before .before .before .before .before .before .before .before .before .before .row-at .result)
+    (set-of (a .after))
     (c .before .before .before .before .before .before .before .before .before .before .row-at .ensures)
-    (c .before .before .before .before .before .before .before .before .before .atom-of .ensures) (c .before .before
-    .before .before .before .add .ensures) (c .before .before .before .before .before .before .put-end .ensures))
+    (c .before .before .before .before .before .before .before .before .before .atom-of .ensures)
+    (c .before .before .before .before .before .add .ensures)
+    (c .before .before .before .before .before .before .put-end .ensures))
 
 pub walk-tree-line-at-requires : (t : ℕ) → walk-tree-lts.Need-line-at-requires (walk-tree-claims t) (walk-tree-at t)
     walk-tree.Post walk-tree-Inv-loop walk-tree-μ-loop
@@ -137,18 +122,14 @@ walk-tree-loop-again t c = walk-goes (c .before .before .before .before .before 
 
 pub walk-tree-returns-3 : (t : ℕ) → walk-tree-lts.Need-returns-3 (walk-tree-claims t) (walk-tree-at t) walk-tree.Post
     walk-tree-Inv-loop walk-tree-μ-loop
-walk-tree-returns-3 t c = walk-ends (c .before .loop .inv) (set-of (c .before .before .before .before .before
-    .before .before .before .before .before .before .before .before .before .args .after)) (c .loop-test .left)
-    (end-done (plain (c .before .before .before .before .before .before .before .before .before .before .before
-    .before .before .before .args .operands .now) (c .before .before .before .before .before .before .before .before
-    .before .before .before .before .before .before .args .rows .now) (c .before .before .before .before .before
-    .before .before .before .before .before .before .before .before .before .args .notes .now))
-    (sets-of (c .before .before .before .before .before .before .before .before .before .before .before .before
-    .before .before .args .table .now)) (depth-in (c .before .before .before .before .before .before .before .before
-    .before .before .before .before .before .before .args .depths .now)) (c .before .before .before .before .before
-    .before .before .before .before .before .before .before .before .before .args .e) (c .before .before .before
-    .before .before .before .before .atom-of .result) (c .before .before .before .before .before .before .before
-    .before .row-at .result) (set-of (c .before .before .before .before .before .before .before .before .before
-    .before .before .before .before .before .args .after)) (c .before .before .before .before .before .before
-    .before .before .row-at .ensures) (c .before .before .before .before .before .before .before .atom-of .ensures)
+walk-tree-returns-3 t c =
+    let a = c .before .before .before .before .before .before .before .before .before .before .before .before .before
+    .before .args in
+    walk-ends (c .before .loop .inv) (set-of (a .after)) (c .loop-test .left)
+    (end-done (plain (a .operands .now) (a .rows .now) (a .notes .now)) (sets-of (a .table .now))
+    (depth-in (a .depths .now)) (a .e)
+    (c .before .before .before .before .before .before .before .atom-of .result)
+    (c .before .before .before .before .before .before .before .before .row-at .result) (set-of (a .after))
+    (c .before .before .before .before .before .before .before .before .row-at .ensures)
+    (c .before .before .before .before .before .before .before .atom-of .ensures)
     (c .before .before .before .add .ensures) (c .before .before .before .before .put-end .ensures))
