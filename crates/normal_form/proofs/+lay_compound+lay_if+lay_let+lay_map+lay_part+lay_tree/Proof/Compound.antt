@@ -97,8 +97,8 @@ lay-compound-element-write-depths t c =
           (c .before .before .loop-test .left)) .0,
     )
 
-pub lay-compound-cast-lay-line : (t : ℕ) → lay-compound-lts.Need-cast-lay-line (lay-compound-claims t) (lay-compound-at
-    t) lay-compound.Post lay-compound-Inv-loop lay-compound-μ-loop
+pub lay-compound-cast-lay-line : (t : ℕ) → lay-compound-lts.Need-cast-lay-line (lay-compound-claims t)
+    (lay-compound-at t) lay-compound.Post lay-compound-Inv-loop lay-compound-μ-loop
 lay-compound-cast-lay-line t c =
     let start = c .before .before .before .before .before .before .before .before .before in
     let a = start .args in

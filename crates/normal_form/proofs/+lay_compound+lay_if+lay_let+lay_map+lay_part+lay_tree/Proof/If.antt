@@ -6,7 +6,6 @@ use Rattle.normal_made.specs.Source.{tree-at}
 use Rattle.normal_made.proofs.Members.{if-first, if-place, if-own, if-middle, if-other, if-end, if-laid}
 use borrow.Author.Needs.{needs}
 use Prim.Native.Nat.{ℕ}
-use borrow.Fn.PlainCycle.{is}
 use Rattle.normal_form.proofs.lay_if.Reads as lay-if
 use Rattle.normal_form.proofs.+lay_compound+lay_if+lay_let+lay_map+lay_part+lay_tree.Lts-lay_if as lay-if-lts
 use Rattle.normal_form.proofs.+lay_compound+lay_if+lay_let+lay_map+lay_part+lay_tree.Proof.Common.{lay-if-at}

@@ -6,7 +6,6 @@ use lib.ListN.{getD}
 use Rattle.normal_made.specs.Source.{tree-at}
 use Rattle.normal_made.proofs.Members.{given-bound, map-first, map-place, map-tree, map-end, map-deep, map-laid}
 use borrow.Author.Needs.{needs}
-use borrow.Fn.PlainCycle.{is}
 use Rattle.normal_form.proofs.lay_map.Reads as lay-map
 use Rattle.normal_form.proofs.+lay_compound+lay_if+lay_let+lay_map+lay_part+lay_tree.Lts-lay_map as lay-map-lts
 use Rattle.normal_form.proofs.+lay_compound+lay_if+lay_let+lay_map+lay_part+lay_tree.Proof.Common.{lay-map-at}

@@ -11,8 +11,8 @@ pub note-line-enum-known-l : (t : ℕ) → note-line-lts.Need-enum-known-l (note
     note-line.Post
 note-line-enum-known-l t c = search needs
 
-pub note-line-note-plain-requires : (t : ℕ) → note-line-lts.Need-note-plain-requires (note-line-claims t) (note-line-at
-    t) note-line.Post
+pub note-line-note-plain-requires : (t : ℕ) → note-line-lts.Need-note-plain-requires (note-line-claims t)
+    (note-line-at t) note-line.Post
 note-line-note-plain-requires t c κs = search needs
 
 pub note-line-enum-known-l-2 : (t : ℕ) → note-line-lts.Need-enum-known-l-2 (note-line-claims t) (note-line-at t)

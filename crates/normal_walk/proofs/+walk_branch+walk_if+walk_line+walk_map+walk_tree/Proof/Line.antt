@@ -104,8 +104,8 @@ pub walk-line-enum-known-l-5 : (t : ℕ) → walk-line-lts.Need-enum-known-l-5 (
     walk-line.Post
 walk-line-enum-known-l-5 t c = search needs
 
-pub walk-line-put-length-requires : (t : ℕ) → walk-line-lts.Need-put-length-requires (walk-line-claims t) (walk-line-at
-    t) walk-line.Post
+pub walk-line-put-length-requires : (t : ℕ) → walk-line-lts.Need-put-length-requires (walk-line-claims t)
+    (walk-line-at t) walk-line.Post
 walk-line-put-length-requires t c κs = search needs
 
 pub walk-line-before-line-requires-5 : (t : ℕ) → walk-line-lts.Need-before-line-requires-5 (walk-line-claims t)
