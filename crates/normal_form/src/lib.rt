@@ -32,8 +32,15 @@ pub fn lay_part(
     p: usize,
     levels: u64,
 ) -> Out
-    requires { ⌜ (Given (now kinds) (now operands) (now results) (now places)) × (Ready (state (now rows) (now notes) (now depths)) ((tree-at (now kinds) (now operands) levels) at) (at + size ((tree-at (now kinds) (now operands) levels) at)) n p) ⌝ }
-    ensures { λ r. ⌜ Made (now (operands .entry)) (λ f. getD (now (results .entry)) f 0) ((tree-at (now (kinds .entry)) (now (operands .entry)) levels) at) (meanings (now (operands .entry)) (now (places .entry))) (state (now (rows .entry)) (now (notes .entry)) (now (depths .entry))) (state (now (rows .exit)) (now (notes .exit)) (now (depths .exit))) n p levels (at + size ((tree-at (now (kinds .entry)) (now (operands .entry)) levels) at)) r ⌝ }
+    requires { ⌜ (Given (now kinds) (now operands) (now results) (now places))
+        × (Ready (state (now rows) (now notes) (now depths)) ((tree-at (now kinds) (now operands) levels) at)
+        (at + size ((tree-at (now kinds) (now operands) levels) at)) n p) ⌝ }
+    ensures { λ r. ⌜ Made (now (operands .entry)) (λ f. getD (now (results .entry)) f 0)
+        ((tree-at (now (kinds .entry)) (now (operands .entry)) levels) at)
+        (meanings (now (operands .entry)) (now (places .entry)))
+        (state (now (rows .entry)) (now (notes .entry)) (now (depths .entry)))
+        (state (now (rows .exit)) (now (notes .exit)) (now (depths .exit))) n p levels
+        (at + size ((tree-at (now (kinds .entry)) (now (operands .entry)) levels) at)) r ⌝ }
 {
     if levels == 0 {
         return Out {
@@ -161,8 +168,16 @@ fn lay_compound(
     levels: u64,
 ) -> Out
     requires { ⌜ Counted kind y m ⌝ }
-    requires { ⌜ (Given (now kinds) (now operands) (now results) (now places)) × (Ready (state (now rows) (now notes) (now depths)) (compound kind y (several (tree-at (now kinds) (now operands) levels) m at)) (at + sizes (several (tree-at (now kinds) (now operands) levels) m at)) n p) ⌝ }
-    ensures { λ r. ⌜ Made (now (operands .entry)) (λ f. getD (now (results .entry)) f 0) (compound kind y (several (tree-at (now (kinds .entry)) (now (operands .entry)) levels) m at)) (meanings (now (operands .entry)) (now (places .entry))) (state (now (rows .entry)) (now (notes .entry)) (now (depths .entry))) (state (now (rows .exit)) (now (notes .exit)) (now (depths .exit))) n p (levels + 1) (at + sizes (several (tree-at (now (kinds .entry)) (now (operands .entry)) levels) m at)) r ⌝ }
+    requires { ⌜ (Given (now kinds) (now operands) (now results) (now places))
+        × (Ready (state (now rows) (now notes) (now depths))
+        (compound kind y (several (tree-at (now kinds) (now operands) levels) m at))
+        (at + sizes (several (tree-at (now kinds) (now operands) levels) m at)) n p) ⌝ }
+    ensures { λ r. ⌜ Made (now (operands .entry)) (λ f. getD (now (results .entry)) f 0)
+        (compound kind y (several (tree-at (now (kinds .entry)) (now (operands .entry)) levels) m at))
+        (meanings (now (operands .entry)) (now (places .entry)))
+        (state (now (rows .entry)) (now (notes .entry)) (now (depths .entry)))
+        (state (now (rows .exit)) (now (notes .exit)) (now (depths .exit))) n p (levels + 1)
+        (at + sizes (several (tree-at (now (kinds .entry)) (now (operands .entry)) levels) m at)) r ⌝ }
 {
     let count = m as usize;
     let mut atoms = [0u16; 16];
@@ -216,8 +231,20 @@ fn lay_let(
     p: usize,
     levels: u64,
 ) -> Out
-    requires { ⌜ (Given (now kinds) (now operands) (now results) (now places)) × (Ready (state (now rows) (now notes) (now depths)) (let-from (tree-at (now kinds) (now operands) levels) x at) (at + size ((tree-at (now kinds) (now operands) levels) at) + size ((tree-at (now kinds) (now operands) levels) (at + size ((tree-at (now kinds) (now operands) levels) at)))) n p) ⌝ }
-    ensures { λ r. ⌜ Made (now (operands .entry)) (λ f. getD (now (results .entry)) f 0) (let-from (tree-at (now (kinds .entry)) (now (operands .entry)) levels) x at) (meanings (now (operands .entry)) (now (places .entry))) (state (now (rows .entry)) (now (notes .entry)) (now (depths .entry))) (state (now (rows .exit)) (now (notes .exit)) (now (depths .exit))) n p (levels + 1) (at + size ((tree-at (now (kinds .entry)) (now (operands .entry)) levels) at) + size ((tree-at (now (kinds .entry)) (now (operands .entry)) levels) (at + size ((tree-at (now (kinds .entry)) (now (operands .entry)) levels) at)))) r ⌝ }
+    requires { ⌜ (Given (now kinds) (now operands) (now results) (now places))
+        × (Ready (state (now rows) (now notes) (now depths))
+        (let-from (tree-at (now kinds) (now operands) levels) x at)
+        (at + size ((tree-at (now kinds) (now operands) levels) at)
+        + size ((tree-at (now kinds) (now operands) levels)
+        (at + size ((tree-at (now kinds) (now operands) levels) at)))) n p) ⌝ }
+    ensures { λ r. ⌜ Made (now (operands .entry)) (λ f. getD (now (results .entry)) f 0)
+        (let-from (tree-at (now (kinds .entry)) (now (operands .entry)) levels) x at)
+        (meanings (now (operands .entry)) (now (places .entry)))
+        (state (now (rows .entry)) (now (notes .entry)) (now (depths .entry)))
+        (state (now (rows .exit)) (now (notes .exit)) (now (depths .exit))) n p (levels + 1)
+        (at + size ((tree-at (now (kinds .entry)) (now (operands .entry)) levels) at)
+        + size ((tree-at (now (kinds .entry)) (now (operands .entry)) levels)
+        (at + size ((tree-at (now (kinds .entry)) (now (operands .entry)) levels) at)))) r ⌝ }
 {
     let first = lay_part(
         kinds,
@@ -262,8 +289,15 @@ pub fn lay_tree(
     p: usize,
     levels: u64,
 ) -> Out
-    requires { ⌜ (Given (now kinds) (now operands) (now results) (now places)) × (Ready (state (now rows) (now notes) (now depths)) ((tree-at (now kinds) (now operands) levels) at) (at + size ((tree-at (now kinds) (now operands) levels) at)) n p) ⌝ }
-    ensures { λ r. ⌜ TreeMade (now (operands .entry)) (λ f. getD (now (results .entry)) f 0) ((tree-at (now (kinds .entry)) (now (operands .entry)) levels) at) (meanings (now (operands .entry)) (now (places .entry))) (state (now (rows .entry)) (now (notes .entry)) (now (depths .entry))) (state (now (rows .exit)) (now (notes .exit)) (now (depths .exit))) n p levels (at + size ((tree-at (now (kinds .entry)) (now (operands .entry)) levels) at)) r ⌝ }
+    requires { ⌜ (Given (now kinds) (now operands) (now results) (now places))
+        × (Ready (state (now rows) (now notes) (now depths)) ((tree-at (now kinds) (now operands) levels) at)
+        (at + size ((tree-at (now kinds) (now operands) levels) at)) n p) ⌝ }
+    ensures { λ r. ⌜ TreeMade (now (operands .entry)) (λ f. getD (now (results .entry)) f 0)
+        ((tree-at (now (kinds .entry)) (now (operands .entry)) levels) at)
+        (meanings (now (operands .entry)) (now (places .entry)))
+        (state (now (rows .entry)) (now (notes .entry)) (now (depths .entry)))
+        (state (now (rows .exit)) (now (notes .exit)) (now (depths .exit))) n p levels
+        (at + size ((tree-at (now (kinds .entry)) (now (operands .entry)) levels) at)) r ⌝ }
 {
     let r = lay_part(
         kinds,
@@ -300,8 +334,27 @@ fn lay_if(
     p: usize,
     levels: u64,
 ) -> Out
-    requires { ⌜ (Given (now kinds) (now operands) (now results) (now places)) × (Ready (state (now rows) (now notes) (now depths)) (if-from (tree-at (now kinds) (now operands) levels) at) (at + size ((tree-at (now kinds) (now operands) levels) at) + size ((tree-at (now kinds) (now operands) levels) (at + size ((tree-at (now kinds) (now operands) levels) at))) + size ((tree-at (now kinds) (now operands) levels) (at + size ((tree-at (now kinds) (now operands) levels) at) + size ((tree-at (now kinds) (now operands) levels) (at + size ((tree-at (now kinds) (now operands) levels) at)))))) n p) ⌝ }
-    ensures { λ r. ⌜ Made (now (operands .entry)) (λ f. getD (now (results .entry)) f 0) (if-from (tree-at (now (kinds .entry)) (now (operands .entry)) levels) at) (meanings (now (operands .entry)) (now (places .entry))) (state (now (rows .entry)) (now (notes .entry)) (now (depths .entry))) (state (now (rows .exit)) (now (notes .exit)) (now (depths .exit))) n p (levels + 1) (at + size ((tree-at (now (kinds .entry)) (now (operands .entry)) levels) at) + size ((tree-at (now (kinds .entry)) (now (operands .entry)) levels) (at + size ((tree-at (now (kinds .entry)) (now (operands .entry)) levels) at))) + size ((tree-at (now (kinds .entry)) (now (operands .entry)) levels) (at + size ((tree-at (now (kinds .entry)) (now (operands .entry)) levels) at) + size ((tree-at (now (kinds .entry)) (now (operands .entry)) levels) (at + size ((tree-at (now (kinds .entry)) (now (operands .entry)) levels) at)))))) r ⌝ }
+    requires { ⌜ (Given (now kinds) (now operands) (now results) (now places))
+        × (Ready (state (now rows) (now notes) (now depths)) (if-from (tree-at (now kinds) (now operands) levels) at)
+        (at + size ((tree-at (now kinds) (now operands) levels) at)
+        + size ((tree-at (now kinds) (now operands) levels)
+        (at + size ((tree-at (now kinds) (now operands) levels) at)))
+        + size ((tree-at (now kinds) (now operands) levels)
+        (at + size ((tree-at (now kinds) (now operands) levels) at)
+        + size ((tree-at (now kinds) (now operands) levels)
+        (at + size ((tree-at (now kinds) (now operands) levels) at)))))) n p) ⌝ }
+    ensures { λ r. ⌜ Made (now (operands .entry)) (λ f. getD (now (results .entry)) f 0)
+        (if-from (tree-at (now (kinds .entry)) (now (operands .entry)) levels) at)
+        (meanings (now (operands .entry)) (now (places .entry)))
+        (state (now (rows .entry)) (now (notes .entry)) (now (depths .entry)))
+        (state (now (rows .exit)) (now (notes .exit)) (now (depths .exit))) n p (levels + 1)
+        (at + size ((tree-at (now (kinds .entry)) (now (operands .entry)) levels) at)
+        + size ((tree-at (now (kinds .entry)) (now (operands .entry)) levels)
+        (at + size ((tree-at (now (kinds .entry)) (now (operands .entry)) levels) at)))
+        + size ((tree-at (now (kinds .entry)) (now (operands .entry)) levels)
+        (at + size ((tree-at (now (kinds .entry)) (now (operands .entry)) levels) at)
+        + size ((tree-at (now (kinds .entry)) (now (operands .entry)) levels)
+        (at + size ((tree-at (now (kinds .entry)) (now (operands .entry)) levels) at)))))) r ⌝ }
 {
     let guard = lay_part(
         kinds,
@@ -374,8 +427,20 @@ fn lay_map(
     p: usize,
     levels: u64,
 ) -> Out
-    requires { ⌜ (Given (now kinds) (now operands) (now results) (now places)) × (Ready (state (now rows) (now notes) (now depths)) (map-from (tree-at (now kinds) (now operands) levels) y at) (at + size ((tree-at (now kinds) (now operands) levels) at) + size ((tree-at (now kinds) (now operands) levels) (at + size ((tree-at (now kinds) (now operands) levels) at)))) n p) ⌝ }
-    ensures { λ r. ⌜ Made (now (operands .entry)) (λ f. getD (now (results .entry)) f 0) (map-from (tree-at (now (kinds .entry)) (now (operands .entry)) levels) y at) (meanings (now (operands .entry)) (now (places .entry))) (state (now (rows .entry)) (now (notes .entry)) (now (depths .entry))) (state (now (rows .exit)) (now (notes .exit)) (now (depths .exit))) n p (levels + 1) (at + size ((tree-at (now (kinds .entry)) (now (operands .entry)) levels) at) + size ((tree-at (now (kinds .entry)) (now (operands .entry)) levels) (at + size ((tree-at (now (kinds .entry)) (now (operands .entry)) levels) at)))) r ⌝ }
+    requires { ⌜ (Given (now kinds) (now operands) (now results) (now places))
+        × (Ready (state (now rows) (now notes) (now depths))
+        (map-from (tree-at (now kinds) (now operands) levels) y at)
+        (at + size ((tree-at (now kinds) (now operands) levels) at)
+        + size ((tree-at (now kinds) (now operands) levels)
+        (at + size ((tree-at (now kinds) (now operands) levels) at)))) n p) ⌝ }
+    ensures { λ r. ⌜ Made (now (operands .entry)) (λ f. getD (now (results .entry)) f 0)
+        (map-from (tree-at (now (kinds .entry)) (now (operands .entry)) levels) y at)
+        (meanings (now (operands .entry)) (now (places .entry)))
+        (state (now (rows .entry)) (now (notes .entry)) (now (depths .entry)))
+        (state (now (rows .exit)) (now (notes .exit)) (now (depths .exit))) n p (levels + 1)
+        (at + size ((tree-at (now (kinds .entry)) (now (operands .entry)) levels) at)
+        + size ((tree-at (now (kinds .entry)) (now (operands .entry)) levels)
+        (at + size ((tree-at (now (kinds .entry)) (now (operands .entry)) levels) at)))) r ⌝ }
 {
     let array = lay_part(
         kinds,

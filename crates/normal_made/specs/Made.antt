@@ -56,7 +56,8 @@ pub record Given (kinds operands results places : List ℕ) : Type 0 where
 
 -- a line without trees: at most 16 parts, and a second number in range
 pub record Counted (kind y m : ℕ) : Type 0 where
-  pub plain : (kind ≡ 8) ⊎ ((kind ≡ 9) ⊎ (((kind ≡ 11) × (m ≡ 1)) ⊎ (((kind ≡ 10) × (m ≡ 2)) ⊎ ((kind ≤ 6) × ((4 ≤ kind) × (m ≡ 2))))))
+  pub plain : (kind ≡ 8) ⊎ ((kind ≡ 9) ⊎ (((kind ≡ 11) × (m ≡ 1))
+      ⊎ (((kind ≡ 10) × (m ≡ 2)) ⊎ ((kind ≤ 6) × ((4 ≤ kind) × (m ≡ 2))))))
   pub parts : m ≤ 16
   pub second : y < 255
   pub depth : kind ≡ 9 → y ≤ 3
@@ -84,7 +85,8 @@ module _ (w : List ℕ) (results : ℕ → ℕ) where
     pub width : ℕ
     pub thin : p + width ≤ r .p
     pub chains : (F : Plain) → F .operands ≡ w → Agrees Y F p (r .p) (r .p) → Chains F p (r .p) width d₀ (λ t. lines e μ n t)
-    pub depths : (k : Tree) → tree-depths results (lines e μ n k) (depth-in (X .depths)) ≡ tree-depths results k (depth-in (Y .depths))
+    pub depths : (k : Tree) →
+        tree-depths results (lines e μ n k) (depth-in (X .depths)) ≡ tree-depths results k (depth-in (Y .depths))
 
   -- a tree from row p on, closed by its end line
   pub record TreeMade (e : Expr) (μ : Meanings) (X Y : State) (n p d₀ last : ℕ) (r : Out) : Type 0 where

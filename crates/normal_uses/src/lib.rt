@@ -134,7 +134,8 @@ fn bit_of(b: u8, k: usize) -> bool
 // Stores a set.
 fn store(table: &mut [u8; 16384], slot: usize, s: [bool; 256])
     requires { ⌜ (slot < 512) × (length (now table) ≡ 16384) ⌝ }
-    ensures { λ _. ⌜ (sets-of (now (table .exit)) ≡ updated (sets-of (now (table .entry))) slot (set-of s)) × (length (now (table .exit)) ≡ 16384) ⌝ }
+    ensures { λ _. ⌜ (sets-of (now (table .exit)) ≡ updated (sets-of (now (table .entry))) slot (set-of s))
+        × (length (now (table .exit)) ≡ 16384) ⌝ }
 {
     let mut i: usize = 0;
     while i < 32 {
@@ -169,7 +170,9 @@ pub fn note_tree(
     levels: u64,
 ) -> Effect
     requires { ⌜ (e ≤ 4096) × (length (now table) ≡ 16384) ⌝ }
-    ensures { λ r. ⌜ TreeNoted (tree-to (plain (now (operands .entry)) (now (rows .entry)) (now (notes .entry))) levels e) (now (table .entry)) (now (table .exit)) r ⌝ }
+    ensures { λ r. ⌜ TreeNoted
+        (tree-to (plain (now (operands .entry)) (now (rows .entry)) (now (notes .entry))) levels e)
+        (now (table .entry)) (now (table .exit)) r ⌝ }
     ensures { λ _. ⌜ length (now (table .exit)) ≡ 16384 ⌝ }
 {
     let place = normal_code::row_at(rows, e + 1);
@@ -223,7 +226,10 @@ fn note_line(
     levels: u64,
 ) -> Effect
     requires { ⌜ ((p < 4096) × (q ≤ 4096)) × (length (now table) ≡ 16384) ⌝ }
-    ensures { λ r. ⌜ LineNoted (as-line (plain (now (operands .entry)) (now (rows .entry)) (now (notes .entry))) (tree-to (plain (now (operands .entry)) (now (rows .entry)) (now (notes .entry))) levels) p q l) (set-of uses) (set-of binds) (now (table .entry)) (now (table .exit)) r ⌝ }
+    ensures { λ r. ⌜ LineNoted
+        (as-line (plain (now (operands .entry)) (now (rows .entry)) (now (notes .entry)))
+        (tree-to (plain (now (operands .entry)) (now (rows .entry)) (now (notes .entry))) levels) p q l)
+        (set-of uses) (set-of binds) (now (table .entry)) (now (table .exit)) r ⌝ }
     ensures { λ _. ⌜ length (now (table .exit)) ≡ 16384 ⌝ }
 {
     match l {
@@ -260,7 +266,8 @@ fn note_plain(
     binds: [bool; 256],
 ) -> Effect
     requires { ⌜ p < 4096 ⌝ }
-    ensures { λ r. ⌜ (set-of (r .uses) ≡ line-uses (now (operands .entry)) (now (rows .entry)) p l (set-of uses)) × (set-of (r .binds) ≡ only x ∪ set-of binds) ⌝ }
+    ensures { λ r. ⌜ (set-of (r .uses) ≡ line-uses (now (operands .entry)) (now (rows .entry)) p l (set-of uses))
+        × (set-of (r .binds) ≡ only x ∪ set-of binds) ⌝ }
 {
     let u = before_line(operands, rows, l, p, uses);
     let b = normal_code::with(binds, x);
@@ -281,7 +288,10 @@ fn note_if(
     levels: u64,
 ) -> Effect
     requires { ⌜ (q ≤ 4096) × (length (now table) ≡ 16384) ⌝ }
-    ensures { λ r. ⌜ LineNoted (as-line (plain (now (operands .entry)) (now (rows .entry)) (now (notes .entry))) (tree-to (plain (now (operands .entry)) (now (rows .entry)) (now (notes .entry))) levels) 0 q (If x g)) (set-of uses) (set-of binds) (now (table .entry)) (now (table .exit)) r ⌝ }
+    ensures { λ r. ⌜ LineNoted
+        (as-line (plain (now (operands .entry)) (now (rows .entry)) (now (notes .entry)))
+        (tree-to (plain (now (operands .entry)) (now (rows .entry)) (now (notes .entry))) levels) 0 q (If x g))
+        (set-of uses) (set-of binds) (now (table .entry)) (now (table .exit)) r ⌝ }
     ensures { λ _. ⌜ length (now (table .exit)) ≡ 16384 ⌝ }
 {
     let e = less_two(q);
@@ -323,7 +333,10 @@ fn note_map(
     levels: u64,
 ) -> Effect
     requires { ⌜ (q ≤ 4096) × (length (now table) ≡ 16384) ⌝ }
-    ensures { λ r. ⌜ LineNoted (as-line (plain (now (operands .entry)) (now (rows .entry)) (now (notes .entry))) (tree-to (plain (now (operands .entry)) (now (rows .entry)) (now (notes .entry))) levels) 0 q (Map x y a)) (set-of uses) (set-of binds) (now (table .entry)) (now (table .exit)) r ⌝ }
+    ensures { λ r. ⌜ LineNoted
+        (as-line (plain (now (operands .entry)) (now (rows .entry)) (now (notes .entry)))
+        (tree-to (plain (now (operands .entry)) (now (rows .entry)) (now (notes .entry))) levels) 0 q (Map x y a))
+        (set-of uses) (set-of binds) (now (table .entry)) (now (table .exit)) r ⌝ }
     ensures { λ _. ⌜ length (now (table .exit)) ≡ 16384 ⌝ }
 {
     let e = less_two(q);

@@ -68,6 +68,7 @@ module _ (U : Sets) where
       part (release x) A = line-rows (release x)
 
 -- what a walk leaves: the set that is live before, and the rows
-pub record Done (S : Set) (rs : List Row) (k : List ℕ) (o : List ℤ) (k′ : List ℕ) (o′ : List ℤ) (w : ℕ) (r : Walked) : Type 0 where
+pub record Done (S : Set) (rs : List Row) (k : List ℕ) (o : List ℤ) (k′ : List ℕ) (o′ : List ℤ) (w : ℕ) (r : Walked)
+    : Type 0 where
   pub seen : set-of (r .names) ≡ S
   pub wrote : Wrote k o k′ o′ w (r .at) rs

@@ -33,7 +33,12 @@ pub fn walk_tree(
     w: usize,
 ) -> Walked
     requires { ⌜ (e ≤ 4096) × ((w ≤ 4097) × (length (now table) ≡ 16384)) ⌝ }
-    ensures { λ r. ⌜ Done (lives (sets-of (now (table .entry))) (tree-to (plain (now (operands .entry)) (now (rows .entry)) (now (notes .entry))) levels e) (set-of after)) (walked (sets-of (now (table .entry))) (depth-in (now (depths .entry))) (tree-to (plain (now (operands .entry)) (now (rows .entry)) (now (notes .entry))) levels e) (set-of after)) (now (ks .entry)) (now (os .entry)) (now (ks .exit)) (now (os .exit)) w r ⌝ }
+    ensures { λ r. ⌜ Done
+        (lives (sets-of (now (table .entry)))
+        (tree-to (plain (now (operands .entry)) (now (rows .entry)) (now (notes .entry))) levels e) (set-of after))
+        (walked (sets-of (now (table .entry))) (depth-in (now (depths .entry)))
+        (tree-to (plain (now (operands .entry)) (now (rows .entry)) (now (notes .entry))) levels e) (set-of after))
+        (now (ks .entry)) (now (os .entry)) (now (ks .exit)) (now (os .exit)) w r ⌝ }
 {
     let place = normal_code::row_at(rows, e + 1);
     let a = normal_code::atom_of(operands, place);
@@ -91,7 +96,15 @@ fn walk_line(
     w: usize,
 ) -> Walked
     requires { ⌜ ((p < 4096) × (q ≤ 4096)) × ((w ≤ 4097) × (length (now table) ≡ 16384)) ⌝ }
-    ensures { λ r. ⌜ Done (before (sets-of (now (table .entry))) (as-line (plain (now (operands .entry)) (now (rows .entry)) (now (notes .entry))) (tree-to (plain (now (operands .entry)) (now (rows .entry)) (now (notes .entry))) levels) p q l) (set-of after)) (part (sets-of (now (table .entry))) (depth-in (now (depths .entry))) (as-line (plain (now (operands .entry)) (now (rows .entry)) (now (notes .entry))) (tree-to (plain (now (operands .entry)) (now (rows .entry)) (now (notes .entry))) levels) p q l) (set-of after)) (now (ks .entry)) (now (os .entry)) (now (ks .exit)) (now (os .exit)) w r ⌝ }
+    ensures { λ r. ⌜ Done
+        (before (sets-of (now (table .entry)))
+        (as-line (plain (now (operands .entry)) (now (rows .entry)) (now (notes .entry)))
+        (tree-to (plain (now (operands .entry)) (now (rows .entry)) (now (notes .entry))) levels) p q l)
+        (set-of after))
+        (part (sets-of (now (table .entry))) (depth-in (now (depths .entry)))
+        (as-line (plain (now (operands .entry)) (now (rows .entry)) (now (notes .entry)))
+        (tree-to (plain (now (operands .entry)) (now (rows .entry)) (now (notes .entry))) levels) p q l)
+        (set-of after)) (now (ks .entry)) (now (os .entry)) (now (ks .exit)) (now (os .exit)) w r ⌝ }
 {
     match l {
         Line::Operation(x, kind, a, b) => {
@@ -197,7 +210,16 @@ fn walk_branch(
     w: usize,
 ) -> Walked
     requires { ⌜ (e ≤ 4096) × ((w ≤ 4097) × (length (now table) ≡ 16384)) ⌝ }
-    ensures { λ r. ⌜ Done (lives (sets-of (now (table .entry))) (tree-to (plain (now (operands .entry)) (now (rows .entry)) (now (notes .entry))) levels e) (set-of after)) (release-rows (dying (depth-in (now (depths .entry))) (set-of used) (lives (sets-of (now (table .entry))) (tree-to (plain (now (operands .entry)) (now (rows .entry)) (now (notes .entry))) levels e) (set-of after))) ++ walked (sets-of (now (table .entry))) (depth-in (now (depths .entry))) (tree-to (plain (now (operands .entry)) (now (rows .entry)) (now (notes .entry))) levels e) (set-of after)) (now (ks .entry)) (now (os .entry)) (now (ks .exit)) (now (os .exit)) w r ⌝ }
+    ensures { λ r. ⌜ Done
+        (lives (sets-of (now (table .entry)))
+        (tree-to (plain (now (operands .entry)) (now (rows .entry)) (now (notes .entry))) levels e) (set-of after))
+        (release-rows (dying (depth-in (now (depths .entry))) (set-of used)
+        (lives (sets-of (now (table .entry)))
+        (tree-to (plain (now (operands .entry)) (now (rows .entry)) (now (notes .entry))) levels e)
+        (set-of after)))
+        ++ walked (sets-of (now (table .entry))) (depth-in (now (depths .entry)))
+        (tree-to (plain (now (operands .entry)) (now (rows .entry)) (now (notes .entry))) levels e)
+        (set-of after)) (now (ks .entry)) (now (os .entry)) (now (ks .exit)) (now (os .exit)) w r ⌝ }
 {
     let r = walk_tree(
         ks,
@@ -235,7 +257,15 @@ fn walk_if(
     w: usize,
 ) -> Walked
     requires { ⌜ (q ≤ 4096) × ((w ≤ 4097) × (length (now table) ≡ 16384)) ⌝ }
-    ensures { λ r. ⌜ Done (before (sets-of (now (table .entry))) (as-line (plain (now (operands .entry)) (now (rows .entry)) (now (notes .entry))) (tree-to (plain (now (operands .entry)) (now (rows .entry)) (now (notes .entry))) levels) 0 q (If x g)) (set-of after)) (part (sets-of (now (table .entry))) (depth-in (now (depths .entry))) (as-line (plain (now (operands .entry)) (now (rows .entry)) (now (notes .entry))) (tree-to (plain (now (operands .entry)) (now (rows .entry)) (now (notes .entry))) levels) 0 q (If x g)) (set-of after)) (now (ks .entry)) (now (os .entry)) (now (ks .exit)) (now (os .exit)) w r ⌝ }
+    ensures { λ r. ⌜ Done
+        (before (sets-of (now (table .entry)))
+        (as-line (plain (now (operands .entry)) (now (rows .entry)) (now (notes .entry)))
+        (tree-to (plain (now (operands .entry)) (now (rows .entry)) (now (notes .entry))) levels) 0 q (If x g))
+        (set-of after))
+        (part (sets-of (now (table .entry))) (depth-in (now (depths .entry)))
+        (as-line (plain (now (operands .entry)) (now (rows .entry)) (now (notes .entry)))
+        (tree-to (plain (now (operands .entry)) (now (rows .entry)) (now (notes .entry))) levels) 0 q (If x g))
+        (set-of after)) (now (ks .entry)) (now (os .entry)) (now (ks .exit)) (now (os .exit)) w r ⌝ }
 {
     let e = normal_uses::less_two(q);
     let f = normal_uses::first_row(notes, e);
@@ -302,7 +332,15 @@ fn walk_map(
     w: usize,
 ) -> Walked
     requires { ⌜ (q ≤ 4096) × ((w ≤ 4097) × (length (now table) ≡ 16384)) ⌝ }
-    ensures { λ r. ⌜ Done (before (sets-of (now (table .entry))) (as-line (plain (now (operands .entry)) (now (rows .entry)) (now (notes .entry))) (tree-to (plain (now (operands .entry)) (now (rows .entry)) (now (notes .entry))) levels) 0 q (Map x y a)) (set-of after)) (part (sets-of (now (table .entry))) (depth-in (now (depths .entry))) (as-line (plain (now (operands .entry)) (now (rows .entry)) (now (notes .entry))) (tree-to (plain (now (operands .entry)) (now (rows .entry)) (now (notes .entry))) levels) 0 q (Map x y a)) (set-of after)) (now (ks .entry)) (now (os .entry)) (now (ks .exit)) (now (os .exit)) w r ⌝ }
+    ensures { λ r. ⌜ Done
+        (before (sets-of (now (table .entry)))
+        (as-line (plain (now (operands .entry)) (now (rows .entry)) (now (notes .entry)))
+        (tree-to (plain (now (operands .entry)) (now (rows .entry)) (now (notes .entry))) levels) 0 q (Map x y a))
+        (set-of after))
+        (part (sets-of (now (table .entry))) (depth-in (now (depths .entry)))
+        (as-line (plain (now (operands .entry)) (now (rows .entry)) (now (notes .entry)))
+        (tree-to (plain (now (operands .entry)) (now (rows .entry)) (now (notes .entry))) levels) 0 q (Map x y a))
+        (set-of after)) (now (ks .entry)) (now (os .entry)) (now (ks .exit)) (now (os .exit)) w r ⌝ }
 {
     let e = normal_uses::less_two(q);
     let n = x as usize;

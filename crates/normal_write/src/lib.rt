@@ -25,7 +25,8 @@ fn less_one(w: usize) -> usize
 // Writes a row before place w; the answer is its place.
 fn put_back(ks: &mut [u8; 4097], os: &mut [i64; 4097], w: usize, kind: u8, operand: i64) -> usize
     requires { ⌜ w ≤ 4097 ⌝ }
-    ensures { λ r. ⌜ Wrote (now (ks .entry)) (now (os .entry)) (now (ks .exit)) (now (os .exit)) w r (record { kind = kind; operand = operand } ∷ []) ⌝ }
+    ensures { λ r. ⌜ Wrote (now (ks .entry)) (now (os .entry)) (now (ks .exit)) (now (os .exit)) w r
+        (record { kind = kind; operand = operand } ∷ []) ⌝ }
 {
     let i = less_one(w);
     ks[i] = kind;
@@ -68,7 +69,8 @@ fn release_one(
     w: usize,
 ) -> usize
     requires { ⌜ (x < 256) × (w ≤ 4097) ⌝ }
-    ensures { λ r. ⌜ Wrote (now (ks .entry)) (now (os .entry)) (now (ks .exit)) (now (os .exit)) w r (release-rows (with-if (used && (ltb 0 (depth-in (now (depths .entry)) x) && not live)) x [])) ⌝ }
+    ensures { λ r. ⌜ Wrote (now (ks .entry)) (now (os .entry)) (now (ks .exit)) (now (os .exit)) w r
+        (release-rows (with-if (used && (ltb 0 (depth-in (now (depths .entry)) x) && not live)) x [])) ⌝ }
 {
     if used {
         let d = depth_at(depths, x);
@@ -93,7 +95,8 @@ pub fn put_releases(
     w: usize,
 ) -> usize
     requires { ⌜ w ≤ 4097 ⌝ }
-    ensures { λ r. ⌜ Wrote (now (ks .entry)) (now (os .entry)) (now (ks .exit)) (now (os .exit)) w r (release-rows (dying (depth-in (now (depths .entry))) (set-of used) (set-of live))) ⌝ }
+    ensures { λ r. ⌜ Wrote (now (ks .entry)) (now (os .entry)) (now (ks .exit)) (now (os .exit)) w r
+        (release-rows (dying (depth-in (now (depths .entry))) (set-of used) (set-of live))) ⌝ }
 {
     let mut at = w;
     let mut i: usize = 256;
@@ -117,7 +120,8 @@ pub fn put_release(
     w: usize,
 ) -> usize
     requires { ⌜ w ≤ 4097 ⌝ }
-    ensures { λ r. ⌜ Wrote (now (ks .entry)) (now (os .entry)) (now (ks .exit)) (now (os .exit)) w r (release-rows (dying (depth-in (now (depths .entry))) (only x) (set-of live))) ⌝ }
+    ensures { λ r. ⌜ Wrote (now (ks .entry)) (now (os .entry)) (now (ks .exit)) (now (os .exit)) w r
+        (release-rows (dying (depth-in (now (depths .entry))) (only x) (set-of live))) ⌝ }
 {
     let i = x as usize;
     let l = live[i];
@@ -134,7 +138,8 @@ fn release_atom(
     w: usize,
 ) -> usize
     requires { ⌜ w ≤ 4097 ⌝ }
-    ensures { λ r. ⌜ Wrote (now (ks .entry)) (now (os .entry)) (now (ks .exit)) (now (os .exit)) w r (release-rows (dying (depth-in (now (depths .entry))) (is (meant a)) (set-of live))) ⌝ }
+    ensures { λ r. ⌜ Wrote (now (ks .entry)) (now (os .entry)) (now (ks .exit)) (now (os .exit)) w r
+        (release-rows (dying (depth-in (now (depths .entry))) (is (meant a)) (set-of live))) ⌝ }
 {
     match a {
         Atom::Number(_) => w,
@@ -151,7 +156,8 @@ pub fn put_retain(
     w: usize,
 ) -> usize
     requires { ⌜ w ≤ 4097 ⌝ }
-    ensures { λ r. ⌜ Wrote (now (ks .entry)) (now (os .entry)) (now (ks .exit)) (now (os .exit)) w r (retain-rows (with-if (ltb 0 (depth-in (now (depths .entry)) x)) x [])) ⌝ }
+    ensures { λ r. ⌜ Wrote (now (ks .entry)) (now (os .entry)) (now (ks .exit)) (now (os .exit)) w r
+        (retain-rows (with-if (ltb 0 (depth-in (now (depths .entry)) x)) x [])) ⌝ }
 {
     let d = depth_at(depths, x as usize);
     if 0 < d {
@@ -170,7 +176,8 @@ fn retain_atom(
     w: usize,
 ) -> usize
     requires { ⌜ w ≤ 4097 ⌝ }
-    ensures { λ r. ⌜ Wrote (now (ks .entry)) (now (os .entry)) (now (ks .exit)) (now (os .exit)) w r (retain-rows (handed-one (depth-in (now (depths .entry))) (meant a) (set-of later))) ⌝ }
+    ensures { λ r. ⌜ Wrote (now (ks .entry)) (now (os .entry)) (now (ks .exit)) (now (os .exit)) w r
+        (retain-rows (handed-one (depth-in (now (depths .entry))) (meant a) (set-of later))) ⌝ }
 {
     match a {
         Atom::Number(_) => w,
@@ -196,7 +203,9 @@ fn put_retains(
     w: usize,
 ) -> usize
     requires { ⌜ (at ≤ 4096) × (w ≤ 4097) ⌝ }
-    ensures { λ r. ⌜ Wrote (now (ks .entry)) (now (os .entry)) (now (ks .exit)) (now (os .exit)) w r (retain-rows (handed-again (depth-in (now (depths .entry))) (atoms-at (now (operands .entry)) (now (rows .entry)) at m) (set-of live))) ⌝ }
+    ensures { λ r. ⌜ Wrote (now (ks .entry)) (now (os .entry)) (now (ks .exit)) (now (os .exit)) w r
+        (retain-rows (handed-again (depth-in (now (depths .entry)))
+        (atoms-at (now (operands .entry)) (now (rows .entry)) at m) (set-of live))) ⌝ }
 {
     let mut later = live;
     let mut v = w;
@@ -224,7 +233,8 @@ fn put_atoms(
     w: usize,
 ) -> usize
     requires { ⌜ (at ≤ 4096) × (w ≤ 4097) ⌝ }
-    ensures { λ r. ⌜ Wrote (now (ks .entry)) (now (os .entry)) (now (ks .exit)) (now (os .exit)) w r (map atom-row (atoms-at (now (operands .entry)) (now (rows .entry)) at m)) ⌝ }
+    ensures { λ r. ⌜ Wrote (now (ks .entry)) (now (os .entry)) (now (ks .exit)) (now (os .exit)) w r
+        (map atom-row (atoms-at (now (operands .entry)) (now (rows .entry)) at m)) ⌝ }
 {
     let mut v = w;
     let mut i = m as usize;
@@ -258,7 +268,8 @@ pub fn put_operation(
     w: usize,
 ) -> usize
     requires { ⌜ w ≤ 4097 ⌝ }
-    ensures { λ r. ⌜ Wrote (now (ks .entry)) (now (os .entry)) (now (ks .exit)) (now (os .exit)) w r (row (operation-kind (operation-of kind)) x ∷ (atom-row (meant a) ∷ (atom-row (meant b) ∷ []))) ⌝ }
+    ensures { λ r. ⌜ Wrote (now (ks .entry)) (now (os .entry)) (now (ks .exit)) (now (os .exit)) w r
+        (row (operation-kind (operation-of kind)) x ∷ (atom-row (meant a) ∷ (atom-row (meant b) ∷ []))) ⌝ }
 {
     let u = put_atom(ks, os, w, b);
     let v = put_atom(ks, os, u, a);
@@ -277,7 +288,8 @@ pub fn put_index(
     w: usize,
 ) -> usize
     requires { ⌜ w ≤ 4097 ⌝ }
-    ensures { λ r. ⌜ Wrote (now (ks .entry)) (now (os .entry)) (now (ks .exit)) (now (os .exit)) w r (indexing (depth-in (now (depths .entry))) x (meant a) (meant b) (set-of after)) ⌝ }
+    ensures { λ r. ⌜ Wrote (now (ks .entry)) (now (os .entry)) (now (ks .exit)) (now (os .exit)) w r
+        (indexing (depth-in (now (depths .entry))) x (meant a) (meant b) (set-of after)) ⌝ }
 {
     let none = normal_code::none();
     let one = normal_code::with(none, x);
@@ -299,7 +311,8 @@ pub fn put_length(
     w: usize,
 ) -> usize
     requires { ⌜ w ≤ 4097 ⌝ }
-    ensures { λ r. ⌜ Wrote (now (ks .entry)) (now (os .entry)) (now (ks .exit)) (now (os .exit)) w r (measuring (depth-in (now (depths .entry))) x (meant a) (set-of after)) ⌝ }
+    ensures { λ r. ⌜ Wrote (now (ks .entry)) (now (os .entry)) (now (ks .exit)) (now (os .exit)) w r
+        (measuring (depth-in (now (depths .entry))) x (meant a) (set-of after)) ⌝ }
 {
     let u = release_atom(ks, os, depths, a, after, w);
     let v = put_atom(ks, os, u, a);
@@ -322,7 +335,9 @@ pub fn put_handing(
     w: usize,
 ) -> usize
     requires { ⌜ (at ≤ 4096) × (w ≤ 4097) ⌝ }
-    ensures { λ r. ⌜ Wrote (now (ks .entry)) (now (os .entry)) (now (ks .exit)) (now (os .exit)) w r (handing (depth-in (now (depths .entry))) x (row kind n) (atoms-at (now (operands .entry)) (now (rows .entry)) at m) (set-of after)) ⌝ }
+    ensures { λ r. ⌜ Wrote (now (ks .entry)) (now (os .entry)) (now (ks .exit)) (now (os .exit)) w r
+        (handing (depth-in (now (depths .entry))) x (row kind n)
+        (atoms-at (now (operands .entry)) (now (rows .entry)) at m) (set-of after)) ⌝ }
 {
     let s = put_release(ks, os, depths, x, after, w);
     let t = put_atoms(ks, os, operands, rows, at, m, s);
@@ -340,7 +355,8 @@ pub fn put_end(
     w: usize,
 ) -> usize
     requires { ⌜ w ≤ 4097 ⌝ }
-    ensures { λ r. ⌜ Wrote (now (ks .entry)) (now (os .entry)) (now (ks .exit)) (now (os .exit)) w r (ending (depth-in (now (depths .entry))) (meant a) (set-of after)) ⌝ }
+    ensures { λ r. ⌜ Wrote (now (ks .entry)) (now (os .entry)) (now (ks .exit)) (now (os .exit)) w r
+        (ending (depth-in (now (depths .entry))) (meant a) (set-of after)) ⌝ }
 {
     let u = put_atom(ks, os, w, a);
     let v = put_row(ks, os, u, 16, 0);

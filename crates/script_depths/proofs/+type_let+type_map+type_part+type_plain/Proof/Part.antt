@@ -1,0 +1,176 @@
+-- What `type_part` has to show.
+use Prim.Native.Nat.{ℕ, _<_}
+use native.Mathlib.Omega.{arith}
+use mathlib.Core.Path.{refl, sym}
+use mathlib.Core.Logic.{inl, inr}
+use lib.ListN.{length}
+use Rattle.script_read.proofs.Nodes.{Seen, seen, inside}
+use Rattle.script_read.proofs.Tables.{table-at}
+use Rattle.script_depths.proofs.Laws.{no-levels, no-node, a-number, a-name, a-let, a-map, any-other}
+use borrow.Author.Needs.{needs}
+use Rattle.script_depths.proofs.type_part.Reads as type-part
+use Rattle.script_depths.proofs.+type_let+type_map+type_part+type_plain.Lts-type_part as type-part-lts
+use Rattle.script_depths.proofs.+type_let+type_map+type_part+type_plain.Proof.Common.{type-part-at}
+use Rattle.script_depths.proofs.+type_let+type_map+type_part+type_plain.Proof.Common.{type-part-claims}
+
+module _ (t : ℕ) where
+  abbrev KindKnown : Type 0
+  KindKnown = type-part-lts.After-known-told (type-part-claims t) (type-part-at t) type-part.Post
+
+  node-seen : (c : KindKnown) →
+      let a = c .before .before .before .before .before .before .before .before .before .args in
+      let n = c .before .kind .given .0 in
+      Seen (a .kinds .now) (a .operands .now) 2 13 (a .at) (n .0) (n .1 .0) (n .1 .1 .0)
+  node-seen c =
+      seen _ _ 2 13 _ (c .before .before .before .node-at .result) (c .before .before .before .node-at .ensures) _ _ _
+      (c .before .kind .given .1)
+
+  there : (c : KindKnown) →
+      c .before .before .before .before .before .before .before .before .before .args .at < length
+      (c .before .before .before .before .before .before .before .before .before .args .kinds .now)
+  there c =
+      inside _ (c .before .before .before .before .before .before .before .before .before .args .operands .now) 2 13 _
+      _ _ _ (c .before .before .before .node-at .result) (omega arith) (c .before .before .before .node-at .ensures)
+      (c .before .kind .given .1)
+
+pub type-part-returns : (t : ℕ) → type-part-lts.Need-returns (type-part-claims t) (type-part-at t) type-part.Post
+type-part-returns t c = (no-levels _ _ _ _ _ _ (c .if1 .taken), refl)
+
+pub type-part-node-at-requires : (t : ℕ) →
+    type-part-lts.Need-node-at-requires (type-part-claims t) (type-part-at t) type-part.Post
+type-part-node-at-requires t c κs = search needs
+
+pub type-part-enum-known-kind : (t : ℕ) →
+    type-part-lts.Need-enum-known-kind (type-part-claims t) (type-part-at t) type-part.Post
+type-part-enum-known-kind t c = search needs
+
+pub type-part-add-t14 : (t : ℕ) → type-part-lts.Need-add-t14 (type-part-claims t) (type-part-at t) type-part.Post
+type-part-add-t14 t c = omega (arith, there t (c .before))
+
+pub type-part-returns-2 : (t : ℕ) → type-part-lts.Need-returns-2 (type-part-claims t) (type-part-at t) type-part.Post
+type-part-returns-2 t c = (
+  a-number (node-seen t (c .before)) _ _ _ (c .before .before .before .before .before .if1 .left) (c .if2 .taken),
+  refl,
+)
+
+pub type-part-cast-t15 : (t : ℕ) → type-part-lts.Need-cast-t15 (type-part-claims t) (type-part-at t) type-part.Post
+type-part-cast-t15 t c = search needs
+
+pub type-part-slice-read-t17 : (t : ℕ) →
+    type-part-lts.Need-slice-read-t17 (type-part-claims t) (type-part-at t) type-part.Post
+type-part-slice-read-t17 t c = search needs
+
+pub type-part-add-t18 : (t : ℕ) → type-part-lts.Need-add-t18 (type-part-claims t) (type-part-at t) type-part.Post
+type-part-add-t18 t c = omega (arith, there t (c .before .before .before))
+
+pub type-part-returns-3 : (t : ℕ) → type-part-lts.Need-returns-3 (type-part-claims t) (type-part-at t) type-part.Post
+type-part-returns-3 t c = (
+  a-name (node-seen t (c .before .before .before)) _ _ _
+      (c .before .before .before .before .before .before .before .if1 .left) (c .before .if3 .taken) _
+      (sym (table-at 0 _ _)),
+  refl,
+)
+
+pub type-part-add-type-let : (t : ℕ) →
+    type-part-lts.Need-add-type-let (type-part-claims t) (type-part-at t) type-part.Post
+type-part-add-type-let t c = omega (arith, there t (c .before .before .before .before))
+
+pub type-part-sub-type-let : (t : ℕ) →
+    type-part-lts.Need-sub-type-let (type-part-claims t) (type-part-at t) type-part.Post
+type-part-sub-type-let t c = search needs
+
+pub type-part-type-let-requires : (t : ℕ) →
+    type-part-lts.Need-type-let-requires (type-part-claims t) (type-part-at t) type-part.Post
+type-part-type-let-requires t c κs = search needs
+
+pub type-part-same-length : (t : ℕ) →
+    type-part-lts.Need-same-length (type-part-claims t) (type-part-at t) type-part.Post
+type-part-same-length t c = search needs
+
+pub type-part-returns-4 : (t : ℕ) → type-part-lts.Need-returns-4 (type-part-claims t) (type-part-at t) type-part.Post
+type-part-returns-4 t c = (
+  a-let (node-seen t (c .before .before .before .before .before .before .before)) _ _ _
+      (c .before .before .before .before .before .before .before .before .before .before .before .if1 .left)
+      (c .before .before .before .before .if4 .taken) _ (c .before .before .type-let .ensures .0),
+  c .before .before .type-let .ensures .1,
+)
+
+pub type-part-sub-type-map : (t : ℕ) →
+    type-part-lts.Need-sub-type-map (type-part-claims t) (type-part-at t) type-part.Post
+type-part-sub-type-map t c = search needs
+
+pub type-part-type-map-requires : (t : ℕ) →
+    type-part-lts.Need-type-map-requires (type-part-claims t) (type-part-at t) type-part.Post
+type-part-type-map-requires t c κs = (
+  omega arith,
+  (
+    c .before .before .before .before .before .before .before .before .before .before .before .before .before .before
+        .pre .1,
+    there t (c .before .before .before .before .before),
+  ),
+)
+
+pub type-part-same-length-2 : (t : ℕ) →
+    type-part-lts.Need-same-length-2 (type-part-claims t) (type-part-at t) type-part.Post
+type-part-same-length-2 t c = search needs
+
+pub type-part-returns-5 : (t : ℕ) → type-part-lts.Need-returns-5 (type-part-claims t) (type-part-at t) type-part.Post
+type-part-returns-5 t c = (
+  a-map (node-seen t (c .before .before .before .before .before .before .before .before)) _ _ _
+      (c .before .before .before .before .before .before .before .before .before .before .before .before .if1 .left)
+      (c .before .before .before .before .if5 .taken) _ (c .before .before .type-map .ensures .0),
+  c .before .before .type-map .ensures .1,
+)
+
+pub type-part-sub-type-plain : (t : ℕ) →
+    type-part-lts.Need-sub-type-plain (type-part-claims t) (type-part-at t) type-part.Post
+type-part-sub-type-plain t c = search needs
+
+pub type-part-type-plain-requires : (t : ℕ) →
+    type-part-lts.Need-type-plain-requires (type-part-claims t) (type-part-at t) type-part.Post
+type-part-type-plain-requires t c κs = (
+  omega arith,
+  (
+    c .before .before .before .before .before .before .before .before .before .before .before .before .before .before
+        .pre .1,
+    there t (c .before .before .before .before .before),
+    node-seen t (c .before .before .before .before .before) .lowest,
+    node-seen t (c .before .before .before .before .before) .highest,
+  ),
+)
+
+pub type-part-enum-told : (t : ℕ) → type-part-lts.Need-enum-told (type-part-claims t) (type-part-at t) type-part.Post
+type-part-enum-told t c = search needs
+
+pub type-part-enum-told-2 : (t : ℕ) →
+    type-part-lts.Need-enum-told-2 (type-part-claims t) (type-part-at t) type-part.Post
+type-part-enum-told-2 t c = search needs
+
+pub type-part-same-length-3 : (t : ℕ) →
+    type-part-lts.Need-same-length-3 (type-part-claims t) (type-part-at t) type-part.Post
+type-part-same-length-3 t c = search needs
+
+pub type-part-returns-6 : (t : ℕ) → type-part-lts.Need-returns-6 (type-part-claims t) (type-part-at t) type-part.Post
+type-part-returns-6 t c = (
+  any-other (node-seen t (c .before .before .before .before .before .before .before .before)) _ _ _
+      (c .before .before .before .before .before .before .before .before .before .before .before .before .if1 .left)
+      (c .before .before .before .before .before .before .before .if2 .left)
+      (c .before .before .before .before .before .before .if3 .left)
+      (c .before .before .before .before .before .if4 .left) (c .before .before .before .before .if5 .left) _
+      (c .before .before .type-plain .ensures .0),
+  c .before .before .type-plain .ensures .1,
+)
+
+pub type-part-returns-7 : (t : ℕ) → type-part-lts.Need-returns-7 (type-part-claims t) (type-part-at t) type-part.Post
+type-part-returns-7 t c = (
+  no-node _ _ _ _ _ _ (c .before .before .node-at .result) (c .before .before .node-at .ensures)
+      (inl (c .enum-told .given .1)),
+  refl,
+)
+
+pub type-part-returns-8 : (t : ℕ) → type-part-lts.Need-returns-8 (type-part-claims t) (type-part-at t) type-part.Post
+type-part-returns-8 t c = (
+  no-node _ _ _ _ _ _ (c .before .before .node-at .result) (c .before .before .node-at .ensures)
+      (inr (c .enum-told2 .given .1)),
+  refl,
+)

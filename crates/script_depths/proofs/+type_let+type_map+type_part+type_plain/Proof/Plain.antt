@@ -1,0 +1,180 @@
+-- What `type_plain` has to show.
+use Prim.Native.Nat.{_+_, _-_, ℕ}
+use native.Mathlib.Omega.{arith}
+use mathlib.Core.Path.{_≡_, refl, ap, _∙_}
+use lib.ListN.{length}
+use Rattle.semantics.specs.File.{part-count}
+use Rattle.script_depths.specs.Walk.{depths, types}
+use Rattle.script_depths.proofs.Rules.{few-parts}
+use Rattle.script_depths.proofs.Laws.{Going, going-starts, going-on, part-faulty, judged-good, judged-bad}
+use borrow.Author.Needs.{needs}
+use Rattle.script_depths.proofs.type_plain.Reads as type-plain
+use Rattle.script_depths.proofs.+type_let+type_map+type_part+type_plain.Lts-type_plain as type-plain-lts
+use Rattle.script_depths.proofs.+type_let+type_map+type_part+type_plain.Proof.Common.{type-plain-at}
+use Rattle.script_depths.proofs.+type_let+type_map+type_part+type_plain.Proof.Common.{type-plain-claims}
+
+abbrev pub type-plain-Inv-loop : type-plain-lts.InvT-loop
+type-plain-Inv-loop kinds operands starts table₀ at kind low high levels ds₀ n p₀ i₀ table ds p i =
+    (n ≡ part-count kind low high) × (table ≡ table₀)
+    × Going n (types kinds operands starts levels (depths table₀)) (at + 1) i p ds
+
+abbrev pub type-plain-μ-loop : type-plain-lts.MeasureT-loop
+type-plain-μ-loop kinds operands starts table₀ at kind low high levels ds₀ n p₀ i₀ table ds p i = n - i
+
+pub type-plain-parts-of-requires : (t : ℕ) →
+    type-plain-lts.Need-parts-of-requires (type-plain-claims t) (type-plain-at t) type-plain.Post type-plain-Inv-loop
+    type-plain-μ-loop
+type-plain-parts-of-requires t c κs = search needs
+
+pub type-plain-cast-n : (t : ℕ) →
+    type-plain-lts.Need-cast-n (type-plain-claims t) (type-plain-at t) type-plain.Post type-plain-Inv-loop
+    type-plain-μ-loop
+type-plain-cast-n t c = search needs
+
+pub type-plain-add-p : (t : ℕ) →
+    type-plain-lts.Need-add-p (type-plain-claims t) (type-plain-at t) type-plain.Post type-plain-Inv-loop
+    type-plain-μ-loop
+type-plain-add-p t c = search needs
+
+pub type-plain-loop-holds : (t : ℕ) →
+    type-plain-lts.Need-loop-holds (type-plain-claims t) (type-plain-at t) type-plain.Post type-plain-Inv-loop
+    type-plain-μ-loop
+type-plain-loop-holds t c = (
+  c .parts-of .ensures,
+  refl,
+  going-starts _ _ _ _
+      (omega (
+        arith,
+        c .parts-of .ensures,
+        few-parts (c .before .before .before .before .before .args .kind)
+            (c .before .before .before .before .before .args .low)
+            (c .before .before .before .before .before .args .high)
+            (c .before .before .before .before .before .pre .1 .2)
+            (c .before .before .before .before .before .pre .1 .3),
+      ))
+      refl,
+)
+
+pub type-plain-type-part-requires : (t : ℕ) →
+    type-plain-lts.Need-type-part-requires (type-plain-claims t) (type-plain-at t) type-plain.Post type-plain-Inv-loop
+    type-plain-μ-loop
+type-plain-type-part-requires t c κs = (
+  omega arith,
+  ap length (c .before .before .loop .inv .1)
+      ∙ c .before .before .before .before .before .before .before .before .pre .1 .0,
+)
+
+pub type-plain-enum-known-d : (t : ℕ) →
+    type-plain-lts.Need-enum-known-d (type-plain-claims t) (type-plain-at t) type-plain.Post type-plain-Inv-loop
+    type-plain-μ-loop
+type-plain-enum-known-d t c = search needs
+
+pub type-plain-array-write-ds : (t : ℕ) →
+    type-plain-lts.Need-array-write-ds (type-plain-claims t) (type-plain-at t) type-plain.Post type-plain-Inv-loop
+    type-plain-μ-loop
+type-plain-array-write-ds t c =
+    omega (arith, c .before .before .before .before .before .before .before .before .loop .inv .2 .few)
+
+pub type-plain-enum-known-m : (t : ℕ) →
+    type-plain-lts.Need-enum-known-m (type-plain-claims t) (type-plain-at t) type-plain.Post type-plain-Inv-loop
+    type-plain-μ-loop
+type-plain-enum-known-m t c = search needs
+
+pub type-plain-same-length : (t : ℕ) →
+    type-plain-lts.Need-same-length (type-plain-claims t) (type-plain-at t) type-plain.Post type-plain-Inv-loop
+    type-plain-μ-loop
+type-plain-same-length t c =
+    ap length (c .before .before .before .before .before .type-part .ensures .1
+    ∙ c .before .before .before .before .before .before .before .before .loop .inv .1)
+
+pub type-plain-returns : (t : ℕ) →
+    type-plain-lts.Need-returns (type-plain-claims t) (type-plain-at t) type-plain.Post type-plain-Inv-loop
+    type-plain-μ-loop
+type-plain-returns t c = (
+  part-faulty _ _ _ _ _ _ _ _ (c .before .before .before .before .before .before .before .before .loop .inv .0)
+      (c .before .before .before .before .before .before .before .before .loop .inv .2)
+      (c .before .before .before .before .before .before .before .loop-test .taken) _
+      (rw (c .before .before .before .before .before .before .before .before .loop .inv .1) at (c .before .before
+      .before .before .before .type-part .ensures .0)) _ (c .before .m .given .1),
+  c .before .before .before .before .before .type-part .ensures .1
+      ∙ c .before .before .before .before .before .before .before .before .loop .inv .1,
+)
+
+pub type-plain-add-i : (t : ℕ) →
+    type-plain-lts.Need-add-i (type-plain-claims t) (type-plain-at t) type-plain.Post type-plain-Inv-loop
+    type-plain-μ-loop
+type-plain-add-i t c = search needs
+
+pub type-plain-loop-less : (t : ℕ) →
+    type-plain-lts.Need-loop-less (type-plain-claims t) (type-plain-at t) type-plain.Post type-plain-Inv-loop
+    type-plain-μ-loop
+type-plain-loop-less t c = search needs
+
+pub type-plain-loop-again : (t : ℕ) →
+    type-plain-lts.Need-loop-again (type-plain-claims t) (type-plain-at t) type-plain.Post type-plain-Inv-loop
+    type-plain-μ-loop
+type-plain-loop-again t c = (
+  c .before .before .before .before .before .before .before .before .loop .inv .0,
+  c .before .before .before .before .before .type-part .ensures .1
+      ∙ c .before .before .before .before .before .before .before .before .loop .inv .1,
+  going-on
+      (c .before .before .before .before .before .before .before .before .loop .inv .2)
+      (c .before .before .before .before .before .before .before .loop-test .taken) _
+      (rw (c .before .before .before .before .before .before .before .before .loop .inv .1) at (c .before .before
+      .before .before .before .type-part .ensures .0)) _ _ (c .before .d .given .1),
+)
+
+pub type-plain-slice-aggregate-judge : (t : ℕ) →
+    type-plain-lts.Need-slice-aggregate-judge (type-plain-claims t) (type-plain-at t) type-plain.Post
+    type-plain-Inv-loop type-plain-μ-loop
+type-plain-slice-aggregate-judge t c = search needs
+
+pub type-plain-judge-requires : (t : ℕ) →
+    type-plain-lts.Need-judge-requires (type-plain-claims t) (type-plain-at t) type-plain.Post type-plain-Inv-loop
+    type-plain-μ-loop
+type-plain-judge-requires t c κs = (
+  c .before .before .loop .inv .2 .long,
+  c .before .before .before .before .before .before .before .before .pre .1 .2,
+  c .before .before .before .before .before .before .before .before .pre .1 .3,
+)
+
+pub type-plain-enum-known-d-2 : (t : ℕ) →
+    type-plain-lts.Need-enum-known-d-2 (type-plain-claims t) (type-plain-at t) type-plain.Post type-plain-Inv-loop
+    type-plain-μ-loop
+type-plain-enum-known-d-2 t c = search needs
+
+pub type-plain-enum-told : (t : ℕ) →
+    type-plain-lts.Need-enum-told (type-plain-claims t) (type-plain-at t) type-plain.Post type-plain-Inv-loop
+    type-plain-μ-loop
+type-plain-enum-told t c = search needs
+
+pub type-plain-same-length-2 : (t : ℕ) →
+    type-plain-lts.Need-same-length-2 (type-plain-claims t) (type-plain-at t) type-plain.Post type-plain-Inv-loop
+    type-plain-μ-loop
+type-plain-same-length-2 t c = ap length (c .before .before .before .before .before .before .loop .inv .1)
+
+pub type-plain-returns-2 : (t : ℕ) →
+    type-plain-lts.Need-returns-2 (type-plain-claims t) (type-plain-at t) type-plain.Post type-plain-Inv-loop
+    type-plain-μ-loop
+type-plain-returns-2 t c = (
+  judged-good _ _ _ _ _ _ _ _ (c .before .before .before .before .before .before .loop .inv .0)
+      (c .before .before .before .before .before .before .loop .inv .2)
+      (c .before .before .before .before .before .loop-test .left) _ (c .before .before .before .judge .ensures) _
+      (c .before .d2 .given .1),
+  c .before .before .before .before .before .before .loop .inv .1,
+)
+
+pub type-plain-same-length-3 : (t : ℕ) →
+    type-plain-lts.Need-same-length-3 (type-plain-claims t) (type-plain-at t) type-plain.Post type-plain-Inv-loop
+    type-plain-μ-loop
+type-plain-same-length-3 t c = ap length (c .before .before .before .before .before .loop .inv .1)
+
+pub type-plain-returns-3 : (t : ℕ) →
+    type-plain-lts.Need-returns-3 (type-plain-claims t) (type-plain-at t) type-plain.Post type-plain-Inv-loop
+    type-plain-μ-loop
+type-plain-returns-3 t c = (
+  judged-bad _ _ _ _ _ _ _ _ (c .before .before .before .before .before .loop .inv .0)
+      (c .before .before .before .before .before .loop .inv .2) (c .before .before .before .before .loop-test .left) _
+      (c .before .before .judge .ensures) (c .enum-told .given .1),
+  c .before .before .before .before .before .loop .inv .1,
+)
