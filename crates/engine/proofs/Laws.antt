@@ -105,12 +105,14 @@ module _ (kinds : List ℕ) (operands : List ℤ) where
   }
 
   -- a call refuses as the verdict does, and serves an accepted script by the store's part
-  pub record Serves (slots : List ℤ) (heads : List ℕ) (call : Verdict → StoreReply) (part : Script → Left) : Type 0 where
-    pub refuses : (n p : ℕ) → call (refused n p) ≡ refusing kinds operands slots heads n p
-    pub serves : (fs : Script) → call (accepted fs) ≡ reply-for fs (part fs) (part fs .answer)
+  pub record Serves (slots : List ℤ) (heads : List ℕ) (call : Verdict → StoreReply) (part : Script → Left) : Type 0
+    where
+      pub refuses : (n p : ℕ) → call (refused n p) ≡ refusing kinds operands slots heads n p
+      pub serves : (fs : Script) → call (accepted fs) ≡ reply-for fs (part fs) (part fs .answer)
 
   module _ (slots : List ℤ) (heads : List ℕ) where
-    pub open-serves : Serves slots heads (open-for kinds operands slots heads) (λ fs. opened-left (main-depth fs) slots heads)
+    pub open-serves : Serves slots heads (open-for kinds operands slots heads)
+        (λ fs. opened-left (main-depth fs) slots heads)
     unfolding open-for opened-left answering refusing
     open-serves = record { refuses = λ n p. refl; serves = λ fs. by fs (shaped slots heads) }
       where
@@ -122,7 +124,8 @@ module _ (kinds : List ℕ) (operands : List ℤ) where
         by fs true = refl
         by fs false = refl
 
-    pub check-serves : Serves slots heads (check-for kinds operands slots heads) (λ fs. checked-left (main-depth fs) slots heads)
+    pub check-serves : Serves slots heads (check-for kinds operands slots heads)
+        (λ fs. checked-left (main-depth fs) slots heads)
     unfolding check-for checked-left answering refusing
     check-serves = record { refuses = λ n p. refl; serves = λ fs. by fs (sound-words (main-depth fs) slots heads) }
       where
@@ -194,12 +197,14 @@ module _ {file kinds : List ℕ} {operands slots : List ℤ} {heads : List ℕ} 
       by (refused n p) e = let same : a ≡ packed n p 0 0 = cc in rw same (sym (s .refuses n p))
 
   -- the store's part ended, and that was told
-  module _ {l d : ℕ} {kinds′ : List ℕ} {operands′ : List ℤ} (h : Loads file kinds operands (Ready l d) kinds′ operands′)
+  module _ {l d : ℕ} {kinds′ : List ℕ} {operands′ : List ℤ}
+      (h : Loads file kinds operands (Ready l d) kinds′ operands′)
       (kinds-long : length kinds′ ≡ length kinds) (operands-long : length operands′ ≡ length operands)
       {a : ℕ} {kinds″ : List ℕ} {operands″ : List ℤ} {slots′ : List ℤ} {heads′ : List ℕ} where
     told : (fs : Script) → admitted (h .node) file (room kinds operands) ≡ accepted fs → (r : Ended) → Small r →
         Tells r kinds′ operands′ a kinds″ operands″ →
-        _≡_ {A = StoreReply} (record { answer = a; kinds = kinds″; operands = operands″; slots = slots′; heads = heads′ })
+        _≡_ {A = StoreReply} (record
+        { answer = a; kinds = kinds″; operands = operands″; slots = slots′; heads = heads′ })
         (reply-for kinds operands fs (left r slots′ heads′) r)
     told fs q (E.Answered number steps cells) few t =
         rw (
@@ -219,7 +224,8 @@ module _ {file kinds : List ℕ} {operands slots : List ℤ} {heads : List ℕ} 
     }
       where
         by : (v : Verdict) → admitted (h .node) file (room kinds operands) ≡ v → Ready l d ≡ told-load v →
-            _≡_ {A = StoreReply} (record { answer = a; kinds = kinds″; operands = operands″; slots = slots′; heads = heads′ })
+            _≡_ {A = StoreReply} (record
+            { answer = a; kinds = kinds″; operands = operands″; slots = slots′; heads = heads′ })
             (call (admitted (h .node) file (room kinds operands)))
         by (refused m p) q g = absurd (let z : _≡_ {A = ℕ} 0 1 = cc in omega arith)
         by (accepted fs) q g =

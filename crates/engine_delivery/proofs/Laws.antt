@@ -31,12 +31,14 @@ module _ (fs : Script) (readings : List ℤ) (budget : ℕ) (slots : List ℤ) (
   refuses-10 e = rw e refl
 
   pub refuses-11 : request-fits readings budget ≡ true → (d : ℕ) → d ≡ main-depth fs →
-      sound-words d slots heads ≡ false → left (Refused 11) slots heads ≡ delivered-left fs readings budget slots heads
+      sound-words d slots heads ≡ false → left (Refused 11) slots heads ≡ delivered-left fs readings budget slots
+      heads
   unfolding delivered-left
   refuses-11 e d same f = rw (e, subst (λ x. sound-words x slots heads ≡ false) same f) refl
 
 -- a sound store has arrays of the right lengths
-pub sound-fits : (d : ℕ) (slots : List ℤ) (heads : List ℕ) → sound-words d slots heads ≡ true → shaped slots heads ≡ true
+pub sound-fits : (d : ℕ) (slots : List ℤ) (heads : List ℕ) → sound-words d slots heads ≡ true → shaped slots heads ≡
+    true
 unfolding sound-words
 sound-fits d slots heads e = both-hold (shaped slots heads) (sound d (store-of slots heads)) e .0
 

@@ -92,7 +92,8 @@ module _ (node : ℕ) (file : List ℕ) (fs : Script) (ok : judged node file ≡
 
       Told : StoreReply → Type 0
       Told r =
-          Agrees fs (store-of slots heads) (store-of (r .slots) (r .heads)) v δ (r .answer) (entered fs v δ (r .answer))
+          Agrees fs (store-of slots heads) (store-of (r .slots) (r .heads)) v δ (r .answer)
+          (entered fs v δ (r .answer))
           × History node file fs δs (r .slots) (r .heads) (value-after v (entered fs v δ (r .answer)))
 
       of-reply : Told (record {
@@ -102,14 +103,16 @@ module _ (node : ℕ) (file : List ℕ) (fs : Script) (ok : judged node file ≡
         slots = c .slots;
         heads = c .heads;
       })
-      of-reply = subst Told (sym (c .promised .is ∙ deliver-same (c .promised .node) (δ .kinds) (δ .operands) slots heads
+      of-reply = subst Told (sym
+          (c .promised .is ∙ deliver-same (c .promised .node) (δ .kinds) (δ .operands) slots heads
           (δ .readings) (δ .budget))) h
 
   -- For every list of deliveries from a store just opened, under one accepted script.
   pub demand-3-of-calls : (o : Opened file) → number-of (o .answer) ≡ 0 → (δs : List Delivery)
       (calls : InTurn file (o .slots) (o .heads) δs) →
       Kept fs file (o .slots) (o .heads) δs calls (first-totals (main-depth fs))
-  demand-3-of-calls o zero-answer δs calls = kept (o .slots) (o .heads) δs calls (first-totals (main-depth fs)) (whole zero-answer δs)
+  demand-3-of-calls o zero-answer δs calls = kept (o .slots) (o .heads) δs calls (first-totals (main-depth fs))
+      (whole zero-answer δs)
     where
       Told : StoreReply → Type 0
       Told r = number-of (r .answer) ≡ 0 → (δs : List Delivery) →

@@ -17,7 +17,8 @@ use Rattle.engine_store.specs.declared.Ended.the-variants.{Answered, Ref
 use Rattle.engine_store.specs.Left.{left, left-by, opened-left, checked-left}
 
 -- arrays of the right lengths that hold σ, with its cells counted
-pub words-left : {slots : List ℤ} {heads : List ℕ} {slots′ : List ℤ} {heads′ : List ℕ} {σ : Store} {number steps n : ℕ} →
+pub words-left : {slots : List ℤ} {heads : List ℕ} {slots′ : List ℤ} {heads′ : List ℕ} {σ : Store}
+    {number steps n : ℕ} →
     Kept slots heads slots′ heads′ → shaped slots heads ≡ true → store-of slots′ heads′ ≡ σ →
     n ≡ cells-taken (store-of slots′ heads′) → left (Answered number steps n) slots′ heads′ ≡ left-by number steps σ
 words-left {slots} {heads} {slots′} {heads′} {σ} kept fit holds counted =

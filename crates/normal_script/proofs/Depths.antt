@@ -26,7 +26,8 @@ module _ {f : ℕ} {depths table : List ℕ} where
     long = length-set table′ (256 * f + n) (getD depths n 0) ∙ h .long;
     there = λ x k m. one x k m (ℕ-discrete x n);
     before = λ i k. getD-set-other table′ (256 * f + n) i (getD depths n 0) 0 (λ e. omega arith) ∙ h .before i k;
-    after = λ i k. getD-set-other table′ (256 * f + n) i (getD depths n 0) 0 (λ e. omega arith) ∙ h .after i (omega arith);
+    after = λ i k. getD-set-other table′ (256 * f + n) i (getD depths n 0) 0 (λ e. omega arith) ∙ h .after i
+        (omega arith);
   }
     where
       one : (x : ℕ) → x < n + 1 → 256 * f + x < length table → Dec (x ≡ n) →
@@ -58,7 +59,8 @@ module _ {fs : Script} {table : List ℕ} where
   }
 
   -- function n, after those behind it
-  pub depths-one : {n m : ℕ} {depths table′ table″ : List ℕ} → DepthsFrom m fs table table′ → m ≡ n + 1 → n < length fs →
+  pub depths-one : {n m : ℕ} {depths table′ table″ : List ℕ} → DepthsFrom m fs table table′ → m ≡ n + 1 → n < length
+      fs →
       (λ x. getD depths x 0) ≡ depths-of fs (function-at fs n) → Noted n depths table′ table″ →
       DepthsFrom n fs table table″
   depths-one {n} {m} {depths} {table′} {table″} h s l e k = record {

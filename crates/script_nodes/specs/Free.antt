@@ -43,11 +43,13 @@ module _ (p q : ℕ) (fs : Script) where
       go true g = g
       go false g = no-script 9 0 fs g
 
-  pub admitted-judged : (file : List ℕ) (lines : ℕ) → admitted p file lines ≡ accepted fs → judged p file ≡ accepted fs
+  pub admitted-judged : (file : List ℕ) (lines : ℕ) → admitted p file lines ≡ accepted fs → judged p file ≡ accepted
+      fs
   unfolding admitted
   admitted-judged file lines e = accepted-so lines (judged p file) e
 
-  pub admitted-free : (file : List ℕ) (lines : ℕ) → admitted p file lines ≡ accepted fs → admitted q file lines ≡ accepted fs
+  pub admitted-free : (file : List ℕ) (lines : ℕ) → admitted p file lines ≡ accepted fs → admitted q file lines ≡
+      accepted fs
   unfolding admitted
   admitted-free file lines e =
       let same = admitted-judged file lines e in

@@ -26,7 +26,11 @@ enum-known-depth : tie.Need-enum-known-depth
 enum-known-depth c = search needs
 
 slice-aggregate-deliver-words : tie.Need-slice-aggregate-deliver-words
-slice-aggregate-deliver-words c = omega (arith, c .before .before .before .before .before .before .before .before .before .before .load-with .kept .1 .1 .1 .0)
+slice-aggregate-deliver-words c = omega (
+  arith,
+  c .before .before .before .before .before .before .before .before
+      .before .before .load-with .kept .1 .1 .1 .0,
+)
 
 deliver-words-requires : tie.Need-deliver-words-requires
 deliver-words-requires c κs = search needs
@@ -52,17 +56,23 @@ same-length-4 c = search needs
 returns : tie.Need-returns
 unfolding engine-deliver
 returns c =
-    let a = c .before .before .before .before .before .before .before .before .before .before .before .before .before .before .before .before .before .before .before .before .before .before .before .before .before .before .before .before .before .args in
-    let loaded = c .before .before .before .before .before .before .before .before .before .before .before .before .before .before .before .before .before .before .before .before .before .before .load-with in
+    let a = c .before .before .before .before .before .before .before .before .before .before .before .before .before
+    .before .before .before .before .before .before .before .before .before .before .before .before .before
+    .before .before .before .args in
+    let loaded = c .before .before .before .before .before .before .before .before .before .before .before .before
+    .before .before .before .before .before .before .before .before .before .before .load-with in
     let part = c .before .before .before .before .before .before .before .before .before .deliver-words in
     let h = subst (λ r. LoadsWith (a .file .now) (a .kinds .now) (a .operands .now) (replicate 8256 0) r
-    (loaded .last .1 .0) (loaded .last .1 .1 .0) (loaded .last .1 .1 .1 .0)) (c .before .before .before .before .before .before .before .before .before .before .before .before .before .before .before .before .depth .given .1) (loaded .ensures) in
+    (loaded .last .1 .0) (loaded .last .1 .1 .0) (loaded .last .1 .1 .1 .0))
+    (c .before .before .before .before .before .before .before .before .before .before .before .before .before
+    .before .before .before .depth .given .1) (loaded .ensures) in
     let node = h .loads .node in
     replies-told (deliver-serves (a .kinds .now) (a .operands .now) (a .slots .now) (a .heads .now) (a .readings .now)
     (a .budget)) (h .loads) (loaded .kept .1 .0) (loaded .kept .1 .1 .0) (part .result)
     (λ fs q same. let coded = h .coded node fs q (omega arith) in
     part .ensures .0 node (a .file .now) fs
-    (admitted-judged node node fs (a .file .now) (room (a .kinds .now) (a .operands .now)) q) (coded .0) (coded .1) same)
+    (admitted-judged node node fs (a .file .now) (room (a .kinds .now) (a .operands .now)) q) (coded .0) (coded .1)
+    same)
     (part .ensures .1) (c .before .before .before .tell .ensures)
 
 same-length-5 : tie.Need-same-length-5
@@ -74,11 +84,14 @@ same-length-6 c = search needs
 returns-2 : tie.Need-returns-2
 unfolding engine-deliver
 returns-2 c =
-    let a = c .before .before .before .before .before .before .before .before .before .before .before .before .before .before .args in
+    let a = c .before .before .before .before .before .before .before .before .before .before .before .before .before
+    .before .args in
     let loaded = c .before .before .before .before .before .before .before .load-with in
     let h = subst (λ r. LoadsWith (a .file .now) (a .kinds .now) (a .operands .now) (replicate 8256 0) r
-    (loaded .last .1 .0) (loaded .last .1 .1 .0) (loaded .last .1 .1 .1 .0)) (c .before .answer .given .1) (loaded .ensures) in
-    replies-refused (deliver-serves (a .kinds .now) (a .operands .now) (a .slots .now) (a .heads .now) (a .readings .now)
+    (loaded .last .1 .0) (loaded .last .1 .1 .0) (loaded .last .1 .1 .1 .0)) (c .before .answer .given .1)
+    (loaded .ensures) in
+    replies-refused (deliver-serves (a .kinds .now) (a .operands .now) (a .slots .now) (a .heads .now)
+    (a .readings .now)
     (a .budget)) (h .loads)
 
 pub engine-deliver-spec : {M : Type 1} → statement M

@@ -43,11 +43,14 @@ same-length-4 c = search needs
 returns : tie.Need-returns
 unfolding engine-open
 returns c =
-    let a = c .before .before .before .before .before .before .before .before .before .before .before .before .before .before .before .before .before .before .before .before .before .before .before .before .args in
-    let loaded = c .before .before .before .before .before .before .before .before .before .before .before .before .before .before .before .before .before .before .load in
+    let a = c .before .before .before .before .before .before .before .before .before .before .before .before .before
+    .before .before .before .before .before .before .before .before .before .before .before .args in
+    let loaded = c .before .before .before .before .before .before .before .before .before .before .before .before
+    .before .before .before .before .before .before .load in
     let part = c .before .before .before .before .before .before .before .before .before .open-words in
     let h = subst (λ r. Loads (a .file .now) (a .kinds .now) (a .operands .now) r (loaded .last .1 .0)
-    (loaded .last .1 .1 .0)) (c .before .before .before .before .before .before .before .before .before .before .before .before .before .depth .given .1) (loaded .ensures) in
+    (loaded .last .1 .1 .0)) (c .before .before .before .before .before .before .before .before .before .before
+    .before .before .before .depth .given .1) (loaded .ensures) in
     replies-told (open-serves (a .kinds .now) (a .operands .now) (a .slots .now) (a .heads .now)) h
     (loaded .kept .1 .0) (loaded .kept .1 .1 .0) (part .result)
     (λ fs q same. part .ensures .0 ∙ ap (λ d. opened-left d (a .slots .now) (a .heads .now)) same) (part .ensures .1)

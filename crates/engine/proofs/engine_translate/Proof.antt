@@ -42,11 +42,13 @@ returns : tie.Need-returns
 returns c =
     let a = c .before .before .before .before .before .before .before .before .before .before .before .before .args in
     let loaded = c .before .before .before .before .before .before .before .load in
-    let h = subst (λ r. Loads (a .file .now) (a .kinds .now) (a .operands .now) r (loaded .last .1 .0) (loaded .last .1 .1 .0))
+    let h = subst (λ r. Loads (a .file .now) (a .kinds .now) (a .operands .now) r (loaded .last .1 .0)
+    (loaded .last .1 .1 .0))
     (c .before .before .lines .given .1) (loaded .ensures) in
     let small = packed-small {number = 0} {node = 0} {count = c .before .before .lines .given .0 .0} {cells = 0}
     (omega arith) (omega arith) (omega (arith, few-lines h)) (omega arith) in
-    subst (λ x. Translates (a .file .now) (a .kinds .now) (a .operands .now) x (loaded .last .1 .0) (loaded .last .1 .1 .0))
+    subst (λ x. Translates (a .file .now) (a .kinds .now) (a .operands .now) x (loaded .last .1 .0)
+    (loaded .last .1 .1 .0))
     (sym (c .pack .ensures ∙ small)) (translates h)
 
 -- src/lib.rt:8:1
@@ -62,7 +64,8 @@ returns-2 : tie.Need-returns-2
 returns-2 c =
     let a = c .before .before .before .before .before .before .before .before .before .before .before .args in
     let loaded = c .before .before .before .before .before .before .load in
-    let h = subst (λ r. Loads (a .file .now) (a .kinds .now) (a .operands .now) r (loaded .last .1 .0) (loaded .last .1 .1 .0))
+    let h = subst (λ r. Loads (a .file .now) (a .kinds .now) (a .operands .now) r (loaded .last .1 .0)
+    (loaded .last .1 .1 .0))
     (c .before .answer .given .1) (loaded .ensures) in
     translates-not h
 

@@ -41,7 +41,8 @@ returns-2 c =
     let asked = c .before .before .before .before .before .request-fits in
     let test = c .before .is-sound in (
       λ node file fs ok few coded same. refuses-11 fs (a .readings .now) (a .budget) (a .slots .now) (a .heads .now)
-          (sym (asked .ensures) ∙ not-false (asked .result) (c .before .before .before .before .if1 .left)) (a .depth) same
+          (sym (asked .ensures) ∙ not-false (asked .result) (c .before .before .before .before .if1 .left)) (a .depth)
+          same
           (sym (test .ensures) ∙ not-true (test .result) (c .if2 .taken)),
       tt,
     )
@@ -64,11 +65,16 @@ same-length-4 c = search needs
 
 returns-3 : tie.Need-returns-3
 returns-3 c =
-    let a = c .before .before .before .before .before .before .before .before .before .before .before .before .before .before .before .before .before .before .args in
-    let asked = c .before .before .before .before .before .before .before .before .before .before .before .before .before .before .request-fits in
-    let request = sym (asked .ensures) ∙ not-false (asked .result) (c .before .before .before .before .before .before .before .before .before .before .before .before .before .if1 .left) in
+    let a = c .before .before .before .before .before .before .before .before .before .before .before .before .before
+    .before .before .before .before .before .args in
+    let asked = c .before .before .before .before .before .before .before .before .before .before .before .before
+    .before .before .request-fits in
+    let request = sym (asked .ensures) ∙ not-false (asked .result)
+    (c .before .before .before .before .before .before .before .before .before .before .before .before .before
+    .if1 .left) in
     let test = c .before .before .before .before .before .before .before .before .before .before .is-sound in
-    let fine = sym (test .ensures) ∙ not-false (test .result) (c .before .before .before .before .before .before .before .before .before .if2 .left) in
+    let fine = sym (test .ensures) ∙ not-false (test .result)
+    (c .before .before .before .before .before .before .before .before .before .if2 .left) in
     let end = c .before .before .before .before .before .before .deliver-on in (
       λ node file fs ok few coded same. delivers node file fs ok few _ coded (a .readings .now) (a .budget)
           (a .slots .now) (a .heads .now) (a .depth) same request fine
