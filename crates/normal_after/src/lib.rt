@@ -10,7 +10,8 @@ ghost use Rattle.normal_after.specs.After.{node-of};
 // The node after the function at a node.
 pub fn after_function(kinds: &[u8], operands: &[u8], at: usize) -> usize
     requires { ⌜ Parts (now kinds) (now operands) × (at ≤ 1024) ⌝ }
-    ensures { λ r. ⌜ r ≡ node-of (told (part (now (kinds .entry)) (now (operands .entry)) 64 (at + 1 + low-at (now (kinds .entry)) (now (operands .entry)) 0 at))) ⌝ }
+    ensures { λ r. ⌜ r ≡ node-of (told (part (now (kinds .entry)) (now (operands .entry)) 64
+        (at + 1 + low-at (now (kinds .entry)) (now (operands .entry)) 0 at))) ⌝ }
 {
     let count = script_read::low_at(kinds, operands, at, 0);
     match script_read::read_part(kinds, operands, at + 1 + count as usize, 64) {

@@ -20,7 +20,8 @@ module _ (kinds operands : List ℕ) where
   -- n parameters from node p on
   unfoldable pub parameters-at : ℕ → ℕ → List Parameter
   parameters-at p zero = []
-  parameters-at p (suc n) = record { id = low-at kinds operands 1 p; depth = high-at kinds operands 1 p } ∷ parameters-at (p + 1) n
+  parameters-at p (suc n) =
+      record { id = low-at kinds operands 1 p; depth = high-at kinds operands 1 p } ∷ parameters-at (p + 1) n
 
   -- the function at node p
   unfoldable pub read-function : ℕ → Function
@@ -39,7 +40,9 @@ unfoldable pub rows-by : (ℕ → ℕ) → Function → List Row
 rows-by results g =
     row 0 (length (g .parameters) + 256 * g .result)
     ∷ (parameter-rows (g .parameters) 0
-    ++ rows (release-all (dying (depths-by results g) (λ x. ltb x (length (g .parameters))) (uses (normal-body g))) (annotate (depths-by results g) (normal-body g) empty)))
+    ++ rows (release-all
+    (dying (depths-by results g) (λ x. ltb x (length (g .parameters))) (uses (normal-body g)))
+    (annotate (depths-by results g) (normal-body g) empty)))
 
 -- what binding the parameters makes: the place of each name, and the depth of each new name
 pub record Binds (operands : List ℕ) (xs : List Parameter) (i : ℕ) (r : Bound) : Type 0 where

@@ -68,7 +68,8 @@ fn put_parameters(
     w: usize,
 ) -> usize
     requires { ⌜ Parts (now kinds) (now operands) × ((at ≤ 1024) × ((count ≤ 8) × (w ≤ 4097))) ⌝ }
-    ensures { λ r. ⌜ Wrote (now (ks .entry)) (now (os .entry)) (now (ks .exit)) (now (os .exit)) w r (parameter-rows (parameters-at (now (kinds .entry)) (now (operands .entry)) at count) 0) ⌝ }
+    ensures { λ r. ⌜ Wrote (now (ks .entry)) (now (os .entry)) (now (ks .exit)) (now (os .exit)) w r
+        (parameter-rows (parameters-at (now (kinds .entry)) (now (operands .entry)) at count) 0) ⌝ }
 {
     let mut v = w;
     let mut i = count as usize;
@@ -92,9 +93,13 @@ pub fn function_code(
     w: usize,
 ) -> Coded
     requires { ⌜ Fitting (now kinds) (now operands) (now results) at × (w ≤ 4097) ⌝ }
-    ensures { λ r. ⌜ Wrote (now (ks .entry)) (now (os .entry)) (now (ks .exit)) (now (os .exit)) w (r .place) (rows-by (λ f. getD (now (results .entry)) f 0) (read-function (now (kinds .entry)) (now (operands .entry)) at)) ⌝ }
-    ensures { λ r. ⌜ r .next ≡ at + 1 + low-at (now (kinds .entry)) (now (operands .entry)) 0 at + size (read-function (now (kinds .entry)) (now (operands .entry)) at .body) ⌝ }
-    ensures { λ r. ⌜ depth-in (r .depths) ≡ depths-by (λ f. getD (now (results .entry)) f 0) (read-function (now (kinds .entry)) (now (operands .entry)) at) ⌝ }
+    ensures { λ r. ⌜ Wrote (now (ks .entry)) (now (os .entry)) (now (ks .exit)) (now (os .exit)) w (r .place)
+        (rows-by (λ f. getD (now (results .entry)) f 0)
+        (read-function (now (kinds .entry)) (now (operands .entry)) at)) ⌝ }
+    ensures { λ r. ⌜ r .next ≡ at + 1 + low-at (now (kinds .entry)) (now (operands .entry)) 0 at
+        + size (read-function (now (kinds .entry)) (now (operands .entry)) at .body) ⌝ }
+    ensures { λ r. ⌜ depth-in (r .depths) ≡ depths-by (λ f. getD (now (results .entry)) f 0)
+        (read-function (now (kinds .entry)) (now (operands .entry)) at) ⌝ }
 {
     let count = script_read::low_at(kinds, operands, at, 0);
     let result = script_read::high_at(kinds, operands, at, 0);
