@@ -19,7 +19,12 @@ pub record Left : Type 0 where
 
 -- all zero, where the code does not fit
 abbrev pub cleared : List ℕ → List ℤ → Left
-cleared kinds operands = record { answer = TooLong; kinds = replicate (length kinds) 0; operands = replicate (length operands) (pos 0) }
+cleared kinds operands = record {
+  answer = TooLong;
+  kinds = replicate (length kinds) 0;
+  operands = replicate
+      (length operands) (pos 0);
+}
 
 -- the code and zeros past it, or number 9's case
 unfoldable pub left-of : Script → List ℕ → List ℤ → Left

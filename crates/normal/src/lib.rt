@@ -30,7 +30,8 @@ fn later_kinds(from: &[u8], at: usize, i: usize) -> u8
 // The part of `from` from `at` on, and zeros after it.
 fn move_kinds(to: &mut [u8], from: &[u8], at: usize)
     requires { ⌜ (at ≤ length (now from)) × (length (now from) - at ≤ length (now to)) ⌝ }
-    ensures { λ _. ⌜ now (to .exit) ≡ drop at (now (from .entry)) ++ replicate (length (now (to .entry)) - (length (now (from .entry)) - at)) 0 ⌝ }
+    ensures { λ _. ⌜ now (to .exit) ≡ drop at (now (from .entry))
+        ++ replicate (length (now (to .entry)) - (length (now (from .entry)) - at)) 0 ⌝ }
 {
     let mut i: usize = 0;
     while i < to.len() {
@@ -51,7 +52,8 @@ fn later_ops(from: &[i64], at: usize, i: usize) -> i64
 // The part of `from` from `at` on, and zeros after it.
 fn move_ops(to: &mut [i64], from: &[i64], at: usize)
     requires { ⌜ (at ≤ length (now from)) × (length (now from) - at ≤ length (now to)) ⌝ }
-    ensures { λ _. ⌜ now (to .exit) ≡ drop at (now (from .entry)) ++ replicate (length (now (to .entry)) - (length (now (from .entry)) - at)) (pos 0) ⌝ }
+    ensures { λ _. ⌜ now (to .exit) ≡ drop at (now (from .entry))
+        ++ replicate (length (now (to .entry)) - (length (now (from .entry)) - at)) (pos 0) ⌝ }
 {
     let mut i: usize = 0;
     while i < to.len() {
@@ -63,7 +65,8 @@ fn move_ops(to: &mut [i64], from: &[i64], at: usize)
 
 // Both arrays all zero.
 pub fn refuse(ks: &mut [u8], os: &mut [i64]) -> Laid
-    ensures { λ r. ⌜ (r ≡ TooLong) × ((now (ks .exit) ≡ replicate (length (now (ks .entry))) 0) × (now (os .exit) ≡ replicate (length (now (os .entry))) (pos 0))) ⌝ }
+    ensures { λ r. ⌜ (r ≡ TooLong) × ((now (ks .exit) ≡ replicate (length (now (ks .entry))) 0)
+        × (now (os .exit) ≡ replicate (length (now (os .entry))) (pos 0))) ⌝ }
 {
     let zk = [0u8; 1];
     let zo = [0i64; 1];
@@ -72,7 +75,8 @@ pub fn refuse(ks: &mut [u8], os: &mut [i64]) -> Laid
     Laid::TooLong
 }
 
-// Moves the code whose kinds and operands stand from `at` to the end of two arrays to the front of the lent ones, if it has room there.
+// Moves the code whose kinds and operands stand from `at` to the end of two arrays to the front of the lent ones, if it
+// has room there.
 fn lay_code(written: &[u8], numbers: &[i64], at: usize, ks: &mut [u8], os: &mut [i64]) -> Laid
     requires { ⌜ (at ≤ 4097) × (length (now written) ≡ 4097) × (length (now numbers) ≡ 4097) ⌝ }
     ensures { λ r. ⌜ ((fs : Script) →

@@ -22,10 +22,12 @@ shared-slice-read-result : tie.Need-shared-slice-read-result
 shared-slice-read-result c = search needs
 
 returns : tie.Need-returns
-returns c = sym (getD-drop (c .before .before .args .at) (c .before .before .args .from .now) (c .before .before .args .i) 0)
+returns c = sym (getD-drop (c .before .before .args .at) (c .before .before .args .from .now)
+    (c .before .before .args .i) 0)
 
 returns-2 : tie.Need-returns-2
-returns-2 c = sym (List·getD-eq-default (drop (c .before .args .at) (c .before .args .from .now)) 0 (omega (arith, length-drop (c .before .args .at) (c .before .args .from .now), c .if1 .left)))
+returns-2 c = sym (List·getD-eq-default (drop (c .before .args .at) (c .before .args .from .now)) 0
+    (omega (arith, length-drop (c .before .args .at) (c .before .args .from .now), c .if1 .left)))
 
 pub later-kinds-spec : {M : Type 1} → statement M
 later-kinds-spec =

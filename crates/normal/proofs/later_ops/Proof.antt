@@ -26,10 +26,12 @@ shared-slice-copy-out-result : tie.Need-shared-slice-copy-out-result
 shared-slice-copy-out-result c = search needs
 
 returns : tie.Need-returns
-returns c = let a = c .before .before .args in rw (toZ-ofZ {z = getD (a .from .now) (a .at + a .i) (pos 0)} (record { sfits = c .result .given })) (sym (getD-drop (a .at) (a .from .now) (a .i) (pos 0)))
+returns c = let a = c .before .before .args in rw (toZ-ofZ {z = getD (a .from .now) (a .at + a .i) (pos 0)}
+    (record { sfits = c .result .given })) (sym (getD-drop (a .at) (a .from .now) (a .i) (pos 0)))
 
 returns-2 : tie.Need-returns-2
-returns-2 c = sym (List·getD-eq-default (drop (c .before .args .at) (c .before .args .from .now)) (pos 0) (omega (arith, length-drop (c .before .args .at) (c .before .args .from .now), c .if1 .left)))
+returns-2 c = sym (List·getD-eq-default (drop (c .before .args .at) (c .before .args .from .now)) (pos 0)
+    (omega (arith, length-drop (c .before .args .at) (c .before .args .from .now), c .if1 .left)))
 
 pub later-ops-spec : {M : Type 1} → statement M
 later-ops-spec =

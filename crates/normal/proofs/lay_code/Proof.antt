@@ -23,7 +23,8 @@ same-length-2 c = search needs
 returns : tie.Need-returns
 returns c =
     let a = c .before .before .before .before .before .before .before .before .before .args in
-    λ fs w. refused-is fs (a .ks .now) (a .os .now) (a .at) w (omega (arith, w .at, c .before .before .before .before .before .before .if1 .taken)) _ _ _
+    λ fs w. refused-is fs (a .ks .now) (a .os .now) (a .at) w
+    (omega (arith, w .at, c .before .before .before .before .before .before .if1 .taken)) _ _ _
     (c .before .before .before .refuse .ensures)
 
 sub-n : tie.Need-sub-n
@@ -41,7 +42,14 @@ same-length-4 c = search needs
 returns-2 : tie.Need-returns-2
 returns-2 c =
     let a = c .before .before .before .before .before .before .before .before .before .before .args in
-    λ fs w. refused-is fs (a .ks .now) (a .os .now) (a .at) w (omega (arith, w .at, c .before .before .before .before .before .before .before .if1 .left, c .before .before .before .before .before .before .if2 .taken)) _ _ _
+    λ fs w. refused-is fs (a .ks .now) (a .os .now) (a .at) w
+    (omega (
+      arith,
+      w .at,
+      c .before .before .before .before .before .before .before .if1 .left,
+      c .before .before
+          .before .before .before .before .if2 .taken,
+    )) _ _ _
     (c .before .before .before .refuse2 .ensures)
 
 refuse-requires-3 : tie.Need-refuse-requires-3
@@ -56,7 +64,14 @@ same-length-6 c = search needs
 returns-3 : tie.Need-returns-3
 returns-3 c =
     let a = c .before .before .before .before .before .before .before .before .before .before .before .args in
-    λ fs w. refused-is fs (a .ks .now) (a .os .now) (a .at) w (omega (arith, w .at, c .before .before .before .before .before .before .before .before .if1 .left, c .before .before .before .before .before .before .if3 .taken)) _ _ _
+    λ fs w. refused-is fs (a .ks .now) (a .os .now) (a .at) w
+    (omega (
+      arith,
+      w .at,
+      c .before .before .before .before .before .before .before .before .if1 .left,
+      c .before
+          .before .before .before .before .before .if3 .taken,
+    )) _ _ _
     (c .before .before .before .refuse3 .ensures)
 
 move-kinds-requires : tie.Need-move-kinds-requires
@@ -78,8 +93,11 @@ same-length-8 c = search needs
 returns-4 : tie.Need-returns-4
 returns-4 c =
     let a = c .before .before .before .before .before .before .before .before .before .before .before .before .args in
-    λ fs w. all-fits fs (a .ks .now) (a .os .now) (a .at) w (c .before .before .before .before .before .before .before .before .before .if1 .left) (c .before .before .before .before .before .before .before .before .if2 .left)
-    (c .before .before .before .before .before .before .before .if3 .left) _ _ (c .before .before .before .before .before .move-kinds .ensures) (c .before .move-ops .ensures)
+    λ fs w. all-fits fs (a .ks .now) (a .os .now) (a .at) w
+    (c .before .before .before .before .before .before .before .before .before .if1 .left)
+    (c .before .before .before .before .before .before .before .before .if2 .left)
+    (c .before .before .before .before .before .before .before .if3 .left) _ _
+    (c .before .before .before .before .before .move-kinds .ensures) (c .before .move-ops .ensures)
 
 pub lay-code-spec : {M : Type 1} → statement M
 lay-code-spec =

@@ -15,7 +15,9 @@ use Rattle.normal.proofs.move_ops.Lts as lts
 use Rattle.normal.proofs.later_ops.Reads as later-ops-reads
 
 abbrev Inv-loop : tie.InvT-loop
-Inv-loop to₀ from at i₀ to i = (length to ≡ length to₀) × (i ≤ length to₀) × (at ≤ length from) × (length from - at ≤ length to₀) × (to ≡ take i (drop at from ++ replicate (length to₀ - (length from - at)) (pos 0)) ++ drop i to₀)
+Inv-loop to₀ from at i₀ to i = (length to ≡ length to₀) × (i ≤ length to₀) × (at ≤ length from) ×
+    (length from - at ≤ length to₀) × (to ≡ take i
+    (drop at from ++ replicate (length to₀ - (length from - at)) (pos 0)) ++ drop i to₀)
 
 abbrev μ-loop : tie.MeasureT-loop
 μ-loop to₀ from at i₀ to i = length to₀ - i
@@ -39,13 +41,29 @@ loop-less : tie.Need-loop-less Inv-loop μ-loop
 loop-less c = search needs
 
 loop-again : tie.Need-loop-again Inv-loop μ-loop
-loop-again c = let a = c .before .before .before .args in let v = c .before .before .loop .inv in (simp length-set (v .0), omega (arith, v .0, c .before .loop-test .taken), v .2, v .3, rw (toZ-ofZ {z = c .later-ops .result} (record { sfits = c .later-ops .ok })) (moved-more (c .before .before .loop .to) (a .to .now) (drop (a .at) (a .from .now) ++ replicate (length (a .to .now) - (length (a .from .now) - a .at)) (pos 0)) (c .before .before .loop .i) (c .later-ops .result) (pos 0) (c .before .loop-test .taken) (v .0) (target-long (a .from .now) (a .to .now) (a .at) (pos 0) (v .2) (v .3)) (v .4) (c .later-ops .ensures ∙ sym (pad-at (drop (a .at) (a .from .now)) (length (a .to .now) - (length (a .from .now) - a .at)) (c .before .before .loop .i) (pos 0)))))
+loop-again c = let a = c .before .before .before .args in let v = c .before .before .loop .inv in (
+  simp length-set (v .0),
+  omega (arith, v .0, c .before .loop-test .taken),
+  v .2,
+  v .3,
+  rw
+      (toZ-ofZ {z = c .later-ops .result} (record { sfits = c .later-ops .ok }))
+      (moved-more (c .before .before .loop .to) (a .to .now)
+      (drop (a .at) (a .from .now) ++ replicate (length (a .to .now) - (length (a .from .now) - a .at)) (pos 0))
+      (c .before .before .loop .i) (c .later-ops .result) (pos 0) (c .before .loop-test .taken) (v .0)
+      (target-long (a .from .now) (a .to .now) (a .at) (pos 0) (v .2) (v .3)) (v .4)
+      (c .later-ops .ensures ∙ sym (pad-at (drop (a .at) (a .from .now))
+      (length (a .to .now) - (length (a .from .now) - a .at)) (c .before .before .loop .i) (pos 0)))),
+)
 
 same-length : tie.Need-same-length Inv-loop μ-loop
 same-length c = search needs
 
 returns : tie.Need-returns Inv-loop μ-loop
-returns c = let a = c .before .before .args in let v = c .before .loop .inv in moved-all (c .before .loop .to) (a .to .now) (drop (a .at) (a .from .now) ++ replicate (length (a .to .now) - (length (a .from .now) - a .at)) (pos 0)) (c .before .loop .i) (c .loop-test .left) (v .0) (target-long (a .from .now) (a .to .now) (a .at) (pos 0) (v .2) (v .3)) (v .4)
+returns c = let a = c .before .before .args in let v = c .before .loop .inv in moved-all (c .before .loop .to)
+    (a .to .now) (drop (a .at) (a .from .now) ++ replicate (length (a .to .now) - (length (a .from .now) - a .at))
+    (pos 0)) (c .before .loop .i) (c .loop-test .left) (v .0)
+    (target-long (a .from .now) (a .to .now) (a .at) (pos 0) (v .2) (v .3)) (v .4)
 
 pub move-ops-spec : {M : Type 1} → statement M
 move-ops-spec =

@@ -31,8 +31,10 @@ slice-aggregate-lay-code-2 c =
 
 lay-code-requires : tie.Need-lay-code-requires
 lay-code-requires c κs =
-    let a = c .before .before .before .before .before .before .before .before .before .before .before .before .before .before .args in
-    let t = c .before .before .before .before .before .before .before .before .before .before .before .before .before .before .pre in
+    let a = c .before .before .before .before .before .before .before .before .before .before .before .before .before
+    .before .args in
+    let t = c .before .before .before .before .before .before .before .before .before .before .before .before .before
+    .before .pre in
     let code = c .before .before .before .before .before .before .script-code in
     let wrote = rw (t .reads) at (code .ensures .0) in (
       omega (arith, wrote .at),
@@ -51,7 +53,8 @@ same-length-3 c = search needs
 
 returns : tie.Need-returns
 returns c =
-    let t = c .before .before .before .before .before .before .before .before .before .before .before .before .before .before .before .before .before .before .pre in
+    let t = c .before .before .before .before .before .before .before .before .before .before .before .before .before
+    .before .before .before .before .before .pre in
     let code = c .before .before .before .before .before .before .before .before .before .before .script-code in
     rw (t .reads) (
       c .before .before .before .lay-code .ensures (t .tree) (rw (t .reads) at (code .ensures .0)),
