@@ -52,12 +52,16 @@ same-length-4 c = search needs
 -- src/lib.rt:12:1
 returns-2 : tie.Need-returns-2
 returns-2 c =
-    let a = c .before .before .before .before .before .before .before .before .before .before .before .before .before .before .args in
-    let fit = c .before .before .before .before .before .before .before .before .before .before .lengths-fit in
-    let store = c .before .before .before .before .before .before .open-store in (
+    let at-open-store = c .before .before .before .before .before .before in
+    let at-if1 = at-open-store .before .before .before in
+    let at-lengths-fit = at-if1 .before in
+    let a = at-lengths-fit .before .before .before .before .args in
+    let fit = at-lengths-fit .lengths-fit in
+    let store = at-open-store .open-store in (
       opens (a .depth) (a .slots .now) (a .heads .now) (store .last .0) (store .last .1 .0) (c .cells-taken .result)
-          (sym (fit .ensures) ∙ not-false (fit .result) (c .before .before .before .before .before .before .before .before .before .if1 .left))
-          (record { slots-long = store .kept .0; heads-long = store .kept .1 .0 }) (store .ensures) (c .cells-taken .ensures),
+          (sym (fit .ensures) ∙ not-false (fit .result) (at-if1 .if1 .left))
+          (record { slots-long = store .kept .0; heads-long = store .kept .1 .0 }) (store .ensures)
+          (c .cells-taken .ensures),
       taken-few (store .last .0) (store .last .1 .0) (c .cells-taken .result) (c .cells-taken .ensures),
     )
 
