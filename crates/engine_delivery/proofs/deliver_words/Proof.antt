@@ -37,12 +37,13 @@ same-length-2 c = search needs
 
 returns-2 : tie.Need-returns-2
 returns-2 c =
-    let a = c .before .before .before .before .before .before .before .before .before .args in
-    let asked = c .before .before .before .before .before .request-fits in
+    let at-request-fits = c .before .before .before .before .before in
+    let a = at-request-fits .before .before .before .before .args in
+    let asked = at-request-fits .request-fits in
     let test = c .before .is-sound in (
       λ node file fs ok few coded same. refuses-11 fs (a .readings .now) (a .budget) (a .slots .now) (a .heads .now)
-          (sym (asked .ensures) ∙ not-false (asked .result) (c .before .before .before .before .if1 .left)) (a .depth) same
-          (sym (test .ensures) ∙ not-true (test .result) (c .if2 .taken)),
+          (sym (asked .ensures) ∙ not-false (asked .result) (c .before .before .before .before .if1 .left)) (a .depth)
+          same (sym (test .ensures) ∙ not-true (test .result) (c .if2 .taken)),
       tt,
     )
 
@@ -64,12 +65,17 @@ same-length-4 c = search needs
 
 returns-3 : tie.Need-returns-3
 returns-3 c =
-    let a = c .before .before .before .before .before .before .before .before .before .before .before .before .before .before .before .before .before .before .args in
-    let asked = c .before .before .before .before .before .before .before .before .before .before .before .before .before .before .request-fits in
-    let request = sym (asked .ensures) ∙ not-false (asked .result) (c .before .before .before .before .before .before .before .before .before .before .before .before .before .if1 .left) in
-    let test = c .before .before .before .before .before .before .before .before .before .before .is-sound in
-    let fine = sym (test .ensures) ∙ not-false (test .result) (c .before .before .before .before .before .before .before .before .before .if2 .left) in
-    let end = c .before .before .before .before .before .before .deliver-on in (
+    let at-deliver-on = c .before .before .before .before .before .before in
+    let at-if2 = at-deliver-on .before .before .before in
+    let at-is-sound = at-if2 .before in
+    let at-if1 = at-is-sound .before .before .before in
+    let at-request-fits = at-if1 .before in
+    let a = at-request-fits .before .before .before .before .args in
+    let asked = at-request-fits .request-fits in
+    let request = sym (asked .ensures) ∙ not-false (asked .result) (at-if1 .if1 .left) in
+    let test = at-is-sound .is-sound in
+    let fine = sym (test .ensures) ∙ not-false (test .result) (at-if2 .if2 .left) in
+    let end = at-deliver-on .deliver-on in (
       λ node file fs ok few coded same. delivers node file fs ok few _ coded (a .readings .now) (a .budget)
           (a .slots .now) (a .heads .now) (a .depth) same request fine
           (record { slots-long = end .kept .1 .1 .1 .0; heads-long = end .kept .1 .1 .1 .1 .0 })
