@@ -114,7 +114,8 @@ module _ {file kinds : List ℕ} {operands : List ℤ} {table kinds′ : List �
   unfolding left-of
   loads-with-laid {f} {n} r d table′ j e left deep = record {
     loads = loads-laid r d j e left;
-    coded = λ node fs g long. by fs (admitted-so a node (room kinds operands) fs g) (rw (script-reads a) at left) (rw (script-reads a) at deep) long;
+    coded = λ node fs g long. by fs (admitted-so a node (room kinds operands) fs g) (rw (script-reads a) at left)
+        (rw (script-reads a) at deep) long;
   }
     where
       a : AcceptedFile file f n
