@@ -74,7 +74,8 @@ module _ {file kinds : List ℕ} {operands : List ℤ} {l d : ℕ} {table kinds�
       end-at r slots′ heads′ ≡ delivery-end fs readings budget slots heads
   ends e fs q same =
       let coded = h .coded (h .loads .node) fs q long in
-      e (h .loads .node) file fs (admitted-judged (h .loads .node) (h .loads .node) fs file (room kinds operands) q) (coded .0) (coded .1) same
+      e (h .loads .node) file fs (admitted-judged (h .loads .node) (h .loads .node) fs file (room kinds operands) q)
+      (coded .0) (coded .1) same
 
   module _ {slots′ : List ℤ} {heads′ : List ℕ} where
     pub replies-stopped : {number steps cells : ℕ} →

@@ -31,7 +31,11 @@ enum-known-depth : tie.Need-enum-known-depth
 enum-known-depth c = search needs
 
 slice-aggregate-deliver-words : tie.Need-slice-aggregate-deliver-words
-slice-aggregate-deliver-words c = omega (arith, c .before .before .before .before .before .before .before .before .before .before .load-with .kept .1 .1 .1 .0)
+slice-aggregate-deliver-words c = omega (
+  arith,
+  c .before .before .before .before .before .before .before .before
+      .before .before .load-with .kept .1 .1 .1 .0,
+)
 
 deliver-words-requires : tie.Need-deliver-words-requires
 deliver-words-requires c κs = search needs
@@ -71,22 +75,30 @@ same-length-4 c = search needs
 
 returns : tie.Need-returns
 returns c =
-    let a = c .before .before .before .before .before .before .before .before .before .before .before .before .before .before .before .before .before .before .before .before .before .before .before .before .before .before .before .args in
-    let loaded = c .before .before .before .before .before .before .before .before .before .before .before .before .before .before .before .before .before .before .before .before .load-with in
-    let h = subst (λ r. LoadsWith (a .file .now) (a .kinds .now) (a .operands .now) (replicate 8256 0) r (loaded .last .1 .0)
-    (loaded .last .1 .1 .0) (loaded .last .1 .1 .1 .0)) (c .before .before .before .before .before .before .before .before .before .before .before .before .before .before .depth .given .1) (loaded .ensures) in
-    let part = c .before .before .before .before .before .before .before .deliver-words in
+    let at-deliver-words = c .before .before .before .before .before .before .before in
+    let at-depth = at-deliver-words .before .before .before .before .before .before .before in
+    let at-load-with = at-depth .before .before .before .before .before .before in
+    let a = at-load-with .before .before .before .before .before .before .before .args in
+    let loaded = at-load-with .load-with in
+    let h = subst
+    (λ r. LoadsWith (a .file .now) (a .kinds .now) (a .operands .now) (replicate 8256 0) r (loaded .last .1 .0)
+    (loaded .last .1 .1 .0) (loaded .last .1 .1 .1 .0)) (at-depth .depth .given .1) (loaded .ensures) in
+    let part = at-deliver-words .deliver-words in
     let e = subst (λ r. Delivers (loaded .last .1 .0) (loaded .last .1 .1 .0) (loaded .last .1 .1 .1 .0) (a .slots .now)
-    (a .heads .now) (a .readings .now) (c .before .before .before .before .before .before .before .before .before .before .before .before .before .before .depth .given .0 .1 .0) (a .budget) r (part .last .1 .1 .1 .0)
+    (a .heads .now) (a .readings .now) (at-depth .depth .given .0 .1 .0) (a .budget) r (part .last .1 .1 .1 .0)
     (part .last .1 .1 .1 .1 .0)) (c .before .before .number .given .1) (part .ensures .0) in
     let parts = c .before .before .number .given .0 in
     let few = subst Small (c .before .before .number .given .1) (part .ensures .1) in
     let small = packed-small {number = parts .0} {node = 0} {count = parts .1 .0} {cells = parts .1 .1 .0}
-    (omega (arith, c .before .known-told2 .given .0 .1)) (omega arith) (omega (arith, few .0)) (omega (arith, few .1)) in
-    subst (λ x. Replies (a .file .now) (λ node. engine-deliver node (a .file .now) (a .kinds .now) (a .operands .now)
-    (a .slots .now) (a .heads .now) (a .readings .now) (a .budget)) x (loaded .last .1 .0) (loaded .last .1 .1 .0)
-    (part .last .1 .1 .1 .0) (part .last .1 .1 .1 .1 .0)) (sym (c .pack .ensures ∙ small)) (replies-stopped {table = replicate 8256 0} (a .slots .now) (a .heads .now)
-    (a .readings .now) (a .budget) h (omega arith) e)
+    (omega (arith, c .before .known-told2 .given .0 .1)) (omega arith) (omega (arith, few .0))
+    (omega (arith, few .1)) in
+    subst
+    (λ x. Replies (a .file .now)
+    (λ node. engine-deliver node (a .file .now) (a .kinds .now) (a .operands .now) (a .slots .now)
+    (a .heads .now) (a .readings .now) (a .budget)) x (loaded .last .1 .0) (loaded .last .1 .1 .0)
+    (part .last .1 .1 .1 .0) (part .last .1 .1 .1 .1 .0)) (sym (c .pack .ensures ∙ small))
+    (replies-stopped {table = replicate 8256 0} (a .slots .now) (a .heads .now) (a .readings .now) (a .budget) h
+    (omega arith) e)
 
 same-length-5 : tie.Need-same-length-5
 same-length-5 c = search needs
@@ -103,21 +115,30 @@ same-length-8 c = search needs
 returns-2 : tie.Need-returns-2
 unfolding packed
 returns-2 c =
-    let a = c .before .before .before .before .before .before .before .before .before .before .before .before .before .before .before .before .before .before .before .before .before .before .before .before .before .before .before .before .before .before .before .before .args in
-    let loaded = c .before .before .before .before .before .before .before .before .before .before .before .before .before .before .before .before .before .before .before .before .before .before .before .before .before .load-with in
-    let h = subst (λ r. LoadsWith (a .file .now) (a .kinds .now) (a .operands .now) (replicate 8256 0) r (loaded .last .1 .0)
-    (loaded .last .1 .1 .0) (loaded .last .1 .1 .1 .0)) (c .before .before .before .before .before .before .before .before .before .before .before .before .before .before .before .before .before .before .before .depth .given .1) (loaded .ensures) in
-    let part = c .before .before .before .before .before .before .before .before .before .before .before .before .deliver-words in
+    let at-number2 = c .before .before .before .before .before .before .before in
+    let at-deliver-words = at-number2 .before .before .before .before .before in
+    let at-depth = at-deliver-words .before .before .before .before .before .before .before in
+    let at-load-with = at-depth .before .before .before .before .before .before in
+    let a = at-load-with .before .before .before .before .before .before .before .args in
+    let loaded = at-load-with .load-with in
+    let h = subst
+    (λ r. LoadsWith (a .file .now) (a .kinds .now) (a .operands .now) (replicate 8256 0) r (loaded .last .1 .0)
+    (loaded .last .1 .1 .0) (loaded .last .1 .1 .1 .0)) (at-depth .depth .given .1) (loaded .ensures) in
+    let part = at-deliver-words .deliver-words in
     let e = subst (λ r. Delivers (loaded .last .1 .0) (loaded .last .1 .1 .0) (loaded .last .1 .1 .1 .0) (a .slots .now)
-    (a .heads .now) (a .readings .now) (c .before .before .before .before .before .before .before .before .before .before .before .before .before .before .before .before .before .before .before .depth .given .0 .1 .0) (a .budget) r (part .last .1 .1 .1 .0)
-    (part .last .1 .1 .1 .1 .0)) (c .before .before .before .before .before .before .before .number2 .given .1) (part .ensures .0) in
+    (a .heads .now) (a .readings .now) (at-depth .depth .given .0 .1 .0) (a .budget) r (part .last .1 .1 .1 .0)
+    (part .last .1 .1 .1 .1 .0)) (at-number2 .number2 .given .1) (part .ensures .0) in
     let cleared = c .before .before .before .refuse in
-    let answer : c .before .before .before .before .before .before .before .number2 .given .0 .0 ≡ packed (c .before .before .before .before .before .before .before .number2 .given .0 .0) 0 0 0 = omega arith in
-    subst (λ x. Replies (a .file .now) (λ node. engine-deliver node (a .file .now) (a .kinds .now) (a .operands .now)
-    (a .slots .now) (a .heads .now) (a .readings .now) (a .budget)) x (cleared .last .0) (cleared .last .1 .0) (part .last .1 .1 .1 .0)
-    (part .last .1 .1 .1 .1 .0)) (sym answer)
-    (replies-refused {table = replicate 8256 0} (a .slots .now) (a .heads .now) (a .readings .now) (a .budget) h (omega arith) e
-    (kept-zeros 0 (length (loaded .last .1 .0)) (length (a .kinds .now)) (loaded .kept .1 .0) (cleared .ensures .1 .0))
+    let answer : at-number2 .number2 .given .0 .0 ≡ packed (at-number2 .number2 .given .0 .0) 0 0 0 = omega arith in
+    subst
+    (λ x. Replies (a .file .now)
+    (λ node. engine-deliver node (a .file .now) (a .kinds .now) (a .operands .now) (a .slots .now)
+    (a .heads .now) (a .readings .now) (a .budget)) x (cleared .last .0) (cleared .last .1 .0)
+    (part .last .1 .1 .1 .0) (part .last .1 .1 .1 .1 .0)) (sym answer)
+    (replies-refused {table = replicate 8256 0} (a .slots .now) (a .heads .now) (a .readings .now) (a .budget) h
+    (omega arith) e
+    (kept-zeros 0 (length (loaded .last .1 .0)) (length (a .kinds .now)) (loaded .kept .1 .0)
+    (cleared .ensures .1 .0))
     (kept-zeros (pos 0) (length (loaded .last .1 .1 .0)) (length (a .operands .now)) (loaded .kept .1 .1 .0)
     (cleared .ensures .1 .1)))
 
@@ -130,9 +151,11 @@ same-length-10 c = search needs
 returns-3 : tie.Need-returns-3
 unfolding engine-deliver
 returns-3 c =
-    let a = c .before .before .before .before .before .before .before .before .before .before .before .before .before .before .args in
-    let loaded = c .before .before .before .before .before .before .before .load-with in
-    let h = subst (λ r. LoadsWith (a .file .now) (a .kinds .now) (a .operands .now) (replicate 8256 0) r (loaded .last .1 .0)
+    let at-load-with = c .before .before .before .before .before .before .before in
+    let a = at-load-with .before .before .before .before .before .before .before .args in
+    let loaded = at-load-with .load-with in
+    let h = subst
+    (λ r. LoadsWith (a .file .now) (a .kinds .now) (a .operands .now) (replicate 8256 0) r (loaded .last .1 .0)
     (loaded .last .1 .1 .0) (loaded .last .1 .1 .1 .0)) (c .before .answer .given .1) (loaded .ensures) in
     replies-refusal (deliver-for (a .kinds .now) (a .operands .now) (a .slots .now) (a .heads .now) (a .readings .now)
     (a .budget)) (deliver-refuses (a .kinds .now) (a .operands .now) (a .slots .now) (a .heads .now) (a .readings .now)

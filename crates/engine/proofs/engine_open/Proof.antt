@@ -71,18 +71,27 @@ same-length-4 c = search needs
 returns : tie.Need-returns
 unfolding engine-open
 returns c =
-    let a = c .before .before .before .before .before .before .before .before .before .before .before .before .before .before .before .before .before .before .before .before .before .before .args in
-    let loaded = c .before .before .before .before .before .before .before .before .before .before .before .before .before .before .before .before .load in
-    let h = subst (λ r. Loads (a .file .now) (a .kinds .now) (a .operands .now) r (loaded .last .1 .0) (loaded .last .1 .1 .0))
-    (c .before .before .before .before .before .before .before .before .before .before .before .depth .given .1) (loaded .ensures) in
-    let part = c .before .before .before .before .before .before .before .open-words in
-    let e = subst (λ r. left r (c .before .before .before .before .before .before .before .open-words .last .0) (c .before .before .before .before .before .before .before .open-words .last .1 .0) ≡ opened-left (c .before .before .before .before .before .before .before .before .before .before .before .depth .given .0 .1 .0) (a .slots .now) (a .heads .now))
+    let at-open-words = c .before .before .before .before .before .before .before in
+    let at-depth = at-open-words .before .before .before .before in
+    let at-load = at-depth .before .before .before .before .before in
+    let a = at-load .before .before .before .before .before .before .args in
+    let loaded = at-load .load in
+    let h = subst
+    (λ r. Loads (a .file .now) (a .kinds .now) (a .operands .now) r (loaded .last .1 .0) (loaded .last .1 .1 .0))
+    (at-depth .depth .given .1) (loaded .ensures) in
+    let part = at-open-words .open-words in
+    let e = subst
+    (λ r. left r (part .last .0) (part .last .1 .0)
+    ≡ opened-left (at-depth .depth .given .0 .1 .0) (a .slots .now) (a .heads .now))
     (c .before .before .n .given .1) (part .ensures .0) in
     let few = subst FewCells (c .before .before .n .given .1) (part .ensures .1) in
     let small = packed-small {number = 0} {node = 0} {count = 0} {cells = c .before .before .n .given .0 .0}
     (omega arith) (omega arith) (omega arith) (omega (arith, few)) in
-    subst (λ x. Replies (a .file .now) (λ node. engine-open node (a .file .now) (a .kinds .now) (a .operands .now) (a .slots .now) (a .heads .now)) x
-    (loaded .last .1 .0) (loaded .last .1 .1 .0) (c .before .before .before .before .before .before .before .open-words .last .0) (c .before .before .before .before .before .before .before .open-words .last .1 .0)) (sym (c .pack .ensures ∙ small))
+    subst
+    (λ x. Replies (a .file .now)
+    (λ node. engine-open node (a .file .now) (a .kinds .now) (a .operands .now) (a .slots .now) (a .heads .now))
+    x (loaded .last .1 .0) (loaded .last .1 .1 .0) (part .last .0) (part .last .1 .0))
+    (sym (c .pack .ensures ∙ small))
     (replies-cells (open-serves (a .kinds .now) (a .operands .now) (a .slots .now) (a .heads .now)) h e)
 
 -- src/lib.rt:20:1
@@ -105,17 +114,26 @@ same-length-8 c = search needs
 returns-2 : tie.Need-returns-2
 unfolding engine-open packed
 returns-2 c =
-    let a = c .before .before .before .before .before .before .before .before .before .before .before .before .before .before .before .before .before .before .before .before .before .before .before .before .before .before .args in
-    let loaded = c .before .before .before .before .before .before .before .before .before .before .before .before .before .before .before .before .before .before .before .before .load in
-    let h = subst (λ r. Loads (a .file .now) (a .kinds .now) (a .operands .now) r (loaded .last .1 .0) (loaded .last .1 .1 .0))
-    (c .before .before .before .before .before .before .before .before .before .before .before .before .before .before .before .depth .given .1) (loaded .ensures) in
-    let part = c .before .before .before .before .before .before .before .before .before .before .before .open-words in
+    let at-enum-told = c .before .before .before .before .before .before in
+    let at-open-words = at-enum-told .before .before .before .before .before in
+    let at-depth = at-open-words .before .before .before .before in
+    let at-load = at-depth .before .before .before .before .before in
+    let a = at-load .before .before .before .before .before .before .args in
+    let loaded = at-load .load in
+    let h = subst
+    (λ r. Loads (a .file .now) (a .kinds .now) (a .operands .now) r (loaded .last .1 .0) (loaded .last .1 .1 .0))
+    (at-depth .depth .given .1) (loaded .ensures) in
+    let part = at-open-words .open-words in
     let cleared = c .before .before .before .refuse in
-    let e = subst (λ r. left r (c .before .before .before .before .before .before .before .before .before .before .before .open-words .last .0) (c .before .before .before .before .before .before .before .before .before .before .before .open-words .last .1 .0) ≡ opened-left (c .before .before .before .before .before .before .before .before .before .before .before .before .before .before .before .depth .given .0 .1 .0) (a .slots .now) (a .heads .now))
-    (c .before .before .before .before .before .before .enum-told .given .1) (part .ensures .0) in
+    let e = subst
+    (λ r. left r (part .last .0) (part .last .1 .0)
+    ≡ opened-left (at-depth .depth .given .0 .1 .0) (a .slots .now) (a .heads .now))
+    (at-enum-told .enum-told .given .1) (part .ensures .0) in
     replies-unsound (open-serves (a .kinds .now) (a .operands .now) (a .slots .now) (a .heads .now)) h e
-    (kept-zeros 0 (length (loaded .last .1 .0)) (length (a .kinds .now)) (loaded .kept .1 .0) (cleared .ensures .1 .0))
-    (kept-zeros (pos 0) (length (loaded .last .1 .1 .0)) (length (a .operands .now)) (loaded .kept .1 .1 .0) (cleared .ensures .1 .1))
+    (kept-zeros 0 (length (loaded .last .1 .0)) (length (a .kinds .now)) (loaded .kept .1 .0)
+    (cleared .ensures .1 .0))
+    (kept-zeros (pos 0) (length (loaded .last .1 .1 .0)) (length (a .operands .now)) (loaded .kept .1 .1 .0)
+    (cleared .ensures .1 .1))
 
 -- src/lib.rt:20:1
 same-length-9 : tie.Need-same-length-9
@@ -129,9 +147,11 @@ same-length-10 c = search needs
 returns-3 : tie.Need-returns-3
 unfolding engine-open
 returns-3 c =
-    let a = c .before .before .before .before .before .before .before .before .before .before .before .before .args in
-    let loaded = c .before .before .before .before .before .before .load in
-    let h = subst (λ r. Loads (a .file .now) (a .kinds .now) (a .operands .now) r (loaded .last .1 .0) (loaded .last .1 .1 .0))
+    let at-load = c .before .before .before .before .before .before in
+    let a = at-load .before .before .before .before .before .before .args in
+    let loaded = at-load .load in
+    let h = subst
+    (λ r. Loads (a .file .now) (a .kinds .now) (a .operands .now) r (loaded .last .1 .0) (loaded .last .1 .1 .0))
     (c .before .answer .given .1) (loaded .ensures) in
     replies-refused (open-serves (a .kinds .now) (a .operands .now) (a .slots .now) (a .heads .now)) h
 
