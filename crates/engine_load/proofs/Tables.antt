@@ -41,8 +41,7 @@ module _ {file : List ℕ} {f n : ℕ} (a : AcceptedFile file f n) where
   unfolding admitted
   admitted-so node lines fs e = by (code-fits (a .tree) lines) refl (rw (a .judged-so node) at e)
     where
-      by : (t : Bool) → code-fits (a .tree) lines ≡ t → cond t (C.accepted (a .tree)) (C.refused 9 0) ≡ C.accepted fs
-          →
+      by : (t : Bool) → code-fits (a .tree) lines ≡ t → cond t (C.accepted (a .tree)) (C.refused 9 0) ≡ C.accepted fs →
           (fs ≡ a .tree) × (code-fits (a .tree) lines ≡ true)
       by true q g = (let z : fs ≡ a .tree = cc in z, q)
       by false q g = absurd (let z : _≡_ {A = ℕ} 0 1 = cc in omega arith)
@@ -137,6 +136,5 @@ module _ {file kinds : List ℕ} {operands : List ℤ} {table kinds′ : List �
   unfolding admitted
   loads-with-refusal {n} {p} j e k o = record {
     loads = loads-refusal j e k o;
-    coded = λ node fs g long. no-script n p fs (rw (refused-so j) at
-        (admitted-free node p fs file (room kinds operands) g));
+    coded = λ node fs g long. no-script n p fs (rw (refused-so j) at (admitted-free node p fs file (room kinds operands) g));
   }

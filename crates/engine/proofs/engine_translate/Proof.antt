@@ -13,31 +13,24 @@ use Rattle.engine.proofs.engine_translate.Lts as lts
 use Rattle.engine_load.proofs.load.Reads as load-reads
 use Rattle.words.proofs.pack.Reads as pack-reads
 
--- src/lib.rt:13:11
 load-requires : tie.Need-load-requires
 load-requires c κs = search needs
 
--- src/lib.rt:14:23
 enum-known-lines : tie.Need-enum-known-lines
 enum-known-lines c = search needs
 
--- src/lib.rt:14:36
 pack-requires : tie.Need-pack-requires
 pack-requires c κs = search needs
 
--- src/lib.rt:15:25
 enum-known-answer : tie.Need-enum-known-answer
 enum-known-answer c = search needs
 
--- src/lib.rt:8:1
 same-length : tie.Need-same-length
 same-length c = search needs
 
--- src/lib.rt:8:1
 same-length-2 : tie.Need-same-length-2
 same-length-2 c = search needs
 
--- src/lib.rt:8:1
 returns : tie.Need-returns
 returns c =
     let a = c .before .before .before .before .before .before .before .before .before .before .before .before .args in
@@ -51,15 +44,12 @@ returns c =
     (loaded .last .1 .1 .0))
     (sym (c .pack .ensures ∙ small)) (translates h)
 
--- src/lib.rt:8:1
 same-length-3 : tie.Need-same-length-3
 same-length-3 c = search needs
 
--- src/lib.rt:8:1
 same-length-4 : tie.Need-same-length-4
 same-length-4 c = search needs
 
--- src/lib.rt:8:1
 returns-2 : tie.Need-returns-2
 returns-2 c =
     let a = c .before .before .before .before .before .before .before .before .before .before .before .args in

@@ -37,8 +37,9 @@ same-length-2 c = search needs
 
 returns-2 : tie.Need-returns-2
 returns-2 c =
-    let a = c .before .before .before .before .before .before .before .before .before .args in
-    let asked = c .before .before .before .before .before .request-fits in
+    let at-request-fits = c .before .before .before .before .before in
+    let a = at-request-fits .before .before .before .before .args in
+    let asked = at-request-fits .request-fits in
     let test = c .before .is-sound in (
       λ node file fs ok few coded same. refuses-11 fs (a .readings .now) (a .budget) (a .slots .now) (a .heads .now)
           (sym (asked .ensures) ∙ not-false (asked .result) (c .before .before .before .before .if1 .left)) (a .depth)

@@ -20,16 +20,16 @@ use Rattle.script_read.proofs.high_at.Reads as high-at-reads
 use Rattle.words.proofs.pack.Reads as pack-reads
 
 -- the verdict, once it is known to accept
-verdict : (c : tie.After-known-told) → Judges (c .before .before .before .before .before .before .before .args .file
-    .now)
+verdict : (c : tie.After-known-told) →
+    Judges (c .before .before .before .before .before .before .before .args .file .now)
     (Accepted (c .before .functions .given .0 .0) (c .before .functions .given .0 .1 .0))
 verdict c = subst (Judges (c .before .before .before .before .before .before .before .args .file .now))
     (c .before .functions .given .1)
     (c .before .before .before .judge .ensures)
 
 -- the verdict, once it is known to refuse
-refusal : (c : tie.After-known-told3) → Judges (c .before .before .before .before .before .before .before .args .file
-    .now)
+refusal : (c : tie.After-known-told3) →
+    Judges (c .before .before .before .before .before .before .before .args .file .now)
     (Refused (c .before .number .given .0 .0) (c .before .number .given .0 .1 .0))
 refusal c = subst (Judges (c .before .before .before .before .before .before .before .args .file .now))
     (c .before .number .given .1)
@@ -68,17 +68,17 @@ high-at-requires : tie.Need-high-at-requires
 high-at-requires c κs = search needs
 
 translate-accepted-requires : tie.Need-translate-accepted-requires
-translate-accepted-requires c κs = translatable (accepted-file _ _ _
-    (verdict (c .before .before .before .before .before .before)))
+translate-accepted-requires c κs = translatable
+    (accepted-file _ _ _ (verdict (c .before .before .before .before .before .before)))
 
 enum-known-n : tie.Need-enum-known-n
 enum-known-n c = search needs
 
 fill-starts-requires : tie.Need-fill-starts-requires
 fill-starts-requires c κs =
-    file-taken (accepted-file _ _ _ (verdict
-    (c .before .before .before .before .before .before .before .before .before .before .before .before .before
-    .before .before .before .before .before))) .readable .few
+    file-taken
+    (accepted-file _ _ _ (verdict (c .before .before .before .before .before .before .before .before .before
+    .before .before .before .before .before .before .before .before .before))) .readable .few
 
 cast-t36 : tie.Need-cast-t36
 cast-t36 c = search needs
@@ -109,24 +109,22 @@ same-length-3 c = search needs
 
 returns : tie.Need-returns
 returns c =
-    let a = c .before .before .before .before .before .before .before .before .before .before .before .before .before
-    .before .before .before .before .before .before .before .before .before .before .before .before .before
-    .before .before .args in
-    let laid = c .before .before .before .before .before .before .before .before .before .before .before .before
-    .before .before .translate-accepted in
-    let d = c .before .before .before .before .before .before .before .before .before .before .before .before .before
-    .before .before .before .before .before .high-at in
-    let j = verdict (c .before .before .before .before .before .before .before .before .before .before .before .before
-    .before .before .before .before .before .before .before .before .before) in
-    let functions = c .before .before .before .before .before .before .before .before .before .before .before .before
-    .before .before .before .before .before .before .before .before .before .before .functions .given .0 .0 in
+    let at-n = c .before .before .before .before .before .before .before in
+    let at-translate-accepted = at-n .before .before .before .before .before .before .before in
+    let at-high-at = at-translate-accepted .before .before .before .before in
+    let accepted = at-high-at .before .before .before in
+    let at-functions = accepted .before in
+    let a = at-functions .before .before .before .before .before .before .args in
+    let laid = at-translate-accepted .translate-accepted in
+    let d = at-high-at .high-at in
+    let j = verdict accepted in
+    let functions = at-functions .functions .given .0 .0 in
     let table = laid .last .1 .1 .1 .0 in
     let kinds = laid .last .1 .1 .1 .1 .0 in
     let operands = laid .last .1 .1 .1 .1 .1 .0 in
     rw (c .before .before .fill-starts .ensures) (subst
     (λ r. LoadsWith (a .file .now) (a .kinds .now) (a .operands .now) (a .table .now) (ready (d .result) r)
-    kinds operands (filled functions kinds operands r table))
-    (c .before .before .before .before .before .before .before .n .given .1)
+    kinds operands (filled functions kinds operands r table)) (at-n .n .given .1)
     (loads-with-laid (laid .result) (d .result) table j (d .ensures) (laid .ensures .0) (laid .ensures .1)))
 
 same-length-4 : tie.Need-same-length-4
@@ -140,14 +138,15 @@ same-length-6 c = search needs
 
 returns-2 : tie.Need-returns-2
 returns-2 c =
-    let a = c .before .before .before .before .before .before .before .before .before .before .before .before .before
-    .before .before .before .before .before .before .before .before .args in
-    let laid = c .before .before .before .before .before .before .before .translate-accepted in
-    let d = c .before .before .before .before .before .before .before .before .before .before .before .high-at in
-    let j = verdict (c .before .before .before .before .before .before .before .before .before .before .before .before
-    .before .before) in
-    let functions = c .before .before .before .before .before .before .before .before .before .before .before .before
-    .before .before .before .functions .given .0 .0 in
+    let at-translate-accepted = c .before .before .before .before .before .before .before in
+    let at-high-at = at-translate-accepted .before .before .before .before in
+    let accepted = at-high-at .before .before .before in
+    let at-functions = accepted .before in
+    let a = at-functions .before .before .before .before .before .before .args in
+    let laid = at-translate-accepted .translate-accepted in
+    let d = at-high-at .high-at in
+    let j = verdict accepted in
+    let functions = at-functions .functions .given .0 .0 in
     let table = laid .last .1 .1 .1 .0 in
     let kinds = laid .last .1 .1 .1 .1 .0 in
     let operands = laid .last .1 .1 .1 .1 .1 .0 in

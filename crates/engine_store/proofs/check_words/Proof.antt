@@ -11,11 +11,9 @@ use Rattle.engine_store.proofs.check_words.Lts as lts
 use Rattle.store_check.proofs.is_sound.Reads as is-sound-reads
 use Rattle.store_words.proofs.cells_taken.Reads as cells-taken-reads
 
--- src/lib.rt:28:9
 is-sound-requires : tie.Need-is-sound-requires
 is-sound-requires c κs = search needs
 
--- src/lib.rt:29:9
 returns : tie.Need-returns
 returns c =
     let a = c .before .before .before .args in
@@ -25,11 +23,9 @@ returns c =
       tt,
     )
 
--- src/lib.rt:31:19
 cells-taken-requires : tie.Need-cells-taken-requires
 cells-taken-requires c κs = search needs
 
--- src/lib.rt:24:1
 returns-2 : tie.Need-returns-2
 returns-2 c =
     let a = c .before .before .before .before .args in

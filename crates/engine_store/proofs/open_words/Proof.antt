@@ -12,19 +12,15 @@ use Rattle.store_reset.proofs.open_store.Reads as open-store-reads
 use Rattle.store_words.proofs.cells_taken.Reads as cells-taken-reads
 use Rattle.store_words.proofs.lengths_fit.Reads as lengths-fit-reads
 
--- src/lib.rt:16:9
 lengths-fit-requires : tie.Need-lengths-fit-requires
 lengths-fit-requires c κs = search needs
 
--- src/lib.rt:17:9
 same-length : tie.Need-same-length
 same-length c = search needs
 
--- src/lib.rt:17:9
 same-length-2 : tie.Need-same-length-2
 same-length-2 c = search needs
 
--- src/lib.rt:17:9
 returns : tie.Need-returns
 returns c =
     let a = c .before .before .before .before .before .args in
@@ -34,23 +30,18 @@ returns c =
       tt,
     )
 
--- src/lib.rt:19:5
 open-store-requires : tie.Need-open-store-requires
 open-store-requires c κs = search needs
 
--- src/lib.rt:20:19
 cells-taken-requires : tie.Need-cells-taken-requires
 cells-taken-requires c κs = search needs
 
--- src/lib.rt:12:1
 same-length-3 : tie.Need-same-length-3
 same-length-3 c = search needs
 
--- src/lib.rt:12:1
 same-length-4 : tie.Need-same-length-4
 same-length-4 c = search needs
 
--- src/lib.rt:12:1
 returns-2 : tie.Need-returns-2
 returns-2 c =
     let a = c .before .before .before .before .before .before .before .before .before .before .before .before .before
