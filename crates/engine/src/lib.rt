@@ -93,7 +93,7 @@ pub extern "C" fn engine_deliver(
         (now (slots .entry)) (now (heads .entry)) (now (readings .entry)) budget)
         r (now (kinds .exit)) (now (operands .exit)) (now (slots .exit)) (now (heads .exit)) ⌝ }
 {
-    let mut table = [0u8; 8256];
+    let mut table = [0u8; 16448];
     match engine_load::load_with(file, kinds, operands, &mut table) {
         Loaded::Ready(_, depth) => {
             let ended = engine_delivery::deliver_words(

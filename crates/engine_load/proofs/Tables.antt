@@ -1,14 +1,15 @@
 -- The table of a loaded script is what the machine needs.
-use Prim.Native.Nat.{ℕ, _+_, _-_, _*_, _<_, _≤_}
+use Prim.Native.Nat.{ℕ, zero, suc, _+_, _-_, _*_, _<_, _≤_}
 use native.Mathlib.Omega.{arith}
 use mathlib.Core.Bool.{Bool, true, false, cond}
-use mathlib.Core.Path.{_≡_, refl, ap, subst, _∙_}
-use mathlib.Core.List.{List}
+use mathlib.Core.Path.{_≡_, refl, sym, ap, subst, _∙_}
+use mathlib.Core.List.{List, [], _∷_, _++_, map}
 use lib.IntN.{ℤ, pos}
-use lib.ListN.{length, replicate}
+use lib.ListN.{getD, length, replicate, length-append, length-map, length-replicate}
 use borrow.Author.Tests.{leb-true}
 use Rattle.semantics.specs.Syntax.{Script, function-at}
 use Rattle.semantics.specs.File.{script}
+use Rattle.semantics.specs.Code.{Row}
 use Rattle.semantics.specs.Annotate.{code, depths-of}
 use Rattle.semantics.specs.Calls as C
 use Rattle.semantics.specs.Calls.{packed, admitted, room, code-fits, code-kinds, code-operands}
@@ -22,9 +23,11 @@ use Rattle.sound_annotation.specs.Accepting.{judged-clean}
 use Rattle.machine_code.specs.Reading.{depth-in, start-in}
 use Rattle.machine_positions.specs.Machine as M
 use Rattle.machine_laws.specs.Rows.{At}
-use Rattle.machine_table.specs.Starts.{starts-from}
+use Rattle.machine_table.specs.Positions.{ends-from, starts-from, filled}
+use Rattle.machine_table.proofs.Filling.{filled-long}
 use Rattle.machine_scripts.specs.Script.{body-at, Coded, code-written}
-use Rattle.machine_scripts.specs.Starts.{starts-below, starts-stand}
+use Rattle.machine_scripts.specs.Ends.{Roomy, ends-below, ends-long, tree-ends}
+use Rattle.machine_scripts.specs.Starts.{Jumping, starts-below, starts-ends, starts-stand}
 use Rattle.normal_script.specs.Depths.{DepthsFrom, Depths-by}
 use Rattle.normal.specs.declared.Laid.{Laid}
 use Rattle.normal.specs.declared.Laid.the-variants.{Lines, TooLong}
@@ -33,6 +36,13 @@ use Rattle.engine_load.specs.declared.Loaded.the-variants as L
 use Rattle.engine_load.specs.Loading.{Loads, LoadsWith}
 use Rattle.engine_load.proofs.Laws.{AcceptedFile, accepted-file, file-taken, script-reads, ready, refused-so}
 use Rattle.engine_load.proofs.Laws.{loads-laid, loads-refusal}
+
+zeros-past : (xs : List ℕ) (k q : ℕ) → length xs ≤ q → getD (xs ++ replicate k 0) q 0 ≡ 0
+zeros-past [] zero q h = refl
+zeros-past [] (suc k) zero h = refl
+zeros-past [] (suc k) (suc q) h = zeros-past [] k q (omega arith)
+zeros-past (x ∷ xs) k zero h = absurd (omega arith)
+zeros-past (x ∷ xs) k (suc q) h = zeros-past xs k q (omega arith)
 
 -- an accepted file is admitted just where its code fits
 module _ {file : List ℕ} {f n : ℕ} (a : AcceptedFile file f n) where
@@ -71,37 +81,89 @@ module _ {file : List ℕ} {f n : ℕ} (a : AcceptedFile file f n) where
     written = code-written fs (replicate (length kinds - length (code fs)) 0)
         (replicate (length operands - length (code fs)) (pos 0))
 
-    stand : (table : List ℕ) → 8256 ≤ length table → (g : ℕ) → g < length fs →
+    -- no row behind the code
+    past : (q : ℕ) → length (code fs) ≤ q → getD ks q 0 ≡ 0
+    past q h = zeros-past (map (λ r. r .kind) (code fs)) (length kinds - length (code fs)) q
+        (omega (arith, h, length-map (code fs) (λ (r : Row). r .kind)))
+
+    jumping : (table : List ℕ) → Roomy table → Jumping ks os fs (ends-from (length (code fs)) ks table)
+    jumping table long = tree-ends ks os (length (code fs)) short past table long
+
+    stand : (table : List ℕ) → Roomy table → Jumping ks os fs table → (g : ℕ) → g < length fs →
         start-in (starts-from (length fs) ks os 0 0 table) g ≡ body-at fs fs g
     unfolding code
-    stand table long g l =
+    stand table long jumps g l =
         let name : 0 + g ≡ g = omega arith in
         let place : 0 + body-at fs fs g ≡ body-at fs fs g = omega arith in
         subst (λ (m : ℕ). start-in (starts-from (length fs) ks os 0 0 table) m ≡ body-at fs fs g) name
-        (starts-stand ks os fs fs 0 0 table written (judged-clean 0 file fs (a .judged-so 0) .limits .1) long
+        (starts-stand ks os fs fs 0 0 table written (judged-clean 0 file fs (a .judged-so 0) .limits .1) long jumps
         (omega (arith, few)) (omega (arith, short)) g l ∙ place)
 
-    pub coded-so : {table table′ : List ℕ} → DepthsFrom 0 fs table table′ → 8256 ≤ length table →
-        (length fs ≤ 32) × Coded fs (M.code ks os (starts-from f ks os 0 0 table′))
+    -- the table after the pass over the rows and the one over the functions
+    passed : {table table′ : List ℕ} → DepthsFrom 0 fs table table′ → Roomy table′ → Roomy table →
+        Coded fs (M.code ks os (starts-from f ks os 0 0 (ends-from (length (code fs)) ks table′)))
     unfolding depth-in
-    coded-so {table} {table′} h long = (
-      few,
-      record {
-        written = written;
-        short = short;
-        starts = λ g l. subst (λ (m : ℕ). start-in (starts-from m ks os 0 0 table′) g ≡ body-at fs fs g) functions-are
-            (stand table′ (omega (arith, h .long)) g l);
-        depths = λ g x l m. starts-below ks os fs f 0 0 table′ (256 * g + x) (omega (arith, few))
-            ∙ h .there g x (omega arith) l m (omega (arith, few));
-      },
-    )
+    passed {table} {table′} h long long₀ =
+        let ends = ends-from (length (code fs)) ks table′ in
+        record {
+          written = written;
+          short = short;
+          starts = λ g l. subst (λ (m : ℕ). start-in (starts-from m ks os 0 0 ends) g ≡ body-at fs fs g) functions-are
+              (stand ends (omega (arith, long, ends-long ks (length (code fs)) table′)) (jumping table′ long) g l);
+          depths = λ g x l m. starts-below ks os fs f 0 0 ends (256 * g + x) (omega (arith, few))
+              ∙ ends-below ks (length (code fs)) table′ (256 * g + x) (omega (arith, few))
+              ∙ h .there g x (omega arith) l m (omega (arith, few, long₀));
+          ends = λ t q w. starts-ends ks os fs f 0 0 ends q (omega (arith, few, functions-are)) ∙ jumping table′ long t q w;
+        }
+
+    pub coded-so : {table table′ : List ℕ} → DepthsFrom 0 fs table table′ → Roomy table →
+        (length fs ≤ 32) × Coded fs (M.code ks os (filled f (length (code fs)) ks os table′))
+    coded-so {table} {table′} h long =
+        let long′ : Roomy table′ = omega (arith, h .long, long) in (
+          few,
+          subst (λ (t : List ℕ). Coded fs (M.code ks os t))
+              (filled-long f (length (code fs)) ks os table′ long′ _ _ refl refl) (passed h long′ long),
+        )
 
 -- ---- the ways out of loading
 
 -- the table after the translator's answer
-abbrev pub filled : ℕ → List ℕ → List ℤ → Laid → List ℕ → List ℕ
-filled f kinds operands (Lines m) table = starts-from f kinds operands 0 0 table
-filled f kinds operands TooLong table = table
+abbrev pub table-after : ℕ → List ℕ → List ℤ → Laid → List ℕ → List ℕ
+table-after f kinds operands (Lines m) table = filled f m kinds operands table
+table-after f kinds operands TooLong table = table
+
+-- the code that the translator left is within its array
+pub laid-within : {file : List ℕ} {f n : ℕ} (a : AcceptedFile file f n) (kinds kinds′ : List ℕ)
+    (operands operands′ : List ℤ) (r : Laid) (m : ℕ) → r ≡ Lines m →
+    Leaves (script (kinds-of file n) (operands-of file n) f 0) kinds operands
+    (record { answer = r; kinds = kinds′; operands = operands′ }) → (m ≤ length kinds′) × (m ≤ 4096)
+unfolding left-of code-fits
+laid-within {file} {f} {n} a kinds kinds′ operands operands′ r m is left =
+    by (code-fits fs (room kinds operands)) refl (rw (script-reads a) at left)
+  where
+    fs : Script
+    fs = a .tree
+
+    by : (t : Bool) → code-fits fs (room kinds operands) ≡ t →
+        record { answer = r; kinds = kinds′; operands = operands′ } ≡ left-of fs kinds operands →
+        (m ≤ length kinds′) × (m ≤ 4096)
+    by true q g =
+        let s = rw q at g in
+        let lines : m ≡ length (code fs) = let z = sym is ∙ ap (λ x. x .answer) s in cc in
+        let fits = leb-true (length (code fs)) (room kinds operands) q in (
+          omega (
+            arith,
+            lines,
+            ap (λ x. length (x .kinds)) s,
+            length-append (map (λ (r : Row). r .kind) (code fs)) (replicate (length kinds - length (code fs)) 0),
+            length-map (code fs) (λ (r : Row). r .kind),
+          ),
+          omega (arith, lines, fits),
+        )
+    by false q g =
+        let s = rw q at g in
+        let z = sym is ∙ ap (λ x. x .answer) s in
+        let no : _≡_ {A = ℕ} 0 1 = cc in absurd (omega arith)
 
 module _ {file kinds : List ℕ} {operands : List ℤ} {table kinds′ : List ℕ} {operands′ : List ℤ} where
   -- what the translator leaves
@@ -110,7 +172,7 @@ module _ {file kinds : List ℕ} {operands : List ℤ} {table kinds′ : List �
       Leaves (script (kinds-of file n) (operands-of file n) f 0) kinds operands
       (record { answer = r; kinds = kinds′; operands = operands′ }) →
       Depths-by (script (kinds-of file n) (operands-of file n) f 0) table table′ →
-      LoadsWith file kinds operands table (ready d r) kinds′ operands′ (filled f kinds′ operands′ r table′)
+      LoadsWith file kinds operands table (ready d r) kinds′ operands′ (table-after f kinds′ operands′ r table′)
   unfolding left-of
   loads-with-laid {f} {n} r d table′ j e left deep = record {
     loads = loads-laid r d j e left;
@@ -123,8 +185,8 @@ module _ {file kinds : List ℕ} {operands : List ℤ} {table kinds′ : List �
 
       by : (gs : Script) → (gs ≡ a .tree) × (code-fits (a .tree) (room kinds operands) ≡ true) →
           record { answer = r; kinds = kinds′; operands = operands′ } ≡ left-of (a .tree) kinds operands →
-          DepthsFrom 0 (a .tree) table table′ → 8256 ≤ length table →
-          (length gs ≤ 32) × Coded gs (M.code kinds′ operands′ (filled f kinds′ operands′ r table′))
+          DepthsFrom 0 (a .tree) table table′ → 16448 ≤ length table →
+          (length gs ≤ 32) × Coded gs (M.code kinds′ operands′ (table-after f kinds′ operands′ r table′))
       by gs g l h long =
           let s = rw (g .1) at l in
           rw (g .0, ap (λ x. x .answer) s, ap (λ x. x .kinds) s, ap (λ x. x .operands) s)

@@ -35,9 +35,9 @@ pub record Loads (file kinds : List ℕ) (operands : List ℤ) (r : Loaded) (kin
   pub operands-are : operands′ ≡ operands-after (admitted node file (room kinds operands)) operands
 
 -- and where the script is ready, code and table are what the machine needs; the table has 256 depths for each of 32
--- functions, and then two bytes for the position of each
+-- functions, and then two bytes for the position of each and for that after the tree at each of 4,096 rows
 pub record LoadsWith (file kinds : List ℕ) (operands : List ℤ) (table : List ℕ) (r : Loaded) (kinds′ : List ℕ)
     (operands′ : List ℤ) (table′ : List ℕ) : Type 0 where
   pub loads : Loads file kinds operands r kinds′ operands′
   pub coded : (node : ℕ) (fs : Script) → admitted node file (room kinds operands) ≡ accepted fs →
-      8256 ≤ length table → (length fs ≤ 32) × Coded fs (M.code kinds′ operands′ table′)
+      16448 ≤ length table → (length fs ≤ 32) × Coded fs (M.code kinds′ operands′ table′)

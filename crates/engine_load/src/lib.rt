@@ -9,7 +9,8 @@ pub enum Loaded {
     Refused(u64),
 }
 
-// Judges a file and translates its script; the table gets the depths of the names and the functions' positions.
+// Judges a file and translates its script; the table gets the depths of the names, the functions' positions and those
+// after trees.
 pub fn load_with(file: &[u8], kinds: &mut [u8], operands: &mut [i64], table: &mut [u8]) -> Loaded
     ensures { λ r. ⌜ LoadsWith (now (file .entry)) (now (kinds .entry)) (now (operands .entry)) (now (table .entry)) r
         (now (kinds .exit)) (now (operands .exit)) (now (table .exit)) ⌝ }
@@ -29,7 +30,7 @@ pub fn load_with(file: &[u8], kinds: &mut [u8], operands: &mut [i64], table: &mu
                 operands,
             ) {
                 Laid::Lines(n) => {
-                    machine_table::fill_starts(kinds, operands, functions, table);
+                    machine_table::fill(kinds, operands, functions, n, table);
                     Loaded::Ready(n, depth as u32)
                 }
                 Laid::TooLong => Loaded::Refused(9),

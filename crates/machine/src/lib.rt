@@ -164,7 +164,7 @@ fn work_if(
     ensures { λ r. ⌜ Ended (if-line
         (tree-on lines (call-on calls (code (now (kinds .entry)) (now (operands .entry)) (now (table .entry))))
         (code (now (kinds .entry)) (now (operands .entry)) (now (table .entry))) calls f)
-        (now (kinds .entry)) calls x g at steps
+        (now (table .entry)) calls x g at steps
         (memory (store-of (now (slots .entry)) (now (heads .entry))) (now (env .entry))))
         steps r (now (slots .exit)) (now (heads .exit)) (now (env .exit)) ⌝ }
 {
@@ -172,7 +172,7 @@ fn work_if(
         return machine_lines::halted(21, steps);
     }
     let guard = machine_lines::word_of(env, calls, g);
-    let start = machine_lines::branch_start(kinds, guard, at + 2);
+    let start = machine_lines::branch_start(table, guard, at + 2);
     let r = work_tree(
         kinds,
         operands,
@@ -191,7 +191,7 @@ fn work_if(
         return r;
     }
     let w = r.value;
-    let next = machine_lines::branch_end(kinds, guard, r.next);
+    let next = machine_lines::branch_end(table, guard, r.next);
     machine_lines::bind(env, calls, x, w);
     machine_lines::done(w, next, r.steps)
 }
@@ -304,7 +304,7 @@ fn work_map(
             }
             let w = machine_lines::word_from(c);
             machine_lines::bind(env, calls, x, w);
-            let next = machine_code::after_tree(kinds, at + 2);
+            let next = machine_code::end_in(table, at + 2);
             machine_lines::done(w, next, r.steps)
         }
         Acquired::NoneFree => machine_lines::halted(25, steps - 1),

@@ -1,10 +1,10 @@
 -- The code read at a position: what stands past the end is 0.
 use mathlib.Core.Bool.{Bool, true, false, cond, _||_}
 use mathlib.Core.List.{List}
-use Prim.Native.Nat.{ℕ, zero, suc, _+_, _-_, _*_, _/_, _%_}
+use Prim.Native.Nat.{ℕ, _+_, _*_, _/_, _%_}
 use lib.IntN.{ℤ, pos, negsuc}
-use lib.Dec.{ltb, leb, eqb}
-use lib.ListN.{getD, length}
+use lib.Dec.{eqb}
+use lib.ListN.{getD}
 use Rattle.machine_code.specs.declared.Atom.{Atom}
 use Rattle.machine_code.specs.declared.Atom.the-variants.{Number, Name}
 use Rattle.machine_code.specs.declared.Line.{Line}
@@ -43,25 +43,15 @@ line-at kinds operands at =
     line-of (getD kinds at 0) (natural (getD operands at (pos 0)))
     (atom-at kinds operands (at + 1)) (atom-at kinds operands (at + 2))
 
--- how many trees follow a line of this kind
-abbrev pub trees-of : ℕ → ℕ
-trees-of kind = cond (eqb kind 12) 2 (cond (eqb kind 13) 1 0)
-
--- the position after the last of some trees, from a position on, over so many rows at most
-unfoldable pub after : ℕ → ℕ → ℕ → List ℕ → ℕ
-after zero trees at kinds = at
-after (suc n) trees at kinds =
-    cond (ltb at (length kinds))
-    (cond (eqb (getD kinds at 0) 16)
-    (cond (leb trees 1) (at + 2) (after n (trees - 1) (at + 1) kinds))
-    (after n (trees + trees-of (getD kinds at 0)) (at + 1) kinds))
-    at
-
 -- ---- the table of a script's functions: 256 depths of names for each of 32 functions, then the positions of their
--- trees, two bytes each, low byte first
+-- trees, and then, for each of 4,096 rows, the position after the tree that begins there; a position has two bytes, low
+-- byte first
 
 unfoldable pub depth-in : List ℕ → ℕ → ℕ → ℕ
 depth-in table f x = getD table (256 * f + x) 0
 
 unfoldable pub start-in : List ℕ → ℕ → ℕ
 start-in table f = getD table (8192 + 2 * f) 0 + 256 * getD table (8192 + 2 * f + 1) 0
+
+unfoldable pub end-in : List ℕ → ℕ → ℕ
+end-in table at = getD table (8256 + 2 * at) 0 + 256 * getD table (8256 + 2 * at + 1) 0

@@ -1,11 +1,11 @@
-// Reading the code: atoms, lines, the position after a tree, and the table of a script's functions.
+// Reading the code: atoms, lines, and the table of a script's functions and of the positions after its trees.
 // Every reader is total: what stands past the end of an array is 0.
 ghost use mathlib.Core.Path.{_≡_};
 ghost use Prim.Native.Nat.{_+_, _-_, _*_, _<_};
 ghost use lib.IntN.{pos};
 ghost use lib.ListN.{length, getD};
-ghost use Rattle.machine_code.specs.Reading.{natural, atom-at, line-at, trees-of, after, is-atom, depth-in};
-ghost use Rattle.machine_code.specs.Reading.{start-in};
+ghost use Rattle.machine_code.specs.Reading.{natural, atom-at, line-at, is-atom, depth-in};
+ghost use Rattle.machine_code.specs.Reading.{start-in, end-in};
 
 // An atom: a number or a name.
 pub enum Atom {
@@ -93,45 +93,6 @@ pub fn line_at(kinds: &[u8], operands: &[i64], at: usize) -> Line
     }
 }
 
-// How many trees follow a line of this kind.
-fn trees_of(kind: u8) -> usize
-    ensures { λ r. ⌜ r ≡ trees-of kind ⌝ }
-{
-    if kind == 12 {
-        2
-    } else {
-        if kind == 13 { 1 } else { 0 }
-    }
-}
-
-// The position after the tree that begins at a position.
-pub fn after_tree(kinds: &[u8], at: usize) -> usize
-    ensures { λ r. ⌜ r ≡ after 4096 1 at (now (kinds .entry)) ⌝ }
-{
-    let mut left: usize = 4096;
-    let mut trees: usize = 1;
-    let mut p = at;
-    while 0 < left {
-        if kinds.len() <= p {
-            return p;
-        }
-        let kind = kinds[p];
-        if 11 < kind {
-            if kind == 16 {
-                if trees <= 1 {
-                    return p + 2;
-                }
-                trees = trees - 1;
-            } else {
-                trees = trees + trees_of(kind);
-            }
-        }
-        p = p + 1;
-        left = left - 1;
-    }
-    p
-}
-
 // A byte of the table.
 fn byte_at(table: &[u8], i: usize) -> usize
     ensures { λ r. ⌜ (r ≡ getD (now (table .entry)) i 0) × (r < 256) ⌝ }
@@ -164,4 +125,15 @@ pub fn start_in(table: &[u8], f: u8) -> usize
 {
     let at = 8192 + 2 * (f as usize);
     byte_at(table, at) + 256 * byte_at(table, at + 1)
+}
+
+// The position after the tree that begins at a position.
+pub fn end_in(table: &[u8], at: usize) -> usize
+    ensures { λ r. ⌜ (r ≡ end-in (now (table .entry)) at) × (r < 65536) ⌝ }
+{
+    if table.len() / 2 <= at {
+        return 0;
+    }
+    let place = 8256 + 2 * at;
+    byte_at(table, place) + 256 * byte_at(table, place + 1)
 }

@@ -20,7 +20,7 @@ use Rattle.machine_code.specs.Reading.{depth-in, start-in}
 use Rattle.machine_lines.specs.Frames.{place, put-all}
 use Rattle.machine_lines.specs.Lines.{Memory, memory, Ran}
 use Rattle.machine_positions.specs.Machine.{Code, Callee, call-on, tree-on}
-use Rattle.machine_laws.specs.Rows.{At}
+use Rattle.machine_laws.specs.Rows.{At, Jumps}
 use Rattle.machine_laws.specs.Scopes.{Functions, Scoped, Bounded, Agrees, Kept}
 use Rattle.machine_laws.specs.Same.{Rel, TreeDone, CallDone, rel-map}
 use Rattle.machine_laws.specs.Trees.{CalleeSame, tree-same}
@@ -92,7 +92,7 @@ pub record Stands (F : Functions) (c : Code) (g : ℕ) (r : Routine) : Type 0 wh
   pub few : F .arity g ≤ 16
 
 module _ (F : Functions) (c : Code) (rs : List Routine) (all : (g : ℕ) → g < F .count → Stands F c g (getD rs g
-    no-routine)) where
+    no-routine)) (jumps : Jumps c) where
   -- a function's tree, with some call depth left
   pub function-same : (n : ℕ) → n ≤ 31 → CalleeSame F n (call-on n c) (machine rs n) → (R : List ℕ) (g : ℕ) (ws :
       List ℤ)
@@ -105,7 +105,7 @@ module _ (F : Functions) (c : Code) (rs : List Routine) (all : (g : ℕ) → g <
   unfolding machine
   function-same n small calling R g ws env s h a long =
       let st = all g h in
-      tree-same (machine rs n) (getD rs g no-routine .depths) F c n g (call-on n c) (st .depths) calling
+      tree-same (machine rs n) (getD rs g no-routine .depths) F c n g (call-on n c) (st .depths) jumps calling
       (getD rs g no-routine .tree) 4096 (st .short) (omega arith) (parameters (length ws))
       (subst (λ (k : ℕ). Scoped (getD rs g no-routine .depths) F (getD rs g no-routine .tree) (parameters k)) (sym
       a) (st .scoped))

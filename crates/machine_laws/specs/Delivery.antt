@@ -24,6 +24,7 @@ use Rattle.machine_lines.specs.Lines.{memory, Ran, out}
 use Rattle.machine_positions.specs.Machine.{Code, tree-on, call-on}
 use Rattle.machine_positions.specs.Delivery.{tried, retained-totals, released-totals, finished, main-frame, main-on}
 use Rattle.machine_positions.specs.Delivery.{attempt-with, attempt-on, settled, delivered-on}
+use Rattle.machine_laws.specs.Rows.{Jumps}
 use Rattle.machine_laws.specs.Scopes.{Functions}
 use Rattle.machine_laws.specs.Same.{Rel, TreeDone}
 use Rattle.machine_laws.specs.Calls.{parameters, Stands, function-same, calls-same}
@@ -56,7 +57,7 @@ finish-same d old budget σ next calls env S w (stop n s) h =
     ) refl
 
 module _ (fs : Script) (F : Functions) (c : Code) (some : 0 < F .count) (two : 2 ≡ F .arity 0)
-    (all : (g : ℕ) → g < F .count → Stands F c g (getD (map (routine fs) fs) g no-routine)) where
+    (all : (g : ℕ) → g < F .count → Stands F c g (getD (map (routine fs) fs) g no-routine)) (jumps : Jumps c) where
   main-same : (d : ℕ) (old : ℤ) (k budget : ℕ) (σ : Store) (R : List ℕ) (s : State) → s .left ≡ budget →
       settled budget σ (main-on c d old k budget (s .store))
       ≡ delivered-by budget σ (onward (λ _ s′. onward (λ v s″. onward (λ _. if-array d (release-word old))
@@ -75,7 +76,7 @@ module _ (fs : Script) (F : Functions) (c : Code) (some : 0 < F .count) (two : 2
       (tree-on 4096 (call-on 31 c) c 31 0 (start-in (c .table) 0) (s .left) (memory (s .store) (main-frame old
       (pos k))))
       (machine (map (routine fs) fs) 32 R 0 (old ∷ pos k ∷ []) s)
-      (function-same F c (map (routine fs) fs) all 31 (omega arith) (calls-same F c (map (routine fs) fs) all 31
+      (function-same F c (map (routine fs) fs) all jumps 31 (omega arith) (calls-same F c (map (routine fs) fs) all jumps 31
       (omega arith)) R 0
       (old ∷ pos k ∷ []) (replicate 8192 (pos 0)) s some two (omega (arith, length-replicate 8192 (pos 0)))))
   main-same (suc d) old k budget σ R s e =
@@ -92,7 +93,7 @@ module _ (fs : Script) (F : Functions) (c : Code) (some : 0 < F .count) (two : 2
       (tree-on 4096 (call-on 31 c) c 31 0 (start-in (c .table) 0) (s′ .left) (memory (s′ .store) (main-frame old
       (pos k))))
       (machine (map (routine fs) fs) 32 R 0 (old ∷ pos k ∷ []) s′)
-      (function-same F c (map (routine fs) fs) all 31 (omega arith) (calls-same F c (map (routine fs) fs) all 31
+      (function-same F c (map (routine fs) fs) all jumps 31 (omega arith) (calls-same F c (map (routine fs) fs) all jumps 31
       (omega arith)) R 0
       (old ∷ pos k ∷ []) (replicate 8192 (pos 0)) s′ some two (omega (arith, length-replicate 8192 (pos 0)))))
 

@@ -1,5 +1,4 @@
 pub mod Rows
-pub mod Skipped
 pub mod Scopes
 pub mod Same
 pub mod Leaves

@@ -9,12 +9,13 @@ use lib.ListN.{getD, length, length-append}
 use Rattle.semantics.specs.Number.{Operation, sum, difference, less}
 use Rattle.semantics.specs.Code as C
 use Rattle.semantics.specs.Code.{Row, row, atom-row, operation-kind, rows, line-rows}
-use Rattle.machine_code.specs.Reading.{natural, atom-at, is-atom, line-of, line-at}
+use Rattle.machine_code.specs.Reading.{natural, atom-at, is-atom, line-of, line-at, end-in}
 use Rattle.machine_code.specs.declared.Atom.{Atom}
 use Rattle.machine_code.specs.declared.Atom.the-variants.{Number, Name}
 use Rattle.machine_code.specs.declared.Line.{Line}
 use Rattle.machine_code.specs.declared.Line.the-variants as L
 use Rattle.machine_lines.specs.Lines.{operation-of}
+use Rattle.machine_positions.specs.Machine.{Code}
 
 -- a row stands at a position
 pub record Here (kinds : List ℕ) (operands : List ℤ) (at : ℕ) (r : Row) : Type 0 where
@@ -38,6 +39,10 @@ module _ (kinds : List ℕ) (operands : List ℤ) where
   at-second at (x ∷ xs) ys h =
       let z : at + 1 + length xs ≡ at + suc (length xs) = omega arith in
       subst (λ (p : ℕ). At kinds operands p ys) z (at-second (at + 1) xs ys (h .1))
+
+-- the table has the position after each tree that stands in the code
+abbrev pub Jumps : Code → Type 0
+Jumps c = (t : C.Tree) (p : ℕ) → At (c .kinds) (c .operands) p (rows t) → end-in (c .table) p ≡ p + length (rows t)
 
 -- an atom as the code has it
 abbrev pub coded : C.Atom → Atom

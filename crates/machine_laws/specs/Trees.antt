@@ -21,16 +21,15 @@ use Rattle.semantics.specs.Machine.{State, Frame, word, step, stepped, with-lef
 use Rattle.semantics.specs.Machine.{acquire, acquire-if, elements-of, append-word, held, touching}
 use Rattle.store.specs.Acquiring.{next-cell}
 use Rattle.store.specs.declared.Acquired.the-variants.{Cell, NoneFree}
-use Rattle.machine_code.specs.Reading.{is-atom, atom-at, line-at, after, depth-in}
+use Rattle.machine_code.specs.Reading.{is-atom, atom-at, line-at, depth-in, end-in}
 use Rattle.machine_code.specs.declared.Line.{Line}
 use Rattle.machine_code.specs.declared.Line.the-variants as L
 use Rattle.machine_lines.specs.Frames.{place, word-of, words-at, branch-start, branch-end}
 use Rattle.machine_lines.specs.Lines.{Memory, memory, Ran, ran, out, halted, bound, goes-on, stepping, leaf}
 use Rattle.machine_positions.specs.Machine.{Code, Work, Callee, and-then, binding, if-worked, if-line, call-worked}
 use Rattle.machine_positions.specs.Machine.{call-line, passes-on, map-worked, map-line, line-on, tree-from, tree-on}
-use Rattle.machine_laws.specs.Rows.{At, at-first, at-second, coded, atom-here, line-read, no-atom}
+use Rattle.machine_laws.specs.Rows.{At, Jumps, at-first, at-second, coded, atom-here, line-read, no-atom}
 use Rattle.machine_laws.specs.Rows.{tree-within, rows-some}
-use Rattle.machine_laws.specs.Skipped.{after-rows}
 use Rattle.machine_laws.specs.Scopes.{Functions, Known, AllKnown, Fresh, known-after, Scoped, LineScoped}
 use Rattle.machine_laws.specs.Scopes.{Bounded, Agrees, Kept, small-known, word-same, bounded-more}
 use Rattle.machine_laws.specs.Scopes.{agrees-more, kept-none, kept-more, kept-then, agrees-kept, or-true}
@@ -72,7 +71,8 @@ tree-kept next calls e₀ e₁ S T i k w v s h = record {
 }
 
 module _ (callee : M.Callee) (Γ : NameDepths) (F : Functions) (c : Code) (calls f : ℕ) (C : Callee)
-    (depths : (x : ℕ) → x < 256 → depth-in (c .table) f x ≡ Γ x) (calling : CalleeSame F calls C callee) where
+    (depths : (x : ℕ) → x < 256 → depth-in (c .table) f x ≡ Γ x) (jumps : Jumps c)
+    (calling : CalleeSame F calls C callee) where
   -- a tree at a position is worked as the tree
   abbrev pub TreeClaim : K.Tree → Type 0
   TreeClaim t = (n : ℕ) → length (rows t) ≤ n → n ≤ 4096 → (S : Set) → Scoped Γ F t S → Bounded S → (at : ℕ) →
@@ -141,13 +141,13 @@ module _ (callee : M.Callee) (Γ : NameDepths) (F : Functions) (c : Code) (calls
         Known a S → Fresh x S → Scoped Γ F t S → Scoped Γ F e S →
         At (c .kinds) (c .operands) (at + 2) (rows t ++ rows e) →
         Rel (LineDone (at + 2 + length (rows t) + length (rows e)) calls env S (S ∪ only x))
-        (if-line W (c .kinds) calls x (coded a) at (s .left) (memory (s .store) env))
+        (if-line W (c .table) calls x (coded a) at (s .left) (memory (s .store) env))
         (work-line callee Γ (K.if-else x a t e) A R ρ s)
     unfolding if-line work-line onward with-left
     if-same x a t e claim-t claim-e lt le ka fresh st se rs =
         rel-step (LineDone (at + 2 + length (rows t) + length (rows e)) calls env S (S ∪ only x)) s (memory (s
         .store) env)
-        (λ m. if-worked W (c .kinds) calls x at m (memory (s .store) env) (word-of calls env (coded a)))
+        (λ m. if-worked W (c .table) calls x at m (memory (s .store) env) (word-of calls env (coded a)))
         (λ _ s′. onward (λ w. give (updated ρ x w))
         (cond (is-zero (word ρ a)) (work callee Γ e (after-branch x A) R ρ) (work callee Γ t (after-branch x A) R
         ρ) s′))
@@ -161,11 +161,11 @@ module _ (callee : M.Callee) (Γ : NameDepths) (F : Functions) (c : Code) (calls
 
         go : (m : ℕ) (v : ℤ) (z : Bool) → is-zero v ≡ z →
             Rel (LineDone (at + 2 + length (rows t) + length (rows e)) calls env S (S ∪ only x))
-            (if-worked W (c .kinds) calls x at m (memory (s .store) env) v)
+            (if-worked W (c .table) calls x at m (memory (s .store) env) v)
             (onward (λ w. give (updated ρ x w))
             (cond (is-zero v) (work callee Γ e (after-branch x A) R ρ) (work callee Γ t (after-branch x A) R ρ)
             (with-left s m)))
-        go m v true q = rw (q, after-rows (c .kinds) (c .operands) t (at + 2) in-t (omega arith))
+        go m v true q = rw (q, jumps t (at + 2) in-t)
             (rel-then (TreeDone (at + 2 + length (rows t) + length (rows e)) calls env S)
             (LineDone (at + 2 + length (rows t) + length (rows e)) calls env S (S ∪ only x))
             (W (at + 2 + length (rows t)) m (memory (s .store) env)) (work callee Γ e (after-branch x A) R ρ
@@ -181,12 +181,11 @@ module _ (callee : M.Callee) (Γ : NameDepths) (F : Functions) (c : Code) (calls
             (rel-then (TreeDone (at + 2 + length (rows t)) calls env S)
             (LineDone (at + 2 + length (rows t) + length (rows e)) calls env S (S ∪ only x))
             (W (at + 2) m (memory (s .store) env)) (work callee Γ t (after-branch x A) R ρ (with-left s m))
-            (λ w. binding calls x (after 4096 1 (w .out .next) (c .kinds)) w) (λ w. give (updated ρ x w))
+            (λ w. binding calls x (end-in (c .table) (w .out .next)) w) (λ w. give (updated ρ x w))
             (claim-t n lt few S st b (at + 2) in-t (after-branch x A) R ρ (with-left s m) env g long)
             (λ w s′ h. rw (
               h .next,
-              after-rows (c .kinds) (c .operands) e (at + 2 + length (rows t)) in-e (omega
-                  arith),
+              jumps e (at + 2 + length (rows t)) in-e,
             )
             (tree-bound (at + 2 + length (rows t) + length (rows e)) (at + 2 + length (rows t)) calls x fresh
             (W (at + 2) m (memory (s .store) env)) w s′ h)))
@@ -380,10 +379,10 @@ module _ (callee : M.Callee) (Γ : NameDepths) (F : Functions) (c : Code) (calls
             (memory (acquired (atom-depth Γ (ending t)) [] (s .store)) env))
             (passes (work-pass (λ w. work callee Γ t B (R′ ++ (k ∷ [])) (updated ρ p w)) (word ρ a) (pos k)) tt
             (tabulate 0 (length ws) (λ i. i)) s₂)
-            (λ w. goes-on calls x (pos k) (after 4096 1 (at + 2) (c .kinds)) (w .out .steps) (w .memory))
+            (λ w. goes-on calls x (pos k) (end-in (c .table) (at + 2)) (w .out .steps) (w .memory))
             (λ _. give (updated ρ x (pos k)))
             (passes-same p fresh-p t claim lt st rs B (R′ ++ (k ∷ [])) (word ρ a) k (length ws) 0 s₂ env g long)
-            (λ u s₄ h. rw (after-rows (c .kinds) (c .operands) t (at + 2) rs (omega arith)) (
+            (λ u s₄ h. rw (jumps t (at + 2) rs) (
               refl,
               bound-done calls env _ ρ S b g long (h .kept) x fresh (pos k) (at + 2 + length (rows t)) _ _ s₄ (h
                   .steps) (h .store),
@@ -433,7 +432,7 @@ module _ (callee : M.Callee) (Γ : NameDepths) (F : Functions) (c : Code) (calls
         (arith, e) in
         let y : at + 1 + 1 ≡ at + 2 = omega arith in
         subst (λ (q : ℕ). Rel (LineDone q calls env S (S ∪ only x))
-        (if-line W (c .kinds) calls x (coded u) at (s .left) (memory (s .store) env))
+        (if-line W (c .table) calls x (coded u) at (s .left) (memory (s .store) env))
         (work-line callee Γ (K.if-else x u t₁ t₂) A R ρ s)) z
         (if-same x u t₁ t₂ (claims .0) (claims .1) (omega (arith, e, lt)) (omega (arith, e, lt)) (h .0) (h .1) (h
         .2) (h .3)

@@ -8,7 +8,7 @@ use mathlib.Core.Path.{_≡_}
 use Rattle.semantics.specs.Number.{is-zero}
 use Rattle.semantics.specs.Store.{Store}
 use Rattle.store.specs.Acquiring.{appended-all}
-use Rattle.machine_code.specs.Reading.{atom-at, is-atom, after}
+use Rattle.machine_code.specs.Reading.{atom-at, is-atom, end-in}
 use Rattle.machine_code.specs.declared.Atom.{Atom}
 use Rattle.machine_code.specs.declared.Atom.the-variants.{Number, Name}
 
@@ -47,8 +47,8 @@ pub record Appended (ws : List ℤ) (c n : ℕ) (σ σ′ : Store) : Type 0 wher
 
 -- the first of an if's trees is at a position; the guard other than 0 takes it
 abbrev pub branch-start : List ℕ → ℤ → ℕ → ℕ
-branch-start kinds guard at = cond (is-zero guard) (after 4096 1 at kinds) at
+branch-start table guard at = cond (is-zero guard) (end-in table at) at
 
 -- the position after an if, by the position after the tree that was worked
 abbrev pub branch-end : List ℕ → ℤ → ℕ → ℕ
-branch-end kinds guard next = cond (is-zero guard) next (after 4096 1 next kinds)
+branch-end table guard next = cond (is-zero guard) next (end-in table next)

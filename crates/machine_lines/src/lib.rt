@@ -104,24 +104,24 @@ pub fn pass_arguments(
 }
 
 // Where the branch of an if begins, by the word of its guard: the first tree, at a position, or the second.
-pub fn branch_start(kinds: &[u8], guard: i64, at: usize) -> usize
-    ensures { λ r. ⌜ r ≡ branch-start (now (kinds .entry)) guard at ⌝ }
+pub fn branch_start(table: &[u8], guard: i64, at: usize) -> usize
+    ensures { λ r. ⌜ r ≡ branch-start (now (table .entry)) guard at ⌝ }
 {
     if guard == 0 {
-        machine_code::after_tree(kinds, at)
+        machine_code::end_in(table, at)
     } else {
         at
     }
 }
 
 // Where the code goes on after an if, by the word of its guard and the position after the tree that was worked.
-pub fn branch_end(kinds: &[u8], guard: i64, next: usize) -> usize
-    ensures { λ r. ⌜ r ≡ branch-end (now (kinds .entry)) guard next ⌝ }
+pub fn branch_end(table: &[u8], guard: i64, next: usize) -> usize
+    ensures { λ r. ⌜ r ≡ branch-end (now (table .entry)) guard next ⌝ }
 {
     if guard == 0 {
         next
     } else {
-        machine_code::after_tree(kinds, next)
+        machine_code::end_in(table, next)
     }
 }
 

@@ -14,7 +14,7 @@ use Rattle.words.specs.declared.Exact.the-variants.{Value, Overflow}
 use Rattle.store.specs.Acquiring.{next-cell}
 use Rattle.store.specs.declared.Acquired.{Acquired}
 use Rattle.store.specs.declared.Acquired.the-variants.{Cell, NoneFree}
-use Rattle.machine_code.specs.Reading.{line-at, after, depth-in, start-in}
+use Rattle.machine_code.specs.Reading.{line-at, depth-in, start-in, end-in}
 use Rattle.machine_code.specs.declared.Atom.{Atom}
 use Rattle.machine_code.specs.declared.Line.{Line}
 use Rattle.machine_code.specs.declared.Line.the-variants as L
@@ -95,13 +95,13 @@ leaf-keeps kinds operands calls at s m l = go l s
 -- ---- trees and calls
 
 module _ (W : Work) (w : (at s : ℕ) (m : Memory) → Keeps m (W at s m)) where
-  if-keeps : (kinds : List ℕ) (calls x : ℕ) (g : Atom) (at s : ℕ) (m : Memory) →
-      Keeps m (if-line W kinds calls x g at s m)
+  if-keeps : (table : List ℕ) (calls x : ℕ) (g : Atom) (at s : ℕ) (m : Memory) →
+      Keeps m (if-line W table calls x g at s m)
   unfolding if-line stepping
-  if-keeps kinds calls x g at zero m = refl
-  if-keeps kinds calls x g at (suc s) m = let guard = word-of calls (m .env) g in
-      let start = branch-start kinds guard (at + 2) in
-      then-keeps m (W start s m) (λ v. binding calls x (branch-end kinds guard (v .out .next)) v) (w start s m)
+  if-keeps table calls x g at zero m = refl
+  if-keeps table calls x g at (suc s) m = let guard = word-of calls (m .env) g in
+      let start = branch-start table guard (at + 2) in
+      then-keeps m (W start s m) (λ v. binding calls x (branch-end table guard (v .out .next)) v) (w start s m)
       (λ v k. length-set (v .memory .env) (place calls x) (v .out .value) ∙ k)
 
   passes-keeps : (n at calls p from into i s : ℕ) (m : Memory) → Keeps m (passes-on n (W at) calls p from into i s m)
@@ -134,7 +134,7 @@ module _ (W : Work) (w : (at s : ℕ) (m : Memory) → Keeps m (W at s m)) where
           Keeps m (map-worked W c calls x p at from (length (elements (cell (m .store) from))) s taken q)
       go (Cell k) = then-keeps m
           (passes-on (length (elements (cell (m .store) from))) (W (at + 2)) calls p from k 0 s taken)
-          (λ v. goes-on calls x (pos k) (after 4096 1 (at + 2) (c .kinds)) (v .out .steps) (v .memory))
+          (λ v. goes-on calls x (pos k) (end-in (c .table) (at + 2)) (v .out .steps) (v .memory))
           (passes-keeps (length (elements (cell (m .store) from))) (at + 2) calls p from k 0 s taken)
           (λ v h. length-set (v .memory .env) (place calls x) (pos k) ∙ h)
       go NoneFree = refl
@@ -156,7 +156,7 @@ module _ (W : Work) (w : (at s : ℕ) (m : Memory) → Keeps m (W at s m)) where
     line-keeps calls f at s m (L.Literal x d) = leaf-keeps (c .kinds) (c .operands) calls at s m (L.Literal x d)
     line-keeps calls f at s m (L.Index x a b) = leaf-keeps (c .kinds) (c .operands) calls at s m (L.Index x a b)
     line-keeps calls f at s m (L.Length x a) = leaf-keeps (c .kinds) (c .operands) calls at s m (L.Length x a)
-    line-keeps calls f at s m (L.If x g) = if-keeps (c .kinds) calls x g at s m
+    line-keeps calls f at s m (L.If x g) = if-keeps (c .table) calls x g at s m
     line-keeps calls f at s m (L.Map x p a) = map-keeps c calls f x p a at s m
     line-keeps calls f at s m (L.Retain x) = leaf-keeps (c .kinds) (c .operands) calls at s m (L.Retain x)
     line-keeps calls f at s m (L.Release x) = leaf-keeps (c .kinds) (c .operands) calls at s m (L.Release x)

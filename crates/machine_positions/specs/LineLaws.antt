@@ -14,7 +14,7 @@ use Rattle.semantics.specs.Words.{store-of}
 use Rattle.store.specs.Acquiring.{next-cell}
 use Rattle.store.specs.declared.Acquired.{Acquired}
 use Rattle.store.specs.declared.Acquired.the-variants.{Cell, NoneFree}
-use Rattle.machine_code.specs.Reading.{after, depth-in, start-in}
+use Rattle.machine_code.specs.Reading.{depth-in, start-in, end-in}
 use Rattle.machine_code.specs.declared.Atom.{Atom}
 use Rattle.machine_code.specs.declared.Line.{Line}
 use Rattle.machine_code.specs.declared.Line.the-variants as L
@@ -40,36 +40,36 @@ bound-result r calls x next next′ sl he en en′ q ne ee qe =
 
 -- ---- an if
 
-module _ (W : Work) (kinds : List ℕ) (calls x : ℕ) (g : Atom) (at steps : ℕ) (slots : List ℤ) (heads : List ℕ) (env
+module _ (W : Work) (table : List ℕ) (calls x : ℕ) (g : Atom) (at steps : ℕ) (slots : List ℤ) (heads : List ℕ) (env
     : List ℤ) where
   pub if-spent : (r : Out) → steps ≡ 0 → r ≡ out 21 (pos 0) 0 steps →
-      Ended (if-line W kinds calls x g at steps (memory (store-of slots heads) env)) steps r slots heads env
+      Ended (if-line W table calls x g at steps (memory (store-of slots heads) env)) steps r slots heads env
   unfolding if-line stepping
   if-spent r z e = record { is = rw (e, z); fewer = rw e (omega arith) }
 
   module _ (some : steps ≡ 0 → ⊥) (v : ℤ) (ve : v ≡ word-of calls env g) (start : ℕ)
-      (se : start ≡ branch-start kinds v (at + 2)) (r : Out) (sl : List ℤ) (he : List ℕ) (en : List ℤ)
+      (se : start ≡ branch-start table v (at + 2)) (r : Out) (sl : List ℤ) (he : List ℕ) (en : List ℤ)
       (done : Ended (W start (steps - 1) (memory (store-of slots heads) env)) (steps - 1) r sl he en) where
-    if-part : if-line W kinds calls x g at steps (memory (store-of slots heads) env)
-        ≡ and-then (ran r (memory (store-of sl he) en)) (λ w. binding calls x (branch-end kinds v (w .out .next)) w)
+    if-part : if-line W table calls x g at steps (memory (store-of slots heads) env)
+        ≡ and-then (ran r (memory (store-of sl he) en)) (λ w. binding calls x (branch-end table v (w .out .next)) w)
     unfolding if-line stepping
-    if-part = ap (λ (n : ℕ). if-line W kinds calls x g at n (memory (store-of slots heads) env)) (less-one steps
+    if-part = ap (λ (n : ℕ). if-line W table calls x g at n (memory (store-of slots heads) env)) (less-one steps
         (omega arith))
-        ∙ ap (if-worked W kinds calls x at (steps - 1) (memory (store-of slots heads) env)) (sym ve)
+        ∙ ap (if-worked W table calls x at (steps - 1) (memory (store-of slots heads) env)) (sym ve)
         ∙ ap (λ (n : ℕ). and-then (W n (steps - 1) (memory (store-of slots heads) env))
-        (λ w. binding calls x (branch-end kinds v (w .out .next)) w)) (sym se)
-        ∙ ap (λ (w : Ran). and-then w (λ w. binding calls x (branch-end kinds v (w .out .next)) w)) (sym (done .is))
+        (λ w. binding calls x (branch-end table v (w .out .next)) w)) (sym se)
+        ∙ ap (λ (w : Ran). and-then w (λ w. binding calls x (branch-end table v (w .out .next)) w)) (sym (done .is))
 
     pub if-stops : (r .stop ≡ 0 → ⊥) →
-        Ended (if-line W kinds calls x g at steps (memory (store-of slots heads) env)) steps r sl he en
-    if-stops h = part-stops _ steps r sl he en (λ w. binding calls x (branch-end kinds v (w .out .next)) w) if-part
+        Ended (if-line W table calls x g at steps (memory (store-of slots heads) env)) steps r sl he en
+    if-stops h = part-stops _ steps r sl he en (λ w. binding calls x (branch-end table v (w .out .next)) w) if-part
         (omega (arith, done .fewer)) h
 
-    pub if-goes : r .stop ≡ 0 → (next : ℕ) → next ≡ branch-end kinds v (r .next) → (en′ : List ℤ) →
+    pub if-goes : r .stop ≡ 0 → (next : ℕ) → next ≡ branch-end table v (r .next) → (en′ : List ℤ) →
         en′ ≡ set en (place calls x) (r .value) → (q : Out) → q ≡ out 0 (r .value) next (r .steps) →
-        Ended (if-line W kinds calls x g at steps (memory (store-of slots heads) env)) steps q sl he en′
+        Ended (if-line W table calls x g at steps (memory (store-of slots heads) env)) steps q sl he en′
     if-goes h next ne en′ ee q qe =
-        part-goes _ steps r sl he en (λ w. binding calls x (branch-end kinds v (w .out .next)) w) if-part
+        part-goes _ steps r sl he en (λ w. binding calls x (branch-end table v (w .out .next)) w) if-part
         (omega (arith, done .fewer)) h q en′ (bound-result r calls x _ next sl he en en′ q ne ee qe)
         (ap (λ (y : Out). y .steps) qe)
 
@@ -176,24 +176,24 @@ module _ (W : Work) (c : Code) (calls f x p : ℕ) (a : Atom) (at steps : ℕ) (
         - 1) r sl he en) where
       map-part : map-line W c calls f x p a at steps (memory (store-of slots heads) env)
           ≡ and-then (ran r (memory (store-of sl he) en))
-          (λ w. goes-on calls x (pos k) (after 4096 1 (at + 2) (c .kinds)) (w .out .steps) (w .memory))
+          (λ w. goes-on calls x (pos k) (end-in (c .table) (at + 2)) (w .out .steps) (w .memory))
       map-part = map-is ∙ ap (map-worked W c calls x p at from n (steps - 1) (memory (store-of sl₁ he₁) env)) h
           ∙ ap (λ (w : Ran). and-then w
-          (λ w. goes-on calls x (pos k) (after 4096 1 (at + 2) (c .kinds)) (w .out .steps) (w .memory))) (sym
+          (λ w. goes-on calls x (pos k) (end-in (c .table) (at + 2)) (w .out .steps) (w .memory))) (sym
           (done .is))
 
       pub map-stops : (r .stop ≡ 0 → ⊥) →
           Ended (map-line W c calls f x p a at steps (memory (store-of slots heads) env)) steps r sl he en
       map-stops g = part-stops _ steps r sl he en
-          (λ w. goes-on calls x (pos k) (after 4096 1 (at + 2) (c .kinds)) (w .out .steps) (w .memory))
+          (λ w. goes-on calls x (pos k) (end-in (c .table) (at + 2)) (w .out .steps) (w .memory))
           map-part (omega (arith, done .fewer)) g
 
       pub map-goes : r .stop ≡ 0 → (z : ℤ) → z ≡ pos k → (en′ : List ℤ) → en′ ≡ set en (place calls x) z → (next :
           ℕ) →
-          next ≡ after 4096 1 (at + 2) (c .kinds) → (o : Out) → o ≡ out 0 z next (r .steps) →
+          next ≡ end-in (c .table) (at + 2) → (o : Out) → o ≡ out 0 z next (r .steps) →
           Ended (map-line W c calls f x p a at steps (memory (store-of slots heads) env)) steps o sl he en′
       map-goes g z ze en′ ee next ne o oe = part-goes _ steps r sl he en
-          (λ w. goes-on calls x (pos k) (after 4096 1 (at + 2) (c .kinds)) (w .out .steps) (w .memory))
+          (λ w. goes-on calls x (pos k) (end-in (c .table) (at + 2)) (w .out .steps) (w .memory))
           map-part (omega (arith, done .fewer)) g o en′
           (ap₂ (λ (y : ℤ) (b : ℕ). goes-on calls x y b (r .steps) (memory (store-of sl he) en)) (sym ze) (sym ne)
           ∙ ap₂ (λ (y : Out) (l : List ℤ). ran y (memory (store-of sl he) l)) (sym oe) (sym ee))
@@ -205,7 +205,7 @@ module _ (W : Work) (C : Callee) (c : Code) (calls f at steps : ℕ) (slots : Li
     (l : Line)
     (r : Out) (sl : List ℤ) (he : List ℕ) (en : List ℤ) where
   pub line-if : (x : ℕ) (g : Atom) → l ≡ L.If x g →
-      Ended (if-line W (c .kinds) calls x g at steps (memory (store-of slots heads) env)) steps r sl he en →
+      Ended (if-line W (c .table) calls x g at steps (memory (store-of slots heads) env)) steps r sl he en →
       Ended (line-on W C c calls f at steps (memory (store-of slots heads) env) l) steps r sl he en
   unfolding line-on
   line-if x g e done = record {

@@ -11,7 +11,7 @@ use Rattle.semantics.specs.Words.{store-of}
 use Rattle.store.specs.Acquiring.{next-cell}
 use Rattle.store.specs.declared.Acquired.{Acquired}
 use Rattle.store.specs.declared.Acquired.the-variants.{Cell, NoneFree}
-use Rattle.machine_code.specs.Reading.{line-at, after, depth-in, start-in}
+use Rattle.machine_code.specs.Reading.{line-at, depth-in, start-in, end-in}
 use Rattle.machine_code.specs.declared.Atom.{Atom}
 use Rattle.machine_code.specs.declared.Line.{Line}
 use Rattle.machine_code.specs.declared.Line.the-variants as L
@@ -20,7 +20,7 @@ use Rattle.machine_lines.specs.Frames.{place, word-of, words-at, put-all, branc
 use Rattle.machine_lines.specs.Lines.{Memory, memory, Ran, ran, out, halted, bound, goes-on, stepping, array-of}
 use Rattle.machine_lines.specs.Lines.{leaf}
 
--- the two code arrays, and the table of the functions
+-- the two code arrays, and the table of the functions and of the positions after trees
 pub record Code : Type 0 where
   pub kinds : List ℕ
   pub operands : List ℤ
@@ -48,13 +48,13 @@ binding calls x next w = goes-on calls x (w .out .value) next (w .out .steps) (w
 -- ---- lines that work a tree
 
 abbrev pub if-worked : Work → List ℕ → ℕ → ℕ → ℕ → ℕ → Memory → ℤ → Ran
-if-worked W kinds calls x at s m guard =
-    and-then (W (branch-start kinds guard (at + 2)) s m) (λ w. binding calls x (branch-end kinds guard (w .out
+if-worked W table calls x at s m guard =
+    and-then (W (branch-start table guard (at + 2)) s m) (λ w. binding calls x (branch-end table guard (w .out
     .next)) w)
 
 unfoldable pub if-line : Work → List ℕ → ℕ → ℕ → Atom → ℕ → ℕ → Memory → Ran
-if-line W kinds calls x g at steps m = stepping steps (halted 21 0 m)
-    (λ s. if-worked W kinds calls x at s m (word-of calls (m .env) g))
+if-line W table calls x g at steps m = stepping steps (halted 21 0 m)
+    (λ s. if-worked W table calls x at s m (word-of calls (m .env) g))
 
 abbrev pub call-worked : Callee → ℕ → ℕ → ℕ → ℕ → ℕ → Memory → List ℤ → Ran
 call-worked C calls x f at s m ws = and-then (C f ws s m) (λ w. binding calls x (at + 1 + length ws) w)
@@ -75,7 +75,7 @@ passes-on (suc n) W calls p from into i (suc s) m =
 abbrev pub map-worked : Work → Code → ℕ → ℕ → ℕ → ℕ → ℕ → ℕ → ℕ → Memory → Acquired → Ran
 map-worked W c calls x p at from n s m (Cell k) =
     and-then (passes-on n (W (at + 2)) calls p from k 0 s m)
-    (λ w. goes-on calls x (pos k) (after 4096 1 (at + 2) (c .kinds)) (w .out .steps) (w .memory))
+    (λ w. goes-on calls x (pos k) (end-in (c .table) (at + 2)) (w .out .steps) (w .memory))
 map-worked W c calls x p at from n s m NoneFree = halted 25 s m
 
 unfoldable pub map-line : Work → Code → ℕ → ℕ → ℕ → ℕ → Atom → ℕ → ℕ → Memory → Ran
@@ -92,7 +92,7 @@ line-on W C c calls f at s m (L.Call x g) = call-line C c calls x g at s m
 line-on W C c calls f at s m (L.Literal x d) = leaf (c .kinds) (c .operands) calls at s m (L.Literal x d)
 line-on W C c calls f at s m (L.Index x a b) = leaf (c .kinds) (c .operands) calls at s m (L.Index x a b)
 line-on W C c calls f at s m (L.Length x a) = leaf (c .kinds) (c .operands) calls at s m (L.Length x a)
-line-on W C c calls f at s m (L.If x g) = if-line W (c .kinds) calls x g at s m
+line-on W C c calls f at s m (L.If x g) = if-line W (c .table) calls x g at s m
 line-on W C c calls f at s m (L.Map x p a) = map-line W c calls f x p a at s m
 line-on W C c calls f at s m (L.Retain x) = leaf (c .kinds) (c .operands) calls at s m (L.Retain x)
 line-on W C c calls f at s m (L.Release x) = leaf (c .kinds) (c .operands) calls at s m (L.Release x)

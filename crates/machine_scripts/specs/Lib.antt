@@ -1,4 +1,5 @@
 pub mod Limits
 pub mod Annotated
 pub mod Script
+pub mod Ends
 pub mod Starts

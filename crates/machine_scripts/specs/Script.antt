@@ -27,7 +27,7 @@ use Rattle.sound_annotation.specs.Accepting.{Clean, judged-clean, Faultless, ac
 use Rattle.machine_code.specs.Reading.{depth-in, start-in}
 use Rattle.machine_positions.specs.Machine.{Code}
 use Rattle.machine_positions.specs.Delivery.{delivered-on}
-use Rattle.machine_laws.specs.Rows.{Here, At, at-first, at-second}
+use Rattle.machine_laws.specs.Rows.{Here, At, Jumps, at-first, at-second}
 use Rattle.machine_laws.specs.Scopes.{Functions, Scoped}
 use Rattle.machine_laws.specs.Calls.{parameters, Stands}
 use Rattle.machine_laws.specs.Delivery.{delivered-same}
@@ -109,12 +109,13 @@ front-written (r ∷ rs) ks ps os qs e = (
 
 -- ---- an accepted script
 
--- the code arrays hold the code of a script, and the table its functions
+-- the code arrays hold the code of a script, and the table its functions and the positions after its trees
 pub record Coded (fs : Script) (c : Code) : Type 0 where
   pub written : At (c .kinds) (c .operands) 0 (code fs)
   pub short : length (code fs) ≤ 4096
   pub starts : (g : ℕ) → g < length fs → start-in (c .table) g ≡ body-at fs fs g
   pub depths : (g x : ℕ) → g < length fs → x < 256 → depth-in (c .table) g x ≡ depths-of fs (function-at fs g) x
+  pub ends : Jumps c
 
 calls-in-function : (functions : ℕ) (xs : List Parameter) (known : Scope) (p : ℕ) (e : Expr) →
     unknown-from functions xs known p e ≡ [] → CallsKnown 256 functions e
@@ -209,7 +210,7 @@ module _ (node : ℕ) (file : List ℕ) (fs : Script) (ok : judged node file ≡
   deliver-accepted c held readings budget σ =
       delivered-same fs F c (clean .limits .0) (sym (ap (λ s. length (s .parameters)) (main-shape-of node file fs ok
       .0)))
-      (stands c held) readings budget σ
+      (stands c held) (held .ends) readings budget σ
 
 -- what `code-kinds` and `code-operands` leave in the arrays
 pub code-written : (fs : Script) (ks : List ℕ) (os : List ℤ) →

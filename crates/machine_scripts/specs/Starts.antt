@@ -9,46 +9,30 @@ use lib.IntN.{ℤ, pos}
 use lib.ListN.{getD, set, length, length-append, length-set}
 use lib.Seq.{getD-set-same, getD-set-other}
 use Rattle.semantics.specs.Syntax.{Parameter, Function, Script, no-function}
-use Rattle.semantics.specs.Code.{rows}
+use Rattle.semantics.specs.Code.{Tree, rows}
 use Rattle.semantics.specs.Annotate.{annotated-body, parameter-rows, function-rows, functions-rows}
 use Rattle.sound_annotation.specs.Reader.{AllOf, FunctionLimits}
-use Rattle.machine_code.specs.Reading.{natural, after, start-in}
-use Rattle.machine_table.specs.Starts.{with-start, tree-start, starts-from}
-use Rattle.machine_table.proofs.Filling.{from-more}
+use Rattle.machine_code.specs.Reading.{natural, start-in, end-in}
+use Rattle.machine_table.specs.Positions.{with-start, tree-start, starts-from}
+use Rattle.machine_table.proofs.Filling.{length-position, from-more}
 use Rattle.machine_laws.specs.Rows.{At, at-first, at-second}
-use Rattle.machine_laws.specs.Skipped.{after-rows}
 use Rattle.machine_scripts.specs.Script.{body-at, length-parameters}
-
--- a table with room for 32 positions
-abbrev pub Roomy : List ℕ → Type 0
-Roomy table = 8256 ≤ length table
-
-length-start : (table : List ℕ) (f start : ℕ) → length (with-start table f start) ≡ length table
-length-start table f start =
-    length-set (set table (8192 + 2 * f) (start % 256)) (8192 + 2 * f + 1) (start / 256 % 256)
-    ∙ length-set table (8192 + 2 * f) (start % 256)
+use Rattle.machine_scripts.specs.Ends.{Roomy, position-read, position-other, end-kept}
 
 -- what stands before a function's position stays
 start-below : (table : List ℕ) (f start i : ℕ) → i < 8192 + 2 * f → getD (with-start table f start) i 0 ≡ getD table
     i 0
 start-below table f start i h =
-    getD-set-other (set table (8192 + 2 * f) (start % 256)) (8192 + 2 * f + 1) i (start / 256 % 256) 0
-    (λ e. omega (arith, e, h))
-    ∙ getD-set-other table (8192 + 2 * f) i (start % 256) 0 (λ e. omega (arith, e, h))
+    position-other table (8192 + 2 * f) start i (λ e. omega (arith, e, h)) (λ e. omega (arith, e, h))
 
 start-read : (table : List ℕ) (f start : ℕ) → Roomy table → f < 32 → start < 65536 →
     start-in (with-start table f start) f ≡ start
 unfolding start-in
-start-read table f start long h small =
-    let low : getD (with-start table f start) (8192 + 2 * f) 0 ≡ start % 256 =
-    getD-set-other (set table (8192 + 2 * f) (start % 256)) (8192 + 2 * f + 1) (8192 + 2 * f) (start / 256 %
-    256) 0
-    (λ e. omega (arith, e))
-    ∙ getD-set-same table (8192 + 2 * f) (start % 256) 0 (omega (arith, long, h)) in
-    let high : getD (with-start table f start) (8192 + 2 * f + 1) 0 ≡ start / 256 % 256 =
-    getD-set-same (set table (8192 + 2 * f) (start % 256)) (8192 + 2 * f + 1) (start / 256 % 256) 0
-    (omega (arith, long, h, length-set table (8192 + 2 * f) (start % 256))) in
-    omega (arith, low, high, small)
+start-read table f start long h small = position-read table (8192 + 2 * f) start (omega (arith, long, h)) small
+
+-- the positions after trees stay
+start-ends : (table : List ℕ) (f start q : ℕ) → f < 32 → end-in (with-start table f start) q ≡ end-in table q
+start-ends table f start q h = end-kept table (8192 + 2 * f) start q (omega (arith, h))
 
 module _ (kinds : List ℕ) (operands : List ℤ) (fs : Script) where
   -- what stands before the first position stays
@@ -57,16 +41,38 @@ module _ (kinds : List ℕ) (operands : List ℤ) (fs : Script) where
   unfolding starts-from
   starts-below zero f p table i h = refl
   starts-below (suc n) f p table i h =
-      go (ltb p (length kinds)) (starts-below n (f + 1) (after 4096 1 (tree-start operands p) kinds)
-      (with-start table f (tree-start operands p)) i (omega arith))
+      go (ltb p (length kinds)) (starts-below n (f + 1) next next-table i (omega arith))
     where
+      next-table : List ℕ
+      next-table = with-start table f (tree-start operands p)
+
+      next : ℕ
+      next = end-in next-table (tree-start operands p)
+
       go : (t : Bool) →
-          getD (starts-from n kinds operands (f + 1) (after 4096 1 (tree-start operands p) kinds)
-          (with-start table f (tree-start operands p))) i 0 ≡ getD (with-start table f (tree-start operands p)) i
-          0 →
-          getD (cond t (starts-from n kinds operands (f + 1) (after 4096 1 (tree-start operands p) kinds)
-          (with-start table f (tree-start operands p))) table) i 0 ≡ getD table i 0
+          getD (starts-from n kinds operands (f + 1) next next-table) i 0 ≡ getD next-table i 0 →
+          getD (cond t (starts-from n kinds operands (f + 1) next next-table) table) i 0 ≡ getD table i 0
       go true e = e ∙ start-below table f (tree-start operands p) i h
+      go false e = refl
+
+  -- the positions after trees stay
+  pub starts-ends : (n f p : ℕ) (table : List ℕ) (q : ℕ) → f + n ≤ 32 →
+      end-in (starts-from n kinds operands f p table) q ≡ end-in table q
+  unfolding starts-from
+  starts-ends zero f p table q h = refl
+  starts-ends (suc n) f p table q h =
+      go (ltb p (length kinds)) (starts-ends n (f + 1) next next-table q (omega arith))
+    where
+      next-table : List ℕ
+      next-table = with-start table f (tree-start operands p)
+
+      next : ℕ
+      next = end-in next-table (tree-start operands p)
+
+      go : (t : Bool) →
+          end-in (starts-from n kinds operands (f + 1) next next-table) q ≡ end-in next-table q →
+          end-in (cond t (starts-from n kinds operands (f + 1) next next-table) table) q ≡ end-in table q
+      go true e = e ∙ start-ends table f (tree-start operands p) q (omega arith)
       go false e = refl
 
   start-same : (a b : List ℕ) (f : ℕ) → ((i : ℕ) → i < 8192 + 2 * (f + 1) → getD a i 0 ≡ getD b i 0) →
@@ -74,6 +80,10 @@ module _ (kinds : List ℕ) (operands : List ℤ) (fs : Script) where
   unfolding start-in
   start-same a b f h =
       ap₂ (λ (x : ℕ) (y : ℕ). x + 256 * y) (h (8192 + 2 * f) (omega arith)) (h (8192 + 2 * f + 1) (omega arith))
+
+  -- the table has the position after each tree
+  abbrev pub Jumping : List ℕ → Type 0
+  Jumping table = (t : Tree) (q : ℕ) → At kinds operands q (rows t) → end-in table q ≡ q + length (rows t)
 
   -- the tree of a function that stands at p, and where the next function begins
   start-is : (g : Function) (p : ℕ) → At kinds operands p (function-rows fs g) → length (g .parameters) ≤ 8 →
@@ -83,19 +93,17 @@ module _ (kinds : List ℕ) (operands : List ℤ) (fs : Script) where
       (let z : (length (g .parameters) + 256 * g .result) % 256 ≡ length (g .parameters) = omega (arith, few) in
       omega (arith, z))
 
-  next-is : (g : Function) (p : ℕ) → At kinds operands p (function-rows fs g) → length (g .parameters) ≤ 8 →
-      p + length (function-rows fs g) ≤ 4096 → after 4096 1 (tree-start operands p) kinds ≡ p + length
-      (function-rows fs g)
+  next-is : (g : Function) (p : ℕ) (table : List ℕ) → Jumping table → At kinds operands p (function-rows fs g) →
+      length (g .parameters) ≤ 8 → end-in table (tree-start operands p) ≡ p + length (function-rows fs g)
   unfolding function-rows
-  next-is g p h few short =
+  next-is g p table jumps h few =
       let l = length-append (parameter-rows (g .parameters) 0) (rows (annotated-body fs g)) in
       let z : p + 1 + length (parameter-rows (g .parameters) 0) ≡ p + (1 + length (g .parameters)) =
       omega (arith, length-parameters (g .parameters) 0) in
-      ap (λ (q : ℕ). after 4096 1 q kinds) (start-is g p h few)
-      ∙ after-rows kinds operands (annotated-body fs g) (p + (1 + length (g .parameters)))
+      ap (end-in table) (start-is g p h few)
+      ∙ jumps (annotated-body fs g) (p + (1 + length (g .parameters)))
       (subst (λ (q : ℕ). At kinds operands q (rows (annotated-body fs g))) z
       (at-second kinds operands (p + 1) (parameter-rows (g .parameters) 0) (rows (annotated-body fs g)) (h .1)))
-      (omega (arith, l, short))
       ∙ (let y : p + (1 + length (g .parameters)) + length (rows (annotated-body fs g))
       ≡ p + suc (length (parameter-rows (g .parameters) 0 ++ rows (annotated-body fs g))) =
       omega (arith, l, length-parameters (g .parameters) 0) in y)
@@ -111,24 +119,27 @@ module _ (kinds : List ℕ) (operands : List ℤ) (fs : Script) where
 
   -- each position that the pass writes is that of the function's tree
   pub starts-stand : (gs : List Function) (f p : ℕ) (table : List ℕ) → At kinds operands p (functions-rows fs gs) →
-      AllOf FunctionLimits gs → Roomy table → f + length gs ≤ 32 → p + length (functions-rows fs gs) ≤ 4096 →
+      AllOf FunctionLimits gs → Roomy table → Jumping table → f + length gs ≤ 32 → p + length (functions-rows fs gs) ≤ 4096 →
       (g : ℕ) → g < length gs → start-in (starts-from (length gs) kinds operands f p table) (f + g) ≡ p + body-at fs
       gs g
   unfolding functions-rows body-at function-rows
-  starts-stand [] f p table h few long room short g l = absurd (omega arith)
-  starts-stand (k ∷ gs) f p table h few long room short g l =
+  starts-stand [] f p table h few long jumps room short g l = absurd (omega arith)
+  starts-stand (k ∷ gs) f p table h few long jumps room short g l =
       let len = length-append (function-rows fs k) (functions-rows fs gs) in
       let here = at-first kinds operands p (function-rows fs k) (functions-rows fs gs) h in
       let st = tree-start operands p in
       let within : p < length kinds = first-within k p here in
       ap (λ (t : List ℕ). start-in t (f + g)) (from-more (length gs) kinds operands f p table within
       ∙ ap (λ (q : ℕ). starts-from (length gs) kinds operands (f + 1) q (with-start table f st))
-      (next-is k p here (few .0 .parameters) (omega (arith, len, short))))
+      (next-is k p (with-start table f st) (jumps-more p) here (few .0 .parameters)))
       ∙ by g l
       (λ j m. starts-stand gs (f + 1) (p + length (function-rows fs k)) (with-start table f st)
       (at-second kinds operands p (function-rows fs k) (functions-rows fs gs) h) (few .1)
-      (omega (arith, long, length-start table f st)) (omega arith) (omega (arith, len, short)) j m)
+      (omega (arith, long, length-position table (8192 + 2 * f) st)) (jumps-more p) (omega arith) (omega (arith, len, short)) j m)
     where
+      jumps-more : (p : ℕ) → Jumping (with-start table f (tree-start operands p))
+      jumps-more p t q h = start-ends table f (tree-start operands p) q (omega (arith, room)) ∙ jumps t q h
+
       first-within : (k : Function) (p : ℕ) → At kinds operands p (function-rows fs k) → p < length kinds
       first-within k p h = h .0 .within
 

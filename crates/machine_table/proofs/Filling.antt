@@ -1,16 +1,66 @@
--- The loop over the functions.
+-- The loops over the rows and over the functions.
 use mathlib.Core.Path.{_≡_, refl, sym, ap, ap₂, _∙_}
 use mathlib.Core.List.{List}
 use Prim.Native.Nat.{ℕ, zero, suc, _+_, _-_, _*_, _/_, _%_, _<_, _≤_}
 use native.Mathlib.Omega.{arith}
 use lib.IntN.{ℤ, pos}
 use lib.ListN.{getD, set, length, length-set}
-use borrow.Author.Tests.{lt-ltb, le-ltb}
-use Rattle.machine_code.specs.Reading.{natural, after}
+use borrow.Author.Tests.{lt-ltb, le-ltb, eq-eqb, ne-eqb}
+use Rattle.machine_code.specs.Reading.{natural, end-in}
 use Rattle.machine_code.proofs.Reading.{less-one}
-use Rattle.machine_table.specs.Starts.{with-start, tree-start, starts-from}
+use Rattle.machine_table.specs.Positions.{with-position, with-end, end-of, ends-from, with-start, tree-start}
+use Rattle.machine_table.specs.Positions.{starts-from, filled}
 
--- f functions are done; what is left gives what the whole gives
+pub length-position : (table : List ℕ) (place position : ℕ) → length (with-position table place position) ≡ length table
+length-position table place position =
+    length-set (set table place (position % 256)) (place + 1) (position / 256 % 256)
+    ∙ length-set table place (position % 256)
+
+-- ---- the position after the tree at a row, by the row's kind
+
+module _ (kind : ℕ) (table : List ℕ) (at : ℕ) where
+  pub end-here : kind ≡ 16 → at + 2 ≡ end-of kind table at
+  end-here e = rw e
+
+  pub end-map : (next r : ℕ) → (kind ≡ 16 → ⊥) → kind ≡ 13 → next ≡ end-in table (at + 1) → r ≡ end-in table next →
+      r ≡ end-of kind table at
+  end-map next r f e n h = h ∙ ap (end-in table) n ∙ rw e
+
+  pub end-if : (next last r : ℕ) → (kind ≡ 16 → ⊥) → (kind ≡ 13 → ⊥) → kind ≡ 12 → next ≡ end-in table (at + 1) →
+      last ≡ end-in table next → r ≡ end-in table last → r ≡ end-of kind table at
+  end-if next last r f g e n l h = h ∙ ap (end-in table) (l ∙ ap (end-in table) n) ∙ rw e
+
+  pub end-other : (r : ℕ) → (kind ≡ 16 → ⊥) → (kind ≡ 13 → ⊥) → (kind ≡ 12 → ⊥) → r ≡ end-in table (at + 1) →
+      r ≡ end-of kind table at
+  end-other r f g e h = h ∙ rw (ne-eqb kind 16 f, ne-eqb kind 13 g, ne-eqb kind 12 e)
+
+-- ---- the loop over the rows: what is left gives what the whole gives
+
+pub record Ending (kinds : List ℕ) (rows : ℕ) (table₀ table : List ℕ) (at : ℕ) : Type 0 where
+  pub same : ends-from rows kinds table₀ ≡ ends-from at kinds table
+  pub few : at ≤ rows
+  pub long : length table ≡ length table₀
+
+pub ending-starts : (kinds : List ℕ) (rows : ℕ) (table : List ℕ) → Ending kinds rows table table rows
+ending-starts kinds rows table = record { same = refl; few = omega arith; long = refl }
+
+module _ {kinds : List ℕ} {rows : ℕ} {table₀ table : List ℕ} {at : ℕ} (inv : Ending kinds rows table₀ table at) where
+  pub ended : (0 < at → ⊥) → table ≡ ends-from rows kinds table₀
+  unfolding ends-from
+  ended h = sym (inv .same ∙ ap (λ (n : ℕ). ends-from n kinds table) (let z : at ≡ 0 = omega arith in z))
+
+  pub end-more : 0 < at → (end : ℕ) → end ≡ end-of (getD kinds (at - 1) 0) table (at - 1) → (t : List ℕ) →
+      t ≡ with-end table (at - 1) end → Ending kinds rows table₀ t (at - 1)
+  unfolding ends-from
+  end-more h end e t te = record {
+    same = inv .same ∙ ap (λ (n : ℕ). ends-from n kinds table) (less-one at h)
+        ∙ ap (ends-from (at - 1) kinds) (ap (with-end table (at - 1)) (sym e) ∙ sym te);
+    few = omega (arith, inv .few);
+    long = ap length te ∙ length-position table (8256 + 2 * (at - 1)) end ∙ inv .long;
+  }
+
+-- ---- the loop over the functions: f of them are done
+
 pub record Filling (kinds : List ℕ) (operands : List ℤ) (functions : ℕ) (table₀ table : List ℕ) (f p : ℕ) : Type 0
   where
     pub same : starts-from functions kinds operands 0 0 table₀ ≡ starts-from (functions - f) kinds operands f p table
@@ -39,33 +89,46 @@ from-past (suc n) kinds operands f p table h = rw (le-ltb p (length kinds) h)
 
 pub from-more : (n : ℕ) (kinds : List ℕ) (operands : List ℤ) (f p : ℕ) (table : List ℕ) → p < length kinds →
     starts-from (suc n) kinds operands f p table
-    ≡ starts-from n kinds operands (f + 1) (after 4096 1 (tree-start operands p) kinds)
+    ≡ starts-from n kinds operands (f + 1)
+    (end-in (with-start table f (tree-start operands p)) (tree-start operands p))
     (with-start table f (tree-start operands p))
 unfolding starts-from
 from-more n kinds operands f p table h = rw (lt-ltb p (length kinds) h)
 
 module _ {kinds : List ℕ} {operands : List ℤ} {functions : ℕ} {table₀ table : List ℕ} {f p : ℕ}
     (inv : Filling kinds operands functions table₀ table f p) where
-  pub filled : functions ≤ f → table ≡ starts-from functions kinds operands 0 0 table₀
-  filled h = sym (inv .same ∙ from-none (functions - f) kinds operands f p table (omega arith))
+  pub filled-all : functions ≤ f → table ≡ starts-from functions kinds operands 0 0 table₀
+  filled-all h = sym (inv .same ∙ from-none (functions - f) kinds operands f p table (omega arith))
 
   pub filled-past : length kinds ≤ p → table ≡ starts-from functions kinds operands 0 0 table₀
   filled-past h = sym (inv .same ∙ from-past (functions - f) kinds operands f p table h)
 
   pub fill-more : f < functions → p < length kinds → (count : ℕ) → count ≡ natural (getD operands p (pos 0)) →
-      (t₁ t₂ : List ℕ) (q : ℕ) → t₁ ≡ set table (8192 + 2 * f) ((p + 1 + count % 256) % 256) →
-      t₂ ≡ set t₁ (8192 + 2 * f + 1) ((p + 1 + count % 256) / 256 % 256) →
-      q ≡ after 4096 1 (p + 1 + count % 256) kinds → Filling kinds operands functions table₀ t₂ (f + 1) q
-  fill-more h l count ce t₁ t₂ q e₁ e₂ qe = record {
+      (t : List ℕ) (q : ℕ) → t ≡ with-start table f (p + 1 + count % 256) → q ≡ end-in t (p + 1 + count % 256) →
+      Filling kinds operands functions table₀ t (f + 1) q
+  fill-more h l count ce t q te qe = record {
     same = inv .same
         ∙ ap (λ (n : ℕ). starts-from n kinds operands f p table)
         (let z : functions - f ≡ suc (functions - (f + 1)) = omega arith in z)
         ∙ from-more (functions - (f + 1)) kinds operands f p table l
         ∙ ap (λ (k : ℕ). starts-from (functions - (f + 1)) kinds operands (f + 1)
-        (after 4096 1 (p + 1 + k % 256) kinds) (with-start table f (p + 1 + k % 256))) (sym ce)
-        ∙ ap₂ (starts-from (functions - (f + 1)) kinds operands (f + 1)) (sym qe)
-        (sym (e₂ ∙ ap (λ (t : List ℕ). set t (8192 + 2 * f + 1) ((p + 1 + count % 256) / 256 % 256)) e₁));
+        (end-in (with-start table f (p + 1 + k % 256)) (p + 1 + k % 256)) (with-start table f (p + 1 + k % 256)))
+        (sym ce)
+        ∙ ap (λ (u : List ℕ). starts-from (functions - (f + 1)) kinds operands (f + 1)
+        (end-in u (p + 1 + count % 256)) u) (sym te)
+        ∙ ap (λ (k : ℕ). starts-from (functions - (f + 1)) kinds operands (f + 1) k t) (sym qe);
     few = omega arith;
-    long = ap length e₂ ∙ length-set t₁ (8192 + 2 * f + 1) ((p + 1 + count % 256) / 256 % 256)
-        ∙ ap length e₁ ∙ length-set table (8192 + 2 * f) ((p + 1 + count % 256) % 256) ∙ inv .long;
+    long = ap length te ∙ length-position table (8192 + 2 * f) (p + 1 + count % 256) ∙ inv .long;
   }
+
+-- ---- both
+
+module _ (functions rows : ℕ) (kinds : List ℕ) (operands : List ℤ) (table : List ℕ) where
+  pub filled-short : length table < 16448 → table ≡ filled functions rows kinds operands table
+  unfolding filled
+  filled-short h = rw (lt-ltb (length table) 16448 h)
+
+  pub filled-long : 16448 ≤ length table → (t u : List ℕ) → t ≡ ends-from rows kinds table →
+      u ≡ starts-from functions kinds operands 0 0 t → u ≡ filled functions rows kinds operands table
+  unfolding filled
+  filled-long h t u te ue = ue ∙ ap (starts-from functions kinds operands 0 0) te ∙ rw (le-ltb (length table) 16448 h)

@@ -1,8 +1,8 @@
-// The positions of the functions' trees, found by one pass over the code and written behind the depths of the table.
+// The positions behind the depths of the table: where the functions' trees begin, and where the tree at each row ends.
 ghost use mathlib.Core.Path.{_≡_};
-ghost use Prim.Native.Nat.{_≤_};
-ghost use lib.ListN.{set};
-ghost use Rattle.machine_table.specs.Starts.{starts-from};
+ghost use Prim.Native.Nat.{_+_, _≤_, _<_};
+ghost use lib.ListN.{length, set};
+ghost use Rattle.machine_table.specs.Positions.{with-position, ends-from, end-of, starts-from, filled};
 
 // Writes a byte where there is such a place.
 fn put(table: &mut [u8], i: usize, byte: u8)
@@ -13,8 +13,49 @@ fn put(table: &mut [u8], i: usize, byte: u8)
     }
 }
 
-// Writes the position of the tree of each function, two bytes each, low byte first.
-pub fn fill_starts(kinds: &[u8], operands: &[i64], functions: usize, table: &mut [u8])
+// Writes a position at a place, low byte first.
+fn put_position(table: &mut [u8], place: usize, position: usize)
+    requires { ⌜ place < 65536 ⌝ }
+    ensures { λ _. ⌜ now (table .exit) ≡ with-position (now (table .entry)) place position ⌝ }
+{
+    put(table, place, (position % 256) as u8);
+    put(table, place + 1, (position / 256 % 256) as u8);
+}
+
+// The position after the tree that begins at a row, by the row's kind and the positions after the trees behind it.
+fn end_of(kind: u8, table: &[u8], at: usize) -> usize
+    requires { ⌜ at < 4096 ⌝ }
+    ensures { λ r. ⌜ r ≡ end-of kind (now (table .entry)) at ⌝ }
+{
+    if kind == 16 {
+        return at + 2;
+    }
+    let next = machine_code::end_in(table, at + 1);
+    if kind == 13 {
+        return machine_code::end_in(table, next);
+    }
+    if kind == 12 {
+        let last = machine_code::end_in(table, next);
+        return machine_code::end_in(table, last);
+    }
+    next
+}
+
+// Writes the position after the tree that begins at each of the first rows, from the last of them to the first.
+fn fill_ends(kinds: &[u8], rows: usize, table: &mut [u8])
+    requires { ⌜ (rows ≤ length (now kinds)) × (rows ≤ 4096) ⌝ }
+    ensures { λ _. ⌜ now (table .exit) ≡ ends-from rows (now (kinds .entry)) (now (table .entry)) ⌝ }
+{
+    let mut at = rows;
+    while 0 < at {
+        at = at - 1;
+        let end = end_of(kinds[at], table, at);
+        put_position(table, 8256 + 2 * at, end);
+    }
+}
+
+// Writes the position of the tree of each function.
+fn fill_starts(kinds: &[u8], operands: &[i64], functions: usize, table: &mut [u8])
     requires { ⌜ functions ≤ 32 ⌝ }
     ensures { λ _. ⌜ now (table .exit)
         ≡ starts-from functions (now (kinds .entry)) (now (operands .entry)) 0 0 (now (table .entry)) ⌝ }
@@ -27,9 +68,21 @@ pub fn fill_starts(kinds: &[u8], operands: &[i64], functions: usize, table: &mut
         }
         let count = machine_code::natural_at(operands, p) % 256;
         let start = p + 1 + count as usize;
-        put(table, 8192 + 2 * f, (start % 256) as u8);
-        put(table, 8192 + 2 * f + 1, (start / 256 % 256) as u8);
-        p = machine_code::after_tree(kinds, start);
+        put_position(table, 8192 + 2 * f, start);
+        p = machine_code::end_in(table, start);
         f = f + 1;
     }
+}
+
+// Writes both, for the code of so many functions and rows; a table that is too short for them is left as it is.
+pub fn fill(kinds: &[u8], operands: &[i64], functions: usize, rows: usize, table: &mut [u8])
+    requires { ⌜ (functions ≤ 32) × ((rows ≤ length (now kinds)) × (rows ≤ 4096)) ⌝ }
+    ensures { λ _. ⌜ now (table .exit)
+        ≡ filled functions rows (now (kinds .entry)) (now (operands .entry)) (now (table .entry)) ⌝ }
+{
+    if table.len() < 16448 {
+        return;
+    }
+    fill_ends(kinds, rows, table);
+    fill_starts(kinds, operands, functions, table);
 }

@@ -62,7 +62,7 @@ returns c =
     let loaded = c .before .before .before .before .before .before .before .before .before .before .before .before
     .before .before .before .before .before .before .before .before .before .before .load-with in
     let part = c .before .before .before .before .before .before .before .before .before .deliver-words in
-    let h = subst (λ r. LoadsWith (a .file .now) (a .kinds .now) (a .operands .now) (replicate 8256 0) r
+    let h = subst (λ r. LoadsWith (a .file .now) (a .kinds .now) (a .operands .now) (replicate 16448 0) r
     (loaded .last .1 .0) (loaded .last .1 .1 .0) (loaded .last .1 .1 .1 .0))
     (c .before .before .before .before .before .before .before .before .before .before .before .before .before
     .before .before .before .depth .given .1) (loaded .ensures) in
@@ -87,7 +87,7 @@ returns-2 c =
     let a = c .before .before .before .before .before .before .before .before .before .before .before .before .before
     .before .args in
     let loaded = c .before .before .before .before .before .before .before .load-with in
-    let h = subst (λ r. LoadsWith (a .file .now) (a .kinds .now) (a .operands .now) (replicate 8256 0) r
+    let h = subst (λ r. LoadsWith (a .file .now) (a .kinds .now) (a .operands .now) (replicate 16448 0) r
     (loaded .last .1 .0) (loaded .last .1 .1 .0) (loaded .last .1 .1 .1 .0)) (c .before .answer .given .1)
     (loaded .ensures) in
     replies-refused (deliver-serves (a .kinds .now) (a .operands .now) (a .slots .now) (a .heads .now)

@@ -7,12 +7,12 @@ use Rattle.script.specs.Verdicts.{Judges}
 use Rattle.words.proofs.Packing.{packed-small}
 use Rattle.engine_load.specs.Loading.{LoadsWith}
 use Rattle.engine_load.proofs.Laws.{ready, accepted-file, file-taken, translatable, node-fits}
-use Rattle.engine_load.proofs.Tables.{filled, loads-with-laid, loads-with-refusal}
+use Rattle.engine_load.proofs.Tables.{table-after, laid-within, loads-with-laid, loads-with-refusal}
 use Rattle.engine_load.proofs.load_with.Statement.{statement}
 use Rattle.engine_load.proofs.load_with.Tie as tie
 use Rattle.engine_load.proofs.load_with.Reads as reads
 use Rattle.engine_load.proofs.load_with.Lts as lts
-use Rattle.machine_table.proofs.fill_starts.Reads as fill-starts-reads
+use Rattle.machine_table.proofs.fill.Reads as fill-reads
 use Rattle.normal.proofs.refuse.Reads as refuse-reads
 use Rattle.normal.proofs.translate_accepted.Reads as translate-accepted-reads
 use Rattle.script.proofs.judge.Reads as judge-reads
@@ -74,11 +74,19 @@ translate-accepted-requires c κs = translatable
 enum-known-n : tie.Need-enum-known-n
 enum-known-n c = search needs
 
-fill-starts-requires : tie.Need-fill-starts-requires
-fill-starts-requires c κs =
-    file-taken
-    (accepted-file _ _ _ (verdict (c .before .before .before .before .before .before .before .before .before
-    .before .before .before .before .before .before .before .before .before))) .readable .few
+fill-requires : tie.Need-fill-requires
+fill-requires c κs =
+    let at-n = c .before .before .before .before in
+    let laid = at-n .before .before .before .before .before .before .before .translate-accepted in
+    let at-accepted = c .before .before .before .before .before .before .before .before .before .before .before
+    .before .before .before .before .before .before .before in
+    let a = at-accepted .before .before .before .before .before .before .before .args in
+    let accepted = accepted-file _ _ _ (verdict at-accepted) in (
+      file-taken accepted .readable .few,
+      laid-within accepted (a .kinds .now) (laid .last .1 .1 .1 .1 .0) (a .operands .now) (laid .last .1 .1 .1 .1 .1
+          .0)
+          (laid .result) (at-n .n .given .0 .0) (at-n .n .given .1) (laid .ensures .0),
+    )
 
 cast-t36 : tie.Need-cast-t36
 cast-t36 c = search needs
@@ -122,9 +130,9 @@ returns c =
     let table = laid .last .1 .1 .1 .0 in
     let kinds = laid .last .1 .1 .1 .1 .0 in
     let operands = laid .last .1 .1 .1 .1 .1 .0 in
-    rw (c .before .before .fill-starts .ensures) (subst
+    rw (c .before .before .fill .ensures) (subst
     (λ r. LoadsWith (a .file .now) (a .kinds .now) (a .operands .now) (a .table .now) (ready (d .result) r)
-    kinds operands (filled functions kinds operands r table)) (at-n .n .given .1)
+    kinds operands (table-after functions kinds operands r table)) (at-n .n .given .1)
     (loads-with-laid (laid .result) (d .result) table j (d .ensures) (laid .ensures .0) (laid .ensures .1)))
 
 same-length-4 : tie.Need-same-length-4
@@ -151,7 +159,7 @@ returns-2 c =
     let kinds = laid .last .1 .1 .1 .1 .0 in
     let operands = laid .last .1 .1 .1 .1 .1 .0 in
     subst (λ r. LoadsWith (a .file .now) (a .kinds .now) (a .operands .now) (a .table .now) (ready (d .result) r)
-    kinds operands (filled functions kinds operands r table)) (c .enum-told .given .1)
+    kinds operands (table-after functions kinds operands r table)) (c .enum-told .given .1)
     (loads-with-laid (laid .result) (d .result) table j (d .ensures) (laid .ensures .0) (laid .ensures .1))
 
 same-length-7 : tie.Need-same-length-7
@@ -186,7 +194,7 @@ load-with-spec =
     high-at-requires
     translate-accepted-requires
     enum-known-n
-    fill-starts-requires
+    fill-requires
     cast-t36
     enum-told
     enum-known-number

@@ -20,7 +20,7 @@ use Rattle.machine.proofs.+work_call+work_if+work_line+work_map+work_pa
 use Rattle.machine.proofs.work_tree.Reads as work-tree
 use Rattle.machine.proofs.work_tree.Kinds as work-tree-kinds
 use Rattle.machine.proofs.+work_call+work_if+work_line+work_map+work_pass+work_tree.Lts-work_tree as work-tree-lts
-use Rattle.machine_code.proofs.after_tree.Reads as after-tree-reads
+use Rattle.machine_code.proofs.end_in.Reads as end-in-reads
 use Rattle.machine_code.proofs.element_depth.Reads as element-depth-reads
 use Rattle.machine_code.proofs.line_at.Reads as line-at-reads
 use Rattle.machine_code.proofs.start_in.Reads as start-in-reads
@@ -165,8 +165,8 @@ work-map-claims t = (
   word-from-reads.Learnt,
   bind-reads.Asked,
   bind-reads.Learnt,
-  after-tree-reads.Asked,
-  after-tree-reads.Learnt,
+  end-in-reads.Asked,
+  end-in-reads.Learnt,
   done-reads.Asked,
   done-reads.Learnt,
 )

@@ -21,7 +21,7 @@ pub work-if-returns : (t : ℕ) → work-if-lts.Need-returns (work-if-claims t) 
 work-if-returns t c =
     let a = c .before .before .before .before .before .args in
     let k = code (a .kinds .now) (a .operands .now) (a .table .now) in
-    if-spent (tree-on (a .lines) (call-on (a .calls) k) k (a .calls) (a .f)) (a .kinds .now) (a .calls) (a .x) (a .g)
+    if-spent (tree-on (a .lines) (call-on (a .calls) k) k (a .calls) (a .f)) (a .table .now) (a .calls) (a .x) (a .g)
     (a .at) (a .steps) (a .slots .now) (a .heads .now) (a .env .now) (c .halted .result) (c .before .if1 .taken)
     (c .halted .ensures)
 
@@ -58,7 +58,7 @@ work-if-returns-2 t c =
     let word = c .before .before .before .before .before .before .before .before .before .word-of in
     let start = c .before .before .before .before .before .before .before .before .branch-start in
     let tree = c .before .before .before .before .work-tree in
-    if-stops (tree-on (a .lines) (call-on (a .calls) k) k (a .calls) (a .f)) (a .kinds .now) (a .calls) (a .x) (a .g)
+    if-stops (tree-on (a .lines) (call-on (a .calls) k) k (a .calls) (a .f)) (a .table .now) (a .calls) (a .x) (a .g)
     (a .at) (a .steps) (a .slots .now) (a .heads .now) (a .env .now)
     (c .before .before .before .before .before .before .before .before .before .before .before .if1 .left)
     (word .result) (word .ensures) (start .result) (rw (toZ-ofZ {z = word .result} (record { sfits = word .ok })) at
@@ -104,7 +104,7 @@ work-if-returns-3 t c =
     .before .branch-start in
     let tree = c .before .before .before .before .before .before .before .before .before .work-tree in
     let next = c .before .before .before .branch-end in
-    if-goes (tree-on (a .lines) (call-on (a .calls) k) k (a .calls) (a .f)) (a .kinds .now) (a .calls) (a .x) (a .g)
+    if-goes (tree-on (a .lines) (call-on (a .calls) k) k (a .calls) (a .f)) (a .table .now) (a .calls) (a .x) (a .g)
     (a .at) (a .steps) (a .slots .now) (a .heads .now) (a .env .now)
     (c .before .before .before .before .before .before .before .before .before .before .before .before
     .before .before .before .before .if1 .left) (word .result) (word .ensures) (start .result) (rw (toZ-ofZ {z =

@@ -138,9 +138,9 @@ work-map-bind-requires t c κs =
           .before .before .before .before .before .before .pre .1 .2,
     )
 
-pub work-map-add-after-tree : (t : ℕ) → work-map-lts.Need-add-after-tree (work-map-claims t) (work-map-at t)
+pub work-map-add-end-in : (t : ℕ) → work-map-lts.Need-add-end-in (work-map-claims t) (work-map-at t)
     work-map.Post
-work-map-add-after-tree t c =
+work-map-add-end-in t c =
     omega (
       arith,
       c .before .before .before .before .before .before .before .before .before .before .before .before
@@ -152,9 +152,9 @@ work-map-add-after-tree t c =
           .before .good .0,
     )
 
-pub work-map-after-tree-requires : (t : ℕ) → work-map-lts.Need-after-tree-requires (work-map-claims t) (work-map-at t)
+pub work-map-end-in-requires : (t : ℕ) → work-map-lts.Need-end-in-requires (work-map-claims t) (work-map-at t)
     work-map.Post
-work-map-after-tree-requires t c κs = search needs
+work-map-end-in-requires t c κs = search needs
 
 pub work-map-done-requires : (t : ℕ) → work-map-lts.Need-done-requires (work-map-claims t) (work-map-at t)
     work-map.Post
@@ -211,7 +211,7 @@ work-map-returns-3 t c =
     (passes .last .1 .1 .1 .1 .0) (passes .last .1 .1 .1 .1 .1 .0) (passes .ensures)
     (c .before .before .before .before .before .if2 .left) (number .result) (number .ensures)
     (c .before .before .bind .last .0) (rw (toZ-ofZ {z = number .result} (record { sfits = number .ok })) at
-    (c .before .before .bind .ensures)) (c .before .after-tree .result) (c .before .after-tree .ensures)
+    (c .before .before .bind .ensures)) (c .before .end-in .result) (c .before .end-in .ensures .0)
     (c .done .result) (rw (toZ-ofZ {z = number .result} (record { sfits = number .ok })) at (c .done .ensures))
 
 pub work-map-same-length-5 : (t : ℕ) → work-map-lts.Need-same-length-5 (work-map-claims t) (work-map-at t)

@@ -1,0 +1,58 @@
+use Prim.Native.Nat.{_+_, _*_}
+use native.Mathlib.Omega.{arith}
+use mathlib.Core.Path.{_≡_}
+use lib.ListN.{getD, List·getD-eq-default}
+use Rattle.machine_code.specs.Reading.{end-in}
+use borrow.Author.Needs.{needs}
+use Rattle.machine_code.proofs.end_in.Statement.{statement}
+use Rattle.machine_code.proofs.end_in.Tie as tie
+
+returns : tie.Need-returns
+unfolding end-in
+returns c =
+    let a = c .before .before .args in
+    let low : getD (a .table .now) (8256 + 2 * a .at) 0 ≡ 0 =
+    List·getD-eq-default (a .table .now) 0 (omega (arith, c .if1 .taken)) in
+    let high : getD (a .table .now) (8256 + 2 * a .at + 1) 0 ≡ 0 =
+    List·getD-eq-default (a .table .now) 0 (omega (arith, c .if1 .taken)) in
+    (omega (arith, low, high), omega arith)
+
+mul-place : tie.Need-mul-place
+mul-place c = search needs
+
+add-place : tie.Need-add-place
+add-place c = omega (arith, c .if1 .left, c .before .before .good .0)
+
+byte-at-requires : tie.Need-byte-at-requires
+byte-at-requires c κs = search needs
+
+add-byte-at : tie.Need-add-byte-at
+add-byte-at c = omega (arith, c .before .if1 .left, c .before .before .before .good .0)
+
+byte-at-requires-2 : tie.Need-byte-at-requires-2
+byte-at-requires-2 c κs = search needs
+
+mul-result : tie.Need-mul-result
+mul-result c = search needs
+
+add-result : tie.Need-add-result
+add-result c = search needs
+
+returns-2 : tie.Need-returns-2
+unfolding end-in
+returns-2 c = let low = c .before .byte-at .ensures in let high = c .byte-at2 .ensures in
+    (omega (arith, low .0, high .0), omega (arith, low .1, high .1))
+
+pub end-in-spec : {M : Type 1} → statement M
+end-in-spec =
+    tie.close
+    (tie.spec
+    returns
+    mul-place
+    add-place
+    byte-at-requires
+    add-byte-at
+    byte-at-requires-2
+    mul-result
+    add-result
+    returns-2)

@@ -1,0 +1,55 @@
+-- The positions in the table: where the functions' trees begin, and where the tree at each row ends.
+use mathlib.Core.Bool.{cond}
+use mathlib.Core.List.{List}
+use Prim.Native.Nat.{ℕ, zero, suc, _+_, _*_, _/_, _%_}
+use lib.IntN.{ℤ, pos}
+use lib.Dec.{ltb, eqb}
+use lib.ListN.{getD, set, length}
+use Rattle.machine_code.specs.Reading.{natural, end-in}
+
+-- a position at a place, low byte first
+abbrev pub with-position : List ℕ → ℕ → ℕ → List ℕ
+with-position table place position = set (set table place (position % 256)) (place + 1) (position / 256 % 256)
+
+-- ---- the position after the tree that begins at a row
+
+abbrev pub with-end : List ℕ → ℕ → ℕ → List ℕ
+with-end table at end = with-position table (8256 + 2 * at) end
+
+-- by the row's kind and what the table has for the rows behind it: a map's tree, and an if's two, come before the rest
+abbrev pub end-of : ℕ → List ℕ → ℕ → ℕ
+end-of kind table at =
+    cond (eqb kind 16) (at + 2)
+    (cond (eqb kind 13) (end-in table (end-in table (at + 1)))
+    (cond (eqb kind 12) (end-in table (end-in table (end-in table (at + 1))))
+    (end-in table (at + 1))))
+
+-- the first n rows, the last of them first
+unfoldable pub ends-from : ℕ → List ℕ → List ℕ → List ℕ
+ends-from zero kinds table = table
+ends-from (suc at) kinds table = ends-from at kinds (with-end table at (end-of (getD kinds at 0) table at))
+
+-- ---- where the functions' trees begin
+
+abbrev pub with-start : List ℕ → ℕ → ℕ → List ℕ
+with-start table f start = with-position table (8192 + 2 * f) start
+
+-- the tree of a function that begins at p: behind its own line and those of its parameters
+abbrev pub tree-start : List ℤ → ℕ → ℕ
+tree-start operands p = p + 1 + natural (getD operands p (pos 0)) % 256
+
+-- n functions from number f on, the first of which begins at p
+unfoldable pub starts-from : ℕ → List ℕ → List ℤ → ℕ → ℕ → List ℕ → List ℕ
+starts-from zero kinds operands f p table = table
+starts-from (suc n) kinds operands f p table =
+    cond (ltb p (length kinds))
+    (starts-from n kinds operands (f + 1)
+    (end-in (with-start table f (tree-start operands p)) (tree-start operands p))
+    (with-start table f (tree-start operands p)))
+    table
+
+-- ---- both, where the table has room for them
+
+unfoldable pub filled : ℕ → ℕ → List ℕ → List ℤ → List ℕ → List ℕ
+filled functions rows kinds operands table =
+    cond (ltb (length table) 16448) table (starts-from functions kinds operands 0 0 (ends-from rows kinds table))
