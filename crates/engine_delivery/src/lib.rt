@@ -19,7 +19,7 @@ fn request_fits(readings: &[i64], budget: u64) -> bool
 pub fn deliver_words(
     kinds: &[u8],
     operands: &[i64],
-    table: &[u8],
+    table: &[u8; 16448],
     slots: &mut [i64],
     heads: &mut [u32],
     readings: &[i64],

@@ -1,5 +1,6 @@
 // The machine: workers for a tree, a line and the passes of a map that call each other. What falls is the steps left,
-// and where no step is taken the lines left. `calls` is the call depth left, and f the function that is worked.
+// and where no step is taken the lines left. `calls` is the call depth left, and f the function that is worked. The
+// code's slices are lent by a reference to each: a frame then has no copy of them.
 use machine_code::Atom;
 use machine_code::Line;
 use machine_lines::Out;
@@ -10,13 +11,13 @@ ghost use lib.ListN.{length};
 ghost use Rattle.semantics.specs.Words.{store-of};
 ghost use Rattle.machine_lines.specs.Lines.{memory};
 ghost use Rattle.machine_positions.specs.Machine.{code, Ended, if-line, call-line, map-line, passes-on, line-on};
-ghost use Rattle.machine_positions.specs.Machine.{tree-on, call-on};
+ghost use Rattle.machine_positions.specs.Machine.{tree-on, call-on, Short};
 
 // Works the tree at a position.
 pub fn work_tree(
-    kinds: &[u8],
-    operands: &[i64],
-    table: &[u8],
+    kinds: &&[u8],
+    operands: &&[i64],
+    table: &[u8; 16448],
     slots: &mut [i64],
     heads: &mut [u32],
     env: &mut [i64; 8192],
@@ -26,10 +27,10 @@ pub fn work_tree(
     f: u8,
     at: usize,
 ) -> Out
-    requires { ⌜ (calls < 32) × (length (now env) ≡ 8192) ⌝ }
+    requires { ⌜ (calls < 32) × (length (now env) ≡ 8192) × Short (now (now kinds)) ⌝ }
     ensures { λ r. ⌜ Ended (tree-on lines
-        (call-on calls (code (now (kinds .entry)) (now (operands .entry)) (now (table .entry))))
-        (code (now (kinds .entry)) (now (operands .entry)) (now (table .entry))) calls f at steps
+        (call-on calls (code (now (now (kinds .entry))) (now (now (operands .entry))) (now (table .entry))))
+        (code (now (now (kinds .entry))) (now (now (operands .entry))) (now (table .entry))) calls f at steps
         (memory (store-of (now (slots .entry)) (now (heads .entry))) (now (env .entry))))
         steps r (now (slots .exit)) (now (heads .exit)) (now (env .exit)) ⌝ }
 {
@@ -41,11 +42,11 @@ pub fn work_tree(
             return machine_lines::halted(99, s);
         }
         if kinds[p] == 16 {
-            let a = machine_code::atom_at(kinds, operands, p + 1);
+            let a = machine_code::atom_at(*kinds, *operands, p + 1);
             let w = machine_lines::word_of(env, calls, a);
             return machine_lines::done(w, p + 2, s);
         }
-        let l = machine_code::line_at(kinds, operands, p);
+        let l = machine_code::line_at(*kinds, *operands, p);
         let r = work_line(
             kinds,
             operands,
@@ -73,9 +74,9 @@ pub fn work_tree(
 
 // Works a line that stands at a position.
 fn work_line(
-    kinds: &[u8],
-    operands: &[i64],
-    table: &[u8],
+    kinds: &&[u8],
+    operands: &&[i64],
+    table: &[u8; 16448],
     slots: &mut [i64],
     heads: &mut [u32],
     env: &mut [i64; 8192],
@@ -86,12 +87,13 @@ fn work_line(
     at: usize,
     l: Line,
 ) -> Out
-    requires { ⌜ (at < length (now kinds)) × (calls < 32) × (length (now env) ≡ 8192) ⌝ }
+    requires { ⌜ (at < length (now (now kinds))) × (calls < 32) × (length (now env) ≡ 8192) × Short (now (now kinds)) ⌝ }
     ensures { λ r. ⌜ Ended (line-on
-        (tree-on lines (call-on calls (code (now (kinds .entry)) (now (operands .entry)) (now (table .entry))))
-        (code (now (kinds .entry)) (now (operands .entry)) (now (table .entry))) calls f)
-        (call-on calls (code (now (kinds .entry)) (now (operands .entry)) (now (table .entry))))
-        (code (now (kinds .entry)) (now (operands .entry)) (now (table .entry))) calls f at steps
+        (tree-on lines
+        (call-on calls (code (now (now (kinds .entry))) (now (now (operands .entry))) (now (table .entry))))
+        (code (now (now (kinds .entry))) (now (now (operands .entry))) (now (table .entry))) calls f)
+        (call-on calls (code (now (now (kinds .entry))) (now (now (operands .entry))) (now (table .entry))))
+        (code (now (now (kinds .entry))) (now (now (operands .entry))) (now (table .entry))) calls f at steps
         (memory (store-of (now (slots .entry)) (now (heads .entry))) (now (env .entry))) l)
         steps r (now (slots .exit)) (now (heads .exit)) (now (env .exit)) ⌝ }
 {
@@ -140,15 +142,15 @@ fn work_line(
             p,
             a,
         ),
-        _ => machine_lines::work_leaf(kinds, operands, slots, heads, env, l, calls, at, steps),
+        _ => machine_lines::work_leaf(*kinds, *operands, slots, heads, env, l, calls, at, steps),
     }
 }
 
 // Works one tree of an if.
 fn work_if(
-    kinds: &[u8],
-    operands: &[i64],
-    table: &[u8],
+    kinds: &&[u8],
+    operands: &&[i64],
+    table: &[u8; 16448],
     slots: &mut [i64],
     heads: &mut [u32],
     env: &mut [i64; 8192],
@@ -160,10 +162,11 @@ fn work_if(
     x: u8,
     g: Atom,
 ) -> Out
-    requires { ⌜ (at < length (now kinds)) × (calls < 32) × (length (now env) ≡ 8192) ⌝ }
+    requires { ⌜ (at < length (now (now kinds))) × (calls < 32) × (length (now env) ≡ 8192) × Short (now (now kinds)) ⌝ }
     ensures { λ r. ⌜ Ended (if-line
-        (tree-on lines (call-on calls (code (now (kinds .entry)) (now (operands .entry)) (now (table .entry))))
-        (code (now (kinds .entry)) (now (operands .entry)) (now (table .entry))) calls f)
+        (tree-on lines
+        (call-on calls (code (now (now (kinds .entry))) (now (now (operands .entry))) (now (table .entry))))
+        (code (now (now (kinds .entry))) (now (now (operands .entry))) (now (table .entry))) calls f)
         (now (table .entry)) calls x g at steps
         (memory (store-of (now (slots .entry)) (now (heads .entry))) (now (env .entry))))
         steps r (now (slots .exit)) (now (heads .exit)) (now (env .exit)) ⌝ }
@@ -198,9 +201,9 @@ fn work_if(
 
 // Works the tree of a function that is called.
 fn work_call(
-    kinds: &[u8],
-    operands: &[i64],
-    table: &[u8],
+    kinds: &&[u8],
+    operands: &&[i64],
+    table: &[u8; 16448],
     slots: &mut [i64],
     heads: &mut [u32],
     env: &mut [i64; 8192],
@@ -210,10 +213,10 @@ fn work_call(
     x: u8,
     g: u8,
 ) -> Out
-    requires { ⌜ (at < length (now kinds)) × (calls < 32) × (length (now env) ≡ 8192) ⌝ }
+    requires { ⌜ (at < length (now (now kinds))) × (calls < 32) × (length (now env) ≡ 8192) × Short (now (now kinds)) ⌝ }
     ensures { λ r. ⌜ Ended (call-line
-        (call-on calls (code (now (kinds .entry)) (now (operands .entry)) (now (table .entry))))
-        (code (now (kinds .entry)) (now (operands .entry)) (now (table .entry))) calls x g at steps
+        (call-on calls (code (now (now (kinds .entry))) (now (now (operands .entry))) (now (table .entry))))
+        (code (now (now (kinds .entry))) (now (now (operands .entry))) (now (table .entry))) calls x g at steps
         (memory (store-of (now (slots .entry)) (now (heads .entry))) (now (env .entry))))
         steps r (now (slots .exit)) (now (heads .exit)) (now (env .exit)) ⌝ }
 {
@@ -224,7 +227,7 @@ fn work_call(
         return machine_lines::halted(22, steps - 1);
     }
     let below = calls - 1;
-    let n = machine_lines::pass_arguments(kinds, operands, env, calls, below, at + 1);
+    let n = machine_lines::pass_arguments(*kinds, *operands, env, calls, below, at + 1);
     let start = machine_code::start_in(table, g);
     let r = work_tree(
         kinds,
@@ -250,9 +253,9 @@ fn work_call(
 
 // Works a map: its result's cell first, then its passes.
 fn work_map(
-    kinds: &[u8],
-    operands: &[i64],
-    table: &[u8],
+    kinds: &&[u8],
+    operands: &&[i64],
+    table: &[u8; 16448],
     slots: &mut [i64],
     heads: &mut [u32],
     env: &mut [i64; 8192],
@@ -265,11 +268,12 @@ fn work_map(
     p: u8,
     a: Atom,
 ) -> Out
-    requires { ⌜ (at < length (now kinds)) × (calls < 32) × (length (now env) ≡ 8192) ⌝ }
+    requires { ⌜ (at < length (now (now kinds))) × (calls < 32) × (length (now env) ≡ 8192) × Short (now (now kinds)) ⌝ }
     ensures { λ r. ⌜ Ended (map-line
-        (tree-on lines (call-on calls (code (now (kinds .entry)) (now (operands .entry)) (now (table .entry))))
-        (code (now (kinds .entry)) (now (operands .entry)) (now (table .entry))) calls f)
-        (code (now (kinds .entry)) (now (operands .entry)) (now (table .entry))) calls f x p a at steps
+        (tree-on lines
+        (call-on calls (code (now (now (kinds .entry))) (now (now (operands .entry))) (now (table .entry))))
+        (code (now (now (kinds .entry))) (now (now (operands .entry))) (now (table .entry))) calls f)
+        (code (now (now (kinds .entry))) (now (now (operands .entry))) (now (table .entry))) calls f x p a at steps
         (memory (store-of (now (slots .entry)) (now (heads .entry))) (now (env .entry))))
         steps r (now (slots .exit)) (now (heads .exit)) (now (env .exit)) ⌝ }
 {
@@ -313,9 +317,9 @@ fn work_map(
 
 // Works a map's tree, at a position, once for each element of the cell `from`; the results go to the cell `into`.
 fn work_pass(
-    kinds: &[u8],
-    operands: &[i64],
-    table: &[u8],
+    kinds: &&[u8],
+    operands: &&[i64],
+    table: &[u8; 16448],
     slots: &mut [i64],
     heads: &mut [u32],
     env: &mut [i64; 8192],
@@ -329,10 +333,11 @@ fn work_pass(
     into: usize,
     count: usize,
 ) -> Out
-    requires { ⌜ (calls < 32) × (length (now env) ≡ 8192) ⌝ }
+    requires { ⌜ (calls < 32) × (length (now env) ≡ 8192) × Short (now (now kinds)) ⌝ }
     ensures { λ r. ⌜ Ended (passes-on count
-        (tree-on lines (call-on calls (code (now (kinds .entry)) (now (operands .entry)) (now (table .entry))))
-        (code (now (kinds .entry)) (now (operands .entry)) (now (table .entry))) calls f at)
+        (tree-on lines
+        (call-on calls (code (now (now (kinds .entry))) (now (now (operands .entry))) (now (table .entry))))
+        (code (now (now (kinds .entry))) (now (now (operands .entry))) (now (table .entry))) calls f at)
         calls p from into 0 steps
         (memory (store-of (now (slots .entry)) (now (heads .entry))) (now (env .entry))))
         steps r (now (slots .exit)) (now (heads .exit)) (now (env .exit)) ⌝ }

@@ -42,7 +42,7 @@ fn release_totals(slots: &mut [i64], heads: &mut [u32], depth: u32, old: i64)
 fn work_main(
     kinds: &[u8],
     operands: &[i64],
-    table: &[u8],
+    table: &[u8; 16448],
     slots: &mut [i64],
     heads: &mut [u32],
     depth: u32,
@@ -62,8 +62,8 @@ fn work_main(
     machine_lines::bind(&mut env, 31, 1, readings);
     let start = machine_code::start_in(table, 0);
     let r = machine::work_tree(
-        kinds,
-        operands,
+        &kinds,
+        &operands,
         table,
         slots,
         heads,
@@ -88,7 +88,7 @@ fn work_main(
 fn attempt(
     kinds: &[u8],
     operands: &[i64],
-    table: &[u8],
+    table: &[u8; 16448],
     slots: &mut [i64],
     heads: &mut [u32],
     readings: &[i64],
@@ -115,7 +115,7 @@ fn attempt(
 pub fn deliver_on(
     kinds: &[u8],
     operands: &[i64],
-    table: &[u8],
+    table: &[u8; 16448],
     slots: &mut [i64],
     heads: &mut [u32],
     readings: &[i64],

@@ -25,13 +25,6 @@ load-with-requires c κs = search needs
 enum-known-depth : tie.Need-enum-known-depth
 enum-known-depth c = search needs
 
-slice-aggregate-deliver-words : tie.Need-slice-aggregate-deliver-words
-slice-aggregate-deliver-words c = omega (
-  arith,
-  c .before .before .before .before .before .before .before .before
-      .before .before .load-with .kept .1 .1 .1 .0,
-)
-
 deliver-words-requires : tie.Need-deliver-words-requires
 deliver-words-requires c κs = search needs
 
@@ -101,7 +94,6 @@ engine-deliver-spec =
     slice-aggregate-load-with
     load-with-requires
     enum-known-depth
-    slice-aggregate-deliver-words
     deliver-words-requires
     tell-requires
     enum-known-answer

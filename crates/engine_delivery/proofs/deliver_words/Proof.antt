@@ -19,7 +19,7 @@ request-fits-requires c κs = search needs
 
 returns : tie.Need-returns
 returns c =
-    let a = c .before .before .before .before .before .args in
+    let a = c .before .before .before .before .args in
     let asked = c .before .request-fits in (
       λ node file fs ok few coded same. refuses-10 fs (a .readings .now) (a .budget) (a .slots .now) (a .heads .now)
           (sym (asked .ensures) ∙ not-true (asked .result) (c .if1 .taken)),
@@ -38,7 +38,7 @@ same-length-2 c = search needs
 returns-2 : tie.Need-returns-2
 returns-2 c =
     let at-request-fits = c .before .before .before .before .before in
-    let a = at-request-fits .before .before .before .before .args in
+    let a = at-request-fits .before .before .before .args in
     let asked = at-request-fits .request-fits in
     let test = c .before .is-sound in (
       λ node file fs ok few coded same. refuses-11 fs (a .readings .now) (a .budget) (a .slots .now) (a .heads .now)
@@ -50,7 +50,7 @@ returns-2 c =
 
 deliver-on-requires : tie.Need-deliver-on-requires
 deliver-on-requires c κs =
-    let a = c .before .before .before .before .before .before .before .before .before .before .before .args in
+    let a = c .before .before .before .before .before .before .before .before .before .before .args in
     let test = c .before .before .before .is-sound in
     sound-fits (a .depth) (a .slots .now) (a .heads .now)
     (sym (test .ensures) ∙ not-false (test .result) (c .before .before .if2 .left))
@@ -67,12 +67,12 @@ same-length-4 c = search needs
 returns-3 : tie.Need-returns-3
 returns-3 c =
     let a = c .before .before .before .before .before .before .before .before .before .before .before .before .before
-    .before .before .before .before .before .args in
+    .before .before .before .before .args in
     let asked = c .before .before .before .before .before .before .before .before .before .before .before .before
     .before .before .request-fits in
     let request = sym (asked .ensures) ∙ not-false (asked .result)
-    (c .before .before .before .before .before .before .before .before .before .before .before .before .before
-    .if1 .left) in
+    (c .before .before .before .before .before .before .before .before .before .before .before .before .before .if1
+    .left) in
     let test = c .before .before .before .before .before .before .before .before .before .before .is-sound in
     let fine = sym (test .ensures) ∙ not-false (test .result)
     (c .before .before .before .before .before .before .before .before .before .if2 .left) in

@@ -171,7 +171,7 @@ pub +work-call+work-if+work-line+work-map+work-pass+work-tree-spec : {M : Type 1
     (of-tree.work-tree-same-length t)
     (of-tree.work-tree-same-length-2 t)
     (of-tree.work-tree-returns t)
-    (of-tree.work-tree-shared-slice-read-if2 t)
+    (of-tree.work-tree-index-1-if2 t)
     (of-tree.work-tree-add-atom-at t)
     (of-tree.work-tree-atom-at-requires t)
     (of-tree.work-tree-word-of-requires t)

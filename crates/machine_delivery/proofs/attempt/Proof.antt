@@ -21,12 +21,11 @@ enum-known-c c = search needs
 word-from-requires : tie.Need-word-from-requires
 word-from-requires c κs = omega (
   arith,
-  next-small (c .before .before .before .before .before .before .before
-      .before .before .before .before .before .before .before .args .slots .now) (c .before .before .before .before
-      .before .before .before .before .before .before .before .before .before .before .args .heads .now) (c .before
-      .before .before .before .before .before .acquire .result) (c .before .c .given .0 .0) (c .before .before
-      .before
-      .before .before .before .acquire .ensures .0) (c .before .c .given .1),
+  next-small (c .before .before .before .before .before .before .before .before .before .before .before .before
+      .before .args .slots .now) (c .before .before .before .before .before .before .before .before .before .before
+      .before .before .before .args .heads .now) (c .before .before .before .before .before .before .acquire .result)
+      (c .before .c .given .0 .0) (c .before .before .before .before .before .before .acquire .ensures .0) (c .before
+      .c .given .1),
 )
 
 work-main-requires : tie.Need-work-main-requires
@@ -46,20 +45,20 @@ same-length-2 c = search needs
 
 returns : tie.Need-returns
 returns c = attempt-cell (code (c .before .before .before .before .before .before .before .before .before .before
-    .before .before .before .before .before .before .before .before .before .before .before .args .kinds .now) (c
+    .before .before .before .before .before .before .before .before .before .before .args .kinds .now) (c .before
     .before .before .before .before .before .before .before .before .before .before .before .before .before .before
-    .before .before .before .before .before .before .before .args .operands .now) (c .before .before .before .before
+    .before .before .before .before .before .args .operands .now) (c .before .before .before .before .before .before
     .before .before .before .before .before .before .before .before .before .before .before .before .before .before
-    .before .before .before .args .table .now)) (c .before .before .before .before .before .before .before .before
-    .before .before .before .before .before .before .before .before .before .before .before .before .before .args
+    .args .table .now)) (c .before .before .before .before .before .before .before .before .before .before .before
+    .before .before .before .before .before .before .before .before .before .args
     .readings .now) (c .before .before .before .before .before .before .before .before .before .before .before
-    .before .before .before .before .before .before .before .before .before .before .args .depth) (c .before .before
+    .before .before .before .before .before .before .before .before .before .args .depth) (c .before .before .before
     .before .before .before .before .before .before .before .before .before .before .before .before .before .before
-    .before .before .before .before .before .args .budget) (c .before .before .before .before .before .before
+    .before .before .before .args .budget) (c .before .before .before .before .before .before .before .before .before
+    .before .before .before .before .before .before .before .before .before .before .before .args .slots .now) (c
     .before .before .before .before .before .before .before .before .before .before .before .before .before .before
-    .before .args .slots .now) (c .before .before .before .before .before .before .before .before .before .before
-    .before .before .before .before .before .before .before .before .before .before .before .args .heads .now) (c
-    .before .before .before .before .before .before .before .before .before .before .before .before .before .acquire
+    .before .before .before .before .before .before .args .heads .now) (c .before .before .before .before .before
+    .before .before .before .before .before .before .before .before .acquire
     .result) (c .before .before .before .before .before .before .before .before .before .before .before .before
     .before .acquire .ensures .0) (c .before .before .before .before .before .before .before .before .before .before
     .before .before .before .acquire .last .0) (c .before .before .before .before .before .before .before .before
@@ -74,11 +73,10 @@ returns c = attempt-cell (code (c .before .before .before .before .before .befor
     .before .before .before .before .before .before .before .before .before .before .word-at .result} (record {
       sfits = c .before .before .before .before .before .before .before .before .before .before .before .before
           .before .before .before .before .word-at .ok;
-    })) at (c .before .before .before .work-main .ensures (c .before
-    .before .before .before .before .before .before .before .c .given .0 .0) (toZ-ofZ {z = c .before .before .before
-    .before .before .before .word-from .result} (record {
-      sfits = c .before .before .before .before .before .before
-          .word-from .ok;
+    })) at (c .before .before .before .work-main .ensures (c .before .before .before .before .before .before .before
+    .before .c .given .0 .0) (toZ-ofZ {z = c .before .before .before .before .before .before .word-from .result}
+    (record {
+      sfits = c .before .before .before .before .before .before .word-from .ok;
     }) ∙ c .before .before .before .before .before .before .word-from .ensures)))
 
 same-length-3 : tie.Need-same-length-3
@@ -89,19 +87,19 @@ same-length-4 c = search needs
 
 returns-2 : tie.Need-returns-2
 returns-2 c = attempt-none (code (c .before .before .before .before .before .before .before .before .before .before
-    .before .before .before .before .args .kinds .now) (c .before .before .before .before .before .before .before
-    .before .before .before .before .before .before .before .args .operands .now) (c .before .before .before .before
-    .before .before .before .before .before .before .before .before .before .before .args .table .now)) (c .before
-    .before .before .before .before .before .before .before .before .before .before .before .before .before .args
+    .before .before .before .args .kinds .now) (c .before .before .before .before .before .before .before .before
+    .before .before .before .before .before .args .operands .now) (c .before .before .before .before .before .before
+    .before .before .before .before .before .before .before .args .table .now)) (c .before .before .before .before
+    .before .before .before .before .before .before .before .before .before .args
     .readings .now) (c .before .before .before .before .before .before .before .before .before .before .before
-    .before .before .before .args .depth) (c .before .before .before .before .before .before .before .before .before
-    .before .before .before .before .before .args .budget) (c .before .before .before .before .before .before
-    .before .before .before .before .before .before .before .before .args .slots .now) (c .before .before .before
-    .before .before .before .before .before .before .before .before .before .before .before .args .heads .now) (c
-    .before .before .before .before .before .before .acquire .result) (c .before .before .before .before .before
-    .before .acquire .ensures .0) (c .before .before .before .before .before .before .acquire .last .0) (c .before
-    .before .before .before .before .before .acquire .last .1 .0) (c .before .before .before .before .before .before
-    .acquire .ensures .1) (c .before .enum-told .given .1) (c .halted .result) (c .halted .ensures)
+    .before .before .args .depth) (c .before .before .before .before .before .before .before .before .before .before
+    .before .before .before .args .budget) (c .before .before .before .before .before .before .before .before .before
+    .before .before .before .before .args .slots .now) (c .before .before .before .before .before .before .before
+    .before .before .before .before .before .before .args .heads .now) (c .before .before .before .before .before
+    .before .acquire .result) (c .before .before .before .before .before .before .acquire .ensures .0) (c .before
+    .before .before .before .before .before .acquire .last .0) (c .before .before .before .before .before .before
+    .acquire .last .1 .0) (c .before .before .before .before .before .before .acquire .ensures .1) (c .before
+    .enum-told .given .1) (c .halted .result) (c .halted .ensures)
 
 pub attempt-spec : {M : Type 1} → statement M
 attempt-spec =

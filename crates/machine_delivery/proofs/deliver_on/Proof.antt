@@ -19,9 +19,9 @@ saved-heads-requires c κs = search needs
 attempt-requires : tie.Need-attempt-requires
 attempt-requires c κs = omega (
   arith,
-  shaped-means (c .before .before .before .before .before .before .before
-      .before .before .args .slots .now) (c .before .before .before .before .before .before .before .before .before
-      .args .heads .now) (c .before .before .before .before .before .before .before .before .before .pre)
+  shaped-means (c .before .before .before .before .before .before .before .before .args .slots .now) (c .before
+      .before .before .before .before .before .before .before .args .heads .now) (c .before .before .before .before
+      .before .before .before .before .pre)
       .slots-long,
 )
 
@@ -45,40 +45,40 @@ same-length-2 c = search needs
 
 returns : tie.Need-returns
 returns c = delivery-stops (code (c .before .before .before .before .before .before .before .before .before .before
-    .before .before .before .before .before .before .before .before .before .before .before .before .args .kinds
+    .before .before .before .before .before .before .before .before .before .before .before .args .kinds
     .now) (c .before .before .before .before .before .before .before .before .before .before .before .before .before
-    .before .before .before .before .before .before .before .before .before .args .operands .now) (c .before .before
+    .before .before .before .before .before .before .before .before .args .operands .now) (c .before .before .before
     .before .before .before .before .before .before .before .before .before .before .before .before .before .before
-    .before .before .before .before .before .before .args .table .now)) (c .before .before .before .before .before
+    .before .before .before .before .args .table .now)) (c .before .before .before .before .before .before .before
     .before .before .before .before .before .before .before .before .before .before .before .before .before .before
-    .before .before .before .args .readings .now) (c .before .before .before .before .before .before .before .before
+    .args .readings .now) (c .before .before .before .before .before .before .before .before .before .before .before
+    .before .before .before .before .before .before .before .before .before .before .args .depth) (c .before .before
     .before .before .before .before .before .before .before .before .before .before .before .before .before .before
-    .args .depth) (c .before .before .before .before .before .before .before .before .before .before .before .before
-    .before .before .before .before .before .before .before .before .before .before .args .budget) (store-of (c
+    .before .before .before .before .before .args .budget) (store-of (c .before .before .before .before .before
     .before .before .before .before .before .before .before .before .before .before .before .before .before .before
-    .before .before .before .before .before .before .before .before .args .slots .now) (c .before .before .before
-    .before .before .before .before .before .before .before .before .before .before .before .before .before .before
-    .before .before .before .before .before .args .heads .now)) (c .before .before .before .before .before .before
-    .before .before .before .before .before .before .attempt .result) (c .before .before .before .before .before
-    .before .before .before .before .before .before .before .attempt .last .1 .1 .1 .0) (c .before .before .before
-    .before .before .before .before .before .before .before .before .before .attempt .last .1 .1 .1 .1 .0) (c
-    .before .before .before .before .before .before .before .before .before .before .before .before .attempt
+    .before .before .args .slots .now) (c .before .before .before .before .before .before .before .before .before
+    .before .before .before .before .before .before .before .before .before .before .before .before .args .heads
+    .now)) (c .before .before .before .before .before .before .before .before .before .before .before .before
+    .attempt .result) (c .before .before .before .before .before .before .before .before .before .before .before
+    .before .attempt .last .1 .1 .1 .0) (c .before .before .before .before .before .before .before .before .before
+    .before .before .before .attempt .last .1 .1 .1 .1 .0) (c .before .before .before .before .before .before .before
+    .before .before .before .before .before .attempt
     .ensures) (c .before .before .before .before .before .before .before .before .if1 .taken) (c .before .before
     .before .put-back .last .0) (c .before .before .before .put-back .last .1 .0) (put-back-is (c .before .before
     .before .before .before .before .before .before .before .before .before .before .before .before .before .before
-    .before .before .before .before .before .before .args .slots .now) (c .before .before .before .before .before
+    .before .before .before .before .before .args .slots .now) (c .before .before .before .before .before .before
     .before .before .before .before .before .before .before .before .before .before .before .before .before .before
-    .before .before .before .args .heads .now) (shaped-means (c .before .before .before .before .before .before
-    .before .before .before .before .before .before .before .before .before .before .before .before .before .before
-    .before .before .args .slots .now) (c .before .before .before .before .before .before .before .before .before
+    .before .args .heads .now) (shaped-means (c .before .before .before .before .before .before .before .before
     .before .before .before .before .before .before .before .before .before .before .before .before .before .args
+    .slots .now) (c .before .before .before .before .before .before .before .before .before .before .before .before
+    .before .before .before .before .before .before .before .before .before .args
     .heads .now) (c .before .before .before .before .before .before .before .before .before .before .before .before
-    .before .before .before .before .before .before .before .before .before .before .pre)) (c .before .before
-    .before .before .before .before .before .before .before .before .before .before .before .before .before .before
-    .before .saved-slots .ensures) (c .before .before .before .before .before .before .before .before .before
-    .before .before .before .before .before .before .saved-heads .ensures) (c .before .before .before .before
-    .before .before .before .before .before .before .before .before .attempt .kept .1 .1 .1 .0) (c .before .before
-    .before .before .before .before .before .before .before .before .before .before .attempt .kept .1 .1 .1 .1 .0)
+    .before .before .before .before .before .before .before .before .before .pre)) (c .before .before .before .before
+    .before .before .before .before .before .before .before .before .before .before .before .before .before
+    .saved-slots .ensures) (c .before .before .before .before .before .before .before .before .before .before .before
+    .before .before .before .before .saved-heads .ensures) (c .before .before .before .before .before .before .before
+    .before .before .before .before .before .attempt .kept .1 .1 .1 .0) (c .before .before .before .before .before
+    .before .before .before .before .before .before .before .attempt .kept .1 .1 .1 .1 .0)
     (c .before .before .before .put-back .ensures))
 
 sub-t35 : tie.Need-sub-t35
@@ -92,15 +92,15 @@ same-length-4 c = search needs
 
 returns-2 : tie.Need-returns-2
 returns-2 c = delivery-goes (code (c .before .before .before .before .before .before .before .before .before .before
-    .before .before .before .before .args .kinds .now) (c .before .before .before .before .before .before .before
-    .before .before .before .before .before .before .before .args .operands .now) (c .before .before .before .before
-    .before .before .before .before .before .before .before .before .before .before .args .table .now)) (c .before
-    .before .before .before .before .before .before .before .before .before .before .before .before .before .args
+    .before .before .before .args .kinds .now) (c .before .before .before .before .before .before .before .before
+    .before .before .before .before .before .args .operands .now) (c .before .before .before .before .before .before
+    .before .before .before .before .before .before .before .args .table .now)) (c .before .before .before .before
+    .before .before .before .before .before .before .before .before .before .args
     .readings .now) (c .before .before .before .before .before .before .before .before .before .before .before
-    .before .before .before .args .depth) (c .before .before .before .before .before .before .before .before .before
-    .before .before .before .before .before .args .budget) (store-of (c .before .before .before .before .before
-    .before .before .before .before .before .before .before .before .before .args .slots .now) (c .before .before
-    .before .before .before .before .before .before .before .before .before .before .before .before .args .heads
+    .before .before .args .depth) (c .before .before .before .before .before .before .before .before .before .before
+    .before .before .before .args .budget) (store-of (c .before .before .before .before .before .before .before
+    .before .before .before .before .before .before .args .slots .now) (c .before .before .before .before .before
+    .before .before .before .before .before .before .before .before .args .heads
     .now)) (c .before .before .before .before .attempt .result) (c .before .before .before .before .attempt .last .1
     .1 .1 .0) (c .before .before .before .before .attempt .last .1 .1 .1 .1 .0) (c .before .before .before .before
     .attempt .ensures) (c .if1 .left)

@@ -24,10 +24,10 @@ bind-requires c κs = search needs
 
 bind-requires-2 : tie.Need-bind-requires-2
 bind-requires-2 c κs =
-    let a = c .before .before .before .before .before .before .before .before .before .before .before .args in (
+    let a = c .before .before .before .before .before .before .before .before .before .before .args in (
       omega arith,
       bound-long (replicate 8192 (pos 0)) (place 31 0) (a .old) (rw (toZ-ofZ {z = a .old}
-          (c .before .before .before .before .before .before .before .before .before .before .before .fits .old)) at
+          (c .before .before .before .before .before .before .before .before .before .before .fits .old)) at
           (c .before .bind .ensures)) ∙ length-replicate 8192 (pos 0),
     )
 
@@ -36,16 +36,24 @@ start-in-requires c κs = search needs
 
 work-tree-requires : tie.Need-work-tree-requires
 work-tree-requires c κs =
-    let a = c .before .before .before .before .before .before .before .before .before .before .before .before
-    .before .before .before .before .args in (
+    let a = c .before .before .before .before .before .before .before .before .before .before .before .before .before
+    .before .before .before .before .before .args in (
       omega arith,
-      bound-long (c .before .before .before .before .before .before .bind .last .0) (place 31 1)
-          (a .readings) (rw (toZ-ofZ {z = a .readings} (c .before .before .before .before .before .before
-          .before .before .before .before .before .before .before .before .before .before .fits .readings)) at
-          (c .before .before .before .before .bind2 .ensures)) ∙ bound-long (replicate 8192 (pos 0)) (place 31 0) (a .old)
-          (rw (toZ-ofZ {z = a .old} (c .before .before .before .before .before .before
-          .before .before .before .before .before .before .before .before .before .before .fits .old)) at
-          (c .before .before .before .before .before .before .bind .ensures)) ∙ length-replicate 8192 (pos 0),
+      bound-long (c .before .before .before .before .before .before .before .before .before .bind .last .0) (place 31
+          1)
+          (a .readings) (rw (toZ-ofZ {z = a .readings} (c .before .before .before .before .before .before .before
+          .before .before .before .before .before .before .before .before .before .before .before .fits .readings)) at
+          (c .before .before .before .before .before .before .before .bind2 .ensures)) ∙ bound-long (replicate 8192
+          (pos 0)) (place 31 0) (a .old)
+          (rw (toZ-ofZ {z = a .old} (c .before .before .before .before .before .before .before .before .before
+          .before .before .before .before .before .before .before .before .before .fits .old)) at
+          (c .before .before .before .before .before .before .before .before .before .bind .ensures)) ∙
+          length-replicate 8192 (pos 0),
+      omega (
+        arith,
+        c .before .before .before .before .before .before .before .before .before .before .before .before
+            .before .before .before .before .before .before .good .0,
+      ),
     )
 
 same-length : tie.Need-same-length
@@ -56,26 +64,29 @@ same-length-2 c = search needs
 
 returns : tie.Need-returns
 returns c = λ k e.
-    let a = c .before .before .before .before .before .before .before .before .before .before .before .before
-    .before .before .before .before .before .before .before .before .before .args in
-    let old = toZ-ofZ {z = a .old} (c .before .before .before .before .before .before
-    .before .before .before .before .before .before .before .before .before .before .before .before
-    .before .before .before .fits .old) in
+    let a = c .before .before .before .before .before .before .before .before .before .before .before .before .before
+    .before .before .before .before .before .before .before .before .before .before .args in
+    let old = toZ-ofZ {z = a .old} (c .before .before .before .before .before .before .before .before .before .before
+    .before .before .before .before .before .before .before .before .before .before .before .before .before .fits
+    .old) in
     let tree = c .before .before .before .before .work-tree in
-    main-stops (code (a .kinds .now) (a .operands .now) (a .table .now)) (a .depth) (a .old) k (a .budget)
-    (a .slots .now) (a .heads .now) (c .before .before .before .before .before .before
+    main-stops (code (a .t1 .now) (a .t2 .now) (a .table .now)) (a .depth) (a .old) k (a .budget)
+    (a .slots .now) (a .heads .now) (c .before .before .before .before .before .before .before .before .before
     .before .before .before .before .before .before .before .before .before .retain-totals .last .1 .0) (rw old at
-    (c .before .before .before .before .before .before .before .before .before .before .before .before
-    .before .before .before .retain-totals .ensures)) (a .readings) e
-    (c .before .before .before .before .before .before .before .before .before .before .before .bind .last .0)
-    (c .before .before .before .before .before .before .before .before .before .bind2 .last .0) (rw old at
-    (c .before .before .before .before .before .before .before .before .before .before .before .bind .ensures)) (rw
-    (toZ-ofZ {z = a .readings} (c .before .before .before .before .before .before
-    .before .before .before .before .before .before .before .before .before .before .before .before
-    .before .before .before .fits .readings)) at (c .before .before .before .before .before .before
-    .before .before .before .bind2 .ensures)) (c .before .before .before .before .before .before
-    .before .before .start-in .result) (c .before .before .before .before .before .before
-    .before .before .start-in .ensures) (tree .result) (tree .last .1 .1 .1 .0) (tree .last .1 .1 .1 .1 .0)
+    (c .before .before .before .before .before .before .before .before .before .before .before .before .before
+    .before .before .before .before .before .retain-totals .ensures)) (a .readings) e
+    (c .before .before .before .before .before .before .before .before .before .before .before .before .before
+    .before .bind .last .0)
+    (c .before .before .before .before .before .before .before .before .before .before .before .before .bind2 .last
+    .0) (rw old at
+    (c .before .before .before .before .before .before .before .before .before .before .before .before .before
+    .before .bind .ensures)) (rw
+    (toZ-ofZ {z = a .readings} (c .before .before .before .before .before .before .before .before .before .before
+    .before .before .before .before .before .before .before .before .before .before .before .before .before .fits
+    .readings)) at (c .before .before .before .before .before .before .before .before .before .before .before .before
+    .bind2 .ensures)) (c .before .before .before .before .before .before .before .before .before .before .start-in
+    .result) (c .before .before .before .before .before .before .before .before .before .before .start-in .ensures)
+    (tree .result) (tree .last .1 .1 .1 .0) (tree .last .1 .1 .1 .1 .0)
     (tree .last .1 .1 .1 .1 .1 .0) (tree .ensures) (c .if1 .taken)
 
 set-totals-requires : tie.Need-set-totals-requires
@@ -89,45 +100,45 @@ same-length-3 c = search needs
 
 same-length-4 : tie.Need-same-length-4
 same-length-4 c =
-    c .before .before .before .release-totals .kept .1 .0 ∙ c .before .before .before .before .before .before
-    .before .before .before .before .before .before .before .before .work-tree .kept .1 .1 .1 .1 .0 ∙
-    c .before .before .before .before .before .before .before .before .before .before .before .before
-    .before .before .before .before .before .before .before .before .before .before .before .before
-    .before .retain-totals .kept .1 .0
+    c .before .before .before .release-totals .kept .1 .0 ∙ c .before .before .before .before .before .before .before
+    .before .before .before .before .before .before .before .work-tree .kept .1 .1 .1 .1 .0 ∙
+    c .before .before .before .before .before .before .before .before .before .before .before .before .before .before
+    .before .before .before .before .before .before .before .before .before .before .before .before .before .before
+    .retain-totals .kept .1 .0
 
 returns-2 : tie.Need-returns-2
 returns-2 c = λ k e.
-    let a = c .before .before .before .before .before .before .before .before .before .before .before .before
-    .before .before .before .before .before .before .before .before .before .before .before .before
-    .before .before .before .before .before .before .before .args in
-    let old = toZ-ofZ {z = a .old} (c .before .before .before .before .before .before
-    .before .before .before .before .before .before .before .before .before .before .before .before
-    .before .before .before .before .before .before .before .before .before .before .before .before
-    .before .fits .old) in
+    let a = c .before .before .before .before .before .before .before .before .before .before .before .before .before
+    .before .before .before .before .before .before .before .before .before .before .before .before .before .before
+    .before .before .before .before .before .before .args in
+    let old = toZ-ofZ {z = a .old} (c .before .before .before .before .before .before .before .before .before .before
+    .before .before .before .before .before .before .before .before .before .before .before .before .before .before
+    .before .before .before .before .before .before .before .before .before .fits .old) in
     let tree = c .before .before .before .before .before .before .before .before .before .before .before .before
     .before .before .work-tree in
-    main-goes (code (a .kinds .now) (a .operands .now) (a .table .now)) (a .depth) (a .old) k (a .budget)
-    (a .slots .now) (a .heads .now) (c .before .before .before .before .before .before
-    .before .before .before .before .before .before .before .before .before .before .before .before
-    .before .before .before .before .before .before .before .retain-totals .last .1 .0) (rw old at
-    (c .before .before .before .before .before .before .before .before .before .before .before .before
-    .before .before .before .before .before .before .before .before .before .before .before .before
-    .before .retain-totals .ensures)) (a .readings) e (c .before .before .before .before .before .before
-    .before .before .before .before .before .before .before .before .before .before .before .before
-    .before .before .before .bind .last .0) (c .before .before .before .before .before .before
-    .before .before .before .before .before .before .before .before .before .before .before .before
-    .before .bind2 .last .0) (rw old at (c .before .before .before .before .before .before
-    .before .before .before .before .before .before .before .before .before .before .before .before
-    .before .before .before .bind .ensures)) (rw (toZ-ofZ {z = a .readings}
-    (c .before .before .before .before .before .before .before .before .before .before .before .before
-    .before .before .before .before .before .before .before .before .before .before .before .before
-    .before .before .before .before .before .before .before .fits .readings)) at
-    (c .before .before .before .before .before .before .before .before .before .before .before .before
-    .before .before .before .before .before .before .before .bind2 .ensures))
-    (c .before .before .before .before .before .before .before .before .before .before .before .before
-    .before .before .before .before .before .before .start-in .result)
-    (c .before .before .before .before .before .before .before .before .before .before .before .before
-    .before .before .before .before .before .before .start-in .ensures) (tree .result) (tree .last .1 .1 .1 .0)
+    main-goes (code (a .t1 .now) (a .t2 .now) (a .table .now)) (a .depth) (a .old) k (a .budget)
+    (a .slots .now) (a .heads .now) (c .before .before .before .before .before .before .before .before .before
+    .before .before .before .before .before .before .before .before .before .before .before .before .before .before
+    .before .before .before .before .before .retain-totals .last .1 .0) (rw old at
+    (c .before .before .before .before .before .before .before .before .before .before .before .before .before
+    .before .before .before .before .before .before .before .before .before .before .before .before .before .before
+    .before .retain-totals .ensures)) (a .readings) e (c .before .before .before .before .before .before .before
+    .before .before .before .before .before .before .before .before .before .before .before .before .before .before
+    .before .before .before .bind .last .0) (c .before .before .before .before .before .before .before .before
+    .before .before .before .before .before .before .before .before .before .before .before .before .before .before
+    .bind2 .last .0) (rw old at (c .before .before .before .before .before .before .before .before .before .before
+    .before .before .before .before .before .before .before .before .before .before .before .before .before .before
+    .bind .ensures)) (rw (toZ-ofZ {z = a .readings}
+    (c .before .before .before .before .before .before .before .before .before .before .before .before .before
+    .before .before .before .before .before .before .before .before .before .before .before .before .before .before
+    .before .before .before .before .before .before .fits .readings)) at
+    (c .before .before .before .before .before .before .before .before .before .before .before .before .before
+    .before .before .before .before .before .before .before .before .before .bind2 .ensures))
+    (c .before .before .before .before .before .before .before .before .before .before .before .before .before
+    .before .before .before .before .before .before .before .start-in .result)
+    (c .before .before .before .before .before .before .before .before .before .before .before .before .before
+    .before .before .before .before .before .before .before .start-in .ensures) (tree .result) (tree .last .1 .1 .1
+    .0)
     (tree .last .1 .1 .1 .1 .0) (tree .last .1 .1 .1 .1 .1 .0) (tree .ensures)
     (c .before .before .before .before .before .before .before .before .before .before .if1 .left)
     (c .before .before .before .release-totals .last .0) (c .before .before .before .release-totals .last .1 .0) (rw
@@ -139,9 +150,9 @@ returns-2 c = λ k e.
     (c .before .before .before .before .before .before .before .set-totals .ensures)) ∙ totals-store
     (tree .last .1 .1 .1 .0) (tree .last .1 .1 .1 .1 .0) (tree .result .value) (omega (
       arith,
-      c .before .before .before .before .before .before .before .before .before .before .before .before
-          .before .before .before .before .before .before .before .before .before .before .before .before
-          .before .before .before .before .before .before .before .pre,
+      c .before .before .before .before .before .before .before .before .before .before .before .before .before
+          .before .before .before .before .before .before .before .before .before .before .before .before .before .before
+          .before .before .before .before .before .before .pre,
       tree .kept .1 .1 .1 .0,
     ))))
 

@@ -20,8 +20,8 @@ work-call-halted-requires t c κs = search needs
 
 pub work-call-returns : (t : ℕ) → work-call-lts.Need-returns (work-call-claims t) (work-call-at t) work-call.Post
 work-call-returns t c =
-    let a = c .before .before .before .before .before .args in
-    let k = code (a .kinds .now) (a .operands .now) (a .table .now) in
+    let a = c .before .before .before .args in
+    let k = code (a .kinds .now .now) (a .operands .now .now) (a .table .now) in
     call-spent k (a .calls) (a .x) (a .g) (a .at) (a .steps) (a .slots .now) (a .heads .now) (a .env .now)
     (c .halted .result) (c .before .if1 .taken) (c .halted .ensures)
 
@@ -35,8 +35,8 @@ work-call-halted-requires-2 t c κs = search needs
 
 pub work-call-returns-2 : (t : ℕ) → work-call-lts.Need-returns-2 (work-call-claims t) (work-call-at t) work-call.Post
 work-call-returns-2 t c =
-    let a = c .before .before .before .before .before .before .args in
-    let k = code (a .kinds .now) (a .operands .now) (a .table .now) in
+    let a = c .before .before .before .before .args in
+    let k = code (a .kinds .now .now) (a .operands .now .now) (a .table .now) in
     call-deep k (a .calls) (a .x) (a .g) (a .at) (a .steps) (a .slots .now) (a .heads .now) (a .env .now)
     (c .before .before .if1 .left) (c .before .if2 .taken) (c .halted2 .result) (c .halted2 .ensures)
 
@@ -64,7 +64,7 @@ pub work-call-work-tree-requires : (t : ℕ) → work-call-lts.Need-work-tree-re
     (work-call-at t)
     work-call.Post
 work-call-work-tree-requires t c κs =
-    search (needs, passed-long (c .before .before .before .before .pass-arguments .ensures))
+    search (needs, passed-long (c .before .before .before .before .before .pass-arguments .ensures))
 
 pub work-call-same-length : (t : ℕ) → work-call-lts.Need-same-length (work-call-claims t) (work-call-at t)
     work-call.Post
@@ -76,15 +76,14 @@ work-call-same-length-2 t c = search needs
 
 pub work-call-returns-3 : (t : ℕ) → work-call-lts.Need-returns-3 (work-call-claims t) (work-call-at t) work-call.Post
 work-call-returns-3 t c =
-    let a = c .before .before .before .before .before .before .before .before .before .before .before .before
-    .before .before .before .before .args in
-    let k = code (a .kinds .now) (a .operands .now) (a .table .now) in
-    let given = c .before .before .before .before .before .before .before .before .before .pass-arguments in
+    let a = c .before .before .before .before .before .before .before .before .before .before .before .before .before .before .before .before .before .args in
+    let k = code (a .kinds .now .now) (a .operands .now .now) (a .table .now) in
+    let given = c .before .before .before .before .before .before .before .before .before .before .pass-arguments in
     let start = c .before .before .before .before .before .before .before .before .start-in in
     let tree = c .before .before .before .before .work-tree in
     call-stops k (a .calls) (a .x) (a .g) (a .at) (a .steps) (a .slots .now) (a .heads .now) (a .env .now)
-    (c .before .before .before .before .before .before .before .before .before .before .before .before .if1 .left)
-    (c .before .before .before .before .before .before .before .before .before .before .before .if2 .left)
+    (c .before .before .before .before .before .before .before .before .before .before .before .before .before .before .before .if1 .left)
+    (c .before .before .before .before .before .before .before .before .before .before .before .before .before .before .if2 .left)
     (given .result) (given .last .1 .1 .0) (given .ensures) (start .result) (start .ensures) (tree .result)
     (tree .last .1 .1 .1 .0) (tree .last .1 .1 .1 .1 .0) (tree .last .1 .1 .1 .1 .1 .0) (tree .ensures)
     (c .if3 .taken)
@@ -92,30 +91,22 @@ work-call-returns-3 t c =
 pub work-call-bind-requires : (t : ℕ) → work-call-lts.Need-bind-requires (work-call-claims t) (work-call-at t)
     work-call.Post
 work-call-bind-requires t c κs =
-    let a = c .before .before .before .before .before .before .before .before .before .before .before .before
-    .before .before .before .before .before .before .args in
-    let k = code (a .kinds .now) (a .operands .now) (a .table .now) in
-    let given = c .before .before .before .before .before .before
-    .before .before .before .before .before .pass-arguments in (
-      c .before .before .before .before .before .before .before .before .before .before .before .before
-          .before .before .before .before .before .before .pre .1 .1,
+    let a = c .before .before .before .before .before .before .before .before .before .before .before .before .before .before .before .before .before .before .before .args in
+    let k = code (a .kinds .now .now) (a .operands .now .now) (a .table .now) in
+    let given = c .before .before .before .before .before .before .before .before .before .before .before .before .pass-arguments in (
+      c .before .before .before .before .before .before .before .before .before .before .before .before .before .before .before .before .before .before .before .pre .1 .1,
       tree-long k 4096 (a .calls - 1) (a .g)
           (c .before .before .before .before .before .before .before .before .before .before .start-in .result) (a .steps
           - 1) (memory (store-of (a .slots .now) (a .heads .now)) (given .last .1 .1 .0))
           (c .before .before .before .before .before .before .work-tree .ensures) ∙ passed-long (given .ensures) ∙
-          c .before .before .before .before .before .before .before .before .before .before .before .before
-          .before .before .before .before .before .before .pre .1 .2,
+          c .before .before .before .before .before .before .before .before .before .before .before .before .before .before .before .before .before .before .before .pre .1 .2,
     )
 
 pub work-call-add-done : (t : ℕ) → work-call-lts.Need-add-done (work-call-claims t) (work-call-at t) work-call.Post
 work-call-add-done t c =
     omega (
       arith,
-      c .before .before .before .before .before .before .before .before .before .before .before .before
-          .before .before .before .before .before .before .before .pre,
-      c .before .before .before .before .before .before
-          .before .before .before .before .before .before .before .before .before .before .before .before
-          .before .good .0,
+      c .before .before .before .before .before .before .before .before .before .before .before .before .before .before .before .before .before .before .before .before .pre,
     )
 
 pub work-call-add-done-2 : (t : ℕ) → work-call-lts.Need-add-done-2 (work-call-claims t) (work-call-at t)
@@ -123,13 +114,8 @@ pub work-call-add-done-2 : (t : ℕ) → work-call-lts.Need-add-done-2 (work-cal
 work-call-add-done-2 t c =
     omega (
       arith,
-      c .before .before .before .before .before .before .before .before .before .before .before .before
-          .before .before .before .before .before .before .before .pre,
-      c .before .before .before .before .before .before
-          .before .before .before .before .before .before .before .before .before .before .before .before
-          .before .good .0,
-      c .before .before .before .before .before .before
-          .before .before .before .before .before .before .pass-arguments .ensures .few,
+      c .before .before .before .before .before .before .before .before .before .before .before .before .before .before .before .before .before .before .before .before .pre,
+      c .before .before .before .before .before .before .before .before .before .before .before .before .before .pass-arguments .ensures .few,
     )
 
 pub work-call-done-requires : (t : ℕ) → work-call-lts.Need-done-requires (work-call-claims t) (work-call-at t)
@@ -146,18 +132,13 @@ work-call-same-length-4 t c = search needs
 
 pub work-call-returns-4 : (t : ℕ) → work-call-lts.Need-returns-4 (work-call-claims t) (work-call-at t) work-call.Post
 work-call-returns-4 t c =
-    let a = c .before .before .before .before .before .before .before .before .before .before .before .before
-    .before .before .before .before .before .before .before .before .args in
-    let k = code (a .kinds .now) (a .operands .now) (a .table .now) in
-    let given = c .before .before .before .before .before .before .before .before .before .before .before .before
-    .before .pass-arguments in
-    let start = c .before .before .before .before .before .before .before .before .before .before .before .before
-    .start-in in
+    let a = c .before .before .before .before .before .before .before .before .before .before .before .before .before .before .before .before .before .before .before .before .before .args in
+    let k = code (a .kinds .now .now) (a .operands .now .now) (a .table .now) in
+    let given = c .before .before .before .before .before .before .before .before .before .before .before .before .before .before .pass-arguments in
+    let start = c .before .before .before .before .before .before .before .before .before .before .before .before .start-in in
     let tree = c .before .before .before .before .before .before .before .before .work-tree in
     call-goes k (a .calls) (a .x) (a .g) (a .at) (a .steps) (a .slots .now) (a .heads .now) (a .env .now)
-    (c .before .before .before .before .before .before .before .before .before .before .before .before
-    .before .before .before .before .if1 .left) (c .before .before .before .before .before .before
-    .before .before .before .before .before .before .before .before .before .if2 .left) (given .result)
+    (c .before .before .before .before .before .before .before .before .before .before .before .before .before .before .before .before .before .before .before .if1 .left) (c .before .before .before .before .before .before .before .before .before .before .before .before .before .before .before .before .before .before .if2 .left) (given .result)
     (given .last .1 .1 .0) (given .ensures) (start .result) (start .ensures) (tree .result) (tree .last .1 .1 .1 .0)
     (tree .last .1 .1 .1 .1 .0) (tree .last .1 .1 .1 .1 .1 .0) (tree .ensures)
     (c .before .before .before .before .if3 .left) (c .before .bind .last .0) (rw (toZ-ofZ {z = tree .result .value}

@@ -40,64 +40,64 @@ use Rattle.store_words.proofs.read_length.Reads as read-length-reads
 use Rattle.store_words.proofs.read_slot.Reads as read-slot-reads
 use Rattle.machine_code.proofs.atom_at.Reads as atom-at-reads
 
-abbrev pub μ-work-call : Measures 6 work-call-kinds.ps ℕ
+abbrev pub μ-work-call : Measures 8 work-call-kinds.ps ℕ
 μ-work-call κs a = 4 * (a .1 .1 .1 .1 .1 .1 .0 * 4097) + 2
 
-abbrev pub μ-work-if : Measures 6 work-if-kinds.ps ℕ
+abbrev pub μ-work-if : Measures 8 work-if-kinds.ps ℕ
 μ-work-if κs a = 4 * (a .1 .1 .1 .1 .1 .1 .0 * 4097 + a .1 .1 .1 .1 .1 .1 .1 .0) + 2
 
-abbrev pub μ-work-line : Measures 6 work-line-kinds.ps ℕ
+abbrev pub μ-work-line : Measures 8 work-line-kinds.ps ℕ
 μ-work-line κs a = 4 * (a .1 .1 .1 .1 .1 .1 .0 * 4097 + a .1 .1 .1 .1 .1 .1 .1 .0) + 3
 
-abbrev pub μ-work-map : Measures 6 work-map-kinds.ps ℕ
+abbrev pub μ-work-map : Measures 8 work-map-kinds.ps ℕ
 μ-work-map κs a = 4 * (a .1 .1 .1 .1 .1 .1 .0 * 4097 + a .1 .1 .1 .1 .1 .1 .1 .0) + 2
 
-abbrev pub μ-work-pass : Measures 6 work-pass-kinds.ps ℕ
+abbrev pub μ-work-pass : Measures 8 work-pass-kinds.ps ℕ
 μ-work-pass κs a = 4 * (a .1 .1 .1 .1 .1 .1 .0 * 4097 + a .1 .1 .1 .1 .1 .1 .1 .0) + 1
 
-abbrev pub μ-work-tree : Measures 6 work-tree-kinds.ps ℕ
+abbrev pub μ-work-tree : Measures 8 work-tree-kinds.ps ℕ
 μ-work-tree κs a = 4 * (a .1 .1 .1 .1 .1 .1 .0 * 4097 + a .1 .1 .1 .1 .1 .1 .1 .0)
 
-abbrev pub work-call-at : ℕ → In 6 work-call-kinds.ps
-work-call-at t = and 6 work-call-kinds.ps (is 6 work-call-kinds.ps μ-work-call t) work-call.Pre
+abbrev pub work-call-at : ℕ → In 8 work-call-kinds.ps
+work-call-at t = and 8 work-call-kinds.ps (is 8 work-call-kinds.ps μ-work-call t) work-call.Pre
 
-abbrev pub work-if-at : ℕ → In 6 work-if-kinds.ps
-work-if-at t = and 6 work-if-kinds.ps (is 6 work-if-kinds.ps μ-work-if t) work-if.Pre
+abbrev pub work-if-at : ℕ → In 8 work-if-kinds.ps
+work-if-at t = and 8 work-if-kinds.ps (is 8 work-if-kinds.ps μ-work-if t) work-if.Pre
 
-abbrev pub work-line-at : ℕ → In 6 work-line-kinds.ps
-work-line-at t = and 6 work-line-kinds.ps (is 6 work-line-kinds.ps μ-work-line t) work-line.Pre
+abbrev pub work-line-at : ℕ → In 8 work-line-kinds.ps
+work-line-at t = and 8 work-line-kinds.ps (is 8 work-line-kinds.ps μ-work-line t) work-line.Pre
 
-abbrev pub work-map-at : ℕ → In 6 work-map-kinds.ps
-work-map-at t = and 6 work-map-kinds.ps (is 6 work-map-kinds.ps μ-work-map t) work-map.Pre
+abbrev pub work-map-at : ℕ → In 8 work-map-kinds.ps
+work-map-at t = and 8 work-map-kinds.ps (is 8 work-map-kinds.ps μ-work-map t) work-map.Pre
 
-abbrev pub work-pass-at : ℕ → In 6 work-pass-kinds.ps
-work-pass-at t = and 6 work-pass-kinds.ps (is 6 work-pass-kinds.ps μ-work-pass t) work-pass.Pre
+abbrev pub work-pass-at : ℕ → In 8 work-pass-kinds.ps
+work-pass-at t = and 8 work-pass-kinds.ps (is 8 work-pass-kinds.ps μ-work-pass t) work-pass.Pre
 
-abbrev pub work-tree-at : ℕ → In 6 work-tree-kinds.ps
-work-tree-at t = and 6 work-tree-kinds.ps (is 6 work-tree-kinds.ps μ-work-tree t) work-tree.Pre
+abbrev pub work-tree-at : ℕ → In 8 work-tree-kinds.ps
+work-tree-at t = and 8 work-tree-kinds.ps (is 8 work-tree-kinds.ps μ-work-tree t) work-tree.Pre
 
-abbrev pub work-call-below : ℕ → In 6 work-call-kinds.ps
+abbrev pub work-call-below : ℕ → In 8 work-call-kinds.ps
 work-call-below t =
-    and 6 work-call-kinds.ps (falls 6 work-call-kinds.ps _<_ μ-work-call t) work-call.Pre
+    and 8 work-call-kinds.ps (falls 8 work-call-kinds.ps _<_ μ-work-call t) work-call.Pre
 
-abbrev pub work-if-below : ℕ → In 6 work-if-kinds.ps
-work-if-below t = and 6 work-if-kinds.ps (falls 6 work-if-kinds.ps _<_ μ-work-if t) work-if.Pre
+abbrev pub work-if-below : ℕ → In 8 work-if-kinds.ps
+work-if-below t = and 8 work-if-kinds.ps (falls 8 work-if-kinds.ps _<_ μ-work-if t) work-if.Pre
 
-abbrev pub work-line-below : ℕ → In 6 work-line-kinds.ps
+abbrev pub work-line-below : ℕ → In 8 work-line-kinds.ps
 work-line-below t =
-    and 6 work-line-kinds.ps (falls 6 work-line-kinds.ps _<_ μ-work-line t) work-line.Pre
+    and 8 work-line-kinds.ps (falls 8 work-line-kinds.ps _<_ μ-work-line t) work-line.Pre
 
-abbrev pub work-map-below : ℕ → In 6 work-map-kinds.ps
+abbrev pub work-map-below : ℕ → In 8 work-map-kinds.ps
 work-map-below t =
-    and 6 work-map-kinds.ps (falls 6 work-map-kinds.ps _<_ μ-work-map t) work-map.Pre
+    and 8 work-map-kinds.ps (falls 8 work-map-kinds.ps _<_ μ-work-map t) work-map.Pre
 
-abbrev pub work-pass-below : ℕ → In 6 work-pass-kinds.ps
+abbrev pub work-pass-below : ℕ → In 8 work-pass-kinds.ps
 work-pass-below t =
-    and 6 work-pass-kinds.ps (falls 6 work-pass-kinds.ps _<_ μ-work-pass t) work-pass.Pre
+    and 8 work-pass-kinds.ps (falls 8 work-pass-kinds.ps _<_ μ-work-pass t) work-pass.Pre
 
-abbrev pub work-tree-below : ℕ → In 6 work-tree-kinds.ps
+abbrev pub work-tree-below : ℕ → In 8 work-tree-kinds.ps
 work-tree-below t =
-    and 6 work-tree-kinds.ps (falls 6 work-tree-kinds.ps _<_ μ-work-tree t) work-tree.Pre
+    and 8 work-tree-kinds.ps (falls 8 work-tree-kinds.ps _<_ μ-work-tree t) work-tree.Pre
 
 abbrev pub work-call-claims : ℕ → work-call-lts.Claims
 work-call-claims t = (

@@ -19,8 +19,8 @@ work-if-halted-requires t c κs = search needs
 
 pub work-if-returns : (t : ℕ) → work-if-lts.Need-returns (work-if-claims t) (work-if-at t) work-if.Post
 work-if-returns t c =
-    let a = c .before .before .before .before .before .args in
-    let k = code (a .kinds .now) (a .operands .now) (a .table .now) in
+    let a = c .before .before .before .args in
+    let k = code (a .kinds .now .now) (a .operands .now .now) (a .table .now) in
     if-spent (tree-on (a .lines) (call-on (a .calls) k) k (a .calls) (a .f)) (a .table .now) (a .calls) (a .x) (a .g)
     (a .at) (a .steps) (a .slots .now) (a .heads .now) (a .env .now) (c .halted .result) (c .before .if1 .taken)
     (c .halted .ensures)
@@ -52,15 +52,14 @@ work-if-same-length-2 t c = search needs
 
 pub work-if-returns-2 : (t : ℕ) → work-if-lts.Need-returns-2 (work-if-claims t) (work-if-at t) work-if.Post
 work-if-returns-2 t c =
-    let a = c .before .before .before .before .before .before .before .before .before .before .before .before
-    .before .before .before .args in
-    let k = code (a .kinds .now) (a .operands .now) (a .table .now) in
-    let word = c .before .before .before .before .before .before .before .before .before .word-of in
+    let a = c .before .before .before .before .before .before .before .before .before .before .before .before .before .before .args in
+    let k = code (a .kinds .now .now) (a .operands .now .now) (a .table .now) in
+    let word = c .before .before .before .before .before .before .before .before .before .before .word-of in
     let start = c .before .before .before .before .before .before .before .before .branch-start in
     let tree = c .before .before .before .before .work-tree in
     if-stops (tree-on (a .lines) (call-on (a .calls) k) k (a .calls) (a .f)) (a .table .now) (a .calls) (a .x) (a .g)
     (a .at) (a .steps) (a .slots .now) (a .heads .now) (a .env .now)
-    (c .before .before .before .before .before .before .before .before .before .before .before .if1 .left)
+    (c .before .before .before .before .before .before .before .before .before .before .before .before .if1 .left)
     (word .result) (word .ensures) (start .result) (rw (toZ-ofZ {z = word .result} (record { sfits = word .ok })) at
     (start .ensures)) (tree .result) (tree .last .1 .1 .1 .0) (tree .last .1 .1 .1 .1 .0)
     (tree .last .1 .1 .1 .1 .1 .0) (tree .ensures) (c .if2 .taken)
@@ -71,17 +70,14 @@ work-if-branch-end-requires t c κs = search needs
 
 pub work-if-bind-requires : (t : ℕ) → work-if-lts.Need-bind-requires (work-if-claims t) (work-if-at t) work-if.Post
 work-if-bind-requires t c κs =
-    let a = c .before .before .before .before .before .before .before .before .before .before .before .before
-    .before .before .before .before .before .before .args in
-    let k = code (a .kinds .now) (a .operands .now) (a .table .now) in (
-      c .before .before .before .before .before .before .before .before .before .before .before .before
-          .before .before .before .before .before .before .pre .1 .1,
+    let a = c .before .before .before .before .before .before .before .before .before .before .before .before .before .before .before .before .before .before .args in
+    let k = code (a .kinds .now .now) (a .operands .now .now) (a .table .now) in (
+      c .before .before .before .before .before .before .before .before .before .before .before .before .before .before .before .before .before .before .pre .1 .1,
       tree-long k (a .lines) (a .calls) (a .f)
-          (c .before .before .before .before .before .before .before .before .before .before .before .branch-start
+          (c .before .before .before .before .before .before .before .before .before .before .before .before .branch-start
           .result) (a .steps - 1) (memory (store-of (a .slots .now) (a .heads .now)) (a .env .now))
-          (c .before .before .before .before .before .before .before .work-tree .ensures) ∙
-          c .before .before .before .before .before .before .before .before .before .before .before .before
-          .before .before .before .before .before .before .pre .1 .2,
+          (c .before .before .before .before .before .before .before .before .work-tree .ensures) ∙
+          c .before .before .before .before .before .before .before .before .before .before .before .before .before .before .before .before .before .before .pre .1 .2,
     )
 
 pub work-if-done-requires : (t : ℕ) → work-if-lts.Need-done-requires (work-if-claims t) (work-if-at t) work-if.Post
@@ -95,26 +91,22 @@ work-if-same-length-4 t c = search needs
 
 pub work-if-returns-3 : (t : ℕ) → work-if-lts.Need-returns-3 (work-if-claims t) (work-if-at t) work-if.Post
 work-if-returns-3 t c =
-    let a = c .before .before .before .before .before .before .before .before .before .before .before .before
-    .before .before .before .before .before .before .before .before .args in
-    let k = code (a .kinds .now) (a .operands .now) (a .table .now) in
-    let word = c .before .before .before .before .before .before .before .before .before .before .before .before
-    .before .before .word-of in
-    let start = c .before .before .before .before .before .before .before .before .before .before .before .before
-    .before .branch-start in
-    let tree = c .before .before .before .before .before .before .before .before .before .work-tree in
+    let a = c .before .before .before .before .before .before .before .before .before .before .before .before .before .before .before .before .before .before .before .before .args in
+    let k = code (a .kinds .now .now) (a .operands .now .now) (a .table .now) in
+    let word = c .before .before .before .before .before .before .before .before .before .before .before .before .before .before .before .before .word-of in
+    let start = c .before .before .before .before .before .before .before .before .before .before .before .before .before .before .branch-start in
+    let tree = c .before .before .before .before .before .before .before .before .before .before .work-tree in
     let next = c .before .before .before .branch-end in
     if-goes (tree-on (a .lines) (call-on (a .calls) k) k (a .calls) (a .f)) (a .table .now) (a .calls) (a .x) (a .g)
     (a .at) (a .steps) (a .slots .now) (a .heads .now) (a .env .now)
-    (c .before .before .before .before .before .before .before .before .before .before .before .before
-    .before .before .before .before .if1 .left) (word .result) (word .ensures) (start .result) (rw (toZ-ofZ {z =
+    (c .before .before .before .before .before .before .before .before .before .before .before .before .before .before .before .before .before .before .if1 .left) (word .result) (word .ensures) (start .result) (rw (toZ-ofZ {z =
     word .result} (record { sfits = word .ok })) at (start .ensures)) (tree .result) (tree .last .1 .1 .1 .0)
     (tree .last .1 .1 .1 .1 .0) (tree .last .1 .1 .1 .1 .1 .0) (tree .ensures)
-    (c .before .before .before .before .before .if2 .left) (next .result) (rw (toZ-ofZ {z = word .result} (record {
+    (c .before .before .before .before .before .before .if2 .left) (next .result) (rw (toZ-ofZ {z = word .result} (record {
       sfits = word .ok;
     })) at (next .ensures)) (c .before .bind .last .0) (rw (toZ-ofZ {z = tree .result .value}
-    (record { sfits = c .before .before .before .before .struct-told .given .1 .0 .1 })) at
+    (record { sfits = c .before .before .before .before .before .struct-told .given .1 .0 .1 })) at
     (c .before .bind .ensures)) (c .done .result) (rw (toZ-ofZ {z = tree .result .value} (record {
       sfits =
-          c .before .before .before .before .struct-told .given .1 .0 .1;
+          c .before .before .before .before .before .struct-told .given .1 .0 .1;
     })) at (c .done .ensures))

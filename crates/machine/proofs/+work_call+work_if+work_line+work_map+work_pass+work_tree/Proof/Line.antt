@@ -48,9 +48,8 @@ work-line-same-length-2 t c = search needs
 
 pub work-line-returns : (t : ℕ) → work-line-lts.Need-returns (work-line-claims t) (work-line-at t) work-line.Post
 work-line-returns t c =
-    let a = c .before .before .before .before .before .before .before .before .before .before .before .before
-    .before .args in
-    let k = code (a .kinds .now) (a .operands .now) (a .table .now) in
+    let a = c .before .before .before .before .before .before .before .before .before .before .before .args in
+    let k = code (a .kinds .now .now) (a .operands .now .now) (a .table .now) in
     let read = c .before .before .before .before .before .before .before .before .l in
     let branch = c .before .before .before .work-if in
     line-if (tree-on (a .lines) (call-on (a .calls) k) k (a .calls) (a .f)) (call-on (a .calls) k) k (a .calls) (a .f)
@@ -68,9 +67,8 @@ work-line-same-length-4 t c = search needs
 
 pub work-line-returns-2 : (t : ℕ) → work-line-lts.Need-returns-2 (work-line-claims t) (work-line-at t) work-line.Post
 work-line-returns-2 t c =
-    let a = c .before .before .before .before .before .before .before .before .before .before .before .before
-    .before .args in
-    let k = code (a .kinds .now) (a .operands .now) (a .table .now) in
+    let a = c .before .before .before .before .before .before .before .before .before .before .before .args in
+    let k = code (a .kinds .now .now) (a .operands .now .now) (a .table .now) in
     let called = c .before .before .before .work-call in
     line-call (tree-on (a .lines) (call-on (a .calls) k) k (a .calls) (a .f)) (call-on (a .calls) k) k (a .calls) (a
     .f)
@@ -90,9 +88,8 @@ work-line-same-length-6 t c = search needs
 
 pub work-line-returns-3 : (t : ℕ) → work-line-lts.Need-returns-3 (work-line-claims t) (work-line-at t) work-line.Post
 work-line-returns-3 t c =
-    let a = c .before .before .before .before .before .before .before .before .before .before .before .before
-    .before .args in
-    let k = code (a .kinds .now) (a .operands .now) (a .table .now) in
+    let a = c .before .before .before .before .before .before .before .before .before .before .before .args in
+    let k = code (a .kinds .now .now) (a .operands .now .now) (a .table .now) in
     let mapped = c .before .before .before .work-map in
     line-map (tree-on (a .lines) (call-on (a .calls) k) k (a .calls) (a .f)) (call-on (a .calls) k) k (a .calls) (a
     .f)
@@ -114,10 +111,9 @@ work-line-same-length-8 t c = search needs
 pub work-line-returns-4 : (t : ℕ) → work-line-lts.Need-returns-4 (work-line-claims t) (work-line-at t) work-line.Post
 work-line-returns-4 t c =
     let a = c .before .before .before .before .before .before .before .before .before .before .before .args in
-    let k = code (a .kinds .now) (a .operands .now) (a .table .now) in
+    let k = code (a .kinds .now .now) (a .operands .now .now) (a .table .now) in
     let leaf = c .before .before .before .work-leaf in
     line-leaf (tree-on (a .lines) (call-on (a .calls) k) k (a .calls) (a .f)) (call-on (a .calls) k) k (a .calls) (a
     .f)
     (a .at) (a .steps) (a .slots .now) (a .heads .now) (a .env .now) (a .l) (leaf .result) (leaf .last .1 .1 .0)
-    (leaf .last .1 .1 .1 .0) (leaf .last .1 .1 .1 .1 .0) (c .before .before .before .before .before .before
-    .before .match .keys4) (leaf .ensures)
+    (leaf .last .1 .1 .1 .0) (leaf .last .1 .1 .1 .1 .0) (c .before .before .before .before .before .before .before .before .before .match .keys4) (leaf .ensures)

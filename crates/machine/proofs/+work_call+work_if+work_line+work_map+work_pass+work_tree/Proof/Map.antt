@@ -21,8 +21,8 @@ work-map-halted-requires t c κs = search needs
 
 pub work-map-returns : (t : ℕ) → work-map-lts.Need-returns (work-map-claims t) (work-map-at t) work-map.Post
 work-map-returns t c =
-    let a = c .before .before .before .before .before .args in
-    let k = code (a .kinds .now) (a .operands .now) (a .table .now) in
+    let a = c .before .before .before .args in
+    let k = code (a .kinds .now .now) (a .operands .now .now) (a .table .now) in
     map-spent (tree-on (a .lines) (call-on (a .calls) k) k (a .calls) (a .f)) k (a .calls) (a .f) (a .x) (a .p) (a .a)
     (a .at) (a .steps) (a .slots .now) (a .heads .now) (a .env .now) (c .halted .result) (c .before .if1 .taken)
     (c .halted .ensures)
@@ -72,26 +72,18 @@ work-map-same-length-2 t c = search needs
 
 pub work-map-returns-2 : (t : ℕ) → work-map-lts.Need-returns-2 (work-map-claims t) (work-map-at t) work-map.Post
 work-map-returns-2 t c =
-    let a = c .before .before .before .before .before .before .before .before .before .before .before .before
-    .before .before .before .before .before .before .before .before .before .before .before .before
-    .before .before .before .before .args in
-    let k = code (a .kinds .now) (a .operands .now) (a .table .now) in
-    let word = c .before .before .before .before .before .before .before .before .before .before .before .before
-    .before .before .before .before .before .before .before .before .before .before .word-of in
-    let cell = c .before .before .before .before .before .before .before .before .before .before .before .before
-    .before .before .before .before .before .before .before .before .before .named-cell in
-    let size = c .before .before .before .before .before .before .before .before .before .before .before .before
-    .before .before .before .before .before .before .read-length in
-    let depth = c .before .before .before .before .before .before .before .before .before .before .before .before
-    .before .before .before .before .before .element-depth in
-    let taken = c .before .before .before .before .before .before .before .before .before .before .before .before
-    .before .before .acquire-empty in
+    let a = c .before .before .before .before .before .before .before .before .before .before .before .before .before .before .before .before .before .before .before .before .before .before .before .before .before .before .before .args in
+    let k = code (a .kinds .now .now) (a .operands .now .now) (a .table .now) in
+    let word = c .before .before .before .before .before .before .before .before .before .before .before .before .before .before .before .before .before .before .before .before .before .before .before .word-of in
+    let cell = c .before .before .before .before .before .before .before .before .before .before .before .before .before .before .before .before .before .before .before .before .before .before .named-cell in
+    let size = c .before .before .before .before .before .before .before .before .before .before .before .before .before .before .before .before .before .before .before .read-length in
+    let depth = c .before .before .before .before .before .before .before .before .before .before .before .before .before .before .before .before .before .element-depth in
+    let taken = c .before .before .before .before .before .before .before .before .before .before .before .before .before .before .acquire-empty in
     let chosen = c .before .before .before .before .before .before .before .before .before .c in
     let passes = c .before .before .before .before .work-pass in
     map-stops (tree-on (a .lines) (call-on (a .calls) k) k (a .calls) (a .f)) k (a .calls) (a .f) (a .x) (a .p) (a .a)
     (a .at) (a .steps) (a .slots .now) (a .heads .now) (a .env .now)
-    (c .before .before .before .before .before .before .before .before .before .before .before .before
-    .before .before .before .before .before .before .before .before .before .before .before .before .if1 .left)
+    (c .before .before .before .before .before .before .before .before .before .before .before .before .before .before .before .before .before .before .before .before .before .before .before .before .before .if1 .left)
     (word .result) (word .ensures) (cell .result) (rw (toZ-ofZ {z = word .result} (record { sfits = word .ok })) at
     (cell .ensures)) (size .result) (size .ensures) (depth .result) (depth .ensures) (taken .result)
     (taken .ensures .0) (taken .last .0) (taken .last .1 .0) (taken .ensures .1) (chosen .given .0 .0)
@@ -101,11 +93,8 @@ work-map-returns-2 t c =
 pub work-map-word-from-requires : (t : ℕ) → work-map-lts.Need-word-from-requires (work-map-claims t) (work-map-at t)
     work-map.Post
 work-map-word-from-requires t c κs =
-    let a = c .before .before .before .before .before .before .before .before .before .before .before .before
-    .before .before .before .before .before .before .before .before .before .before .before .before
-    .before .before .before .before .args in
-    let taken = c .before .before .before .before .before .before .before .before .before .before .before .before
-    .before .before .acquire-empty in
+    let a = c .before .before .before .before .before .before .before .before .before .before .before .before .before .before .before .before .before .before .before .before .before .before .before .before .before .before .before .args in
+    let taken = c .before .before .before .before .before .before .before .before .before .before .before .before .before .before .acquire-empty in
     let chosen = c .before .before .before .before .before .before .before .before .before .c in
     omega (
       arith,
@@ -116,26 +105,17 @@ work-map-word-from-requires t c κs =
 pub work-map-bind-requires : (t : ℕ) → work-map-lts.Need-bind-requires (work-map-claims t) (work-map-at t)
     work-map.Post
 work-map-bind-requires t c κs =
-    let a = c .before .before .before .before .before .before .before .before .before .before .before .before
-    .before .before .before .before .before .before .before .before .before .before .before .before
-    .before .before .before .before .before .before .args in
-    let k = code (a .kinds .now) (a .operands .now) (a .table .now) in
-    let taken = c .before .before .before .before .before .before .before .before .before .before .before .before
-    .before .before .before .before .acquire-empty in (
-      c .before .before .before .before .before .before .before .before .before .before .before .before
-          .before .before .before .before .before .before .before .before .before .before .before .before
-          .before .before .before .before .before .before .pre .1 .1,
+    let a = c .before .before .before .before .before .before .before .before .before .before .before .before .before .before .before .before .before .before .before .before .before .before .before .before .before .before .before .before .before .args in
+    let k = code (a .kinds .now .now) (a .operands .now .now) (a .table .now) in
+    let taken = c .before .before .before .before .before .before .before .before .before .before .before .before .before .before .before .before .acquire-empty in (
+      c .before .before .before .before .before .before .before .before .before .before .before .before .before .before .before .before .before .before .before .before .before .before .before .before .before .before .before .before .before .pre .1 .1,
       passes-long k (a .lines) (a .calls) (a .f)
-          (c .before .before .before .before .before .before .before .before .before .before .before .before
-          .before .before .before .before .before .before .before .before .read-length .result) (a .at + 2) (a .p)
-          (c .before .before .before .before .before .before .before .before .before .before .before .before
-          .before .before .before .before .before .before .before .before .before .before .before .named-cell .result)
+          (c .before .before .before .before .before .before .before .before .before .before .before .before .before .before .before .before .before .before .before .before .before .read-length .result) (a .at + 2) (a .p)
+          (c .before .before .before .before .before .before .before .before .before .before .before .before .before .before .before .before .before .before .before .before .before .before .before .before .named-cell .result)
           (c .before .before .before .before .before .before .before .before .before .before .before .c .given .0 .0) 0
           (a .steps - 1) (memory (store-of (taken .last .0) (taken .last .1 .0)) (a .env .now))
           (c .before .before .before .before .before .before .work-pass .ensures) ∙
-          c .before .before .before .before .before .before .before .before .before .before .before .before
-          .before .before .before .before .before .before .before .before .before .before .before .before
-          .before .before .before .before .before .before .pre .1 .2,
+          c .before .before .before .before .before .before .before .before .before .before .before .before .before .before .before .before .before .before .before .before .before .before .before .before .before .before .before .before .before .pre .1 .2,
     )
 
 pub work-map-add-end-in : (t : ℕ) → work-map-lts.Need-add-end-in (work-map-claims t) (work-map-at t)
@@ -143,13 +123,7 @@ pub work-map-add-end-in : (t : ℕ) → work-map-lts.Need-add-end-in (work-map-c
 work-map-add-end-in t c =
     omega (
       arith,
-      c .before .before .before .before .before .before .before .before .before .before .before .before
-          .before .before .before .before .before .before .before .before .before .before .before .before
-          .before .before .before .before .before .before .before .pre,
-      c .before .before .before .before .before .before
-          .before .before .before .before .before .before .before .before .before .before .before .before
-          .before .before .before .before .before .before .before .before .before .before .before .before
-          .before .good .0,
+      c .before .before .before .before .before .before .before .before .before .before .before .before .before .before .before .before .before .before .before .before .before .before .before .before .before .before .before .before .before .before .before .pre,
     )
 
 pub work-map-end-in-requires : (t : ℕ) → work-map-lts.Need-end-in-requires (work-map-claims t) (work-map-at t)
@@ -180,38 +154,26 @@ work-map-same-length-4 t c = search needs
 
 pub work-map-returns-3 : (t : ℕ) → work-map-lts.Need-returns-3 (work-map-claims t) (work-map-at t) work-map.Post
 work-map-returns-3 t c =
-    let a = c .before .before .before .before .before .before .before .before .before .before .before .before
-    .before .before .before .before .before .before .before .before .before .before .before .before
-    .before .before .before .before .before .before .before .before .before .args in
-    let k = code (a .kinds .now) (a .operands .now) (a .table .now) in
-    let word = c .before .before .before .before .before .before .before .before .before .before .before .before
-    .before .before .before .before .before .before .before .before .before .before .before .before
-    .before .before .before .word-of in
-    let cell = c .before .before .before .before .before .before .before .before .before .before .before .before
-    .before .before .before .before .before .before .before .before .before .before .before .before
-    .before .before .named-cell in
-    let size = c .before .before .before .before .before .before .before .before .before .before .before .before
-    .before .before .before .before .before .before .before .before .before .before .before .read-length in
-    let depth = c .before .before .before .before .before .before .before .before .before .before .before .before
-    .before .before .before .before .before .before .before .before .before .before .element-depth in
-    let taken = c .before .before .before .before .before .before .before .before .before .before .before .before
-    .before .before .before .before .before .before .before .acquire-empty in
-    let chosen = c .before .before .before .before .before .before .before .before .before .before .before .before
-    .before .before .c in
-    let passes = c .before .before .before .before .before .before .before .before .before .work-pass in
-    let number = c .before .before .before .before .word-from in
+    let a = c .before .before .before .before .before .before .before .before .before .before .before .before .before .before .before .before .before .before .before .before .before .before .before .before .before .before .before .before .before .before .before .before .before .args in
+    let k = code (a .kinds .now .now) (a .operands .now .now) (a .table .now) in
+    let word = c .before .before .before .before .before .before .before .before .before .before .before .before .before .before .before .before .before .before .before .before .before .before .before .before .before .before .before .before .before .word-of in
+    let cell = c .before .before .before .before .before .before .before .before .before .before .before .before .before .before .before .before .before .before .before .before .before .before .before .before .before .before .before .before .named-cell in
+    let size = c .before .before .before .before .before .before .before .before .before .before .before .before .before .before .before .before .before .before .before .before .before .before .before .before .before .read-length in
+    let depth = c .before .before .before .before .before .before .before .before .before .before .before .before .before .before .before .before .before .before .before .before .before .before .before .element-depth in
+    let taken = c .before .before .before .before .before .before .before .before .before .before .before .before .before .before .before .before .before .before .before .before .acquire-empty in
+    let chosen = c .before .before .before .before .before .before .before .before .before .before .before .before .before .before .before .c in
+    let passes = c .before .before .before .before .before .before .before .before .before .before .work-pass in
+    let number = c .before .before .before .before .before .word-from in
     map-goes (tree-on (a .lines) (call-on (a .calls) k) k (a .calls) (a .f)) k (a .calls) (a .f) (a .x) (a .p) (a .a)
     (a .at) (a .steps) (a .slots .now) (a .heads .now) (a .env .now)
-    (c .before .before .before .before .before .before .before .before .before .before .before .before
-    .before .before .before .before .before .before .before .before .before .before .before .before
-    .before .before .before .before .before .if1 .left) (word .result) (word .ensures) (cell .result) (rw (toZ-ofZ
+    (c .before .before .before .before .before .before .before .before .before .before .before .before .before .before .before .before .before .before .before .before .before .before .before .before .before .before .before .before .before .before .before .if1 .left) (word .result) (word .ensures) (cell .result) (rw (toZ-ofZ
     {z = word .result} (record { sfits = word .ok })) at (cell .ensures)) (size .result) (size .ensures)
     (depth .result) (depth .ensures) (taken .result) (taken .ensures .0) (taken .last .0) (taken .last .1 .0)
     (taken .ensures .1) (chosen .given .0 .0) (chosen .given .1) (passes .result) (passes .last .1 .1 .1 .0)
     (passes .last .1 .1 .1 .1 .0) (passes .last .1 .1 .1 .1 .1 .0) (passes .ensures)
-    (c .before .before .before .before .before .if2 .left) (number .result) (number .ensures)
-    (c .before .before .bind .last .0) (rw (toZ-ofZ {z = number .result} (record { sfits = number .ok })) at
-    (c .before .before .bind .ensures)) (c .before .end-in .result) (c .before .end-in .ensures .0)
+    (c .before .before .before .before .before .before .if2 .left) (number .result) (number .ensures)
+    (c .before .before .before .bind .last .0) (rw (toZ-ofZ {z = number .result} (record { sfits = number .ok })) at
+    (c .before .before .before .bind .ensures)) (c .before .end-in .result) (c .before .end-in .ensures .0)
     (c .done .result) (rw (toZ-ofZ {z = number .result} (record { sfits = number .ok })) at (c .done .ensures))
 
 pub work-map-same-length-5 : (t : ℕ) → work-map-lts.Need-same-length-5 (work-map-claims t) (work-map-at t)
@@ -224,20 +186,16 @@ work-map-same-length-6 t c = search needs
 
 pub work-map-returns-4 : (t : ℕ) → work-map-lts.Need-returns-4 (work-map-claims t) (work-map-at t) work-map.Post
 work-map-returns-4 t c =
-    let a = c .before .before .before .before .before .before .before .before .before .before .before .before
-    .before .before .before .before .before .before .before .before .args in
-    let k = code (a .kinds .now) (a .operands .now) (a .table .now) in
-    let word = c .before .before .before .before .before .before .before .before .before .before .before .before
-    .before .before .word-of in
-    let cell = c .before .before .before .before .before .before .before .before .before .before .before .before
-    .before .named-cell in
-    let size = c .before .before .before .before .before .before .before .before .before .before .read-length in
+    let a = c .before .before .before .before .before .before .before .before .before .before .before .before .before .before .before .before .before .before .before .args in
+    let k = code (a .kinds .now .now) (a .operands .now .now) (a .table .now) in
+    let word = c .before .before .before .before .before .before .before .before .before .before .before .before .before .before .before .word-of in
+    let cell = c .before .before .before .before .before .before .before .before .before .before .before .before .before .before .named-cell in
+    let size = c .before .before .before .before .before .before .before .before .before .before .before .read-length in
     let depth = c .before .before .before .before .before .before .before .before .before .element-depth in
     let taken = c .before .before .before .before .before .before .acquire-empty in
     map-none (tree-on (a .lines) (call-on (a .calls) k) k (a .calls) (a .f)) k (a .calls) (a .f) (a .x) (a .p) (a .a)
     (a .at) (a .steps) (a .slots .now) (a .heads .now) (a .env .now)
-    (c .before .before .before .before .before .before .before .before .before .before .before .before
-    .before .before .before .before .if1 .left) (word .result) (word .ensures) (cell .result) (rw (toZ-ofZ {z =
+    (c .before .before .before .before .before .before .before .before .before .before .before .before .before .before .before .before .before .if1 .left) (word .result) (word .ensures) (cell .result) (rw (toZ-ofZ {z =
     word .result} (record { sfits = word .ok })) at (cell .ensures)) (size .result) (size .ensures) (depth .result)
     (depth .ensures) (taken .result) (taken .ensures .0) (taken .last .0) (taken .last .1 .0) (taken .ensures .1)
     (c .before .enum-told .given .1) (c .halted2 .result) (c .halted2 .ensures)

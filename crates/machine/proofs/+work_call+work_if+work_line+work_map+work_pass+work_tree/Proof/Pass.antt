@@ -18,7 +18,7 @@ use Rattle.machine.proofs.+work_call+work_if+work_line+work_map+work_pa
 abbrev pub work-pass-Inv-loop : work-pass-lts.InvT-loop
 work-pass-Inv-loop kinds operands table slots₀ heads₀ env₀ steps lines calls f at p from into count s₀ i₀ slots
     heads env s i =
-    Passing (tree-on lines (call-on calls (code kinds operands table)) (code kinds operands table) calls f at) calls
+    Passing (tree-on lines (call-on calls (code (kinds .now) (operands .now) table)) (code (kinds .now) (operands .now) table) calls f at) calls
     p from into count steps slots₀ heads₀ env₀ s i slots heads env
 
 abbrev pub work-pass-μ-loop : work-pass-lts.MeasureT-loop
@@ -29,8 +29,8 @@ pub work-pass-loop-holds : (t : ℕ) → work-pass-lts.Need-loop-holds (work-pas
     work-pass.Post
     work-pass-Inv-loop work-pass-μ-loop
 work-pass-loop-holds t c =
-    let a = c .before .before .before .args in
-    let k = code (a .kinds .now) (a .operands .now) (a .table .now) in
+    let a = c .before .args in
+    let k = code (a .kinds .now .now) (a .operands .now .now) (a .table .now) in
     passing-starts (tree-on (a .lines) (call-on (a .calls) k) k (a .calls) (a .f) (a .at)) (a .calls) (a .p) (a .from)
     (a .into) (a .count) (a .steps) (a .slots .now) (a .heads .now) (a .env .now)
 
@@ -69,8 +69,7 @@ pub work-pass-work-tree-requires : (t : ℕ) → work-pass-lts.Need-work-tree-re
     (work-pass-at t)
     work-pass.Post work-pass-Inv-loop work-pass-μ-loop
 work-pass-work-tree-requires t c κs =
-    let a = c .before .before .before .before .before .before .before .before .before .before .before .before
-    .before .before .args in
+    let a = c .before .before .before .before .before .before .before .before .before .before .before .before .args in
     let o = c .before .before .before .before .before .before .before .before .before .before .loop in
     let read = c .before .before .before .before .before .read-slot in
     search (
@@ -94,12 +93,8 @@ pub work-pass-returns-2 : (t : ℕ) → work-pass-lts.Need-returns-2 (work-pass-
 work-pass-returns-2 t c =
     let read = c .before .before .before .before .before .before .before .before .before .before .read-slot in
     let tree = c .before .before .before .before .work-tree in
-    pass-stops (c .before .before .before .before .before .before .before .before .before .before .before .before
-    .before .before .before .loop .inv) (c .before .before .before .before .before .before
-    .before .before .before .before .before .before .before .before .loop-test .taken)
-    (c .before .before .before .before .before .before .before .before .before .before .before .before
-    .before .if1 .left) (read .result) (read .ensures) (c .before .before .before .before .before .before
-    .before .before .bind .last .0) (rw (toZ-ofZ {z = read .result} (record { sfits = read .ok })) at
+    pass-stops (c .before .before .before .before .before .before .before .before .before .before .before .before .before .before .before .loop .inv) (c .before .before .before .before .before .before .before .before .before .before .before .before .before .before .loop-test .taken)
+    (c .before .before .before .before .before .before .before .before .before .before .before .before .before .if1 .left) (read .result) (read .ensures) (c .before .before .before .before .before .before .before .before .bind .last .0) (rw (toZ-ofZ {z = read .result} (record { sfits = read .ok })) at
     (c .before .before .before .before .before .before .before .before .bind .ensures)) (tree .result)
     (tree .last .1 .1 .1 .0) (tree .last .1 .1 .1 .1 .0) (tree .last .1 .1 .1 .1 .1 .0) (tree .ensures)
     (c .if2 .taken)
@@ -113,11 +108,8 @@ pub work-pass-add-i : (t : ℕ) → work-pass-lts.Need-add-i (work-pass-claims t
 work-pass-add-i t c =
     omega (
       arith,
-      c .before .before .before .before .before .before .before .before .before .before .before .before
-          .before .before .before .before .before .before .before .before .before .loop-test .taken,
-      c .before .before .before .before .before .before .before .before .before .before .before .before
-          .before .before .before .before .before .before .before .before .before .before .before .before
-          .before .before .fits .count,
+      c .before .before .before .before .before .before .before .before .before .before .before .before .before .before .before .before .before .before .before .before .before .loop-test .taken,
+      c .before .before .before .before .before .before .before .before .before .before .before .before .before .before .before .before .before .before .before .before .before .before .before .before .fits .count,
     )
 
 pub work-pass-loop-less : (t : ℕ) → work-pass-lts.Need-loop-less (work-pass-claims t) (work-pass-at t) work-pass.Post
@@ -128,29 +120,18 @@ pub work-pass-loop-again : (t : ℕ) → work-pass-lts.Need-loop-again (work-pas
     work-pass.Post
     work-pass-Inv-loop work-pass-μ-loop
 work-pass-loop-again t c =
-    let a = c .before .before .before .before .before .before .before .before .before .before .before .before
-    .before .before .before .before .before .before .before .before .before .before .before .before
-    .before .before .args in
-    let k = code (a .kinds .now) (a .operands .now) (a .table .now) in
-    let o = c .before .before .before .before .before .before .before .before .before .before .before .before
-    .before .before .before .before .before .before .before .before .before .before .loop in
-    let read = c .before .before .before .before .before .before .before .before .before .before .before .before
-    .before .before .before .before .before .read-slot in
+    let a = c .before .before .before .before .before .before .before .before .before .before .before .before .before .before .before .before .before .before .before .before .before .before .before .before .args in
+    let k = code (a .kinds .now .now) (a .operands .now .now) (a .table .now) in
+    let o = c .before .before .before .before .before .before .before .before .before .before .before .before .before .before .before .before .before .before .before .before .before .before .loop in
+    let read = c .before .before .before .before .before .before .before .before .before .before .before .before .before .before .before .before .before .read-slot in
     let tree = c .before .before .before .before .before .before .before .before .before .before .before .work-tree in
-    pass-goes (o .inv) (c .before .before .before .before .before .before
-    .before .before .before .before .before .before .before .before .before .before .before .before
-    .before .before .before .loop-test .taken) (c .before .before .before .before .before .before
-    .before .before .before .before .before .before .before .before .before .before .before .before
-    .before .before .if1 .left) (read .result) (read .ensures) (c .before .before .before .before .before .before
-    .before .before .before .before .before .before .before .before .before .bind .last .0) (rw (toZ-ofZ {z =
-    read .result} (record { sfits = read .ok })) at (c .before .before .before .before .before .before
-    .before .before .before .before .before .before .before .before .before .bind .ensures)) (tree .result)
+    pass-goes (o .inv) (c .before .before .before .before .before .before .before .before .before .before .before .before .before .before .before .before .before .before .before .before .before .loop-test .taken) (c .before .before .before .before .before .before .before .before .before .before .before .before .before .before .before .before .before .before .before .before .if1 .left) (read .result) (read .ensures) (c .before .before .before .before .before .before .before .before .before .before .before .before .before .before .before .bind .last .0) (rw (toZ-ofZ {z =
+    read .result} (record { sfits = read .ok })) at (c .before .before .before .before .before .before .before .before .before .before .before .before .before .before .before .bind .ensures)) (tree .result)
     (tree .last .1 .1 .1 .0) (tree .last .1 .1 .1 .1 .0) (tree .last .1 .1 .1 .1 .1 .0) (tree .ensures)
     (c .before .before .before .before .before .before .before .if2 .left)
     (c .before .before .before .append .last .0) (c .before .before .before .append .last .1 .0) (rw (toZ-ofZ {z =
     tree .result .value} (record {
-      sfits = c .before .before .before .before .before .before
-          .struct-told .given .1 .0 .1;
+      sfits = c .before .before .before .before .before .before .struct-told .given .1 .0 .1;
     })) at (c .before .before .before .append .ensures)) (record {
       slots-long =
           c .before .before .before .append .kept .0 ∙ tree .kept .1 .1 .1 .0;
@@ -158,11 +139,9 @@ work-pass-loop-again t c =
           c .before .before .before .append .kept .1 .0 ∙ tree .kept .1 .1 .1 .1 .0;
       env-long = tree-long k (a .lines)
           (a .calls) (a .f) (a .at) (o .s - 1) (memory (store-of (o .slots) (o .heads))
-          (c .before .before .before .before .before .before .before .before .before .before .before .before
-          .before .before .before .bind .last .0)) (tree .ensures) ∙ bound-long (o .env) (place (a .calls) (a .p))
+          (c .before .before .before .before .before .before .before .before .before .before .before .before .before .before .before .bind .last .0)) (tree .ensures) ∙ bound-long (o .env) (place (a .calls) (a .p))
           (read .result) (rw (toZ-ofZ {z = read .result} (record { sfits = read .ok })) at
-          (c .before .before .before .before .before .before .before .before .before .before .before .before
-          .before .before .before .bind .ensures));
+          (c .before .before .before .before .before .before .before .before .before .before .before .before .before .before .before .bind .ensures));
     })
 
 pub work-pass-done-requires : (t : ℕ) → work-pass-lts.Need-done-requires (work-pass-claims t) (work-pass-at t)

@@ -20,7 +20,7 @@ use Rattle.machine.proofs.+work_call+work_if+work_line+work_map+work_pa
 abbrev pub work-tree-Inv-loop : work-tree-lts.InvT-loop
 work-tree-Inv-loop kinds operands table slots₀ heads₀ env₀ steps lines calls f at p₀ s₀ left₀ slots heads env p s
     left =
-    Working (call-on calls (code kinds operands table)) (code kinds operands table) calls f lines at steps slots₀
+    Working (call-on calls (code (kinds .now) (operands .now) table)) (code (kinds .now) (operands .now) table) calls f lines at steps slots₀
     heads₀ env₀ left p s slots heads env
 
 abbrev pub work-tree-μ-loop : work-tree-lts.MeasureT-loop
@@ -31,8 +31,8 @@ pub work-tree-loop-holds : (t : ℕ) → work-tree-lts.Need-loop-holds (work-tre
     work-tree.Post
     work-tree-Inv-loop work-tree-μ-loop
 work-tree-loop-holds t c =
-    let a = c .before .before .before .args in
-    let k = code (a .kinds .now) (a .operands .now) (a .table .now) in
+    let a = c .before .args in
+    let k = code (a .kinds .now .now) (a .operands .now .now) (a .table .now) in
     working-starts (call-on (a .calls) k) k (a .calls) (a .f) (a .lines) (a .at) (a .steps) (a .slots .now)
     (a .heads .now) (a .env .now)
 
@@ -53,9 +53,9 @@ pub work-tree-returns : (t : ℕ) → work-tree-lts.Need-returns (work-tree-clai
 work-tree-returns t c = tree-out (c .before .before .before .loop .inv) (inr (c .before .if1 .taken)) (c .halted
     .result) (c .halted .ensures)
 
-pub work-tree-shared-slice-read-if2 : (t : ℕ) → work-tree-lts.Need-shared-slice-read-if2 (work-tree-claims t)
+pub work-tree-index-1-if2 : (t : ℕ) → work-tree-lts.Need-index-1-if2 (work-tree-claims t)
     (work-tree-at t) work-tree.Post work-tree-Inv-loop work-tree-μ-loop
-work-tree-shared-slice-read-if2 t c = search needs
+work-tree-index-1-if2 t c = search needs
 
 pub work-tree-add-atom-at : (t : ℕ) → work-tree-lts.Need-add-atom-at (work-tree-claims t) (work-tree-at t)
     work-tree.Post work-tree-Inv-loop work-tree-μ-loop
@@ -90,11 +90,11 @@ pub work-tree-returns-2 : (t : ℕ) → work-tree-lts.Need-returns-2 (work-tree-
 work-tree-returns-2 t c =
     let a = c .before .before .before .before .before .before .before .before .before .before .before .before .args in
     let atom = c .before .before .before .atom-at in
-    tree-closed (c .before .before .before .before .before .before .before .before .loop .inv) (L.End (atom .result))
-    (c .before .before .before .before .before .before .before .loop-test .taken)
-    (c .before .before .before .before .before .before .if1 .left) (end-here (a .kinds .now) (a .operands .now)
-    (c .before .before .before .before .before .before .before .before .loop .p) (atom .result)
-    (c .before .before .before .before .if2 .taken) (atom .ensures)) (atom .result) refl
+    tree-closed (c .before .before .before .before .before .before .before .before .before .before .loop .inv) (L.End (atom .result))
+    (c .before .before .before .before .before .before .before .before .before .loop-test .taken)
+    (c .before .before .before .before .before .before .before .before .if1 .left) (end-here (a .kinds .now .now) (a .operands .now .now)
+    (c .before .before .before .before .before .before .before .before .before .before .loop .p) (atom .result)
+    (c .before .before .before .before .before .before .if2 .taken) (atom .ensures)) (atom .result) refl
     (c .before .word-of .result) (c .before .word-of .ensures) (c .done .result) (rw (toZ-ofZ {z =
     c .before .word-of .result} (record { sfits = c .before .word-of .ok })) at (c .done .ensures))
 
@@ -122,17 +122,13 @@ work-tree-same-length-6 t c = search needs
 pub work-tree-returns-3 : (t : ℕ) → work-tree-lts.Need-returns-3 (work-tree-claims t) (work-tree-at t) work-tree.Post
     work-tree-Inv-loop work-tree-μ-loop
 work-tree-returns-3 t c =
-    let a = c .before .before .before .before .before .before .before .before .before .before .before .before
-    .before .before .before .before .before .args in
+    let a = c .before .before .before .before .before .before .before .before .before .before .before .before .before .before .before .before .before .args in
     let w = c .before .before .before .before .work-line in
     let l = c .before .before .before .before .before .before .before .before .line-at in
-    tree-stops (c .before .before .before .before .before .before .before .before .before .before .before .before
-    .before .loop .inv) (l .result) (c .before .before .before .before .before .before
-    .before .before .before .before .before .before .loop-test .taken)
-    (c .before .before .before .before .before .before .before .before .before .before .before .if1 .left)
-    (l .ensures) (not-end (a .kinds .now) (a .operands .now) (c .before .before .before .before .before .before
-    .before .before .before .before .before .before .before .loop .p) (l .result)
-    (c .before .before .before .before .before .before .before .before .before .if2 .left) (l .ensures)) (w .result)
+    tree-stops (c .before .before .before .before .before .before .before .before .before .before .before .before .before .before .before .loop .inv) (l .result) (c .before .before .before .before .before .before .before .before .before .before .before .before .before .before .loop-test .taken)
+    (c .before .before .before .before .before .before .before .before .before .before .before .before .before .if1 .left)
+    (l .ensures) (not-end (a .kinds .now .now) (a .operands .now .now) (c .before .before .before .before .before .before .before .before .before .before .before .before .before .before .before .loop .p) (l .result)
+    (c .before .before .before .before .before .before .before .before .before .before .before .if2 .left) (l .ensures)) (w .result)
     (w .last .1 .1 .1 .0) (w .last .1 .1 .1 .1 .0) (w .last .1 .1 .1 .1 .1 .0) (w .ensures) (c .if3 .taken)
 
 pub work-tree-sub-left : (t : ℕ) → work-tree-lts.Need-sub-left (work-tree-claims t) (work-tree-at t) work-tree.Post
@@ -147,20 +143,15 @@ pub work-tree-loop-again : (t : ℕ) → work-tree-lts.Need-loop-again (work-tre
     work-tree.Post
     work-tree-Inv-loop work-tree-μ-loop
 work-tree-loop-again t c =
-    let a = c .before .before .before .before .before .before .before .before .before .before .before .before
-    .before .before .before .before .before .args in
-    let k = code (a .kinds .now) (a .operands .now) (a .table .now) in
-    let o = c .before .before .before .before .before .before .before .before .before .before .before .before
-    .before .loop in
+    let a = c .before .before .before .before .before .before .before .before .before .before .before .before .before .before .before .before .before .args in
+    let k = code (a .kinds .now .now) (a .operands .now .now) (a .table .now) in
+    let o = c .before .before .before .before .before .before .before .before .before .before .before .before .before .before .before .loop in
     let w = c .before .before .before .before .work-line in
     let l = c .before .before .before .before .before .before .before .before .line-at in
-    tree-goes (c .before .before .before .before .before .before .before .before .before .before .before .before
-    .before .loop .inv) (l .result) (c .before .before .before .before .before .before
-    .before .before .before .before .before .before .loop-test .taken)
-    (c .before .before .before .before .before .before .before .before .before .before .before .if1 .left)
-    (l .ensures) (not-end (a .kinds .now) (a .operands .now) (c .before .before .before .before .before .before
-    .before .before .before .before .before .before .before .loop .p) (l .result)
-    (c .before .before .before .before .before .before .before .before .before .if2 .left) (l .ensures)) (w .result)
+    tree-goes (c .before .before .before .before .before .before .before .before .before .before .before .before .before .before .before .loop .inv) (l .result) (c .before .before .before .before .before .before .before .before .before .before .before .before .before .before .loop-test .taken)
+    (c .before .before .before .before .before .before .before .before .before .before .before .before .before .if1 .left)
+    (l .ensures) (not-end (a .kinds .now .now) (a .operands .now .now) (c .before .before .before .before .before .before .before .before .before .before .before .before .before .before .before .loop .p) (l .result)
+    (c .before .before .before .before .before .before .before .before .before .before .before .if2 .left) (l .ensures)) (w .result)
     (w .last .1 .1 .1 .0) (w .last .1 .1 .1 .1 .0) (w .last .1 .1 .1 .1 .1 .0) (w .ensures) (c .if3 .left) (record {
       slots-long = w .kept .1 .1 .1 .0;
       heads-long = w .kept .1 .1 .1 .1 .0;
