@@ -4,7 +4,7 @@ use machine_lines::Out;
 use store::Acquired;
 ghost use mathlib.Core.Path.{_≡_};
 ghost use mathlib.Core.Bool.{true};
-ghost use Prim.Native.Nat.{ℕ, _<_};
+ghost use Prim.Native.Nat.{ℕ, _<_, _≤_};
 ghost use lib.IntN.{pos};
 ghost use lib.ListN.{length};
 ghost use Rattle.semantics.specs.Words.{store-of, shaped};
@@ -111,7 +111,55 @@ fn attempt(
     }
 }
 
-// A delivery of these readings, with totals of this depth.
+// A delivery of these readings, with totals of this depth; the store's words are kept for a stop in two arrays that are
+// no shorter.
+fn deliver_kept(
+    kinds: &[u8],
+    operands: &[i64],
+    table: &[u8; 16448],
+    slots: &mut [i64],
+    heads: &mut [u32],
+    readings: &[i64],
+    depth: u32,
+    budget: u64,
+    old_slots: &mut [i64],
+    old_heads: &mut [u32],
+) -> Delivery
+    requires { ⌜ (0 < length (now slots)) × (length (now slots) ≤ length (now «old_slots»))
+        × (length (now heads) ≤ length (now «old_heads»)) ⌝ }
+    ensures { λ r. ⌜ Delivers
+        (delivered-on (code (now (kinds .entry)) (now (operands .entry)) (now (table .entry))) (now (readings .entry)) depth
+        budget (store-of (now (slots .entry)) (now (heads .entry))))
+        r (now (slots .exit)) (now (heads .exit)) ⌝ }
+{
+    store_reset::save_slots(old_slots, slots);
+    store_reset::save_heads(old_heads, heads);
+    let r = attempt(
+        kinds,
+        operands,
+        table,
+        slots,
+        heads,
+        readings,
+        depth,
+        budget,
+    );
+    let number = r.stop;
+    let left = r.steps;
+    if number != 0 {
+        store_reset::put_back(slots, heads, old_slots, old_heads);
+        return Delivery {
+            number,
+            steps: budget - left,
+        };
+    }
+    Delivery {
+        number: 0,
+        steps: budget - left,
+    }
+}
+
+// The same, with arrays for 16 cells where these are enough, or else for 256.
 pub fn deliver_on(
     kinds: &[u8],
     operands: &[i64],
@@ -128,9 +176,25 @@ pub fn deliver_on(
         budget (store-of (now (slots .entry)) (now (heads .entry))))
         r (now (slots .exit)) (now (heads .exit)) ⌝ }
 {
-    let old_slots = store_reset::saved_slots(slots);
-    let old_heads = store_reset::saved_heads(heads);
-    let r = attempt(
+    if slots.len() <= 257 {
+        let mut few_slots = [0i64; 257];
+        let mut few_heads = [0u32; 65];
+        return deliver_kept(
+            kinds,
+            operands,
+            table,
+            slots,
+            heads,
+            readings,
+            depth,
+            budget,
+            &mut few_slots,
+            &mut few_heads,
+        );
+    }
+    let mut old_slots = [0i64; 4097];
+    let mut old_heads = [0u32; 1025];
+    deliver_kept(
         kinds,
         operands,
         table,
@@ -139,18 +203,7 @@ pub fn deliver_on(
         readings,
         depth,
         budget,
-    );
-    let number = r.stop;
-    let left = r.steps;
-    if number != 0 {
-        store_reset::put_back(slots, heads, &old_slots, &old_heads);
-        return Delivery {
-            number,
-            steps: budget - left,
-        };
-    }
-    Delivery {
-        number: 0,
-        steps: budget - left,
-    }
+        &mut old_slots,
+        &mut old_heads,
+    )
 }

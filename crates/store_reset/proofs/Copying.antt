@@ -1,4 +1,4 @@
--- Copying words into a list from the front, and what a copy of a copy is.
+-- Copying words into a list from the front.
 use mathlib.Core.Path.{_≡_, sym, _∙_}
 use mathlib.Core.List.{List}
 use Prim.Native.Nat.{ℕ, _+_, _<_, _≤_}
@@ -18,12 +18,6 @@ module _ {A : Type 0} (z : A) (n : ℕ) (l : List A) where
   unfolding words-of
   word-is i h = tabulate-at n (λ i. getD l i z) i z h
 
--- a list saved in a longer one and brought back
-pub words-back : {A : Type 0} (z : A) (n : ℕ) (l : List A) → length l ≤ n → words-of z (length l) (words-of z n l) ≡ l
-words-back z n l h = ext-getD z (words-of z (length l) (words-of z n l)) l (words-length z (length l) (words-of z n l))
-    (λ i b. let inside : i < length l = omega (arith, words-length z (length l) (words-of z n l)) in
-    word-is z (length l) (words-of z n l) i inside ∙ word-is z n l i (omega arith))
-
 -- the first i elements of `to` are copied
 pub record Copying {A : Type 0} (z : A) (from to : List A) (i : ℕ) : Type 0 where
   pub copied : (k : ℕ) → k < i → getD to k z ≡ getD from k z
@@ -38,6 +32,11 @@ module _ {A : Type 0} {z : A} {from to : List A} {i : ℕ} (w : Copying z from t
       go : (k : ℕ) → k < i + 1 → Dec (k ≡ i) → getD (set to i v) k z ≡ getD from k z
       go k b (yes q) = rw q (getD-set-same to i v z h ∙ e)
       go k b (no q) = getD-set-other to i k v z q ∙ w .copied k (omega (arith, q))
+
+  pub copying-back : length from ≤ i → words-of z (length from) to ≡ from
+  copying-back h = ext-getD z (words-of z (length from) to) from (words-length z (length from) to)
+      (λ k b. let inside : k < length from = omega (arith, words-length z (length from) to) in
+      word-is z (length from) to k inside ∙ w .copied k (omega arith))
 
   pub copying-all : (n : ℕ) → length to ≡ n → n ≤ i → to ≡ words-of z n from
   copying-all n e h = ext-getD z to (words-of z n from) (e ∙ sym (words-length z n from))

@@ -1,6 +1,6 @@
 // Setting a whole store: opening it, saving its words, and putting them back after a stop.
 ghost use mathlib.Core.Path.{_≡_};
-ghost use Prim.Native.Nat.{_+_, _*_, _<_};
+ghost use Prim.Native.Nat.{_+_, _*_, _<_, _≤_};
 ghost use lib.IntN.{pos};
 ghost use lib.ListN.{length, getD};
 ghost use Rattle.semantics.specs.Store.{cell, with-cell, relinked, opened};
@@ -87,22 +87,28 @@ pub fn open_store(slots: &mut [i64], heads: &mut [u32], depth: u32)
     let first = store::acquire_empty(slots, heads, depth - 1);
 }
 
-// The words of the first array, kept for a stop: as many as the greatest store has.
-pub fn saved_slots(slots: &[i64]) -> [i64; 4097]
-    ensures { λ r. ⌜ r ≡ words-of (pos 0) 4097 (now (slots .entry)) ⌝ }
+// Keeps the words of the first array for a stop, at the front of one that is no shorter.
+pub fn save_slots(saved: &mut [i64], slots: &[i64])
+    requires { ⌜ length (now slots) ≤ length (now saved) ⌝ }
+    ensures { λ _. ⌜ words-of (pos 0) (length (now (slots .entry))) (now (saved .exit)) ≡ now (slots .entry) ⌝ }
 {
-    let mut saved = [0; 4097];
-    copy_slots(&mut saved, slots);
-    saved
+    let mut i: usize = 0;
+    while i < slots.len() {
+        saved[i] = slots[i];
+        i = i + 1;
+    }
 }
 
-// The numbers of the second array, kept for a stop.
-pub fn saved_heads(heads: &[u32]) -> [u32; 1025]
-    ensures { λ r. ⌜ r ≡ words-of 0 1025 (now (heads .entry)) ⌝ }
+// The same of the second array.
+pub fn save_heads(saved: &mut [u32], heads: &[u32])
+    requires { ⌜ length (now heads) ≤ length (now saved) ⌝ }
+    ensures { λ _. ⌜ words-of 0 (length (now (heads .entry))) (now (saved .exit)) ≡ now (heads .entry) ⌝ }
 {
-    let mut saved = [0; 1025];
-    copy_heads(&mut saved, heads);
-    saved
+    let mut i: usize = 0;
+    while i < heads.len() {
+        saved[i] = heads[i];
+        i = i + 1;
+    }
 }
 
 // After a stop: the cells that were in use before it as they were, the others clear and linked upwards.
