@@ -6,11 +6,14 @@ use lib.ListN.{length}
 use lib.Dec.{ltb}
 use Rattle.semantics.specs.Basics.{with-if, updated}
 use Rattle.semantics.specs.Syntax.{Parameter, Function, Script, function-at}
-use Rattle.semantics.specs.Code.{Atom, number, name, Line, operation, call, literal, index, length-of, if-else}
-use Rattle.semantics.specs.Code.{map-over, retain, release, Tree, end, line, ending, retain-all, release-all}
+use Rattle.semantics.specs.Kinds.{Leaf, operation, call, literal, index, length-of, Loop, mapping}
+use Rattle.semantics.specs.Kinds.{leaf-hands, leaf-reads, loop-hands, loop-reads, element-name, is-pending}
+use Rattle.semantics.specs.Code.{Atom, number, name, Line, leaf, if-else, loop, retain, release, Tree, end, line}
+use Rattle.semantics.specs.Code.{ending, retain-all, release-all}
 use Rattle.semantics.specs.Code.{Row, row, rows}
 use Rattle.semantics.specs.Normal.{normal-body}
-use Rattle.semantics.specs.Live.{Set, empty, _∪_, _∖_, only, is, among, members, live, uses, after-branch}
+use Rattle.semantics.specs.Live.{Set, empty, _∪_, _∖_, _∖∖_, only, just, is, among, members, live, uses}
+use Rattle.semantics.specs.Live.{after-branch}
 use Rattle.semantics.specs.Live.{after-pass}
 
 -- ---- the depths of a function's new names
@@ -22,25 +25,47 @@ abbrev pub atom-depth : NameDepths → Atom → ℕ
 atom-depth Γ (number z) = 0
 atom-depth Γ (name x) = Γ x
 
+-- the depth of the i-th atom
+abbrev pub depth-of : NameDepths → List Atom → ℕ → ℕ
+depth-of Γ [] i = 0
+depth-of Γ (a ∷ us) zero = atom-depth Γ a
+depth-of Γ (a ∷ us) (suc i) = depth-of Γ us i
+
+-- the depths of the names of a pass
+abbrev pub pass-depths : Loop → NameDepths → List Atom → List ℕ
+pass-depths mapping Γ us = pred (depth-of Γ us 0) ∷ []
+
+abbrev pub with-depths : List ℕ → List ℕ → NameDepths → NameDepths
+with-depths [] ds Γ = Γ
+with-depths (x ∷ xs) [] Γ = Γ
+with-depths (x ∷ xs) (d ∷ ds) Γ = with-depths xs ds (updated Γ x d)
+
+-- the depth of what a loop gives, by its atoms and the atom that its tree gives
+abbrev pub loop-depth : Loop → NameDepths → List Atom → Atom → ℕ
+loop-depth mapping Γ us a = suc (atom-depth Γ a)
+
 -- over the result depths of the script's functions
 module _ (results : ℕ → ℕ) where
+  abbrev pub leaf-depth : Leaf → NameDepths → List Atom → ℕ
+  leaf-depth (operation o) Γ us = 0
+  leaf-depth (call f) Γ us = results f
+  leaf-depth (literal d) Γ us = suc d
+  leaf-depth index Γ us = pred (depth-of Γ us 0)
+  leaf-depth length-of Γ us = 0
+
   unfoldable mutual
     pub tree-depths : Tree → NameDepths → NameDepths
     tree-depths (end a) Γ = Γ
     tree-depths (line l t) Γ = tree-depths t (line-depths l Γ)
 
     pub line-depths : Line → NameDepths → NameDepths
-    line-depths (operation x o a b) Γ = updated Γ x 0
-    line-depths (call x f us) Γ = updated Γ x (results f)
-    line-depths (literal x d us) Γ = updated Γ x (suc d)
-    line-depths (index x a b) Γ = updated Γ x (pred (atom-depth Γ a))
-    line-depths (length-of x a) Γ = updated Γ x 0
+    line-depths (leaf x l us) Γ = updated Γ x (leaf-depth l Γ us)
     line-depths (if-else x g t e) Γ =
         let Δ = tree-depths e (tree-depths t Γ) in
         updated Δ x (atom-depth Δ (ending t))
-    line-depths (map-over x p a t) Γ =
-        let Δ = tree-depths t (updated Γ p (pred (atom-depth Γ a))) in
-        updated Δ x (suc (atom-depth Δ (ending t)))
+    line-depths (loop x k ps us t) Γ =
+        let Δ = tree-depths t (with-depths ps (pass-depths k Γ us) Γ) in
+        updated Δ x (loop-depth k Δ us (ending t))
     line-depths (retain x) Γ = Γ
     line-depths (release x) Γ = Γ
 
@@ -62,6 +87,11 @@ module _ (Γ : NameDepths) where
   abbrev pub is-array : ℕ → Bool
   is-array x = ltb 0 (Γ x)
 
+  -- the arrays among some names
+  unfoldable pub arrays : List ℕ → List ℕ
+  arrays [] = []
+  arrays (x ∷ xs) = with-if (is-array x) x (arrays xs)
+
   -- the names to release: those used and not live
   unfoldable pub dying : Set → Set → List ℕ
   dying used A = members (λ x. used x && (is-array x && not (A x)))
@@ -80,23 +110,22 @@ module _ (Γ : NameDepths) where
 
     -- a line, after which A is live and the tree k follows
     pub annotate-line : Line → Set → Tree → Tree
-    annotate-line (operation x o a b) A k = line (operation x o a b) k
-    annotate-line (call x f us) A k =
-        retain-all (handed-again us A) (line (call x f us) (release-all (dying (only x) A) k))
-    annotate-line (literal x d us) A k =
-        retain-all (handed-again us A) (line (literal x d us) (release-all (dying (only x) A) k))
-    annotate-line (index x a b) A k =
-        line (index x a b) (retain-all (with-if (is-array x) x []) (release-all (dying (is a ∪ only x) A) k))
-    annotate-line (length-of x a) A k = line (length-of x a) (release-all (dying (is a) A) k)
+    annotate-line (leaf x l us) A k =
+        let R = among (leaf-reads l us) empty in
+        let k′ = release-all (dying (R ∪ only x) A) k in
+        retain-all (handed-again (leaf-hands l us) (R ∪ A))
+        (line (leaf x l us) (retain-all (with-if (is-pending l && is-array x) x []) k′))
     annotate-line (if-else x g t e) A k =
         let B = after-branch x A in
         let t′ = release-all (dying (uses e) (live t B)) (annotate t B) in
         let e′ = release-all (dying (uses t) (live e B)) (annotate e B) in
         line (if-else x g t′ e′) (release-all (dying (only x) A) k)
-    annotate-line (map-over x p a t) A k =
-        let B = after-pass x p t A in
-        let t′ = retain-all (with-if (is-array p) p []) (release-all (dying (only p) (live t B)) (annotate t B)) in
-        line (map-over x p a t′) (release-all (dying (is a ∪ uses t ∖ p ∪ only x) A) k)
+    annotate-line (loop x j ps us t) A k =
+        let B = after-pass x ps t A in
+        let R = among (loop-reads j us) (uses t ∖∖ ps) in
+        let t′ = retain-all (arrays (element-name j ps)) (release-all (dying (just ps) (live t B)) (annotate t B)) in
+        retain-all (handed-again (loop-hands j us) (R ∪ A))
+        (line (loop x j ps us t′) (release-all (dying (R ∪ only x) A) k))
     annotate-line (retain x) A k = line (retain x) k
     annotate-line (release x) A k = line (release x) k
 

@@ -3,14 +3,15 @@ use Rattle.semantics.specs.Basics.{tabulate, all, occurrences, each, upd
 use Rattle.semantics.specs.Outcome.{onward, require, times, passes}
 use Rattle.semantics.specs.Number.{bytes-at}
 use Rattle.semantics.specs.Syntax.{size, function-size}
-use Rattle.semantics.specs.File.{node-of, parts, node-at, look, part, parameter, function, finish, script}
+use Rattle.semantics.specs.File.{part-count, node-of, parts, node-at, look, part, parameter, function, finish}
+use Rattle.semantics.specs.File.{script}
 use Rattle.semantics.specs.File.{read-file}
 use Rattle.semantics.specs.Names.{unknown, unknown-from, unknown-in, name-faults}
-use Rattle.semantics.specs.Types.{node, map-node, check, check-function, function-faults, type-faults}
+use Rattle.semantics.specs.Types.{node, loop-node, check, check-function, function-faults, type-faults}
 use Rattle.semantics.specs.Code.{ending, rows}
 use Rattle.semantics.specs.Normal.{fresh, too-many-names-from, atom, lines, normal, parameter-names, normal-body}
 use Rattle.semantics.specs.Live.{among, members-from, members, live}
-use Rattle.semantics.specs.Annotate.{tree-depths, parameter-depths-from, depths-of, dying, handed-again}
+use Rattle.semantics.specs.Annotate.{tree-depths, parameter-depths-from, depths-of, dying, arrays, handed-again}
 use Rattle.semantics.specs.Annotate.{annotate, annotated-body, parameter-rows, function-rows, functions-rows}
 use Rattle.semantics.specs.Annotate.{code}
 use Rattle.semantics.specs.Store.{cell-of, padded, clear, cell, with-cell, with-first, with-totals, with-count}
@@ -22,10 +23,12 @@ use Rattle.semantics.specs.Sound.{free-from, end-from, free-list, as-due
 use Rattle.semantics.specs.Sound.{all-used, formed-as, formed, places, counted, sound, sound-words}
 use Rattle.semantics.specs.Machine.{touching, each-events, lower-events, release-events, with-store, with-left}
 use Rattle.semantics.specs.Machine.{with-roots, stepped, step, acquire-if, acquire, elements-of, retain-word}
-use Rattle.semantics.specs.Machine.{release-word, append-word, held, work-pass, work, routine, frame-from}
+use Rattle.semantics.specs.Machine.{release-word, append-word, held, work-pass, work-leaf, work}
+use Rattle.semantics.specs.Machine.{routine, program, frame-from}
 use Rattle.semantics.specs.Machine.{machine, delivery, starting, delivered}
 use Rattle.semantics.specs.Meaning.{step as meaning-step, stepped as meaning-stepped, do-operation, do-call}
-use Rattle.semantics.specs.Meaning.{do-literal, do-index, do-length, do-if, do-pass, do-map, eval, bound}
+use Rattle.semantics.specs.Meaning.{do-literal, do-index, do-length, do-if, do-pass, do-loop, do-leaf}
+use Rattle.semantics.specs.Meaning.{eval, bound}
 use Rattle.semantics.specs.Meaning.{meaning, main-meaning, step-wants}
 use Rattle.semantics.specs.Calls.{packed, judged, code-fits, admitted, translated, engine-translate}
 use Rattle.semantics.specs.Calls.{request-fits, refusing, answering, open-for, check-for, deliver-for}
@@ -34,19 +37,22 @@ use Rattle.semantics.specs.Ledger.{entry}
 use Rattle.semantics.specs.Demands.{value-of, touched}
 
 unfoldable pub computing : Unit {0}
-unfolding tabulate all occurrences each updated onward require times passes bytes-at size function-size node-of
+unfolding tabulate all occurrences each updated onward require times passes bytes-at size function-size
+    part-count node-of
     parts node-at look part parameter function finish script read-file unknown unknown-from unknown-in name-faults
-    node map-node check check-function function-faults type-faults ending rows fresh too-many-names-from atom lines
+    node loop-node check check-function function-faults type-faults ending rows fresh too-many-names-from atom lines
     normal parameter-names normal-body among members-from members live tree-depths parameter-depths-from depths-of
-    dying handed-again annotate annotated-body parameter-rows function-rows functions-rows code cell-of padded
+    dying arrays handed-again annotate annotated-body parameter-rows function-rows functions-rows code cell-of padded
     clear cell with-cell with-first with-totals with-count elements inner one-more retained filled has-free
     acquired wider appended freed lowered released linked relinked zeroed opened used-cells cells-in slots-at
     cell-at store-of shaped slot-words head-words free-from end-from free-list as-due list-sound zeros-from
     names-used all-used formed-as formed places counted sound sound-words touching each-events lower-events
     release-events with-store with-left with-roots stepped step acquire-if acquire elements-of retain-word
-    release-word append-word held work-pass work routine frame-from machine delivery starting delivered packed
+    release-word append-word held work-pass work-leaf work routine program frame-from machine delivery
+    starting delivered packed
     judged code-fits admitted translated engine-translate request-fits refusing answering open-for check-for
     deliver-for engine-open engine-check engine-deliver meaning-step meaning-stepped do-operation do-call
-    do-literal do-index do-length do-if do-pass do-map eval bound meaning main-meaning step-wants entry value-of
+    do-literal do-index do-length do-if do-pass do-loop do-leaf eval bound meaning main-meaning
+    step-wants entry value-of
     touched
 computing = tt

@@ -9,8 +9,9 @@ use lib.ListN.{length, getD, take, drop}
 use lib.Dec.{eqb, ltb, leb}
 use Rattle.semantics.specs.Outcome.{Outcome, done, stop, Run, _>>=_, _>>_, give, halt, times}
 use Rattle.semantics.specs.Number.{sum, difference, less, bytes-at, signed}
-use Rattle.semantics.specs.Syntax.{Expr, number, name, operation, let-in, call, literal, index, length-of}
-use Rattle.semantics.specs.Syntax.{if-else, map-over, exprs-of, Parameter, Function, Script}
+use Rattle.semantics.specs.Kinds.{operation, call, literal, index, length-of, Leaf, mapping, Loop}
+use Rattle.semantics.specs.Syntax.{Expr, number, name, let-in, leaf, if-else, loop, exprs-of, Parameter, Function}
+use Rattle.semantics.specs.Syntax.{Script}
 
 -- A node with an operand in range, low + 256 × high; a number has its value instead.
 pub record Head : Type 0 where
@@ -39,13 +40,25 @@ in-parts k (pos n) =
     wrong-operand
 in-parts k (negsuc n) = wrong-operand
 
--- a node where the kinds from a to b are allowed: the kind is tested before the operand
-unfoldable pub node-of : ℕ → ℕ → ℕ → ℤ → Node
-node-of a b k z =
-    cond (leb a k)
-    (cond (leb k b)
+-- where a node may stand
+pub data Place : Type 0 where
+  at-function at-parameter at-part : Place
+
+-- the kinds of parts: 2 to 13
+abbrev pub part-kinds : List Bool
+part-kinds =
+    false ∷ false ∷ true ∷ true ∷ true ∷ true ∷ true ∷ true ∷ true ∷ true ∷ true ∷ true ∷ true ∷ true ∷ []
+
+abbrev pub allowed : Place → ℕ → Bool
+allowed at-function k = eqb k 0
+allowed at-parameter k = eqb k 1
+allowed at-part k = getD part-kinds k false
+
+-- the kind is tested before the operand
+unfoldable pub node-of : Place → ℕ → ℤ → Node
+node-of place k z =
+    cond (allowed place k)
     (cond (eqb k 2) (fits (record { kind = 2; low = 0; high = 0; value = z })) (in-parts k z))
-    wrong-kind)
     wrong-kind
 
 -- how many parts a node has; a call and a literal say it themselves
@@ -66,46 +79,57 @@ looked (fits h) = give h
 looked wrong-kind = halt 3
 looked wrong-operand = halt 4
 
--- the tree of a node whose parts m reads, by kind
-abbrev pub by-kind : Read Expr → Head → List (Read Expr)
-by-kind m h =
-    halt 3 ∷ halt 3 ∷
-    give (number (h .value)) ∷
-    give (name (h .low)) ∷
-    (do a ← m; b ← m; give (operation sum a b)) ∷
-    (do a ← m; b ← m; give (operation difference a b)) ∷
-    (do a ← m; b ← m; give (operation less a b)) ∷
-    (do a ← m; b ← m; give (let-in (h .low) a b)) ∷
-    (do es ← times (h .high) m; give (call (h .low) (exprs-of es))) ∷
-    (do es ← times (h .low) m; give (literal (h .high) (exprs-of es))) ∷
-    (do a ← m; b ← m; give (index a b)) ∷
-    (do a ← m; give (length-of a)) ∷
-    (do a ← m; b ← m; c ← m; give (if-else a b c)) ∷
-    (do a ← m; b ← m; give (map-over (h .low) a b)) ∷ []
+-- leaves and loops by kind; a loop has its names, and reads its body last
+pub data Shape : Type 0 where
+  none : Shape
+  leaf-of : Leaf → Shape
+  loop-of : Loop → List ℕ → ℕ → Shape
 
+abbrev pub shapes : Head → List Shape
+shapes h =
+    none ∷ none ∷ none ∷ none ∷
+    leaf-of (operation sum) ∷ leaf-of (operation difference) ∷ leaf-of (operation less) ∷ none ∷
+    leaf-of (call (h .low)) ∷ leaf-of (literal (h .high)) ∷ leaf-of index ∷ leaf-of length-of ∷ none ∷
+    loop-of mapping (h .low ∷ []) 1 ∷ []
+
+abbrev pub shape-of : Head → Shape
+shape-of h = getD (shapes h) (h .kind) none
+
+-- the tree of a leaf or a loop whose parts m reads
+abbrev pub shaped : Read Expr → ℕ → Shape → Read Expr
+shaped m n none = halt 3
+shaped m n (leaf-of l) = do es ← times n m; give (leaf l (exprs-of es))
+shaped m n (loop-of k xs c) = do es ← times c m; b ← m; give (loop k xs (exprs-of es) b)
+
+-- the tree of a node whose parts m reads
 unfoldable pub parts : Read Expr → Head → Read Expr
-parts m h = getD (by-kind m h) (h .kind) (halt 3)
+parts m h =
+    cond (eqb (h .kind) 2) (give (number (h .value)))
+    (cond (eqb (h .kind) 3) (give (name (h .low)))
+    (cond (eqb (h .kind) 7) (do a ← m; b ← m; give (let-in (h .low) a b))
+    (cond (eqb (h .kind) 12) (do a ← m; b ← m; c ← m; give (if-else a b c))
+    (shaped m (part-count (h .kind) (h .low) (h .high)) (shape-of h)))))
 
 -- over the file's kinds and the bytes of its operands
 module _ (kinds operands : List ℕ) where
   -- node p; past the end no kind is allowed
-  unfoldable pub node-at : ℕ → ℕ → ℕ → Node
-  node-at a b p = node-of a b (getD kinds p 255) (signed (bytes-at 8 operands (8 * p)))
+  unfoldable pub node-at : Place → ℕ → Node
+  node-at place p = node-of place (getD kinds p 255) (signed (bytes-at 8 operands (8 * p)))
 
-  unfoldable pub look : ℕ → ℕ → Read Head
-  look a b p = looked (node-at a b p) p
+  unfoldable pub look : Place → Read Head
+  look place p = looked (node-at place p) p
 
   -- a part, with some levels left: 5 comes after 3 and 4
   unfoldable pub part : ℕ → Read Expr
-  part zero = do h ← look 2 13; halt 5
-  part (suc levels) = do h ← look 2 13; next; parts (part levels) h
+  part zero = do h ← look at-part; halt 5
+  part (suc levels) = do h ← look at-part; next; parts (part levels) h
 
   unfoldable pub parameter : Read Parameter
-  parameter = do h ← look 1 1; next; give (record { id = h .low; depth = h .high })
+  parameter = do h ← look at-parameter; next; give (record { id = h .low; depth = h .high })
 
   unfoldable pub function : Read Function
   function = do
-    h ← look 0 0
+    h ← look at-function
     next
     parameters ← times (h .low) parameter
     body ← part 64

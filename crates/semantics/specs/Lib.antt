@@ -1,6 +1,7 @@
 pub mod Basics
 pub mod Outcome
 pub mod Number
+pub mod Kinds
 pub mod Syntax
 pub mod File
 pub mod Names

@@ -1,20 +1,24 @@
 -- Document 01, "The store": the annotated code worked on a store, and the delivery.
 -- Three parts of the definition leave no word in the store: the log of what happened to cells, the set L that is live
 -- after a tree, and the roots R, the cells that are in use outside it.
-use Prim.Native.Nat.{ℕ, zero, suc, _+_, _-_}
+use Prim.Native.Nat.{ℕ, zero, suc, _+_, _-_, pred}
 use mathlib.Core.Bool.{Bool, true, false, cond, _&&_}
 use mathlib.Core.List.{List, [], _∷_, _++_, map}
 use lib.IntN.{ℤ, pos, natAbs}
+use lib.ListN as List
 use lib.ListN.{length, getD}
 use lib.Dec.{ltb}
 use Rattle.semantics.specs.Basics.{tabulate, with-if, occurrences, updated}
 use Rattle.semantics.specs.Outcome.{Outcome, done, stop, Run, _>>=_, _>>_, give, halt, require, passes}
 use Rattle.semantics.specs.Number.{exact, fits, inside, is-zero}
 use Rattle.semantics.specs.Syntax.{Function, Script, main-depth}
-use Rattle.semantics.specs.Code.{Atom, number, name, Line, operation, call, literal, index, length-of, if-else}
-use Rattle.semantics.specs.Code.{map-over, retain, release, Tree, end, line, ending}
-use Rattle.semantics.specs.Live.{Set, empty, _∪_, _∖_, is, among, members, live, after-branch, after-pass}
-use Rattle.semantics.specs.Annotate.{NameDepths, atom-depth, is-array, depths-of, annotated-body}
+use Rattle.semantics.specs.Types.{Signature, signatures-of}
+use Rattle.semantics.specs.Kinds.{Leaf, operation, call, literal, index, length-of, Loop, mapping}
+use Rattle.semantics.specs.Kinds.{later-parts}
+use Rattle.semantics.specs.Code.{Atom, number, name, Line, leaf, if-else, loop, retain, release, Tree, end, line}
+use Rattle.semantics.specs.Code.{ending}
+use Rattle.semantics.specs.Live.{Set, empty, _∪_, _∖_, _∖∖_, is, among, members, live, after-branch, after-pass}
+use Rattle.semantics.specs.Annotate.{NameDepths, atom-depth, depth-of, is-array, depths-of, annotated-body}
 use Rattle.semantics.specs.Store.{Store, cell, cell-of, elements, inner, named-by, with-totals, has-free}
 use Rattle.semantics.specs.Store.{acquired, retained, released, freed, appended, relinked, deepest}
 use Rattle.semantics.specs.Sound.{free-list}
@@ -115,13 +119,61 @@ Callee = List ℕ → ℕ → List ℤ → Work ℤ
 unfoldable pub held : NameDepths → Set → Frame → List ℕ
 held Γ A ρ = map (λ x. cell-of (ρ x)) (members (λ x. A x && is-array Γ x))
 
--- one pass of a map over element i of the array a, into the result c
-unfoldable pub work-pass : (ℤ → Work ℤ) → ℤ → ℤ → Unit {0} → ℕ → Work (Unit {0})
-work-pass body a c _ i = do
+abbrev pub argument : List ℤ → ℕ → ℤ
+argument ws i = getD ws i (pos 0)
+
+-- a leaf's work on the words ws of its atoms, after its step: S are the roots while a cell is wanted, C those of a call
+unfoldable pub work-leaf : Callee → List ℕ → List ℕ → Leaf → List ℤ → Work ℤ
+work-leaf callee S C (operation o) ws = do
+  let r = exact o (argument ws 0) (argument ws 1)
+  require (fits r) 24
+  give r
+work-leaf callee S C (call f) ws = callee C f ws
+work-leaf callee S C (literal e) ws = acquire S e ws
+work-leaf callee S C index ws = do
+  vs ← elements-of (argument ws 0)
+  require (inside (argument ws 1) (length vs)) 23
+  give (getD vs (natAbs (argument ws 1)) (pos 0))
+work-leaf callee S C length-of ws = do
+  vs ← elements-of (argument ws 0)
+  give (pos (length vs))
+
+-- ---- passes: what is carried from one to the next is a word
+
+abbrev pub looped-over : Loop → List ℤ → ℤ
+looped-over mapping ws = argument ws 0
+
+-- what is carried into the first pass: a new cell for the result
+abbrev pub carried-first : Loop → List ℕ → ℕ → List ℤ → Work ℤ
+carried-first mapping R d ws = acquire R d []
+
+abbrev pub pass-words : Loop → ℤ → ℤ → List ℤ
+pass-words mapping c w = w ∷ []
+
+-- what a pass carries on, by what its tree gave
+abbrev pub carried-on : Loop → ℤ → ℤ → Work ℤ
+carried-on mapping c r = do append-word c r; give c
+
+-- one pass over element i of the array a
+unfoldable pub work-pass : Loop → (List ℤ → Work ℤ) → ℤ → ℤ → ℕ → Work ℤ
+work-pass k body a c i = do
   step
   ws ← elements-of a
-  r ← body (getD ws i (pos 0))
-  append-word c r
+  r ← body (pass-words k c (getD ws i (pos 0)))
+  carried-on k c r
+
+-- the result of a loop in progress
+abbrev pub in-progress : Loop → ℤ → List ℕ
+in-progress mapping c = cell-of c ∷ []
+
+-- names bound to values in turn
+abbrev pub binding : List ℕ → List ℤ → Frame → Frame
+binding [] ws ρ = ρ
+binding (x ∷ xs) ws ρ = binding xs (later-parts ws) (updated ρ x (argument ws 0))
+
+-- the depth of the elements that a loop's result has
+abbrev pub element-depth : NameDepths → ℕ → ℕ
+element-depth Γ x = pred (Γ x)
 
 module _ (callee : Callee) (Γ : NameDepths) where
   unfoldable mutual
@@ -134,42 +186,25 @@ module _ (callee : Callee) (Γ : NameDepths) where
 
     -- a line, after which A is live: the frame with the name that it binds
     pub work-line : Line → Set → List ℕ → Frame → Work Frame
-    work-line (operation x o a b) A R ρ = do
+    work-line (leaf x l us) A R ρ = do
       step
-      let r = exact o (word ρ a) (word ρ b)
-      require (fits r) 24
-      give (updated ρ x r)
-    work-line (call x f us) A R ρ = do
-      step
-      w ← callee (R ++ held Γ (A ∖ x) ρ) f (map (word ρ) us)
+      w ← work-leaf callee (R ++ held Γ (among us (A ∖ x)) ρ) (R ++ held Γ (A ∖ x) ρ) l (map (word ρ) us)
       give (updated ρ x w)
-    work-line (literal x d us) A R ρ = do
-      step
-      w ← acquire (R ++ held Γ (among us (A ∖ x)) ρ) d (map (word ρ) us)
-      give (updated ρ x w)
-    work-line (index x a b) A R ρ = do
-      step
-      ws ← elements-of (word ρ a)
-      require (inside (word ρ b) (length ws)) 23
-      give (updated ρ x (getD ws (natAbs (word ρ b)) (pos 0)))
-    work-line (length-of x a) A R ρ = do
-      step
-      ws ← elements-of (word ρ a)
-      give (updated ρ x (pos (length ws)))
     work-line (if-else x g t e) A R ρ = do
       step
       let B = after-branch x A
       w ← cond (is-zero (word ρ g)) (work e B R ρ) (work t B R ρ)
       give (updated ρ x w)
-    work-line (map-over x p a t) A R ρ = do
+    work-line (loop x k ps us t) A R ρ = do
       step
-      let B = after-pass x p t A
-      let R′ = R ++ held Γ (is a ∪ B) ρ
-      ws ← elements-of (word ρ a)
-      c ← acquire R′ (atom-depth Γ (ending t)) []
-      passes (work-pass (λ w. work t B (R′ ++ (cell-of c ∷ [])) (updated ρ p w)) (word ρ a) c)
-          tt (tabulate 0 (length ws) (λ i. i))
-      give (updated ρ x c)
+      let B = after-pass x ps t A
+      let R′ = R ++ held Γ (among us B) ρ
+      let a = looped-over k (map (word ρ) us)
+      ws ← elements-of a
+      c ← carried-first k R′ (element-depth Γ x) (map (word ρ) us)
+      w ← passes (work-pass k (λ vs. work t B (R′ ++ in-progress k c) (binding ps vs ρ)) a)
+          c (tabulate 0 (length ws) (λ i. i))
+      give (updated ρ x w)
     work-line (retain x) A R ρ = do
       retain-word (ρ x)
       give ρ
@@ -190,17 +225,30 @@ routine fs g = record { tree = annotated-body fs g; depths = depths-of fs g }
 abbrev pub no-routine : Routine
 no-routine = record { tree = end (number (pos 0)); depths = λ _. 0 }
 
+-- What is worked: the routines by their numbers, the depths of their parameters and results, and the totals' depth.
+pub record Program : Type 0 where
+  pub routines : List Routine
+  pub signatures : ℕ → Signature
+  pub depth : ℕ
+
+unfoldable pub program : Script → Program
+program fs = record { routines = map (routine fs) fs; signatures = signatures-of fs; depth = main-depth fs }
+
+-- the routine of a number
+abbrev pub routine-of : Program → ℕ → Routine
+routine-of p f = getD (p .routines) f no-routine
+
 -- the arguments are the words of the names from n on
 unfoldable pub frame-from : List ℤ → ℕ → Frame
 frame-from [] n = λ _. pos 0
 frame-from (w ∷ ws) n = updated (frame-from ws (suc n)) n w
 
 -- a call, with some call depth left
-unfoldable pub machine : List Routine → ℕ → Callee
-machine rs zero R f ws = halt 22
-machine rs (suc n) R f ws =
-    let r = getD rs f no-routine in
-    work (machine rs n) (r .depths) (r .tree) empty R (frame-from ws 0)
+unfoldable pub machine : Program → ℕ → Callee
+machine p zero R f ws = halt 22
+machine p (suc n) R f ws =
+    let r = routine-of p f in
+    work (machine p n) (r .depths) (r .tree) empty R (frame-from ws 0)
 
 -- something to do with the totals where they are an array
 abbrev pub if-array : ℕ → Work (Unit {0}) → Work (Unit {0})
@@ -208,15 +256,15 @@ if-array zero m = give tt
 if-array (suc d) m = m
 
 -- The readings' cell, the totals retained, main, the result in the totals' place, the old totals released
-unfoldable pub delivery : Script → List ℤ → Work (Unit {0})
-delivery fs readings s =
+unfoldable pub delivery : Program → List ℤ → Work (Unit {0})
+delivery p readings s =
     let old = s .store .totals in
-    let d = main-depth fs in
+    let d = p .depth in
     let R = named-by d (old ∷ []) in
     (do
       c ← acquire R 0 readings
       if-array d (retain-word old)
-      w ← machine (map (routine fs) fs) 32 R 0 (old ∷ c ∷ [])
+      w ← machine p 32 R 0 (old ∷ c ∷ [])
       (λ s. done tt (with-store s (with-totals (s .store) w) []))
       if-array d (release-word old)) s
 
@@ -233,8 +281,8 @@ abbrev pub delivered-by : {A : Type 0} → ℕ → Store → Outcome State A →
 delivered-by budget σ (done a s) = record { number = 0; steps = budget - s .left; store = s .store }
 delivered-by budget σ (stop n s) = record { number = n; steps = budget - s .left; store = relinked σ }
 
-unfoldable pub delivered : Script → List ℤ → ℕ → Store → Delivered
-delivered fs readings budget σ = delivered-by budget σ (delivery fs readings (starting budget σ))
+unfoldable pub delivered : Program → List ℤ → ℕ → Store → Delivered
+delivered p readings budget σ = delivered-by budget σ (delivery p readings (starting budget σ))
 
 abbrev pub state-of : {A : Type 0} → Outcome State A → State
 state-of (done a s) = s

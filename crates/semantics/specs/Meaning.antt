@@ -4,15 +4,18 @@ use Prim.Native.Nat.{ℕ, zero, suc, _+_}
 use mathlib.Core.Bool.{Bool, true, false, cond}
 use mathlib.Core.List.{List, [], _∷_, _++_}
 use lib.IntN.{ℤ, pos, natAbs}
+use lib.ListN as List
 use lib.ListN.{length, getD}
 use lib.Dec.{eqb}
-use Rattle.semantics.specs.Basics.{updated}
+use Rattle.semantics.specs.Basics.{updated, tabulate}
 use Rattle.semantics.specs.Outcome.{Outcome, done, stop, Run, _>>=_, _>>_, give, halt, require, passes}
 use Rattle.semantics.specs.Number.{Operation, exact, fits, inside, is-zero}
 use Rattle.semantics.specs.Value.{Value, num, array, items, number-in, list}
 use Rattle.semantics.specs.Syntax as S
-use Rattle.semantics.specs.Syntax.{Expr, number, name, operation, let-in, call, literal, index, length-of}
-use Rattle.semantics.specs.Syntax.{if-else, map-over, Exprs, Parameter, Script, function-at}
+use Rattle.semantics.specs.Kinds.{Leaf, operation, call, literal, index, length-of, Loop, mapping}
+use Rattle.semantics.specs.Kinds.{takes-cell, later-parts}
+use Rattle.semantics.specs.Syntax.{Expr, number, name, let-in, leaf, if-else, loop, Exprs, Parameter, Script}
+use Rattle.semantics.specs.Syntax.{function-at}
 
 -- The steps left, and the trace: for each step taken, the last one first, whether its node wants a cell.
 pub record Meter : Type 0 where
@@ -62,34 +65,64 @@ do-length v = do step false; give (num (pos (length (items v))))
 unfoldable pub do-if : Value → Work Value → Work Value → Work Value
 do-if g t e = do step false; cond (is-zero (number-in g)) e t
 
--- one pass: its step, then the body; the result goes behind the earlier ones
-unfoldable pub do-pass : (Value → Work Value) → List Value → Value → Work (List Value)
-do-pass body results v = do step false; r ← body v; give (results ++ (r ∷ []))
+abbrev pub argument : List Value → ℕ → Value
+argument vs i = getD vs i (num (pos 0))
 
-unfoldable pub do-map : Value → (Value → Work Value) → Work Value
-do-map v body = do
-  step true
-  results ← passes (do-pass body) [] (items v)
-  give (list results)
+unfoldable pub do-leaf : Callee → Leaf → List Value → Work Value
+do-leaf callee (operation o) vs = do-operation o (argument vs 0) (argument vs 1)
+do-leaf callee (call f) vs = do-call callee f vs
+do-leaf callee (literal d) vs = do-literal vs
+do-leaf callee index vs = do-index (argument vs 0) (argument vs 1)
+do-leaf callee length-of vs = do-length (argument vs 0)
+
+-- ---- passes: what is carried from one to the next is a value
+
+abbrev pub with-item : Value → Value → Value
+with-item c v = list (items c ++ (v ∷ []))
+
+-- what is carried into the first pass, and the array that the passes go over
+abbrev pub carried-first : Loop → List Value → Value
+carried-first mapping vs = list []
+
+abbrev pub looped-over : Loop → List Value → Value
+looped-over mapping vs = argument vs 0
+
+-- the values of the names of a pass
+abbrev pub pass-values : Loop → Value → Value → List Value
+pass-values mapping c v = v ∷ []
+
+-- what a pass carries on, by what its body gave
+abbrev pub carried-on : Loop → Value → Value → Value → Value
+carried-on mapping c v r = with-item c r
+
+-- one pass: its step, then the body
+unfoldable pub do-pass : Loop → (List Value → Work Value) → Value → Value → Work Value
+do-pass k body c v = do step false; r ← body (pass-values k c v); give (carried-on k c v r)
+
+unfoldable pub do-loop : Loop → List Value → (List Value → Work Value) → Work Value
+do-loop k vs body = do
+  step (takes-cell k)
+  passes (do-pass k body) (carried-first k vs) (items (looped-over k vs))
 
 -- ---- the nodes
 
 abbrev pub Env : Type 0
 Env = ℕ → Value
 
+-- names bound to values in turn
+abbrev pub binding : List ℕ → List Value → Env → Env
+binding [] vs ρ = ρ
+binding (x ∷ xs) vs ρ = binding xs (later-parts vs) (updated ρ x (argument vs 0))
+
 module _ (callee : Callee) where
   unfoldable mutual
     pub eval : Expr → Env → Work Value
     eval (number z) ρ = give (num z)
     eval (name x) ρ = give (ρ x)
-    eval (operation o a b) ρ = do x ← eval a ρ; y ← eval b ρ; do-operation o x y
     eval (let-in x a b) ρ = do v ← eval a ρ; eval b (updated ρ x v)
-    eval (call f es) ρ = do vs ← eval-all es ρ; do-call callee f vs
-    eval (literal d es) ρ = do vs ← eval-all es ρ; do-literal vs
-    eval (index a b) ρ = do v ← eval a ρ; i ← eval b ρ; do-index v i
-    eval (length-of a) ρ = do v ← eval a ρ; do-length v
+    eval (leaf l es) ρ = do vs ← eval-all es ρ; do-leaf callee l vs
     eval (if-else a b c) ρ = do g ← eval a ρ; do-if g (eval b ρ) (eval c ρ)
-    eval (map-over x a b) ρ = do v ← eval a ρ; do-map v (λ w. eval b (updated ρ x w))
+    eval (loop k xs es b) ρ = do vs ← eval-all es ρ; do-loop k vs (λ ws. eval b (binding xs ws ρ))
 
     pub eval-all : Exprs → Env → Work (List Value)
     eval-all S.none ρ = give []

@@ -5,13 +5,26 @@ use mathlib.Core.List.{List, [], _∷_, _++_}
 use lib.ListN.{length}
 use lib.Dec.{leb}
 use Rattle.semantics.specs.Basics.{with-if, updated}
-use Rattle.semantics.specs.Syntax.{Expr, number, name, operation, let-in, call, literal, index, length-of}
-use Rattle.semantics.specs.Syntax.{if-else, map-over, Exprs, none, more, size, Parameter, Function, Script}
+use Rattle.semantics.specs.Kinds.{Leaf, operation, call, literal, index, length-of}
+use Rattle.semantics.specs.Syntax.{Expr, number, name, let-in, leaf, if-else, loop, Exprs, none, more, size}
+use Rattle.semantics.specs.Syntax.{sizes, Parameter, Function, Script}
 use Rattle.semantics.specs.Syntax.{function-size}
 
 -- the names that are known
 abbrev pub Scope : Type 0
 Scope = ℕ → Bool
+
+abbrev pub scope-with : List ℕ → Scope → Scope
+scope-with [] known = known
+scope-with (x ∷ xs) known = scope-with xs (updated known x true)
+
+-- a call of a function that is not there
+abbrev pub calls-none : ℕ → Leaf → Bool
+calls-none functions (operation o) = false
+calls-none functions (call f) = leb functions f
+calls-none functions (literal d) = false
+calls-none functions index = false
+calls-none functions length-of = false
 
 -- the faulty nodes of a tree at node p, in a script of so many functions
 module _ (functions : ℕ) where
@@ -19,15 +32,12 @@ module _ (functions : ℕ) where
     pub unknown : Expr → Scope → ℕ → List ℕ
     unknown (number z) known p = []
     unknown (name x) known p = with-if (not (known x)) p []
-    unknown (operation o a b) known p = unknown a known (p + 1) ++ unknown b known (p + 1 + size a)
     unknown (let-in x a b) known p = unknown a known (p + 1) ++ unknown b (updated known x true) (p + 1 + size a)
-    unknown (call f es) known p = with-if (leb functions f) p (unknowns es known (p + 1))
-    unknown (literal d es) known p = unknowns es known (p + 1)
-    unknown (index a b) known p = unknown a known (p + 1) ++ unknown b known (p + 1 + size a)
-    unknown (length-of a) known p = unknown a known (p + 1)
+    unknown (leaf l es) known p = with-if (calls-none functions l) p (unknowns es known (p + 1))
     unknown (if-else a b c) known p =
         unknown a known (p + 1) ++ (unknown b known (p + 1 + size a) ++ unknown c known (p + 1 + size a + size b))
-    unknown (map-over x a b) known p = unknown a known (p + 1) ++ unknown b (updated known x true) (p + 1 + size a)
+    unknown (loop k xs es b) known p =
+        unknowns es known (p + 1) ++ unknown b (scope-with xs known) (p + 1 + sizes es)
 
     pub unknowns : Exprs → Scope → ℕ → List ℕ
     unknowns none known p = []

@@ -7,8 +7,9 @@ use lib.ListN.{length}
 use lib.Dec.{eqb, leb}
 use Rattle.semantics.specs.Basics.{with-if, updated}
 use Rattle.semantics.specs.Syntax as S
-use Rattle.semantics.specs.Syntax.{Expr, number, name, operation, let-in, call, literal, index, length-of}
-use Rattle.semantics.specs.Syntax.{if-else, map-over, Exprs, size, Parameter, Function, Script, function-at}
+use Rattle.semantics.specs.Kinds.{Leaf, operation, call, literal, index, length-of, Loop, mapping}
+use Rattle.semantics.specs.Syntax.{Expr, number, name, let-in, leaf, if-else, loop, Exprs, size, sizes, Parameter}
+use Rattle.semantics.specs.Syntax.{Function, Script, function-at}
 use Rattle.semantics.specs.Syntax.{function-size}
 
 -- What is found of a tree: its depth, if it has one, and its nodes that break the rule.
@@ -110,11 +111,18 @@ if-rule (d ∷ e ∷ []) = none
 if-rule (d ∷ []) = none
 if-rule [] = none
 
--- by the body's depth: the array's is looked at before
-abbrev pub map-rule : Rule
-map-rule (d ∷ e ∷ ds) = some-if (leb (suc e) 4) (suc e)
-map-rule (d ∷ []) = none
-map-rule [] = none
+abbrev pub leaf-rule : (ℕ → Signature) → Leaf → Rule
+leaf-rule signatures (operation o) = number-rule
+leaf-rule signatures (call f) = call-rule (signatures f)
+leaf-rule signatures (literal d) = literal-rule d
+leaf-rule signatures index = index-rule
+leaf-rule signatures length-of = length-rule
+
+-- by the depths of a loop's parts and its body's; the array's is looked at before
+abbrev pub loop-rule : Loop → Rule
+loop-rule mapping (d ∷ e ∷ ds) = some-if (leb (suc e) 4) (suc e)
+loop-rule mapping (d ∷ []) = none
+loop-rule mapping [] = none
 
 -- the depth of a map's parameter
 abbrev pub element : Option ℕ → Option ℕ
@@ -127,12 +135,29 @@ is-number (some zero) = true
 is-number (some (suc d)) = false
 is-number none = false
 
--- a map over a number breaks the rule whatever its body
-unfoldable pub map-node : ℕ → Checked → Checked → Checked
-map-node p a b =
-    cond (is-number (a .depth))
-    (record { depth = none; faults = p ∷ (a .faults ++ b .faults) })
-    (node p map-rule (a ∷ b ∷ []))
+abbrev pub depth-at : List Checked → ℕ → Option ℕ
+depth-at [] i = none
+depth-at (c ∷ cs) zero = c .depth
+depth-at (c ∷ cs) (suc i) = depth-at cs i
+
+-- the array among a loop's parts, and the depths of the names of a pass
+abbrev pub array-depth : Loop → List Checked → Option ℕ
+array-depth mapping cs = depth-at cs 0
+
+abbrev pub pass-depths : Loop → List Checked → List (Option ℕ)
+pass-depths mapping cs = element (depth-at cs 0) ∷ []
+
+abbrev pub depths-with : List ℕ → List (Option ℕ) → Depths → Depths
+depths-with [] ds Γ = Γ
+depths-with (x ∷ xs) [] Γ = Γ
+depths-with (x ∷ xs) (d ∷ ds) Γ = depths-with xs ds (updated Γ x d)
+
+-- a loop over a number breaks the rule whatever its body
+unfoldable pub loop-node : ℕ → Loop → List Checked → Checked → Checked
+loop-node p k cs b =
+    cond (is-number (array-depth k cs))
+    (record { depth = none; faults = p ∷ (part-faults cs ++ b .faults) })
+    (node p (loop-rule k) (cs ++ (b ∷ [])))
 
 module _ (signatures : ℕ → Signature) where
   unfoldable mutual
@@ -140,19 +165,15 @@ module _ (signatures : ℕ → Signature) where
     pub check : Expr → Depths → ℕ → Checked
     check (number z) Γ p = record { depth = some 0; faults = [] }
     check (name x) Γ p = record { depth = Γ x; faults = [] }
-    check (operation o a b) Γ p = node p number-rule (check a Γ (p + 1) ∷ check b Γ (p + 1 + size a) ∷ [])
     check (let-in x a b) Γ p =
         let c = check a Γ (p + 1) in
         node p let-rule (c ∷ check b (updated Γ x (c .depth)) (p + 1 + size a) ∷ [])
-    check (call f es) Γ p = node p (call-rule (signatures f)) (checks es Γ (p + 1))
-    check (literal d es) Γ p = node p (literal-rule d) (checks es Γ (p + 1))
-    check (index a b) Γ p = node p index-rule (check a Γ (p + 1) ∷ check b Γ (p + 1 + size a) ∷ [])
-    check (length-of a) Γ p = node p length-rule (check a Γ (p + 1) ∷ [])
+    check (leaf l es) Γ p = node p (leaf-rule signatures l) (checks es Γ (p + 1))
     check (if-else a b c) Γ p =
         node p if-rule (check a Γ (p + 1) ∷ check b Γ (p + 1 + size a) ∷ check c Γ (p + 1 + size a + size b) ∷ [])
-    check (map-over x a b) Γ p =
-        let c = check a Γ (p + 1) in
-        map-node p c (check b (updated Γ x (element (c .depth))) (p + 1 + size a))
+    check (loop k xs es b) Γ p =
+        let cs = checks es Γ (p + 1) in
+        loop-node p k cs (check b (depths-with xs (pass-depths k cs) Γ) (p + 1 + sizes es))
 
     pub checks : Exprs → Depths → ℕ → List Checked
     checks S.none Γ p = []

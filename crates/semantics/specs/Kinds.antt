@@ -1,0 +1,86 @@
+-- The kinds of nodes and lines that are not numbers, names, lets or ifs: leaves, which work no tree, and loops, which
+-- work one tree a pass. What a new kind says of itself stands here.
+use Prim.Native.Nat.{ℕ, zero, suc, _+_, _*_}
+use mathlib.Core.Bool.{Bool, true, false}
+use mathlib.Core.List.{List, [], _∷_}
+use Rattle.semantics.specs.Number.{Operation, sum, difference, less}
+
+pub data Leaf : Type 0 where
+  operation : Operation → Leaf
+  call : ℕ → Leaf
+  literal : ℕ → Leaf
+  index length-of : Leaf
+
+pub data Loop : Type 0 where
+  mapping : Loop
+
+abbrev pub operation-kind : Operation → ℕ
+operation-kind sum = 4
+operation-kind difference = 5
+operation-kind less = 6
+
+abbrev pub leaf-kind : Leaf → ℕ
+leaf-kind (operation o) = operation-kind o
+leaf-kind (call f) = 8
+leaf-kind (literal d) = 9
+leaf-kind index = 10
+leaf-kind length-of = 11
+
+abbrev pub loop-kind : Loop → ℕ
+loop-kind mapping = 13
+
+-- the operand of a leaf's line that binds x and has n atoms
+abbrev pub leaf-operand : Leaf → ℕ → ℕ → ℕ
+leaf-operand (operation o) x n = x
+leaf-operand (call f) x n = x + 256 * f
+leaf-operand (literal d) x n = x + 256 * n + 65536 * d
+leaf-operand index x n = x
+leaf-operand length-of x n = x
+
+-- names packed in an operand, the first lowest
+abbrev pub packed-names : List ℕ → ℕ
+packed-names [] = 0
+packed-names (x ∷ xs) = x + 256 * packed-names xs
+
+module _ {A : Type 0} where
+  abbrev pub later-parts : List A → List A
+  later-parts [] = []
+  later-parts (a ∷ l) = l
+
+  -- of a leaf's parts those that are handed over; the others are read
+  abbrev pub leaf-hands : Leaf → List A → List A
+  leaf-hands (operation o) us = []
+  leaf-hands (call f) us = us
+  leaf-hands (literal d) us = us
+  leaf-hands index us = []
+  leaf-hands length-of us = []
+
+  abbrev pub leaf-reads : Leaf → List A → List A
+  leaf-reads (operation o) us = us
+  leaf-reads (call f) us = []
+  leaf-reads (literal d) us = []
+  leaf-reads index us = us
+  leaf-reads length-of us = us
+
+  -- of a loop's parts before its body those that are handed over; it reads the others, its array among them
+  abbrev pub loop-hands : Loop → List A → List A
+  loop-hands mapping us = []
+
+  abbrev pub loop-reads : Loop → List A → List A
+  loop-reads mapping us = us
+
+  -- the element's name among the names of a pass
+  abbrev pub element-name : Loop → List A → List A
+  element-name mapping ps = ps
+
+-- a loop that takes a cell for its result before its passes
+abbrev pub takes-cell : Loop → Bool
+takes-cell mapping = true
+
+-- an index gives a word that holds nothing yet
+abbrev pub is-pending : Leaf → Bool
+is-pending (operation o) = false
+is-pending (call f) = false
+is-pending (literal d) = false
+is-pending index = true
+is-pending length-of = false
