@@ -103,10 +103,3 @@ agree-binding (x ∷ xs) vs {μ} {δ} {ρ} n g =
       same = more .same;
       below = λ y. below-more (meaning-names xs (suc n) (updated μ x (name n)) y) (omega arith) (more .below y);
     }
-
--- and names below theirs keep their values
-pub kept-binding : (xs : List ℕ) (vs : List Value) (δ : Env) (n : ℕ) → Kept δ (binding (numbered xs n) vs δ) n
-kept-binding [] vs δ n y h = refl
-kept-binding (x ∷ xs) vs δ n y h =
-    kept-binding xs (later-parts vs) (updated δ n (argument vs 0)) (suc n) y (omega arith)
-    ∙ updated-other δ n (argument vs 0) y (λ e. omega arith)
