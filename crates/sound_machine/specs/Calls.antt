@@ -57,7 +57,7 @@ pub record ProgramDisciplined (p : Program) : Type 0 where
   pub takes : p .signatures 0 .parameters ≡ p .depth ∷ (1 ∷ [])
   pub gives : p .signatures 0 .result ≡ p .depth
 
--- what the rule for a dry tank asks of a program
+-- what is asked of a program for every taken cell to be in use where none is free
 abbrev pub ProgramFrugal : Program → Type 0
 ProgramFrugal p = (f : ℕ) → f < length (p .routines) → FunctionFrugal p f
 
