@@ -1,4 +1,5 @@
--- The reader never goes past the node after the last: so a refusal 3 to 5 gives a node up to N.
+-- The reader never goes past the node after the last: so a refusal 3 to 5 gives a node up to N. Each refusal of a file
+-- by itself has a number from 1 to 5.
 use Prim.Native.Nat.{ℕ, zero, suc, _+_, _*_, _<_, _≤_}
 use native.Mathlib.Omega.{arith}
 use mathlib.Core.Bool.{Bool, true, false, cond, _&&_}
@@ -18,18 +19,24 @@ use Rattle.semantics.specs.File.{Head, Node, fits, wrong-kind, wrong-operand, n
 use Rattle.semantics.specs.File.{parts}
 use Rattle.semantics.specs.File.{node-at, look, part, parameter, function, finish, script, between, read-file}
 
--- the node at which a run ends or stops
-abbrev pub place-of : {A : Type 0} → Outcome ℕ A → ℕ
-place-of (done a p) = p
-place-of (stop n p) = p
+-- a refusal at a node up to N, with one of the reader's numbers
+pub record Refuses (N n p : ℕ) : Type 0 where
+  pub place : p ≤ N
+  pub low : 0 < n
+  pub high : n ≤ 5
+
+-- a run that ends at a node up to N, or refuses there
+abbrev pub Ends : (N : ℕ) {A : Type 0} → Outcome ℕ A → Type 0
+Ends N (done a p) = p ≤ N
+Ends N (stop n p) = Refuses N n p
 
 module _ (N : ℕ) where
   -- from a node up to N it comes to one up to N
   pub record Stays {A : Type 0} (m : Read A) : Type 0 where
-    pub stays : (p : ℕ) → p ≤ N → place-of (m p) ≤ N
+    pub stays : (p : ℕ) → p ≤ N → Ends N (m p)
 
-  onward-stays : {A B : Type 0} (f : A → Read B) → ((a : A) → Stays (f a)) → (o : Outcome ℕ A) → place-of o ≤ N →
-      place-of (onward f o) ≤ N
+  onward-stays : {A B : Type 0} (f : A → Read B) → ((a : A) → Stays (f a)) → (o : Outcome ℕ A) → Ends N o →
+      Ends N (onward f o)
   unfolding onward
   onward-stays f h (done a p) e = h a .stays p e
   onward-stays f h (stop n p) e = e
@@ -40,8 +47,8 @@ module _ (N : ℕ) where
   pub give-stays : {A : Type 0} (a : A) → Stays (give a)
   give-stays a = record { stays = λ p e. e }
 
-  pub halt-stays : {A : Type 0} (n : ℕ) → Stays {A = A} (halt n)
-  halt-stays n = record { stays = λ p e. e }
+  pub halt-stays : {A : Type 0} (n : ℕ) → 0 < n → n ≤ 5 → Stays {A = A} (halt n)
+  halt-stays n low high = record { stays = λ p e. record { place = e; low = low; high = high } }
 
   pub times-stays : {A : Type 0} (n : ℕ) {m : Read A} → Stays m → Stays (times n m)
   unfolding times
@@ -56,9 +63,12 @@ module _ (N : ℕ) where
       two : (f : Expr → Expr → Expr) → Stays (do a ← m; b ← m; give (f a b))
       two f = then-stays s (λ a. then-stays s (λ b. give-stays (f a b)))
 
+      misplaced : Stays {A = Expr} (halt 3)
+      misplaced = halt-stays 3 (omega arith) (omega arith)
+
       by : (k : ℕ) → Stays (getD (by-kind m h) k (halt 3))
-      by zero = halt-stays 3
-      by (suc zero) = halt-stays 3
+      by zero = misplaced
+      by (suc zero) = misplaced
       by (suc (suc zero)) = give-stays _
       by (suc (suc (suc zero))) = give-stays _
       by (suc (suc (suc (suc zero)))) = two (λ a b. operation sum a b)
@@ -73,7 +83,7 @@ module _ (N : ℕ) where
       by (suc (suc (suc (suc (suc (suc (suc (suc (suc (suc (suc (suc zero)))))))))))) =
           then-stays s (λ a. then-stays s (λ b. then-stays s (λ c. give-stays _)))
       by (suc (suc (suc (suc (suc (suc (suc (suc (suc (suc (suc (suc (suc zero))))))))))))) = two (λ a b. map-over (h .low) a b)
-      by (suc (suc (suc (suc (suc (suc (suc (suc (suc (suc (suc (suc (suc (suc k)))))))))))))) = halt-stays 3
+      by (suc (suc (suc (suc (suc (suc (suc (suc (suc (suc (suc (suc (suc (suc k)))))))))))))) = misplaced
 
 -- ---- the file's nodes
 
@@ -92,6 +102,9 @@ module _ (kinds operands : List ℕ) where
       not-both (leb a 255) h
       (rw (List·getD-eq-default kinds 255 {n = p} past, lt-leb 255 b (omega arith)) at e)
 
+  refusing : {p : ℕ} (n : ℕ) → 0 < n → n ≤ 5 → p ≤ nodes → Refuses nodes n p
+  refusing n low high e = record { place = e; low = low; high = high }
+
   -- looking at a node and going on to the next
   pub look-next : {A : Type 0} (a b : ℕ) → b ≤ 13 → (f : Head → Read A) → ((h : Head) → Stays nodes (f h)) →
       Stays nodes (look kinds operands a b >>= λ h. next >> f h)
@@ -99,13 +112,13 @@ module _ (kinds operands : List ℕ) where
   look-next a b small f g = record { stays = λ p e. by p (node-at kinds operands a b p) refl e }
     where
       by : (p : ℕ) (n : Node) → node-at kinds operands a b p ≡ n → p ≤ nodes →
-          place-of (onward (λ h. next >> f h) (looked n p)) ≤ nodes
+          Ends nodes (onward (λ h. next >> f h) (looked n p))
       by p (fits h) q e = elim (decLt p nodes) [
         | yes l ↦ g h .stays (suc p) l
         | no l ↦ absurd (none-past a b p h small (omega (arith, l)) q)
       ]
-      by p wrong-kind q e = e
-      by p wrong-operand q e = e
+      by p wrong-kind q e = refusing 3 (omega arith) (omega arith) e
+      by p wrong-operand q e = refusing 4 (omega arith) (omega arith) e
 
   -- looking alone
   look-stays : {A : Type 0} (a b : ℕ) (f : Head → Read A) → ((h : Head) → Stays nodes (f h)) →
@@ -113,14 +126,14 @@ module _ (kinds operands : List ℕ) where
   unfolding look onward
   look-stays a b f g = record { stays = λ p e. by p (node-at kinds operands a b p) e }
     where
-      by : (p : ℕ) (n : Node) → p ≤ nodes → place-of (onward f (looked n p)) ≤ nodes
+      by : (p : ℕ) (n : Node) → p ≤ nodes → Ends nodes (onward f (looked n p))
       by p (fits h) e = g h .stays p e
-      by p wrong-kind e = e
-      by p wrong-operand e = e
+      by p wrong-kind e = refusing 3 (omega arith) (omega arith) e
+      by p wrong-operand e = refusing 4 (omega arith) (omega arith) e
 
   part-stays : (levels : ℕ) → Stays nodes (part kinds operands levels)
   unfolding part
-  part-stays zero = look-stays 2 13 (λ h. halt 5) (λ h. halt-stays nodes 5)
+  part-stays zero = look-stays 2 13 (λ h. halt 5) (λ h. halt-stays nodes 5 (omega arith) (omega arith))
   part-stays (suc levels) =
       look-next 2 13 (omega arith) (parts (part kinds operands levels)) (parts-stay nodes (part-stays levels))
 
@@ -139,8 +152,8 @@ module _ (kinds operands : List ℕ) where
   unfolding finish
   finish-stays = record { stays = λ p e. by (ltb p nodes) p e }
     where
-      by : (t : Bool) (p : ℕ) → p ≤ nodes → place-of {A = Unit {0}} (cond t (stop 3 p) (done tt p)) ≤ nodes
-      by true p e = e
+      by : (t : Bool) (p : ℕ) → p ≤ nodes → Ends nodes {A = Unit {0}} (cond t (stop 3 p) (done tt p))
+      by true p e = refusing 3 (omega arith) (omega arith) e
       by false p e = e
 
   pub script-stays : (count : ℕ) → Stays nodes (script kinds operands count)
@@ -149,9 +162,9 @@ module _ (kinds operands : List ℕ) where
       (λ fs. then-stays nodes finish-stays (λ _. give-stays nodes fs))
 
 -- a file is refused by 1 to 5 at a node up to 1,024
-pub read-place : (file : List ℕ) → place-of (read-file file) ≤ 1024
+pub read-ends : (file : List ℕ) → Ends 1024 (read-file file)
 unfolding read-file
-read-place file = short (ltb (length file) 4)
+read-ends file = short (ltb (length file) 4)
   where
     count : ℕ
     count = bytes-at 2 file 2
@@ -162,27 +175,36 @@ read-place file = short (ltb (length file) 4)
     operands : List ℕ
     operands = drop (4 + count) file
 
-    long : (t : Bool) → count ≤ 1024 →
-        place-of {A = Script} (cond t (script kinds operands (bytes-at 2 file 0) 0) (stop 1 0)) ≤ 1024
-    long true few =
-        let s = script-stays kinds operands (bytes-at 2 file 0) .stays 0 (omega arith) in
-        omega (arith, s, length-take count (drop 4 file), few)
-    long false few = omega arith
+    unread : (n : ℕ) → 0 < n → n ≤ 5 → Refuses 1024 n 0
+    unread n low high = record { place = omega arith; low = low; high = high }
 
-    sized : (t : Bool) → (between 1 32 (bytes-at 2 file 0) && between 1 1024 count) ≡ t → place-of {A = Script}
+    within : count ≤ 1024 → (o : Outcome ℕ Script) → Ends (length kinds) o → Ends 1024 o
+    within few (done fs p) e = omega (arith, e, length-take count (drop 4 file), few)
+    within few (stop n p) e = record {
+      place = omega (arith, e .place, length-take count (drop 4 file), few);
+      low = e .low;
+      high = e .high;
+    }
+
+    long : (t : Bool) → count ≤ 1024 → Ends 1024 {A = Script} (cond t (script kinds operands (bytes-at 2 file 0) 0) (stop 1 0))
+    long true few = within few (script kinds operands (bytes-at 2 file 0) 0)
+        (script-stays kinds operands (bytes-at 2 file 0) .stays 0 (omega arith))
+    long false few = unread 1 (omega arith) (omega arith)
+
+    sized : (t : Bool) → (between 1 32 (bytes-at 2 file 0) && between 1 1024 count) ≡ t → Ends 1024 {A = Script}
         (cond t (cond (eqb (length file) (4 + 9 * count)) (script kinds operands (bytes-at 2 file 0) 0) (stop 1 0))
-        (stop 2 0)) ≤ 1024
+        (stop 2 0))
     sized true e =
         let few = both-hold (leb 1 count) (leb count 1024)
         (both-hold (between 1 32 (bytes-at 2 file 0)) (between 1 1024 count) e .1) .1 in
         long (eqb (length file) (4 + 9 * count)) (leb-true count 1024 few)
-    sized false e = omega arith
+    sized false e = unread 2 (omega arith) (omega arith)
 
-    short : (t : Bool) → place-of {A = Script} (cond t (stop 1 0)
+    short : (t : Bool) → Ends 1024 {A = Script} (cond t (stop 1 0)
         (cond (between 1 32 (bytes-at 2 file 0) && between 1 1024 count)
         (cond (eqb (length file) (4 + 9 * count)) (script kinds operands (bytes-at 2 file 0) 0) (stop 1 0))
-        (stop 2 0))) ≤ 1024
-    short true = omega arith
+        (stop 2 0)))
+    short true = unread 1 (omega arith) (omega arith)
     short false = sized (between 1 32 (bytes-at 2 file 0) && between 1 1024 count) refl
 
 -- ---- how many nodes are read

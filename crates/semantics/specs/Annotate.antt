@@ -15,6 +15,7 @@ use Rattle.semantics.specs.Live.{after-pass}
 
 -- ---- the depths of a function's new names
 
+-- the depth of each new name
 abbrev pub NameDepths : Type 0
 NameDepths = ℕ → ℕ
 
@@ -25,10 +26,12 @@ atom-depth Γ (name x) = Γ x
 -- over the result depths of the script's functions
 module _ (results : ℕ → ℕ) where
   unfoldable mutual
+    -- with the depths of all names that a tree binds, in the trees of its lines too
     pub tree-depths : Tree → NameDepths → NameDepths
     tree-depths (end a) Γ = Γ
     tree-depths (line l t) Γ = tree-depths t (line-depths l Γ)
 
+    -- with those of a line: what it gives goes by its atoms, or by the atom that its tree gives
     pub line-depths : Line → NameDepths → NameDepths
     line-depths (operation x o a b) Γ = updated Γ x 0
     line-depths (call x f us) Γ = updated Γ x (results f)

@@ -21,3 +21,4 @@ pub mod Demands
 pub mod Computing
 pub mod Trials
 pub mod Slips
+pub mod Watched

@@ -6,6 +6,7 @@ use mathlib.Core.Path.{_≡_, refl, sym, ap}
 use mathlib.Core.Logic.{inl, inr}
 use mathlib.Core.List.{List, [], _∷_, _++_}
 use lib.IntN.{ℤ, pos}
+use borrow.Author.Tests.{eq-eqb}
 use Rattle.semantics.specs.Outcome.{Run, onward}
 use Rattle.semantics.specs.Value.{Value}
 use Rattle.semantics.specs.Live.{Set, members}
@@ -14,11 +15,12 @@ use Rattle.semantics.specs.Meaning.{Meter, Env, step-wants}
 use Rattle.semantics.specs.Machine.{acquires, State, Frame, with-store, with-roots, held, acquire, acquire-if}
 use Rattle.semantics.specs.Store.{Store, cell, cell-count, cell-of, filled, has-free, acquired}
 use Rattle.semantics.specs.Sound.{free-list}
-use Rattle.semantics.specs.Demands.{value-of, touched, replayed, tail, OutOfCells}
+use Rattle.semantics.specs.Demands.{value-of, touched, replayed, OutOfCells}
 use Rattle.sound_base.specs.Lists.{_⊆_}
 use Rattle.sound_machine.specs.Discipline.{Covered}
 use Rattle.sound_base.specs.Invariant.{Stands}
 use Rattle.sound_store.specs.Counting.{append-cases, in-append-left, in-append-right}
+use Rattle.sound_store.specs.Acquire.{none-left}
 use Rattle.sound_store.specs.Kept.{reached, reached-more}
 use Rattle.sound_machine.specs.Images.{image-subset, member}
 use Rattle.sound_machine.specs.Growth.{Grows}
@@ -58,6 +60,7 @@ pub out-of-cells : {C : Setting} {Z F R H P : List ℕ} {ρ : Frame} {δ : Env} 
 unfolding with-roots
 out-of-cells {C} {Z} {F} {R} {H} {P} {ρ} s A S covered e = record {
   none-free = e;
+  all-taken = λ c h. none-left (S .invariant) e c h;
   in-use = λ c h. reached-more (s .store) (Z ++ (hold ρ H ++ F)) (R ++ held (C .depths) A ρ)
       (roots-cover C Z F R H A ρ (S .rooted) covered) c (reached (S .invariant) c h);
 }
@@ -72,7 +75,8 @@ pub acquire-together : {start : Start} {s : State} {m : Meter} (d : ℕ) (ws : L
     Together start (after-acquire d ws s) m
 unfolding touched replayed
 acquire-together {s = s} d ws e g t =
-    with-store-together (acquired d ws (s .store)) (acquires (s .store .first) ∷ []) refl (sym (ap tail e)) g t
+    with-store-together (acquired d ws (s .store)) (acquires (s .store .first) ∷ []) refl
+    (rw (e, eq-eqb (s .store .first) (s .store .first) refl) refl) g t
 
 -- a cell is acquired, which the last step's node wants
 pub acquire-agrees : {start : Start} {A B : Type 0} {Q : A → State → B → Meter → Type 0} {s : State} {m : Meter}

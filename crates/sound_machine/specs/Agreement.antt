@@ -4,6 +4,7 @@ use Prim.Native.Nat.{ℕ, zero, suc, _+_, _-_, _≤_}
 use native.Mathlib.Omega.{arith}
 use mathlib.Core.Bool.{Bool, true, false}
 use mathlib.Core.Path.{_≡_, refl, sym, ap, _∙_, subst}
+use mathlib.Core.Option.{some}
 use mathlib.Core.List.{List, [], _∷_}
 use lib.ListN.{length}
 use borrow.Author.Tests.{eq-eqb}
@@ -26,7 +27,7 @@ pub record Start : Type 0 where
 -- No free cell was touched, and the log alone leads from the free list at the start to the one of now.
 pub record Clean (start : Start) (s : State) : Type 0 where
   pub untouched : touched (s .log) ≡ []
-  pub replays : free-list (s .store) ≡ replayed (s .log) (free-list (start .store))
+  pub replays : some (free-list (s .store)) ≡ replayed (s .log) (some (free-list (start .store)))
   pub cells : cell-count (s .store) ≡ cell-count (start .store)
 
 -- The machine and the meter at one point: the same steps left, the trace one entry for each step taken.
@@ -153,7 +154,7 @@ after-test k f g false false e low high t next = same {k = k} record {
 
 -- the store changes by clean events
 pub with-store-together : {start : Start} {s : State} {m : Meter} (σ : Store) (events : List Event) →
-    touched events ≡ [] → free-list σ ≡ replayed events (free-list (s .store)) → cell-count σ ≡ cell-count (s .store) →
+    touched events ≡ [] → some (free-list σ) ≡ replayed events (some (free-list (s .store))) → cell-count σ ≡ cell-count (s .store) →
     Together start s m → Together start (with-store s σ events) m
 unfolding with-store
 with-store-together {start} {s} σ events e f g t = record {
@@ -162,7 +163,7 @@ with-store-together {start} {s} σ events e f g t = record {
   clean = record {
     untouched = untouched-append (s .log) events (t .clean .untouched) e;
     replays = f ∙ ap (replayed events) (t .clean .replays)
-        ∙ sym (replayed-append (s .log) events (free-list (start .store)));
+        ∙ sym (replayed-append (s .log) events (some (free-list (start .store))));
     cells = g ∙ t .clean .cells;
   };
 }

@@ -24,7 +24,7 @@ use Rattle.sound_store.specs.Counting.{in-append-left, in-append-right}
 use Rattle.sound_store.specs.Change.{held-used}
 use Rattle.sound_store.specs.Rest.{Rests, rests-stands}
 use Rattle.sound_store.specs.Kept.{stands-kept, alike-trans, reached}
-use Rattle.sound_store.specs.Acquire.{Acquires}
+use Rattle.sound_store.specs.Acquire.{Acquires, none-left}
 use Rattle.sound_store.specs.Acquire as Store-acquire
 use Rattle.sound_normal.specs.Running.{running-is-meaning}
 use Rattle.sound_machine.specs.Images.{one-more}
@@ -101,7 +101,11 @@ module _ (fs : Script) (disciplined : ScriptDisciplined fs) (shape : signatures-
   none-free : has-free σ ≡ false → Delivers start d (stop 25 (with-roots (starting budget σ) held))
       meant
   unfolding with-roots starting touched replayed
-  none-free e = runs-dry (record { none-free = e; in-use = λ c h. reached (rests .holds) c h })
+  none-free e = runs-dry (record {
+    none-free = e;
+    all-taken = λ c h. none-left (rests .holds) e c h;
+    in-use = λ c h. reached (rests .holds) c h;
+  })
       (record { untouched = refl; replays = refl; cells = refl })
       (let none-taken : 0 ≡ budget - budget = omega arith in
       subst (λ (k : ℕ). wants-cell k meant ≡ true) none-taken refl)
@@ -208,5 +212,5 @@ pub delivers-does : {start : Start} {d : ℕ} {o : Outcome State (Unit {0})} {p 
     Delivers start d o p → Does d (start .budget) o p
 delivers-does (finishes q) = (q .left, q .value)
 delivers-does (stops q) = inl (q .number, q .left)
-delivers-does (runs-dry {p = done v m} out clean wants) = (refl, wants)
-delivers-does (runs-dry {p = stop n m} out clean wants) = inr (refl, wants)
+delivers-does (runs-dry {p = done v m} out clean wants) = (refl, wants, out)
+delivers-does (runs-dry {p = stop n m} out clean wants) = inr (refl, wants, out)
