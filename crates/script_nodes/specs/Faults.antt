@@ -10,14 +10,13 @@ use lib.ListN.{length}
 use lib.Dec.{ltb, leb, eqb}
 use Rattle.semantics.specs.Basics.{with-if, occurrences, _∈_, updated}
 use Rattle.semantics.specs.Syntax as S
-use Rattle.semantics.specs.Syntax.{Expr, number, name, operation, let-in, call, literal, index, length-of, if-else}
-use Rattle.semantics.specs.Syntax.{map-over, Exprs, size, sizes, Parameter, Function, Script, function-size}
-use Rattle.semantics.specs.Names.{Scope, unknown, unknowns, unknown-from, unknown-in}
-use Rattle.semantics.specs.Types as T
-use Rattle.semantics.specs.Types.{Checked, Depths, Rule, Signature, node, map-node, part-faults, breaks, part-depths}
-use Rattle.semantics.specs.Types.{is-number, element, check, checks, check-function, function-faults, parameter-depths}
-use Rattle.semantics.specs.Types.{number-rule, let-rule, call-rule, literal-rule, index-rule, length-rule, if-rule}
-use Rattle.semantics.specs.Types.{map-rule, result-rule}
+use Rattle.semantics.specs.Kinds.{Loop}
+use Rattle.semantics.specs.Syntax.{Expr, number, name, let-in, leaf, if-else, loop, Exprs, size, sizes, Parameter}
+use Rattle.semantics.specs.Syntax.{Function, Script, function-size}
+use Rattle.semantics.specs.Names.{Scope, scope-with, calls-none, unknown, unknowns, unknown-from, unknown-in}
+use Rattle.semantics.specs.Types.{Checked, Depths, Rule, Signature, node, loop-node, part-faults, breaks, part-depths}
+use Rattle.semantics.specs.Types.{is-number, array-depth, pass-depths, depths-with, check, checks, check-function}
+use Rattle.semantics.specs.Types.{function-faults, parameter-depths, let-rule, leaf-rule, if-rule, loop-rule, result-rule}
 use Rattle.semantics.specs.Normal.{fresh, too-many-names-from}
 use Rattle.sound_base.specs.Lists.{occurrences-append, hits}
 use Rattle.script_nodes.specs.Reading.{total}
@@ -56,23 +55,17 @@ module _ (functions : ℕ) where
     names-below : (e : Expr) (known : Scope) (p b : ℕ) → p + size e ≤ b → Below (unknown functions e known p) b
     names-below (number z) known p b h = none-below b
     names-below (name x) known p b h = with-below (not (known x)) p [] (omega (arith, h)) (none-below b)
-    names-below (operation o x y) known p b h = append-below _ _
-        (names-below x known (p + 1) b (omega (arith, h))) (names-below y known (p + 1 + size x) b (omega (arith, h)))
     names-below (let-in z x y) known p b h = append-below _ _
         (names-below x known (p + 1) b (omega (arith, h)))
         (names-below y (updated known z true) (p + 1 + size x) b (omega (arith, h)))
-    names-below (call f es) known p b h =
-        with-below (leb functions f) p _ (omega (arith, h)) (all-names-below es known (p + 1) b (omega (arith, h)))
-    names-below (literal d es) known p b h = all-names-below es known (p + 1) b (omega (arith, h))
-    names-below (index x y) known p b h = append-below _ _
-        (names-below x known (p + 1) b (omega (arith, h))) (names-below y known (p + 1 + size x) b (omega (arith, h)))
-    names-below (length-of x) known p b h = names-below x known (p + 1) b (omega (arith, h))
+    names-below (leaf l es) known p b h = with-below (calls-none functions l) p _ (omega (arith, h))
+        (all-names-below es known (p + 1) b (omega (arith, h)))
     names-below (if-else x y z) known p b h = append-below _ _ (names-below x known (p + 1) b (omega (arith, h)))
         (append-below _ _ (names-below y known (p + 1 + size x) b (omega (arith, h)))
         (names-below z known (p + 1 + size x + size y) b (omega (arith, h))))
-    names-below (map-over z x y) known p b h = append-below _ _
-        (names-below x known (p + 1) b (omega (arith, h)))
-        (names-below y (updated known z true) (p + 1 + size x) b (omega (arith, h)))
+    names-below (loop k xs es y) known p b h = append-below _ _
+        (all-names-below es known (p + 1) b (omega (arith, h)))
+        (names-below y (scope-with xs known) (p + 1 + sizes es) b (omega (arith, h)))
 
     all-names-below : (es : Exprs) (known : Scope) (p b : ℕ) → p + sizes es ≤ b → Below (unknowns functions es known p) b
     all-names-below S.none known p b h = none-below b
@@ -130,15 +123,21 @@ node-below p r cs h k = with-below (breaks r (part-depths cs)) p (part-faults cs
 front-below : {b : ℕ} (p : ℕ) (l : List ℕ) → p < b → Below l b → Below (p ∷ l) b
 front-below p l h k = with-below true p l h k
 
-map-below : {b : ℕ} (p : ℕ) (x y : Checked) → p < b → Below (x .faults) b → Below (y .faults) b →
-    Below (map-node p x y .faults) b
-unfolding map-node
-map-below {b} p x y h k l = by (is-number (x .depth))
+-- parts and one more
+all-below : {b : ℕ} (cs : List Checked) (y : Checked) → AllBelow cs b → Below (y .faults) b → AllBelow (cs ++ (y ∷ [])) b
+all-below [] y h k = (k, tt)
+all-below (c ∷ cs) y h k = (h .0, all-below cs y (h .1) k)
+
+loop-below : {b : ℕ} (p : ℕ) (k : Loop) (cs : List Checked) (y : Checked) → p < b → AllBelow cs b →
+    Below (y .faults) b → Below (loop-node p k cs y .faults) b
+unfolding loop-node
+loop-below {b} p k cs y h parts body = by (is-number (array-depth k cs))
   where
-    by : (t : Bool) → Below (cond t (record { depth = none; faults = p ∷ (x .faults ++ y .faults) })
-        (node p map-rule (x ∷ y ∷ [])) .faults) b
-    by true = front-below p (x .faults ++ y .faults) h (append-below (x .faults) (y .faults) k l)
-    by false = node-below p map-rule (x ∷ y ∷ []) h (k, (l, tt))
+    by : (t : Bool) → Below (cond t (record { depth = none; faults = p ∷ (part-faults cs ++ y .faults) })
+        (node p (loop-rule k) (cs ++ (y ∷ []))) .faults) b
+    by true = front-below p (part-faults cs ++ y .faults) h
+        (append-below (part-faults cs) (y .faults) (parts-below cs parts) body)
+    by false = node-below p (loop-rule k) (cs ++ (y ∷ [])) h (all-below cs y parts body)
 
 module _ (signatures : ℕ → Signature) where
   mutual
@@ -147,20 +146,12 @@ module _ (signatures : ℕ → Signature) where
     types-below : (e : Expr) (Γ : Depths) (p b : ℕ) → p + size e ≤ b → Below (check signatures e Γ p .faults) b
     types-below (number z) Γ p b h = none-below b
     types-below (name x) Γ p b h = none-below b
-    types-below (operation o x y) Γ p b h = node-below p number-rule _ (omega (arith, h))
-        (types-below x Γ (p + 1) b (omega (arith, h)), (types-below y Γ (p + 1 + size x) b (omega (arith, h)), tt))
     types-below (let-in z x y) Γ p b h = node-below p let-rule _ (omega (arith, h)) (
       types-below x Γ (p + 1) b (omega (arith, h)),
       (types-below y (updated Γ z (check signatures x Γ (p + 1) .depth)) (p + 1 + size x) b (omega (arith, h)), tt),
     )
-    types-below (call f es) Γ p b h = node-below p (call-rule (signatures f)) _ (omega (arith, h))
+    types-below (leaf l es) Γ p b h = node-below p (leaf-rule signatures l) _ (omega (arith, h))
         (all-types-below es Γ (p + 1) b (omega (arith, h)))
-    types-below (literal d es) Γ p b h = node-below p (literal-rule d) _ (omega (arith, h))
-        (all-types-below es Γ (p + 1) b (omega (arith, h)))
-    types-below (index x y) Γ p b h = node-below p index-rule _ (omega (arith, h))
-        (types-below x Γ (p + 1) b (omega (arith, h)), (types-below y Γ (p + 1 + size x) b (omega (arith, h)), tt))
-    types-below (length-of x) Γ p b h = node-below p length-rule _ (omega (arith, h))
-        (types-below x Γ (p + 1) b (omega (arith, h)), tt)
     types-below (if-else x y z) Γ p b h = node-below p if-rule _ (omega (arith, h)) (
       types-below x Γ (p + 1) b (omega (arith, h)),
       (
@@ -168,9 +159,10 @@ module _ (signatures : ℕ → Signature) where
         (types-below z Γ (p + 1 + size x + size y) b (omega (arith, h)), tt),
       ),
     )
-    types-below (map-over z x y) Γ p b h = map-below p (check signatures x Γ (p + 1)) _ (omega (arith, h))
-        (types-below x Γ (p + 1) b (omega (arith, h)))
-        (types-below y (updated Γ z (element (check signatures x Γ (p + 1) .depth))) (p + 1 + size x) b (omega (arith, h)))
+    types-below (loop k xs es y) Γ p b h = loop-below p k (checks signatures es Γ (p + 1)) _ (omega (arith, h))
+        (all-types-below es Γ (p + 1) b (omega (arith, h)))
+        (types-below y (depths-with xs (pass-depths k (checks signatures es Γ (p + 1))) Γ) (p + 1 + sizes es) b
+        (omega (arith, h)))
 
     all-types-below : (es : Exprs) (Γ : Depths) (p b : ℕ) → p + sizes es ≤ b → AllBelow (checks signatures es Γ p) b
     all-types-below S.none Γ p b h = tt

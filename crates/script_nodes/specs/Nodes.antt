@@ -1,4 +1,4 @@
--- A refusal 1 to 8 gives a node up to 1,024: so it fits its place in the answer.
+-- A refusal of a file has a number from 1 to 8 and gives a node up to 1,024: so both fit their places in the answer.
 use Prim.Native.Nat.{ℕ, zero, suc, _+_, _<_, _≤_}
 use native.Mathlib.Omega.{arith}
 use mathlib.Core.Path.{_≡_, refl, sym, subst}
@@ -14,7 +14,7 @@ use Rattle.semantics.specs.Types.{type-faults, signatures-of, main-shape}
 use Rattle.semantics.specs.Normal.{too-many-names}
 use Rattle.semantics.specs.Calls.{Verdict, accepted, refused, judged, judged-read, judged-script, Faulty, Faulty-read}
 use Rattle.semantics.specs.Calls.{Faulty-in}
-use Rattle.script_nodes.specs.Reading.{place-of, After, total, read-place, read-takes}
+use Rattle.script_nodes.specs.Reading.{Ends, After, total, read-ends, read-takes}
 use Rattle.script_nodes.specs.Faults.{Below, unknown-below, functions-below, crowd-below}
 
 same-node : (m q n p : ℕ) → refused m q ≡ refused n p → q ≡ p
@@ -38,11 +38,30 @@ module _ (node n p : ℕ) where
       by [] a (x ∷ m) b o c f e = omega (arith, b .under node f, same-node 7 node n p e)
       by (x ∷ l) a m b o c f e = omega (arith, a .under node f, same-node 6 node n p e)
 
-  by-reading : (o : Outcome ℕ Script) → place-of o ≤ 1024 → After (λ fs q. q ≡ total function-size fs) o →
+  by-reading : (o : Outcome ℕ Script) → Ends 1024 o → After (λ fs q. q ≡ total function-size fs) o →
       Faulty-read node o → judged-read node o ≡ refused n p → p ≤ 1024
   by-reading (done fs q) small takes f e = by-script fs (omega (arith, small, takes)) f e
-  by-reading (stop m q) small takes f e = omega (arith, small, same-node m q n p e)
+  by-reading (stop m q) small takes f e = omega (arith, small .place, same-node m q n p e)
 
   pub refused-node : (file : List ℕ) → Faulty file node → judged node file ≡ refused n p → p ≤ 1024
   unfolding judged
-  refused-node file f e = by-reading (read-file file) (read-place file) (read-takes file) f e
+  refused-node file f e = by-reading (read-file file) (read-ends file) (read-takes file) f e
+
+-- a verdict that is a refusal has a number from 1 to 8
+abbrev pub Numbered : Verdict → Type 0
+Numbered (accepted fs) = Unit {0}
+Numbered (refused n p) = (0 < n) × (n ≤ 8)
+
+pub judged-numbered : (node : ℕ) (file : List ℕ) → Numbered (judged node file)
+unfolding judged
+judged-numbered node file = by (read-file file) (read-ends file)
+  where
+    faults : (fs : Script) (l m : List ℕ) (o : Option ℕ) → Numbered (judged-script node fs l m o)
+    faults fs [] [] none = tt
+    faults fs [] [] (some p) = (omega arith, omega arith)
+    faults fs [] (q ∷ m) o = (omega arith, omega arith)
+    faults fs (p ∷ l) m o = (omega arith, omega arith)
+
+    by : (o : Outcome ℕ Script) → Ends 1024 o → Numbered (judged-read node o)
+    by (done fs p) e = faults fs (name-faults fs) (type-faults fs) (too-many-names fs)
+    by (stop n p) e = (e .low, omega (arith, e .high))

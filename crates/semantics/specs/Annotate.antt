@@ -18,6 +18,7 @@ use Rattle.semantics.specs.Live.{after-pass}
 
 -- ---- the depths of a function's new names
 
+-- the depth of each new name
 abbrev pub NameDepths : Type 0
 NameDepths = ℕ → ℕ
 
@@ -54,10 +55,12 @@ module _ (results : ℕ → ℕ) where
   leaf-depth length-of Γ us = 0
 
   unfoldable mutual
+    -- with the depths of all names that a tree binds, in the trees of its lines too
     pub tree-depths : Tree → NameDepths → NameDepths
     tree-depths (end a) Γ = Γ
     tree-depths (line l t) Γ = tree-depths t (line-depths l Γ)
 
+    -- with those of a line: what it gives goes by its atoms, or by the atom that its tree gives
     pub line-depths : Line → NameDepths → NameDepths
     line-depths (leaf x l us) Γ = updated Γ x (leaf-depth l Γ us)
     line-depths (if-else x g t e) Γ =

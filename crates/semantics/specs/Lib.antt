@@ -22,3 +22,4 @@ pub mod Demands
 pub mod Computing
 pub mod Trials
 pub mod Slips
+pub mod Watched

@@ -1,26 +1,32 @@
 -- Demand 3: the whole list of deliveries, one after another from the opening.
-use Prim.Native.Nat.{ℕ, _<_, _≤_}
+use Prim.Native.Nat.{ℕ, zero, suc, _<_, _≤_}
 use native.Mathlib.Omega.{arith}
-use mathlib.Core.Bool.{Bool, true, false, cond}
-use mathlib.Core.Path.{_≡_, refl}
+use mathlib.Core.Bool.{Bool, true, false, cond, _&&_}
+use mathlib.Core.Path.{_≡_, refl, sym, ap, subst}
 use mathlib.Core.List.{List, [], _∷_}
 use lib.IntN.{ℤ}
-use lib.Dec.{ltb}
+use lib.Dec.{ltb, eqb}
 use borrow.Author.Tests.{ltb-true}
 use Rattle.semantics.specs.Syntax.{Script, main-depth}
 use Rattle.semantics.specs.Value.{Value, first-totals}
 use Rattle.semantics.specs.Words.{store-of, cells-in, shaped}
 use Rattle.semantics.specs.Machine.{program, delivery, starting, delivered}
-use Rattle.semantics.specs.Calls.{packed, number-of, accepted, refused, judged, admitted, room, code-fits, request-fits}
-use Rattle.semantics.specs.Calls.{StoreReply, refusing, answering, open-for, deliver-for, engine-open, engine-deliver}
-use Rattle.semantics.specs.Ledger.{Delivery, entry, meant, value-after}
-use Rattle.semantics.specs.Demands.{reply-to, entry-for, History, Demand3}
+use Rattle.semantics.specs.Calls.{packed, number-of, Verdict, accepted, refused, judged, admitted, admitted-if, room}
+use Rattle.semantics.specs.Calls.{code-fits, request-fits, StoreReply, refusing, answering, open-for, deliver-for}
+use Rattle.semantics.specs.Calls.{engine-open, engine-deliver}
+use Rattle.semantics.specs.Ledger.{Delivery, entry, dry-steps, meant, value-after}
+use Rattle.semantics.specs.Demands.{Engine, Call, InTurn, entered, Kept, Serves, Demand3, defined}
 use Rattle.store_laws.specs.Tests.{both-hold}
-use Rattle.sound_annotation.specs.Accepting.{main-shape-of}
+use Rattle.script_nodes.specs.Free.{judged-free}
+use Rattle.script_nodes.specs.Nodes.{Numbered, judged-numbered}
 use Rattle.soundness.specs.Answers.{number-packed}
-use Rattle.soundness.specs.Settled.{opened-settles, settled-rests}
+use Rattle.soundness.specs.Settled.{opened-settles}
+use Rattle.sound_annotation.specs.Accepting.{main-shape-of}
 use Rattle.soundness.specs.Delivering.{few-lines, delivers}
 use Rattle.soundness.specs.Step.{Standing, standing-settled, settled-standing, Stepped, refused-step, worked-step}
+use Rattle.soundness.specs.Settled.{settled-rests}
+
+-- ---- one accepted file
 
 module _ (node : ℕ) (file : List ℕ) (fs : Script) (ok : judged node file ≡ accepted fs) where
   -- an accepted file is refused by 9 alone
@@ -32,8 +38,11 @@ module _ (node : ℕ) (file : List ℕ) (fs : Script) (ok : judged node file ≡
     abbrev lines : ℕ
     lines = room (δ .kinds) (δ .operands)
 
+    abbrev reply : StoreReply
+    reply = engine-deliver node file (δ .kinds) (δ .operands) slots heads (δ .readings) (δ .budget)
+
     abbrev Step : Type 0
-    Step = Stepped fs slots heads v δ (reply-to node file fs slots heads δ) (entry-for node file fs slots heads v δ)
+    Step = Stepped fs slots heads v δ reply (entry fs v δ (dry-steps (reply .answer)))
 
     pub one-delivery : Step
     unfolding engine-deliver deliver-for entry delivered
@@ -49,15 +58,6 @@ module _ (node : ℕ) (file : List ℕ) (fs : Script) (ok : judged node file ≡
             (delivery (program fs) (δ .readings) (starting (δ .budget) (store-of slots heads))) (meant fs v δ) refl refl
             (delivers node file fs ok (few-lines fs lines (omega arith) e) (standing-settled stood) (δ .readings)
             (δ .budget) f))
-
-  histories : (δs : List Delivery) (slots : List ℤ) (heads : List ℕ) (v : Value) → Standing fs slots heads v →
-      History node file fs δs slots heads v
-  histories [] slots heads v s = settled-rests (standing-settled s)
-  histories (δ ∷ δs) slots heads v s =
-      let one = one-delivery slots heads v s δ in
-      let r = reply-to node file fs slots heads δ in
-      let w = value-after v (entry-for node file fs slots heads v δ) in
-      (one .agrees, histories δs (r .slots) (r .heads) w (one .stands))
 
   module _ (kinds : List ℕ) (operands slots : List ℤ) (heads : List ℕ) where
     abbrev opening : StoreReply
@@ -93,8 +93,73 @@ module _ (node : ℕ) (file : List ℕ) (fs : Script) (ok : judged node file ≡
             let settled = opened-settles (cells-in slots heads) (main-depth fs) (some-cells f) few-cells shallow in
             rw (admitted-is (room kinds operands), e, f) (λ _. settled-standing settled)
 
-pub demand-3 : Demand3
-demand-3 node file fs ok kinds operands slots heads answered δs =
-    let o = engine-open node file kinds operands slots heads in
-    histories node file fs ok δs (o .slots) (o .heads) (first-totals (main-depth fs))
-    (opening-stands node file fs ok kinds operands slots heads answered)
+-- ---- an opening that answers 0 has an accepted file, for every refusal has another number
+
+pub record Accepts (node : ℕ) (file : List ℕ) : Type 0 where
+  pub script : Script
+  pub so : judged node file ≡ accepted script
+
+pub open-accepts : (node : ℕ) (file kinds : List ℕ) (operands slots : List ℤ) (heads : List ℕ) →
+    number-of (engine-open node file kinds operands slots heads .answer) ≡ 0 → Accepts node file
+unfolding engine-open admitted open-for refusing
+open-accepts node file kinds operands slots heads = by (judged node file) refl (judged-numbered node file)
+  where
+    by : (v : Verdict) → judged node file ≡ v → Numbered v →
+        number-of (open-for kinds operands slots heads (admitted-if (room kinds operands) v) .answer) ≡ 0 →
+        Accepts node file
+    by (accepted fs) e ok z = record { script = fs; so = e }
+    by (refused n p) e ok z = absurd (omega (arith, number-packed n p 0 0 (omega (arith, ok .1)), z, ok .0))
+
+-- ---- the list
+
+-- of the definitions' calls, with whatever nodes
+kept : (file : List ℕ) (fs : Script) → ((node : ℕ) → judged node file ≡ accepted fs) → (cs : List Call) (slots : List ℤ)
+    (heads : List ℕ) (v : Value) → Standing fs slots heads v → InTurn (defined .delivers file) slots heads cs →
+    Kept fs slots heads v cs
+unfolding defined
+kept file fs ok [] slots heads v s turn = settled-rests (standing-settled s)
+kept file fs ok (c ∷ cs) slots heads v s turn =
+    (one .agrees, kept file fs ok cs (c .reply .slots) (c .reply .heads) _ (one .stands) (turn .1))
+  where
+    one : Stepped fs slots heads v (c .lent) (c .reply) (entered fs v c)
+    one = subst (λ r. Stepped fs slots heads v (c .lent) r (entry fs v (c .lent) (dry-steps (r .answer))))
+        (sym (turn .0 .1)) (one-delivery (turn .0 .0) file fs (ok (turn .0 .0)) slots heads v s (c .lent))
+
+pub demand-3 : Demand3 defined
+unfolding defined
+demand-3 file kinds operands slots heads opening opened answered =
+    let node = opened .0 in
+    let z = subst (λ r. number-of (r .answer) ≡ 0) (opened .1) answered in
+    let a = open-accepts node file kinds operands slots heads z in
+    let ok : (q : ℕ) → judged q file ≡ accepted (a .script) = λ q. judged-free node q (a .script) file (a .so) in
+    record {
+      script = a .script;
+      is-accepted = ok;
+      keeps = λ cs turn. kept file (a .script) ok cs (opening .slots) (opening .heads)
+          (first-totals (main-depth (a .script)))
+          (subst (λ r. Standing (a .script) (r .slots) (r .heads) (first-totals (main-depth (a .script))))
+          (sym (opened .1)) (opening-stands node file (a .script) (a .so) kinds operands slots heads z)) turn;
+    }
+
+-- ---- an engine of which less is known
+
+-- what holds of some calls holds of every engine whose calls are among them
+pub demand-3-within : {E F : Engine} →
+    ((file kinds : List ℕ) (operands slots : List ℤ) (heads : List ℕ) (r : StoreReply) →
+    E .opens file kinds operands slots heads r → F .opens file kinds operands slots heads r) →
+    ((file : List ℕ) (slots : List ℤ) (heads : List ℕ) (δ : Delivery) (r : StoreReply) →
+    E .delivers file slots heads δ r → F .delivers file slots heads δ r) →
+    Demand3 F → Demand3 E
+demand-3-within {E} {F} opens delivers whole file kinds operands slots heads opening opened answered =
+    let s = whole file kinds operands slots heads opening (opens file kinds operands slots heads opening opened) answered in
+    record {
+      script = s .script;
+      is-accepted = s .is-accepted;
+      keeps = λ cs turn. s .keeps cs (in-turn cs (opening .slots) (opening .heads) turn);
+    }
+  where
+    in-turn : (cs : List Call) (slots : List ℤ) (heads : List ℕ) → InTurn (E .delivers file) slots heads cs →
+        InTurn (F .delivers file) slots heads cs
+    in-turn [] slots heads turn = tt
+    in-turn (c ∷ cs) slots heads turn =
+        (delivers file slots heads (c .lent) (c .reply) (turn .0), in-turn cs (c .reply .slots) (c .reply .heads) (turn .1))

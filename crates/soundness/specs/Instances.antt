@@ -1,24 +1,23 @@
 -- The demands' hypotheses can be met: the theorems at the printed script, and at a script with a map and a call.
-use Prim.Native.Nat.{ℕ}
-use mathlib.Core.Path.{_≡_, refl}
+use Prim.Native.Nat.{ℕ, zero, suc}
+use mathlib.Core.Path.{_≡_, refl, sym, subst, _∙_}
 use mathlib.Core.List.{List, [], _∷_}
 use lib.IntN.{ℤ, pos}
 use lib.ListN.{replicate}
 use Rattle.semantics.specs.Number.{sum}
 use Rattle.semantics.specs.Kinds.{operation, call, literal, index, length-of, mapping}
-use Rattle.semantics.specs.Syntax.{number, name, leaf, if-else, loop, none, more, Expr, Script}
+use Rattle.semantics.specs.Syntax.{number, name, leaf, if-else, loop, none, more, Expr, Script, main-depth}
 use Rattle.semantics.specs.Value.{first-totals}
 use Rattle.semantics.specs.Code.{Row, row}
 use Rattle.semantics.specs.Calls.{accepted, judged, number-of, StoreReply, engine-open}
-use Rattle.semantics.specs.Ledger.{Delivery}
-use Rattle.semantics.specs.Demands.{History}
+use Rattle.semantics.specs.Demands.{Call, InTurn, Kept, defined}
 use Rattle.semantics.specs.Computing.{computing}
 use Rattle.semantics.specs.Trials.{printed-file}
 use Rattle.semantics.specs.Slips.{file-of, low-first, operand-bytes}
 use Rattle.soundness.specs.Demand3.{demand-3}
 
 -- the first element of an array, by its name
-abbrev first : ℕ → Expr
+abbrev pub first : ℕ → Expr
 first x = leaf index (more (name x) (more (number (pos 0)) none))
 
 -- the printed script: main(t: 1, r: 1): 1 = if length(t) then {t[0] + r[0]} else {r[0]}
@@ -35,12 +34,8 @@ printed-accepted : judged 0 printed-file ≡ accepted printed-script
 unfolding computing printed-file printed-script
 printed-accepted = refl
 
--- a store of 2 cells just opened for it
-abbrev printed-opening : StoreReply
-printed-opening =
-    engine-open 0 printed-file (replicate 33 0) (replicate 33 (pos 0)) (replicate 33 (pos 0)) (replicate 9 0)
-
-printed-opens : number-of (printed-opening .answer) ≡ 0
+printed-opens : number-of (engine-open 0 printed-file (replicate 33 0) (replicate 33 (pos 0)) (replicate 33 (pos 0))
+    (replicate 9 0) .answer) ≡ 0
 unfolding computing printed-file
 printed-opens = refl
 
@@ -66,20 +61,34 @@ mapped-accepted : judged 0 (file-of 2 mapped-nodes) ≡ accepted mapped-script
 unfolding computing file-of low-first operand-bytes mapped-nodes mapped-script
 mapped-accepted = refl
 
--- every list of deliveries with the printed script, on 2 cells
-pub printed-history : (δs : List Delivery) → History 0 printed-file printed-script δs
-    (printed-opening .slots) (printed-opening .heads) (first-totals 1)
-unfolding printed-script
-printed-history δs = demand-3 0 printed-file printed-script printed-accepted
-    (replicate 33 0) (replicate 33 (pos 0)) (replicate 33 (pos 0)) (replicate 9 0) printed-opens δs
+same-script : {fs gs : Script} → accepted fs ≡ accepted gs → fs ≡ gs
+same-script e = cc
+
+-- demand 3 for a file of this script, on a store that opens
+module _ (file kinds : List ℕ) (operands slots : List ℤ) (heads : List ℕ) where
+  abbrev opening : StoreReply
+  opening = engine-open 0 file kinds operands slots heads
+
+  abbrev pub Keeps : Script → Type 0
+  Keeps gs = (cs : List Call) → InTurn (defined .delivers file) (opening .slots) (opening .heads) cs →
+      Kept gs (opening .slots) (opening .heads) (first-totals (main-depth gs)) cs
+
+  keeps : (fs : Script) → judged 0 file ≡ accepted fs → number-of (opening .answer) ≡ 0 → Keeps fs
+  unfolding defined
+  keeps fs ok z =
+      let s = demand-3 file kinds operands slots heads opening (0, refl) z in
+      subst Keeps (same-script (sym (s .is-accepted 0) ∙ ok)) (s .keeps)
+
+-- every list of deliveries with the printed script, on a store of 2 cells
+pub printed-history :
+    Keeps printed-file (replicate 33 0) (replicate 33 (pos 0)) (replicate 33 (pos 0)) (replicate 9 0)
+    printed-script
+printed-history = keeps printed-file (replicate 33 0) (replicate 33 (pos 0)) (replicate 33 (pos 0))
+    (replicate 9 0) printed-script printed-accepted printed-opens
 
 -- and with the other, on any store that opens
 pub mapped-history : (kinds : List ℕ) (operands slots : List ℤ) (heads : List ℕ) →
-    number-of (engine-open 0 (file-of 2 mapped-nodes) kinds operands slots heads .answer) ≡ 0 → (δs : List Delivery) →
-    History 0 (file-of 2 mapped-nodes) mapped-script δs
-    (engine-open 0 (file-of 2 mapped-nodes) kinds operands slots heads .slots)
-    (engine-open 0 (file-of 2 mapped-nodes) kinds operands slots heads .heads)
-    (first-totals 2)
-unfolding mapped-script
-mapped-history kinds operands slots heads z δs =
-    demand-3 0 (file-of 2 mapped-nodes) mapped-script mapped-accepted kinds operands slots heads z δs
+    number-of (engine-open 0 (file-of 2 mapped-nodes) kinds operands slots heads .answer) ≡ 0 →
+    Keeps (file-of 2 mapped-nodes) kinds operands slots heads mapped-script
+mapped-history kinds operands slots heads z =
+    keeps (file-of 2 mapped-nodes) kinds operands slots heads mapped-script mapped-accepted z

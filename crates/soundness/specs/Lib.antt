@@ -5,3 +5,4 @@ pub mod Step
 pub mod Demand3
 pub mod Demand2
 pub mod Instances
+pub mod Fixed

@@ -1,9 +1,9 @@
 -- One delivery: from a store that the ledger agrees with, to the next.
-use Prim.Native.Nat.{ℕ, _-_, _^_, _<_}
+use Prim.Native.Nat.{ℕ, zero, suc, _-_, _^_, _<_, _≤_}
 use native.Mathlib.Omega.{arith}
-use mathlib.Core.Bool.{true}
+use mathlib.Core.Bool.{Bool, true, false, _&&_}
 use mathlib.Core.Path.{_≡_, refl, sym, subst, _∙_}
-use mathlib.Core.List.{List}
+use mathlib.Core.List.{List, []}
 use lib.IntN.{ℤ}
 use lib.ListN.{length}
 use lib.Dec.{leb}
@@ -14,18 +14,18 @@ use Rattle.semantics.specs.Value.{Value}
 use Rattle.semantics.specs.Meaning.{Meter}
 use Rattle.semantics.specs.Store.{Store, cells-taken, relinked}
 use Rattle.semantics.specs.Words.{store-of, slot-words, head-words}
-use Rattle.semantics.specs.Sound.{sound-words}
-use Rattle.semantics.specs.Machine.{State, program, delivery, delivered, starting, state-of, delivered-by}
+use Rattle.semantics.specs.Sound.{sound-words, free-list}
+use Rattle.semantics.specs.Machine.{State, program, delivery, starting, delivered-by}
 use Rattle.semantics.specs.Calls.{StoreReply, request-fits, refusing, answering, deliver-in}
 use Rattle.semantics.specs.Ledger as L
 use Rattle.semantics.specs.Ledger.{Delivery, Entry, worked, meant, entry-by, dry-steps, wants-cell, value-after}
-use Rattle.semantics.specs.Demands.{value-of, Agrees, Worked, OutOfCells}
+use Rattle.semantics.specs.Demands.{value-of, Agrees, OutOfCells}
 use Rattle.store_laws.specs.Tests.{both-hold}
-use Rattle.sound_machine.specs.Agreement.{Start, Clean}
-use Rattle.sound_machine.specs.Delivery.{Delivers, finishes, stops, runs-dry}
 use Rattle.soundness.specs.Answers.{number-packed, not-dry, dry-packed}
 use Rattle.soundness.specs.Settled.{Settled, sound-settles, settled-sound, settled-words, settled-rests}
 use Rattle.soundness.specs.Settled.{relinked-settles, relinked-alone}
+use Rattle.sound_machine.specs.Agreement.{Start, Clean}
+use Rattle.sound_machine.specs.Delivery.{Delivers, finishes, stops, runs-dry}
 use Rattle.soundness.specs.Delivering.{start-of, finished-settled}
 
 -- the store in two arrays is sound, and its totals have the ledger's value
@@ -44,9 +44,6 @@ pub settled-standing : {fs : Script} {σ : Store} {v : Value} →
     Settled (main-depth fs) σ v → Standing fs (slot-words σ) (head-words σ) v
 settled-standing s = record { sound = settled-sound s; value = rw (settled-words s) (s .value) }
 
-not-worked : {A : Type 0} (k n steps : ℕ) (w : Value) → L.refused k ≡ worked n steps w → A
-not-worked k n steps w e = absurd (let q : _≡_ {A = ℕ} 0 1 = cc in omega arith)
-
 -- over a store and a ledger that agree, and the next delivery
 module _ (fs : Script) (slots : List ℤ) (heads : List ℕ) (v : Value) (δ : Delivery) where
   abbrev before : Store
@@ -63,33 +60,12 @@ module _ (fs : Script) (slots : List ℤ) (heads : List ℕ) (v : Value) (δ : D
     pub agrees : Agrees fs (store-of slots heads) (store-of (r .slots) (r .heads)) v δ (r .answer) e
     pub stands : Standing fs (r .slots) (r .heads) (value-after v e)
 
-  -- what the machine did, by the end of its run
-  worked-as : (σ′ : Store) (o : Outcome State (Unit {0})) → run ≡ o → Clean start (state-of o) →
-      (number steps : ℕ) →
-      delivered-by (δ .budget) before o ≡ record { number = number; steps = steps; store = σ′ } →
-      (number ≡ 0 → σ′ ≡ state-of o .store) →
-      (number ≡ 25 → wants-cell steps (meant fs v δ) ≡ true) → (number ≡ 25 → OutOfCells (state-of o)) →
-      Worked fs before σ′ v δ number steps
-  unfolding delivered
-  worked-as σ′ o e clean number steps told same wanted out = record {
-    ran = rw e told;
-    untouched = rw e (clean .untouched);
-    unswept = λ z. rw (e, same z) (clean .replays);
-    wanted = wanted;
-    dry = λ z. rw e (out z);
-  }
-
   module _ (stood : Standing fs slots heads v) (kinds : List ℕ) (operands : List ℤ) where
     -- a refusal changes nothing
     pub refused-step : (n : ℕ) → Stepped (refusing kinds operands slots heads n 0) (L.refused n)
     unfolding refusing
     refused-step n = record {
-      agrees = record {
-        answered = refl;
-        rests = settled-rests (standing-settled stood);
-        left-alone = λ _. record { totals = refl; cells = λ c _. refl };
-        worked-so = λ m k w e. not-worked n m k w e;
-      };
+      agrees = record { answered = refl; rests = settled-rests (standing-settled stood); owed = refl };
       stands = stood;
     }
 
@@ -106,14 +82,16 @@ module _ (fs : Script) (slots : List ℤ) (heads : List ℕ) (v : Value) (δ : D
           agrees = record {
             answered = rw back;
             rests = rw back (settled-rests settled);
-            left-alone = λ f.
-                absurd (f (number-packed 0 0 (δ .budget - s .left) (cells-taken (s .store)) (omega arith)));
-            worked-so = λ n k x q.
-                let z : 0 ≡ n = cc in
-                let j : δ .budget - s .left ≡ k = cc in
-                worked-as (store-of (slot-words (s .store)) (head-words (s .store))) (done u s) e clean n k
-                (rw (back, sym z, sym j) refl) (λ _. back)
-                (λ y. absurd (omega (arith, z, y))) (λ y. absurd (omega (arith, z, y)));
+            owed = rw back (record {
+              end = done u s;
+              ran = e;
+              shows = refl;
+              untouched = clean .untouched;
+              unswept = λ z. clean .replays;
+              left-alone = λ f. absurd (f refl);
+              wanted = λ z. absurd (omega (arith, z));
+              dry = λ z. absurd (omega (arith, z));
+            });
           };
           stands = settled-standing settled;
         }
@@ -126,19 +104,20 @@ module _ (fs : Script) (slots : List ℤ) (heads : List ℕ) (v : Value) (δ : D
     stopped-step n s positive e clean wanted out =
         let settled = relinked-settles (standing-settled stood) in
         let back = settled-words settled in
-        let alone = relinked-alone (standing-settled stood) in
         record {
           agrees = record {
             answered = rw back;
             rests = rw back (settled-rests settled);
-            left-alone = λ f. rw back alone;
-            worked-so = λ m k x q.
-                let y : n ≡ m = cc in
-                let j : δ .budget - s .left ≡ k = cc in
-                worked-as (store-of (slot-words (relinked before)) (head-words (relinked before))) (stop n s) e clean m
-                k (rw (back, sym y, sym j) refl) (λ z. absurd (omega (arith, z, y)))
-                (λ z. subst (λ i. wants-cell i (meant fs v δ) ≡ true) j (wanted (y ∙ z)))
-                (λ z. out (y ∙ z));
+            owed = rw back (record {
+              end = stop n s;
+              ran = e;
+              shows = refl;
+              untouched = clean .untouched;
+              unswept = λ z. absurd (omega (arith, z, positive));
+              left-alone = λ f. relinked-alone (standing-settled stood);
+              wanted = wanted;
+              dry = out;
+            });
           };
           stands = settled-standing settled;
         }

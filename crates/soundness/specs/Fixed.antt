@@ -1,0 +1,122 @@
+-- The statements leave an engine no choice: what a delivery answers and leaves is fixed by what it agrees with, and a
+-- machine that runs dry while a cell is free does not do what is meant. Each is tried where a wrong engine would tell
+-- something else.
+use Prim.Native.Nat.{ℕ, zero, suc}
+use native.Mathlib.Omega.{arith}
+use mathlib.Core.Bool.{Bool, true, false, cond}
+use mathlib.Core.Path.{_≡_, refl, sym, ap, _∙_}
+use mathlib.Core.Option as O
+use mathlib.Core.Option.{Option, some}
+use mathlib.Core.List.{List, [], _∷_}
+use lib.IntN.{ℤ, pos}
+use lib.ListN.{replicate}
+use Rattle.semantics.specs.Outcome.{Outcome, done, stop}
+use Rattle.semantics.specs.Number.{sum}
+use Rattle.semantics.specs.Kinds.{operation, literal}
+use Rattle.semantics.specs.Syntax.{Script, number, let-in, leaf, none, more}
+use Rattle.semantics.specs.Value.{Value, list, numbers}
+use Rattle.semantics.specs.Meaning.{Meter, main-meaning}
+use Rattle.semantics.specs.Store.{Store, opened, cells-taken}
+use Rattle.semantics.specs.Machine.{Delivered, program, delivered, delivered-by, starting}
+use Rattle.semantics.specs.Calls.{packed, room, code-fits, request-fits}
+use Rattle.semantics.specs.Ledger as L
+use Rattle.semantics.specs.Ledger.{Delivery, Entry, worked, meant, entry, entry-of, entry-by, dry-steps}
+use Rattle.semantics.specs.Demands.{Agrees, Does}
+use Rattle.semantics.specs.Computing.{computing}
+use Rattle.soundness.specs.Instances.{first, printed-script}
+
+-- ---- one answer and one store
+
+module _ (fs : Script) (σ : Store) (v : Value) (δ : Delivery) where
+  abbrev run : Delivered
+  run = delivered (program fs) (δ .readings) (δ .budget) σ
+
+  -- the answer and the store after it, by whether the code and the request fit
+  abbrev fixed-answer : Bool → Bool → ℕ
+  fixed-answer a b =
+      cond a (cond b (packed (run .number) 0 (run .steps) (cells-taken (run .store))) (packed 10 0 0 0)) (packed 9 0 0 0)
+
+  abbrev fixed-store : Bool → Bool → Store
+  fixed-store a b = cond a (cond b (run .store) σ) σ
+
+  module _ (σ′ : Store) (answer : ℕ) where
+    abbrev Fixes : ℕ → Store → Type 0
+    Fixes n τ = (answer ≡ n) × (σ′ ≡ τ)
+
+    abbrev AgreesOn : Entry → Type 0
+    AgreesOn e = Agrees fs σ σ′ v δ answer e
+
+    -- a worked delivery shows what the machine's run shows
+    run-fixes : (n k : ℕ) (w : Value) → AgreesOn (worked n k w) →
+        Fixes (packed (run .number) 0 (run .steps) (cells-taken (run .store))) (run .store)
+    unfolding delivered
+    run-fixes n k w g =
+        let s : record { number = n; steps = k; store = σ′ } ≡ run =
+        sym (g .owed .shows) ∙ ap (delivered-by (δ .budget) σ) (sym (g .owed .ran)) in (
+          g .answered ∙ ap (λ (d : Delivered). packed (d .number) 0 (d .steps) (cells-taken (d .store))) s,
+          ap (λ (d : Delivered). d .store) s,
+        )
+
+    meant-fixes : (o : Outcome Meter Value) → AgreesOn (entry-of (δ .budget) v o) →
+        Fixes (packed (run .number) 0 (run .steps) (cells-taken (run .store))) (run .store)
+    meant-fixes (done w m) g = run-fixes _ _ w g
+    meant-fixes (stop n m) g = run-fixes n _ v g
+
+    by-fixes : (dry : Option ℕ) → AgreesOn (entry-by fs v δ dry) →
+        Fixes (packed (run .number) 0 (run .steps) (cells-taken (run .store))) (run .store)
+    by-fixes O.none g = meant-fixes (meant fs v δ) g
+    by-fixes (some k) g = run-fixes 25 k v g
+
+    -- What agrees with the ledger is this answer and this store.
+    pub fixed : AgreesOn (entry fs v δ (dry-steps answer)) →
+        Fixes (fixed-answer (code-fits fs (room (δ .kinds) (δ .operands))) (request-fits (δ .readings) (δ .budget)))
+        (fixed-store (code-fits fs (room (δ .kinds) (δ .operands))) (request-fits (δ .readings) (δ .budget)))
+    unfolding entry
+    fixed = by (code-fits fs (room (δ .kinds) (δ .operands))) (request-fits (δ .readings) (δ .budget))
+      where
+        by : (a b : Bool) → AgreesOn (cond a (cond b (entry-by fs v δ (dry-steps answer)) (L.refused 10)) (L.refused 9)) →
+            Fixes (fixed-answer a b) (fixed-store a b)
+        by true true g = by-fixes (dry-steps answer) g
+        by true false g = (g .answered, g .owed)
+        by false b g = (g .answered, g .owed)
+
+-- ---- tried
+
+-- a delivery of {250}
+abbrev pub trial : Delivery
+trial = record {
+  kinds = replicate 33 0;
+  operands = replicate 33 (pos 0);
+  readings = pos 250 ∷ [];
+  budget = 1000;
+}
+
+-- what agrees with the ledger for this delivery, on a store of some cells just opened
+abbrev pub AgreesAfter : Script → ℕ → Store → ℕ → Type 0
+AgreesAfter fs cells σ′ answer =
+    Agrees fs (opened cells 1) σ′ (list []) trial answer (entry fs (list []) trial (dry-steps answer))
+
+-- On one cell the printed script has none for the readings: no answer but this agrees, not one that says done.
+pub dry-told : (σ′ : Store) (answer : ℕ) → AgreesAfter printed-script 1 σ′ answer → answer ≡ packed 25 0 0 1
+unfolding computing printed-script
+dry-told σ′ answer g = fixed printed-script (opened 1 1) (list []) trial σ′ answer g .0
+
+-- main(t: 1, r: 1): 1 = let a = {7} in {a[0] + r[0]}
+unfoldable pub two-literals : Script
+two-literals = record {
+  parameters = record { id = 0; depth = 1 } ∷ record { id = 1; depth = 1 } ∷ [];
+  result = 1;
+  body = let-in 2 (leaf (literal 0) (more (number (pos 7)) none))
+      (leaf (literal 0) (more (leaf (operation sum) (more (first 2) (more (first 1) none))) none));
+} ∷ []
+
+-- On two cells the first step's literal wants a third: no answer but this agrees, not one of another step.
+pub steps-told : (σ′ : Store) (answer : ℕ) → AgreesAfter two-literals 2 σ′ answer → answer ≡ packed 25 0 1 1
+unfolding computing two-literals
+steps-told σ′ answer g = fixed two-literals (opened 2 1) (list []) trial σ′ answer g .0
+
+-- A machine that runs dry before it starts does not do what is meant: on two cells one is free.
+pub never-starts : Does 1 1000 (stop 25 (starting 1000 (opened 2 1)))
+    (main-meaning printed-script (list []) (numbers (pos 250 ∷ [])) 1000) → ⊥
+unfolding computing printed-script
+never-starts h = absurd (let z : _≡_ {A = ℕ} 0 1 = cc in omega arith)
