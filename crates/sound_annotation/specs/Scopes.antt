@@ -16,13 +16,14 @@ use Rattle.semantics.specs.Live.{Set, empty, _∪_, _∖_, _∖∖_, only, just
 use Rattle.semantics.specs.Annotate.{NameDepths, atom-depth, is-array, arrays, dying, handed-again, annotate}
 use Rattle.semantics.specs.Annotate.{annotate-line}
 use Rattle.semantics.specs.Machine.{Program}
+use Rattle.sound_base.specs.Tests.{both-hold, or-cases, or-left, or-right}
 use Rattle.sound_base.specs.Lists.{hits}
 use Rattle.sound_machine.specs.Discipline.{LeafFormed, array-place, LoopFits, Fitting, AllNew, AllKnown, Scoped}
 use Rattle.sound_annotation.specs.Typed.{LeafLimits, LeafCalls, loop-arity, array-among, Functions}
-use Rattle.sound_annotation.specs.Rules.{and-both, depth-of-map, pass-gives}
+use Rattle.sound_annotation.specs.Rules.{depth-of-map, pass-gives}
 use Rattle.sound_annotation.specs.Members.{members-true}
 use Rattle.sound_annotation.specs.Held.{held, held-live, held-among, again-held}
-use Rattle.sound_annotation.specs.Sets.{or-cases, or-left, or-right, Inside, inside-pass}
+use Rattle.sound_annotation.specs.Sets.{Inside, inside-pass}
 use Rattle.sound_annotation.specs.Formed.{Within, within-up, within-bound, Rising, rising-up, within-pass}
 use Rattle.sound_annotation.specs.Formed.{bound-by, Placed, Formed, LineFormed, LoopForm, seen-among, live-seen}
 use Rattle.sound_annotation.specs.Unchanged.{pass, ending-pass}
@@ -133,9 +134,9 @@ module _ (p : Program) where
     pub dying-in : (used A S : Set) → ((n : ℕ) → used n ≡ true → S n ≡ true) → Arrays (dying Γ used A) S
     unfolding dying
     dying-in used A S h n g =
-        let both = and-both (used n) (is-array Γ n && not (A n))
+        let both = both-hold (used n) (is-array Γ n && not (A n))
         (members-true n (λ x. used x && (is-array Γ x && not (A x))) g) in
-        (ltb-true 0 (Γ n) (and-both (is-array Γ n) (not (A n)) (both .1) .0), h n (both .0))
+        (ltb-true 0 (Γ n) (both-hold (is-array Γ n) (not (A n)) (both .1) .0), h n (both .0))
 
     among-known : (us : List Atom) (A S : Set) → AllKnown us S → ((n : ℕ) → A n ≡ true → S n ≡ true) → (n : ℕ) →
         among us A n ≡ true → S n ≡ true
@@ -168,9 +169,6 @@ module _ (p : Program) where
             (more .0, omega (arith, more .1))
 
     -- ---- the annotated tree
-
-    bound-known : (S : Set) (x : ℕ) → (S ∪ only x) x ≡ true
-    bound-known S x = or-right (S x) (only x x) (eq-eqb x x refl)
 
     -- what a line read, and what it binds, is known after it
     read-known : (us : List Atom) (U S : Set) (x : ℕ) → AllKnown us S → ((n : ℕ) → U n ≡ true → S n ≡ true) → (n : ℕ) →
@@ -238,7 +236,7 @@ module _ (p : Program) where
               arith,
               here .0,
               ap Γ (here .0),
-              ltb-true 0 (Γ x) (and-both (is-pending l) (is-array Γ x)
+              ltb-true 0 (Γ x) (both-hold (is-pending l) (is-array Γ x)
                   (here .1) .1),
             ),
             only-known S x n (eq-eqb x n (sym (here .0))),

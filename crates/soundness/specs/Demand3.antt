@@ -15,7 +15,7 @@ use Rattle.semantics.specs.Calls.{packed, number-of, accepted, refused, judged,
 use Rattle.semantics.specs.Calls.{StoreReply, refusing, answering, open-for, deliver-for, engine-open, engine-deliver}
 use Rattle.semantics.specs.Ledger.{Delivery, entry, meant, value-after}
 use Rattle.semantics.specs.Demands.{reply-to, entry-for, History, Demand3}
-use Rattle.store_laws.specs.Tests.{both-hold}
+use Rattle.sound_base.specs.Tests.{both-hold}
 use Rattle.sound_annotation.specs.Accepting.{main-shape-of}
 use Rattle.soundness.specs.Answers.{number-packed}
 use Rattle.soundness.specs.Settled.{opened-settles, settled-rests}
