@@ -114,8 +114,8 @@ module _ (p : Program) where
     unfolding occurrences
     later-arrays x xs S h n g = h n (omega arith)
 
-    pub fits-releases : (xs : List ℕ) (t : Tree) (d : ℕ) (S : Set) → Arrays xs S → Fits t d S → Fits
-        (release-all xs t) d S
+    pub fits-releases : (xs : List ℕ) (t : Tree) (d : ℕ) (S : Set) → Arrays xs S → Fits t d S →
+        Fits (release-all xs t) d S
     fits-releases [] t d S h f = f
     fits-releases (x ∷ xs) t d S h f =
         let here = first-array x xs S h in
@@ -236,14 +236,13 @@ module _ (p : Program) where
               arith,
               here .0,
               ap Γ (here .0),
-              ltb-true 0 (Γ x) (both-hold (is-pending l) (is-array Γ x)
-                  (here .1) .1),
+              ltb-true 0 (Γ x) (both-hold (is-pending l) (is-array Γ x) (here .1) .1),
             ),
             only-known S x n (eq-eqb x n (sym (here .0))),
           ))
           (fits-releases (dying Γ (R ∪ only x) A) k d S′
-          (dying-in (R ∪ only x) A S′ (read-known (leaf-reads l us) empty S x (parts .1) (λ n q. absurd
-          (false≢true q)))) s) in
+          (dying-in (R ∪ only x) A S′
+          (read-known (leaf-reads l us) empty S x (parts .1) (λ n q. absurd (false≢true q)))) s) in
           fits-retains (handed-again Γ (leaf-hands l us) (R ∪ A)) (line (leaf x l us) (retain-all pend k′)) d S
           (again-in (leaf-hands l us) (R ∪ A) S (parts .0)) (
             (record { formed = leaf-formed l us (f .fits .limits) (f .fits .calls); gives = f .fits .rule }, rest .0),

@@ -179,8 +179,8 @@ module _ (Γ : NameDepths) where
   waits-after (retain x) = []
   waits-after (release x) = []
 
-  -- The holds of a loop once its start is spent; of these one of its array is set aside for the passes, if it is not
-  -- lent already; the others are the outer holds of a pass, which begins with the carried name's beside them.
+  -- The holds of a loop once what it hands over is spent; of these one of its array is set aside for the passes, if it
+  -- is not lent already; the others are the outer holds of a pass, which begins with the carried names' beside them.
   abbrev pub loop-holds : Loop → List Atom → List ℕ → List ℕ
   loop-holds k us H = less (handed (loop-hands k us)) H
 
