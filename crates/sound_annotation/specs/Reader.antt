@@ -16,8 +16,9 @@ use Rattle.semantics.specs.File.{Head, Node, fits, wrong-kind, wrong-operand, l
 use Rattle.semantics.specs.File.{at-function, at-parameter, at-part, allowed, node-of, part-count, Read, next, looked}
 use Rattle.semantics.specs.File.{Shape, none, leaf-of, loop-of, shapes, shape-of, shaped, parts, node-at, look, part}
 use Rattle.semantics.specs.File.{parameter, function, finish, script, between, read-file}
+use Rattle.sound_machine.specs.Discipline.{LeafLimits, loop-arity}
 use Rattle.sound_base.specs.Tests.{both-hold}
-use Rattle.sound_annotation.specs.Typed.{count, LeafLimits, loop-arity, Limited, AllLimited}
+use Rattle.sound_annotation.specs.Typed.{count, Limited, AllLimited}
 
 -- ---- facts of answers
 

@@ -16,8 +16,9 @@ use Rattle.semantics.specs.Types.{all-are, same, if-rule, index-rule, Signature
 use Rattle.semantics.specs.Types.{is-number, element, depth-at, array-depth}
 use Rattle.semantics.specs.Code.{Atom}
 use Rattle.semantics.specs.Annotate.{NameDepths, atom-depth, depth-of, pass-depths, leaf-depth, loop-depth}
+use Rattle.sound_machine.specs.Discipline.{loop-arity}
 use Rattle.sound_base.specs.Tests.{both-hold, some-same, not-some, some-if-holds}
-use Rattle.sound_annotation.specs.Typed.{loop-arity, array-among, element-depths}
+use Rattle.sound_annotation.specs.Typed.{array-among, element-depths}
 
 pub if-typed : (x y z d : ℕ) → if-rule (x ∷ y ∷ z ∷ []) ≡ some d → (x ≡ 0) × (y ≡ d) × (z ≡ d)
 if-typed x y z d e =

@@ -11,11 +11,10 @@ use Rattle.semantics.specs.Kinds.{Loop, mapping, loop-hands, loop-reads, elemen
 use Rattle.semantics.specs.Code.{Atom, loop, Tree, line, retain-all, release-all}
 use Rattle.semantics.specs.Live.{Set, empty, _∪_, _∖_, _∖∖_, only, just, among, live, live-before, uses, after-pass}
 use Rattle.semantics.specs.Annotate.{NameDepths, arrays, dying, annotate, annotate-line}
+use Rattle.sound_machine.specs.Discipline.{loop-arity, hold-of, holds-of, handed, less, unlent, left-by, carried-name}
+use Rattle.sound_machine.specs.Discipline.{outer-holds, pass-lent, pass-holds, aside, Covered, Frugal}
 use Rattle.sound_base.specs.Lists.{_≈_, occurrences-append}
-use Rattle.sound_machine.specs.Discipline.{hold-of, holds-of, handed, less, unlent, left-by, carried-name, outer-holds}
-use Rattle.sound_machine.specs.Discipline.{pass-lent, pass-holds, aside, Covered, Frugal}
 use Rattle.sound_machine.specs.Spending.{less-counts, same-append, unlent-few, lent-or-not}
-use Rattle.sound_annotation.specs.Typed.{loop-arity}
 use Rattle.sound_annotation.specs.Held.{Few, free, free-or, held, names, held-most, held-or, names-held}
 use Rattle.sound_annotation.specs.Held.{append-held, held-pass, just-none, just-most, holds-just, held-among}
 use Rattle.sound_annotation.specs.Formed.{Rising}

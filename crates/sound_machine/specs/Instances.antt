@@ -44,7 +44,10 @@ new : (x : ℕ) (S : Set) → S x ≡ false → x < 256 → New x S
 new x S e h = record { unknown = e; small = h }
 
 pass-fits : Fitting small depths pass 0
-pass-fits = (record { formed = refl; gives = refl }, (record { formed = refl; gives = refl }, refl))
+pass-fits = (
+  record { limits = refl; calls = refl; gives = refl },
+  (record { limits = refl; calls = refl; gives = refl }, refl),
+)
 
 pass-scoped : Scoped pass ((λ x. ltb x 2) ∪ just (3 ∷ []))
 pass-scoped = (((refl, tt), new 4 _ refl (omega arith)), (((refl, (refl, tt)), new 5 _ refl (omega arith)), refl))
@@ -60,7 +63,7 @@ instance = record {
   parameters = given;
   fits = (
     omega arith,
-    ((record { formed = refl; deep = omega arith; names = refl; gives = refl }, pass-fits), (omega arith, refl)),
+    ((record { limits = refl; deep = omega arith; names = refl; gives = refl }, pass-fits), (omega arith, refl)),
   );
   scoped = (
     refl,

@@ -111,8 +111,8 @@ module _ (C : Setting) (grows : CalleeGrows (C .meant)) where
 
   pub line-mapping : (x : ℕ) (ps : List ℕ) (us : List Atom) (t : Tree) → TreeClaim C t →
       LineClaim C (loop x mapping ps us t)
-  line-mapping x ps [] t claim = λ B T A H P Δ rules. absurd (omega (arith, rules .fits .0 .formed))
-  line-mapping x ps (a ∷ (b ∷ us)) t claim = λ B T A H P Δ rules. absurd (omega (arith, rules .fits .0 .formed))
+  line-mapping x ps [] t claim = λ B T A H P Δ rules. absurd (omega (arith, rules .fits .0 .limits))
+  line-mapping x ps (a ∷ (b ∷ us)) t claim = λ B T A H P Δ rules. absurd (omega (arith, rules .fits .0 .limits))
   line-mapping x [] (a ∷ []) t claim = λ B T A H P Δ rules. absurd (omega (arith, ap length (rules .fits .0 .names)))
   line-mapping x (p ∷ (q ∷ ps)) (a ∷ []) t claim =
       λ B T A H P Δ rules. absurd (omega (arith, ap length (rules .fits .0 .names)))
