@@ -17,7 +17,7 @@ use Rattle.semantics.specs.Annotate.{code}
 use Rattle.semantics.specs.Machine.{State, program, delivery, starting}
 use Rattle.semantics.specs.Calls.{accepted, judged, code-fits, request-fits}
 use Rattle.semantics.specs.Demands.{value-of}
-use Rattle.store_laws.specs.Tests.{both-hold}
+use Rattle.sound_base.specs.Tests.{both-hold}
 use Rattle.sound_annotation.specs.Programs.{program-disciplined, program-frugal}
 use Rattle.sound_machine.specs.Agreement.{Start}
 use Rattle.sound_machine.specs.Totals.{Finished}

@@ -16,7 +16,7 @@ use Rattle.semantics.specs.Calls.{code-fits, request-fits, StoreReply, refusing
 use Rattle.semantics.specs.Calls.{engine-open, engine-deliver}
 use Rattle.semantics.specs.Ledger.{Delivery, entry, dry-steps, meant, value-after}
 use Rattle.semantics.specs.Demands.{Engine, Call, InTurn, entered, Kept, Serves, Demand3, defined}
-use Rattle.store_laws.specs.Tests.{both-hold}
+use Rattle.sound_base.specs.Tests.{both-hold}
 use Rattle.script_nodes.specs.Free.{judged-free}
 use Rattle.script_nodes.specs.Nodes.{Numbered, judged-numbered}
 use Rattle.soundness.specs.Answers.{number-packed}

@@ -20,7 +20,7 @@ use Rattle.semantics.specs.Calls.{StoreReply, request-fits, refusing, answering
 use Rattle.semantics.specs.Ledger as L
 use Rattle.semantics.specs.Ledger.{Delivery, Entry, worked, meant, entry-by, dry-steps, wants-cell, value-after}
 use Rattle.semantics.specs.Demands.{value-of, Agrees, OutOfCells}
-use Rattle.store_laws.specs.Tests.{both-hold}
+use Rattle.sound_base.specs.Tests.{both-hold}
 use Rattle.soundness.specs.Answers.{number-packed, not-dry, dry-packed}
 use Rattle.soundness.specs.Settled.{Settled, sound-settles, settled-sound, settled-words, settled-rests}
 use Rattle.soundness.specs.Settled.{relinked-settles, relinked-alone}
