@@ -176,8 +176,8 @@ returns-6 c =
 returns-7 : tie.Need-returns-7
 returns-7 c =
     let a = c .before .before .before .before .args in
-    leaf-other (a .kinds .now) (a .operands .now) (a .calls) (a .at) (a .steps) (memory (store-of (a .slots .now)
-    (a .heads .now)) (a .env .now)) (a .l) (c .before .match .keys7) (c .halted .result) (c .halted .ensures)
+    leaf-other (a .kinds .now) (a .operands .now) (a .calls) (a .at) (memory (store-of (a .slots .now)
+    (a .heads .now)) (a .env .now)) (a .steps) (a .l) (c .before .match .keys7) (c .halted .result) (c .halted .ensures)
 
 pub work-leaf-spec : {M : Type 1} → statement M
 work-leaf-spec =
