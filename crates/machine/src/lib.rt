@@ -7,7 +7,7 @@ use machine_lines::Out;
 use store::Acquired;
 ghost use mathlib.Core.Path.{_≡_};
 ghost use mathlib.Core.List.{[], _∷_};
-ghost use Prim.Native.Nat.{_<_, _≤_};
+ghost use Prim.Native.Nat.{_<_};
 ghost use lib.ListN.{length};
 ghost use Rattle.semantics.specs.Kinds.{mapping};
 ghost use Rattle.semantics.specs.Words.{store-of};

@@ -62,8 +62,13 @@ work-pass-same-length-2 t c = search needs
 pub work-pass-returns : (t : ℕ) → work-pass-lts.Need-returns (work-pass-claims t) (work-pass-at t) work-pass.Post
     work-pass-Inv-loop work-pass-μ-loop
 work-pass-returns t c =
-    pass-dry (rw (toZ-ofZ {z = c .before .before .before .before .before .before .args .carried} (c .before .before .before .before .before .before .fits .carried)) at (c .before .before .before .loop .inv)) (c .before .before .loop-test .taken)
-    (c .before .if1 .taken) (c .halted .result) (c .halted .ensures)
+    let at-if1 = c .before in
+    let at-loop-test = at-if1 .before in
+    let at-loop = at-loop-test .before in
+    let start = at-loop .before .before .before in
+    pass-dry (rw (toZ-ofZ {z = start .args .carried} (start .fits .carried)) at (at-loop .loop .inv))
+    (at-loop-test .loop-test .taken)
+    (at-if1 .if1 .taken) (c .halted .result) (c .halted .ensures)
 
 pub work-pass-read-slot-requires : (t : ℕ) → work-pass-lts.Need-read-slot-requires (work-pass-claims t)
     (work-pass-at t)
@@ -82,15 +87,19 @@ pub work-pass-work-tree-requires : (t : ℕ) → work-pass-lts.Need-work-tree-re
     (work-pass-at t)
     work-pass.Post work-pass-Inv-loop work-pass-μ-loop
 work-pass-work-tree-requires t c κs =
-    let a = c .before .before .before .before .before .before .before .before .before .before .before .before .before .args in
-    let o = c .before .before .before .before .before .before .before .before .before .before .loop in
-    let read = c .before .before .before .before .before .read-slot in
+    let at-bind = c .before .before .before in
+    let at-read-slot = at-bind .before .before in
+    let at-loop = at-read-slot .before .before .before .before .before in
+    let start = at-loop .before .before .before in
+    let a = start .args in
+    let o = at-loop .loop in
+    let read = at-read-slot .read-slot in
     search (
       needs,
       o .inv .sized .env-long,
       bound-long (o .env) (place (a .calls) (a .p)) (read .result) (rw
           (toZ-ofZ {z
-          = read .result} (record { sfits = read .ok })) at (c .before .before .before .bind .ensures)),
+          = read .result} (record { sfits = read .ok })) at (at-bind .bind .ensures)),
     )
 
 pub work-pass-same-length-3 : (t : ℕ) → work-pass-lts.Need-same-length-3 (work-pass-claims t) (work-pass-at t)
@@ -104,13 +113,20 @@ work-pass-same-length-4 t c = search needs
 pub work-pass-returns-2 : (t : ℕ) → work-pass-lts.Need-returns-2 (work-pass-claims t) (work-pass-at t) work-pass.Post
     work-pass-Inv-loop work-pass-μ-loop
 work-pass-returns-2 t c =
-    let a = c .before .before .before .before .before .before .before .before .before .before .before .before .before .before .before .before .before .before .args in
-    let o = c .before .before .before .before .before .before .before .before .before .before .before .before .before .before .before .loop in
-    let read = c .before .before .before .before .before .before .before .before .before .before .read-slot in
-    let tree = c .before .before .before .before .work-tree in
-    pass-stops (rw (toZ-ofZ {z = a .carried} (c .before .before .before .before .before .before .before .before .before .before .before .before .before .before .before .before .before .before .fits .carried)) at (o .inv)) (c .before .before .before .before .before .before .before .before .before .before .before .before .before .before .loop-test .taken)
-    (c .before .before .before .before .before .before .before .before .before .before .before .before .before .if1 .left) (c .before .before .before .before .before .before .before .before .bind .last .0)
-    ((rw (toZ-ofZ {z = read .result} (record { sfits = read .ok })) at (c .before .before .before .before .before .before .before .before .bind .ensures))
+    let at-work-tree = c .before .before .before .before in
+    let at-bind = at-work-tree .before .before .before .before in
+    let at-read-slot = at-bind .before .before in
+    let at-if1 = at-read-slot .before .before .before in
+    let at-loop-test = at-if1 .before in
+    let at-loop = at-loop-test .before in
+    let start = at-loop .before .before .before in
+    let a = start .args in
+    let o = at-loop .loop in
+    let read = at-read-slot .read-slot in
+    let tree = at-work-tree .work-tree in
+    pass-stops (rw (toZ-ofZ {z = a .carried} (start .fits .carried)) at (o .inv)) (at-loop-test .loop-test .taken)
+    (at-if1 .if1 .left) (at-bind .bind .last .0)
+    ((rw (toZ-ofZ {z = read .result} (record { sfits = read .ok })) at (at-bind .bind .ensures))
     ∙ ap (set (o .env) (place (a .calls) (a .p))) (read .ensures))
     (tree .result) (tree .last .1 .1 .1 .0) (tree .last .1 .1 .1 .1 .0) (tree .last .1 .1 .1 .1 .1 .0) (tree .ensures)
     (c .if2 .taken)
@@ -122,10 +138,14 @@ work-pass-append-requires t c κs = search needs
 pub work-pass-add-i : (t : ℕ) → work-pass-lts.Need-add-i (work-pass-claims t) (work-pass-at t) work-pass.Post
     work-pass-Inv-loop work-pass-μ-loop
 work-pass-add-i t c =
+    let earlier = c .before .before .before .before .before .before .before .before .before .before in
+    let earlier′ = earlier .before .before .before .before .before .before .before .before .before .before in
+    let at-loop-test = earlier′ .before in
+    let start = at-loop-test .before .before .before .before in
     omega (
       arith,
-      c .before .before .before .before .before .before .before .before .before .before .before .before .before .before .before .before .before .before .before .before .before .loop-test .taken,
-      c .before .before .before .before .before .before .before .before .before .before .before .before .before .before .before .before .before .before .before .before .before .before .before .before .before .fits .count,
+      at-loop-test .loop-test .taken,
+      start .fits .count,
     )
 
 pub work-pass-loop-less : (t : ℕ) → work-pass-lts.Need-loop-less (work-pass-claims t) (work-pass-at t) work-pass.Post
@@ -136,26 +156,37 @@ pub work-pass-loop-again : (t : ℕ) → work-pass-lts.Need-loop-again (work-pas
     work-pass.Post
     work-pass-Inv-loop work-pass-μ-loop
 work-pass-loop-again t c =
-    let start = c .before .before .before .before .before .before .before .before .before .before .before .before .before .before .before .before .before .before .before .before .before .before .before .before .before in
+    let at-append = c .before .before .before in
+    let at-struct-told = at-append .before .before .before in
+    let at-if2 = at-struct-told .before in
+    let at-work-tree = at-if2 .before .before .before .before in
+    let at-bind = at-work-tree .before .before .before .before in
+    let at-read-slot = at-bind .before .before in
+    let at-if1 = at-read-slot .before .before .before in
+    let at-loop-test = at-if1 .before in
+    let at-loop = at-loop-test .before in
+    let at-named-cell = at-loop .before in
+    let start = at-named-cell .before .before in
     let a = start .args in
     let k = code (a .kinds .now .now) (a .operands .now .now) (a .table .now) in
-    let o = c .before .before .before .before .before .before .before .before .before .before .before .before .before .before .before .before .before .before .before .before .before .before .loop in
-    let read = c .before .before .before .before .before .before .before .before .before .before .before .before .before .before .before .before .before .read-slot in
-    let bind = c .before .before .before .before .before .before .before .before .before .before .before .before .before .before .before .bind in
-    let tree = c .before .before .before .before .before .before .before .before .before .before .before .work-tree in
-    let put = c .before .before .before .append in
+    let o = at-loop .loop in
+    let read = at-read-slot .read-slot in
+    let bind = at-bind .bind in
+    let tree = at-work-tree .work-tree in
+    let put = at-append .append in
     rw (toZ-ofZ {z = a .carried} (start .fits .carried))
-    (pass-goes (rw (toZ-ofZ {z = a .carried} (start .fits .carried)) at (o .inv)) (c .before .before .before .before .before .before .before .before .before .before .before .before .before .before .before .before .before .before .before .before .before .loop-test .taken)
-    (c .before .before .before .before .before .before .before .before .before .before .before .before .before .before .before .before .before .before .before .before .if1 .left) (bind .last .0)
+    (pass-goes (rw (toZ-ofZ {z = a .carried} (start .fits .carried)) at (o .inv)) (at-loop-test .loop-test .taken)
+    (at-if1 .if1 .left) (bind .last .0)
     ((rw (toZ-ofZ {z = read .result} (record { sfits = read .ok })) at (bind .ensures))
     ∙ ap (set (o .env) (place (a .calls) (a .p))) (read .ensures))
     (tree .result) (tree .last .1 .1 .1 .0) (tree .last .1 .1 .1 .1 .0) (tree .last .1 .1 .1 .1 .1 .0) (tree .ensures)
-    (c .before .before .before .before .before .before .before .if2 .left) (a .carried) (put .last .0) (put .last .1 .0)
-    (map-carries (a .carried) (c .before .before .before .before .before .before .before .before .before .before .before .before .before .before .before .before .before .before .before .before .before .before .before .named-cell .result)
-    (rw (toZ-ofZ {z = a .carried} (start .fits .carried)) at (c .before .before .before .before .before .before .before .before .before .before .before .before .before .before .before .before .before .before .before .before .before .before .before .named-cell .ensures)) (tree .result)
+    (at-if2 .if2 .left) (a .carried) (put .last .0) (put .last .1 .0)
+    (map-carries (a .carried) (at-named-cell .named-cell .result)
+    (rw (toZ-ofZ {z = a .carried} (start .fits .carried)) at (at-named-cell .named-cell .ensures)) (tree .result)
     (store-of (tree .last .1 .1 .1 .0) (tree .last .1 .1 .1 .1 .0)) (store-of (put .last .0) (put .last .1 .0))
     (tree .last .1 .1 .1 .1 .1 .0)
-    (rw (toZ-ofZ {z = tree .result .value} (record { sfits = c .before .before .before .before .before .before .struct-told .given .1 .0 .1 })) at (put .ensures)))
+    (rw (toZ-ofZ {z = tree .result .value} (record { sfits = at-struct-told .struct-told .given .1 .0 .1 })) at
+    (put .ensures)))
     (record {
       slots-long = put .kept .0 ∙ tree .kept .1 .1 .1 .0;
       heads-long = put .kept .1 .0 ∙ tree .kept .1 .1 .1 .1 .0;
