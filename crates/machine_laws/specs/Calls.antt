@@ -1,26 +1,24 @@
 -- Calls: the machine over positions, with some call depth left, is the machine of the definitions.
-use mathlib.Core.Path.{_≡_, refl, sym, ap, ap₂, subst, _∙_}
-use mathlib.Core.Bool.{Bool, true, false, cond}
+use mathlib.Core.Path.{_≡_, refl, sym, ap, subst, _∙_}
+use mathlib.Core.Bool.{Bool, cond}
 use mathlib.Core.List.{List, [], _∷_}
-use Prim.Native.Nat.{ℕ, zero, suc, _+_, _-_, _*_, _<_, _≤_}
+use Prim.Native.Nat.{ℕ, zero, suc, _+_, _-_, _<_, _≤_}
 use native.Mathlib.Omega.{arith}
 use lib.IntN.{ℤ, pos}
-use lib.Dec.{eqb, ltb}
+use lib.Dec.{ltb}
 use lib.ListN.{getD, set, length, length-set}
 use lib.Seq.{getD-set-same, getD-set-other}
 use borrow.Author.Tests.{eq-eqb, ne-eqb, ltb-true}
 use Rattle.semantics.specs.Basics.{updated}
-use Rattle.semantics.specs.Outcome.{Outcome, done, stop}
+use Rattle.semantics.specs.Outcome.{stop}
 use Rattle.semantics.specs.Code.{rows}
 use Rattle.semantics.specs.Live.{Set, empty}
-use Rattle.semantics.specs.Annotate.{NameDepths}
-use Rattle.semantics.specs.Machine as M
 use Rattle.semantics.specs.Machine.{State, Program, routine-of, frame-from, machine}
 use Rattle.sound_machine.specs.Discipline.{Fitting, Scoped, parameter-names}
 use Rattle.machine_code.specs.Reading.{depth-in, start-in}
 use Rattle.machine_lines.specs.Frames.{place, put-all}
-use Rattle.machine_lines.specs.Lines.{Memory, memory, Ran}
-use Rattle.machine_positions.specs.Machine.{Code, Callee, call-on, tree-on}
+use Rattle.machine_lines.specs.Lines.{memory}
+use Rattle.machine_positions.specs.Machine.{Code, call-on, tree-on}
 use Rattle.machine_laws.specs.Rows.{At, Jumps}
 use Rattle.machine_laws.specs.Frames.{Bounded, Agrees}
 use Rattle.machine_laws.specs.Same.{Rel, TreeDone, CallDone, rel-map}

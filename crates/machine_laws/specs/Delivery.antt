@@ -1,27 +1,25 @@
 -- The delivery over positions is the delivery of the definitions.
-use mathlib.Core.Path.{_≡_, refl, sym, ap, ap₂, subst, _∙_}
+use mathlib.Core.Path.{_≡_, refl, sym, subst, _∙_}
 use mathlib.Core.Bool.{Bool, true, false, cond}
-use mathlib.Core.List.{List, [], _∷_, map}
+use mathlib.Core.List.{List, [], _∷_}
 use Prim.Native.Nat.{ℕ, zero, suc, _+_, _-_, _<_, _≤_}
 use native.Mathlib.Omega.{arith}
 use lib.IntN.{ℤ, pos}
-use lib.Dec.{eqb}
-use lib.ListN.{getD, length, replicate, length-replicate}
+use lib.ListN.{length, replicate, length-replicate}
 use borrow.Author.Tests.{eq-eqb, ne-eqb}
 use Rattle.semantics.specs.Outcome.{Outcome, done, stop, Run, onward}
 use Rattle.semantics.specs.Code.{rows}
-use Rattle.semantics.specs.Store.{Store, cell-of, has-free, acquired, retained, released, deepest, with-totals}
-use Rattle.semantics.specs.Store.{relinked, named-by}
+use Rattle.semantics.specs.Store.{Store, cell-of, has-free, acquired, retained, with-totals}
+use Rattle.semantics.specs.Store.{named-by}
 use Rattle.semantics.specs.Machine as M
 use Rattle.semantics.specs.Machine.{State, Program, routine-of, machine, acquire, acquire-if, retain-word}
 use Rattle.semantics.specs.Machine.{release-word, if-array, delivery, starting, delivered-by, delivered}
 use Rattle.store.specs.Acquiring.{next-cell}
 use Rattle.store.specs.declared.Acquired.the-variants.{Cell, NoneFree}
 use Rattle.machine_code.specs.Reading.{start-in}
-use Rattle.machine_lines.specs.Frames.{place, put-all}
 use Rattle.machine_lines.specs.Lines.{memory, Ran, out}
 use Rattle.machine_positions.specs.Machine.{Code, tree-on, call-on}
-use Rattle.machine_positions.specs.Delivery.{tried, retained-totals, released-totals, finished, main-frame, main-on}
+use Rattle.machine_positions.specs.Delivery.{finished, main-frame, main-on}
 use Rattle.machine_positions.specs.Delivery.{attempt-with, attempt-on, settled, delivered-on}
 use Rattle.machine_laws.specs.Rows.{Jumps}
 use Rattle.machine_laws.specs.Same.{Rel, TreeDone}

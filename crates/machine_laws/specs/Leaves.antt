@@ -14,7 +14,7 @@ use Rattle.semantics.specs.Number.{Operation, sum, difference, less, exact, fit
 use Rattle.semantics.specs.Kinds.{Leaf, operation, call, literal, index, length-of, operation-kind, leaf-kind}
 use Rattle.semantics.specs.Kinds.{leaf-operand}
 use Rattle.semantics.specs.Types.{Signature, some-if, same, call-rule}
-use Rattle.semantics.specs.Store.{Store, cell, cell-of, elements, has-free, acquired, retained, released, deepest}
+use Rattle.semantics.specs.Store.{Store, cell-of, has-free, acquired, retained, released, deepest}
 use Rattle.semantics.specs.Code as K
 use Rattle.semantics.specs.Code.{row, atom-row}
 use Rattle.semantics.specs.Live.{Set, _∪_, _∖_, only, among}
@@ -22,7 +22,7 @@ use Rattle.semantics.specs.Annotate.{NameDepths, atom-depth}
 use Rattle.semantics.specs.Machine as M
 use Rattle.semantics.specs.Machine.{State, Frame, Program, word, with-left, work-leaf, work-line, acquire, acquire-if}
 use Rattle.semantics.specs.Machine.{elements-of, retain-word, release-word, held, argument, touching}
-use Rattle.sound_machine.specs.Discipline.{Known, AllKnown, New, LeafFits}
+use Rattle.sound_machine.specs.Discipline.{AllKnown, New, LeafFits}
 use Rattle.words.specs.Words.{checked}
 use Rattle.words.specs.declared.Exact.the-variants.{Value, Overflow}
 use Rattle.store.specs.Acquiring.{next-cell}
@@ -34,8 +34,8 @@ use Rattle.machine_lines.specs.Frames.{word-of, words-at}
 use Rattle.machine_lines.specs.Lines as G
 use Rattle.machine_lines.specs.Lines.{Memory, memory, Ran, ran, out, with-store, Given, given, operation-of, exact-given}
 use Rattle.machine_lines.specs.Lines.{operation-given, array-of, index-given, length-given, acquired-given, Doing}
-use Rattle.machine_lines.specs.Lines.{giving, changing, calling, literal-doing, doing, leaf-done}
-use Rattle.machine_positions.specs.Machine.{Code, Work, Callee, and-then, binding, call-worked, call-line, line-done}
+use Rattle.machine_lines.specs.Lines.{giving, calling, doing, leaf-done}
+use Rattle.machine_positions.specs.Machine.{Code, Work, Callee, binding, call-worked, call-line, line-done}
 use Rattle.machine_laws.specs.Rows.{Here, At, atom-here, atom-kind, line-read}
 use Rattle.machine_laws.specs.Frames.{Bounded, Agrees, small-known, word-same, kept-none}
 use Rattle.machine_laws.specs.Same.{Rel, LineDone, CallDone, Gives, rel-then, rel-step, call-word, bound-done}

@@ -5,9 +5,9 @@ use mathlib.Core.List.{List, [], _∷_, _++_, map}
 use Prim.Native.Nat.{ℕ, zero, suc, _+_, _-_, _*_, _/_, _%_, _<_, _≤_, pred}
 use native.Mathlib.Omega.{arith}
 use lib.IntN.{ℤ, pos}
-use lib.ListN.{getD, length, length-append}
+use lib.ListN.{getD, length}
 use Rattle.semantics.specs.Basics.{tabulate, updated}
-use Rattle.semantics.specs.Outcome.{Outcome, Run, onward, give, passes}
+use Rattle.semantics.specs.Outcome.{Outcome, onward, give, passes}
 use Rattle.semantics.specs.Kinds.{Loop, mapping, loop-kind, packed-names}
 use Rattle.semantics.specs.Store.{Store, cell, cell-of, elements, has-free, acquired, appended}
 use Rattle.semantics.specs.Code as K

@@ -1,9 +1,9 @@
 -- Rows that stand in the code arrays from a position on, and what is read there.
-use mathlib.Core.Path.{_≡_, refl, sym, ap, ap₂, subst, _∙_}
-use mathlib.Core.Bool.{Bool, true, false, not}
+use mathlib.Core.Path.{_≡_, refl, ap, subst, _∙_}
+use mathlib.Core.Bool.{true, false, not}
 use mathlib.Core.Logic.{inl, inr}
 use mathlib.Core.List.{List, [], _∷_, _++_, map}
-use Prim.Native.Nat.{ℕ, zero, suc, _+_, _*_, _/_, _%_, _<_, _≤_}
+use Prim.Native.Nat.{ℕ, suc, _+_, _%_, _<_, _≤_}
 use native.Mathlib.Omega.{arith}
 use lib.IntN.{ℤ, pos}
 use lib.Dec.{T}
@@ -14,8 +14,8 @@ use borrow.Author.Tests.{ne-eqb}
 use Rattle.semantics.specs.Number.{sum, difference, less}
 use Rattle.semantics.specs.Kinds.{Leaf, operation, call, literal, index, length-of, Loop, mapping, leaf-kind, loop-kind}
 use Rattle.semantics.specs.Code as C
-use Rattle.semantics.specs.Code.{Row, row, atom-row, rows, line-rows}
-use Rattle.machine_code.specs.Reading.{natural, atom-at, is-atom, line-of, line-at, end-in}
+use Rattle.semantics.specs.Code.{Row, atom-row, rows, line-rows}
+use Rattle.machine_code.specs.Reading.{atom-at, is-atom, line-of, line-at, end-in}
 use Rattle.machine_code.specs.declared.Atom.{Atom}
 use Rattle.machine_code.specs.declared.Atom.the-variants.{Number, Name}
 use Rattle.machine_positions.specs.Machine.{Code}

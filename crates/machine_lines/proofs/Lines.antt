@@ -1,22 +1,19 @@
 -- Laws of the lines that work no tree: one for each way out of the code.
 use mathlib.Core.Path.{_≡_, refl, sym, ap, ap₂, _∙_}
-use mathlib.Core.Logic.{_⊎_, inl, inr, ⊎-elim}
 use mathlib.Core.Bool.{Bool, true, false, cond, not}
 use mathlib.Core.List.{List, [], _∷_}
-use Prim.Native.Nat.{ℕ, zero, suc, _+_, _-_, _*_, _^_, _<_, _≤_}
+use Prim.Native.Nat.{ℕ, zero, suc, _+_, _-_, _<_, _≤_}
 use native.Mathlib.Omega.{arith}
-use native.Mathlib.Decide.{ℕ-discrete}
 use lib.IntN.{ℤ, pos, negsuc, natAbs}
 use lib.Signed.{ltZ}
 use lib.Dec.{T, ltb}
-use lib.ListN.{getD, set, length, take, drop}
-use lib.Seq.{length-take-le}
+use lib.ListN.{getD, set, length}
 use denote.Enum.Declared.{tagOf}
 use types.Run.{OneOf, miss}
 use mir.Val.{hasKey}
 use Rattle.machine_code.proofs.Line.{the-type}
-use borrow.Author.Tests.{lt-ltb, le-ltb, eq-eqb, ne-eqb, ltb-true, ltb-false}
-use Rattle.semantics.specs.Number.{Operation, sum, difference, less, exact, fits, inside}
+use borrow.Author.Tests.{lt-ltb, le-ltb, ltb-true, ltb-false}
+use Rattle.semantics.specs.Number.{Operation, less, exact, fits, inside}
 use Rattle.semantics.specs.Store.{Store, cell, cell-of, elements, acquired, has-free, cell-count, retained}
 use Rattle.semantics.specs.Store.{released, deepest}
 use Rattle.semantics.specs.Words.{store-of, cells-in}
@@ -35,7 +32,7 @@ use Rattle.machine_code.specs.declared.Line.the-variants as L
 use Rattle.machine_code.proofs.Reading.{no-bool, less-one}
 use Rattle.machine_lines.specs.declared.Out.{Out}
 use Rattle.machine_lines.specs.Frames.{place, word-of, words-at}
-use Rattle.machine_lines.specs.Lines.{Memory, memory, Ran, ran, Left, left, out, with-store, halted, stepping}
+use Rattle.machine_lines.specs.Lines.{Memory, memory, Ran, ran, left, out, with-store, halted, stepping}
 use Rattle.machine_lines.specs.Lines.{Given, word, stop, given, worked, operation-of, exact-given, operation-given}
 use Rattle.machine_lines.specs.Lines.{array-of, index-given, length-given, acquired-given, operation-line}
 use Rattle.machine_lines.specs.Lines.{index-line, length-line, Doing, giving, changing, ending, calling, branching, looping}

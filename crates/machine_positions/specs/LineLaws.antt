@@ -1,7 +1,7 @@
 -- Laws of the lines that work a tree: one for each way out of the code.
 use mathlib.Core.Path.{_≡_, refl, sym, ap, ap₂, subst, _∙_}
 use mathlib.Core.List.{List, [], _∷_, map}
-use Prim.Native.Nat.{ℕ, zero, suc, _+_, _-_, _<_, _≤_}
+use Prim.Native.Nat.{ℕ, suc, _+_, _-_, _≤_}
 use native.Mathlib.Omega.{arith}
 use lib.IntN.{ℤ, pos}
 use lib.ListN.{set, length}
@@ -21,8 +21,8 @@ use Rattle.machine_code.specs.declared.Line.the-variants as L
 use Rattle.machine_code.proofs.Line.{the-type}
 use Rattle.machine_code.proofs.Reading.{less-one}
 use Rattle.machine_lines.specs.declared.Out.{Out}
-use Rattle.machine_lines.specs.Frames.{place, word-of, words-at, put-all, Passed, branch-start, branch-end}
-use Rattle.machine_lines.specs.Lines.{Memory, memory, Ran, ran, out, halted, bound, goes-on, stepping, array-of}
+use Rattle.machine_lines.specs.Frames.{place, word-of, words-at, Passed, branch-start, branch-end}
+use Rattle.machine_lines.specs.Lines.{Memory, memory, Ran, ran, out, stepping, array-of}
 use Rattle.machine_lines.specs.Lines.{acquired-given, Doing, giving, changing, ending, calling, branching, looping}
 use Rattle.machine_lines.specs.Lines.{doing, leaf-done, leaf, Ends}
 use Rattle.machine_lines.proofs.Lines.{Told, told, leaf-fewer}

@@ -5,7 +5,7 @@ use mathlib.Core.List.{List, [], _∷_, map}
 use Prim.Native.Nat.{ℕ, zero, suc, _+_, _-_, _≤_}
 use lib.IntN.{ℤ, pos}
 use lib.Dec.{ltb, eqb}
-use lib.ListN.{getD, set, length}
+use lib.ListN.{getD, length}
 use Rattle.semantics.specs.Kinds.{Loop, mapping, later-parts}
 use Rattle.semantics.specs.Machine.{argument, pass-words, looped-over}
 use Rattle.semantics.specs.Store.{cell, cell-of, elements, acquired, appended}

@@ -16,7 +16,7 @@ use Rattle.sound_annotation.specs.Accepting.{Clean, judged-clean, functions-dis
 use Rattle.machine_code.specs.Reading.{depth-in, start-in}
 use Rattle.machine_positions.specs.Machine.{Code}
 use Rattle.machine_positions.specs.Delivery.{delivered-on}
-use Rattle.machine_laws.specs.Rows.{Here, At, Jumps, at-first, at-second}
+use Rattle.machine_laws.specs.Rows.{At, Jumps, at-first, at-second}
 use Rattle.machine_laws.specs.Calls.{Stands}
 use Rattle.machine_laws.specs.Delivery.{delivered-same}
 
