@@ -1,11 +1,10 @@
 -- Depths, found by going over the nodes: the same walk as the code's, with the names' depths as a function.
-use mathlib.Core.Path.{_≡_}
 use mathlib.Core.Bool.{cond}
 use mathlib.Core.List.{List, [], _∷_}
 use mathlib.Core.Option.{Option, none, some}
-use Prim.Native.Nat.{ℕ, zero, suc, _+_, _≤_}
+use Prim.Native.Nat.{ℕ, zero, suc, _+_}
 use lib.Dec.{leb, eqb}
-use lib.ListN.{length, getD}
+use lib.ListN.{getD}
 use Rattle.semantics.specs.Basics.{updated}
 use Rattle.semantics.specs.File as S
 use Rattle.semantics.specs.File.{at-function, at-parameter, at-part, node-at, part-count}

@@ -3,8 +3,8 @@
 use script_read::Node;
 use script_read::Place;
 ghost use mathlib.Core.Path.{_≡_};
-ghost use Prim.Native.Nat.{_+_, _*_, _^_, _<_, _≤_, min};
-ghost use lib.ListN.{length, getD, set, take};
+ghost use Prim.Native.Nat.{_+_, _<_, _≤_, min};
+ghost use lib.ListN.{length, getD, take};
 ghost use Rattle.semantics.specs.File.{low-limits, high-limits, part-count};
 ghost use Rattle.semantics.specs.Types.{all-are, same, call-rule};
 ghost use Rattle.script_depths.specs.Walk.{depths, depths-from, signature-at, signature-of};

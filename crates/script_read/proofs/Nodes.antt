@@ -12,7 +12,7 @@ use borrow.Author.Tests.{ltb-true, ltb-false, leb-true, eqb-true, lt-ltb, le-leb
 use Rattle.semantics.specs.Outcome.{done, stop}
 use Rattle.semantics.specs.File as S
 use Rattle.semantics.specs.File.{Place, at-function, at-parameter, at-part, allowed, node-of, node-at, in-parts}
-use Rattle.semantics.specs.File.{low-limits, high-limits, part-count, part-counts, look, looked}
+use Rattle.semantics.specs.File.{low-limits, high-limits, part-count, part-counts, look}
 use Rattle.script_read.specs.Told.{told-node, low-at, high-at}
 use Rattle.script_read.specs.declared.Node.{Node}
 use Rattle.script_read.specs.declared.Node.the-variants.{Fits, WrongKind, WrongOperand}

@@ -1,8 +1,8 @@
 // The reader: the nodes of a script file in prefix order, refusals 1 to 5.
 ghost use mathlib.Core.Path.{_≡_};
 ghost use mathlib.Core.Bool.{false, _&&_};
-ghost use Prim.Native.Nat.{_+_, _*_, _^_, _<_, _≤_};
-ghost use lib.ListN.{length, getD, take, drop};
+ghost use Prim.Native.Nat.{_+_, _*_, _<_};
+ghost use lib.ListN.{getD};
 ghost use Rattle.semantics.specs.Number.{bytes-at};
 ghost use Rattle.semantics.specs.File.{low-limits, high-limits, part-kinds, allowed, node-at, part-count, part};
 ghost use Rattle.semantics.specs.File.{parameter, function, script, read-file, between};

@@ -9,7 +9,7 @@ use lib.ListN.{length, getD}
 use Rattle.semantics.specs.Basics.{updated}
 use Rattle.semantics.specs.Syntax.{Expr, size, Parameter, Function, Script, function-size, function-at}
 use Rattle.semantics.specs.File.{at-function}
-use Rattle.semantics.specs.Types.{Checked, Signature, signature, check, parameter-depths, result-rule, node, some-if}
+use Rattle.semantics.specs.Types.{Checked, Signature, signature, check, parameter-depths, result-rule, some-if}
 use Rattle.semantics.specs.Types.{check-function, function-faults, signatures-of, main-shape, type-faults}
 use Rattle.script_read.specs.Told.{low-at, high-at, repeated}
 use Rattle.script_read.specs.declared.Read.{Read}
