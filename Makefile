@@ -127,12 +127,16 @@ check-rust: build/rust_link_test
 build/fault: tests/host/fault.c | build
 	$(CC) $(CFLAGS) -o $@ $<
 
+build/store_bits: tests/host/store_bits.c host/store_file.c $(patsubst %,host/%.c,$(SHARED_FILES)) $(HOST_HEADERS) | build
+	$(CC) $(CFLAGS) -Iinclude -o $@ $(filter %.c,$^)
+
+STRIKERS := build/fault build/store_bits
 HOST_TESTS := controller_test store_test fault_test script_test manual_test
 
-check-tool: all build/fault
+check-tool: all $(STRIKERS)
 	$(foreach test,$(HOST_TESTS),CC='$(CC)' LIBRARY='$(LIBRARY)' tests/host/$(test) build &&) :
 
-check-sanitized: build/sanitized/controller build/sanitized/script_tool build/forecourt.script build/fault
+check-sanitized: build/sanitized/controller build/sanitized/script_tool build/forecourt.script $(STRIKERS)
 	$(foreach test,$(HOST_TESTS),CC='$(CC)' LIBRARY='$(LIBRARY)' tests/host/$(test) build/sanitized &&) :
 
 # ---- measurements ----

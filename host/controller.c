@@ -72,8 +72,8 @@ static void save(const struct day *day)
         return;
     if (day->count == 0)
         fail(STATUS_UNWRITTEN, "%s: %s: %s; nothing was played", day->options->store, fault, strerror(errno));
-    fail(STATUS_UNWRITTEN, "%s: %s: %s; delivery %u is not counted", day->options->store, fault, strerror(errno),
-         day->count);
+    fail(STATUS_UNWRITTEN, "%s: %s: %s; the day ends, and delivery %u is not shown", day->options->store, fault,
+         strerror(errno), day->count);
 }
 
 static void check_after(const struct day *day)

@@ -51,7 +51,7 @@ static _Noreturn void fail(const char *what)
 static int go_on(pid_t child, int signal)
 {
     int status;
-    if (ptrace(PTRACE_SYSCALL, child, NULL, (void *)(long)signal) != 0)
+    if (ptrace(PTRACE_SYSCALL, child, NULL, (void *)(long)signal) != 0 && errno != ESRCH) /* it was ended */
         fail("ptrace");
     if (waitpid(child, &status, 0) != child)
         fail("waitpid");
