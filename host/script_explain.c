@@ -122,6 +122,43 @@ static void explain_crowding(const struct script *s)
     }
 }
 
+/* Whether the code is too long with the bodies of all functions after the first `whole` cut down to one node. */
+static bool is_too_long(const struct script *s, size_t whole)
+{
+    static struct script cut;
+    static uint8_t file[SCRIPT_FILE_BYTES_MAX], kinds[ENGINE_CODE_LINES_MAX];
+    static int64_t operands[ENGINE_CODE_LINES_MAX];
+    int64_t result = 0; /* depth */
+    size_t function = 0;
+    cut.count = 0;
+    cut.functions = s->functions;
+    for (size_t i = 0; i < s->count; i++) {
+        const struct node *node = &s->nodes[i];
+        if (node->kind == ENGINE_KIND_FUNCTION) {
+            function++;
+            result = node->operand / 256;
+        }
+        if (function <= whole || node->kind <= ENGINE_KIND_PARAMETER)
+            cut.nodes[cut.count++] = *node;
+        else if (s->nodes[i - 1].kind <= ENGINE_KIND_PARAMETER) /* the body begins: a number or an empty array */
+            cut.nodes[cut.count++] = result == 0
+                ? (struct node){ .kind = ENGINE_KIND_NUMBER }
+                : (struct node){ .kind = ENGINE_KIND_LITERAL, .operand = 256 * (result - 1) };
+    }
+    size_t length = script_file_of(&cut, file);
+    uint64_t answer = engine_translate(file, length, kinds, ENGINE_CODE_LINES_MAX, operands, ENGINE_CODE_LINES_MAX);
+    return engine_answer_number(answer) == ENGINE_CODE_TOO_LONG;
+}
+
+static void explain_length(const struct script *s)
+{
+    size_t whole = 1;
+    while (whole < s->functions && !is_too_long(s, whole))
+        whole++;
+    say_refusal(s, ENGINE_CODE_TOO_LONG, line_of_function(s, whole - 1),
+                "with this function, number %zu, the code passes %d lines", whole - 1, ENGINE_CODE_LINES_MAX);
+}
+
 void explain_refusal(const struct script *script, uint64_t answer)
 {
     unsigned number = engine_answer_number(answer);
@@ -138,10 +175,7 @@ void explain_refusal(const struct script *script, uint64_t answer)
     case ENGINE_UNKNOWN_NAME:
     case ENGINE_TYPE_MISMATCH: explain_depths(script, number, node); break;
     case ENGINE_TOO_MANY_NAMES: explain_crowding(script); break;
-    case ENGINE_CODE_TOO_LONG:
-        say_refusal(script, number, script->nodes[0].line, "the whole code has more than %d lines",
-                    ENGINE_CODE_LINES_MAX);
-        break;
+    case ENGINE_CODE_TOO_LONG: explain_length(script); break;
     default: say_refusal(script, number, 1, "the engine refuses the file"); break;
     }
 }
