@@ -2,7 +2,7 @@
  *
  *   fault list FILE COMMAND..      write the name and first argument of each call to a file
  *   fault kill N COMMAND..         end the program (SIGKILL) as it makes its Nth call, which is not done
- *   fault fail N ERROR COMMAND..   let the Nth call do nothing and give this error
+ *   fault fail N ERROR COMMAND..   let the Nth call do nothing and give this error, unless it is one for memory
  *
  * Calls are counted from 1, after the program was loaded. Exit status: the program's, or 128 + its signal; 125 where
  * programs cannot be traced here. For Linux on x86-64. */
@@ -41,6 +41,12 @@ static const char *name_of(unsigned long long call)
     }
 }
 
+/* Calls for memory, which a sanitizer cannot do without: they never fail. */
+static int is_for_memory(unsigned long long call)
+{
+    return call == SYS_mmap || call == SYS_munmap || call == SYS_mprotect || call == SYS_brk;
+}
+
 static _Noreturn void fail(const char *what)
 {
     fprintf(stderr, "fault: %s: %s\n", what, strerror(errno));
@@ -58,8 +64,8 @@ static int go_on(pid_t child, int signal)
     return status;
 }
 
-/* The program is about to make a call. */
-static void enter(pid_t child, const struct strike *strike, long count)
+/* The program is about to make a call; gives whether it is made to fail. */
+static int enter(pid_t child, const struct strike *strike, long count)
 {
     struct user_regs_struct registers;
     if (ptrace(PTRACE_GETREGS, child, NULL, &registers) != 0)
@@ -67,21 +73,22 @@ static void enter(pid_t child, const struct strike *strike, long count)
     if (strike->list != NULL)
         fprintf(strike->list, "%s %llu\n", name_of(registers.orig_rax), registers.rdi);
     if (count != strike->at)
-        return;
+        return 0;
     if (strike->error == 0) {
         kill(child, SIGKILL);
-        return;
+        return 0;
     }
+    if (is_for_memory(registers.orig_rax))
+        return 0;
     registers.orig_rax = (unsigned long long)-1; /* no call at all */
     ptrace(PTRACE_SETREGS, child, NULL, &registers);
+    return 1;
 }
 
-/* The program has made a call. */
-static void leave(pid_t child, const struct strike *strike, long count)
+/* The program has made the call that is to fail. */
+static void leave(pid_t child, const struct strike *strike)
 {
     struct user_regs_struct registers;
-    if (count != strike->at || strike->error == 0)
-        return;
     ptrace(PTRACE_GETREGS, child, NULL, &registers);
     registers.rax = (unsigned long long)-strike->error;
     ptrace(PTRACE_SETREGS, child, NULL, &registers);
@@ -91,7 +98,7 @@ static int trace(pid_t child, const struct strike *strike)
 {
     int status, signal = 0;
     long count = 0;
-    int is_inside = 0; /* a call */
+    int is_inside = 0, fails = 0; /* a call */
     if (waitpid(child, &status, 0) != child || !WIFSTOPPED(status))
         fail("the program did not start");
     if (ptrace(PTRACE_SETOPTIONS, child, NULL, (void *)(PTRACE_O_TRACESYSGOOD | PTRACE_O_EXITKILL)) != 0)
@@ -106,10 +113,11 @@ static int trace(pid_t child, const struct strike *strike)
         if (WSTOPSIG(status) != (SIGTRAP | 0x80)) {
             signal = WSTOPSIG(status);
         } else if (!is_inside) {
-            enter(child, strike, ++count);
+            fails = enter(child, strike, ++count);
             is_inside = 1;
         } else {
-            leave(child, strike, count);
+            if (fails)
+                leave(child, strike);
             is_inside = 0;
         }
     }
