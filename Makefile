@@ -25,23 +25,24 @@ RUST_SOURCES := $(shell find tests/rust -name '*.rs')
 # the library that rt makes, unless LIBRARY names another
 RT := $(if $(filter $(PROVED_LIBRARY),$(LIBRARY)),rt)
 goals := $(or $(MAKECMDGOALS),all)
-TOOLS_all := $(RT) $(CC)
+COMPILER := $(firstword $(CC))
+TOOLS_all := $(RT) $(COMPILER)
 TOOLS_run := $(TOOLS_all)
 TOOLS_test := rt
-TOOLS_print-script := rt $(CC)
+TOOLS_print-script := rt $(COMPILER)
 TOOLS_link-tests := $(TOOLS_all)
-TOOLS_check-header := $(CC)
+TOOLS_check-header := $(COMPILER)
 TOOLS_check-c := $(TOOLS_all)
 TOOLS_check-rust := $(RT) $(RUSTC)
 TOOLS_check-tool := $(TOOLS_all)
 TOOLS_check-sanitized := $(TOOLS_all)
 TOOLS_bench := $(TOOLS_all) $(LUA)
 HINT_rt := it proves and compiles the engine; LIBRARY=FILE uses a library that is there
-HINT_$(CC) := a C compiler; CC=NAME names another
+HINT_$(COMPILER) := a C compiler; CC=NAME names another
 HINT_$(RUSTC) := the Rust compiler; RUSTC=NAME names another
 HINT_$(LUA) := Lua 5.4 (on Debian: apt-get install lua5.4); LUA=NAME names another
 
-has = $(shell command -v $(firstword $(1)))
+has = $(shell command -v $(1))
 demand = $(if $(call has,$(1)),,$(error $(1) is missing: $(HINT_$(1))))
 $(foreach tool,$(sort $(foreach goal,$(goals),$(TOOLS_$(goal)))),$(call demand,$(tool)))
 
@@ -84,13 +85,13 @@ print-script: target/bin/print_script $(SCRIPT)
 build build/sanitized:
 	mkdir -p $@
 
-build/sanitized/%: CFLAGS += $(SANITIZERS)
+build/sanitized/%: EXTRA := $(SANITIZERS)
 
 build/controller build/sanitized/controller: $(CONTROLLER) $(HOST_HEADERS) $(LIBRARY) | build build/sanitized
-	$(CC) $(CFLAGS) -Iinclude -o $@ $(CONTROLLER) $(LIBRARY)
+	$(CC) $(CFLAGS) $(EXTRA) -Iinclude -o $@ $(CONTROLLER) $(LIBRARY)
 
 build/script_tool build/sanitized/script_tool: $(SCRIPT_TOOL) $(HOST_HEADERS) $(LIBRARY) | build build/sanitized
-	$(CC) $(CFLAGS) -Iinclude -o $@ $(SCRIPT_TOOL) $(LIBRARY)
+	$(CC) $(CFLAGS) $(EXTRA) -Iinclude -o $@ $(SCRIPT_TOOL) $(LIBRARY)
 
 build/forecourt.script: host/sample/forecourt.txt build/script_tool
 	build/script_tool assemble $< $@
@@ -99,20 +100,23 @@ build/forecourt.script: host/sample/forecourt.txt build/script_tool
 
 # what this machine can run, and what is left out
 RUST_TESTS := $(if $(call has,$(RUSTC)),check-rust)
-has_sanitizers = $(shell echo 'int main(void){return 0;}' | $(CC) $(SANITIZERS) -x c -o /dev/null - 2>/dev/null && echo yes)
+has_sanitizers = $(shell echo 'int main(void) { return 0; }' | \
+	$(CC) $(SANITIZERS) -x c -o /dev/null - 2>/dev/null && echo yes)
 SANITIZED_TESTS := $(if $(filter link-tests,$(goals)),$(if $(has_sanitizers),check-sanitized))
 
 link-tests: check-header check-c $(RUST_TESTS) check-tool $(SANITIZED_TESTS)
-	@$(if $(call has,$(CXX)),:,echo 'left out: the header in C++, for there is no $(CXX)')
+	@$(if $(call has,$(firstword $(CXX))),:,echo 'left out: the header in C++, for there is no $(CXX)')
 	@$(if $(RUST_TESTS),:,echo 'left out: the tests from Rust, for there is no $(RUSTC)')
 	@$(if $(SANITIZED_TESTS),:,echo 'left out: the tests under sanitizers, which $(CC) does not have')
 	@echo 'link tests: all that could be run passed'
 
 check-header:
 	$(CC) -std=c11 $(PEDANTIC) -Iinclude -fsyntax-only tests/c/header.c
-	$(if $(call has,$(CXX)),$(CXX) -std=c++11 -x c++ $(PEDANTIC) -Iinclude -fsyntax-only tests/c/header.c)
+	$(if $(call has,$(firstword $(CXX))),$(CXX) -std=c++11 -x c++ $(PEDANTIC) -Iinclude -fsyntax-only tests/c/header.c)
 
-build/c_link_test: $(filter-out tests/c/header.c,$(wildcard tests/c/*.c)) $(wildcard tests/c/*.h) include/engine.h $(LIBRARY) | build
+C_TESTS := $(filter-out tests/c/header.c,$(wildcard tests/c/*.c))
+
+build/c_link_test: $(C_TESTS) $(wildcard tests/c/*.h) include/engine.h $(LIBRARY) | build
 	$(CC) $(CFLAGS) -Iinclude -o $@ $(filter %.c,$^) $(LIBRARY)
 
 check-c: build/c_link_test
@@ -127,7 +131,7 @@ check-rust: build/rust_link_test
 build/fault: tests/host/fault.c | build
 	$(CC) $(CFLAGS) -o $@ $<
 
-build/store_bits: tests/host/store_bits.c host/store_file.c $(patsubst %,host/%.c,$(SHARED_FILES)) $(HOST_HEADERS) | build
+build/store_bits: tests/host/store_bits.c host/store_file.c host/text.c host/message.c $(HOST_HEADERS) | build
 	$(CC) $(CFLAGS) -Iinclude -o $@ $(filter %.c,$^)
 
 STRIKERS := build/fault build/store_bits

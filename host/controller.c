@@ -1,5 +1,5 @@
-/* A small pump controller: it opens a store for a script, or goes on with one that was kept, works a day's deliveries on
- * it, and prints for each what the service display would show. A delivery is saved before it is shown. */
+/* A small pump controller: it opens a store for a script, or goes on with one that was kept, works a day's deliveries
+ * on it, and prints for each what the service display would show. A delivery is saved before it is shown. */
 #define _POSIX_C_SOURCE 200809L /* getline */
 #include "day.h"
 #include "display.h"
@@ -176,6 +176,8 @@ static void play(struct day *day)
 {
     bool is_kept, is_standard = strcmp(day->options->day, "-") == 0;
     struct text text = is_standard ? text_of("-", day_bytes, 0) : day_of(day->options->day);
+    if (day->options->plot != NULL)
+        try_whole(day->options->plot);
     uint64_t answer = take_or_open(day->site, day->options, &is_kept);
     begin(day, answer, is_kept);
     if (is_standard)

@@ -135,7 +135,8 @@ unsigned diagnose(FILE *out, const struct words *words)
     for (size_t cell = 0; cell < words->cells; cell++) {
         uint32_t count = head_of(words, cell).count;
         if (count != 0 && count != d.places[cell])
-            found(&d, "cell %zu: its count is %" PRIu32 ", and %" PRIu32 " places name it", cell, count, d.places[cell]);
+            found(&d, "cell %zu: its count is %" PRIu32 ", and %" PRIu32 " places name it", cell, count,
+                  d.places[cell]);
     }
     return d.faults;
 }

@@ -3,21 +3,27 @@
 
 #include <stdio.h>
 
+/* Operands without parts of their own, and the roles of two equal parts. */
+#define NO_PARTS { NULL, 0 }, { NULL, 0 }
+#define ONE_NAME { "name", 255 }, { NULL, 0 }
+#define TWO_PARTS { "first part", "second part" }
+
 const struct node_kind node_kinds[ENGINE_NODE_KINDS] = {
-    [ENGINE_KIND_FUNCTION] = { "function", OPERAND_PAIR, { "parameters", 8 }, { "depth of the result", 4 }, 1, { "body" } },
+    [ENGINE_KIND_FUNCTION] = { "function", OPERAND_PAIR, { "parameters", 8 }, { "depth of the result", 4 }, 1,
+                               { "body" } },
     [ENGINE_KIND_PARAMETER] = { "parameter", OPERAND_PAIR, { "name", 255 }, { "depth", 4 }, 0, { NULL } },
-    [ENGINE_KIND_NUMBER] = { "number", OPERAND_VALUE, { NULL, 0 }, { NULL, 0 }, 0, { NULL } },
-    [ENGINE_KIND_NAME] = { "name", OPERAND_NAME, { "name", 255 }, { NULL, 0 }, 0, { NULL } },
-    [ENGINE_KIND_SUM] = { "sum", OPERAND_NONE, { NULL, 0 }, { NULL, 0 }, 2, { "first part", "second part" } },
-    [ENGINE_KIND_DIFFERENCE] = { "difference", OPERAND_NONE, { NULL, 0 }, { NULL, 0 }, 2, { "first part", "second part" } },
-    [ENGINE_KIND_LESS] = { "less", OPERAND_NONE, { NULL, 0 }, { NULL, 0 }, 2, { "first part", "second part" } },
-    [ENGINE_KIND_LET] = { "let", OPERAND_NAME, { "name", 255 }, { NULL, 0 }, 2, { "bound part", "body" } },
+    [ENGINE_KIND_NUMBER] = { "number", OPERAND_VALUE, NO_PARTS, 0, { NULL } },
+    [ENGINE_KIND_NAME] = { "name", OPERAND_NAME, ONE_NAME, 0, { NULL } },
+    [ENGINE_KIND_SUM] = { "sum", OPERAND_NONE, NO_PARTS, 2, TWO_PARTS },
+    [ENGINE_KIND_DIFFERENCE] = { "difference", OPERAND_NONE, NO_PARTS, 2, TWO_PARTS },
+    [ENGINE_KIND_LESS] = { "less", OPERAND_NONE, NO_PARTS, 2, TWO_PARTS },
+    [ENGINE_KIND_LET] = { "let", OPERAND_NAME, ONE_NAME, 2, { "bound part", "body" } },
     [ENGINE_KIND_CALL] = { "call", OPERAND_PAIR, { "function", 31 }, { "arguments", 8 }, 0, { NULL } },
     [ENGINE_KIND_LITERAL] = { "literal", OPERAND_PAIR, { "length", 16 }, { "depth of an element", 3 }, 0, { NULL } },
-    [ENGINE_KIND_INDEX] = { "index", OPERAND_NONE, { NULL, 0 }, { NULL, 0 }, 2, { "array", "position" } },
-    [ENGINE_KIND_LENGTH] = { "length", OPERAND_NONE, { NULL, 0 }, { NULL, 0 }, 1, { "array" } },
-    [ENGINE_KIND_IF] = { "if", OPERAND_NONE, { NULL, 0 }, { NULL, 0 }, 3, { "guard", "then part", "else part" } },
-    [ENGINE_KIND_MAP] = { "map", OPERAND_NAME, { "name", 255 }, { NULL, 0 }, 2, { "array", "body" } },
+    [ENGINE_KIND_INDEX] = { "index", OPERAND_NONE, NO_PARTS, 2, { "array", "position" } },
+    [ENGINE_KIND_LENGTH] = { "length", OPERAND_NONE, NO_PARTS, 1, { "array" } },
+    [ENGINE_KIND_IF] = { "if", OPERAND_NONE, NO_PARTS, 3, { "guard", "then part", "else part" } },
+    [ENGINE_KIND_MAP] = { "map", OPERAND_NAME, ONE_NAME, 2, { "array", "body" } },
 };
 
 /* The children that an operand asks for. */

@@ -78,8 +78,9 @@ static int take_option(struct options *options, const char *word, const char *ar
 /* Files that are written may not be files that are read. */
 static void keep_apart(const struct options *options)
 {
-    const struct { const char *path, *name; } read[] = { { options->script, "the script" }, { options->day, "the day" } };
-    const struct { const char *path, *name; } written[] = { { options->store, "--store" }, { options->plot, "--plot" } };
+    const struct named { const char *path, *name; } read[] = { { options->script, "the script" },
+                                                               { options->day, "the day" } };
+    const struct named written[] = { { options->store, "--store" }, { options->plot, "--plot" } };
     for (int w = 0; w < 2; w++)
         for (int r = 0; r < 2; r++)
             if (written[w].path != NULL && is_same_file(written[w].path, read[r].path))

@@ -208,7 +208,7 @@ const char *replace_file(const struct place *place, const void *bytes, size_t le
         errno = error;
         return fault;
     }
-    if (fsync(place->folder) != 0)
+    if (fsync(place->folder) != 0 && errno != EINVAL) /* a file system that has no such call */
         return "is replaced, but its folder cannot be brought to the disk";
     return NULL;
 }
@@ -225,6 +225,16 @@ static void write_stream(const char *path, const void *bytes, size_t length)
     int file = open(path, O_WRONLY | O_CLOEXEC);
     if (file < 0 || !write_bytes(file, bytes, length) || close(file) != 0)
         fail(STATUS_UNWRITTEN, "%s: cannot be written: %s", path, strerror(errno));
+}
+
+void try_whole(const char *path)
+{
+    struct place place;
+    if (is_stream(path))
+        return;
+    find_place(&place, path);
+    clear_place(&place);
+    close(place.folder);
 }
 
 void write_whole(const char *path, const void *bytes, size_t length)

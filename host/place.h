@@ -41,6 +41,9 @@ void clear_place(const struct place *place);
  * (then errno says why): the old file is as it was, unless only the folder could not be brought to the disk. */
 const char *replace_file(const struct place *place, const void *bytes, size_t length);
 
+/* Fails where write_whole would fail for the path's sake. */
+void try_whole(const char *path);
+
 /* Writes a whole file: to standard output for "-", to a device or pipe as it is, else in the old one's place.
  * Fails where not all of it could be written. */
 void write_whole(const char *path, const void *bytes, size_t length);

@@ -8,6 +8,7 @@
 #include <inttypes.h>
 #include <stdio.h>
 #include <stdlib.h>
+#include <string.h>
 
 /* Sizes in the picture's units. */
 enum {
@@ -18,7 +19,7 @@ enum {
     TOP = 90,
     BOTTOM = 400,
     MARKS_MAX = 120,  /* deliveries that are marked though they were done; more would run into each other */
-    LABELS_MAX = 60,  /* stops and refusals that are labelled with their number */
+    LABEL_WIDTH = 18, /* of the number that a stop or refusal is labelled with */
     TICKS_WIDE = 20,  /* most ticks below */
     TICKS_HIGH = 8    /* most ticks on the left */
 };
@@ -88,7 +89,7 @@ static void put_head(FILE *out, const struct plot *plot, const char *script, con
             WIDTH, HEIGHT, WIDTH, HEIGHT, WIDTH, HEIGHT, LEFT, LEFT);
     put_text(out, script);
     fputs(", day ", out);
-    put_text(out, day);
+    put_text(out, strcmp(day, "-") == 0 ? "from standard input" : day);
     fprintf(out, ", %zu deliveries, a store of %zu cells</text>\n", plot->count, plot->cells);
 }
 
@@ -97,13 +98,13 @@ static void put_axes(FILE *out, const struct plot *plot)
     size_t wide = tick(plot->count, TICKS_WIDE), high = tick(plot->cells, TICKS_HIGH);
     for (size_t cells = 0; cells <= plot->cells; cells += high) {
         double y = up(plot, (unsigned)cells);
-        fprintf(out, "<path d=\"M%d %.1fH%d\" stroke=\"#ddd\"/><text x=\"%d\" y=\"%.1f\" text-anchor=\"end\">%zu</text>\n",
-                LEFT, y, RIGHT, LEFT - 10, y + 5, cells);
+        fprintf(out, "<path d=\"M%d %.1fH%d\" stroke=\"#ddd\"/>", LEFT, y, RIGHT);
+        fprintf(out, "<text x=\"%d\" y=\"%.1f\" text-anchor=\"end\">%zu</text>\n", LEFT - 10, y + 5, cells);
     }
     for (size_t delivery = 0; delivery <= plot->count; delivery += wide) {
         double x = across(plot, delivery);
-        fprintf(out, "<path d=\"M%.1f %dv6\" stroke=\"black\"/><text x=\"%.1f\" y=\"%d\" text-anchor=\"middle\">%zu</text>\n",
-                x, BOTTOM, x, BOTTOM + 22, delivery);
+        fprintf(out, "<path d=\"M%.1f %dv6\" stroke=\"black\"/>", x, BOTTOM);
+        fprintf(out, "<text x=\"%.1f\" y=\"%d\" text-anchor=\"middle\">%zu</text>\n", x, BOTTOM + 22, delivery);
     }
     fprintf(out, "<path d=\"M%d %dV%dH%d\" fill=\"none\" stroke=\"black\"/>\n", LEFT, TOP, BOTTOM, RIGHT);
     fprintf(out, "<text x=\"%d\" y=\"%d\" text-anchor=\"middle\">delivery (0: before the first)</text>\n",
@@ -113,14 +114,16 @@ static void put_axes(FILE *out, const struct plot *plot)
     double full = up(plot, (unsigned)plot->cells);
     fprintf(out,
             "<path d=\"M%d %.1fH%d\" stroke=\"#c00\" stroke-width=\"1.5\" stroke-dasharray=\"8 4\"/>"
-            "<text x=\"%d\" y=\"%.1f\" text-anchor=\"end\" fill=\"#c00\">all %zu cells taken: the store is full</text>\n",
+            "<text x=\"%d\" y=\"%.1f\" text-anchor=\"end\" fill=\"#c00\">"
+            "all %zu cells taken: the store is full</text>\n",
             LEFT, full, RIGHT, RIGHT, full - 7, plot->cells);
 }
 
 static void put_level(FILE *out, const struct plot *plot)
 {
     unsigned cells = plot->opened;
-    fprintf(out, "<path fill=\"none\" stroke=\"#06c\" stroke-width=\"2\" d=\"M%.1f %.1f", across(plot, 0), up(plot, cells));
+    fprintf(out, "<path fill=\"none\" stroke=\"#06c\" stroke-width=\"2\" d=\"M%.1f %.1f", across(plot, 0),
+            up(plot, cells));
     for (size_t i = 0; i < plot->count; i++) {
         cells = cells_after(plot->answers[i], cells);
         fprintf(out, "%sL%.1f %.1f", i % 8 == 7 ? "\n" : "", across(plot, i + 1), up(plot, cells));
@@ -134,15 +137,27 @@ static void put_mark(FILE *out, unsigned number, double x, double y)
     if (engine_is_stop(number))
         fprintf(out, "<path d=\"M%.1f %.1fl10 10m0 -10l-10 10\" stroke=\"#c00\" stroke-width=\"3\">", x - 5, y - 5);
     else if (engine_is_refusal(number))
-        fprintf(out, "<path d=\"M%.1f %.1fl7 7l-7 7l-7 -7z\" fill=\"white\" stroke=\"#c60\" stroke-width=\"2\">", x, y - 7);
+        fprintf(out, "<path d=\"M%.1f %.1fl7 7l-7 7l-7 -7z\" fill=\"white\" stroke=\"#c60\" stroke-width=\"2\">", x,
+                y - 7);
     else
         fprintf(out, "<path d=\"M%.1f %.1fm-4 0a4 4 0 1 0 8 0a4 4 0 1 0 -8 0\" fill=\"#06c\">", x, y);
+}
+
+/* The number above a stop, or higher above a refusal, where the last one of its row leaves room. */
+static void put_label(FILE *out, unsigned number, double x, double y, double *last)
+{
+    bool is_stop = engine_is_stop(number);
+    if (x - last[is_stop] < LABEL_WIDTH)
+        return;
+    last[is_stop] = x;
+    fprintf(out, "<text x=\"%.1f\" y=\"%.1f\" font-size=\"12\" text-anchor=\"middle\" fill=\"%s\">%u</text>\n", x,
+            y - (is_stop ? 12 : 26), is_stop ? "#c00" : "#c60", number);
 }
 
 static void put_marks(FILE *out, const struct plot *plot)
 {
     unsigned cells = plot->opened;
-    size_t labels = 0;
+    double last[2] = { 0, 0 }; /* where labels of refusals and of stops stand */
     for (size_t i = 0; i < plot->count; i++) {
         unsigned number = engine_answer_number(plot->answers[i]);
         cells = cells_after(plot->answers[i], cells);
@@ -152,9 +167,8 @@ static void put_marks(FILE *out, const struct plot *plot)
         put_mark(out, number, x, y);
         fprintf(out, "<title>delivery %zu: %u %s, %" PRIu32 " steps, %u of %zu cells</title></path>\n", i + 1, number,
                 engine_word(number), engine_answer_steps(plot->answers[i]), cells, plot->cells);
-        if (number != ENGINE_DONE && labels++ < LABELS_MAX)
-            fprintf(out, "<text x=\"%.1f\" y=\"%.1f\" font-size=\"12\" text-anchor=\"middle\" fill=\"%s\">%u</text>\n", x,
-                    y - 12, engine_is_stop(number) ? "#c00" : "#c60", number);
+        if (number != ENGINE_DONE)
+            put_label(out, number, x, y, last);
     }
 }
 

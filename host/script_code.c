@@ -8,7 +8,7 @@
 
 enum { NAMES = ENGINE_NEW_NAMES_MAX, NO_NAME = -1 };
 
-/* What the text calls things: the new names of each function, and the functions themselves. Empty where it has no word. */
+/* What the text calls the new names of each function, and the functions themselves; empty where it has no word. */
 static struct word words[ENGINE_FUNCTIONS_MAX][NAMES];
 static struct word functions[ENGINE_FUNCTIONS_MAX];
 static unsigned parameters[ENGINE_FUNCTIONS_MAX];
@@ -243,7 +243,8 @@ void print_code(const struct script *script, const uint8_t *kinds, const int64_t
         for (unsigned i = 0; i < count; i++) {
             int64_t operand = operands[p.at];
             begin_line(&p);
-            printf("parameter %u: %s, of depth %" PRId64 "\n", i + 1, name_phrase(&p, operand % 256).text, operand / 256);
+            printf("parameter %u: %s, of depth %" PRId64 "\n", i + 1, name_phrase(&p, operand % 256).text,
+                   operand / 256);
         }
         p.indentation = 1;
         print_tree(&p);

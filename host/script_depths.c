@@ -226,7 +226,8 @@ static void judge_main(struct descent *d)
 {
     const struct node *main_node = d->script->nodes;
     int64_t result = main_node->operand / 256;
-    bool is_right = main_node->operand % 256 == 2 && main_node[1].operand / 256 == result && main_node[2].operand / 256 == 1;
+    bool is_right = main_node->operand % 256 == 2 && main_node[1].operand / 256 == result
+                    && main_node[2].operand / 256 == 1;
     if (!is_right)
         BREACH(d, ENGINE_TYPE_MISMATCH, 0, "main takes two parameters, the totals of its result's depth (%d) and the"
                " readings of depth 1", (int)result);

@@ -8,8 +8,8 @@
 void say_refusal(const struct script *script, unsigned number, unsigned line, const char *format, ...)
     __attribute__((format(printf, 4, 5)));
 
-/* Names each node that breaks the rule of 6 or of 7, in a script that passes 1 to 5 (and 6, for 7). The engine gave this
- * one of them. */
+/* Names each node that breaks the rule of 6 or of 7, in a script that passes 1 to 5 (and 6, for 7). The engine gave
+ * this one of them. */
 void explain_depths(const struct script *script, unsigned number, size_t node);
 
 #endif

@@ -49,7 +49,7 @@ void read_nodes(struct script *script, const char *path, uint8_t *bytes, size_t 
     size_t length = read_whole(path, bytes, capacity);
     script->path = path;
     if (length > 0 && memchr(bytes, 0, length) == NULL)
-        fail(STATUS_UNUSABLE, "%s: a text, where a script file is wanted; 'script_tool assemble' makes one of it", path);
+        fail(STATUS_UNUSABLE, "%s: a text, where a script file is wanted; 'script_tool assemble' makes one", path);
     if (length < 4)
         fail(STATUS_UNUSABLE, "%s: a script file has 4 bytes or more", path);
     script->functions = (size_t)number_at(bytes, 2);

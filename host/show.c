@@ -61,7 +61,7 @@ static void print_cells(const struct words *w)
 
 /* ---- The check ---- */
 
-/* A script of this depth that gives the totals back: the engine's check of a store depends on a script's depth alone. */
+/* A script of this depth that gives the totals back: the check of a store depends on main's depth alone. */
 static void take_plain_script(unsigned depth)
 {
     enum { NODES = 4 };
@@ -127,5 +127,7 @@ int show_store(const char *path, const char *script)
     putchar('\n');
     print_cells(&words);
     flush_output();
-    return engine_answer_number(answer) != ENGINE_DONE ? STATUS_REFUSED : reading == STORE_DAMAGED ? STATUS_UNUSABLE : 0;
+    if (engine_answer_number(answer) != ENGINE_DONE)
+        return STATUS_REFUSED;
+    return reading == STORE_DAMAGED ? STATUS_UNUSABLE : 0;
 }

@@ -12,7 +12,7 @@ static void refuse_other_files(const char *path, const uint8_t *bytes, size_t le
     if (has_store_mark(bytes, length))
         fail(STATUS_UNUSABLE, "%s: a store, where a script file is wanted", path);
     if (length > 0 && memchr(bytes, 0, length) == NULL)
-        fail(STATUS_UNUSABLE, "%s: a text, where a script file is wanted; 'script_tool assemble' makes one of it", path);
+        fail(STATUS_UNUSABLE, "%s: a text, where a script file is wanted; 'script_tool assemble' makes one", path);
 }
 
 uint64_t take_script(struct site *site, const char *path)

@@ -224,6 +224,12 @@ static void test_header(void)
     expect(engine_answer_cells(parts) == 256, "cells");
     expect(strcmp(engine_word(ENGINE_UNKNOWN_NAME), "no such nozzle") == 0, "a word");
     expect(strcmp(engine_word(12), "unknown number") == 0, "no word");
+    for (unsigned number = 0; number < 256; number++) {
+        bool is_refusal = number >= 1 && number <= 11, is_stop = number >= 21 && number <= 25;
+        expect(engine_is_refusal(number) == is_refusal && engine_is_stop(number) == is_stop, "refusals and stops");
+        bool has_word = strcmp(engine_word(number), "unknown number") != 0;
+        expect(has_word == (number == 0 || is_refusal || is_stop), "a word for each number");
+    }
     expect(ENGINE_FILE_LENGTH_MAX == 9220, "the longest file");
     expect(ENGINE_SLOTS_LENGTH(256) == 4097 && ENGINE_HEADS_LENGTH(256) == 1025, "the largest store");
 }
