@@ -115,9 +115,10 @@ check-header:
 	$(if $(call has,$(firstword $(CXX))),$(CXX) -std=c++11 -x c++ $(PEDANTIC) -Iinclude -fsyntax-only tests/c/header.c)
 
 C_TESTS := $(filter-out tests/c/header.c,$(wildcard tests/c/*.c))
+C_HEADERS := include/engine.h $(wildcard tests/c/*.h)
 
-build/c_link_test: $(C_TESTS) $(wildcard tests/c/*.h) include/engine.h $(LIBRARY) | build
-	$(CC) $(CFLAGS) -Iinclude -o $@ $(filter %.c,$^) $(LIBRARY)
+build/c_link_test build/sanitized/c_link_test: $(C_TESTS) $(C_HEADERS) $(LIBRARY) | build build/sanitized
+	$(CC) $(CFLAGS) $(EXTRA) -Iinclude -o $@ $(C_TESTS) $(LIBRARY)
 
 check-c: build/c_link_test
 	build/c_link_test $(VECTORS)
@@ -140,7 +141,8 @@ HOST_TESTS := controller_test store_test fault_test script_test manual_test
 check-tool: all $(STRIKERS)
 	$(foreach test,$(HOST_TESTS),CC='$(CC)' LIBRARY='$(LIBRARY)' tests/host/$(test) build &&) :
 
-check-sanitized: build/sanitized/controller build/sanitized/script_tool build/forecourt.script $(STRIKERS)
+check-sanitized: $(patsubst %,build/sanitized/%,c_link_test controller script_tool) build/forecourt.script $(STRIKERS)
+	build/sanitized/c_link_test $(VECTORS)
 	$(foreach test,$(HOST_TESTS),CC='$(CC)' LIBRARY='$(LIBRARY)' tests/host/$(test) build/sanitized &&) :
 
 # ---- measurements ----

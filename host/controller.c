@@ -165,7 +165,10 @@ static void play_standard_input(struct day *day)
 /* The day's text, judged whole, where it is a file. */
 static struct text day_of(const char *path)
 {
-    struct text text = text_of(path, day_bytes, read_whole(path, day_bytes, sizeof day_bytes));
+    size_t length = read_whole(path, day_bytes, sizeof day_bytes);
+    if (memchr(day_bytes, 0, length) != NULL)
+        fail(STATUS_UNUSABLE, "%s: a script file or other data, where the text of a day is wanted", path);
+    struct text text = text_of(path, day_bytes, length);
     unsigned faulty = judge_day(text);
     if (faulty > 0)
         fail(STATUS_UNUSABLE, "%s: %u faulty line%s; nothing was played", path, faulty, faulty == 1 ? "" : "s");

@@ -3,13 +3,13 @@
 
 static enum line_content faulty(const struct text *text, const char *what)
 {
-    complain("%s:%u: %s", text->path, text->line, what);
+    complain_at(text->path, text->line, "%s", what);
     return LINE_FAULTY;
 }
 
 static enum line_content faulty_word(const struct text *text, struct word word, const char *what)
 {
-    complain("%s:%u: %s %s", text->path, text->line, quote_word(word).text, what);
+    complain_at(text->path, text->line, "%s %s", quote_word(word).text, what);
     return LINE_FAULTY;
 }
 
@@ -42,7 +42,7 @@ static enum line_content add_reading(const struct text *text, struct word word, 
     case NUMERAL_FITS: break;
     }
     if (delivery->count == LINE_READINGS_MAX) {
-        complain("%s:%u: over %d readings", text->path, text->line, LINE_READINGS_MAX);
+        complain_at(text->path, text->line, "over %d readings", LINE_READINGS_MAX);
         return LINE_FAULTY;
     }
     delivery->readings[delivery->count++] = number;

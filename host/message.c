@@ -5,7 +5,6 @@
 #include <errno.h>
 #include <fcntl.h>
 #include <signal.h>
-#include <stdarg.h>
 #include <stdio.h>
 #include <stdlib.h>
 #include <string.h>
@@ -23,6 +22,21 @@ void complain(const char *format, ...)
     va_list arguments;
     va_start(arguments, format);
     print_message(format, arguments);
+    va_end(arguments);
+}
+
+void complain_at_with(const char *path, unsigned line, const char *format, va_list arguments)
+{
+    fflush(stdout);
+    fprintf(stderr, "%s:%u: ", path, line);
+    print_message(format, arguments);
+}
+
+void complain_at(const char *path, unsigned line, const char *format, ...)
+{
+    va_list arguments;
+    va_start(arguments, format);
+    complain_at_with(path, line, format, arguments);
     va_end(arguments);
 }
 

@@ -2,6 +2,7 @@
 #ifndef MESSAGE_H
 #define MESSAGE_H
 
+#include <stdarg.h>
 #include <stdbool.h>
 #include <stddef.h>
 
@@ -10,6 +11,10 @@ enum { STATUS_REFUSED = 1, STATUS_UNUSABLE = 2, STATUS_UNWRITTEN = 3 };
 
 /* Prints a message on a line of its own. */
 void complain(const char *format, ...) __attribute__((format(printf, 1, 2)));
+
+/* Prints a message about a line of a file: "path:line: message". */
+void complain_at(const char *path, unsigned line, const char *format, ...) __attribute__((format(printf, 3, 4)));
+void complain_at_with(const char *path, unsigned line, const char *format, va_list arguments);
 
 /* Prints a message and ends the program. */
 _Noreturn void fail(int status, const char *format, ...) __attribute__((format(printf, 2, 3)));

@@ -18,11 +18,13 @@ static void warn_of_indentation(const struct script *s)
             first_child[parent] = i;
         size_t sibling = parent == NO_PARENT ? 0 : first_child[parent];
         if (parent != NO_PARENT && node->indentation <= s->nodes[parent].indentation)
-            complain("%s:%u: warning: it stands below line %u in the script, and is not indented deeper", s->path,
-                     node->line, s->nodes[parent].line);
+            complain_at(s->path, node->line,
+                        "warning: it stands below line %u in the script, and is not indented deeper",
+                        s->nodes[parent].line);
         else if (node->indentation != s->nodes[sibling].indentation)
-            complain("%s:%u: warning: it stands beside line %u in the script, and is not indented alike", s->path,
-                     node->line, s->nodes[sibling].line);
+            complain_at(s->path, node->line,
+                        "warning: it stands beside line %u in the script, and is not indented alike",
+                        s->nodes[sibling].line);
     }
 }
 
@@ -30,8 +32,8 @@ static void warn_of_unused(const struct script *s)
 {
     for (size_t i = 0; i < s->defined; i++)
         if (!s->definitions[i].is_used)
-            complain("%s:%u: warning: %s is defined and not used", s->path, s->definitions[i].line,
-                     quote_word(s->definitions[i].word).text);
+            complain_at(s->path, s->definitions[i].line, "warning: %s is defined and not used",
+                        quote_word(s->definitions[i].word).text);
 }
 
 /* ---- The check ---- */

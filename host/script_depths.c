@@ -25,13 +25,18 @@ struct descent {
 
 /* ---- What is said ---- */
 
-#define BREACH(descent, number_, node_, ...) \
-    do { \
-        if ((descent)->number == (number_)) { \
-            (descent)->has_engines_node |= (node_) == (descent)->engines_node; \
-            say_refusal((descent)->script, number_, (descent)->script->nodes[node_].line, __VA_ARGS__); \
-        } \
-    } while (0)
+/* A node that breaks the rule of a number. */
+__attribute__((format(printf, 4, 5))) static void breach(struct descent *d, unsigned number, size_t node,
+                                                         const char *format, ...)
+{
+    va_list arguments;
+    if (d->number != number)
+        return;
+    d->has_engines_node |= node == d->engines_node;
+    va_start(arguments, format);
+    say_refusal_with(d->script, number, d->script->nodes[node].line, format, arguments);
+    va_end(arguments);
+}
 
 struct phrase {
     char text[48];
@@ -70,7 +75,7 @@ static int wanted_part(struct descent *d, size_t node, unsigned child, int wante
     int depth = part_depth(d);
     if (depth == NO_DEPTH || depth == wanted)
         return depth;
-    BREACH(d, ENGINE_TYPE_MISMATCH, node, "its %s is %s, and %s is wanted", role_of(n->kind, n->operand, child).text,
+    breach(d, ENGINE_TYPE_MISMATCH, node, "its %s is %s, and %s is wanted", role_of(n->kind, n->operand, child).text,
            depth_phrase(depth).text, depth_phrase(wanted).text);
     return NO_DEPTH;
 }
@@ -81,7 +86,7 @@ static int array_part(struct descent *d, size_t node)
     int depth = part_depth(d);
     if (depth != 0)
         return depth;
-    BREACH(d, ENGINE_TYPE_MISMATCH, node, "its array is a number");
+    breach(d, ENGINE_TYPE_MISMATCH, node, "its array is a number");
     return NO_DEPTH;
 }
 
@@ -90,7 +95,7 @@ static int name_depth(struct descent *d, size_t node)
     const struct node *n = &d->script->nodes[node];
     struct binding binding = d->names[n->operand];
     if (!binding.is_known)
-        BREACH(d, ENGINE_UNKNOWN_NAME, node, "the name %s is not known here", name_phrase(n).text);
+        breach(d, ENGINE_UNKNOWN_NAME, node, "the name %s is not known here", name_phrase(n).text);
     return binding.is_known ? binding.depth : NO_DEPTH;
 }
 
@@ -127,7 +132,7 @@ static int map_depth(struct descent *d, size_t node)
         return NO_DEPTH;
     if (body < ENGINE_DEPTH_MAX)
         return body + 1;
-    BREACH(d, ENGINE_TYPE_MISMATCH, node, "its result would have depth %d, and %d is the greatest", body + 1,
+    breach(d, ENGINE_TYPE_MISMATCH, node, "its result would have depth %d, and %d is the greatest", body + 1,
            ENGINE_DEPTH_MAX);
     return NO_DEPTH;
 }
@@ -148,10 +153,10 @@ static int call_depth(struct descent *d, size_t node)
             part_depth(d);
     }
     if (!is_there)
-        BREACH(d, ENGINE_UNKNOWN_NAME, node, "there is no function %s: the script has %zu, counted from 0",
+        breach(d, ENGINE_UNKNOWN_NAME, node, "there is no function %s: the script has %zu, counted from 0",
                name_phrase(n).text, s->functions);
     else if (given != wanted)
-        BREACH(d, ENGINE_TYPE_MISMATCH, node, "%u argument%s, and function %s of line %u takes %u", given,
+        breach(d, ENGINE_TYPE_MISMATCH, node, "%u argument%s, and function %s of line %u takes %u", given,
                given == 1 ? "" : "s", name_phrase(n).text, function->line, wanted);
     return is_there && given == wanted && has_depths ? (int)(function->operand / 256) : NO_DEPTH;
 }
@@ -180,7 +185,7 @@ static int if_depth(struct descent *d, size_t node)
         return NO_DEPTH;
     if (then_part == else_part)
         return then_part;
-    BREACH(d, ENGINE_TYPE_MISMATCH, node, "its then part is %s, and its else part %s", depth_phrase(then_part).text,
+    breach(d, ENGINE_TYPE_MISMATCH, node, "its then part is %s, and its else part %s", depth_phrase(then_part).text,
            depth_phrase(else_part).text);
     return NO_DEPTH;
 }
@@ -215,7 +220,7 @@ static void bind_parameters(struct descent *d, size_t function)
         const struct node *parameter = &s->nodes[d->at];
         struct binding *binding = &d->names[parameter->operand % 256];
         if (binding->is_known)
-            BREACH(d, ENGINE_UNKNOWN_NAME, d->at, "the function of line %u has the parameter name %s twice",
+            breach(d, ENGINE_UNKNOWN_NAME, d->at, "the function of line %u has the parameter name %s twice",
                    s->nodes[function].line, name_phrase(parameter).text);
         else
             *binding = (struct binding){ true, (int)(parameter->operand / 256) };
@@ -229,7 +234,7 @@ static void judge_main(struct descent *d)
     bool is_right = main_node->operand % 256 == 2 && main_node[1].operand / 256 == result
                     && main_node[2].operand / 256 == 1;
     if (!is_right)
-        BREACH(d, ENGINE_TYPE_MISMATCH, 0, "main takes two parameters, the totals of its result's depth (%d) and the"
+        breach(d, ENGINE_TYPE_MISMATCH, 0, "main takes two parameters, the totals of its result's depth (%d) and the"
                " readings of depth 1", (int)result);
 }
 
@@ -247,7 +252,7 @@ void explain_depths(const struct script *script, unsigned number, size_t node)
         bind_parameters(&d, function);
         int depth = part_depth(&d);
         if (depth != NO_DEPTH && depth != wanted)
-            BREACH(&d, ENGINE_TYPE_MISMATCH, function, "its body is %s, and its result is said to be %s",
+            breach(&d, ENGINE_TYPE_MISMATCH, function, "its body is %s, and its result is said to be %s",
                    depth_phrase(depth).text, depth_phrase(wanted).text);
     }
     if (!d.has_engines_node)

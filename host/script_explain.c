@@ -4,19 +4,23 @@
 #include "script_depths.h"
 
 #include <inttypes.h>
-#include <stdarg.h>
 #include <stdio.h>
 
 static struct parentage parentage[SCRIPT_NODES_MAX + 1];
 
-void say_refusal(const struct script *s, unsigned number, unsigned line, const char *format, ...)
+void say_refusal_with(const struct script *s, unsigned number, unsigned line, const char *format, va_list arguments)
 {
     char what[320];
+    vsnprintf(what, sizeof what, format, arguments);
+    complain_at(s->path, line, "%u %s: %s", number, engine_word(number), what);
+}
+
+void say_refusal(const struct script *s, unsigned number, unsigned line, const char *format, ...)
+{
     va_list arguments;
     va_start(arguments, format);
-    vsnprintf(what, sizeof what, format, arguments);
+    say_refusal_with(s, number, line, format, arguments);
     va_end(arguments);
-    complain("%s:%u: %u %s: %s", s->path, line, number, engine_word(number), what);
 }
 
 /* ---- 2: sizes ---- */

@@ -14,16 +14,17 @@ struct reader {
     bool is_faulty; /* the present line */
 };
 
-/* One fault is named of each line. */
-#define FAULT(reader, ...) (is_first_fault(reader) ? complain(__VA_ARGS__) : (void)0)
-#define PLACE(reader) (reader)->text.path, (reader)->text.line
-
-static bool is_first_fault(struct reader *r)
+/* Says what is wrong with the present line, unless something was said of it already. */
+__attribute__((format(printf, 2, 3))) static void fault(struct reader *r, const char *format, ...)
 {
-    bool is_first = !r->is_faulty;
+    va_list arguments;
+    if (r->is_faulty)
+        return;
     r->is_faulty = true;
-    r->faults += is_first;
-    return is_first;
+    r->faults++;
+    va_start(arguments, format);
+    complain_at_with(r->text.path, r->text.line, format, arguments);
+    va_end(arguments);
 }
 
 /* The definition of a word, or null. */
@@ -42,13 +43,13 @@ static int64_t number_in(struct reader *r, int64_t least, int64_t greatest, stru
     struct word word;
     int64_t number = 0;
     if (!next_word(&r->text, &word)) {
-        FAULT(r, "%s:%u: a number is missing", PLACE(r));
+        fault(r, "a number is missing");
         return 0;
     }
     if (!number_of(word, &number)) {
         struct definition *definition = definition_of(r->script, word);
         if (definition == NULL) {
-            FAULT(r, "%s:%u: %s is neither a number nor defined", PLACE(r), quote_word(word).text);
+            fault(r, "%s is neither a number nor defined", quote_word(word).text);
             return 0;
         }
         definition->is_used = true;
@@ -56,7 +57,7 @@ static int64_t number_in(struct reader *r, int64_t least, int64_t greatest, stru
         *used = word;
     }
     if (number < least || number > greatest) {
-        FAULT(r, "%s:%u: %" PRId64 " is not within %" PRId64 " to %" PRId64, PLACE(r), number, least, greatest);
+        fault(r, "%" PRId64 " is not within %" PRId64 " to %" PRId64, number, least, greatest);
         return 0;
     }
     return number;
@@ -69,16 +70,15 @@ static void define(struct reader *r)
     struct word unused;
     int64_t number;
     if (!next_word(&r->text, &definition.word) || number_of(definition.word, &number)) {
-        FAULT(r, "%s:%u: 'define' wants a word and a number", PLACE(r));
+        fault(r, "'define' wants a word and a number");
         return;
     }
     const struct definition *before = definition_of(s, definition.word);
     if (before != NULL)
-        FAULT(r, "%s:%u: %s is defined twice, first on line %u", PLACE(r), quote_word(definition.word).text,
-              before->line);
+        fault(r, "%s is defined twice, first on line %u", quote_word(definition.word).text, before->line);
     definition.number = number_in(r, INT64_MIN, INT64_MAX, &unused);
     if (s->defined == DEFINITIONS_MAX)
-        FAULT(r, "%s:%u: over %d definitions", PLACE(r), DEFINITIONS_MAX);
+        fault(r, "over %d definitions", DEFINITIONS_MAX);
     if (!r->is_faulty)
         s->definitions[s->defined++] = definition;
 }
@@ -111,7 +111,7 @@ static struct node node_in(struct reader *r, struct word word)
     while (node.kind < ENGINE_NODE_KINDS && !word_is(word, node_kinds[node.kind].word))
         node.kind++;
     if (node.kind == ENGINE_NODE_KINDS)
-        FAULT(r, "%s:%u: %s is no kind of node", PLACE(r), quote_word(word).text);
+        fault(r, "%s is no kind of node", quote_word(word).text);
     else
         node.operand = operand_in(r, node_kinds[node.kind].parts, &node.word);
     return node;
@@ -123,7 +123,7 @@ static void add_node(struct reader *r, struct word word, unsigned indentation)
     struct node node = node_in(r, word);
     node.indentation = indentation;
     if (s->count == SCRIPT_NODES_MAX) {
-        FAULT(r, "%s:%u: over %d nodes", PLACE(r), SCRIPT_NODES_MAX);
+        fault(r, "over %d nodes", SCRIPT_NODES_MAX);
         return;
     }
     s->nodes[s->count++] = node;
@@ -149,7 +149,7 @@ static void read_line(struct reader *r)
         add_node(r, word, columns);
     }
     if (!r->is_faulty && next_word(&r->text, &word))
-        FAULT(r, "%s:%u: %s is left over", PLACE(r), quote_word(word).text);
+        fault(r, "%s is left over", quote_word(word).text);
 }
 
 void read_text(struct script *script, const char *path, uint8_t *bytes, size_t capacity)

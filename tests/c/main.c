@@ -234,6 +234,22 @@ static void test_header(void)
     expect(ENGINE_SLOTS_LENGTH(256) == 4097 && ENGINE_HEADS_LENGTH(256) == 1025, "the largest store");
 }
 
+/* The calls on one struct are the calls. */
+static void test_lent(void)
+{
+    open_printed(2);
+    struct engine_lent all = { lent.file, lent.file_length, lent.kinds, lent.kinds_length, lent.operands,
+                               lent.operands_length, lent.slots, lent.slots_length, lent.heads, lent.heads_length };
+    const int64_t readings[1] = { 250 };
+    expect(engine_translate_lent(&all) == answer(0, 0, PRINTED_LINES, 0), "translate on the struct");
+    expect(engine_deliver_lent(&all, readings, 1, 1000) == answer(0, 0, 4, 1) && totals_are(250), "deliver on it");
+    expect(engine_check_lent(&all) == answer(0, 0, 0, 1) && totals_are(250), "check on it");
+    expect(engine_open_lent(&all) == answer(0, 0, 0, 1) && lent.slots[0] == 0, "open on it");
+    for (size_t i = 0; i < PRINTED_LINES; i++)
+        expect(lent.kinds[i] == printed_code[i].kind, "a kind");
+    expect(printed_code[10].kind == ENGINE_KIND_RELEASE && printed_code[20].kind == ENGINE_KIND_END, "kinds by name");
+}
+
 int main(int count, char **arguments)
 {
     bool agreed = true;
@@ -241,6 +257,7 @@ int main(int count, char **arguments)
     for (int i = 1; i < count; i++)
         agreed &= run_vectors(arguments[i]);
     test_header();
+    test_lent();
     test_translate();
     test_cut_files();
     test_trials();
