@@ -87,30 +87,37 @@ struct phrase {
     char text[48];
 };
 
+/* The first characters of a word; others than printable ASCII as '?'. */
+static struct phrase word_phrase(struct word word)
+{
+    enum { CHARACTERS = 32 };
+    struct phrase phrase;
+    size_t length = word.length < CHARACTERS ? word.length : CHARACTERS;
+    for (size_t i = 0; i < length; i++)
+        phrase.text[i] = word.start[i] > ' ' && word.start[i] <= '~' ? word.start[i] : '?';
+    phrase.text[length] = '\0';
+    return phrase;
+}
+
 /* A name by its word; with its number, where the function has the word twice; else by its number alone. */
 static struct phrase name_phrase(const struct printing *p, int64_t name)
 {
-    struct phrase phrase;
     struct word word = words[p->function][name];
+    struct phrase phrase = word_phrase(word);
     int uses = 0;
     for (int i = 0; word.length > 0 && i < NAMES; i++)
         uses += same_word(words[p->function][i], word);
-    if (word.length == 0)
-        snprintf(phrase.text, sizeof phrase.text, "%%%d", (int)name);
-    else
-        snprintf(phrase.text, sizeof phrase.text, uses > 1 ? "%.*s%%%d" : "%.*s",
-                 (int)(word.length < 32 ? word.length : 32), word.start, (int)name);
+    size_t length = strlen(phrase.text);
+    if (uses != 1)
+        snprintf(phrase.text + length, sizeof phrase.text - length, "%%%d", (int)name);
     return phrase;
 }
 
 static struct phrase function_phrase(size_t function)
 {
-    struct phrase phrase;
-    struct word word = functions[function];
-    if (word.length == 0)
+    struct phrase phrase = word_phrase(functions[function]);
+    if (functions[function].length == 0)
         snprintf(phrase.text, sizeof phrase.text, "function %zu", function);
-    else
-        snprintf(phrase.text, sizeof phrase.text, "%.*s", (int)(word.length < 32 ? word.length : 32), word.start);
     return phrase;
 }
 

@@ -118,7 +118,7 @@ static void explain_crowding(const struct script *s)
         size_t function = i++;
         unsigned names = (unsigned)(s->nodes[function].operand % 256);
         for (; i < s->count && s->nodes[i].kind != ENGINE_KIND_FUNCTION; i++)
-            names += is_compound(s->nodes[i].kind) + (s->nodes[i].kind == ENGINE_KIND_MAP);
+            names += s->nodes[i].kind == ENGINE_KIND_MAP ? 2 : is_compound(s->nodes[i].kind) ? 1 : 0;
         if (names > ENGINE_NEW_NAMES_MAX)
             say_refusal(s, ENGINE_TOO_MANY_NAMES, s->nodes[function].line,
                         "this function needs %u names (its parameters, one for each node that costs a step, one more"

@@ -86,8 +86,8 @@ static void take_plain_script(unsigned depth)
     };
 }
 
-/* The script that the store is checked for; fails where it has not the store's depth. */
-static void take_scripts_part(const char *script, const struct store_header *found)
+/* Takes the script that the store is checked for, and says whether it is the store's own. */
+static void take_checked_script(const char *script, const struct store_header *found)
 {
     if (script == NULL) {
         take_plain_script(found->depth);
@@ -97,7 +97,8 @@ static void take_scripts_part(const char *script, const struct store_header *fou
     printf("script       ");
     print_number(stdout, answer);
     if (engine_answer_number(answer) == ENGINE_DONE)
-        printf(", %s", site.header.script == found->script ? "the store's own" : "not the store's own");
+        printf(", main's depth %u, %s", site.header.depth,
+               site.header.script == found->script ? "the store's own" : "not the store's own");
     putchar('\n');
 }
 
@@ -113,7 +114,7 @@ int show_store(const char *path, const char *script)
            found.depth, found.script);
     if (reading == STORE_DAMAGED)
         complain("%s: %s", path, fault.text);
-    take_scripts_part(script, &found);
+    take_checked_script(script, &found);
     lend_cells(&site, found.cells);
     struct words words = { site.slots, site.heads, found.cells, found.depth };
     uint64_t answer = engine_check_lent(&site.lent);
@@ -121,7 +122,7 @@ int show_store(const char *path, const char *script)
     print_number(stdout, answer);
     putchar('\n');
     if (engine_answer_number(answer) == ENGINE_UNSOUND_STORE && diagnose(stdout, &words) == 0)
-        printf("broken rule  none was found for depth %u\n", found.depth);
+        printf("broken rule  none for main's depth %u, which is the store's\n", found.depth);
     printf("totals       ");
     print_value(stdout, site.slots, site.heads, found.cells, site.slots[0], found.depth);
     putchar('\n');
