@@ -1,24 +1,67 @@
-# The engine's static library, the host programs over it, their tests and measurements.
-#
-#   make run         build all, and play the sample day
-#   make test        the gate: prove everything from nothing, try the must-fail edits, run each program
-#   make link-tests  C and Rust tests on the static library (needs rustc)
-#   make bench       measure, beside Lua 5.4, and write docs/PERFORMANCE.md (needs lua5.4)
+# The engine's static library, the host programs over it, their tests and measurements. `make help` lists what to make.
 
 CC ?= cc
+CXX ?= c++
 CFLAGS ?= -std=c11 -Wall -Wextra -Werror -O2
 RUSTC ?= rustc
 LUA ?= lua5.4
-LIBRARY ?= target/staticlib/libengine.a
+PROVED_LIBRARY := target/staticlib/libengine.a
+LIBRARY ?= $(PROVED_LIBRARY)
 VECTORS ?= $(wildcard $(foreach name,translate check deliver,crates/*/data/$(name).txt))
+SANITIZERS := -O1 -g -fsanitize=address,undefined -fno-sanitize-recover=all
+PEDANTIC := -Wall -Wextra -Wpedantic -Wconversion -Wsign-conversion -Werror
+SCRIPT ?= build/forecourt.script
 
 SOURCES := crates.txt $(shell find crates -name '*.rt' -o -name '*.antt')
 HOST_HEADERS := include/engine.h $(wildcard host/*.h)
+SHARED_FILES := message place text
+CONTROLLER := $(patsubst %,host/%.c,controller day diagnosis display options plot show site store_file $(SHARED_FILES))
+SCRIPT_TOOL := $(patsubst %,host/%.c,script_tool script_text script_file script_check script_explain script_depths \
+	script_code node_kinds $(SHARED_FILES))
 RUST_SOURCES := $(shell find tests/rust -name '*.rs')
 
-.PHONY: all run test link-tests check-c check-rust check-tool bench clean
+# ---- what a goal needs is looked for before any work is done ----
+
+# the library that rt makes, unless LIBRARY names another
+RT := $(if $(filter $(PROVED_LIBRARY),$(LIBRARY)),rt)
+goals := $(or $(MAKECMDGOALS),all)
+COMPILER := $(firstword $(CC))
+TOOLS_all := $(RT) $(COMPILER)
+TOOLS_run := $(TOOLS_all)
+TOOLS_test := rt
+TOOLS_print-script := rt $(COMPILER)
+TOOLS_link-tests := $(TOOLS_all)
+TOOLS_check-header := $(COMPILER)
+TOOLS_check-c := $(TOOLS_all)
+TOOLS_check-rust := $(RT) $(RUSTC)
+TOOLS_check-tool := $(TOOLS_all)
+TOOLS_check-sanitized := $(TOOLS_all)
+TOOLS_bench := $(TOOLS_all) $(LUA)
+HINT_rt := it proves and compiles the engine; LIBRARY=FILE uses a library that is there
+HINT_$(COMPILER) := a C compiler; CC=NAME names another
+HINT_$(RUSTC) := the Rust compiler; RUSTC=NAME names another
+HINT_$(LUA) := Lua 5.4 (on Debian: apt-get install lua5.4); LUA=NAME names another
+
+has = $(shell command -v $(1))
+demand = $(if $(call has,$(1)),,$(error $(1) is missing: $(HINT_$(1))))
+$(foreach tool,$(sort $(foreach goal,$(goals),$(TOOLS_$(goal)))),$(call demand,$(tool)))
+
+.PHONY: help all run test print-script link-tests check-header check-c check-rust check-tool check-sanitized bench clean
 
 all: build/controller build/script_tool build/forecourt.script
+
+help:
+	@echo 'make run           prove and compile the engine, build the host programs, play the sample day'
+	@echo 'make test          the gate: prove everything from nothing, try the must-fail edits, run each program'
+	@echo 'make all           the host programs, build/controller and build/script_tool, and the sample script'
+	@echo 'make print-script  prove and build the program that prints a script as document 01 says, and run it on'
+	@echo '                   SCRIPT=FILE (default: the sample script)'
+	@echo 'make link-tests    test the header, the library from C and Rust, and the host programs; what cannot be'
+	@echo '                   run here is named at the end. Its parts: check-header, check-c, check-rust, check-tool,'
+	@echo '                   check-sanitized'
+	@echo 'make bench         measure beside Lua 5.4, and write docs/PERFORMANCE.md'
+	@echo 'make clean         remove build/; what is proved stays in target/'
+	@echo 'LIBRARY=FILE       use this library of the engine, and prove nothing'
 
 run: all
 	build/controller --check --cells 32 build/forecourt.script host/sample/day.txt
@@ -26,31 +69,56 @@ run: all
 test:
 	.ci/run
 
-# ---- the library ----
+# ---- what rt makes ----
 
-target/staticlib/libengine.a: $(SOURCES)
-	rt staticlib engine
+$(PROVED_LIBRARY): $(SOURCES)
+	tools/prove staticlib engine
 
-# ---- the host programs ----
+target/bin/print_script: $(SOURCES)
+	tools/prove check print_script
 
-build:
-	mkdir -p build
+print-script: target/bin/print_script $(SCRIPT)
+	@target/bin/print_script <$(SCRIPT)
 
-build/controller: host/controller.c host/input.c host/display.c host/store_file.c $(HOST_HEADERS) $(LIBRARY) | build
-	$(CC) $(CFLAGS) -Iinclude -o $@ $(filter %.c,$^) $(LIBRARY)
+# ---- the host programs; those in build/sanitized stop at any slip ----
 
-build/script_tool: host/script_tool.c host/input.c $(HOST_HEADERS) | build
-	$(CC) $(CFLAGS) -Iinclude -o $@ $(filter %.c,$^)
+build build/sanitized:
+	mkdir -p $@
+
+build/sanitized/%: EXTRA := $(SANITIZERS)
+
+build/controller build/sanitized/controller: $(CONTROLLER) $(HOST_HEADERS) $(LIBRARY) | build build/sanitized
+	$(CC) $(CFLAGS) $(EXTRA) -Iinclude -o $@ $(CONTROLLER) $(LIBRARY)
+
+build/script_tool build/sanitized/script_tool: $(SCRIPT_TOOL) $(HOST_HEADERS) $(LIBRARY) | build build/sanitized
+	$(CC) $(CFLAGS) $(EXTRA) -Iinclude -o $@ $(SCRIPT_TOOL) $(LIBRARY)
 
 build/forecourt.script: host/sample/forecourt.txt build/script_tool
 	build/script_tool assemble $< $@
 
 # ---- tests of the library and the programs ----
 
-link-tests: check-c check-rust check-tool
+# what this machine can run, and what is left out
+RUST_TESTS := $(if $(call has,$(RUSTC)),check-rust)
+has_sanitizers = $(shell echo 'int main(void) { return 0; }' | \
+	$(CC) $(SANITIZERS) -x c -o /dev/null - 2>/dev/null && echo yes)
+SANITIZED_TESTS := $(if $(filter link-tests,$(goals)),$(if $(has_sanitizers),check-sanitized))
 
-build/c_link_test: $(wildcard tests/c/*.c tests/c/*.h) include/engine.h $(LIBRARY) | build
-	$(CC) $(CFLAGS) -Iinclude -o $@ $(filter %.c,$^) $(LIBRARY)
+link-tests: check-header check-c $(RUST_TESTS) check-tool $(SANITIZED_TESTS)
+	@$(if $(call has,$(firstword $(CXX))),:,echo 'left out: the header in C++, for there is no $(CXX)')
+	@$(if $(RUST_TESTS),:,echo 'left out: the tests from Rust, for there is no $(RUSTC)')
+	@$(if $(SANITIZED_TESTS),:,echo 'left out: the tests under sanitizers, which $(CC) does not have')
+	@echo 'link tests: all that could be run passed'
+
+check-header:
+	$(CC) -std=c11 $(PEDANTIC) -Iinclude -fsyntax-only tests/c/header.c
+	$(if $(call has,$(firstword $(CXX))),$(CXX) -std=c++11 -x c++ $(PEDANTIC) -Iinclude -fsyntax-only tests/c/header.c)
+
+C_TESTS := $(filter-out tests/c/header.c,$(wildcard tests/c/*.c))
+C_HEADERS := include/engine.h $(wildcard tests/c/*.h)
+
+build/c_link_test build/sanitized/c_link_test: $(C_TESTS) $(C_HEADERS) $(LIBRARY) | build build/sanitized
+	$(CC) $(CFLAGS) $(EXTRA) -Iinclude -o $@ $(C_TESTS) $(LIBRARY)
 
 check-c: build/c_link_test
 	build/c_link_test $(VECTORS)
@@ -61,9 +129,21 @@ build/rust_link_test: $(RUST_SOURCES) $(LIBRARY) | build
 check-rust: build/rust_link_test
 	build/rust_link_test $(VECTORS)
 
-check-tool: all
-	tests/tool_test
-	tests/manual_test
+build/fault: tests/host/fault.c | build
+	$(CC) $(CFLAGS) -o $@ $<
+
+build/store_bits: tests/host/store_bits.c host/store_file.c host/text.c host/message.c $(HOST_HEADERS) | build
+	$(CC) $(CFLAGS) -Iinclude -o $@ $(filter %.c,$^)
+
+STRIKERS := build/fault build/store_bits
+HOST_TESTS := controller_test store_test fault_test script_test manual_test
+
+check-tool: all $(STRIKERS)
+	$(foreach test,$(HOST_TESTS),CC='$(CC)' LIBRARY='$(LIBRARY)' tests/host/$(test) build &&) :
+
+check-sanitized: $(patsubst %,build/sanitized/%,c_link_test controller script_tool) build/forecourt.script $(STRIKERS)
+	build/sanitized/c_link_test $(VECTORS)
+	$(foreach test,$(HOST_TESTS),CC='$(CC)' LIBRARY='$(LIBRARY)' tests/host/$(test) build/sanitized &&) :
 
 # ---- measurements ----
 

@@ -17,24 +17,27 @@ static void node(struct writer *w, uint8_t kind, int64_t operand)
     assert(w->nodes < ENGINE_NODES_MAX);
     w->kinds[w->nodes] = kind;
     w->operands[w->nodes++] = operand;
-    w->functions += kind == 0;
+    w->functions += kind == ENGINE_KIND_FUNCTION;
 }
 
 /* One function for each kind. */
-static void function(struct writer *w, int parameters, int depth) { node(w, 0, parameters + 256 * depth); }
-static void parameter(struct writer *w, int name, int depth) { node(w, 1, name + 256 * depth); }
-static void number(struct writer *w, int64_t value) { node(w, 2, value); }
-static void name(struct writer *w, int which) { node(w, 3, which); }
-static void sum(struct writer *w) { node(w, 4, 0); }
-static void difference(struct writer *w) { node(w, 5, 0); }
-static void less(struct writer *w) { node(w, 6, 0); }
-static void let(struct writer *w, int which) { node(w, 7, which); }
-static void call(struct writer *w, int which, int arguments) { node(w, 8, which + 256 * arguments); }
-static void literal(struct writer *w, int length, int depth) { node(w, 9, length + 256 * depth); }
-static void index_of(struct writer *w) { node(w, 10, 0); }
-static void length_of(struct writer *w) { node(w, 11, 0); }
-static void if_then_else(struct writer *w) { node(w, 12, 0); }
-static void map(struct writer *w, int which) { node(w, 13, which); }
+static void function(struct writer *w, int parameters, int depth)
+{
+    node(w, ENGINE_KIND_FUNCTION, parameters + 256 * depth);
+}
+static void parameter(struct writer *w, int name, int depth) { node(w, ENGINE_KIND_PARAMETER, name + 256 * depth); }
+static void number(struct writer *w, int64_t value) { node(w, ENGINE_KIND_NUMBER, value); }
+static void name(struct writer *w, int which) { node(w, ENGINE_KIND_NAME, which); }
+static void sum(struct writer *w) { node(w, ENGINE_KIND_SUM, 0); }
+static void difference(struct writer *w) { node(w, ENGINE_KIND_DIFFERENCE, 0); }
+static void less(struct writer *w) { node(w, ENGINE_KIND_LESS, 0); }
+static void let(struct writer *w, int which) { node(w, ENGINE_KIND_LET, which); }
+static void call(struct writer *w, int which, int arguments) { node(w, ENGINE_KIND_CALL, which + 256 * arguments); }
+static void literal(struct writer *w, int length, int depth) { node(w, ENGINE_KIND_LITERAL, length + 256 * depth); }
+static void index_of(struct writer *w) { node(w, ENGINE_KIND_INDEX, 0); }
+static void length_of(struct writer *w) { node(w, ENGINE_KIND_LENGTH, 0); }
+static void if_then_else(struct writer *w) { node(w, ENGINE_KIND_IF, 0); }
+static void map(struct writer *w, int which) { node(w, ENGINE_KIND_MAP, which); }
 
 /* The first reading, in main with parameters 0 and 1. */
 static void first_reading(struct writer *w)

@@ -1,118 +1,41 @@
-/* A small pump controller: it opens a store for a script, works a day's deliveries on it, and prints for each what the
- * service display would show. */
+/* A small pump controller: it opens a store for a script, or goes on with one that was kept, works a day's deliveries
+ * on it, and prints for each what the service display would show. A delivery is saved before it is shown. */
+#define _POSIX_C_SOURCE 200809L /* getline */
+#include "day.h"
 #include "display.h"
-#include "engine.h"
-#include "input.h"
-#include "store_file.h"
+#include "options.h"
+#include "place.h"
+#include "plot.h"
+#include "show.h"
+#include "site.h"
 
+#include <errno.h>
 #include <inttypes.h>
+#include <stdio.h>
 #include <stdlib.h>
 #include <string.h>
 
-static const char usage[] =
-    "usage: controller [OPTION..] SCRIPT [DAY]\n"
-    "  SCRIPT      a script file\n"
-    "  DAY         the deliveries, a line each: readings, then 'budget N' if it has a budget of its own; 'none' is\n"
-    "              for no readings, and '#' begins a comment. Without DAY, or for '-', standard input is read\n"
-    "  --cells N   cells of the store, 1 to 256 (default 64)\n"
-    "  --budget N  steps that a delivery may take (default 10000)\n"
-    "  --check     check the store after opening and after each delivery\n"
-    "  --store F   go on with the store that the file F has, if there is one, and keep the store in it after the day\n"
-    "Exit status: 0 the day was played; 1 the engine refused the script or the store; 2 bad usage or a bad file";
+enum { DAY_BYTES_MAX = 1 << 22 };
 
-enum { DAY_BYTES_MAX = 1 << 20, LINE_READINGS_MAX = 64, DEFAULT_CELLS = 64, DEFAULT_BUDGET = 10000 };
-
-struct options {
-    const char *script;
-    const char *day;
-    const char *store;
-    size_t cells;
-    uint64_t budget;
-    bool check;
+/* A day that is being played. */
+struct day {
+    struct site *site;
+    const struct options *options;
+    unsigned count;  /* deliveries so far */
+    unsigned done;
+    unsigned faulty; /* lines of standard input that were not played */
+    struct plot plot;
 };
 
-/* All that the engine is lent. */
-struct controller {
-    uint8_t file[ENGINE_FILE_LENGTH_MAX + 1]; /* one more, so that a longer file is refused by the engine */
-    size_t file_length;
-    uint8_t kinds[ENGINE_CODE_LINES_MAX];
-    int64_t operands[ENGINE_CODE_LINES_MAX];
-    int64_t slots[ENGINE_SLOTS_LENGTH(ENGINE_CELLS_MAX)];
-    uint32_t heads[ENGINE_HEADS_LENGTH(ENGINE_CELLS_MAX)];
-    size_t cells;
-    unsigned depth; /* of the totals */
-};
-
-struct delivery {
-    int64_t readings[LINE_READINGS_MAX];
-    size_t count;
-    uint64_t budget;
-};
-
-/* Static, as on a controller: about 78 KB. */
-static struct controller controller;
+/* Static, as on a controller: the site is about 82 KB. */
+static struct site site;
 static uint8_t day_bytes[DAY_BYTES_MAX];
-
-/* ---- Arguments ---- */
-
-static struct options options_of(int count, char **arguments)
-{
-    struct options options = { .day = "-", .cells = DEFAULT_CELLS, .budget = DEFAULT_BUDGET };
-    int plain = 0;
-    for (int i = 1; i < count; i++) { /* the argument after the last is null */
-        const char *word = arguments[i];
-        if (strcmp(word, "--cells") == 0)
-            options.cells = option_number(word, arguments[++i], ENGINE_CELLS_MIN, ENGINE_CELLS_MAX);
-        else if (strcmp(word, "--budget") == 0)
-            options.budget = option_number(word, arguments[++i], 0, INT64_MAX);
-        else if (strcmp(word, "--check") == 0)
-            options.check = true;
-        else if (strcmp(word, "--store") == 0 && arguments[i + 1] != NULL)
-            options.store = arguments[++i];
-        else if (strncmp(word, "--", 2) == 0 || plain == 2)
-            fail("%s", usage);
-        else if (plain++ == 0)
-            options.script = word;
-        else
-            options.day = word;
-    }
-    if (options.script == NULL)
-        fail("%s", usage);
-    return options;
-}
-
-/* ---- The engine's calls ---- */
-
-static uint64_t translate(struct controller *c)
-{
-    return engine_translate(c->file, c->file_length, c->kinds, ENGINE_CODE_LINES_MAX, c->operands,
-                            ENGINE_CODE_LINES_MAX);
-}
-
-static uint64_t open_store(struct controller *c)
-{
-    return engine_open(c->file, c->file_length, c->kinds, ENGINE_CODE_LINES_MAX, c->operands, ENGINE_CODE_LINES_MAX,
-                       c->slots, ENGINE_SLOTS_LENGTH(c->cells), c->heads, ENGINE_HEADS_LENGTH(c->cells));
-}
-
-static uint64_t check_store(struct controller *c)
-{
-    return engine_check(c->file, c->file_length, c->kinds, ENGINE_CODE_LINES_MAX, c->operands, ENGINE_CODE_LINES_MAX,
-                        c->slots, ENGINE_SLOTS_LENGTH(c->cells), c->heads, ENGINE_HEADS_LENGTH(c->cells));
-}
-
-static uint64_t deliver(struct controller *c, const struct delivery *delivery)
-{
-    return engine_deliver(c->file, c->file_length, c->kinds, ENGINE_CODE_LINES_MAX, c->operands,
-                          ENGINE_CODE_LINES_MAX, c->slots, ENGINE_SLOTS_LENGTH(c->cells), c->heads,
-                          ENGINE_HEADS_LENGTH(c->cells), delivery->readings, delivery->count, delivery->budget);
-}
 
 /* ---- What is shown ---- */
 
-static void print_totals(const struct controller *c)
+static void print_totals(const struct site *s)
 {
-    print_value(stdout, c->slots, c->heads, c->cells, c->slots[0], c->depth);
+    print_value(stdout, s->slots, s->heads, s->header.cells, s->slots[0], s->header.depth);
     putchar('\n');
 }
 
@@ -122,106 +45,171 @@ static _Noreturn void refuse(const char *what, uint64_t answer)
     printf("%-12s ", what);
     print_number(stdout, answer);
     putchar('\n');
+    flush_output();
     exit(STATUS_REFUSED);
 }
 
-static void print_delivery(const struct controller *c, unsigned count, uint64_t answer)
+static void print_delivery(const struct site *s, unsigned count, uint64_t answer)
 {
     unsigned number = engine_answer_number(answer);
     printf("delivery %-3u %2u %-11s ", count, number, engine_word(number));
-    if (number == ENGINE_DONE || number >= ENGINE_OUT_OF_STEPS)
-        printf("%7" PRIu32 " steps %4u of %zu cells  ", engine_answer_steps(answer), engine_answer_cells(answer),
-               c->cells);
-    else
+    if (engine_is_refusal(number))
         printf("                                ");
-    print_totals(c);
+    else
+        printf("%7" PRIu32 " steps %4u of %zu cells  ", engine_answer_steps(answer), engine_answer_cells(answer),
+               s->header.cells);
+    print_totals(s);
+    flush_output();
 }
 
-/* ---- A day ---- */
+/* ---- The store ---- */
 
-/* The delivery of the present line; false where the line has none. */
-static bool delivery_of(struct text *text, uint64_t budget, struct delivery *delivery)
+/* Saves the store, or ends the program: what was shown before is in the file. */
+static void save(const struct day *day)
 {
-    struct word word;
-    bool is_given = false;
-    delivery->count = 0;
-    delivery->budget = budget;
-    while (next_word(text, &word)) {
-        int64_t number;
-        if (number_of(word, &number)) {
-            if (delivery->count == LINE_READINGS_MAX)
-                fail("%s:%u: over %d readings", text->path, text->line, LINE_READINGS_MAX);
-            delivery->readings[delivery->count++] = number;
-        } else if (word_is(word, "budget")) {
-            if (!is_given || !next_word(text, &word) || !number_of(word, &number) || number < 0)
-                fail("%s:%u: 'budget' stands after the readings and before a number", text->path, text->line);
-            delivery->budget = (uint64_t)number;
-            if (next_word(text, &word))
-                fail("%s:%u: nothing may follow the budget", text->path, text->line);
-        } else if (!word_is(word, "none") || is_given) {
-            fail("%s:%u: '%.*s' is no reading", text->path, text->line, (int)word.length, word.start);
-        }
-        is_given = true;
-    }
-    return is_given;
+    const char *fault = save_store(day->site);
+    if (fault == NULL)
+        return;
+    if (day->count == 0)
+        fail(STATUS_UNWRITTEN, "%s: %s: %s; nothing was played", day->options->store, fault, strerror(errno));
+    fail(STATUS_UNWRITTEN, "%s: %s: %s; the day ends, and delivery %u is not shown", day->options->store, fault,
+         strerror(errno), day->count);
 }
 
-static void check_after(struct controller *c)
+static void check_after(const struct day *day)
 {
-    uint64_t answer = check_store(c);
-    if (engine_answer_number(answer) != ENGINE_DONE)
+    uint64_t answer = engine_check_lent(&day->site->lent);
+    if (day->options->checks && engine_answer_number(answer) != ENGINE_DONE)
         refuse("check", answer);
 }
 
 /* Goes on with the store that was kept, which must be sound, or opens one. */
-static void begin(struct controller *c, const struct options *options)
+static uint64_t take_or_open(struct site *s, const struct options *options, bool *is_kept)
 {
-    bool is_kept = options->store != NULL && load_store(options->store, c->slots, c->heads, c->cells);
-    uint64_t answer = is_kept ? check_store(c) : open_store(c);
+    *is_kept = options->store != NULL
+               && take_store(s, options->store, options->cells, options->takes_another_scripts);
+    if (!*is_kept)
+        lend_cells(s, options->cells == 0 ? DEFAULT_CELLS : options->cells);
+    uint64_t answer = *is_kept ? engine_check_lent(&s->lent) : engine_open_lent(&s->lent);
     if (engine_answer_number(answer) != ENGINE_DONE)
         refuse("store", answer);
-    printf("%-12s  0 done                      %4u of %zu cells  ", is_kept ? "checked" : "opened",
-           engine_answer_cells(answer), c->cells);
-    print_totals(c);
-    if (options->check)
-        check_after(c);
+    return answer;
 }
 
-static void play(struct controller *c, const struct options *options)
+/* The first save tries the store's place before anything is played. */
+static void begin(struct day *day, uint64_t answer, bool is_kept)
 {
-    size_t length = read_whole(options->day, day_bytes, sizeof day_bytes);
-    struct text text = text_of(options->day, day_bytes, length);
+    save(day);
+    printf("%-12s  0 done                      %4u of %zu cells  ", is_kept ? "checked" : "opened",
+           engine_answer_cells(answer), day->site->header.cells);
+    print_totals(day->site);
+    flush_output();
+    day->plot.cells = day->site->header.cells;
+    day->plot.opened = engine_answer_cells(answer);
+    check_after(day);
+}
+
+/* ---- A day ---- */
+
+static void play_delivery(struct day *day, const struct delivery *delivery)
+{
+    uint64_t answer = engine_deliver_lent(&day->site->lent, delivery->readings, delivery->count, delivery->budget);
+    unsigned number = engine_answer_number(answer);
+    day->count++;
+    if (!engine_is_refusal(number))
+        save(day); /* before its line is printed */
+    print_delivery(day->site, day->count, answer);
+    if (number == ENGINE_UNSOUND_STORE)
+        refuse("store", answer);
+    check_after(day);
+    day->done += number == ENGINE_DONE;
+    if (day->options->plot != NULL)
+        plot_delivery(&day->plot, answer);
+}
+
+static void play_line(struct day *day, struct text *text)
+{
     struct delivery delivery;
-    unsigned count = 0, done = 0;
-    while (next_line(&text)) {
-        if (!delivery_of(&text, options->budget, &delivery))
-            continue;
-        uint64_t answer = deliver(c, &delivery);
-        print_delivery(c, ++count, answer);
-        if (engine_answer_number(answer) == ENGINE_UNSOUND_STORE)
-            refuse("store", answer);
-        if (options->check)
-            check_after(c);
-        done += engine_answer_number(answer) == ENGINE_DONE;
+    switch (delivery_of(text, day->options->budget, &delivery)) {
+    case LINE_EMPTY: break;
+    case LINE_DELIVERY: play_delivery(day, &delivery); break;
+    case LINE_FAULTY: day->faulty++; break;
     }
-    printf("day          %u deliveries, %u done%s\n", count, done, options->check ? ", every check passed" : "");
+}
+
+/* A day that was judged before. */
+static void play_text(struct day *day, struct text text)
+{
+    while (next_line(&text))
+        play_line(day, &text);
+}
+
+/* A faulty line is not played; the next one may be. */
+static void play_standard_input(struct day *day)
+{
+    char *line = NULL;
+    size_t capacity = 0;
+    ssize_t length;
+    errno = 0;
+    for (unsigned number = 1; (length = getline(&line, &capacity, stdin)) > 0; number++) {
+        struct text text = text_of("-", (const uint8_t *)line, (size_t)length);
+        text.line = number;
+        play_line(day, &text);
+        errno = 0;
+    }
+    if (ferror(stdin))
+        fail(STATUS_UNUSABLE, "standard input: cannot be read: %s", strerror(errno));
+    free(line);
+}
+
+/* The day's text, judged whole, where it is a file. */
+static struct text day_of(const char *path)
+{
+    size_t length = read_whole(path, day_bytes, sizeof day_bytes);
+    if (memchr(day_bytes, 0, length) != NULL)
+        fail(STATUS_UNUSABLE, "%s: a script file or other data, where the text of a day is wanted", path);
+    struct text text = text_of(path, day_bytes, length);
+    unsigned faulty = judge_day(text);
+    if (faulty > 0)
+        fail(STATUS_UNUSABLE, "%s: %u faulty line%s; nothing was played", path, faulty, faulty == 1 ? "" : "s");
+    return text;
+}
+
+static void play(struct day *day)
+{
+    bool is_kept, is_standard = strcmp(day->options->day, "-") == 0;
+    struct text text = is_standard ? text_of("-", day_bytes, 0) : day_of(day->options->day);
+    if (day->options->plot != NULL)
+        try_whole(day->options->plot);
+    uint64_t answer = take_or_open(day->site, day->options, &is_kept);
+    begin(day, answer, is_kept);
+    if (is_standard)
+        play_standard_input(day);
+    else
+        play_text(day, text);
+    printf("day          %u deliveries, %u done%s", day->count, day->done,
+           day->options->checks ? ", every check passed" : "");
+    if (day->faulty > 0)
+        printf(", %u faulty line%s not played", day->faulty, day->faulty == 1 ? "" : "s");
+    putchar('\n');
+    flush_output();
+    if (day->options->plot != NULL)
+        write_plot(&day->plot, day->options->plot, day->options->script, day->options->day);
 }
 
 int main(int count, char **arguments)
 {
+    prepare_streams();
     struct options options = options_of(count, arguments);
-    struct controller *c = &controller;
-    c->cells = options.cells;
-    c->file_length = read_whole(options.script, c->file, sizeof c->file);
-    uint64_t answer = translate(c);
+    if (options.shown != NULL)
+        return show_store(options.shown, options.script);
+    struct day day = { .site = &site, .options = &options };
+    uint64_t answer = take_script(&site, options.script);
     if (engine_answer_number(answer) != ENGINE_DONE)
         refuse("script", answer);
-    c->depth = (unsigned)(c->operands[0] / 256); /* line 0 is main: parameters + 256 x depth of its result */
-    printf("script       %zu nodes, %" PRIu32 " lines of code\n", (c->file_length - 4) / 9,
+    printf("script       %zu nodes, %" PRIu32 " lines of code\n", (site.lent.file_length - 4) / 9,
            engine_answer_lines(answer));
-    begin(c, &options);
-    play(c, &options);
-    if (options.store != NULL)
-        save_store(options.store, c->slots, c->heads, c->cells);
-    return 0;
+    play(&day);
+    free(day.plot.answers);
+    return day.faulty > 0 ? STATUS_UNUSABLE : 0;
 }

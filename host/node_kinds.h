@@ -1,8 +1,10 @@
-/* The node kinds of a script file, by the words that a script's text has for them. */
+/* The node kinds of a script file: the words that a script's text has for them, their operands and their children. */
 #ifndef NODE_KINDS_H
 #define NODE_KINDS_H
 
-#include <stdint.h>
+#include "engine.h"
+
+#include <stdbool.h>
 
 /* What an operand is made of. */
 enum operand_parts {
@@ -12,42 +14,33 @@ enum operand_parts {
     OPERAND_PAIR   /* low + 256 x high, low from 0 to 255 */
 };
 
+/* A part of an operand: what it is, and its greatest value. */
+struct operand_part {
+    const char *what;
+    int greatest;
+};
+
 struct node_kind {
     const char *word;
     enum operand_parts parts;
+    struct operand_part low, high; /* of a name, low alone */
+    int children;                  /* besides those that an operand asks for */
+    const char *roles[3];          /* of these children */
 };
-
-enum { FUNCTION_KIND = 0, NODE_KINDS = 14 };
 
 /* By kind. */
-static const struct node_kind node_kinds[NODE_KINDS] = {
-    { "function", OPERAND_PAIR },  /* parameters, depth of the result */
-    { "parameter", OPERAND_PAIR }, /* name, depth */
-    { "number", OPERAND_VALUE },
-    { "name", OPERAND_NAME },
-    { "sum", OPERAND_NONE },
-    { "difference", OPERAND_NONE },
-    { "less", OPERAND_NONE },
-    { "let", OPERAND_NAME },
-    { "call", OPERAND_PAIR },      /* function, arguments */
-    { "literal", OPERAND_PAIR },   /* elements, depth of an element */
-    { "index", OPERAND_NONE },
-    { "length", OPERAND_NONE },
-    { "if", OPERAND_NONE },
-    { "map", OPERAND_NAME },
-};
+extern const struct node_kind node_kinds[ENGINE_NODE_KINDS];
 
 /* How many nodes stand below a node of this kind and operand. */
-static inline unsigned children_of(uint8_t kind, int64_t operand)
-{
-    static const uint8_t fixed[NODE_KINDS] = { 1, 0, 0, 0, 2, 2, 2, 2, 0, 0, 2, 1, 3, 2 };
-    if (kind >= NODE_KINDS || operand < 0)
-        return 0;
-    if (kind == 0 || kind == 9)
-        return fixed[kind] + (unsigned)(operand % 256);
-    if (kind == 8)
-        return operand / 256 > 8 ? 0 : (unsigned)(operand / 256);
-    return fixed[kind];
-}
+unsigned children_of(uint8_t kind, int64_t operand);
+
+/* What a child is to its node: "element 2", "guard". Places are counted from 1, as in "argument 1". */
+struct role {
+    char text[24];
+};
+struct role role_of(uint8_t kind, int64_t operand, unsigned child);
+
+/* Whether a node or line of this kind is a compound one: it takes a step and a new name. */
+bool is_compound(uint8_t kind);
 
 #endif

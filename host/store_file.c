@@ -1,49 +1,109 @@
-/* Stores in files. */
+/* Stores as bytes of a file. */
 #include "store_file.h"
-#include "engine.h"
-#include "input.h"
+#include "text.h"
 
-#include <errno.h>
+#include <stdarg.h>
 #include <stdio.h>
 #include <string.h>
 
-enum { PATH_BYTES = 4096, SLOT_BYTES = 8, HEAD_BYTES = 4 };
+static const char mark[] = "RUSSTORE";
+enum {
+    MARK_BYTES = 8,
+    VERSION = 1,
+    AT_VERSION = 8,
+    AT_CELLS = 10,
+    AT_DEPTH = 12,
+    AT_ZERO = 14,
+    AT_SCRIPT = 16,
+    AT_WORDS_CHECKSUM = 20,
+    AT_HEADER_CHECKSUM = 24
+};
 
-#define STORE_BYTES(cells) (SLOT_BYTES * ENGINE_SLOTS_LENGTH(cells) + HEAD_BYTES * ENGINE_HEADS_LENGTH(cells))
-
-static uint8_t bytes[STORE_BYTES(ENGINE_CELLS_MAX)];
-
-bool load_store(const char *path, int64_t *slots, uint32_t *heads, size_t cells)
+uint32_t checksum_of(const uint8_t *bytes, size_t length)
 {
-    FILE *file = fopen(path, "rb");
-    if (file == NULL && errno == ENOENT)
-        return false;
-    if (file != NULL)
-        fclose(file);
-    size_t length = read_whole(path, bytes, sizeof bytes);
-    if (length != STORE_BYTES(cells))
-        fail("%s: a store of %zu cells takes %zu bytes, and it has %zu", path, cells, STORE_BYTES(cells), length);
-    const uint8_t *at = bytes;
-    for (size_t i = 0; i < ENGINE_SLOTS_LENGTH(cells); i++, at += SLOT_BYTES)
-        slots[i] = signed_of(number_at(at, SLOT_BYTES));
-    for (size_t i = 0; i < ENGINE_HEADS_LENGTH(cells); i++, at += HEAD_BYTES)
-        heads[i] = (uint32_t)number_at(at, HEAD_BYTES);
-    return true;
+    uint32_t sum = UINT32_MAX;
+    for (size_t i = 0; i < length; i++) {
+        sum ^= bytes[i];
+        for (int bit = 0; bit < 8; bit++)
+            sum = sum >> 1 ^ (sum & 1 ? 0xedb88320u : 0);
+    }
+    return ~sum;
 }
 
-void save_store(const char *path, const int64_t *slots, const uint32_t *heads, size_t cells)
+bool has_store_mark(const uint8_t *bytes, size_t length)
 {
-    char new_path[PATH_BYTES];
-    if (snprintf(new_path, sizeof new_path, "%s.new", path) >= (int)sizeof new_path)
-        fail("%s: the name is too long", path);
-    FILE *file = fopen(new_path, "wb");
-    if (file == NULL)
-        fail("%s: %s", new_path, strerror(errno));
-    for (size_t i = 0; i < ENGINE_SLOTS_LENGTH(cells); i++)
-        put_number(file, (uint64_t)slots[i], SLOT_BYTES);
-    for (size_t i = 0; i < ENGINE_HEADS_LENGTH(cells); i++)
-        put_number(file, heads[i], HEAD_BYTES);
-    close_output(file, new_path);
-    if (rename(new_path, path) != 0)
-        fail("%s: %s", path, strerror(errno));
+    return length >= MARK_BYTES && memcmp(bytes, mark, MARK_BYTES) == 0;
+}
+
+size_t encode_store(uint8_t *bytes, const struct store_header *header, const int64_t *slots, const uint32_t *heads)
+{
+    size_t length = STORE_BYTES(header->cells);
+    uint8_t *at = bytes + STORE_HEADER_BYTES;
+    for (size_t i = 0; i < ENGINE_SLOTS_LENGTH(header->cells); i++, at += SLOT_BYTES)
+        put_number(at, (uint64_t)slots[i], SLOT_BYTES);
+    for (size_t i = 0; i < ENGINE_HEADS_LENGTH(header->cells); i++, at += HEAD_BYTES)
+        put_number(at, heads[i], HEAD_BYTES);
+    memcpy(bytes, mark, MARK_BYTES);
+    put_number(bytes + AT_VERSION, VERSION, 2);
+    put_number(bytes + AT_CELLS, header->cells, 2);
+    put_number(bytes + AT_DEPTH, header->depth, 2);
+    put_number(bytes + AT_ZERO, 0, 2);
+    put_number(bytes + AT_SCRIPT, header->script, 4);
+    put_number(bytes + AT_WORDS_CHECKSUM, checksum_of(bytes + STORE_HEADER_BYTES, length - STORE_HEADER_BYTES), 4);
+    put_number(bytes + AT_HEADER_CHECKSUM, checksum_of(bytes, AT_HEADER_CHECKSUM), 4);
+    return length;
+}
+
+static enum store_reading faulty(struct store_fault *fault, enum store_reading reading, const char *format, ...)
+{
+    va_list arguments;
+    va_start(arguments, format);
+    vsnprintf(fault->text, sizeof fault->text, format, arguments);
+    va_end(arguments);
+    return reading;
+}
+
+/* The header, from the mark inwards: each test makes sense once those before it are passed. */
+static enum store_reading decode_header(const uint8_t *bytes, size_t length, struct store_header *header,
+                                        struct store_fault *fault)
+{
+    if (length < STORE_HEADER_BYTES)
+        return faulty(fault, STORE_UNREADABLE, "cut off: it has %zu bytes, and a store's header alone has %d", length,
+                      STORE_HEADER_BYTES);
+    if (!has_store_mark(bytes, length))
+        return faulty(fault, STORE_UNREADABLE, "not a store: it does not begin with the mark %s", mark);
+    unsigned version = (unsigned)number_at(bytes + AT_VERSION, 2);
+    if (version != VERSION)
+        return faulty(fault, STORE_UNREADABLE, "a store of version %u, and this program knows version %d", version,
+                      VERSION);
+    if (number_at(bytes + AT_HEADER_CHECKSUM, 4) != checksum_of(bytes, AT_HEADER_CHECKSUM))
+        return faulty(fault, STORE_UNREADABLE, "its header is damaged: it has not the checksum that stands in it");
+    header->cells = (size_t)number_at(bytes + AT_CELLS, 2);
+    header->depth = (unsigned)number_at(bytes + AT_DEPTH, 2);
+    header->script = (uint32_t)number_at(bytes + AT_SCRIPT, 4);
+    if (header->cells < ENGINE_CELLS_MIN || header->cells > ENGINE_CELLS_MAX || header->depth > ENGINE_DEPTH_MAX
+        || number_at(bytes + AT_ZERO, 2) != 0)
+        return faulty(fault, STORE_UNREADABLE, "its header was made wrong: %zu cells, main's depth %u", header->cells,
+                      header->depth);
+    return STORE_WHOLE;
+}
+
+enum store_reading decode_store(const uint8_t *bytes, size_t length, struct store_header *header, int64_t *slots,
+                                uint32_t *heads, struct store_fault *fault)
+{
+    enum store_reading reading = decode_header(bytes, length, header, fault);
+    if (reading != STORE_WHOLE)
+        return reading;
+    size_t wanted = STORE_BYTES(header->cells);
+    if (length != wanted)
+        return faulty(fault, STORE_UNREADABLE, "%s: a store of %zu cells takes %zu bytes, and it has %zu",
+                      length < wanted ? "cut off" : "too long", header->cells, wanted, length);
+    const uint8_t *at = bytes + STORE_HEADER_BYTES;
+    for (size_t i = 0; i < ENGINE_SLOTS_LENGTH(header->cells); i++, at += SLOT_BYTES)
+        slots[i] = signed_of(number_at(at, SLOT_BYTES));
+    for (size_t i = 0; i < ENGINE_HEADS_LENGTH(header->cells); i++, at += HEAD_BYTES)
+        heads[i] = (uint32_t)number_at(at, HEAD_BYTES);
+    if (number_at(bytes + AT_WORDS_CHECKSUM, 4) != checksum_of(bytes + STORE_HEADER_BYTES, wanted - STORE_HEADER_BYTES))
+        return faulty(fault, STORE_DAMAGED, "its words are damaged: they have not the checksum that its header has");
+    return STORE_WHOLE;
 }

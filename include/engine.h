@@ -18,6 +18,13 @@
 extern "C" {
 #endif
 
+/* ---- Version ---- */
+
+/* Of this interface: the first number rises when a host must change, the second when something is added. */
+#define ENGINE_VERSION_MAJOR 1
+#define ENGINE_VERSION_MINOR 1
+#define ENGINE_VERSION (1000 * ENGINE_VERSION_MAJOR + ENGINE_VERSION_MINOR)
+
 /* ---- Sizes ---- */
 
 /* A script file: 4 bytes, then one byte and one operand of 8 bytes for each node. */
@@ -48,6 +55,32 @@ extern "C" {
 #define ENGINE_BUDGET_MAX 1000000
 #define ENGINE_CALL_DEPTH_MAX 32   /* main is at call depth 1 */
 
+/* ---- Kinds ---- */
+
+/* The kind of a node of a script file and of a line of code. Nodes have those up to ENGINE_KIND_MAP; let is the only
+ * one of these that no line has. */
+enum engine_kind {
+    ENGINE_KIND_FUNCTION = 0,
+    ENGINE_KIND_PARAMETER = 1,
+    ENGINE_KIND_NUMBER = 2,
+    ENGINE_KIND_NAME = 3,
+    ENGINE_KIND_SUM = 4,
+    ENGINE_KIND_DIFFERENCE = 5,
+    ENGINE_KIND_LESS = 6,
+    ENGINE_KIND_LET = 7,
+    ENGINE_KIND_CALL = 8,
+    ENGINE_KIND_LITERAL = 9,
+    ENGINE_KIND_INDEX = 10,
+    ENGINE_KIND_LENGTH = 11,
+    ENGINE_KIND_IF = 12,
+    ENGINE_KIND_MAP = 13,
+    ENGINE_KIND_RETAIN = 14,  /* in code alone, as the next two; document 01: raise */
+    ENGINE_KIND_RELEASE = 15, /* document 01: drop */
+    ENGINE_KIND_END = 16
+};
+#define ENGINE_NODE_KINDS 14 /* kinds below it are those of nodes */
+#define ENGINE_LINE_KINDS 17
+
 /* ---- Numbers ---- */
 
 /* The number in an answer. The words that the service display shows are beside each; engine_word gives them. */
@@ -75,7 +108,19 @@ enum engine_number {
     ENGINE_OUT_OF_CELLS = 25         /* tank dry: a cell was wanted and none was free */
 };
 
-/* What the service display shows for a number. */
+/* Whether a number is a refusal: nothing was done. */
+static inline int engine_is_refusal(unsigned number)
+{
+    return number >= ENGINE_TRUNCATED && number <= ENGINE_UNSOUND_STORE;
+}
+
+/* Whether a number is a stop: the delivery was begun and undone. */
+static inline int engine_is_stop(unsigned number)
+{
+    return number >= ENGINE_OUT_OF_STEPS && number <= ENGINE_OUT_OF_CELLS;
+}
+
+/* What the service display shows for a number: the one table of these words. */
 static inline const char *engine_word(unsigned number)
 {
     switch (number) {
@@ -178,6 +223,48 @@ uint64_t engine_check(const uint8_t *file, size_t file_length,
                       int64_t *operands, size_t operands_length,
                       const int64_t *slots, size_t slots_length,
                       const uint32_t *heads, size_t heads_length);
+
+/* ---- The calls on one struct ---- */
+
+/* The arrays that a host lends again and again; the store's may be null where only engine_translate_lent is called. */
+struct engine_lent {
+    const uint8_t *file;
+    size_t file_length;
+    uint8_t *kinds;
+    size_t kinds_length;
+    int64_t *operands;
+    size_t operands_length;
+    int64_t *slots;
+    size_t slots_length;
+    uint32_t *heads;
+    size_t heads_length;
+};
+
+static inline uint64_t engine_translate_lent(const struct engine_lent *lent)
+{
+    return engine_translate(lent->file, lent->file_length, lent->kinds, lent->kinds_length, lent->operands,
+                            lent->operands_length);
+}
+
+static inline uint64_t engine_open_lent(const struct engine_lent *lent)
+{
+    return engine_open(lent->file, lent->file_length, lent->kinds, lent->kinds_length, lent->operands,
+                       lent->operands_length, lent->slots, lent->slots_length, lent->heads, lent->heads_length);
+}
+
+static inline uint64_t engine_check_lent(const struct engine_lent *lent)
+{
+    return engine_check(lent->file, lent->file_length, lent->kinds, lent->kinds_length, lent->operands,
+                        lent->operands_length, lent->slots, lent->slots_length, lent->heads, lent->heads_length);
+}
+
+static inline uint64_t engine_deliver_lent(const struct engine_lent *lent, const int64_t *readings,
+                                           size_t readings_length, uint64_t budget)
+{
+    return engine_deliver(lent->file, lent->file_length, lent->kinds, lent->kinds_length, lent->operands,
+                          lent->operands_length, lent->slots, lent->slots_length, lent->heads, lent->heads_length,
+                          readings, readings_length, budget);
+}
 
 #ifdef __cplusplus
 }

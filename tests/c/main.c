@@ -224,8 +224,30 @@ static void test_header(void)
     expect(engine_answer_cells(parts) == 256, "cells");
     expect(strcmp(engine_word(ENGINE_UNKNOWN_NAME), "no such nozzle") == 0, "a word");
     expect(strcmp(engine_word(12), "unknown number") == 0, "no word");
+    for (unsigned number = 0; number < 256; number++) {
+        bool is_refusal = number >= 1 && number <= 11, is_stop = number >= 21 && number <= 25;
+        expect(engine_is_refusal(number) == is_refusal && engine_is_stop(number) == is_stop, "refusals and stops");
+        bool has_word = strcmp(engine_word(number), "unknown number") != 0;
+        expect(has_word == (number == 0 || is_refusal || is_stop), "a word for each number");
+    }
     expect(ENGINE_FILE_LENGTH_MAX == 9220, "the longest file");
     expect(ENGINE_SLOTS_LENGTH(256) == 4097 && ENGINE_HEADS_LENGTH(256) == 1025, "the largest store");
+}
+
+/* The calls on one struct are the calls. */
+static void test_lent(void)
+{
+    open_printed(2);
+    struct engine_lent all = { lent.file, lent.file_length, lent.kinds, lent.kinds_length, lent.operands,
+                               lent.operands_length, lent.slots, lent.slots_length, lent.heads, lent.heads_length };
+    const int64_t readings[1] = { 250 };
+    expect(engine_translate_lent(&all) == answer(0, 0, PRINTED_LINES, 0), "translate on the struct");
+    expect(engine_deliver_lent(&all, readings, 1, 1000) == answer(0, 0, 4, 1) && totals_are(250), "deliver on it");
+    expect(engine_check_lent(&all) == answer(0, 0, 0, 1) && totals_are(250), "check on it");
+    expect(engine_open_lent(&all) == answer(0, 0, 0, 1) && lent.slots[0] == 0, "open on it");
+    for (size_t i = 0; i < PRINTED_LINES; i++)
+        expect(lent.kinds[i] == printed_code[i].kind, "a kind");
+    expect(printed_code[10].kind == ENGINE_KIND_RELEASE && printed_code[20].kind == ENGINE_KIND_END, "kinds by name");
 }
 
 int main(int count, char **arguments)
@@ -235,6 +257,7 @@ int main(int count, char **arguments)
     for (int i = 1; i < count; i++)
         agreed &= run_vectors(arguments[i]);
     test_header();
+    test_lent();
     test_translate();
     test_cut_files();
     test_trials();

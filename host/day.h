@@ -1,0 +1,24 @@
+/* The deliveries of a day as text, a line each: readings, or 'none', then 'budget N' if it has a budget of its own. */
+#ifndef DAY_H
+#define DAY_H
+
+#include "text.h"
+
+enum { LINE_READINGS_MAX = 64 }; /* more than a delivery may have, so that the engine can refuse it */
+
+struct delivery {
+    int64_t readings[LINE_READINGS_MAX];
+    size_t count;
+    uint64_t budget;
+};
+
+enum line_content { LINE_EMPTY, LINE_DELIVERY, LINE_FAULTY };
+
+/* What the present line has; a delivery without a budget of its own gets this one. Says what is wrong with a faulty
+ * line, by its place. */
+enum line_content delivery_of(struct text *text, uint64_t budget, struct delivery *delivery);
+
+/* How many lines of a text that is not begun are faulty. Says what is wrong with each. */
+unsigned judge_day(struct text text);
+
+#endif

@@ -1,0 +1,26 @@
+/* The controller's arguments. */
+#ifndef OPTIONS_H
+#define OPTIONS_H
+
+#include <stdbool.h>
+#include <stddef.h>
+#include <stdint.h>
+
+enum { DEFAULT_CELLS = 64, DEFAULT_BUDGET = 10000 };
+
+struct options {
+    const char *script; /* null only where a store is to be shown */
+    const char *day;    /* "-" for standard input */
+    const char *store;  /* null: the store is not kept */
+    const char *plot;   /* null: no picture */
+    const char *shown;  /* the store that is to be shown; null: a day is to be played */
+    size_t cells;       /* 0: as the store has, or DEFAULT_CELLS */
+    uint64_t budget;
+    bool checks;
+    bool takes_another_scripts; /* store */
+};
+
+/* Reads the arguments. Fails where they cannot be used, and ends the program where help is asked for. */
+struct options options_of(int count, char **arguments);
+
+#endif

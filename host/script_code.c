@@ -1,0 +1,260 @@
+/* A script's code with the meaning of each line in words, and with the names of its text. */
+#include "node_kinds.h"
+#include "script.h"
+
+#include <inttypes.h>
+#include <stdio.h>
+#include <string.h>
+
+enum { NAMES = ENGINE_NEW_NAMES_MAX, NO_NAME = -1 };
+
+/* What the text calls the new names of each function, and the functions themselves; empty where it has no word. */
+static struct word words[ENGINE_FUNCTIONS_MAX][NAMES];
+static struct word functions[ENGINE_FUNCTIONS_MAX];
+static unsigned parameters[ENGINE_FUNCTIONS_MAX];
+
+/* ---- Names ---- */
+
+/* A descent that numbers the new names as the translator does. */
+struct naming {
+    const struct script *script;
+    size_t at;       /* the next node */
+    size_t function;
+    int next;        /* new name */
+};
+
+static int new_name(struct naming *n, struct word word)
+{
+    words[n->function][n->next] = word;
+    return n->next++;
+}
+
+/* Numbers what is in the next part; gives the new name that is its atom, or NO_NAME where it is a number or a name of
+ * the text. */
+static int name_part(struct naming *n)
+{
+    const struct node *node = &n->script->nodes[n->at++];
+    const struct word no_word = { NULL, 0 };
+    unsigned children = children_of(node->kind, node->operand);
+    bool has_trees = node->kind == ENGINE_KIND_IF || node->kind == ENGINE_KIND_MAP;
+    if (node->kind == ENGINE_KIND_CALL && functions[node->operand % 256].length == 0)
+        functions[node->operand % 256] = node->word;
+    if (node->kind == ENGINE_KIND_LET) {
+        int bound = name_part(n);
+        if (bound != NO_NAME && words[n->function][bound].length == 0)
+            words[n->function][bound] = node->word;
+        return name_part(n);
+    }
+    if (!is_compound(node->kind))
+        return NO_NAME;
+    for (unsigned i = 0; i < (has_trees ? 1 : children); i++) /* of these two, only the guard or array comes before */
+        name_part(n);
+    int name = new_name(n, no_word);
+    if (node->kind == ENGINE_KIND_MAP)
+        new_name(n, node->word);
+    for (unsigned i = 1; has_trees && i < children; i++)
+        name_part(n);
+    return name;
+}
+
+static void find_names(const struct script *script)
+{
+    struct naming n = { .script = script };
+    functions[0] = (struct word){ "main", 4 };
+    for (; n.at < script->count; n.function++) {
+        const struct node *function = &script->nodes[n.at++];
+        parameters[n.function] = (unsigned)(function->operand % 256);
+        n.next = 0;
+        for (unsigned i = 0; i < parameters[n.function]; i++)
+            new_name(&n, script->nodes[n.at++].word);
+        name_part(&n);
+    }
+}
+
+/* ---- Lines ---- */
+
+/* Code that is being printed. */
+struct printing {
+    const uint8_t *kinds;
+    const int64_t *operands;
+    uint32_t lines;
+    uint32_t at;
+    size_t function; /* whose names count */
+    int indentation;
+};
+
+struct phrase {
+    char text[48];
+};
+
+/* The first characters of a word; others than printable ASCII as '?'. */
+static struct phrase word_phrase(struct word word)
+{
+    enum { CHARACTERS = 32 };
+    struct phrase phrase;
+    size_t length = word.length < CHARACTERS ? word.length : CHARACTERS;
+    for (size_t i = 0; i < length; i++)
+        phrase.text[i] = word.start[i] > ' ' && word.start[i] <= '~' ? word.start[i] : '?';
+    phrase.text[length] = '\0';
+    return phrase;
+}
+
+/* A name by its word; with its number, where the function has the word twice; else by its number alone. */
+static struct phrase name_phrase(const struct printing *p, int64_t name)
+{
+    struct word word = words[p->function][name];
+    struct phrase phrase = word_phrase(word);
+    int uses = 0;
+    for (int i = 0; word.length > 0 && i < NAMES; i++)
+        uses += same_word(words[p->function][i], word);
+    size_t length = strlen(phrase.text);
+    if (uses != 1)
+        snprintf(phrase.text + length, sizeof phrase.text - length, "%%%d", (int)name);
+    return phrase;
+}
+
+static struct phrase function_phrase(size_t function)
+{
+    struct phrase phrase = word_phrase(functions[function]);
+    if (functions[function].length == 0)
+        snprintf(phrase.text, sizeof phrase.text, "function %zu", function);
+    return phrase;
+}
+
+/* The atom on a line. */
+static struct phrase atom_phrase(const struct printing *p, uint32_t line)
+{
+    struct phrase phrase;
+    if (p->kinds[line] == ENGINE_KIND_NAME)
+        return name_phrase(p, p->operands[line]);
+    snprintf(phrase.text, sizeof phrase.text, "%" PRId64, p->operands[line]);
+    return phrase;
+}
+
+/* The columns of the present line before its meaning: its number, kind and operand, and a mark for a retain or
+ * release. */
+static void begin_line(struct printing *p)
+{
+    uint8_t kind = p->kinds[p->at];
+    char mark = kind == ENGINE_KIND_RETAIN ? '+' : kind == ENGINE_KIND_RELEASE ? '-' : ' ';
+    printf("%5" PRIu32 " %3u %8" PRId64 " %c %*s", p->at, kind, p->operands[p->at], mark, 2 * p->indentation, "");
+    p->at++;
+}
+
+static void print_atoms(struct printing *p, uint8_t kind, int64_t operand, unsigned count)
+{
+    p->indentation += 2;
+    for (unsigned i = 0; i < count; i++) {
+        uint32_t line = p->at;
+        begin_line(p);
+        printf("%s: %s\n", kind == ENGINE_KIND_END ? "result" : role_of(kind, operand, i).text,
+               atom_phrase(p, line).text);
+    }
+    p->indentation -= 2;
+}
+
+/* How many atoms follow a line, and the node operand that has as many children. */
+static unsigned atoms_of(uint8_t kind, int64_t operand, int64_t *node_operand)
+{
+    *node_operand = 0;
+    switch (kind) {
+    case ENGINE_KIND_CALL:
+        *node_operand = 256 * (int64_t)parameters[operand / 256];
+        return parameters[operand / 256];
+    case ENGINE_KIND_LITERAL:
+        *node_operand = operand / 256 % 256;
+        return (unsigned)*node_operand;
+    case ENGINE_KIND_IF:
+    case ENGINE_KIND_MAP:
+    case ENGINE_KIND_LENGTH:
+    case ENGINE_KIND_END: return 1;
+    case ENGINE_KIND_RETAIN:
+    case ENGINE_KIND_RELEASE: return 0;
+    default: return 2;
+    }
+}
+
+/* Atoms in a row, between commas. */
+static void print_row(const struct printing *p, uint32_t first, unsigned count)
+{
+    for (unsigned i = 0; i < count; i++)
+        printf("%s%s", i == 0 ? "" : ", ", atom_phrase(p, first + i).text);
+}
+
+/* What a line does, given that its atoms follow. */
+static void print_meaning(const struct printing *p, uint8_t kind, int64_t operand, unsigned atoms)
+{
+    uint32_t first = p->at;
+    struct phrase one = atom_phrase(p, first), two = atom_phrase(p, atoms > 1 ? first + 1 : first);
+    if (is_compound(kind))
+        printf("%s = ", name_phrase(p, operand % 256).text);
+    switch (kind) {
+    case ENGINE_KIND_SUM: printf("%s + %s", one.text, two.text); break;
+    case ENGINE_KIND_DIFFERENCE: printf("%s - %s", one.text, two.text); break;
+    case ENGINE_KIND_LESS: printf("1 if %s < %s, else 0", one.text, two.text); break;
+    case ENGINE_KIND_CALL:
+        printf("%s(", function_phrase((size_t)(operand / 256)).text);
+        print_row(p, first, atoms);
+        printf(")");
+        break;
+    case ENGINE_KIND_LITERAL:
+        printf("{");
+        print_row(p, first, atoms);
+        printf("} in a new cell");
+        break;
+    case ENGINE_KIND_INDEX: printf("%s[%s]", one.text, two.text); break;
+    case ENGINE_KIND_LENGTH: printf("length of %s", one.text); break;
+    case ENGINE_KIND_IF: printf("one of two trees: the first if %s is not 0", one.text); break;
+    case ENGINE_KIND_MAP:
+        printf("for each %s of %s the tree's result, in a new cell", name_phrase(p, operand / 256).text, one.text);
+        break;
+    case ENGINE_KIND_RETAIN: printf("retain %s", name_phrase(p, operand).text); break;
+    case ENGINE_KIND_RELEASE: printf("release %s", name_phrase(p, operand).text); break;
+    default: printf("end: gives %s", one.text); break;
+    }
+    putchar('\n');
+}
+
+/* A tree, to its end line and atom. As deep as the script's levels. */
+static void print_tree(struct printing *p)
+{
+    uint8_t kind;
+    do {
+        kind = p->kinds[p->at];
+        int64_t operand = p->operands[p->at], node_operand;
+        unsigned atoms = atoms_of(kind, operand, &node_operand);
+        begin_line(p);
+        print_meaning(p, kind, operand, atoms);
+        print_atoms(p, kind, node_operand, atoms);
+        p->indentation++;
+        if (kind == ENGINE_KIND_IF || kind == ENGINE_KIND_MAP)
+            print_tree(p);
+        if (kind == ENGINE_KIND_IF)
+            print_tree(p);
+        p->indentation--;
+    } while (kind != ENGINE_KIND_END);
+}
+
+void print_code(const struct script *script, const uint8_t *kinds, const int64_t *operands, uint32_t lines)
+{
+    struct printing p = { kinds, operands, lines, 0, 0, 0 };
+    find_names(script);
+    printf(" line kind  operand   meaning (+ retains, - releases)\n");
+    for (; p.at < lines; p.function++) {
+        unsigned count = (unsigned)(operands[p.at] % 256);
+        int64_t depth = operands[p.at] / 256;
+        begin_line(&p);
+        printf("function %zu, %s: %u parameters, result of depth %" PRId64 "\n", p.function,
+               function_phrase(p.function).text, count, depth);
+        p.indentation = 2;
+        for (unsigned i = 0; i < count; i++) {
+            int64_t operand = operands[p.at];
+            begin_line(&p);
+            printf("parameter %u: %s, of depth %" PRId64 "\n", i + 1, name_phrase(&p, operand % 256).text,
+                   operand / 256);
+        }
+        p.indentation = 1;
+        print_tree(&p);
+        p.indentation = 0;
+    }
+}

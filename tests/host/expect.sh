@@ -1,0 +1,61 @@
+# What the tests of the host programs share; to be sourced. Their first argument is the folder of the programs.
+# shellcheck shell=sh disable=SC2034 # used by the tests
+programs=${1:-build}
+controller=$programs/controller
+tool=$programs/script_tool
+script=build/forecourt.script
+folder=$(mktemp -d)
+trap 'rm -rf "$folder"' EXIT
+passed=0
+failed=0
+
+pass() {
+    passed=$((passed + 1))
+}
+
+# fault WHAT: counts a failure, and shows what the last command said
+fault() {
+    failed=$((failed + 1))
+    echo "failed: $1"
+    head -n 5 "$folder/out" "$folder/error" 2>/dev/null
+}
+
+# expect WHAT COMMAND..: the command's exit status must be 0
+expect() {
+    what=$1
+    shift
+    if "$@" >"$folder/out" 2>"$folder/error"; then pass; else fault "$what"; fi
+}
+
+# status NUMBER TEXT COMMAND..: the command must end with this status and say this on standard output or error
+status() {
+    number=$1
+    text=$2
+    shift 2
+    "$@" >"$folder/out" 2>"$folder/error"
+    found=$?
+    if [ $found -eq "$number" ] && grep -qF -- "$text" "$folder/out" "$folder/error"; then
+        pass
+    else
+        fault "$* (wanted status $number and '$text', found status $found)"
+    fi
+}
+
+# bytes NUMBER..: these bytes
+bytes() {
+    for byte; do
+        # shellcheck disable=SC2059 # the format is the byte
+        printf "\\$(printf %o "$byte")"
+    done
+}
+
+# totals STORE: what the totals of a store are
+totals() {
+    "$controller" --show "$1" | sed -n 's/^totals *//p'
+}
+
+# report WHAT: ends the test
+report() {
+    echo "$1 ($programs): $passed passed, $failed failed"
+    [ "$failed" -eq 0 ] && [ "$passed" -gt 0 ]
+}
