@@ -13,6 +13,24 @@ pub fn number_of(answer: u64) -> usize
     (answer % 256) as usize
 }
 
+// Whether a number is a refusal: such a call leaves the code arrays zero and the store as it was.
+pub fn is_refusal(number: usize) -> bool {
+    0 < number && number < 12
+}
+
+// The cells taken as a call ends.
+pub fn cells_of(answer: u64) -> u64 {
+    answer / 281474976710656
+}
+
+// Whether an answer says nothing but done and so many cells taken.
+pub fn is_done_with(answer: u64, cells: u64) -> bool {
+    if answer % 281474976710656 != 0 {
+        return false;
+    }
+    cells_of(answer) == cells
+}
+
 // The answer of a case.
 pub fn answer_of(case: &[u8]) -> u64 {
     natural(line_of(case, b"answer"), 1)

@@ -1,16 +1,19 @@
-// Bytes and words of arrays, read from a line and compared.
+// Bytes and words of arrays, read from the lines of a case.
 use crate::number::digit;
+use crate::number::natural;
 use crate::number::natural_at;
+use crate::number::signed;
 use crate::number::signed_at;
 use crate::text::after;
 use crate::text::byte_at;
+use crate::text::line_at;
 use crate::text::line_of;
 use crate::text::past;
+use crate::text::start_of;
 use crate::text::word;
 ghost use mathlib.Core.Path.{_≡_};
-ghost use mathlib.Core.Bool.{true};
 ghost use Prim.Native.Nat.{_+_, _*_, _≤_};
-ghost use lib.ListN.{length, take};
+ghost use lib.ListN.{length};
 ghost use Rattle.io.specs.Counts.{Counts};
 
 // The byte that two digits of base 16 give.
@@ -46,7 +49,7 @@ pub fn file_of(case: &[u8], bytes: &mut [u8]) -> usize
 }
 
 // Puts the low 8 bits of a number into an array, if it has that place.
-pub fn put_kind(kinds: &mut [u8], index: usize, value: u64)
+fn put_kind(kinds: &mut [u8], index: usize, value: u64)
     ensures { λ r. ⌜ length (now (kinds .exit)) ≡ length (now (kinds .entry)) ⌝ }
 {
     if index < kinds.len() {
@@ -55,7 +58,7 @@ pub fn put_kind(kinds: &mut [u8], index: usize, value: u64)
 }
 
 // Puts a signed word into an array, if it has that place.
-pub fn put_slot(slots: &mut [i64], index: usize, value: i64)
+fn put_slot(slots: &mut [i64], index: usize, value: i64)
     ensures { λ r. ⌜ length (now (slots .exit)) ≡ length (now (slots .entry)) ⌝ }
 {
     if index < slots.len() {
@@ -64,7 +67,7 @@ pub fn put_slot(slots: &mut [i64], index: usize, value: i64)
 }
 
 // Puts the low 32 bits of a number into an array, if it has that place.
-fn put_head(heads: &mut [u32], index: usize, value: u64)
+pub fn put_head(heads: &mut [u32], index: usize, value: u64)
     ensures { λ r. ⌜ length (now (heads .exit)) ≡ length (now (heads .entry)) ⌝ }
 {
     if index < heads.len() {
@@ -102,61 +105,34 @@ pub fn fill_heads(line: &[u8], from: usize, heads: &mut [u32])
     }
 }
 
-// Whether two arrays hold the same words.
-pub fn same_slots(a: &[i64], b: &[i64]) -> bool
-    ensures { λ r. ⌜ (r ≡ true → now (a .entry) ≡ now (b .entry)) ⌝ }
-{
-    if a.len() != b.len() {
-        return false;
-    }
+// Puts the code lines of a case into two arrays.
+pub fn fill_lines(case: &[u8], kinds: &mut [u8], operands: &mut [i64]) {
+    let start = start_of(case, b"rows");
+    let lines = natural(line_at(case, start), 1) as usize;
+    let mut at = past(case, start, b'\n');
     let mut i = 0;
-    while i < a.len() {
-        if a[i] != b[i] {
-            return false;
-        }
+    while i < lines {
+        let line = line_at(case, at);
+        put_kind(kinds, i, natural(line, 0));
+        put_slot(operands, i, signed(line, 1));
+        at = past(case, at, b'\n');
         i = i + 1;
     }
-    true
 }
 
-// The same for arrays of unsigned words.
-pub fn same_heads(a: &[u32], b: &[u32]) -> bool
-    ensures { λ r. ⌜ (r ≡ true → now (a .entry) ≡ now (b .entry)) ⌝ }
+// Puts the readings of a delivery into an array, and answers how many there are.
+pub fn readings_of(line: &[u8], readings: &mut [i64]) -> usize
+    ensures { λ r. ⌜ r ≤ length (now (readings .exit)) ⌝ }
 {
-    if a.len() != b.len() {
-        return false;
-    }
-    let mut i = 0;
-    while i < a.len() {
-        if a[i] != b[i] {
-            return false;
+    let mut at = word(line, 5);
+    let mut count = 0;
+    while count < readings.len() {
+        if line.len() <= at {
+            return count;
         }
-        i = i + 1;
+        put_slot(readings, count, signed_at(line, at));
+        at = past(line, at, b' ');
+        count = count + 1;
     }
-    true
-}
-
-// Whether both code arrays hold what two arrays that are at least as long begin with.
-pub fn same_code(
-    kinds: &[u8],
-    operands: &[i64],
-    wanted_kinds: &[u8],
-    wanted_operands: &[i64],
-) -> bool
-    ensures { λ r. ⌜ (r ≡ true →
-        (now (kinds .entry) ≡ take (length (now (kinds .entry))) (now («wanted_kinds» .entry)))
-        × (now (operands .entry) ≡ take (length (now (operands .entry))) (now («wanted_operands» .entry)))) ⌝ }
-{
-    let lines = kinds.len();
-    let words = operands.len();
-    if wanted_kinds.len() < lines {
-        return false;
-    }
-    if wanted_operands.len() < words {
-        return false;
-    }
-    if check::same(kinds, &wanted_kinds[..lines]) {
-        return same_slots(operands, &wanted_operands[..words]);
-    }
-    false
+    count
 }

@@ -1,35 +1,51 @@
-// Reads the text of test cases, and counts and prints how many agree. A case is a part of the text from its line
-// `case` to its line `end`. A line is a key and its values, with one blank between. Nothing stands past the end.
+// Reads the text of test cases, compares what a call leaves with what it must leave, and counts what is right. A case
+// is a part of the text from its line `case` to its line `end`. A line is a key and its values, with one blank between.
+// Nothing stands past the end.
 mod answer;
 mod array;
+mod compare;
+mod expected;
 mod number;
 mod tally;
 mod text;
 
 pub use answer::answer_of;
+pub use answer::cells_of;
+pub use answer::is_done_with;
+pub use answer::is_refusal;
 pub use answer::is_right;
 pub use answer::number_of;
 pub use array::file_of;
 pub use array::fill_heads;
+pub use array::fill_lines;
 pub use array::fill_slots;
-pub use array::put_kind;
-pub use array::put_slot;
-pub use array::same_code;
-pub use array::same_heads;
-pub use array::same_slots;
+pub use array::readings_of;
+pub use compare::MOST_LINES;
+pub use compare::compare_store;
+pub use compare::count_code;
+pub use compare::has_right_code;
+pub use expected::MOST_HEADS;
+pub use expected::MOST_SLOTS;
+pub use expected::copy_heads;
+pub use expected::copy_slots;
+pub use expected::end_heads;
+pub use expected::open_heads;
+pub use expected::taken;
+pub use expected::totals_depth;
 pub use number::length_of;
 pub use number::natural;
-pub use number::natural_at;
-pub use number::signed;
-pub use number::signed_at;
-pub use tally::count;
-pub use tally::print_agreed;
-pub use tally::print_tallies;
-pub use tally::read_text;
+pub use tally::CHECK;
+pub use tally::DELIVER;
+pub use tally::LAST;
+pub use tally::OPEN;
+pub use tally::TALLY_WORDS;
+pub use tally::TRANSLATE;
+pub use tally::count_call;
+pub use tally::count_last;
+pub use tally::print_tally;
 pub use text::case_end;
 pub use text::line_at;
 pub use text::line_of;
 pub use text::past;
+pub use text::read_text;
 pub use text::stands_at;
-pub use text::start_of;
-pub use text::word;

@@ -1,8 +1,23 @@
-// Positions in a text, and its parts: cases, lines and words.
+// The text of a file of cases: its parts, which are cases, lines and words, and positions in it.
 ghost use mathlib.Core.Path.{_≡_};
 ghost use mathlib.Core.Bool.{true};
 ghost use Prim.Native.Nat.{_+_, _<_, _≤_, min};
 ghost use lib.ListN.{length, getD, take, drop};
+ghost use Rattle.io.specs.Counts.{Counts};
+
+// Reads a file of cases, and answers how many bytes it has; 0 if it cannot be read.
+pub fn read_text(name: &[u8], text: &mut [u8]) -> usize
+    ensures { λ r. ⌜ Counts r (now (text .exit)) ⌝ }
+{
+    let fd = os::open_read(name);
+    if fd < 0 {
+        os::fail(name);
+        return 0;
+    }
+    let n = io::read_full(fd, text);
+    libc::close(fd);
+    n
+}
 
 // The byte at a position; 0 past the end.
 pub fn byte_at(text: &[u8], at: usize) -> u8

@@ -1,0 +1,73 @@
+-- `cases::compare::same_slots` meets its contract.
+use mathlib.Core.Path.{_≡_}
+use Prim.Native.Nat.{ℕ, _-_, _<_, _≤_}
+use native.Mathlib.Omega.{arith}
+use lib.ListN.{length, getD}
+use lib.Seq.{ext-getD}
+use borrow.Author.Count.{below-none, below-more}
+use Rattle.cases.proofs.Laws.{never, same-bits}
+use lib.IntN.{pos}
+use borrow.Author.Needs.{needs}
+use Rattle.cases.proofs.compare.same_slots.Statement.{statement}
+use Rattle.cases.proofs.compare.same_slots.Tie as tie
+
+abbrev Inv-loop : tie.InvT-loop
+Inv-loop a b i₀ i = (i ≤ length a) × ((k : ℕ) → k < i → getD a k (pos 0) ≡ getD b k (pos 0))
+
+abbrev μ-loop : tie.MeasureT-loop
+μ-loop a b i₀ i = length a - i
+
+returns : tie.Need-returns Inv-loop μ-loop
+returns c e = never e
+
+loop-holds : tie.Need-loop-holds Inv-loop μ-loop
+loop-holds c = (search needs, below-none _)
+
+mul-if2 : tie.Need-mul-if2 Inv-loop μ-loop
+mul-if2 c = search needs
+
+shared-slice-copy-out-if2 : tie.Need-shared-slice-copy-out-if2 Inv-loop μ-loop
+shared-slice-copy-out-if2 c = search needs
+
+mul-if2-2 : tie.Need-mul-if2-2 Inv-loop μ-loop
+mul-if2-2 c = search needs
+
+shared-slice-copy-out-if2-2 : tie.Need-shared-slice-copy-out-if2-2 Inv-loop μ-loop
+shared-slice-copy-out-if2-2 c = search needs
+
+returns-2 : tie.Need-returns-2 Inv-loop μ-loop
+returns-2 c e = never e
+
+add-i : tie.Need-add-i Inv-loop μ-loop
+add-i c = search needs
+
+loop-less : tie.Need-loop-less Inv-loop μ-loop
+loop-less c = search needs
+
+loop-again : tie.Need-loop-again Inv-loop μ-loop
+loop-again c = (
+  search needs,
+  below-more _ _ (c .before .before .before .before .loop .inv .1)
+      (same-bits (c .before .before .if22 .given) (c .before .if23 .given) (c .if2 .left)),
+)
+
+returns-3 : tie.Need-returns-3 Inv-loop μ-loop
+returns-3 c e = ext-getD (pos 0) _ _ (c .before .before .if1 .left) (λ k h. c .before .loop .inv .1 k (omega arith))
+
+pub same-slots-spec : {M : Type 1} → statement M
+same-slots-spec =
+    tie.close
+    (tie.spec
+    Inv-loop
+    μ-loop
+    returns
+    loop-holds
+    mul-if2
+    shared-slice-copy-out-if2
+    mul-if2-2
+    shared-slice-copy-out-if2-2
+    returns-2
+    add-i
+    loop-less
+    loop-again
+    returns-3)

@@ -1,0 +1,51 @@
+// Runs the cases of data/ on the four calls, and prints how many calls they make and how much of what each leaves is
+// right. Then it prints the refusal of a file for each number from 1 to 9.
+mod calls;
+mod checks;
+mod deliveries;
+mod refusals;
+mod translations;
+
+use cases::TALLY_WORDS;
+
+// What the cases of a text are about.
+enum Family {
+    Translate,
+    Check,
+    Deliver,
+}
+
+// Runs a case.
+fn run_case(family: Family, case: &[u8], tally: &mut [u64; TALLY_WORDS]) {
+    match family {
+        Family::Translate => translations::run_case(case, tally),
+        Family::Check => checks::run_case(case, tally),
+        Family::Deliver => deliveries::run_case(case, tally),
+    }
+}
+
+// Runs each case of a text.
+fn run_text(family: Family, text: &[u8], tally: &mut [u64; TALLY_WORDS]) {
+    let mut at = 0;
+    while at < text.len() {
+        let end = cases::case_end(text, at);
+        run_case(family, &text[at..end], tally);
+        at = end;
+    }
+}
+
+// Runs each case of a file.
+fn run_file(family: Family, name: &[u8], tally: &mut [u64; TALLY_WORDS]) {
+    let mut text = [0u8; 200000];
+    let count = cases::read_text(name, &mut text);
+    run_text(family, &text[0..count], tally);
+}
+
+fn main() {
+    let mut tally = [0u64; TALLY_WORDS];
+    run_file(Family::Translate, b"translate.txt", &mut tally);
+    run_file(Family::Check, b"check.txt", &mut tally);
+    run_file(Family::Deliver, b"deliver.txt", &mut tally);
+    cases::print_tally(&tally);
+    refusals::print_refusals();
+}
