@@ -30,8 +30,8 @@ void find_place(struct place *place, const char *path);
 /* Looks anew what is there. Fails where it is something else than a file, or may not be written. */
 void look_at_place(struct place *place);
 
-/* Whether the program that a place is locked for has it alone: false where another has. It is given back as the program
- * ends. The lock is on a file beside it, its name with '.lock'. Only one place can be locked. */
+/* Locks a place for this program until it ends; false where another program has locked it. The lock is on a file beside
+ * it, its name with '.lock', which is removed at the end. A program can lock one place. */
 bool lock_place(const struct place *place);
 
 /* Removes what a program that was ended while it replaced the file has left. */
