@@ -1,19 +1,18 @@
 -- The lines that work no tree, as they stand in the code: one law for each kind of leaf.
 use mathlib.Core.Path.{_≡_, refl, sym, ap, ap₂, subst, _∙_}
-use mathlib.Core.Bool.{Bool, true, false, cond, _&&_}
-use mathlib.Core.Option.{Option, some, none}
+use mathlib.Core.Bool.{Bool, true, false, cond}
+use mathlib.Core.Option.{some}
 use mathlib.Core.List.{List, [], _∷_, _++_, map}
 use Prim.Native.Nat.{ℕ, zero, suc, _+_, _-_, _*_, _/_, _%_, _<_, _≤_}
 use native.Mathlib.Omega.{arith}
 use lib.IntN.{ℤ, pos, natAbs}
-use lib.Dec.{eqb}
-use lib.ListN.{getD, length}
+use lib.ListN.{getD, length, length-map}
 use Rattle.semantics.specs.Basics.{updated}
 use Rattle.semantics.specs.Outcome.{Outcome, done, stop, onward, give, require}
 use Rattle.semantics.specs.Number.{Operation, sum, difference, less, exact, fits, inside}
 use Rattle.semantics.specs.Kinds.{Leaf, operation, call, literal, index, length-of, operation-kind, leaf-kind}
 use Rattle.semantics.specs.Kinds.{leaf-operand}
-use Rattle.semantics.specs.Types.{Signature, some-if, same, call-rule}
+use Rattle.semantics.specs.Types.{Signature, same, call-rule}
 use Rattle.semantics.specs.Store.{Store, cell-of, has-free, acquired, retained, released, deepest}
 use Rattle.semantics.specs.Code as K
 use Rattle.semantics.specs.Code.{row, atom-row}
@@ -22,6 +21,7 @@ use Rattle.semantics.specs.Annotate.{NameDepths, atom-depth}
 use Rattle.semantics.specs.Machine as M
 use Rattle.semantics.specs.Machine.{State, Frame, Program, word, with-left, work-leaf, work-line, acquire, acquire-if}
 use Rattle.semantics.specs.Machine.{elements-of, retain-word, release-word, held, argument, touching}
+use Rattle.sound_annotation.specs.Rules.{some-if-holds, same-lists}
 use Rattle.sound_machine.specs.Discipline.{AllKnown, New, LeafFits}
 use Rattle.words.specs.Words.{checked}
 use Rattle.words.specs.declared.Exact.the-variants.{Value, Overflow}
@@ -72,10 +72,6 @@ module _ (kinds : List ℕ) (operands : List ℤ) (calls : ℕ) (env : List ℤ)
       ap (λ (q : ℕ). word-of calls env (atom-at kinds operands q)) (let z : at + suc i ≡ at + 1 + i = omega arith in z)
       ∙ word-at us (at + 1) i (k .1) (r .1) (omega arith)
 
-pub length-words : (us : List K.Atom) (ρ : Frame) → length (map (word ρ) us) ≡ length us
-length-words [] ρ = refl
-length-words (a ∷ us) ρ = ap suc (length-words us ρ)
-
 -- ---- what a call's atoms fit
 
 -- the callee over positions is that of the machine
@@ -85,32 +81,14 @@ pub record CalleeSame (p : Program) (calls : ℕ) (C : Callee) (callee : M.Calle
       length ws ≡ length (p .signatures g .parameters) → 8192 ≤ length env →
       Rel (CallDone calls env) (C g ws (s .left) (memory (s .store) env)) (callee R g ws s)
 
-same-long : (ps ds : List ℕ) → same ps ds ≡ true → length ds ≡ length ps
-same-long [] [] e = refl
-same-long [] (d ∷ ds) e = absurd (let z : _≡_ {A = ℕ} 0 1 = cc in omega arith)
-same-long (p ∷ ps) [] e = absurd (let z : _≡_ {A = ℕ} 0 1 = cc in omega arith)
-same-long (p ∷ ps) (d ∷ ds) e = ap suc (same-long ps ds (second (eqb p d) (same ps ds) e))
-  where
-    second : (a c : Bool) → (a && c) ≡ true → c ≡ true
-    second true c h = h
-    second false c h = absurd (let z : _≡_ {A = ℕ} 0 1 = cc in omega arith)
-
 -- as many atoms as parameters
 call-long : (Γ : NameDepths) (us : List K.Atom) (s : Signature) (d : ℕ) →
     call-rule s (map (atom-depth Γ) us) ≡ some d → length us ≡ length (s .parameters)
-call-long Γ us s d h = sym (lengths us) ∙ same-long (s .parameters) (map (atom-depth Γ) us) (test (same (s .parameters) (map (atom-depth Γ) us)) h)
-  where
-    lengths : (vs : List K.Atom) → length (map (atom-depth Γ) vs) ≡ length vs
-    lengths [] = refl
-    lengths (v ∷ vs) = ap suc (lengths vs)
-
-    has : Option ℕ → ℕ
-    has (some e) = 1
-    has none = 0
-
-    test : (t : Bool) → some-if t (s .result) ≡ some d → t ≡ true
-    test true e = refl
-    test false e = absurd (let z : _≡_ {A = ℕ} 0 1 = ap has e in omega (arith, z))
+call-long Γ us s d h =
+    let ds = map (atom-depth Γ) us in
+    let alike : s .parameters ≡ ds =
+    same-lists (s .parameters) ds (some-if-holds (same (s .parameters) ds) (s .result) d h .0) in
+    sym (length-map us (atom-depth Γ)) ∙ ap length (sym alike)
 
 -- ---- leaves
 
@@ -243,7 +221,7 @@ module _ (p : Program) (few : length (p .routines) ≤ 32) (callee : M.Callee) (
           let z : (x + 256 * length us + 65536 * d) / 65536 % 256 ≡ d = omega (arith, new .small, little, shallow) in z,
           words-same (c .kinds) (c .operands) calls env ρ S b g us 16 (at + 1) little known rs closed,
         ) refl)
-        (omega (arith, length-words us ρ)) (λ n. go n (has-free (s .store)) refl)
+        (omega (arith, length-map us (word ρ))) (λ n. go n (has-free (s .store)) refl)
       where
         go : (n : ℕ) (t : Bool) → has-free (s .store) ≡ t →
             Gives n (acquired d ws (s .store)) (acquired-given (cond (has-free (s .store)) (Cell (s .store .first)) NoneFree))
@@ -267,11 +245,11 @@ module _ (p : Program) (few : length (p .routines) ≤ 32) (callee : M.Callee) (
         (omega (arith, arity, calling-same .few h there)) known rs closed)
         (rel-then (CallDone calls env) Done (C h ws n here) (callee call-roots h ws (with-left s n))
         (λ w. binding calls x (at + 1 + length ws) w) (λ w. give (updated ρ x w))
-        (calling-same .same call-roots h ws env (with-left s n) there (length-words us ρ ∙ arity) long)
+        (calling-same .same call-roots h ws env (with-left s n) there (length-map us (word ρ) ∙ arity) long)
         (λ v s′ k. (
           refl,
           bound-done calls env ρ S b g long x new (at + 1 + length ws) (at + suc (length us))
-              (omega (arith, length-words us ρ)) (C h ws n here) v s′
+              (omega (arith, length-map us (word ρ))) (C h ws n here) v s′
               (call-word calls env S b (C h ws n here) v s′ k),
         )))))
 

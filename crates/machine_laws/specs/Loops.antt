@@ -18,6 +18,7 @@ use Rattle.semantics.specs.Machine as M
 use Rattle.semantics.specs.Machine.{State, Frame, Program, word, step, stepped, with-left, work, work-line, work-pass}
 use Rattle.semantics.specs.Machine.{acquire, acquire-if, elements-of, append-word, held, touching, looped-over}
 use Rattle.semantics.specs.Machine.{carried-first, pass-words, carried-on, in-progress}
+use Rattle.sound_annotation.specs.Sets.{or-left}
 use Rattle.sound_machine.specs.Discipline.{AllKnown, New, AllNew, LoopFits, Fitting, Scoped}
 use Rattle.store.specs.Acquiring.{next-cell}
 use Rattle.store.specs.declared.Acquired.the-variants.{Cell, NoneFree}
@@ -27,9 +28,10 @@ use Rattle.machine_lines.specs.Frames.{word-of}
 use Rattle.machine_lines.specs.Lines.{Memory, memory, Ran, acquired-given, array-of, looping, doing}
 use Rattle.machine_positions.specs.Machine.{Code, Callee, and-then, binding, Looped, looped, bound-all, gave}
 use Rattle.machine_positions.specs.Machine.{carry-first, carry-on, passes-on, loop-worked, loop-line, tree-on}
+use Rattle.machine_positions.specs.Lengths.{bound-all-keeps}
 use Rattle.machine_laws.specs.Rows.{Here, At, Jumps, coded, atom-here, line-read}
 use Rattle.machine_laws.specs.Frames.{Bounded, Agrees, Kept, small-known, word-same, kept-none, kept-then}
-use Rattle.machine_laws.specs.Frames.{agrees-kept, or-true, bounded-all, long-all, agrees-all, kept-all}
+use Rattle.machine_laws.specs.Frames.{agrees-kept, bounded-all, agrees-all, kept-all}
 use Rattle.machine_laws.specs.Same.{Rel, WordDone, TreeDone, LineDone, rel-then, rel-step, rel-map}
 use Rattle.machine_laws.specs.Same.{onward-onward, word-moved, word-kept, bound-done}
 
@@ -135,7 +137,7 @@ module _ (p : Program) (callee : M.Callee) (Γ : NameDepths) (c : Code) (calls f
         (W m (memory (s₀ .store) e₁)) (body vs s₁) carry
         (λ r s₂. onward (λ u. rest count (suc i) u) (carried-on k v r s₂))
         (claim n lt few (S ∪ just ps) d fit scoped (bounded-all ps S new b) at rs B R (M.binding ps vs ρ) s₁ e₁
-        (agrees-all calls ps vs e₀ ρ S new l₀ b g₀) (omega (arith, l₀, long-all calls ps vs e₀)))
+        (agrees-all calls ps vs e₀ ρ S new l₀ b g₀) (omega (arith, l₀, bound-all-keeps calls ps vs e₀)))
         (λ r s₂ h. after r s₂ h))
       where
         vs : List ℤ
@@ -164,7 +166,7 @@ module _ (p : Program) (callee : M.Callee) (Γ : NameDepths) (c : Code) (calls f
             (λ u s₃ q.
             let kept : Kept calls e₀ (x .memory .env) S =
             kept-then calls e₀ (w .memory .env) (x .memory .env) S S (λ y z. z)
-            (kept-then calls e₀ e₁ (w .memory .env) S (S ∪ just ps) (λ y z. or-true (S y) (just ps y) z)
+            (kept-then calls e₀ e₁ (w .memory .env) S (S ∪ just ps) (λ y z. or-left (S y) (just ps y) z)
             (kept-all calls ps vs e₀ S new) (h .word .kept)) (q .kept) in
             subst (λ (y : Ran). Rel (WordDone calls e₀ S) y (rest count (suc i) u s₃))
             (sym (word-moved (λ y j μ. passes-on l count y (i + 1) j μ) q

@@ -2,11 +2,11 @@
 use mathlib.Core.Path.{_≡_, refl, sym, ap, ap₂, subst, _∙_}
 use mathlib.Core.Bool.{Bool, true, false, cond}
 use mathlib.Core.Logic.{inr}
-use mathlib.Core.List.{List, [], _∷_, _++_, map}
+use mathlib.Core.List.{List, _++_, map}
 use Prim.Native.Nat.{ℕ, zero, suc, _+_, _-_, _%_, _<_, _≤_}
 use native.Mathlib.Omega.{arith}
 use lib.IntN.{ℤ}
-use lib.ListN.{getD, length, length-append}
+use lib.ListN.{getD, length, length-append, length-map}
 use types.Run.{miss}
 use borrow.Author.Tests.{lt-ltb}
 use Rattle.semantics.specs.Basics.{updated}
@@ -27,7 +27,7 @@ use Rattle.machine_lines.specs.Lines.{Memory, memory, Ran, Doing, branching, do
 use Rattle.machine_positions.specs.Machine.{Code, Work, Callee, and-then, binding, if-worked, if-line, line-done, line-on}
 use Rattle.machine_positions.specs.Machine.{is-end, tree-from, tree-on}
 use Rattle.machine_positions.specs.TreeLaws.{not-end}
-use Rattle.machine_laws.specs.Rows.{At, Jumps, at-first, at-second, coded, atom-here, line-read, length-rows}
+use Rattle.machine_laws.specs.Rows.{At, Jumps, at-first, at-second, coded, atom-here, line-read}
 use Rattle.machine_laws.specs.Rows.{not-leaves, leaf-apart, no-atom, tree-within, line-some, rows-some}
 use Rattle.machine_laws.specs.Frames.{Bounded, Agrees, small-known, word-same, kept-none, known-stays}
 use Rattle.machine_laws.specs.Frames.{bounded-after}
@@ -137,13 +137,9 @@ module _ (p : Program) (enough : length (p .routines) ≤ 32) (callee : M.Callee
         is-atom (getD (c .kinds) (at + 1 + length us) 0) ≡ false
     atoms-stop us t rs =
         ap (λ (q : ℕ). is-atom (getD (c .kinds) q 0)) (let z : at + 1 + length us ≡ at + 1 + length (map atom-row us) =
-        omega (arith, length-rows us) in z)
+        omega (arith, length-map us atom-row) in z)
         ∙ no-atom (c .kinds) (c .operands) (at + 1 + length (map atom-row us)) t
         (at-second (c .kinds) (c .operands) (at + 1) (map atom-row us) (rows t) rs)
-
-    coded-rows : (us : List K.Atom) → length (map coded us) ≡ length (map atom-row us)
-    coded-rows [] = refl
-    coded-rows (u ∷ us) = ap suc (coded-rows us)
 
     abbrev LineSame : K.Line → Doing → Type 0
     LineSame l d = Rel (LineDone (at + length (line-rows l)) calls env S (known-after l S))
@@ -156,7 +152,7 @@ module _ (p : Program) (enough : length (p .routines) ≤ 32) (callee : M.Callee
     line-same (K.leaf x l us) claims lt fit h t rs =
         subst (λ (q : ℕ). Rel (LineDone q calls env S (S ∪ only x)) (line-done W C c calls f at (s .left) here found)
         (work-line callee Γ (K.leaf x l us) A R ρ s))
-        (let z : at + suc (length us) ≡ at + suc (length (map atom-row us)) = omega (arith, length-rows us) in z)
+        (let z : at + suc (length us) ≡ at + suc (length (map atom-row us)) = omega (arith, length-map us atom-row) in z)
         (leaf-same p enough callee Γ c calls f C calling W at A R ρ s env S b g long x (h .1) us (h .0)
         (at-first (c .kinds) (c .operands) (at + 1) (map atom-row us) (rows t) (rs .1)) (atoms-stop us t (rs .1)) l fit
         (rs .0))
@@ -186,9 +182,9 @@ module _ (p : Program) (enough : length (p .routines) ≤ 32) (callee : M.Callee
         (loop-same p callee Γ c calls f C depths jumps n few S b at A R ρ s env g long x k ps us t₁ (h .1) (h .2) (h .0)
         claims (omega (arith, e, lt)) (atom-depth Γ (ending t₁)) (fit .1) (h .3)
         (subst (λ (q : ℕ). At (c .kinds) (c .operands) q (rows t₁))
-        (let z : at + 1 + length (map atom-row us) ≡ at + suc (length (map coded us)) = omega (arith, coded-rows us) in z)
+        (let z : at + 1 + length (map atom-row us) ≡ at + suc (length (map coded us)) = omega (arith, length-map us coded, length-map us atom-row) in z)
         (at-second (c .kinds) (c .operands) (at + 1) (map atom-row us) (rows t₁) mine)) _
-        (omega (arith, e, coded-rows us)))
+        (omega (arith, e, length-map us coded, length-map us atom-row)))
     line-same (K.retain x) claims lt fit h t rs =
         retain-same p enough callee Γ c calls f C calling W at A R ρ s env S b g long x h (rs .0)
     line-same (K.release x) claims lt fit h t rs =
