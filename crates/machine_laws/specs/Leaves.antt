@@ -137,22 +137,29 @@ module _ (p : Program) (few : length (p .routines) ≤ 32) (callee : M.Callee) (
     abbrev Stands : Leaf → Type 0
     Stands l = Here (c .kinds) (c .operands) at (row (leaf-kind l) (leaf-operand l x (length us)))
 
+    byte : x % 256 ≡ x
+    byte = omega (arith, new .small)
+
     first-word : 0 < length us → word-of calls env (atom-at (c .kinds) (c .operands) (at + 1)) ≡ argument ws 0
     first-word h =
-        ap (λ (q : ℕ). word-of calls env (atom-at (c .kinds) (c .operands) q)) (let z : at + 1 ≡ at + 1 + 0 = omega arith in z)
+        ap (λ (q : ℕ). word-of calls env (atom-at (c .kinds) (c .operands) q))
+        (let z : at + 1 ≡ at + 1 + 0 = omega arith in z)
         ∙ word-at (c .kinds) (c .operands) calls env ρ S b g us (at + 1) 0 known rs h
 
     second-word : 1 < length us → word-of calls env (atom-at (c .kinds) (c .operands) (at + 2)) ≡ argument ws 1
     second-word h =
-        ap (λ (q : ℕ). word-of calls env (atom-at (c .kinds) (c .operands) q)) (let z : at + 2 ≡ at + 1 + 1 = omega arith in z)
+        ap (λ (q : ℕ). word-of calls env (atom-at (c .kinds) (c .operands) q))
+        (let z : at + 2 ≡ at + 1 + 1 = omega arith in z)
         ∙ word-at (c .kinds) (c .operands) calls env ρ S b g us (at + 1) 1 known rs h
 
     -- a leaf that is a small work
-    gives-same : (l : Leaf) (next : ℕ) (σ : Store) (y : Given) → found ≡ giving x next σ y → next ≡ at + suc (length us) →
+    gives-same : (l : Leaf) (next : ℕ) (σ : Store) (y : Given) → found ≡ giving x next σ y →
+        next ≡ at + suc (length us) →
         ((n : ℕ) → Gives n σ y (work-leaf callee cell-roots call-roots l ws (with-left s n))) → Claim l
     unfolding line-done leaf-done work-line onward
     gives-same l next σ y d e h =
-        subst (λ (z : Doing). Rel Done (line-done W C c calls f at (s .left) here z) (work-line callee Γ (K.leaf x l us) A R ρ s)) (sym d)
+        subst (λ (z : Doing). Rel Done (line-done W C c calls f at (s .left) here z)
+        (work-line callee Γ (K.leaf x l us) A R ρ s)) (sym d)
         (rel-step Done s here (λ n. with-store σ (given calls x next n env y))
         (λ _ s′. onward (λ w. give (updated ρ x w)) (work-leaf callee cell-roots call-roots l ws s′))
         (λ n. go n y (work-leaf callee cell-roots call-roots l ws (with-left s n)) (h n)))
@@ -161,7 +168,8 @@ module _ (p : Program) (few : length (p .routines) ≤ 32) (callee : M.Callee) (
             Rel Done (with-store σ (given calls x next n env y)) (onward (λ w. give (updated ρ x w)) o)
         go n (G.word w) (done v s′) q = (
           refl,
-          bound-done calls env ρ S b g long x new next (at + suc (length us)) e (ran (out 0 w next n) (memory σ env)) v s′
+          bound-done calls env ρ S b g long x new next (at + suc (length us)) e (ran (out 0 w next n) (memory σ env)) v
+              s′
               (record { value = q .0; steps = q .1; store = q .2; kept = kept-none calls env S }),
         )
         go n (G.word w) (stop k s′) q = absurd q
@@ -175,9 +183,9 @@ module _ (p : Program) (few : length (p .routines) ≤ 32) (callee : M.Callee) (
         (ap (doing (c .kinds) (c .operands) calls at here)
         (line-read (c .kinds) (c .operands) at (operation-kind o) x _ _ (r .kind) (r .operand) refl refl
         ∙ operation-read o x _ _)
-        ∙ rw (let z : x % 256 ≡ x = omega (arith, new .small) in z, first-word (omega (arith, two)), second-word (omega (arith, two))) refl)
+        ∙ rw (byte, first-word (omega (arith, two)), second-word (omega (arith, two))) refl)
         (omega (arith, two))
-        (λ n. rw (operation-back o) (go n (exact o (argument ws 0) (argument ws 1)) (fits (exact o (argument ws 0) (argument ws 1))) refl))
+        (λ n. rw (operation-back o) (go n (exact o (argument ws 0) (argument ws 1)) _ refl))
       where
         go : (n : ℕ) (z : ℤ) (t : Bool) → fits z ≡ t →
             Gives n (s .store) (exact-given (cond (fits z) (Value z) Overflow))
@@ -190,7 +198,7 @@ module _ (p : Program) (few : length (p .routines) ≤ 32) (callee : M.Callee) (
     length-same one r = gives-same length-of (at + 2) (s .store) (length-given (array-of (s .store) (argument ws 0)))
         (ap (doing (c .kinds) (c .operands) calls at here)
         (line-read (c .kinds) (c .operands) at 11 x _ _ (r .kind) (r .operand) refl refl)
-        ∙ rw (let z : x % 256 ≡ x = omega (arith, new .small) in z, first-word (omega (arith, one))) refl)
+        ∙ rw (byte, first-word (omega (arith, one))) refl)
         (omega (arith, one)) (λ n. (refl, refl, refl))
 
     index-same : length us ≡ 2 → Stands index → Claim index
@@ -199,7 +207,7 @@ module _ (p : Program) (few : length (p .routines) ≤ 32) (callee : M.Callee) (
         (index-given (array-of (s .store) (argument ws 0)) (argument ws 1))
         (ap (doing (c .kinds) (c .operands) calls at here)
         (line-read (c .kinds) (c .operands) at 10 x _ _ (r .kind) (r .operand) refl refl)
-        ∙ rw (let z : x % 256 ≡ x = omega (arith, new .small) in z, first-word (omega (arith, two)), second-word (omega (arith, two))) refl)
+        ∙ rw (byte, first-word (omega (arith, two)), second-word (omega (arith, two))) refl)
         (omega (arith, two))
         (λ n. go n (array-of (s .store) (argument ws 0)) (argument ws 1)
         (inside (argument ws 1) (length (array-of (s .store) (argument ws 0)))) refl)
@@ -224,16 +232,18 @@ module _ (p : Program) (few : length (p .routines) ≤ 32) (callee : M.Callee) (
         (omega (arith, length-map us (word ρ))) (λ n. go n (has-free (s .store)) refl)
       where
         go : (n : ℕ) (t : Bool) → has-free (s .store) ≡ t →
-            Gives n (acquired d ws (s .store)) (acquired-given (cond (has-free (s .store)) (Cell (s .store .first)) NoneFree))
+            Gives n (acquired d ws (s .store))
+            (acquired-given (cond (has-free (s .store)) (Cell (s .store .first)) NoneFree))
             (acquire-if (has-free (s .store)) cell-roots d ws (with-left s n))
         go n true e = rw e (refl, refl, refl)
         go n false e = rw e (refl, λ q. omega arith, refl)
 
-    call-same : (h : ℕ) → h < length (p .routines) → length us ≡ length (p .signatures h .parameters) → Stands (call h) →
-        Claim (call h)
+    call-same : (h : ℕ) → h < length (p .routines) → length us ≡ length (p .signatures h .parameters) →
+        Stands (call h) → Claim (call h)
     unfolding doing line-done call-line work-line work-leaf onward with-left
     call-same h there arity r =
-        subst (λ (z : Doing). Rel Done (line-done W C c calls f at (s .left) here z) (work-line callee Γ (K.leaf x (call h) us) A R ρ s))
+        subst (λ (z : Doing). Rel Done (line-done W C c calls f at (s .left) here z)
+        (work-line callee Γ (K.leaf x (call h) us) A R ρ s))
         (sym (ap (doing (c .kinds) (c .operands) calls at here)
         (line-read (c .kinds) (c .operands) at 8 (x + 256 * h) _ _ (r .kind) (r .operand) refl refl)
         ∙ ap₂ calling (let z : (x + 256 * h) % 256 ≡ x = omega (arith, new .small) in z)

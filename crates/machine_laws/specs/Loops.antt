@@ -37,8 +37,9 @@ use Rattle.machine_laws.specs.Same.{onward-onward, word-moved, word-kept
 
 -- ---- what a loop carries, and how it stands in the code: a clause for each kind of loop
 
-carry-first-same : (k : Loop) (R : List ℕ) (d : ℕ) (ws : List ℤ) (calls : ℕ) (S : Set) (env : List ℤ) (n : ℕ) (s : State) →
-    n ≡ s .left → Rel (WordDone calls env S) (carry-first k d ws n (memory (s .store) env)) (carried-first k R d ws s)
+carry-first-same : (k : Loop) (R : List ℕ) (d : ℕ) (ws : List ℤ) (calls : ℕ) (S : Set) (env : List ℤ) (n : ℕ)
+    (s : State) → n ≡ s .left →
+    Rel (WordDone calls env S) (carry-first k d ws n (memory (s .store) env)) (carried-first k R d ws s)
 unfolding acquire acquire-if M.with-store M.with-roots next-cell
 carry-first-same mapping R d ws calls S env n s e = go (has-free (s .store)) refl
   where
@@ -71,7 +72,6 @@ module _ (p : Program) (Γ : NameDepths) (c : Code) (calls at : ℕ) (m : Memory
       doing (c .kinds) (c .operands) calls at m (line-at (c .kinds) (c .operands) at) ≡ looping x k ps (map coded us)
   unfolding doing
   loop-read x mapping (q ∷ []) (u ∷ []) d fits new news known r rs =
-      let n : ℕ = x + 256 * (q + 256 * 0) in
       ap (doing (c .kinds) (c .operands) calls at m)
       (line-read (c .kinds) (c .operands) at 13 (x + 256 * (q + 256 * 0)) (coded u) _ (r .kind) (r .operand)
       (atom-here (c .kinds) (c .operands) (at + 1) u (small-known u S b (known .0)) (rs .0)) refl)
@@ -89,8 +89,8 @@ pred-less : (n : ℕ) → n - 1 ≡ pred n
 pred-less zero = refl
 pred-less (suc n) = omega arith
 
-coded-words : (calls : ℕ) (env : List ℤ) (ρ : Frame) (S : Set) → Agrees calls env ρ S → (us : List K.Atom) → AllKnown us S →
-    map (word-of calls env) (map coded us) ≡ map (word ρ) us
+coded-words : (calls : ℕ) (env : List ℤ) (ρ : Frame) (S : Set) → Agrees calls env ρ S → (us : List K.Atom) →
+    AllKnown us S → map (word-of calls env) (map coded us) ≡ map (word ρ) us
 coded-words calls env ρ S g [] h = refl
 coded-words calls env ρ S g (u ∷ us) h =
     ap₂ {C = List ℤ} _∷_ (word-same calls env ρ S g u (h .0)) (coded-words calls env ρ S g us (h .1))
@@ -255,7 +255,8 @@ module _ (p : Program) (callee : M.Callee) (Γ : NameDepths) (c : Code) (calls f
         first : Ran
         first = carry-first k (pred (Γ x)) ws m (memory (s .store) env)
 
-    pub loop-same : Rel Done (loop-line (tree-on n C c calls f) c calls f x k ps (map coded us) at (s .left) (memory (s .store) env))
+    pub loop-same : Rel Done
+        (loop-line (tree-on n C c calls f) c calls f x k ps (map coded us) at (s .left) (memory (s .store) env))
         (work-line callee Γ (K.loop x k ps us t) A R ρ s)
     unfolding loop-line work-line onward with-left elements-of M.with-store
     loop-same =
