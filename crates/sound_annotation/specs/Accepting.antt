@@ -19,10 +19,10 @@ use Rattle.semantics.specs.Types.{signatures-of, main-shape, type-faults}
 use Rattle.semantics.specs.Normal.{fresh, too-many-names-from, too-many-names}
 use Rattle.semantics.specs.Calls.{Verdict, accepted, refused, judged-script, judged-read, judged}
 use Rattle.semantics.specs.Machine.{program, routine}
+use Rattle.sound_base.specs.Tests.{not-some, some-if-holds, all-equal, same-lists}
 use Rattle.sound_machine.specs.Discipline.{FunctionDisciplined, FunctionFrugal}
 use Rattle.sound_annotation.specs.Typed.{Limited, Called, Functions, Typed}
-use Rattle.sound_annotation.specs.Rules.{not-some, some-if-holds, all-equal, same-lists, with-if-empty}
-use Rattle.sound_annotation.specs.Rules.{append-empty, node-parts, node-depth}
+use Rattle.sound_annotation.specs.Rules.{with-if-empty, append-empty, node-parts, node-depth}
 use Rattle.sound_annotation.specs.Calling.{body-called}
 use Rattle.sound_annotation.specs.Checking.{check-typed}
 use Rattle.sound_annotation.specs.Parameters.{written, written-known, Distinct}

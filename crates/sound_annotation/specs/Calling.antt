@@ -1,25 +1,16 @@
 -- `names-called`: where the check of names finds no fault, every call is of a function that is there.
 use Prim.Native.Nat.{ℕ, _+_}
 use mathlib.Core.Path.{_≡_}
-use mathlib.Core.Bool.{true, false}
+use mathlib.Core.Bool.{true}
 use mathlib.Core.List.{List, [], _∷_}
-use borrow.Author.Tests.{leb-false}
 use Rattle.semantics.specs.Basics.{updated}
-use Rattle.semantics.specs.Kinds.{Leaf, operation, call, literal, index, length-of}
 use Rattle.semantics.specs.Syntax.{Expr, number, name, let-in, leaf, if-else, loop, Exprs, none, more, size, sizes}
 use Rattle.semantics.specs.Syntax.{Parameter}
 use Rattle.semantics.specs.Names.{Scope, scope-with, calls-none, unknown, unknowns, unknown-from}
-use Rattle.sound_annotation.specs.Typed.{LeafCalls, Called, AllCalled}
+use Rattle.sound_annotation.specs.Typed.{Called, AllCalled}
 use Rattle.sound_annotation.specs.Rules.{append-empty, with-if-empty}
 
 module _ (functions : ℕ) where
-  leaf-called : (l : Leaf) → calls-none functions l ≡ false → LeafCalls functions l
-  leaf-called (operation o) e = tt
-  leaf-called (call f) e = leb-false functions f e
-  leaf-called (literal d) e = tt
-  leaf-called index e = tt
-  leaf-called length-of e = tt
-
   mutual
     unfolding unknown
 
@@ -31,7 +22,7 @@ module _ (functions : ℕ) where
         (names-called a known (p + 1) (parts .0), names-called b (updated known x true) (p + 1 + size a) (parts .1))
     names-called (leaf l es) known p h =
         let parts = with-if-empty (calls-none functions l) p (unknowns functions es known (p + 1)) h in
-        (leaf-called l (parts .0), all-names-called es known (p + 1) (parts .1))
+        (parts .0, all-names-called es known (p + 1) (parts .1))
     names-called (if-else a b c) known p h =
         let first = append-empty (unknown functions a known (p + 1)) _ h in
         let second = append-empty (unknown functions b known (p + 1 + size a)) _ (first .1) in (

@@ -102,8 +102,8 @@ module _ (Γ : NameDepths) where
       again = handed-again Γ hands (among reads U ∪ A)
 
       pub record Apart : Type 0 where
-        pub parts : (n : ℕ) → occurrences n (handed Γ us) ≡ occurrences n (handed Γ hands) + occurrences n
-            (handed Γ reads)
+        pub parts : (n : ℕ) →
+            occurrences n (handed Γ us) ≡ occurrences n (handed Γ hands) + occurrences n (handed Γ reads)
         pub unread : occurrences x (handed Γ us) ≡ 0
         pub unused : held Γ U x ≡ 0
         pub unlent : free B x ≡ 1

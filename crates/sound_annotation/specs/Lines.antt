@@ -63,8 +63,8 @@ module _ (Γ : NameDepths) where
           ),
           (
             (
-              subst (λ M. Covered Γ H (among us (M ∖ x))) (sym e) (covered-before Γ few B x us hands reads empty A
-                  apart),
+              subst (λ M. Covered Γ H (among us (M ∖ x))) (sym e)
+                  (covered-before Γ few B x us hands reads empty A apart),
               subst (λ M. Covered Γ rest (among reads (M ∖ x))) (sym e)
                   (covered-behind Γ few B x us hands reads empty A apart),
             ),

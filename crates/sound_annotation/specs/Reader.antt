@@ -16,8 +16,9 @@ use Rattle.semantics.specs.File.{Head, Node, fits, wrong-kind, wrong-operand, l
 use Rattle.semantics.specs.File.{at-function, at-parameter, at-part, allowed, node-of, part-count, Read, next, looked}
 use Rattle.semantics.specs.File.{Shape, none, leaf-of, loop-of, shapes, shape-of, shaped, parts, node-at, look, part}
 use Rattle.semantics.specs.File.{parameter, function, finish, script, between, read-file}
-use Rattle.sound_annotation.specs.Typed.{count, LeafLimits, loop-arity, Limited, AllLimited}
-use Rattle.sound_annotation.specs.Rules.{and-both}
+use Rattle.sound_machine.specs.Discipline.{LeafLimits, loop-arity}
+use Rattle.sound_base.specs.Tests.{both-hold}
+use Rattle.sound_annotation.specs.Typed.{count, Limited, AllLimited}
 
 -- ---- facts of answers
 
@@ -286,8 +287,8 @@ file-limited file =
         After ScriptLimits (cond s (stop 1 0) (cond t (cond u read (stop 1 0)) (stop 2 0)))
     go true t e u = tt
     go false true e true =
-        let some-functions = and-both (between 1 32 count) (between 1 1024 nodes) e .0 in
-        whole read (leb-true 1 count (and-both (leb 1 count) (leb count 32) some-functions .0))
+        let some-functions = both-hold (between 1 32 count) (between 1 1024 nodes) e .0 in
+        whole read (leb-true 1 count (both-hold (leb 1 count) (leb count 32) some-functions .0))
         (script-limited (take nodes (drop 4 file)) (drop (4 + nodes) file) count .after 0)
     go false true e false = tt
     go false false e u = tt

@@ -1,7 +1,7 @@
 -- What the rules of the types give, and nodes without fault.
 use Prim.Native.Nat.{ℕ, zero, suc, _+_, _<_, pred}
 use native.Mathlib.Omega.{arith}
-use mathlib.Core.Path.{_≡_, refl, sym, ap, _∙_, subst}
+use mathlib.Core.Path.{_≡_, refl, sym, ap, _∙_}
 use mathlib.Core.Bool.{Bool, true, false, cond, _&&_, false≢true}
 use mathlib.Core.List.{List, [], _∷_, _++_, map}
 use mathlib.Core.Option.{Option, none, some}
@@ -12,57 +12,18 @@ use Rattle.semantics.specs.Basics.{with-if}
 use Rattle.semantics.specs.Kinds.{Leaf, operation, call, literal, index, length-of, Loop, mapping}
 use Rattle.semantics.specs.Types as T
 use Rattle.semantics.specs.Types.{Checked, and-more, part-depths, part-faults, Rule, ruled, is-none, breaks, node}
-use Rattle.semantics.specs.Types.{some-if, all-are, same, if-rule, index-rule, Signature, leaf-rule, loop-rule}
-use Rattle.semantics.specs.Types.{loop-node, is-number, element, depth-at, array-depth}
+use Rattle.semantics.specs.Types.{all-are, same, if-rule, index-rule, Signature, leaf-rule, loop-rule, loop-node}
+use Rattle.semantics.specs.Types.{is-number, element, depth-at, array-depth}
 use Rattle.semantics.specs.Code.{Atom}
 use Rattle.semantics.specs.Annotate.{NameDepths, atom-depth, depth-of, pass-depths, leaf-depth, loop-depth}
-use Rattle.sound_annotation.specs.Typed.{loop-arity, array-among, element-depths}
-
-abbrev pub AllEqual : ℕ → List ℕ → Type 0
-AllEqual r [] = Unit {0}
-AllEqual r (d ∷ ds) = (d ≡ r) × AllEqual r ds
-
-abbrev is-some : Option ℕ → Type 0
-is-some (some d) = Unit {0}
-is-some none = ⊥
-
-value-or-0 : Option ℕ → ℕ
-value-or-0 (some d) = d
-value-or-0 none = 0
-
-pub some-same : (c d : ℕ) → some c ≡ some d → c ≡ d
-unfolding value-or-0
-some-same c d e = ap value-or-0 e
-
-pub not-some : {A : Type 0} (d : ℕ) → none ≡ some d → A
-not-some d e = absurd (subst is-some (sym e) tt)
-
-pub some-if-holds : (b : Bool) (c d : ℕ) → some-if b c ≡ some d → (b ≡ true) × (c ≡ d)
-some-if-holds true c d e = (refl, some-same c d e)
-some-if-holds false c d e = not-some d e
-
-pub and-both : (a b : Bool) → (a && b) ≡ true → (a ≡ true) × (b ≡ true)
-and-both true b e = (refl, e)
-and-both false b e = absurd (false≢true e)
-
-pub all-equal : (r : ℕ) (ds : List ℕ) → all-are r ds ≡ true → AllEqual r ds
-all-equal r [] e = tt
-all-equal r (d ∷ ds) e =
-    let both = and-both (eqb d r) (all-are r ds) e in
-    (eqb-true d r (both .0), all-equal r ds (both .1))
-
-pub same-lists : (ds es : List ℕ) → same ds es ≡ true → ds ≡ es
-same-lists [] [] e = refl
-same-lists [] (x ∷ es) e = absurd (false≢true e)
-same-lists (d ∷ ds) [] e = absurd (false≢true e)
-same-lists (d ∷ ds) (x ∷ es) e =
-    let both = and-both (eqb d x) (same ds es) e in
-    λ i. eqb-true d x (both .0) i ∷ same-lists ds es (both .1) i
+use Rattle.sound_machine.specs.Discipline.{loop-arity}
+use Rattle.sound_base.specs.Tests.{both-hold, some-same, not-some, some-if-holds}
+use Rattle.sound_annotation.specs.Typed.{array-among, element-depths}
 
 pub if-typed : (x y z d : ℕ) → if-rule (x ∷ y ∷ z ∷ []) ≡ some d → (x ≡ 0) × (y ≡ d) × (z ≡ d)
 if-typed x y z d e =
     let holds = some-if-holds (eqb x 0 && eqb y z) y d e in
-    let both = and-both (eqb x 0) (eqb y z) (holds .0) in
+    let both = both-hold (eqb x 0) (eqb y z) (holds .0) in
     (eqb-true x 0 (both .0), holds .1, sym (eqb-true y z (both .1)) ∙ holds .1)
 
 -- ---- the depths of lines are those of the rules

@@ -4,8 +4,8 @@ use native.Mathlib.Omega.{arith}
 use mathlib.Core.Path.{_≡_, refl, sym, ap, _∙_, subst}
 use mathlib.Core.Logic.{inl, inr}
 use mathlib.Core.Bool.{Bool, true, false, _&&_, not, false≢true}
-use mathlib.Core.List.{List, [], _∷_, map}
-use lib.ListN.{length, getD}
+use mathlib.Core.List.{List, [], _∷_}
+use lib.ListN.{length}
 use borrow.Author.Tests.{eq-eqb, ltb-true}
 use Rattle.semantics.specs.Basics.{with-if, occurrences, _∈_}
 use Rattle.semantics.specs.Kinds.{Leaf, operation, call, literal, index, length-of, leaf-hands, leaf-reads, Loop}
@@ -16,13 +16,14 @@ use Rattle.semantics.specs.Live.{Set, empty, _∪_, _∖_, _∖∖_, only, just
 use Rattle.semantics.specs.Annotate.{NameDepths, atom-depth, is-array, arrays, dying, handed-again, annotate}
 use Rattle.semantics.specs.Annotate.{annotate-line}
 use Rattle.semantics.specs.Machine.{Program}
+use Rattle.sound_base.specs.Tests.{both-hold, or-cases, or-left, or-right}
 use Rattle.sound_base.specs.Lists.{hits}
-use Rattle.sound_machine.specs.Discipline.{LeafFormed, array-place, LoopFits, Fitting, AllNew, AllKnown, Scoped}
-use Rattle.sound_annotation.specs.Typed.{LeafLimits, LeafCalls, loop-arity, array-among, Functions}
-use Rattle.sound_annotation.specs.Rules.{and-both, depth-of-map, pass-gives}
+use Rattle.sound_machine.specs.Discipline.{array-place, LoopFits, Fitting, AllNew, AllKnown, Scoped}
+use Rattle.sound_annotation.specs.Typed.{Functions}
+use Rattle.sound_annotation.specs.Rules.{depth-of-map, pass-gives}
 use Rattle.sound_annotation.specs.Members.{members-true}
 use Rattle.sound_annotation.specs.Held.{held, held-live, held-among, again-held}
-use Rattle.sound_annotation.specs.Sets.{or-cases, or-left, or-right, Inside, inside-pass}
+use Rattle.sound_annotation.specs.Sets.{Inside, inside-pass}
 use Rattle.sound_annotation.specs.Formed.{Within, within-up, within-bound, Rising, rising-up, within-pass}
 use Rattle.sound_annotation.specs.Formed.{bound-by, Placed, Formed, LineFormed, LoopForm, seen-among, live-seen}
 use Rattle.sound_annotation.specs.Unchanged.{pass, ending-pass}
@@ -62,34 +63,18 @@ with-if-in false x n h = absurd (omega arith)
 
 -- ---- depths
 
--- the place of a loop's array is the last
-last-place : (k : Loop) → loop-arity k ≡ suc (array-place k)
-last-place mapping = refl
-
-at-place : (k : Loop) (ds : List ℕ) → array-among k ds ≡ getD ds (array-place k) 0
-at-place mapping ds = refl
-
 module _ (p : Program) where
   abbrev pub functions-of : Functions
   functions-of = record { number = length (p .routines); signatures = p .signatures }
-
-  leaf-formed : (l : Leaf) (us : List Atom) → LeafLimits l (length us) → LeafCalls (length (p .routines)) l →
-      LeafFormed p l us
-  leaf-formed (operation o) us h c = h
-  leaf-formed (call f) us h c = c
-  leaf-formed (literal d) us h c = h
-  leaf-formed index us h c = h
-  leaf-formed length-of us h c = h
 
   module _ (Γ : NameDepths) where
     loop-fits : (x : ℕ) (k : Loop) (ps : List ℕ) (us : List Atom) (d : ℕ) (S : Set) (c : ℕ) →
         LoopForm functions-of Γ x k ps us d S c → LoopFits p Γ x k ps us d
     loop-fits x k ps us d S c f = record {
-      formed = f .fits .parted ∙ last-place k;
+      limits = f .fits .parted;
       deep = omega (
         arith,
         f .fits .array,
-        at-place k (map (atom-depth Γ) us),
         depth-of-map Γ us (array-place k),
       );
       names = f .depths ∙ sym (pass-gives k Γ us);
@@ -113,8 +98,8 @@ module _ (p : Program) where
     unfolding occurrences
     later-arrays x xs S h n g = h n (omega arith)
 
-    pub fits-releases : (xs : List ℕ) (t : Tree) (d : ℕ) (S : Set) → Arrays xs S → Fits t d S → Fits
-        (release-all xs t) d S
+    pub fits-releases : (xs : List ℕ) (t : Tree) (d : ℕ) (S : Set) → Arrays xs S → Fits t d S →
+        Fits (release-all xs t) d S
     fits-releases [] t d S h f = f
     fits-releases (x ∷ xs) t d S h f =
         let here = first-array x xs S h in
@@ -133,9 +118,9 @@ module _ (p : Program) where
     pub dying-in : (used A S : Set) → ((n : ℕ) → used n ≡ true → S n ≡ true) → Arrays (dying Γ used A) S
     unfolding dying
     dying-in used A S h n g =
-        let both = and-both (used n) (is-array Γ n && not (A n))
+        let both = both-hold (used n) (is-array Γ n && not (A n))
         (members-true n (λ x. used x && (is-array Γ x && not (A x))) g) in
-        (ltb-true 0 (Γ n) (and-both (is-array Γ n) (not (A n)) (both .1) .0), h n (both .0))
+        (ltb-true 0 (Γ n) (both-hold (is-array Γ n) (not (A n)) (both .1) .0), h n (both .0))
 
     among-known : (us : List Atom) (A S : Set) → AllKnown us S → ((n : ℕ) → A n ≡ true → S n ≡ true) → (n : ℕ) →
         among us A n ≡ true → S n ≡ true
@@ -168,9 +153,6 @@ module _ (p : Program) where
             (more .0, omega (arith, more .1))
 
     -- ---- the annotated tree
-
-    bound-known : (S : Set) (x : ℕ) → (S ∪ only x) x ≡ true
-    bound-known S x = or-right (S x) (only x x) (eq-eqb x x refl)
 
     -- what a line read, and what it binds, is known after it
     read-known : (us : List Atom) (U S : Set) (x : ℕ) → AllKnown us S → ((n : ℕ) → U n ≡ true → S n ≡ true) → (n : ℕ) →
@@ -238,17 +220,16 @@ module _ (p : Program) where
               arith,
               here .0,
               ap Γ (here .0),
-              ltb-true 0 (Γ x) (and-both (is-pending l) (is-array Γ x)
-                  (here .1) .1),
+              ltb-true 0 (Γ x) (both-hold (is-pending l) (is-array Γ x) (here .1) .1),
             ),
             only-known S x n (eq-eqb x n (sym (here .0))),
           ))
           (fits-releases (dying Γ (R ∪ only x) A) k d S′
-          (dying-in (R ∪ only x) A S′ (read-known (leaf-reads l us) empty S x (parts .1) (λ n q. absurd
-          (false≢true q)))) s) in
+          (dying-in (R ∪ only x) A S′
+          (read-known (leaf-reads l us) empty S x (parts .1) (λ n q. absurd (false≢true q)))) s) in
           fits-retains (handed-again Γ (leaf-hands l us) (R ∪ A)) (line (leaf x l us) (retain-all pend k′)) d S
           (again-in (leaf-hands l us) (R ∪ A) S (parts .0)) (
-            (record { formed = leaf-formed l us (f .fits .limits) (f .fits .calls); gives = f .fits .rule }, rest .0),
+            (record { limits = f .fits .limits; calls = f .fits .calls; gives = f .fits .rule }, rest .0),
             ((f .seen, record { unknown = unknown S c x w (place .above); small = place .small }), rest .1),
           )
       annotated-line-fits (if-else x g t e) A k S c c′ d place f w s =

@@ -11,11 +11,10 @@ use Rattle.semantics.specs.Kinds.{Loop, mapping, loop-hands, loop-reads, elemen
 use Rattle.semantics.specs.Code.{Atom, loop, Tree, line, retain-all, release-all}
 use Rattle.semantics.specs.Live.{Set, empty, _∪_, _∖_, _∖∖_, only, just, among, live, live-before, uses, after-pass}
 use Rattle.semantics.specs.Annotate.{NameDepths, arrays, dying, annotate, annotate-line}
+use Rattle.sound_machine.specs.Discipline.{loop-arity, hold-of, holds-of, handed, less, unlent, left-by, carried-name}
+use Rattle.sound_machine.specs.Discipline.{outer-holds, pass-lent, pass-holds, aside, Covered, Frugal}
 use Rattle.sound_base.specs.Lists.{_≈_, occurrences-append}
-use Rattle.sound_machine.specs.Discipline.{hold-of, holds-of, handed, less, unlent, left-by, carried-name, outer-holds}
-use Rattle.sound_machine.specs.Discipline.{pass-lent, pass-holds, aside, Covered, Frugal}
 use Rattle.sound_machine.specs.Spending.{less-counts, same-append, unlent-few, lent-or-not}
-use Rattle.sound_annotation.specs.Typed.{loop-arity}
 use Rattle.sound_annotation.specs.Held.{Few, free, free-or, held, names, held-most, held-or, names-held}
 use Rattle.sound_annotation.specs.Held.{append-held, held-pass, just-none, just-most, holds-just, held-among}
 use Rattle.sound_annotation.specs.Formed.{Rising}
@@ -44,6 +43,16 @@ module _ (Γ : NameDepths) where
   pass-parts mapping ps n = omega arith
 
   module _ (few : Few Γ) (B : List ℕ) (x : ℕ) (k : Loop) (ps : List ℕ) (us : List Atom) (t : Tree) (A : Set) where
+    -- its atoms that are handed over, those that are read, and the outer names that its tree uses
+    abbrev hands : List Atom
+    hands = loop-hands k us
+
+    abbrev reads : List Atom
+    reads = loop-reads k us
+
+    abbrev used : Set
+    used = uses t ∖∖ ps
+
     -- live after a pass
     abbrev pub after : Set
     after = after-pass x ps t A
@@ -52,48 +61,46 @@ module _ (Γ : NameDepths) where
     abbrev pub inner : List ℕ
     inner = pass-lent Γ B k us
 
-    module _ (apart : Apart Γ few B x us (loop-hands k us) (loop-reads k us) (uses t ∖∖ ps) A) where
+    module _ (apart : Apart Γ few B x us hands reads used A) where
       abbrev start : List ℕ
-      start = again Γ few B x us (loop-hands k us) (loop-reads k us) (uses t ∖∖ ps) A
-          ++ names Γ B (before Γ few B x us (loop-hands k us) (loop-reads k us) (uses t ∖∖ ps) A)
+      start = again Γ few B x us hands reads used A
+          ++ names Γ B (before Γ few B x us hands reads used A)
 
       -- what the passes leave alone: all that is live after them, but for the array
       outer : outer-holds Γ B k us start ≈ names Γ inner after
-      outer n = counted ∙ sum (decLt 0 (occurrences n B)) (decLt 0 (occurrences n (handed Γ (loop-reads k us))))
+      outer n = counted ∙ sum (decLt 0 (occurrences n B)) (decLt 0 (occurrences n (handed Γ reads)))
           ∙ sym (names-held Γ few inner after n)
         where
           counted : occurrences n (outer-holds Γ B k us start)
-              ≡ min (free B n) (held Γ (among (loop-reads k us) after) n) - occurrences n (unlent B (handed Γ
-              (loop-reads k us)))
+              ≡ min (free B n) (held Γ (among reads after) n) - occurrences n (unlent B (handed Γ reads))
           counted =
-              less-counts (aside Γ B k us) (less (handed Γ (loop-hands k us)) start) n
-              ∙ ap (λ (m : ℕ). m - occurrences n (unlent B (handed Γ (loop-reads k us))))
-              (left Γ few B x us (loop-hands k us) (loop-reads k us) (uses t ∖∖ ps) A apart n
-              ∙ names-held Γ few B (among (loop-reads k us) after) n)
+              less-counts (aside Γ B k us) (less (handed Γ hands) start) n
+              ∙ ap (λ (m : ℕ). m - occurrences n (unlent B (handed Γ reads)))
+              (left Γ few B x us hands reads used A apart n
+              ∙ names-held Γ few B (among reads after) n)
 
-          sum : Dec (0 < occurrences n B) → Dec (0 < occurrences n (handed Γ (loop-reads k us))) →
-              min (free B n) (held Γ (among (loop-reads k us) after) n) - occurrences n (unlent B (handed Γ
-              (loop-reads k us)))
+          sum : Dec (0 < occurrences n B) → Dec (0 < occurrences n (handed Γ reads)) →
+              min (free B n) (held Γ (among reads after) n) - occurrences n (unlent B (handed Γ reads))
               ≡ min (free inner n) (held Γ after n)
           sum (yes h) d =
               let lent : free B n ≡ 0 = omega (arith, free-or B n) in
               let lent′ : free inner n ≡ 0 =
-              omega (arith, free-or inner n, occurrences-append n (handed Γ (loop-reads k us)) B) in
+              omega (arith, free-or inner n, occurrences-append n (handed Γ reads) B) in
               omega arith
           sum (no h) (yes g) =
               let lent′ : free inner n ≡ 0 =
-              omega (arith, free-or inner n, occurrences-append n (handed Γ (loop-reads k us)) B) in
-              let spent : 1 ≤ occurrences n (unlent B (handed Γ (loop-reads k us))) =
-              elim (lent-or-not B (handed Γ (loop-reads k us)) n g) [ inl r ↦ absurd (h r) | inr r ↦ r ] in
-              omega (arith, held-most Γ (among (loop-reads k us) after) n)
+              omega (arith, free-or inner n, occurrences-append n (handed Γ reads) B) in
+              let spent : 1 ≤ occurrences n (unlent B (handed Γ reads)) =
+              elim (lent-or-not B (handed Γ reads) n g) [ inl r ↦ absurd (h r) | inr r ↦ r ] in
+              omega (arith, held-most Γ (among reads after) n)
           sum (no h) (no g) =
-              let none : occurrences n (handed Γ (loop-reads k us)) ≡ 0 = omega arith in
+              let none : occurrences n (handed Γ reads) ≡ 0 = omega arith in
               let unlent : free B n ≡ 1 = omega (arith, free-or B n) in
               let unlent′ : free inner n ≡ 1 =
-              omega (arith, free-or inner n, occurrences-append n (handed Γ (loop-reads k us)) B) in
-              let same : held Γ (among (loop-reads k us) after) n ≡ held Γ after n =
-              omega (arith, held-among Γ (loop-reads k us) after n) in
-              omega (arith, unlent-few B (handed Γ (loop-reads k us)) n)
+              omega (arith, free-or inner n, occurrences-append n (handed Γ reads) B) in
+              let same : held Γ (among reads after) n ≡ held Γ after n =
+              omega (arith, held-among Γ reads after n) in
+              omega (arith, unlent-few B (handed Γ reads) n)
 
       -- what else a loop's line needs: its names are new, and not live after it
       pub record Passing (c e : ℕ) : Type 0 where
@@ -108,7 +115,7 @@ module _ (Γ : NameDepths) where
         pub pass-steady : (n : ℕ) → occurrences n ps ≡ 0 → held Γ (live t after) n ≡ held Γ after n
         pass-steady n h =
             let own : held Γ (uses t) n ≤ held Γ after n =
-            omega (arith, held-pass Γ ps (uses t) n, held-or Γ (uses t ∖∖ ps) (A ∖ x) n) in
+            omega (arith, held-pass Γ ps (uses t) n, held-or Γ used (A ∖ x) n) in
             omega (
               arith,
               passing .needs n .most,
@@ -175,10 +182,7 @@ module _ (Γ : NameDepths) where
             (names Γ B L) L
         unfolding annotate live left-by
         loop-line L j same s sound =
-            let hands = loop-hands k us in
-            let reads = loop-reads k us in
-            let U = uses t ∖∖ ps in
-            let free = dying Γ (among reads U ∪ only x) A in
+            let free = dying Γ (among reads used ∪ only x) A in
             let j′ = release-all free j in
             let t′ = pass Γ x k ps t A in
             let rest = less (handed Γ hands) start in
@@ -187,17 +191,18 @@ module _ (Γ : NameDepths) where
             λ i. live-pass Γ x k ps t A empty i ∖∖ ps ∪ q i ∖ x in
             let inside = pass-sound s in
             let s′ : Sound Γ B j′ (hold-of Γ x ++ rest) [] (names Γ B L) L =
-            sound-same Γ B j′ (hold-of Γ x ++ names Γ B (behind Γ few B x us hands reads U A)) (hold-of Γ x ++ rest) []
-            (names Γ B L) (names Γ B L) L
-            (same-append (hold-of Γ x) _ rest (λ n. sym (left Γ few B x us hands reads U A apart n))) (λ n. refl)
-            (releasing Γ few B (among reads U ∪ only x) A j _ [] L (bound Γ few B x us hands reads U A apart) sound) in
-            retains Γ B (again Γ few B x us hands reads U A) (line (loop x k ps us t′) j′)
-            (names Γ B (before Γ few B x us hands reads U A)) (names Γ B L) L
-            (retainable Γ few B x us hands reads U A apart) (
+            sound-same Γ B j′ (hold-of Γ x ++ names Γ B (behind Γ few B x us hands reads used A)) (hold-of Γ x ++ rest)
+            [] (names Γ B L) (names Γ B L) L
+            (same-append (hold-of Γ x) _ rest (λ n. sym (left Γ few B x us hands reads used A apart n))) (λ n. refl)
+            (releasing Γ few B (among reads used ∪ only x) A j _ [] L
+            (bound Γ few B x us hands reads used A apart) sound) in
+            retains Γ B (again Γ few B x us hands reads used A) (line (loop x k ps us t′) j′)
+            (names Γ B (before Γ few B x us hands reads used A)) (names Γ B L) L
+            (retainable Γ few B x us hands reads used A apart) (
               (
                 (
-                  handable Γ few B x us hands reads U A apart,
-                  readable Γ few B x us hands reads U A apart,
+                  handable Γ few B x us hands reads used A apart,
+                  readable Γ few B x us hands reads used A apart,
                   inside .0,
                 ),
                 s′ .0,
@@ -205,7 +210,7 @@ module _ (Γ : NameDepths) where
               (
                 (
                   subst (λ M. Covered Γ start (among us M)) (sym pass-same)
-                      (covered-before Γ few B x us hands reads U A apart),
+                      (covered-before Γ few B x us hands reads used A apart),
                   subst (Frugal Γ inner t′ (pass-holds Γ B k ps us start)) (sym pass-same) (inside .1),
                 ),
                 s′ .1,

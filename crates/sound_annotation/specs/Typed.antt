@@ -1,34 +1,25 @@
 -- Typed expressions within the reader's limits. What a leaf or a loop asks of depths is its rule in `Types`, so the two
 -- records here serve the written nodes and the lines alike.
-use Prim.Native.Nat.{ℕ, suc, _≤_, _<_, pred}
+use Prim.Native.Nat.{ℕ, suc, _<_, pred}
 use mathlib.Core.Path.{_≡_}
+use mathlib.Core.Bool.{false}
 use mathlib.Core.List.{List, [], _∷_, _++_}
 use mathlib.Core.Option.{some}
 use lib.ListN.{length, getD}
 use Rattle.semantics.specs.Basics.{updated}
-use Rattle.semantics.specs.Kinds.{Leaf, operation, call, literal, index, length-of, Loop, mapping}
+use Rattle.semantics.specs.Kinds.{Leaf, Loop, mapping}
 use Rattle.semantics.specs.Syntax as S
 use Rattle.semantics.specs.Syntax.{Expr, number, name, let-in, leaf, if-else, loop, Exprs}
+use Rattle.semantics.specs.Names.{calls-none}
 use Rattle.semantics.specs.Types.{Signature, leaf-rule, loop-rule}
 use Rattle.semantics.specs.Annotate.{with-depths}
+use Rattle.sound_machine.specs.Discipline.{LeafLimits, array-place, loop-arity}
 
 -- ---- the reader's limits
 
 abbrev pub count : Exprs → ℕ
 count S.none = 0
 count (S.more e es) = suc (count es)
-
--- how many parts a leaf may have; a literal's elements are of depth 3 at most
-abbrev pub LeafLimits : Leaf → ℕ → Type 0
-LeafLimits (operation o) n = n ≡ 2
-LeafLimits (call f) n = Unit {0}
-LeafLimits (literal d) n = (n ≤ 16) × (d ≤ 3)
-LeafLimits index n = n ≡ 2
-LeafLimits length-of n = n ≡ 1
-
--- how many names a pass has; a loop has as many parts beside its body
-abbrev pub loop-arity : Loop → ℕ
-loop-arity mapping = 1
 
 abbrev mutual
   pub Limited : Expr → Type 0
@@ -44,21 +35,13 @@ abbrev mutual
   AllLimited S.none = Unit {0}
   AllLimited (S.more e es) = Limited e × AllLimited es
 
--- a call is of a function that is there
-abbrev pub LeafCalls : ℕ → Leaf → Type 0
-LeafCalls functions (operation o) = Unit {0}
-LeafCalls functions (call f) = f < functions
-LeafCalls functions (literal d) = Unit {0}
-LeafCalls functions index = Unit {0}
-LeafCalls functions length-of = Unit {0}
-
 -- every call is of a function that is there
 abbrev mutual
   pub Called : ℕ → Expr → Type 0
   Called functions (number z) = Unit {0}
   Called functions (name x) = Unit {0}
   Called functions (let-in x a b) = Called functions a × Called functions b
-  Called functions (leaf l es) = LeafCalls functions l × AllCalled functions es
+  Called functions (leaf l es) = (calls-none functions l ≡ false) × AllCalled functions es
   Called functions (if-else a b c) = Called functions a × Called functions b × Called functions c
   Called functions (loop k xs es b) = AllCalled functions es × Called functions b
 
@@ -70,7 +53,7 @@ abbrev mutual
 
 -- by the depths of a loop's parts: the array's depth, and the depths of the names of a pass
 abbrev pub array-among : Loop → List ℕ → ℕ
-array-among mapping ds = getD ds 0 0
+array-among k ds = getD ds (array-place k) 0
 
 abbrev pub element-depths : Loop → List ℕ → List ℕ
 element-depths mapping ds = pred (getD ds 0 0) ∷ []
@@ -91,7 +74,7 @@ module _ (F : Functions) where
   -- a leaf with so many parts, of the depths ds
   pub record LeafType (l : Leaf) (parts : ℕ) (ds : List ℕ) (d : ℕ) : Type 0 where
     pub limits : LeafLimits l parts
-    pub calls : LeafCalls (F .number) l
+    pub calls : calls-none (F .number) l ≡ false
     pub rule : leaf-rule (F .signatures) l ds ≡ some d
 
   -- an expression of depth d, where δ gives the depths of the written names

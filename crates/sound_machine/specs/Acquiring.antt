@@ -18,6 +18,7 @@ use Rattle.semantics.specs.Store.{Store, Cell, cell, cell-count, cell-of, named
 use Rattle.semantics.specs.Sound.{free-list}
 use Rattle.semantics.specs.Demands.{value-of, touched, replayed, OutOfCells}
 use Rattle.semantics.specs.Basics.{_∈_}
+use Rattle.sound_base.specs.Tests.{say-and}
 use Rattle.sound_base.specs.Lists.{_⊆_}
 use Rattle.sound_base.specs.Invariant.{Invariant, Stands}
 use Rattle.sound_store.specs.Counting.{append-cases, in-append-left, in-append-right}
@@ -33,16 +34,12 @@ use Rattle.sound_machine.specs.Standing.{named-one}
 
 -- ---- out of cells
 
-both-true : (a b : Bool) → a ≡ true → b ≡ true → (a && b) ≡ true
-both-true true b e f = f
-both-true false b e f = e
-
 -- the covered names are among those whose cells the machine has for its roots
 pub covered-held : (C : Setting) (H : List ℕ) (A : Set) (ρ : Frame) →
     Covered (C .depths) H A → hold ρ H ⊆ held (C .depths) A ρ
 unfolding held
 covered-held C H A ρ k = image-subset (λ y. cell-of (ρ y)) H (members (λ y. A y && is-array (C .depths) y))
-    (λ y h. member (λ z. A z && is-array (C .depths) z) y (k .below y h) (both-true (A y) (is-array (C .depths) y)
+    (λ y h. member (λ z. A z && is-array (C .depths) z) y (k .below y h) (say-and (A y) (is-array (C .depths) y)
     (k .live y h) (k .array y h)))
 
 -- what covered names and others hold is among the roots

@@ -15,6 +15,7 @@ use lib.ListN.{length, getD}
 use Rattle.semantics.specs.Basics.{with-if, occurrences, _∈_}
 use Rattle.semantics.specs.Kinds.{Leaf, operation, call, literal, index, length-of, Loop, mapping, leaf-hands}
 use Rattle.semantics.specs.Kinds.{leaf-reads, loop-hands, loop-reads, element-name, is-pending}
+use Rattle.semantics.specs.Names.{calls-none}
 use Rattle.semantics.specs.Types.{Signature, leaf-rule, loop-rule}
 use Rattle.semantics.specs.Code.{Atom, number, name, Line, leaf, if-else, loop, retain, release, Tree, end, line}
 use Rattle.semantics.specs.Code.{ending}
@@ -25,17 +26,20 @@ use Rattle.sound_base.specs.Lists.{_≈_, _⊆_}
 
 -- ---- depths
 
--- a leaf's operand and number of atoms are in range
-abbrev pub LeafFormed : Program → Leaf → List Atom → Type 0
-LeafFormed p (operation o) us = length us ≡ 2
-LeafFormed p (call f) us = f < length (p .routines)
-LeafFormed p (literal d) us = (length us ≤ 16) × (d ≤ 3)
-LeafFormed p index us = length us ≡ 2
-LeafFormed p length-of us = length us ≡ 1
+-- how many parts a leaf may have; a literal's elements are of depth 3 at most
+abbrev pub LeafLimits : Leaf → ℕ → Type 0
+LeafLimits (operation o) n = n ≡ 2
+LeafLimits (call f) n = Unit {0}
+LeafLimits (literal d) n = (n ≤ 16) × (d ≤ 3)
+LeafLimits index n = n ≡ 2
+LeafLimits length-of n = n ≡ 1
 
--- the place of a loop's array among its atoms: it is the last
+-- the place of a loop's array among its parts before the body: it is the last; a pass has as many names
 abbrev pub array-place : Loop → ℕ
 array-place mapping = 0
+
+abbrev pub loop-arity : Loop → ℕ
+loop-arity k = suc (array-place k)
 
 -- over a program and the depths of the names of one of its functions
 module _ (p : Program) (Γ : NameDepths) where
@@ -44,12 +48,13 @@ module _ (p : Program) (Γ : NameDepths) where
 
   -- a leaf that binds x
   pub record LeafFits (x : ℕ) (l : Leaf) (us : List Atom) : Type 0 where
-    pub formed : LeafFormed p l us
+    pub limits : LeafLimits l (length us)
+    pub calls : calls-none (length (p .routines)) l ≡ false
     pub gives : leaf-rule (p .signatures) l (depths-of-atoms us) ≡ some (Γ x)
 
   -- a loop that binds x, with the names ps of a pass, whose tree gives depth d
   pub record LoopFits (x : ℕ) (k : Loop) (ps : List ℕ) (us : List Atom) (d : ℕ) : Type 0 where
-    pub formed : length us ≡ suc (array-place k)
+    pub limits : length us ≡ loop-arity k
     pub deep : 0 < depth-of Γ us (array-place k)
     pub names : map Γ ps ≡ pass-depths k Γ us
     pub gives : loop-rule k (depths-of-atoms us ++ (d ∷ [])) ≡ some (Γ x)
@@ -179,8 +184,8 @@ module _ (Γ : NameDepths) where
   waits-after (retain x) = []
   waits-after (release x) = []
 
-  -- The holds of a loop once its start is spent; of these one of its array is set aside for the passes, if it is not
-  -- lent already; the others are the outer holds of a pass, which begins with the carried name's beside them.
+  -- The holds of a loop once what it hands over is spent; of these one of its array is set aside for the passes, if it
+  -- is not lent already; the others are the outer holds of a pass, which begins with the carried names' beside them.
   abbrev pub loop-holds : Loop → List Atom → List ℕ → List ℕ
   loop-holds k us H = less (handed (loop-hands k us)) H
 

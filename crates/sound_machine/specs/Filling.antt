@@ -22,12 +22,12 @@ use Rattle.sound_store.specs.Change.{permute, commit, held-used}
 use Rattle.sound_store.specs.Kept.{keeps-trans, keeps-fewer, stands-kept}
 use Rattle.sound_store.specs.Acquire.{Reserves, reserve, filled-elements}
 use Rattle.sound_store.specs.Append.{Appends, append}
-use Rattle.sound_machine.specs.Images.{without-middle, first-or-later, one-more}
+use Rattle.sound_machine.specs.Images.{map-append, without-middle, first-or-later, one-more}
 use Rattle.sound_machine.specs.Agreement.{Together}
 use Rattle.sound_machine.specs.Frames.{hold, Setting, Situation, Lent, Ended, given}
 use Rattle.sound_machine.specs.Standing.{hold-aside, none-in, named-one, stands-held, lent-kept}
 use Rattle.sound_machine.specs.Elements.{items-list, array-items, array-length, array-depth, elements-length}
-use Rattle.sound_machine.specs.Elements.{words-alike, map-append}
+use Rattle.sound_machine.specs.Elements.{words-alike}
 use Rattle.sound_machine.specs.Acquiring.{filled-count, filled-depth, cell-stands}
 use Rattle.sound_machine.specs.Situations.{touch-together}
 use Rattle.sound_machine.specs.Spending.{less-in}

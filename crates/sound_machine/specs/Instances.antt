@@ -19,8 +19,8 @@ use Rattle.sound_machine.specs.Discipline.{without, less, unlent, left-b
 use Rattle.sound_machine.specs.Discipline.{Fitting, Scoped, New, Holding, FunctionDisciplined, Covered}
 use Rattle.sound_machine.specs.Discipline.{RoutineFrugal}
 use Rattle.sound_machine.specs.Standing.{none-in}
-use Rattle.sound_machine.specs.Size.{tree-lines}
-use Rattle.sound_machine.specs.Calls.{ProgramDisciplined, ProgramFrugal}
+use Rattle.sound_machine.specs.Size.{tree-adds}
+use Rattle.sound_machine.specs.Calls.{call-adds, ProgramDisciplined, ProgramFrugal}
 
 abbrev pass : Tree
 pass = line (leaf 4 length-of (name 1 ∷ [])) (line (leaf 5 (operation sum) (name 3 ∷ (name 4 ∷ []))) (end (name 5)))
@@ -44,7 +44,10 @@ new : (x : ℕ) (S : Set) → S x ≡ false → x < 256 → New x S
 new x S e h = record { unknown = e; small = h }
 
 pass-fits : Fitting small depths pass 0
-pass-fits = (record { formed = refl; gives = refl }, (record { formed = refl; gives = refl }, refl))
+pass-fits = (
+  record { limits = refl; calls = refl; gives = refl },
+  (record { limits = refl; calls = refl; gives = refl }, refl),
+)
 
 pass-scoped : Scoped pass ((λ x. ltb x 2) ∪ just (3 ∷ []))
 pass-scoped = (((refl, tt), new 4 _ refl (omega arith)), (((refl, (refl, tt)), new 5 _ refl (omega arith)), refl))
@@ -60,7 +63,7 @@ instance = record {
   parameters = given;
   fits = (
     omega arith,
-    ((record { formed = refl; deep = omega arith; names = refl; gives = refl }, pass-fits), (omega arith, refl)),
+    ((record { limits = refl; deep = omega arith; names = refl; gives = refl }, pass-fits), (omega arith, refl)),
   );
   scoped = (
     refl,
@@ -81,8 +84,8 @@ functions : (f : ℕ) → f < 1 → FunctionDisciplined small f
 functions zero h = instance
 functions (suc f) h = absurd (omega (arith, h))
 
-short : (f : ℕ) → f < 1 → tree-lines (routine-of small f .tree) ≤ 1000000
-unfolding tree-lines
+short : (f : ℕ) → f < 1 → tree-adds (routine-of small f .tree) ≤ call-adds
+unfolding tree-adds
 short zero h = omega arith
 short (suc f) h = absurd (omega (arith, h))
 

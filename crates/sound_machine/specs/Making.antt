@@ -34,7 +34,7 @@ module _ (C : Setting) where
       (λ e. both (gave C (suc d) refl (depths .1)
       (array-made d (map (word ρ) us) (map (value δ) us) t′
       (hand-over C ρ us H H′ F (named-by d (map (word ρ) us)) split (handed-words C ρ d us (depths .0)) (S′ .invariant))
-      e (omega (arith, length-map us (word ρ), fit .formed .0)) (fit .formed .1)
+      e (omega (arith, length-map us (word ρ), fit .limits .0)) (fit .limits .1)
       (atoms-fit C H (S′ .numbers) (S′ .arrays) d us (depths .0) inside)
       (atoms-mean C H (S′ .numbers) (S′ .arrays) d us (depths .0) inside)))))
     where

@@ -3,9 +3,9 @@
 use Prim.Native.Nat.{ℕ}
 use native.Mathlib.Omega.{arith}
 use native.Mathlib.Decide.{ℕ-discrete, decLt}
-use mathlib.Core.Path.{_≡_, refl, sym, ap, _∙_}
+use mathlib.Core.Path.{_≡_, sym, ap, _∙_}
 use mathlib.Core.Logic.{inl, inr}
-use mathlib.Core.Bool.{Bool, true, false, cond, _||_}
+use mathlib.Core.Bool.{false≢true, Bool, true, false, cond}
 use mathlib.Core.List.{List, [], _∷_, _++_}
 use lib.Dec.{eqb}
 use borrow.Author.Tests.{eq-eqb}
@@ -14,6 +14,7 @@ use Rattle.semantics.specs.Kinds.{Loop, mapping, leaf-hands, loop-hands, loop-r
 use Rattle.semantics.specs.Code.{Atom, Line, leaf, if-else, loop, retain, release, Tree, line, ending}
 use Rattle.semantics.specs.Live.{Set, _∪_, only, just, live, after-branch, after-pass}
 use Rattle.semantics.specs.Annotate.{atom-depth}
+use Rattle.sound_base.specs.Tests.{or-left, or-right}
 use Rattle.sound_store.specs.Counting.{append-cases}
 use Rattle.sound_machine.specs.Discipline.{Fitting, LineFitting, Scoped, LineScoped, known-after, Holding}
 use Rattle.sound_machine.specs.Discipline.{LineHolding, Frugal, LineFrugal, handed, holds-of, less, holds-after}
@@ -36,13 +37,9 @@ pub record Fresh (x : ℕ) (B H Δ : List ℕ) : Type 0 where
   pub before : occurrences x H ≡ 0
   pub after : occurrences x Δ ≡ 0
 
-not-both : {A : Type 0} (b : Bool) → b ≡ false → b ≡ true → A
-not-both false e f = absurd (let z : _≡_ {A = ℕ} 0 1 = cc in omega arith)
-not-both true e f = absurd (let z : _≡_ {A = ℕ} 0 1 = cc in omega arith)
-
 unknown-none : (S : Set) (x : ℕ) (l : List ℕ) → S x ≡ false → ((n : ℕ) → n ∈ l → S n ≡ true) → occurrences x l ≡ 0
 unknown-none S x l e f = elim (decLt 0 (occurrences x l)) [
-  | yes h ↦ not-both (S x) e (f x h)
+  | yes h ↦ absurd (false≢true (sym e ∙ f x h))
   | no h ↦ omega (arith, h)
 ]
 
@@ -52,14 +49,6 @@ fresh {S} {B} {H} {Δ} x e names = record {
   before = unknown-none S x H e (names .held);
   after = unknown-none S x Δ e (names .left);
 }
-
-or-left : (a b : Bool) → a ≡ true → (a || b) ≡ true
-or-left true b e = refl
-or-left false b e = absurd (let z : _≡_ {A = ℕ} 0 1 = cc in omega arith)
-
-or-right : (a b : Bool) → b ≡ true → (a || b) ≡ true
-or-right true b e = refl
-or-right false b e = e
 
 known-more : (S : Set) (x n : ℕ) → S n ≡ true → (S ∪ only x) n ≡ true
 known-more S x n e = or-left (S n) (eqb x n) e

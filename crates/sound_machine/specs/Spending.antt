@@ -115,8 +115,10 @@ unlent-not-lent B (x ∷ l) n h = elim (hits (occurrences x B) 0) [
 pub same-append : (l H I : List ℕ) → H ≈ I → (l ++ H) ≈ (l ++ I)
 same-append l H I h n = omega (arith, h n, occurrences-append n l H, occurrences-append n l I)
 
-pub in-same : (l H I : List ℕ) → H ≈ I → l ⊆ H → l ⊆ I
-in-same l H I h g n q = omega (arith, h n, g n q)
+-- what is read is lent, or held once some are spent
+reads-same : (B l r H I : List ℕ) → H ≈ I → r ⊆ (B ++ less l H) → r ⊆ (B ++ less l I)
+reads-same B l r H I h g n q =
+    omega (arith, same-append B (less l H) (less l I) (less-same l H I h) n, g n q)
 
 pub covers-same : {Γ : NameDepths} {A : Set} (H I : List ℕ) → H ≈ I → Covered Γ H A → Covered Γ I A
 covers-same H I h c = record {
@@ -170,10 +172,7 @@ module _ (Γ : NameDepths) where
         LineHolding Γ B l I P
     line-holding-same B (leaf x l us) H I P h q = (
       λ n. omega (arith, h n, q .0 n),
-      in-same (handed Γ (leaf-reads l us)) (B ++ less (handed Γ (leaf-hands l us)) H)
-          (B ++ less (handed Γ (leaf-hands l us)) I)
-          (same-append B (less (handed Γ (leaf-hands l us)) H) (less (handed Γ (leaf-hands l us)) I)
-          (less-same (handed Γ (leaf-hands l us)) H I h)) (q .1),
+      reads-same B (handed Γ (leaf-hands l us)) (handed Γ (leaf-reads l us)) H I h (q .1),
     )
     line-holding-same B (if-else x g t e) H I P h q =
         let left = left-by-same t H I h in (
@@ -184,9 +183,7 @@ module _ (Γ : NameDepths) where
     line-holding-same B (loop x k ps us t) H I P h q =
         let outer = outer-same (aside Γ B k us) (handed Γ (loop-hands k us)) H I h in (
           λ n. omega (arith, h n, q .0 n),
-          in-same (handed Γ (loop-reads k us)) (B ++ loop-holds Γ k us H) (B ++ loop-holds Γ k us I)
-              (same-append B (loop-holds Γ k us H) (loop-holds Γ k us I)
-              (less-same (handed Γ (loop-hands k us)) H I h)) (q .1),
+          reads-same B (handed Γ (loop-hands k us)) (handed Γ (loop-reads k us)) H I h (q .1),
           holding-same (pass-lent Γ B k us) t (pass-holds Γ B k ps us H) (pass-holds Γ B k ps us I)
               (holds-of Γ (element-name k ps)) (outer-holds Γ B k us H) (outer-holds Γ B k us I)
               (same-append (holds-of Γ (carried-name k ps)) (outer-holds Γ B k us H) (outer-holds Γ B k us I) outer)
