@@ -1,6 +1,6 @@
 -- Frames that agree with a list of words, and what work in the frame of a call leaves alone.
 use mathlib.Core.Path.{_≡_, refl, sym, ap, subst, _∙_}
-use mathlib.Core.Logic.{_≢_}
+use mathlib.Core.Logic.{_≢_, inl, inr}
 use mathlib.Core.Bool.{Bool, true, false, cond, _||_}
 use mathlib.Core.List.{List, [], _∷_}
 use Prim.Native.Nat.{ℕ, _-_, _*_, _<_, _≤_}
@@ -16,7 +16,7 @@ use Rattle.semantics.specs.Kinds.{later-parts}
 use Rattle.semantics.specs.Code as C
 use Rattle.semantics.specs.Live.{Set, _∪_, only, just}
 use Rattle.semantics.specs.Machine.{Frame, word, argument, binding}
-use Rattle.sound_annotation.specs.Sets.{or-left}
+use Rattle.sound_base.specs.Tests.{or-cases, or-left}
 use Rattle.sound_machine.specs.Discipline.{Known, AllNew, known-after, LineScoped}
 use Rattle.machine_code.proofs.Reading.{no-bool}
 use Rattle.machine_lines.specs.Frames.{place, word-of}
@@ -47,15 +47,8 @@ word-same calls env ρ S g (C.number z) h = refl
 word-same calls env ρ S g (C.name x) h = g .agree x h
 
 either-true : (x y : ℕ) (S : Set) → (S ∪ only x) y ≡ true → x ≢ y → S y ≡ true
-either-true x y S e f = go (eqb x y) refl e
-  where
-    or-false : (t : Bool) → (t || false) ≡ true → t ≡ true
-    or-false true p = refl
-    or-false false p = p
-
-    go : (t : Bool) → eqb x y ≡ t → (S y || eqb x y) ≡ true → S y ≡ true
-    go true p q = absurd (f (eqb-true x y p))
-    go false p q = or-false (S y) (rw p at q)
+either-true x y S e f =
+    elim (or-cases (S y) (eqb x y) e) [ inl q ↦ q | inr q ↦ absurd (f (eqb-true x y q)) ]
 
 pub bounded-more : (x : ℕ) (S : Set) → x < 256 → Bounded S → Bounded (S ∪ only x)
 bounded-more x S h b = record { below = λ y e. go y e (ℕ-discrete x y) }

@@ -7,6 +7,7 @@ use Prim.Native.Nat.{ℕ, zero, suc, _+_, _-_, _*_, _/_, _%_, _<_, _≤_}
 use native.Mathlib.Omega.{arith}
 use lib.IntN.{ℤ, pos, natAbs}
 use lib.ListN.{getD, length, length-map}
+use borrow.Author.Tests.{leb-false}
 use Rattle.semantics.specs.Basics.{updated}
 use Rattle.semantics.specs.Outcome.{Outcome, done, stop, onward, give, require}
 use Rattle.semantics.specs.Number.{Operation, sum, difference, less, exact, fits, inside}
@@ -21,7 +22,7 @@ use Rattle.semantics.specs.Annotate.{NameDepths, atom-depth}
 use Rattle.semantics.specs.Machine as M
 use Rattle.semantics.specs.Machine.{State, Frame, Program, word, with-left, work-leaf, work-line, acquire, acquire-if}
 use Rattle.semantics.specs.Machine.{elements-of, retain-word, release-word, held, argument, touching}
-use Rattle.sound_annotation.specs.Rules.{some-if-holds, same-lists}
+use Rattle.sound_base.specs.Tests.{some-if-holds, same-lists}
 use Rattle.sound_machine.specs.Discipline.{AllKnown, New, LeafFits}
 use Rattle.words.specs.Words.{checked}
 use Rattle.words.specs.declared.Exact.the-variants.{Value, Overflow}
@@ -265,12 +266,12 @@ module _ (p : Program) (few : length (p .routines) ≤ 32) (callee : M.Callee) (
 
     -- every leaf
     pub leaf-same : (l : Leaf) → LeafFits p Γ x l us → Stands l → Claim l
-    leaf-same (operation o) h r = operation-same o (h .formed) r
+    leaf-same (operation o) h r = operation-same o (h .limits) r
     leaf-same (call k) h r =
-        call-same k (h .formed) (call-long Γ us (p .signatures k) (Γ x) (h .gives)) r
-    leaf-same (literal d) h r = literal-same d (h .formed .0) (h .formed .1) r
-    leaf-same index h r = index-same (h .formed) r
-    leaf-same length-of h r = length-same (h .formed) r
+        call-same k (leb-false (length (p .routines)) k (h .calls)) (call-long Γ us (p .signatures k) (Γ x) (h .gives)) r
+    leaf-same (literal d) h r = literal-same d (h .limits .0) (h .limits .1) r
+    leaf-same index h r = index-same (h .limits) r
+    leaf-same length-of h r = length-same (h .limits) r
 
   -- ---- retains and releases
 

@@ -18,7 +18,7 @@ use Rattle.semantics.specs.Machine as M
 use Rattle.semantics.specs.Machine.{State, Frame, Program, word, step, stepped, with-left, work, work-line, work-pass}
 use Rattle.semantics.specs.Machine.{acquire, acquire-if, elements-of, append-word, held, touching, looped-over}
 use Rattle.semantics.specs.Machine.{carried-first, pass-words, carried-on, in-progress}
-use Rattle.sound_annotation.specs.Sets.{or-left}
+use Rattle.sound_base.specs.Tests.{or-left}
 use Rattle.sound_machine.specs.Discipline.{AllKnown, New, AllNew, LoopFits, Fitting, Scoped}
 use Rattle.store.specs.Acquiring.{next-cell}
 use Rattle.store.specs.declared.Acquired.the-variants.{Cell, NoneFree}
@@ -80,8 +80,8 @@ module _ (p : Program) (Γ : NameDepths) (c : Code) (calls at : ℕ) (m : Memory
       (let z : (x + 256 * (q + 256 * 0)) / 256 % 256 ≡ q = omega (arith, new .small, news .0 .small) in z)
   loop-read x mapping [] us d fits new news known r rs = absurd (omega (arith, ap length (fits .names)))
   loop-read x mapping (q ∷ o ∷ ps) us d fits new news known r rs = absurd (omega (arith, ap length (fits .names)))
-  loop-read x mapping (q ∷ []) [] d fits new news known r rs = absurd (omega (arith, fits .formed))
-  loop-read x mapping (q ∷ []) (u ∷ v ∷ us) d fits new news known r rs = absurd (omega (arith, fits .formed))
+  loop-read x mapping (q ∷ []) [] d fits new news known r rs = absurd (omega (arith, fits .limits))
+  loop-read x mapping (q ∷ []) (u ∷ v ∷ us) d fits new news known r rs = absurd (omega (arith, fits .limits))
 
 -- ---- all loops
 
