@@ -19,6 +19,7 @@ use Rattle.machine_code.specs.Reading.{depth-in, start-in}
 use Rattle.machine_lines.specs.Frames.{place, put-all}
 use Rattle.machine_lines.specs.Lines.{memory}
 use Rattle.machine_positions.specs.Machine.{Code, call-on, tree-on}
+use Rattle.machine_positions.specs.Lengths.{put-keeps}
 use Rattle.machine_laws.specs.Rows.{At, Jumps}
 use Rattle.machine_laws.specs.Frames.{Bounded, Agrees}
 use Rattle.machine_laws.specs.Same.{Rel, TreeDone, CallDone, rel-map}
@@ -26,11 +27,6 @@ use Rattle.machine_laws.specs.Leaves.{CalleeSame}
 use Rattle.machine_laws.specs.Trees.{tree-same}
 
 -- ---- the words of the arguments
-
-pub length-put : (ws : List ℤ) (p : ℕ) (env : List ℤ) → length (put-all ws p env) ≡ length env
-unfolding put-all
-length-put [] p env = refl
-length-put (w ∷ ws) p env = length-put ws (p + 1) (set env p w) ∙ length-set env p w
 
 pub put-below : (ws : List ℤ) (p : ℕ) (env : List ℤ) (q : ℕ) → q < p →
     getD (put-all ws p env) q (pos 0) ≡ getD env q (pos 0)
@@ -112,7 +108,7 @@ module _ (p : Program) (enough : length (p .routines) ≤ 32) (c : Code)
       (bounded-parameters (length ws) (omega (arith, a, st .few))) (start-in (c .table) g) (st .written) empty R
       (frame-from ws 0) s
       (put-all ws (place n 0) env) (arguments-agree n ws env (omega (arith, a, st .few)) long)
-      (omega (arith, length-put ws (place n 0) env, long))
+      (omega (arith, put-keeps ws (place n 0) env, long))
 
   pub calls-same : (n : ℕ) → n ≤ 31 → CalleeSame p n (call-on n c) (machine p n)
   unfolding call-on machine
@@ -135,7 +131,7 @@ module _ (p : Program) (enough : length (p .routines) ≤ 32) (c : Code)
           store = d .word .store;
           frames = λ q l. d .word .kept .callers q (omega (arith, l, small)) ∙ put-below ws (place n 0) env q (omega
               (arith, l, small));
-          long = d .word .kept .long ∙ length-put ws (place n 0) env;
+          long = d .word .kept .long ∙ put-keeps ws (place n 0) env;
         })
         (function-same n (omega arith) (calls-same n (omega arith)) R g ws env s h a long);
   }

@@ -1,6 +1,6 @@
 -- Frames that agree with a list of words, and what work in the frame of a call leaves alone.
 use mathlib.Core.Path.{_≡_, refl, sym, ap, subst, _∙_}
-use mathlib.Core.Logic.{_≢_}
+use mathlib.Core.Logic.{_≢_, inl, inr}
 use mathlib.Core.Bool.{Bool, true, false, cond, _||_}
 use mathlib.Core.List.{List, [], _∷_}
 use Prim.Native.Nat.{ℕ, _-_, _*_, _<_, _≤_}
@@ -16,6 +16,7 @@ use Rattle.semantics.specs.Kinds.{later-parts}
 use Rattle.semantics.specs.Code as C
 use Rattle.semantics.specs.Live.{Set, _∪_, only, just}
 use Rattle.semantics.specs.Machine.{Frame, word, argument, binding}
+use Rattle.sound_base.specs.Tests.{or-cases, or-left}
 use Rattle.sound_machine.specs.Discipline.{Known, AllNew, known-after, LineScoped}
 use Rattle.machine_code.proofs.Reading.{no-bool}
 use Rattle.machine_lines.specs.Frames.{place, word-of}
@@ -46,15 +47,8 @@ word-same calls env ρ S g (C.number z) h = refl
 word-same calls env ρ S g (C.name x) h = g .agree x h
 
 either-true : (x y : ℕ) (S : Set) → (S ∪ only x) y ≡ true → x ≢ y → S y ≡ true
-either-true x y S e f = go (eqb x y) refl e
-  where
-    or-false : (t : Bool) → (t || false) ≡ true → t ≡ true
-    or-false true p = refl
-    or-false false p = p
-
-    go : (t : Bool) → eqb x y ≡ t → (S y || eqb x y) ≡ true → S y ≡ true
-    go true p q = absurd (f (eqb-true x y p))
-    go false p q = or-false (S y) (rw p at q)
+either-true x y S e f =
+    elim (or-cases (S y) (eqb x y) e) [ inl q ↦ q | inr q ↦ absurd (f (eqb-true x y q)) ]
 
 pub bounded-more : (x : ℕ) (S : Set) → x < 256 → Bounded S → Bounded (S ∪ only x)
 bounded-more x S h b = record { below = λ y e. go y e (ℕ-discrete x y) }
@@ -99,15 +93,11 @@ kept-then calls e₀ e₁ e₂ S T i a b = record {
   long = b .long ∙ a .long;
 }
 
-pub or-true : (b c : Bool) → b ≡ true → (b || c) ≡ true
-or-true true c e = refl
-or-true false c e = no-bool (sym e)
-
 -- a known name stays known
 pub known-stays : (l : C.Line) (S : Set) (x : ℕ) → S x ≡ true → known-after l S x ≡ true
-known-stays (C.leaf y l us) S x e = or-true (S x) (eqb y x) e
-known-stays (C.if-else y g t u) S x e = or-true (S x) (eqb y x) e
-known-stays (C.loop y k ps us t) S x e = or-true (S x) (eqb y x) e
+known-stays (C.leaf y l us) S x e = or-left (S x) (eqb y x) e
+known-stays (C.if-else y g t u) S x e = or-left (S x) (eqb y x) e
+known-stays (C.loop y k ps us t) S x e = or-left (S x) (eqb y x) e
 known-stays (C.retain y) S x e = e
 known-stays (C.release y) S x e = e
 
@@ -147,10 +137,6 @@ bounded-all (p ∷ ps) S h b =
     subst Bounded (just-first S p ps) (bounded-all ps (S ∪ only p) (h .1) (bounded-more p S (h .0 .small) b))
 
 module _ (calls : ℕ) where
-  pub long-all : (ps : List ℕ) (ws env : List ℤ) → length (bound-all calls ps ws env) ≡ length env
-  long-all [] ws env = refl
-  long-all (p ∷ ps) ws env = long-all ps (later-parts ws) _ ∙ length-set env (place calls p) (argument ws 0)
-
   pub agrees-all : (ps : List ℕ) (ws env : List ℤ) (ρ : Frame) (S : Set) → AllNew ps S → 8192 ≤ length env → Bounded S →
       Agrees calls env ρ S → Agrees calls (bound-all calls ps ws env) (binding ps ws ρ) (S ∪ just ps)
   agrees-all [] ws env ρ S h long b g = subst (Agrees calls env ρ) (just-none S) g
@@ -166,5 +152,5 @@ module _ (calls : ℕ) where
   kept-all (p ∷ ps) ws env S h =
       let v = argument ws 0 in
       kept-then calls env (set env (place calls p) v) (bound-all calls (p ∷ ps) ws env) S (S ∪ only p)
-      (λ y e. or-true (S y) (eqb p y) e) (kept-more calls env S p v (h .0 .unknown))
+      (λ y e. or-left (S y) (eqb p y) e) (kept-more calls env S p v (h .0 .unknown))
       (kept-all ps (later-parts ws) (set env (place calls p) v) (S ∪ only p) (h .1))

@@ -1,19 +1,19 @@
 -- The lines that work no tree, as they stand in the code: one law for each kind of leaf.
 use mathlib.Core.Path.{_≡_, refl, sym, ap, ap₂, subst, _∙_}
-use mathlib.Core.Bool.{Bool, true, false, cond, _&&_}
-use mathlib.Core.Option.{Option, some, none}
+use mathlib.Core.Bool.{Bool, true, false, cond}
+use mathlib.Core.Option.{some}
 use mathlib.Core.List.{List, [], _∷_, _++_, map}
 use Prim.Native.Nat.{ℕ, zero, suc, _+_, _-_, _*_, _/_, _%_, _<_, _≤_}
 use native.Mathlib.Omega.{arith}
 use lib.IntN.{ℤ, pos, natAbs}
-use lib.Dec.{eqb}
-use lib.ListN.{getD, length}
+use lib.ListN.{getD, length, length-map}
+use borrow.Author.Tests.{leb-false}
 use Rattle.semantics.specs.Basics.{updated}
 use Rattle.semantics.specs.Outcome.{Outcome, done, stop, onward, give, require}
 use Rattle.semantics.specs.Number.{Operation, sum, difference, less, exact, fits, inside}
 use Rattle.semantics.specs.Kinds.{Leaf, operation, call, literal, index, length-of, operation-kind, leaf-kind}
 use Rattle.semantics.specs.Kinds.{leaf-operand}
-use Rattle.semantics.specs.Types.{Signature, some-if, same, call-rule}
+use Rattle.semantics.specs.Types.{Signature, same, call-rule}
 use Rattle.semantics.specs.Store.{Store, cell-of, has-free, acquired, retained, released, deepest}
 use Rattle.semantics.specs.Code as K
 use Rattle.semantics.specs.Code.{row, atom-row}
@@ -22,6 +22,7 @@ use Rattle.semantics.specs.Annotate.{NameDepths, atom-depth}
 use Rattle.semantics.specs.Machine as M
 use Rattle.semantics.specs.Machine.{State, Frame, Program, word, with-left, work-leaf, work-line, acquire, acquire-if}
 use Rattle.semantics.specs.Machine.{elements-of, retain-word, release-word, held, argument, touching}
+use Rattle.sound_base.specs.Tests.{some-if-holds, same-lists}
 use Rattle.sound_machine.specs.Discipline.{AllKnown, New, LeafFits}
 use Rattle.words.specs.Words.{checked}
 use Rattle.words.specs.declared.Exact.the-variants.{Value, Overflow}
@@ -72,10 +73,6 @@ module _ (kinds : List ℕ) (operands : List ℤ) (calls : ℕ) (env : List ℤ)
       ap (λ (q : ℕ). word-of calls env (atom-at kinds operands q)) (let z : at + suc i ≡ at + 1 + i = omega arith in z)
       ∙ word-at us (at + 1) i (k .1) (r .1) (omega arith)
 
-pub length-words : (us : List K.Atom) (ρ : Frame) → length (map (word ρ) us) ≡ length us
-length-words [] ρ = refl
-length-words (a ∷ us) ρ = ap suc (length-words us ρ)
-
 -- ---- what a call's atoms fit
 
 -- the callee over positions is that of the machine
@@ -85,32 +82,14 @@ pub record CalleeSame (p : Program) (calls : ℕ) (C : Callee) (callee : M.Calle
       length ws ≡ length (p .signatures g .parameters) → 8192 ≤ length env →
       Rel (CallDone calls env) (C g ws (s .left) (memory (s .store) env)) (callee R g ws s)
 
-same-long : (ps ds : List ℕ) → same ps ds ≡ true → length ds ≡ length ps
-same-long [] [] e = refl
-same-long [] (d ∷ ds) e = absurd (let z : _≡_ {A = ℕ} 0 1 = cc in omega arith)
-same-long (p ∷ ps) [] e = absurd (let z : _≡_ {A = ℕ} 0 1 = cc in omega arith)
-same-long (p ∷ ps) (d ∷ ds) e = ap suc (same-long ps ds (second (eqb p d) (same ps ds) e))
-  where
-    second : (a c : Bool) → (a && c) ≡ true → c ≡ true
-    second true c h = h
-    second false c h = absurd (let z : _≡_ {A = ℕ} 0 1 = cc in omega arith)
-
 -- as many atoms as parameters
 call-long : (Γ : NameDepths) (us : List K.Atom) (s : Signature) (d : ℕ) →
     call-rule s (map (atom-depth Γ) us) ≡ some d → length us ≡ length (s .parameters)
-call-long Γ us s d h = sym (lengths us) ∙ same-long (s .parameters) (map (atom-depth Γ) us) (test (same (s .parameters) (map (atom-depth Γ) us)) h)
-  where
-    lengths : (vs : List K.Atom) → length (map (atom-depth Γ) vs) ≡ length vs
-    lengths [] = refl
-    lengths (v ∷ vs) = ap suc (lengths vs)
-
-    has : Option ℕ → ℕ
-    has (some e) = 1
-    has none = 0
-
-    test : (t : Bool) → some-if t (s .result) ≡ some d → t ≡ true
-    test true e = refl
-    test false e = absurd (let z : _≡_ {A = ℕ} 0 1 = ap has e in omega (arith, z))
+call-long Γ us s d h =
+    let ds = map (atom-depth Γ) us in
+    let alike : s .parameters ≡ ds =
+    same-lists (s .parameters) ds (some-if-holds (same (s .parameters) ds) (s .result) d h .0) in
+    sym (length-map us (atom-depth Γ)) ∙ ap length (sym alike)
 
 -- ---- leaves
 
@@ -159,22 +138,29 @@ module _ (p : Program) (few : length (p .routines) ≤ 32) (callee : M.Callee) (
     abbrev Stands : Leaf → Type 0
     Stands l = Here (c .kinds) (c .operands) at (row (leaf-kind l) (leaf-operand l x (length us)))
 
+    byte : x % 256 ≡ x
+    byte = omega (arith, new .small)
+
     first-word : 0 < length us → word-of calls env (atom-at (c .kinds) (c .operands) (at + 1)) ≡ argument ws 0
     first-word h =
-        ap (λ (q : ℕ). word-of calls env (atom-at (c .kinds) (c .operands) q)) (let z : at + 1 ≡ at + 1 + 0 = omega arith in z)
+        ap (λ (q : ℕ). word-of calls env (atom-at (c .kinds) (c .operands) q))
+        (let z : at + 1 ≡ at + 1 + 0 = omega arith in z)
         ∙ word-at (c .kinds) (c .operands) calls env ρ S b g us (at + 1) 0 known rs h
 
     second-word : 1 < length us → word-of calls env (atom-at (c .kinds) (c .operands) (at + 2)) ≡ argument ws 1
     second-word h =
-        ap (λ (q : ℕ). word-of calls env (atom-at (c .kinds) (c .operands) q)) (let z : at + 2 ≡ at + 1 + 1 = omega arith in z)
+        ap (λ (q : ℕ). word-of calls env (atom-at (c .kinds) (c .operands) q))
+        (let z : at + 2 ≡ at + 1 + 1 = omega arith in z)
         ∙ word-at (c .kinds) (c .operands) calls env ρ S b g us (at + 1) 1 known rs h
 
     -- a leaf that is a small work
-    gives-same : (l : Leaf) (next : ℕ) (σ : Store) (y : Given) → found ≡ giving x next σ y → next ≡ at + suc (length us) →
+    gives-same : (l : Leaf) (next : ℕ) (σ : Store) (y : Given) → found ≡ giving x next σ y →
+        next ≡ at + suc (length us) →
         ((n : ℕ) → Gives n σ y (work-leaf callee cell-roots call-roots l ws (with-left s n))) → Claim l
     unfolding line-done leaf-done work-line onward
     gives-same l next σ y d e h =
-        subst (λ (z : Doing). Rel Done (line-done W C c calls f at (s .left) here z) (work-line callee Γ (K.leaf x l us) A R ρ s)) (sym d)
+        subst (λ (z : Doing). Rel Done (line-done W C c calls f at (s .left) here z)
+        (work-line callee Γ (K.leaf x l us) A R ρ s)) (sym d)
         (rel-step Done s here (λ n. with-store σ (given calls x next n env y))
         (λ _ s′. onward (λ w. give (updated ρ x w)) (work-leaf callee cell-roots call-roots l ws s′))
         (λ n. go n y (work-leaf callee cell-roots call-roots l ws (with-left s n)) (h n)))
@@ -183,7 +169,8 @@ module _ (p : Program) (few : length (p .routines) ≤ 32) (callee : M.Callee) (
             Rel Done (with-store σ (given calls x next n env y)) (onward (λ w. give (updated ρ x w)) o)
         go n (G.word w) (done v s′) q = (
           refl,
-          bound-done calls env ρ S b g long x new next (at + suc (length us)) e (ran (out 0 w next n) (memory σ env)) v s′
+          bound-done calls env ρ S b g long x new next (at + suc (length us)) e (ran (out 0 w next n) (memory σ env)) v
+              s′
               (record { value = q .0; steps = q .1; store = q .2; kept = kept-none calls env S }),
         )
         go n (G.word w) (stop k s′) q = absurd q
@@ -197,9 +184,9 @@ module _ (p : Program) (few : length (p .routines) ≤ 32) (callee : M.Callee) (
         (ap (doing (c .kinds) (c .operands) calls at here)
         (line-read (c .kinds) (c .operands) at (operation-kind o) x _ _ (r .kind) (r .operand) refl refl
         ∙ operation-read o x _ _)
-        ∙ rw (let z : x % 256 ≡ x = omega (arith, new .small) in z, first-word (omega (arith, two)), second-word (omega (arith, two))) refl)
+        ∙ rw (byte, first-word (omega (arith, two)), second-word (omega (arith, two))) refl)
         (omega (arith, two))
-        (λ n. rw (operation-back o) (go n (exact o (argument ws 0) (argument ws 1)) (fits (exact o (argument ws 0) (argument ws 1))) refl))
+        (λ n. rw (operation-back o) (go n (exact o (argument ws 0) (argument ws 1)) _ refl))
       where
         go : (n : ℕ) (z : ℤ) (t : Bool) → fits z ≡ t →
             Gives n (s .store) (exact-given (cond (fits z) (Value z) Overflow))
@@ -212,7 +199,7 @@ module _ (p : Program) (few : length (p .routines) ≤ 32) (callee : M.Callee) (
     length-same one r = gives-same length-of (at + 2) (s .store) (length-given (array-of (s .store) (argument ws 0)))
         (ap (doing (c .kinds) (c .operands) calls at here)
         (line-read (c .kinds) (c .operands) at 11 x _ _ (r .kind) (r .operand) refl refl)
-        ∙ rw (let z : x % 256 ≡ x = omega (arith, new .small) in z, first-word (omega (arith, one))) refl)
+        ∙ rw (byte, first-word (omega (arith, one))) refl)
         (omega (arith, one)) (λ n. (refl, refl, refl))
 
     index-same : length us ≡ 2 → Stands index → Claim index
@@ -221,7 +208,7 @@ module _ (p : Program) (few : length (p .routines) ≤ 32) (callee : M.Callee) (
         (index-given (array-of (s .store) (argument ws 0)) (argument ws 1))
         (ap (doing (c .kinds) (c .operands) calls at here)
         (line-read (c .kinds) (c .operands) at 10 x _ _ (r .kind) (r .operand) refl refl)
-        ∙ rw (let z : x % 256 ≡ x = omega (arith, new .small) in z, first-word (omega (arith, two)), second-word (omega (arith, two))) refl)
+        ∙ rw (byte, first-word (omega (arith, two)), second-word (omega (arith, two))) refl)
         (omega (arith, two))
         (λ n. go n (array-of (s .store) (argument ws 0)) (argument ws 1)
         (inside (argument ws 1) (length (array-of (s .store) (argument ws 0)))) refl)
@@ -243,19 +230,21 @@ module _ (p : Program) (few : length (p .routines) ≤ 32) (callee : M.Callee) (
           let z : (x + 256 * length us + 65536 * d) / 65536 % 256 ≡ d = omega (arith, new .small, little, shallow) in z,
           words-same (c .kinds) (c .operands) calls env ρ S b g us 16 (at + 1) little known rs closed,
         ) refl)
-        (omega (arith, length-words us ρ)) (λ n. go n (has-free (s .store)) refl)
+        (omega (arith, length-map us (word ρ))) (λ n. go n (has-free (s .store)) refl)
       where
         go : (n : ℕ) (t : Bool) → has-free (s .store) ≡ t →
-            Gives n (acquired d ws (s .store)) (acquired-given (cond (has-free (s .store)) (Cell (s .store .first)) NoneFree))
+            Gives n (acquired d ws (s .store))
+            (acquired-given (cond (has-free (s .store)) (Cell (s .store .first)) NoneFree))
             (acquire-if (has-free (s .store)) cell-roots d ws (with-left s n))
         go n true e = rw e (refl, refl, refl)
         go n false e = rw e (refl, λ q. omega arith, refl)
 
-    call-same : (h : ℕ) → h < length (p .routines) → length us ≡ length (p .signatures h .parameters) → Stands (call h) →
-        Claim (call h)
+    call-same : (h : ℕ) → h < length (p .routines) → length us ≡ length (p .signatures h .parameters) →
+        Stands (call h) → Claim (call h)
     unfolding doing line-done call-line work-line work-leaf onward with-left
     call-same h there arity r =
-        subst (λ (z : Doing). Rel Done (line-done W C c calls f at (s .left) here z) (work-line callee Γ (K.leaf x (call h) us) A R ρ s))
+        subst (λ (z : Doing). Rel Done (line-done W C c calls f at (s .left) here z)
+        (work-line callee Γ (K.leaf x (call h) us) A R ρ s))
         (sym (ap (doing (c .kinds) (c .operands) calls at here)
         (line-read (c .kinds) (c .operands) at 8 (x + 256 * h) _ _ (r .kind) (r .operand) refl refl)
         ∙ ap₂ calling (let z : (x + 256 * h) % 256 ≡ x = omega (arith, new .small) in z)
@@ -267,22 +256,22 @@ module _ (p : Program) (few : length (p .routines) ≤ 32) (callee : M.Callee) (
         (omega (arith, arity, calling-same .few h there)) known rs closed)
         (rel-then (CallDone calls env) Done (C h ws n here) (callee call-roots h ws (with-left s n))
         (λ w. binding calls x (at + 1 + length ws) w) (λ w. give (updated ρ x w))
-        (calling-same .same call-roots h ws env (with-left s n) there (length-words us ρ ∙ arity) long)
+        (calling-same .same call-roots h ws env (with-left s n) there (length-map us (word ρ) ∙ arity) long)
         (λ v s′ k. (
           refl,
           bound-done calls env ρ S b g long x new (at + 1 + length ws) (at + suc (length us))
-              (omega (arith, length-words us ρ)) (C h ws n here) v s′
+              (omega (arith, length-map us (word ρ))) (C h ws n here) v s′
               (call-word calls env S b (C h ws n here) v s′ k),
         )))))
 
     -- every leaf
     pub leaf-same : (l : Leaf) → LeafFits p Γ x l us → Stands l → Claim l
-    leaf-same (operation o) h r = operation-same o (h .formed) r
+    leaf-same (operation o) h r = operation-same o (h .limits) r
     leaf-same (call k) h r =
-        call-same k (h .formed) (call-long Γ us (p .signatures k) (Γ x) (h .gives)) r
-    leaf-same (literal d) h r = literal-same d (h .formed .0) (h .formed .1) r
-    leaf-same index h r = index-same (h .formed) r
-    leaf-same length-of h r = length-same (h .formed) r
+        call-same k (leb-false (length (p .routines)) k (h .calls)) (call-long Γ us (p .signatures k) (Γ x) (h .gives)) r
+    leaf-same (literal d) h r = literal-same d (h .limits .0) (h .limits .1) r
+    leaf-same index h r = index-same (h .limits) r
+    leaf-same length-of h r = length-same (h .limits) r
 
   -- ---- retains and releases
 

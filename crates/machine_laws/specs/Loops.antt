@@ -18,6 +18,7 @@ use Rattle.semantics.specs.Machine as M
 use Rattle.semantics.specs.Machine.{State, Frame, Program, word, step, stepped, with-left, work, work-line, work-pass}
 use Rattle.semantics.specs.Machine.{acquire, acquire-if, elements-of, append-word, held, touching, looped-over}
 use Rattle.semantics.specs.Machine.{carried-first, pass-words, carried-on, in-progress}
+use Rattle.sound_base.specs.Tests.{or-left}
 use Rattle.sound_machine.specs.Discipline.{AllKnown, New, AllNew, LoopFits, Fitting, Scoped}
 use Rattle.store.specs.Acquiring.{next-cell}
 use Rattle.store.specs.declared.Acquired.the-variants.{Cell, NoneFree}
@@ -27,16 +28,18 @@ use Rattle.machine_lines.specs.Frames.{word-of}
 use Rattle.machine_lines.specs.Lines.{Memory, memory, Ran, acquired-given, array-of, looping, doing}
 use Rattle.machine_positions.specs.Machine.{Code, Callee, and-then, binding, Looped, looped, bound-all, gave}
 use Rattle.machine_positions.specs.Machine.{carry-first, carry-on, passes-on, loop-worked, loop-line, tree-on}
+use Rattle.machine_positions.specs.Lengths.{bound-all-keeps}
 use Rattle.machine_laws.specs.Rows.{Here, At, Jumps, coded, atom-here, line-read}
 use Rattle.machine_laws.specs.Frames.{Bounded, Agrees, Kept, small-known, word-same, kept-none, kept-then}
-use Rattle.machine_laws.specs.Frames.{agrees-kept, or-true, bounded-all, long-all, agrees-all, kept-all}
+use Rattle.machine_laws.specs.Frames.{agrees-kept, bounded-all, agrees-all, kept-all}
 use Rattle.machine_laws.specs.Same.{Rel, WordDone, TreeDone, LineDone, rel-then, rel-step, rel-map}
 use Rattle.machine_laws.specs.Same.{onward-onward, word-moved, word-kept, bound-done}
 
 -- ---- what a loop carries, and how it stands in the code: a clause for each kind of loop
 
-carry-first-same : (k : Loop) (R : List ℕ) (d : ℕ) (ws : List ℤ) (calls : ℕ) (S : Set) (env : List ℤ) (n : ℕ) (s : State) →
-    n ≡ s .left → Rel (WordDone calls env S) (carry-first k d ws n (memory (s .store) env)) (carried-first k R d ws s)
+carry-first-same : (k : Loop) (R : List ℕ) (d : ℕ) (ws : List ℤ) (calls : ℕ) (S : Set) (env : List ℤ) (n : ℕ)
+    (s : State) → n ≡ s .left →
+    Rel (WordDone calls env S) (carry-first k d ws n (memory (s .store) env)) (carried-first k R d ws s)
 unfolding acquire acquire-if M.with-store M.with-roots next-cell
 carry-first-same mapping R d ws calls S env n s e = go (has-free (s .store)) refl
   where
@@ -69,7 +72,6 @@ module _ (p : Program) (Γ : NameDepths) (c : Code) (calls at : ℕ) (m : Memory
       doing (c .kinds) (c .operands) calls at m (line-at (c .kinds) (c .operands) at) ≡ looping x k ps (map coded us)
   unfolding doing
   loop-read x mapping (q ∷ []) (u ∷ []) d fits new news known r rs =
-      let n : ℕ = x + 256 * (q + 256 * 0) in
       ap (doing (c .kinds) (c .operands) calls at m)
       (line-read (c .kinds) (c .operands) at 13 (x + 256 * (q + 256 * 0)) (coded u) _ (r .kind) (r .operand)
       (atom-here (c .kinds) (c .operands) (at + 1) u (small-known u S b (known .0)) (rs .0)) refl)
@@ -78,8 +80,8 @@ module _ (p : Program) (Γ : NameDepths) (c : Code) (calls at : ℕ) (m : Memory
       (let z : (x + 256 * (q + 256 * 0)) / 256 % 256 ≡ q = omega (arith, new .small, news .0 .small) in z)
   loop-read x mapping [] us d fits new news known r rs = absurd (omega (arith, ap length (fits .names)))
   loop-read x mapping (q ∷ o ∷ ps) us d fits new news known r rs = absurd (omega (arith, ap length (fits .names)))
-  loop-read x mapping (q ∷ []) [] d fits new news known r rs = absurd (omega (arith, fits .formed))
-  loop-read x mapping (q ∷ []) (u ∷ v ∷ us) d fits new news known r rs = absurd (omega (arith, fits .formed))
+  loop-read x mapping (q ∷ []) [] d fits new news known r rs = absurd (omega (arith, fits .limits))
+  loop-read x mapping (q ∷ []) (u ∷ v ∷ us) d fits new news known r rs = absurd (omega (arith, fits .limits))
 
 -- ---- all loops
 
@@ -87,8 +89,8 @@ pred-less : (n : ℕ) → n - 1 ≡ pred n
 pred-less zero = refl
 pred-less (suc n) = omega arith
 
-coded-words : (calls : ℕ) (env : List ℤ) (ρ : Frame) (S : Set) → Agrees calls env ρ S → (us : List K.Atom) → AllKnown us S →
-    map (word-of calls env) (map coded us) ≡ map (word ρ) us
+coded-words : (calls : ℕ) (env : List ℤ) (ρ : Frame) (S : Set) → Agrees calls env ρ S → (us : List K.Atom) →
+    AllKnown us S → map (word-of calls env) (map coded us) ≡ map (word ρ) us
 coded-words calls env ρ S g [] h = refl
 coded-words calls env ρ S g (u ∷ us) h =
     ap₂ {C = List ℤ} _∷_ (word-same calls env ρ S g u (h .0)) (coded-words calls env ρ S g us (h .1))
@@ -135,7 +137,7 @@ module _ (p : Program) (callee : M.Callee) (Γ : NameDepths) (c : Code) (calls f
         (W m (memory (s₀ .store) e₁)) (body vs s₁) carry
         (λ r s₂. onward (λ u. rest count (suc i) u) (carried-on k v r s₂))
         (claim n lt few (S ∪ just ps) d fit scoped (bounded-all ps S new b) at rs B R (M.binding ps vs ρ) s₁ e₁
-        (agrees-all calls ps vs e₀ ρ S new l₀ b g₀) (omega (arith, l₀, long-all calls ps vs e₀)))
+        (agrees-all calls ps vs e₀ ρ S new l₀ b g₀) (omega (arith, l₀, bound-all-keeps calls ps vs e₀)))
         (λ r s₂ h. after r s₂ h))
       where
         vs : List ℤ
@@ -164,7 +166,7 @@ module _ (p : Program) (callee : M.Callee) (Γ : NameDepths) (c : Code) (calls f
             (λ u s₃ q.
             let kept : Kept calls e₀ (x .memory .env) S =
             kept-then calls e₀ (w .memory .env) (x .memory .env) S S (λ y z. z)
-            (kept-then calls e₀ e₁ (w .memory .env) S (S ∪ just ps) (λ y z. or-true (S y) (just ps y) z)
+            (kept-then calls e₀ e₁ (w .memory .env) S (S ∪ just ps) (λ y z. or-left (S y) (just ps y) z)
             (kept-all calls ps vs e₀ S new) (h .word .kept)) (q .kept) in
             subst (λ (y : Ran). Rel (WordDone calls e₀ S) y (rest count (suc i) u s₃))
             (sym (word-moved (λ y j μ. passes-on l count y (i + 1) j μ) q
@@ -253,7 +255,8 @@ module _ (p : Program) (callee : M.Callee) (Γ : NameDepths) (c : Code) (calls f
         first : Ran
         first = carry-first k (pred (Γ x)) ws m (memory (s .store) env)
 
-    pub loop-same : Rel Done (loop-line (tree-on n C c calls f) c calls f x k ps (map coded us) at (s .left) (memory (s .store) env))
+    pub loop-same : Rel Done
+        (loop-line (tree-on n C c calls f) c calls f x k ps (map coded us) at (s .left) (memory (s .store) env))
         (work-line callee Γ (K.loop x k ps us t) A R ρ s)
     unfolding loop-line work-line onward with-left elements-of M.with-store
     loop-same =

@@ -2,7 +2,7 @@
 use mathlib.Core.Path.{_≡_, refl, ap, subst, _∙_}
 use mathlib.Core.Bool.{true, false, not}
 use mathlib.Core.Logic.{inl, inr}
-use mathlib.Core.List.{List, [], _∷_, _++_, map}
+use mathlib.Core.List.{List, [], _∷_, _++_}
 use Prim.Native.Nat.{ℕ, suc, _+_, _%_, _<_, _≤_}
 use native.Mathlib.Omega.{arith}
 use lib.IntN.{ℤ, pos}
@@ -73,10 +73,6 @@ module _ (kinds : List ℕ) (operands : List ℤ) (at : ℕ) where
       line-at kinds operands at ≡ line-of k n a b
   unfolding line-at
   line-read k n a b e f g h = rw (e, f, g, h) refl
-
-pub length-rows : (us : List C.Atom) → length (map atom-row us) ≡ length us
-length-rows [] = refl
-length-rows (a ∷ us) = ap suc (length-rows us)
 
 -- ---- kinds
 

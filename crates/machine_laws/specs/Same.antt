@@ -1,5 +1,5 @@
--- How work over positions agrees with a run of the machine: it goes on with what P says, or it stops with the same number
--- and the same steps left.
+-- How work over positions agrees with a run of the machine: it goes on with what P says, or it stops with the same
+-- number and the same steps left.
 use mathlib.Core.Path.{_≡_, refl, sym, ap, ap₂, subst, _∙_}
 use mathlib.Core.Bool.{true}
 use mathlib.Core.List.{List}

@@ -2,11 +2,11 @@
 use mathlib.Core.Path.{_≡_, refl, sym, ap, ap₂, subst, _∙_}
 use mathlib.Core.Bool.{Bool, true, false, cond}
 use mathlib.Core.Logic.{inr}
-use mathlib.Core.List.{List, [], _∷_, _++_, map}
+use mathlib.Core.List.{List, _++_, map}
 use Prim.Native.Nat.{ℕ, zero, suc, _+_, _-_, _%_, _<_, _≤_}
 use native.Mathlib.Omega.{arith}
 use lib.IntN.{ℤ}
-use lib.ListN.{getD, length, length-append}
+use lib.ListN.{getD, length, length-append, length-map}
 use types.Run.{miss}
 use borrow.Author.Tests.{lt-ltb}
 use Rattle.semantics.specs.Basics.{updated}
@@ -27,7 +27,7 @@ use Rattle.machine_lines.specs.Lines.{Memory, memory, Ran, Doing, branching, do
 use Rattle.machine_positions.specs.Machine.{Code, Work, Callee, and-then, binding, if-worked, if-line, line-done, line-on}
 use Rattle.machine_positions.specs.Machine.{is-end, tree-from, tree-on}
 use Rattle.machine_positions.specs.TreeLaws.{not-end}
-use Rattle.machine_laws.specs.Rows.{At, Jumps, at-first, at-second, coded, atom-here, line-read, length-rows}
+use Rattle.machine_laws.specs.Rows.{At, Jumps, at-first, at-second, coded, atom-here, line-read}
 use Rattle.machine_laws.specs.Rows.{not-leaves, leaf-apart, no-atom, tree-within, line-some, rows-some}
 use Rattle.machine_laws.specs.Frames.{Bounded, Agrees, small-known, word-same, kept-none, known-stays}
 use Rattle.machine_laws.specs.Frames.{bounded-after}
@@ -51,7 +51,8 @@ unfolding line-rows
 line-open kinds operands at l h = not-end kinds operands at (line-at kinds operands at) (λ e. other l h e) refl
   where
     other : (l : K.Line) → At kinds operands at (line-rows l) → getD kinds at 0 ≡ 16 → ⊥
-    other (K.leaf x l us) h e = miss not-leaves (leaf-kind l) (leaf-apart l) (inr (inr (inr (inr (inr (sym (h .0 .kind) ∙ e))))))
+    other (K.leaf x l us) h e =
+        miss not-leaves (leaf-kind l) (leaf-apart l) (inr (inr (inr (inr (inr (sym (h .0 .kind) ∙ e))))))
     other (K.if-else x g t u) h e = omega (arith, h .0 .kind, e)
     other (K.loop x k ps us t) h e = loop-no-end k (sym (h .0 .kind) ∙ e)
     other (K.retain x) h e = omega (arith, h .0 .kind, e)
@@ -97,8 +98,8 @@ module _ (p : Program) (enough : length (p .routines) ≤ 32) (callee : M.Callee
         (claim n lt few S d fit scoped b q rs (after-branch x A) R ρ (with-left s m) env g long)
         (λ w s′ h. (
           refl,
-          bound-done calls env ρ S b g long x new (next (W q m here .out .next)) goal (ap next (h .next) ∙ e) (W q m here)
-              w s′ (h .word),
+          bound-done calls env ρ S b g long x new (next (W q m here .out .next)) goal (ap next (h .next) ∙ e)
+              (W q m here) w s′ (h .word),
         ))
 
     if-same : (x : ℕ) (a : K.Atom) (t e : K.Tree) → Claim t → Claim e → length (rows t) ≤ n → length (rows e) ≤ n →
@@ -111,7 +112,8 @@ module _ (p : Program) (enough : length (p .routines) ≤ 32) (callee : M.Callee
         rel-step (LineDone (at + 2 + length (rows t) + length (rows e)) calls env S (S ∪ only x)) s here
         (λ m. if-worked W (c .table) calls x at m here (word-of calls env (coded a)))
         (λ _ s′. onward (λ w. give (updated ρ x w))
-        (cond (is-zero (word ρ a)) (work callee Γ e (after-branch x A) R ρ) (work callee Γ t (after-branch x A) R ρ) s′))
+        (cond (is-zero (word ρ a)) (work callee Γ e (after-branch x A) R ρ) (work callee Γ t (after-branch x A) R ρ)
+        s′))
         (λ m. rw (word-same calls env ρ S g a known) (go m (word ρ a) (is-zero (word ρ a)) refl))
       where
         in-t : At (c .kinds) (c .operands) (at + 2) (rows t)
@@ -137,13 +139,9 @@ module _ (p : Program) (enough : length (p .routines) ≤ 32) (callee : M.Callee
         is-atom (getD (c .kinds) (at + 1 + length us) 0) ≡ false
     atoms-stop us t rs =
         ap (λ (q : ℕ). is-atom (getD (c .kinds) q 0)) (let z : at + 1 + length us ≡ at + 1 + length (map atom-row us) =
-        omega (arith, length-rows us) in z)
+        omega (arith, length-map us atom-row) in z)
         ∙ no-atom (c .kinds) (c .operands) (at + 1 + length (map atom-row us)) t
         (at-second (c .kinds) (c .operands) (at + 1) (map atom-row us) (rows t) rs)
-
-    coded-rows : (us : List K.Atom) → length (map coded us) ≡ length (map atom-row us)
-    coded-rows [] = refl
-    coded-rows (u ∷ us) = ap suc (coded-rows us)
 
     abbrev LineSame : K.Line → Doing → Type 0
     LineSame l d = Rel (LineDone (at + length (line-rows l)) calls env S (known-after l S))
@@ -156,7 +154,7 @@ module _ (p : Program) (enough : length (p .routines) ≤ 32) (callee : M.Callee
     line-same (K.leaf x l us) claims lt fit h t rs =
         subst (λ (q : ℕ). Rel (LineDone q calls env S (S ∪ only x)) (line-done W C c calls f at (s .left) here found)
         (work-line callee Γ (K.leaf x l us) A R ρ s))
-        (let z : at + suc (length us) ≡ at + suc (length (map atom-row us)) = omega (arith, length-rows us) in z)
+        (ap (λ (q : ℕ). at + suc q) (sym (length-map us atom-row)))
         (leaf-same p enough callee Γ c calls f C calling W at A R ρ s env S b g long x (h .1) us (h .0)
         (at-first (c .kinds) (c .operands) (at + 1) (map atom-row us) (rows t) (rs .1)) (atoms-stop us t (rs .1)) l fit
         (rs .0))
@@ -186,9 +184,10 @@ module _ (p : Program) (enough : length (p .routines) ≤ 32) (callee : M.Callee
         (loop-same p callee Γ c calls f C depths jumps n few S b at A R ρ s env g long x k ps us t₁ (h .1) (h .2) (h .0)
         claims (omega (arith, e, lt)) (atom-depth Γ (ending t₁)) (fit .1) (h .3)
         (subst (λ (q : ℕ). At (c .kinds) (c .operands) q (rows t₁))
-        (let z : at + 1 + length (map atom-row us) ≡ at + suc (length (map coded us)) = omega (arith, coded-rows us) in z)
+        (let z : at + 1 + length (map atom-row us) ≡ at + suc (length (map coded us)) =
+        omega (arith, length-map us coded, length-map us atom-row) in z)
         (at-second (c .kinds) (c .operands) (at + 1) (map atom-row us) (rows t₁) mine)) _
-        (omega (arith, e, coded-rows us)))
+        (omega (arith, e, length-map us coded, length-map us atom-row)))
     line-same (K.retain x) claims lt fit h t rs =
         retain-same p enough callee Γ c calls f C calling W at A R ρ s env S b g long x h (rs .0)
     line-same (K.release x) claims lt fit h t rs =

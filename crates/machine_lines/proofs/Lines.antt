@@ -218,7 +218,8 @@ worked-leaf calls at x next zero m g = refl
 worked-leaf calls at x next (suc s) m g = refl
 
 module _ (kinds : List ℕ) (operands : List ℤ) (calls at steps : ℕ) (m : Memory) (l : Line) where
-  left-leaf : (k : Line) → l ≡ k → (x next : ℕ) (g : Given) → doing kinds operands calls at m k ≡ giving x next (m .store) g →
+  left-leaf : (k : Line) → l ≡ k → (x next : ℕ) (g : Given) →
+      doing kinds operands calls at m k ≡ giving x next (m .store) g →
       (r : Out) (env′ : List ℤ) → left r env′ ≡ worked calls x next steps (m .env) g →
       ran r (memory (m .store) env′) ≡ leaf kinds operands calls at steps m l
   left-leaf k e x next g d r env′ h = ap (with-store (m .store)) h ∙ worked-leaf calls at x next steps m g

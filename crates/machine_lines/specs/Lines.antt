@@ -128,8 +128,8 @@ abbrev pub length-line : Store → ℕ → ℕ → Atom → ℕ → ℕ → List
 length-line σ calls x a next steps env =
     worked calls x next steps env (length-given (array-of σ (word-of calls env a)))
 
--- how a line is worked: `giving` binds the word of a small work that leaves a store to a name, and the code goes on at a
--- position; `changing` leaves a store; the others end a tree or work one
+-- how a line is worked: `giving` binds the word of a small work that leaves a store to a name, and the code goes on at
+-- a position; `changing` leaves a store; the others end a tree or work one
 pub data Doing : Type 0 where
   giving : ℕ → ℕ → Store → Given → Doing
   changing : Store → Doing
@@ -149,12 +149,14 @@ doing kinds operands calls at m (L.Call x f) = calling x f
 doing kinds operands calls at m (L.Literal x d) =
     literal-doing x d at (m .store) (words-at 16 kinds operands calls (m .env) (at + 1))
 doing kinds operands calls at m (L.Index x a b) =
-    giving x (at + 3) (m .store) (index-given (array-of (m .store) (word-of calls (m .env) a)) (word-of calls (m .env) b))
+    giving x (at + 3) (m .store)
+    (index-given (array-of (m .store) (word-of calls (m .env) a)) (word-of calls (m .env) b))
 doing kinds operands calls at m (L.Length x a) =
     giving x (at + 2) (m .store) (length-given (array-of (m .store) (word-of calls (m .env) a)))
 doing kinds operands calls at m (L.If x g) = branching x g
 doing kinds operands calls at m (L.Map x p a) = looping x mapping (p ∷ []) (a ∷ [])
-doing kinds operands calls at m (L.Retain x) = changing (retained (cell-of (word-of calls (m .env) (Name x))) (m .store))
+doing kinds operands calls at m (L.Retain x) =
+    changing (retained (cell-of (word-of calls (m .env) (Name x))) (m .store))
 doing kinds operands calls at m (L.Release x) =
     changing (released deepest (cell-of (word-of calls (m .env) (Name x))) (m .store))
 doing kinds operands calls at m (L.End a) = ending a
@@ -171,7 +173,8 @@ leaf-done calls at s m (looping x j ps us) = halted 99 s m
 
 abbrev pub literal-line : List ℕ → List ℤ → ℕ → ℕ → ℕ → ℕ → ℕ → Memory → Ran
 literal-line kinds operands calls x depth at steps m =
-    leaf-done calls at steps m (literal-doing x depth at (m .store) (words-at 16 kinds operands calls (m .env) (at + 1)))
+    leaf-done calls at steps m
+    (literal-doing x depth at (m .store) (words-at 16 kinds operands calls (m .env) (at + 1)))
 
 abbrev pub leaf : List ℕ → List ℤ → ℕ → ℕ → ℕ → Memory → Line → Ran
 leaf kinds operands calls at s m l = leaf-done calls at s m (doing kinds operands calls at m l)

@@ -65,7 +65,7 @@ leaf-keeps calls at s m (looping x k ps us) = refl
 
 -- ---- trees and calls
 
-bound-all-keeps : (calls : ℕ) (ps : List ℕ) (ws env : List ℤ) → length (bound-all calls ps ws env) ≡ length env
+pub bound-all-keeps : (calls : ℕ) (ps : List ℕ) (ws env : List ℤ) → length (bound-all calls ps ws env) ≡ length env
 bound-all-keeps calls [] ws env = refl
 bound-all-keeps calls (p ∷ ps) ws env =
     bound-all-keeps calls ps (later-parts ws) _ ∙ length-set env (place calls p) (argument ws 0)

@@ -148,6 +148,9 @@ module _ (W : Work) (c : Code) (calls f x : ℕ) (k : Loop) (ps : List ℕ) (us 
   abbrev tree-at : ℕ
   tree-at = at + suc (length us)
 
+  abbrev bind : Ran → Ran
+  bind w = binding calls x (end-in (c .table) tree-at) w
+
   abbrev whole : Ran
   whole = loop-line W c calls f x k ps us at steps here
 
@@ -163,7 +166,7 @@ module _ (W : Work) (c : Code) (calls f x : ℕ) (k : Loop) (ps : List ℕ) (us 
     abbrev following : ℕ → ℕ → Ran → Ran
     following from n v = and-then
         (passes-on (looped k (W tree-at) calls ps from) n (v .out .value) 0 (v .out .steps) (v .memory))
-        (λ w. binding calls x (end-in (c .table) tree-at) w)
+        bind
 
     abbrev follows : Ran → Ran
     follows = following (cell-of (looped-over k ws)) (length (array-of (store-of slots heads) (looped-over k ws)))
@@ -184,21 +187,21 @@ module _ (W : Work) (c : Code) (calls f x : ℕ) (k : Loop) (ps : List ℕ) (us 
         (en : List ℤ)
         (done : Ended (passes-on (looped k (W tree-at) calls ps from) n (o .value) 0 (o .steps)
         (memory (store-of sl₁ he₁) env)) (o .steps) r sl he en) where
-      loop-part : whole ≡ and-then (ran r (memory (store-of sl he) en)) (λ w. binding calls x (end-in (c .table) tree-at) w)
+      loop-part : whole ≡ and-then (ran r (memory (store-of sl he) en)) bind
       loop-part = loop-is ∙ then-go (ran o (memory (store-of sl₁ he₁) env)) follows go
           ∙ ap (λ (g : ℕ). following g (length (elements (cell (store-of slots heads) g)))
           (ran o (memory (store-of sl₁ he₁) env))) (sym fe)
           ∙ ap (λ (g : ℕ). following from g (ran o (memory (store-of sl₁ he₁) env))) (sym ne)
-          ∙ ap (λ (w : Ran). and-then w (λ w. binding calls x (end-in (c .table) tree-at) w)) (sym (done .is))
+          ∙ ap (λ (w : Ran). and-then w bind) (sym (done .is))
 
       pub loop-stops : (r .stop ≡ 0 → ⊥) → Ended whole steps r sl he en
-      loop-stops g = part-stops _ steps r sl he en (λ w. binding calls x (end-in (c .table) tree-at) w) loop-part (omega (arith, done .fewer, few)) g
+      loop-stops g = part-stops _ steps r sl he en bind loop-part (omega (arith, done .fewer, few)) g
 
       pub loop-goes : r .stop ≡ 0 → (next : ℕ) → next ≡ end-in (c .table) tree-at → (en′ : List ℤ) →
           en′ ≡ set en (place calls x) (r .value) → (q : Out) → q ≡ out 0 (r .value) next (r .steps) →
           Ended whole steps q sl he en′
       loop-goes g next ne en′ ee q qe = part-goes _ steps r sl he en
-          (λ w. binding calls x (end-in (c .table) tree-at) w) loop-part (omega (arith, done .fewer, few)) g q en′
+          bind loop-part (omega (arith, done .fewer, few)) g q en′
           (bound-result r calls x _ next sl he en en′ q ne ee qe) (ap (λ (y : Out). y .steps) qe)
 
 -- a map carries a new cell into its first pass
@@ -227,7 +230,8 @@ module _ (W : Work) (C : Callee) (c : Code) (calls f at steps : ℕ) (slots : Li
   line-here k = line-on W C c calls f at steps (memory (store-of slots heads) env) k
 
   -- a line that is known
-  line-is : (k : Line) → l ≡ k → (w : Ran) → w ≡ line-here k → Ended w steps r sl he en → Ended (line-here l) steps r sl he en
+  line-is : (k : Line) → l ≡ k → (w : Ran) → w ≡ line-here k → Ended w steps r sl he en →
+      Ended (line-here l) steps r sl he en
   line-is k e w g done = record { is = done .is ∙ g ∙ ap line-here (sym e); fewer = done .fewer }
 
   pub line-if : (x : ℕ) (g : Atom) → l ≡ L.If x g →

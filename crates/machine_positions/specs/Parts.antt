@@ -92,7 +92,8 @@ module _ {l : Looped} {count steps : ℕ} {v₀ : ℤ} {slots₀ : List ℤ} {he
   }
 
   module _ (h : i < count) (f : s ≡ 0 → ⊥) (env₁ : List ℤ) (ee : env₁ ≡ entered l v i here) (r : Out) (sl : List ℤ)
-      (he : List ℕ) (en : List ℤ) (done : Ended (l .body (s - 1) (memory (store-of slots heads) env₁)) (s - 1) r sl he en)
+      (he : List ℕ) (en : List ℤ)
+      (done : Ended (l .body (s - 1) (memory (store-of slots heads) env₁)) (s - 1) r sl he en)
     where
       abbrev after : Ran → Ran
       after = carrying l (count - i) v i s here

@@ -212,5 +212,6 @@ pub work-pass-returns-3 : (t : ℕ) → work-pass-lts.Need-returns-3 (work-pass-
     work-pass-Inv-loop work-pass-μ-loop
 work-pass-returns-3 t c =
     let start = c .before .before .before .before .before in
-    pass-end (rw (toZ-ofZ {z = start .args .carried} (start .fits .carried)) at (c .before .before .loop .inv)) (omega arith)
-    (c .done .result) (rw (toZ-ofZ {z = start .args .carried} (start .fits .carried)) at (c .done .ensures))
+    pass-end (rw (toZ-ofZ {z = start .args .carried} (start .fits .carried)) at (c .before .before .loop .inv))
+    (omega arith) (c .done .result)
+    (rw (toZ-ofZ {z = start .args .carried} (start .fits .carried)) at (c .done .ensures))
