@@ -143,52 +143,36 @@ module _ (k w s : List ℕ) where
     abbrev walked : Typed
     walked = typed k w s m γ p (h .kind) (h .low) (h .high)
 
-    leaf-typed : (l : Leaf) → shape-of h ≡ leaf-of l →
+    leaf-typed : (l : Leaf) → h .kind ≡ leaf-kind l → shape-of h ≡ leaf-of l →
         walked ≡ ruled p (leaf-rule signatures l) (collect (part-count (h .kind) (h .low) (h .high)) (m γ) (p + 1))
     unfolding plain-typed rule-of
-    leaf-typed l e = by-kind l (kind-of-leaf h l e) e
-      where
-        by-kind : (l : Leaf) → h .kind ≡ leaf-kind l → shape-of h ≡ leaf-of l →
-            walked ≡ ruled p (leaf-rule signatures l) (collect (part-count (h .kind) (h .low) (h .high)) (m γ) (p + 1))
-        by-kind (operation sum) i e = rw i
-        by-kind (operation difference) i e = rw i
-        by-kind (operation less) i e = rw i
-        by-kind (call f) i e = let g = rw i at e in let f-is : h .low ≡ f = cc in rw (i, f-is)
-        by-kind (literal t) i e = let g = rw i at e in let t-is : h .high ≡ t = cc in rw (i, t-is)
-        by-kind index i e = rw i
-        by-kind length-of i e = rw i
+    leaf-typed (operation sum) i e = rw i
+    leaf-typed (operation difference) i e = rw i
+    leaf-typed (operation less) i e = rw i
+    leaf-typed (call f) i e = let g = rw i at e in let f-is : h .low ≡ f = cc in rw (i, f-is)
+    leaf-typed (literal t) i e = let g = rw i at e in let t-is : h .high ≡ t = cc in rw (i, t-is)
+    leaf-typed index i e = rw i
+    leaf-typed length-of i e = rw i
 
     loop-tells : (c : Loop) (xs : List ℕ) (n : ℕ) → shape-of h ≡ loop-of c xs n →
         (cs : List Checked) (b : Checked) (q r : ℕ) → length cs ≡ n → Chain cs (m γ) (p + 1) q →
         ((ts : List ℕ) → pass-depths c cs ≡ map (λ t. some t) ts → Tells b r (m (with-depths xs ts γ) q)) →
         Tells (loop-node p c cs b) r walked
-    loop-tells mapping xs n e cs b q r l t body = go cs l t body
+    loop-tells mapping xs n e cs b q r l t body =
+        let i : h .kind ≡ 13 = kind-of-loop h mapping xs n e in
+        let g = rw i at e in
+        let names : h .low ∷ [] ≡ xs = cc in
+        let count : 1 ≡ n = cc in
+        rw i (over-one cs (omega (arith, l, count)) t λ ts f. rw (← names) at (body ts f))
       where
-        kind : h .kind ≡ 13
-        kind = kind-of-loop h mapping xs n e
-
-        fields : loop-of mapping (h .low ∷ []) 1 ≡ loop-of mapping xs n
-        fields = rw kind at e
-
-        names : h .low ∷ [] ≡ xs
-        names = let g = fields in cc
-
-        count : 1 ≡ n
-        count = let g = fields in cc
-
-        go : (cs : List Checked) → length cs ≡ n → Chain cs (m γ) (p + 1) q →
-            ((ts : List ℕ) → pass-depths mapping cs ≡ map (λ t. some t) ts → Tells b r (m (with-depths xs ts γ) q)) →
-            Tells (loop-node p mapping cs b) r walked
-        go [] l t body = absurd (omega (arith, count))
-        go (a ∷ []) l t body =
-            rw kind (a-map b p m γ (h .low) (subst (λ z. Tells a z (m γ (p + 1))) (t .2) (t .1))
-            λ u f. rw (← names) at (body (u ∷ []) (rw f)))
-        go (a ∷ a′ ∷ cs) l t body = absurd (omega (arith, count))
-
-  if-typed : (p : ℕ) (cs : List Checked) (f : ℕ → Typed) (q : ℕ) → length cs ≡ 3 → Chain cs f (p + 1) q →
-      Tells (node p if-rule cs) q (plain-typed k w s f p 12 0 0)
-  unfolding plain-typed rule-of part-count
-  if-typed p cs f q e t = rw (← e) (by-its-rule p if-rule (chain-tells cs f (p + 1) q t))
+        over-one : (cs : List Checked) → length cs ≡ 1 → Chain cs (m γ) (p + 1) q →
+            ((ts : List ℕ) → pass-depths mapping cs ≡ map (λ t. some t) ts →
+            Tells b r (m (with-depths (h .low ∷ []) ts γ) q)) →
+            Tells (loop-node p mapping cs b) r (map-typed m γ (h .low) p (m γ (p + 1)))
+        over-one [] l t body = absurd (omega arith)
+        over-one (a ∷ []) l t body =
+            a-map b p m γ (h .low) (subst (λ z. Tells a z (m γ (p + 1))) (t .2) (t .1)) λ u f. body (u ∷ []) (rw f)
+        over-one (a ∷ a′ ∷ cs) l t body = absurd (omega arith)
 
   checks-length : (es : Exprs) (Γ : Depths) (p : ℕ) → length (checks signatures es Γ p) ≡ amount es
   unfolding check
@@ -196,7 +180,7 @@ module _ (k w s : List ℕ) where
   checks-length (T.more e es) Γ p = ap suc (checks-length es Γ (p + size e))
 
   mutual
-    unfolding types size check
+    unfolding types size check plain-typed rule-of part-count
 
     pub types-tree : (e : Expr) (d : ℕ) (γ : ℕ → ℕ) (p q : ℕ) → Written k w e d p → q ≡ p + size e →
         Tells (check (signature-of k w s) e (known γ) p) q (types k w s d γ p)
@@ -212,21 +196,15 @@ module _ (k w s : List ℕ) where
     types-tree (leaf l es) d γ p q h g =
         let i = h .0 .below in
         let cs = checks signatures es (known γ) (p + 1) in
-        rw (
-          h .0 .is,
-          h .1 .is,
-          leaf-typed (h .1 .node) (types k w s i) γ p l (h .1 .shape-is),
-          h .1 .count,
-          ← checks-length es (known γ) (p + 1),
-        )
+        let e = h .1 .shape-is in
+        let typed-so = leaf-typed (h .1 .node) (types k w s i) γ p l (kind-of-leaf (h .1 .node) l e) e in
+        rw (h .0 .is, h .1 .is, typed-so, h .1 .count, ← checks-length es (known γ) (p + 1))
         (by-its-rule p (leaf-rule signatures l)
         (chain-tells cs (types k w s i γ) (p + 1) q (types-trees es i γ (p + 1) q (h .2) (omega arith))))
     types-tree (if-else a b c) d γ p q h g =
         let i = h .0 .below in
-        let cs = check signatures a (known γ) (p + 1) ∷ check signatures b (known γ) (p + 1 + size a)
-        ∷ check signatures c (known γ) (p + 1 + size a + size b) ∷ [] in
         rw (h .0 .is, h .1 .is)
-        (if-typed p cs (types k w s i γ) q refl (
+        (by-its-rule p if-rule (chain-tells (_ ∷ _ ∷ _ ∷ []) (types k w s i γ) (p + 1) q (
           p + 1 + size a,
           types-tree a i γ (p + 1) (p + 1 + size a) (h .2) refl,
           (
@@ -234,7 +212,7 @@ module _ (k w s : List ℕ) where
             types-tree b i γ (p + 1 + size a) (p + 1 + size a + size b) (h .3) refl,
             (q, types-tree c i γ (p + 1 + size a + size b) q (h .4) (omega arith), refl),
           ),
-        ))
+        )))
     types-tree (loop c xs es b) d γ p q h g =
         let i = h .0 .below in
         let cs = checks signatures es (known γ) (p + 1) in

@@ -31,21 +31,16 @@ module _ (F : ℕ) (m : Scope → ℕ → Read) (known : Scope) (p : ℕ) (h : S
   abbrev Named : Read → Type 0
   Named r = named F m known p (h .kind) (h .low) (h .high) ≡ r
 
-  leaf-named : (l : Leaf) → shape-of h ≡ leaf-of l →
+  leaf-named : (l : Leaf) → h .kind ≡ leaf-kind l → shape-of h ≡ leaf-of l →
       Named (cond (calls-none F l) (Refused 6 p)
       (repeated (part-count (h .kind) (h .low) (h .high)) (m known) (p + 1)))
-  leaf-named l e = by-kind l (kind-of-leaf h l e) e
-    where
-      by-kind : (l : Leaf) → h .kind ≡ leaf-kind l → shape-of h ≡ leaf-of l →
-          Named (cond (calls-none F l) (Refused 6 p)
-          (repeated (part-count (h .kind) (h .low) (h .high)) (m known) (p + 1)))
-      by-kind (operation sum) k e = rw k
-      by-kind (operation difference) k e = rw k
-      by-kind (operation less) k e = rw k
-      by-kind (call f) k e = let g = rw k at e in let f-is : h .low ≡ f = cc in rw (k, f-is)
-      by-kind (literal d) k e = rw k
-      by-kind index k e = rw k
-      by-kind length-of k e = rw k
+  leaf-named (operation sum) k e = rw k
+  leaf-named (operation difference) k e = rw k
+  leaf-named (operation less) k e = rw k
+  leaf-named (call f) k e = let g = rw k at e in let f-is : h .low ≡ f = cc in rw (k, f-is)
+  leaf-named (literal d) k e = rw k
+  leaf-named index k e = rw k
+  leaf-named length-of k e = rw k
 
   loop-named : (c : Loop) (xs : List ℕ) (n : ℕ) → shape-of h ≡ loop-of c xs n →
       Named (and-next (repeated n (m known) (p + 1)) (m (scope-with xs known)))
@@ -73,12 +68,9 @@ module _ (k w : List ℕ) (F : ℕ) where
         (names-tree b i (updated known x true) (p + 1 + size a) q (h .3) (omega arith)))
     names-tree (leaf l es) d known p q h g =
         let i = h .0 .below in
-        rw (
-          h .0 .is,
-          h .1 .is,
-          leaf-named F (names k w F i) known p (h .1 .node) l (h .1 .shape-is),
-          h .1 .count,
-        )
+        let s = h .1 .shape-is in
+        let named-so = leaf-named F (names k w F i) known p (h .1 .node) l (kind-of-leaf (h .1 .node) l s) s in
+        rw (h .0 .is, h .1 .is, named-so, h .1 .count)
         (found-if (calls-none F l) p (names-trees es i known (p + 1) q (h .2) (omega arith)))
     names-tree (if-else a b c) d known p q h g =
         let i = h .0 .below in

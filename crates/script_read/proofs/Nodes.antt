@@ -1,7 +1,7 @@
 -- A node: what the code sees of it is what the definition says.
 use mathlib.Core.Path.{_≡_, refl, sym, ap, _∙_}
 use mathlib.Core.Bool.{Bool, true, false, cond}
-use mathlib.Core.Logic.{_⊎_, inl, inr}
+use mathlib.Core.Logic.{_⊎_, inl, inr, ⊎-elim}
 use mathlib.Core.List.{List, [], _∷_}
 use Prim.Native.Nat.{ℕ, zero, suc, _-_, _*_, _/_, _%_, _<_, _≤_, _^_}
 use native.Mathlib.Omega.{arith}
@@ -221,19 +221,11 @@ module _ {k w : List ℕ} {place : Place} {p : ℕ} where
   module _ (u : Unfit k w place p) where
     pub low-none : 0 ≡ low-at k w place p
     unfolding low-at
-    low-none = go (u .is)
-      where
-        go : (node-at k w place p ≡ S.wrong-kind) ⊎ (node-at k w place p ≡ S.wrong-operand) → 0 ≡ low-at k w place p
-        go (inl e) = rw e
-        go (inr e) = rw e
+    low-none = ⊎-elim (λ e. rw e) (λ e. rw e) (u .is)
 
     pub high-none : 0 ≡ high-at k w place p
     unfolding high-at
-    high-none = go (u .is)
-      where
-        go : (node-at k w place p ≡ S.wrong-kind) ⊎ (node-at k w place p ≡ S.wrong-operand) → 0 ≡ high-at k w place p
-        go (inl e) = rw e
-        go (inr e) = rw e
+    high-none = ⊎-elim (λ e. rw e) (λ e. rw e) (u .is)
 
 -- a node that is taken is there
 pub inside : (k w : List ℕ) (place : Place) (p a b c : ℕ) (n : Node) → n ≡ told-node (node-at k w place p) →
