@@ -114,7 +114,7 @@ both-bind false false false false = refl
 
 -- ---- live sets
 
-among-split : (us : List Atom) (A : Set) (y : ℕ) → among us A y ≡ among us empty y || A y
+pub among-split : (us : List Atom) (A : Set) (y : ℕ) → among us A y ≡ among us empty y || A y
 unfolding among
 among-split [] A y = refl
 among-split (a ∷ us) A y = rw (among-split us A y) (go (is a y) (among us empty y) (A y))
