@@ -5,43 +5,28 @@ use mathlib.Core.List.{List, [], _∷_}
 use mathlib.Core.Path.{_≡_, refl, ap}
 use lib.ListN.{length}
 use Rattle.semantics.specs.File as S
-use Rattle.semantics.specs.File.{node-at}
-use Rattle.semantics.specs.Syntax.{Expr, number, name, operation, let-in, call, literal, index, length-of, if-else}
-use Rattle.semantics.specs.Syntax.{map-over, Exprs, none, more, size, sizes, Script, function-size}
+use Rattle.semantics.specs.File.{Place, at-part, node-at}
+use Rattle.semantics.specs.Syntax.{Expr, number, name, let-in, leaf, if-else, loop, Exprs, none, more, size, sizes}
+use Rattle.semantics.specs.Syntax.{Script, function-size}
 use Rattle.script_read.specs.Told.{told-node}
 use Rattle.script_read.proofs.Nodes.{inside}
 use Rattle.script_read.proofs.Written.{Written, AllWritten, ScriptWritten, total}
 
 module _ (k w : List ℕ) where
-  pub node-inside : (a b p : ℕ) (h : S.Head) → b ≤ 13 → node-at k w a b p ≡ S.fits h → p < length k
-  node-inside a b p h l e = inside k w a b p _ _ _ (told-node (node-at k w a b p)) l refl (ap told-node e)
+  pub node-inside : (place : Place) (p : ℕ) (h : S.Head) → node-at k w place p ≡ S.fits h → p < length k
+  node-inside place p h e = inside k w place p _ _ _ (told-node (node-at k w place p)) refl (ap told-node e)
 
   mutual
     unfolding size
 
     tree-ends : (e : Expr) (d p : ℕ) → Written k w e d p → p + size e ≤ length k
-    tree-ends (number z) zero p h = absurd h
-    tree-ends (number z) (suc d) p h = omega (arith, node-inside 2 13 p _ (omega arith) h)
-    tree-ends (name x) zero p h = absurd h
-    tree-ends (name x) (suc d) p h = omega (arith, node-inside 2 13 p _ (omega arith) (h .is))
-    tree-ends (operation o a b) zero p h = absurd h
-    tree-ends (operation o a b) (suc d) p h = omega (arith, tree-ends b d (p + 1 + size a) (h .2))
-    tree-ends (let-in x a b) zero p h = absurd h
-    tree-ends (let-in x a b) (suc d) p h = omega (arith, tree-ends b d (p + 1 + size a) (h .2))
-    tree-ends (call f es) zero p h = absurd h
-    tree-ends (call f es) (suc d) p h =
-        omega (arith, trees-end es d (p + 1) (h .1) (omega (arith, node-inside 2 13 p _ (omega arith) (h .0 .is))))
-    tree-ends (literal t es) zero p h = absurd h
-    tree-ends (literal t es) (suc d) p h =
-        omega (arith, trees-end es d (p + 1) (h .1) (omega (arith, node-inside 2 13 p _ (omega arith) (h .0 .is))))
-    tree-ends (index a b) zero p h = absurd h
-    tree-ends (index a b) (suc d) p h = omega (arith, tree-ends b d (p + 1 + size a) (h .2))
-    tree-ends (length-of a) zero p h = absurd h
-    tree-ends (length-of a) (suc d) p h = omega (arith, tree-ends a d (p + 1) (h .1))
-    tree-ends (if-else a b c) zero p h = absurd h
-    tree-ends (if-else a b c) (suc d) p h = omega (arith, tree-ends c d (p + 1 + size a + size b) (h .3))
-    tree-ends (map-over x a b) zero p h = absurd h
-    tree-ends (map-over x a b) (suc d) p h = omega (arith, tree-ends b d (p + 1 + size a) (h .2))
+    tree-ends (number z) d p h = omega (arith, node-inside at-part p _ (h .1))
+    tree-ends (name x) d p h = omega (arith, node-inside at-part p _ (h .1 .is))
+    tree-ends (let-in x a b) d p h = omega (arith, tree-ends b (h .0 .below) (p + 1 + size a) (h .3))
+    tree-ends (leaf l es) d p h =
+        omega (arith, trees-end es (h .0 .below) (p + 1) (h .2) (omega (arith, node-inside at-part p _ (h .1 .is))))
+    tree-ends (if-else a b c) d p h = omega (arith, tree-ends c (h .0 .below) (p + 1 + size a + size b) (h .4))
+    tree-ends (loop c xs es b) d p h = omega (arith, tree-ends b (h .0 .below) (p + 1 + sizes es) (h .3))
 
     trees-end : (es : Exprs) (d p : ℕ) → AllWritten k w es d p → p ≤ length k → p + sizes es ≤ length k
     trees-end none d p h l = omega arith

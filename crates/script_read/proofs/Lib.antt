@@ -1,4 +1,5 @@
 pub mod Nodes
+pub mod Sorts
 pub mod Turns
 pub mod Part
 pub mod Whole

@@ -1,5 +1,5 @@
 -- A node: what the code sees of it is what the definition says.
-use mathlib.Core.Path.{_≡_, refl, sym}
+use mathlib.Core.Path.{_≡_, refl, sym, ap, _∙_}
 use mathlib.Core.Bool.{Bool, true, false, cond}
 use mathlib.Core.Logic.{_⊎_, inl, inr}
 use mathlib.Core.List.{List, [], _∷_}
@@ -11,8 +11,8 @@ use lib.ListN.{length, getD, List·getD-eq-default}
 use borrow.Author.Tests.{ltb-true, ltb-false, leb-true, eqb-true, lt-ltb, le-leb, lt-leb, eq-eqb, ne-eqb}
 use Rattle.semantics.specs.Outcome.{done, stop}
 use Rattle.semantics.specs.File as S
-use Rattle.semantics.specs.File.{node-of, node-at, in-parts, low-limits, high-limits, part-count, part-counts, look}
-use Rattle.semantics.specs.File.{looked}
+use Rattle.semantics.specs.File.{Place, at-function, at-parameter, at-part, allowed, node-of, node-at, in-parts}
+use Rattle.semantics.specs.File.{low-limits, high-limits, part-count, part-counts, look, looked}
 use Rattle.script_read.specs.Told.{told-node, low-at, high-at}
 use Rattle.script_read.specs.declared.Node.{Node}
 use Rattle.script_read.specs.declared.Node.the-variants.{Fits, WrongKind, WrongOperand}
@@ -62,134 +62,126 @@ module _ (d u : ℕ) where
             (getD high-limits d 0) h,
       )
 
-module _ (k w : List ℕ) (a b p : ℕ) where
-  pub past : length k ≤ p → b ≤ 13 → WrongKind ≡ told-node (node-at k w a b p)
+-- past the end no kind may stand
+none-past : (place : Place) → allowed place 255 ≡ false
+none-past at-function = refl
+none-past at-parameter = refl
+none-past at-part = refl
+
+module _ (k w : List ℕ) (place : Place) (p : ℕ) where
+  pub past : length k ≤ p → WrongKind ≡ told-node (node-at k w place p)
   unfolding node-at node-of
-  past h l = rw (List·getD-eq-default k 255 {n = p} h, lt-leb 255 b (omega arith), either (leb a 255) S.wrong-kind)
+  past h = rw (List·getD-eq-default k 255 {n = p} h, none-past place)
 
   module _ (d : ℕ) (is : d ≡ getD k p 255) where
-    pub early : d < a → WrongKind ≡ told-node (node-at k w a b p)
+    pub not-allowed : allowed place d ≡ false → WrongKind ≡ told-node (node-at k w place p)
     unfolding node-at node-of
-    early l = rw (← is, lt-leb a d l)
+    not-allowed e = rw (← is, e)
 
-    pub late : b < d → WrongKind ≡ told-node (node-at k w a b p)
-    unfolding node-at node-of
-    late l = rw (← is, lt-leb d b l, either (leb a d) S.wrong-kind)
-
-    module _ (l : a ≤ d) (g : d ≤ b) where
-      pub number : d ≡ 2 → Fits 2 0 0 ≡ told-node (node-at k w a b p)
+    module _ (may : allowed place d ≡ true) where
+      pub number : d ≡ 2 → Fits 2 0 0 ≡ told-node (node-at k w place p)
       unfolding node-at node-of
-      number e = rw (← is, le-leb a d l, le-leb d b g, eq-eqb d 2 e)
+      number e = rw (← is, may, eq-eqb d 2 e)
 
       pub judged : (d ≡ 2 → ⊥) → (u : ℕ) → u ≡ bytes-at 8 w (8 * p) → (r : Node) →
-          r ≡ told-node (in-parts d (signed u)) → r ≡ told-node (node-at k w a b p)
+          r ≡ told-node (in-parts d (signed u)) → r ≡ told-node (node-at k w place p)
       unfolding node-at node-of
-      judged f u e r q = rw (← is, le-leb a d l, le-leb d b g, ne-eqb d 2 f, ← e) q
+      judged f u e r q = rw (← is, may, ne-eqb d 2 f, ← e) q
 
--- the kind of a node that is taken is allowed
-abbrev pub Within : ℕ → ℕ → S.Node → Type 0
-Within a b (S.fits h) =
-    (a ≤ h .kind) × (h .kind ≤ b) × (h .low ≤ getD low-limits (h .kind) 0) × (h .high ≤ getD high-limits (h .kind) 0)
-Within a b S.wrong-kind = Unit {0}
-Within a b S.wrong-operand = Unit {0}
+-- a node that is taken at a place where kind d stands: the kind is allowed and the operand is in range
+pub record HeadFits (place : Place) (d : ℕ) (h : S.Head) : Type 0 where
+  pub kind : h .kind ≡ d
+  pub stands : allowed place (h .kind) ≡ true
+  pub low : h .low ≤ getD low-limits (h .kind) 0
+  pub high : h .high ≤ getD high-limits (h .kind) 0
 
-in-parts-within : (a b d : ℕ) (z : ℤ) → a ≤ d → d ≤ b → Within a b (in-parts d z)
-in-parts-within a b d (negsuc n) l h = tt
-in-parts-within a b d (pos n) l h =
+abbrev pub NodeFits : Place → ℕ → S.Node → Type 0
+NodeFits place d (S.fits h) = HeadFits place d h
+NodeFits place d S.wrong-kind = Unit {0}
+NodeFits place d S.wrong-operand = Unit {0}
+
+in-parts-fit : (place : Place) (d : ℕ) (z : ℤ) → allowed place d ≡ true → NodeFits place d (in-parts d z)
+in-parts-fit place d (negsuc n) may = tt
+in-parts-fit place d (pos n) may =
     go (leb (n % 256) (getD low-limits d 0)) refl (leb (n / 256) (getD high-limits d 0)) refl
   where
     go : (s : Bool) → leb (n % 256) (getD low-limits d 0) ≡ s → (t : Bool) →
         leb (n / 256) (getD high-limits d 0) ≡ t →
-        Within a b (cond s
+        NodeFits place d (cond s
         (cond t (S.fits (record { kind = d; low = n % 256; high = n / 256; value = pos 0 })) S.wrong-operand)
         S.wrong-operand)
-    go true e true f = (l, h, leb-true (n % 256) (getD low-limits d 0) e, leb-true (n / 256) (getD high-limits d 0) f)
+    go true e true f = record {
+      kind = refl;
+      stands = may;
+      low = leb-true (n % 256) (getD low-limits d 0) e;
+      high = leb-true (n / 256) (getD high-limits d 0) f;
+    }
     go true e false f = tt
     go false e t f = tt
 
-within : (a b d : ℕ) (z : ℤ) → Within a b (node-of a b d z)
-unfolding node-of
-within a b d z = go (leb a d) refl (leb d b) refl (eqb d 2) refl
+pub node-fits : (k w : List ℕ) (place : Place) (p : ℕ) → NodeFits place (getD k p 255) (node-at k w place p)
+unfolding node-at node-of
+node-fits k w place p = go (getD k p 255) (signed (bytes-at 8 w (8 * p)))
   where
-    go : (s : Bool) → leb a d ≡ s → (t : Bool) → leb d b ≡ t → (u : Bool) → eqb d 2 ≡ u
-        → Within a b (cond s
-        (cond t (cond u (S.fits (record { kind = 2; low = 0; high = 0; value = z })) (in-parts d z)) S.wrong-kind)
-        S.wrong-kind)
-    go true e true f true g = (
-      omega (arith, leb-true a d e, eqb-true d 2 g),
-      omega (arith, leb-true d b f, eqb-true d 2 g),
-      omega arith,
-      omega arith,
-    )
-    go true e true f false g = in-parts-within a b d z (leb-true a d e) (leb-true d b f)
-    go true e false f u g = tt
-    go false e t f u g = tt
+    by-kind : (d : ℕ) (z : ℤ) (u : Bool) → eqb d 2 ≡ u → allowed place d ≡ true →
+        NodeFits place d (cond u (S.fits (record { kind = 2; low = 0; high = 0; value = z })) (in-parts d z))
+    by-kind d z true e may =
+        let g : 2 ≡ d = sym (eqb-true d 2 e) in
+        record { kind = g; stands = ap (allowed place) g ∙ may; low = omega arith; high = omega arith }
+    by-kind d z false e may = in-parts-fit place d z may
 
-pub node-within : (k w : List ℕ) (a b p : ℕ) → Within a b (node-at k w a b p)
-unfolding node-at
-node-within k w a b p = within a b (getD k p 255) (signed (bytes-at 8 w (8 * p)))
+    go : (d : ℕ) (z : ℤ) → NodeFits place d (cond (allowed place d)
+        (cond (eqb d 2) (S.fits (record { kind = 2; low = 0; high = 0; value = z })) (in-parts d z)) S.wrong-kind)
+    go d z = by-place (allowed place d) refl
+      where
+        by-place : (s : Bool) → allowed place d ≡ s → NodeFits place d (cond s
+            (cond (eqb d 2) (S.fits (record { kind = 2; low = 0; high = 0; value = z })) (in-parts d z)) S.wrong-kind)
+        by-place true e = by-kind d z (eqb d 2) refl e
+        by-place false e = tt
 
--- the kind of a node that is taken is the one that stands there
-abbrev Kind-is : ℕ → S.Node → Type 0
-Kind-is d (S.fits h) = h .kind ≡ d
-Kind-is d S.wrong-kind = Unit {0}
-Kind-is d S.wrong-operand = Unit {0}
-
-in-parts-kind : (d : ℕ) (z : ℤ) → Kind-is d (in-parts d z)
-in-parts-kind d (negsuc n) = tt
-in-parts-kind d (pos n) = go (leb (n % 256) (getD low-limits d 0)) (leb (n / 256) (getD high-limits d 0))
-  where
-    go : (s t : Bool) →
-        Kind-is d (cond s
-        (cond t (S.fits (record { kind = d; low = n % 256; high = n / 256; value = pos 0 })) S.wrong-operand)
-        S.wrong-operand)
-    go true true = refl
-    go true false = tt
-    go false t = tt
-
-node-kind : (a b d : ℕ) (z : ℤ) → Kind-is d (node-of a b d z)
-unfolding node-of
-node-kind a b d z = go (leb a d) (leb d b) (eqb d 2) refl
-  where
-    go : (s t u : Bool) → eqb d 2 ≡ u →
-        Kind-is d (cond s
-        (cond t (cond u (S.fits (record { kind = 2; low = 0; high = 0; value = z })) (in-parts d z)) S.wrong-kind)
-        S.wrong-kind)
-    go true true true e = sym (eqb-true d 2 e)
-    go true true false e = in-parts-kind d z
-    go true false u e = tt
-    go false t u e = tt
-
-pub kind-there : (k w : List ℕ) (a b p : ℕ) (h : S.Head) → node-at k w a b p ≡ S.fits h → getD k p 255 ≡ h .kind
-unfolding node-at
-kind-there k w a b p h e = sym (rw e at (node-kind a b (getD k p 255) (signed (bytes-at 8 w (8 * p)))))
+pub head-fits : (k w : List ℕ) (place : Place) (p : ℕ) (h : S.Head) → node-at k w place p ≡ S.fits h →
+    HeadFits place (getD k p 255) h
+head-fits k w place p h e = rw e at (node-fits k w place p)
 
 -- what the code has seen of a node is what the reader finds
-pub record Seen (k w : List ℕ) (a b p x y z : ℕ) : Type 0 where
+pub record Seen (k w : List ℕ) (place : Place) (p x y z : ℕ) : Type 0 where
   pub node : S.Head
-  pub stands : node-at k w a b p ≡ S.fits node
-  pub is : look k w a b p ≡ done node p
+  pub stands : node-at k w place p ≡ S.fits node
+  pub is : look k w place p ≡ done node p
   pub same-kind : node .kind ≡ x
   pub same-low : node .low ≡ y
   pub same-high : node .high ≡ z
-  pub from : a ≤ x
-  pub to : x ≤ b
   pub lowest : y ≤ getD low-limits x 0
   pub highest : z ≤ getD high-limits x 0
 
-pub record Halted (k w : List ℕ) (a b p c : ℕ) : Type 0 where
-  pub is : look k w a b p ≡ stop c p
+pub record Halted (k w : List ℕ) (place : Place) (p c : ℕ) : Type 0 where
+  pub is : look k w place p ≡ stop c p
 
-module _ (k w : List ℕ) (a b p : ℕ) (n : Node) (e : n ≡ told-node (node-at k w a b p)) where
-  pub seen : (x y z : ℕ) → n ≡ Fits x y z → Seen k w a b p x y z
+-- no node fits there
+pub record Unfit (k w : List ℕ) (place : Place) (p : ℕ) : Type 0 where
+  pub is : (node-at k w place p ≡ S.wrong-kind) ⊎ (node-at k w place p ≡ S.wrong-operand)
+
+told-wrong-kind : (v : S.Node) → WrongKind ≡ told-node v → v ≡ S.wrong-kind
+told-wrong-kind (S.fits h) e = let z : _≡_ {A = ℕ} 0 1 = cc in absurd (omega arith)
+told-wrong-kind S.wrong-kind e = refl
+told-wrong-kind S.wrong-operand e = let z : _≡_ {A = ℕ} 0 1 = cc in absurd (omega arith)
+
+told-wrong-operand : (v : S.Node) → WrongOperand ≡ told-node v → v ≡ S.wrong-operand
+told-wrong-operand (S.fits h) e = let z : _≡_ {A = ℕ} 0 1 = cc in absurd (omega arith)
+told-wrong-operand S.wrong-kind e = let z : _≡_ {A = ℕ} 0 1 = cc in absurd (omega arith)
+told-wrong-operand S.wrong-operand e = refl
+
+module _ (k w : List ℕ) (place : Place) (p : ℕ) (n : Node) (e : n ≡ told-node (node-at k w place p)) where
+  pub seen : (x y z : ℕ) → n ≡ Fits x y z → Seen k w place p x y z
   unfolding look
-  seen x y z f = go (node-at k w a b p) refl (node-within k w a b p)
+  seen x y z f = go (node-at k w place p) refl
     where
-      go : (v : S.Node) → node-at k w a b p ≡ v → Within a b v → Seen k w a b p x y z
-      go (S.fits h) g wi =
+      go : (v : S.Node) → node-at k w place p ≡ v → Seen k w place p x y z
+      go (S.fits h) g =
           let i : h .kind ≡ x = cc in
           let j : h .low ≡ y = cc in
           let l : h .high ≡ z = cc in
+          let fit = head-fits k w place p h g in
           record {
             node = h;
             stands = g;
@@ -197,82 +189,60 @@ module _ (k w : List ℕ) (a b p : ℕ) (n : Node) (e : n ≡ told-node (node-at
             same-kind = i;
             same-low = j;
             same-high = l;
-            from = rw i at (wi .0);
-            to = rw i at (wi .1);
-            lowest = rw (i, j) at (wi .2);
-            highest = rw (i, l) at (wi .3);
+            lowest = rw (i, j) at (fit .low);
+            highest = rw (i, l) at (fit .high);
           }
-      go S.wrong-kind g wi = let z : _≡_ {A = ℕ} 0 1 = cc in absurd (omega arith)
-      go S.wrong-operand g wi = let z : _≡_ {A = ℕ} 0 1 = cc in absurd (omega arith)
-
-  pub no-kind : n ≡ WrongKind → Halted k w a b p 3
-  unfolding look
-  no-kind f = record { is = go (node-at k w a b p) refl }
-    where
-      go : (v : S.Node) → node-at k w a b p ≡ v → looked (node-at k w a b p) p ≡ stop 3 p
-      go (S.fits h) g = let z : _≡_ {A = ℕ} 0 1 = cc in absurd (omega arith)
-      go S.wrong-kind g = rw g
+      go S.wrong-kind g = let z : _≡_ {A = ℕ} 0 1 = cc in absurd (omega arith)
       go S.wrong-operand g = let z : _≡_ {A = ℕ} 0 1 = cc in absurd (omega arith)
 
-  pub no-operand : n ≡ WrongOperand → Halted k w a b p 4
+  pub no-kind : n ≡ WrongKind → Halted k w place p 3
   unfolding look
-  no-operand f = record { is = go (node-at k w a b p) refl }
-    where
-      go : (v : S.Node) → node-at k w a b p ≡ v → looked (node-at k w a b p) p ≡ stop 4 p
-      go (S.fits h) g = let z : _≡_ {A = ℕ} 0 1 = cc in absurd (omega arith)
-      go S.wrong-kind g = let z : _≡_ {A = ℕ} 0 1 = cc in absurd (omega arith)
-      go S.wrong-operand g = rw g
+  no-kind f = record { is = rw (told-wrong-kind (node-at k w place p) (sym f ∙ e)) }
 
--- no node fits there
-pub record Unfit (k w : List ℕ) (a b p : ℕ) : Type 0 where
-  pub is : (node-at k w a b p ≡ S.wrong-kind) ⊎ (node-at k w a b p ≡ S.wrong-operand)
+  pub no-operand : n ≡ WrongOperand → Halted k w place p 4
+  unfolding look
+  no-operand f = record { is = rw (told-wrong-operand (node-at k w place p) (sym f ∙ e)) }
 
-pub unfit : (k w : List ℕ) (a b p : ℕ) (n : Node) → n ≡ told-node (node-at k w a b p) →
-    (n ≡ WrongKind) ⊎ (n ≡ WrongOperand) → Unfit k w a b p
-unfit k w a b p n e f = record { is = go (node-at k w a b p) refl f }
-  where
-    go : (v : S.Node) → node-at k w a b p ≡ v → (n ≡ WrongKind) ⊎ (n ≡ WrongOperand) →
-        (node-at k w a b p ≡ S.wrong-kind) ⊎ (node-at k w a b p ≡ S.wrong-operand)
-    go (S.fits h) i (inl g) = let z : _≡_ {A = ℕ} 0 1 = cc in absurd (omega arith)
-    go (S.fits h) i (inr g) = let z : _≡_ {A = ℕ} 0 1 = cc in absurd (omega arith)
-    go S.wrong-kind i g = inl i
-    go S.wrong-operand i g = inr i
+  pub unfit : (n ≡ WrongKind) ⊎ (n ≡ WrongOperand) → Unfit k w place p
+  unfit (inl f) = record { is = inl (told-wrong-kind (node-at k w place p) (sym f ∙ e)) }
+  unfit (inr f) = record { is = inr (told-wrong-operand (node-at k w place p) (sym f ∙ e)) }
 
--- the parts of the operand of a node of kind a
-module _ {k w : List ℕ} {a p : ℕ} where
-  module _ {x y z : ℕ} (s : Seen k w a a p x y z) where
-    pub low-seen : y ≡ low-at k w a p
+-- the parts of the operand of a node
+module _ {k w : List ℕ} {place : Place} {p : ℕ} where
+  module _ {x y z : ℕ} (s : Seen k w place p x y z) where
+    pub low-seen : y ≡ low-at k w place p
     unfolding low-at
     low-seen = rw (s .stands) (sym (s .same-low))
 
-    pub high-seen : z ≡ high-at k w a p
+    pub high-seen : z ≡ high-at k w place p
     unfolding high-at
     high-seen = rw (s .stands) (sym (s .same-high))
 
-  pub low-none : Unfit k w a a p → 0 ≡ low-at k w a p
-  unfolding low-at
-  low-none u = go (u .is)
-    where
-      go : (node-at k w a a p ≡ S.wrong-kind) ⊎ (node-at k w a a p ≡ S.wrong-operand) → 0 ≡ low-at k w a p
-      go (inl e) = rw e
-      go (inr e) = rw e
+  module _ (u : Unfit k w place p) where
+    pub low-none : 0 ≡ low-at k w place p
+    unfolding low-at
+    low-none = go (u .is)
+      where
+        go : (node-at k w place p ≡ S.wrong-kind) ⊎ (node-at k w place p ≡ S.wrong-operand) → 0 ≡ low-at k w place p
+        go (inl e) = rw e
+        go (inr e) = rw e
 
-  pub high-none : Unfit k w a a p → 0 ≡ high-at k w a p
-  unfolding high-at
-  high-none u = go (u .is)
-    where
-      go : (node-at k w a a p ≡ S.wrong-kind) ⊎ (node-at k w a a p ≡ S.wrong-operand) → 0 ≡ high-at k w a p
-      go (inl e) = rw e
-      go (inr e) = rw e
+    pub high-none : 0 ≡ high-at k w place p
+    unfolding high-at
+    high-none = go (u .is)
+      where
+        go : (node-at k w place p ≡ S.wrong-kind) ⊎ (node-at k w place p ≡ S.wrong-operand) → 0 ≡ high-at k w place p
+        go (inl e) = rw e
+        go (inr e) = rw e
 
 -- a node that is taken is there
-pub inside : (k w : List ℕ) (x y p a b c : ℕ) (n : Node) → y ≤ 13 → n ≡ told-node (node-at k w x y p) →
+pub inside : (k w : List ℕ) (place : Place) (p a b c : ℕ) (n : Node) → n ≡ told-node (node-at k w place p) →
     n ≡ Fits a b c → p < length k
-inside k w x y p a b c n l e f = go (ltb p (length k)) refl
+inside k w place p a b c n e f = go (ltb p (length k)) refl
   where
     go : (t : Bool) → ltb p (length k) ≡ t → p < length k
     go true g = ltb-true p (length k) g
-    go false g = let q : WrongKind ≡ told-node (node-at k w x y p) = past k w x y p (ltb-false p (length k) g) l in
+    go false g = let q : WrongKind ≡ told-node (node-at k w place p) = past k w place p (ltb-false p (length k) g) in
         let z : _≡_ {A = ℕ} 0 1 = cc in absurd (omega arith)
 
 pub no-parts : (d low high : ℕ) → (d ≡ 8 → ⊥) → (d ≡ 9 → ⊥) → (r : ℕ) → r ≡ getD part-counts d 0 →

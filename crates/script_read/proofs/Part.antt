@@ -4,18 +4,20 @@ use mathlib.Core.List.{List}
 use Prim.Native.Nat.{ℕ, zero, suc, _+_, _-_, _<_, _≤_}
 use native.Mathlib.Omega.{arith}
 use native.Mathlib.Numerals.{add-one}
-use lib.IntN.{ℤ}
 use lib.ListN.{length}
 use borrow.Author.Tests.{lt-ltb, le-ltb}
 use Rattle.semantics.specs.Outcome.{Outcome, done, stop, Run, onward, times}
 use Rattle.semantics.specs.File as S
 use Rattle.semantics.specs.Syntax.{Expr}
-use Rattle.semantics.specs.File.{part-count, parts, part, parameter, function, finish, script}
+use Rattle.semantics.specs.File.{at-function, at-parameter, at-part, part-count, parts, part, parameter, function}
+use Rattle.semantics.specs.File.{finish, script}
 use Rattle.script_read.specs.Told.{told, and-next, repeated}
 use Rattle.script_read.specs.declared.Read.{Read}
 use Rattle.script_read.specs.declared.Read.the-variants.{Next, Refused}
-use Rattle.script_read.proofs.Nodes.{Seen, Halted}
-use Rattle.script_read.proofs.Turns.{less-one}
+use Rattle.script_read.proofs.Nodes.{Seen, Halted, head-fits}
+use Rattle.script_read.proofs.Sorts.{Sort, number, name, let-in, if-else, leaf, loop, sort-of, leaf-some}
+use Rattle.script_read.proofs.Sorts.{loop-some, shaped-parts, parts-of-loop}
+use Rattle.script_read.proofs.Turns.{less-one, repeated-last}
 
 -- what the reader tells of a bind, of a list and of parts
 pub told-bind : {A B : Type 0} (o : Outcome ℕ A) (f : A → Run ℕ B) (g : ℕ → Read) →
@@ -35,57 +37,47 @@ told-times zero m q = refl
 told-times (suc n) m q = told-bind (m q) _ (repeated n (λ p. told (m p))) λ a p. told-map (times n m p) _
     ∙ told-times n m p
 
-told-parts : (m : S.Read Expr) (c lo hi : ℕ) (z : ℤ) (q : ℕ) → 2 ≤ c → c ≤ 13
-    → told (parts m (record { kind = c; low = lo; high = hi; value = z }) q) ≡ repeated (part-count c lo hi)
-    (λ p. told (m p)) q
+told-parts : (m : S.Read Expr) (h : S.Head) (q : ℕ) → Sort h →
+    told (parts m h q) ≡ repeated (part-count (h .kind) (h .low) (h .high)) (λ p. told (m p)) q
 unfolding parts part-count repeated
-told-parts m zero lo hi z q l h = absurd (omega arith)
-told-parts m (suc zero) lo hi z q l h = absurd (omega arith)
-told-parts m (suc (suc zero)) lo hi z q l h = refl
-told-parts m (suc (suc (suc zero))) lo hi z q l h = refl
-told-parts m (suc (suc (suc (suc zero)))) lo hi z q l h = told-bind (m q) _ _ λ a p. told-bind (m p) _ _ λ b r. refl
-told-parts m (suc (suc (suc (suc (suc zero))))) lo hi z q l h =
-    told-bind (m q) _ _ λ a p. told-bind (m p) _ _ λ b r. refl
-told-parts m (suc (suc (suc (suc (suc (suc zero)))))) lo hi z q l h =
-    told-bind (m q) _ _ λ a p. told-bind (m p) _ _ λ b r. refl
-told-parts m (suc (suc (suc (suc (suc (suc (suc zero))))))) lo hi z q l h =
-    told-bind (m q) _ _ λ a p. told-bind (m p) _ _ λ b r. refl
-told-parts m (suc (suc (suc (suc (suc (suc (suc (suc zero)))))))) lo hi z q l h = told-map (times hi m q) _
-    ∙ told-times hi m q
-told-parts m (suc (suc (suc (suc (suc (suc (suc (suc (suc zero))))))))) lo hi z q l h = told-map (times lo m q) _
-    ∙ told-times lo m q
-told-parts m (suc (suc (suc (suc (suc (suc (suc (suc (suc (suc zero)))))))))) lo hi z q l h =
-    told-bind (m q) _ _ λ a p. told-bind (m p) _ _ λ b r. refl
-told-parts m (suc (suc (suc (suc (suc (suc (suc (suc (suc (suc (suc zero))))))))))) lo hi z q l h =
-    told-bind (m q) _ _ λ a p. refl
-told-parts m (suc (suc (suc (suc (suc (suc (suc (suc (suc (suc (suc (suc zero)))))))))))) lo hi z q l h =
-    told-bind (m q) _ _ λ a p. told-bind (m p) _ _ λ b r. told-bind (m r) _ _ λ e s. refl
-told-parts m (suc (suc (suc (suc (suc (suc (suc (suc (suc (suc (suc (suc (suc zero))))))))))))) lo hi z q l h =
-    told-bind (m q) _ _ λ a p. told-bind (m p) _ _ λ b r. refl
-told-parts m (suc (suc (suc (suc (suc (suc (suc (suc (suc (suc (suc (suc (suc (suc c)))))))))))))) lo hi z q l h =
-    absurd (omega arith)
+told-parts m h q (number e) = rw e
+told-parts m h q (name e) = rw e
+told-parts m h q (let-in e) = rw e (told-bind (m q) _ _ λ a p. told-bind (m p) _ _ λ b r. refl)
+told-parts m h q (if-else e) =
+    rw e (told-bind (m q) _ _ λ a p. told-bind (m p) _ _ λ b r. told-bind (m r) _ _ λ c s. refl)
+told-parts m h q (leaf l e) =
+    let n = part-count (h .kind) (h .low) (h .high) in
+    rw (shaped-parts h m (λ f. leaf-some (sym e ∙ f)), e) (told-map (times n m q) _ ∙ told-times n m q)
+told-parts m h q (loop k xs c e) =
+    rw (
+      shaped-parts h m (λ f. loop-some (sym e ∙ f)),
+      e,
+      parts-of-loop h k xs c e,
+      repeated-last (λ p. told (m p)) c q,
+      ← told-times c m q,
+    )
+    (told-bind (times c m q) _ _ λ es p. told-map (m p) _)
 
 -- a part
 module _ {k w : List ℕ} {p : ℕ} where
-  pub deep : {x y z : ℕ} → Seen k w 2 13 p x y z → (d : ℕ) → d ≡ 0 → Refused 5 p ≡ told (part k w d p)
+  pub deep : {x y z : ℕ} → Seen k w at-part p x y z → (d : ℕ) → d ≡ 0 → Refused 5 p ≡ told (part k w d p)
   unfolding part onward
   deep s d g = rw (g, s .is)
 
-  pub stopped : {c : ℕ} (d : ℕ) → Halted k w 2 13 p c → Refused c p ≡ told (part k w d p)
+  pub stopped : {c : ℕ} (d : ℕ) → Halted k w at-part p c → Refused c p ≡ told (part k w d p)
   unfolding part onward
   stopped zero e = rw (e .is)
   stopped (suc d) e = rw (e .is)
 
-  goes : {x y z : ℕ} → Seen k w 2 13 p x y z → (d : ℕ) →
+  goes : {x y z : ℕ} → Seen k w at-part p x y z → (d : ℕ) →
       told (part k w (suc d) p) ≡ repeated (part-count x y z) (λ q. told (part k w d q)) (p + 1)
   unfolding part onward
   goes s d =
       let h = s .node in
       rw (s .is, ← s .same-kind, ← s .same-low, ← s .same-high, add-one)
-      (told-parts (part k w d) (h .kind) (h .low) (h .high) (h .value) (suc p)
-      (omega (arith, s .from, s .same-kind)) (omega (arith, s .to, s .same-kind)))
+      (told-parts (part k w d) h (suc p) (sort-of h (head-fits k w at-part p h (s .stands) .stands)))
 
-  pub goes-down : {x y z : ℕ} → Seen k w 2 13 p x y z → (d : ℕ) → (d ≡ 0 → ⊥) → (count : ℕ) →
+  pub goes-down : {x y z : ℕ} → Seen k w at-part p x y z → (d : ℕ) → (d ≡ 0 → ⊥) → (count : ℕ) →
       count ≡ part-count x y z → (r : Read)
       → r ≡ repeated count (λ q. told (part k w (d - 1) q)) (p + 1) → r ≡ told (part k w d p)
   goes-down s d some count ce r re =
@@ -94,15 +86,15 @@ module _ {k w : List ℕ} {p : ℕ} where
 
 -- a parameter, a function
 module _ {k w : List ℕ} {p : ℕ} where
-  pub parameter-goes : {x y z : ℕ} → Seen k w 1 1 p x y z → told (parameter k w p) ≡ Next (p + 1)
+  pub parameter-goes : {x y z : ℕ} → Seen k w at-parameter p x y z → told (parameter k w p) ≡ Next (p + 1)
   unfolding parameter onward
   parameter-goes s = rw (s .is, add-one)
 
-  pub parameter-stops : {c : ℕ} → Halted k w 1 1 p c → told (parameter k w p) ≡ Refused c p
+  pub parameter-stops : {c : ℕ} → Halted k w at-parameter p c → told (parameter k w p) ≡ Refused c p
   unfolding parameter onward
   parameter-stops e = rw (e .is)
 
-  function-goes : {x y z : ℕ} → Seen k w 0 0 p x y z →
+  function-goes : {x y z : ℕ} → Seen k w at-function p x y z →
       told (function k w p) ≡ and-next (repeated y (λ q. told (parameter k w q)) (p + 1)) (λ q. told (part k w 64 q))
   unfolding function onward
   function-goes s =
@@ -110,13 +102,13 @@ module _ {k w : List ℕ} {p : ℕ} where
       (told-bind (times (s .node .low) (parameter k w) (suc p)) _ (λ q. told (part k w 64 q))
       (λ ps q. told-map (part k w 64 q) _))
 
-  pub function-parts : {x y z : ℕ} → Seen k w 0 0 p x y z → (t r : Read) →
+  pub function-parts : {x y z : ℕ} → Seen k w at-function p x y z → (t r : Read) →
       t ≡ repeated y (λ q. told (parameter k w q)) (p + 1) → (and-next t (λ q. told (part k w 64 q))) ≡ r →
       r ≡ told (function k w p)
   function-parts s t r e g =
       sym (function-goes s ∙ ap (λ (u : Read). and-next u (λ q. told (part k w 64 q))) (sym e) ∙ g)
 
-  pub function-stops : {c : ℕ} → Halted k w 0 0 p c → Refused c p ≡ told (function k w p)
+  pub function-stops : {c : ℕ} → Halted k w at-function p c → Refused c p ≡ told (function k w p)
   unfolding function onward
   function-stops e = rw (e .is)
 

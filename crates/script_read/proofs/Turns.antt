@@ -31,6 +31,21 @@ pub repeated-none : (f : ℕ → Read) (c p : ℕ) → c ≡ 0 → Next p ≡ re
 unfolding repeated
 repeated-none f c p e = rw e
 
+-- the last turn apart from those before
+and-none : (r : Read) → and-next r (λ p. Next p) ≡ r
+and-none (Next p) = refl
+and-none (Refused n p) = refl
+
+pub repeated-last : (f : ℕ → Read) (c p : ℕ) → repeated (suc c) f p ≡ and-next (repeated c f p) f
+unfolding repeated
+repeated-last f zero p = and-none (f p)
+repeated-last f (suc c) p = go (f p) (λ q. repeated-last f c q)
+  where
+    go : (r : Read) → ((q : ℕ) → repeated (suc c) f q ≡ and-next (repeated c f q) f) →
+        and-next r (repeated (suc c) f) ≡ and-next (and-next r (repeated c f)) f
+    go (Next q) h = h q
+    go (Refused n q) h = refl
+
 -- a turn that marks where it begins
 marked-step : (f : ℕ → Read) (c p i : ℕ) (t : List ℕ) → 0 < c →
     marked c f p i t ≡ mark-next (f p) (λ q. marked (c - 1) f q (i + 1) (set t i p)) (set t i p)

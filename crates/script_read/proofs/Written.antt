@@ -5,77 +5,80 @@ use native.Mathlib.Omega.{arith}
 use native.Mathlib.Numerals.{add-one}
 use mathlib.Core.Bool.{Bool, true, false, cond}
 use mathlib.Core.List.{List, [], _∷_}
-use mathlib.Core.Path.{_≡_, refl, sym, ap, subst}
+use mathlib.Core.Path.{_≡_, refl, sym, ap, _∙_, subst}
 use lib.IntN.{ℤ}
 use lib.Dec.{ltb}
-use lib.ListN.{length}
+use lib.ListN.{length, getD}
 use borrow.Author.Tests.{ltb-false}
-use Rattle.semantics.specs.Number.{Operation, sum, difference, less}
 use Rattle.semantics.specs.Outcome.{Outcome, done, stop, Run, onward, times}
-use Rattle.semantics.specs.Syntax.{Expr, number, name, operation, let-in, call, literal, index, length-of, if-else}
-use Rattle.semantics.specs.Syntax.{map-over, Exprs, none, more, size, sizes, exprs-of, Parameter, Function, Script}
-use Rattle.semantics.specs.Syntax.{function-size}
+use Rattle.semantics.specs.Syntax.{Expr, number, name, let-in, leaf, if-else, loop, Exprs, none, more, size, sizes}
+use Rattle.semantics.specs.Syntax.{exprs-of, Parameter, Function, Script, function-size}
 use Rattle.semantics.specs.File as S
-use Rattle.semantics.specs.File.{node-at, look, looked, parts, part, parameter, function, finish, script}
-use Rattle.script_read.proofs.Nodes.{Within, node-within}
+use Rattle.semantics.specs.File.{Place, at-function, at-parameter, at-part, low-limits, high-limits, part-count, Shape}
+use Rattle.semantics.specs.File.{leaf-of, loop-of, shape-of, node-at, look, looked, parts, part, parameter, function}
+use Rattle.semantics.specs.File.{finish, script}
+use Rattle.script_read.proofs.Nodes.{HeadFits, head-fits}
+use Rattle.script_read.proofs.Sorts as K
+use Rattle.script_read.proofs.Sorts.{Sort, sort-of, leaf-some, loop-some, shaped-parts, parts-of-loop}
 
 -- how many trees there are
 abbrev pub amount : Exprs → ℕ
 amount none = 0
 amount (more e es) = suc (amount es)
 
-abbrev pub kind-of : Operation → ℕ
-kind-of sum = 4
-kind-of difference = 5
-kind-of less = 6
-
 -- a part's node at p: its kind and the two parts of its operand
 pub record At (kinds operands : List ℕ) (p kind low high : ℕ) : Type 0 where
   pub value : ℤ
-  pub is : node-at kinds operands 2 13 p ≡ S.fits (record { kind = kind; low = low; high = high; value = value })
+  pub is : node-at kinds operands at-part p ≡ S.fits (record { kind = kind; low = low; high = high; value = value })
 
--- with one level less, where there is one
-abbrev pub Level : (ℕ → Type 0) → ℕ → Type 0
-Level P zero = ⊥
-Level P (suc d) = P d
+-- the node of a leaf or a loop at p: its shape and how many parts it has
+pub record ShapeAt (kinds operands : List ℕ) (p : ℕ) (shape : Shape) (n : ℕ) : Type 0 where
+  pub node : S.Head
+  pub is : node-at kinds operands at-part p ≡ S.fits node
+  pub shape-is : shape-of node ≡ shape
+  pub count : part-count (node .kind) (node .low) (node .high) ≡ n
+
+-- there is a level left, and so many below it
+pub record Level (d : ℕ) : Type 0 where
+  pub below : ℕ
+  pub is : d ≡ suc below
 
 -- the nodes from p on write the tree, with so many levels left
 module _ (k w : List ℕ) where
   abbrev mutual
     pub Written : Expr → ℕ → ℕ → Type 0
     Written (number z) d p =
-        Level (λ d. node-at k w 2 13 p ≡ S.fits (record { kind = 2; low = 0; high = 0; value = z })) d
-    Written (name x) d p = Level (λ d. At k w p 3 x 0) d
-    Written (operation o a b) d p =
-        Level (λ d. At k w p (kind-of o) 0 0 × Written a d (p + 1) × Written b d (p + 1 + size a)) d
-    Written (let-in x a b) d p = Level (λ d. At k w p 7 x 0 × Written a d (p + 1) × Written b d (p + 1 + size a)) d
-    Written (call f es) d p = Level (λ d. At k w p 8 f (amount es) × AllWritten es d (p + 1)) d
-    Written (literal t es) d p = Level (λ d. At k w p 9 (amount es) t × AllWritten es d (p + 1)) d
-    Written (index a b) d p = Level (λ d. At k w p 10 0 0 × Written a d (p + 1) × Written b d (p + 1 + size a)) d
-    Written (length-of a) d p = Level (λ d. At k w p 11 0 0 × Written a d (p + 1)) d
+        Level d × (node-at k w at-part p ≡ S.fits (record { kind = 2; low = 0; high = 0; value = z }))
+    Written (name x) d p = Level d × At k w p 3 x 0
+    Written (let-in x a b) d p =
+        (l : Level d) × At k w p 7 x 0 × Written a (l .below) (p + 1) × Written b (l .below) (p + 1 + size a)
+    Written (leaf j es) d p =
+        (l : Level d) × ShapeAt k w p (leaf-of j) (amount es) × AllWritten es (l .below) (p + 1)
     Written (if-else a b c) d p =
-        Level (λ d. At k w p 12 0 0 × Written a d (p + 1) × Written b d (p + 1 + size a)
-        × Written c d (p + 1 + size a + size b)) d
-    Written (map-over x a b) d p = Level (λ d. At k w p 13 x 0 × Written a d (p + 1) × Written b d (p + 1 + size a)) d
+        (l : Level d) × At k w p 12 0 0 × Written a (l .below) (p + 1) × Written b (l .below) (p + 1 + size a)
+        × Written c (l .below) (p + 1 + size a + size b)
+    Written (loop c xs es b) d p =
+        (l : Level d) × ShapeAt k w p (loop-of c xs (amount es)) (suc (amount es))
+        × AllWritten es (l .below) (p + 1) × Written b (l .below) (p + 1 + sizes es)
 
     pub AllWritten : Exprs → ℕ → ℕ → Type 0
     AllWritten none d p = Unit {0}
     AllWritten (more e es) d p = Written e d p × AllWritten es d (p + size e)
 
--- the node of a function (kind 0) or a parameter (kind 1)
-pub record HeadAt (kinds operands : List ℕ) (kind p low high : ℕ) : Type 0 where
+-- the node of a function or a parameter
+pub record HeadAt (kinds operands : List ℕ) (place : Place) (p low high : ℕ) : Type 0 where
   pub node : S.Head
-  pub is : node-at kinds operands kind kind p ≡ S.fits node
+  pub is : node-at kinds operands place p ≡ S.fits node
   pub lower : node .low ≡ low
   pub upper : node .high ≡ high
 
 module _ (k w : List ℕ) where
   abbrev pub ParametersWritten : List Parameter → ℕ → Type 0
   ParametersWritten [] p = Unit {0}
-  ParametersWritten (x ∷ xs) p = HeadAt k w 1 p (x .id) (x .depth) × ParametersWritten xs (p + 1)
+  ParametersWritten (x ∷ xs) p = HeadAt k w at-parameter p (x .id) (x .depth) × ParametersWritten xs (p + 1)
 
   pub record FunctionWritten (g : Function) (p : ℕ) : Type 0 where
-    pub head : HeadAt k w 0 p (length (g .parameters)) (g .result)
+    pub head : HeadAt k w at-function p (length (g .parameters)) (g .result)
     pub parameters : ParametersWritten (g .parameters) (p + 1)
     pub body : Written k w (g .body) 64 (p + 1 + length (g .parameters))
 
@@ -115,36 +118,6 @@ module _ (k w : List ℕ) where
 
   -- parts after node p, read by m
   module _ (m : S.Read Expr) (d : ℕ) (reads : (p : ℕ) → After (Got d p) (m p)) where
-    one-part : (P : Expr → ℕ → Type 0) (f : Expr → Expr) (p : ℕ) →
-        ((a : Expr) (q : ℕ) → Written k w a d (p + 1) → q ≡ p + 1 + size a → P (f a) q) →
-        After P (onward (λ a s. done (f a) s) (m (suc p)))
-    one-part P f p next =
-        after-bind P _ (m (suc p)) (reads (suc p)) λ a q h.
-        next a q (moved d a (sym (add-one p)) (h .0)) (omega (arith, h .1))
-
-    two-parts : (P : Expr → ℕ → Type 0) (f : Expr → Expr → Expr) (p : ℕ) →
-        ((a b : Expr) (q : ℕ) → Written k w a d (p + 1) → Written k w b d (p + 1 + size a) →
-        q ≡ p + 1 + size a + size b → P (f a b) q) →
-        After P (onward (λ a s. onward (λ b t. done (f a b) t) (m s)) (m (suc p)))
-    two-parts P f p next =
-        after-bind P _ (m (suc p)) (reads (suc p)) λ a q h.
-        after-bind P _ (m q) (reads q) λ b r g.
-        let i : q ≡ p + 1 + size a = omega (arith, h .1) in
-        next a b r (moved d a (sym (add-one p)) (h .0)) (moved d b i (g .0)) (omega (arith, g .1))
-
-    three-parts : (P : Expr → ℕ → Type 0) (f : Expr → Expr → Expr → Expr) (p : ℕ) →
-        ((a b c : Expr) (q : ℕ) → Written k w a d (p + 1) → Written k w b d (p + 1 + size a) →
-        Written k w c d (p + 1 + size a + size b) → q ≡ p + 1 + size a + size b + size c → P (f a b c) q) →
-        After P (onward (λ a s. onward (λ b t. onward (λ c u. done (f a b c) u) (m t)) (m s)) (m (suc p)))
-    three-parts P f p next =
-        after-bind P _ (m (suc p)) (reads (suc p)) λ a q h.
-        after-bind P _ (m q) (reads q) λ b r g.
-        after-bind P _ (m r) (reads r) λ c s l.
-        let i : q ≡ p + 1 + size a = omega (arith, h .1) in
-        let j : r ≡ p + 1 + size a + size b = omega (arith, h .1, g .1) in
-        next a b c s (moved d a (sym (add-one p)) (h .0)) (moved d b i (g .0)) (moved d c j (l .0))
-        (omega (arith, l .1))
-
     times-written : (n p : ℕ) → After (GotAll d n p) (times n m p)
     unfolding times size
     times-written zero p = (tt, omega arith, refl)
@@ -153,89 +126,112 @@ module _ (k w : List ℕ) where
         after-bind _ _ (times n m q) (times-written n q) λ es r g.
         ((h .0, all-moved d (exprs-of es) (h .1) (g .0)), omega (arith, h .1, g .1), ap suc (g .2))
 
-    listed-parts : (P : Expr → ℕ → Type 0) (f : Exprs → Expr) (n p : ℕ) →
-        ((es : Exprs) (q : ℕ) → AllWritten k w es d (p + 1) → q ≡ p + 1 + sizes es → amount es ≡ n → P (f es) q) →
-        After P (onward (λ es s. done (f (exprs-of es)) s) (times n m (suc p)))
-    listed-parts P f n p next =
-        after-bind P _ (times n m (suc p)) (times-written n (suc p)) λ es q h.
-        next (exprs-of es) q (all-moved d (exprs-of es) (sym (add-one p)) (h .0)) (omega (arith, h .1)) (h .2)
-
   -- a node whose operand's parts are known
-  pinned : (p : ℕ) {c y z a b : ℕ} {v : ℤ} →
-      node-at k w 2 13 p ≡ S.fits (record { kind = c; low = y; high = z; value = v }) → y ≡ a → z ≡ b → At k w p c a b
-  pinned p {v = v} h e f = record { value = v; is = rw (← e, ← f) h }
+  pinned : (p : ℕ) {h : S.Head} {c a b : ℕ} → node-at k w at-part p ≡ S.fits h →
+      h .kind ≡ c → h .low ≡ a → h .high ≡ b → At k w p c a b
+  pinned p {h} n e f g = record {
+    value = h .value;
+    is = n ∙ λ i. S.fits (record { kind = e i; low = f i; high = g i; value = h .value });
+  }
 
-  module _ (m : S.Read Expr) (d : ℕ) (reads : (p : ℕ) → After (Got d p) (m p)) where
-    -- by kind
-    parts-written : (c y z : ℕ) (v : ℤ) (p : ℕ) →
-        node-at k w 2 13 p ≡ S.fits (record { kind = c; low = y; high = z; value = v }) →
-        Within 2 13 (S.fits (record { kind = c; low = y; high = z; value = v })) →
-        After (Got (suc d) p) (parts m (record { kind = c; low = y; high = z; value = v }) (suc p))
-    unfolding parts size onward times
-    parts-written zero y z v p h i = absurd (omega (arith, i .0))
-    parts-written (suc zero) y z v p h i = absurd (omega (arith, i .0))
-    parts-written (suc (suc zero)) y z v p h i =
-        let e : y ≡ 0 = omega (arith, i .2) in
-        let f : z ≡ 0 = omega (arith, i .3) in
-        (rw (e, f) at h, omega arith)
-    parts-written (suc (suc (suc zero))) y z v p h i = (pinned p h refl (omega (arith, i .3)), omega arith)
-    parts-written (suc (suc (suc (suc zero)))) y z v p h i =
-        two-parts m d reads (Got (suc d) p) (operation sum) p λ a b q f g e.
-        ((pinned p h (omega (arith, i .2)) (omega (arith, i .3)), f, g), omega arith)
-    parts-written (suc (suc (suc (suc (suc zero))))) y z v p h i =
-        two-parts m d reads (Got (suc d) p) (operation difference) p λ a b q f g e.
-        ((pinned p h (omega (arith, i .2)) (omega (arith, i .3)), f, g), omega arith)
-    parts-written (suc (suc (suc (suc (suc (suc zero)))))) y z v p h i =
-        two-parts m d reads (Got (suc d) p) (operation less) p λ a b q f g e.
-        ((pinned p h (omega (arith, i .2)) (omega (arith, i .3)), f, g), omega arith)
-    parts-written (suc (suc (suc (suc (suc (suc (suc zero))))))) y z v p h i =
-        two-parts m d reads (Got (suc d) p) (let-in y) p λ a b q f g e.
-        ((pinned p h refl (omega (arith, i .3)), f, g), omega arith)
-    parts-written (suc (suc (suc (suc (suc (suc (suc (suc zero)))))))) y z v p h i =
-        listed-parts m d reads (Got (suc d) p) (call y) z p λ es q f e n.
-        ((pinned p h refl (sym n), f), omega arith)
-    parts-written (suc (suc (suc (suc (suc (suc (suc (suc (suc zero))))))))) y z v p h i =
-        listed-parts m d reads (Got (suc d) p) (literal z) y p λ es q f e n.
-        ((pinned p h (sym n) refl, f), omega arith)
-    parts-written (suc (suc (suc (suc (suc (suc (suc (suc (suc (suc zero)))))))))) y z v p h i =
-        two-parts m d reads (Got (suc d) p) index p λ a b q f g e.
-        ((pinned p h (omega (arith, i .2)) (omega (arith, i .3)), f, g), omega arith)
-    parts-written (suc (suc (suc (suc (suc (suc (suc (suc (suc (suc (suc zero))))))))))) y z v p h i =
-        one-part m d reads (Got (suc d) p) length-of p λ a q f e.
-        ((pinned p h (omega (arith, i .2)) (omega (arith, i .3)), f), omega arith)
-    parts-written (suc (suc (suc (suc (suc (suc (suc (suc (suc (suc (suc (suc zero)))))))))))) y z v p h i =
-        three-parts m d reads (Got (suc d) p) if-else p λ a b c q f g l e.
-        ((pinned p h (omega (arith, i .2)) (omega (arith, i .3)), f, g, l), omega arith)
-    parts-written (suc (suc (suc (suc (suc (suc (suc (suc (suc (suc (suc (suc (suc zero))))))))))))) y z v p h i =
-        two-parts m d reads (Got (suc d) p) (map-over y) p λ a b q f g e.
-        ((pinned p h refl (omega (arith, i .3)), f, g), omega arith)
-    parts-written (suc (suc (suc (suc (suc (suc (suc (suc (suc (suc (suc (suc (suc (suc c)))))))))))))) y z v p h i =
-        absurd (omega (arith, i .1))
+  module _ (m : S.Read Expr) (d : ℕ) (reads : (p : ℕ) → After (Got d p) (m p)) (h : S.Head) (p : ℕ)
+      (n : node-at k w at-part p ≡ S.fits h) where
+    -- an operand's part that can only be 0
+    abbrev fit : HeadFits at-part (getD k p 255) h
+    fit = head-fits k w at-part p h n
+
+    no-low : {c : ℕ} → h .kind ≡ c → getD low-limits c 0 ≡ 0 → h .low ≡ 0
+    no-low e f = omega (arith, fit .low, ap (λ (i : ℕ). getD low-limits i 0) e ∙ f)
+
+    no-high : {c : ℕ} → h .kind ≡ c → getD high-limits c 0 ≡ 0 → h .high ≡ 0
+    no-high e f = omega (arith, fit .high, ap (λ (i : ℕ). getD high-limits i 0) e ∙ f)
+
+    abbrev level : Level (suc d)
+    level = record { below = d; is = refl }
+
+    parts-written : Sort h → After (Got (suc d) p) (parts m h (suc p))
+    unfolding parts size onward pinned
+    parts-written (K.number e) =
+        let a = pinned p n e (no-low e refl) (no-high e refl) in rw e ((level, a .is), omega arith)
+    parts-written (K.name e) = rw e ((level, pinned p n e refl (no-high e refl)), omega arith)
+    parts-written (K.let-in e) =
+        rw e (after-bind _ _ (m (suc p)) (reads (suc p)) λ a q f.
+        after-bind _ _ (m q) (reads q) λ b r g. (
+          (
+            level,
+            pinned p n e refl (no-high e refl),
+            moved d a (sym (add-one p)) (f .0),
+            moved d b (omega (arith, f .1)) (g .0),
+          ),
+          omega (arith, f .1, g .1),
+        ))
+    parts-written (K.if-else e) =
+        rw e (after-bind _ _ (m (suc p)) (reads (suc p)) λ a q f.
+        after-bind _ _ (m q) (reads q) λ b r g.
+        after-bind _ _ (m r) (reads r) λ c s l. (
+          (
+            level,
+            pinned p n e (no-low e refl) (no-high e refl),
+            moved d a (sym (add-one p)) (f .0),
+            moved d b (omega (arith, f .1)) (g .0),
+            moved d c (omega (arith, f .1, g .1)) (l .0),
+          ),
+          omega (arith, f .1, g .1, l .1),
+        ))
+    parts-written (K.leaf l e) =
+        let c = part-count (h .kind) (h .low) (h .high) in
+        rw (shaped-parts h m (λ f. leaf-some (sym e ∙ f)), e)
+        (after-bind _ _ (times c m (suc p)) (times-written m d reads c (suc p)) λ es q f. (
+          (
+            level,
+            record { node = h; is = n; shape-is = e; count = sym (f .2) },
+            all-moved d (exprs-of es) (sym (add-one p)) (f .0),
+          ),
+          omega (arith, f .1),
+        ))
+    parts-written (K.loop j xs c e) =
+        rw (shaped-parts h m (λ f. loop-some (sym e ∙ f)), e)
+        (after-bind _ _ (times c m (suc p)) (times-written m d reads c (suc p)) λ es q f.
+        after-bind _ _ (m q) (reads q) λ b r g. (
+          (
+            level,
+            record {
+              node = h;
+              is = n;
+              shape-is = e ∙ ap (loop-of j xs) (sym (f .2));
+              count = parts-of-loop h j xs c e ∙ ap suc (sym (f .2));
+            },
+            all-moved d (exprs-of es) (sym (add-one p)) (f .0),
+            moved d b (omega (arith, f .1)) (g .0),
+          ),
+          omega (arith, f .1, g .1),
+        ))
 
   -- what the reader takes for a tree is written there
   pub part-written : (d p : ℕ) → After (Got d p) (part k w d p)
   unfolding part look onward
-  part-written zero p = go (node-at k w 2 13 p)
+  part-written zero p = go (node-at k w at-part p)
     where
       go : (v : S.Node) → After (Got 0 p) (onward (λ h s. stop 5 s) (looked v p))
       go (S.fits h) = tt
       go S.wrong-kind = tt
       go S.wrong-operand = tt
-  part-written (suc d) p = go (node-at k w 2 13 p) refl (node-within k w 2 13 p) (λ q. part-written d q)
+  part-written (suc d) p = go (node-at k w at-part p) refl (λ q. part-written d q)
     where
-      go : (v : S.Node) → node-at k w 2 13 p ≡ v → Within 2 13 v → ((q : ℕ) → After (Got d q) (part k w d q)) →
+      go : (v : S.Node) → node-at k w at-part p ≡ v → ((q : ℕ) → After (Got d q) (part k w d q)) →
           After (Got (suc d) p) (onward (λ h s. onward (λ _. parts (part k w d) h) (S.next s)) (looked v p))
-      go (S.fits h) e i reads = parts-written (part k w d) d reads (h .kind) (h .low) (h .high) (h .value) p e i
-      go S.wrong-kind e i reads = tt
-      go S.wrong-operand e i reads = tt
+      go (S.fits h) e reads =
+          parts-written (part k w d) d reads h p e (sort-of h (head-fits k w at-part p h e .stands))
+      go S.wrong-kind e reads = tt
+      go S.wrong-operand e reads = tt
 
   parameter-written : (p : ℕ) →
-      After (λ (x : Parameter) (q : ℕ). HeadAt k w 1 p (x .id) (x .depth) × (q ≡ p + 1)) (parameter k w p)
+      After (λ (x : Parameter) (q : ℕ). HeadAt k w at-parameter p (x .id) (x .depth) × (q ≡ p + 1)) (parameter k w p)
   unfolding parameter look onward
-  parameter-written p = go (node-at k w 1 1 p) refl
+  parameter-written p = go (node-at k w at-parameter p) refl
     where
-      go : (v : S.Node) → node-at k w 1 1 p ≡ v →
-          After (λ (x : Parameter) (q : ℕ). HeadAt k w 1 p (x .id) (x .depth) × (q ≡ p + 1))
+      go : (v : S.Node) → node-at k w at-parameter p ≡ v →
+          After (λ (x : Parameter) (q : ℕ). HeadAt k w at-parameter p (x .id) (x .depth) × (q ≡ p + 1))
           (onward (λ h s. onward (λ _ t. done (record { id = h .low; depth = h .high }) t) (S.next s)) (looked v p))
       go (S.fits h) e = (record { node = h; is = e; lower = refl; upper = refl }, omega arith)
       go S.wrong-kind e = tt
@@ -252,9 +248,9 @@ module _ (k w : List ℕ) where
 
   function-written : (p : ℕ) → After (λ g q. FunctionWritten k w g p × (q ≡ p + function-size g)) (function k w p)
   unfolding function look onward function-size
-  function-written p = go (node-at k w 0 0 p) refl
+  function-written p = go (node-at k w at-function p) refl
     where
-      go : (v : S.Node) → node-at k w 0 0 p ≡ v →
+      go : (v : S.Node) → node-at k w at-function p ≡ v →
           After (λ g q. FunctionWritten k w g p × (q ≡ p + function-size g))
           (onward (λ h s. onward (λ _ t. onward (λ xs u. onward (λ e z.
           done (record { parameters = xs; result = h .high; body = e }) z)

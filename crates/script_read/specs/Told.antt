@@ -5,6 +5,8 @@ use Prim.Native.Nat.{ℕ, zero, suc, _+_, _*_, _≤_}
 use lib.ListN.{length, set}
 use Rattle.semantics.specs.Outcome.{Outcome, done, stop}
 use Rattle.semantics.specs.File as S
+use Rattle.script_read.specs.declared.Place.{Place}
+use Rattle.script_read.specs.declared.Place.the-variants.{Function, Parameter, Part}
 use Rattle.script_read.specs.declared.Node.{Node}
 use Rattle.script_read.specs.declared.Node.the-variants.{Fits, WrongKind, WrongOperand}
 use Rattle.script_read.specs.declared.Read.{Read}
@@ -14,6 +16,11 @@ use Rattle.script_read.specs.declared.Read.the-variants.{Next, Refused}
 pub record Parts (kinds operands : List ℕ) : Type 0 where
   pub few : length kinds ≤ 1024
   pub whole : length operands ≡ 8 * length kinds
+
+abbrev pub place-of : Place → S.Place
+place-of Function = S.at-function
+place-of Parameter = S.at-parameter
+place-of Part = S.at-part
 
 abbrev pub told-node : S.Node → Node
 told-node (S.fits h) = Fits (h .kind) (h .low) (h .high)
@@ -31,12 +38,12 @@ high-of (S.fits h) = h .high
 high-of S.wrong-kind = 0
 high-of S.wrong-operand = 0
 
--- of a node of this kind at p
-unfoldable pub low-at : List ℕ → List ℕ → ℕ → ℕ → ℕ
-low-at kinds operands kind p = low-of (S.node-at kinds operands kind kind p)
+-- of node p at a place
+unfoldable pub low-at : List ℕ → List ℕ → S.Place → ℕ → ℕ
+low-at kinds operands place p = low-of (S.node-at kinds operands place p)
 
-unfoldable pub high-at : List ℕ → List ℕ → ℕ → ℕ → ℕ
-high-at kinds operands kind p = high-of (S.node-at kinds operands kind kind p)
+unfoldable pub high-at : List ℕ → List ℕ → S.Place → ℕ → ℕ
+high-at kinds operands place p = high-of (S.node-at kinds operands place p)
 
 abbrev pub told : {A : Type 0} → Outcome ℕ A → Read
 told (done a q) = Next q

@@ -1,12 +1,19 @@
 // The reader: the nodes of a script file in prefix order, refusals 1 to 5.
 ghost use mathlib.Core.Path.{_≡_};
-ghost use mathlib.Core.Bool.{_&&_};
+ghost use mathlib.Core.Bool.{false, _&&_};
 ghost use Prim.Native.Nat.{_+_, _*_, _^_, _<_, _≤_};
 ghost use lib.ListN.{length, getD, take, drop};
 ghost use Rattle.semantics.specs.Number.{bytes-at};
-ghost use Rattle.semantics.specs.File.{low-limits, high-limits, node-at, part-count, part, parameter, function};
-ghost use Rattle.semantics.specs.File.{script, read-file, between};
-ghost use Rattle.script_read.specs.Told.{told-node, told, low-at, high-at, repeated};
+ghost use Rattle.semantics.specs.File.{low-limits, high-limits, part-kinds, allowed, node-at, part-count, part};
+ghost use Rattle.semantics.specs.File.{parameter, function, script, read-file, between};
+ghost use Rattle.script_read.specs.Told.{place-of, told-node, told, low-at, high-at, repeated};
+
+// Where a node stands.
+pub enum Place {
+    Function,
+    Parameter,
+    Part,
+}
 
 // A node: its kind and the two parts of its operand (low + 256 * high), or what is wrong with it.
 pub enum Node {
@@ -21,12 +28,48 @@ pub enum Read {
     Refused(u8, usize),
 }
 
-// The greatest low and high part of an operand, and how many parts a node has, by kind.
+// By kind: whether a part may have it, the greatest low and high part of an operand, and how many parts a node has.
+const PART_KINDS: [bool; 14] = [
+    false,
+    false,
+    true,
+    true,
+    true,
+    true,
+    true,
+    true,
+    true,
+    true,
+    true,
+    true,
+    true,
+    true,
+];
+
 const LOW_LIMITS: [u8; 14] = [8, 255, 0, 255, 0, 0, 0, 255, 31, 16, 0, 0, 0, 255];
 
 const HIGH_LIMITS: [u8; 14] = [4, 4, 0, 0, 0, 0, 0, 0, 8, 3, 0, 0, 0, 0];
 
 const PART_COUNTS: [u8; 14] = [0, 0, 0, 0, 2, 2, 2, 2, 0, 0, 2, 1, 3, 2];
+
+// Whether a part may have this kind.
+fn is_part(kind: u8) -> bool
+    ensures { λ r. ⌜ r ≡ getD part-kinds kind false ⌝ }
+{
+    let n = kind as usize;
+    if n < 14 { PART_KINDS[n] } else { false }
+}
+
+// Whether a node of this kind may stand at a place.
+fn is_allowed(place: Place, kind: u8) -> bool
+    ensures { λ r. ⌜ r ≡ allowed (place-of place) kind ⌝ }
+{
+    match place {
+        Place::Function => kind == 0,
+        Place::Parameter => kind == 1,
+        Place::Part => is_part(kind),
+    }
+}
 
 // The greatest low part of an operand.
 fn low_limit(kind: u8) -> u8
@@ -61,15 +104,12 @@ fn operand_at(operands: &[u8], at: usize) -> u64
     words::word_at(operands, 8 * at)
 }
 
-// The node at a place where the kinds from first to last are allowed.
-pub fn node_at(kinds: &[u8], operands: &[u8], at: usize, first: u8, last: u8) -> Node
-    ensures { λ r. ⌜ r ≡ told-node (node-at (now (kinds .entry)) (now (operands .entry)) first last at) ⌝ }
+// The node that stands at a place.
+pub fn node_at(kinds: &[u8], operands: &[u8], at: usize, place: Place) -> Node
+    ensures { λ r. ⌜ r ≡ told-node (node-at (now (kinds .entry)) (now (operands .entry)) (place-of place) at) ⌝ }
 {
     let kind = kind_at(kinds, at);
-    if kind < first {
-        return Node::WrongKind;
-    }
-    if last < kind {
+    if !is_allowed(place, kind) {
         return Node::WrongKind;
     }
     if kind == 2 {
@@ -87,22 +127,22 @@ pub fn node_at(kinds: &[u8], operands: &[u8], at: usize, first: u8, last: u8) ->
     Node::Fits(kind, low as u8, high as u8)
 }
 
-// The lower part of the operand of a node of this kind; 0 where there is none.
-pub fn low_at(kinds: &[u8], operands: &[u8], at: usize, kind: u8) -> u8
-    ensures { λ r. ⌜ r ≡ low-at (now (kinds .entry)) (now (operands .entry)) kind at ⌝ }
+// The lower part of the operand of a node at a place; 0 where there is none.
+pub fn low_at(kinds: &[u8], operands: &[u8], at: usize, place: Place) -> u8
+    ensures { λ r. ⌜ r ≡ low-at (now (kinds .entry)) (now (operands .entry)) (place-of place) at ⌝ }
 {
-    match node_at(kinds, operands, at, kind, kind) {
+    match node_at(kinds, operands, at, place) {
         Node::Fits(_, low, _) => low,
         Node::WrongKind => 0,
         Node::WrongOperand => 0,
     }
 }
 
-// The upper part of the operand of a node of this kind; 0 where there is none.
-pub fn high_at(kinds: &[u8], operands: &[u8], at: usize, kind: u8) -> u8
-    ensures { λ r. ⌜ r ≡ high-at (now (kinds .entry)) (now (operands .entry)) kind at ⌝ }
+// The upper part of the operand of a node at a place; 0 where there is none.
+pub fn high_at(kinds: &[u8], operands: &[u8], at: usize, place: Place) -> u8
+    ensures { λ r. ⌜ r ≡ high-at (now (kinds .entry)) (now (operands .entry)) (place-of place) at ⌝ }
 {
-    match node_at(kinds, operands, at, kind, kind) {
+    match node_at(kinds, operands, at, place) {
         Node::Fits(_, _, high) => high,
         Node::WrongKind => 0,
         Node::WrongOperand => 0,
@@ -127,7 +167,7 @@ pub fn parts_of(kind: u8, low: u8, high: u8) -> u8
 pub fn read_part(kinds: &[u8], operands: &[u8], at: usize, levels: u64) -> Read
     ensures { λ r. ⌜ r ≡ told (part (now (kinds .entry)) (now (operands .entry)) levels at) ⌝ }
 {
-    match node_at(kinds, operands, at, 2, 13) {
+    match node_at(kinds, operands, at, Place::Part) {
         Node::Fits(kind, low, high) => {
             if levels == 0 {
                 return Read::Refused(5, at);
@@ -172,7 +212,7 @@ fn read_parameters(kinds: &[u8], operands: &[u8], at: usize, count: u8) -> Read
     let mut p = at;
     let mut left = count;
     while 0 < left {
-        match node_at(kinds, operands, p, 1, 1) {
+        match node_at(kinds, operands, p, Place::Parameter) {
             Node::Fits(_, _, _) => {
                 p = p + 1;
             }
@@ -192,7 +232,7 @@ fn read_parameters(kinds: &[u8], operands: &[u8], at: usize, count: u8) -> Read
 fn read_function(kinds: &[u8], operands: &[u8], at: usize) -> Read
     ensures { λ r. ⌜ r ≡ told (function (now (kinds .entry)) (now (operands .entry)) at) ⌝ }
 {
-    match node_at(kinds, operands, at, 0, 0) {
+    match node_at(kinds, operands, at, Place::Function) {
         Node::Fits(_, count, _) => match read_parameters(kinds, operands, at + 1, count) {
             Read::Next(q) => read_part(kinds, operands, q, 64),
             Read::Refused(n, q) => Read::Refused(n, q),

@@ -5,7 +5,7 @@ use Rattle.script_read.proofs.Nodes.{seen, no-kind, no-operand, inside}
 use Rattle.script_read.proofs.Part.{stopped, deep, goes-down}
 use Rattle.script_read.proofs.Turns.{repeated-goes, repeated-stops, repeated-none}
 use Rattle.script_read.specs.Told.{told, repeated}
-use Rattle.semantics.specs.File.{part}
+use Rattle.semantics.specs.File.{at-part, part}
 use Prim.Native.Nat.{_+_, _*_, _-_, _≤_, ℕ, _<_}
 use native.Mathlib.Omega.{arith}
 use mathlib.Core.Path.{_≡_, refl, sym, _∙_}
@@ -67,7 +67,7 @@ read-part-enum-known-kind t c = search needs
 
 read-part-returns : (t : ℕ) → read-part-lts.Need-returns (read-part-claims t) (read-part-at t) read-part.Post
 read-part-returns t c = let a = c .before .before .before .before .before .before .before .args in
-    deep (seen (a .kinds .now) (a .operands .now) 2 13 (a .at) (c .before .before .before .before .node-at .result)
+    deep (seen (a .kinds .now) (a .operands .now) at-part (a .at) (c .before .before .before .before .node-at .result)
     (c .before .before .before .before .node-at .ensures) _ _ _ (c .before .before .kind .given .1)) (a .levels)
     (c .if1 .taken)
 
@@ -76,9 +76,9 @@ read-part-add-read-parts : (t : ℕ) →
 read-part-add-read-parts t c = let a = c .before .before .before .before .before .before .before .args in
     omega (
       arith,
-      inside (a .kinds .now) (a .operands .now) 2 13 (a .at) (c .before .before .kind .given .0 .0)
+      inside (a .kinds .now) (a .operands .now) at-part (a .at) (c .before .before .kind .given .0 .0)
           (c .before .before .kind .given .0 .1 .0) (c .before .before .kind .given .0 .1 .1 .0)
-          (c .before .before .before .before .node-at .result) (omega arith)
+          (c .before .before .before .before .node-at .result)
           (c .before .before .before .before .node-at .ensures) (c .before .before .kind .given .1),
     )
 
@@ -102,7 +102,7 @@ read-part-enum-told-2 t c = search needs
 
 read-part-returns-2 : (t : ℕ) → read-part-lts.Need-returns-2 (read-part-claims t) (read-part-at t) read-part.Post
 read-part-returns-2 t c = let a = c .before .before .before .before .before .before .before .before .before .args in
-    goes-down (seen (a .kinds .now) (a .operands .now) 2 13 (a .at)
+    goes-down (seen (a .kinds .now) (a .operands .now) at-part (a .at)
     (c .before .before .before .before .before .before .node-at .result)
     (c .before .before .before .before .before .before .node-at .ensures) _ _ _
     (c .before .before .before .before .kind .given .1)) (a .levels) (c .before .before .if1 .left)
@@ -110,12 +110,12 @@ read-part-returns-2 t c = let a = c .before .before .before .before .before .bef
 
 read-part-returns-3 : (t : ℕ) → read-part-lts.Need-returns-3 (read-part-claims t) (read-part-at t) read-part.Post
 read-part-returns-3 t c = let a = c .before .before .before .before .before .args in
-    stopped (a .levels) (no-kind (a .kinds .now) (a .operands .now) 2 13 (a .at) (c .before .before .node-at .result)
+    stopped (a .levels) (no-kind (a .kinds .now) (a .operands .now) at-part (a .at) (c .before .before .node-at .result)
     (c .before .before .node-at .ensures) (c .enum-told .given .1))
 
 read-part-returns-4 : (t : ℕ) → read-part-lts.Need-returns-4 (read-part-claims t) (read-part-at t) read-part.Post
 read-part-returns-4 t c = let a = c .before .before .before .before .before .args in
-    stopped (a .levels) (no-operand (a .kinds .now) (a .operands .now) 2 13 (a .at)
+    stopped (a .levels) (no-operand (a .kinds .now) (a .operands .now) at-part (a .at)
     (c .before .before .node-at .result) (c .before .before .node-at .ensures) (c .enum-told2 .given .1))
 
 abbrev read-parts-Inv-loop : read-parts-lts.InvT-loop

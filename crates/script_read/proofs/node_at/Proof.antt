@@ -1,6 +1,9 @@
 -- `script_read::node_at` meets its contract, by the laws of `Nodes`.
-use Rattle.script_read.proofs.Nodes.{early, late, number, judged, low-wrong, high-wrong, in-range}
+use Rattle.script_read.proofs.Nodes.{not-allowed, number, judged, low-wrong, high-wrong, in-range}
+use Rattle.script_read.specs.Told.{place-of}
+use borrow.Author.Tests.{not-true, not-false}
 use native.Mathlib.Omega.{arith}
+use mathlib.Core.Path.{sym, _∙_}
 use borrow.Author.Needs.{needs}
 use Rattle.script_read.proofs.node_at.Statement.{statement}
 use Rattle.script_read.proofs.node_at.Tie as tie
@@ -8,21 +11,19 @@ use Rattle.script_read.proofs.node_at.Tie as tie
 kind-at-requires : tie.Need-kind-at-requires
 kind-at-requires c κs = search needs
 
+is-allowed-requires : tie.Need-is-allowed-requires
+is-allowed-requires c κs = search needs
+
 returns : tie.Need-returns
-returns c = let a = c .before .before .before .before .args in
-    early (a .kinds .now) (a .operands .now) (a .first) (a .last) (a .at) (c .before .kind-at .result)
-    (c .before .kind-at .ensures) (c .if1 .taken)
+returns c = let a = c .before .before .before .before .before .args in
+    not-allowed (a .kinds .now) (a .operands .now) (place-of (a .place)) (a .at) (c .before .before .kind-at .result)
+    (c .before .before .kind-at .ensures) (sym (c .before .is-allowed .ensures) ∙ not-true _ (c .if1 .taken))
 
 returns-2 : tie.Need-returns-2
-returns-2 c = let a = c .before .before .before .before .before .args in
-    late (a .kinds .now) (a .operands .now) (a .first) (a .last) (a .at) (c .before .before .kind-at .result)
-    (c .before .before .kind-at .ensures) (c .if2 .taken)
-
-returns-3 : tie.Need-returns-3
-returns-3 c = let a = c .before .before .before .before .before .before .args in
-    number (a .kinds .now) (a .operands .now) (a .first) (a .last) (a .at) (c .before .before .before .kind-at .result)
+returns-2 c = let a = c .before .before .before .before .before .before .args in
+    number (a .kinds .now) (a .operands .now) (place-of (a .place)) (a .at) (c .before .before .before .kind-at .result)
     (c .before .before .before .kind-at .ensures)
-    (c .before .before .if1 .left) (c .before .if2 .left) (c .if3 .taken)
+    (sym (c .before .before .is-allowed .ensures) ∙ not-false _ (c .before .if1 .left)) (c .if2 .taken)
 
 operand-at-requires : tie.Need-operand-at-requires
 operand-at-requires c κs = search needs
@@ -33,14 +34,13 @@ low-limit-requires c κs = search needs
 wide-requires : tie.Need-wide-requires
 wide-requires c κs = search needs
 
-returns-4 : tie.Need-returns-4
-returns-4 c = let a = c .before .before .before .before .before .before .before .before .before .before .args in
+returns-3 : tie.Need-returns-3
+returns-3 c = let a = c .before .before .before .before .before .before .before .before .before .before .args in
     let k = c .before .before .before .before .before .before .before .kind-at in
     let n = c .before .before .before .operand-at in
-    judged (a .kinds .now) (a .operands .now) (a .first) (a .last) (a .at) (k .result) (k .ensures)
-    (c .before .before .before .before .before .before .if1 .left)
-    (c .before .before .before .before .before .if2 .left)
-    (c .before .before .before .before .if3 .left)
+    judged (a .kinds .now) (a .operands .now) (place-of (a .place)) (a .at) (k .result) (k .ensures)
+    (sym (c .before .before .before .before .before .before .is-allowed .ensures) ∙ not-false _ (c .before .before .before .before .before .if1 .left))
+    (c .before .before .before .before .if2 .left)
     (n .result) (n .ensures) _ (low-wrong (k .result) (n .result) (omega arith))
 
 high-limit-requires : tie.Need-high-limit-requires
@@ -49,16 +49,15 @@ high-limit-requires c κs = search needs
 wide-requires-2 : tie.Need-wide-requires-2
 wide-requires-2 c κs = search needs
 
-returns-5 : tie.Need-returns-5
-returns-5 c = let a =
+returns-4 : tie.Need-returns-4
+returns-4 c = let a =
     c .before .before .before .before .before .before .before .before .before .before .before .before .before
     .args in
     let k = c .before .before .before .before .before .before .before .before .before .before .kind-at in
     let n = c .before .before .before .before .before .before .operand-at in
-    judged (a .kinds .now) (a .operands .now) (a .first) (a .last) (a .at) (k .result) (k .ensures)
-    (c .before .before .before .before .before .before .before .before .before .if1 .left)
-    (c .before .before .before .before .before .before .before .before .if2 .left)
-    (c .before .before .before .before .before .before .before .if3 .left)
+    judged (a .kinds .now) (a .operands .now) (place-of (a .place)) (a .at) (k .result) (k .ensures)
+    (sym (c .before .before .before .before .before .before .before .before .before .is-allowed .ensures) ∙ not-false _ (c .before .before .before .before .before .before .before .before .if1 .left))
+    (c .before .before .before .before .before .before .before .if2 .left)
     (n .result) (n .ensures) _ (high-wrong (k .result) (n .result) (omega arith))
 
 cast-t12 : tie.Need-cast-t12
@@ -67,16 +66,15 @@ cast-t12 c = search needs
 cast-t13 : tie.Need-cast-t13
 cast-t13 c = search needs
 
-returns-6 : tie.Need-returns-6
-returns-6 c = let a =
+returns-5 : tie.Need-returns-5
+returns-5 c = let a =
     c .before .before .before .before .before .before .before .before .before .before .before .before .before
     .args in
     let k = c .before .before .before .before .before .before .before .before .before .before .kind-at in
     let n = c .before .before .before .before .before .before .operand-at in
-    judged (a .kinds .now) (a .operands .now) (a .first) (a .last) (a .at) (k .result) (k .ensures)
-    (c .before .before .before .before .before .before .before .before .before .if1 .left)
-    (c .before .before .before .before .before .before .before .before .if2 .left)
-    (c .before .before .before .before .before .before .before .if3 .left)
+    judged (a .kinds .now) (a .operands .now) (place-of (a .place)) (a .at) (k .result) (k .ensures)
+    (sym (c .before .before .before .before .before .before .before .before .before .is-allowed .ensures) ∙ not-false _ (c .before .before .before .before .before .before .before .before .if1 .left))
+    (c .before .before .before .before .before .before .before .if2 .left)
     (n .result) (n .ensures) _ (in-range _ _ (omega arith) (omega arith) (omega arith))
 
 pub node-at-spec : {M : Type 1} → statement M
@@ -84,16 +82,16 @@ node-at-spec =
     tie.close
     (tie.spec
     kind-at-requires
+    is-allowed-requires
     returns
     returns-2
-    returns-3
     operand-at-requires
     low-limit-requires
     wide-requires
-    returns-4
+    returns-3
     high-limit-requires
     wide-requires-2
-    returns-5
+    returns-4
     cast-t12
     cast-t13
-    returns-6)
+    returns-5)

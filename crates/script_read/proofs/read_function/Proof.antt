@@ -1,6 +1,7 @@
 -- `script_read::read_function` meets its contract, by the laws of `Nodes` and `Part`.
 use Rattle.script_read.proofs.Nodes.{inside, seen, no-kind, no-operand}
 use Rattle.script_read.proofs.Part.{function-parts, function-stops}
+use Rattle.semantics.specs.File.{at-function}
 use native.Mathlib.Omega.{arith}
 use mathlib.Core.Path.{sym}
 use borrow.Author.Needs.{needs}
@@ -17,8 +18,8 @@ add-read-parameters : tie.Need-add-read-parameters
 add-read-parameters c = let a = c .before .before .before .before .before .before .args in
     omega (
       arith,
-      inside (a .kinds .now) (a .operands .now) 0 0 (a .at) _ _ _
-          (c .before .before .before .node-at .result) (omega arith) (c .before .before .before .node-at .ensures)
+      inside (a .kinds .now) (a .operands .now) at-function (a .at) _ _ _
+          (c .before .before .before .node-at .result) (c .before .before .before .node-at .ensures)
           (c .before .count .given .1),
     )
 
@@ -42,7 +43,7 @@ enum-told-2 c = search needs
 
 returns : tie.Need-returns
 returns c = let a = c .before .before .before .before .before .before .before .before .before .before .before .args in
-    function-parts (seen (a .kinds .now) (a .operands .now) 0 0 (a .at)
+    function-parts (seen (a .kinds .now) (a .operands .now) at-function (a .at)
     (c .before .before .before .before .before .before .before .before .node-at .result)
     (c .before .before .before .before .before .before .before .before .node-at .ensures) _ _ _
     (c .before .before .before .before .before .before .count .given .1))
@@ -52,7 +53,7 @@ returns c = let a = c .before .before .before .before .before .before .before .b
 
 returns-2 : tie.Need-returns-2
 returns-2 c = let a = c .before .before .before .before .before .before .before .before .before .before .args in
-    function-parts (seen (a .kinds .now) (a .operands .now) 0 0 (a .at)
+    function-parts (seen (a .kinds .now) (a .operands .now) at-function (a .at)
     (c .before .before .before .before .before .before .before .node-at .result)
     (c .before .before .before .before .before .before .before .node-at .ensures) _ _ _
     (c .before .before .before .before .before .count .given .1)) (c .before .before .before .read-parameters .result)
@@ -60,12 +61,12 @@ returns-2 c = let a = c .before .before .before .before .before .before .before 
 
 returns-3 : tie.Need-returns-3
 returns-3 c = let a = c .before .before .before .before .before .args in
-    function-stops (no-kind (a .kinds .now) (a .operands .now) 0 0 (a .at) (c .before .before .node-at .result)
+    function-stops (no-kind (a .kinds .now) (a .operands .now) at-function (a .at) (c .before .before .node-at .result)
     (c .before .before .node-at .ensures) (c .enum-told .given .1))
 
 returns-4 : tie.Need-returns-4
 returns-4 c = let a = c .before .before .before .before .before .args in
-    function-stops (no-operand (a .kinds .now) (a .operands .now) 0 0 (a .at) (c .before .before .node-at .result)
+    function-stops (no-operand (a .kinds .now) (a .operands .now) at-function (a .at) (c .before .before .node-at .result)
     (c .before .before .node-at .ensures) (c .enum-told2 .given .1))
 
 pub read-function-spec : {M : Type 1} → statement M

@@ -3,7 +3,7 @@ use Rattle.script_read.proofs.Nodes.{inside, seen, no-kind, no-operand}
 use Rattle.script_read.proofs.Part.{parameter-goes, parameter-stops}
 use Rattle.script_read.proofs.Turns.{repeated-goes, repeated-stops, repeated-none}
 use Rattle.script_read.specs.Told.{told, repeated}
-use Rattle.semantics.specs.File.{parameter}
+use Rattle.semantics.specs.File.{at-parameter, parameter}
 use Prim.Native.Nat.{_+_, _-_, _≤_}
 use borrow.Author.Needs.{needs}
 use native.Mathlib.Omega.{arith}
@@ -32,8 +32,8 @@ add-p : tie.Need-add-p Inv-loop μ-loop
 add-p c = let a = c .before .before .before .before .before .before .before .args in
     omega (
       arith,
-      inside (a .kinds .now) (a .operands .now) 1 1 (c .before .before .before .before .loop .p) _ _ _
-          (c .before .before .node-at .result) (omega arith) (c .before .before .node-at .ensures)
+      inside (a .kinds .now) (a .operands .now) at-parameter (c .before .before .before .before .loop .p) _ _ _
+          (c .before .before .node-at .result) (c .before .before .node-at .ensures)
           (c .enum-told .given .1),
     )
 
@@ -46,7 +46,7 @@ returns c = let a = c .before .before .before .before .before .before .before .a
     (c .before .before .before .before .loop .left) (a .at) (c .before .before .before .before .loop .p) 3
     (c .before .before .before .before .loop .p) _ (c .before .before .before .before .loop .inv .1)
     (c .before .before .before .loop-test .taken) refl
-    (parameter-stops (no-kind (a .kinds .now) (a .operands .now) 1 1 (c .before .before .before .before .loop .p)
+    (parameter-stops (no-kind (a .kinds .now) (a .operands .now) at-parameter (c .before .before .before .before .loop .p)
     (c .before .before .node-at .result) (c .before .before .node-at .ensures) (c .enum-told2 .given .1)))
 
 enum-told-3 : tie.Need-enum-told-3 Inv-loop μ-loop
@@ -58,7 +58,7 @@ returns-2 c = let a = c .before .before .before .before .before .before .before 
     (c .before .before .before .before .loop .left) (a .at) (c .before .before .before .before .loop .p) 4
     (c .before .before .before .before .loop .p) _ (c .before .before .before .before .loop .inv .1)
     (c .before .before .before .loop-test .taken) refl
-    (parameter-stops (no-operand (a .kinds .now) (a .operands .now) 1 1 (c .before .before .before .before .loop .p)
+    (parameter-stops (no-operand (a .kinds .now) (a .operands .now) at-parameter (c .before .before .before .before .loop .p)
     (c .before .before .node-at .result) (c .before .before .node-at .ensures) (c .enum-told3 .given .1)))
 
 sub-left : tie.Need-sub-left Inv-loop μ-loop
@@ -74,7 +74,7 @@ loop-again c = let a = c .before .before .before .before .before .before .before
       (c .before .before .before .before .loop .left) (a .at) (c .before .before .before .before .loop .p)
       (c .before .before .before .before .loop .p + 1) _ (c .before .before .before .before .loop .inv .1)
       (c .before .before .before .loop-test .taken) refl
-      (parameter-goes (seen (a .kinds .now) (a .operands .now) 1 1 (c .before .before .before .before .loop .p)
+      (parameter-goes (seen (a .kinds .now) (a .operands .now) at-parameter (c .before .before .before .before .loop .p)
       (c .before .before .node-at .result) (c .before .before .node-at .ensures) _ _ _ (c .enum-told .given .1))),
 )
 

@@ -1,0 +1,100 @@
+-- The kinds of parts: by the tables each is a number, a name, a let, an if, a leaf or a loop.
+use Prim.Native.Nat.{ℕ, zero, suc, _+_}
+use native.Mathlib.Omega.{arith}
+use mathlib.Core.Bool.{Bool, true, false, not, _&&_, _||_, false≢true}
+use mathlib.Core.List.{List, [], _∷_}
+use mathlib.Core.Path.{_≡_, refl, ap, sym, _∙_}
+use lib.Dec.{eqb}
+use lib.ListN.{getD}
+use borrow.Author.Tests.{eqb-true, ne-eqb}
+use Rattle.semantics.specs.Kinds.{Leaf, leaf-kind, Loop, loop-kind}
+use Rattle.semantics.specs.Syntax.{Expr}
+use Rattle.semantics.specs.File as S
+use Rattle.semantics.specs.File.{Shape, none, leaf-of, loop-of, shapes, shape-of, shaped, parts, part-kinds, part-count}
+use Rattle.semantics.specs.File.{allowed, at-part}
+
+pub both : (s t : Bool) → (s && t) ≡ true → (s ≡ true) × (t ≡ true)
+both true t e = (refl, e)
+both false t e = absurd (false≢true e)
+
+module _ (h : S.Head) where
+  -- the shape in the tables for kind i, which a part may have or not
+  abbrev fits-kind : ℕ → Bool → Shape → Bool
+  fits-kind i may none = not may || (eqb i 2 || (eqb i 3 || (eqb i 7 || eqb i 12)))
+  fits-kind i may (leaf-of l) = eqb i (leaf-kind l)
+  fits-kind i may (loop-of k xs c) = eqb i (loop-kind k) && eqb (part-count i (h .low) (h .high)) (suc c)
+
+  abbrev all-fit : ℕ → List Bool → List Shape → Bool
+  all-fit i [] [] = true
+  all-fit i [] (s ∷ l) = false
+  all-fit i (may ∷ m) [] = false
+  all-fit i (may ∷ m) (s ∷ l) = fits-kind i may s && all-fit (suc i) m l
+
+  fit-at : (i j n : ℕ) (m : List Bool) (l : List Shape) → n ≡ i + j → all-fit i m l ≡ true →
+      fits-kind n (getD m j false) (getD l j none) ≡ true
+  fit-at i j n [] [] e f = refl
+  fit-at i j n [] (s ∷ l) e f = absurd (false≢true f)
+  fit-at i j n (may ∷ m) [] e f = absurd (false≢true f)
+  fit-at i zero n (may ∷ m) (s ∷ l) e f =
+      let g : n ≡ i = omega arith in
+      rw g (both (fits-kind i may s) (all-fit (suc i) m l) f .0)
+  fit-at i (suc j) n (may ∷ m) (s ∷ l) e f =
+      fit-at (suc i) j n m l (omega arith) (both (fits-kind i may s) (all-fit (suc i) m l) f .1)
+
+  fit : fits-kind (h .kind) (getD part-kinds (h .kind) false) (shape-of h) ≡ true
+  unfolding part-count
+  fit = fit-at 0 (h .kind) (h .kind) part-kinds (shapes h) (omega arith) refl
+
+  pub kind-of-leaf : (l : Leaf) → shape-of h ≡ leaf-of l → h .kind ≡ leaf-kind l
+  kind-of-leaf l e = eqb-true (h .kind) (leaf-kind l) (rw e at fit)
+
+  module _ (k : Loop) (xs : List ℕ) (c : ℕ) (e : shape-of h ≡ loop-of k xs c) where
+    of-loop : (eqb (h .kind) (loop-kind k) ≡ true) × (eqb (part-count (h .kind) (h .low) (h .high)) (suc c) ≡ true)
+    of-loop = both (eqb (h .kind) (loop-kind k)) _ (rw e at fit)
+
+    pub kind-of-loop : h .kind ≡ loop-kind k
+    kind-of-loop = eqb-true (h .kind) (loop-kind k) (of-loop .0)
+
+    -- a loop has its body beside its other parts
+    pub parts-of-loop : part-count (h .kind) (h .low) (h .high) ≡ suc c
+    parts-of-loop = eqb-true (part-count (h .kind) (h .low) (h .high)) (suc c) (of-loop .1)
+
+  -- a kind whose shape is another is not the node's
+  other-kind : (i : ℕ) → (shape-of h ≡ getD (shapes h) i none → ⊥) → eqb (h .kind) i ≡ false
+  other-kind i f = ne-eqb (h .kind) i λ e. f (ap (λ (j : ℕ). getD (shapes h) j none) e)
+
+  pub shaped-parts : (m : S.Read Expr) → (shape-of h ≡ none → ⊥) →
+      parts m h ≡ shaped m (part-count (h .kind) (h .low) (h .high)) (shape-of h)
+  unfolding parts
+  shaped-parts m f = rw (other-kind 2 f, other-kind 3 f, other-kind 7 f, other-kind 12 f)
+
+pub leaf-some : {l : Leaf} → leaf-of l ≡ none → ⊥
+leaf-some e = let z : _≡_ {A = ℕ} 0 1 = cc in omega arith
+
+pub loop-some : {k : Loop} {xs : List ℕ} {c : ℕ} → loop-of k xs c ≡ none → ⊥
+loop-some e = let z : _≡_ {A = ℕ} 0 1 = cc in omega arith
+
+-- what the node of a part is
+pub data Sort (h : S.Head) : Type 0 where
+  number : h .kind ≡ 2 → Sort h
+  name : h .kind ≡ 3 → Sort h
+  let-in : h .kind ≡ 7 → Sort h
+  if-else : h .kind ≡ 12 → Sort h
+  leaf : (l : Leaf) → shape-of h ≡ leaf-of l → Sort h
+  loop : (k : Loop) (xs : List ℕ) (c : ℕ) → shape-of h ≡ loop-of k xs c → Sort h
+
+pub sort-of : (h : S.Head) → allowed at-part (h .kind) ≡ true → Sort h
+sort-of h may = go (shape-of h) refl (rw may at (fit h))
+  where
+    plain : (a b c d : Bool) → eqb (h .kind) 2 ≡ a → eqb (h .kind) 3 ≡ b → eqb (h .kind) 7 ≡ c →
+        eqb (h .kind) 12 ≡ d → (a || (b || (c || d))) ≡ true → Sort h
+    plain true b c d e f g i o = number (eqb-true (h .kind) 2 e)
+    plain false true c d e f g i o = name (eqb-true (h .kind) 3 f)
+    plain false false true d e f g i o = let-in (eqb-true (h .kind) 7 g)
+    plain false false false true e f g i o = if-else (eqb-true (h .kind) 12 i)
+    plain false false false false e f g i o = absurd (false≢true o)
+
+    go : (s : Shape) → shape-of h ≡ s → fits-kind h (h .kind) true s ≡ true → Sort h
+    go none e f = plain _ _ _ _ refl refl refl refl f
+    go (leaf-of l) e f = leaf l e
+    go (loop-of k xs c) e f = loop k xs c e

@@ -1,0 +1,30 @@
+-- `script_read::is_allowed` meets its contract.
+use borrow.Author.Needs.{needs}
+use Rattle.script_read.proofs.is_allowed.Statement.{statement}
+use Rattle.script_read.proofs.is_allowed.Tie as tie
+
+enum-told : tie.Need-enum-told
+enum-told c = search needs
+
+enum-told-2 : tie.Need-enum-told-2
+enum-told-2 c = search needs
+
+enum-told-3 : tie.Need-enum-told-3
+enum-told-3 c = search needs
+
+is-part-requires : tie.Need-is-part-requires
+is-part-requires c κs = search needs
+
+returns : tie.Need-returns
+returns c = simp (c .enum-told .given .1)
+
+returns-2 : tie.Need-returns-2
+returns-2 c = simp (c .enum-told2 .given .1)
+
+returns-3 : tie.Need-returns-3
+returns-3 c = search needs
+
+pub is-allowed-spec : {M : Type 1} → statement M
+is-allowed-spec =
+    tie.close
+    (tie.spec enum-told enum-told-2 enum-told-3 is-part-requires returns returns-2 returns-3)
