@@ -11,6 +11,7 @@ use lib.ListN.{length, getD, set, length-set}
 use lib.Seq.{getD-set-same, getD-set-other}
 use borrow.Author.Tests.{lt-ltb, le-ltb, eq-eqb, ne-eqb}
 use Rattle.semantics.specs.Basics.{updated}
+use Rattle.semantics.specs.Kinds.{mapping}
 use Rattle.semantics.specs.Syntax as S
 use Rattle.semantics.specs.Syntax.{Expr, Exprs}
 use Rattle.semantics.specs.Code as C
@@ -21,13 +22,13 @@ use Rattle.normal_code.specs.Plain.{Plain, meant, placed, packed-row, line-at, 
 use Rattle.normal_code.specs.Plain.{tree-to}
 use Rattle.normal_write.specs.Parts.{depth-in}
 use Rattle.normal_lay.specs.Laid.{laid, place-depth}
-use Rattle.normal_made.specs.Source.{laid-rows}
+use Rattle.normal_made.specs.Source.{map-of, laid-rows}
 use Rattle.normal_made.specs.Made.{State, state, Sized, Low, Agrees, Same, Chains, Made, TreeMade}
 use Rattle.normal_made.specs.declared.Out.{Out}
 use Rattle.normal_made.proofs.Chains.{same-all, same-less, same-then, same-laid, same-note, same-depths}
 use Rattle.normal_made.proofs.Chains.{agrees-depths, agrees-back, agrees-from, note-set, row-back, line-back}
-use Rattle.normal_made.proofs.Chains.{chains-none, chains-then, chains-more, chains-line, chains-tree}
-use Rattle.normal_made.proofs.Chains.{chains-start, LaidAs, SetAs, sized-laid, sized-note, sized-depth}
+use Rattle.normal_made.proofs.Chains.{chains-none, chains-then, chains-more, chains-as, chains-line}
+use Rattle.normal_made.proofs.Chains.{chains-tree, chains-start, LaidAs, SetAs, sized-laid, sized-note, sized-depth}
 use Rattle.normal_made.proofs.Chains.{low-more, low-set, low-place}
 
 abbrev pub out : ℕ → ℕ → ℕ → ℕ → Out
@@ -66,15 +67,11 @@ mutual
   lines-ending : (e : Expr) (μ : Meanings) (n : ℕ) (k : Tree) → ending (lines e μ n k) ≡ ending k
   lines-ending (S.number z) μ n k = refl
   lines-ending (S.name x) μ n k = refl
-  lines-ending (S.operation o a b) μ n k = lines-ending a μ n _ ∙ lines-ending b μ (n + fresh a) _
   lines-ending (S.let-in x a b) μ n k = lines-ending a μ n _ ∙ lines-ending b (updated μ x (atom a μ n))
       (n + fresh a) k
-  lines-ending (S.call f es) μ n k = all-ending es μ n _
-  lines-ending (S.literal d es) μ n k = all-ending es μ n _
-  lines-ending (S.index a b) μ n k = lines-ending a μ n _ ∙ lines-ending b μ (n + fresh a) _
-  lines-ending (S.length-of a) μ n k = lines-ending a μ n _
+  lines-ending (S.leaf l es) μ n k = all-ending es μ n _
   lines-ending (S.if-else a b c) μ n k = lines-ending a μ n _
-  lines-ending (S.map-over y a b) μ n k = lines-ending a μ n _
+  lines-ending (S.loop j xs es b) μ n k = all-ending es μ n _
 
   all-ending : (es : Exprs) (μ : Meanings) (n : ℕ) (k : Tree) → ending (all-lines es μ n k) ≡ ending k
   all-ending S.none μ n k = refl
@@ -88,9 +85,34 @@ same-if : {x y : ℕ} {a b : C.Atom} {t u e f : Tree} → x ≡ y → a ≡ b �
     y b u f
 same-if g h i j = cc
 
-same-map : {x y p q : ℕ} {a b : C.Atom} {t u : Tree} → x ≡ y → p ≡ q → a ≡ b → t ≡ u → C.map-over x p a t ≡
-    C.map-over y q b u
+same-map : {x y p q : ℕ} {a b : C.Atom} {t u : Tree} → x ≡ y → p ≡ q → a ≡ b → t ≡ u →
+    C.loop x mapping (p ∷ []) (a ∷ []) t ≡ C.loop y mapping (q ∷ []) (b ∷ []) u
 same-map g h i j = cc
+
+-- what the definitions say of a map
+module _ (y : ℕ) (a b : Expr) where
+  pub map-names : fresh (map-of y a b) ≡ fresh a + 2 + fresh b
+  unfolding fresh
+  map-names = omega arith
+
+  pub map-rows : laid-rows (map-of y a b) ≡ laid-rows a + laid-rows b + 4
+  unfolding laid-rows
+  map-rows = omega arith
+
+  one-part : (n : ℕ) → n + fresh-all (S.more a S.none) ≡ n + fresh a
+  unfolding fresh
+  one-part n = omega arith
+
+  map-atom : (μ : Meanings) (n : ℕ) → atom (map-of y a b) μ n ≡ C.name (n + fresh a)
+  unfolding atom
+  map-atom μ n = ap C.name (one-part n)
+
+  map-lines : (μ : Meanings) (n : ℕ) (k : Tree) → lines (map-of y a b) μ n k ≡ lines a μ n
+      (line (C.loop (n + fresh a) mapping ((n + fresh a + 1) ∷ []) (atom a μ n ∷ [])
+      (normal b (updated μ y (C.name (n + fresh a + 1))) (n + fresh a + 2))) k)
+  unfolding lines atom normal
+  map-lines μ n k = ap (λ (m : ℕ). lines a μ n (line (C.loop m mapping ((m + 1) ∷ []) (atom a μ n ∷ [])
+      (normal b (updated μ y (C.name (m + 1))) (m + 2))) k)) (one-part n)
 
 -- over the file's operands and the results of the functions
 module _ (w : List ℕ) (res : ℕ → ℕ) where
@@ -374,7 +396,7 @@ module _ (w : List ℕ) (res : ℕ → ℕ) where
       (νe : ν ≡ updated μ y (C.name (ra .n + 1)))
       (B₀ : TreeMade w res b ν (state k₂ n₂ d₂) (state k₄ n₄ d₄) (ra .n + 2) (ra .p + 2) d₀ l₂ rt)
       (e₇ : SetAs n₄ n₅ (rt .p) (ra .p)) (ve : v ≡ place-depth d₄ (rt .place) + 1) (e₈ : SetAs d₄ d₅ (ra .n) v)
-      (names : n + fresh (S.map-over y a b) ≤ 256) (room : p + laid-rows (S.map-over y a b) ≤ 4060) where
+      (names : n + fresh (map-of y a b) ≤ 256) (room : p + laid-rows (map-of y a b) ≤ 4060) where
     inner : Meanings
     inner = updated μ y (C.name (n + fresh a + 1))
 
@@ -383,15 +405,13 @@ module _ (w : List ℕ) (res : ℕ → ℕ) where
     T-is = rw (νe, A .count) at B₀
 
     some : n + fresh a + 2 + fresh b ≤ 256
-    unfolding fresh
-    some = omega arith
+    some = omega (arith, map-names y a b)
 
     stop-is : rt .p ≡ p + laid-rows a + laid-rows b + 4
     stop-is = omega (arith, A .reach, T-is .reach)
 
     brief : p + laid-rows a + laid-rows b + 4 ≤ 4060
-    unfolding laid-rows
-    brief = omega arith
+    brief = omega (arith, map-rows y a b)
 
     held₄ : Same (state k₄ n₄ d₄) (state k₄ n₅ d₅) (rt .p) (rt .p - 2)
     held₄ = same-note (rt .p) (ra .p) (rt .p) (rt .p - 2) e₇ (omega (arith, stop-is))
@@ -408,7 +428,7 @@ module _ (w : List ℕ) (res : ℕ → ℕ) where
     held₁ = same-then (same-laid {d₁ = d₁} (ra .p) l) (same-less (ra .p) (ra .p) held₂ (omega arith) (omega arith))
 
     map-line : C.Line
-    map-line = C.map-over (n + fresh a) (n + fresh a + 1) (atom a μ n) (normal b inner (n + fresh a + 2))
+    map-line = C.loop (n + fresh a) mapping ((n + fresh a + 1) ∷ []) (atom a μ n ∷ []) (normal b inner (n + fresh a + 2))
 
     map-there : (F : Plain) → F .operands ≡ w → Agrees (state k₄ n₅ d₅) F p (rt .p) (rt .p) → (d : ℕ) → d₀ + 1 ≤ d →
         as-line F (tree-to F d) (ra .p) (rt .p) (line-at (F .operands) (F .rows) (ra .p)) ≡ map-line
@@ -484,29 +504,31 @@ module _ (w : List ℕ) (res : ℕ → ℕ) where
         (sym (ap depth-in (e₈ .is) ∙ depth-set d₄ (ra .n) v (omega (arith, T-is .sized .depths, A .count, some))
         ∙ ap (updated (depth-in d₄) (ra .n)) (let e : v ≡ suc (place-depth d₄ (rt .place)) = omega (arith, ve) in e)))
 
-    pub made-map : Made w res (S.map-over y a b) μ X (state k₄ n₅ d₅) n p (d₀ + 1) l₂ (out (ra .n) (rt .next)
+    pub made-map : Made w res (map-of y a b) μ X (state k₄ n₅ d₅) n p (d₀ + 1) l₂ (out (ra .n) (rt .next)
         (rt .n) (rt .p))
-    unfolding fresh atom lines laid-rows normal map-line inner tree-depths
+    unfolding map-line inner tree-depths
     made-map = record {
       next = T-is .next;
-      count = omega (arith, T-is .count);
-      reach = omega (arith, stop-is);
+      count = omega (arith, T-is .count, map-names y a b);
+      reach = omega (arith, stop-is, map-rows y a b);
       sized = sized-depth (sized-note (T-is .sized) e₇) e₈;
       low = λ j h.
           let s = T-is .low (j + fresh a) (array-low j (A .low j h)) in
-          low-set (j + (fresh a + 2 + fresh b)) (ra .n) v s e₈ (omega (arith, T-is .sized .depths, A .count, some))
-          (omega arith)
-          (omega (arith, ve, low-place s (rt .place)));
-      gives = name-placed w (ra .n) (omega (arith, A .count, some)) ∙ ap C.name (A .count);
+          low-set (j + fresh (map-of y a b)) (ra .n) v s e₈ (omega (arith, T-is .sized .depths, A .count, some))
+          (omega (arith, map-names y a b))
+          (omega (arith, ve, low-place s (rt .place), map-names y a b));
+      gives = name-placed w (ra .n) (omega (arith, A .count, some)) ∙ ap C.name (A .count) ∙ sym (map-atom y a b μ n);
       same = same-then (A .same) (same-less p p held₁ (omega (arith, A .reach)) (omega (arith, A .reach)));
       width = A .width + 1;
       thin = omega (arith, A .thin, A .reach, stop-is);
-      chains = λ F u g. chains-then
+      chains = λ F u g. chains-as (λ t. lines (map-of y a b) μ n t) (λ t. sym (map-lines y a b μ n t)) (chains-then
           (chains-more (d₀ + 1) (omega arith) (A .chains F u (agrees-back (ra .p) (ra .p) g held₁
           (omega (arith, A .reach, stop-is)) (omega (arith, A .reach, stop-is)))))
           (chains-line map-line
           (g .notes (rt .p) (omega (arith, stop-is)) (omega arith) ∙ note-set n₄ n₅ (rt .p) (ra .p) e₇
           (omega (arith, T-is .sized .notes, stop-is, brief)))
-          (omega (arith, A .reach, stop-is)) (map-there F u g));
-      depths = λ k. A .depths _ ∙ ap (tree-depths res k) map-depths;
+          (omega (arith, A .reach, stop-is)) (map-there F u g)));
+      depths = λ k.
+          ap (λ (t : Tree). tree-depths res t (depth-in (X .depths))) (map-lines y a b μ n k) ∙ A .depths _
+          ∙ ap (tree-depths res k) map-depths;
     }
