@@ -1,6 +1,7 @@
 // The A-normal form: a descent over the nodes that lays plain rows, notes and the depths of new names.
 use normal_made::Out;
 use script_read::Node;
+use script_read::Place;
 ghost use mathlib.Core.Path.{_≡_};
 ghost use Prim.Native.Nat.{_+_, _*_, _<_, _≤_};
 ghost use lib.ListN.{length, getD};
@@ -50,7 +51,7 @@ pub fn lay_part(
             p,
         };
     }
-    match script_read::node_at(kinds, operands, at, 2, 13) {
+    match script_read::node_at(kinds, operands, at, Place::Part) {
         Node::Fits(kind, low, high) => {
             if kind == 2 {
                 return Out {
