@@ -3,7 +3,7 @@ use native.Mathlib.Omega.{arith}
 use Prim.Native.Nat.{ℕ, _+_, _-_, _*_, _<_, _≤_}
 use Rattle.normal_code.specs.Plain.{set-of}
 use Rattle.normal_write.proofs.Rows.{lower}
-use Rattle.normal_function.proofs.Parameters.{low-most, high-most}
+use Rattle.normal_function.proofs.Parameters.{result-most}
 use Rattle.normal_function.proofs.Whole.{given, ready, end-near, depths-is, next-is, code-wrote}
 use borrow.Author.Needs.{needs}
 use Rattle.normal_function.proofs.function_code.Statement.{statement}
@@ -211,13 +211,13 @@ cast-put-row-2 c = omega (
   c .before .before .before .before .before .before .before .before .before .before
       .before .before .before .before .before .before .before .before .before .before .before .before .before .before
       .before .before .before .before .before .before .before .before .high-at .ensures,
-  high-most (c .before .before
+  result-most (c .before .before
       .before .before .before .before .before .before .before .before .before .before .before .before .before .before
       .before .before .before .before .before .before .before .before .before .before .before .before .before .before
       .before .before .before .before .before .before .before .args .kinds .now) (c .before .before .before .before
       .before .before .before .before .before .before .before .before .before .before .before .before .before .before
       .before .before .before .before .before .before .before .before .before .before .before .before .before .before
-      .before .before .before .before .before .args .operands .now) 0 (c .before .before .before .before .before
+      .before .before .before .before .before .args .operands .now) (c .before .before .before .before .before
       .before .before .before .before .before .before .before .before .before .before .before .before .before .before
       .before .before .before .before .before .before .before .before .before .before .before .before .before .before
       .before .before .before .before .args .at),
@@ -229,13 +229,13 @@ mul-put-row c = omega (
   c .before .before .before .before .before .before .before .before .before .before
       .before .before .before .before .before .before .before .before .before .before .before .before .before .before
       .before .before .before .before .before .before .before .before .high-at .ensures,
-  high-most (c .before .before
+  result-most (c .before .before
       .before .before .before .before .before .before .before .before .before .before .before .before .before .before
       .before .before .before .before .before .before .before .before .before .before .before .before .before .before
       .before .before .before .before .before .before .before .args .kinds .now) (c .before .before .before .before
       .before .before .before .before .before .before .before .before .before .before .before .before .before .before
       .before .before .before .before .before .before .before .before .before .before .before .before .before .before
-      .before .before .before .before .before .args .operands .now) 0 (c .before .before .before .before .before
+      .before .before .before .before .before .args .operands .now) (c .before .before .before .before .before
       .before .before .before .before .before .before .before .before .before .before .before .before .before .before
       .before .before .before .before .before .before .before .before .before .before .before .before .before .before
       .before .before .before .before .args .at),
@@ -255,12 +255,12 @@ add-put-row c = omega (
       .before .before .before .before .before .before .before .before .before .before .before .before .before .before
       .before .before .before .before .before .before .before .before .before .before .before .before .before .high-at
       .ensures,
-  high-most (c .before .before .before .before .before .before .before .before .before .before .before
+  result-most (c .before .before .before .before .before .before .before .before .before .before .before
       .before .before .before .before .before .before .before .before .before .before .before .before .before .before
       .before .before .before .before .before .before .before .before .before .before .before .before .args .kinds
       .now) (c .before .before .before .before .before .before .before .before .before .before .before .before .before
       .before .before .before .before .before .before .before .before .before .before .before .before .before .before
-      .before .before .before .before .before .before .before .before .before .before .args .operands .now) 0
+      .before .before .before .before .before .before .before .before .before .before .args .operands .now)
       (c .before .before .before .before .before .before .before .before .before .before .before .before .before
       .before .before .before .before .before .before .before .before .before .before .before .before .before .before
       .before .before .before .before .before .before .before .before .before .before .args .at),

@@ -1,7 +1,7 @@
 use Rattle.semantics.specs.Annotate.{parameter-rows}
 use Rattle.normal_write.specs.Wrote.{Wrote}
 use Rattle.normal_write.proofs.Rows.{lower}
-use Rattle.normal_function.proofs.Parameters.{Rest, rows-begin, rows-go, rows-end, high-most}
+use Rattle.normal_function.proofs.Parameters.{Rest, rows-begin, rows-go, rows-end, depth-most}
 use mathlib.Core.Path.{_≡_, refl, sym, ap, _∙_}
 use native.Mathlib.Omega.{arith}
 use Prim.Native.Nat.{ℕ, _+_, _-_, _*_, _<_, _≤_}
@@ -48,9 +48,9 @@ mul-put-row : tie.Need-mul-put-row Inv-loop μ-loop
 mul-put-row c = omega (
   arith,
   c .before .before .high-at .ensures,
-  high-most (c .before .before .before .before
+  depth-most (c .before .before .before .before
       .before .before .before .args .kinds .now) (c .before .before .before .before .before .before .before .args
-      .operands .now) 1 (c .before .before .before .before .before .before .before .args .at + (c .before .before
+      .operands .now) (c .before .before .before .before .before .before .before .args .at + (c .before .before
       .before .before .loop .i - 1)),
 )
 
@@ -59,8 +59,8 @@ add-put-row c = omega (
   arith,
   c .before .before .before .before .loop .inv .0,
   c .before .before .high-at .ensures,
-  high-most (c .before .before .before .before .before .before .before .args .kinds .now) (c .before .before
-      .before .before .before .before .before .args .operands .now) 1 (c .before .before .before .before .before
+  depth-most (c .before .before .before .before .before .before .before .args .kinds .now) (c .before .before
+      .before .before .before .before .before .args .operands .now) (c .before .before .before .before .before
       .before .before .args .at + (c .before .before .before .before .loop .i - 1)),
 )
 
