@@ -1,4 +1,5 @@
 // The code of a whole script, written backwards from its last function to its first, and the depths of its names.
+use script_read::Place;
 ghost use mathlib.Core.Path.{_≡_};
 ghost use Prim.Native.Nat.{_+_, _*_, _<_, _≤_};
 ghost use lib.ListN.{length};
@@ -23,7 +24,7 @@ fn find_heads(kinds: &[u8], operands: &[u8], functions: usize) -> Heads
     let mut i: usize = 0;
     while i < functions {
         starts[i] = p;
-        let d = script_read::high_at(kinds, operands, p, 0);
+        let d = script_read::high_at(kinds, operands, p, Place::Function);
         results[i] = d;
         let q = normal_after::after_function(kinds, operands, p);
         p = q;
