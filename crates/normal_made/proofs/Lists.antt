@@ -1,109 +1,31 @@
--- Laws of laying a line without trees: its parts, one after the other, and then the line over their atoms.
+-- Laws of laying a leaf: its parts, one after the other, and then the line over their atoms.
 use mathlib.Core.Path.{_≡_, refl, sym, ap, _∙_}
-use mathlib.Core.Bool.{Bool, true, false, cond}
-use mathlib.Core.Logic.{_⊎_, inl, inr, ⊎-elim}
 use mathlib.Core.List.{List, [], _∷_, _++_, append-assoc}
-use Prim.Native.Nat.{ℕ, zero, suc, pred, _+_, _-_, _*_, _<_, _≤_}
+use Prim.Native.Nat.{ℕ, zero, suc, _+_, _-_, _*_, _<_, _≤_}
 use native.Mathlib.Omega.{arith}
 use native.Mathlib.Decide.{ℕ-discrete}
-use lib.IntN.{ℤ, pos}
-use lib.Dec.{eqb}
 use lib.ListN.{length, getD, set, length-set}
 use lib.Seq.{getD-set-same, getD-set-other}
 use borrow.Author.Tests.{ne-eqb}
-use Rattle.semantics.specs.Basics.{updated}
-use Rattle.semantics.specs.Kinds.{Leaf, operation, index}
-use Rattle.semantics.specs.Syntax as S
-use Rattle.semantics.specs.Syntax.{Expr, Exprs, size, sizes}
+use Rattle.semantics.specs.Syntax.{Expr, size, sizes}
 use Rattle.semantics.specs.Code as C
-use Rattle.semantics.specs.Code.{Tree, end, line}
+use Rattle.semantics.specs.Code.{Tree, line}
 use Rattle.semantics.specs.Normal.{Meanings, fresh, fresh-all, atom, atoms, lines, all-lines}
-use Rattle.semantics.specs.Annotate.{NameDepths, leaf-depth, tree-depths, line-depths}
-use Rattle.normal_code.specs.Plain.{Plain, meant, placed, atoms-at, packed-row, line-of, line-at, operation-of, note}
-use Rattle.normal_code.specs.Plain.{start, as-line, back, tree-to}
+use Rattle.semantics.specs.Annotate.{tree-depths, line-depths}
+use Rattle.normal_code.specs.Plain.{Plain, meant, placed, atoms-at, packed-row, line-at, as-line, tree-to}
 use Rattle.normal_write.specs.Parts.{depth-in}
 use Rattle.normal_write.proofs.Rows.{append-none}
-use Rattle.normal_lay.specs.Laid.{laid, firsts, place-depth, line-depth}
-use Rattle.normal_lay.proofs.Laws.{length-firsts, firsts-at, laid-at}
+use Rattle.normal_lay.specs.Laid.{firsts, place-depth, line-depth}
+use Rattle.normal_lay.proofs.Laws.{length-firsts, firsts-at}
 use Rattle.normal_made.specs.Source.{several, leaf-by, compound, laid-rows, laid-all}
-use Rattle.normal_made.specs.Made.{State, state, Sized, Low, Agrees, Same, Chains, Counted, Given, Ready, Made}
+use Rattle.normal_made.specs.Made.{State, state, Sized, Low, Agrees, Same, Chains, Counted, Ready, Made}
 use Rattle.normal_made.specs.declared.Out.{Out}
 use Rattle.normal_made.proofs.Chains.{same-all, same-less, same-then, same-laid, same-note, agrees-back}
 use Rattle.normal_made.proofs.Chains.{agrees-from, note-set, row-back, line-back, chains-none, chains-then}
 use Rattle.normal_made.proofs.Chains.{chains-more, chains-as, chains-line, LaidAs, SetAs, sized-laid}
 use Rattle.normal_made.proofs.Chains.{sized-note, sized-depth, low-more, low-set, low-place}
-use Rattle.normal_made.proofs.Trees.{out, depth-set, place-atom, name-placed, pred-le}
-
--- ---- the line of a leaf
-
--- the atoms of some places
-abbrev pub placed-all : List ℕ → List ℕ → List C.Atom
-placed-all w [] = []
-placed-all w (v ∷ vs) = meant (placed w v) ∷ placed-all w vs
-
--- how a leaf's line is read back, and the depth of the name that it binds
-pub record Shaped (kind y m : ℕ) : Type 0 where
-  pub low : kind < 256
-  pub reads : (F : Plain) (T : ℕ → Tree) (p q x : ℕ) →
-      as-line F T p q (line-of kind x y m (placed (F .operands) (getD (F .rows) (p + 1) 0)) (placed (F .operands)
-      (getD (F .rows) (p + 2) 0)))
-      ≡ C.leaf x (leaf-by kind y) (atoms-at (F .operands) (F .rows) (p + 1) m)
-  pub deep : (w rs ds vs : List ℕ) →
-      leaf-depth (λ f. getD rs f 0) (leaf-by kind y) (depth-in ds) (placed-all w (firsts vs 0 m))
-      ≡ line-depth rs ds kind y (getD vs 0 0)
-
-module _ (y : ℕ) where
-  -- two atoms, as they are read one by one
-  two-atoms : (F : Plain) (p x : ℕ) (l : Leaf) →
-      C.leaf x l (meant (placed (F .operands) (getD (F .rows) (p + 1) 0)) ∷ (meant (placed (F .operands) (getD (F .rows)
-      (p + 2) 0)) ∷ []))
-      ≡ C.leaf x l (atoms-at (F .operands) (F .rows) (p + 1) 2)
-  unfolding atoms-at
-  two-atoms F p x l =
-      let e : p + 2 ≡ p + 1 + 1 = omega arith in
-      rw e
-
-  shape-call : (m : ℕ) → Shaped 8 y m
-  unfolding as-line
-  shape-call m = record { low = omega arith; reads = λ F T p q x. refl; deep = λ w rs ds vs. refl }
-
-  shape-literal : (m : ℕ) → Shaped 9 y m
-  unfolding as-line
-  shape-literal m = record { low = omega arith; reads = λ F T p q x. refl; deep = λ w rs ds vs. refl }
-
-  shape-length : Shaped 11 y 1
-  unfolding as-line atoms-at
-  shape-length = record { low = omega arith; reads = λ F T p q x. refl; deep = λ w rs ds vs. refl }
-
-  shape-index : Shaped 10 y 2
-  unfolding as-line firsts
-  shape-index = record {
-    low = omega arith;
-    reads = λ F T p q x. two-atoms F p x index;
-    deep = λ w rs ds vs. ap pred (sym (place-atom w ds (getD vs 0 0)));
-  }
-
-  shape-operation : (kind : ℕ) → kind ≤ 6 → Shaped kind y 2
-  unfolding as-line
-  shape-operation kind h =
-      let n₈ : eqb kind 8 ≡ false = ne-eqb kind 8 (λ e. omega arith) in
-      let n₉ : eqb kind 9 ≡ false = ne-eqb kind 9 (λ e. omega arith) in
-      let n₁₀ : eqb kind 10 ≡ false = ne-eqb kind 10 (λ e. omega arith) in
-      let n₁₁ : eqb kind 11 ≡ false = ne-eqb kind 11 (λ e. omega arith) in
-      let n₁₂ : eqb kind 12 ≡ false = ne-eqb kind 12 (λ e. omega arith) in
-      let n₁₃ : eqb kind 13 ≡ false = ne-eqb kind 13 (λ e. omega arith) in
-      record {
-        low = omega arith;
-        reads = λ F T p q x. rw (n₈, n₉, n₁₀, n₁₁, n₁₂, n₁₃) (two-atoms F p x (operation (operation-of kind)));
-        deep = λ w rs ds vs. rw (n₈, n₉, n₁₀, n₁₁);
-      }
-
-  pub shaped : (kind m : ℕ) → Counted kind y m → Shaped kind y m
-  shaped kind m c =
-      ⊎-elim (λ e. rw e (shape-call m))
-      (⊎-elim (λ e. rw e (shape-literal m))
-      (⊎-elim (λ e. rw (e .0, e .1) shape-length)
-      (⊎-elim (λ e. rw (e .0, e .1) shape-index) (λ e. rw (e .1 .1) (shape-operation kind (e .0)))))) (c .plain)
+use Rattle.normal_made.proofs.Trees.{out, depth-set, name-placed, pred-le}
+use Rattle.normal_made.proofs.Leaves.{placed-all, Shaped, shaped}
 
 -- ---- the parts
 

@@ -1,30 +1,29 @@
 -- Laws of the descent, one for each of its functions: the room for each part, and what is made of all of them.
 use mathlib.Core.Path.{_≡_, refl, sym, ap, _∙_, fun-ext}
-use mathlib.Core.Bool.{Bool, cond}
+use mathlib.Core.Bool.{cond}
 use mathlib.Core.List.{List, [], _∷_}
-use Prim.Native.Nat.{ℕ, zero, suc, pred, _+_, _-_, _*_, _<_, _≤_}
+use Prim.Native.Nat.{ℕ, pred, _+_, _-_, _<_, _≤_}
 use native.Mathlib.Omega.{arith}
 use native.Mathlib.Decide.{ℕ-discrete}
-use lib.IntN.{ℤ, pos}
+use lib.IntN.{ℤ}
 use lib.Dec.{eqb}
 use lib.ListN.{length, getD, set, length-set}
 use lib.Seq.{getD-set-same, getD-set-other}
 use borrow.Author.Tests.{eq-eqb, ne-eqb}
 use Rattle.semantics.specs.Basics.{updated}
 use Rattle.semantics.specs.Syntax as S
-use Rattle.semantics.specs.Syntax.{Expr, Exprs, size, sizes}
+use Rattle.semantics.specs.Syntax.{Expr, size, sizes}
 use Rattle.semantics.specs.Code as C
-use Rattle.semantics.specs.Normal.{Meanings, fresh, fresh-all}
+use Rattle.semantics.specs.Normal.{Meanings, fresh}
 use Rattle.normal_code.specs.Plain.{meant, placed, packed-row}
 use Rattle.normal_lay.specs.Laid.{laid, firsts, nowhere, meanings, place-depth, line-depth}
-use Rattle.normal_made.specs.Source.{several, compound, let-from, if-from, map-from, laid-rows, laid-all}
+use Rattle.normal_made.specs.Source.{several, compound, let-from, if-from, map-from, laid-rows}
 use Rattle.normal_made.specs.Made.{State, state, Sized, Low, Given, Ready, Counted, Made, TreeMade}
 use Rattle.normal_made.specs.declared.Out.{Out}
-use Rattle.normal_made.proofs.Chains.{LaidAs, SetAs, sized-laid, sized-note, sized-depth, low-more, low-set}
-use Rattle.normal_made.proofs.Chains.{low-place}
-use Rattle.normal_made.proofs.Trees.{out, made-number, made-name, made-let, tree-made, made-if, made-map}
-use Rattle.normal_made.proofs.Trees.{name-placed, pred-le}
-use Rattle.normal_made.proofs.Lists.{Listing, listing-begins, listing-ready, listing-goes, made-compound}
+use Rattle.normal_made.proofs.Chains.{LaidAs, SetAs, sized-laid, sized-note, sized-depth, low-set, low-place}
+use Rattle.normal_made.proofs.Trees.{out, made-number, made-name, made-let, name-placed, pred-le}
+use Rattle.normal_made.proofs.Nested.{made-if, made-map}
+use Rattle.normal_made.proofs.Lists.{Listing, listing-ready, made-compound}
 
 -- ---- the meanings of names
 

@@ -1,6 +1,5 @@
 -- Laws of the tree at a node: one for each kind of node that the code tells apart.
 use mathlib.Core.Path.{_≡_, refl, sym, ap, _∙_}
-use mathlib.Core.Bool.{Bool, true, false, cond}
 use mathlib.Core.Logic.{_⊎_, inl, inr, ⊎-elim}
 use mathlib.Core.List.{List, [], _∷_}
 use Prim.Native.Nat.{ℕ, zero, suc, _+_, _-_, _*_, _<_, _≤_}
@@ -21,7 +20,7 @@ use Rattle.script_read.proofs.Nodes.{Seen, HeadFits, head-fits, unfit}
 use Rattle.script_read.proofs.Sorts as K
 use Rattle.script_read.proofs.Sorts.{Sort, sort-of, kind-of-leaf, kind-of-loop}
 use Rattle.script_read.proofs.Written.{Written, AllWritten, amount}
-use Rattle.normal_code.specs.Plain.{meant, placed, number-at, operation-of}
+use Rattle.normal_code.specs.Plain.{meant, placed, number-at}
 use Rattle.normal_code.proofs.Trees.{pred-suc}
 use Rattle.normal_made.specs.Source.{several, second-part, leaf-by, compound, map-of, let-from, if-from}
 use Rattle.normal_made.specs.Source.{map-from, tree-of, node-tree, tree-at}
