@@ -1,10 +1,9 @@
 -- The reader takes what is written.
-use Prim.Native.Nat.{ℕ, zero, suc, _+_, _≤_}
+use Prim.Native.Nat.{ℕ, suc, _+_}
 use native.Mathlib.Omega.{arith}
-use native.Mathlib.Numerals.{add-one}
 use mathlib.Core.List.{List, [], _∷_}
-use mathlib.Core.Path.{_≡_, refl, sym, ap, _∙_, subst}
-use Rattle.semantics.specs.Outcome.{Outcome, done, stop, Run, onward, times}
+use mathlib.Core.Path.{_≡_, refl, sym, ap, _∙_}
+use Rattle.semantics.specs.Outcome.{Outcome, done, onward, times}
 use Rattle.semantics.specs.Kinds.{Leaf, Loop}
 use Rattle.semantics.specs.Syntax.{Expr, number, name, let-in, leaf, if-else, loop, Exprs, none, more, size, sizes}
 use Rattle.semantics.specs.Syntax.{exprs-of}

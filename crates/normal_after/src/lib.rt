@@ -2,8 +2,7 @@
 use script_read::Place;
 use script_read::Read;
 ghost use mathlib.Core.Path.{_≡_};
-ghost use Prim.Native.Nat.{_+_, _*_, _<_, _≤_};
-ghost use lib.ListN.{length};
+ghost use Prim.Native.Nat.{_+_, _≤_};
 ghost use Rattle.script_read.specs.Told.{Parts, low-at, told};
 ghost use Rattle.semantics.specs.File.{at-function, part};
 ghost use Rattle.normal_after.specs.After.{node-of};

@@ -1,15 +1,14 @@
 -- A function that the reader accepts is the function at its node, and there is room for it.
-use mathlib.Core.Path.{_≡_, refl, sym, ap, _∙_}
+use mathlib.Core.Path.{_≡_, refl}
 use mathlib.Core.List.{List, [], _∷_}
-use Prim.Native.Nat.{ℕ, zero, suc, _+_, _*_, _<_, _≤_}
+use Prim.Native.Nat.{ℕ, _+_, _≤_}
 use native.Mathlib.Omega.{arith}
 use lib.ListN.{length, getD}
-use Rattle.semantics.specs.Syntax.{Expr, Parameter, Function, Script, size, function-size}
+use Rattle.semantics.specs.Syntax.{Parameter, Function, function-size}
 use Rattle.semantics.specs.File.{Place}
 use Rattle.semantics.specs.Normal.{fresh}
 use Rattle.script_read.specs.Told.{Parts, low-at, high-at}
 use Rattle.script_read.proofs.Written.{HeadAt, ParametersWritten, FunctionWritten}
-use Rattle.normal_made.specs.Source.{tree-at, laid-rows}
 use Rattle.normal_made.proofs.Nodes.{written-tree}
 use Rattle.normal_function.specs.Read.{parameters-at, read-function, Fitting}
 use Rattle.normal_function.proofs.Size.{few-rows}

@@ -1,34 +1,30 @@
 -- Laws of the parameters: bound and written from the last to the first.
 use mathlib.Core.Path.{_≡_, refl, sym, ap, _∙_, fun-ext}
-use mathlib.Core.Bool.{Bool, true, false, cond}
-use mathlib.Core.List.{List, [], _∷_, _++_}
+use mathlib.Core.Bool.{Bool, true}
+use mathlib.Core.List.{List, [], _∷_}
 use Prim.Native.Nat.{ℕ, zero, suc, _+_, _-_, _*_, _<_, _≤_}
 use native.Mathlib.Omega.{arith}
-use native.Mathlib.Decide.{decLt}
-use lib.IntN.{ℤ, pos}
+use lib.IntN.{ℤ}
 use lib.Dec.{ltb}
 use lib.ListN.{length, getD, set, length-set, replicate}
-use borrow.Author.Tests.{lt-ltb, le-ltb, eqb-true}
+use borrow.Author.Tests.{le-ltb, eqb-true}
 use Rattle.semantics.specs.Basics.{updated}
 use Rattle.semantics.specs.Syntax.{Parameter}
 use Rattle.semantics.specs.Code as C
-use Rattle.semantics.specs.Code.{Row, row}
+use Rattle.semantics.specs.Code.{row}
 use Rattle.semantics.specs.File as S
 use Rattle.semantics.specs.File.{Place, at-function, at-parameter, allowed, node-at, low-limits, high-limits}
 use Rattle.semantics.specs.Normal.{parameter-names}
 use Rattle.semantics.specs.Annotate.{parameter-depths-from, parameter-rows}
-use Rattle.script_read.specs.Told.{Parts, low-at, high-at, low-of, high-of}
+use Rattle.script_read.specs.Told.{low-at, high-at, low-of, high-of}
 use Rattle.script_read.proofs.Nodes.{NodeFits, node-fits}
 use Rattle.script_read.proofs.Tables.{none-set}
 use Rattle.semantics.specs.Live.{Set}
 use Rattle.normal_code.specs.Plain.{meant, placed, set-of}
 use Rattle.normal_code.proofs.Sets.{Making, making-none, making-set, making-all}
-use Rattle.normal_lay.specs.Laid.{meanings, nowhere}
 use Rattle.normal_write.specs.Wrote.{Wrote}
-use Rattle.normal_write.specs.Parts.{depth-in}
 use Rattle.normal_write.proofs.Rows.{wrote-none, wrote-then, wrote-as}
-use Rattle.normal_made.specs.Made.{Low}
-use Rattle.normal_made.proofs.Chains.{SetAs, low-set}
+use Rattle.normal_made.proofs.Chains.{low-set}
 use Rattle.normal_made.proofs.Trees.{depth-set, name-placed}
 use Rattle.normal_made.proofs.Nodes.{nowhere-placed}
 use Rattle.normal_made.proofs.Members.{meanings-set}

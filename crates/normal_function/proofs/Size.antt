@@ -1,5 +1,5 @@
 -- The plain code of a tree takes less than three rows for each node.
-use Prim.Native.Nat.{ℕ, zero, suc, _+_, _*_, _≤_}
+use Prim.Native.Nat.{_+_, _*_, _≤_}
 use native.Mathlib.Omega.{arith}
 use Rattle.semantics.specs.Syntax.{Expr, number, name, let-in, leaf, if-else, loop, Exprs, none, more, size, sizes}
 use Rattle.normal_made.specs.Source.{laid-rows, laid-all}

@@ -1,42 +1,36 @@
 -- The code of one function: all its parts together.
-use mathlib.Core.Path.{_≡_, refl, sym, ap, _∙_, subst}
-use mathlib.Core.Bool.{Bool}
-use mathlib.Core.List.{List, [], _∷_, _++_, append-assoc}
-use Prim.Native.Nat.{ℕ, zero, suc, _+_, _-_, _*_, _<_, _≤_}
+use mathlib.Core.Path.{_≡_, refl, sym, ap, _∙_}
+use mathlib.Core.List.{List, [], _∷_, _++_}
+use Prim.Native.Nat.{ℕ, _+_, _-_, _*_, _≤_}
 use native.Mathlib.Omega.{arith}
 use lib.IntN.{ℤ}
 use lib.Dec.{ltb}
-use lib.ListN.{length, getD, replicate}
+use lib.ListN.{length, getD}
 use Rattle.semantics.specs.Syntax.{Expr, Parameter, Function, size}
 use Rattle.semantics.specs.File.{at-function}
 use Rattle.semantics.specs.Code.{Tree, Row, row, rows, release-all}
-use Rattle.semantics.specs.Normal.{Meanings, fresh, parameter-names, normal, normal-body}
+use Rattle.semantics.specs.Normal.{parameter-names, normal, normal-body}
 use Rattle.semantics.specs.Live.{Set, empty, uses}
-use Rattle.semantics.specs.Annotate.{NameDepths, parameter-depths-from, parameter-rows, tree-depths, dying, annotate}
-use Rattle.script_read.specs.Told.{Parts, low-at, high-at}
-use Rattle.normal_code.specs.Plain.{Plain, plain, set-of, note, tree-to}
+use Rattle.semantics.specs.Annotate.{NameDepths, parameter-rows, tree-depths, dying, annotate}
+use Rattle.script_read.specs.Told.{low-at, high-at}
+use Rattle.normal_code.specs.Plain.{Plain, plain, set-of, tree-to}
 use Rattle.normal_uses.specs.Table.{Sets, sets-of}
-use Rattle.normal_uses.specs.Noted.{noted, TreeNoted}
+use Rattle.normal_uses.specs.Noted.{TreeNoted}
 use Rattle.normal_uses.specs.declared.Effect.{Effect}
 use Rattle.normal_write.specs.Wrote.{Wrote}
 use Rattle.normal_write.specs.Parts.{depth-in, release-rows}
 use Rattle.normal_write.proofs.Rows.{wrote-then, wrote-as}
 use Rattle.normal_walk.specs.Walk.{lives, walked, Done}
 use Rattle.normal_walk.specs.declared.Walked.{Walked}
-use Rattle.normal_walk.proofs.Annotated.{Right, lives-right, walked-right}
+use Rattle.normal_walk.proofs.Annotated.{Right, lives-right, rows-releases, walked-right}
 use Rattle.normal_walk.proofs.Right.{right-normal}
 use Rattle.normal_lay.specs.Laid.{meanings}
 use Rattle.normal_made.specs.Source.{tree-at, laid-rows}
-use Rattle.normal_made.specs.Made.{State, state, Sized, Low, Given, Ready, TreeMade, Agrees}
+use Rattle.normal_made.specs.Made.{state, Given, Ready, TreeMade}
 use Rattle.normal_made.specs.declared.Out.{Out}
 use Rattle.normal_function.specs.Read.{parameters-at, read-function, depths-by, rows-by, Binds, Fitting}
 use Rattle.normal_function.specs.declared.Bound.{Bound}
 use Rattle.normal_function.proofs.Parameters.{length-parameters}
-
-rows-releases : (xs : List ℕ) (t : Tree) → rows (release-all xs t) ≡ release-rows xs ++ rows t
-unfolding rows
-rows-releases [] t = refl
-rows-releases (x ∷ xs) t = ap (λ (l : List Row). row 15 x ∷ l) (rows-releases xs t)
 
 -- the rows of the parts are those of the function
 code-rows : (R : ℕ → ℕ) (g : Function) (Γ : NameDepths) (T : Tree) (U : Sets) (L S used : Set) (xs : List Parameter)

@@ -1,7 +1,7 @@
 -- The function that stands at a node of an accepted file, and the code of one function.
 use mathlib.Core.Path.{_≡_}
 use mathlib.Core.List.{List, [], _∷_, _++_}
-use Prim.Native.Nat.{ℕ, zero, suc, _+_, _*_, _<_, _≤_}
+use Prim.Native.Nat.{ℕ, zero, suc, _+_, _*_, _≤_}
 use lib.ListN.{length, getD}
 use Rattle.semantics.specs.Syntax.{Parameter, Function, size}
 use Rattle.semantics.specs.File.{at-function, at-parameter}

@@ -1,14 +1,13 @@
 // The code of one function: its parameters, the plain code of its body, and the annotation.
 use script_read::Place;
 ghost use mathlib.Core.Path.{_≡_};
-ghost use mathlib.Core.List.{[], _∷_};
 ghost use Prim.Native.Nat.{_+_, _*_, _<_, _≤_};
 ghost use lib.Dec.{ltb};
-ghost use lib.ListN.{length, getD};
+ghost use lib.ListN.{getD};
 ghost use Rattle.semantics.specs.Syntax.{size};
 ghost use Rattle.semantics.specs.File.{at-function};
 ghost use Rattle.semantics.specs.Annotate.{parameter-rows};
-ghost use Rattle.script_read.specs.Told.{Parts, low-at, high-at};
+ghost use Rattle.script_read.specs.Told.{Parts, low-at};
 ghost use Rattle.normal_code.specs.Plain.{set-of};
 ghost use Rattle.normal_write.specs.Wrote.{Wrote};
 ghost use Rattle.normal_write.specs.Parts.{depth-in};

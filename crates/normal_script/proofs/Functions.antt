@@ -2,23 +2,22 @@
 use mathlib.Core.Path.{_≡_, refl, sym, ap, _∙_, fun-ext}
 use mathlib.Core.Bool.{Bool, true, false, cond}
 use mathlib.Core.List.{List, [], _∷_, _++_}
-use mathlib.Core.Option.{Option, none, some}
-use Prim.Native.Nat.{ℕ, zero, suc, _+_, _-_, _*_, _<_, _≤_}
+use mathlib.Core.Option.{none, some}
+use Prim.Native.Nat.{ℕ, zero, suc, _+_, _-_, _<_, _≤_}
 use native.Mathlib.Omega.{arith}
 use native.Mathlib.Decide.{ℕ-discrete, decLt}
 use lib.IntN.{ℤ}
 use lib.Dec.{ltb}
 use lib.ListN.{length, getD, set, drop, length-set, replicate}
 use lib.Seq.{getD-set-same, getD-set-other, drop-cons}
-use borrow.Author.Tests.{ltb-false, lt-ltb}
-use Rattle.semantics.specs.Outcome.{Outcome, done, stop}
-use Rattle.semantics.specs.Syntax.{Function, Script, function-at, no-function, function-size, size}
+use borrow.Author.Tests.{ltb-false}
+use Rattle.semantics.specs.Syntax.{Function, Script, function-at, no-function, function-size}
 use Rattle.semantics.specs.Code.{Row}
-use Rattle.semantics.specs.File.{at-function, script, part}
-use Rattle.semantics.specs.Normal.{fresh, too-many-names-from, too-many-names}
+use Rattle.semantics.specs.File.{at-function, part}
+use Rattle.semantics.specs.Normal.{fresh, too-many-names-from}
 use Rattle.semantics.specs.Annotate.{result-of, depths-of, annotated-body, function-rows, functions-rows, code}
-use Rattle.script_read.specs.Told.{Parts, low-at, high-at, told}
-use Rattle.script_read.proofs.Written.{FunctionWritten, ScriptWritten, HeadAt, total, After, script-written}
+use Rattle.script_read.specs.Told.{low-at, high-at, told}
+use Rattle.script_read.proofs.Written.{FunctionWritten, ScriptWritten, total, script-written}
 use Rattle.script_read.proofs.Starts.{start-of}
 use Rattle.script_read.proofs.Ends.{script-ends}
 use Rattle.script_read.proofs.Tables.{none-set}

@@ -1,8 +1,6 @@
 // The code of a whole script, written backwards from its last function to its first, and the depths of its names.
 use script_read::Place;
-ghost use mathlib.Core.Path.{_≡_};
-ghost use Prim.Native.Nat.{_+_, _*_, _<_, _≤_};
-ghost use lib.ListN.{length};
+ghost use Prim.Native.Nat.{_+_, _*_, _<_};
 ghost use Rattle.semantics.specs.File.{script};
 ghost use Rattle.normal_script.specs.Script.{Translatable, Headed-by, Coded-by};
 ghost use Rattle.normal_script.specs.Depths.{Noted, Depths-by};

@@ -1,11 +1,11 @@
 -- What a tree makes of a live set: its own uses, joined with the set less what the tree binds on every way.
-use mathlib.Core.Path.{_≡_, refl, sym, ap, _∙_, fun-ext}
+use mathlib.Core.Path.{_≡_, refl, sym, ap, _∙_}
 use mathlib.Core.Bool.{Bool, true, false, _||_, _&&_, not}
 use mathlib.Core.List.{List, [], _∷_}
-use Prim.Native.Nat.{ℕ, zero, suc, _+_, _*_}
+use Prim.Native.Nat.{ℕ}
 use lib.Dec.{eqb}
 use Rattle.semantics.specs.Code.{Atom, Line, leaf, if-else, loop, retain, release, Tree, end, line}
-use Rattle.semantics.specs.Live.{Set, empty, _∪_, _∖_, _∖∖_, only, is, among, live, live-before, uses}
+use Rattle.semantics.specs.Live.{Set, empty, _∪_, _∖_, _∖∖_, is, among, live, live-before, uses}
 use Rattle.normal_uses.specs.Noted.{bound, bound-by}
 
 -- ---- truth tables

@@ -1,11 +1,11 @@
 -- Laws of the walk backwards that notes what trees use.
 use mathlib.Core.Path.{_≡_, refl, sym, ap, _∙_, fun-ext}
-use mathlib.Core.Bool.{Bool, _||_, _&&_, not}
+use mathlib.Core.Bool.{Bool}
 use mathlib.Core.List.{List, [], _∷_}
-use Prim.Native.Nat.{ℕ, zero, suc, _+_, _-_, _*_, _<_, _≤_}
+use Prim.Native.Nat.{ℕ, _+_, _-_, _*_, _<_, _≤_}
 use native.Mathlib.Omega.{arith}
 use lib.Dec.{eqb}
-use lib.ListN.{length, getD}
+use lib.ListN.{getD}
 use Rattle.semantics.specs.Basics.{updated}
 use Rattle.semantics.specs.Kinds.{mapping}
 use Rattle.semantics.specs.Code as C
@@ -17,8 +17,8 @@ use Rattle.normal_code.specs.declared.Atom.{Atom}
 use Rattle.normal_code.specs.declared.Line.{Line}
 use Rattle.normal_code.specs.declared.Line.the-variants.{Operation, Call, Literal, Index, Length, If, Map}
 use Rattle.normal_code.proofs.Trees.{tree-none, tree-some, back-goes, back-stops, back-none}
-use Rattle.normal_uses.specs.Table.{Sets, sets-of}
-use Rattle.normal_uses.specs.Noted.{bound, bound-by, noted, noted-line, first-of, second-of, TreeNoted, LineNoted}
+use Rattle.normal_uses.specs.Table.{sets-of}
+use Rattle.normal_uses.specs.Noted.{bound, bound-by, noted, noted-line, TreeNoted, LineNoted}
 use Rattle.normal_uses.specs.declared.Effect.{Effect}
 use Rattle.normal_uses.proofs.Effects.{live-split, branches, both-bind}
 

@@ -1,10 +1,9 @@
 -- What each tree inside a tree uses, noted in a table of sets: each tree is walked once.
 -- What a tree makes of a live set is its own uses, joined with what is live after it less what it binds on every way.
 use mathlib.Core.Path.{_≡_}
-use mathlib.Core.Bool.{Bool, _&&_}
+use mathlib.Core.Bool.{_&&_}
 use mathlib.Core.List.{List}
-use Prim.Native.Nat.{ℕ, zero, suc, _+_, _*_}
-use lib.ListN.{length}
+use Prim.Native.Nat.{ℕ, _+_, _*_}
 use Rattle.semantics.specs.Basics.{updated}
 use Rattle.semantics.specs.Code.{Line, leaf, if-else, loop, retain, release, Tree, end, line}
 use Rattle.semantics.specs.Live.{Set, empty, _∪_, only, uses, live-before}

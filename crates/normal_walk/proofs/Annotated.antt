@@ -1,8 +1,8 @@
 -- Where the table is right, the walk's rows are those of the annotated tree.
 use mathlib.Core.Path.{_≡_, refl, sym, ap, _∙_}
 use mathlib.Core.Bool.{_&&_}
-use mathlib.Core.List.{List, [], _∷_, _++_, map, append-assoc}
-use Prim.Native.Nat.{ℕ, _+_, _*_}
+use mathlib.Core.List.{List, [], _∷_, _++_, append-assoc}
+use Prim.Native.Nat.{ℕ, _+_}
 use Rattle.semantics.specs.Basics.{with-if}
 use Rattle.semantics.specs.Kinds.{leaf-hands, leaf-reads, is-pending, loop-hands, loop-reads, element-name}
 use Rattle.semantics.specs.Code.{Atom, Line, leaf, if-else, loop, retain, release, Tree, end, line, retain-all}
@@ -49,7 +49,7 @@ unfolding rows
 rows-retains [] t = refl
 rows-retains (x ∷ xs) t = ap (λ (l : List Row). row 14 x ∷ l) (rows-retains xs t)
 
-rows-releases : (xs : List ℕ) (t : Tree) → rows (release-all xs t) ≡ release-rows xs ++ rows t
+pub rows-releases : (xs : List ℕ) (t : Tree) → rows (release-all xs t) ≡ release-rows xs ++ rows t
 unfolding rows
 rows-releases [] t = refl
 rows-releases (x ∷ xs) t = ap (λ (l : List Row). row 15 x ∷ l) (rows-releases xs t)

@@ -1,11 +1,8 @@
 -- The table that is noted from a normal form is right: each line of it binds a name of its own.
-use mathlib.Core.Path.{_≡_, refl, sym, ap, _∙_}
-use mathlib.Core.Bool.{Bool, cond}
+use mathlib.Core.Path.{_≡_, refl, _∙_}
 use mathlib.Core.Logic.{_⊎_, inl, inr, ⊎-elim}
-use mathlib.Core.List.{List, [], _∷_}
-use Prim.Native.Nat.{ℕ, zero, suc, _+_, _*_, _<_, _≤_}
+use Prim.Native.Nat.{ℕ, _+_, _*_, _<_, _≤_}
 use native.Mathlib.Omega.{arith}
-use lib.Dec.{eqb}
 use lib.ListN.{length}
 use borrow.Author.Tests.{eq-eqb, ne-eqb}
 use Rattle.semantics.specs.Basics.{updated}
@@ -15,10 +12,9 @@ use Rattle.semantics.specs.Code as C
 use Rattle.semantics.specs.Code.{Tree, end, line}
 use Rattle.semantics.specs.Normal.{fresh, fresh-all, Meanings, atom, atoms, numbered, meaning-names, lines, all-lines}
 use Rattle.semantics.specs.Normal.{normal}
-use Rattle.semantics.specs.Live.{Set, uses}
 use Rattle.normal_uses.specs.Table.{Sets}
-use Rattle.normal_uses.specs.Noted.{first-of, second-of, noted, noted-line}
-use Rattle.normal_walk.proofs.Annotated.{Right, RightLine}
+use Rattle.normal_uses.specs.Noted.{first-of, second-of, noted}
+use Rattle.normal_walk.proofs.Annotated.{Right}
 
 -- a slot that is none of the names from n to before m
 abbrev Off : ℕ → ℕ → ℕ → Type 0

@@ -17,13 +17,13 @@ use Rattle.semantics.specs.Kinds.{leaf-operand, leaf-hands, leaf-reads, is-pend
 use Rattle.semantics.specs.Code.{Atom, number, name, Row, row, atom-row}
 use Rattle.semantics.specs.Live.{Set, empty, is, only, among, _∪_, members-from, members}
 use Rattle.semantics.specs.Annotate.{NameDepths, atom-depth, is-array, dying, handed-again}
-use Rattle.normal_code.specs.Plain.{meant, placed, atoms-at, set-of}
+use Rattle.normal_code.specs.Plain.{meant, placed, atoms-at}
 use Rattle.normal_code.specs.declared.Atom as P
 use Rattle.normal_code.proofs.Trees.{atoms-more, atoms-none, atoms-all}
 use Rattle.normal_uses.proofs.Effects.{among-split}
 use Rattle.normal_write.specs.Wrote.{Wrote}
 use Rattle.normal_write.specs.Parts.{retain-rows, release-rows, handed-one, leaf-part, handing}
-use Rattle.normal_write.proofs.Rows.{map-append, append-none, wrote-none, wrote-then, wrote-as}
+use Rattle.normal_write.proofs.Rows.{map-append, wrote-none, wrote-then, wrote-as}
 
 and-false : (b : Bool) → b && false ≡ false
 and-false true = refl

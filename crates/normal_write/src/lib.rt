@@ -3,10 +3,9 @@
 use normal_code::Atom;
 ghost use mathlib.Core.Path.{_≡_};
 ghost use mathlib.Core.Bool.{_&&_, not};
-ghost use mathlib.Core.List.{[], _∷_, _++_, map};
-ghost use Prim.Native.Nat.{_+_, _-_, _*_, _<_, _≤_};
+ghost use mathlib.Core.List.{[], _∷_, map};
+ghost use Prim.Native.Nat.{_+_, _-_, _<_, _≤_};
 ghost use lib.Dec.{ltb};
-ghost use lib.ListN.{length, getD};
 ghost use Rattle.semantics.specs.Basics.{with-if};
 ghost use Rattle.semantics.specs.Kinds.{operation, index, length-of, operation-kind};
 ghost use Rattle.semantics.specs.Code.{row, atom-row};

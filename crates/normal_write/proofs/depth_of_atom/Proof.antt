@@ -1,10 +1,6 @@
-use mathlib.Core.Path.{_≡_}
 use borrow.Author.Needs.{needs}
 use Rattle.normal_write.proofs.depth_of_atom.Statement.{statement}
 use Rattle.normal_write.proofs.depth_of_atom.Tie as tie
-use Rattle.normal_write.proofs.depth_of_atom.Reads as reads
-use Rattle.normal_write.proofs.depth_of_atom.Lts as lts
-use Rattle.normal_write.proofs.depth_at.Reads as depth-at-reads
 
 enum-told : tie.Need-enum-told
 enum-told c = search needs

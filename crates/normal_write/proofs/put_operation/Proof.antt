@@ -1,4 +1,3 @@
-use mathlib.Core.Path.{_≡_}
 use native.Mathlib.Omega.{arith}
 use Rattle.normal_code.specs.Plain.{set-of, meant, operation-of}
 use Rattle.normal_write.specs.Parts.{depth-in}
@@ -7,12 +6,6 @@ use Rattle.normal_write.proofs.Names.{operation-rows}
 use borrow.Author.Needs.{needs}
 use Rattle.normal_write.proofs.put_operation.Statement.{statement}
 use Rattle.normal_write.proofs.put_operation.Tie as tie
-use Rattle.normal_write.proofs.put_operation.Reads as reads
-use Rattle.normal_write.proofs.put_operation.Lts as lts
-use Rattle.normal_write.proofs.operation_kind.Reads as operation-kind-reads
-use Rattle.normal_write.proofs.put_atom.Reads as put-atom-reads
-use Rattle.normal_write.proofs.put_reads.Reads as put-reads-reads
-use Rattle.normal_write.proofs.put_row.Reads as put-row-reads
 
 put-reads-requires : tie.Need-put-reads-requires
 put-reads-requires c κs = search needs

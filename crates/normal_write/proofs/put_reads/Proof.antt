@@ -1,4 +1,4 @@
-use mathlib.Core.Path.{_≡_, ap}
+use mathlib.Core.Path.{ap}
 use mathlib.Core.List.{List}
 use Prim.Native.Nat.{ℕ}
 use Rattle.normal_code.specs.Plain.{set-of, meant}
@@ -8,15 +8,6 @@ use Rattle.normal_write.proofs.Names.{first-alone, all-read}
 use borrow.Author.Needs.{needs}
 use Rattle.normal_write.proofs.put_reads.Statement.{statement}
 use Rattle.normal_write.proofs.put_reads.Tie as tie
-use Rattle.normal_write.proofs.put_reads.Reads as reads
-use Rattle.normal_write.proofs.put_reads.Lts as lts
-use Rattle.normal_code.proofs.add.Reads as add-reads
-use Rattle.normal_code.proofs.none.Reads as none-reads
-use Rattle.normal_code.proofs.with.Reads as with-reads
-use Rattle.normal_write.proofs.depth_at.Reads as depth-at-reads
-use Rattle.normal_write.proofs.depth_of_atom.Reads as depth-of-atom-reads
-use Rattle.normal_write.proofs.put_releases.Reads as put-releases-reads
-use Rattle.normal_write.proofs.release_atom.Reads as release-atom-reads
 
 depth-at-requires : tie.Need-depth-at-requires
 depth-at-requires c κs = search needs
