@@ -20,6 +20,7 @@ use Rattle.semantics.specs.Normal.{too-many-names}
 use Rattle.semantics.specs.Calls.{judged, judged-script, Faulty-in}
 use Rattle.script_read.specs.Told.{Parts, told}
 use Rattle.script_read.specs.declared.Read.the-variants as R
+use Rattle.script_read.proofs.Sorts.{both}
 use Rattle.script.specs.Verdicts.{Readable, told-verdict, node-of, Judges, refused-by, listed, checked-as}
 use Rattle.script.specs.declared.Verdict.{Verdict}
 use Rattle.script.specs.declared.Verdict.the-variants.{Accepted, Refused}
@@ -43,10 +44,6 @@ pub record Taken (l : List ℕ) (f n : ℕ) : Type 0 where
   pub readable : Readable (kinds-of l n) (operands-of l n) f
   pub same : script (kinds-of l n) (operands-of l n) f 0 ≡ read-file l
   pub sized : length (kinds-of l n) ≡ n
-
-both : (s t : Bool) → (s && t) ≡ true → (s ≡ true) × (t ≡ true)
-both true t e = (refl, e)
-both false t e = let z : _≡_ {A = ℕ} 0 1 = cc in absurd (omega arith)
 
 -- the script behind an answer that goes on
 tree-of : (o : Outcome ℕ Script) (q : ℕ) → R.Next q ≡ told o → (fs : Script) × (o ≡ done fs q)

@@ -2,7 +2,7 @@
 use script_count::Counted;
 use script_read::Read;
 ghost use mathlib.Core.Path.{_≡_};
-ghost use Prim.Native.Nat.{_+_, _*_, _^_, _<_, _≤_};
+ghost use Prim.Native.Nat.{_+_};
 ghost use lib.ListN.{length};
 ghost use Rattle.semantics.specs.File.{script};
 ghost use Rattle.script.specs.Verdicts.{Readable, checked-as, Judges};

@@ -1,25 +1,43 @@
 -- The pass gives the first function with over 256 new names.
-use Prim.Native.Nat.{ℕ, zero, suc, _+_, _≤_}
+use Prim.Native.Nat.{ℕ, suc, _+_, _≤_}
 use native.Mathlib.Omega.{arith}
-use mathlib.Core.Bool.{cond}
+use mathlib.Core.Bool.{Bool, true, cond, false≢true}
 use mathlib.Core.List.{List, [], _∷_}
-use mathlib.Core.Option.{none, some}
+use mathlib.Core.Option.{some}
 use mathlib.Core.Path.{_≡_, refl, sym, ap, _∙_}
-use lib.Dec.{ltb}
+use lib.Dec.{eqb, ltb}
 use lib.ListN.{length, getD}
-use borrow.Author.Tests.{ne-eqb}
-use Rattle.semantics.specs.Number.{Operation, sum, difference, less}
+use borrow.Author.Tests.{eqb-true, ne-eqb}
+use Rattle.semantics.specs.Kinds.{Leaf, Loop}
 use Rattle.semantics.specs.Syntax as T
-use Rattle.semantics.specs.Syntax.{Expr, number, name, operation, let-in, call, literal, index, length-of, if-else}
-use Rattle.semantics.specs.Syntax.{map-over, Exprs, size, sizes, Parameter, Script, function-size}
+use Rattle.semantics.specs.Syntax.{Expr, number, name, let-in, leaf, if-else, loop, Exprs, size, sizes, Parameter}
+use Rattle.semantics.specs.Syntax.{Script, function-size}
 use Rattle.semantics.specs.File as S
-use Rattle.semantics.specs.File.{node-at}
+use Rattle.semantics.specs.File.{Place, at-function, at-parameter, at-part, node-at, Shape, none, leaf-of, loop-of}
+use Rattle.semantics.specs.File.{shape-of}
 use Rattle.semantics.specs.Normal.{fresh, fresh-all, too-many-names-from, too-many-names}
-use Rattle.script_read.proofs.Nodes.{getD-any, kind-there, node-within}
-use Rattle.script_read.proofs.Written.{kind-of, At, Written, AllWritten, HeadAt, ParametersWritten, ScriptWritten}
-use Rattle.script_read.proofs.Written.{total}
+use Rattle.script_read.proofs.Nodes.{getD-any, head-fits}
+use Rattle.script_read.proofs.Sorts.{fit}
+use Rattle.script_read.proofs.Written.{amount, Written, AllWritten, ParametersWritten, ScriptWritten, total}
 use Rattle.script_read.proofs.Ends.{node-inside, script-ends}
 use Rattle.script_count.specs.Count.{new-names, crowd}
+
+-- the table of new names and the shapes: a leaf takes one, a loop one more for each name of a pass
+abbrev new-fits : ℕ → ℕ → Shape → Bool
+new-fits i v none = true
+new-fits i v (leaf-of l) = eqb v 1
+new-fits i v (loop-of c xs n) = eqb v (suc (length xs))
+
+module _ (h : S.Head) where
+  new-fit : new-fits (h .kind) (getD new-names (h .kind) 0) (shape-of h) ≡ true
+  new-fit = fit new-fits 0 (λ n. refl) h new-names refl
+
+  leaf-new : (l : Leaf) → shape-of h ≡ leaf-of l → 1 ≡ getD new-names (h .kind) 0
+  leaf-new l e = sym (eqb-true (getD new-names (h .kind) 0) 1 (rw e at new-fit))
+
+  loop-new : (c : Loop) (xs : List ℕ) (n : ℕ) → shape-of h ≡ loop-of c xs n →
+      suc (length xs) ≡ getD new-names (h .kind) 0
+  loop-new c xs n e = sym (eqb-true (getD new-names (h .kind) 0) (suc (length xs)) (rw e at new-fit))
 
 -- n nodes from p on belong to one function, and take so many new names
 record Adds (k : List ℕ) (p n names : ℕ) : Type 0 where
@@ -52,8 +70,8 @@ module _ (k w : List ℕ) where
   pair : {p m n a b : ℕ} → Adds k p m a → Adds k (p + m) n b → Adds k p (m + n) (a + b)
   pair f g = join f g refl _ _ refl refl
 
-  kind-at : (a b p : ℕ) (h : S.Head) → b ≤ 13 → node-at k w a b p ≡ S.fits h → getD k p 0 ≡ h .kind
-  kind-at a b p h l e = getD-any k p 0 255 (node-inside k w a b p h l e) ∙ kind-there k w a b p h e
+  kind-at : (place : Place) (p : ℕ) (h : S.Head) → node-at k w place p ≡ S.fits h → getD k p 0 ≡ h .kind
+  kind-at place p h e = getD-any k p 0 255 (node-inside k w place p h e) ∙ sym (head-fits k w place p h e .kind)
 
   -- one node that is no function
   one-node : (p kind names : ℕ) → getD k p 0 ≡ kind → (kind ≡ 0 → ⊥) → names ≡ getD new-names kind 0 →
@@ -65,59 +83,36 @@ module _ (k w : List ℕ) where
         rw (u, e, ne-eqb kind 0 f, ← g);
   }
 
-  a-part : {p kind low high : ℕ} (names : ℕ) → (kind ≡ 0 → ⊥) → names ≡ getD new-names kind 0 →
-      At k w p kind low high → Adds k p 1 names
-  a-part {p} {kind} names f g h = one-node p kind names (kind-at 2 13 p _ (omega arith) (h .is)) f g
-
-  an-operation : (p : ℕ) (o : Operation) → At k w p (kind-of o) 0 0 → Adds k p 1 1
-  an-operation p sum h = a-part 1 (λ e. omega arith) refl h
-  an-operation p difference h = a-part 1 (λ e. omega arith) refl h
-  an-operation p less h = a-part 1 (λ e. omega arith) refl h
+  a-part : (p names : ℕ) (h : S.Head) → node-at k w at-part p ≡ S.fits h → names ≡ getD new-names (h .kind) 0 →
+      Adds k p 1 names
+  a-part p names h e g =
+      one-node p (h .kind) names (kind-at at-part p h e)
+      (λ z. false≢true (rw z at (head-fits k w at-part p h e .stands))) g
 
   mutual
     unfolding size fresh
 
     count-tree : (e : Expr) (d p : ℕ) → Written k w e d p → Adds k p (size e) (fresh e)
-    count-tree (number z) zero p h = absurd h
-    count-tree (number z) (suc d) p h = one-node p 2 0 (kind-at 2 13 p _ (omega arith) h) (λ e. omega arith) refl
-    count-tree (name x) zero p h = absurd h
-    count-tree (name x) (suc d) p h = a-part 0 (λ e. omega arith) refl h
-    count-tree (operation o a b) zero p h = absurd h
-    count-tree (operation o a b) (suc d) p h =
-        join (an-operation p o (h .0)) (pair (count-tree a d (p + 1) (h .1)) (count-tree b d (p + 1 + size a) (h .2)))
+    count-tree (number z) d p h = a-part p 0 _ (h .1) refl
+    count-tree (name x) d p h = a-part p 0 _ (h .1 .is) refl
+    count-tree (let-in x a b) d p h =
+        let i = h .0 .below in
+        join (a-part p 0 _ (h .1 .is) refl)
+        (pair (count-tree a i (p + 1) (h .2)) (count-tree b i (p + 1 + size a) (h .3))) refl _ _ (omega arith)
+        (omega arith)
+    count-tree (leaf l es) d p h =
+        join (a-part p 1 _ (h .1 .is) (leaf-new (h .1 .node) l (h .1 .shape-is)))
+        (count-trees es (h .0 .below) (p + 1) (h .2)) refl _ _ (omega arith) (omega arith)
+    count-tree (if-else a b c) d p h =
+        let i = h .0 .below in
+        join (a-part p 1 _ (h .1 .is) refl)
+        (join (pair (count-tree a i (p + 1) (h .2)) (count-tree b i (p + 1 + size a) (h .3)))
+        (count-tree c i (p + 1 + size a + size b) (h .4)) (omega arith) _ _ refl refl)
         refl _ _ (omega arith) (omega arith)
-    count-tree (let-in x a b) zero p h = absurd h
-    count-tree (let-in x a b) (suc d) p h =
-        join (a-part 0 (λ e. omega arith) refl (h .0))
-        (pair (count-tree a d (p + 1) (h .1)) (count-tree b d (p + 1 + size a) (h .2))) refl _ _ (omega arith)
-        (omega arith)
-    count-tree (call f es) zero p h = absurd h
-    count-tree (call f es) (suc d) p h =
-        join (a-part 1 (λ e. omega arith) refl (h .0)) (count-trees es d (p + 1) (h .1)) refl _ _ (omega arith)
-        (omega arith)
-    count-tree (literal t es) zero p h = absurd h
-    count-tree (literal t es) (suc d) p h =
-        join (a-part 1 (λ e. omega arith) refl (h .0)) (count-trees es d (p + 1) (h .1)) refl _ _ (omega arith)
-        (omega arith)
-    count-tree (index a b) zero p h = absurd h
-    count-tree (index a b) (suc d) p h =
-        join (a-part 1 (λ e. omega arith) refl (h .0))
-        (pair (count-tree a d (p + 1) (h .1)) (count-tree b d (p + 1 + size a) (h .2))) refl _ _ (omega arith)
-        (omega arith)
-    count-tree (length-of a) zero p h = absurd h
-    count-tree (length-of a) (suc d) p h =
-        join (a-part 1 (λ e. omega arith) refl (h .0)) (count-tree a d (p + 1) (h .1)) refl _ _ (omega arith)
-        (omega arith)
-    count-tree (if-else a b c) zero p h = absurd h
-    count-tree (if-else a b c) (suc d) p h =
-        join (a-part 1 (λ e. omega arith) refl (h .0))
-        (join (pair (count-tree a d (p + 1) (h .1)) (count-tree b d (p + 1 + size a) (h .2)))
-        (count-tree c d (p + 1 + size a + size b) (h .3)) (omega arith) _ _ refl refl)
-        refl _ _ (omega arith) (omega arith)
-    count-tree (map-over x a b) zero p h = absurd h
-    count-tree (map-over x a b) (suc d) p h =
-        join (a-part 2 (λ e. omega arith) refl (h .0))
-        (pair (count-tree a d (p + 1) (h .1)) (count-tree b d (p + 1 + size a) (h .2))) refl _ _ (omega arith)
+    count-tree (loop c xs es b) d p h =
+        let i = h .0 .below in
+        join (a-part p (suc (length xs)) _ (h .1 .is) (loop-new (h .1 .node) c xs (amount es) (h .1 .shape-is)))
+        (pair (count-trees es i (p + 1) (h .2)) (count-tree b i (p + 1 + sizes es) (h .3))) refl _ _ (omega arith)
         (omega arith)
 
     count-trees : (es : Exprs) (d p : ℕ) → AllWritten k w es d p → Adds k p (sizes es) (fresh-all es)
@@ -128,11 +123,9 @@ module _ (k w : List ℕ) where
   count-parameters : (xs : List Parameter) (p : ℕ) → ParametersWritten k w xs p → Adds k p (length xs) (length xs)
   count-parameters [] p h = none-more p
   count-parameters (x ∷ xs) p h =
-      join (one-node p 1 1 (kind-at 1 1 p _ (omega arith) (h .0 .is) ∙ only-one (h .0)) (λ e. omega arith) refl)
+      let f = head-fits k w at-parameter p _ (h .0 .is) in
+      join (one-node p 1 1 (kind-at at-parameter p _ (h .0 .is) ∙ eqb-true _ 1 (f .stands)) (λ e. omega arith) refl)
       (count-parameters xs (p + 1) (h .1)) refl _ _ (omega arith) (omega arith)
-    where
-      only-one : {p y z : ℕ} (g : HeadAt k w 1 p y z) → g .node .kind ≡ 1
-      only-one {p} g = let i = rw (g .is) at (node-within k w 1 1 p) in omega (arith, i .0, i .1)
 
   count-functions : (gs : Script) (p s c : ℕ) → ScriptWritten k w gs p →
       crowd k (total gs) p s c ≡ cond (ltb 256 c) (some s) (too-many-names-from gs p)
@@ -146,8 +139,8 @@ module _ (k w : List ℕ) where
     where
       head-kind : getD k p 0 ≡ 0
       head-kind =
-          let i = rw (h .0 .head .is) at (node-within k w 0 0 p) in
-          kind-at 0 0 p _ (omega arith) (h .0 .head .is) ∙ omega (arith, i .1)
+          let f = head-fits k w at-function p _ (h .0 .head .is) in
+          kind-at at-function p _ (h .0 .head .is) ∙ eqb-true _ 0 (f .stands)
 
       body : Adds k (p + 1) (length (g .parameters) + size (g .body)) (length (g .parameters) + fresh (g .body))
       body =

@@ -1,8 +1,6 @@
 // Refusal 8: the first function with over 256 new names, in one pass over the kinds.
 ghost use mathlib.Core.Path.{_≡_};
-ghost use mathlib.Core.Bool.{_&&_, cond};
-ghost use Prim.Native.Nat.{_+_, _*_, _^_, _<_, _≤_};
-ghost use lib.Dec.{eqb, ltb};
+ghost use Prim.Native.Nat.{_+_, _<_};
 ghost use lib.ListN.{length, getD};
 ghost use Rattle.script_count.specs.Count.{new-names, crowd-ends, start-after, counted-on, crowd, told-crowd};
 

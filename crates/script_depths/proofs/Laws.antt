@@ -2,7 +2,7 @@
 use mathlib.Core.Path.{_≡_, refl, sym, ap, _∙_}
 use mathlib.Core.List.{List, [], _∷_, _++_, append-assoc, append-nil}
 use mathlib.Core.Option.{Option, none, some}
-use mathlib.Core.Logic.{_⊎_, inl, inr}
+use mathlib.Core.Logic.{_⊎_, ⊎-elim}
 use Prim.Native.Nat.{ℕ, zero, suc, _+_, _-_, _<_, _≤_}
 use native.Mathlib.Omega.{arith}
 use native.Mathlib.Numerals.{add-one}
@@ -10,8 +10,7 @@ use lib.ListN.{length, set, take, length-set}
 use lib.Seq.{take-suc-set}
 use borrow.Author.Tests.{ne-eqb}
 use Rattle.semantics.specs.Basics.{updated}
-use Rattle.semantics.specs.File as S
-use Rattle.semantics.specs.File.{node-at, part-count}
+use Rattle.semantics.specs.File.{at-part, node-at, part-count}
 use Rattle.script_read.specs.Told.{told-node}
 use Rattle.script_read.specs.declared.Node.{Node}
 use Rattle.script_read.specs.declared.Node.the-variants.{WrongKind, WrongOperand}
@@ -31,19 +30,14 @@ module _ (k w s : List ℕ) (d : ℕ) (γ : ℕ → ℕ) (p : ℕ) where
   unfolding types
   no-levels e = rw e
 
-pub no-node : (k w s : List ℕ) (d : ℕ) (γ : ℕ → ℕ) (p : ℕ) (n : Node) → n ≡ told-node (node-at k w 2 13 p) →
+pub no-node : (k w s : List ℕ) (d : ℕ) (γ : ℕ → ℕ) (p : ℕ) (n : Node) → n ≡ told-node (node-at k w at-part p) →
     (n ≡ WrongKind) ⊎ (n ≡ WrongOperand) → Fault p ≡ types k w s d γ p
 unfolding types
 no-node k w s zero γ p n e f = refl
-no-node k w s (suc d) γ p n e f = go (unfit k w 2 13 p n e f .is)
-  where
-    go : (node-at k w 2 13 p ≡ S.wrong-kind) ⊎ (node-at k w 2 13 p ≡ S.wrong-operand) →
-        Fault p ≡ types k w s (suc d) γ p
-    go (inl g) = rw g
-    go (inr g) = rw g
+no-node k w s (suc d) γ p n e f = ⊎-elim (λ g. rw g) (λ g. rw g) (unfit k w at-part p n e f .is)
 
 -- at a node that is seen, with levels left
-module _ {k w : List ℕ} {p x y z : ℕ} (n : Seen k w 2 13 p x y z) (s : List ℕ) (d : ℕ) (γ : ℕ → ℕ) (deep : d ≡ 0 → ⊥)
+module _ {k w : List ℕ} {p x y z : ℕ} (n : Seen k w at-part p x y z) (s : List ℕ) (d : ℕ) (γ : ℕ → ℕ) (deep : d ≡ 0 → ⊥)
   where
     abbrev pub Gives : Typed → Type 0
     Gives r = r ≡ types k w s d γ p

@@ -10,10 +10,11 @@ use lib.Dec.{leb, ltb, eqb}
 use lib.ListN.{length, getD, take, drop, length-take, drop-of-length-le}
 use lib.Seq.{drop-cons, getD-take}
 use borrow.Author.Tests.{eqb-true, eq-eqb, ne-eqb, le-leb, lt-leb, leb-true, ltb-true, ltb-false}
-use Rattle.semantics.specs.File.{part-count, part-counts, low-limits, high-limits}
+use Rattle.semantics.specs.File.{at-function, at-parameter, part-count, part-counts, low-limits, high-limits}
 use Rattle.semantics.specs.Types.{Signature, all-are, same, call-rule, index-rule, length-rule}
 use Rattle.script_read.specs.Told.{low-at, high-at}
 use Rattle.script_read.specs.declared.Node.the-variants.{WrongKind}
+use Rattle.script_read.proofs.Sorts.{both}
 use Rattle.script_read.proofs.Nodes.{past, unfit, low-none, high-none}
 use Rattle.script_depths.specs.declared.Typed.{Typed}
 use Rattle.script_depths.specs.declared.Typed.the-variants.{Depth, Fault}
@@ -52,7 +53,7 @@ module _ (k w : List ℕ) (p n : ℕ) (ds : List ℕ) (l : n ≤ length ds) wher
 
   match-step : (i : ℕ) → i < n →
       same (depths-from k w (n - i) (p + i)) (drop i (take n ds)) ≡
-      (eqb (high-at k w 1 (p + i)) (getD ds i 0) && same (depths-from k w (n - (i + 1)) (p + (i + 1)))
+      (eqb (high-at k w at-parameter (p + i)) (getD ds i 0) && same (depths-from k w (n - (i + 1)) (p + (i + 1)))
       (drop (i + 1) (take n ds)))
   unfolding depths-from
   match-step i h =
@@ -60,12 +61,12 @@ module _ (k w : List ℕ) (p n : ℕ) (ds : List ℕ) (l : n ≤ length ds) wher
       let f : p + (i + 1) ≡ p + i + 1 = omega arith in
       rw (e, f, drop-cons (take n ds) i 0 (simp length-take (omega arith)), getD-take n ds i 0 h, ← add-one i)
 
-  pub match-goes : (i : ℕ) → i < n → high-at k w 1 (p + i) ≡ getD ds i 0 → Matched i → Matched (i + 1)
-  match-goes i h e v = v ∙ match-step i h ∙ rw (eq-eqb (high-at k w 1 (p + i)) (getD ds i 0) e)
+  pub match-goes : (i : ℕ) → i < n → high-at k w at-parameter (p + i) ≡ getD ds i 0 → Matched i → Matched (i + 1)
+  match-goes i h e v = v ∙ match-step i h ∙ rw (eq-eqb (high-at k w at-parameter (p + i)) (getD ds i 0) e)
 
-  pub match-not : (i : ℕ) → i < n → (high-at k w 1 (p + i) ≡ getD ds i 0 → ⊥) → Matched i →
+  pub match-not : (i : ℕ) → i < n → (high-at k w at-parameter (p + i) ≡ getD ds i 0 → ⊥) → Matched i →
       false ≡ same (depths-from k w n p) (take n ds)
-  match-not i h e v = sym (v ∙ match-step i h ∙ rw (ne-eqb (high-at k w 1 (p + i)) (getD ds i 0) e))
+  match-not i h e v = sym (v ∙ match-step i h ∙ rw (ne-eqb (high-at k w at-parameter (p + i)) (getD ds i 0) e))
 
   pub match-all : (i : ℕ) → n ≤ i → Matched i → true ≡ same (depths-from k w n p) (take n ds)
   unfolding depths-from
@@ -77,7 +78,7 @@ module _ (k w : List ℕ) (p n : ℕ) (ds : List ℕ) (l : n ≤ length ds) wher
 pub signature-past : (k w : List ℕ) (p : ℕ) → length k ≤ p → signature-at k w p ≡ record { parameters = []; result = 0 }
 unfolding signature-at depths-from
 signature-past k w p h =
-    let u = unfit k w 0 0 p WrongKind (past k w 0 0 p h (omega arith)) (inl refl) in
+    let u = unfit k w at-function p WrongKind (past k w at-function p h) (inl refl) in
     rw (← low-none u, ← high-none u)
 
 pub at-the-end : (k w : List ℕ) (p q : ℕ) → q ≡ min p (length k) → signature-at k w q ≡ signature-at k w p
@@ -109,15 +110,15 @@ module _ (k w : List ℕ) (p n : ℕ) (ds : List ℕ) where
   abbrev pub Calls : Judged → Type 0
   Calls r = r ≡ told-rule (call-rule (signature-at k w p) (take n ds))
 
-  pub other-count : n ≤ length ds → (c : ℕ) → c ≡ low-at k w 0 p → (c ≡ n → ⊥) → Calls Broken
+  pub other-count : n ≤ length ds → (c : ℕ) → c ≡ low-at k w at-function p → (c ≡ n → ⊥) → Calls Broken
   unfolding signature-at
   other-count l c e f =
-      rw (← counts-differ (depths-from k w (low-at k w 0 p) (p + 1)) (take n ds)
-      (λ i. f (omega (arith, i, depths-length k w (low-at k w 0 p) (p + 1), length-take n ds))))
+      rw (← counts-differ (depths-from k w (low-at k w at-function p) (p + 1)) (take n ds)
+      (λ i. f (omega (arith, i, depths-length k w (low-at k w at-function p) (p + 1), length-take n ds))))
 
-  module _ (c : ℕ) (ce : c ≡ low-at k w 0 p) (e : c ≡ n) (b : Bool)
+  module _ (c : ℕ) (ce : c ≡ low-at k w at-function p) (e : c ≡ n) (b : Bool)
       (f : b ≡ same (depths-from k w n (p + 1)) (take n ds)) where
-    pub call-fits : b ≡ true → (r : ℕ) → r ≡ high-at k w 0 p → Calls (Has r)
+    pub call-fits : b ≡ true → (r : ℕ) → r ≡ high-at k w at-function p → Calls (Has r)
     unfolding signature-at
     call-fits g r i = rw (← ce, e, ← f, g, i)
 
@@ -219,18 +220,14 @@ pub wrap-deep : (p e q : ℕ) (r : Typed) → r ≡ Depth e q → 4 ≤ e → Fa
 wrap-deep p e q r f h = rw (f, lt-leb (suc e) 4 (omega arith))
 
 -- at most 16 parts
-and-split : (s t : Bool) → (s && t) ≡ true → (s ≡ true) × (t ≡ true)
-and-split true t e = (refl, e)
-and-split false t e = let z : _≡_ {A = ℕ} 0 1 = cc in absurd (omega arith)
-
 abbrev under : ℕ → List ℕ → Bool
 under b [] = true
 under b (a ∷ l) = leb a b && under b l
 
 under-at : (b : ℕ) (l : List ℕ) (i : ℕ) → under b l ≡ true → getD l i 0 ≤ b
 under-at b [] i h = omega arith
-under-at b (a ∷ l) zero h = leb-true a b (and-split (leb a b) (under b l) h .0)
-under-at b (a ∷ l) (suc i) h = under-at b l i (and-split (leb a b) (under b l) h .1)
+under-at b (a ∷ l) zero h = leb-true a b (both (leb a b) (under b l) h .0)
+under-at b (a ∷ l) (suc i) h = under-at b l i (both (leb a b) (under b l) h .1)
 
 pub few-parts : (x y z : ℕ) → y ≤ getD low-limits x 0 → z ≤ getD high-limits x 0 → part-count x y z ≤ 16
 unfolding part-count

@@ -2,20 +2,23 @@
 use Prim.Native.Nat.{ℕ, zero, suc, _+_}
 use native.Mathlib.Omega.{arith}
 use mathlib.Core.Bool.{Bool, true, false, cond}
-use mathlib.Core.List.{List, [], _∷_, _++_}
+use mathlib.Core.List.{List, [], _∷_, _++_, map}
 use mathlib.Core.Option.{Option, none, some}
-use mathlib.Core.Path.{_≡_, refl, fun-ext}
+use mathlib.Core.Path.{_≡_, refl, ap, subst, fun-ext}
 use lib.Dec.{eqb, leb}
+use lib.ListN.{length}
 use Rattle.semantics.specs.Basics.{updated}
-use Rattle.semantics.specs.Number.{Operation, sum, difference, less}
+use Rattle.semantics.specs.Number.{sum, difference, less}
+use Rattle.semantics.specs.Kinds.{Leaf, operation, call, literal, index, length-of, leaf-kind, Loop, mapping}
 use Rattle.semantics.specs.Syntax as T
-use Rattle.semantics.specs.Syntax.{Expr, number, name, operation, let-in, call, literal, index, length-of, if-else}
-use Rattle.semantics.specs.Syntax.{map-over, Exprs, size, sizes}
-use Rattle.semantics.specs.File.{part-count}
-use Rattle.semantics.specs.Types.{Checked, Depths, part-depths, part-faults, Rule, node, let-rule, map-rule, map-node}
-use Rattle.semantics.specs.Types.{is-number, element, check, checks, some-if, number-rule, literal-rule, call-rule}
-use Rattle.semantics.specs.Types.{index-rule, length-rule, if-rule}
-use Rattle.script_read.proofs.Written.{amount, kind-of, Written, AllWritten}
+use Rattle.semantics.specs.Syntax.{Expr, number, name, let-in, leaf, if-else, loop, Exprs, size, sizes}
+use Rattle.semantics.specs.File as S
+use Rattle.semantics.specs.File.{part-count, leaf-of, loop-of, shape-of}
+use Rattle.semantics.specs.Types.{Checked, Depths, part-depths, part-faults, Rule, Signature, node, some-if, let-rule}
+use Rattle.semantics.specs.Types.{is-number, if-rule, leaf-rule, loop-rule, loop-node, pass-depths, depths-with, check, checks}
+use Rattle.semantics.specs.Annotate.{with-depths}
+use Rattle.script_read.proofs.Sorts.{kind-of-leaf, kind-of-loop}
+use Rattle.script_read.proofs.Written.{amount, Written, AllWritten}
 use Rattle.script_depths.specs.declared.Typed.{Typed}
 use Rattle.script_depths.specs.declared.Typed.the-variants.{Depth, Fault}
 use Rattle.script_depths.specs.Walk.{signature-of, rule-of, Parts-typed, all, fault, more, and-parts, collect}
@@ -42,6 +45,16 @@ pub next-part : {c : Checked} {cs : List Checked} {q s : ℕ} {r : Typed} (g : �
     Tells c q r → TellsAll cs s (g q) → TellsAll (c ∷ cs) s (and-parts r g)
 next-part g (good t e f) a = after-good e f a
 next-part {cs = cs} g (bad n l e f) a = one-bad n (l ++ part-faults cs) (rw e) (rw f)
+
+-- parts one after the other, from p to q, each told by f
+abbrev pub Chain : List Checked → (ℕ → Typed) → ℕ → ℕ → Type 0
+Chain [] f p q = p ≡ q
+Chain (c ∷ cs) f p q = (r : ℕ) × Tells c r (f p) × Chain cs f r q
+
+chain-tells : (cs : List Checked) (f : ℕ → Typed) (p q : ℕ) → Chain cs f p q → TellsAll cs q (collect (length cs) f p)
+unfolding collect
+chain-tells [] f p q e = rw e no-parts
+chain-tells (c ∷ cs) f p q h = next-part (collect (length cs) f) (h .1) (chain-tells cs f (h .0) q (h .2))
 
 pub by-its-rule : {cs : List Checked} {q : ℕ} {a : Parts-typed} (p : ℕ) (r : Rule) →
     TellsAll cs q a → Tells (node p r cs) q (ruled p r a)
@@ -71,6 +84,9 @@ a-let {a} {q} {s} b p m γ x (bad n l e f) h =
     by-its-rule p let-rule (one-bad n (l ++ (b .faults ++ [])) (rw e) (rw f))
 
 -- a map
+abbrev map-rule : Rule
+map-rule = loop-rule mapping
+
 map-says : (p t : ℕ) (r : Typed) → ruled p map-rule (more t (and-parts r (λ s. all [] s))) ≡ wrapped p r
 map-says p t (Depth u s) = go (leb (suc u) 4)
   where
@@ -79,24 +95,25 @@ map-says p t (Depth u s) = go (leb (suc u) 4)
     go false = refl
 map-says p t (Fault n) = refl
 
-over-array : (p : ℕ) (a b : Checked) → is-number (a .depth) ≡ false → map-node p a b ≡ node p map-rule (a ∷ b ∷ [])
-unfolding map-node
+over-array : (p : ℕ) (a b : Checked) → is-number (a .depth) ≡ false →
+    loop-node p mapping (a ∷ []) b ≡ node p map-rule (a ∷ b ∷ [])
+unfolding loop-node
 over-array p a b e = rw e
 
 over-number : (p : ℕ) (a b : Checked) → is-number (a .depth) ≡ true →
-    map-node p a b ≡ record { depth = none; faults = p ∷ (a .faults ++ b .faults) }
-unfolding map-node
+    loop-node p mapping (a ∷ []) b ≡ record { depth = none; faults = p ∷ (part-faults (a ∷ []) ++ b .faults) }
+unfolding loop-node
 over-number p a b e = rw e
 
 a-map : {a : Checked} {q s : ℕ} {r : Typed} (b : Checked) (p : ℕ) (m : (ℕ → ℕ) → ℕ → Typed) (γ : ℕ → ℕ) (x : ℕ) →
     Tells a q r → ((t : ℕ) → a .depth ≡ some (suc t) → Tells b s (m (updated γ x t) q)) →
-    Tells (map-node p a b) s (map-typed m γ x p r)
-a-map {a} {q} {s} b p m γ x (good zero e f) h =
-    rw (over-number p a b (rw e)) (bad p (a .faults ++ b .faults) refl refl)
-a-map {a} {q} {s} b p m γ x (good (suc t) e f) h =
+    Tells (loop-node p mapping (a ∷ []) b) s (map-typed m γ x p r)
+a-map {a} b p m γ x (good zero e f) h =
+    rw (over-number p a b (rw e)) (bad p (part-faults (a ∷ []) ++ b .faults) refl refl)
+a-map {a} {q} b p m γ x (good (suc t) e f) h =
     rw (over-array p a b (rw e), ← map-says p (suc t) (m (updated γ x t) q))
     (by-its-rule p map-rule (after-good e f (next-part (λ z. all [] z) (h t e) no-parts)))
-a-map {a} {q} {s} b p m γ x (bad n l e f) h =
+a-map {a} b p m γ x (bad n l e f) h =
     rw (over-array p a b (rw e)) (by-its-rule p map-rule (one-bad n (l ++ (b .faults ++ [])) (rw e) (rw f)))
 
 -- the depths of the names that a table gives: each name has one
@@ -111,88 +128,105 @@ entered γ x t = fun-ext λ y. go (eqb x y) (γ y)
     go true v = refl
     go false v = refl
 
+pub entered-all : (xs ts : List ℕ) (γ : ℕ → ℕ) →
+    depths-with xs (map (λ t. some t) ts) (known γ) ≡ known (with-depths xs ts γ)
+entered-all [] ts γ = refl
+entered-all (x ∷ xs) [] γ = refl
+entered-all (x ∷ xs) (t ∷ ts) γ = rw (entered γ x t) (entered-all xs ts (updated γ x t))
+
 module _ (k w s : List ℕ) where
-  -- sum, difference and less are alike
-  operation-typed : (m : (ℕ → ℕ) → ℕ → Typed) (γ : ℕ → ℕ) (p : ℕ) (o : Operation) →
-      typed k w s m γ p (kind-of o) 0 0 ≡ ruled p number-rule (collect 2 (m γ) (p + 1))
-  unfolding plain-typed rule-of part-count
-  operation-typed m γ p sum = refl
-  operation-typed m γ p difference = refl
-  operation-typed m γ p less = refl
+  abbrev signatures : ℕ → Signature
+  signatures = signature-of k w s
 
-  two : {a b : Checked} {q q′ : ℕ} (f : ℕ → Typed) (p : ℕ) →
-      Tells a q (f p) → Tells b q′ (f q) → TellsAll (a ∷ b ∷ []) q′ (collect 2 f p)
-  unfolding collect
-  two f p x y = next-part (collect 1 f) x (next-part (collect 0 f) y no-parts)
+  -- a leaf and a loop at p by their shapes
+  module _ (h : S.Head) (m : (ℕ → ℕ) → ℕ → Typed) (γ : ℕ → ℕ) (p : ℕ) where
+    abbrev walked : Typed
+    walked = typed k w s m γ p (h .kind) (h .low) (h .high)
 
-  three : {a b c : Checked} {q q′ q″ : ℕ} (f : ℕ → Typed) (p : ℕ) →
-      Tells a q (f p) → Tells b q′ (f q) → Tells c q″ (f q′) → TellsAll (a ∷ b ∷ c ∷ []) q″ (collect 3 f p)
-  unfolding collect
-  three f p x y z = next-part (collect 2 f) x (next-part (collect 1 f) y (next-part (collect 0 f) z no-parts))
+    leaf-typed : (l : Leaf) → h .kind ≡ leaf-kind l → shape-of h ≡ leaf-of l →
+        walked ≡ ruled p (leaf-rule signatures l) (collect (part-count (h .kind) (h .low) (h .high)) (m γ) (p + 1))
+    unfolding plain-typed rule-of
+    leaf-typed (operation sum) i e = rw i
+    leaf-typed (operation difference) i e = rw i
+    leaf-typed (operation less) i e = rw i
+    leaf-typed (call f) i e = let g = rw i at e in let f-is : h .low ≡ f = cc in rw (i, f-is)
+    leaf-typed (literal t) i e = let g = rw i at e in let t-is : h .high ≡ t = cc in rw (i, t-is)
+    leaf-typed index i e = rw i
+    leaf-typed length-of i e = rw i
 
-  abbrev Check : Expr → (ℕ → ℕ) → ℕ → Checked
-  Check e γ p = check (signature-of k w s) e (known γ) p
+    loop-tells : (c : Loop) (xs : List ℕ) (n : ℕ) → shape-of h ≡ loop-of c xs n →
+        (cs : List Checked) (b : Checked) (q r : ℕ) → length cs ≡ n → Chain cs (m γ) (p + 1) q →
+        ((ts : List ℕ) → pass-depths c cs ≡ map (λ t. some t) ts → Tells b r (m (with-depths xs ts γ) q)) →
+        Tells (loop-node p c cs b) r walked
+    loop-tells mapping xs n e cs b q r l t body =
+        let i : h .kind ≡ 13 = kind-of-loop h mapping xs n e in
+        let g = rw i at e in
+        let names : h .low ∷ [] ≡ xs = cc in
+        let count : 1 ≡ n = cc in
+        rw i (over-one cs (omega (arith, l, count)) t λ ts f. rw (← names) at (body ts f))
+      where
+        over-one : (cs : List Checked) → length cs ≡ 1 → Chain cs (m γ) (p + 1) q →
+            ((ts : List ℕ) → pass-depths mapping cs ≡ map (λ t. some t) ts →
+            Tells b r (m (with-depths (h .low ∷ []) ts γ) q)) →
+            Tells (loop-node p mapping cs b) r (map-typed m γ (h .low) p (m γ (p + 1)))
+        over-one [] l t body = absurd (omega arith)
+        over-one (a ∷ []) l t body =
+            a-map b p m γ (h .low) (subst (λ z. Tells a z (m γ (p + 1))) (t .2) (t .1)) λ u f. body (u ∷ []) (rw f)
+        over-one (a ∷ a′ ∷ cs) l t body = absurd (omega arith)
+
+  checks-length : (es : Exprs) (Γ : Depths) (p : ℕ) → length (checks signatures es Γ p) ≡ amount es
+  unfolding check
+  checks-length T.none Γ p = refl
+  checks-length (T.more e es) Γ p = ap suc (checks-length es Γ (p + size e))
 
   mutual
-    unfolding types size check part-count plain-typed rule-of collect
+    unfolding types size check plain-typed rule-of part-count
 
     pub types-tree : (e : Expr) (d : ℕ) (γ : ℕ → ℕ) (p q : ℕ) → Written k w e d p → q ≡ p + size e →
         Tells (check (signature-of k w s) e (known γ) p) q (types k w s d γ p)
-    types-tree (number z) zero γ p q h g = absurd h
-    types-tree (number z) (suc d) γ p q h g = rw h (a-leaf 0 (p + 1) q (omega arith))
-    types-tree (name x) zero γ p q h g = absurd h
-    types-tree (name x) (suc d) γ p q h g = rw (h .is) (a-leaf (γ x) (p + 1) q (omega arith))
-    types-tree (operation o a b) zero γ p q h g = absurd h
-    types-tree (operation o a b) (suc d) γ p q h g =
-        rw (h .0 .is, operation-typed (types k w s d) γ p o)
-        (by-its-rule p number-rule (two (types k w s d γ) (p + 1)
-        (types-tree a d γ (p + 1) (p + 1 + size a) (h .1) refl)
-        (types-tree b d γ (p + 1 + size a) q (h .2) (omega arith))))
-    types-tree (let-in x a b) zero γ p q h g = absurd h
-    types-tree (let-in x a b) (suc d) γ p q h g =
-        rw (h .0 .is)
-        (a-let (check (signature-of k w s) b (updated (known γ) x (Check a γ (p + 1) .depth)) (p + 1 + size a))
-        p (types k w s d) γ x
-        (types-tree a d γ (p + 1) (p + 1 + size a) (h .1) refl)
-        λ t e. rw (e, entered γ x t) (types-tree b d (updated γ x t) (p + 1 + size a) q (h .2) (omega arith)))
-    types-tree (call f es) zero γ p q h g = absurd h
-    types-tree (call f es) (suc d) γ p q h g =
-        rw (h .0 .is) (by-its-rule p (call-rule (signature-of k w s f))
-        (types-trees es d γ (p + 1) q (h .1) (omega arith)))
-    types-tree (literal t es) zero γ p q h g = absurd h
-    types-tree (literal t es) (suc d) γ p q h g =
-        rw (h .0 .is) (by-its-rule p (literal-rule t) (types-trees es d γ (p + 1) q (h .1) (omega arith)))
-    types-tree (index a b) zero γ p q h g = absurd h
-    types-tree (index a b) (suc d) γ p q h g =
-        rw (h .0 .is)
-        (by-its-rule p index-rule (two (types k w s d γ) (p + 1)
-        (types-tree a d γ (p + 1) (p + 1 + size a) (h .1) refl)
-        (types-tree b d γ (p + 1 + size a) q (h .2) (omega arith))))
-    types-tree (length-of a) zero γ p q h g = absurd h
-    types-tree (length-of a) (suc d) γ p q h g =
-        rw (h .0 .is)
-        (by-its-rule p length-rule
-        (next-part (collect 0 (types k w s d γ)) (types-tree a d γ (p + 1) q (h .1) (omega arith)) no-parts))
-    types-tree (if-else a b c) zero γ p q h g = absurd h
-    types-tree (if-else a b c) (suc d) γ p q h g =
-        rw (h .0 .is)
-        (by-its-rule p if-rule (three (types k w s d γ) (p + 1)
-        (types-tree a d γ (p + 1) (p + 1 + size a) (h .1) refl)
-        (types-tree b d γ (p + 1 + size a) (p + 1 + size a + size b) (h .2) refl)
-        (types-tree c d γ (p + 1 + size a + size b) q (h .3) (omega arith))))
-    types-tree (map-over x a b) zero γ p q h g = absurd h
-    types-tree (map-over x a b) (suc d) γ p q h g =
-        rw (h .0 .is)
-        (a-map (check (signature-of k w s) b (updated (known γ) x (element (Check a γ (p + 1) .depth)))
-        (p + 1 + size a))
-        p (types k w s d) γ x
-        (types-tree a d γ (p + 1) (p + 1 + size a) (h .1) refl)
-        λ t e. rw (e, entered γ x t) (types-tree b d (updated γ x t) (p + 1 + size a) q (h .2) (omega arith)))
+    types-tree (number z) d γ p q h g = rw (h .0 .is, h .1) (a-leaf 0 (p + 1) q (omega arith))
+    types-tree (name x) d γ p q h g = rw (h .0 .is, h .1 .is) (a-leaf (γ x) (p + 1) q (omega arith))
+    types-tree (let-in x a b) d γ p q h g =
+        let i = h .0 .below in
+        rw (h .0 .is, h .1 .is)
+        (a-let (check signatures b (updated (known γ) x (check signatures a (known γ) (p + 1) .depth)) (p + 1 + size a))
+        p (types k w s i) γ x
+        (types-tree a i γ (p + 1) (p + 1 + size a) (h .2) refl)
+        λ t e. rw (e, entered γ x t) (types-tree b i (updated γ x t) (p + 1 + size a) q (h .3) (omega arith)))
+    types-tree (leaf l es) d γ p q h g =
+        let i = h .0 .below in
+        let cs = checks signatures es (known γ) (p + 1) in
+        let e = h .1 .shape-is in
+        let typed-so = leaf-typed (h .1 .node) (types k w s i) γ p l (kind-of-leaf (h .1 .node) l e) e in
+        rw (h .0 .is, h .1 .is, typed-so, h .1 .count, ← checks-length es (known γ) (p + 1))
+        (by-its-rule p (leaf-rule signatures l)
+        (chain-tells cs (types k w s i γ) (p + 1) q (types-trees es i γ (p + 1) q (h .2) (omega arith))))
+    types-tree (if-else a b c) d γ p q h g =
+        let i = h .0 .below in
+        rw (h .0 .is, h .1 .is)
+        (by-its-rule p if-rule (chain-tells (_ ∷ _ ∷ _ ∷ []) (types k w s i γ) (p + 1) q (
+          p + 1 + size a,
+          types-tree a i γ (p + 1) (p + 1 + size a) (h .2) refl,
+          (
+            p + 1 + size a + size b,
+            types-tree b i γ (p + 1 + size a) (p + 1 + size a + size b) (h .3) refl,
+            (q, types-tree c i γ (p + 1 + size a + size b) q (h .4) (omega arith), refl),
+          ),
+        )))
+    types-tree (loop c xs es b) d γ p q h g =
+        let i = h .0 .below in
+        let cs = checks signatures es (known γ) (p + 1) in
+        rw (h .0 .is, h .1 .is)
+        (loop-tells (h .1 .node) (types k w s i) γ p c xs (amount es) (h .1 .shape-is) cs _ (p + 1 + sizes es) q
+        (checks-length es (known γ) (p + 1)) (types-trees es i γ (p + 1) (p + 1 + sizes es) (h .2) refl)
+        λ ts e. rw (e, entered-all xs ts γ)
+        (types-tree b i (with-depths xs ts γ) (p + 1 + sizes es) q (h .3) (omega arith)))
 
     types-trees : (es : Exprs) (d : ℕ) (γ : ℕ → ℕ) (p q : ℕ) → AllWritten k w es d p → q ≡ p + sizes es →
-        TellsAll (checks (signature-of k w s) es (known γ) p) q (collect (amount es) (types k w s d γ) p)
-    types-trees T.none d γ p q h g = let e : q ≡ p = omega arith in rw e no-parts
-    types-trees (T.more e es) d γ p q h g =
-        next-part (collect (amount es) (types k w s d γ))
-        (types-tree e d γ p (p + size e) (h .0) refl)
-        (types-trees es d γ (p + size e) q (h .1) (omega arith))
+        Chain (checks (signature-of k w s) es (known γ) p) (types k w s d γ) p q
+    types-trees T.none d γ p q h g = omega arith
+    types-trees (T.more e es) d γ p q h g = (
+      p + size e,
+      types-tree e d γ p (p + size e) (h .0) refl,
+      types-trees es d γ (p + size e) q (h .1) (omega arith),
+    )

@@ -1,14 +1,13 @@
 -- Depths, found by going over the nodes: the same walk as the code's, with the names' depths as a function.
-use mathlib.Core.Path.{_≡_}
 use mathlib.Core.Bool.{cond}
 use mathlib.Core.List.{List, [], _∷_}
 use mathlib.Core.Option.{Option, none, some}
-use Prim.Native.Nat.{ℕ, zero, suc, _+_, _≤_}
+use Prim.Native.Nat.{ℕ, zero, suc, _+_}
 use lib.Dec.{leb, eqb}
-use lib.ListN.{length, getD}
+use lib.ListN.{getD}
 use Rattle.semantics.specs.Basics.{updated}
 use Rattle.semantics.specs.File as S
-use Rattle.semantics.specs.File.{node-at, part-count}
+use Rattle.semantics.specs.File.{at-function, at-parameter, at-part, node-at, part-count}
 use Rattle.semantics.specs.Types.{Rule, Signature, number-rule, literal-rule, call-rule, index-rule, length-rule}
 use Rattle.semantics.specs.Types.{if-rule}
 use Rattle.script_read.specs.Told.{low-at, high-at}
@@ -26,13 +25,13 @@ module _ (kinds operands : List ℕ) where
   -- the depths of so many parameters
   unfoldable pub depths-from : ℕ → ℕ → List ℕ
   depths-from zero p = []
-  depths-from (suc n) p = high-at kinds operands 1 p ∷ depths-from n (p + 1)
+  depths-from (suc n) p = high-at kinds operands at-parameter p ∷ depths-from n (p + 1)
 
   -- the signature of the function at node p
   unfoldable pub signature-at : ℕ → Signature
   signature-at p = record {
-    parameters = depths-from (low-at kinds operands 0 p) (p + 1);
-    result = high-at kinds operands 0 p;
+    parameters = depths-from (low-at kinds operands at-function p) (p + 1);
+    result = high-at kinds operands at-function p;
   }
 
   -- the functions' nodes stand in a table; 1,024 is past every file
@@ -117,4 +116,4 @@ module _ (kinds operands starts : List ℕ) where
   -- a part, with so many levels left
   unfoldable pub types : ℕ → (ℕ → ℕ) → ℕ → Typed
   types zero γ p = Fault p
-  types (suc d) γ p = typed-node (types d) γ p (node-at kinds operands 2 13 p)
+  types (suc d) γ p = typed-node (types d) γ p (node-at kinds operands at-part p)

@@ -1,9 +1,10 @@
 // Refusal 7: the depth of each part, or a node that breaks the rule.
 // One table of the depths of the 256 names is changed at a let or a map and put back after it.
 use script_read::Node;
+use script_read::Place;
 ghost use mathlib.Core.Path.{_≡_};
-ghost use Prim.Native.Nat.{_+_, _*_, _^_, _<_, _≤_, min};
-ghost use lib.ListN.{length, getD, set, take};
+ghost use Prim.Native.Nat.{_+_, _<_, _≤_, min};
+ghost use lib.ListN.{length, getD, take};
 ghost use Rattle.semantics.specs.File.{low-limits, high-limits, part-count};
 ghost use Rattle.semantics.specs.Types.{all-are, same, call-rule};
 ghost use Rattle.script_depths.specs.Walk.{depths, depths-from, signature-at, signature-of};
@@ -45,7 +46,7 @@ fn parameters_match(kinds: &[u8], operands: &[u8], at: usize, ds: &[u8], n: usiz
 {
     let mut i: usize = 0;
     while i < n {
-        if script_read::high_at(kinds, operands, at + i, 1) != ds[i] {
+        if script_read::high_at(kinds, operands, at + i, Place::Parameter) != ds[i] {
             return false;
         }
         i = i + 1;
@@ -60,11 +61,11 @@ fn judge_call(kinds: &[u8], operands: &[u8], start: usize, ds: &[u8], n: u8) -> 
         r ≡ told-rule
         (call-rule (signature-at (now (kinds .entry)) (now (operands .entry)) start) (take n (now (ds .entry)))) ⌝ }
 {
-    if script_read::low_at(kinds, operands, start, 0) != n {
+    if script_read::low_at(kinds, operands, start, Place::Function) != n {
         return Judged::Broken;
     }
     if parameters_match(kinds, operands, start + 1, ds, n as usize) {
-        return Judged::Has(script_read::high_at(kinds, operands, start, 0));
+        return Judged::Has(script_read::high_at(kinds, operands, start, Place::Function));
     }
     Judged::Broken
 }
@@ -181,7 +182,7 @@ fn type_part(
     if levels == 0 {
         return Typed::Fault(at);
     }
-    match script_read::node_at(kinds, operands, at, 2, 13) {
+    match script_read::node_at(kinds, operands, at, Place::Part) {
         Node::Fits(kind, low, high) => {
             if kind == 2 {
                 return Typed::Depth(0, at + 1);

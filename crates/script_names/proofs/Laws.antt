@@ -6,9 +6,9 @@ use Prim.Native.Nat.{ℕ, zero, suc, _+_, _-_, _<_}
 use native.Mathlib.Omega.{arith}
 use lib.ListN.{length, getD, set, replicate}
 use borrow.Author.Tests.{eq-eqb, ne-eqb}
-use mathlib.Core.Logic.{_⊎_, inl, inr}
+use mathlib.Core.Logic.{_⊎_, ⊎-elim}
 use Rattle.semantics.specs.File as S
-use Rattle.semantics.specs.File.{node-at, part-count}
+use Rattle.semantics.specs.File.{at-function, at-parameter, at-part, node-at, part-count}
 use Rattle.semantics.specs.Names.{Scope}
 use Rattle.script_read.specs.Told.{told-node, repeated}
 use Rattle.script_read.specs.declared.Node.{Node}
@@ -25,7 +25,7 @@ pub no-levels : (k w : List ℕ) (F d : ℕ) (ρ : Scope) (p : ℕ) → d ≡ 0 
 unfolding names
 no-levels k w F d ρ p e = rw e
 
-module _ {k w : List ℕ} {p x y z : ℕ} (s : Seen k w 2 13 p x y z) (F d : ℕ) (ρ : Scope) (deep : d ≡ 0 → ⊥) where
+module _ {k w : List ℕ} {p x y z : ℕ} (s : Seen k w at-part p x y z) (F d : ℕ) (ρ : Scope) (deep : d ≡ 0 → ⊥) where
   case : names k w F d ρ p ≡ named F (names k w F (d - 1)) ρ p x y z
   unfolding names
   case = ap (λ (n : ℕ). names k w F n ρ p) (less-one d deep) ∙ go (d - 1)
@@ -53,16 +53,11 @@ module _ {k w : List ℕ} {p x y z : ℕ} (s : Seen k w 2 13 p x y z) (F d : ℕ
       others g n i r j = j ∙ sym (case ∙ rw (ne-eqb x 3 e, f, g, ← i))
 
 -- no node fits
-pub no-node : (k w : List ℕ) (F d : ℕ) (ρ : Scope) (p : ℕ) (n : Node) → n ≡ told-node (node-at k w 2 13 p) →
+pub no-node : (k w : List ℕ) (F d : ℕ) (ρ : Scope) (p : ℕ) (n : Node) → n ≡ told-node (node-at k w at-part p) →
     (n ≡ WrongKind) ⊎ (n ≡ WrongOperand) → Refused 6 p ≡ names k w F d ρ p
 unfolding names
 no-node k w F zero ρ p n e f = refl
-no-node k w F (suc d) ρ p n e f = go (unfit k w 2 13 p n e f .is)
-  where
-    go : (node-at k w 2 13 p ≡ S.wrong-kind) ⊎ (node-at k w 2 13 p ≡ S.wrong-operand) →
-        Refused 6 p ≡ names k w F (suc d) ρ p
-    go (inl g) = rw g
-    go (inr g) = rw g
+no-node k w F (suc d) ρ p n e f = ⊎-elim (λ g. rw g) (λ g. rw g) (unfit k w at-part p n e f .is)
 
 pub at-scope : (t : List Bool) (y : ℕ) (b : Bool) → getD t y false ≡ b → scope t y ≡ b
 at-scope t y b e = table-at false t y ∙ e
@@ -87,16 +82,16 @@ unbound m ρ x p n q r e f = rw (← e, f)
 -- parameters
 module _ (k w : List ℕ) (F : ℕ) where
   from-step : (c : ℕ) (ρ : Scope) (p : ℕ) → 0 < c →
-      names-from k w F c ρ p ≡ named-parameter (names-from k w F (c - 1)) ρ p (node-at k w 1 1 p)
+      names-from k w F c ρ p ≡ named-parameter (names-from k w F (c - 1)) ρ p (node-at k w at-parameter p)
   unfolding names-from
   from-step c ρ p h = ap (λ (n : ℕ). names-from k w F n ρ p) (less-one c (omega arith))
 
   module _ (r : Read) (c p : ℕ) (t : List Bool) (inv : r ≡ names-from k w F c (scope t) p) (h : 0 < c) where
-    pub parameter-known : {x y z : ℕ} → Seen k w 1 1 p x y z → getD t y false ≡ true → Refused 6 p ≡ r
+    pub parameter-known : {x y z : ℕ} → Seen k w at-parameter p x y z → getD t y false ≡ true → Refused 6 p ≡ r
     parameter-known {x} {y} {z} s e =
         sym (inv ∙ from-step c (scope t) p h ∙ rw (s .stands, s .same-low, at-scope t y true e))
 
-    pub parameter-new : {x y z : ℕ} → Seen k w 1 1 p x y z → length t ≡ 256 → y < 256 → getD t y false ≡ false →
+    pub parameter-new : {x y z : ℕ} → Seen k w at-parameter p x y z → length t ≡ 256 → y < 256 → getD t y false ≡ false →
         r ≡ names-from k w F (c - 1) (scope (set t y true)) (p + 1)
     parameter-new {x} {y} {z} s l b e =
         inv ∙ from-step c (scope t) p h ∙ ap
@@ -107,34 +102,26 @@ module _ (k w : List ℕ) (F : ℕ) where
             (scope (set t y true)) (p + 1)
         go = rw (s .same-low, at-scope t y false e, table-set false t y true (omega arith))
 
-    pub parameter-none : (n : Node) → n ≡ told-node (node-at k w 1 1 p) → (n ≡ WrongKind) ⊎ (n ≡ WrongOperand) →
+    pub parameter-none : (n : Node) → n ≡ told-node (node-at k w at-parameter p) → (n ≡ WrongKind) ⊎ (n ≡ WrongOperand) →
         Refused 6 p ≡ r
-    parameter-none n e f = sym (inv ∙ from-step c (scope t) p h ∙ go (unfit k w 1 1 p n e f .is))
-      where
-        go : (node-at k w 1 1 p ≡ S.wrong-kind) ⊎ (node-at k w 1 1 p ≡ S.wrong-operand) →
-            named-parameter (names-from k w F (c - 1)) (scope t) p (node-at k w 1 1 p) ≡ Refused 6 p
-        go (inl g) = rw g
-        go (inr g) = rw g
+    parameter-none n e f =
+        sym (inv ∙ from-step c (scope t) p h
+        ∙ ⊎-elim (λ g. rw g) (λ g. rw g) (unfit k w at-parameter p n e f .is))
 
   pub body-next : (r : Read) (c : ℕ) (ρ : Scope) (p : ℕ) → c ≡ 0 → r ≡ names k w F 64 ρ p → r ≡ names-from k w F c ρ p
   unfolding names-from
   body-next r c ρ p e f = rw e f
 
-  pub function-next : {p x y z : ℕ} → Seen k w 0 0 p x y z → (r : Read) →
+  pub function-next : {p x y z : ℕ} → Seen k w at-function p x y z → (r : Read) →
       r ≡ names-from k w F y (scope (replicate 256 false)) (p + 1) → r ≡ names-function k w F p
   unfolding names-function
   function-next {p} {x} {y} {z} s r e = e ∙ ap (λ (ρ : Scope). names-from k w F y ρ (p + 1)) (table-fresh false 256)
       ∙ sym go
     where
-      go : named-head (names-from k w F) p (node-at k w 0 0 p) ≡ names-from k w F y (λ x. false) (p + 1)
+      go : named-head (names-from k w F) p (node-at k w at-function p) ≡ names-from k w F y (λ x. false) (p + 1)
       go = rw (s .stands, s .same-low)
 
-  pub function-none : (p : ℕ) (n : Node) → n ≡ told-node (node-at k w 0 0 p) → (n ≡ WrongKind) ⊎ (n ≡ WrongOperand) →
+  pub function-none : (p : ℕ) (n : Node) → n ≡ told-node (node-at k w at-function p) → (n ≡ WrongKind) ⊎ (n ≡ WrongOperand) →
       Refused 6 p ≡ names-function k w F p
   unfolding names-function
-  function-none p n e f = go (unfit k w 0 0 p n e f .is)
-    where
-      go : (node-at k w 0 0 p ≡ S.wrong-kind) ⊎ (node-at k w 0 0 p ≡ S.wrong-operand) →
-          Refused 6 p ≡ names-function k w F p
-      go (inl g) = rw g
-      go (inr g) = rw g
+  function-none p n e f = ⊎-elim (λ g. rw g) (λ g. rw g) (unfit k w at-function p n e f .is)

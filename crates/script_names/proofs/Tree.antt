@@ -1,36 +1,56 @@
 -- The walk for names finds the first of the nodes that break the rule.
-use Prim.Native.Nat.{ℕ, zero, suc, _+_}
+use Prim.Native.Nat.{ℕ, suc, _+_}
 use native.Mathlib.Omega.{arith}
 use mathlib.Core.Bool.{Bool, true, false, cond, not}
 use mathlib.Core.List.{List, [], _∷_}
 use mathlib.Core.Path.{_≡_, refl, ap}
-use lib.Dec.{leb}
 use lib.ListN.{length}
 use Rattle.semantics.specs.Basics.{with-if, updated}
-use Rattle.semantics.specs.Number.{Operation, sum, difference, less}
-use Rattle.semantics.specs.Syntax.{Expr, number, name, operation, let-in, call, literal, index, length-of, if-else}
-use Rattle.semantics.specs.Syntax.{map-over, Exprs, none, more, size, sizes, Parameter, Function, Script}
-use Rattle.semantics.specs.Syntax.{function-size}
-use Rattle.semantics.specs.File.{part-count}
-use Rattle.semantics.specs.Names.{Scope, unknown, unknowns, unknown-from, unknown-in}
-use Rattle.script_read.specs.Told.{repeated}
+use Rattle.semantics.specs.Number.{sum, difference, less}
+use Rattle.semantics.specs.Kinds.{Leaf, operation, call, literal, index, length-of, leaf-kind, Loop, mapping}
+use Rattle.semantics.specs.Syntax.{Expr, number, name, let-in, leaf, if-else, loop, Exprs, none, more, size, sizes}
+use Rattle.semantics.specs.Syntax.{Parameter, Function, Script, function-size}
+use Rattle.semantics.specs.File as S
+use Rattle.semantics.specs.File.{part-count, leaf-of, loop-of, shape-of}
+use Rattle.semantics.specs.Names.{Scope, scope-with, calls-none, unknown, unknowns, unknown-from, unknown-in}
+use Rattle.script_read.specs.Told.{and-next, repeated}
 use Rattle.script_read.specs.declared.Read.{Read}
 use Rattle.script_read.specs.declared.Read.the-variants.{Next, Refused}
-use Rattle.script_read.proofs.Written.{amount, kind-of, Written, AllWritten, ParametersWritten, FunctionWritten}
-use Rattle.script_read.proofs.Written.{ScriptWritten}
-use Rattle.script_read.proofs.Found.{Finds, follow, one, two, three, found-if}
+use Rattle.script_read.proofs.Sorts.{kind-of-leaf, kind-of-loop}
+use Rattle.script_read.proofs.Turns.{and-none}
+use Rattle.script_read.proofs.Written.{amount, Written, AllWritten, ParametersWritten, FunctionWritten, ScriptWritten}
+use Rattle.script_read.proofs.Found.{Finds, follow, three, found-if}
 use Rattle.script_names.specs.Walk.{names, named, names-from, names-function}
 
 name-found : (b : Bool) (p q : ℕ) → p + 1 ≡ q → Finds 6 (cond b (Next (p + 1)) (Refused 6 p)) (with-if (not b) p []) q
 name-found true p q e = record { is = ap Next e }
 name-found false p q e = record { is = refl }
 
-operation-named : (F : ℕ) (m : Scope → ℕ → Read) (known : Scope) (p : ℕ) (o : Operation) →
-    named F m known p (kind-of o) 0 0 ≡ repeated 2 (m known) (p + 1)
-unfolding part-count
-operation-named F m known p sum = refl
-operation-named F m known p difference = refl
-operation-named F m known p less = refl
+-- a leaf and a loop by their shapes
+module _ (F : ℕ) (m : Scope → ℕ → Read) (known : Scope) (p : ℕ) (h : S.Head) where
+  abbrev Named : Read → Type 0
+  Named r = named F m known p (h .kind) (h .low) (h .high) ≡ r
+
+  leaf-named : (l : Leaf) → h .kind ≡ leaf-kind l → shape-of h ≡ leaf-of l →
+      Named (cond (calls-none F l) (Refused 6 p)
+      (repeated (part-count (h .kind) (h .low) (h .high)) (m known) (p + 1)))
+  leaf-named (operation sum) k e = rw k
+  leaf-named (operation difference) k e = rw k
+  leaf-named (operation less) k e = rw k
+  leaf-named (call f) k e = let g = rw k at e in let f-is : h .low ≡ f = cc in rw (k, f-is)
+  leaf-named (literal d) k e = rw k
+  leaf-named index k e = rw k
+  leaf-named length-of k e = rw k
+
+  loop-named : (c : Loop) (xs : List ℕ) (n : ℕ) → shape-of h ≡ loop-of c xs n →
+      Named (and-next (repeated n (m known) (p + 1)) (m (scope-with xs known)))
+  unfolding repeated
+  loop-named mapping xs n e =
+      let k = kind-of-loop h mapping xs n e in
+      let g = rw k at e in
+      let names : h .low ∷ [] ≡ xs = cc in
+      let count : 1 ≡ n = cc in
+      rw (k, ← names, ← count, and-none (m known (p + 1)))
 
 module _ (k w : List ℕ) (F : ℕ) where
   mutual
@@ -38,50 +58,33 @@ module _ (k w : List ℕ) (F : ℕ) where
 
     pub names-tree : (e : Expr) (d : ℕ) (known : Scope) (p q : ℕ) → Written k w e d p → q ≡ p + size e →
         Finds 6 (names k w F d known p) (unknown F e known p) q
-    names-tree (number z) zero known p q h g = absurd h
-    names-tree (number z) (suc d) known p q h g = rw h (record { is = ap Next (omega arith) })
-    names-tree (name x) zero known p q h g = absurd h
-    names-tree (name x) (suc d) known p q h g = rw (h .is) (name-found (known x) p q (omega arith))
-    names-tree (operation o a b) zero known p q h g = absurd h
-    names-tree (operation o a b) (suc d) known p q h g =
-        rw (h .0 .is, operation-named F (names k w F d) known p o)
-        (two (names k w F d known) (p + 1)
-        (names-tree a d known (p + 1) (p + 1 + size a) (h .1) refl)
-        (names-tree b d known (p + 1 + size a) q (h .2) (omega arith)))
-    names-tree (let-in x a b) zero known p q h g = absurd h
-    names-tree (let-in x a b) (suc d) known p q h g =
-        rw (h .0 .is)
-        (follow (names k w F d (updated known x true))
-        (names-tree a d known (p + 1) (p + 1 + size a) (h .1) refl)
-        (names-tree b d (updated known x true) (p + 1 + size a) q (h .2) (omega arith)))
-    names-tree (call f es) zero known p q h g = absurd h
-    names-tree (call f es) (suc d) known p q h g =
-        rw (h .0 .is) (found-if (leb F f) p (names-trees es d known (p + 1) q (h .1) (omega arith)))
-    names-tree (literal t es) zero known p q h g = absurd h
-    names-tree (literal t es) (suc d) known p q h g =
-        rw (h .0 .is) (names-trees es d known (p + 1) q (h .1) (omega arith))
-    names-tree (index a b) zero known p q h g = absurd h
-    names-tree (index a b) (suc d) known p q h g =
-        rw (h .0 .is)
-        (two (names k w F d known) (p + 1)
-        (names-tree a d known (p + 1) (p + 1 + size a) (h .1) refl)
-        (names-tree b d known (p + 1 + size a) q (h .2) (omega arith)))
-    names-tree (length-of a) zero known p q h g = absurd h
-    names-tree (length-of a) (suc d) known p q h g =
-        rw (h .0 .is) (one (names k w F d known) (p + 1) (names-tree a d known (p + 1) q (h .1) (omega arith)))
-    names-tree (if-else a b c) zero known p q h g = absurd h
-    names-tree (if-else a b c) (suc d) known p q h g =
-        rw (h .0 .is)
-        (three (names k w F d known) (p + 1)
-        (names-tree a d known (p + 1) (p + 1 + size a) (h .1) refl)
-        (names-tree b d known (p + 1 + size a) (p + 1 + size a + size b) (h .2) refl)
-        (names-tree c d known (p + 1 + size a + size b) q (h .3) (omega arith)))
-    names-tree (map-over x a b) zero known p q h g = absurd h
-    names-tree (map-over x a b) (suc d) known p q h g =
-        rw (h .0 .is)
-        (follow (names k w F d (updated known x true))
-        (names-tree a d known (p + 1) (p + 1 + size a) (h .1) refl)
-        (names-tree b d (updated known x true) (p + 1 + size a) q (h .2) (omega arith)))
+    names-tree (number z) d known p q h g = rw (h .0 .is, h .1) (record { is = ap Next (omega arith) })
+    names-tree (name x) d known p q h g = rw (h .0 .is, h .1 .is) (name-found (known x) p q (omega arith))
+    names-tree (let-in x a b) d known p q h g =
+        let i = h .0 .below in
+        rw (h .0 .is, h .1 .is)
+        (follow (names k w F i (updated known x true))
+        (names-tree a i known (p + 1) (p + 1 + size a) (h .2) refl)
+        (names-tree b i (updated known x true) (p + 1 + size a) q (h .3) (omega arith)))
+    names-tree (leaf l es) d known p q h g =
+        let i = h .0 .below in
+        let s = h .1 .shape-is in
+        let named-so = leaf-named F (names k w F i) known p (h .1 .node) l (kind-of-leaf (h .1 .node) l s) s in
+        rw (h .0 .is, h .1 .is, named-so, h .1 .count)
+        (found-if (calls-none F l) p (names-trees es i known (p + 1) q (h .2) (omega arith)))
+    names-tree (if-else a b c) d known p q h g =
+        let i = h .0 .below in
+        rw (h .0 .is, h .1 .is)
+        (three (names k w F i known) (p + 1)
+        (names-tree a i known (p + 1) (p + 1 + size a) (h .2) refl)
+        (names-tree b i known (p + 1 + size a) (p + 1 + size a + size b) (h .3) refl)
+        (names-tree c i known (p + 1 + size a + size b) q (h .4) (omega arith)))
+    names-tree (loop c xs es b) d known p q h g =
+        let i = h .0 .below in
+        rw (h .0 .is, h .1 .is, loop-named F (names k w F i) known p (h .1 .node) c xs (amount es) (h .1 .shape-is))
+        (follow (names k w F i (scope-with xs known))
+        (names-trees es i known (p + 1) (p + 1 + sizes es) (h .2) refl)
+        (names-tree b i (scope-with xs known) (p + 1 + sizes es) q (h .3) (omega arith)))
 
     names-trees : (es : Exprs) (d : ℕ) (known : Scope) (p q : ℕ) → AllWritten k w es d p → q ≡ p + sizes es →
         Finds 6 (repeated (amount es) (names k w F d known) p) (unknowns F es known p) q

@@ -5,7 +5,7 @@ use Prim.Native.Nat.{ℕ, zero, suc, _+_}
 use lib.Dec.{leb, eqb}
 use Rattle.semantics.specs.Basics.{updated}
 use Rattle.semantics.specs.File as S
-use Rattle.semantics.specs.File.{node-at, part-count}
+use Rattle.semantics.specs.File.{at-function, at-parameter, at-part, node-at, part-count}
 use Rattle.semantics.specs.Names.{Scope}
 use Rattle.script_read.specs.Told.{and-next, repeated}
 use Rattle.script_read.specs.Table.{table}
@@ -57,12 +57,12 @@ module _ (kinds operands : List ℕ) (functions : ℕ) where
   -- a part, with so many levels left
   unfoldable pub names : ℕ → Scope → ℕ → Read
   names zero known p = Refused 6 p
-  names (suc d) known p = named-node functions (names d) known p (node-at kinds operands 2 13 p)
+  names (suc d) known p = named-node functions (names d) known p (node-at kinds operands at-part p)
 
   -- so many parameters, each at its node, and then the body
   unfoldable pub names-from : ℕ → Scope → ℕ → Read
   names-from zero known p = names 64 known p
-  names-from (suc c) known p = named-parameter (names-from c) known p (node-at kinds operands 1 1 p)
+  names-from (suc c) known p = named-parameter (names-from c) known p (node-at kinds operands at-parameter p)
 
   unfoldable pub names-function : ℕ → Read
-  names-function p = named-head names-from p (node-at kinds operands 0 0 p)
+  names-function p = named-head names-from p (node-at kinds operands at-function p)

@@ -1,12 +1,11 @@
 // Refusal 6: a node that names nothing known, or a parameter name that is repeated.
 // One table of the 256 names is changed at a binding and put back after it.
 use script_read::Node;
+use script_read::Place;
 use script_read::Read;
 ghost use mathlib.Core.Path.{_≡_};
-ghost use mathlib.Core.Bool.{_&&_, _||_};
-ghost use Prim.Native.Nat.{_+_, _*_, _^_, _<_, _≤_};
-ghost use lib.Dec.{eqb, leb};
-ghost use lib.ListN.{length, getD, set};
+ghost use Prim.Native.Nat.{_+_, _<_};
+ghost use lib.ListN.{length, set};
 ghost use Rattle.script_read.specs.Told.{repeated, marked};
 ghost use Rattle.script_names.specs.Walk.{scope, binds, calls-none, names, then-bound, names-from};
 ghost use Rattle.script_names.specs.Walk.{names-function};
@@ -48,7 +47,7 @@ fn name_part(
     if levels == 0 {
         return Read::Refused(6, at);
     }
-    match script_read::node_at(kinds, operands, at, 2, 13) {
+    match script_read::node_at(kinds, operands, at, Place::Part) {
         Node::Fits(kind, low, high) => {
             if kind == 3 {
                 if known[low as usize] {
@@ -153,7 +152,7 @@ fn name_parameters(
     let mut p = at;
     let mut left = count;
     while 0 < left {
-        match script_read::node_at(kinds, operands, p, 1, 1) {
+        match script_read::node_at(kinds, operands, p, Place::Parameter) {
             Node::Fits(_, low, _) => {
                 let x = low as usize;
                 if known[x] {
@@ -178,7 +177,7 @@ fn name_parameters(
 fn name_function(kinds: &[u8], operands: &[u8], functions: u8, at: usize) -> Read
     ensures { λ r. ⌜ r ≡ names-function (now (kinds .entry)) (now (operands .entry)) functions at ⌝ }
 {
-    match script_read::node_at(kinds, operands, at, 0, 0) {
+    match script_read::node_at(kinds, operands, at, Place::Function) {
         Node::Fits(_, count, _) => {
             let mut known = [false; 256];
             name_parameters(kinds, operands, functions, &mut known[..], at + 1, count)

@@ -3,24 +3,24 @@ use Prim.Native.Nat.{ℕ, zero, suc, _+_, _<_, _≤_}
 use native.Mathlib.Omega.{arith}
 use mathlib.Core.Bool.{Bool, true, false, cond, not}
 use mathlib.Core.Path.{_≡_, refl}
-use mathlib.Core.Logic.{_⊎_, inl, inr}
-use mathlib.Core.Option.{Option, none, some}
+use mathlib.Core.Logic.{inl, inr}
+use mathlib.Core.Option.{none, some}
 use mathlib.Core.List.{List, [], _∷_, _++_}
 use lib.ListN.{length}
-use lib.Dec.{ltb, leb, eqb}
+use lib.Dec.{ltb}
 use Rattle.semantics.specs.Basics.{with-if, occurrences, _∈_, updated}
+use Rattle.semantics.specs.Kinds.{Loop}
 use Rattle.semantics.specs.Syntax as S
-use Rattle.semantics.specs.Syntax.{Expr, number, name, operation, let-in, call, literal, index, length-of, if-else}
-use Rattle.semantics.specs.Syntax.{map-over, Exprs, size, sizes, Parameter, Function, Script, function-size}
-use Rattle.semantics.specs.Names.{Scope, unknown, unknowns, unknown-from, unknown-in}
-use Rattle.semantics.specs.Types as T
-use Rattle.semantics.specs.Types.{Checked, Depths, Rule, Signature, node, map-node, part-faults, breaks, part-depths}
-use Rattle.semantics.specs.Types.{is-number, element, check, checks, check-function, function-faults, parameter-depths}
-use Rattle.semantics.specs.Types.{number-rule, let-rule, call-rule, literal-rule, index-rule, length-rule, if-rule}
-use Rattle.semantics.specs.Types.{map-rule, result-rule}
+use Rattle.semantics.specs.Syntax.{Expr, number, name, let-in, leaf, if-else, loop, Exprs, size, sizes, Parameter}
+use Rattle.semantics.specs.Syntax.{Function, Script, function-size}
+use Rattle.semantics.specs.Names.{Scope, scope-with, calls-none, unknown, unknowns, unknown-from, unknown-in}
+use Rattle.semantics.specs.Types.{Checked, Depths, Rule, Signature, node, part-faults, breaks, part-depths, is-number}
+use Rattle.semantics.specs.Types.{let-rule, if-rule, leaf-rule, loop-rule, array-depth, pass-depths, depths-with}
+use Rattle.semantics.specs.Types.{loop-node, check, checks, check-function, function-faults, parameter-depths}
+use Rattle.semantics.specs.Types.{result-rule}
 use Rattle.semantics.specs.Normal.{fresh, too-many-names-from}
 use Rattle.sound_base.specs.Lists.{occurrences-append, hits}
-use Rattle.script_nodes.specs.Reading.{total}
+use Rattle.script_read.proofs.Written.{total}
 
 -- every number of a list is below b
 pub record Below (l : List ℕ) (b : ℕ) : Type 0 where
@@ -56,23 +56,17 @@ module _ (functions : ℕ) where
     names-below : (e : Expr) (known : Scope) (p b : ℕ) → p + size e ≤ b → Below (unknown functions e known p) b
     names-below (number z) known p b h = none-below b
     names-below (name x) known p b h = with-below (not (known x)) p [] (omega (arith, h)) (none-below b)
-    names-below (operation o x y) known p b h = append-below _ _
-        (names-below x known (p + 1) b (omega (arith, h))) (names-below y known (p + 1 + size x) b (omega (arith, h)))
     names-below (let-in z x y) known p b h = append-below _ _
         (names-below x known (p + 1) b (omega (arith, h)))
         (names-below y (updated known z true) (p + 1 + size x) b (omega (arith, h)))
-    names-below (call f es) known p b h =
-        with-below (leb functions f) p _ (omega (arith, h)) (all-names-below es known (p + 1) b (omega (arith, h)))
-    names-below (literal d es) known p b h = all-names-below es known (p + 1) b (omega (arith, h))
-    names-below (index x y) known p b h = append-below _ _
-        (names-below x known (p + 1) b (omega (arith, h))) (names-below y known (p + 1 + size x) b (omega (arith, h)))
-    names-below (length-of x) known p b h = names-below x known (p + 1) b (omega (arith, h))
+    names-below (leaf l es) known p b h = with-below (calls-none functions l) p _ (omega (arith, h))
+        (all-names-below es known (p + 1) b (omega (arith, h)))
     names-below (if-else x y z) known p b h = append-below _ _ (names-below x known (p + 1) b (omega (arith, h)))
         (append-below _ _ (names-below y known (p + 1 + size x) b (omega (arith, h)))
         (names-below z known (p + 1 + size x + size y) b (omega (arith, h))))
-    names-below (map-over z x y) known p b h = append-below _ _
-        (names-below x known (p + 1) b (omega (arith, h)))
-        (names-below y (updated known z true) (p + 1 + size x) b (omega (arith, h)))
+    names-below (loop k xs es y) known p b h = append-below _ _
+        (all-names-below es known (p + 1) b (omega (arith, h)))
+        (names-below y (scope-with xs known) (p + 1 + sizes es) b (omega (arith, h)))
 
     all-names-below : (es : Exprs) (known : Scope) (p b : ℕ) → p + sizes es ≤ b → Below (unknowns functions es known p) b
     all-names-below S.none known p b h = none-below b
@@ -86,11 +80,7 @@ module _ (functions : ℕ) where
   from-below (x ∷ xs) known p b e h = with-below (known (x .id)) p _ (omega (arith, h))
       (from-below xs (updated known (x .id) true) (p + 1) b e (omega (arith, h)))
 
--- how many nodes a script has
-abbrev pub script-size : Script → ℕ
-script-size gs = total function-size gs
-
-pub unknown-below : (functions : ℕ) (gs : Script) (p b : ℕ) → p + script-size gs ≤ b → Below (unknown-in functions gs p) b
+pub unknown-below : (functions : ℕ) (gs : Script) (p b : ℕ) → p + total gs ≤ b → Below (unknown-in functions gs p) b
 unfolding unknown-in function-size
 unknown-below functions [] p b h = none-below b
 unknown-below functions (g ∷ gs) p b h = append-below _ _
@@ -99,15 +89,15 @@ unknown-below functions (g ∷ gs) p b h = append-below _ _
 
 -- ---- rule 8
 
-pub crowd-below : (gs : Script) (p q : ℕ) → too-many-names-from gs p ≡ some q → q < p + script-size gs
+pub crowd-below : (gs : Script) (p q : ℕ) → too-many-names-from gs p ≡ some q → q < p + total gs
 unfolding too-many-names-from function-size
 crowd-below [] p q e = absurd (let z : _≡_ {A = ℕ} 0 1 = cc in omega arith)
 crowd-below (g ∷ gs) p q e =
     by (crowd-below gs (p + function-size g) q) (ltb 256 (length (g .parameters) + fresh (g .body))) e
   where
-    by : (too-many-names-from gs (p + function-size g) ≡ some q → q < p + function-size g + script-size gs) →
+    by : (too-many-names-from gs (p + function-size g) ≡ some q → q < p + function-size g + total gs) →
         (t : Bool) → cond t (some p) (too-many-names-from gs (p + function-size g)) ≡ some q →
-        q < p + (function-size g + script-size gs)
+        q < p + (function-size g + total gs)
     by rest true f = let same : p ≡ q = cc in omega (arith, same)
     by rest false f = omega (arith, rest f)
 
@@ -130,15 +120,19 @@ node-below p r cs h k = with-below (breaks r (part-depths cs)) p (part-faults cs
 front-below : {b : ℕ} (p : ℕ) (l : List ℕ) → p < b → Below l b → Below (p ∷ l) b
 front-below p l h k = with-below true p l h k
 
-map-below : {b : ℕ} (p : ℕ) (x y : Checked) → p < b → Below (x .faults) b → Below (y .faults) b →
-    Below (map-node p x y .faults) b
-unfolding map-node
-map-below {b} p x y h k l = by (is-number (x .depth))
+with-last : {b : ℕ} (cs : List Checked) (c : Checked) → AllBelow cs b → Below (c .faults) b → AllBelow (cs ++ (c ∷ [])) b
+with-last [] c h k = (k, tt)
+with-last (a ∷ cs) c h k = (h .0, with-last cs c (h .1) k)
+
+loop-below : {b : ℕ} (p : ℕ) (k : Loop) (cs : List Checked) (c : Checked) → p < b → AllBelow cs b →
+    Below (c .faults) b → Below (loop-node p k cs c .faults) b
+unfolding loop-node
+loop-below {b} p k cs c h f g = by (is-number (array-depth k cs))
   where
-    by : (t : Bool) → Below (cond t (record { depth = none; faults = p ∷ (x .faults ++ y .faults) })
-        (node p map-rule (x ∷ y ∷ [])) .faults) b
-    by true = front-below p (x .faults ++ y .faults) h (append-below (x .faults) (y .faults) k l)
-    by false = node-below p map-rule (x ∷ y ∷ []) h (k, (l, tt))
+    by : (t : Bool) → Below (cond t (record { depth = none; faults = p ∷ (part-faults cs ++ c .faults) })
+        (node p (loop-rule k) (cs ++ (c ∷ []))) .faults) b
+    by true = front-below p _ h (append-below (part-faults cs) (c .faults) (parts-below cs f) g)
+    by false = node-below p (loop-rule k) (cs ++ (c ∷ [])) h (with-last cs c f g)
 
 module _ (signatures : ℕ → Signature) where
   mutual
@@ -147,20 +141,12 @@ module _ (signatures : ℕ → Signature) where
     types-below : (e : Expr) (Γ : Depths) (p b : ℕ) → p + size e ≤ b → Below (check signatures e Γ p .faults) b
     types-below (number z) Γ p b h = none-below b
     types-below (name x) Γ p b h = none-below b
-    types-below (operation o x y) Γ p b h = node-below p number-rule _ (omega (arith, h))
-        (types-below x Γ (p + 1) b (omega (arith, h)), (types-below y Γ (p + 1 + size x) b (omega (arith, h)), tt))
     types-below (let-in z x y) Γ p b h = node-below p let-rule _ (omega (arith, h)) (
       types-below x Γ (p + 1) b (omega (arith, h)),
       (types-below y (updated Γ z (check signatures x Γ (p + 1) .depth)) (p + 1 + size x) b (omega (arith, h)), tt),
     )
-    types-below (call f es) Γ p b h = node-below p (call-rule (signatures f)) _ (omega (arith, h))
+    types-below (leaf l es) Γ p b h = node-below p (leaf-rule signatures l) _ (omega (arith, h))
         (all-types-below es Γ (p + 1) b (omega (arith, h)))
-    types-below (literal d es) Γ p b h = node-below p (literal-rule d) _ (omega (arith, h))
-        (all-types-below es Γ (p + 1) b (omega (arith, h)))
-    types-below (index x y) Γ p b h = node-below p index-rule _ (omega (arith, h))
-        (types-below x Γ (p + 1) b (omega (arith, h)), (types-below y Γ (p + 1 + size x) b (omega (arith, h)), tt))
-    types-below (length-of x) Γ p b h = node-below p length-rule _ (omega (arith, h))
-        (types-below x Γ (p + 1) b (omega (arith, h)), tt)
     types-below (if-else x y z) Γ p b h = node-below p if-rule _ (omega (arith, h)) (
       types-below x Γ (p + 1) b (omega (arith, h)),
       (
@@ -168,9 +154,10 @@ module _ (signatures : ℕ → Signature) where
         (types-below z Γ (p + 1 + size x + size y) b (omega (arith, h)), tt),
       ),
     )
-    types-below (map-over z x y) Γ p b h = map-below p (check signatures x Γ (p + 1)) _ (omega (arith, h))
-        (types-below x Γ (p + 1) b (omega (arith, h)))
-        (types-below y (updated Γ z (element (check signatures x Γ (p + 1) .depth))) (p + 1 + size x) b (omega (arith, h)))
+    types-below (loop k xs es y) Γ p b h =
+        let cs = checks signatures es Γ (p + 1) in
+        loop-below p k cs _ (omega (arith, h)) (all-types-below es Γ (p + 1) b (omega (arith, h)))
+        (types-below y (depths-with xs (pass-depths k cs) Γ) (p + 1 + sizes es) b (omega (arith, h)))
 
     all-types-below : (es : Exprs) (Γ : Depths) (p b : ℕ) → p + sizes es ≤ b → AllBelow (checks signatures es Γ p) b
     all-types-below S.none Γ p b h = tt
@@ -195,7 +182,7 @@ module _ (signatures : ℕ → Signature) where
       by true = node-below p (result-rule signatures (g .result)) (c ∷ []) (omega (arith, h)) (body, tt)
       by false = front-below p (c .faults) (omega (arith, h)) body
 
-  pub functions-below : (shape : Bool) (gs : Script) (p b : ℕ) → p + script-size gs ≤ b →
+  pub functions-below : (shape : Bool) (gs : Script) (p b : ℕ) → p + total gs ≤ b →
       Below (function-faults signatures shape gs p) b
   unfolding function-faults
   functions-below shape [] p b h = none-below b

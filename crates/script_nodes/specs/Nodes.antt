@@ -1,20 +1,20 @@
 -- A refusal 1 to 8 gives a node up to 1,024: so it fits its place in the answer.
-use Prim.Native.Nat.{ℕ, zero, suc, _+_, _<_, _≤_}
+use Prim.Native.Nat.{ℕ, _≤_}
 use native.Mathlib.Omega.{arith}
-use mathlib.Core.Path.{_≡_, refl, sym, subst}
+use mathlib.Core.Path.{_≡_, refl}
 use mathlib.Core.Option.{Option, none, some}
 use mathlib.Core.List.{List, [], _∷_}
 use lib.ListN.{length}
-use Rattle.semantics.specs.Basics.{_∈_}
 use Rattle.semantics.specs.Outcome.{Outcome, done, stop}
-use Rattle.semantics.specs.Syntax.{Script, function-size}
+use Rattle.semantics.specs.Syntax.{Script}
 use Rattle.semantics.specs.File.{read-file}
 use Rattle.semantics.specs.Names.{name-faults}
 use Rattle.semantics.specs.Types.{type-faults, signatures-of, main-shape}
 use Rattle.semantics.specs.Normal.{too-many-names}
-use Rattle.semantics.specs.Calls.{Verdict, accepted, refused, judged, judged-read, judged-script, Faulty, Faulty-read}
+use Rattle.semantics.specs.Calls.{accepted, refused, judged, judged-read, judged-script, Faulty, Faulty-read}
 use Rattle.semantics.specs.Calls.{Faulty-in}
-use Rattle.script_nodes.specs.Reading.{place-of, After, total, read-place, read-takes}
+use Rattle.script_read.proofs.Written.{total}
+use Rattle.script_nodes.specs.Reading.{Small, read-small}
 use Rattle.script_nodes.specs.Faults.{Below, unknown-below, functions-below, crowd-below}
 
 same-node : (m q n p : ℕ) → refused m q ≡ refused n p → q ≡ p
@@ -24,7 +24,7 @@ no-refusal : {A : Type 0} (fs : Script) (n p : ℕ) → accepted fs ≡ refused 
 no-refusal fs n p e = absurd (let z : _≡_ {A = ℕ} 0 1 = cc in omega arith)
 
 module _ (node n p : ℕ) where
-  by-script : (fs : Script) → total function-size fs ≤ 1024 → Faulty-in node (name-faults fs) (type-faults fs) →
+  by-script : (fs : Script) → total fs ≤ 1024 → Faulty-in node (name-faults fs) (type-faults fs) →
       judged-script node fs (name-faults fs) (type-faults fs) (too-many-names fs) ≡ refused n p → p ≤ 1024
   unfolding name-faults type-faults
   by-script fs small = by (name-faults fs) (unknown-below (length fs) fs 0 1024 (omega (arith, small)))
@@ -38,11 +38,10 @@ module _ (node n p : ℕ) where
       by [] a (x ∷ m) b o c f e = omega (arith, b .under node f, same-node 7 node n p e)
       by (x ∷ l) a m b o c f e = omega (arith, a .under node f, same-node 6 node n p e)
 
-  by-reading : (o : Outcome ℕ Script) → place-of o ≤ 1024 → After (λ fs q. q ≡ total function-size fs) o →
-      Faulty-read node o → judged-read node o ≡ refused n p → p ≤ 1024
-  by-reading (done fs q) small takes f e = by-script fs (omega (arith, small, takes)) f e
-  by-reading (stop m q) small takes f e = omega (arith, small, same-node m q n p e)
+  by-reading : (o : Outcome ℕ Script) → Small 1024 o → Faulty-read node o → judged-read node o ≡ refused n p → p ≤ 1024
+  by-reading (done fs q) small f e = by-script fs small f e
+  by-reading (stop m q) small f e = omega (arith, small, same-node m q n p e)
 
   pub refused-node : (file : List ℕ) → Faulty file node → judged node file ≡ refused n p → p ≤ 1024
   unfolding judged
-  refused-node file f e = by-reading (read-file file) (read-place file) (read-takes file) f e
+  refused-node file f e = by-reading (read-file file) (read-small file) f e

@@ -3,7 +3,7 @@ use Prim.Native.Nat.{ℕ, zero, suc, _+_}
 use native.Mathlib.Omega.{arith}
 use mathlib.Core.Bool.{Bool, true, false, not, _&&_, _||_, false≢true}
 use mathlib.Core.List.{List, [], _∷_}
-use mathlib.Core.Path.{_≡_, refl, ap, sym, _∙_}
+use mathlib.Core.Path.{_≡_, refl, ap}
 use lib.Dec.{eqb}
 use lib.ListN.{getD}
 use borrow.Author.Tests.{eqb-true, ne-eqb}
@@ -17,40 +17,47 @@ pub both : (s t : Bool) → (s && t) ≡ true → (s ≡ true) × (t ≡ true)
 both true t e = (refl, e)
 both false t e = absurd (false≢true e)
 
+-- a table by kind and the shapes: a test that holds of both entries for each kind
+module _ {A : Type 0} (test : ℕ → A → Shape → Bool) (a : A) where
+  abbrev pub all-fit : ℕ → List A → List Shape → Bool
+  all-fit i [] [] = true
+  all-fit i [] (s ∷ l) = false
+  all-fit i (b ∷ m) [] = false
+  all-fit i (b ∷ m) (s ∷ l) = test i b s && all-fit (suc i) m l
+
+  module _ (past : (n : ℕ) → test n a none ≡ true) where
+    fit-at : (i j n : ℕ) (m : List A) (l : List Shape) → n ≡ i + j → all-fit i m l ≡ true →
+        test n (getD m j a) (getD l j none) ≡ true
+    fit-at i j n [] [] e f = past n
+    fit-at i j n [] (s ∷ l) e f = absurd (false≢true f)
+    fit-at i j n (b ∷ m) [] e f = absurd (false≢true f)
+    fit-at i zero n (b ∷ m) (s ∷ l) e f =
+        let g : n ≡ i = omega arith in
+        rw g (both (test i b s) (all-fit (suc i) m l) f .0)
+    fit-at i (suc j) n (b ∷ m) (s ∷ l) e f =
+        fit-at (suc i) j n m l (omega arith) (both (test i b s) (all-fit (suc i) m l) f .1)
+
+    pub fit : (h : S.Head) (m : List A) → all-fit 0 m (shapes h) ≡ true →
+        test (h .kind) (getD m (h .kind) a) (shape-of h) ≡ true
+    fit h m f = fit-at 0 (h .kind) (h .kind) m (shapes h) (omega arith) f
+
 module _ (h : S.Head) where
-  -- the shape in the tables for kind i, which a part may have or not
+  -- the shape for kind i, which a part may have or not
   abbrev fits-kind : ℕ → Bool → Shape → Bool
   fits-kind i may none = not may || (eqb i 2 || (eqb i 3 || (eqb i 7 || eqb i 12)))
   fits-kind i may (leaf-of l) = eqb i (leaf-kind l)
   fits-kind i may (loop-of k xs c) = eqb i (loop-kind k) && eqb (part-count i (h .low) (h .high)) (suc c)
 
-  abbrev all-fit : ℕ → List Bool → List Shape → Bool
-  all-fit i [] [] = true
-  all-fit i [] (s ∷ l) = false
-  all-fit i (may ∷ m) [] = false
-  all-fit i (may ∷ m) (s ∷ l) = fits-kind i may s && all-fit (suc i) m l
-
-  fit-at : (i j n : ℕ) (m : List Bool) (l : List Shape) → n ≡ i + j → all-fit i m l ≡ true →
-      fits-kind n (getD m j false) (getD l j none) ≡ true
-  fit-at i j n [] [] e f = refl
-  fit-at i j n [] (s ∷ l) e f = absurd (false≢true f)
-  fit-at i j n (may ∷ m) [] e f = absurd (false≢true f)
-  fit-at i zero n (may ∷ m) (s ∷ l) e f =
-      let g : n ≡ i = omega arith in
-      rw g (both (fits-kind i may s) (all-fit (suc i) m l) f .0)
-  fit-at i (suc j) n (may ∷ m) (s ∷ l) e f =
-      fit-at (suc i) j n m l (omega arith) (both (fits-kind i may s) (all-fit (suc i) m l) f .1)
-
-  fit : fits-kind (h .kind) (getD part-kinds (h .kind) false) (shape-of h) ≡ true
+  kinds-fit : fits-kind (h .kind) (getD part-kinds (h .kind) false) (shape-of h) ≡ true
   unfolding part-count
-  fit = fit-at 0 (h .kind) (h .kind) part-kinds (shapes h) (omega arith) refl
+  kinds-fit = fit fits-kind false (λ n. refl) h part-kinds refl
 
   pub kind-of-leaf : (l : Leaf) → shape-of h ≡ leaf-of l → h .kind ≡ leaf-kind l
-  kind-of-leaf l e = eqb-true (h .kind) (leaf-kind l) (rw e at fit)
+  kind-of-leaf l e = eqb-true (h .kind) (leaf-kind l) (rw e at kinds-fit)
 
   module _ (k : Loop) (xs : List ℕ) (c : ℕ) (e : shape-of h ≡ loop-of k xs c) where
     of-loop : (eqb (h .kind) (loop-kind k) ≡ true) × (eqb (part-count (h .kind) (h .low) (h .high)) (suc c) ≡ true)
-    of-loop = both (eqb (h .kind) (loop-kind k)) _ (rw e at fit)
+    of-loop = both (eqb (h .kind) (loop-kind k)) _ (rw e at kinds-fit)
 
     pub kind-of-loop : h .kind ≡ loop-kind k
     kind-of-loop = eqb-true (h .kind) (loop-kind k) (of-loop .0)
@@ -84,7 +91,7 @@ pub data Sort (h : S.Head) : Type 0 where
   loop : (k : Loop) (xs : List ℕ) (c : ℕ) → shape-of h ≡ loop-of k xs c → Sort h
 
 pub sort-of : (h : S.Head) → allowed at-part (h .kind) ≡ true → Sort h
-sort-of h may = go (shape-of h) refl (rw may at (fit h))
+sort-of h may = go (shape-of h) refl (rw may at (kinds-fit h))
   where
     plain : (a b c d : Bool) → eqb (h .kind) 2 ≡ a → eqb (h .kind) 3 ≡ b → eqb (h .kind) 7 ≡ c →
         eqb (h .kind) 12 ≡ d → (a || (b || (c || d))) ≡ true → Sort h

@@ -32,7 +32,7 @@ unfolding repeated
 repeated-none f c p e = rw e
 
 -- the last turn apart from those before
-and-none : (r : Read) → and-next r (λ p. Next p) ≡ r
+pub and-none : (r : Read) → and-next r (λ p. Next p) ≡ r
 and-none (Next p) = refl
 and-none (Refused n p) = refl
 

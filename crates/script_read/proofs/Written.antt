@@ -149,63 +149,36 @@ module _ (k w : List ℕ) where
     abbrev level : Level (suc d)
     level = record { below = d; is = refl }
 
-    parts-written : Sort h → After (Got (suc d) p) (parts m h (suc p))
+    parts-written : Sort h → After (Got (suc d) p) (parts m h (p + 1))
     unfolding parts size onward pinned
     parts-written (K.number e) =
         let a = pinned p n e (no-low e refl) (no-high e refl) in rw e ((level, a .is), omega arith)
     parts-written (K.name e) = rw e ((level, pinned p n e refl (no-high e refl)), omega arith)
     parts-written (K.let-in e) =
-        rw e (after-bind _ _ (m (suc p)) (reads (suc p)) λ a q f.
-        after-bind _ _ (m q) (reads q) λ b r g. (
-          (
-            level,
-            pinned p n e refl (no-high e refl),
-            moved d a (sym (add-one p)) (f .0),
-            moved d b (omega (arith, f .1)) (g .0),
-          ),
-          omega (arith, f .1, g .1),
-        ))
-    parts-written (K.if-else e) =
-        rw e (after-bind _ _ (m (suc p)) (reads (suc p)) λ a q f.
+        let at = pinned p n e refl (no-high e refl) in
+        rw e (after-bind _ _ (m (p + 1)) (reads (p + 1)) λ a q f.
         after-bind _ _ (m q) (reads q) λ b r g.
-        after-bind _ _ (m r) (reads r) λ c s l. (
-          (
-            level,
-            pinned p n e (no-low e refl) (no-high e refl),
-            moved d a (sym (add-one p)) (f .0),
-            moved d b (omega (arith, f .1)) (g .0),
-            moved d c (omega (arith, f .1, g .1)) (l .0),
-          ),
-          omega (arith, f .1, g .1, l .1),
-        ))
+        ((level, at, f .0, moved d b (f .1) (g .0)), omega (arith, f .1, g .1)))
+    parts-written (K.if-else e) =
+        let at = pinned p n e (no-low e refl) (no-high e refl) in
+        rw e (after-bind _ _ (m (p + 1)) (reads (p + 1)) λ a q f.
+        after-bind _ _ (m q) (reads q) λ b r g.
+        after-bind _ _ (m r) (reads r) λ c s l.
+        let i : r ≡ p + 1 + size a + size b = omega (arith, f .1, g .1) in
+        ((level, at, f .0, moved d b (f .1) (g .0), moved d c i (l .0)), omega (arith, f .1, g .1, l .1)))
     parts-written (K.leaf l e) =
         let c = part-count (h .kind) (h .low) (h .high) in
         rw (shaped-parts h m (λ f. leaf-some (sym e ∙ f)), e)
-        (after-bind _ _ (times c m (suc p)) (times-written m d reads c (suc p)) λ es q f. (
-          (
-            level,
-            record { node = h; is = n; shape-is = e; count = sym (f .2) },
-            all-moved d (exprs-of es) (sym (add-one p)) (f .0),
-          ),
-          omega (arith, f .1),
-        ))
+        (after-bind _ _ (times c m (p + 1)) (times-written m d reads c (p + 1)) λ es q f.
+        ((level, record { node = h; is = n; shape-is = e; count = sym (f .2) }, f .0), omega (arith, f .1)))
     parts-written (K.loop j xs c e) =
         rw (shaped-parts h m (λ f. loop-some (sym e ∙ f)), e)
-        (after-bind _ _ (times c m (suc p)) (times-written m d reads c (suc p)) λ es q f.
-        after-bind _ _ (m q) (reads q) λ b r g. (
-          (
-            level,
-            record {
-              node = h;
-              is = n;
-              shape-is = e ∙ ap (loop-of j xs) (sym (f .2));
-              count = parts-of-loop h j xs c e ∙ ap suc (sym (f .2));
-            },
-            all-moved d (exprs-of es) (sym (add-one p)) (f .0),
-            moved d b (omega (arith, f .1)) (g .0),
-          ),
-          omega (arith, f .1, g .1),
-        ))
+        (after-bind _ _ (times c m (p + 1)) (times-written m d reads c (p + 1)) λ es q f.
+        after-bind _ _ (m q) (reads q) λ b r g.
+        let count = parts-of-loop h j xs c e ∙ ap suc (sym (f .2)) in
+        let at : ShapeAt k w p (loop-of j xs (amount (exprs-of es))) (suc (amount (exprs-of es))) =
+        record { node = h; is = n; shape-is = e ∙ ap (loop-of j xs) (sym (f .2)); count = count } in
+        ((level, at, f .0, moved d b (f .1) (g .0)), omega (arith, f .1, g .1)))
 
   -- what the reader takes for a tree is written there
   pub part-written : (d p : ℕ) → After (Got d p) (part k w d p)
@@ -221,7 +194,8 @@ module _ (k w : List ℕ) where
       go : (v : S.Node) → node-at k w at-part p ≡ v → ((q : ℕ) → After (Got d q) (part k w d q)) →
           After (Got (suc d) p) (onward (λ h s. onward (λ _. parts (part k w d) h) (S.next s)) (looked v p))
       go (S.fits h) e reads =
-          parts-written (part k w d) d reads h p e (sort-of h (head-fits k w at-part p h e .stands))
+          subst (λ q. After (Got (suc d) p) (parts (part k w d) h q)) (add-one p)
+          (parts-written (part k w d) d reads h p e (sort-of h (head-fits k w at-part p h e .stands)))
       go S.wrong-kind e reads = tt
       go S.wrong-operand e reads = tt
 

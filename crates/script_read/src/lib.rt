@@ -1,8 +1,8 @@
 // The reader: the nodes of a script file in prefix order, refusals 1 to 5.
 ghost use mathlib.Core.Path.{_≡_};
 ghost use mathlib.Core.Bool.{false, _&&_};
-ghost use Prim.Native.Nat.{_+_, _*_, _^_, _<_, _≤_};
-ghost use lib.ListN.{length, getD, take, drop};
+ghost use Prim.Native.Nat.{_+_, _*_, _<_};
+ghost use lib.ListN.{getD};
 ghost use Rattle.semantics.specs.Number.{bytes-at};
 ghost use Rattle.semantics.specs.File.{low-limits, high-limits, part-kinds, allowed, node-at, part-count, part};
 ghost use Rattle.semantics.specs.File.{parameter, function, script, read-file, between};
@@ -52,22 +52,15 @@ const HIGH_LIMITS: [u8; 14] = [4, 4, 0, 0, 0, 0, 0, 0, 8, 3, 0, 0, 0, 0];
 
 const PART_COUNTS: [u8; 14] = [0, 0, 0, 0, 2, 2, 2, 2, 0, 0, 2, 1, 3, 2];
 
-// Whether a part may have this kind.
-fn is_part(kind: u8) -> bool
-    ensures { λ r. ⌜ r ≡ getD part-kinds kind false ⌝ }
-{
-    let n = kind as usize;
-    if n < 14 { PART_KINDS[n] } else { false }
-}
-
 // Whether a node of this kind may stand at a place.
 fn is_allowed(place: Place, kind: u8) -> bool
     ensures { λ r. ⌜ r ≡ allowed (place-of place) kind ⌝ }
 {
+    let n = kind as usize;
     match place {
-        Place::Function => kind == 0,
-        Place::Parameter => kind == 1,
-        Place::Part => is_part(kind),
+        Place::Function => n == 0,
+        Place::Parameter => n == 1,
+        Place::Part => if n < 14 { PART_KINDS[n] } else { false },
     }
 }
 

@@ -2,14 +2,14 @@
 use mathlib.Core.Path.{_≡_, refl, sym, ap, _∙_}
 use mathlib.Core.Bool.{Bool, true, false, _&&_}
 use mathlib.Core.List.{List, [], _∷_}
-use mathlib.Core.Logic.{_⊎_, inl, inr}
+use mathlib.Core.Logic.{_⊎_, ⊎-elim}
 use Prim.Native.Nat.{ℕ, _+_, _-_, _<_}
 use native.Mathlib.Omega.{arith}
 use lib.Dec.{eqb}
 use lib.ListN.{length, set, replicate}
 use borrow.Author.Tests.{eq-eqb, ne-eqb}
 use Rattle.semantics.specs.File as S
-use Rattle.semantics.specs.File.{node-at}
+use Rattle.semantics.specs.File.{at-function, at-parameter, node-at}
 use Rattle.semantics.specs.Types.{main-shape}
 use Rattle.script_read.specs.Told.{told-node, low-at, high-at, repeated}
 use Rattle.script_read.specs.declared.Node.{Node}
@@ -26,56 +26,48 @@ use Rattle.script_depths.proofs.Rules.{counts-differ, depths-length}
 use Rattle.script_types.specs.Functions.{typed-parameter, ended, types-from, types-function, types-script}
 
 -- main's shape
-module _ (k w : List ℕ) where
-  pub other-count : (c : ℕ) → c ≡ low-at k w 0 0 → (c ≡ 2 → ⊥) → false ≡ main-shape (signature-at k w 0)
+module _ (k w : List ℕ) (c : ℕ) (ce : c ≡ low-at k w at-function 0) where
+  pub other-count : (c ≡ 2 → ⊥) → false ≡ main-shape (signature-at k w 0)
   unfolding signature-at
-  other-count c e f =
-      counts-differ (depths-from k w (low-at k w 0 0) (0 + 1)) (high-at k w 0 0 ∷ 1 ∷ [])
-      (λ i. f (omega (arith, i, depths-length k w (low-at k w 0 0) (0 + 1))))
+  other-count f =
+      counts-differ (depths-from k w (low-at k w at-function 0) (0 + 1)) (high-at k w at-function 0 ∷ 1 ∷ [])
+      (λ i. f (omega (arith, i, depths-length k w (low-at k w at-function 0) (0 + 1))))
 
-  two-parameters : (c : ℕ) → c ≡ low-at k w 0 0 → c ≡ 2 →
-      main-shape (signature-at k w 0) ≡ (eqb (high-at k w 1 1) (high-at k w 0 0) && (eqb (high-at k w 1 2) 1 && true))
-  unfolding signature-at depths-from
-  two-parameters c e f = let g : low-at k w 0 0 ≡ 2 = sym e ∙ f in rw g
+  module _ (two : c ≡ 2) (a r : ℕ) (ae : a ≡ high-at k w at-parameter 1) (re : r ≡ high-at k w at-function 0) where
+    two-parameters : main-shape (signature-at k w 0) ≡ (eqb a r && (eqb (high-at k w at-parameter 2) 1 && true))
+    unfolding signature-at depths-from
+    two-parameters = let g : low-at k w at-function 0 ≡ 2 = sym ce ∙ two in rw (g, ae, re)
 
-  pub first-differs : (c : ℕ) → c ≡ low-at k w 0 0 → c ≡ 2 → (a r : ℕ) → a ≡ high-at k w 1 1 → r ≡ high-at k w 0 0 →
-      (a ≡ r → ⊥) →
-      false ≡ main-shape (signature-at k w 0)
-  first-differs c e f a r ae re h = sym (two-parameters c e f ∙ rw (← ae, ← re, ne-eqb a r h))
+    pub first-differs : (a ≡ r → ⊥) → false ≡ main-shape (signature-at k w 0)
+    first-differs h = sym (two-parameters ∙ rw (ne-eqb a r h))
 
-  and-true : (b : Bool) → (b && true) ≡ b
-  and-true true = refl
-  and-true false = refl
+    and-true : (b : Bool) → (b && true) ≡ b
+    and-true true = refl
+    and-true false = refl
 
-  pub by-second : (c : ℕ) → c ≡ low-at k w 0 0 → c ≡ 2 → (a r : ℕ) → a ≡ high-at k w 1 1 → r ≡ high-at k w 0 0 →
-      a ≡ r →
-      (b : ℕ) → b ≡ high-at k w 1 2 → eqb b 1 ≡ main-shape (signature-at k w 0)
-  by-second c e f a r ae re h b be =
-      sym (two-parameters c e f ∙ rw (← ae, ← re, eq-eqb a r h, ← be) (and-true (eqb b 1)))
+    pub by-second : a ≡ r → (b : ℕ) → b ≡ high-at k w at-parameter 2 → eqb b 1 ≡ main-shape (signature-at k w 0)
+    by-second h b be = sym (two-parameters ∙ rw (eq-eqb a r h, ← be) (and-true (eqb b 1)))
 
 module _ (k w s : List ℕ) where
   from-step : (c : ℕ) (γ : ℕ → ℕ) (p : ℕ) → 0 < c →
-      types-from k w s c γ p ≡ typed-parameter (types-from k w s (c - 1)) γ p (node-at k w 1 1 p)
+      types-from k w s c γ p ≡ typed-parameter (types-from k w s (c - 1)) γ p (node-at k w at-parameter p)
   unfolding types-from
   from-step c γ p h = ap (λ (n : ℕ). types-from k w s n γ p) (less-one c (omega arith))
 
   -- c parameters are left, from node p on; the whole gives r
   module _ (r : Typed) (c p : ℕ) (t : List ℕ) (inv : r ≡ types-from k w s c (depths t) p) (h : 0 < c) where
-    pub parameter-goes : {x y z : ℕ} → Seen k w 1 1 p x y z → length t ≡ 256 → y < 256 →
+    pub parameter-goes : {x y z : ℕ} → Seen k w at-parameter p x y z → length t ≡ 256 → y < 256 →
         r ≡ types-from k w s (c - 1) (depths (set t y z)) (p + 1)
     parameter-goes {x} {y} {z} n l b =
         inv ∙ from-step c (depths t) p h
         ∙ ap (λ (v : S.Node). typed-parameter (types-from k w s (c - 1)) (depths t) p v) (n .stands)
         ∙ rw (n .same-low, n .same-high, table-set 0 t y z (omega arith))
 
-    pub parameter-none : (n : Node) → n ≡ told-node (node-at k w 1 1 p) → (n ≡ WrongKind) ⊎ (n ≡ WrongOperand) →
+    pub parameter-none : (n : Node) → n ≡ told-node (node-at k w at-parameter p) → (n ≡ WrongKind) ⊎ (n ≡ WrongOperand) →
         Fault p ≡ r
-    parameter-none n e f = sym (inv ∙ from-step c (depths t) p h ∙ go (unfit k w 1 1 p n e f .is))
-      where
-        go : (node-at k w 1 1 p ≡ S.wrong-kind) ⊎ (node-at k w 1 1 p ≡ S.wrong-operand) →
-            typed-parameter (types-from k w s (c - 1)) (depths t) p (node-at k w 1 1 p) ≡ Fault p
-        go (inl g) = rw g
-        go (inr g) = rw g
+    parameter-none n e f =
+        sym (inv ∙ from-step c (depths t) p h
+        ∙ ⊎-elim (λ g. rw g) (λ g. rw g) (unfit k w at-parameter p n e f .is))
 
   pub body-next : (r : Typed) (c : ℕ) (γ : ℕ → ℕ) (p : ℕ) → c ≡ 0 → r ≡ types k w s 64 γ p →
       r ≡ types-from k w s c γ p
@@ -83,7 +75,7 @@ module _ (k w s : List ℕ) where
   body-next r c γ p e f = rw e f
 
   -- a function
-  module _ {p x y z : ℕ} (n : Seen k w 0 0 p x y z) (b : Typed)
+  module _ {p x y z : ℕ} (n : Seen k w at-function p x y z) (b : Typed)
       (be : b ≡ types-from k w s y (depths (replicate 256 0)) (p + 1)) where
     by-body : types-function k w s p ≡ ended p z b
     unfolding types-function
@@ -101,15 +93,10 @@ module _ (k w s : List ℕ) where
     pub body-faulty : (m : ℕ) → b ≡ Fault m → Refused 7 m ≡ types-function k w s p
     body-faulty m e = sym (by-body ∙ rw e)
 
-  pub no-function : (p : ℕ) (n : Node) → n ≡ told-node (node-at k w 0 0 p) → (n ≡ WrongKind) ⊎ (n ≡ WrongOperand) →
+  pub no-function : (p : ℕ) (n : Node) → n ≡ told-node (node-at k w at-function p) → (n ≡ WrongKind) ⊎ (n ≡ WrongOperand) →
       Refused 7 p ≡ types-function k w s p
   unfolding types-function
-  no-function p n e f = go (unfit k w 0 0 p n e f .is)
-    where
-      go : (node-at k w 0 0 p ≡ S.wrong-kind) ⊎ (node-at k w 0 0 p ≡ S.wrong-operand) →
-          Refused 7 p ≡ types-function k w s p
-      go (inl g) = rw g
-      go (inr g) = rw g
+  no-function p n e f = ⊎-elim (λ g. rw g) (λ g. rw g) (unfit k w at-function p n e f .is)
 
   -- a script
   module _ (functions : ℕ) (b : Bool) (be : b ≡ main-shape (signature-at k w 0)) where

@@ -8,7 +8,8 @@ use lib.Dec.{eqb}
 use lib.ListN.{length, getD}
 use Rattle.semantics.specs.Basics.{updated}
 use Rattle.semantics.specs.Syntax.{Expr, size, Parameter, Function, Script, function-size, function-at}
-use Rattle.semantics.specs.Types.{Checked, Signature, signature, check, parameter-depths, result-rule, node, some-if}
+use Rattle.semantics.specs.File.{at-function}
+use Rattle.semantics.specs.Types.{Checked, Signature, signature, check, parameter-depths, result-rule, some-if}
 use Rattle.semantics.specs.Types.{check-function, function-faults, signatures-of, main-shape, type-faults}
 use Rattle.script_read.specs.Told.{low-at, high-at, repeated}
 use Rattle.script_read.specs.declared.Read.{Read}
@@ -32,11 +33,11 @@ module _ (k w : List ℕ) where
   parameters-depths [] p h = refl
   parameters-depths (x ∷ xs) p h = rw (h .0 .is, h .0 .upper, parameters-depths xs (p + 1) (h .1))
 
-  head-low : {p y z : ℕ} → HeadAt k w 0 p y z → low-at k w 0 p ≡ y
+  head-low : {p y z : ℕ} → HeadAt k w at-function p y z → low-at k w at-function p ≡ y
   unfolding low-at
   head-low h = rw (h .is) (h .lower)
 
-  head-high : {p y z : ℕ} → HeadAt k w 0 p y z → high-at k w 0 p ≡ z
+  head-high : {p y z : ℕ} → HeadAt k w at-function p y z → high-at k w at-function p ≡ z
   unfolding high-at
   head-high h = rw (h .is) (h .upper)
 

@@ -5,7 +5,7 @@ use Prim.Native.Nat.{ℕ, zero, suc, _+_}
 use lib.Dec.{eqb}
 use Rattle.semantics.specs.Basics.{updated}
 use Rattle.semantics.specs.File as S
-use Rattle.semantics.specs.File.{node-at}
+use Rattle.semantics.specs.File.{at-function, at-parameter, node-at}
 use Rattle.semantics.specs.Types.{main-shape}
 use Rattle.script_read.specs.Told.{repeated}
 use Rattle.script_read.specs.declared.Read.{Read}
@@ -34,10 +34,10 @@ typed-head m p S.wrong-operand = Refused 7 p
 module _ (kinds operands starts : List ℕ) where
   unfoldable pub types-from : ℕ → (ℕ → ℕ) → ℕ → Typed
   types-from zero γ p = types kinds operands starts 64 γ p
-  types-from (suc c) γ p = typed-parameter (types-from c) γ p (node-at kinds operands 1 1 p)
+  types-from (suc c) γ p = typed-parameter (types-from c) γ p (node-at kinds operands at-parameter p)
 
   unfoldable pub types-function : ℕ → Read
-  types-function p = typed-head types-from p (node-at kinds operands 0 0 p)
+  types-function p = typed-head types-from p (node-at kinds operands at-function p)
 
   -- main's shape, and then each function
   unfoldable pub types-script : ℕ → Read

@@ -1,10 +1,10 @@
 // Refusal 7 over a whole script: main's shape, and each function's body and result.
 use script_depths::Typed;
 use script_read::Node;
+use script_read::Place;
 use script_read::Read;
 ghost use mathlib.Core.Path.{_≡_};
-ghost use Prim.Native.Nat.{_+_, _*_, _^_, _<_, _≤_};
-ghost use lib.ListN.{length, getD, set};
+ghost use Prim.Native.Nat.{_+_, _<_};
 ghost use Rattle.semantics.specs.Types.{main-shape};
 ghost use Rattle.script_depths.specs.Walk.{depths, signature-at};
 ghost use Rattle.script_types.specs.Functions.{types-from, types-function, types-script};
@@ -13,14 +13,14 @@ ghost use Rattle.script_types.specs.Functions.{types-from, types-functio
 fn main_fits(kinds: &[u8], operands: &[u8]) -> bool
     ensures { λ r. ⌜ r ≡ main-shape (signature-at (now (kinds .entry)) (now (operands .entry)) 0) ⌝ }
 {
-    if script_read::low_at(kinds, operands, 0, 0) != 2 {
+    if script_read::low_at(kinds, operands, 0, Place::Function) != 2 {
         return false;
     }
-    let result = script_read::high_at(kinds, operands, 0, 0);
-    if script_read::high_at(kinds, operands, 1, 1) != result {
+    let result = script_read::high_at(kinds, operands, 0, Place::Function);
+    if script_read::high_at(kinds, operands, 1, Place::Parameter) != result {
         return false;
     }
-    script_read::high_at(kinds, operands, 2, 1) == 1
+    script_read::high_at(kinds, operands, 2, Place::Parameter) == 1
 }
 
 // So many parameters, whose depths go into the table, and then the body.
@@ -40,7 +40,7 @@ fn type_parameters(
     let mut p = at;
     let mut left = count;
     while 0 < left {
-        match script_read::node_at(kinds, operands, p, 1, 1) {
+        match script_read::node_at(kinds, operands, p, Place::Parameter) {
             Node::Fits(_, low, high) => {
                 known[low as usize] = high;
                 p = p + 1;
@@ -61,7 +61,7 @@ fn type_parameters(
 fn type_function(kinds: &[u8], operands: &[u8], starts: &[usize], at: usize) -> Read
     ensures { λ r. ⌜ r ≡ types-function (now (kinds .entry)) (now (operands .entry)) (now (starts .entry)) at ⌝ }
 {
-    match script_read::node_at(kinds, operands, at, 0, 0) {
+    match script_read::node_at(kinds, operands, at, Place::Function) {
         Node::Fits(_, count, result) => {
             match type_parameters(kinds, operands, starts, [0u8; 256], at + 1, count) {
                 Typed::Depth(d, q) => {

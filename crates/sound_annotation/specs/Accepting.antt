@@ -1,11 +1,12 @@
--- `functions-disciplined`: every function of an accepted script is disciplined. `main-shape-of`: main has main's shape.
+-- `functions-disciplined`, `functions-frugal`: every function of an accepted script is so. `main-shape-of`: main has
+-- main's shape.
 use Prim.Native.Nat.{ℕ, zero, suc, _+_, _≤_}
 use native.Mathlib.Omega.{arith}
 use mathlib.Core.Path.{_≡_, refl, sym, ap, subst}
 use mathlib.Core.Bool.{Bool, true, false, cond}
 use mathlib.Core.List.{List, [], _∷_}
 use mathlib.Core.Option.{Option, none, some}
-use lib.ListN.{length, getD}
+use lib.ListN.{length, getD, length-map}
 use lib.Dec.{ltb}
 use borrow.Author.Tests.{ltb-false}
 use Rattle.semantics.specs.Basics.{updated}
@@ -13,17 +14,19 @@ use Rattle.semantics.specs.Outcome.{Outcome, done, stop}
 use Rattle.semantics.specs.Syntax.{Expr, Parameter, Function, Script, no-function, function-size, main-depth}
 use Rattle.semantics.specs.File.{read-file}
 use Rattle.semantics.specs.Names.{Scope, unknown-from, unknown-in, name-faults}
-use Rattle.semantics.specs.Types.{Signature, node, all-are, check, parameter-depths, result-rule, check-function}
-use Rattle.semantics.specs.Types.{function-faults, signatures-of, main-shape, type-faults, and-more}
+use Rattle.semantics.specs.Types.{node, all-are, check, parameter-depths, result-rule, check-function, function-faults}
+use Rattle.semantics.specs.Types.{signatures-of, main-shape, type-faults}
 use Rattle.semantics.specs.Normal.{fresh, too-many-names-from, too-many-names}
 use Rattle.semantics.specs.Calls.{Verdict, accepted, refused, judged-script, judged-read, judged}
-use Rattle.sound_machine.specs.Discipline.{FunctionDisciplined}
-use Rattle.sound_annotation.specs.Typed.{Limited, Typed}
-use Rattle.sound_annotation.specs.Rules.{not-some, some-if-holds, all-equal, same-lists, with-if-empty}
-use Rattle.sound_annotation.specs.Rules.{append-empty, node-parts, node-depth}
+use Rattle.semantics.specs.Machine.{program, routine}
+use Rattle.sound_base.specs.Tests.{not-some, some-if-holds, all-equal, same-lists}
+use Rattle.sound_machine.specs.Discipline.{FunctionDisciplined, FunctionFrugal}
+use Rattle.sound_annotation.specs.Typed.{Limited, Called, Functions, Typed}
+use Rattle.sound_annotation.specs.Rules.{with-if-empty, append-empty, node-parts, node-depth}
+use Rattle.sound_annotation.specs.Calling.{body-called}
 use Rattle.sound_annotation.specs.Checking.{check-typed}
 use Rattle.sound_annotation.specs.Parameters.{written, written-known, Distinct}
-use Rattle.sound_annotation.specs.Functions.{Accepted, function-disciplined}
+use Rattle.sound_annotation.specs.Functions.{functions-in, Accepted, all-disciplined, all-frugal}
 use Rattle.sound_annotation.specs.Reader.{After, AllOf, FunctionLimits, ScriptLimits, file-limited}
 
 -- ---- what an accepting verdict says
@@ -77,23 +80,24 @@ distinct-of functions (x ∷ xs) known p e h =
     (parts .0, distinct-of functions xs (updated known (x .id) true) (p + 1) e (parts .1))
 
 -- a function node without fault: its shape is right, and its body has the result's depth
-function-typed : (signatures : ℕ → Signature) (shape : Bool) (g : Function) (p : ℕ) → Limited (g .body) →
-    check-function signatures shape g p .faults ≡ [] →
-    (shape ≡ true) × Typed signatures (g .body) (written (g .parameters) (λ _. 0)) (g .result)
+function-typed : (F : Functions) (shape : Bool) (g : Function) (p : ℕ) → Limited (g .body) →
+    Called (F .number) (g .body) → check-function (F .signatures) shape g p .faults ≡ [] →
+    (shape ≡ true) × Typed F (g .body) (written (g .parameters) (λ _. 0)) (g .result)
 unfolding check-function
-function-typed signatures false g p l e = absurd (omega (arith, ap length e))
-function-typed signatures true g p l e =
+function-typed F false g p l called e = absurd (omega (arith, ap length e))
+function-typed F true g p l called e =
+    let signatures = F .signatures in
     let Δ = parameter-depths signatures (g .parameters) (λ _. some 0) in
     let δ = written (g .parameters) (λ _. 0) in
     let at = p + 1 + length (g .parameters) in
     let c = check signatures (g .body) Δ at in
     let rule = result-rule signatures (g .result) in
-    let found = check-typed signatures (g .body) Δ δ at l
+    let found = check-typed F (g .body) Δ δ at l called
     (written-known signatures (g .parameters) (λ _. some 0) (λ _. 0) (record { depth = λ y. refl }))
     (append-empty (c .faults) [] (node-parts p rule (c ∷ []) e) .0) in
-    let whole = node-depth p rule (c ∷ []) (found .0 ∷ []) e (λ i. and-more (found .1 i) (some [])) in
+    let whole = node-depth p rule (c ∷ []) (found .0 ∷ []) e (found .1, tt) in
     let holds = some-if-holds (all-are (g .result) (found .0 ∷ [])) (g .result) (whole .0) (whole .2) in
-    (refl, subst (Typed signatures (g .body) δ) (all-equal (g .result) (found .0 ∷ []) (holds .0) .0) (found .2))
+    (refl, subst (Typed F (g .body) δ) (all-equal (g .result) (found .0 ∷ []) (holds .0) .0) (found .2))
 
 -- ---- all functions
 
@@ -112,17 +116,20 @@ pub record Faultless (fs : Script) (functions : ℕ) (shape : Bool) (gs : List F
   pub roomy : too-many-names-from gs p ≡ none
 
 module _ (fs : Script) (functions : ℕ) where
-  first-accepted : (shape : Bool) (g : Function) (gs : List Function) (p : ℕ) → FunctionLimits g →
-      Faultless fs functions shape (g ∷ gs) p → Accepted fs g
-  unfolding unknown-in function-faults too-many-names-from
-  first-accepted shape g gs p l h =
+  first-accepted : functions ≡ functions-in fs .number → (shape : Bool) (g : Function) (gs : List Function) (p : ℕ) →
+      FunctionLimits g → Faultless fs functions shape (g ∷ gs) p → Accepted fs g
+  unfolding unknown-in function-faults too-many-names-from program
+  first-accepted same shape g gs p l h =
       let crowd = length (g .parameters) + fresh (g .body) in
+      let called = body-called functions (g .parameters) (λ _. false) (p + 1) (g .body)
+      (append-empty (unknown-from functions (g .parameters) (λ _. false) (p + 1) (g .body)) _ (h .names) .0) in
       record {
-        typed = function-typed (signatures-of fs) shape g p (l .body)
+        typed = function-typed (functions-in fs) shape g p (l .body) (subst (λ n. Called n (g .body)) same called)
             (append-empty (check-function (signatures-of fs) shape g p .faults) _ (h .types) .0) .1;
         distinct = distinct-of functions (g .parameters) (λ _. false) (p + 1) (g .body)
             (append-empty (unknown-from functions (g .parameters) (λ _. false) (p + 1) (g .body)) _ (h .names) .0);
-        few = ltb-false 256 crowd (roomy-here (ltb 256 crowd) p (too-many-names-from gs (p + function-size g)) (h .roomy) .0);
+        few = ltb-false 256 crowd (roomy-here (ltb 256 crowd) p (too-many-names-from gs (p + function-size g))
+            (h .roomy) .0);
       }
 
   rest-faultless : (shape : Bool) (g : Function) (gs : List Function) (p : ℕ) →
@@ -136,34 +143,42 @@ module _ (fs : Script) (functions : ℕ) where
         roomy = roomy-here (ltb 256 crowd) p (too-many-names-from gs (p + function-size g)) (h .roomy) .1;
       }
 
-  pub accepted-at : (shape : Bool) (gs : List Function) (p f : ℕ) → AllOf FunctionLimits gs →
-      Faultless fs functions shape gs p →
-      Accepted fs (getD gs f no-function)
-  accepted-at shape [] p f l h = none-accepted fs
-  accepted-at shape (g ∷ gs) p zero l h = first-accepted shape g gs p (l .0) h
-  accepted-at shape (g ∷ gs) p (suc f) l h =
-      accepted-at true gs (p + function-size g) f (l .1) (rest-faultless shape g gs p h)
+  pub accepted-at : functions ≡ functions-in fs .number → (shape : Bool) (gs : List Function) (p f : ℕ) →
+      AllOf FunctionLimits gs → Faultless fs functions shape gs p → Accepted fs (getD gs f no-function)
+  accepted-at same shape [] p f l h = none-accepted fs
+  accepted-at same shape (g ∷ gs) p zero l h = first-accepted same shape g gs p (l .0) h
+  accepted-at same shape (g ∷ gs) p (suc f) l h =
+      accepted-at same true gs (p + function-size g) f (l .1) (rest-faultless shape g gs p h)
 
 -- ---- accepted scripts
 
-pub functions-disciplined : (node : ℕ) (file : List ℕ) (fs : Script) → judged node file ≡ accepted fs → (f : ℕ) →
-    FunctionDisciplined fs f
-unfolding name-faults type-faults
-functions-disciplined node file fs e f =
+all-accepted : (node : ℕ) (file : List ℕ) (fs : Script) → judged node file ≡ accepted fs → (f : ℕ) →
+    Accepted fs (getD fs f no-function)
+unfolding name-faults type-faults program
+all-accepted node file fs e f =
     let clean = judged-clean node file fs e in
     let shape = main-shape (signatures-of fs 0) in
     let faultless : Faultless fs (length fs) shape fs 0 =
     record { names = clean .names; types = clean .types; roomy = clean .roomy } in
-    function-disciplined fs f (accepted-at fs (length fs) shape fs 0 f (clean .limits .1) faultless)
+    accepted-at fs (length fs) (sym (length-map fs (routine fs))) shape fs 0 f (clean .limits .1) faultless
+
+pub functions-disciplined : (node : ℕ) (file : List ℕ) (fs : Script) → judged node file ≡ accepted fs → (f : ℕ) →
+    FunctionDisciplined (program fs) f
+unfolding program
+functions-disciplined node file fs e f = all-disciplined fs fs f (all-accepted node file fs e)
+
+pub functions-frugal : (node : ℕ) (file : List ℕ) (fs : Script) → judged node file ≡ accepted fs → (f : ℕ) →
+    FunctionFrugal (program fs) f
+unfolding program
+functions-frugal node file fs e f = all-frugal fs fs f (all-accepted node file fs e)
 
 -- a script has a first function
-shaped : (fs : Script) (shape : Bool) (gs : List Function) → 1 ≤ length gs → AllOf FunctionLimits gs →
+shaped : (fs : Script) (shape : Bool) (gs : List Function) → 1 ≤ length gs →
     function-faults (signatures-of fs) shape gs 0 ≡ [] → shape ≡ true
-unfolding function-faults
-shaped fs shape [] h l e = absurd (omega arith)
-shaped fs shape (g ∷ gs) h l e =
-    function-typed (signatures-of fs) shape g 0 (l .0 .body)
-    (append-empty (check-function (signatures-of fs) shape g 0 .faults) _ e .0) .0
+unfolding function-faults check-function
+shaped fs true gs h e = refl
+shaped fs false [] h e = absurd (omega arith)
+shaped fs false (g ∷ gs) h e = absurd (omega (arith, ap length e))
 
 shallow : (gs : List Function) → AllOf FunctionLimits gs → getD gs 0 no-function .result ≤ 4
 shallow [] l = omega arith
@@ -176,6 +191,6 @@ unfolding type-faults
 main-shape-of node file fs e =
     let clean = judged-clean node file fs e in
     let s = signatures-of fs 0 in
-    let shape = shaped fs (main-shape s) fs (clean .limits .0) (clean .limits .1) (clean .types) in
+    let shape = shaped fs (main-shape s) fs (clean .limits .0) (clean .types) in
     let parameters = same-lists (s .parameters) (s .result ∷ 1 ∷ []) shape in
     (λ i. record { parameters = parameters i; result = main-depth fs }, shallow fs (clean .limits .1))

@@ -1,24 +1,36 @@
--- What is held at one name of a well-formed tree, before and after a line.
-use Prim.Native.Nat.{ℕ, _+_, _-_, _≤_, max}
+-- What is held at one name before and after a line that hands some atoms over and reads the others: the same sums for
+-- all leaves and all loops.
+use Prim.Native.Nat.{ℕ, _+_, _-_, _≤_, _<_, min, max}
 use native.Mathlib.Omega.{arith}
 use native.Mathlib.Decide.{decLt}
-use mathlib.Core.Path.{_≡_, refl, ap, _∙_}
-use mathlib.Core.Logic.{inl, inr}
+use mathlib.Core.Path.{_≡_, refl, sym, ap, _∙_, subst}
+use mathlib.Core.Logic.{_≢_, inl, inr}
 use mathlib.Core.List.{List, [], _++_}
-use Rattle.semantics.specs.Basics.{occurrences}
-use Rattle.semantics.specs.Types.{Signature}
+use borrow.Author.Tests.{eq-eqb}
+use Rattle.semantics.specs.Basics.{occurrences, _∈_}
 use Rattle.semantics.specs.Code.{Atom, number, name, Tree, release-all}
 use Rattle.semantics.specs.Live.{Set, empty, _∪_, _∖_, only, is, among, live, uses}
-use Rattle.semantics.specs.Annotate.{NameDepths, atom-depth, dying}
-use Rattle.sound_base.specs.Lists.{hits}
-use Rattle.sound_machine.specs.Discipline.{handed, Fresh, Disciplined}
-use Rattle.sound_annotation.specs.Held.{Few, hit, held, hold, names, held-most, held-or, held-less, held-number}
-use Rattle.sound_annotation.specs.Held.{held-empty, held-either, held-le, hold-held, hold-same, only-other}
-use Rattle.sound_annotation.specs.Held.{held-among, names-held, append-held, hold-names, dying-held}
-use Rattle.sound_annotation.specs.Moves.{releases}
+use Rattle.semantics.specs.Annotate.{NameDepths, atom-depth, dying, handed-again}
+use Rattle.sound_base.specs.Lists.{_≈_, _⊆_, hits, occurrences-append}
+use Rattle.sound_machine.specs.Discipline.{hold-of, handed, less, _⊑_, AllKnown, Covered}
+use Rattle.sound_machine.specs.Spending.{less-is, less-spends}
+use Rattle.sound_annotation.specs.Typed.{Functions}
+use Rattle.sound_annotation.specs.Held.{Few, hit, free, free-or, held, names, held-most, held-or, held-less}
+use Rattle.sound_annotation.specs.Held.{held-number, held-empty, held-either, held-le, hold-held, only-other}
+use Rattle.sound_annotation.specs.Held.{held-among, again-held, names-held, append-held, dying-held, covered-by}
+use Rattle.sound_annotation.specs.Moves.{Sound, releases}
 use Rattle.sound_annotation.specs.Sets.{Inside, inside-right, inside-empty}
-use Rattle.sound_annotation.specs.Formed.{Visible, AllVisible, Within, Formed, live-inside, seen-is, seen-among}
-use Rattle.sound_annotation.specs.Formed.{live-stays}
+use Rattle.sound_annotation.specs.Formed.{Within, Formed, live-inside, seen-among, live-stays}
+
+-- the names from c on are not lent
+pub record Lower (B : List ℕ) (c : ℕ) : Type 0 where
+  pub free-from : (n : ℕ) → c ≤ n → free B n ≡ 1
+
+pub lower-up : (B : List ℕ) (c e : ℕ) → c ≤ e → Lower B c → Lower B e
+lower-up B c e h w = record { free-from = λ n g. w .free-from n (omega arith) }
+
+pub free-most : (B : List ℕ) (n : ℕ) → free B n ≤ 1
+free-most B n = omega (arith, free-or B n)
 
 module _ (Γ : NameDepths) where
   -- a set of names below c holds nothing from c on
@@ -26,12 +38,15 @@ module _ (Γ : NameDepths) where
   outside A c n w h =
       omega (arith, held-empty Γ n, held-le Γ A empty n (λ e. absurd (omega (arith, w .below n e))))
 
-  pub atom-unseen : (a : Atom) (S : Set) (c n : ℕ) → Visible S a → Within S c → c ≤ n → held Γ (is a) n ≡ 0
-  atom-unseen a S c n seen w h =
-      let in-scope : Inside (is a) S empty = seen-is a seen in
+  -- nor do atoms in scope
+  pub unseen : (us : List Atom) (S : Set) (c n : ℕ) → AllKnown us S → Within S c → c ≤ n →
+      occurrences n (handed Γ us) ≡ 0
+  unseen us S c n seen w h =
+      let in-scope : Inside (among us empty) S empty = seen-among us seen inside-empty in
       omega (
         arith,
-        held-either Γ (is a) S empty n (in-scope .either n),
+        held-among Γ us empty n,
+        held-either Γ (among us empty) S empty n (in-scope .either n),
         outside S c n w h,
         held-empty Γ n,
       )
@@ -44,80 +59,222 @@ module _ (Γ : NameDepths) where
     | inr h ↦ only-other Γ x n (h .0)
   ]
 
-  -- a name that is bound takes the place of what it may have held before
-  pub binds : (x : ℕ) (A : Set) (n : ℕ) →
-      held Γ (only x) n + (held Γ A n - hit n x) ≡ max (held Γ (only x) n) (held Γ A n)
-  binds x A n = elim (hits n x) [
-    | inl h ↦ elim (decLt 0 (Γ n)) [
-      | yes y ↦
-          let one : occurrences x (hold Γ x) ≡ 1 = hold-same Γ x (omega (arith, ap Γ (h .0))) in
-          let same = ap (λ y. occurrences y (hold Γ x)) (h .0) in
-          omega (arith, hold-held Γ x n, held-most Γ A n)
-      | no y ↦ omega (arith, held-number Γ A n (omega arith))
-    ]
-    | inr h ↦ omega (arith, only-other Γ x n (h .0))
-  ]
+  -- a tree after which A is live needs what it uses, and A
+  pub record Needs (t : Tree) (A : Set) (n : ℕ) : Type 0 where
+    pub most : held Γ (live t A) n ≤ held Γ (uses t) n + held Γ A n
+    pub own : held Γ (uses t) n ≤ held Γ (live t A) n
+    pub rest : held Γ A n ≤ held Γ (live t A) n
 
-  pub held-operands : (a b : Atom) (x : ℕ) (A : Set) (n : ℕ) →
-      held Γ (is a ∪ is b ∪ A ∖ x) n ≡ max (held Γ (is a) n) (max (held Γ (is b) n) (held Γ A n - hit n x))
-  held-operands a b x A n =
-      omega (arith, held-or Γ (is a) (is b ∪ A ∖ x) n, held-or Γ (is b) (A ∖ x) n, held-less Γ A x n)
+  -- what is lent and live before a tree is live after it
+  abbrev pub Steady : List ℕ → Set → Set → Type 0
+  Steady B A L = (n : ℕ) → held Γ A n ≤ held Γ L n + free B n
 
-  -- a tree after which B is live needs what it uses, and B
-  pub record Needs (t : Tree) (B : Set) (n : ℕ) : Type 0 where
-    pub most : held Γ (live t B) n ≤ held Γ (uses t) n + held Γ B n
-    pub own : held Γ (uses t) n ≤ held Γ (live t B) n
-    pub rest : held Γ B n ≤ held Γ (live t B) n
-
-  pub gone : Few Γ → (x : ℕ) (A : Set) → occurrences x (names Γ (A ∖ x)) ≡ 0
-  gone few x A = elim (hits x x) [
-    | inl h ↦ omega (arith, names-held Γ few (A ∖ x) x, held-less Γ A x x, held-most Γ A x)
-    | inr h ↦ absurd (h .0 refl)
-  ]
-
-module _ (signatures : ℕ → Signature) (Γ : NameDepths) where
-  -- from one reference for each array of A, the tree k is disciplined; after it L is live
-  abbrev pub Holding : Tree → Set → ℕ → Set → Type 0
-  Holding k A d L = Disciplined signatures Γ k (names Γ A) [] (names Γ L) d L
-
-  -- a name that is bound from c on is not live after the tree
-  pub fresh-name : Few Γ → (L : Set) (c x : ℕ) (H : List ℕ) → Within L c → c ≤ x → occurrences x H ≡ 0 →
-      Fresh signatures Γ x H (names Γ L)
-  fresh-name few L c x H w h e = record { before = e; after = names-held Γ few L x ∙ outside Γ L c x w h }
-
-  pub unseen : (us : List Atom) (S : Set) (c n : ℕ) → AllVisible S us → Within S c → c ≤ n →
-      occurrences n (handed signatures Γ us) ≡ 0
-  unseen us S c n seen w h =
-      let in-scope : Inside (among us empty) S empty = seen-among us seen inside-empty in
-      omega (
-        arith,
-        held-among Γ signatures us empty n,
-        held-either Γ (among us empty) S empty n (in-scope .either n),
-        outside Γ S c n w h,
-        held-empty Γ n,
-      )
-
-  pub needs : (t : Tree) (S B : Set) (c d : ℕ) → Formed signatures Γ t S c d → Within B c → (n : ℕ) → Needs Γ t B n
-  needs t S B c d f w n =
-      let upper : Inside (live t B) (live t empty) B = live-inside t inside-right in
-      let lower : Inside (live t empty) (live t B) empty = live-inside t inside-empty in
+  pub needs : (F : Functions) (t : Tree) (S A : Set) (c d : ℕ) → Formed F Γ t S c d → Within A c → (n : ℕ) →
+      Needs t A n
+  needs F t S A c d f w n =
+      let upper : Inside (live t A) (live t empty) A = live-inside t inside-right in
+      let lower : Inside (live t empty) (live t A) empty = live-inside t inside-empty in
       record {
-        most = held-either Γ (live t B) (uses t) B n (upper .either n);
-        own = omega (arith, held-empty Γ n, held-either Γ (uses t) (live t B) empty n (lower .either n));
-        rest = held-le Γ B (live t B) n (λ q. live-stays signatures Γ t S B c d n f (w .below n q) q);
+        most = held-either Γ (live t A) (uses t) A n (upper .either n);
+        own = omega (arith, held-empty Γ n, held-either Γ (uses t) (live t A) empty n (lower .either n));
+        rest = held-le Γ A (live t A) n (λ q. live-stays F Γ t S A c d n f (w .below n q) q);
       }
 
-  -- what is used and not live is released before the tree k
-  pub releasing : Few Γ → (used A : Set) (k : Tree) (H P : List ℕ) (d : ℕ) (L : Set) →
-      ((n : ℕ) → occurrences n H ≡ max (held Γ used n) (held Γ A n)) → Holding k A d L →
-      Disciplined signatures Γ (release-all (dying Γ used A) k) H P (names Γ L) d L
-  releasing few used A k H P d L h D =
-      releases signatures Γ (dying Γ used A) k H (names Γ A) P (names Γ L) d L
-      (λ n. omega (arith, h n, append-held Γ few (dying Γ used A) A n, dying-held Γ few used A n)) D
+  module _ (few : Few Γ) (B : List ℕ) where
+    -- what is used and not live is released before the tree k
+    pub releasing : (used A : Set) (k : Tree) (H P : List ℕ) (L : Set) →
+        ((n : ℕ) → occurrences n H ≡ held Γ used n - held Γ A n + min (free B n) (held Γ A n)) →
+        Sound Γ B k (names Γ B A) [] (names Γ B L) L →
+        Sound Γ B (release-all (dying Γ used A) k) H P (names Γ B L) L
+    releasing used A k H P L h s =
+        releases Γ B (dying Γ used A) k H (names Γ B A) P (names Γ B L) L
+        (λ n. omega (arith, h n, append-held Γ few (dying Γ used A) B A n, dying-held Γ few used A n)) s
 
-  -- a tree after the line that has bound x
-  pub bound-on : Few Γ → (x : ℕ) (A : Set) (k : Tree) (d : ℕ) (L : Set) → Holding k A d L →
-      Disciplined signatures Γ (release-all (dying Γ (only x) A) k) (hold Γ x ++ names Γ (A ∖ x)) [] (names Γ L) d L
-  bound-on few x A k d L D =
-      releasing few (only x) A k (hold Γ x ++ names Γ (A ∖ x)) [] d L
-      (λ n. omega (arith, hold-names Γ few x (A ∖ x) n, held-less Γ A x n, binds Γ x A n)) D
+    -- A line that binds x, hands over some of its atoms and reads the others; its tree uses U, and A is live after it.
+    module _ (x : ℕ) (us hands reads : List Atom) (U A : Set) where
+      abbrev pub before : Set
+      before = among us (U ∪ A ∖ x)
+
+      abbrev pub behind : Set
+      behind = among reads (U ∪ A ∖ x)
+
+      abbrev pub again : List ℕ
+      again = handed-again Γ hands (among reads U ∪ A)
+
+      pub record Apart : Type 0 where
+        pub parts : (n : ℕ) →
+            occurrences n (handed Γ us) ≡ occurrences n (handed Γ hands) + occurrences n (handed Γ reads)
+        pub unread : occurrences x (handed Γ us) ≡ 0
+        pub unused : held Γ U x ≡ 0
+        pub unlent : free B x ≡ 1
+        pub steady : Steady B before A
+
+      module _ (apart : Apart) where
+        -- what is left of the line's tree and of what comes after
+        rest : ℕ → ℕ
+        rest n = held Γ (U ∪ A ∖ x) n
+
+        held-before : (n : ℕ) → held Γ before n
+            ≡ max (min 1 (occurrences n (handed Γ hands) + occurrences n (handed Γ reads))) (rest n)
+        unfolding rest
+        held-before n =
+            held-among Γ us (U ∪ A ∖ x) n ∙ ap (λ (m : ℕ). max (min 1 m) (held Γ (U ∪ A ∖ x) n)) (apart .parts n)
+
+        held-behind : (n : ℕ) → held Γ behind n ≡ max (min 1 (occurrences n (handed Γ reads))) (rest n)
+        unfolding rest
+        held-behind n = held-among Γ reads (U ∪ A ∖ x) n
+
+        held-rest : (n : ℕ) → rest n ≡ max (held Γ U n) (held Γ A n - hit n x)
+        unfolding rest
+        held-rest n = held-or Γ U (A ∖ x) n ∙ ap (max (held Γ U n)) (held-less Γ A x n)
+
+        -- what is handed over, or read, is live before
+        before-handed : (n : ℕ) → n ∈ handed Γ hands → held Γ before n ≡ 1
+        before-handed n h = omega (arith, held-before n, held-most Γ before n)
+
+        before-same : (n : ℕ) → occurrences n (handed Γ hands) ≡ 0 → held Γ before n ≡ held Γ behind n
+        before-same n h = omega (arith, held-before n, held-behind n)
+
+        behind-read : (n : ℕ) → n ∈ handed Γ reads → held Γ behind n ≡ 1
+        behind-read n h = omega (arith, held-behind n, held-most Γ behind n)
+
+        behind-before : (n : ℕ) → held Γ behind n ≤ held Γ before n
+        behind-before n = omega (arith, held-before n, held-behind n)
+
+        -- at other names than x, what is read and what is live after are what is live behind
+        behind-other : (n : ℕ) → n ≢ x → held Γ behind n ≡ max (held Γ (among reads U) n) (held Γ A n)
+        behind-other n f =
+            let same : held Γ A n - hit n x ≡ held Γ A n =
+            elim (hits n x) [ inl h ↦ absurd (f (h .0)) | inr h ↦ omega arith ] in
+            held-behind n ∙ ap (max (min 1 (occurrences n (handed Γ reads)))) (held-rest n ∙ ap (max (held Γ U n)) same)
+            ∙ joined (min 1 (occurrences n (handed Γ reads))) (held Γ U n) (held Γ A n)
+            ∙ ap (λ (m : ℕ). max m (held Γ A n)) (sym (held-among Γ reads U n))
+          where
+            joined : (p u a : ℕ) → max p (max u a) ≡ max (max p u) a
+            joined p u a = omega arith
+
+        handed-none : occurrences x (handed Γ hands) ≡ 0
+        handed-none = omega (arith, apart .parts x, apart .unread)
+
+        read-none : held Γ (among reads U) x ≡ 0
+        read-none = omega (arith, apart .parts x, apart .unread, apart .unused, held-among Γ reads U x)
+
+        behind-none : held Γ behind x ≡ 0
+        behind-none =
+            let gone : rest x ≡ 0 = elim (hits x x) [
+              | inl h ↦ omega (arith, held-rest x, apart .unused, held-most Γ A x)
+              | inr h ↦ absurd (h .0 refl)
+            ] in
+            omega (arith, held-behind x, apart .parts x, apart .unread)
+
+        retained : (n : ℕ) → occurrences n again
+            + max (min 1 (occurrences n (handed Γ hands))) (held Γ (among reads U ∪ A) n)
+            ≡ occurrences n (handed Γ hands) + held Γ (among reads U ∪ A) n
+        retained n = again-held Γ hands (among reads U ∪ A) n
+
+        again-few : (n : ℕ) → occurrences n again ≤ occurrences n (handed Γ hands)
+        again-few n = omega (arith, retained n)
+
+        -- with what is retained before, the line has a reference for each array that it hands over
+        pub handing : again ++ names Γ B before ≈ handed Γ hands ++ names Γ B behind
+        handing n =
+            append-held Γ few again B before n ∙ sum (decLt 0 (occurrences n (handed Γ hands)))
+            ∙ sym (append-held Γ few (handed Γ hands) B behind n)
+          where
+            sum : Dec (0 < occurrences n (handed Γ hands)) →
+                occurrences n again + min (free B n) (held Γ before n)
+                ≡ occurrences n (handed Γ hands) + min (free B n) (held Γ behind n)
+            sum (no h) =
+                let none : occurrences n (handed Γ hands) ≡ 0 = omega arith in
+                omega (arith, again-few n, before-same n none)
+            sum (yes h) =
+                let other : n ≢ x = λ e. omega (arith, handed-none, ap (λ (y : ℕ). occurrences y (handed Γ hands)) e) in
+                let kept : occurrences n again + 1 ≡ occurrences n (handed Γ hands) + held Γ behind n =
+                omega (
+                  arith,
+                  retained n,
+                  held-or Γ (among reads U) A n,
+                  behind-other n other,
+                  held-most Γ behind n,
+                ) in
+                let live : held Γ A n ≤ held Γ behind n = omega (arith, behind-other n other) in
+                omega (
+                  arith,
+                  before-handed n h,
+                  apart .steady n,
+                  free-most B n,
+                  held-most Γ behind n,
+                )
+
+        pub retainable : again ⊆ (B ++ names Γ B before)
+        retainable n h =
+            omega (
+              arith,
+              before-handed n (omega (arith, again-few n)),
+              append-held Γ few B B before n,
+              free-or B n,
+            )
+
+        pub handable : handed Γ hands ⊑ (again ++ names Γ B before)
+        handable = less-spends (handed Γ hands) (again ++ names Γ B before) (names Γ B behind) handing
+
+        pub left : less (handed Γ hands) (again ++ names Γ B before) ≈ names Γ B behind
+        left = less-is (handed Γ hands) (again ++ names Γ B before) (names Γ B behind) handing
+
+        pub readable : handed Γ reads ⊆ (B ++ less (handed Γ hands) (again ++ names Γ B before))
+        readable n h =
+            omega (
+              arith,
+              occurrences-append n B (less (handed Γ hands) (again ++ names Γ B before)),
+              left n,
+              names-held Γ few B behind n,
+              behind-read n h,
+              free-or B n,
+            )
+
+        -- what the line read, and what it binds, is released unless it is live
+        pub bound : (n : ℕ) → occurrences n (hold-of Γ x ++ names Γ B behind)
+            ≡ held Γ (among reads U ∪ only x) n - held Γ A n + min (free B n) (held Γ A n)
+        bound n =
+            append-held Γ few (hold-of Γ x) B behind n
+            ∙ ap (λ (m : ℕ). m + min (free B n) (held Γ behind n)) (hold-held Γ x n)
+            ∙ elim (hits n x) [
+              | inl h ↦
+                  subst (λ (y : ℕ). held Γ (only x) y + min (free B y) (held Γ behind y)
+                  ≡ held Γ (among reads U ∪ only x) y - held Γ A y + min (free B y) (held Γ A y)) (sym (h .0)) here
+              | inr h ↦
+                  omega (
+                    arith,
+                    only-other Γ x n (h .0),
+                    held-or Γ (among reads U) (only x) n,
+                    behind-other n (h .0),
+                    behind-before n,
+                    apart .steady n,
+                    free-most B n,
+                    held-most Γ behind n,
+                  )
+            ]
+          where
+            here : held Γ (only x) x + min (free B x) (held Γ behind x)
+                ≡ held Γ (among reads U ∪ only x) x - held Γ A x + min (free B x) (held Γ A x)
+            here =
+                let most = held-le Γ A (only x) x (λ q. eq-eqb x x refl) in
+                omega (
+                  arith,
+                  behind-none,
+                  read-none,
+                  held-or Γ (among reads U) (only x) x,
+                  apart .unlent,
+                  held-most Γ (only x) x,
+                )
+
+        pub covered-before : Covered Γ (again ++ names Γ B before) before
+        covered-before = covered-by Γ few (again ++ names Γ B before) before
+            (λ n h. elim (decLt 0 (occurrences n (handed Γ hands))) [
+              | yes g ↦ omega (arith, before-handed n g)
+              | no g ↦ omega (arith, append-held Γ few again B before n, again-few n)
+            ])
+
+        pub covered-behind : Covered Γ (less (handed Γ hands) (again ++ names Γ B before)) behind
+        covered-behind = covered-by Γ few (less (handed Γ hands) (again ++ names Γ B before)) behind
+            (λ n h. omega (arith, left n, names-held Γ few B behind n))

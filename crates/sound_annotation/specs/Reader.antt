@@ -1,7 +1,7 @@
 -- What the reader answers is within its limits (`file-limited`): operands are at most what their kind allows.
 use Prim.Native.Nat.{ℕ, zero, suc, _+_, _*_, _≤_, _/_, _%_}
 use native.Mathlib.Omega.{arith}
-use mathlib.Core.Path.{_≡_, refl, ap, _∙_}
+use mathlib.Core.Path.{_≡_, refl, sym, ap, _∙_, subst}
 use mathlib.Core.Bool.{Bool, true, false, cond, _&&_}
 use mathlib.Core.List.{List, [], _∷_}
 use lib.IntN.{ℤ, pos, negsuc}
@@ -9,14 +9,16 @@ use lib.ListN.{length, getD, take, drop}
 use lib.Dec.{eqb, ltb, leb}
 use borrow.Author.Tests.{leb-true, eqb-true}
 use Rattle.semantics.specs.Outcome.{Outcome, done, stop, _>>=_, _>>_, give, halt, times, onward}
-use Rattle.semantics.specs.Number.{bytes-at, sum, difference, less}
+use Rattle.semantics.specs.Number.{bytes-at}
 use Rattle.semantics.specs.Syntax as S
-use Rattle.semantics.specs.Syntax.{Expr, Exprs, exprs-of, Function, Script}
-use Rattle.semantics.specs.File.{Head, Node, fits, wrong-kind, wrong-operand, low-limits, high-limits, in-parts}
-use Rattle.semantics.specs.File.{node-of, Read, next, looked, by-kind, parts, node-at, look, part, parameter}
-use Rattle.semantics.specs.File.{function, finish, script, between, read-file}
+use Rattle.semantics.specs.Syntax.{Expr, exprs-of, Function, Script}
+use Rattle.semantics.specs.File.{Head, Node, fits, wrong-kind, wrong-operand, low-limits, high-limits, in-parts, Place}
+use Rattle.semantics.specs.File.{at-function, at-parameter, at-part, allowed, node-of, part-count, Read, next, looked}
+use Rattle.semantics.specs.File.{Shape, none, leaf-of, loop-of, shapes, shape-of, shaped, parts, node-at, look, part}
+use Rattle.semantics.specs.File.{parameter, function, finish, script, between, read-file}
+use Rattle.sound_machine.specs.Discipline.{LeafLimits, loop-arity}
+use Rattle.sound_base.specs.Tests.{both-hold}
 use Rattle.sound_annotation.specs.Typed.{count, Limited, AllLimited}
-use Rattle.sound_annotation.specs.Rules.{and-both}
 
 -- ---- facts of answers
 
@@ -56,30 +58,28 @@ answers-times P m (suc n) h =
 
 -- ---- nodes
 
--- a node of a kind from a to b, with an operand in range
-pub record HeadFits (a b : ℕ) (h : Head) : Type 0 where
-  pub least : a ≤ h .kind
-  pub most : h .kind ≤ b
+-- a node that may stand at a place, with an operand in range
+pub record HeadFits (place : Place) (h : Head) : Type 0 where
+  pub stands : allowed place (h .kind) ≡ true
   pub low : h .low ≤ getD low-limits (h .kind) 0
   pub high : h .high ≤ getD high-limits (h .kind) 0
 
-abbrev NodeFits : ℕ → ℕ → Node → Type 0
-NodeFits a b (fits h) = HeadFits a b h
-NodeFits a b wrong-kind = Unit {0}
-NodeFits a b wrong-operand = Unit {0}
+abbrev NodeFits : Place → Node → Type 0
+NodeFits place (fits h) = HeadFits place h
+NodeFits place wrong-kind = Unit {0}
+NodeFits place wrong-operand = Unit {0}
 
-parts-fit : (a b k : ℕ) (z : ℤ) → a ≤ k → k ≤ b → NodeFits a b (in-parts k z)
-parts-fit a b k (negsuc n) p q = tt
-parts-fit a b k (pos n) p q = go (leb (n % 256) (getD low-limits k 0)) refl (leb (n / 256) (getD high-limits k 0)) refl
+parts-fit : (place : Place) (k : ℕ) (z : ℤ) → allowed place k ≡ true → NodeFits place (in-parts k z)
+parts-fit place k (negsuc n) p = tt
+parts-fit place k (pos n) p = go (leb (n % 256) (getD low-limits k 0)) refl (leb (n / 256) (getD high-limits k 0)) refl
   where
     h : Head
     h = record { kind = k; low = n % 256; high = n / 256; value = pos 0 }
 
     go : (s : Bool) → leb (n % 256) (getD low-limits k 0) ≡ s → (t : Bool) → leb (n / 256) (getD high-limits k 0) ≡ t →
-        NodeFits a b (cond s (cond t (fits h) wrong-operand) wrong-operand)
+        NodeFits place (cond s (cond t (fits h) wrong-operand) wrong-operand)
     go true e true f = record {
-      least = p;
-      most = q;
+      stands = p;
       low = leb-true (n % 256) (getD low-limits k 0) e;
       high = leb-true (n / 256) (getD high-limits k 0) f;
     }
@@ -87,26 +87,22 @@ parts-fit a b k (pos n) p q = go (leb (n % 256) (getD low-limits k 0)) refl (leb
     go false e true f = tt
     go false e false f = tt
 
-number-fits : (a b k : ℕ) (z : ℤ) (s : Bool) → a ≤ k → k ≤ b → eqb k 2 ≡ s →
-    NodeFits a b (cond s (fits (record { kind = 2; low = 0; high = 0; value = z })) (in-parts k z))
-number-fits a b k z true p q e =
-    let two = eqb-true k 2 e in
-    record { least = omega arith; most = omega arith; low = omega arith; high = omega arith }
-number-fits a b k z false p q e = parts-fit a b k z p q
+number-fits : (place : Place) (k : ℕ) (z : ℤ) (s : Bool) → allowed place k ≡ true → eqb k 2 ≡ s →
+    NodeFits place (cond s (fits (record { kind = 2; low = 0; high = 0; value = z })) (in-parts k z))
+number-fits place k z true p e =
+    record { stands = ap (allowed place) (sym (eqb-true k 2 e)) ∙ p; low = omega arith; high = omega arith }
+number-fits place k z false p e = parts-fit place k z p
 
-node-fits : (a b k : ℕ) (z : ℤ) → NodeFits a b (node-of a b k z)
+node-fits : (place : Place) (k : ℕ) (z : ℤ) → NodeFits place (node-of place k z)
 unfolding node-of
-node-fits a b k z = go (leb a k) refl (leb k b) refl
+node-fits place k z = go (allowed place k) refl
   where
-    allowed : Node
-    allowed = cond (eqb k 2) (fits (record { kind = 2; low = 0; high = 0; value = z })) (in-parts k z)
+    inner : Node
+    inner = cond (eqb k 2) (fits (record { kind = 2; low = 0; high = 0; value = z })) (in-parts k z)
 
-    go : (s : Bool) → leb a k ≡ s → (t : Bool) → leb k b ≡ t →
-        NodeFits a b (cond s (cond t allowed wrong-kind) wrong-kind)
-    go true e true f = number-fits a b k z (eqb k 2) (leb-true a k e) (leb-true k b f) refl
-    go true e false f = tt
-    go false e true f = tt
-    go false e false f = tt
+    go : (s : Bool) → allowed place k ≡ s → NodeFits place (cond s inner wrong-kind)
+    go true e = number-fits place k z (eqb k 2) e refl
+    go false e = tt
 
 -- ---- expressions
 
@@ -121,82 +117,82 @@ exprs-count (e ∷ es) = ap suc (exprs-count es)
 abbrev Limits : Read Expr → Type 0
 Limits m = Answers Limited m
 
--- the runs of a list, which stand for the kinds from i on, are limited where the node has their kind
-abbrev ByKind : Head → ℕ → List (Read Expr) → Type 0
-ByKind h i [] = Unit {0}
-ByKind h i (m ∷ l) = (h .kind ≡ i → Limits m) × ByKind h (suc i) l
+-- what a shape with n parts must be
+abbrev ShapeLimits : ℕ → Shape → Type 0
+ShapeLimits n none = Unit {0}
+ShapeLimits n (leaf-of l) = LeafLimits l n
+ShapeLimits n (loop-of k xs c) = (length xs ≡ loop-arity k) × (c ≡ loop-arity k)
 
-kind-limits : (h : Head) (i k : ℕ) (l : List (Read Expr)) → ByKind h i l → h .kind ≡ i + k → Limits (getD l k (halt 3))
-kind-limits h i k [] all e = answers-halt 3
-kind-limits h i zero (m ∷ l) all e = all .0 (omega arith)
-kind-limits h i (suc k) (m ∷ l) all e = kind-limits h (suc i) k l (all .1) (omega arith)
+module _ (h : Head) (head : HeadFits at-part h) where
+  abbrev parts-of : ℕ
+  parts-of = part-count (h .kind) (h .low) (h .high)
 
-module _ (m : Read Expr) (h : Head) (inner : Limits m) (head : HeadFits 2 13 h) where
-  -- one, two or three parts
-  one-part : (f : Expr → Expr) → ((a : Expr) → Limited a → Limited (f a)) → Limits (m >>= λ a. give (f a))
-  one-part f g = answers-then inner λ a p. answers-give (f a) (g a p)
+  -- the limits of some shapes, which stand for the kinds from i on
+  data ByKind : ℕ → List Shape → Type 0 where
+    no-more : {i : ℕ} → ByKind i []
+    _then_ : {i : ℕ} {s : Shape} {l : List Shape} → (h .kind ≡ i → ShapeLimits parts-of s) → ByKind (suc i) l →
+        ByKind i (s ∷ l)
 
-  two-parts : (f : Expr → Expr → Expr) → ((a b : Expr) → Limited a → Limited b → Limited (f a b)) →
-      Limits (m >>= λ a. m >>= λ b. give (f a b))
-  two-parts f g = answers-then inner λ a p. answers-then inner λ b q. answers-give (f a b) (g a b p q)
+  infixr 20 _then_
+  kind-limits : (i k : ℕ) (l : List Shape) → ByKind i l → h .kind ≡ i + k → ShapeLimits parts-of (getD l k none)
+  kind-limits i k [] no-more e = tt
+  kind-limits i zero (s ∷ l) (first then rest) e = first (omega arith)
+  kind-limits i (suc k) (s ∷ l) (first then rest) e = kind-limits (suc i) k l rest (omega arith)
 
-  some-parts : (n : ℕ) (f : Exprs → Expr) → ((es : Exprs) → count es ≡ n → AllLimited es → Limited (f es)) →
-      Limits (times n m >>= λ es. give (f (exprs-of es)))
-  some-parts n f g =
-      answers-then (answers-times Limited m n inner) λ es p.
-      answers-give (f (exprs-of es)) (g (exprs-of es) (exprs-count es ∙ p .0) (exprs-limited es (p .1)))
+  -- the number of parts of a node of kind i
+  counted : (i : ℕ) → h .kind ≡ i → parts-of ≡ part-count i (h .low) (h .high)
+  counted i k = ap (λ (j : ℕ). part-count j (h .low) (h .high)) k
 
-  literal-limited : h .kind ≡ 9 → (es : Exprs) → count es ≡ h .low → AllLimited es → Limited (S.literal (h .high) es)
-  literal-limited k es e all =
+  literal-limits : h .kind ≡ 9 → (parts-of ≤ 16) × (h .high ≤ 3)
+  unfolding part-count
+  literal-limits k =
       let low = ap (λ i. getD low-limits i 0) k in
       let high = ap (λ i. getD high-limits i 0) k in
-      (omega (arith, head .low), omega (arith, head .high), all)
+      let n : parts-of ≡ h .low = counted 9 k in
+      (omega (arith, head .low), omega (arith, head .high))
 
-  parts-limited : Limits (parts m h)
+  -- a node that is no leaf and no loop, and one of a call, have no limits here
+  free : {i : ℕ} → h .kind ≡ i → Unit {0}
+  free k = tt
+
+  shape-limits : ShapeLimits parts-of (shape-of h)
+  unfolding part-count
+  shape-limits = kind-limits 0 (h .kind) (shapes h)
+      (free then free then free then free then counted 4 then counted 5 then counted 6 then free then free then
+      literal-limits then counted 10 then counted 11 then free then (λ k. (refl, refl)) then no-more) (omega arith)
+
+module _ (m : Read Expr) (inner : Limits m) where
+  shaped-limited : (n : ℕ) (s : Shape) → ShapeLimits n s → Limits (shaped m n s)
+  shaped-limited n none l = answers-halt 3
+  shaped-limited n (leaf-of j) l =
+      answers-then (answers-times Limited m n inner) λ es p.
+      answers-give (S.leaf j (exprs-of es))
+      (subst (LeafLimits j) (sym (exprs-count es ∙ p .0)) l, exprs-limited es (p .1))
+  shaped-limited n (loop-of k xs c) l =
+      answers-then (answers-times Limited m c inner) λ es p.
+      answers-then inner λ b q.
+      answers-give (S.loop k xs (exprs-of es) b)
+      (l .0, exprs-count es ∙ p .0 ∙ l .1, exprs-limited es (p .1), q)
+
+  parts-limited : (h : Head) → HeadFits at-part h → Limits (parts m h)
   unfolding parts
-  parts-limited = kind-limits h 0 (h .kind) (by-kind m h) (
-    λ k. answers-halt 3,
-    (
-      λ k. answers-halt 3,
-      (
-        λ k. answers-give (S.number (h .value)) tt,
-        (
-          λ k. answers-give (S.name (h .low)) tt,
-          (
-            λ k. two-parts (S.operation sum) (λ a b p q. (p, q)),
-            (
-              λ k. two-parts (S.operation difference) (λ a b p q. (p, q)),
-              (
-                λ k. two-parts (S.operation less) (λ a b p q. (p, q)),
-                (
-                  λ k. two-parts (S.let-in (h .low)) (λ a b p q. (p, q)),
-                  (
-                    λ k. some-parts (h .high) (S.call (h .low)) (λ es e all. all),
-                    (
-                      λ k. some-parts (h .low) (S.literal (h .high)) (literal-limited k),
-                      (
-                        λ k. two-parts S.index (λ a b p q. (p, q)),
-                        (
-                          λ k. one-part S.length-of (λ a p. p),
-                          (
-                            λ k. answers-then inner λ a p. two-parts (S.if-else a) (λ b c q r. (p, q, r)),
-                            (
-                              λ k. two-parts (S.map-over (h .low)) (λ a b p q. (p, q)),
-                              tt,
-                            ),
-                          ),
-                        ),
-                      ),
-                    ),
-                  ),
-                ),
-              ),
-            ),
-          ),
-        ),
-      ),
-    ),
-  ) (omega arith)
+  parts-limited h head = go (eqb (h .kind) 2) (eqb (h .kind) 3) (eqb (h .kind) 7) (eqb (h .kind) 12)
+    where
+      others : Read Expr
+      others = shaped m (part-count (h .kind) (h .low) (h .high)) (shape-of h)
+
+      go : (a b c d : Bool) → Limits (cond a (give (S.number (h .value))) (cond b (give (S.name (h .low)))
+          (cond c (m >>= λ x. m >>= λ y. give (S.let-in (h .low) x y))
+          (cond d (m >>= λ x. m >>= λ y. m >>= λ z. give (S.if-else x y z)) others))))
+      go true b c d = answers-give (S.number (h .value)) tt
+      go false true c d = answers-give (S.name (h .low)) tt
+      go false false true d =
+          answers-then inner λ x p. answers-then inner λ y q. answers-give (S.let-in (h .low) x y) (p, q)
+      go false false false true =
+          answers-then inner λ x p. answers-then inner λ y q. answers-then inner λ z r.
+          answers-give (S.if-else x y z) (p, q, r)
+      go false false false false =
+          shaped-limited (part-count (h .kind) (h .low) (h .high)) (shape-of h) (shape-limits h head)
 
 -- ---- functions
 
@@ -208,11 +204,11 @@ pub record FunctionLimits (g : Function) : Type 0 where
   pub body : Limited (g .body)
 
 module _ (kinds operands : List ℕ) where
-  look-fits : (a b : ℕ) → Answers (HeadFits a b) (look kinds operands a b)
+  look-fits : (place : Place) → Answers (HeadFits place) (look kinds operands place)
   unfolding look node-at
-  look-fits a b = record { after = λ p. go p (node-at kinds operands a b p) (node-fits a b _ _) }
+  look-fits place = record { after = λ p. go p (node-at kinds operands place p) (node-fits place _ _) }
     where
-      go : (p : ℕ) (n : Node) → NodeFits a b n → After (HeadFits a b) (looked n p)
+      go : (p : ℕ) (n : Node) → NodeFits place n → After (HeadFits place) (looked n p)
       go p (fits h) f = f
       go p wrong-kind f = tt
       go p wrong-operand f = tt
@@ -224,21 +220,21 @@ module _ (kinds operands : List ℕ) where
 
   part-limited : (levels : ℕ) → Limits (part kinds operands levels)
   unfolding part
-  part-limited zero = answers-then (look-fits 2 13) λ h f. answers-halt 5
+  part-limited zero = answers-then (look-fits at-part) λ h f. answers-halt 5
   part-limited (suc levels) =
-      answers-then (look-fits 2 13) λ h f.
-      answers-next (parts-limited (part kinds operands levels) h (part-limited levels) f)
+      answers-then (look-fits at-part) λ h f.
+      answers-next (parts-limited (part kinds operands levels) (part-limited levels) h f)
 
   parameter-limited : Answers (λ x. x .depth ≤ 4) (parameter kinds operands)
   unfolding parameter
-  parameter-limited = answers-then (look-fits 1 1) λ h f.
-      let k : h .kind ≡ 1 = omega (arith, f .least, f .most) in
+  parameter-limited = answers-then (look-fits at-parameter) λ h f.
+      let k : h .kind ≡ 1 = eqb-true (h .kind) 1 (f .stands) in
       answers-next (answers-give _ (omega (arith, f .high, ap (λ i. getD high-limits i 0) k)))
 
   function-limited : Answers FunctionLimits (function kinds operands)
   unfolding function
-  function-limited = answers-then (look-fits 0 0) λ h f.
-      let k : h .kind ≡ 0 = omega (arith, f .least, f .most) in
+  function-limited = answers-then (look-fits at-function) λ h f.
+      let k : h .kind ≡ 0 = eqb-true (h .kind) 0 (f .stands) in
       answers-next
       (answers-then (answers-times (λ x. x .depth ≤ 4) (parameter kinds operands) (h .low) parameter-limited) λ xs p.
       answers-then (part-limited 64) λ e q.
@@ -291,8 +287,8 @@ file-limited file =
         After ScriptLimits (cond s (stop 1 0) (cond t (cond u read (stop 1 0)) (stop 2 0)))
     go true t e u = tt
     go false true e true =
-        let some-functions = and-both (between 1 32 count) (between 1 1024 nodes) e .0 in
-        whole read (leb-true 1 count (and-both (leb 1 count) (leb count 32) some-functions .0))
+        let some-functions = both-hold (between 1 32 count) (between 1 1024 nodes) e .0 in
+        whole read (leb-true 1 count (both-hold (leb 1 count) (leb count 32) some-functions .0))
         (script-limited (take nodes (drop 4 file)) (drop (4 + nodes) file) count .after 0)
     go false true e false = tt
     go false false e u = tt

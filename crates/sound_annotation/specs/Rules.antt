@@ -1,82 +1,102 @@
 -- What the rules of the types give, and nodes without fault.
-use Prim.Native.Nat.{ℕ, zero, suc, _≤_}
+use Prim.Native.Nat.{ℕ, zero, suc, _+_, _<_, pred}
 use native.Mathlib.Omega.{arith}
-use mathlib.Core.Path.{_≡_, refl, sym, ap, _∙_, subst}
+use mathlib.Core.Path.{_≡_, refl, sym, ap, _∙_}
 use mathlib.Core.Bool.{Bool, true, false, cond, _&&_, false≢true}
-use mathlib.Core.List.{List, [], _∷_, _++_}
+use mathlib.Core.List.{List, [], _∷_, _++_, map}
 use mathlib.Core.Option.{Option, none, some}
-use lib.ListN.{length}
+use lib.ListN.{length, getD}
 use lib.Dec.{eqb, leb}
-use borrow.Author.Tests.{eqb-true, leb-true}
+use borrow.Author.Tests.{eqb-true}
 use Rattle.semantics.specs.Basics.{with-if}
+use Rattle.semantics.specs.Kinds.{Leaf, operation, call, literal, index, length-of, Loop, mapping}
+use Rattle.semantics.specs.Types as T
 use Rattle.semantics.specs.Types.{Checked, and-more, part-depths, part-faults, Rule, ruled, is-none, breaks, node}
-use Rattle.semantics.specs.Types.{some-if, all-are, same, number-rule, index-rule, length-rule, if-rule, map-rule}
-use Rattle.semantics.specs.Types.{is-number, map-node}
-use Rattle.sound_annotation.specs.Typed.{AllEqual}
-
-abbrev is-some : Option ℕ → Type 0
-is-some (some d) = Unit {0}
-is-some none = ⊥
-
-value-or-0 : Option ℕ → ℕ
-value-or-0 (some d) = d
-value-or-0 none = 0
-
-pub some-same : (c d : ℕ) → some c ≡ some d → c ≡ d
-unfolding value-or-0
-some-same c d e = ap value-or-0 e
-
-pub not-some : {A : Type 0} (d : ℕ) → none ≡ some d → A
-not-some d e = absurd (subst is-some (sym e) tt)
-
-pub some-if-holds : (b : Bool) (c d : ℕ) → some-if b c ≡ some d → (b ≡ true) × (c ≡ d)
-some-if-holds true c d e = (refl, some-same c d e)
-some-if-holds false c d e = not-some d e
-
-pub and-both : (a b : Bool) → (a && b) ≡ true → (a ≡ true) × (b ≡ true)
-and-both true b e = (refl, e)
-and-both false b e = absurd (false≢true e)
-
-pub all-equal : (r : ℕ) (ds : List ℕ) → all-are r ds ≡ true → AllEqual r ds
-all-equal r [] e = tt
-all-equal r (d ∷ ds) e =
-    let both = and-both (eqb d r) (all-are r ds) e in
-    (eqb-true d r (both .0), all-equal r ds (both .1))
-
-pub same-lists : (ds es : List ℕ) → same ds es ≡ true → ds ≡ es
-same-lists [] [] e = refl
-same-lists [] (x ∷ es) e = absurd (false≢true e)
-same-lists (d ∷ ds) [] e = absurd (false≢true e)
-same-lists (d ∷ ds) (x ∷ es) e =
-    let both = and-both (eqb d x) (same ds es) e in
-    λ i. eqb-true d x (both .0) i ∷ same-lists ds es (both .1) i
-
-pub number-typed : (x y d : ℕ) → number-rule (x ∷ y ∷ []) ≡ some d → (x ≡ 0) × (y ≡ 0) × (d ≡ 0)
-number-typed x y d e =
-    let holds = some-if-holds (all-are 0 (x ∷ y ∷ [])) 0 d e in
-    let all = all-equal 0 (x ∷ y ∷ []) (holds .0) in
-    (all .0, all .1 .0, sym (holds .1))
-
-pub index-typed : (x y d : ℕ) → index-rule (x ∷ y ∷ []) ≡ some d → (x ≡ suc d) × (y ≡ 0)
-index-typed zero y d e = not-some d e
-index-typed (suc x) y d e =
-    let holds = some-if-holds (eqb y 0) x d e in
-    (ap suc (holds .1), eqb-true y 0 (holds .0))
-
-pub length-typed : (x d : ℕ) → length-rule (x ∷ []) ≡ some d → (j : ℕ) × (x ≡ suc j) × (d ≡ 0)
-length-typed zero d e = not-some d e
-length-typed (suc x) d e = (x, refl, sym (some-same 0 d e))
+use Rattle.semantics.specs.Types.{all-are, same, if-rule, index-rule, Signature, leaf-rule, loop-rule, loop-node}
+use Rattle.semantics.specs.Types.{is-number, element, depth-at, array-depth}
+use Rattle.semantics.specs.Code.{Atom}
+use Rattle.semantics.specs.Annotate.{NameDepths, atom-depth, depth-of, pass-depths, leaf-depth, loop-depth}
+use Rattle.sound_machine.specs.Discipline.{loop-arity}
+use Rattle.sound_base.specs.Tests.{both-hold, some-same, not-some, some-if-holds}
+use Rattle.sound_annotation.specs.Typed.{array-among, element-depths}
 
 pub if-typed : (x y z d : ℕ) → if-rule (x ∷ y ∷ z ∷ []) ≡ some d → (x ≡ 0) × (y ≡ d) × (z ≡ d)
 if-typed x y z d e =
     let holds = some-if-holds (eqb x 0 && eqb y z) y d e in
-    let both = and-both (eqb x 0) (eqb y z) (holds .0) in
+    let both = both-hold (eqb x 0) (eqb y z) (holds .0) in
     (eqb-true x 0 (both .0), holds .1, sym (eqb-true y z (both .1)) ∙ holds .1)
 
-pub map-typed : (x y d : ℕ) → map-rule (x ∷ y ∷ []) ≡ some d → (y ≤ 3) × (suc y ≡ d)
-map-typed x y d e =
-    let holds = some-if-holds (leb (suc y) 4) (suc y) d e in
-    (omega (arith, leb-true (suc y) 4 (holds .0)), holds .1)
+-- ---- the depths of lines are those of the rules
+
+pub depth-of-map : (Γ : NameDepths) (us : List Atom) (i : ℕ) → depth-of Γ us i ≡ getD (map (atom-depth Γ) us) i 0
+depth-of-map Γ [] i = refl
+depth-of-map Γ (a ∷ us) zero = refl
+depth-of-map Γ (a ∷ us) (suc i) = depth-of-map Γ us i
+
+index-gives : (ds : List ℕ) (d : ℕ) → index-rule ds ≡ some d → pred (getD ds 0 0) ≡ d
+index-gives [] d e = not-some d e
+index-gives (zero ∷ ds) d e = not-some d e
+index-gives (suc c ∷ []) d e = not-some d e
+index-gives (suc c ∷ x ∷ ds) d e = some-if-holds (eqb x 0) c d e .1
+
+length-gives : (ds : List ℕ) (d : ℕ) → T.length-rule ds ≡ some d → 0 ≡ d
+length-gives [] d e = not-some d e
+length-gives (zero ∷ ds) d e = not-some d e
+length-gives (suc c ∷ ds) d e = some-same 0 d e
+
+pub leaf-gives : (signatures : ℕ → Signature) (l : Leaf) (Γ : NameDepths) (us : List Atom) (d : ℕ) →
+    leaf-rule signatures l (map (atom-depth Γ) us) ≡ some d →
+    leaf-depth (λ f. signatures f .result) l Γ us ≡ d
+leaf-gives signatures (operation o) Γ us d e = some-if-holds (all-are 0 (map (atom-depth Γ) us)) 0 d e .1
+leaf-gives signatures (call f) Γ us d e =
+    some-if-holds (same (signatures f .parameters) (map (atom-depth Γ) us)) (signatures f .result) d e .1
+leaf-gives signatures (literal r) Γ us d e = some-if-holds (all-are r (map (atom-depth Γ) us)) (suc r) d e .1
+leaf-gives signatures index Γ us d e = ap pred (depth-of-map Γ us 0) ∙ index-gives (map (atom-depth Γ) us) d e
+leaf-gives signatures length-of Γ us d e = length-gives (map (atom-depth Γ) us) d e
+
+-- a loop with as many parts as it should have
+pub loop-gives : (k : Loop) (Γ : NameDepths) (us : List Atom) (a : Atom) (d : ℕ) → length us ≡ loop-arity k →
+    loop-rule k (map (atom-depth Γ) us ++ (atom-depth Γ a ∷ [])) ≡ some d → loop-depth k Γ us a ≡ d
+loop-gives mapping Γ [] a d h e = absurd (omega arith)
+loop-gives mapping Γ (u ∷ []) a d h e =
+    some-if-holds (leb (suc (atom-depth Γ a)) 4) (suc (atom-depth Γ a)) d e .1
+loop-gives mapping Γ (u ∷ v ∷ us) a d h e = absurd (omega arith)
+
+pub pass-gives : (k : Loop) (Γ : NameDepths) (us : List Atom) →
+    pass-depths k Γ us ≡ element-depths k (map (atom-depth Γ) us)
+pass-gives mapping Γ us = λ i. pred (depth-of-map Γ us 0 i) ∷ []
+
+pub element-count : (k : Loop) (ds : List ℕ) → length (element-depths k ds) ≡ loop-arity k
+element-count mapping ds = refl
+
+-- ---- parts that have depths
+
+abbrev pub Each : List Checked → List ℕ → Type 0
+Each [] [] = Unit {0}
+Each [] (d ∷ ds) = ⊥
+Each (c ∷ cs) [] = ⊥
+Each (c ∷ cs) (d ∷ ds) = (c .depth ≡ some d) × Each cs ds
+
+pub each-depths : (cs : List Checked) (ds : List ℕ) → Each cs ds → part-depths cs ≡ some ds
+each-depths [] [] h = refl
+each-depths [] (d ∷ ds) h = absurd h
+each-depths (c ∷ cs) [] h = absurd h
+each-depths (c ∷ cs) (d ∷ ds) h = λ i. and-more (h .0 i) (each-depths cs ds (h .1) i)
+
+pub each-append : (cs : List Checked) (ds : List ℕ) (c : Checked) (d : ℕ) → Each cs ds → c .depth ≡ some d →
+    Each (cs ++ (c ∷ [])) (ds ++ (d ∷ []))
+each-append [] [] c d h e = (e, tt)
+each-append [] (x ∷ ds) c d h e = absurd h
+each-append (b ∷ cs) [] c d h e = absurd h
+each-append (b ∷ cs) (x ∷ ds) c d h e = (h .0, each-append cs ds c d (h .1) e)
+
+pub each-at : (cs : List Checked) (ds : List ℕ) (i : ℕ) → Each cs ds → i < length ds →
+    depth-at cs i ≡ some (getD ds i 0)
+each-at [] [] i h g = absurd (omega arith)
+each-at [] (d ∷ ds) i h g = absurd h
+each-at (c ∷ cs) [] i h g = absurd h
+each-at (c ∷ cs) (d ∷ ds) zero h g = h .0
+each-at (c ∷ cs) (d ∷ ds) (suc i) h g = each-at cs ds i (h .1) (omega arith)
 
 -- ---- a node without fault
 
@@ -98,74 +118,73 @@ unfolding node
 node-parts p r cs e = with-if-empty (breaks r (part-depths cs)) p (part-faults cs) e .1
 
 -- and with depths of all parts it has a depth, by its rule
-pub node-depth : (p : ℕ) (r : Rule) (cs : List Checked) (ds : List ℕ) → node p r cs .faults ≡ [] →
-    part-depths cs ≡ some ds →
+pub node-depth : (p : ℕ) (r : Rule) (cs : List Checked) (ds : List ℕ) → node p r cs .faults ≡ [] → Each cs ds →
     (d : ℕ) × (node p r cs .depth ≡ some d) × (r ds ≡ some d)
 unfolding node
-node-depth p r cs ds e q =
+node-depth p r cs ds e h =
+    let q = each-depths cs ds h in
     let whole : is-none (r ds) ≡ false =
     ap (breaks r) (sym q) ∙ with-if-empty (breaks r (part-depths cs)) p (part-faults cs) e .0 in
     let found = none-not (r ds) whole in
     (found .0, ap (ruled r) q ∙ found .1, found .1)
 
--- ---- nodes with two parts
+faults-append : (cs : List Checked) (b : Checked) → part-faults (cs ++ (b ∷ [])) ≡ [] →
+    (part-faults cs ≡ []) × (b .faults ≡ [])
+faults-append [] b e = (refl, append-empty (b .faults) [] e .0)
+faults-append (c ∷ cs) b e =
+    let first = append-empty (c .faults) (part-faults (cs ++ (b ∷ []))) e in
+    let rest = faults-append cs b (first .1) in
+    ((λ i. first .0 i ++ rest .0 i), rest .1)
 
--- the two parts of a node without fault have none
-pub two-parts : (p : ℕ) (r : Rule) (a b : Checked) → node p r (a ∷ b ∷ []) .faults ≡ [] →
-    (a .faults ≡ []) × (b .faults ≡ [])
-two-parts p r a b e =
-    let first = append-empty (a .faults) (b .faults ++ []) (node-parts p r (a ∷ b ∷ []) e) in
-    (first .0, append-empty (b .faults) [] (first .1) .0)
+-- ---- loops
 
--- and the depth of such a node, by the depths of its parts
-pub two-depth : (p : ℕ) (r : Rule) (a b : Checked) (i j : ℕ) → node p r (a ∷ b ∷ []) .faults ≡ [] → a .depth ≡ some i →
-    b .depth ≡ some j → (d : ℕ) × (node p r (a ∷ b ∷ []) .depth ≡ some d) × (r (i ∷ j ∷ []) ≡ some d)
-two-depth p r a b i j e da db =
-    node-depth p r (a ∷ b ∷ []) (i ∷ j ∷ []) e (λ t. and-more (da t) (and-more (db t) (some [])))
-
--- ---- ifs
-
-pub three-parts : (p : ℕ) (r : Rule) (a b c : Checked) → node p r (a ∷ b ∷ c ∷ []) .faults ≡ [] →
-    (a .faults ≡ []) × (b .faults ≡ []) × (c .faults ≡ [])
-three-parts p r a b c e =
-    let first = append-empty (a .faults) (b .faults ++ (c .faults ++ [])) (node-parts p r (a ∷ b ∷ c ∷ []) e) in
-    let second = append-empty (b .faults) (c .faults ++ []) (first .1) in
-    (first .0, second .0, append-empty (c .faults) [] (second .1) .0)
-
--- ---- maps
-
-pub map-parts : (p : ℕ) (a b : Checked) → map-node p a b .faults ≡ [] →
-    (a .faults ≡ []) × (b .faults ≡ []) × (is-number (a .depth) ≡ false)
-unfolding map-node
-map-parts p a b = go (is-number (a .depth))
+-- a loop without fault is a node without fault, over no number
+pub loop-whole : (p : ℕ) (k : Loop) (cs : List Checked) (b : Checked) → loop-node p k cs b .faults ≡ [] →
+    (is-number (array-depth k cs) ≡ false) × (loop-node p k cs b ≡ node p (loop-rule k) (cs ++ (b ∷ [])))
+unfolding loop-node
+loop-whole p k cs b = go (is-number (array-depth k cs))
   where
     whole : Checked
-    whole = node p map-rule (a ∷ b ∷ [])
-
-    go : (t : Bool) → cond t (record { depth = none; faults = p ∷ (a .faults ++ b .faults) }) whole .faults ≡ [] →
-        (a .faults ≡ []) × (b .faults ≡ []) × (t ≡ false)
-    go true e = absurd (omega (arith, ap length e))
-    go false e =
-        let parts = two-parts p map-rule a b e in
-        (parts .0, parts .1, refl)
-
-pub map-depth : (p : ℕ) (a b : Checked) (i j : ℕ) → map-node p a b .faults ≡ [] → a .depth ≡ some i →
-    b .depth ≡ some j →
-    (d : ℕ) × (map-node p a b .depth ≡ some d) × (map-rule (i ∷ j ∷ []) ≡ some d)
-unfolding map-node
-map-depth p a b i j = go (is-number (a .depth))
-  where
-    whole : Checked
-    whole = node p map-rule (a ∷ b ∷ [])
+    whole = node p (loop-rule k) (cs ++ (b ∷ []))
 
     broken : Checked
-    broken = record { depth = none; faults = p ∷ (a .faults ++ b .faults) }
+    broken = record { depth = none; faults = p ∷ (part-faults cs ++ b .faults) }
 
-    go : (t : Bool) → cond t broken whole .faults ≡ [] → a .depth ≡ some i → b .depth ≡ some j →
-        (d : ℕ) × (cond t broken whole .depth ≡ some d) × (map-rule (i ∷ j ∷ []) ≡ some d)
-    go true e da db = absurd (omega (arith, ap length e))
-    go false e da db = two-depth p map-rule a b i j e da db
+    go : (t : Bool) → cond t broken whole .faults ≡ [] → (t ≡ false) × (cond t broken whole ≡ whole)
+    go true e = absurd (omega (arith, ap length e))
+    go false e = (refl, refl)
 
-pub not-number : (i : ℕ) → is-number (some i) ≡ false → (j : ℕ) × (i ≡ suc j)
+pub loop-parts : (p : ℕ) (k : Loop) (cs : List Checked) (b : Checked) → loop-node p k cs b .faults ≡ [] →
+    (part-faults cs ≡ []) × (b .faults ≡ [])
+loop-parts p k cs b e =
+    let whole = loop-whole p k cs b e in
+    faults-append cs b (node-parts p (loop-rule k) (cs ++ (b ∷ [])) (ap (λ (c : Checked). c .faults) (sym (whole .1))
+    ∙ e))
+
+pub loop-found : (p : ℕ) (k : Loop) (cs : List Checked) (b : Checked) (ds : List ℕ) (x : ℕ) →
+    loop-node p k cs b .faults ≡ [] → Each cs ds → b .depth ≡ some x →
+    (d : ℕ) × (loop-node p k cs b .depth ≡ some d) × (loop-rule k (ds ++ (x ∷ [])) ≡ some d)
+loop-found p k cs b ds x e h q =
+    let whole = loop-whole p k cs b e in
+    let found = node-depth p (loop-rule k) (cs ++ (b ∷ [])) (ds ++ (x ∷ []))
+    (ap (λ (c : Checked). c .faults) (sym (whole .1)) ∙ e) (each-append cs ds b x h q) in
+    (found .0, ap (λ (c : Checked). c .depth) (whole .1) ∙ found .1, found .2)
+
+not-number : (i : ℕ) → is-number (some i) ≡ false → (0 < i) × (element (some i) ≡ some (pred i))
 not-number zero e = absurd (false≢true (sym e))
-not-number (suc j) e = (j, refl)
+not-number (suc j) e = (omega arith, refl)
+
+-- the array of a loop that is over no number, and the depths of the names of a pass
+pub array-found : (cs : List Checked) (ds : List ℕ) (i : ℕ) → Each cs ds → i < length ds →
+    is-number (depth-at cs i) ≡ false → (0 < getD ds i 0) × (element (depth-at cs i) ≡ some (pred (getD ds i 0)))
+array-found cs ds i h g e =
+    let at = each-at cs ds i h g in
+    let array = not-number (getD ds i 0) (ap is-number (sym at) ∙ e) in
+    (array .0, ap element at ∙ array .1)
+
+pub pass-found : (k : Loop) (cs : List Checked) (ds : List ℕ) → Each cs ds → length ds ≡ loop-arity k →
+    is-number (array-depth k cs) ≡ false →
+    (0 < array-among k ds) × (T.pass-depths k cs ≡ map (λ d. some d) (element-depths k ds))
+pass-found mapping cs ds h n e =
+    let array = array-found cs ds 0 h (omega arith) e in
+    (array .0, (λ i. array .1 i ∷ []))

@@ -1,219 +1,217 @@
--- The annotated lines with trees inside, an if's branches and a map's tree, are disciplined.
-use Prim.Native.Nat.{ℕ, suc, _+_, _-_, _≤_, _<_, max}
+-- `loop-line`: an annotated loop before a sound tree. The loop lends its array to its tree.
+use Prim.Native.Nat.{ℕ, _+_, _-_, _≤_, _<_, min}
 use native.Mathlib.Omega.{arith}
-use mathlib.Core.Path.{_≡_, sym, ap, _∙_, subst, subst₂}
+use native.Mathlib.Decide.{decLt}
+use mathlib.Core.Path.{_≡_, refl, sym, ap, _∙_, subst}
 use mathlib.Core.Logic.{inl, inr}
-use mathlib.Core.Bool.{false≢true}
-use mathlib.Core.List.{List, [], _++_}
-use Rattle.semantics.specs.Basics.{occurrences}
-use Rattle.semantics.specs.Types.{Signature}
-use Rattle.semantics.specs.Code.{Atom, if-else, map-over, Tree, ending, release-all}
-use Rattle.semantics.specs.Live.{Set, empty, _∪_, _∖_, only, is, live, live-before, uses, after-pass}
-use Rattle.semantics.specs.Annotate.{NameDepths, atom-depth, dying, annotate, annotate-line}
-use Rattle.sound_base.specs.Lists.{hits}
-use Rattle.sound_machine.specs.Discipline.{Covered, Disciplined}
-use Rattle.sound_annotation.specs.Held.{Few, hit, held, hold, names, held-most, held-or, held-less, only-other}
-use Rattle.sound_annotation.specs.Held.{held-is, names-held, append-held, hold-names, dying-held, covered-by}
-use Rattle.sound_annotation.specs.Moves.{retains-pending}
-use Rattle.sound_annotation.specs.Sets.{or-cases, Inside, inside-bound}
-use Rattle.sound_annotation.specs.Formed.{Visible, Within, Formed, LineFormed, live-seen, within-up}
-use Rattle.sound_annotation.specs.Unchanged.{live-release-all, branch, pass, live-pass, ending-pass}
-use Rattle.sound_annotation.specs.Counts.{Holding, fresh-name, outside, atom-unseen, number-held, binds, gone}
-use Rattle.sound_annotation.specs.Counts.{releasing, bound-on, needs, Needs}
+use mathlib.Core.List.{List, [], _∷_, _++_}
+use lib.ListN.{length}
+use Rattle.semantics.specs.Basics.{occurrences, _∈_}
+use Rattle.semantics.specs.Kinds.{Loop, mapping, loop-hands, loop-reads, element-name}
+use Rattle.semantics.specs.Code.{Atom, loop, Tree, line, retain-all, release-all}
+use Rattle.semantics.specs.Live.{Set, empty, _∪_, _∖_, _∖∖_, only, just, among, live, live-before, uses, after-pass}
+use Rattle.semantics.specs.Annotate.{NameDepths, arrays, dying, annotate, annotate-line}
+use Rattle.sound_machine.specs.Discipline.{loop-arity, hold-of, holds-of, handed, less, unlent, left-by, carried-name}
+use Rattle.sound_machine.specs.Discipline.{outer-holds, pass-lent, pass-holds, aside, Covered, Frugal}
+use Rattle.sound_base.specs.Lists.{_≈_, occurrences-append}
+use Rattle.sound_machine.specs.Spending.{less-counts, same-append, unlent-few, lent-or-not}
+use Rattle.sound_annotation.specs.Held.{Few, free, free-or, held, names, held-most, held-or, names-held}
+use Rattle.sound_annotation.specs.Held.{append-held, held-pass, just-none, just-most, holds-just, held-among}
+use Rattle.sound_annotation.specs.Formed.{Rising}
+use Rattle.sound_annotation.specs.Moves.{Sound, sound-same, retains, retains-element}
+use Rattle.sound_annotation.specs.Unchanged.{live-release-all, pass, live-pass}
+use Rattle.sound_annotation.specs.Counts.{Needs, releasing, Apart, before, behind, again, retainable, handable}
+use Rattle.sound_annotation.specs.Counts.{left, readable, bound, covered-before}
 
-module _ (signatures : ℕ → Signature) (Γ : NameDepths) (few : Few Γ) where
-  -- in the scope S of names below c, and with L live after the tree
-  module _ (S L : Set) (c : ℕ) (scope : Within S c) (after : Within L c) where
-    -- what is live after a line, less its name, is below c
-    pub rest-within : (x : ℕ) (A : Set) → Inside A (S ∪ only x) L → Within (A ∖ x) c
-    rest-within x A i = record {
-      below = λ n e. elim (inside-bound {B = S} x i .either n e)
-          [ inl q ↦ scope .below n q | inr q ↦ after .below n q ];
-    }
+-- a pass has one element
+element-one : (k : Loop) (ps : List ℕ) → length ps ≡ loop-arity k → (q : ℕ) × (element-name k ps ≡ q ∷ [])
+element-one mapping [] h = absurd (omega arith)
+element-one mapping (p ∷ []) h = (p, refl)
+element-one mapping (p ∷ q ∷ ps) h = absurd (omega arith)
 
-    -- one branch of an if, from what both need
-    branch-holds : (x : ℕ) (t e : Tree) (A : Set) (H : List ℕ) → let B = A ∖ x in
-        ((n : ℕ) → Needs Γ t B n) → ((n : ℕ) → Needs Γ e B n) →
-        ((n : ℕ) → occurrences n H ≡ max (held Γ (live t B) n) (held Γ (live e B) n)) →
-        Holding signatures Γ (annotate Γ t B) (live t B) (Γ x) B →
-        Disciplined signatures Γ (branch Γ x t e A) H [] (names Γ B) (Γ x) B
-    branch-holds x t e A H first second count D =
-        releasing signatures Γ few (uses e) (live t (A ∖ x)) (annotate Γ t (A ∖ x)) H [] (Γ x) (A ∖ x)
-        (λ n. omega (arith, count n, held-most Γ (live e (A ∖ x)) n, first n .rest, second n .most, second n .own)) D
+module _ (Γ : NameDepths) where
+  -- each atom of a loop is handed over or read
+  pub loop-parts : (k : Loop) (us : List Atom) (n : ℕ) → occurrences n (handed Γ us)
+      ≡ occurrences n (handed Γ (loop-hands k us)) + occurrences n (handed Γ (loop-reads k us))
+  unfolding occurrences
+  loop-parts mapping us n = omega arith
 
-    pub if-line : (x : ℕ) (g : Atom) (t e : Tree) (A : Set) (k : Tree) (d : ℕ) → live k L ≡ A → c ≤ x →
-        Inside A (S ∪ only x) L →
-        LineFormed signatures Γ (if-else x g t e) S →
-        Holding signatures Γ (annotate Γ t (A ∖ x)) (live t (A ∖ x)) (Γ x) (A ∖ x) →
-        Holding signatures Γ (annotate Γ e (A ∖ x)) (live e (A ∖ x)) (Γ x) (A ∖ x) →
-        Holding signatures Γ k A d L →
-        Holding signatures Γ (annotate-line Γ (if-else x g t e) A k) (live-before (if-else x g t e) A) d L
-    unfolding annotate live
-    if-line x g t e A k d same p i f D₁ D₂ D =
-        let k′ = release-all (dying Γ (only x) A) k in
-        let q : live k′ L ≡ A = live-release-all (dying Γ (only x) A) k L ∙ same in
-        let B = A ∖ x in
-        let H = names Γ (is g ∪ live t B ∪ live e B) in
-        let w = rest-within x A i in
-        let first = needs signatures Γ t S B (f .1 .0) (Γ x) (f .1 .2)
-        (within-up B c (f .1 .0) (omega (arith, f .1 .1)) w) in
-        let second = needs signatures Γ e S B (f .2 .0) (Γ x) (f .2 .2)
-        (within-up B c (f .2 .0) (omega (arith, f .2 .1)) w) in
-        let count : (n : ℕ) → occurrences n H ≡ max (held Γ (live t B) n) (held Γ (live e B) n) =
-        λ n. omega (
-          arith,
-          names-held Γ few (is g ∪ live t B ∪ live e B) n,
-          held-or Γ (is g) (live t B ∪ live e B) n,
-          held-or Γ (live t B) (live e B) n,
-          number-held Γ g n (f .0 .guard),
-        ) in
-        let swapped : (n : ℕ) → occurrences n H ≡ max (held Γ (live e B) n) (held Γ (live t B) n) =
-        λ n. omega (arith, count n) in (
-          names Γ B,
-          record {
-            guard = f .0 .guard;
-            fresh = fresh-name signatures Γ few L c x (names Γ B) after p (gone Γ few x A);
-          },
-          subst (λ M. Disciplined signatures Γ (branch Γ x t e A) H [] (names Γ B) (Γ x) (M ∖ x)) (sym q)
-              (branch-holds x t e A H first second count D₁),
-          subst (λ M. Disciplined signatures Γ (branch Γ x e t A) H [] (names Γ B) (Γ x) (M ∖ x)) (sym q)
-              (branch-holds x e t A H second first swapped D₂),
-          bound-on signatures Γ few x A k d L D,
-        )
+  -- each name of a pass holds what is carried, or is the element
+  pass-parts : (k : Loop) (ps : List ℕ) (n : ℕ) → occurrences n (holds-of Γ ps)
+      ≡ occurrences n (holds-of Γ (element-name k ps)) + occurrences n (holds-of Γ (carried-name k ps))
+  unfolding occurrences
+  pass-parts mapping ps n = omega arith
 
-    -- what is live after a map's tree
-    pub pass-within : (x p : ℕ) (t : Tree) (A : Set) (e d : ℕ) → Inside A (S ∪ only x) L →
-        Formed signatures Γ t (S ∪ only p) e d →
-        Within (after-pass x p t A) c
-    pass-within x p t A e d i f = record {
-      below = λ n q. elim (or-cases ((uses t ∖ p) n) ((A ∖ x) n) q) [
-        | inl r ↦ elim (own .either n r) [ inl v ↦ scope .below n v | inr v ↦ absurd (false≢true v) ]
-        | inr r ↦ rest-within x A i .below n r
-      ];
-    }
-      where
-        own : Inside (uses t ∖ p) S empty
-        own = inside-bound p (live-seen signatures Γ t (S ∪ only p) empty e d f)
+  module _ (few : Few Γ) (B : List ℕ) (x : ℕ) (k : Loop) (ps : List ℕ) (us : List Atom) (t : Tree) (A : Set) where
+    -- its atoms that are handed over, those that are read, and the outer names that its tree uses
+    abbrev hands : List Atom
+    hands = loop-hands k us
 
-    held-pass : (x p : ℕ) (t : Tree) (A : Set) (n : ℕ) →
-        held Γ (after-pass x p t A) n ≡ max (held Γ (uses t) n - hit n p) (held Γ A n - hit n x)
-    held-pass x p t A n =
-        omega (arith, held-or Γ (uses t ∖ p) (A ∖ x) n, held-less Γ (uses t) p n, held-less Γ A x n)
+    abbrev reads : List Atom
+    reads = loop-reads k us
 
-    -- with its parameter, a map's tree has what it needs
-    pass-held : (x p : ℕ) (t : Tree) (A : Set) → let B = after-pass x p t A in
-        held Γ A p ≡ 0 → ((n : ℕ) → Needs Γ t B n) → (n : ℕ) →
-        held Γ (only p) n + held Γ B n ≡ max (held Γ (only p) n) (held Γ (live t B) n)
-    pass-held x p t A unused need n =
-        let B = after-pass x p t A in
-        let parts = held-pass x p t A n in
-        elim (hits n p) [
-          | inl q ↦
-              let none : held Γ A n ≡ 0 = ap (held Γ A) (q .0) ∙ unused in
-              let empty : held Γ B n ≡ 0 = omega (arith, held-most Γ (uses t) n) in
-              omega (arith, held-most Γ (live t B) n, binds Γ p (live t B) n)
-          | inr q ↦ omega (arith, only-other Γ p n (q .0), need n .most, need n .rest, held-most Γ (live t B) n)
-        ]
+    abbrev used : Set
+    used = uses t ∖∖ ps
 
-    -- a map's tree, from what is live after it
-    pass-holds : (x p : ℕ) (t : Tree) (A : Set) (d : ℕ) → let B = after-pass x p t A in
-        held Γ A p ≡ 0 → ((n : ℕ) → Needs Γ t B n) → Holding signatures Γ (annotate Γ t B) (live t B) d B →
-        Disciplined signatures Γ (pass Γ x p t A) (names Γ B) (hold Γ p) (names Γ B) d B
-    pass-holds x p t A d unused need D =
-        let B = after-pass x p t A in
-        let free = dying Γ (only p) (live t B) in
-        retains-pending signatures Γ p (release-all free (annotate Γ t B)) (names Γ B) (names Γ B) d B
-        (releasing signatures Γ few (only p) (live t B) (annotate Γ t B) (hold Γ p ++ names Γ B) [] d B
-        (λ n. hold-names Γ few p B n ∙ pass-held x p t A unused need n) D)
+    -- live after a pass
+    abbrev pub after : Set
+    after = after-pass x ps t A
 
-    -- a map's parameter is not live after the map
-    unused-after : (x p : ℕ) (A : Set) → Inside A (S ∪ only x) L → c ≤ x → x < p → held Γ A p ≡ 0
-    unused-after x p A i above later = elim (hits p x) [
-      | inl h ↦ absurd (omega arith)
-      | inr h ↦ omega (arith, held-less Γ A x p, outside Γ (A ∖ x) c p (rest-within x A i) (omega arith))
-    ]
+    -- the names that are lent to the tree
+    abbrev pub inner : List ℕ
+    inner = pass-lent Γ B k us
 
-    -- what is held after a map: its array, what its tree uses and its result are released unless they are live
-    after-map : (x p : ℕ) (a : Atom) (t : Tree) (A : Set) → c ≤ x → Visible S a → Within (after-pass x p t A) c →
-        (n : ℕ) →
-        held Γ (only x) n + held Γ (is a ∪ after-pass x p t A) n
-        ≡ max (held Γ (is a ∪ uses t ∖ p ∪ only x) n) (held Γ A n)
-    after-map x p a t A above seen w n = elim (hits n x) [
-      | inl q ↦
-          let none = outside Γ B c n w (omega arith) in
-          let unread = atom-unseen Γ a S c n seen scope (omega arith) in
-          let left : held Γ (is a ∪ B) n ≡ 0 = omega (arith, held-or Γ (is a) B n) in
-          let apart : held Γ C n ≡ 0 = omega (arith, held-or Γ C (A ∖ x) n) in
-          let right : held Γ (is a ∪ C ∪ only x) n ≡ held Γ (only x) n =
-          omega (arith, held-or Γ (is a) (C ∪ only x) n, held-or Γ C (only x) n) in
-          omega (arith, held-most Γ A n, binds Γ x A n)
-      | inr q ↦
-          let other = only-other Γ x n (q .0) in
-          let left : held Γ (is a ∪ B) n ≡ max (held Γ (is a) n) (max (held Γ C n) (held Γ A n)) =
-          omega (arith, held-or Γ (is a) B n, held-or Γ C (A ∖ x) n, held-less Γ A x n) in
-          let right : held Γ (is a ∪ C ∪ only x) n ≡ max (held Γ (is a) n) (held Γ C n) =
-          omega (arith, held-or Γ (is a) (C ∪ only x) n, held-or Γ C (only x) n) in
-          omega arith
-    ]
-      where
-        B : Set
-        B = after-pass x p t A
+    module _ (apart : Apart Γ few B x us hands reads used A) where
+      abbrev start : List ℕ
+      start = again Γ few B x us hands reads used A
+          ++ names Γ B (before Γ few B x us hands reads used A)
 
-        C : Set
-        C = uses t ∖ p
+      -- what the passes leave alone: all that is live after them, but for the array
+      outer : outer-holds Γ B k us start ≈ names Γ inner after
+      outer n = counted ∙ sum (decLt 0 (occurrences n B)) (decLt 0 (occurrences n (handed Γ reads)))
+          ∙ sym (names-held Γ few inner after n)
+        where
+          counted : occurrences n (outer-holds Γ B k us start)
+              ≡ min (free B n) (held Γ (among reads after) n) - occurrences n (unlent B (handed Γ reads))
+          counted =
+              less-counts (aside Γ B k us) (less (handed Γ hands) start) n
+              ∙ ap (λ (m : ℕ). m - occurrences n (unlent B (handed Γ reads)))
+              (left Γ few B x us hands reads used A apart n
+              ∙ names-held Γ few B (among reads after) n)
 
-    pub map-line : (x p : ℕ) (a : Atom) (t : Tree) (A : Set) (k : Tree) (d : ℕ) → live k L ≡ A → c ≤ x →
-        Inside A (S ∪ only x) L →
-        LineFormed signatures Γ (map-over x p a t) S →
-        let B = after-pass x p t A in
-        Holding signatures Γ (annotate Γ t B) (live t B) (atom-depth Γ (ending t)) B →
-        Holding signatures Γ k A d L →
-        Holding signatures Γ (annotate-line Γ (map-over x p a t) A k) (live-before (map-over x p a t) A) d L
-    unfolding annotate live
-    map-line x p a t A k d same above i f D₁ D =
-        let B = after-pass x p t A in
-        let M = is a ∪ B in
-        let t′ = pass Γ x p t A in
-        let free = dying Γ (is a ∪ uses t ∖ p ∪ only x) A in
-        let k′ = release-all free k in
-        let r = atom-depth Γ (ending t) in
-        let form = f .0 in
-        let inner = f .1 in
-        let w : Within B c = pass-within x p t A (inner .0) r i (inner .2) in
-        let need = needs signatures Γ t (S ∪ only p) B (inner .0) r (inner .2)
-        (within-up B c (inner .0) (omega (arith, inner .1, form .after)) w) in
-        let live-same : live k′ L ≡ A = live-release-all free k L ∙ same in
-        let pass-same : after-pass x p t′ (live k′ L) ≡ B = λ j. live-pass Γ x p t A empty j ∖ p ∪ live-same j ∖ x in
-        let ending-same : ending t′ ≡ ending t = ending-pass Γ x p t A in
-        let unused = unused-after x p A i above (form .after) in (
-          dying Γ (is a) B,
-          names Γ B,
-          record {
-            reads = λ n h. omega (arith, held-is Γ signatures a n, names-held Γ few M n, held-or Γ (is a) B n);
-            array = form .array;
-            split = λ n. omega (
+          sum : Dec (0 < occurrences n B) → Dec (0 < occurrences n (handed Γ reads)) →
+              min (free B n) (held Γ (among reads after) n) - occurrences n (unlent B (handed Γ reads))
+              ≡ min (free inner n) (held Γ after n)
+          sum (yes h) d =
+              let lent : free B n ≡ 0 = omega (arith, free-or B n) in
+              let lent′ : free inner n ≡ 0 =
+              omega (arith, free-or inner n, occurrences-append n (handed Γ reads) B) in
+              omega arith
+          sum (no h) (yes g) =
+              let lent′ : free inner n ≡ 0 =
+              omega (arith, free-or inner n, occurrences-append n (handed Γ reads) B) in
+              let spent : 1 ≤ occurrences n (unlent B (handed Γ reads)) =
+              elim (lent-or-not B (handed Γ reads) n g) [ inl r ↦ absurd (h r) | inr r ↦ r ] in
+              omega (arith, held-most Γ (among reads after) n)
+          sum (no h) (no g) =
+              let none : occurrences n (handed Γ reads) ≡ 0 = omega arith in
+              let unlent : free B n ≡ 1 = omega (arith, free-or B n) in
+              let unlent′ : free inner n ≡ 1 =
+              omega (arith, free-or inner n, occurrences-append n (handed Γ reads) B) in
+              let same : held Γ (among reads after) n ≡ held Γ after n =
+              omega (arith, held-among Γ reads after n) in
+              omega (arith, unlent-few B (handed Γ reads) n)
+
+      -- what else a loop's line needs: its names are new, and not live after it
+      pub record Passing (c e : ℕ) : Type 0 where
+        pub rising : Rising c ps e
+        pub named : length ps ≡ loop-arity k
+        pub unlent : (n : ℕ) → n ∈ ps → free inner n ≡ 1
+        pub unused : (n : ℕ) → n ∈ ps → held Γ after n ≡ 0
+        pub needs : (n : ℕ) → Needs Γ t after n
+
+      module _ (c e : ℕ) (passing : Passing c e) where
+        -- an outer name is live before the tree as after it
+        pub pass-steady : (n : ℕ) → occurrences n ps ≡ 0 → held Γ (live t after) n ≡ held Γ after n
+        pass-steady n h =
+            let own : held Γ (uses t) n ≤ held Γ after n =
+            omega (arith, held-pass Γ ps (uses t) n, held-or Γ used (A ∖ x) n) in
+            omega (
               arith,
-              names-held Γ few M n,
-              held-or Γ (is a) B n,
-              dying-held Γ few (is a) B n,
-              append-held Γ few (dying Γ (is a) B) B n,
-            );
-            kept = λ n h. omega (arith, dying-held Γ few (is a) B n, held-is Γ signatures a n);
-            covered = subst (λ N. Covered signatures Γ (names Γ M) (is a ∪ N)) (sym pass-same)
-                (covered-by Γ few signatures (names Γ M) M (λ n h. omega (arith, names-held Γ few M n)));
-            shallow = subst (λ u. atom-depth Γ u ≤ 3) (sym ending-same) (form .shallow);
-            result = form .result ∙ ap (λ u. suc (atom-depth Γ u)) (sym ending-same);
-            parameter = names-held Γ few B p ∙ outside Γ B c p w (omega (arith, form .after));
-            fresh = fresh-name signatures Γ few L c x (names Γ M) after above (omega (
+              passing .needs n .most,
+              passing .needs n .rest,
+              held-most Γ (live t after) n,
+              held-most Γ (uses t) n,
+              held-most Γ after n,
+            )
+
+        -- with its names, a pass has what its tree needs
+        given : (n : ℕ) → occurrences n (holds-of Γ ps ++ names Γ inner after)
+            ≡ held Γ (just ps) n - held Γ (live t after) n + min (free inner n) (held Γ (live t after) n)
+        given n =
+            append-held Γ few (holds-of Γ ps) inner after n
+            ∙ ap (λ (m : ℕ). m + min (free inner n) (held Γ after n)) (holds-just Γ ps c e n (passing .rising))
+            ∙ sum (decLt 0 (occurrences n ps))
+          where
+            sum : Dec (0 < occurrences n ps) → held Γ (just ps) n + min (free inner n) (held Γ after n)
+                ≡ held Γ (just ps) n - held Γ (live t after) n + min (free inner n) (held Γ (live t after) n)
+            sum (yes h) =
+                omega (
+                  arith,
+                  passing .unlent n h,
+                  passing .unused n h,
+                  just-most Γ ps (live t after) n h,
+                  held-most Γ (just ps) n,
+                )
+            sum (no h) =
+                let none : occurrences n ps ≡ 0 = omega arith in
+                omega (arith, just-none Γ ps n none, pass-steady n none)
+
+        pass-sound : Sound Γ inner (annotate Γ t after) (names Γ inner (live t after)) [] (names Γ inner after) after →
+            Sound Γ inner (pass Γ x k ps t A) (pass-holds Γ B k ps us start) (holds-of Γ (element-name k ps))
+            (outer-holds Γ B k us start) after
+        pass-sound s =
+            let t′ = release-all (dying Γ (just ps) (live t after)) (annotate Γ t after) in
+            let H = pass-holds Γ B k ps us start in
+            let E = element-name k ps in
+            let rest : Sound Γ inner t′ (holds-of Γ ps ++ names Γ inner after) [] (names Γ inner after) after =
+            releasing Γ few inner (just ps) (live t after) (annotate Γ t after) _ [] after given s in
+            let here : Sound Γ inner t′ (holds-of Γ E ++ H) [] (outer-holds Γ B k us start) after =
+            sound-same Γ inner t′ (holds-of Γ ps ++ names Γ inner after) (holds-of Γ E ++ H) []
+            (names Γ inner after) (outer-holds Γ B k us start) after
+            (λ n. omega (
               arith,
-              names-held Γ few M x,
-              held-or Γ (is a) B x,
-              atom-unseen Γ a S c x (form .seen) scope above,
-              outside Γ B c x w above,
-            ));
-          },
-          subst₂ (λ u N. Disciplined signatures Γ t′ (names Γ B) (hold Γ p) (names Γ B) (atom-depth Γ u) N)
-              (sym ending-same) (sym pass-same) (pass-holds x p t A r unused need D₁),
-          releasing signatures Γ few (is a ∪ uses t ∖ p ∪ only x) A k (hold Γ x ++ names Γ M) [] d L
-              (λ n. hold-names Γ few x M n ∙ after-map x p a t A above (form .seen) w n) D,
-        )
+              pass-parts k ps n,
+              outer n,
+              occurrences-append n (holds-of Γ ps) (names Γ inner after),
+              occurrences-append n (holds-of Γ E) H,
+              occurrences-append n (holds-of Γ (carried-name k ps)) (outer-holds Γ B k us start),
+            ))
+            (λ n. sym (outer n)) rest in
+            let one = element-one k ps (passing .named) in
+            subst (λ es. Sound Γ inner (retain-all (arrays Γ es) t′) H (holds-of Γ es)
+            (outer-holds Γ B k us start) after)
+            (sym (one .1))
+            (retains-element Γ inner (one .0) t′ H (outer-holds Γ B k us start) after
+            (subst (λ es. Sound Γ inner t′ (holds-of Γ es ++ H) [] (outer-holds Γ B k us start) after) (one .1) here))
+
+        pub loop-line : (L : Set) (j : Tree) → live j L ≡ A →
+            Sound Γ inner (annotate Γ t after) (names Γ inner (live t after)) [] (names Γ inner after) after →
+            Sound Γ B j (names Γ B A) [] (names Γ B L) L →
+            Sound Γ B (annotate-line Γ (loop x k ps us t) A j) (names Γ B (live-before (loop x k ps us t) A)) []
+            (names Γ B L) L
+        unfolding annotate live left-by
+        loop-line L j same s sound =
+            let free = dying Γ (among reads used ∪ only x) A in
+            let j′ = release-all free j in
+            let t′ = pass Γ x k ps t A in
+            let rest = less (handed Γ hands) start in
+            let q : live j′ L ≡ A = live-release-all free j L ∙ same in
+            let pass-same : after-pass x ps t′ (live j′ L) ≡ after =
+            λ i. live-pass Γ x k ps t A empty i ∖∖ ps ∪ q i ∖ x in
+            let inside = pass-sound s in
+            let s′ : Sound Γ B j′ (hold-of Γ x ++ rest) [] (names Γ B L) L =
+            sound-same Γ B j′ (hold-of Γ x ++ names Γ B (behind Γ few B x us hands reads used A)) (hold-of Γ x ++ rest) []
+            (names Γ B L) (names Γ B L) L
+            (same-append (hold-of Γ x) _ rest (λ n. sym (left Γ few B x us hands reads used A apart n))) (λ n. refl)
+            (releasing Γ few B (among reads used ∪ only x) A j _ [] L (bound Γ few B x us hands reads used A apart) sound) in
+            retains Γ B (again Γ few B x us hands reads used A) (line (loop x k ps us t′) j′)
+            (names Γ B (before Γ few B x us hands reads used A)) (names Γ B L) L
+            (retainable Γ few B x us hands reads used A apart) (
+              (
+                (
+                  handable Γ few B x us hands reads used A apart,
+                  readable Γ few B x us hands reads used A apart,
+                  inside .0,
+                ),
+                s′ .0,
+              ),
+              (
+                (
+                  subst (λ M. Covered Γ start (among us M)) (sym pass-same)
+                      (covered-before Γ few B x us hands reads used A apart),
+                  subst (Frugal Γ inner t′ (pass-holds Γ B k ps us start)) (sym pass-same) (inside .1),
+                ),
+                s′ .1,
+              ),
+            )

@@ -1,17 +1,13 @@
 -- The code worked on values: retains and releases do nothing. The actions are those of the meaning.
 use Prim.Native.Nat.{ℕ, zero, suc}
 use mathlib.Core.List.{List, [], _∷_, map}
-use lib.IntN.{ℤ, pos}
-use lib.ListN.{getD}
+use lib.IntN.{pos}
 use Rattle.semantics.specs.Basics.{updated}
 use Rattle.semantics.specs.Outcome.{_>>=_, _>>_, give, halt}
 use Rattle.semantics.specs.Value.{Value, num}
-use Rattle.semantics.specs.Syntax.{Script}
-use Rattle.semantics.specs.Code.{Atom, number, name, Line, operation, call, literal, index, length-of, if-else}
-use Rattle.semantics.specs.Code.{map-over, retain, release, Tree, end, line}
-use Rattle.semantics.specs.Meaning.{Work, Callee, Env, do-operation, do-call, do-literal, do-index, do-length, do-if}
-use Rattle.semantics.specs.Meaning.{do-map}
-use Rattle.semantics.specs.Machine.{Routine, routine, no-routine}
+use Rattle.semantics.specs.Code.{Atom, number, name, Line, leaf, if-else, loop, retain, release, Tree, end, line}
+use Rattle.semantics.specs.Meaning.{Work, Callee, Env, do-leaf, do-if, do-loop, binding}
+use Rattle.semantics.specs.Machine.{Program, routine-of}
 
 -- the value of an atom
 abbrev pub value : Env → Atom → Value
@@ -25,13 +21,11 @@ module _ (callee : Callee) where
     run (line l t) ρ = do ρ′ ← run-line l ρ; run t ρ′
 
     pub run-line : Line → Env → Work Env
-    run-line (operation x o a b) ρ = do v ← do-operation o (value ρ a) (value ρ b); give (updated ρ x v)
-    run-line (call x f us) ρ = do v ← do-call callee f (map (value ρ) us); give (updated ρ x v)
-    run-line (literal x d us) ρ = do v ← do-literal (map (value ρ) us); give (updated ρ x v)
-    run-line (index x a b) ρ = do v ← do-index (value ρ a) (value ρ b); give (updated ρ x v)
-    run-line (length-of x a) ρ = do v ← do-length (value ρ a); give (updated ρ x v)
+    run-line (leaf x l us) ρ = do v ← do-leaf callee l (map (value ρ) us); give (updated ρ x v)
     run-line (if-else x g t e) ρ = do v ← do-if (value ρ g) (run t ρ) (run e ρ); give (updated ρ x v)
-    run-line (map-over x p a t) ρ = do v ← do-map (value ρ a) (λ w. run t (updated ρ p w)); give (updated ρ x v)
+    run-line (loop x k ps us t) ρ = do
+      v ← do-loop k (map (value ρ) us) (λ ws. run t (binding ps ws ρ))
+      give (updated ρ x v)
     run-line (retain x) ρ = give ρ
     run-line (release x) ρ = give ρ
 
@@ -41,7 +35,6 @@ values-from [] n = λ _. num (pos 0)
 values-from (v ∷ vs) n = updated (values-from vs (suc n)) n v
 
 -- a call worked on values, with some call depth left
-unfoldable pub running : Script → ℕ → Callee
-running fs zero f vs = halt 22
-running fs (suc n) f vs =
-    run (running fs n) (getD (map (routine fs) fs) f no-routine .tree) (values-from vs 0)
+unfoldable pub running : Program → ℕ → Callee
+running p zero f vs = halt 22
+running p (suc n) f vs = run (running p n) (routine-of p f .tree) (values-from vs 0)

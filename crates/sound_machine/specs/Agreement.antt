@@ -1,9 +1,11 @@
 -- Agreement: the machine's run and the run on values end with related answers, stop alike, or the machine is out of
 -- cells just where the meaning wants one.
-use Prim.Native.Nat.{ℕ, zero, suc, _+_, _-_, _≤_}
+use Prim.Native.Nat.{ℕ, zero, suc, _+_, _-_, _<_, _≤_}
 use native.Mathlib.Omega.{arith}
 use mathlib.Core.Bool.{Bool, true, false}
 use mathlib.Core.Path.{_≡_, refl, sym, ap, _∙_, subst}
+use mathlib.Core.Logic.{_≢_}
+use mathlib.Core.Option.{some}
 use mathlib.Core.List.{List, [], _∷_}
 use lib.ListN.{length}
 use borrow.Author.Tests.{eq-eqb}
@@ -12,21 +14,22 @@ use Rattle.semantics.specs.Meaning.{Meter, step-wants, meter-of}
 use Rattle.semantics.specs.Meaning as Meaning
 use Rattle.semantics.specs.Machine.{Event, State, with-store, with-left}
 use Rattle.semantics.specs.Machine as Machine
-use Rattle.semantics.specs.Store.{Store, cell-count}
+use Rattle.semantics.specs.Store.{Store, cell-count, has-free}
 use Rattle.semantics.specs.Sound.{free-list}
 use Rattle.semantics.specs.Demands.{touched, replayed, OutOfCells}
 use Rattle.sound_store.specs.Release.{untouched-append, replayed-append}
 use Rattle.sound_machine.specs.Growth.{Grows, onward-grows}
 
--- where a delivery began
+-- where a delivery began, and whether its code holds nothing but what is live
 pub record Start : Type 0 where
   pub budget : ℕ
   pub store : Store
+  pub frugal : Bool
 
 -- No free cell was touched, and the log alone leads from the free list at the start to the one of now.
 pub record Clean (start : Start) (s : State) : Type 0 where
   pub untouched : touched (s .log) ≡ []
-  pub replays : free-list (s .store) ≡ replayed (s .log) (free-list (start .store))
+  pub replays : some (free-list (s .store)) ≡ replayed (s .log) (some (free-list (start .store)))
   pub cells : cell-count (s .store) ≡ cell-count (start .store)
 
 -- The machine and the meter at one point: the same steps left, the trace one entry for each step taken.
@@ -35,17 +38,23 @@ pub record Together (start : Start) (s : State) (m : Meter) : Type 0 where
   pub metered : m .left + length (m .trace) ≡ start .budget
   pub clean : Clean start s
 
+-- the number of a stop other than 25
+pub record Stop (k : ℕ) : Type 0 where
+  pub low : 21 ≤ k
+  pub high : k < 256
+  pub other : k ≢ 25
+
 -- the same stop, other than 25, after the same steps
 pub record SameStop (start : Start) (k : ℕ) (s : State) (n : ℕ) (m : Meter) : Type 0 where
   pub number : k ≡ n
-  pub low : 21 ≤ k
-  pub high : k ≤ 24
+  pub stops : Stop k
   pub left : s .left ≡ m .left
   pub clean : Clean start s
 
--- out of cells, every one being in use, after a step of a node that wants a cell
+-- out of cells, every one being in use if the code is frugal, after a step of a node that wants a cell
 pub record Dry (start : Start) (s : State) (trace : List Bool) : Type 0 where
-  pub out : OutOfCells s
+  pub none-free : has-free (s .store) ≡ false
+  pub in-use : start .frugal ≡ true → OutOfCells s
   pub clean : Clean start s
   pub wanted : step-wants (start .budget - s .left) trace ≡ true
 
@@ -74,7 +83,8 @@ module _ {start : Start} {A B : Type 0} {Q : A → State → B → Meter → Typ
   agree-bind (both {a} {s} {b} {m} q) grows next = next a s b m q
   agree-bind (same q) grows next = same q
   agree-bind {g = g} (dry {s} {p = p} q) grows next = dry {p = onward g p} record {
-    out = q .out;
+    none-free = q .none-free;
+    in-use = q .in-use;
     clean = q .clean;
     wanted = onward-grows g grows p (start .budget - s .left) (q .wanted);
   }
@@ -87,6 +97,14 @@ unfolding onward
 agree-assoc g h (done b m) q = q
 agree-assoc g h (stop n m) q = q
 
+-- the machine's actions end before a name is bound
+pub agree-after : {start : Start} {A B C D : Type 0} {Q : B → State → D → Meter → Type 0} (f : C → Run State A)
+    (h : A → Run State B) (o : Outcome State C) {p : Outcome Meter D} → Agree start Q (onward h (onward f o)) p →
+    Agree start Q (onward (λ c s. onward h (f c s)) o) p
+unfolding onward
+agree-after f h (done c s) q = q
+agree-after f h (stop n s) q = q
+
 -- ---- steps and tests
 
 -- after a step of both, of a node that wants a cell or not
@@ -95,9 +113,9 @@ pub record Stepped (start : Start) (wants : Bool) (s s′ : State) (m′ : Meter
   pub store : s′ .store ≡ s .store
   pub wanted : wants ≡ true → step-wants (start .budget - s′ .left) (m′ .trace) ≡ true
 
-wants-now : (k n : ℕ) (l : List Bool) → k ≡ suc (length l) → step-wants k (true ∷ l) ≡ true
+wants-now : (k : ℕ) (l : List Bool) → k ≡ suc (length l) → step-wants k (true ∷ l) ≡ true
 unfolding step-wants
-wants-now k n l e = rw (eq-eqb k (suc (length l)) e) refl
+wants-now k l e = rw (eq-eqb k (suc (length l)) e) refl
 
 pub step-agrees : {start : Start} {s : State} {m : Meter} (wants : Bool) → Together start s m →
     Agree start (λ _ s′ _ m′. Stepped start wants s s′ m′) (Machine.step s) (Meaning.step wants m)
@@ -110,8 +128,7 @@ step-agrees {start} {s} {m} wants t =
         (Machine.stepped n s) (Meaning.stepped wants n (m .trace))
     go zero e = same {k = 21} record {
       number = refl;
-      low = omega arith;
-      high = omega arith;
+      stops = record { low = omega arith; high = omega arith; other = λ h. omega arith };
       left = t .left ∙ e;
       clean = t .clean;
     }
@@ -122,7 +139,7 @@ step-agrees {start} {s} {m} wants t =
         clean = record { untouched = t .clean .untouched; replays = t .clean .replays; cells = t .clean .cells };
       };
       store = refl;
-      wanted = λ h. rw h (wants-now (start .budget - n) n (m .trace) (omega (arith, t .metered, e)));
+      wanted = λ h. rw h (wants-now (start .budget - n) (m .trace) (omega (arith, t .metered, e)));
     }
 
 pub after-step : {start : Start} {A B : Type 0} {Q : A → State → B → Meter → Type 0} {s : State} {m : Meter}
@@ -134,17 +151,16 @@ after-step wants t grows next = agree-bind (step-agrees wants t) grows (λ u s�
 
 -- after the same test of both
 pub after-test : {start : Start} {A B : Type 0} {Q : A → State → B → Meter → Type 0} {s : State} {m : Meter}
-    (k : ℕ) (f : Unit {0} → Run State A) (g : Unit {0} → Run Meter B) (t t′ : Bool) → t ≡ t′ → 21 ≤ k → k ≤ 24 →
+    (k : ℕ) (f : Unit {0} → Run State A) (g : Unit {0} → Run Meter B) (t t′ : Bool) → t ≡ t′ → Stop k →
     Together start s m →
     (t ≡ true → Agree start Q (f tt s) (g tt m)) → Agree start Q (onward f (require t k s)) (onward g (require t′ k m))
 unfolding onward require
-after-test k f g true true e low high t next = next refl
-after-test k f g true false e low high t next = absurd (let z : _≡_ {A = ℕ} 0 1 = cc in omega arith)
-after-test k f g false true e low high t next = absurd (let z : _≡_ {A = ℕ} 0 1 = cc in omega arith)
-after-test k f g false false e low high t next = same {k = k} record {
+after-test k f g true true e stops t next = next refl
+after-test k f g true false e stops t next = absurd (let z : _≡_ {A = ℕ} 0 1 = cc in omega arith)
+after-test k f g false true e stops t next = absurd (let z : _≡_ {A = ℕ} 0 1 = cc in omega arith)
+after-test k f g false false e stops t next = same {k = k} record {
   number = refl;
-  low = low;
-  high = high;
+  stops = stops;
   left = t .left;
   clean = t .clean;
 }
@@ -153,7 +169,8 @@ after-test k f g false false e low high t next = same {k = k} record {
 
 -- the store changes by clean events
 pub with-store-together : {start : Start} {s : State} {m : Meter} (σ : Store) (events : List Event) →
-    touched events ≡ [] → free-list σ ≡ replayed events (free-list (s .store)) → cell-count σ ≡ cell-count (s .store) →
+    touched events ≡ [] → some (free-list σ) ≡ replayed events (some (free-list (s .store))) →
+    cell-count σ ≡ cell-count (s .store) →
     Together start s m → Together start (with-store s σ events) m
 unfolding with-store
 with-store-together {start} {s} σ events e f g t = record {
@@ -162,7 +179,7 @@ with-store-together {start} {s} σ events e f g t = record {
   clean = record {
     untouched = untouched-append (s .log) events (t .clean .untouched) e;
     replays = f ∙ ap (replayed events) (t .clean .replays)
-        ∙ sym (replayed-append (s .log) events (free-list (start .store)));
+        ∙ sym (replayed-append (s .log) events (some (free-list (start .store))));
     cells = g ∙ t .clean .cells;
   };
 }

@@ -1,36 +1,38 @@
 -- A name bound by a line: to a word that holds nothing, or to a result that holds a reference; and what a tree leaves.
-use Prim.Native.Nat.{ℕ, zero, suc, _<_}
+use Prim.Native.Nat.{ℕ, zero, suc, _<_, _≤_}
 use native.Mathlib.Omega.{arith}
 use native.Mathlib.Decide.{ℕ-discrete}
+use mathlib.Core.Bool.{true}
 use mathlib.Core.Path.{_≡_, refl, sym, ap, _∙_, subst}
 use mathlib.Core.List.{List, [], _∷_, _++_, append-assoc}
 use lib.IntN.{ℤ}
 use Rattle.semantics.specs.Basics.{occurrences, _∈_, updated}
 use Rattle.semantics.specs.Value.{Value, num}
+use Rattle.semantics.specs.Code.{Line}
 use Rattle.semantics.specs.Meaning.{Meter, Env}
 use Rattle.semantics.specs.Machine.{State, Frame}
 use Rattle.semantics.specs.Store.{Store, cell-of, named-by}
 use Rattle.semantics.specs.Sound.{all-inner}
-use Rattle.sound_base.specs.Lists.{_≈_, _⊆_, occurrences-append}
-use Rattle.sound_machine.specs.Discipline.{Fresh}
+use Rattle.sound_base.specs.Lists.{_⊆_}
 use Rattle.sound_base.specs.Invariant.{Invariant, Keeps, Stands}
 use Rattle.sound_store.specs.Counting.{in-append-left, in-append-right}
 use Rattle.sound_store.specs.Change.{held-used}
-use Rattle.sound_store.specs.Kept.{keeps-self, keeps-fewer, keeps-trans}
+use Rattle.sound_store.specs.Kept.{keeps-fewer, keeps-trans}
+use Rattle.sound_machine.specs.Discipline.{holds-after, waits-after}
+use Rattle.sound_machine.specs.Rules.{Fresh}
 use Rattle.sound_machine.specs.Images.{image-alike, updated-here, updated-there, apart, without-middle}
-use Rattle.sound_machine.specs.Agreement.{Together}
-use Rattle.sound_machine.specs.Frames.{hold, Room, Setting, Pending, Situation, Returned, Ended, Going, own}
-use Rattle.sound_machine.specs.Situations.{room-given}
+use Rattle.sound_machine.specs.Frames.{hold, Room, Setting, Pending, Lent, Situation, Returned, Ended, Going, own}
+use Rattle.sound_machine.specs.Situations.{room-less}
 use Rattle.sound_machine.specs.Standing.{none-in, stands-number, stands-held, hold-updated, hold-of-number}
-use Rattle.sound_machine.specs.Standing.{hold-bound, hold-of-other}
+use Rattle.sound_machine.specs.Standing.{hold-bound, hold-of-other, lent-kept}
 
 module _ (C : Setting) where
   -- a name bound to a word that holds nothing: a number, or an array that is named in the store
-  pub pending-situation : {σ : Store} {Z F R H P : List ℕ} {ρ : Frame} {δ : Env} {n x : ℕ} {w : ℤ} {v : Value} →
-      Situation C σ Z F R H P ρ δ n → occurrences x H ≡ 0 → Stands σ (C .depths x) w v →
+  pub pending-situation : {σ : Store} {Z F R B H P : List ℕ} {ρ : Frame} {δ : Env} {n x : ℕ} {w : ℤ} {v : Value} →
+      Situation C σ Z F R B H P ρ δ n → occurrences x B ≡ 0 → occurrences x H ≡ 0 → Stands σ (C .depths x) w v →
       (0 < C .depths x → cell-of w ∈ all-inner (σ .cells)) →
-      Situation C σ Z F R H (own C x) (updated ρ x w) (updated δ x v) n
-  pending-situation {σ} {Z} {F} {R} {H} {P} {ρ} {δ} {n} {x} {w} {v} S fresh stands named = record {
+      Situation C σ Z F R B H (own C x) (updated ρ x w) (updated δ x v) n
+  pending-situation {σ} {Z} {F} {R} {B} {H} {P} {ρ} {δ} {n} {x} {w} {v} S apart-lent fresh stands named = record {
     invariant = subst (λ (l : List ℕ). Invariant σ Z (l ++ F)) (sym (hold-updated ρ x w H fresh)) (S .invariant);
     numbers = λ y z. elim (ℕ-discrete y x) [
       | yes q ↦ rw (q, updated-here ρ x w, updated-here δ x v) (stands-number (ap (C .depths) (sym q) ∙ z) stands)
@@ -45,6 +47,9 @@ module _ (C : Setting) where
       | no q ↦ absurd (none-in y (hold-of-other C x y [] q
           (in-append-left y (own C x) [] h)))
     ];
+    lent = λ y h.
+        let q = apart x y B apart-lent h in
+        rw (updated-there ρ x w y q, updated-there δ x v y q) (S .lent y h);
     room = subst (λ (l : List ℕ). Room Z (l ++ F) n) (sym (hold-updated ρ x w H fresh)) (S .room);
     rooted = S .rooted;
   }
@@ -52,23 +57,6 @@ module _ (C : Setting) where
       waits : (d : ℕ) → C .depths x ≡ d → x ∈ own C x → Pending σ (C .depths x) w v
       waits zero e h = absurd (none-in x (subst (λ (l : List ℕ). x ∈ l) (hold-of-number C x e) h))
       waits (suc d) e h = record { stands = stands; named = named (omega (arith, e)) }
-
-  pub name-pending : {K : List ℕ → List ℕ → Type 0} {s : State} {Z F R H P Δ : List ℕ} {ρ : Frame} {δ : Env}
-      {n x : ℕ} {w : ℤ} {v : Value} {m : Meter} →
-      Fresh (C .signatures) (C .depths) x H Δ → Together (C .start) s m →
-      Situation C (s .store) Z F R H P ρ δ n → Stands (s .store) (C .depths x) w v →
-      (0 < C .depths x → cell-of w ∈ all-inner (s .store .cells)) → K H (own C x) →
-      Going C K (s .store) Z F R Δ ρ δ n (updated ρ x w) s (updated δ x v) m
-  name-pending {K} {s} {Z} {F} {R} {H} {P} {Δ} {ρ} {δ} {n} {x} {w} {v} fresh together S stands named goes = record {
-    holds = H;
-    waiting = own C x;
-    goes = goes;
-    together = together;
-    situation = pending-situation S (fresh .before) stands named;
-    keeps = keeps-self (s .store) (Z ++ F);
-    words = λ y h. updated-there ρ x w y (apart x y Δ (fresh .after) h);
-    values = λ y h. updated-there δ x v y (apart x y Δ (fresh .after) h);
-  }
 
   -- what a call leaves alone stands as before
   pub returned-ended : {d : ℕ} {σ : Store} {Z F Δ : List ℕ} {ρ : Frame} {δ : Env} {n : ℕ} {w : ℤ} {s : State}
@@ -86,32 +74,29 @@ module _ (C : Setting) where
     keeps = keeps-fewer (Z ++ (hold ρ Δ ++ F)) (Z ++ F) (without-middle Z (hold ρ Δ) F) (r .keeps);
   }
 
-  -- a line gave a word for the name x, with the holds H left
-  pub name-bound : {K : List ℕ → List ℕ → Type 0} {σ : Store} {Z F R H Δ : List ℕ} {ρ : Frame} {δ : Env} {n x : ℕ}
-      {w : ℤ} {s : State} {v : Value} {m : Meter} →
-      Fresh (C .signatures) (C .depths) x H Δ → ((y : ℕ) → C .depths y ≡ 0 → num (ρ y) ≡ δ y) → (Z ++ F) ⊆ R →
-      K (own C x ++ H) [] → Ended C (C .depths x) σ Z F H ρ δ n w s v m →
-      Going C K σ Z F R Δ ρ δ n (updated ρ x w) s (updated δ x v) m
-  name-bound {K} {σ} {Z} {F} {R} {H} {Δ} {ρ} {δ} {n} {x} {w} {s} {v} {m} fresh numbers rooted goes e = record {
-    holds = own C x ++ H;
-    waiting = [];
-    goes = goes;
-    together = e .answered .together;
-    situation = record {
-      invariant = subst (λ (l : List ℕ). Invariant (s .store) Z l) (sym holds) (e .answered .invariant);
-      numbers = number-at;
-      arrays = array-at;
-      pending = λ y h. absurd (none-in y h);
-      room = subst (λ (l : List ℕ). Room Z l n) (sym holds) (e .room);
-      rooted = rooted;
-    };
-    keeps = e .keeps;
-    words = λ y h. updated-there ρ x w y (apart x y Δ (fresh .after) h);
-    values = λ y h. updated-there δ x v y (apart x y Δ (fresh .after) h);
+  -- the situation once a word w, given for the name x, is bound to it; H are the other holds
+  pub bound-situation : {σ : Store} {Z F : List ℕ} (R B : List ℕ) {H : List ℕ} {ρ : Frame} {δ : Env} {n x : ℕ} {w : ℤ}
+      {s : State} {v : Value} {m : Meter} → occurrences x B ≡ 0 → occurrences x H ≡ 0 →
+      ((y : ℕ) → C .depths y ≡ 0 → num (ρ y) ≡ δ y) →
+      ((y : ℕ) → y ∈ B → Lent σ F (C .depths y) (ρ y) (δ y)) → (C .start .frugal ≡ true → (Z ++ F) ⊆ R) →
+      Ended C (C .depths x) σ Z F H ρ δ n w s v m →
+      Situation C (s .store) Z F R B (own C x ++ H) [] (updated ρ x w) (updated δ x v) n
+  bound-situation {σ} {Z} {F} R B {H} {ρ} {δ} {n} {x} {w} {s} {v} {m} apart-lent fresh numbers lent rooted e = record {
+    invariant = subst (λ (l : List ℕ). Invariant (s .store) Z l) (sym holds) (e .answered .invariant);
+    numbers = number-at;
+    arrays = array-at;
+    pending = λ y h. absurd (none-in y h);
+    lent = λ y h.
+        let q = apart x y B apart-lent h in
+        rw (updated-there ρ x w y q, updated-there δ x v y q)
+        (lent-kept Z F (e .keeps) (λ r g. held-used (e .answered .invariant) r (in-append-right r
+        (named-by (C .depths x) (w ∷ [])) (hold ρ H ++ F) (in-append-right r (hold ρ H) F g))) (lent y h));
+    room = subst (λ (l : List ℕ). Room Z l n) (sym holds) (e .room);
+    rooted = rooted;
   }
     where
       holds : hold (updated ρ x w) (own C x ++ H) ++ F ≡ named-by (C .depths x) (w ∷ []) ++ (hold ρ H ++ F)
-      holds = ap (λ (l : List ℕ). l ++ F) (hold-bound C ρ x w H (fresh .before))
+      holds = ap (λ (l : List ℕ). l ++ F) (hold-bound C ρ x w H fresh)
           ∙ append-assoc (named-by (C .depths x) (w ∷ [])) (hold ρ H) F
 
       number-at : (y : ℕ) → C .depths y ≡ 0 → num (updated ρ x w y) ≡ updated δ x v y
@@ -129,17 +114,40 @@ module _ (C : Setting) where
             (e .arrays y (hold-of-other C x y H q h))
       ]
 
-  -- a result in place of the holds l, bound to the name x
-  pub result-bound : {K : List ℕ → List ℕ → Type 0} {σ : Store} {Z F R H P Δ : List ℕ} {ρ : Frame} {δ : Env} {d n x : ℕ}
-      {w : ℤ} {s : State} {v : Value} {m : Meter} (l H′ : List ℕ) → H ≈ l ++ H′ →
-      Fresh (C .signatures) (C .depths) x H′ Δ → C .depths x ≡ d → K (own C x ++ H′) [] →
-      Situation C σ Z F R H P ρ δ (suc n) → Returned (C .start) d σ Z (hold ρ H′ ++ F) w s v m →
-      Going C K σ Z F R Δ ρ δ n (updated ρ x w) s (updated δ x v) m
-  result-bound {σ = σ} {Z} {F} {H = H} {ρ = ρ} {x = x} {w} {s} {v} {m} l H′ spends fresh result goes S q =
-      name-bound fresh (S .numbers) (S .rooted) goes
-      (returned-ended (λ y h. S .arrays y (omega (arith, h, spends y, occurrences-append y l H′)))
-      (room-given ρ H l H′ F (C .depths x) w spends (S .room))
-      (subst (λ (k : ℕ). Returned (C .start) k σ Z (hold ρ H′ ++ F) w s v m) (sym result) q))
+  -- ---- a line goes on
+
+  -- a line that gave a word for the name x, with the holds H′ left
+  pub name-bound : {σ : Store} {Z F R B H I P Δ : List ℕ} {ρ : Frame} {δ : Env} {k n x : ℕ} {w : ℤ} {s : State}
+      {v : Value} {m : Meter} (l : Line) (H′ : List ℕ) → holds-after (C .depths) l H ≡ own C x ++ H′ →
+      waits-after (C .depths) l ≡ [] → Fresh x B H′ Δ → Situation C σ Z F R B I P ρ δ k →
+      Ended C (C .depths x) σ Z F H′ ρ δ n w s v m →
+      Going C l σ Z F R B H Δ ρ δ n (updated ρ x w) s (updated δ x v) m
+  name-bound {Z = Z} {F} {R} {B} {Δ = Δ} {ρ} {δ} {n = n} {x} {w} {s} {v} l H′ after none fresh S e = record {
+    together = e .answered .together;
+    situation = subst (λ (q : List ℕ). Situation C (s .store) Z F R B q (waits-after (C .depths) l) (updated ρ x w)
+        (updated δ x v) n) (sym after)
+        (subst (λ (q : List ℕ). Situation C (s .store) Z F R B (own C x ++ H′) q (updated ρ x w) (updated δ x v) n)
+        (sym none) (bound-situation R B (fresh .lent) (fresh .before) (S .numbers) (S .lent) (S .rooted) e));
+    keeps = e .keeps;
+    words = λ y h. updated-there ρ x w y (apart x y Δ (fresh .after) h);
+    values = λ y h. updated-there δ x v y (apart x y Δ (fresh .after) h);
+  }
+
+  -- fewer references may come
+  pub ended-less : {d : ℕ} {σ : Store} {Z F Δ : List ℕ} {ρ : Frame} {δ : Env} {k : ℕ} {w : ℤ} {s : State} {v : Value}
+      {m : Meter} (n : ℕ) → n ≤ k → Ended C d σ Z F Δ ρ δ k w s v m → Ended C d σ Z F Δ ρ δ n w s v m
+  ended-less n h e = record {
+    answered = e .answered;
+    room = room-less n (e .room) h;
+    arrays = e .arrays;
+    keeps = e .keeps;
+  }
+
+  -- of the depth that is asked
+  pub ended-depth : {d e : ℕ} {σ : Store} {Z F Δ : List ℕ} {ρ : Frame} {δ : Env} {n : ℕ} {w : ℤ} {s : State} {v : Value}
+      {m : Meter} → d ≡ e → Ended C d σ Z F Δ ρ δ n w s v m → Ended C e σ Z F Δ ρ δ n w s v m
+  ended-depth {σ = σ} {Z} {F} {Δ} {ρ} {δ} {n} {w} {s} {v} {m} h q =
+      subst (λ (k : ℕ). Ended C k σ Z F Δ ρ δ n w s v m) h q
 
   -- a tree that ended in another frame and a later store, where what it leaves is as before
   pub ended-back : {d : ℕ} {σ τ : Store} {Z F Δ : List ℕ} {ρ ρ′ : Frame} {δ δ′ : Env} {n : ℕ} {w : ℤ} {s : State}

@@ -1,107 +1,127 @@
--- A call of a disciplined script, by induction on the call depth left.
-use Prim.Native.Nat.{ℕ, zero, suc, _+_, _*_, _≤_}
+-- A call of a disciplined program, by induction on the call depth left.
+use Prim.Native.Nat.{ℕ, zero, suc, _+_, _*_, _<_, _≤_}
 use native.Mathlib.Omega.{arith}
-use mathlib.Core.Path.{_≡_, refl, sym, ap, _∙_, subst}
-use mathlib.Core.List.{List, [], _++_, map}
+use mathlib.Core.Bool.{true}
+use mathlib.Core.Path.{_≡_, refl, sym, subst}
+use mathlib.Core.List.{List, [], _∷_, _++_}
 use lib.IntN.{ℤ}
-use lib.ListN.{getD, List·getD-map}
+use lib.ListN.{length}
+use borrow.Author.Tests.{lt-ltb}
 use Rattle.semantics.specs.Value.{Value}
-use Rattle.semantics.specs.Syntax.{Script, function-at, no-function}
-use Rattle.semantics.specs.Types.{signatures-of}
-use Rattle.semantics.specs.Code.{Tree}
+use Rattle.semantics.specs.Kinds.{Leaf, operation, call, literal, index, length-of}
 use Rattle.semantics.specs.Live.{empty}
-use Rattle.semantics.specs.Annotate.{NameDepths, depths-of, annotated-body}
+use Rattle.semantics.specs.Annotate.{NameDepths}
 use Rattle.semantics.specs.Meaning.{Meter}
-use Rattle.semantics.specs.Machine.{State, Routine, routine, no-routine, frame-from, machine, work}
-use Rattle.semantics.specs.Computing.{computing}
+use Rattle.semantics.specs.Machine.{State, Routine, Program, routine-of, frame-from, machine, work}
 use Rattle.sound_base.specs.Lists.{_⊆_}
 use Rattle.sound_base.specs.Plain.{run, running, values-from}
-use Rattle.sound_machine.specs.Discipline.{parameter-holds, FunctionDisciplined}
 use Rattle.sound_base.specs.Invariant.{Invariant}
-use Rattle.sound_normal.specs.Trace.{running-grows}
+use Rattle.sound_normal.specs.Trace.{CalleeGrows, running-grows}
+use Rattle.sound_machine.specs.Discipline.{parameter-holds, parameter-names, FunctionDisciplined, FunctionFrugal}
 use Rattle.sound_machine.specs.Agreement.{Start, Together, Agree, same, agree-map}
 use Rattle.sound_machine.specs.Frames.{Room, Setting, Situation, Returned, Arguments, named-all}
 use Rattle.sound_machine.specs.Standing.{none-in}
 use Rattle.sound_machine.specs.Size.{tree-lines}
-use Rattle.sound_machine.specs.Claims.{CallClaim}
+use Rattle.sound_machine.specs.Rules.{TreeRules}
+use Rattle.sound_machine.specs.Claims.{CallClaim, LeafClaim}
+use Rattle.sound_machine.specs.Reading.{leaf-operation, leaf-index, leaf-length}
+use Rattle.sound_machine.specs.Making.{leaf-literal}
+use Rattle.sound_machine.specs.Calling.{leaf-call}
 use Rattle.sound_machine.specs.Trees.{tree-sound}
-use Rattle.sound_machine.specs.Parameters.{parameters-hold, parameter-numbers, parameter-arrays}
+use Rattle.sound_machine.specs.Parameters.{parameters-hold, parameter-numbers, parameter-arrays, held-range}
 
--- what is past the script's functions is a routine that does nothing
-no-routine-is : (fs : Script) → routine fs no-function ≡ no-routine
-unfolding computing
-no-routine-is fs = refl
+-- every leaf
+pub leaf-sound : (C : Setting) → CalleeGrows (C .meant) → CallClaim C → (l : Leaf) → LeafClaim C l
+leaf-sound C grows calls (operation o) = leaf-operation C o
+leaf-sound C grows calls (call f) = leaf-call C grows calls f
+leaf-sound C grows calls (literal d) = leaf-literal C d
+leaf-sound C grows calls index = leaf-index C
+leaf-sound C grows calls length-of = leaf-length C
 
-routine-at : (fs : Script) (f : ℕ) → getD (map (routine fs) fs) f no-routine ≡ routine fs (function-at fs f)
-routine-at fs f = ap (getD (map (routine fs) fs) f) (sym (no-routine-is fs)) ∙ List·getD-map
-    (routine fs) fs f no-function
-
--- a script's code with some call depth left: each call below adds at most 5,000 references
-abbrev pub setting : Script → Start → ℕ → NameDepths → Setting
-setting fs start n Γ = record {
-  signatures = signatures-of fs;
+-- a program's code with some call depth left: each call below adds at most 1,000,000 references
+abbrev pub setting : Program → Start → ℕ → NameDepths → Setting
+setting p start n Γ = record {
+  program = p;
   depths = Γ;
   start = start;
-  callee = machine (map (routine fs) fs) n;
-  meant = running fs n;
-  need = 5000 * n;
+  callee = machine p n;
+  meant = running p n;
+  need = 1000000 * n;
 }
 
--- every function is disciplined, and has at most 4,096 lines
-pub record ScriptDisciplined (fs : Script) : Type 0 where
-  pub functions : (f : ℕ) → FunctionDisciplined fs f
-  pub short : (f : ℕ) → tree-lines (annotated-body fs (function-at fs f)) ≤ 4096
+-- Every function is disciplined, and short: code of 4,096 rows adds at most 69,632 references. The first is main.
+pub record ProgramDisciplined (p : Program) : Type 0 where
+  pub functions : (f : ℕ) → f < length (p .routines) → FunctionDisciplined p f
+  pub short : (f : ℕ) → f < length (p .routines) → tree-lines (routine-of p f .tree) ≤ 1000000
+  pub some : 0 < length (p .routines)
+  pub takes : p .signatures 0 .parameters ≡ p .depth ∷ (1 ∷ [])
+  pub gives : p .signatures 0 .result ≡ p .depth
 
-module _ (fs : Script) (disciplined : ScriptDisciplined fs) (start : Start) where
+-- what is asked of a program for every taken cell to be in use where none is free
+abbrev pub ProgramFrugal : Program → Type 0
+ProgramFrugal p = (f : ℕ) → f < length (p .routines) → FunctionFrugal p f
+
+module _ (p : Program) (disciplined : ProgramDisciplined p) (start : Start)
+    (frugal : start .frugal ≡ true → ProgramFrugal p) where
   -- the body of a function, on arguments that stand for values
-  body-sound : (n : ℕ) → ((Γ : NameDepths) → CallClaim (setting fs start n Γ)) →
-      (f : ℕ) (ws : List ℤ) (vs : List Value) (Z F R : List ℕ) (s : State) (m : Meter) →
-      Together start s m → Arguments (s .store) (signatures-of fs f .parameters) ws vs →
-      Invariant (s .store) Z (named-all (signatures-of fs f .parameters) ws ++ F) →
-      Room Z (named-all (signatures-of fs f .parameters) ws ++ F) (5000 * suc n) → (Z ++ F) ⊆ R →
-      Agree start (Returned start (signatures-of fs f .result) (s .store) Z F)
-      (work (machine (map (routine fs) fs) n) (depths-of fs (function-at fs f))
-      (annotated-body fs (function-at fs f)) empty R (frame-from ws 0) s)
-      (run (running fs n) (annotated-body fs (function-at fs f)) (values-from vs 0) m)
-  body-sound n calls f ws vs Z F R s m tog args inv room rooted =
+  body-sound : (n : ℕ) → ((Γ : NameDepths) → CallClaim (setting p start n Γ)) →
+      (f : ℕ) (ws : List ℤ) (vs : List Value) (Z F R : List ℕ) (s : State) (m : Meter) → f < length (p .routines) →
+      Together start s m → Arguments (s .store) (p .signatures f .parameters) ws vs →
+      Invariant (s .store) Z (named-all (p .signatures f .parameters) ws ++ F) →
+      Room Z (named-all (p .signatures f .parameters) ws ++ F) (1000000 * suc n) →
+      (start .frugal ≡ true → (Z ++ F) ⊆ R) →
+      Agree start (Returned start (p .signatures f .result) (s .store) Z F)
+      (work (machine p n) (routine-of p f .depths) (routine-of p f .tree) empty R (frame-from ws 0) s)
+      (run (running p n) (routine-of p f .tree) (values-from vs 0) m)
+  body-sound n calls f ws vs Z F R s m there tog args inv room rooted =
       agree-map (λ w s′ v m′ e. record { answered = e .answered; keeps = e .keeps })
-      (tree-sound (setting fs start n Γ) (running-grows fs n) (calls Γ) body (parameter-holds ds 0) [] []
-      (signatures-of fs f .result) empty
-      (disciplined .functions f .body) Z F R (frame-from ws 0) (values-from vs 0) (5000 * n) s m tog situation
-      (omega arith))
+      (tree-sound C (running-grows p n) (leaf-sound C (running-grows p n) (calls (r .depths))) (r .tree)
+      [] (parameter-names ds) empty (parameter-holds ds 0) [] [] (p .signatures f .result) rules Z F R
+      (frame-from ws 0) (values-from vs 0) (1000000 * n) s m tog situation (omega arith))
     where
-      Γ : NameDepths
-      Γ = depths-of fs (function-at fs f)
+      r : Routine
+      r = routine-of p f
 
-      body : Tree
-      body = annotated-body fs (function-at fs f)
+      C : Setting
+      C = setting p start n (r .depths)
 
       ds : List ℕ
-      ds = signatures-of fs f .parameters
+      ds = p .signatures f .parameters
 
-      situation : Situation (setting fs start n Γ) (s .store) Z F R (parameter-holds ds 0) [] (frame-from ws 0)
-          (values-from vs 0) (tree-lines body + 5000 * n)
+      rules : TreeRules C (r .tree) [] (parameter-names ds) empty (parameter-holds ds 0) [] [] (p .signatures f .result)
+      rules = record {
+        fits = disciplined .functions f there .fits;
+        scoped = disciplined .functions f there .scoped;
+        names = record {
+          lent = λ y h. absurd (none-in y h);
+          held = λ y h. lt-ltb y (length ds) (omega (arith, held-range ds 0 y h));
+          left = λ y h. absurd (none-in y h);
+        };
+        holds = disciplined .functions f there .holds;
+        frugal = λ q. frugal q f there;
+      }
+
+      situation : Situation C (s .store) Z F R [] (parameter-holds ds 0) [] (frame-from ws 0)
+          (values-from vs 0) (tree-lines (r .tree) + 1000000 * n)
       situation = record {
         invariant = subst (λ (l : List ℕ). Invariant (s .store) Z (l ++ F)) (sym (parameters-hold args 0)) inv;
-        numbers = parameter-numbers args Γ (disciplined .functions f .parameters);
-        arrays = parameter-arrays args Γ (disciplined .functions f .parameters);
+        numbers = parameter-numbers args (r .depths) (disciplined .functions f there .parameters);
+        arrays = parameter-arrays args (r .depths) (disciplined .functions f there .parameters);
         pending = λ y h. absurd (none-in y h);
-        room = subst (λ (l : List ℕ). Room Z (l ++ F) (tree-lines body + 5000 * n)) (sym (parameters-hold args 0))
-            (record { few = λ c. omega (arith, room .few c, disciplined .short f) });
+        lent = λ y h. absurd (none-in y h);
+        room = subst (λ (l : List ℕ). Room Z (l ++ F) (tree-lines (r .tree) + 1000000 * n))
+            (sym (parameters-hold args 0))
+            (record { few = λ c. omega (arith, room .few c, disciplined .short f there) });
         rooted = rooted;
       }
 
-  pub call-sound : (n : ℕ) (Γ : NameDepths) → CallClaim (setting fs start n Γ)
-  unfolding machine running routine
-  call-sound zero Γ f ws vs Z F R s m tog args inv room rooted = same {k = 22} record {
+  pub call-sound : (n : ℕ) (Γ : NameDepths) → CallClaim (setting p start n Γ)
+  unfolding machine running
+  call-sound zero Γ f ws vs Z F R s m there tog args inv room rooted = same {k = 22} record {
     number = refl;
-    low = omega arith;
-    high = omega arith;
+    stops = record { low = omega arith; high = omega arith; other = λ h. omega arith };
     left = tog .left;
     clean = tog .clean;
   }
-  call-sound (suc n) Γ f ws vs Z F R s m tog args inv room rooted =
-      subst (λ (r : Routine). Agree start (Returned start (signatures-of fs f .result) (s .store) Z F)
-      (work (machine (map (routine fs) fs) n) (r .depths) (r .tree) empty R (frame-from ws 0) s)
-      (run (running fs n) (r .tree) (values-from vs 0) m)) (sym (routine-at fs f))
-      (body-sound n (call-sound n) f ws vs Z F R s m tog args inv room rooted)
+  call-sound (suc n) Γ f ws vs Z F R s m there tog args inv room rooted =
+      body-sound n (call-sound n) f ws vs Z F R s m there tog args inv room rooted

@@ -4,17 +4,16 @@ use native.Mathlib.Omega.{arith}
 use mathlib.Core.Bool.{Bool, true, false}
 use mathlib.Core.Path.{_≡_, refl, sym, ap, _∙_, subst}
 use mathlib.Core.Logic.{inl, inr}
-use mathlib.Core.List.{List, [], _∷_, _++_, map, append-assoc}
+use mathlib.Core.List.{List, [], _∷_, _++_, append-assoc}
 use lib.IntN.{ℤ, pos}
 use lib.ListN.{length}
 use Rattle.semantics.specs.Basics.{occurrences}
 use Rattle.semantics.specs.Outcome.{Outcome, done, stop, onward, _>>=_, _>>_}
 use Rattle.semantics.specs.Value.{Value, numbers}
-use Rattle.semantics.specs.Syntax.{Script, main-depth}
-use Rattle.semantics.specs.Types.{signatures-of}
+use Rattle.semantics.specs.Syntax.{Script}
 use Rattle.semantics.specs.Meaning.{Meter, meter-of, step-wants, main-meaning}
-use Rattle.semantics.specs.Machine.{State, Work, with-store, with-roots, acquire, acquire-if, retain-word, routine}
-use Rattle.semantics.specs.Machine.{machine, if-array, delivery, starting, state-of}
+use Rattle.semantics.specs.Machine.{State, Work, with-store, with-roots, acquire, acquire-if, retain-word, Program}
+use Rattle.semantics.specs.Machine.{program, machine, if-array, delivery, starting, state-of}
 use Rattle.semantics.specs.Store.{Store, Cell, cell-of, named-by, has-free, acquired}
 use Rattle.semantics.specs.Ledger.{wants-cell}
 use Rattle.semantics.specs.Demands.{value-of, touched, replayed, OutOfCells, Does}
@@ -24,9 +23,10 @@ use Rattle.sound_store.specs.Counting.{in-append-left, in-append-right}
 use Rattle.sound_store.specs.Change.{held-used}
 use Rattle.sound_store.specs.Rest.{Rests, rests-stands}
 use Rattle.sound_store.specs.Kept.{stands-kept, alike-trans, reached}
-use Rattle.sound_store.specs.Acquire.{Acquires}
+use Rattle.sound_store.specs.Acquire.{Acquires, none-left}
 use Rattle.sound_store.specs.Acquire as Store-acquire
 use Rattle.sound_normal.specs.Running.{running-is-meaning}
+use Rattle.sound_base.specs.Plain.{running}
 use Rattle.sound_machine.specs.Images.{one-more}
 use Rattle.sound_machine.specs.Agreement.{Start, Clean, Together, SameStop, Agree, both, same, dry}
 use Rattle.sound_machine.specs.Frames.{Room, Returned, Arguments, none, more, named-all}
@@ -35,15 +35,16 @@ use Rattle.sound_machine.specs.Acquiring.{after-acquire, acquire-togethe
 use Rattle.sound_machine.specs.Acquiring.{cell-stands}
 use Rattle.sound_machine.specs.Totals.{totals-retained, retains-totals, Prepared, prepared, Finished}
 use Rattle.sound_machine.specs.Totals.{releases-totals, with-result, put-result, result-put}
-use Rattle.sound_machine.specs.Calls.{ScriptDisciplined, call-sound}
+use Rattle.sound_machine.specs.Calls.{ProgramDisciplined, ProgramFrugal, call-sound}
 
 -- The delivery ends as main does, or stops as main does, or is out of cells just where main wants one.
 pub data Delivers (start : Start) (d : ℕ) : Outcome State (Unit {0}) → Outcome Meter Value → Type 0 where
   finishes : {u : Unit {0}} {s : State} {v : Value} {m : Meter} → Finished start d s v m →
       Delivers start d (done u s) (done v m)
   stops : {k n : ℕ} {s : State} {m : Meter} → SameStop start k s n m → Delivers start d (stop k s) (stop n m)
-  runs-dry : {s : State} {p : Outcome Meter Value} → OutOfCells s → Clean start s →
-      wants-cell (start .budget - s .left) p ≡ true → Delivers start d (stop 25 s) p
+  runs-dry : {s : State} {p : Outcome Meter Value} → has-free (s .store) ≡ false →
+      (start .frugal ≡ true → OutOfCells s) → Clean start s → wants-cell (start .budget - s .left) p ≡ true →
+      Delivers start d (stop 25 s) p
 
 wanted : (k : ℕ) (p : Outcome Meter Value) → step-wants k (meter-of p .trace) ≡ true → wants-cell k p ≡ true
 wanted zero p h = refl
@@ -62,16 +63,16 @@ finish {start} d old (both {a = w} {s} {b = v} {m} q) =
     (sym (releases-totals d old (with-result w s))) (finishes (result-put d old q))
 finish d old (same q) = stops q
 finish {start} d old (dry {s} {p} q) =
-    runs-dry {p = p} (q .out) (q .clean) (wanted (start .budget - s .left) p (q .wanted))
+    runs-dry {p = p} (q .none-free) (q .in-use) (q .clean) (wanted (start .budget - s .left) p (q .wanted))
 
 -- ---- the delivery
 
--- main's parameters are the totals and the readings
-module _ (fs : Script) (disciplined : ScriptDisciplined fs) (shape : signatures-of fs 0 .parameters ≡ main-depth fs ∷
-    (1 ∷ []))
-    (readings : List ℤ) (short : length readings ≤ 16) (budget : ℕ) (σ : Store) (rests : Rests (main-depth fs) σ) where
+-- a disciplined program, which may be frugal or not
+module _ (p : Program) (disciplined : ProgramDisciplined p) (careful : Bool)
+    (frugal : careful ≡ true → ProgramFrugal p)
+    (readings : List ℤ) (short : length readings ≤ 16) (budget : ℕ) (σ : Store) (rests : Rests (p .depth) σ) where
   abbrev d : ℕ
-  d = main-depth fs
+  d = p .depth
 
   abbrev old : ℤ
   old = σ .totals
@@ -80,14 +81,17 @@ module _ (fs : Script) (disciplined : ScriptDisciplined fs) (shape : signatures-
   abbrev held : List ℕ
   held = named-by d (old ∷ [])
 
-  abbrev meant : Outcome Meter Value
-  meant = main-meaning fs (value-of σ d old) (numbers readings) budget
-
-  abbrev start : Start
-  start = record { budget = budget; store = σ }
+  abbrev values : List Value
+  values = value-of σ d old ∷ (numbers readings ∷ [])
 
   abbrev meter : Meter
   meter = record { left = budget; trace = [] }
+
+  abbrev meant : Outcome Meter Value
+  meant = running p 32 0 values meter
+
+  abbrev pub start : Start
+  start = record { budget = budget; store = σ; frugal = careful }
 
   begun : Together start (starting budget σ) meter
   unfolding starting touched replayed
@@ -101,7 +105,11 @@ module _ (fs : Script) (disciplined : ScriptDisciplined fs) (shape : signatures-
   none-free : has-free σ ≡ false → Delivers start d (stop 25 (with-roots (starting budget σ) held))
       meant
   unfolding with-roots starting touched replayed
-  none-free e = runs-dry (record { none-free = e; in-use = λ c h. reached (rests .holds) c h })
+  none-free e = runs-dry e (λ f. record {
+    none-free = e;
+    all-taken = λ c h. none-left (rests .holds) e c h;
+    in-use = λ c h. reached (rests .holds) c h;
+  })
       (record { untouched = refl; replays = refl; cells = refl })
       (let none-taken : 0 ≡ budget - budget = omega arith in
       subst (λ (k : ℕ). wants-cell k meant ≡ true) none-taken refl)
@@ -135,7 +143,7 @@ module _ (fs : Script) (disciplined : ScriptDisciplined fs) (shape : signatures-
     readings-stand : Stands (ready .store) 1 (pos c) (numbers readings)
     unfolding starting with-store value-of cell-of
     readings-stand = stands-kept
-        (cell-stands 0 c (numbers readings) (acquires .value) (rw (acquires .new) (filled-count 0 readings))
+        (cell-stands 0 (pos c) (numbers readings) (acquires .value) (rw (acquires .new) (filled-count 0 readings))
         (ap (λ (y : Cell). y .depth) (acquires .new) ∙ filled-depth 0 readings))
         (λ r h. (
           main-begins .alike r,
@@ -143,30 +151,24 @@ module _ (fs : Script) (disciplined : ScriptDisciplined fs) (shape : signatures-
               (omega (arith, h, occurrences-append r (c ∷ []) held))),
         ))
 
-    holds : named-all (signatures-of fs 0 .parameters) (old ∷ (pos c ∷ [])) ++ held ≡ held ++ (c ∷ held)
+    holds : named-all (p .signatures 0 .parameters) (old ∷ (pos c ∷ [])) ++ held ≡ held ++ (c ∷ held)
     unfolding cell-of
-    holds = ap (λ (l : List ℕ). named-all l (old ∷ (pos c ∷ [])) ++ held) shape
+    holds = ap (λ (l : List ℕ). named-all l (old ∷ (pos c ∷ [])) ++ held) (disciplined .takes)
         ∙ append-assoc held (c ∷ []) held
 
-    abbrev values : List Value
-    values = value-of σ d old ∷ (numbers readings ∷ [])
-
-    main-sound : Agree start (Returned start d (ready .store) [] held)
-        (machine (map (routine fs) fs) 32 held 0 (old ∷ (pos c ∷ [])) ready)
+    main-sound : Agree start (Returned start d (ready .store) [] held) (machine p 32 held 0 (old ∷ (pos c ∷ [])) ready)
         meant
-    unfolding main-meaning
-    main-sound = subst (λ (p : Outcome Meter Value). Agree start (Returned start d (ready .store) [] held)
-        (machine (map (routine fs) fs) 32 held 0 (old ∷ (pos c ∷ [])) ready) p)
-        (running-is-meaning fs 32 0 values meter)
-        (call-sound fs disciplined start 32 (λ _. 0) 0 (old ∷ (pos c ∷ [])) values [] held held
-        ready meter (main-begins .together)
-        (subst (λ (l : List ℕ). Arguments (ready .store) l (old ∷ (pos c ∷ [])) values) (sym shape)
+    main-sound = subst (λ (k : ℕ). Agree start (Returned start k (ready .store) [] held)
+        (machine p 32 held 0 (old ∷ (pos c ∷ [])) ready) meant) (disciplined .gives)
+        (call-sound p disciplined start frugal 32 (λ _. 0) 0 (old ∷ (pos c ∷ [])) values [] held held
+        ready meter (disciplined .some) (main-begins .together)
+        (subst (λ (l : List ℕ). Arguments (ready .store) l (old ∷ (pos c ∷ [])) values) (sym (disciplined .takes))
         (more totals-stand (more readings-stand none)))
         (subst (λ (l : List ℕ). Invariant (ready .store) [] l) (sym holds) (main-begins .invariant))
-        (subst (λ (l : List ℕ). Room [] l (5000 * 32)) (sym holds) room)
-        (λ r h. h))
+        (subst (λ (l : List ℕ). Room [] l (1000000 * 32)) (sym holds) room)
+        (λ f r h. h))
       where
-        room : Room [] (held ++ (c ∷ held)) (5000 * 32)
+        room : Room [] (held ++ (c ∷ held)) (1000000 * 32)
         room = record {
           few = λ k. omega (
             arith,
@@ -180,9 +182,9 @@ module _ (fs : Script) (disciplined : ScriptDisciplined fs) (shape : signatures-
   -- what follows once the readings have a cell
   abbrev after-readings : ℤ → Work (Unit {0})
   after-readings c = if-array d (retain-word old) >>
-      (machine (map (routine fs) fs) 32 held 0 (old ∷ (c ∷ [])) >>= put-result d old)
+      (machine p 32 held 0 (old ∷ (c ∷ [])) >>= put-result d old)
 
-  pub delivery-sound : Delivers start d (delivery fs readings (starting budget σ)) meant
+  pub delivery-sound : Delivers start d (delivery p readings (starting budget σ)) meant
   unfolding delivery acquire acquire-if onward starting
   delivery-sound = go (has-free σ) refl
     where
@@ -190,9 +192,17 @@ module _ (fs : Script) (disciplined : ScriptDisciplined fs) (shape : signatures-
           Delivers start d (onward after-readings (acquire-if b held 0 readings (starting budget σ))) meant
       go false e = none-free e
       go true e = subst (λ (o : Outcome State (Unit {0})).
-          Delivers start d (onward (λ _. machine (map (routine fs) fs) 32 held 0 (old ∷ (pos (σ .first) ∷ []))
+          Delivers start d (onward (λ _. machine p 32 held 0 (old ∷ (pos (σ .first) ∷ []))
           >>= put-result d old) o) meant)
           (sym (retains-totals d old (after-acquire 0 readings (starting budget σ)))) (finish d old (main-sound e))
+
+-- what a script's code does is what main means
+pub script-delivery : (fs : Script) {start : Start} {d : ℕ} {o : Outcome State (Unit {0})} (v w : Value) (budget : ℕ) →
+    Delivers start d o (running (program fs) 32 0 (v ∷ (w ∷ [])) (record { left = budget; trace = [] })) →
+    Delivers start d o (main-meaning fs v w budget)
+unfolding main-meaning
+script-delivery fs {start} {d} {o} v w budget q = subst (λ (p : Outcome Meter Value). Delivers start d o p)
+    (running-is-meaning fs 32 0 (v ∷ (w ∷ [])) (record { left = budget; trace = [] })) q
 
 -- ---- what follows for the demands
 
@@ -201,12 +211,12 @@ pub delivers-clean : {start : Start} {d : ℕ} {o : Outcome State (Unit {0})} {p
     Delivers start d o p → Clean start (state-of o)
 delivers-clean (finishes q) = q .clean
 delivers-clean (stops q) = q .clean
-delivers-clean (runs-dry out clean wants) = clean
+delivers-clean (runs-dry empty out clean wants) = clean
 
--- what demand 2 asks
+-- what demand 2 asks of frugal code
 pub delivers-does : {start : Start} {d : ℕ} {o : Outcome State (Unit {0})} {p : Outcome Meter Value} →
-    Delivers start d o p → Does d (start .budget) o p
-delivers-does (finishes q) = (q .left, q .value)
-delivers-does (stops q) = inl (q .number, q .left)
-delivers-does (runs-dry {p = done v m} out clean wants) = (refl, wants)
-delivers-does (runs-dry {p = stop n m} out clean wants) = inr (refl, wants)
+    start .frugal ≡ true → Delivers start d o p → Does d (start .budget) o p
+delivers-does f (finishes q) = (q .left, q .value)
+delivers-does f (stops q) = inl (q .number, q .left)
+delivers-does f (runs-dry {p = done v m} empty out clean wants) = (refl, wants, out f)
+delivers-does f (runs-dry {p = stop n m} empty out clean wants) = inr (refl, wants, out f)

@@ -1,22 +1,22 @@
 -- The names of a call: what they hold and stand for before and after a line or a tree.
 use Prim.Native.Nat.{ℕ, _+_, _≤_}
 use mathlib.Core.Path.{_≡_}
+use mathlib.Core.Bool.{true}
 use mathlib.Core.List.{List, [], _∷_, _++_, map}
 use lib.IntN.{ℤ}
 use Rattle.semantics.specs.Basics.{occurrences, _∈_}
 use Rattle.semantics.specs.Value.{Value, num}
-use Rattle.semantics.specs.Types.{Signature}
-use Rattle.semantics.specs.Code.{Atom}
+use Rattle.semantics.specs.Code.{Atom, Line}
 use Rattle.semantics.specs.Annotate.{NameDepths}
 use Rattle.semantics.specs.Meaning.{Meter, Env}
 use Rattle.semantics.specs.Meaning as Meaning
-use Rattle.semantics.specs.Machine.{State, Frame}
+use Rattle.semantics.specs.Machine.{State, Frame, Program}
 use Rattle.semantics.specs.Machine as Machine
 use Rattle.semantics.specs.Store.{Store, cell-of, named-by}
 use Rattle.semantics.specs.Sound.{all-inner}
 use Rattle.sound_base.specs.Lists.{_⊆_}
-use Rattle.sound_machine.specs.Discipline.{hold-of, handed}
 use Rattle.sound_base.specs.Invariant.{Invariant, Keeps, Stands}
+use Rattle.sound_machine.specs.Discipline.{hold-of, handed, holds-after, waits-after}
 use Rattle.sound_machine.specs.Agreement.{Start, Together}
 
 -- the cells that some names hold
@@ -25,12 +25,12 @@ hold ρ H = map (λ y. cell-of (ρ y)) H
 
 -- No cell is referred to so often that n references more come near the end of its count.
 pub record Room (Z R : List ℕ) (n : ℕ) : Type 0 where
-  pub few : (c : ℕ) → occurrences c R + occurrences c Z + n ≤ 1000000
+  pub few : (c : ℕ) → occurrences c R + occurrences c Z + n ≤ 1000000000
 
--- What is fixed while a function's tree is worked: the script's signatures, the depths of the function's names, the
--- start of the delivery, the calls, and the references that a call may add.
+-- What is fixed while a function's tree is worked: the program, the depths of the function's names, the start of the
+-- delivery, the calls, and the references that a call may add.
 pub record Setting : Type 0 where
-  pub signatures : ℕ → Signature
+  pub program : Program
   pub depths : NameDepths
   pub start : Start
   pub callee : Machine.Callee
@@ -42,22 +42,29 @@ pub record Pending (σ : Store) (d : ℕ) (w : ℤ) (v : Value) : Type 0 where
   pub stands : Stands σ d w v
   pub named : cell-of w ∈ all-inner (σ .cells)
 
+-- a name that holds nothing, but whose cell is among those of others
+pub record Lent (σ : Store) (F : List ℕ) (d : ℕ) (w : ℤ) (v : Value) : Type 0 where
+  pub stands : Stands σ d w v
+  pub kept : cell-of w ∈ F
+
 -- what a name holds, and what some atoms hand over
 abbrev pub own : Setting → ℕ → List ℕ
-own C x = hold-of (C .signatures) (C .depths) x
+own C x = hold-of (C .depths) x
 
 abbrev pub given : Setting → List Atom → List ℕ
-given C us = handed (C .signatures) (C .depths) us
+given C us = handed (C .depths) us
 
--- Before a line or a tree: the names H hold their cells, beside the references F of others, which are among the roots R;
--- the names P are pending; the words of the frame stand for the values; n references more may come.
-pub record Situation (C : Setting) (σ : Store) (Z F R H P : List ℕ) (ρ : Frame) (δ : Env) (n : ℕ) : Type 0 where
+-- Before a line or a tree: the names H hold their cells, beside the references F of others, which are among the roots R
+-- if the code is frugal; the names B are lent and the names P pending; the words of the frame stand for the values; n
+-- references more may come.
+pub record Situation (C : Setting) (σ : Store) (Z F R B H P : List ℕ) (ρ : Frame) (δ : Env) (n : ℕ) : Type 0 where
   pub invariant : Invariant σ Z (hold ρ H ++ F)
   pub numbers : (y : ℕ) → C .depths y ≡ 0 → num (ρ y) ≡ δ y
   pub arrays : (y : ℕ) → y ∈ H → Stands σ (C .depths y) (ρ y) (δ y)
   pub pending : (y : ℕ) → y ∈ P → Pending σ (C .depths y) (ρ y) (δ y)
+  pub lent : (y : ℕ) → y ∈ B → Lent σ F (C .depths y) (ρ y) (δ y)
   pub room : Room Z (hold ρ H ++ F) n
-  pub rooted : (Z ++ F) ⊆ R
+  pub rooted : C .start .frugal ≡ true → (Z ++ F) ⊆ R
 
 -- a word given, of depth d: it holds one reference if it is an array, beside those of F
 pub record Answered (start : Start) (d : ℕ) (Z F : List ℕ) (w : ℤ) (s : State) (v : Value) (m : Meter) : Type 0 where
@@ -91,15 +98,12 @@ module _ (C : Setting) where
     pub arrays : (y : ℕ) → y ∈ Δ → Stands (s .store) (C .depths y) (ρ y) (δ y)
     pub keeps : Keeps σ (s .store) (Z ++ F)
 
-  -- after a line, with the frame and the environment in which the tree goes on: K holds of its holds and pending names,
-  -- and the names Δ that the tree leaves are as before
-  pub record Going (K : List ℕ → List ℕ → Type 0) (σ : Store) (Z F R Δ : List ℕ) (ρ : Frame) (δ : Env) (n : ℕ)
-      (ρ′ : Frame) (s : State) (δ′ : Env) (m : Meter) : Type 0 where
-    pub holds : List ℕ
-    pub waiting : List ℕ
-    pub goes : K holds waiting
+  -- after a line, with the frame and the environment in which the tree goes on; the names Δ that the tree leaves are as
+  -- before
+  pub record Going (l : Line) (σ : Store) (Z F R B H Δ : List ℕ) (ρ : Frame) (δ : Env) (n : ℕ) (ρ′ : Frame) (s : State)
+      (δ′ : Env) (m : Meter) : Type 0 where
     pub together : Together (C .start) s m
-    pub situation : Situation C (s .store) Z F R holds waiting ρ′ δ′ n
+    pub situation : Situation C (s .store) Z F R B (holds-after (C .depths) l H) (waits-after (C .depths) l) ρ′ δ′ n
     pub keeps : Keeps σ (s .store) (Z ++ F)
     pub words : (y : ℕ) → y ∈ Δ → ρ′ y ≡ ρ y
     pub values : (y : ℕ) → y ∈ Δ → δ′ y ≡ δ y

@@ -2,7 +2,7 @@
 use Prim.Native.Nat.{ℕ, suc, _+_, _<_, _≤_}
 use native.Mathlib.Omega.{arith}
 use mathlib.Core.Path.{refl, sym, subst}
-use mathlib.Core.Logic.{_⊎_, inl, inr}
+use mathlib.Core.Logic.{inl, inr}
 use mathlib.Core.List.{List, [], _∷_, _++_}
 use Rattle.semantics.specs.Basics.{occurrences, _∈_}
 use Rattle.semantics.specs.Outcome.{onward}
@@ -20,13 +20,16 @@ use Rattle.sound_store.specs.Retain.{Retains}
 use Rattle.sound_store.specs.Retain as Store-retain
 use Rattle.sound_store.specs.Release.{Releases, releases-keep}
 use Rattle.sound_store.specs.Release as Store-release
+use Rattle.sound_base.specs.Lists.{_≈_}
 use Rattle.sound_machine.specs.Images.{image-in, without-middle, first-or-later, one-more}
 use Rattle.sound_machine.specs.Agreement.{both, with-store-together}
 use Rattle.sound_machine.specs.Frames.{hold, Setting, Situation}
-use Rattle.sound_machine.specs.Standing.{none-in, stands-held, hold-split}
+use Rattle.sound_machine.specs.Standing.{none-in, stands-held, hold-split, lent-kept}
 use Rattle.sound_machine.specs.Size.{line-lines}
 use Rattle.sound_machine.specs.Situations.{room-less, room-one, room-fewer, touch-together}
 use Rattle.sound_machine.specs.Claims.{LineClaim}
+use Rattle.sound_machine.specs.Discipline.{less, holds-after}
+use Rattle.sound_machine.specs.Spending.{spend-split, spend-one, less-in}
 
 module _ (C : Setting) where
   -- a name that may be retained: its cell is held or named, and it stands for its value
@@ -34,20 +37,25 @@ module _ (C : Setting) where
     pub named : 0 < occurrences (cell-of (ρ x)) (hold ρ H ++ F) + occurrences (cell-of (ρ x)) (all-inner (σ .cells))
     pub stands : Stands σ (C .depths x) (ρ x) (δ x)
 
-  retainable : {σ : Store} {Z F R H P : List ℕ} {ρ : Frame} {δ : Env} {n : ℕ} (x : ℕ) → Situation C σ Z F R H P ρ δ n →
-      (x ∈ P) ⊎ (x ∈ H) → Retainable σ F H ρ δ x
-  retainable x S (inl h) = record { named = omega (arith, S .pending x h .named); stands = S .pending x h .stands }
-  retainable {F = F} {H = H} {ρ = ρ} x S (inr h) = record {
-    named = omega (arith, in-append-left (cell-of (ρ x)) (hold ρ H) F (image-in (λ y. cell-of (ρ y)) x H h));
-    stands = S .arrays x h;
-  }
+  retainable : {σ : Store} {Z F R B H P : List ℕ} {ρ : Frame} {δ : Env} {n : ℕ} (x : ℕ) →
+      Situation C σ Z F R B H P ρ δ n → x ∈ (P ++ (B ++ H)) → Retainable σ F H ρ δ x
+  retainable {F = F} {B = B} {H} {P} {ρ} x S h = elim (append-cases x P (B ++ H) h) [
+    | inl g ↦ record { named = omega (arith, S .pending x g .named); stands = S .pending x g .stands }
+    | inr g ↦ elim (append-cases x B H g) [
+      | inl q ↦ record {
+        named = omega (arith, in-append-right (cell-of (ρ x)) (hold ρ H) F (S .lent x q .kept));
+        stands = S .lent x q .stands;
+      }
+      | inr q ↦ record {
+        named = omega (arith, in-append-left (cell-of (ρ x)) (hold ρ H) F (image-in (λ y. cell-of (ρ y)) x H q));
+        stands = S .arrays x q;
+      }
+    ]
+  ]
 
   pub line-retain : (x : ℕ) → LineClaim C (retain x)
-  unfolding work-line run-line onward retain-word with-store line-lines
-  line-retain x A H P Δ K D Z F R ρ δ n s m t S need = both record {
-    holds = x ∷ H;
-    waiting = [];
-    goes = D .1;
+  unfolding work-line run-line onward retain-word with-store line-lines holds-after
+  line-retain x B T A H P Δ rules Z F R ρ δ n s m t S need = both record {
     together = touch-together c (retained c σ) (S .invariant) used (r .free) (r .cells) t;
     situation = record {
       invariant = r .holds;
@@ -55,6 +63,8 @@ module _ (C : Setting) where
       arrays = λ y h. stands-held ρ y (x ∷ H) h (stood y h) (λ k g. r .alike k)
           (λ k g. held-used (r .holds) k (in-append-left k (hold ρ (x ∷ H)) F g));
       pending = λ y h. absurd (none-in y h);
+      lent = λ y h. lent-kept Z F record { keep = λ k g. r .alike k }
+          (λ k g. held-used (r .holds) k (in-append-right k (hold ρ (x ∷ H)) F g)) (S .lent y h);
       room = room-one c n (room-less (suc n) (S .room) (omega arith));
       rooted = S .rooted;
     };
@@ -70,7 +80,7 @@ module _ (C : Setting) where
       c = cell-of (ρ x)
 
       able : Retainable σ F H ρ δ x
-      able = retainable x S (append-cases x P H (D .0))
+      able = retainable x S (rules .holds)
 
       used : 0 < cell σ c .count
       used = omega (arith, able .named, S .invariant .counts c)
@@ -85,24 +95,23 @@ module _ (C : Setting) where
       ]
 
   pub line-release : (x : ℕ) → LineClaim C (release x)
-  unfolding work-line run-line onward release-word with-store line-lines
-  line-release x A H P Δ K D Z F R ρ δ n s m t S need = both record {
-    holds = H′;
-    waiting = [];
-    goes = D .2;
+  unfolding work-line run-line onward release-word with-store line-lines holds-after
+  line-release x B T A H P Δ rules Z F R ρ δ n s m t S need = both record {
     together = with-store-together (released deepest c σ) (release-events deepest c σ) (r .untouched) (r .replays)
         (r .cells) t;
     situation = record {
       invariant = r .holds;
       numbers = S .numbers;
-      arrays = λ y h. stands-held ρ y H′ h (S .arrays y (omega (arith, D .1 y, one-more y x H′)))
+      arrays = λ y h. stands-held ρ y H′ h (S .arrays y (less-in (x ∷ []) H y h))
           (λ k g. keeps .keep k (in-append-right k Z (hold ρ H′ ++ F) (in-append-left k (hold ρ H′) F g)))
           (λ k g. held-used (r .holds) k (in-append-left k (hold ρ H′) F g));
       pending = λ y h. absurd (none-in y h);
+      lent = λ y h. lent-kept Z F kept (λ k g. held-used (r .holds) k (in-append-right k (hold ρ H′) F g))
+          (S .lent y h);
       room = room-fewer (hold ρ H′ ++ F) fewer (room-less n (S .room) (omega arith));
       rooted = S .rooted;
     };
-    keeps = keeps-fewer (Z ++ (hold ρ H′ ++ F)) (Z ++ F) (without-middle Z (hold ρ H′) F) keeps;
+    keeps = kept;
     words = λ y h. refl;
     values = λ y h. refl;
   }
@@ -114,10 +123,13 @@ module _ (C : Setting) where
       c = cell-of (ρ x)
 
       H′ : List ℕ
-      H′ = D .0
+      H′ = less (x ∷ []) H
+
+      split : H ≈ (x ∷ []) ++ H′
+      split = spend-split (x ∷ []) H (spend-one x H (rules .holds))
 
       before : Invariant σ Z (hold ρ (x ∷ H′) ++ F)
-      before = permute Z (hold ρ (x ∷ H′) ++ F) (S .invariant) (λ k. refl) (hold-split ρ H (x ∷ []) H′ F (D .1))
+      before = permute Z (hold ρ (x ∷ H′) ++ F) (S .invariant) (λ k. refl) (hold-split ρ H (x ∷ []) H′ F split)
 
       r : Releases σ (released deepest c σ) (release-events deepest c σ) Z (hold ρ H′ ++ F)
       r = Store-release.release c before
@@ -125,5 +137,8 @@ module _ (C : Setting) where
       keeps : Keeps σ (released deepest c σ) (Z ++ (hold ρ H′ ++ F))
       keeps = releases-keep before r
 
+      kept : Keeps σ (released deepest c σ) (Z ++ F)
+      kept = keeps-fewer (Z ++ (hold ρ H′ ++ F)) (Z ++ F) (without-middle Z (hold ρ H′) F) keeps
+
       fewer : (k : ℕ) → occurrences k (hold ρ H′ ++ F) ≤ occurrences k (hold ρ H ++ F)
-      fewer k = omega (arith, hold-split ρ H (x ∷ []) H′ F (D .1) k, one-more k c (hold ρ H′ ++ F))
+      fewer k = omega (arith, hold-split ρ H (x ∷ []) H′ F split k, one-more k c (hold ρ H′ ++ F))

@@ -12,8 +12,8 @@ use Rattle.semantics.specs.Value.{Value, num}
 use Rattle.semantics.specs.Machine.{frame-from}
 use Rattle.semantics.specs.Store.{Store, cell-of}
 use Rattle.sound_base.specs.Plain.{values-from}
-use Rattle.sound_machine.specs.Discipline.{parameter-holds}
 use Rattle.sound_base.specs.Invariant.{Stands}
+use Rattle.sound_machine.specs.Discipline.{parameter-holds}
 use Rattle.sound_machine.specs.Images.{updated-here, updated-there, first-or-later}
 use Rattle.sound_machine.specs.Frames.{hold, named-all, Arguments, none, more}
 use Rattle.sound_machine.specs.Standing.{none-in, number-stands, stands-number, hold-updated}
@@ -52,7 +52,7 @@ names-stand (more {d} {w} {v} {ds} {ws} {vs} s rest) n y = elim (ℕ-discrete y 
 
 -- ---- the holds
 
-held-range : (ds : List ℕ) (n y : ℕ) → y ∈ parameter-holds ds n → (n ≤ y) × (y < n + length ds)
+pub held-range : (ds : List ℕ) (n y : ℕ) → y ∈ parameter-holds ds n → (n ≤ y) × (y < n + length ds)
 unfolding parameter-holds
 held-range [] n y h = absurd (none-in y h)
 held-range (zero ∷ ds) n y h = let q = held-range ds (suc n) y h in (omega (arith, q), omega (arith, q))

@@ -1,30 +1,26 @@
--- How many lines a tree has: at most as many as its code has rows.
-use Prim.Native.Nat.{ℕ, zero, suc, _+_, _<_, _≤_}
+-- How many references a tree may add: at most 17 for each row of its code.
+use Prim.Native.Nat.{ℕ, zero, suc, _+_, _*_, _<_, _≤_}
 use native.Mathlib.Omega.{arith}
 use native.Mathlib.Decide.{decLt}
 use mathlib.Core.Path.{_≡_, refl, ap}
-use mathlib.Core.List.{List, [], _∷_}
+use mathlib.Core.List.{List, [], _∷_, map}
 use lib.ListN.{length, getD, length-append, List·getD-eq-default}
 use Rattle.semantics.specs.Syntax.{Function, Script, function-at, no-function}
-use Rattle.semantics.specs.Code.{Line, operation, call, literal, index, length-of, if-else, map-over, retain, release}
-use Rattle.semantics.specs.Code.{Tree, end, line, rows, line-rows}
+use Rattle.semantics.specs.Code.{atom-row, Line, leaf, if-else, loop, retain, release, Tree, end, line, rows, line-rows}
 use Rattle.semantics.specs.Annotate.{annotated-body, parameter-rows, function-rows, functions-rows, code}
 use Rattle.semantics.specs.Computing.{computing}
 
--- the lines of a tree and of the trees in it: each adds at most one reference
+-- The references that a tree may add at most, counted by its lines and those of the trees in it: a leaf adds one for
+-- its result, and no more than one for each element of an array.
 unfoldable mutual
   pub tree-lines : Tree → ℕ
   tree-lines (end a) = 0
   tree-lines (line l t) = line-lines l + tree-lines t
 
   pub line-lines : Line → ℕ
-  line-lines (operation x o a b) = 1
-  line-lines (call x f us) = 1
-  line-lines (literal x d us) = 1
-  line-lines (index x a b) = 1
-  line-lines (length-of x a) = 1
+  line-lines (leaf x l us) = 17
   line-lines (if-else x g t e) = 1 + tree-lines t + tree-lines e
-  line-lines (map-over x p a t) = 1 + tree-lines t
+  line-lines (loop x k ps us t) = 2 + tree-lines t
   line-lines (retain x) = 1
   line-lines (release x) = 1
 
@@ -32,18 +28,14 @@ mutual
   unfolding tree-lines rows
 
   -- each line has a row of its own
-  pub tree-rows : (t : Tree) → tree-lines t ≤ length (rows t)
+  pub tree-rows : (t : Tree) → tree-lines t ≤ 17 * length (rows t)
   tree-rows (end a) = omega arith
   tree-rows (line l t) = omega (arith, line-has-rows l, tree-rows t, length-append (line-rows l) (rows t))
 
-  pub line-has-rows : (l : Line) → line-lines l ≤ length (line-rows l)
-  line-has-rows (operation x o a b) = omega arith
-  line-has-rows (call x f us) = omega arith
-  line-has-rows (literal x d us) = omega arith
-  line-has-rows (index x a b) = omega arith
-  line-has-rows (length-of x a) = omega arith
+  pub line-has-rows : (l : Line) → line-lines l ≤ 17 * length (line-rows l)
+  line-has-rows (leaf x l us) = omega arith
   line-has-rows (if-else x g t e) = omega (arith, tree-rows t, tree-rows e, length-append (rows t) (rows e))
-  line-has-rows (map-over x p a t) = omega (arith, tree-rows t)
+  line-has-rows (loop x k ps us t) = omega (arith, tree-rows t, length-append (map atom-row us) (rows t))
   line-has-rows (retain x) = omega arith
   line-has-rows (release x) = omega arith
 
@@ -64,8 +56,8 @@ no-lines : (fs : Script) → tree-lines (annotated-body fs no-function) ≡ 0
 unfolding computing tree-lines
 no-lines fs = refl
 
--- no function has more lines than the code has rows
-pub function-lines : (fs : Script) (f : ℕ) → tree-lines (annotated-body fs (function-at fs f)) ≤ length (code fs)
+-- no function has more lines than the code has rows, 17 for each
+pub function-lines : (fs : Script) (f : ℕ) → tree-lines (annotated-body fs (function-at fs f)) ≤ 17 * length (code fs)
 unfolding code
 function-lines fs f = elim (decLt f (length fs)) [
   | yes h ↦ omega (arith, tree-rows (annotated-body fs (function-at fs f)), function-within fs fs f h)

@@ -1,18 +1,21 @@
 -- Written names and new names that agree: what the source means by a name is the value of the atom that stands for it.
-use Prim.Native.Nat.{ℕ, _+_, _≤_, _<_}
+use Prim.Native.Nat.{ℕ, _+_, _≤_, _<_, suc}
 use native.Mathlib.Omega.{arith}
 use mathlib.Core.Bool.{Bool, true, false, cond}
 use mathlib.Core.Path.{_≡_, refl, _∙_}
 use mathlib.Core.Logic.{_≢_}
+use mathlib.Core.List.{List, [], _∷_}
 use lib.Dec.{eqb}
+use lib.ListN.{length}
 use borrow.Author.Tests.{eq-eqb, ne-eqb}
 use Rattle.semantics.specs.Basics.{updated}
 use Rattle.semantics.specs.Value.{Value}
-use Rattle.semantics.specs.Meaning.{Env}
+use Rattle.semantics.specs.Kinds.{later-parts}
+use Rattle.semantics.specs.Meaning.{Env, binding, argument}
 use Rattle.semantics.specs.Syntax as S
 use Rattle.semantics.specs.Syntax.{Expr}
 use Rattle.semantics.specs.Code.{Atom, number, name}
-use Rattle.semantics.specs.Normal.{Meanings, fresh, atom}
+use Rattle.semantics.specs.Normal.{Meanings, fresh, atom, meaning-names, numbered}
 use Rattle.sound_base.specs.Plain.{value}
 
 -- an atom that is a number, or a name below n
@@ -77,15 +80,26 @@ pub atom-below : (e : Expr) (μ : Meanings) (n : ℕ) → ((y : ℕ) → Below (
 unfolding atom fresh
 atom-below (S.number z) μ n h = tt
 atom-below (S.name x) μ n h = below-more (μ x) (omega arith) (h x)
-atom-below (S.operation o a b) μ n h = omega arith
 atom-below (S.let-in x a b) μ n h =
     let above : (y : ℕ) → Below (μ y) (n + fresh a) = λ y. below-more (μ y) (omega arith) (h y) in
     below-more (atom b (updated μ x (atom a μ n)) (n + fresh a)) (omega arith)
     (atom-below b (updated μ x (atom a μ n)) (n + fresh a)
     (below-updated μ (n + fresh a) x (atom a μ n) (atom-below a μ n h) above))
-atom-below (S.call f es) μ n h = omega arith
-atom-below (S.literal d es) μ n h = omega arith
-atom-below (S.index a b) μ n h = omega arith
-atom-below (S.length-of a) μ n h = omega arith
+atom-below (S.leaf l es) μ n h = omega arith
 atom-below (S.if-else a b c) μ n h = omega arith
-atom-below (S.map-over x a b) μ n h = omega arith
+atom-below (S.loop k xs es b) μ n h = omega arith
+
+-- the names of a pass: bound to values, they mean in the source what their new names are worth
+pub agree-binding : (xs : List ℕ) (vs : List Value) {μ : Meanings} {δ ρ : Env} (n : ℕ) → Agree μ δ ρ n →
+    Agree (meaning-names xs n μ) (binding (numbered xs n) vs δ) (binding xs vs ρ) (n + length xs)
+agree-binding [] vs n g = agree-kept (omega arith) g (λ y h. refl)
+agree-binding (x ∷ xs) vs {μ} {δ} {ρ} n g =
+    let v = argument vs 0 in
+    let h = agree-updated x (name n) v
+    (agree-kept {m = suc n} (omega arith) g (λ y h. updated-other δ n v y (λ e. omega arith)))
+    (omega arith) (updated-same δ n v) in
+    let more = agree-binding xs (later-parts vs) (suc n) h in
+    record {
+      same = more .same;
+      below = λ y. below-more (meaning-names xs (suc n) (updated μ x (name n)) y) (omega arith) (more .below y);
+    }

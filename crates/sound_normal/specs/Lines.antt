@@ -1,20 +1,21 @@
 -- `normal-run`: the lines of an expression do what the expression means, whatever the callee.
 use Prim.Native.Nat.{ℕ, _+_, _≤_}
 use native.Mathlib.Omega.{arith}
-use mathlib.Core.List.{[], _∷_, map}
+use mathlib.Core.List.{List, [], _∷_, map}
 use mathlib.Core.Path.{_≡_, refl, _∙_, ap, fun-ext}
+use lib.ListN.{length}
 use Rattle.semantics.specs.Basics.{updated}
 use Rattle.semantics.specs.Outcome.{Outcome, done, stop, _>>=_, give, onward}
 use Rattle.semantics.specs.Value.{Value, num}
 use Rattle.semantics.specs.Syntax as S
 use Rattle.semantics.specs.Syntax.{Expr, Exprs}
-use Rattle.semantics.specs.Meaning.{Meter, Work, Callee, Env, do-operation, do-call, do-literal, do-index, do-length}
-use Rattle.semantics.specs.Meaning.{do-if, do-map, eval, eval-all}
+use Rattle.semantics.specs.Meaning.{Meter, Work, Callee, Env, do-leaf, do-if, do-loop, binding, eval, eval-all}
 use Rattle.semantics.specs.Code.{Atom, number, name, Tree, end}
-use Rattle.semantics.specs.Normal.{Meanings, fresh, atom, atoms, lines, all-lines, normal}
+use Rattle.semantics.specs.Normal.{Meanings, fresh, fresh-all, atom, atoms, meaning-names, numbered, lines, all-lines}
+use Rattle.semantics.specs.Normal.{normal}
 use Rattle.sound_base.specs.Plain.{value, run}
 use Rattle.sound_normal.specs.Agree.{Agree, Kept, updated-same, updated-other, value-kept, agree-kept}
-use Rattle.sound_normal.specs.Agree.{agree-updated, atom-below}
+use Rattle.sound_normal.specs.Agree.{agree-updated, atom-below, agree-binding}
 
 module _ (callee : Callee) where
   -- Lines before the tree k do what an outcome says: `look` reads its answer in the environment that they leave.
@@ -62,33 +63,14 @@ module _ (callee : Callee) where
         Reach δ n (λ γ. value γ (atom e μ n)) k (eval callee e ρ m) (run callee (lines e μ n k) δ m)
     lines-run (S.number z) μ ρ δ n k m g = ran (num z) m δ refl refl refl (λ y h. refl)
     lines-run (S.name x) μ ρ δ n k m g = ran (ρ x) m δ refl refl (g .same x) (λ y h. refl)
-    lines-run (S.operation o a b) μ ρ δ n k m g =
-        chain (λ x. eval callee b ρ >>= λ y. do-operation o x y) (n + fresh a) (omega arith)
-        (lines-run a μ ρ δ n _ m g) λ x m₁ δ₁ kept₁ ex.
-        chain (λ y. do-operation o x y) (n + fresh a) (omega arith)
-        (lines-run b μ ρ δ₁ (n + fresh a) _ m₁ (agree-kept (omega arith) g kept₁)) λ y m₂ δ₂ kept₂ ey.
-        rw (value-kept (atom a μ n) (atom-below a μ n (g .below)) kept₂ ∙ ex, ey)
-        (leaf (do-operation o x y m₂) (omega arith))
     lines-run (S.let-in x a b) μ ρ δ n k m g =
         chain (λ v. eval callee b (updated ρ x v)) (n + fresh a) (omega arith)
         (lines-run a μ ρ δ n _ m g) λ v m₁ δ₁ kept₁ ev.
         lines-run b (updated μ x (atom a μ n)) (updated ρ x v) δ₁ (n + fresh a) k m₁
         (agree-updated x (atom a μ n) v (agree-kept (omega arith) g kept₁) (atom-below a μ n (g .below)) ev)
-    lines-run (S.call f es) μ ρ δ n k m g =
-        chain (do-call callee f) n (omega arith) (all-lines-run es μ ρ δ n _ m g) λ vs m₁ δ₁ kept₁ ev.
-        rw ev (leaf (do-call callee f vs m₁) (omega arith))
-    lines-run (S.literal d es) μ ρ δ n k m g =
-        chain do-literal n (omega arith) (all-lines-run es μ ρ δ n _ m g) λ vs m₁ δ₁ kept₁ ev.
-        rw ev (leaf (do-literal vs m₁) (omega arith))
-    lines-run (S.index a b) μ ρ δ n k m g =
-        chain (λ x. eval callee b ρ >>= λ y. do-index x y) (n + fresh a) (omega arith)
-        (lines-run a μ ρ δ n _ m g) λ x m₁ δ₁ kept₁ ex.
-        chain (λ y. do-index x y) (n + fresh a) (omega arith)
-        (lines-run b μ ρ δ₁ (n + fresh a) _ m₁ (agree-kept (omega arith) g kept₁)) λ y m₂ δ₂ kept₂ ey.
-        rw (value-kept (atom a μ n) (atom-below a μ n (g .below)) kept₂ ∙ ex, ey) (leaf (do-index x y m₂) (omega arith))
-    lines-run (S.length-of a) μ ρ δ n k m g =
-        chain do-length n (omega arith) (lines-run a μ ρ δ n _ m g) λ v m₁ δ₁ kept₁ ev.
-        rw ev (leaf (do-length v m₁) (omega arith))
+    lines-run (S.leaf l es) μ ρ δ n k m g =
+        chain (do-leaf callee l) n (omega arith) (all-lines-run es μ ρ δ n _ m g) λ vs m₁ δ₁ kept₁ ev.
+        rw ev (leaf (do-leaf callee l vs m₁) (omega arith))
     lines-run (S.if-else a b c) μ ρ δ n k m g =
         chain (λ x. do-if x (eval callee b ρ) (eval callee c ρ)) n (omega arith)
         (lines-run a μ ρ δ n _ m g) λ v m₁ δ₁ kept₁ ev.
@@ -98,18 +80,18 @@ module _ (callee : Callee) where
         let e : run callee (lines c μ (x + 1 + fresh b) (end (atom c μ (x + 1 + fresh b)))) δ₁ ≡ eval callee c ρ =
         fun-ext (λ r. whole-tree (lines-run c μ ρ δ₁ (x + 1 + fresh b) _ r (agree-kept (omega arith) g kept₁))) in
         rw (ev, t, e) (leaf (do-if v (eval callee b ρ) (eval callee c ρ) m₁) (omega arith))
-    lines-run (S.map-over y a b) μ ρ δ n k m g =
-        chain (λ v. do-map v (λ w. eval callee b (updated ρ y w))) n (omega arith)
-        (lines-run a μ ρ δ n _ m g) λ v m₁ δ₁ kept₁ ev.
-        let x = n + fresh a in
-        let μ′ = updated μ y (name (x + 1)) in
-        let t : (w : Value) → run callee (lines b μ′ (x + 2) (end (atom b μ′ (x + 2)))) (updated δ₁ (x + 1) w)
-        ≡ eval callee b (updated ρ y w) =
-        λ w. fun-ext (λ r. whole-tree (lines-run b μ′ (updated ρ y w) (updated δ₁ (x + 1) w) (x + 2) _ r
-        (agree-updated y (name (x + 1)) w
-        (agree-kept (omega arith) g (λ z h. updated-other δ₁ (x + 1) w z (λ e. omega arith) ∙ kept₁ z h))
-        (omega arith) (updated-same δ₁ (x + 1) w)))) in
-        simp (ev, t) (leaf (do-map v (λ w. eval callee b (updated ρ y w)) m₁) (omega arith))
+    lines-run (S.loop j xs es b) μ ρ δ n k m g =
+        chain (λ vs. do-loop j vs (λ ws. eval callee b (binding xs ws ρ))) n (omega arith)
+        (all-lines-run es μ ρ δ n _ m g) λ vs m₁ δ₁ kept₁ ev.
+        let x = n + fresh-all es in
+        let μ′ = meaning-names xs (x + 1) μ in
+        let i = x + (1 + length xs) in
+        let t : (ws : List Value) →
+        run callee (lines b μ′ i (end (atom b μ′ i))) (binding (numbered xs (x + 1)) ws δ₁)
+        ≡ eval callee b (binding xs ws ρ) =
+        λ ws. fun-ext (λ r. whole-tree (lines-run b μ′ (binding xs ws ρ) (binding (numbered xs (x + 1)) ws δ₁) i _ r
+        (agree-kept (omega arith) (agree-binding xs ws (x + 1) (agree-kept (omega arith) g kept₁)) (λ y h. refl)))) in
+        simp (ev, t) (leaf (do-loop j vs (λ ws. eval callee b (binding xs ws ρ)) m₁) (omega arith))
 
     pub all-lines-run : (es : Exprs) (μ : Meanings) (ρ δ : Env) (n : ℕ) (k : Tree) (m : Meter) → Agree μ δ ρ n →
         Reach δ n (λ γ. map (value γ) (atoms es μ n)) k (eval-all callee es ρ m) (run callee (all-lines es μ n k) δ m)

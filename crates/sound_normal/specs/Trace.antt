@@ -14,10 +14,11 @@ use Rattle.semantics.specs.Number.{fits, exact, inside, is-zero}
 use Rattle.semantics.specs.Value.{Value, num, list, items, number-in}
 use Rattle.semantics.specs.Syntax.{Script}
 use Rattle.semantics.specs.Meaning.{Meter, Work, Callee, Env, stepped, step, do-operation, do-call, do-literal}
-use Rattle.semantics.specs.Meaning.{do-index, do-length, do-if, do-pass, do-map, meaning, step-wants, meter-of}
-use Rattle.semantics.specs.Code.{Line, operation, call, literal, index, length-of, if-else, map-over, retain, release}
-use Rattle.semantics.specs.Code.{Tree, end, line}
-use Rattle.semantics.specs.Machine.{routine, no-routine}
+use Rattle.semantics.specs.Meaning.{do-index, do-length, do-leaf, do-if, do-pass, do-loop, binding, carried-first}
+use Rattle.semantics.specs.Meaning.{carried-on, argument, looped-over, pass-values, meaning, step-wants, meter-of}
+use Rattle.semantics.specs.Kinds.{Leaf, operation, call, literal, index, length-of, Loop, takes-cell}
+use Rattle.semantics.specs.Code.{Line, leaf, if-else, loop, retain, release, Tree, end, line}
+use Rattle.semantics.specs.Machine.{Program, program, routine-of}
 use Rattle.sound_base.specs.Plain.{value, run, run-line, values-from, running}
 use Rattle.sound_normal.specs.Running.{running-is-meaning}
 
@@ -91,14 +92,30 @@ unfolding do-if
 grows-if g t e h k = grows-stepping false (cond (is-zero (number-in g)) e t)
     (elim (is-zero (number-in g)) as (λ b. Grows (cond b e t)) [ true ↦ k | false ↦ h ])
 
-grows-map : (v : Value) (body : Value → Work Value) → ((w : Value) → Grows (body w)) → Grows (do-map v body)
-unfolding do-map do-pass
-grows-map v body h =
-    grows-stepping true _ (grows-then (passes (do-pass body) [] (items v)) (λ rs. give (list rs))
-    (grows-passes (do-pass body) pass (items v) []) (λ rs. grows-give (list rs)))
+grows-loop : (k : Loop) (vs : List Value) (body : List Value → Work Value) → ((ws : List Value) → Grows (body ws)) →
+    Grows (do-loop k vs body)
+unfolding do-loop do-pass
+grows-loop k vs body h =
+    grows-stepping (takes-cell k) _ (grows-passes (do-pass k body) pass (items (looped-over k vs)) (carried-first k vs))
   where
-    pass : (rs : List Value) (w : Value) → Grows (do-pass body rs w)
-    pass rs w = grows-stepping false _ (grows-then (body w) _ (h w) (λ r. grows-give (rs ++ (r ∷ []))))
+    pass : (c w : Value) → Grows (do-pass k body c w)
+    pass c w =
+        grows-stepping false _ (grows-then (body (pass-values k c w)) _ (h (pass-values k c w))
+        (λ r. grows-give (carried-on k c w r)))
+
+grows-leaf : (callee : Callee) → CalleeGrows callee → (l : Leaf) (vs : List Value) → Grows (do-leaf callee l vs)
+unfolding do-leaf do-operation do-call do-literal do-index do-length
+grows-leaf callee calls (operation o) vs =
+    let z = exact o (number-in (argument vs 0)) (number-in (argument vs 1)) in
+    grows-stepping false _ (grows-required (fits z) 24 (num z))
+grows-leaf callee calls (call f) vs = grows-stepping false _ (calls f vs)
+grows-leaf callee calls (literal d) vs = grows-stepping true _ (grows-give (list vs))
+grows-leaf callee calls index vs =
+    let us = items (argument vs 0) in
+    let i = number-in (argument vs 1) in
+    grows-stepping false _ (grows-required (inside i (length us)) 23 (getD us (natAbs i) (num (pos 0))))
+grows-leaf callee calls length-of vs =
+    grows-stepping false _ (grows-give (num (pos (length (items (argument vs 0))))))
 
 -- a line's action, then the binding of its name
 grows-binding : (δ : Env) (x : ℕ) (work : Work Value) → Grows work → Grows (work >>= λ v. give (updated δ x v))
@@ -106,42 +123,31 @@ grows-binding δ x work h = grows-then work (λ v. give (updated δ x v)) h (λ 
 
 module _ (callee : Callee) (calls : CalleeGrows callee) where
   mutual
-    unfolding run do-operation do-call do-literal do-index do-length
+    unfolding run
 
     pub run-grows : (t : Tree) (δ : Env) → Grows (run callee t δ)
     run-grows (end a) δ = grows-give (value δ a)
     run-grows (line l t) δ = grows-then (run-line callee l δ) (run callee t) (line-grows l δ) (λ γ. run-grows t γ)
 
     pub line-grows : (l : Line) (δ : Env) → Grows (run-line callee l δ)
-    line-grows (operation x o a b) δ =
-        let z = exact o (number-in (value δ a)) (number-in (value δ b)) in
-        grows-binding δ x _ (grows-stepping false _ (grows-required (fits z) 24 (num z)))
-    line-grows (call x f us) δ = grows-binding δ x _ (grows-stepping false _ (calls f (map (value δ) us)))
-    line-grows (literal x d us) δ = grows-binding δ x _ (grows-stepping true _ (grows-give (list (map (value δ) us))))
-    line-grows (index x a b) δ =
-        let vs = items (value δ a) in
-        let i = number-in (value δ b) in
-        grows-binding δ x _
-        (grows-stepping false _ (grows-required (inside i (length vs)) 23 (getD vs (natAbs i) (num (pos 0)))))
-    line-grows (length-of x a) δ =
-        grows-binding δ x _ (grows-stepping false _ (grows-give (num (pos (length (items (value δ a)))))))
+    line-grows (leaf x l us) δ = grows-binding δ x _ (grows-leaf callee calls l (map (value δ) us))
     line-grows (if-else x g t e) δ =
         grows-binding δ x _ (grows-if (value δ g) (run callee t δ) (run callee e δ) (run-grows t δ) (run-grows e δ))
-    line-grows (map-over x p a t) δ =
-        grows-binding δ x _ (grows-map (value δ a) (λ w. run callee t (updated δ p w))
-        (λ w. run-grows t (updated δ p w)))
+    line-grows (loop x k ps us t) δ =
+        grows-binding δ x _ (grows-loop k (map (value δ) us) (λ ws. run callee t (binding ps ws δ))
+        (λ ws. run-grows t (binding ps ws δ)))
     line-grows (retain x) δ = grows-give δ
     line-grows (release x) δ = grows-give δ
 
-pub running-grows : (fs : Script) (n : ℕ) → CalleeGrows (running fs n)
+pub running-grows : (p : Program) (n : ℕ) → CalleeGrows (running p n)
 unfolding running
-running-grows fs zero f vs m = later-same m
-running-grows fs (suc n) f vs m =
-    run-grows (running fs n) (running-grows fs n) (getD (map (routine fs) fs) f no-routine .tree) (values-from vs 0) m
+running-grows p zero f vs m = later-same m
+running-grows p (suc n) f vs m =
+    run-grows (running p n) (running-grows p n) (routine-of p f .tree) (values-from vs 0) m
 
 pub meaning-grows : (fs : Script) (n : ℕ) → CalleeGrows (meaning fs n)
 meaning-grows fs n f vs m =
-    subst (λ o. Later m (meter-of o)) (running-is-meaning fs n f vs m) (running-grows fs n f vs m)
+    subst (λ o. Later m (meter-of o)) (running-is-meaning fs n f vs m) (running-grows (program fs) n f vs m)
 
 -- ---- the steps of a trace that has grown
 

@@ -1,10 +1,10 @@
 -- The parts of a packed answer, read back.
-use Prim.Native.Nat.{ℕ, zero, suc, _+_, _*_, _/_, _%_, _^_, _<_, _≤_}
+use Prim.Native.Nat.{ℕ, _^_, _<_}
 use native.Mathlib.Omega.{arith}
-use mathlib.Core.Path.{_≡_, refl}
+use mathlib.Core.Path.{_≡_}
 use mathlib.Core.Logic.{_≢_}
-use mathlib.Core.Option.{Option, none, some}
-use borrow.Author.Tests.{eq-eqb, ne-eqb}
+use mathlib.Core.Option.{none, some}
+use borrow.Author.Tests.{ne-eqb}
 use Rattle.semantics.specs.Calls.{packed, number-of, steps-of}
 use Rattle.semantics.specs.Ledger.{dry-steps}
 

@@ -3,8 +3,8 @@
 use Prim.Native.Nat.{ℕ, _≤_}
 use native.Mathlib.Omega.{arith}
 use mathlib.Core.Bool.{true}
-use mathlib.Core.Path.{_≡_, ap, subst, sym}
-use mathlib.Core.List.{List, []}
+use mathlib.Core.Path.{_≡_, subst, sym}
+use mathlib.Core.List.{List}
 use lib.IntN.{ℤ}
 use lib.ListN.{length}
 use lib.Dec.{leb}
@@ -12,17 +12,16 @@ use borrow.Author.Tests.{leb-true}
 use Rattle.semantics.specs.Syntax.{Script, main-depth}
 use Rattle.semantics.specs.Value.{Value, numbers}
 use Rattle.semantics.specs.Meaning.{Meter, main-meaning}
-use Rattle.semantics.specs.Store.{Store, cell-count}
+use Rattle.semantics.specs.Store.{Store}
 use Rattle.semantics.specs.Annotate.{code}
-use Rattle.semantics.specs.Machine.{State, delivery, starting}
+use Rattle.semantics.specs.Machine.{State, program, delivery, starting}
 use Rattle.semantics.specs.Calls.{accepted, judged, code-fits, request-fits}
-use Rattle.store_laws.specs.Tests.{both-hold}
-use Rattle.sound_annotation.specs.Accepting.{functions-disciplined, main-shape-of}
+use Rattle.semantics.specs.Demands.{value-of}
+use Rattle.sound_base.specs.Tests.{both-hold}
+use Rattle.sound_annotation.specs.Programs.{program-disciplined, program-frugal}
 use Rattle.sound_machine.specs.Agreement.{Start}
-use Rattle.sound_machine.specs.Calls.{ScriptDisciplined}
-use Rattle.sound_machine.specs.Size.{function-lines}
 use Rattle.sound_machine.specs.Totals.{Finished}
-use Rattle.sound_machine.specs.Delivery.{Delivers, delivery-sound}
+use Rattle.sound_machine.specs.Delivery.{Delivers, delivery-sound, script-delivery}
 use Rattle.soundness.specs.Settled.{Settled}
 
 -- code that fits fewer lines fits 4,096
@@ -35,28 +34,29 @@ unfolding request-fits
 few-readings readings budget e =
     leb-true (length readings) 16 (both-hold (leb (length readings) 16) (leb budget 1000000) e .0)
 
+-- where a delivery of a script begins; its code is frugal
+abbrev pub start-of : ℕ → Store → Start
+start-of budget σ = record { budget = budget; store = σ; frugal = true }
+
 -- a finished delivery leaves a settled store
 pub finished-settled : {budget d : ℕ} {σ : Store} {s : State} {v w : Value} {m : Meter} → Settled d σ v →
-    Finished (record { budget = budget; store = σ }) d s w m → Settled d (s .store) w
+    Finished (start-of budget σ) d s w m → Settled d (s .store) w
 finished-settled settled q = record {
   rests = q .rests;
   value = q .value;
   cells = subst (λ n. 1 ≤ n) (sym (q .clean .cells)) (settled .cells);
 }
 
-module _ (node : ℕ) (file : List ℕ) (fs : Script) (ok : judged node file ≡ accepted fs) (short : length (code fs) ≤ 4096) where
-  disciplined : ScriptDisciplined fs
-  disciplined = record {
-    functions = functions-disciplined node file fs ok;
-    short = λ f. omega (arith, function-lines fs f, short);
-  }
-
+module _ (node : ℕ) (file : List ℕ) (fs : Script) (ok : judged node file ≡ accepted fs)
+    (short : length (code fs) ≤ 4096) where
   pub delivers : {σ : Store} {v : Value} → Settled (main-depth fs) σ v → (readings : List ℤ) (budget : ℕ) →
       request-fits readings budget ≡ true →
-      Delivers (record { budget = budget; store = σ }) (main-depth fs) (delivery fs readings (starting budget σ))
+      Delivers (start-of budget σ) (main-depth fs) (delivery (program fs) readings (starting budget σ))
       (main-meaning fs v (numbers readings) budget)
+  unfolding program
   delivers {σ} {v} settled readings budget fits =
-      subst (λ w. Delivers (record { budget = budget; store = σ }) (main-depth fs) (delivery fs readings (starting budget σ))
+      subst (λ w. Delivers (start-of budget σ) (main-depth fs) (delivery (program fs) readings (starting budget σ))
       (main-meaning fs w (numbers readings) budget)) (settled .value)
-      (delivery-sound fs disciplined (ap (λ g. g .parameters) (main-shape-of node file fs ok .0))
-      readings (few-readings readings budget fits) budget σ (settled .rests))
+      (script-delivery fs (value-of σ (main-depth fs) (σ .totals)) (numbers readings) budget
+      (delivery-sound (program fs) (program-disciplined node file fs ok short) true
+      (λ _. program-frugal node file fs ok) readings (few-readings readings budget fits) budget σ (settled .rests)))

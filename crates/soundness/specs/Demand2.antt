@@ -1,21 +1,15 @@
 -- Demand 2: running the code does what the script means, unless a cell is wanting.
-use Prim.Native.Nat.{ℕ, zero, suc, _-_, _≤_}
+use Prim.Native.Nat.{ℕ, _-_}
 use native.Mathlib.Omega.{arith}
 use mathlib.Core.Bool.{Bool, true, false, cond}
 use mathlib.Core.Path.{_≡_, refl, subst, _∙_}
-use mathlib.Core.Logic.{_⊎_, inl, inr}
 use mathlib.Core.List.{List}
-use Rattle.semantics.specs.Outcome.{Outcome, done, stop}
 use Rattle.semantics.specs.Syntax.{Script, main-depth}
-use Rattle.semantics.specs.Value.{Value}
-use Rattle.semantics.specs.Meaning.{Meter}
 use Rattle.semantics.specs.Words.{store-of}
-use Rattle.semantics.specs.Machine.{State}
 use Rattle.semantics.specs.Calls.{Verdict, accepted, refused, judged, admitted, admitted-if, code-fits}
-use Rattle.semantics.specs.Ledger.{wants-cell}
-use Rattle.semantics.specs.Demands.{value-of, Does, Demand2}
-use Rattle.soundness.specs.Settled.{sound-settles}
+use Rattle.semantics.specs.Demands.{Demand2}
 use Rattle.sound_machine.specs.Delivery.{delivers-does}
+use Rattle.soundness.specs.Settled.{sound-settles}
 use Rattle.soundness.specs.Delivering.{few-lines, delivers}
 
 -- what passes 1 to 9 passes 1 to 8, and fits
@@ -44,5 +38,5 @@ demand-2 node file lines fs short passes slots heads sound readings budget fit =
     let a = admitted-says node file lines fs passes in
     let σ = store-of slots heads in
     let d = main-depth fs in
-    delivers-does (delivers node file fs (a .judged-so) (few-lines fs lines short (a .fits))
+    delivers-does refl (delivers node file fs (a .judged-so) (few-lines fs lines short (a .fits))
     (sound-settles d slots heads sound) readings budget fit)

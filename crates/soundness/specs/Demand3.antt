@@ -1,27 +1,26 @@
 -- Demand 3: the whole list of deliveries, one after another from the opening.
-use Prim.Native.Nat.{ℕ, zero, suc, _<_, _≤_}
+use Prim.Native.Nat.{ℕ, _<_, _≤_}
 use native.Mathlib.Omega.{arith}
-use mathlib.Core.Bool.{Bool, true, false, cond, _&&_}
+use mathlib.Core.Bool.{Bool, true, false, cond}
 use mathlib.Core.Path.{_≡_, refl}
 use mathlib.Core.List.{List, [], _∷_}
 use lib.IntN.{ℤ}
-use lib.Dec.{ltb, eqb}
+use lib.Dec.{ltb}
 use borrow.Author.Tests.{ltb-true}
 use Rattle.semantics.specs.Syntax.{Script, main-depth}
 use Rattle.semantics.specs.Value.{Value, first-totals}
 use Rattle.semantics.specs.Words.{store-of, cells-in, shaped}
-use Rattle.semantics.specs.Machine.{delivery, starting, delivered}
+use Rattle.semantics.specs.Machine.{program, delivery, starting, delivered}
 use Rattle.semantics.specs.Calls.{packed, number-of, accepted, refused, judged, admitted, room, code-fits, request-fits}
 use Rattle.semantics.specs.Calls.{StoreReply, refusing, answering, open-for, deliver-for, engine-open, engine-deliver}
 use Rattle.semantics.specs.Ledger.{Delivery, entry, meant, value-after}
 use Rattle.semantics.specs.Demands.{reply-to, entry-for, History, Demand3}
-use Rattle.store_laws.specs.Tests.{both-hold}
-use Rattle.soundness.specs.Answers.{number-packed}
-use Rattle.soundness.specs.Settled.{opened-settles}
+use Rattle.sound_base.specs.Tests.{both-hold}
 use Rattle.sound_annotation.specs.Accepting.{main-shape-of}
+use Rattle.soundness.specs.Answers.{number-packed}
+use Rattle.soundness.specs.Settled.{opened-settles, settled-rests}
 use Rattle.soundness.specs.Delivering.{few-lines, delivers}
 use Rattle.soundness.specs.Step.{Standing, standing-settled, settled-standing, Stepped, refused-step, worked-step}
-use Rattle.soundness.specs.Settled.{settled-rests}
 
 module _ (node : ℕ) (file : List ℕ) (fs : Script) (ok : judged node file ≡ accepted fs) where
   -- an accepted file is refused by 9 alone
@@ -47,7 +46,7 @@ module _ (node : ℕ) (file : List ℕ) (fs : Script) (ok : judged node file ≡
         by true e true f =
             rw (admitted-is lines, e, f, stood .sound)
             (worked-step fs slots heads v δ stood (δ .kinds) (δ .operands) f
-            (delivery fs (δ .readings) (starting (δ .budget) (store-of slots heads))) (meant fs v δ) refl refl
+            (delivery (program fs) (δ .readings) (starting (δ .budget) (store-of slots heads))) (meant fs v δ) refl refl
             (delivers node file fs ok (few-lines fs lines (omega arith) e) (standing-settled stood) (δ .readings)
             (δ .budget) f))
 
@@ -57,7 +56,8 @@ module _ (node : ℕ) (file : List ℕ) (fs : Script) (ok : judged node file ≡
   histories (δ ∷ δs) slots heads v s =
       let one = one-delivery slots heads v s δ in
       let r = reply-to node file fs slots heads δ in
-      (one .agrees, histories δs (r .slots) (r .heads) (value-after v (entry-for node file fs slots heads v δ)) (one .stands))
+      let w = value-after v (entry-for node file fs slots heads v δ) in
+      (one .agrees, histories δs (r .slots) (r .heads) w (one .stands))
 
   module _ (kinds : List ℕ) (operands slots : List ℤ) (heads : List ℕ) where
     abbrev opening : StoreReply
@@ -90,8 +90,8 @@ module _ (node : ℕ) (file : List ℕ) (fs : Script) (ok : judged node file ≡
             rw (admitted-is (room kinds operands), e, f) (λ z. no-refusal 11 (omega arith) (omega arith) z)
         by true e true f =
             let shallow = main-shape-of node file fs ok .1 in
-            rw (admitted-is (room kinds operands), e, f)
-            (λ _. settled-standing (opened-settles (cells-in slots heads) (main-depth fs) (some-cells f) few-cells shallow))
+            let settled = opened-settles (cells-in slots heads) (main-depth fs) (some-cells f) few-cells shallow in
+            rw (admitted-is (room kinds operands), e, f) (λ _. settled-standing settled)
 
 pub demand-3 : Demand3
 demand-3 node file fs ok kinds operands slots heads answered δs =

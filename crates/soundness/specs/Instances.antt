@@ -1,15 +1,15 @@
 -- The demands' hypotheses can be met: the theorems at the printed script, and at a script with a map and a call.
-use Prim.Native.Nat.{ℕ, zero, suc}
+use Prim.Native.Nat.{ℕ}
 use mathlib.Core.Path.{_≡_, refl}
 use mathlib.Core.List.{List, [], _∷_}
 use lib.IntN.{ℤ, pos}
 use lib.ListN.{replicate}
 use Rattle.semantics.specs.Number.{sum}
-use Rattle.semantics.specs.Syntax.{number, name, operation, call, literal, index, length-of, if-else, map-over, none}
-use Rattle.semantics.specs.Syntax.{more, Script}
+use Rattle.semantics.specs.Kinds.{operation, call, literal, index, length-of, mapping}
+use Rattle.semantics.specs.Syntax.{number, name, leaf, if-else, loop, none, more, Expr, Script}
 use Rattle.semantics.specs.Value.{first-totals}
 use Rattle.semantics.specs.Code.{Row, row}
-use Rattle.semantics.specs.Calls.{accepted, judged, number-of, engine-open}
+use Rattle.semantics.specs.Calls.{accepted, judged, number-of, StoreReply, engine-open}
 use Rattle.semantics.specs.Ledger.{Delivery}
 use Rattle.semantics.specs.Demands.{History}
 use Rattle.semantics.specs.Computing.{computing}
@@ -17,21 +17,30 @@ use Rattle.semantics.specs.Trials.{printed-file}
 use Rattle.semantics.specs.Slips.{file-of, low-first, operand-bytes}
 use Rattle.soundness.specs.Demand3.{demand-3}
 
+-- the first element of an array, by its name
+abbrev first : ℕ → Expr
+first x = leaf index (more (name x) (more (number (pos 0)) none))
+
 -- the printed script: main(t: 1, r: 1): 1 = if length(t) then {t[0] + r[0]} else {r[0]}
 unfoldable pub printed-script : Script
 printed-script = record {
   parameters = record { id = 0; depth = 1 } ∷ record { id = 1; depth = 1 } ∷ [];
   result = 1;
-  body = if-else (length-of (name 0))
-      (literal 0 (more (operation sum (index (name 0) (number (pos 0))) (index (name 1) (number (pos 0)))) none))
-      (literal 0 (more (index (name 1) (number (pos 0))) none));
+  body = if-else (leaf length-of (more (name 0) none))
+      (leaf (literal 0) (more (leaf (operation sum) (more (first 0) (more (first 1) none))) none))
+      (leaf (literal 0) (more (first 1) none));
 } ∷ []
 
 printed-accepted : judged 0 printed-file ≡ accepted printed-script
 unfolding computing printed-file printed-script
 printed-accepted = refl
 
-printed-opens : number-of (engine-open 0 printed-file (replicate 33 0) (replicate 33 (pos 0)) (replicate 33 (pos 0)) (replicate 9 0) .answer) ≡ 0
+-- a store of 2 cells just opened for it
+abbrev printed-opening : StoreReply
+printed-opening =
+    engine-open 0 printed-file (replicate 33 0) (replicate 33 (pos 0)) (replicate 33 (pos 0)) (replicate 9 0)
+
+printed-opens : number-of (printed-opening .answer) ≡ 0
 unfolding computing printed-file
 printed-opens = refl
 
@@ -46,11 +55,11 @@ mapped-script =
     record {
       parameters = record { id = 0; depth = 2 } ∷ record { id = 1; depth = 1 } ∷ [];
       result = 2;
-      body = map-over 2 (name 1) (call 1 (more (name 2) none));
+      body = loop mapping (2 ∷ []) (more (name 1) none) (leaf (call 1) (more (name 2) none));
     } ∷ record {
       parameters = record { id = 0; depth = 0 } ∷ [];
       result = 1;
-      body = literal 0 (more (name 0) (more (name 0) none));
+      body = leaf (literal 0) (more (name 0) (more (name 0) none));
     } ∷ []
 
 mapped-accepted : judged 0 (file-of 2 mapped-nodes) ≡ accepted mapped-script
@@ -59,9 +68,7 @@ mapped-accepted = refl
 
 -- every list of deliveries with the printed script, on 2 cells
 pub printed-history : (δs : List Delivery) → History 0 printed-file printed-script δs
-    (engine-open 0 printed-file (replicate 33 0) (replicate 33 (pos 0)) (replicate 33 (pos 0)) (replicate 9 0) .slots)
-    (engine-open 0 printed-file (replicate 33 0) (replicate 33 (pos 0)) (replicate 33 (pos 0)) (replicate 9 0) .heads)
-    (first-totals 1)
+    (printed-opening .slots) (printed-opening .heads) (first-totals 1)
 unfolding printed-script
 printed-history δs = demand-3 0 printed-file printed-script printed-accepted
     (replicate 33 0) (replicate 33 (pos 0)) (replicate 33 (pos 0)) (replicate 9 0) printed-opens δs
@@ -74,4 +81,5 @@ pub mapped-history : (kinds : List ℕ) (operands slots : List ℤ) (heads : Lis
     (engine-open 0 (file-of 2 mapped-nodes) kinds operands slots heads .heads)
     (first-totals 2)
 unfolding mapped-script
-mapped-history kinds operands slots heads z δs = demand-3 0 (file-of 2 mapped-nodes) mapped-script mapped-accepted kinds operands slots heads z δs
+mapped-history kinds operands slots heads z δs =
+    demand-3 0 (file-of 2 mapped-nodes) mapped-script mapped-accepted kinds operands slots heads z δs

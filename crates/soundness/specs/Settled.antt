@@ -1,12 +1,11 @@
 -- A store between deliveries: sound, with totals of a value. What test 11, opening and a stop make of it.
-use Prim.Native.Nat.{ℕ, zero, suc, _<_, _≤_}
-use native.Mathlib.Omega.{arith}
-use mathlib.Core.Bool.{Bool, true}
+use Prim.Native.Nat.{ℕ, _≤_}
+use mathlib.Core.Bool.{true}
 use mathlib.Core.Path.{_≡_, refl, sym, subst, _∙_}
-use mathlib.Core.List.{List, [], _∷_}
+use mathlib.Core.List.{List}
 use lib.IntN.{ℤ}
 use Rattle.semantics.specs.Value.{Value, first-totals}
-use Rattle.semantics.specs.Store.{Store, cell, cell-count, relinked, opened}
+use Rattle.semantics.specs.Store.{Store, cell-count, relinked, opened}
 use Rattle.semantics.specs.Words.{store-of, slot-words, head-words}
 use Rattle.semantics.specs.Sound.{sound-words}
 use Rattle.semantics.specs.Demands.{value-of, AtRest, LeftAlone}

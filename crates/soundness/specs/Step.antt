@@ -1,9 +1,9 @@
 -- One delivery: from a store that the ledger agrees with, to the next.
-use Prim.Native.Nat.{ℕ, zero, suc, _-_, _^_, _<_, _≤_}
+use Prim.Native.Nat.{ℕ, _-_, _^_, _<_}
 use native.Mathlib.Omega.{arith}
-use mathlib.Core.Bool.{Bool, true, false, _&&_}
+use mathlib.Core.Bool.{true}
 use mathlib.Core.Path.{_≡_, refl, sym, subst, _∙_}
-use mathlib.Core.List.{List, []}
+use mathlib.Core.List.{List}
 use lib.IntN.{ℤ}
 use lib.ListN.{length}
 use lib.Dec.{leb}
@@ -14,19 +14,19 @@ use Rattle.semantics.specs.Value.{Value}
 use Rattle.semantics.specs.Meaning.{Meter}
 use Rattle.semantics.specs.Store.{Store, cells-taken, relinked}
 use Rattle.semantics.specs.Words.{store-of, slot-words, head-words}
-use Rattle.semantics.specs.Sound.{sound-words, free-list}
-use Rattle.semantics.specs.Machine.{State, delivery, starting, state-of, delivered-by}
+use Rattle.semantics.specs.Sound.{sound-words}
+use Rattle.semantics.specs.Machine.{State, program, delivery, delivered, starting, state-of, delivered-by}
 use Rattle.semantics.specs.Calls.{StoreReply, request-fits, refusing, answering, deliver-in}
 use Rattle.semantics.specs.Ledger as L
 use Rattle.semantics.specs.Ledger.{Delivery, Entry, worked, meant, entry-by, dry-steps, wants-cell, value-after}
-use Rattle.semantics.specs.Demands.{value-of, Agrees, Worked, LeftAlone, OutOfCells}
-use Rattle.store_laws.specs.Tests.{both-hold}
+use Rattle.semantics.specs.Demands.{value-of, Agrees, Worked, OutOfCells}
+use Rattle.sound_base.specs.Tests.{both-hold}
+use Rattle.sound_machine.specs.Agreement.{Start, Clean}
+use Rattle.sound_machine.specs.Delivery.{Delivers, finishes, stops, runs-dry}
 use Rattle.soundness.specs.Answers.{number-packed, not-dry, dry-packed}
 use Rattle.soundness.specs.Settled.{Settled, sound-settles, settled-sound, settled-words, settled-rests}
 use Rattle.soundness.specs.Settled.{relinked-settles, relinked-alone}
-use Rattle.sound_machine.specs.Agreement.{Start, Clean}
-use Rattle.sound_machine.specs.Delivery.{Delivers, finishes, stops, runs-dry}
-use Rattle.soundness.specs.Delivering.{finished-settled}
+use Rattle.soundness.specs.Delivering.{start-of, finished-settled}
 
 -- the store in two arrays is sound, and its totals have the ledger's value
 pub record Standing (fs : Script) (slots : List ℤ) (heads : List ℕ) (v : Value) : Type 0 where
@@ -53,10 +53,10 @@ module _ (fs : Script) (slots : List ℤ) (heads : List ℕ) (v : Value) (δ : D
   before = store-of slots heads
 
   abbrev start : Start
-  start = record { budget = δ .budget; store = before }
+  start = start-of (δ .budget) before
 
   abbrev run : Outcome State (Unit {0})
-  run = delivery fs (δ .readings) (starting (δ .budget) before)
+  run = delivery (program fs) (δ .readings) (starting (δ .budget) before)
 
   -- a reply and an entry that agree, and stand again
   pub record Stepped (r : StoreReply) (e : Entry) : Type 0 where
@@ -65,10 +65,14 @@ module _ (fs : Script) (slots : List ℤ) (heads : List ℕ) (v : Value) (δ : D
 
   -- what the machine did, by the end of its run
   worked-as : (σ′ : Store) (o : Outcome State (Unit {0})) → run ≡ o → Clean start (state-of o) →
-      (number steps : ℕ) → (number ≡ 0 → σ′ ≡ state-of o .store) →
+      (number steps : ℕ) →
+      delivered-by (δ .budget) before o ≡ record { number = number; steps = steps; store = σ′ } →
+      (number ≡ 0 → σ′ ≡ state-of o .store) →
       (number ≡ 25 → wants-cell steps (meant fs v δ) ≡ true) → (number ≡ 25 → OutOfCells (state-of o)) →
       Worked fs before σ′ v δ number steps
-  worked-as σ′ o e clean number steps same wanted out = record {
+  unfolding delivered
+  worked-as σ′ o e clean number steps told same wanted out = record {
+    ran = rw e told;
     untouched = rw e (clean .untouched);
     unswept = λ z. rw (e, same z) (clean .replays);
     wanted = wanted;
@@ -102,10 +106,13 @@ module _ (fs : Script) (slots : List ℤ) (heads : List ℕ) (v : Value) (δ : D
           agrees = record {
             answered = rw back;
             rests = rw back (settled-rests settled);
-            left-alone = λ f. absurd (f (number-packed 0 0 (δ .budget - s .left) (cells-taken (s .store)) (omega arith)));
+            left-alone = λ f.
+                absurd (f (number-packed 0 0 (δ .budget - s .left) (cells-taken (s .store)) (omega arith)));
             worked-so = λ n k x q.
                 let z : 0 ≡ n = cc in
-                worked-as (store-of (slot-words (s .store)) (head-words (s .store))) (done u s) e clean n k (λ _. back)
+                let j : δ .budget - s .left ≡ k = cc in
+                worked-as (store-of (slot-words (s .store)) (head-words (s .store))) (done u s) e clean n k
+                (rw (back, sym z, sym j) refl) (λ _. back)
                 (λ y. absurd (omega (arith, z, y))) (λ y. absurd (omega (arith, z, y)));
           };
           stands = settled-standing settled;
@@ -128,8 +135,8 @@ module _ (fs : Script) (slots : List ℤ) (heads : List ℕ) (v : Value) (δ : D
             worked-so = λ m k x q.
                 let y : n ≡ m = cc in
                 let j : δ .budget - s .left ≡ k = cc in
-                worked-as (store-of (slot-words (relinked before)) (head-words (relinked before))) (stop n s) e clean m k
-                (λ z. absurd (omega (arith, z, y)))
+                worked-as (store-of (slot-words (relinked before)) (head-words (relinked before))) (stop n s) e clean m
+                k (rw (back, sym y, sym j) refl) (λ z. absurd (omega (arith, z, y)))
                 (λ z. subst (λ i. wants-cell i (meant fs v δ) ≡ true) j (wanted (y ∙ z)))
                 (λ z. out (y ∙ z));
           };
@@ -148,15 +155,16 @@ module _ (fs : Script) (slots : List ℤ) (heads : List ℕ) (v : Value) (δ : D
         Stepped (replied o) (entry-by fs v δ (dry-steps (replied o .answer)))
     unfolding answering
     worked-step requested o p e m (finishes {u} {s} {v = w} q) =
-        let none = not-dry 0 0 (δ .budget - s .left) (cells-taken (s .store)) (omega arith) (λ z. absurd (omega arith)) in
+        let none = not-dry 0 0 (δ .budget - s .left) (cells-taken (s .store)) (omega arith)
+        (λ z. absurd (omega arith)) in
         rw (none, m, sym (q .left))
         (finished-step u s w e (q .clean) (finished-settled (standing-settled stood) q))
     worked-step requested o p e m (stops {k} {n} {s} q) =
-        let none = not-dry k 0 (δ .budget - s .left) (cells-taken (relinked before)) (omega (arith, q .high))
-        (λ z. absurd (omega (arith, q .high))) in
+        let none = not-dry k 0 (δ .budget - s .left) (cells-taken (relinked before)) (q .stops .high)
+        (q .stops .other) in
         rw (none, m, sym (q .left), sym (q .number))
-        (stopped-step k s (omega (arith, q .low)) e (q .clean) (λ z. absurd (omega (arith, q .high)))
-        (λ z. absurd (omega (arith, q .high))))
-    worked-step requested o p e m (runs-dry {s} out clean wants) =
+        (stopped-step k s (omega (arith, q .stops .low)) e (q .clean) (λ z. absurd (q .stops .other z))
+        (λ z. absurd (q .stops .other z)))
+    worked-step requested o p e m (runs-dry {s} none-free out clean wants) =
         rw (dry-packed (δ .budget - s .left) (cells-taken (relinked before)) (few-steps requested (s .left)))
-        (stopped-step 25 s (omega arith) e clean (λ z. rw m wants) (λ z. out))
+        (stopped-step 25 s (omega arith) e clean (λ z. rw m wants) (λ z. out refl))

@@ -1,6 +1,5 @@
 -- `script_count::count_script` meets its contract, by the laws of `Laws`.
 use Prim.Native.Nat.{_-_}
-use native.Mathlib.Omega.{arith}
 use mathlib.Core.Path.{sym, _∙_}
 use lib.ListN.{length}
 use Rattle.script_count.specs.Count.{crowd}

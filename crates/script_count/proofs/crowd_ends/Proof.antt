@@ -1,6 +1,5 @@
 -- `script_count::crowd_ends` meets its contract.
 use borrow.Author.Tests.{eq-eqb, ne-eqb}
-use borrow.Author.Needs.{needs}
 use Rattle.script_count.proofs.crowd_ends.Statement.{statement}
 use Rattle.script_count.proofs.crowd_ends.Tie as tie
 

@@ -1,5 +1,4 @@
 -- `script_depths::judge` meets its contract, by the laws of `Rules`.
-use mathlib.Core.Path.{_≡_}
 use native.Mathlib.Omega.{arith}
 use Prim.Native.Nat.{ℕ}
 use Rattle.semantics.specs.Types.{Signature}

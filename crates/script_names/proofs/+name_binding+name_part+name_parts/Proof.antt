@@ -1,6 +1,7 @@
 -- `script_names::name_binding`, `script_names::name_part` and `script_names::name_parts` call one another and meet
 -- their contracts, by the laws of `Laws`, `Nodes` and `Turns`.
 -- The measure is the levels left.
+use Rattle.semantics.specs.File.{at-part}
 use lib.ListN.{length-set, length}
 use mathlib.Core.Logic.{inl, inr}
 use Rattle.script_names.proofs.Laws.{no-levels, known-name, unknown-name, binding, no-callee, others, no-node}
@@ -95,11 +96,11 @@ module _ (t : ℕ) where
 
   node-seen : (c : KindKnown) →
       Seen (c .before .before .before .before .before .before .before .before .args .kinds .now)
-      (c .before .before .before .before .before .before .before .before .args .operands .now) 2 13
+      (c .before .before .before .before .before .before .before .before .args .operands .now) at-part
       (c .before .before .before .before .before .before .before .before .args .at) (c .before .kind .given .0 .0)
       (c .before .kind .given .0 .1 .0) (c .before .kind .given .0 .1 .1 .0)
   node-seen c =
-      seen _ _ 2 13 _ (c .before .before .before .node-at .result) (c .before .before .before .node-at .ensures) _ _ _
+      seen _ _ at-part _ (c .before .before .before .node-at .result) (c .before .before .before .node-at .ensures) _ _ _
       (c .before .kind .given .1)
 
   there : (c : KindKnown) →
@@ -107,9 +108,9 @@ module _ (t : ℕ) where
       (c .before .before .before .before .before .before .before .before .args .kinds .now)
   there c =
       inside (c .before .before .before .before .before .before .before .before .args .kinds .now)
-      (c .before .before .before .before .before .before .before .before .args .operands .now) 2 13
+      (c .before .before .before .before .before .before .before .before .args .operands .now) at-part
       (c .before .before .before .before .before .before .before .before .args .at) _ _ _
-      (c .before .before .before .node-at .result) (omega arith) (c .before .before .before .node-at .ensures)
+      (c .before .before .before .node-at .result) (c .before .before .before .node-at .ensures)
       (c .before .kind .given .1)
 
 name-binding-name-part-requires : (t : ℕ) →
@@ -213,8 +214,8 @@ name-part-slice-read-if3 : (t : ℕ) →
     name-part-lts.Need-slice-read-if3 (name-part-claims t) (name-part-at t) name-part.Post
 name-part-slice-read-if3 t c = search needs
 
-name-part-add-t18 : (t : ℕ) → name-part-lts.Need-add-t18 (name-part-claims t) (name-part-at t) name-part.Post
-name-part-add-t18 t c = omega (arith, there t (c .before .before .before))
+name-part-add-t19 : (t : ℕ) → name-part-lts.Need-add-t19 (name-part-claims t) (name-part-at t) name-part.Post
+name-part-add-t19 t c = omega (arith, there t (c .before .before .before))
 
 name-part-returns-2 : (t : ℕ) → name-part-lts.Need-returns-2 (name-part-claims t) (name-part-at t) name-part.Post
 name-part-returns-2 t c = (
@@ -482,7 +483,7 @@ pub +name-binding+name-part+name-parts-spec : {M : Type 1} → statement M
     (name-part-enum-known-kind t)
     (name-part-cast-if3 t)
     (name-part-slice-read-if3 t)
-    (name-part-add-t18 t)
+    (name-part-add-t19 t)
     (name-part-returns-2 t)
     (name-part-returns-3 t)
     (name-part-is-binding-requires t)

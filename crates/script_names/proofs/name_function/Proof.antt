@@ -1,4 +1,5 @@
 -- `script_names::name_function` meets its contract, by the laws of `Laws` and `Nodes`.
+use Rattle.semantics.specs.File.{at-function}
 use Rattle.script_names.proofs.Laws.{function-next, function-none}
 use Rattle.script_read.proofs.Nodes.{seen, inside}
 use native.Mathlib.Omega.{arith}
@@ -20,8 +21,8 @@ add-name-parameters : tie.Need-add-name-parameters
 add-name-parameters c = let a = c .before .before .before .before .before .before .before .args in
     omega (
       arith,
-      inside (a .kinds .now) (a .operands .now) 0 0 (a .at) _ _ _
-          (c .before .before .before .before .node-at .result) (omega arith)
+      inside (a .kinds .now) (a .operands .now) at-function (a .at) _ _ _
+          (c .before .before .before .before .node-at .result)
           (c .before .before .before .before .node-at .ensures) (c .before .before .count .given .1),
     )
 
@@ -37,7 +38,7 @@ enum-told-2 c = search needs
 returns : tie.Need-returns
 returns c = let a = c .before .before .before .before .before .before .before .before .before .args in
     function-next (a .kinds .now) (a .operands .now) (a .functions)
-    (seen (a .kinds .now) (a .operands .now) 0 0 (a .at)
+    (seen (a .kinds .now) (a .operands .now) at-function (a .at)
     (c .before .before .before .before .before .before .node-at .result)
     (c .before .before .before .before .before .before .node-at .ensures) _ _ _
     (c .before .before .before .before .count .given .1)) (c .before .name-parameters .result)

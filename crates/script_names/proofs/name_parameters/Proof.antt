@@ -1,4 +1,5 @@
 -- `script_names::name_parameters` meets its contract, by the laws of `Laws` and `Nodes`.
+use Rattle.semantics.specs.File.{at-parameter}
 use Rattle.script_names.proofs.Laws.{parameter-known, parameter-new, parameter-none, body-next}
 use Rattle.script_names.specs.Walk.{scope, names-from}
 use Rattle.script_read.proofs.Nodes.{seen, inside}
@@ -45,7 +46,7 @@ returns c = let a = c .before .before .before .before .before .before .before .b
     (c .before .before .before .before .before .before .before .loop .p)
     (c .before .before .before .before .before .before .before .loop .known) (v .2)
     (c .before .before .before .before .before .before .loop-test .taken)
-    (seen (a .kinds .now) (a .operands .now) 1 1 (c .before .before .before .before .before .before .before .loop .p)
+    (seen (a .kinds .now) (a .operands .now) at-parameter (c .before .before .before .before .before .before .before .loop .p)
     (c .before .before .before .before .before .node-at .result)
     (c .before .before .before .before .before .node-at .ensures) _ _ _ (c .before .before .before .low .given .1))
     (c .if1 .taken)
@@ -57,9 +58,9 @@ add-p : tie.Need-add-p Inv-loop μ-loop
 add-p c = let a = c .before .before .before .before .before .before .before .before .before .before .before .args in
     omega (
       arith,
-      inside (a .kinds .now) (a .operands .now) 1 1
+      inside (a .kinds .now) (a .operands .now) at-parameter
           (c .before .before .before .before .before .before .before .loop .p) _ _ _
-          (c .before .before .before .before .before .node-at .result) (omega arith)
+          (c .before .before .before .before .before .node-at .result)
           (c .before .before .before .before .before .node-at .ensures) (c .before .before .before .low .given .1),
     )
 
@@ -108,7 +109,7 @@ loop-again c = let a =
           (c .before .before .before .before .before .before .before .loop .p)
           (c .before .before .before .before .before .before .before .loop .known) (v .2)
           (c .before .before .before .before .before .before .loop-test .taken)
-          (seen (a .kinds .now) (a .operands .now) 1 1
+          (seen (a .kinds .now) (a .operands .now) at-parameter
           (c .before .before .before .before .before .before .before .loop .p)
           (c .before .before .before .before .before .node-at .result)
           (c .before .before .before .before .before .node-at .ensures) _ _ _

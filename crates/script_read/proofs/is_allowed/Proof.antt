@@ -1,4 +1,8 @@
 -- `script_read::is_allowed` meets its contract.
+use Rattle.semantics.specs.File.{part-kinds}
+use lib.ListN.{List·getD-eq-default}
+use mathlib.Core.Bool.{false}
+use mathlib.Core.Path.{sym}
 use borrow.Author.Needs.{needs}
 use Rattle.script_read.proofs.is_allowed.Statement.{statement}
 use Rattle.script_read.proofs.is_allowed.Tie as tie
@@ -12,8 +16,8 @@ enum-told-2 c = search needs
 enum-told-3 : tie.Need-enum-told-3
 enum-told-3 c = search needs
 
-is-part-requires : tie.Need-is-part-requires
-is-part-requires c κs = search needs
+array-read-result : tie.Need-array-read-result
+array-read-result c = search needs
 
 returns : tie.Need-returns
 returns c = simp (c .enum-told .given .1)
@@ -22,9 +26,20 @@ returns-2 : tie.Need-returns-2
 returns-2 c = simp (c .enum-told2 .given .1)
 
 returns-3 : tie.Need-returns-3
-returns-3 c = search needs
+returns-3 c = rw (c .before .enum-told3 .given .1)
+
+returns-4 : tie.Need-returns-4
+returns-4 c = rw (c .before .enum-told3 .given .1) (sym (List·getD-eq-default part-kinds false (c .if1 .left)))
 
 pub is-allowed-spec : {M : Type 1} → statement M
 is-allowed-spec =
     tie.close
-    (tie.spec enum-told enum-told-2 enum-told-3 is-part-requires returns returns-2 returns-3)
+    (tie.spec
+    enum-told
+    enum-told-2
+    enum-told-3
+    array-read-result
+    returns
+    returns-2
+    returns-3
+    returns-4)

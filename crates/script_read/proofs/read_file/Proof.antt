@@ -2,7 +2,6 @@
 use Rattle.script_read.proofs.Whole.{too-short, out-of-range, other-length, whole-file}
 use Prim.Native.Nat.{_-_}
 use borrow.Author.Tests.{not-true, not-false}
-use native.Mathlib.Omega.{arith}
 use mathlib.Core.Path.{sym, _∙_}
 use borrow.Author.Needs.{needs}
 use Rattle.script_read.proofs.read_file.Statement.{statement}

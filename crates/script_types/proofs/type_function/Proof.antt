@@ -1,4 +1,5 @@
 -- `script_types::type_function` meets its contract, by the laws of `Laws` and `Nodes`.
+use Rattle.semantics.specs.File.{at-function}
 use native.Mathlib.Omega.{arith}
 use mathlib.Core.Logic.{inl, inr}
 use Rattle.script_read.proofs.Nodes.{seen, inside}
@@ -17,8 +18,8 @@ add-type-parameters : tie.Need-add-type-parameters
 add-type-parameters c =
     omega (
       arith,
-      inside _ (c .before .before .before .before .before .before .before .args .operands .now) 0
-          0 _ _ _ _ (c .before .before .before .node-at .result) (omega arith)
+      inside _ (c .before .before .before .before .before .before .before .args .operands .now)
+          at-function _ _ _ _ (c .before .before .before .node-at .result)
           (c .before .before .before .node-at .ensures) (c .before .count .given .1),
     )
 
@@ -39,7 +40,7 @@ enum-told-2 c = search needs
 
 returns : tie.Need-returns
 returns c =
-    result-fits _ _ _ (seen _ _ 0 0 _
+    result-fits _ _ _ (seen _ _ at-function _
     (c .before .before .before .before .before .before .before .before .node-at .result)
     (c .before .before .before .before .before .before .before .before .node-at .ensures) _ _ _
     (c .before .before .before .before .before .before .count .given .1)) _
@@ -48,7 +49,7 @@ returns c =
 
 returns-2 : tie.Need-returns-2
 returns-2 c =
-    result-differs _ _ _ (seen _ _ 0 0 _
+    result-differs _ _ _ (seen _ _ at-function _
     (c .before .before .before .before .before .before .before .before .node-at .result)
     (c .before .before .before .before .before .before .before .before .node-at .ensures) _ _ _
     (c .before .before .before .before .before .before .count .given .1)) _
@@ -57,7 +58,7 @@ returns-2 c =
 
 returns-3 : tie.Need-returns-3
 returns-3 c =
-    body-faulty _ _ _ (seen _ _ 0 0 _
+    body-faulty _ _ _ (seen _ _ at-function _
     (c .before .before .before .before .before .before .before .node-at .result)
     (c .before .before .before .before .before .before .before .node-at .ensures) _ _ _
     (c .before .before .before .before .before .count .given .1)) _

@@ -1,4 +1,5 @@
 -- `script_types::type_parameters` meets its contract, by the laws of `Laws` and `Nodes`.
+use Rattle.semantics.specs.File.{at-parameter}
 use Prim.Native.Nat.{_≤_}
 use native.Mathlib.Omega.{arith}
 use mathlib.Core.Path.{_≡_, refl, sym, _∙_}
@@ -39,9 +40,10 @@ add-p : tie.Need-add-p Inv-loop μ-loop
 add-p c =
     omega (
       arith,
-      inside _ (c .before .before .before .before .before .before .before .before .before .args .operands .now) 1 1
+      inside _ (c .before .before .before .before .before .before .before .before .before .args .operands .now)
+          at-parameter
           (c .before .before .before .before .before .loop .p) _ _ _ (c .before .before .before .node-at .result)
-          (omega arith) (c .before .before .before .node-at .ensures) (c .before .low .given .1),
+          (c .before .before .before .node-at .ensures) (c .before .low .given .1),
     )
 
 enum-told : tie.Need-enum-told Inv-loop μ-loop
@@ -75,7 +77,7 @@ loop-again c = (
   parameter-goes _ _ _ _ _
       _ _ (c .before .before .before .before .before .loop .inv .2)
       (c .before .before .before .before .loop-test .taken)
-      (seen _ _ 1 1 _ (c .before .before .before .node-at .result) (c .before .before .before .node-at .ensures) _ _ _
+      (seen _ _ at-parameter _ (c .before .before .before .node-at .result) (c .before .before .before .node-at .ensures) _ _ _
       (c .before .low .given .1)) (c .before .before .before .before .before .loop .inv .1) (omega arith),
 )
 

@@ -1,4 +1,5 @@
 -- What `type_part` has to show.
+use Rattle.semantics.specs.File.{at-part}
 use Prim.Native.Nat.{ℕ, _<_}
 use native.Mathlib.Omega.{arith}
 use mathlib.Core.Path.{refl, sym}
@@ -20,17 +21,17 @@ module _ (t : ℕ) where
   node-seen : (c : KindKnown) →
       let a = c .before .before .before .before .before .before .before .before .before .args in
       let n = c .before .kind .given .0 in
-      Seen (a .kinds .now) (a .operands .now) 2 13 (a .at) (n .0) (n .1 .0) (n .1 .1 .0)
+      Seen (a .kinds .now) (a .operands .now) at-part (a .at) (n .0) (n .1 .0) (n .1 .1 .0)
   node-seen c =
-      seen _ _ 2 13 _ (c .before .before .before .node-at .result) (c .before .before .before .node-at .ensures) _ _ _
+      seen _ _ at-part _ (c .before .before .before .node-at .result) (c .before .before .before .node-at .ensures) _ _ _
       (c .before .kind .given .1)
 
   there : (c : KindKnown) →
       c .before .before .before .before .before .before .before .before .before .args .at < length
       (c .before .before .before .before .before .before .before .before .before .args .kinds .now)
   there c =
-      inside _ (c .before .before .before .before .before .before .before .before .before .args .operands .now) 2 13 _
-      _ _ _ (c .before .before .before .node-at .result) (omega arith) (c .before .before .before .node-at .ensures)
+      inside _ (c .before .before .before .before .before .before .before .before .before .args .operands .now) at-part _
+      _ _ _ (c .before .before .before .node-at .result) (c .before .before .before .node-at .ensures)
       (c .before .kind .given .1)
 
 pub type-part-returns : (t : ℕ) → type-part-lts.Need-returns (type-part-claims t) (type-part-at t) type-part.Post
@@ -44,8 +45,8 @@ pub type-part-enum-known-kind : (t : ℕ) →
     type-part-lts.Need-enum-known-kind (type-part-claims t) (type-part-at t) type-part.Post
 type-part-enum-known-kind t c = search needs
 
-pub type-part-add-t14 : (t : ℕ) → type-part-lts.Need-add-t14 (type-part-claims t) (type-part-at t) type-part.Post
-type-part-add-t14 t c = omega (arith, there t (c .before))
+pub type-part-add-t15 : (t : ℕ) → type-part-lts.Need-add-t15 (type-part-claims t) (type-part-at t) type-part.Post
+type-part-add-t15 t c = omega (arith, there t (c .before))
 
 pub type-part-returns-2 : (t : ℕ) → type-part-lts.Need-returns-2 (type-part-claims t) (type-part-at t) type-part.Post
 type-part-returns-2 t c = (
@@ -53,15 +54,15 @@ type-part-returns-2 t c = (
   refl,
 )
 
-pub type-part-cast-t15 : (t : ℕ) → type-part-lts.Need-cast-t15 (type-part-claims t) (type-part-at t) type-part.Post
-type-part-cast-t15 t c = search needs
+pub type-part-cast-t16 : (t : ℕ) → type-part-lts.Need-cast-t16 (type-part-claims t) (type-part-at t) type-part.Post
+type-part-cast-t16 t c = search needs
 
-pub type-part-slice-read-t17 : (t : ℕ) →
-    type-part-lts.Need-slice-read-t17 (type-part-claims t) (type-part-at t) type-part.Post
-type-part-slice-read-t17 t c = search needs
+pub type-part-slice-read-t18 : (t : ℕ) →
+    type-part-lts.Need-slice-read-t18 (type-part-claims t) (type-part-at t) type-part.Post
+type-part-slice-read-t18 t c = search needs
 
-pub type-part-add-t18 : (t : ℕ) → type-part-lts.Need-add-t18 (type-part-claims t) (type-part-at t) type-part.Post
-type-part-add-t18 t c = omega (arith, there t (c .before .before .before))
+pub type-part-add-t19 : (t : ℕ) → type-part-lts.Need-add-t19 (type-part-claims t) (type-part-at t) type-part.Post
+type-part-add-t19 t c = omega (arith, there t (c .before .before .before))
 
 pub type-part-returns-3 : (t : ℕ) → type-part-lts.Need-returns-3 (type-part-claims t) (type-part-at t) type-part.Post
 type-part-returns-3 t c = (

@@ -1,0 +1,73 @@
+-- What it says that a test holds, and that a test of depths gives one.
+use Prim.Native.Nat.{ℕ}
+use mathlib.Core.Bool.{Bool, true, false, _&&_, _||_, false≢true}
+use mathlib.Core.Path.{_≡_, refl, sym, ap, subst}
+use mathlib.Core.Logic.{_⊎_, inl, inr}
+use mathlib.Core.Option.{Option, none, some}
+use mathlib.Core.List.{List, [], _∷_}
+use lib.Dec.{eqb}
+use borrow.Author.Tests.{eqb-true}
+use Rattle.semantics.specs.Types.{some-if, all-are, same}
+
+-- ---- two tests
+
+pub both-hold : (a b : Bool) → (a && b) ≡ true → (a ≡ true) × (b ≡ true)
+both-hold true b e = (refl, e)
+both-hold false b e = absurd (false≢true e)
+
+pub say-and : (a b : Bool) → a ≡ true → b ≡ true → (a && b) ≡ true
+say-and true b p q = q
+say-and false b p q = p
+
+pub or-cases : (a b : Bool) → (a || b) ≡ true → (a ≡ true) ⊎ (b ≡ true)
+or-cases true b e = inl refl
+or-cases false b e = inr e
+
+pub or-left : (a b : Bool) → a ≡ true → (a || b) ≡ true
+or-left true b e = refl
+or-left false b e = absurd (false≢true e)
+
+pub or-right : (a b : Bool) → b ≡ true → (a || b) ≡ true
+or-right true b e = refl
+or-right false b e = e
+
+-- ---- a depth that is given, if any
+
+abbrev is-some : Option ℕ → Type 0
+is-some (some d) = Unit {0}
+is-some none = ⊥
+
+value-or-0 : Option ℕ → ℕ
+value-or-0 (some d) = d
+value-or-0 none = 0
+
+pub some-same : (c d : ℕ) → some c ≡ some d → c ≡ d
+unfolding value-or-0
+some-same c d e = ap value-or-0 e
+
+pub not-some : {A : Type 0} (d : ℕ) → none ≡ some d → A
+not-some d e = absurd (subst is-some (sym e) tt)
+
+pub some-if-holds : (b : Bool) (c d : ℕ) → some-if b c ≡ some d → (b ≡ true) × (c ≡ d)
+some-if-holds true c d e = (refl, some-same c d e)
+some-if-holds false c d e = not-some d e
+
+-- ---- lists of depths
+
+abbrev pub AllEqual : ℕ → List ℕ → Type 0
+AllEqual r [] = Unit {0}
+AllEqual r (d ∷ ds) = (d ≡ r) × AllEqual r ds
+
+pub all-equal : (r : ℕ) (ds : List ℕ) → all-are r ds ≡ true → AllEqual r ds
+all-equal r [] e = tt
+all-equal r (d ∷ ds) e =
+    let both = both-hold (eqb d r) (all-are r ds) e in
+    (eqb-true d r (both .0), all-equal r ds (both .1))
+
+pub same-lists : (ds es : List ℕ) → same ds es ≡ true → ds ≡ es
+same-lists [] [] e = refl
+same-lists [] (x ∷ es) e = absurd (false≢true e)
+same-lists (d ∷ ds) [] e = absurd (false≢true e)
+same-lists (d ∷ ds) (x ∷ es) e =
+    let both = both-hold (eqb d x) (same ds es) e in
+    λ i. eqb-true d x (both .0) i ∷ same-lists ds es (both .1) i
