@@ -1,8 +1,8 @@
 -- One law for each way out of the store's part of a delivery.
-use Prim.Native.Nat.{ℕ, _-_, _<_, _≤_}
+use Prim.Native.Nat.{ℕ, _-_, _≤_}
 use native.Mathlib.Omega.{arith}
 use mathlib.Core.Bool.{true, false}
-use mathlib.Core.Path.{_≡_, refl, sym, ap, subst, _∙_}
+use mathlib.Core.Path.{_≡_, refl, ap, subst, _∙_}
 use mathlib.Core.List.{List}
 use lib.Dec.{leb}
 use lib.IntN.{ℤ}
@@ -12,7 +12,6 @@ use Rattle.semantics.specs.Syntax.{Script, main-depth}
 use Rattle.semantics.specs.Store.{Store, cells-taken}
 use Rattle.semantics.specs.Words.{store-of, shaped}
 use Rattle.semantics.specs.Sound.{sound, sound-words}
-use Rattle.semantics.specs.Machine.{delivered}
 use Rattle.semantics.specs.Calls.{judged, accepted, request-fits}
 use Rattle.store_laws.specs.Tests.{both-hold}
 use Rattle.store_words.proofs.Puts.{Kept}

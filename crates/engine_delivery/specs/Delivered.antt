@@ -8,7 +8,7 @@ use lib.ListN.{length}
 use Rattle.semantics.specs.Syntax.{Script, main-depth}
 use Rattle.semantics.specs.Words.{store-of}
 use Rattle.semantics.specs.Sound.{sound-words}
-use Rattle.semantics.specs.Machine.{Delivered, delivered}
+use Rattle.semantics.specs.Machine.{Delivered, program, delivered}
 use Rattle.semantics.specs.Calls.{judged, accepted, request-fits}
 use Rattle.machine_positions.specs.Machine as M
 use Rattle.machine_scripts.specs.Script.{Coded}
@@ -25,7 +25,7 @@ unfoldable pub delivered-left : Script → List ℤ → ℕ → List ℤ → Lis
 delivered-left fs readings budget slots heads =
     cond (request-fits readings budget)
     (cond (sound-words (main-depth fs) slots heads)
-    (left-of (delivered fs readings budget (store-of slots heads)))
+    (left-of (delivered (program fs) readings budget (store-of slots heads)))
     (left (Refused 11) slots heads))
     (left (Refused 10) slots heads)
 

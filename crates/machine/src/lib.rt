@@ -6,12 +6,14 @@ use machine_code::Line;
 use machine_lines::Out;
 use store::Acquired;
 ghost use mathlib.Core.Path.{_≡_};
-ghost use Prim.Native.Nat.{_<_, _≤_};
+ghost use mathlib.Core.List.{[], _∷_};
+ghost use Prim.Native.Nat.{_<_};
 ghost use lib.ListN.{length};
+ghost use Rattle.semantics.specs.Kinds.{mapping};
 ghost use Rattle.semantics.specs.Words.{store-of};
 ghost use Rattle.machine_lines.specs.Lines.{memory};
-ghost use Rattle.machine_positions.specs.Machine.{code, Ended, if-line, call-line, map-line, passes-on, line-on};
-ghost use Rattle.machine_positions.specs.Machine.{tree-on, call-on, Short};
+ghost use Rattle.machine_positions.specs.Machine.{code, Ended, if-line, call-line, map-line, looped, passes-on};
+ghost use Rattle.machine_positions.specs.Machine.{line-on, tree-on, call-on, Short};
 
 // Works the tree at a position.
 pub fn work_tree(
@@ -285,6 +287,7 @@ fn work_map(
     let depth = machine_code::element_depth(table, f, x);
     match store::acquire_empty(slots, heads, depth) {
         Acquired::Cell(c) => {
+            let carried = machine_lines::word_from(c);
             let r = work_pass(
                 kinds,
                 operands,
@@ -299,14 +302,14 @@ fn work_map(
                 at + 2,
                 p,
                 from,
-                c,
+                carried,
                 count,
             );
             let stop = r.stop;
             if stop != 0 {
                 return r;
             }
-            let w = machine_lines::word_from(c);
+            let w = r.value;
             machine_lines::bind(env, calls, x, w);
             let next = machine_code::end_in(table, at + 2);
             machine_lines::done(w, next, r.steps)
@@ -315,7 +318,8 @@ fn work_map(
     }
 }
 
-// Works a map's tree, at a position, once for each element of the cell `from`; the results go to the cell `into`.
+// Works a map's tree, at a position, once for each element of the cell `from`. What is carried from pass to pass is the
+// word of the result's cell, to which each pass appends.
 fn work_pass(
     kinds: &&[u8],
     operands: &&[i64],
@@ -330,18 +334,19 @@ fn work_pass(
     at: usize,
     p: u8,
     from: usize,
-    into: usize,
+    carried: i64,
     count: usize,
 ) -> Out
     requires { ⌜ (calls < 32) × (length (now env) ≡ 8192) × Short (now (now kinds)) ⌝ }
-    ensures { λ r. ⌜ Ended (passes-on count
+    ensures { λ r. ⌜ Ended (passes-on (looped mapping
         (tree-on lines
         (call-on calls (code (now (now (kinds .entry))) (now (now (operands .entry))) (now (table .entry))))
         (code (now (now (kinds .entry))) (now (now (operands .entry))) (now (table .entry))) calls f at)
-        calls p from into 0 steps
+        calls (p ∷ []) from) count carried 0 steps
         (memory (store-of (now (slots .entry)) (now (heads .entry))) (now (env .entry))))
         steps r (now (slots .exit)) (now (heads .exit)) (now (env .exit)) ⌝ }
 {
+    let into = store_words::named_cell(carried);
     let mut s = steps;
     let mut i: usize = 0;
     while i < count {
@@ -373,5 +378,5 @@ fn work_pass(
         s = rest;
         i = i + 1;
     }
-    machine_lines::done(0, 0, s)
+    machine_lines::done(carried, 0, s)
 }

@@ -1,17 +1,17 @@
 -- Laws of the readers, in the terms of the code.
-use mathlib.Core.Path.{_≡_, refl, sym, ap, subst, _∙_}
-use mathlib.Core.Bool.{Bool, true, false, cond}
+use mathlib.Core.Path.{_≡_, refl}
+use mathlib.Core.Bool.{true, false}
 use mathlib.Core.List.{List}
-use Prim.Native.Nat.{ℕ, zero, suc, _+_, _-_, _*_, _^_, _%_, _<_, _≤_}
+use Prim.Native.Nat.{ℕ, zero, suc, _+_, _-_, _^_, _%_, _<_}
 use native.Mathlib.Omega.{arith}
 use lib.IntN.{ℤ, pos, negsuc, natAbs}
-use lib.Dec.{T, ltb, leb, eqb}
+use lib.Dec.{T}
 use lib.Signed.{mag, ltZ, nonNeg}
-use lib.ListN.{getD, length}
+use lib.ListN.{getD}
 use mir.Syntax.{w64}
 use mir.Val.{Fits}
-use borrow.Author.Tests.{lt-ltb, le-ltb, eq-eqb, ne-eqb, ltb-true, le-leb, lt-leb}
-use Rattle.machine_code.specs.Reading.{natural, atom-at, is-atom, line-of, line-at}
+use borrow.Author.Tests.{ne-eqb, ltb-true}
+use Rattle.machine_code.specs.Reading.{natural, atom-at, line-of, line-at}
 use Rattle.machine_code.specs.declared.Atom.{Atom}
 use Rattle.machine_code.specs.declared.Atom.the-variants.{Number, Name}
 use Rattle.machine_code.specs.declared.Line.the-variants.{Operation}

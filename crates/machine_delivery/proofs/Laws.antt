@@ -1,11 +1,11 @@
 -- Laws of the delivery: one for each way out of the code.
 use mathlib.Core.Path.{_≡_, refl, sym, ap, ap₂, _∙_}
-use mathlib.Core.Bool.{true, false, cond}
-use mathlib.Core.List.{List, [], _∷_}
-use Prim.Native.Nat.{ℕ, zero, suc, _-_, _<_, _≤_}
+use mathlib.Core.Bool.{cond}
+use mathlib.Core.List.{List}
+use Prim.Native.Nat.{ℕ, zero, suc, _-_}
 use native.Mathlib.Omega.{arith}
 use lib.IntN.{ℤ, pos}
-use lib.ListN.{getD, set, replicate, length}
+use lib.ListN.{getD, set, replicate}
 use borrow.Author.Tests.{eq-eqb, ne-eqb}
 use Rattle.semantics.specs.Store.{Store, cell-of, acquired, retained, released, deepest, with-totals, relinked}
 use Rattle.semantics.specs.Words.{store-of}
@@ -15,9 +15,9 @@ use Rattle.store.specs.declared.Acquired.the-variants.{Cell, NoneFree}
 use Rattle.machine_code.specs.Reading.{start-in}
 use Rattle.machine_lines.specs.declared.Out.{Out}
 use Rattle.machine_lines.specs.Frames.{place, put-all}
-use Rattle.machine_lines.specs.Lines.{memory, Ran, ran, out}
+use Rattle.machine_lines.specs.Lines.{memory, ran, out}
 use Rattle.machine_positions.specs.Machine.{Code, tree-on, call-on, Ended}
-use Rattle.machine_positions.specs.Delivery.{Tried, tried, retained-totals, released-totals, finished, main-frame}
+use Rattle.machine_positions.specs.Delivery.{tried, retained-totals, released-totals, finished}
 use Rattle.machine_positions.specs.Delivery.{main-on, attempt-with, attempt-on, settled, delivered-on}
 use Rattle.machine_delivery.specs.Promises.{Tries, Delivers}
 

@@ -3,7 +3,6 @@ use mathlib.Core.Path.{_≡_}
 use mathlib.Core.List.{List}
 use Prim.Native.Nat.{ℕ, _≤_}
 use lib.IntN.{ℤ}
-use Rattle.semantics.specs.Store.{Store}
 use Rattle.semantics.specs.Words.{store-of}
 use Rattle.semantics.specs.Machine.{Delivered}
 use Rattle.machine_lines.specs.declared.Out.{Out}

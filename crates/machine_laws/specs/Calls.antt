@@ -1,36 +1,32 @@
 -- Calls: the machine over positions, with some call depth left, is the machine of the definitions.
-use mathlib.Core.Path.{_≡_, refl, sym, ap, ap₂, subst, _∙_}
-use mathlib.Core.Bool.{Bool, true, false, cond}
+use mathlib.Core.Path.{_≡_, refl, sym, ap, subst, _∙_}
+use mathlib.Core.Bool.{Bool, cond}
 use mathlib.Core.List.{List, [], _∷_}
-use Prim.Native.Nat.{ℕ, zero, suc, _+_, _-_, _*_, _<_, _≤_}
+use Prim.Native.Nat.{ℕ, zero, suc, _+_, _-_, _<_, _≤_}
 use native.Mathlib.Omega.{arith}
 use lib.IntN.{ℤ, pos}
-use lib.Dec.{eqb, ltb}
+use lib.Dec.{ltb}
 use lib.ListN.{getD, set, length, length-set}
 use lib.Seq.{getD-set-same, getD-set-other}
 use borrow.Author.Tests.{eq-eqb, ne-eqb, ltb-true}
 use Rattle.semantics.specs.Basics.{updated}
-use Rattle.semantics.specs.Outcome.{Outcome, done, stop}
+use Rattle.semantics.specs.Outcome.{stop}
 use Rattle.semantics.specs.Code.{rows}
 use Rattle.semantics.specs.Live.{Set, empty}
-use Rattle.semantics.specs.Annotate.{NameDepths}
-use Rattle.semantics.specs.Machine as M
-use Rattle.semantics.specs.Machine.{State, Frame, Routine, no-routine, frame-from, machine}
+use Rattle.semantics.specs.Machine.{State, Program, routine-of, frame-from, machine}
+use Rattle.sound_machine.specs.Discipline.{Fitting, Scoped, parameter-names}
 use Rattle.machine_code.specs.Reading.{depth-in, start-in}
 use Rattle.machine_lines.specs.Frames.{place, put-all}
-use Rattle.machine_lines.specs.Lines.{Memory, memory, Ran}
-use Rattle.machine_positions.specs.Machine.{Code, Callee, call-on, tree-on}
+use Rattle.machine_lines.specs.Lines.{memory}
+use Rattle.machine_positions.specs.Machine.{Code, call-on, tree-on}
+use Rattle.machine_positions.specs.Lengths.{put-keeps}
 use Rattle.machine_laws.specs.Rows.{At, Jumps}
-use Rattle.machine_laws.specs.Scopes.{Functions, Scoped, Bounded, Agrees, Kept}
+use Rattle.machine_laws.specs.Frames.{Bounded, Agrees}
 use Rattle.machine_laws.specs.Same.{Rel, TreeDone, CallDone, rel-map}
-use Rattle.machine_laws.specs.Trees.{CalleeSame, tree-same}
+use Rattle.machine_laws.specs.Leaves.{CalleeSame}
+use Rattle.machine_laws.specs.Trees.{tree-same}
 
 -- ---- the words of the arguments
-
-pub length-put : (ws : List ℤ) (p : ℕ) (env : List ℤ) → length (put-all ws p env) ≡ length env
-unfolding put-all
-length-put [] p env = refl
-length-put (w ∷ ws) p env = length-put ws (p + 1) (set env p w) ∙ length-set env p w
 
 pub put-below : (ws : List ℤ) (p : ℕ) (env : List ℤ) (q : ℕ) → q < p →
     getD (put-all ws p env) q (pos 0) ≡ getD env q (pos 0)
@@ -81,60 +77,61 @@ arguments-agree calls ws env few long = record {
       e));
 }
 
--- ---- the functions of a script in the code
+-- ---- the routines of a program in the code
 
--- function g stands in the code and in the table
-pub record Stands (F : Functions) (c : Code) (g : ℕ) (r : Routine) : Type 0 where
-  pub scoped : Scoped (r .depths) F (r .tree) (parameters (F .arity g))
-  pub written : At (c .kinds) (c .operands) (start-in (c .table) g) (rows (r .tree))
-  pub short : length (rows (r .tree)) ≤ 4096
-  pub depths : (x : ℕ) → x < 256 → depth-in (c .table) g x ≡ r .depths x
-  pub few : F .arity g ≤ 16
+-- routine g of a program stands in the code and in the table
+pub record Stands (p : Program) (c : Code) (g : ℕ) : Type 0 where
+  pub fitting : Fitting p (routine-of p g .depths) (routine-of p g .tree) (p .signatures g .result)
+  pub scoped : Scoped (routine-of p g .tree) (parameter-names (p .signatures g .parameters))
+  pub written : At (c .kinds) (c .operands) (start-in (c .table) g) (rows (routine-of p g .tree))
+  pub short : length (rows (routine-of p g .tree)) ≤ 4096
+  pub depths : (x : ℕ) → x < 256 → depth-in (c .table) g x ≡ routine-of p g .depths x
+  pub few : length (p .signatures g .parameters) ≤ 16
 
-module _ (F : Functions) (c : Code) (rs : List Routine) (all : (g : ℕ) → g < F .count → Stands F c g (getD rs g
-    no-routine)) (jumps : Jumps c) where
-  -- a function's tree, with some call depth left
-  pub function-same : (n : ℕ) → n ≤ 31 → CalleeSame F n (call-on n c) (machine rs n) → (R : List ℕ) (g : ℕ) (ws :
-      List ℤ)
-      (env : List ℤ) (s : State) → g < F .count → length ws ≡ F .arity g → 8192 ≤ length env →
-      Rel (TreeDone (start-in (c .table) g + length (rows (getD rs g no-routine .tree))) n
+module _ (p : Program) (enough : length (p .routines) ≤ 32) (c : Code)
+    (all : (g : ℕ) → g < length (p .routines) → Stands p c g) (jumps : Jumps c) where
+  -- a routine's tree, with some call depth left
+  pub function-same : (n : ℕ) → n ≤ 31 → CalleeSame p n (call-on n c) (machine p n) → (R : List ℕ) (g : ℕ)
+      (ws : List ℤ) (env : List ℤ) (s : State) → g < length (p .routines) →
+      length ws ≡ length (p .signatures g .parameters) → 8192 ≤ length env →
+      Rel (TreeDone (start-in (c .table) g + length (rows (routine-of p g .tree))) n
       (put-all ws (place n 0) env) (parameters (length ws)))
       (tree-on 4096 (call-on n c) c n g (start-in (c .table) g) (s .left) (memory (s .store) (put-all ws (place n 0)
       env)))
-      (machine rs (suc n) R g ws s)
+      (machine p (suc n) R g ws s)
   unfolding machine
   function-same n small calling R g ws env s h a long =
       let st = all g h in
-      tree-same (machine rs n) (getD rs g no-routine .depths) F c n g (call-on n c) (st .depths) jumps calling
-      (getD rs g no-routine .tree) 4096 (st .short) (omega arith) (parameters (length ws))
-      (subst (λ (k : ℕ). Scoped (getD rs g no-routine .depths) F (getD rs g no-routine .tree) (parameters k)) (sym
-      a) (st .scoped))
+      tree-same p enough (machine p n) (routine-of p g .depths) c n g (call-on n c) (st .depths) jumps calling
+      (routine-of p g .tree) 4096 (st .short) (omega arith) (parameters (length ws)) (p .signatures g .result)
+      (st .fitting) (subst (λ (k : ℕ). Scoped (routine-of p g .tree) (parameters k)) (sym a) (st .scoped))
       (bounded-parameters (length ws) (omega (arith, a, st .few))) (start-in (c .table) g) (st .written) empty R
       (frame-from ws 0) s
       (put-all ws (place n 0) env) (arguments-agree n ws env (omega (arith, a, st .few)) long)
-      (omega (arith, length-put ws (place n 0) env, long))
+      (omega (arith, put-keeps ws (place n 0) env, long))
 
-  pub calls-same : (n : ℕ) → n ≤ 31 → CalleeSame F n (call-on n c) (machine rs n)
+  pub calls-same : (n : ℕ) → n ≤ 31 → CalleeSame p n (call-on n c) (machine p n)
   unfolding call-on machine
   calls-same zero small = record {
+    few = λ g h. all g h .few;
     same = λ R g ws env s h a long. record { stop = refl; real = λ z. omega arith; steps = refl };
   }
   calls-same (suc n) small = record {
+    few = λ g h. all g h .few;
     same = λ R g ws env s h a long.
-        rel-map (TreeDone (start-in (c .table) g + length (rows (getD rs g no-routine .tree))) n (put-all ws (place
-        n
-        0) env) (parameters (length ws)))
+        rel-map (TreeDone (start-in (c .table) g + length (rows (routine-of p g .tree))) n (put-all ws (place n 0) env)
+        (parameters (length ws)))
         (CallDone (suc n) env)
         (tree-on 4096 (call-on n c) c n g (start-in (c .table) g) (s .left) (memory (s .store) (put-all ws (place n
         0) env)))
-        (machine rs (suc n) R g ws s)
+        (machine p (suc n) R g ws s)
         (λ v s′ d. record {
-          value = d .value;
-          steps = d .steps;
-          store = d .store;
-          frames = λ q l. d .kept .callers q (omega (arith, l, small)) ∙ put-below ws (place n 0) env q (omega
+          value = d .word .value;
+          steps = d .word .steps;
+          store = d .word .store;
+          frames = λ q l. d .word .kept .callers q (omega (arith, l, small)) ∙ put-below ws (place n 0) env q (omega
               (arith, l, small));
-          long = d .kept .long ∙ length-put ws (place n 0) env;
+          long = d .word .kept .long ∙ put-keeps ws (place n 0) env;
         })
         (function-same n (omega arith) (calls-same n (omega arith)) R g ws env s h a long);
   }

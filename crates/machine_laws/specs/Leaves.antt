@@ -1,331 +1,315 @@
--- Lines as they stand in the code, and the lines that work no tree.
+-- The lines that work no tree, as they stand in the code: one law for each kind of leaf.
 use mathlib.Core.Path.{_≡_, refl, sym, ap, ap₂, subst, _∙_}
 use mathlib.Core.Bool.{Bool, true, false, cond}
+use mathlib.Core.Option.{some}
 use mathlib.Core.List.{List, [], _∷_, _++_, map}
 use Prim.Native.Nat.{ℕ, zero, suc, _+_, _-_, _*_, _/_, _%_, _<_, _≤_}
 use native.Mathlib.Omega.{arith}
 use lib.IntN.{ℤ, pos, natAbs}
-use lib.ListN.{getD, set, length}
+use lib.ListN.{getD, length, length-map}
+use borrow.Author.Tests.{leb-false}
 use Rattle.semantics.specs.Basics.{updated}
-use Rattle.semantics.specs.Outcome.{Outcome, done, stop, Run, onward, give, require}
+use Rattle.semantics.specs.Outcome.{Outcome, done, stop, onward, give, require}
 use Rattle.semantics.specs.Number.{Operation, sum, difference, less, exact, fits, inside}
-use Rattle.semantics.specs.Store.{Store, cell, cell-of, elements, has-free, acquired, retained, released, deepest}
-use Rattle.semantics.specs.Code as C
-use Rattle.semantics.specs.Code.{Row, atom-row, operation-kind, rows, line-rows}
+use Rattle.semantics.specs.Kinds.{Leaf, operation, call, literal, index, length-of, operation-kind, leaf-kind}
+use Rattle.semantics.specs.Kinds.{leaf-operand}
+use Rattle.semantics.specs.Types.{Signature, same, call-rule}
+use Rattle.semantics.specs.Store.{Store, cell-of, has-free, acquired, retained, released, deepest}
+use Rattle.semantics.specs.Code as K
+use Rattle.semantics.specs.Code.{row, atom-row}
 use Rattle.semantics.specs.Live.{Set, _∪_, _∖_, only, among}
-use Rattle.semantics.specs.Annotate.{NameDepths}
+use Rattle.semantics.specs.Annotate.{NameDepths, atom-depth}
 use Rattle.semantics.specs.Machine as M
-use Rattle.semantics.specs.Machine.{State, Frame, Callee, word, step, with-left, work-line, acquire, acquire-if}
-use Rattle.semantics.specs.Machine.{elements-of, retain-word, release-word, held, touching, release-events}
+use Rattle.semantics.specs.Machine.{State, Frame, Program, word, with-left, work-leaf, work-line, acquire, acquire-if}
+use Rattle.semantics.specs.Machine.{elements-of, retain-word, release-word, held, argument, touching}
+use Rattle.sound_base.specs.Tests.{some-if-holds, same-lists}
+use Rattle.sound_machine.specs.Discipline.{AllKnown, New, LeafFits}
 use Rattle.words.specs.Words.{checked}
-use Rattle.words.specs.declared.Exact.{Exact}
 use Rattle.words.specs.declared.Exact.the-variants.{Value, Overflow}
 use Rattle.store.specs.Acquiring.{next-cell}
 use Rattle.store.specs.declared.Acquired.the-variants.{Cell, NoneFree}
-use Rattle.machine_code.specs.Reading.{natural, atom-at, is-atom, line-of, line-at}
+use Rattle.machine_code.specs.Reading.{atom-at, is-atom, line-of, line-at}
 use Rattle.machine_code.specs.declared.Atom.{Atom}
-use Rattle.machine_code.specs.declared.Line.{Line}
 use Rattle.machine_code.specs.declared.Line.the-variants as L
-use Rattle.machine_lines.specs.Frames.{place, word-of, words-at}
-use Rattle.machine_lines.specs.Lines.{Memory, memory, Ran, ran, Left, left, out, halted, bound, with-store}
-use Rattle.machine_lines.specs.Lines.{stepping, operation-of, operated, operation-line, index-line, length-line}
-use Rattle.machine_lines.specs.Lines.{acquired-line, literal-of, literal-line, leaf}
-use Rattle.machine_positions.specs.Machine.{is-end}
-use Rattle.machine_laws.specs.Rows.{Here, At, at-first, at-second, coded, Small, atom-here, atom-kind}
-use Rattle.machine_laws.specs.Rows.{line-read, operation-back, no-atom}
-use Rattle.machine_laws.specs.Scopes.{Functions, Known, AllKnown, Fresh, known-after, LineScoped, Bounded}
-use Rattle.machine_laws.specs.Scopes.{Agrees, Kept, small-known, word-same, agrees-more, kept-none, kept-more}
-use Rattle.machine_laws.specs.Scopes.{kept-then, agrees-kept}
-use Rattle.machine_laws.specs.Same.{Stopped, Rel, LineDone, rel-then, rel-step, stepping-left}
-
--- ---- a line as it stands in the code
-
-abbrev pub decoded : C.Line → Line
-decoded (C.operation x o a b) = L.Operation (operation-kind o) x (coded a) (coded b)
-decoded (C.call x f us) = L.Call x f
-decoded (C.literal x d us) = L.Literal x d
-decoded (C.index x a b) = L.Index x (coded a) (coded b)
-decoded (C.length-of x a) = L.Length x (coded a)
-decoded (C.if-else x g t e) = L.If x (coded g)
-decoded (C.map-over x p a t) = L.Map x p (coded a)
-decoded (C.retain x) = L.Retain x
-decoded (C.release x) = L.Release x
-
-pub decoded-open : (l : C.Line) → is-end (decoded l) ≡ false
-decoded-open (C.operation x o a b) = refl
-decoded-open (C.call x f us) = refl
-decoded-open (C.literal x d us) = refl
-decoded-open (C.index x a b) = refl
-decoded-open (C.length-of x a) = refl
-decoded-open (C.if-else x g t e) = refl
-decoded-open (C.map-over x p a t) = refl
-decoded-open (C.retain x) = refl
-decoded-open (C.release x) = refl
-
-plus-two : (at : ℕ) → at + 1 + 1 ≡ at + 2
-plus-two at = omega arith
-
-module _ (Γ : NameDepths) (F : Functions) (kinds : List ℕ) (operands : List ℤ) (at : ℕ) (S : Set) (b : Bounded S)
-  where
-    operation-kept : (o : Operation) (x n : ℕ) (u v : Atom) → n ≡ x →
-        line-of (operation-kind o) n u v ≡ L.Operation (operation-kind o) (n % 256) u v
-    operation-kept sum x n u v e = refl
-    operation-kept difference x n u v e = refl
-    operation-kept less x n u v e = refl
-
-    second-atom : (c : C.Atom) → Known c S → Here kinds operands (at + 1 + 1) (atom-row c) →
-        atom-at kinds operands (at + 2) ≡ coded c
-    second-atom c k h = ap (atom-at kinds operands) (sym (plus-two at)) ∙ atom-here kinds operands (at + 1 + 1) c
-        (small-known c S b k) h
-
-    pub line-decoded : (l : C.Line) → LineScoped Γ F l S → At kinds operands at (line-rows l) →
-        line-at kinds operands at ≡ decoded l
-    unfolding line-rows
-    line-decoded (C.operation x o a c) h r =
-        line-read kinds operands at (operation-kind o) x (coded a) (coded c) (r .0 .kind) (r .0 .operand)
-        (atom-here kinds operands (at + 1) a (small-known a S b (h .0)) (r .1 .0)) (second-atom c (h .1) (r .1 .1
-        .0))
-        ∙ operation-kept o x x (coded a) (coded c) refl
-        ∙ ap (λ (n : ℕ). L.Operation (operation-kind o) n (coded a) (coded c))
-        (let z : x % 256 ≡ x = omega (arith, h .2 .small) in z)
-    line-decoded (C.call x f us) h r =
-        line-read kinds operands at 8 (x + 256 * f) _ _ (r .0 .kind) (r .0 .operand) refl refl
-        ∙ ap₂ L.Call (let z : (x + 256 * f) % 256 ≡ x = omega (arith, h .1 .small) in z)
-        (let z : (x + 256 * f) / 256 % 256 ≡ f = omega (arith, h .1 .small, h .3, F .few) in z)
-    line-decoded (C.literal x d us) h r =
-        line-read kinds operands at 9 (x + 256 * length us + 65536 * d) _ _ (r .0 .kind) (r .0 .operand) refl refl
-        ∙ ap₂ L.Literal (let z : (x + 256 * length us + 65536 * d) % 256 ≡ x = omega (arith, h .1 .small) in z)
-        (let z : (x + 256 * length us + 65536 * d) / 65536 % 256 ≡ d = omega (arith, h .1 .small, h .2, h .3) in z)
-    line-decoded (C.index x a c) h r =
-        line-read kinds operands at 10 x (coded a) (coded c) (r .0 .kind) (r .0 .operand)
-        (atom-here kinds operands (at + 1) a (small-known a S b (h .0)) (r .1 .0)) (second-atom c (h .1) (r .1 .1
-        .0))
-        ∙ ap (λ (n : ℕ). L.Index n (coded a) (coded c)) (let z : x % 256 ≡ x = omega (arith, h .2 .small) in z)
-    line-decoded (C.length-of x a) h r =
-        line-read kinds operands at 11 x (coded a) _ (r .0 .kind) (r .0 .operand)
-        (atom-here kinds operands (at + 1) a (small-known a S b (h .0)) (r .1 .0)) refl
-        ∙ ap (λ (n : ℕ). L.Length n (coded a)) (let z : x % 256 ≡ x = omega (arith, h .1 .small) in z)
-    line-decoded (C.if-else x g t e) h r =
-        line-read kinds operands at 12 x (coded g) _ (r .0 .kind) (r .0 .operand)
-        (atom-here kinds operands (at + 1) g (small-known g S b (h .0)) (r .1 .0)) refl
-        ∙ ap (λ (n : ℕ). L.If n (coded g)) (let z : x % 256 ≡ x = omega (arith, h .1 .small) in z)
-    line-decoded (C.map-over x p a t) h r =
-        line-read kinds operands at 13 (x + 256 * p) (coded a) _ (r .0 .kind) (r .0 .operand)
-        (atom-here kinds operands (at + 1) a (small-known a S b (h .0)) (r .1 .0)) refl
-        ∙ ap₂ (λ (n : ℕ) (k : ℕ). L.Map n k (coded a)) (let z : (x + 256 * p) % 256 ≡ x = omega (arith, h .1 .small)
-        in z)
-        (let z : (x + 256 * p) / 256 % 256 ≡ p = omega (arith, h .1 .small, h .2 .small) in z)
-    line-decoded (C.retain x) h r =
-        line-read kinds operands at 14 x _ _ (r .0 .kind) (r .0 .operand) refl refl
-        ∙ ap L.Retain (let z : x % 256 ≡ x = omega (arith, b .below x h) in z)
-    line-decoded (C.release x) h r =
-        line-read kinds operands at 15 x _ _ (r .0 .kind) (r .0 .operand) refl refl
-        ∙ ap L.Release (let z : x % 256 ≡ x = omega (arith, b .below x h) in z)
+use Rattle.machine_lines.specs.Frames.{word-of, words-at}
+use Rattle.machine_lines.specs.Lines as G
+use Rattle.machine_lines.specs.Lines.{Memory, memory, Ran, ran, out, with-store, Given, given, operation-of, exact-given}
+use Rattle.machine_lines.specs.Lines.{operation-given, array-of, index-given, length-given, acquired-given, Doing}
+use Rattle.machine_lines.specs.Lines.{giving, calling, doing, leaf-done}
+use Rattle.machine_positions.specs.Machine.{Code, Work, Callee, binding, call-worked, call-line, line-done}
+use Rattle.machine_laws.specs.Rows.{Here, At, atom-here, atom-kind, line-read}
+use Rattle.machine_laws.specs.Frames.{Bounded, Agrees, small-known, word-same, kept-none}
+use Rattle.machine_laws.specs.Same.{Rel, LineDone, CallDone, Gives, rel-then, rel-step, call-word, bound-done}
 
 -- ---- the words of the atoms that follow a line
 
-pub words-same : (kinds : List ℕ) (operands : List ℤ) (calls : ℕ) (env : List ℤ) (ρ : Frame) (S : Set) → Bounded S →
-    Agrees calls env ρ S → (us : List C.Atom) (n at : ℕ) → length us ≤ n → AllKnown us S →
-    At kinds operands at (map atom-row us) → is-atom (getD kinds (at + length us) 0) ≡ false →
-    words-at n kinds operands calls env at ≡ map (word ρ) us
-unfolding words-at
-words-same kinds operands calls env ρ S b g [] zero at h k r e = refl
-words-same kinds operands calls env ρ S b g [] (suc n) at h k r e =
-    let z : at + 0 ≡ at = omega arith in rw (rw z at e) refl
-words-same kinds operands calls env ρ S b g (a ∷ us) zero at h k r e = absurd (omega arith)
-words-same kinds operands calls env ρ S b g (a ∷ us) (suc n) at h k r e =
-    let z : at + suc (length us) ≡ at + 1 + length us = omega arith in
-    rw (atom-kind kinds operands at a (r .0)) (ap₂ {C = List ℤ} _∷_
-    (ap (word-of calls env) (atom-here kinds operands at a (small-known a S b (k .0)) (r .0)) ∙ word-same calls
-    env ρ S g a (k .0))
-    (words-same kinds operands calls env ρ S b g us n (at + 1) (omega arith) (k .1) (r .1)
-    (ap (λ (q : ℕ). is-atom (getD kinds q 0)) (sym z) ∙ e)))
+module _ (kinds : List ℕ) (operands : List ℤ) (calls : ℕ) (env : List ℤ) (ρ : Frame) (S : Set) (b : Bounded S)
+    (g : Agrees calls env ρ S) where
+  pub words-same : (us : List K.Atom) (n at : ℕ) → length us ≤ n → AllKnown us S →
+      At kinds operands at (map atom-row us) → is-atom (getD kinds (at + length us) 0) ≡ false →
+      words-at n kinds operands calls env at ≡ map (word ρ) us
+  unfolding words-at
+  words-same [] zero at h k r e = refl
+  words-same [] (suc n) at h k r e =
+      let z : at + 0 ≡ at = omega arith in rw (rw z at e) refl
+  words-same (a ∷ us) zero at h k r e = absurd (omega arith)
+  words-same (a ∷ us) (suc n) at h k r e =
+      let z : at + suc (length us) ≡ at + 1 + length us = omega arith in
+      rw (atom-kind kinds operands at a (r .0)) (ap₂ {C = List ℤ} _∷_
+      (ap (word-of calls env) (atom-here kinds operands at a (small-known a S b (k .0)) (r .0))
+      ∙ word-same calls env ρ S g a (k .0))
+      (words-same us n (at + 1) (omega arith) (k .1) (r .1)
+      (ap (λ (q : ℕ). is-atom (getD kinds q 0)) (sym z) ∙ e)))
 
-pub length-words : (us : List C.Atom) (ρ : Frame) → length (map (word ρ) us) ≡ length us
-length-words [] ρ = refl
-length-words (a ∷ us) ρ = ap suc (length-words us ρ)
+  -- the i-th of them
+  pub word-at : (us : List K.Atom) (at i : ℕ) → AllKnown us S → At kinds operands at (map atom-row us) → i < length us →
+      word-of calls env (atom-at kinds operands (at + i)) ≡ argument (map (word ρ) us) i
+  word-at [] at i k r h = absurd (omega arith)
+  word-at (a ∷ us) at zero k r h =
+      ap (λ (q : ℕ). word-of calls env (atom-at kinds operands q)) (let z : at + 0 ≡ at = omega arith in z)
+      ∙ ap (word-of calls env) (atom-here kinds operands at a (small-known a S b (k .0)) (r .0))
+      ∙ word-same calls env ρ S g a (k .0)
+  word-at (a ∷ us) at (suc i) k r h =
+      ap (λ (q : ℕ). word-of calls env (atom-at kinds operands q)) (let z : at + suc i ≡ at + 1 + i = omega arith in z)
+      ∙ word-at us (at + 1) i (k .1) (r .1) (omega arith)
 
-pub length-rows : (us : List C.Atom) → length (map atom-row us) ≡ length us
-length-rows [] = refl
-length-rows (a ∷ us) = ap suc (length-rows us)
+-- ---- what a call's atoms fit
 
--- ---- lines that work no tree
+-- the callee over positions is that of the machine
+pub record CalleeSame (p : Program) (calls : ℕ) (C : Callee) (callee : M.Callee) : Type 0 where
+  pub few : (g : ℕ) → g < length (p .routines) → length (p .signatures g .parameters) ≤ 16
+  pub same : (R : List ℕ) (g : ℕ) (ws : List ℤ) (env : List ℤ) (s : State) → g < length (p .routines) →
+      length ws ≡ length (p .signatures g .parameters) → 8192 ≤ length env →
+      Rel (CallDone calls env) (C g ws (s .left) (memory (s .store) env)) (callee R g ws s)
 
--- a name bound in the words env₁, which kept the known names of env
-pub bound-done : (calls : ℕ) (env env₁ : List ℤ) (ρ : Frame) (S : Set) → Bounded S → Agrees calls env ρ S → 8192 ≤
-    length env →
-    Kept calls env env₁ S → (x : ℕ) → Fresh x S → (v : ℤ) (next n : ℕ) (σ : Store) (s : State) → n ≡ s .left → σ ≡ s
-    .store →
-    LineDone next calls env S (S ∪ only x) (ran (out 0 v next n) (memory σ (set env₁ (place calls x) v))) (updated ρ
-    x v) s
-bound-done calls env env₁ ρ S b g long k x fresh v next n σ s e f = record {
-  next = refl;
-  steps = e;
-  store = f;
-  agrees = agrees-more calls env₁ ρ S x v (fresh .small) (omega (arith, long, k .long)) b (agrees-kept calls env
-      env₁ ρ S g k);
-  kept = kept-then calls env env₁ (set env₁ (place calls x) v) S S (λ y p. p) k (kept-more calls env₁ S x v (fresh
-      .unknown));
-}
+-- as many atoms as parameters
+call-long : (Γ : NameDepths) (us : List K.Atom) (s : Signature) (d : ℕ) →
+    call-rule s (map (atom-depth Γ) us) ≡ some d → length us ≡ length (s .parameters)
+call-long Γ us s d h =
+    let ds = map (atom-depth Γ) us in
+    let alike : s .parameters ≡ ds =
+    same-lists (s .parameters) ds (some-if-holds (same (s .parameters) ds) (s .result) d h .0) in
+    sym (length-map us (atom-depth Γ)) ∙ ap length (sym alike)
 
-module _ (callee : Callee) (Γ : NameDepths) (kinds : List ℕ) (operands : List ℤ) (calls at : ℕ) (A : Set) (R : List
-    ℕ)
-    (ρ : Frame) (s : State) (env : List ℤ) (S : Set) (b : Bounded S) (g : Agrees calls env ρ S) (long : 8192 ≤
-    length env) where
+-- ---- leaves
+
+operation-back : (o : Operation) → operation-of (operation-kind o) ≡ o
+operation-back sum = refl
+operation-back difference = refl
+operation-back less = refl
+
+operation-read : (o : Operation) (n : ℕ) (u v : Atom) →
+    line-of (operation-kind o) n u v ≡ L.Operation (operation-kind o) (n % 256) u v
+operation-read sum n u v = refl
+operation-read difference n u v = refl
+operation-read less n u v = refl
+
+-- a line at a position, which binds x and has the atoms us
+module _ (p : Program) (few : length (p .routines) ≤ 32) (callee : M.Callee) (Γ : NameDepths) (c : Code) (calls f : ℕ)
+    (C : Callee) (calling-same : CalleeSame p calls C callee) (W : Work) (at : ℕ) (A : Set) (R : List ℕ) (ρ : Frame)
+    (s : State) (env : List ℤ) (S : Set) (b : Bounded S) (g : Agrees calls env ρ S) (long : 8192 ≤ length env) where
   abbrev here : Memory
   here = memory (s .store) env
 
-  same-word : (a : C.Atom) → Known a S → word-of calls env (coded a) ≡ word ρ a
-  same-word a k = word-same calls env ρ S g a k
+  -- how the line at the position is worked
+  abbrev found : Doing
+  found = doing (c .kinds) (c .operands) calls at here (line-at (c .kinds) (c .operands) at)
 
-  pub operation-same : (x : ℕ) (o : Operation) (a c : C.Atom) → Known a S → Known c S → Fresh x S →
-      Rel (LineDone (at + 3) calls env S (S ∪ only x))
-      (leaf kinds operands calls at (s .left) here (L.Operation (operation-kind o) x (coded a) (coded c)))
-      (work-line callee Γ (C.operation x o a c) A R ρ s)
-  unfolding leaf operation-line work-line onward require with-left checked
-  operation-same x o a c ka kc fresh =
-      subst (λ (w : Ran). Rel (LineDone (at + 3) calls env S (S ∪ only x)) w (work-line callee Γ (C.operation x o a
-      c) A R ρ s))
-      (sym (stepping-left (s .left) here (λ n. operated calls x (at + 3) n env
-      (checked (exact (operation-of (operation-kind o)) (word-of calls env (coded a)) (word-of calls env (coded
-      c)))))))
-      (rel-step (LineDone (at + 3) calls env S (S ∪ only x)) s here
-      (λ n. with-store (s .store) (operated calls x (at + 3) n env
-      (checked (exact (operation-of (operation-kind o)) (word-of calls env (coded a)) (word-of calls env (coded
-      c))))))
-      (λ _ s′. onward (λ _. give (updated ρ x (exact o (word ρ a) (word ρ c)))) (require (fits (exact o (word ρ a)
-      (word ρ c))) 24 s′))
-      (λ n. rw (operation-back o, same-word a ka, same-word c kc) (go n (exact o (word ρ a) (word ρ c)) (fits
-      (exact o (word ρ a) (word ρ c))) refl)))
-    where
-      go : (n : ℕ) (r : ℤ) (t : Bool) → fits r ≡ t → Rel (LineDone (at + 3) calls env S (S ∪ only x))
-          (with-store (s .store) (operated calls x (at + 3) n env (cond (fits r) (Value r) Overflow)))
-          (onward (λ _. give (updated ρ x r)) (require (fits r) 24 (with-left s n)))
-      go n r true e = rw e (
-        refl,
-        bound-done calls env env ρ S b g long (kept-none calls env S) x fresh r (at + 3) n
-            (s .store) (with-left s n) refl refl,
-      )
-      go n r false e = rw e (record { stop = refl; real = λ z. omega arith; steps = refl })
+  module _ (x : ℕ) (new : New x S) (us : List K.Atom) (known : AllKnown us S)
+      (rs : At (c .kinds) (c .operands) (at + 1) (map atom-row us))
+      (closed : is-atom (getD (c .kinds) (at + 1 + length us) 0) ≡ false) where
+    abbrev ws : List ℤ
+    ws = map (word ρ) us
 
-  pub length-same : (x : ℕ) (a : C.Atom) → Known a S → Fresh x S →
-      Rel (LineDone (at + 2) calls env S (S ∪ only x))
-      (leaf kinds operands calls at (s .left) here (L.Length x (coded a))) (work-line callee Γ (C.length-of x a) A R
-      ρ s)
-  unfolding leaf length-line work-line onward with-left elements-of M.with-store
-  length-same x a ka fresh =
-      subst (λ (w : Ran). Rel (LineDone (at + 2) calls env S (S ∪ only x)) w (work-line callee Γ (C.length-of x a) A
-      R ρ s))
-      (sym (stepping-left (s .left) here (λ n. left
-      (out 0 (pos (length (elements (cell (s .store) (cell-of (word-of calls env (coded a))))))) (at + 2) n)
-      (bound calls x (pos (length (elements (cell (s .store) (cell-of (word-of calls env (coded a))))))) env))))
-      (rel-step (LineDone (at + 2) calls env S (S ∪ only x)) s here
-      (λ n. ran (out 0 (pos (length (elements (cell (s .store) (cell-of (word-of calls env (coded a))))))) (at +
-      2) n)
-      (memory (s .store) (bound calls x (pos (length (elements (cell (s .store) (cell-of (word-of calls env
-      (coded a))))))) env)))
-      (λ _ s′. onward (λ ws. give (updated ρ x (pos (length ws)))) (elements-of (word ρ a) s′))
-      (λ n. rw (same-word a ka) (
-        refl,
-        bound-done calls env env ρ S b g long (kept-none calls env S) x fresh
-            (pos (length (elements (cell (s .store) (cell-of (word ρ a)))))) (at + 2) n (s .store)
-            (M.with-store (with-left s n) (s .store) (touching (s .store) (cell-of (word ρ a)))) refl refl,
-      )))
+    -- the roots of a call, and those where a cell is wanted
+    abbrev call-roots : List ℕ
+    call-roots = R ++ held Γ (A ∖ x) ρ
 
-  pub index-same : (x : ℕ) (a c : C.Atom) → Known a S → Known c S → Fresh x S →
-      Rel (LineDone (at + 3) calls env S (S ∪ only x))
-      (leaf kinds operands calls at (s .left) here (L.Index x (coded a) (coded c))) (work-line callee Γ (C.index x a
-      c) A R ρ s)
-  unfolding leaf index-line work-line onward require with-left elements-of M.with-store
-  index-same x a c ka kc fresh =
-      subst (λ (w : Ran). Rel (LineDone (at + 3) calls env S (S ∪ only x)) w (work-line callee Γ (C.index x a c) A R
-      ρ s))
-      (sym (stepping-left (s .left) here (λ n. reading n (elements (cell (s .store) (cell-of (word-of calls env
-      (coded a))))) (word-of calls env (coded c)))))
-      (rel-step (LineDone (at + 3) calls env S (S ∪ only x)) s here
-      (λ n. with-store (s .store) (reading n (elements (cell (s .store) (cell-of (word-of calls env (coded a)))))
-      (word-of calls env (coded c))))
-      (λ _ s′. onward (λ ws s″. onward (λ _. give (updated ρ x (getD ws (natAbs (word ρ c)) (pos 0))))
-      (require (inside (word ρ c) (length ws)) 23 s″)) (elements-of (word ρ a) s′))
-      (λ n. rw (same-word a ka, same-word c kc)
-      (go n (elements (cell (s .store) (cell-of (word ρ a)))) (word ρ c) (inside (word ρ c) (length (elements
-      (cell (s .store) (cell-of (word ρ a)))))) refl)))
-    where
-      reading : ℕ → List ℤ → ℤ → Left
-      reading n l w = cond (inside w (length l))
-          (left (out 0 (getD l (natAbs w) (pos 0)) (at + 3) n) (bound calls x (getD l (natAbs w) (pos 0)) env))
-          (left (out 23 (pos 0) 0 n) env)
+    abbrev cell-roots : List ℕ
+    cell-roots = R ++ held Γ (among us (A ∖ x)) ρ
 
-      go : (n : ℕ) (l : List ℤ) (w : ℤ) (t : Bool) → inside w (length l) ≡ t → Rel (LineDone (at + 3) calls env S (S
-          ∪ only x))
-          (with-store (s .store) (reading n l w))
-          (onward (λ _. give (updated ρ x (getD l (natAbs w) (pos 0))))
-          (require (inside w (length l)) 23 (M.with-store (with-left s n) (s .store) (touching (s .store) (cell-of
-          (word ρ a))))))
-      go n l w true e = rw e (
-        refl,
-        bound-done calls env env ρ S b g long (kept-none calls env S) x fresh (getD l
-            (natAbs w) (pos 0))
-            (at + 3) n (s .store) (M.with-store (with-left s n) (s .store) (touching (s .store) (cell-of (word ρ
-            a))))
-            refl refl,
-      )
-      go n l w false e = rw e (record { stop = refl; real = λ z. omega arith; steps = refl })
+    abbrev Done : Ran → Frame → State → Type 0
+    Done = LineDone (at + suc (length us)) calls env S (S ∪ only x)
 
-  pub literal-same : (x d : ℕ) (us : List C.Atom) → Fresh x S → AllKnown us S → length us ≤ 16 →
-      At kinds operands (at + 1) (map atom-row us) → is-atom (getD kinds (at + 1 + length us) 0) ≡ false →
-      Rel (LineDone (at + 1 + length us) calls env S (S ∪ only x))
-      (leaf kinds operands calls at (s .left) here (L.Literal x d)) (work-line callee Γ (C.literal x d us) A R ρ s)
-  unfolding leaf literal-line work-line onward with-left acquire acquire-if M.with-store M.with-roots next-cell
-  literal-same x d us fresh ks few rs e =
-      rel-step (LineDone (at + 1 + length us) calls env S (S ∪ only x)) s here
-      (λ n. literal-of calls x d at n here (words-at 16 kinds operands calls env (at + 1)))
-      (λ _ s′. onward (λ w. give (updated ρ x w)) (acquire (R ++ held Γ (among us (A ∖ x)) ρ) d (map (word ρ) us)
-      s′))
-      (λ n. rw (words-same kinds operands calls env ρ S b g us 16 (at + 1) few ks rs e, length-words us ρ)
-      (go n (map (word ρ) us) (has-free (s .store)) refl))
-    where
-      go : (n : ℕ) (ws : List ℤ) (t : Bool) → has-free (s .store) ≡ t →
-          Rel (LineDone (at + 1 + length us) calls env S (S ∪ only x))
-          (acquired-line calls x (at + 1 + length us) n (memory (acquired d ws (s .store)) env)
-          (cond (has-free (s .store)) (Cell (s .store .first)) NoneFree))
-          (onward (λ w. give (updated ρ x w))
-          (acquire-if (has-free (s .store)) (R ++ held Γ (among us (A ∖ x)) ρ) d ws (with-left s n)))
-      go n ws true q = rw q (
-        refl,
-        bound-done calls env env ρ S b g long (kept-none calls env S) x fresh (pos (s
-            .store .first))
-            (at + 1 + length us) n (acquired d ws (s .store))
-            (M.with-store (with-left s n) (acquired d ws (s .store)) (M.acquires (s .store .first) ∷ [])) refl refl,
-      )
-      go n ws false q = rw q (record { stop = refl; real = λ z. omega arith; steps = refl })
+    -- the line is worked as the leaf is
+    abbrev Claim : Leaf → Type 0
+    Claim l = Rel Done (line-done W C c calls f at (s .left) here found) (work-line callee Γ (K.leaf x l us) A R ρ s)
 
-  pub retain-same : (x : ℕ) → S x ≡ true →
-      Rel (LineDone (at + 1) calls env S S)
-      (leaf kinds operands calls at (s .left) here (L.Retain x)) (work-line callee Γ (C.retain x) A R ρ s)
-  unfolding leaf work-line onward retain-word M.with-store
-  retain-same x k = (
-    refl,
-    record {
-      next = refl;
-      steps = refl;
-      store = ap (λ (w : ℤ). retained (cell-of w) (s .store)) (g .agree x k);
-      agrees = g;
-      kept = kept-none calls env S;
-    },
-  )
+    abbrev Stands : Leaf → Type 0
+    Stands l = Here (c .kinds) (c .operands) at (row (leaf-kind l) (leaf-operand l x (length us)))
 
-  pub release-same : (x : ℕ) → S x ≡ true →
-      Rel (LineDone (at + 1) calls env S S)
-      (leaf kinds operands calls at (s .left) here (L.Release x)) (work-line callee Γ (C.release x) A R ρ s)
-  unfolding leaf work-line onward release-word M.with-store
-  release-same x k = (
-    refl,
-    record {
-      next = refl;
-      steps = refl;
-      store = ap (λ (w : ℤ). released deepest (cell-of w) (s .store)) (g .agree x k);
-      agrees = g;
-      kept = kept-none calls env S;
-    },
-  )
+    byte : x % 256 ≡ x
+    byte = omega (arith, new .small)
+
+    first-word : 0 < length us → word-of calls env (atom-at (c .kinds) (c .operands) (at + 1)) ≡ argument ws 0
+    first-word h =
+        ap (λ (q : ℕ). word-of calls env (atom-at (c .kinds) (c .operands) q))
+        (let z : at + 1 ≡ at + 1 + 0 = omega arith in z)
+        ∙ word-at (c .kinds) (c .operands) calls env ρ S b g us (at + 1) 0 known rs h
+
+    second-word : 1 < length us → word-of calls env (atom-at (c .kinds) (c .operands) (at + 2)) ≡ argument ws 1
+    second-word h =
+        ap (λ (q : ℕ). word-of calls env (atom-at (c .kinds) (c .operands) q))
+        (let z : at + 2 ≡ at + 1 + 1 = omega arith in z)
+        ∙ word-at (c .kinds) (c .operands) calls env ρ S b g us (at + 1) 1 known rs h
+
+    -- a leaf that is a small work
+    gives-same : (l : Leaf) (next : ℕ) (σ : Store) (y : Given) → found ≡ giving x next σ y →
+        next ≡ at + suc (length us) →
+        ((n : ℕ) → Gives n σ y (work-leaf callee cell-roots call-roots l ws (with-left s n))) → Claim l
+    unfolding line-done leaf-done work-line onward
+    gives-same l next σ y d e h =
+        subst (λ (z : Doing). Rel Done (line-done W C c calls f at (s .left) here z)
+        (work-line callee Γ (K.leaf x l us) A R ρ s)) (sym d)
+        (rel-step Done s here (λ n. with-store σ (given calls x next n env y))
+        (λ _ s′. onward (λ w. give (updated ρ x w)) (work-leaf callee cell-roots call-roots l ws s′))
+        (λ n. go n y (work-leaf callee cell-roots call-roots l ws (with-left s n)) (h n)))
+      where
+        go : (n : ℕ) (y : Given) (o : Outcome State ℤ) → Gives n σ y o →
+            Rel Done (with-store σ (given calls x next n env y)) (onward (λ w. give (updated ρ x w)) o)
+        go n (G.word w) (done v s′) q = (
+          refl,
+          bound-done calls env ρ S b g long x new next (at + suc (length us)) e (ran (out 0 w next n) (memory σ env)) v
+              s′
+              (record { value = q .0; steps = q .1; store = q .2; kept = kept-none calls env S }),
+        )
+        go n (G.word w) (stop k s′) q = absurd q
+        go n (G.stop j) (done v s′) q = absurd q
+        go n (G.stop j) (stop k s′) q = record { stop = q .0; real = q .1; steps = q .2 }
+
+    operation-same : (o : Operation) → length us ≡ 2 → Stands (operation o) → Claim (operation o)
+    unfolding doing work-leaf onward require checked with-left
+    operation-same o two r = gives-same (operation o) (at + 3) (s .store)
+        (operation-given (operation-kind o) (argument ws 0) (argument ws 1))
+        (ap (doing (c .kinds) (c .operands) calls at here)
+        (line-read (c .kinds) (c .operands) at (operation-kind o) x _ _ (r .kind) (r .operand) refl refl
+        ∙ operation-read o x _ _)
+        ∙ rw (byte, first-word (omega (arith, two)), second-word (omega (arith, two))) refl)
+        (omega (arith, two))
+        (λ n. rw (operation-back o) (go n (exact o (argument ws 0) (argument ws 1)) _ refl))
+      where
+        go : (n : ℕ) (z : ℤ) (t : Bool) → fits z ≡ t →
+            Gives n (s .store) (exact-given (cond (fits z) (Value z) Overflow))
+            (onward (λ _. give z) (require (fits z) 24 (with-left s n)))
+        go n z true e = rw e (refl, refl, refl)
+        go n z false e = rw e (refl, λ q. omega arith, refl)
+
+    length-same : length us ≡ 1 → Stands length-of → Claim length-of
+    unfolding doing work-leaf onward elements-of M.with-store with-left
+    length-same one r = gives-same length-of (at + 2) (s .store) (length-given (array-of (s .store) (argument ws 0)))
+        (ap (doing (c .kinds) (c .operands) calls at here)
+        (line-read (c .kinds) (c .operands) at 11 x _ _ (r .kind) (r .operand) refl refl)
+        ∙ rw (byte, first-word (omega (arith, one))) refl)
+        (omega (arith, one)) (λ n. (refl, refl, refl))
+
+    index-same : length us ≡ 2 → Stands index → Claim index
+    unfolding doing work-leaf onward require elements-of M.with-store with-left
+    index-same two r = gives-same index (at + 3) (s .store)
+        (index-given (array-of (s .store) (argument ws 0)) (argument ws 1))
+        (ap (doing (c .kinds) (c .operands) calls at here)
+        (line-read (c .kinds) (c .operands) at 10 x _ _ (r .kind) (r .operand) refl refl)
+        ∙ rw (byte, first-word (omega (arith, two)), second-word (omega (arith, two))) refl)
+        (omega (arith, two))
+        (λ n. go n (array-of (s .store) (argument ws 0)) (argument ws 1)
+        (inside (argument ws 1) (length (array-of (s .store) (argument ws 0)))) refl)
+      where
+        go : (n : ℕ) (vs : List ℤ) (w : ℤ) (t : Bool) → inside w (length vs) ≡ t → Gives n (s .store) (index-given vs w)
+            (onward (λ _. give (getD vs (natAbs w) (pos 0))) (require (inside w (length vs)) 23
+            (M.with-store (with-left s n) (s .store) (touching (s .store) (cell-of (argument ws 0))))))
+        go n vs w true e = rw e (refl, refl, refl)
+        go n vs w false e = rw e (refl, λ q. omega arith, refl)
+
+    literal-same : (d : ℕ) → length us ≤ 16 → d ≤ 3 → Stands (literal d) → Claim (literal d)
+    unfolding doing work-leaf acquire acquire-if M.with-store M.with-roots with-left next-cell
+    literal-same d little shallow r = gives-same (literal d) (at + 1 + length ws) (acquired d ws (s .store))
+        (acquired-given (next-cell (s .store)))
+        (ap (doing (c .kinds) (c .operands) calls at here)
+        (line-read (c .kinds) (c .operands) at 9 (x + 256 * length us + 65536 * d) _ _ (r .kind) (r .operand) refl refl)
+        ∙ rw (
+          let z : (x + 256 * length us + 65536 * d) % 256 ≡ x = omega (arith, new .small) in z,
+          let z : (x + 256 * length us + 65536 * d) / 65536 % 256 ≡ d = omega (arith, new .small, little, shallow) in z,
+          words-same (c .kinds) (c .operands) calls env ρ S b g us 16 (at + 1) little known rs closed,
+        ) refl)
+        (omega (arith, length-map us (word ρ))) (λ n. go n (has-free (s .store)) refl)
+      where
+        go : (n : ℕ) (t : Bool) → has-free (s .store) ≡ t →
+            Gives n (acquired d ws (s .store))
+            (acquired-given (cond (has-free (s .store)) (Cell (s .store .first)) NoneFree))
+            (acquire-if (has-free (s .store)) cell-roots d ws (with-left s n))
+        go n true e = rw e (refl, refl, refl)
+        go n false e = rw e (refl, λ q. omega arith, refl)
+
+    call-same : (h : ℕ) → h < length (p .routines) → length us ≡ length (p .signatures h .parameters) →
+        Stands (call h) → Claim (call h)
+    unfolding doing line-done call-line work-line work-leaf onward with-left
+    call-same h there arity r =
+        subst (λ (z : Doing). Rel Done (line-done W C c calls f at (s .left) here z)
+        (work-line callee Γ (K.leaf x (call h) us) A R ρ s))
+        (sym (ap (doing (c .kinds) (c .operands) calls at here)
+        (line-read (c .kinds) (c .operands) at 8 (x + 256 * h) _ _ (r .kind) (r .operand) refl refl)
+        ∙ ap₂ calling (let z : (x + 256 * h) % 256 ≡ x = omega (arith, new .small) in z)
+        (let z : (x + 256 * h) / 256 % 256 ≡ h = omega (arith, new .small, there, few) in z)))
+        (rel-step Done s here
+        (λ n. call-worked C calls x h at n here (words-at 16 (c .kinds) (c .operands) calls env (at + 1)))
+        (λ _ s′. onward (λ w. give (updated ρ x w)) (callee call-roots h ws s′))
+        (λ n. rw (words-same (c .kinds) (c .operands) calls env ρ S b g us 16 (at + 1)
+        (omega (arith, arity, calling-same .few h there)) known rs closed)
+        (rel-then (CallDone calls env) Done (C h ws n here) (callee call-roots h ws (with-left s n))
+        (λ w. binding calls x (at + 1 + length ws) w) (λ w. give (updated ρ x w))
+        (calling-same .same call-roots h ws env (with-left s n) there (length-map us (word ρ) ∙ arity) long)
+        (λ v s′ k. (
+          refl,
+          bound-done calls env ρ S b g long x new (at + 1 + length ws) (at + suc (length us))
+              (omega (arith, length-map us (word ρ))) (C h ws n here) v s′
+              (call-word calls env S b (C h ws n here) v s′ k),
+        )))))
+
+    -- every leaf
+    pub leaf-same : (l : Leaf) → LeafFits p Γ x l us → Stands l → Claim l
+    leaf-same (operation o) h r = operation-same o (h .limits) r
+    leaf-same (call k) h r =
+        call-same k (leb-false (length (p .routines)) k (h .calls)) (call-long Γ us (p .signatures k) (Γ x) (h .gives)) r
+    leaf-same (literal d) h r = literal-same d (h .limits .0) (h .limits .1) r
+    leaf-same index h r = index-same (h .limits) r
+    leaf-same length-of h r = length-same (h .limits) r
+
+  -- ---- retains and releases
+
+  module _ (x : ℕ) (known : S x ≡ true) where
+    pub retain-same : Here (c .kinds) (c .operands) at (row 14 x) →
+        Rel (LineDone (at + 1) calls env S S) (line-done W C c calls f at (s .left) here found)
+        (work-line callee Γ (K.retain x) A R ρ s)
+    unfolding doing line-done leaf-done work-line onward retain-word M.with-store
+    retain-same r =
+        rw (
+          line-read (c .kinds) (c .operands) at 14 x _ _ (r .kind) (r .operand) refl refl,
+          let z : x % 256 ≡ x = omega (arith, b .below x known) in z,
+        ) (
+          refl,
+          record {
+            next = refl;
+            steps = refl;
+            store = ap (λ (w : ℤ). retained (cell-of w) (s .store)) (g .agree x known);
+            agrees = g;
+            kept = kept-none calls env S;
+          },
+        )
+
+    pub release-same : Here (c .kinds) (c .operands) at (row 15 x) →
+        Rel (LineDone (at + 1) calls env S S) (line-done W C c calls f at (s .left) here found)
+        (work-line callee Γ (K.release x) A R ρ s)
+    unfolding doing line-done leaf-done work-line onward release-word M.with-store
+    release-same r =
+        rw (
+          line-read (c .kinds) (c .operands) at 15 x _ _ (r .kind) (r .operand) refl refl,
+          let z : x % 256 ≡ x = omega (arith, b .below x known) in z,
+        ) (
+          refl,
+          record {
+            next = refl;
+            steps = refl;
+            store = ap (λ (w : ℤ). released deepest (cell-of w) (s .store)) (g .agree x known);
+            agrees = g;
+            kept = kept-none calls env S;
+          },
+        )

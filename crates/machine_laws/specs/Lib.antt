@@ -1,7 +1,8 @@
 pub mod Rows
-pub mod Scopes
+pub mod Frames
 pub mod Same
 pub mod Leaves
+pub mod Loops
 pub mod Trees
 pub mod Calls
 pub mod Delivery

@@ -1,20 +1,23 @@
 -- Rows that stand in the code arrays from a position on, and what is read there.
-use mathlib.Core.Path.{_≡_, refl, sym, ap, ap₂, subst, _∙_}
-use mathlib.Core.Bool.{Bool, true, false, cond}
-use mathlib.Core.List.{List, [], _∷_, _++_, map}
-use Prim.Native.Nat.{ℕ, zero, suc, _+_, _*_, _/_, _%_, _<_, _≤_}
+use mathlib.Core.Path.{_≡_, refl, ap, subst, _∙_}
+use mathlib.Core.Bool.{true, false, not}
+use mathlib.Core.Logic.{inl, inr}
+use mathlib.Core.List.{List, [], _∷_, _++_}
+use Prim.Native.Nat.{ℕ, suc, _+_, _%_, _<_, _≤_}
 use native.Mathlib.Omega.{arith}
 use lib.IntN.{ℤ, pos}
+use lib.Dec.{T}
 use lib.ListN.{getD, length, length-append}
-use Rattle.semantics.specs.Number.{Operation, sum, difference, less}
+use mir.Val.{hasKey}
+use types.Run.{miss}
+use borrow.Author.Tests.{ne-eqb}
+use Rattle.semantics.specs.Number.{sum, difference, less}
+use Rattle.semantics.specs.Kinds.{Leaf, operation, call, literal, index, length-of, Loop, mapping, leaf-kind, loop-kind}
 use Rattle.semantics.specs.Code as C
-use Rattle.semantics.specs.Code.{Row, row, atom-row, operation-kind, rows, line-rows}
-use Rattle.machine_code.specs.Reading.{natural, atom-at, is-atom, line-of, line-at, end-in}
+use Rattle.semantics.specs.Code.{Row, atom-row, rows, line-rows}
+use Rattle.machine_code.specs.Reading.{atom-at, is-atom, line-of, line-at, end-in}
 use Rattle.machine_code.specs.declared.Atom.{Atom}
 use Rattle.machine_code.specs.declared.Atom.the-variants.{Number, Name}
-use Rattle.machine_code.specs.declared.Line.{Line}
-use Rattle.machine_code.specs.declared.Line.the-variants as L
-use Rattle.machine_lines.specs.Lines.{operation-of}
 use Rattle.machine_positions.specs.Machine.{Code}
 
 -- a row stands at a position
@@ -71,25 +74,38 @@ module _ (kinds : List ℕ) (operands : List ℤ) (at : ℕ) where
   unfolding line-at
   line-read k n a b e f g h = rw (e, f, g, h) refl
 
-pub operation-back : (o : Operation) → operation-of (operation-kind o) ≡ o
-operation-back sum = refl
-operation-back difference = refl
-operation-back less = refl
+-- ---- kinds
+
+-- the kinds that are no leaf's: of functions, atoms, ifs, loops and ends
+abbrev pub not-leaves : List ℕ
+not-leaves = 0 ∷ 2 ∷ 3 ∷ 12 ∷ 13 ∷ 16 ∷ []
+
+pub leaf-apart : (l : Leaf) → T (not (hasKey not-leaves (leaf-kind l)))
+leaf-apart (operation sum) = tt
+leaf-apart (operation difference) = tt
+leaf-apart (operation less) = tt
+leaf-apart (call f) = tt
+leaf-apart (literal d) = tt
+leaf-apart index = tt
+leaf-apart length-of = tt
+
+leaf-no-atom : (l : Leaf) → is-atom (leaf-kind l) ≡ false
+leaf-no-atom l = rw (
+  ne-eqb (leaf-kind l) 2 (λ e. miss not-leaves (leaf-kind l) (leaf-apart l) (inr (inl e))),
+  ne-eqb (leaf-kind l) 3 (λ e. miss not-leaves (leaf-kind l) (leaf-apart l) (inr (inr (inl e)))),
+) refl
+
+loop-no-atom : (k : Loop) → is-atom (loop-kind k) ≡ false
+loop-no-atom mapping = refl
 
 -- the rows of a tree begin with no atom
 pub no-atom : (kinds : List ℕ) (operands : List ℤ) (at : ℕ) (t : C.Tree) → At kinds operands at (rows t) →
     is-atom (getD kinds at 0) ≡ false
 unfolding rows line-rows
 no-atom kinds operands at (C.end a) h = ap is-atom (h .0 .kind)
-no-atom kinds operands at (C.line (C.operation x sum a b) t) h = ap is-atom (h .0 .kind)
-no-atom kinds operands at (C.line (C.operation x difference a b) t) h = ap is-atom (h .0 .kind)
-no-atom kinds operands at (C.line (C.operation x less a b) t) h = ap is-atom (h .0 .kind)
-no-atom kinds operands at (C.line (C.call x f us) t) h = ap is-atom (h .0 .kind)
-no-atom kinds operands at (C.line (C.literal x d us) t) h = ap is-atom (h .0 .kind)
-no-atom kinds operands at (C.line (C.index x a b) t) h = ap is-atom (h .0 .kind)
-no-atom kinds operands at (C.line (C.length-of x a) t) h = ap is-atom (h .0 .kind)
-no-atom kinds operands at (C.line (C.if-else x g t e) k) h = ap is-atom (h .0 .kind)
-no-atom kinds operands at (C.line (C.map-over x p a t) k) h = ap is-atom (h .0 .kind)
+no-atom kinds operands at (C.line (C.leaf x l us) t) h = ap is-atom (h .0 .kind) ∙ leaf-no-atom l
+no-atom kinds operands at (C.line (C.if-else x g t e) u) h = ap is-atom (h .0 .kind)
+no-atom kinds operands at (C.line (C.loop x k ps us t) u) h = ap is-atom (h .0 .kind) ∙ loop-no-atom k
 no-atom kinds operands at (C.line (C.retain x) t) h = ap is-atom (h .0 .kind)
 no-atom kinds operands at (C.line (C.release x) t) h = ap is-atom (h .0 .kind)
 
@@ -98,17 +114,19 @@ pub tree-within : (kinds : List ℕ) (operands : List ℤ) (at : ℕ) (t : C.Tre
     at < length kinds
 unfolding rows line-rows
 tree-within kinds operands at (C.end a) h = h .0 .within
-tree-within kinds operands at (C.line (C.operation x sum a b) t) h = h .0 .within
-tree-within kinds operands at (C.line (C.operation x difference a b) t) h = h .0 .within
-tree-within kinds operands at (C.line (C.operation x less a b) t) h = h .0 .within
-tree-within kinds operands at (C.line (C.call x f us) t) h = h .0 .within
-tree-within kinds operands at (C.line (C.literal x d us) t) h = h .0 .within
-tree-within kinds operands at (C.line (C.index x a b) t) h = h .0 .within
-tree-within kinds operands at (C.line (C.length-of x a) t) h = h .0 .within
-tree-within kinds operands at (C.line (C.if-else x g t e) k) h = h .0 .within
-tree-within kinds operands at (C.line (C.map-over x p a t) k) h = h .0 .within
+tree-within kinds operands at (C.line (C.leaf x l us) t) h = h .0 .within
+tree-within kinds operands at (C.line (C.if-else x g t e) u) h = h .0 .within
+tree-within kinds operands at (C.line (C.loop x k ps us t) u) h = h .0 .within
 tree-within kinds operands at (C.line (C.retain x) t) h = h .0 .within
 tree-within kinds operands at (C.line (C.release x) t) h = h .0 .within
+
+pub line-some : (l : C.Line) → 1 ≤ length (line-rows l)
+unfolding line-rows
+line-some (C.leaf x l us) = omega arith
+line-some (C.if-else x g t e) = omega arith
+line-some (C.loop x k ps us t) = omega arith
+line-some (C.retain x) = omega arith
+line-some (C.release x) = omega arith
 
 pub rows-some : (t : C.Tree) → 2 ≤ length (rows t)
 unfolding rows

@@ -1,21 +1,24 @@
--- How work over positions agrees with a run of the machine: it goes on with what P says, or it stops with the same number
--- and the same steps left.
+-- How work over positions agrees with a run of the machine: it goes on with what P says, or it stops with the same
+-- number and the same steps left.
 use mathlib.Core.Path.{_≡_, refl, sym, ap, ap₂, subst, _∙_}
-use mathlib.Core.Bool.{Bool, true, false, cond}
-use mathlib.Core.List.{List, [], _∷_}
+use mathlib.Core.Bool.{true}
+use mathlib.Core.List.{List}
 use Prim.Native.Nat.{ℕ, zero, suc, _+_, _-_, _*_, _<_, _≤_}
 use native.Mathlib.Omega.{arith}
 use lib.IntN.{ℤ, pos}
-use lib.Dec.{eqb}
-use lib.ListN.{getD, length}
+use lib.ListN.{getD, set, length}
 use borrow.Author.Tests.{eq-eqb, ne-eqb}
+use Rattle.semantics.specs.Basics.{updated}
 use Rattle.semantics.specs.Outcome.{Outcome, done, stop, Run, onward}
-use Rattle.semantics.specs.Live.{Set}
-use Rattle.semantics.specs.Machine.{State, Work, Frame, step, stepped, with-left}
-use Rattle.machine_lines.specs.declared.Out.{Out}
-use Rattle.machine_lines.specs.Lines.{Memory, memory, Ran, ran, Left, left, out, halted, stepping, with-store}
-use Rattle.machine_positions.specs.Machine.{and-then}
-use Rattle.machine_laws.specs.Scopes.{Agrees, Kept}
+use Rattle.semantics.specs.Live.{Set, _∪_, only}
+use Rattle.semantics.specs.Store.{Store}
+use Rattle.semantics.specs.Machine.{State, Frame, step, stepped, with-left}
+use Rattle.sound_machine.specs.Discipline.{New}
+use Rattle.machine_lines.specs.Frames.{place}
+use Rattle.machine_lines.specs.Lines as G
+use Rattle.machine_lines.specs.Lines.{Memory, memory, Ran, halted, stepping, Given}
+use Rattle.machine_positions.specs.Machine.{and-then, binding}
+use Rattle.machine_laws.specs.Frames.{Bounded, Agrees, Kept, agrees-more, agrees-kept, kept-more, kept-then}
 
 pub record Stopped (w : Ran) (n : ℕ) (s : State) : Type 0 where
   pub stop : w .out .stop ≡ n
@@ -26,13 +29,17 @@ abbrev pub Rel : {A : Type 0} → (Ran → A → State → Type 0) → Ran → O
 Rel P w (done a s) = (w .out .stop ≡ 0) × P w a s
 Rel P w (stop n s) = Stopped w n s
 
--- a tree gave its word: the code goes on at a position
-pub record TreeDone (goal calls : ℕ) (env : List ℤ) (S : Set) (w : Ran) (v : ℤ) (s : State) : Type 0 where
+-- work gave its word, and left the names S and the callers' frames
+pub record WordDone (calls : ℕ) (env : List ℤ) (S : Set) (w : Ran) (v : ℤ) (s : State) : Type 0 where
   pub value : w .out .value ≡ v
-  pub next : w .out .next ≡ goal
   pub steps : w .out .steps ≡ s .left
   pub store : w .memory .store ≡ s .store
   pub kept : Kept calls env (w .memory .env) S
+
+-- a tree gave its word: the code goes on at a position
+pub record TreeDone (goal calls : ℕ) (env : List ℤ) (S : Set) (w : Ran) (v : ℤ) (s : State) : Type 0 where
+  pub next : w .out .next ≡ goal
+  pub word : WordDone calls env S w v s
 
 -- a line left a frame, in which the names T are known
 pub record LineDone (goal calls : ℕ) (env : List ℤ) (S T : Set) (w : Ran) (ρ : Frame) (s : State) : Type 0 where
@@ -49,6 +56,13 @@ pub record CallDone (calls : ℕ) (env : List ℤ) (w : Ran) (v : ℤ) (s : Stat
   pub store : w .memory .store ≡ s .store
   pub frames : (q : ℕ) → q < 256 * (31 - calls) + 256 → getD (w .memory .env) q (pos 0) ≡ getD env q (pos 0)
   pub long : length (w .memory .env) ≡ length env
+
+-- a small work, in n steps left and with a store, is that of the machine
+abbrev pub Gives : ℕ → Store → Given → Outcome State ℤ → Type 0
+Gives n σ (G.word w) (done v s) = (w ≡ v) × (n ≡ s .left) × (σ ≡ s .store)
+Gives n σ (G.word w) (stop k s) = ⊥
+Gives n σ (G.stop j) (done v s) = ⊥
+Gives n σ (G.stop j) (stop k s) = (j ≡ k) × (k ≡ 0 → ⊥) × (n ≡ s .left)
 
 pub rel-then : {A B : Type 0} (P : Ran → A → State → Type 0) (Q : Ran → B → State → Type 0) (w : Ran)
     (o : Outcome State A) (F : Ran → Ran) (f : A → Run State B) → Rel P w o →
@@ -68,14 +82,6 @@ rel-step Q s m G f k = go (s .left) refl
     go zero e = record { stop = refl; real = λ z. omega arith; steps = sym e }
     go (suc n) e = k n
 
--- a step before work that leaves the store alone
-pub stepping-left : (steps : ℕ) (m : Memory) (G : ℕ → Left) →
-    with-store (m .store) (stepping steps (left (out 21 (pos 0) 0 0) (m .env)) G)
-    ≡ stepping steps (halted 21 0 m) (λ n. with-store (m .store) (G n))
-unfolding stepping
-stepping-left zero m G = refl
-stepping-left (suc n) m G = refl
-
 pub rel-map : {A : Type 0} (P Q : Ran → A → State → Type 0) (w : Ran) (o : Outcome State A) →
     ((a : A) (s : State) → P w a s → Q w a s) → Rel P w o → Rel Q w o
 rel-map P Q w (done a s) k h = (h .0, k a s (h .1))
@@ -86,3 +92,53 @@ pub onward-onward : {S A B D : Type 0} (f : B → Run S D) (g : A → Run S B) (
 unfolding onward
 onward-onward f g (done a s) = refl
 onward-onward f g (stop n s) = refl
+
+-- ---- words that are kept
+
+-- what follows work that gave a word, from the machine's word, steps and store
+pub word-moved : (X : ℤ → ℕ → Memory → Ran) {calls : ℕ} {env : List ℤ} {S : Set} {w : Ran} {v : ℤ} {s : State} →
+    WordDone calls env S w v s →
+    X (w .out .value) (w .out .steps) (w .memory) ≡ X v (s .left) (memory (s .store) (w .memory .env))
+word-moved X {w = w} {v = v} {s = s} h = ap₂ (λ (y : ℤ) (n : ℕ). X y n (w .memory)) (h .value) (h .steps)
+    ∙ ap (λ (σ : Store). X v (s .left) (memory σ (w .memory .env))) (h .store)
+
+-- the same word, known from another list of words that kept the names
+pub word-kept : (calls : ℕ) (e₀ e₁ : List ℤ) (S T : Set) → ((x : ℕ) → S x ≡ true → T x ≡ true) → Kept calls e₀ e₁ S →
+    (w : Ran) (v : ℤ) (s : State) → WordDone calls e₁ T w v s → WordDone calls e₀ S w v s
+word-kept calls e₀ e₁ S T i k w v s h = record {
+  value = h .value;
+  steps = h .steps;
+  store = h .store;
+  kept = kept-then calls e₀ e₁ (w .memory .env) S T i k (h .kept);
+}
+
+-- a call's word
+pub call-word : (calls : ℕ) (env : List ℤ) (S : Set) → Bounded S → (w : Ran) (v : ℤ) (s : State) →
+    CallDone calls env w v s → WordDone calls env S w v s
+call-word calls env S b w v s k = record {
+  value = k .value;
+  steps = k .steps;
+  store = k .store;
+  kept = record {
+    names = λ y p. k .frames (place calls y) (omega (arith, b .below y p));
+    callers = λ q r. k .frames q (omega (arith, r));
+    long = k .long;
+  };
+}
+
+-- a name bound to a word that work gave
+pub bound-done : (calls : ℕ) (env : List ℤ) (ρ : Frame) (S : Set) → Bounded S → Agrees calls env ρ S →
+    8192 ≤ length env → (x : ℕ) → New x S → (next goal : ℕ) → next ≡ goal → (w : Ran) (v : ℤ) (s : State) →
+    WordDone calls env S w v s →
+    LineDone goal calls env S (S ∪ only x) (binding calls x next w) (updated ρ x v) s
+bound-done calls env ρ S b g long x new next goal e w v s h = record {
+  next = e;
+  steps = h .steps;
+  store = h .store;
+  agrees = subst (λ (y : ℤ). Agrees calls (set (w .memory .env) (place calls x) y) (updated ρ x v) (S ∪ only x))
+      (sym (h .value))
+      (agrees-more calls (w .memory .env) ρ S x v (new .small) (omega (arith, long, h .kept .long)) b
+      (agrees-kept calls env (w .memory .env) ρ S g (h .kept)));
+  kept = kept-then calls env (w .memory .env) (set (w .memory .env) (place calls x) (w .out .value)) S S (λ y p. p)
+      (h .kept) (kept-more calls (w .memory .env) S x (w .out .value) (new .unknown));
+}

@@ -1,21 +1,19 @@
 -- Laws of the lines that work no tree: one for each way out of the code.
 use mathlib.Core.Path.{_≡_, refl, sym, ap, ap₂, _∙_}
-use mathlib.Core.Logic.{_⊎_, inl, inr, ⊎-elim}
-use mathlib.Core.Bool.{Bool, true, false, cond}
+use mathlib.Core.Bool.{Bool, true, false, cond, not}
 use mathlib.Core.List.{List, [], _∷_}
-use Prim.Native.Nat.{ℕ, zero, suc, _+_, _-_, _*_, _^_, _<_, _≤_}
+use Prim.Native.Nat.{ℕ, zero, suc, _+_, _-_, _<_, _≤_}
 use native.Mathlib.Omega.{arith}
-use native.Mathlib.Decide.{ℕ-discrete}
 use lib.IntN.{ℤ, pos, negsuc, natAbs}
 use lib.Signed.{ltZ}
-use lib.Dec.{ltb, eqb}
-use lib.ListN.{getD, set, length, take, drop}
-use lib.Seq.{length-take-le}
+use lib.Dec.{T, ltb}
+use lib.ListN.{getD, set, length}
 use denote.Enum.Declared.{tagOf}
-use types.Run.{OneOf}
+use types.Run.{OneOf, miss}
+use mir.Val.{hasKey}
 use Rattle.machine_code.proofs.Line.{the-type}
-use borrow.Author.Tests.{lt-ltb, le-ltb, eq-eqb, ne-eqb, ltb-true, ltb-false}
-use Rattle.semantics.specs.Number.{Operation, sum, difference, less, exact, fits, inside}
+use borrow.Author.Tests.{lt-ltb, le-ltb, ltb-true, ltb-false}
+use Rattle.semantics.specs.Number.{Operation, less, exact, fits, inside}
 use Rattle.semantics.specs.Store.{Store, cell, cell-of, elements, acquired, has-free, cell-count, retained}
 use Rattle.semantics.specs.Store.{released, deepest}
 use Rattle.semantics.specs.Words.{store-of, cells-in}
@@ -34,9 +32,11 @@ use Rattle.machine_code.specs.declared.Line.the-variants as L
 use Rattle.machine_code.proofs.Reading.{no-bool, less-one}
 use Rattle.machine_lines.specs.declared.Out.{Out}
 use Rattle.machine_lines.specs.Frames.{place, word-of, words-at}
-use Rattle.machine_lines.specs.Lines.{Memory, memory, Ran, ran, Left, left, out, with-store, halted, bound}
-use Rattle.machine_lines.specs.Lines.{goes-on, stepping, operation-of, operated, operation-line, array-of}
-use Rattle.machine_lines.specs.Lines.{index-line, length-line, acquired-line, literal-line, leaf}
+use Rattle.machine_lines.specs.Lines.{Memory, memory, Ran, ran, left, out, with-store, halted, stepping}
+use Rattle.machine_lines.specs.Lines.{Given, word, stop, given, worked, operation-of, exact-given, operation-given}
+use Rattle.machine_lines.specs.Lines.{array-of, index-given, length-given, acquired-given, operation-line}
+use Rattle.machine_lines.specs.Lines.{index-line, length-line, Doing, giving, changing, ending, calling, branching, looping}
+use Rattle.machine_lines.specs.Lines.{doing, leaf-done, literal-line, leaf}
 
 -- ---- operations
 
@@ -49,29 +49,49 @@ less-fits a b = go (ltZ a b)
     go true = refl
     go false = refl
 
+-- ---- small works that leave the store alone
+
+module _ (calls x next steps : ℕ) (env : List ℤ) (g : Given) where
+  worked-spent : (r : Out) → steps ≡ 0 → r ≡ out 21 (pos 0) 0 steps → left r env ≡ worked calls x next steps env g
+  unfolding worked stepping
+  worked-spent r z e = rw (e, z)
+
+  worked-is : (steps ≡ 0 → ⊥) → (h : Given) → g ≡ h →
+      worked calls x next steps env g ≡ given calls x next (steps - 1) env h
+  unfolding worked stepping
+  worked-is some h e = ap (λ (n : ℕ). worked calls x next n env g) (less-one steps (omega arith))
+      ∙ ap (given calls x next (steps - 1) env) e
+
+  worked-word : (steps ≡ 0 → ⊥) → (z : ℤ) → g ≡ word z → (env′ : List ℤ) → env′ ≡ set env (place calls x) z →
+      (r : Out) → r ≡ out 0 z next (steps - 1) → left r env′ ≡ worked calls x next steps env g
+  worked-word some z e env′ h r q = sym (worked-is some (word z) e ∙ ap₂ left (sym q) (sym h))
+
+  worked-stop : (steps ≡ 0 → ⊥) → (n : ℕ) → g ≡ stop n → (r : Out) → r ≡ out n (pos 0) 0 (steps - 1) →
+      left r env ≡ worked calls x next steps env g
+  worked-stop some n e r q = sym (worked-is some (stop n) e ∙ ap (λ (y : Out). left y env) (sym q))
+
 module _ (calls kind x : ℕ) (a b : Atom) (next steps : ℕ) (env : List ℤ) where
+  abbrev operation-here : Given
+  operation-here = operation-given kind (word-of calls env a) (word-of calls env b)
+
   pub operation-spent : (r : Out) → steps ≡ 0 → r ≡ out 21 (pos 0) 0 steps →
       left r env ≡ operation-line calls kind x a b next steps env
-  unfolding operation-line stepping
-  operation-spent r z e = rw (e, z)
+  operation-spent = worked-spent calls x next steps env operation-here
 
   module _ (some : steps ≡ 0 → ⊥) (v w : ℤ) (ve : v ≡ word-of calls env a) (we : w ≡ word-of calls env b)
       (e : Exact) (ee : e ≡ checked (exact (operation-of kind) v w)) where
-    operation-is : operation-line calls kind x a b next steps env ≡ operated calls x next (steps - 1) env e
-    unfolding operation-line stepping
-    operation-is = ap (λ (n : ℕ). operation-line calls kind x a b next n env) (less-one steps (omega arith))
-        ∙ ap (operated calls x next (steps - 1) env) (sym (ee
+    operation-is : operation-here ≡ exact-given e
+    operation-is = sym (ap exact-given (ee
         ∙ ap₂ (λ (y : ℤ) (z : ℤ). checked (exact (operation-of kind) y z)) ve we))
 
     pub operation-value : (z : ℤ) → e ≡ Value z → (env′ : List ℤ) → env′ ≡ set env (place calls x) z → (r : Out) →
         r ≡ out 0 z next (steps - 1) → left r env′ ≡ operation-line calls kind x a b next steps env
-    operation-value z h env′ g r q = sym (operation-is ∙ ap (operated calls x next (steps - 1) env) h ∙ ap₂ left
-        (sym q) (sym g))
+    operation-value z h =
+        worked-word calls x next steps env operation-here some z (operation-is ∙ ap exact-given h)
 
     pub operation-over : e ≡ Overflow → (r : Out) → r ≡ out 24 (pos 0) 0 (steps - 1) →
         left r env ≡ operation-line calls kind x a b next steps env
-    operation-over h r q = sym (operation-is ∙ ap (operated calls x next (steps - 1) env) h ∙ ap (λ (y : Out). left
-        y env) (sym q))
+    operation-over h = worked-stop calls x next steps env operation-here some 24 (operation-is ∙ ap exact-given h)
 
 -- ---- index and length
 
@@ -96,26 +116,23 @@ few-elements slots heads c = go (ltb c (cells-in slots heads)) refl
     go false e = omega (arith, length-out slots heads c (ltb-false _ _ e))
 
 module _ (σ : Store) (calls x : ℕ) (a b : Atom) (next steps : ℕ) (env : List ℤ) where
+  abbrev index-here : Given
+  index-here = index-given (array-of σ (word-of calls env a)) (word-of calls env b)
+
   pub index-spent : (r : Out) → steps ≡ 0 → r ≡ out 21 (pos 0) 0 steps →
       left r env ≡ index-line σ calls x a b next steps env
-  unfolding index-line stepping
-  index-spent r z e = rw (e, z)
+  index-spent = worked-spent calls x next steps env index-here
 
   module _ (some : steps ≡ 0 → ⊥) (v w : ℤ) (ve : v ≡ word-of calls env a) (we : w ≡ word-of calls env b)
       (c : ℕ) (ce : c ≡ cell-of v) where
-    index-is : (t : Bool) → inside w (length (elements (cell σ c))) ≡ t → index-line σ calls x a b next steps env ≡
-        cond t
-        (left (out 0 (getD (elements (cell σ c)) (natAbs w) (pos 0)) next (steps - 1))
-        (bound calls x (getD (elements (cell σ c)) (natAbs w) (pos 0)) env))
-        (left (out 23 (pos 0) 0 (steps - 1)) env)
-    unfolding index-line stepping
-    index-is t e = ap (λ (n : ℕ). index-line σ calls x a b next n env) (less-one steps (omega arith))
-        ∙ rw (← ve, ← we, ← ce, e) refl
+    index-is : (t : Bool) → inside w (length (elements (cell σ c))) ≡ t →
+        index-here ≡ cond t (word (getD (elements (cell σ c)) (natAbs w) (pos 0))) (stop 23)
+    index-is t e = rw (← ve, ← we, ← ce, e) refl
 
     pub index-off : (inside w (length (elements (cell σ c))) ≡ false) → (r : Out) → r ≡ out 23 (pos 0) 0 (steps - 1)
         →
         left r env ≡ index-line σ calls x a b next steps env
-    index-off e r q = sym (index-is false e ∙ ap (λ (y : Out). left y env) (sym q))
+    index-off e = worked-stop calls x next steps env index-here some 23 (index-is false e)
 
     pub index-negative : ltZ w (pos 0) ≡ true → (r : Out) → r ≡ out 23 (pos 0) 0 (steps - 1) →
         left r env ≡ index-line σ calls x a b next steps env
@@ -130,25 +147,22 @@ module _ (σ : Store) (calls x : ℕ) (a b : Atom) (next steps : ℕ) (env : Lis
           (pos 0) →
           (env′ : List ℤ) → env′ ≡ set env (place calls x) z → (r : Out) → r ≡ out 0 z next (steps - 1) →
           left r env′ ≡ index-line σ calls x a b next steps env
-      index-value l h z ze env′ g r q = sym (index-is true (inside-in w _ l (omega (arith, h, ne)))
-          ∙ ap (λ (y : ℤ). left (out 0 y next (steps - 1)) (bound calls x y env)) (sym ze) ∙ ap₂ left (sym q) (sym
-          g))
+      index-value l h z ze = worked-word calls x next steps env index-here some z
+          (index-is true (inside-in w _ l (omega (arith, h, ne))) ∙ ap word (sym ze))
 
 module _ (σ : Store) (calls x : ℕ) (a : Atom) (next steps : ℕ) (env : List ℤ) where
+  abbrev length-here : Given
+  length-here = length-given (array-of σ (word-of calls env a))
+
   pub length-spent : (r : Out) → steps ≡ 0 → r ≡ out 21 (pos 0) 0 steps →
       left r env ≡ length-line σ calls x a next steps env
-  unfolding length-line stepping
-  length-spent r z e = rw (e, z)
+  length-spent = worked-spent calls x next steps env length-here
 
   pub length-value : (steps ≡ 0 → ⊥) → (v : ℤ) → v ≡ word-of calls env a → (c : ℕ) → c ≡ cell-of v → (z : ℤ) →
       z ≡ pos (length (elements (cell σ c))) → (env′ : List ℤ) → env′ ≡ set env (place calls x) z → (r : Out) →
       r ≡ out 0 z next (steps - 1) → left r env′ ≡ length-line σ calls x a next steps env
-  unfolding length-line stepping
-  length-value some v ve c ce z ze env′ g r q = sym (
-      ap (λ (n : ℕ). length-line σ calls x a next n env) (less-one steps (omega arith))
-      ∙ ap (λ (y : ℤ). left (out 0 y next (steps - 1)) (bound calls x y env))
-      (sym (ze ∙ ap (λ (k : ℕ). pos (length (elements (cell σ k)))) (ce ∙ ap cell-of ve)))
-      ∙ ap₂ left (sym q) (sym g))
+  length-value some v ve c ce z ze = worked-word calls x next steps env length-here some z
+      (ap word (sym (ze ∙ ap (λ (k : ℕ). pos (length (elements (cell σ k)))) (ce ∙ ap cell-of ve))))
 
 -- ---- a literal
 
@@ -167,14 +181,14 @@ next-small slots heads q c e h = let given = cell-given (store-of slots heads) c
 module _ (kinds : List ℕ) (operands : List ℤ) (calls x d at steps : ℕ) (m : Memory) where
   pub literal-spent : (r : Out) → steps ≡ 0 → r ≡ out 21 (pos 0) 0 steps →
       ran r m ≡ literal-line kinds operands calls x d at steps m
-  unfolding literal-line stepping
+  unfolding leaf-done stepping
   literal-spent r z e = rw (e, z)
 
   module _ (some : steps ≡ 0 → ⊥) (ws : List ℤ) (we : ws ≡ words-at 16 kinds operands calls (m .env) (at + 1))
       (q : Acquired) (qe : q ≡ next-cell (m .store)) (σ : Store) (σe : σ ≡ acquired d ws (m .store)) where
     literal-is : literal-line kinds operands calls x d at steps m
-        ≡ acquired-line calls x (at + 1 + length ws) (steps - 1) (memory σ (m .env)) q
-    unfolding literal-line stepping
+        ≡ with-store σ (given calls x (at + 1 + length ws) (steps - 1) (m .env) (acquired-given q))
+    unfolding leaf-done stepping
     literal-is = ap (λ (n : ℕ). literal-line kinds operands calls x d at n m) (less-one steps (omega arith))
         ∙ rw (← we, ← qe, ← σe) refl
 
@@ -183,129 +197,132 @@ module _ (kinds : List ℕ) (operands : List ℤ) (calls x d at steps : ℕ) (m 
         (n : ℕ) → n ≡ length ws → (r : Out) → r ≡ out 0 z (at + 1 + n) (steps - 1) →
         ran r (memory σ env′) ≡ literal-line kinds operands calls x d at steps m
     literal-cell c h z ze env′ g n ne r p = sym (literal-is
-        ∙ ap (acquired-line calls x (at + 1 + length ws) (steps - 1) (memory σ (m .env))) h
-        ∙ ap₂ (λ (y : ℤ) (k : ℕ). goes-on calls x y (at + 1 + k) (steps - 1) (memory σ (m .env))) (sym ze) (sym ne)
+        ∙ ap₂ (λ (y : Given) (k : ℕ). with-store σ (given calls x (at + 1 + k) (steps - 1) (m .env) y))
+        (ap acquired-given h ∙ ap word (sym ze)) (sym ne)
         ∙ ap₂ (λ (y : Out) (l : List ℤ). ran y (memory σ l)) (sym p) (sym g))
 
     pub literal-none : q ≡ NoneFree → (r : Out) → r ≡ out 25 (pos 0) 0 (steps - 1) →
         ran r (memory σ (m .env)) ≡ literal-line kinds operands calls x d at steps m
     literal-none h r p = sym (literal-is
-        ∙ ap (acquired-line calls x (at + 1 + length ws) (steps - 1) (memory σ (m .env))) h
+        ∙ ap (λ (y : Acquired). with-store σ (given calls x (at + 1 + length ws) (steps - 1) (m .env)
+        (acquired-given y))) h
         ∙ ap (λ (y : Out). ran y (memory σ (m .env))) (sym p))
 
 -- ---- any leaf
 
+-- a small work that leaves the store alone is a leaf
+worked-leaf : (calls at x next s : ℕ) (m : Memory) (g : Given) →
+    with-store (m .store) (worked calls x next s (m .env) g) ≡ leaf-done calls at s m (giving x next (m .store) g)
+unfolding worked leaf-done stepping
+worked-leaf calls at x next zero m g = refl
+worked-leaf calls at x next (suc s) m g = refl
+
 module _ (kinds : List ℕ) (operands : List ℤ) (calls at steps : ℕ) (m : Memory) (l : Line) where
+  left-leaf : (k : Line) → l ≡ k → (x next : ℕ) (g : Given) →
+      doing kinds operands calls at m k ≡ giving x next (m .store) g →
+      (r : Out) (env′ : List ℤ) → left r env′ ≡ worked calls x next steps (m .env) g →
+      ran r (memory (m .store) env′) ≡ leaf kinds operands calls at steps m l
+  left-leaf k e x next g d r env′ h = ap (with-store (m .store)) h ∙ worked-leaf calls at x next steps m g
+      ∙ ap (leaf-done calls at steps m) (sym (ap (doing kinds operands calls at m) e ∙ d))
+
   pub leaf-operation : (kind x : ℕ) (a b : Atom) → l ≡ L.Operation kind x a b → (r : Out) (env′ : List ℤ) →
       left r env′ ≡ operation-line calls kind x a b (at + 3) steps (m .env) →
       ran r (memory (m .store) env′) ≡ leaf kinds operands calls at steps m l
-  unfolding leaf
-  leaf-operation kind x a b e r env′ h =
-      ap (with-store (m .store)) h ∙ ap (leaf kinds operands calls at steps m) (sym e)
+  unfolding doing
+  leaf-operation kind x a b e = left-leaf (L.Operation kind x a b) e x (at + 3) _ refl
 
   pub leaf-index : (x : ℕ) (a b : Atom) → l ≡ L.Index x a b → (r : Out) (env′ : List ℤ) →
       left r env′ ≡ index-line (m .store) calls x a b (at + 3) steps (m .env) →
       ran r (memory (m .store) env′) ≡ leaf kinds operands calls at steps m l
-  unfolding leaf
-  leaf-index x a b e r env′ h = ap (with-store (m .store)) h ∙ ap (leaf kinds operands calls at steps m) (sym e)
+  unfolding doing
+  leaf-index x a b e = left-leaf (L.Index x a b) e x (at + 3) _ refl
 
   pub leaf-length : (x : ℕ) (a : Atom) → l ≡ L.Length x a → (r : Out) (env′ : List ℤ) →
       left r env′ ≡ length-line (m .store) calls x a (at + 2) steps (m .env) →
       ran r (memory (m .store) env′) ≡ leaf kinds operands calls at steps m l
-  unfolding leaf
-  leaf-length x a e r env′ h = ap (with-store (m .store)) h ∙ ap (leaf kinds operands calls at steps m) (sym e)
+  unfolding doing
+  leaf-length x a e = left-leaf (L.Length x a) e x (at + 2) _ refl
 
   pub leaf-literal : (x d : ℕ) → l ≡ L.Literal x d → (w : Ran) → w ≡ literal-line kinds operands calls x d at steps
       m →
       w ≡ leaf kinds operands calls at steps m l
-  unfolding leaf
+  unfolding doing
   leaf-literal x d e w h = h ∙ ap (leaf kinds operands calls at steps m) (sym e)
 
   module _ (x : ℕ) (v : ℤ) (ve : v ≡ word-of calls (m .env) (Name x)) (c : ℕ) (ce : c ≡ cell-of v) (σ : Store)
       (r : Out) (re : r ≡ out 0 (pos 0) (at + 1) steps) where
+    -- a line that changes the store as it changes a cell
+    changed-leaf : (k : Line) → l ≡ k → (change : ℕ → Store → Store) →
+        doing kinds operands calls at m k ≡ changing (change (cell-of (word-of calls (m .env) (Name x))) (m .store)) →
+        σ ≡ change c (m .store) → ran r (memory σ (m .env)) ≡ leaf kinds operands calls at steps m l
+    unfolding leaf-done
+    changed-leaf k e change d h = ap₂ (λ (y : Out) (τ : Store). ran y (memory τ (m .env))) re
+        (h ∙ ap (λ (k : ℕ). change k (m .store)) (ce ∙ ap cell-of ve))
+        ∙ ap (leaf-done calls at steps m) (sym (ap (doing kinds operands calls at m) e ∙ d))
+
     pub leaf-retain : l ≡ L.Retain x → σ ≡ retained c (m .store) →
         ran r (memory σ (m .env)) ≡ leaf kinds operands calls at steps m l
-    unfolding leaf
-    leaf-retain e h = ap₂ (λ (y : Out) (τ : Store). ran y (memory τ (m .env))) re
-        (h ∙ ap (λ (k : ℕ). retained k (m .store)) (ce ∙ ap cell-of ve))
-        ∙ ap (leaf kinds operands calls at steps m) (sym e)
+    unfolding doing
+    leaf-retain e = changed-leaf (L.Retain x) e retained refl
 
     pub leaf-release : l ≡ L.Release x → σ ≡ released deepest c (m .store) →
         ran r (memory σ (m .env)) ≡ leaf kinds operands calls at steps m l
-    unfolding leaf
-    leaf-release e h = ap₂ (λ (y : Out) (τ : Store). ran y (memory τ (m .env))) re
-        (h ∙ ap (λ (k : ℕ). released deepest k (m .store)) (ce ∙ ap cell-of ve))
-        ∙ ap (leaf kinds operands calls at steps m) (sym e)
+    unfolding doing
+    leaf-release e = changed-leaf (L.Release x) e (released deepest) refl
 
--- a line of another kind
-pub leaf-other : (kinds : List ℕ) (operands : List ℤ) (calls at steps : ℕ) (m : Memory) (l : Line) →
-    OneOf (1 ∷ 5 ∷ 6 ∷ 9 ∷ []) (tagOf the-type l) → (r : Out) → r ≡ out 99 (pos 0) 0 steps →
-    ran r m ≡ leaf kinds operands calls at steps m l
-unfolding leaf
-leaf-other kinds operands calls at steps m l h r e = ap (λ (y : Out). ran y m) e ∙ go l h
-  where
-    none : {A : Type 0} (n : ℕ) → (n ≡ 1 → ⊥) → (n ≡ 5 → ⊥) → (n ≡ 6 → ⊥) → (n ≡ 9 → ⊥) → OneOf (1 ∷ 5 ∷ 6 ∷ 9 ∷ [])
-        n → A
-    none n a b d f h = absurd (⊎-elim (λ z. a z) (⊎-elim (λ z. b z) (⊎-elim (λ z. d z) (λ z. f z))) h)
+-- the variants of the lines that work or end a tree
+abbrev pub bigger : List ℕ
+bigger = 1 ∷ 5 ∷ 6 ∷ 9 ∷ []
 
-    go : (k : Line) → OneOf (1 ∷ 5 ∷ 6 ∷ 9 ∷ []) (tagOf the-type k) → halted 99 steps m ≡ leaf kinds operands calls
-        at steps m k
-    go (L.Operation kind x a b) h = none 0 (λ z. omega arith) (λ z. omega arith) (λ z. omega arith) (λ z. omega
-        arith) h
-    go (L.Call x f) h = refl
-    go (L.Literal x d) h = none 2 (λ z. omega arith) (λ z. omega arith) (λ z. omega arith) (λ z. omega arith) h
-    go (L.Index x a b) h = none 3 (λ z. omega arith) (λ z. omega arith) (λ z. omega arith) (λ z. omega arith) h
-    go (L.Length x a) h = none 4 (λ z. omega arith) (λ z. omega arith) (λ z. omega arith) (λ z. omega arith) h
-    go (L.If x g) h = refl
-    go (L.Map x p a) h = refl
-    go (L.Retain x) h = none 7 (λ z. omega arith) (λ z. omega arith) (λ z. omega arith) (λ z. omega arith) h
-    go (L.Release x) h = none 8 (λ z. omega arith) (λ z. omega arith) (λ z. omega arith) (λ z. omega arith) h
-    go (L.End a) h = refl
+-- which variants are worked so
+abbrev pub Told : Doing → ℕ → Type 0
+Told (giving x next σ g) n = T (not (hasKey bigger n))
+Told (changing σ) n = T (not (hasKey bigger n))
+Told (ending a) n = n ≡ 9
+Told (calling x f) n = n ≡ 1
+Told (branching x g) n = n ≡ 5
+Told (looping x j ps us) n = n ≡ 6
+
+module _ (kinds : List ℕ) (operands : List ℤ) (calls at : ℕ) (m : Memory) where
+  pub told : (l : Line) → Told (doing kinds operands calls at m l) (tagOf the-type l)
+  unfolding doing
+  told (L.Operation kind x a b) = tt
+  told (L.Call x f) = refl
+  told (L.Literal x d) = tt
+  told (L.Index x a b) = tt
+  told (L.Length x a) = tt
+  told (L.If x g) = refl
+  told (L.Map x p a) = refl
+  told (L.Retain x) = tt
+  told (L.Release x) = tt
+  told (L.End a) = refl
+
+  -- a line that works or ends a tree
+  pub leaf-other : (steps : ℕ) (l : Line) → OneOf bigger (tagOf the-type l) → (r : Out) → r ≡ out 99 (pos 0) 0 steps →
+      ran r m ≡ leaf kinds operands calls at steps m l
+  unfolding leaf-done
+  leaf-other steps l h r e = ap (λ (y : Out). ran y m) e ∙ go (doing kinds operands calls at m l) (told l)
+    where
+      go : (d : Doing) → Told d (tagOf the-type l) → halted 99 steps m ≡ leaf-done calls at steps m d
+      go (giving x next σ g) t = absurd (miss bigger (tagOf the-type l) t h)
+      go (changing σ) t = absurd (miss bigger (tagOf the-type l) t h)
+      go (ending a) t = refl
+      go (calling x f) t = refl
+      go (branching x g) t = refl
+      go (looping x j ps us) t = refl
 
 -- ---- the steps left
 
-pub leaf-fewer : (kinds : List ℕ) (operands : List ℤ) (calls at steps : ℕ) (m : Memory) (l : Line) →
-    leaf kinds operands calls at steps m l .out .steps ≤ steps
-unfolding leaf operation-line index-line length-line literal-line stepping
-leaf-fewer kinds operands calls at steps m l = go l steps
-  where
-    done-or-over : (x next s : ℕ) (e : Exact) → operated calls x next s (m .env) e .out .steps ≤ suc s
-    done-or-over x next s (Value z) = omega arith
-    done-or-over x next s Overflow = omega arith
+given-fewer : (calls x next s : ℕ) (env : List ℤ) (g : Given) → given calls x next s env g .out .steps ≤ suc s
+given-fewer calls x next s env (word z) = omega arith
+given-fewer calls x next s env (stop n) = omega arith
 
-    either : (u v : Left) (s : ℕ) → u .out .steps ≡ s → v .out .steps ≡ s → (t : Bool) → cond t u v .out .steps ≤
-        suc s
-    either u v s d e true = omega arith
-    either u v s d e false = omega arith
-
-    in-or-off : (x next s : ℕ) (z : ℤ) (t : Bool) →
-        cond t (left (out 0 z next s) (bound calls x z (m .env))) (left (out 23 (pos 0) 0 s) (m .env)) .out .steps ≤
-        suc s
-    in-or-off x next s z t =
-        either (left (out 0 z next s) (bound calls x z (m .env))) (left (out 23 (pos 0) 0 s) (m .env)) s refl refl t
-
-    got-or-none : (x next s : ℕ) (k : Memory) (q : Acquired) → acquired-line calls x next s k q .out .steps ≤ suc s
-    got-or-none x next s k (Cell c) = omega arith
-    got-or-none x next s k NoneFree = omega arith
-
-    go : (k : Line) (s : ℕ) → leaf kinds operands calls at s m k .out .steps ≤ s
-    go (L.Operation kind x a b) zero = omega arith
-    go (L.Operation kind x a b) (suc s) = done-or-over x (at + 3) s
-        (checked (exact (operation-of kind) (word-of calls (m .env) a) (word-of calls (m .env) b)))
-    go (L.Call x f) s = omega arith
-    go (L.Literal x d) zero = omega arith
-    go (L.Literal x d) (suc s) =
-        let ws = words-at 16 kinds operands calls (m .env) (at + 1) in
-        got-or-none x (at + 1 + length ws) s (memory (acquired d ws (m .store)) (m .env)) (next-cell (m .store))
-    go (L.Index x a b) zero = omega arith
-    go (L.Index x a b) (suc s) =
-        let l = array-of (m .store) (word-of calls (m .env) a) in
-        in-or-off x (at + 3) s (getD l (natAbs (word-of calls (m .env) b)) (pos 0)) (inside (word-of calls (m .env)
-        b) (length l))
-    go (L.Length x a) zero = omega arith
-    go (L.Length x a) (suc s) = omega arith
-    go (L.If x g) s = omega arith
-    go (L.Map x p a) s = omega arith
-    go (L.Retain x) s = omega arith
-    go (L.Release x) s = omega arith
-    go (L.End a) s = omega arith
+pub leaf-fewer : (calls at s : ℕ) (m : Memory) (d : Doing) → leaf-done calls at s m d .out .steps ≤ s
+unfolding leaf-done stepping
+leaf-fewer calls at zero m (giving x next σ g) = omega arith
+leaf-fewer calls at (suc s) m (giving x next σ g) = given-fewer calls x next s (m .env) g
+leaf-fewer calls at s m (changing σ) = omega arith
+leaf-fewer calls at s m (ending a) = omega arith
+leaf-fewer calls at s m (calling x f) = omega arith
+leaf-fewer calls at s m (branching x g) = omega arith
+leaf-fewer calls at s m (looping x j ps us) = omega arith

@@ -1,11 +1,12 @@
 -- The lines that work no tree, on the code at a position.
 use mathlib.Core.Path.{_≡_}
-use mathlib.Core.Bool.{Bool, cond}
+use mathlib.Core.Bool.{cond}
 use mathlib.Core.List.{List, [], _∷_}
-use Prim.Native.Nat.{ℕ, zero, suc, _+_, _-_, _*_}
+use Prim.Native.Nat.{ℕ, zero, suc, _+_, _-_}
 use lib.IntN.{ℤ, pos, natAbs}
 use lib.Dec.{eqb}
 use lib.ListN.{getD, set, length}
+use Rattle.semantics.specs.Kinds.{Loop, mapping}
 use Rattle.semantics.specs.Number.{Operation, sum, difference, less, exact, inside}
 use Rattle.semantics.specs.Store.{Store, cell, cell-of, elements, acquired, retained, released, deepest}
 use Rattle.semantics.specs.Words.{store-of}
@@ -73,65 +74,107 @@ stepping (suc s) spent f = f s
 abbrev pub Ends : Ran → Out → List ℤ → List ℕ → List ℤ → Type 0
 Ends w r slots heads env = ran r (memory (store-of slots heads) env) ≡ w
 
--- ---- the lines
+-- ---- small works: each gives a word, or a stop
+
+pub data Given : Type 0 where
+  word : ℤ → Given
+  stop : ℕ → Given
+
+-- what a small work gave, bound to a name, with the code going on at a position
+abbrev pub given : ℕ → ℕ → ℕ → ℕ → List ℤ → Given → Left
+given calls x next s env (word w) = left (out 0 w next s) (bound calls x w env)
+given calls x next s env (stop n) = left (out n (pos 0) 0 s) env
+
+-- a step, and then a small work that leaves the store alone
+unfoldable pub worked : ℕ → ℕ → ℕ → ℕ → List ℤ → Given → Left
+worked calls x next steps env g =
+    stepping steps (left (out 21 (pos 0) 0 0) env) (λ s. given calls x next s env g)
 
 abbrev pub operation-of : ℕ → Operation
 operation-of kind = cond (eqb kind 4) sum (cond (eqb kind 5) difference less)
 
-abbrev pub operated : ℕ → ℕ → ℕ → ℕ → List ℤ → Exact → Left
-operated calls x next s env (Value z) = left (out 0 z next s) (bound calls x z env)
-operated calls x next s env Overflow = left (out 24 (pos 0) 0 s) env
+abbrev pub exact-given : Exact → Given
+exact-given (Value z) = word z
+exact-given Overflow = stop 24
 
-unfoldable pub operation-line : ℕ → ℕ → ℕ → Atom → Atom → ℕ → ℕ → List ℤ → Left
-operation-line calls kind x a b next steps env = stepping steps (left (out 21 (pos 0) 0 0) env)
-    (λ s. operated calls x next s env (checked (exact (operation-of kind) (word-of calls env a) (word-of calls env
-    b))))
+abbrev pub operation-given : ℕ → ℤ → ℤ → Given
+operation-given kind v w = exact-given (checked (exact (operation-of kind) v w))
 
 -- the words of the array that a word names
 abbrev pub array-of : Store → ℤ → List ℤ
 array-of σ w = elements (cell σ (cell-of w))
 
-unfoldable pub index-line : Store → ℕ → ℕ → Atom → Atom → ℕ → ℕ → List ℤ → Left
-index-line σ calls x a b next steps env = stepping steps (left (out 21 (pos 0) 0 0) env)
-    (λ s. cond (inside (word-of calls env b) (length (array-of σ (word-of calls env a))))
-    (left (out 0 (getD (array-of σ (word-of calls env a)) (natAbs (word-of calls env b)) (pos 0)) next s)
-    (bound calls x (getD (array-of σ (word-of calls env a)) (natAbs (word-of calls env b)) (pos 0)) env))
-    (left (out 23 (pos 0) 0 s) env))
+abbrev pub index-given : List ℤ → ℤ → Given
+index-given ws w = cond (inside w (length ws)) (word (getD ws (natAbs w) (pos 0))) (stop 23)
 
-unfoldable pub length-line : Store → ℕ → ℕ → Atom → ℕ → ℕ → List ℤ → Left
-length-line σ calls x a next steps env = stepping steps (left (out 21 (pos 0) 0 0) env)
-    (λ s. left (out 0 (pos (length (array-of σ (word-of calls env a)))) next s)
-    (bound calls x (pos (length (array-of σ (word-of calls env a)))) env))
+abbrev pub length-given : List ℤ → Given
+length-given ws = word (pos (length ws))
 
-abbrev pub acquired-line : ℕ → ℕ → ℕ → ℕ → Memory → Acquired → Ran
-acquired-line calls x next s m (Cell c) = goes-on calls x (pos c) next s m
-acquired-line calls x next s m NoneFree = halted 25 s m
+abbrev pub acquired-given : Acquired → Given
+acquired-given (Cell c) = word (pos c)
+acquired-given NoneFree = stop 25
 
-abbrev pub literal-of : ℕ → ℕ → ℕ → ℕ → ℕ → Memory → List ℤ → Ran
-literal-of calls x depth at s m ws =
-    acquired-line calls x (at + 1 + length ws) s (memory (acquired depth ws (m .store)) (m .env)) (next-cell (m
-    .store))
+-- ---- the lines
 
-unfoldable pub literal-line : List ℕ → List ℤ → ℕ → ℕ → ℕ → ℕ → ℕ → Memory → Ran
-literal-line kinds operands calls x depth at steps m = stepping steps (halted 21 0 m)
-    (λ s. literal-of calls x depth at s m (words-at 16 kinds operands calls (m .env) (at + 1)))
+abbrev pub operation-line : ℕ → ℕ → ℕ → Atom → Atom → ℕ → ℕ → List ℤ → Left
+operation-line calls kind x a b next steps env =
+    worked calls x next steps env (operation-given kind (word-of calls env a) (word-of calls env b))
 
--- a line that works no tree and stands at a position; other lines stop with a number that no script can meet
-unfoldable pub leaf : List ℕ → List ℤ → ℕ → ℕ → ℕ → Memory → Line → Ran
-leaf kinds operands calls at s m (L.Operation kind x a b) =
-    with-store (m .store) (operation-line calls kind x a b (at + 3) s (m .env))
-leaf kinds operands calls at s m (L.Call x f) = halted 99 s m
-leaf kinds operands calls at s m (L.Literal x d) = literal-line kinds operands calls x d at s m
-leaf kinds operands calls at s m (L.Index x a b) =
-    with-store (m .store) (index-line (m .store) calls x a b (at + 3) s (m .env))
-leaf kinds operands calls at s m (L.Length x a) =
-    with-store (m .store) (length-line (m .store) calls x a (at + 2) s (m .env))
-leaf kinds operands calls at s m (L.If x g) = halted 99 s m
-leaf kinds operands calls at s m (L.Map x p a) = halted 99 s m
-leaf kinds operands calls at s m (L.Retain x) =
-    ran (out 0 (pos 0) (at + 1) s)
-    (memory (retained (cell-of (word-of calls (m .env) (Name x))) (m .store)) (m .env))
-leaf kinds operands calls at s m (L.Release x) =
-    ran (out 0 (pos 0) (at + 1) s)
-    (memory (released deepest (cell-of (word-of calls (m .env) (Name x))) (m .store)) (m .env))
-leaf kinds operands calls at s m (L.End a) = halted 99 s m
+abbrev pub index-line : Store → ℕ → ℕ → Atom → Atom → ℕ → ℕ → List ℤ → Left
+index-line σ calls x a b next steps env =
+    worked calls x next steps env (index-given (array-of σ (word-of calls env a)) (word-of calls env b))
+
+abbrev pub length-line : Store → ℕ → ℕ → Atom → ℕ → ℕ → List ℤ → Left
+length-line σ calls x a next steps env =
+    worked calls x next steps env (length-given (array-of σ (word-of calls env a)))
+
+-- how a line is worked: `giving` binds the word of a small work that leaves a store to a name, and the code goes on at
+-- a position; `changing` leaves a store; the others end a tree or work one
+pub data Doing : Type 0 where
+  giving : ℕ → ℕ → Store → Given → Doing
+  changing : Store → Doing
+  ending : Atom → Doing
+  calling : ℕ → ℕ → Doing
+  branching : ℕ → Atom → Doing
+  looping : ℕ → Loop → List ℕ → List Atom → Doing
+
+abbrev pub literal-doing : ℕ → ℕ → ℕ → Store → List ℤ → Doing
+literal-doing x depth at σ ws = giving x (at + 1 + length ws) (acquired depth ws σ) (acquired-given (next-cell σ))
+
+-- the line at a position, by its variant
+unfoldable pub doing : List ℕ → List ℤ → ℕ → ℕ → Memory → Line → Doing
+doing kinds operands calls at m (L.Operation kind x a b) =
+    giving x (at + 3) (m .store) (operation-given kind (word-of calls (m .env) a) (word-of calls (m .env) b))
+doing kinds operands calls at m (L.Call x f) = calling x f
+doing kinds operands calls at m (L.Literal x d) =
+    literal-doing x d at (m .store) (words-at 16 kinds operands calls (m .env) (at + 1))
+doing kinds operands calls at m (L.Index x a b) =
+    giving x (at + 3) (m .store)
+    (index-given (array-of (m .store) (word-of calls (m .env) a)) (word-of calls (m .env) b))
+doing kinds operands calls at m (L.Length x a) =
+    giving x (at + 2) (m .store) (length-given (array-of (m .store) (word-of calls (m .env) a)))
+doing kinds operands calls at m (L.If x g) = branching x g
+doing kinds operands calls at m (L.Map x p a) = looping x mapping (p ∷ []) (a ∷ [])
+doing kinds operands calls at m (L.Retain x) =
+    changing (retained (cell-of (word-of calls (m .env) (Name x))) (m .store))
+doing kinds operands calls at m (L.Release x) =
+    changing (released deepest (cell-of (word-of calls (m .env) (Name x))) (m .store))
+doing kinds operands calls at m (L.End a) = ending a
+
+-- a line that works no tree; other lines stop with a number that no script can meet
+unfoldable pub leaf-done : ℕ → ℕ → ℕ → Memory → Doing → Ran
+leaf-done calls at s m (giving x next σ g) =
+    stepping s (halted 21 0 m) (λ n. with-store σ (given calls x next n (m .env) g))
+leaf-done calls at s m (changing σ) = ran (out 0 (pos 0) (at + 1) s) (memory σ (m .env))
+leaf-done calls at s m (ending a) = halted 99 s m
+leaf-done calls at s m (calling x f) = halted 99 s m
+leaf-done calls at s m (branching x g) = halted 99 s m
+leaf-done calls at s m (looping x j ps us) = halted 99 s m
+
+abbrev pub literal-line : List ℕ → List ℤ → ℕ → ℕ → ℕ → ℕ → ℕ → Memory → Ran
+literal-line kinds operands calls x depth at steps m =
+    leaf-done calls at steps m
+    (literal-doing x depth at (m .store) (words-at 16 kinds operands calls (m .env) (at + 1)))
+
+abbrev pub leaf : List ℕ → List ℤ → ℕ → ℕ → ℕ → Memory → Line → Ran
+leaf kinds operands calls at s m l = leaf-done calls at s m (doing kinds operands calls at m l)

@@ -1,31 +1,26 @@
 -- No work changes how many words the frames have.
-use mathlib.Core.Path.{_≡_, refl, sym, ap, _∙_}
+use mathlib.Core.Path.{_≡_, refl, ap, _∙_}
 use mathlib.Core.Bool.{Bool, true, false, cond}
-use mathlib.Core.List.{List, [], _∷_}
+use mathlib.Core.List.{List, [], _∷_, map}
 use Prim.Native.Nat.{ℕ, zero, suc, _+_, _-_}
-use lib.IntN.{ℤ, pos, natAbs}
+use lib.IntN.{ℤ}
 use lib.Dec.{eqb, ltb}
-use lib.ListN.{length, getD, set, length-set}
-use Rattle.semantics.specs.Number.{exact, inside}
-use Rattle.semantics.specs.Store.{Store, cell, cell-of, elements, acquired, appended}
-use Rattle.words.specs.Words.{checked}
-use Rattle.words.specs.declared.Exact.{Exact}
-use Rattle.words.specs.declared.Exact.the-variants.{Value, Overflow}
+use lib.ListN.{length, set, length-set}
+use Rattle.semantics.specs.Kinds.{Loop, mapping, later-parts}
+use Rattle.semantics.specs.Machine.{argument, looped-over}
+use Rattle.semantics.specs.Store.{Store, cell-of, acquired}
 use Rattle.store.specs.Acquiring.{next-cell}
-use Rattle.store.specs.declared.Acquired.{Acquired}
-use Rattle.store.specs.declared.Acquired.the-variants.{Cell, NoneFree}
 use Rattle.machine_code.specs.Reading.{line-at, depth-in, start-in, end-in}
 use Rattle.machine_code.specs.declared.Atom.{Atom}
 use Rattle.machine_code.specs.declared.Line.{Line}
-use Rattle.machine_code.specs.declared.Line.the-variants as L
 use Rattle.machine_lines.specs.declared.Out.{Out}
 use Rattle.machine_lines.specs.Frames.{place, word-of, words-at, put-all, Passed, branch-start, branch-end}
-use Rattle.machine_lines.specs.Lines.{Memory, memory, Ran, ran, Left, left, out, bound, goes-on, stepping, array-of}
-use Rattle.machine_lines.specs.Lines.{operation-of, operated, operation-line, index-line, length-line, acquired-line}
-use Rattle.machine_lines.specs.Lines.{literal-line, leaf}
-use Rattle.machine_positions.specs.Machine.{Work, Callee, Code, and-then, binding, if-line, call-line, passes-on}
-use Rattle.machine_positions.specs.Machine.{map-worked, map-line, line-on, is-end, tree-from, tree-on, call-on}
-use Rattle.machine_positions.specs.Machine.{Ended}
+use Rattle.machine_lines.specs.Lines.{Memory, memory, Ran, with-store, stepping, Given, word, stop, given, array-of}
+use Rattle.machine_lines.specs.Lines.{acquired-given, Doing, giving, changing, ending, calling, branching, looping}
+use Rattle.machine_lines.specs.Lines.{doing, leaf-done}
+use Rattle.machine_positions.specs.Machine.{Work, Callee, Code, and-then, binding, if-line, call-line, looped}
+use Rattle.machine_positions.specs.Machine.{bound-all, entered, gave, carry-first, carry-on, passes-on, loop-line}
+use Rattle.machine_positions.specs.Machine.{line-done, line-on, is-end, tree-from, tree-on, call-on, Ended}
 
 -- work that began on a memory left as many words of frames
 abbrev pub Keeps : Memory → Ran → Type 0
@@ -53,46 +48,38 @@ then-keeps m w f k g = either m (f w) w (g w k) k (eqb (w .out .stop) 0)
 
 -- ---- lines
 
-got-keeps : (calls x next s : ℕ) (m : Memory) (σ : Store) (q : Acquired) →
-    Keeps m (acquired-line calls x next s (memory σ (m .env)) q)
-got-keeps calls x next s m σ (Cell c) = length-set (m .env) (place calls x) (pos c)
-got-keeps calls x next s m σ NoneFree = refl
+given-keeps : (calls x next s : ℕ) (σ : Store) (m : Memory) (g : Given) →
+    Keeps m (with-store σ (given calls x next s (m .env) g))
+given-keeps calls x next s σ m (word w) = length-set (m .env) (place calls x) w
+given-keeps calls x next s σ m (stop n) = refl
 
-leaf-keeps : (kinds : List ℕ) (operands : List ℤ) (calls at s : ℕ) (m : Memory) (l : Line) →
-    Keeps m (leaf kinds operands calls at s m l)
-unfolding leaf operation-line index-line length-line literal-line stepping
-leaf-keeps kinds operands calls at s m l = go l s
-  where
-    operated-keeps : (x next s : ℕ) (e : Exact) → length (operated calls x next s (m .env) e .env) ≡ length (m .env)
-    operated-keeps x next s (Value z) = length-set (m .env) (place calls x) z
-    operated-keeps x next s Overflow = refl
-
-    inside-keeps : (x : ℕ) (z : ℤ) (u v : Out) (t : Bool) →
-        length (cond t (left u (bound calls x z (m .env))) (left v (m .env)) .env) ≡ length (m .env)
-    inside-keeps x z u v true = length-set (m .env) (place calls x) z
-    inside-keeps x z u v false = refl
-
-    go : (k : Line) (s : ℕ) → Keeps m (leaf kinds operands calls at s m k)
-    go (L.Operation kind x a b) zero = refl
-    go (L.Operation kind x a b) (suc s) = operated-keeps x (at + 3) s
-        (checked (exact (operation-of kind) (word-of calls (m .env) a) (word-of calls (m .env) b)))
-    go (L.Call x f) s = refl
-    go (L.Literal x d) zero = refl
-    go (L.Literal x d) (suc s) = let ws = words-at 16 kinds operands calls (m .env) (at + 1) in
-        got-keeps calls x (at + 1 + length ws) s m (acquired d ws (m .store)) (next-cell (m .store))
-    go (L.Index x a b) zero = refl
-    go (L.Index x a b) (suc s) = let ws = array-of (m .store) (word-of calls (m .env) a) in
-        inside-keeps x (getD ws (natAbs (word-of calls (m .env) b)) (pos 0)) _ _
-        (inside (word-of calls (m .env) b) (length ws))
-    go (L.Length x a) zero = refl
-    go (L.Length x a) (suc s) = length-set (m .env) (place calls x) _
-    go (L.If x g) s = refl
-    go (L.Map x p a) s = refl
-    go (L.Retain x) s = refl
-    go (L.Release x) s = refl
-    go (L.End a) s = refl
+leaf-keeps : (calls at s : ℕ) (m : Memory) (d : Doing) → Keeps m (leaf-done calls at s m d)
+unfolding leaf-done stepping
+leaf-keeps calls at zero m (giving x next σ g) = refl
+leaf-keeps calls at (suc s) m (giving x next σ g) = given-keeps calls x next s σ m g
+leaf-keeps calls at s m (changing σ) = refl
+leaf-keeps calls at s m (ending a) = refl
+leaf-keeps calls at s m (calling x f) = refl
+leaf-keeps calls at s m (branching x g) = refl
+leaf-keeps calls at s m (looping x k ps us) = refl
 
 -- ---- trees and calls
+
+pub bound-all-keeps : (calls : ℕ) (ps : List ℕ) (ws env : List ℤ) → length (bound-all calls ps ws env) ≡ length env
+bound-all-keeps calls [] ws env = refl
+bound-all-keeps calls (p ∷ ps) ws env =
+    bound-all-keeps calls ps (later-parts ws) _ ∙ length-set env (place calls p) (argument ws 0)
+
+gave-keeps : (s : ℕ) (m : Memory) (g : Given) → Keeps m (gave s m g)
+gave-keeps s m (word w) = refl
+gave-keeps s m (stop n) = refl
+
+carry-first-keeps : (k : Loop) (d : ℕ) (ws : List ℤ) (s : ℕ) (m : Memory) → Keeps m (carry-first k d ws s m)
+carry-first-keeps mapping d ws s m =
+    gave-keeps s (memory (acquired d [] (m .store)) (m .env)) (acquired-given (next-cell (m .store)))
+
+carry-on-keeps : (k : Loop) (v : ℤ) (w : Ran) → Keeps (w .memory) (carry-on k v w)
+carry-on-keeps mapping v w = refl
 
 module _ (W : Work) (w : (at s : ℕ) (m : Memory) → Keeps m (W at s m)) where
   if-keeps : (table : List ℕ) (calls x : ℕ) (g : Atom) (at s : ℕ) (m : Memory) →
@@ -104,40 +91,36 @@ module _ (W : Work) (w : (at s : ℕ) (m : Memory) → Keeps m (W at s m)) where
       then-keeps m (W start s m) (λ v. binding calls x (branch-end table guard (v .out .next)) v) (w start s m)
       (λ v k. length-set (v .memory .env) (place calls x) (v .out .value) ∙ k)
 
-  passes-keeps : (n at calls p from into i s : ℕ) (m : Memory) → Keeps m (passes-on n (W at) calls p from into i s m)
+  passes-keeps : (k : Loop) (at calls : ℕ) (ps : List ℕ) (from n : ℕ) (v : ℤ) (i s : ℕ) (m : Memory) →
+      Keeps m (passes-on (looped k (W at) calls ps from) n v i s m)
   unfolding passes-on
-  passes-keeps zero at calls p from into i s m = refl
-  passes-keeps (suc n) at calls p from into i zero m = refl
-  passes-keeps (suc n) at calls p from into i (suc s) m =
-      let z = getD (elements (cell (m .store) from)) i (pos 0) in
-      let m₁ = memory (m .store) (bound calls p z (m .env)) in
-      then-keeps m (W at s m₁)
-      (λ v. passes-on n (W at) calls p from into (i + 1) (v .out .steps)
-      (memory (appended into (v .out .value) (v .memory .store)) (v .memory .env)))
-      (w at s m₁ ∙ length-set (m .env) (place calls p) z)
-      (λ v k. passes-keeps n at calls p from into (i + 1) (v .out .steps)
-      (memory (appended into (v .out .value) (v .memory .store)) (v .memory .env)) ∙ k)
+  passes-keeps k at calls ps from zero v i s m = refl
+  passes-keeps k at calls ps from (suc n) v i zero m = refl
+  passes-keeps k at calls ps from (suc n) v i (suc s) m =
+      let l = looped k (W at) calls ps from in
+      let m₁ = memory (m .store) (entered l v i m) in
+      let rest : Ran → Ran = λ u. passes-on l n (u .out .value) (i + 1) (u .out .steps) (u .memory) in
+      then-keeps m (W at s m₁) (λ w. and-then (carry-on k v w) rest)
+      (w at s m₁ ∙ bound-all-keeps calls ps _ (m .env))
+      (λ u e. then-keeps m (carry-on k v u) rest (carry-on-keeps k v u ∙ e)
+      (λ y g. passes-keeps k at calls ps from n (y .out .value) (i + 1) (y .out .steps) (y .memory) ∙ g))
 
-  map-keeps : (c : Code) (calls f x p : ℕ) (a : Atom) (at s : ℕ) (m : Memory) →
-      Keeps m (map-line W c calls f x p a at s m)
-  unfolding map-line stepping
-  map-keeps c calls f x p a at zero m = refl
-  map-keeps c calls f x p a at (suc s) m = go (next-cell (m .store))
-    where
-      from : ℕ
-      from = cell-of (word-of calls (m .env) a)
-
-      taken : Memory
-      taken = memory (acquired (depth-in (c .table) f x - 1) [] (m .store)) (m .env)
-
-      go : (q : Acquired) →
-          Keeps m (map-worked W c calls x p at from (length (elements (cell (m .store) from))) s taken q)
-      go (Cell k) = then-keeps m
-          (passes-on (length (elements (cell (m .store) from))) (W (at + 2)) calls p from k 0 s taken)
-          (λ v. goes-on calls x (pos k) (end-in (c .table) (at + 2)) (v .out .steps) (v .memory))
-          (passes-keeps (length (elements (cell (m .store) from))) (at + 2) calls p from k 0 s taken)
-          (λ v h. length-set (v .memory .env) (place calls x) (pos k) ∙ h)
-      go NoneFree = refl
+  loop-keeps : (c : Code) (calls f x : ℕ) (k : Loop) (ps : List ℕ) (us : List Atom) (at s : ℕ) (m : Memory) →
+      Keeps m (loop-line W c calls f x k ps us at s m)
+  unfolding loop-line stepping
+  loop-keeps c calls f x k ps us at zero m = refl
+  loop-keeps c calls f x k ps us at (suc s) m =
+      let ws = map (word-of calls (m .env)) us in
+      let here = at + suc (length us) in
+      let l = looped k (W here) calls ps (cell-of (looped-over k ws)) in
+      let n = length (array-of (m .store) (looped-over k ws)) in
+      let bind : Ran → Ran = λ w. binding calls x (end-in (c .table) here) w in
+      then-keeps m (carry-first k (depth-in (c .table) f x - 1) ws s m)
+      (λ v. and-then (passes-on l n (v .out .value) 0 (v .out .steps) (v .memory)) bind)
+      (carry-first-keeps k (depth-in (c .table) f x - 1) ws s m)
+      (λ v e. then-keeps m (passes-on l n (v .out .value) 0 (v .out .steps) (v .memory)) bind
+      (passes-keeps k here calls ps (cell-of (looped-over k ws)) n (v .out .value) 0 (v .out .steps) (v .memory) ∙ e)
+      (λ y g. length-set (y .memory .env) (place calls x) (y .out .value) ∙ g))
 
   module _ (C : Callee) (h : (f : ℕ) (ws : List ℤ) (s : ℕ) (m : Memory) → Keeps m (C f ws s m)) (c : Code) where
     call-keeps : (calls x f at s : ℕ) (m : Memory) → Keeps m (call-line C c calls x f at s m)
@@ -148,19 +131,18 @@ module _ (W : Work) (w : (at s : ℕ) (m : Memory) → Keeps m (W at s m)) where
         then-keeps m (C f ws s m) (λ v. binding calls x (at + 1 + length ws) v) (h f ws s m)
         (λ v k. length-set (v .memory .env) (place calls x) (v .out .value) ∙ k)
 
+    done-keeps : (calls f at s : ℕ) (m : Memory) (d : Doing) → Keeps m (line-done W C c calls f at s m d)
+    unfolding line-done
+    done-keeps calls f at s m (giving x next σ g) = leaf-keeps calls at s m (giving x next σ g)
+    done-keeps calls f at s m (changing σ) = leaf-keeps calls at s m (changing σ)
+    done-keeps calls f at s m (ending a) = leaf-keeps calls at s m (ending a)
+    done-keeps calls f at s m (calling x g) = call-keeps calls x g at s m
+    done-keeps calls f at s m (branching x g) = if-keeps (c .table) calls x g at s m
+    done-keeps calls f at s m (looping x k ps us) = loop-keeps c calls f x k ps us at s m
+
     line-keeps : (calls f at s : ℕ) (m : Memory) (l : Line) → Keeps m (line-on W C c calls f at s m l)
     unfolding line-on
-    line-keeps calls f at s m (L.Operation kind x a b) = leaf-keeps (c .kinds) (c .operands) calls at s m
-        (L.Operation kind x a b)
-    line-keeps calls f at s m (L.Call x g) = call-keeps calls x g at s m
-    line-keeps calls f at s m (L.Literal x d) = leaf-keeps (c .kinds) (c .operands) calls at s m (L.Literal x d)
-    line-keeps calls f at s m (L.Index x a b) = leaf-keeps (c .kinds) (c .operands) calls at s m (L.Index x a b)
-    line-keeps calls f at s m (L.Length x a) = leaf-keeps (c .kinds) (c .operands) calls at s m (L.Length x a)
-    line-keeps calls f at s m (L.If x g) = if-keeps (c .table) calls x g at s m
-    line-keeps calls f at s m (L.Map x p a) = map-keeps c calls f x p a at s m
-    line-keeps calls f at s m (L.Retain x) = leaf-keeps (c .kinds) (c .operands) calls at s m (L.Retain x)
-    line-keeps calls f at s m (L.Release x) = leaf-keeps (c .kinds) (c .operands) calls at s m (L.Release x)
-    line-keeps calls f at s m (L.End a) = leaf-keeps (c .kinds) (c .operands) calls at s m (L.End a)
+    line-keeps calls f at s m l = done-keeps calls f at s m (doing (c .kinds) (c .operands) calls at m l)
 
     from-keeps : (calls f at s : ℕ) (m : Memory) (l : Line) → Keeps m (tree-from W C c calls f at s m l)
     unfolding tree-from
@@ -205,8 +187,8 @@ module _ (c : Code) (lines calls f : ℕ) {r : Out} {slots : List ℤ} {heads : 
       (tree-keeps lines (call-on calls c) (call-on-keeps calls c) c calls f) (call-on calls c) (call-on-keeps calls c)
       c calls f at s m l) e
 
-  pub passes-long : (n at p from into i s : ℕ) (m : Memory) {steps : ℕ} →
-      Ended (passes-on n (tree-on lines (call-on calls c) c calls f at) calls p from into i s m) steps r slots heads
-      env → length env ≡ length (m .env)
-  passes-long n at p from into i s m e = ended-long m (passes-keeps (tree-on lines (call-on calls c) c calls f)
-      (tree-keeps lines (call-on calls c) (call-on-keeps calls c) c calls f) n at calls p from into i s m) e
+  pub passes-long : (k : Loop) (at : ℕ) (ps : List ℕ) (from n : ℕ) (v : ℤ) (i s : ℕ) (m : Memory) {steps : ℕ} →
+      Ended (passes-on (looped k (tree-on lines (call-on calls c) c calls f at) calls ps from) n v i s m) steps r slots
+      heads env → length env ≡ length (m .env)
+  passes-long k at ps from n v i s m e = ended-long m (passes-keeps (tree-on lines (call-on calls c) c calls f)
+      (tree-keeps lines (call-on calls c) (call-on-keeps calls c) c calls f) k at calls ps from n v i s m) e

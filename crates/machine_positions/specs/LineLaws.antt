@@ -1,14 +1,14 @@
 -- Laws of the lines that work a tree: one for each way out of the code.
-use mathlib.Core.Path.{_≡_, refl, sym, ap, ap₂, _∙_}
-use mathlib.Core.Bool.{Bool, true, false, cond}
-use mathlib.Core.List.{List, [], _∷_}
-use mathlib.Core.Logic.{_⊎_, inl, inr, ⊎-elim}
-use Prim.Native.Nat.{ℕ, zero, suc, _+_, _-_, _<_, _≤_}
+use mathlib.Core.Path.{_≡_, refl, sym, ap, ap₂, subst, _∙_}
+use mathlib.Core.List.{List, [], _∷_, map}
+use Prim.Native.Nat.{ℕ, suc, _+_, _-_, _≤_}
 use native.Mathlib.Omega.{arith}
 use lib.IntN.{ℤ, pos}
 use lib.ListN.{set, length}
 use denote.Enum.Declared.{tagOf}
-use types.Run.{OneOf}
+use types.Run.{OneOf, miss}
+use Rattle.semantics.specs.Kinds.{Loop, mapping}
+use Rattle.semantics.specs.Machine.{looped-over}
 use Rattle.semantics.specs.Store.{Store, cell, cell-of, elements, acquired}
 use Rattle.semantics.specs.Words.{store-of}
 use Rattle.store.specs.Acquiring.{next-cell}
@@ -21,12 +21,15 @@ use Rattle.machine_code.specs.declared.Line.the-variants as L
 use Rattle.machine_code.proofs.Line.{the-type}
 use Rattle.machine_code.proofs.Reading.{less-one}
 use Rattle.machine_lines.specs.declared.Out.{Out}
-use Rattle.machine_lines.specs.Frames.{place, word-of, words-at, put-all, Passed, branch-start, branch-end}
-use Rattle.machine_lines.specs.Lines.{Memory, memory, Ran, ran, out, halted, bound, goes-on, stepping, leaf, Ends}
-use Rattle.machine_lines.proofs.Lines.{leaf-fewer}
+use Rattle.machine_lines.specs.Frames.{place, word-of, words-at, Passed, branch-start, branch-end}
+use Rattle.machine_lines.specs.Lines.{Memory, memory, Ran, ran, out, stepping, array-of}
+use Rattle.machine_lines.specs.Lines.{acquired-given, Doing, giving, changing, ending, calling, branching, looping}
+use Rattle.machine_lines.specs.Lines.{doing, leaf-done, leaf, Ends}
+use Rattle.machine_lines.proofs.Lines.{Told, told, leaf-fewer}
 use Rattle.machine_positions.specs.Machine.{Work, Callee, Code, and-then, binding, if-worked, if-line}
-use Rattle.machine_positions.specs.Machine.{call-worked, call-line, passes-on, map-worked, map-line, line-on}
-use Rattle.machine_positions.specs.Machine.{tree-on, call-on, Ended}
+use Rattle.machine_positions.specs.Machine.{call-worked, call-line, looped, gave, carry-first, passes-on}
+use Rattle.machine_positions.specs.Machine.{loop-worked, loop-line, map-line, line-done, line-on, tree-on}
+use Rattle.machine_positions.specs.Machine.{call-on, Ended}
 use Rattle.machine_positions.specs.Parts.{then-go, part-stops, part-goes}
 
 -- what a line leaves that binds the word of a part
@@ -135,136 +138,144 @@ module _ (c : Code) (calls x g at steps : ℕ) (slots : List ℤ) (heads : List 
           (omega (arith, done .fewer)) h q en′ (bound-result r calls x _ (at + 1 + n) sl he en en′ q refl ee qe)
           (ap (λ (y : Out). y .steps) qe)
 
--- ---- a map
+-- ---- a loop
 
-module _ (W : Work) (c : Code) (calls f x p : ℕ) (a : Atom) (at steps : ℕ) (slots : List ℤ) (heads : List ℕ) (env :
-    List ℤ) where
-  pub map-spent : (r : Out) → steps ≡ 0 → r ≡ out 21 (pos 0) 0 steps →
-      Ended (map-line W c calls f x p a at steps (memory (store-of slots heads) env)) steps r slots heads env
-  unfolding map-line stepping
-  map-spent r z e = record { is = rw (e, z); fewer = rw e (omega arith) }
+module _ (W : Work) (c : Code) (calls f x : ℕ) (k : Loop) (ps : List ℕ) (us : List Atom) (at steps : ℕ) (slots : List ℤ)
+    (heads : List ℕ) (env : List ℤ) where
+  abbrev here : Memory
+  here = memory (store-of slots heads) env
 
-  module _ (some : steps ≡ 0 → ⊥) (v : ℤ) (ve : v ≡ word-of calls env a) (from : ℕ) (fe : from ≡ cell-of v) (n : ℕ)
-      (ne : n ≡ length (elements (cell (store-of slots heads) from))) (d : ℕ) (de : d ≡ depth-in (c .table) f x - 1)
-      (q : Acquired) (qe : q ≡ next-cell (store-of slots heads)) (sl₁ : List ℤ) (he₁ : List ℕ)
-      (σe : store-of sl₁ he₁ ≡ acquired d [] (store-of slots heads)) where
-    map-is : map-line W c calls f x p a at steps (memory (store-of slots heads) env)
-        ≡ map-worked W c calls x p at from n (steps - 1) (memory (store-of sl₁ he₁) env) q
-    unfolding map-line stepping
-    map-is = ap (λ (k : ℕ). map-line W c calls f x p a at k (memory (store-of slots heads) env)) (less-one steps
-        (omega arith))
-        ∙ ap (λ (k : ℕ). map-worked W c calls x p at k (length (elements (cell (store-of slots heads) k))) (steps -
-        1)
-        (memory (acquired (depth-in (c .table) f x - 1) [] (store-of slots heads)) env) (next-cell (store-of slots
-        heads)))
-        (sym (fe ∙ ap cell-of ve))
-        ∙ ap₂ (λ (k : ℕ) (τ : Store). map-worked W c calls x p at from k (steps - 1) (memory τ env)
-        (next-cell (store-of slots heads))) (sym ne)
-        (sym (σe ∙ ap (λ (k : ℕ). acquired k [] (store-of slots heads)) de))
-        ∙ ap (map-worked W c calls x p at from n (steps - 1) (memory (store-of sl₁ he₁) env)) (sym qe)
+  abbrev tree-at : ℕ
+  tree-at = at + suc (length us)
 
-    pub map-none : q ≡ NoneFree → (r : Out) → r ≡ out 25 (pos 0) 0 (steps - 1) →
-        Ended (map-line W c calls f x p a at steps (memory (store-of slots heads) env)) steps r sl₁ he₁ env
-    map-none h r e = record {
-      is = sym (map-is ∙ ap (map-worked W c calls x p at from n (steps - 1) (memory (store-of sl₁ he₁) env)) h
-          ∙ ap (λ (y : Out). ran y (memory (store-of sl₁ he₁) env)) (sym e));
-      fewer = rw e (omega arith);
-    }
+  abbrev bind : Ran → Ran
+  bind w = binding calls x (end-in (c .table) tree-at) w
 
-    module _ (k : ℕ) (h : q ≡ Cell k) (r : Out) (sl : List ℤ) (he : List ℕ) (en : List ℤ)
-        (done : Ended (passes-on n (W (at + 2)) calls p from k 0 (steps - 1) (memory (store-of sl₁ he₁) env)) (steps
-        - 1) r sl he en) where
-      map-part : map-line W c calls f x p a at steps (memory (store-of slots heads) env)
-          ≡ and-then (ran r (memory (store-of sl he) en))
-          (λ w. goes-on calls x (pos k) (end-in (c .table) (at + 2)) (w .out .steps) (w .memory))
-      map-part = map-is ∙ ap (map-worked W c calls x p at from n (steps - 1) (memory (store-of sl₁ he₁) env)) h
-          ∙ ap (λ (w : Ran). and-then w
-          (λ w. goes-on calls x (pos k) (end-in (c .table) (at + 2)) (w .out .steps) (w .memory))) (sym
-          (done .is))
+  abbrev whole : Ran
+  whole = loop-line W c calls f x k ps us at steps here
 
-      pub map-stops : (r .stop ≡ 0 → ⊥) →
-          Ended (map-line W c calls f x p a at steps (memory (store-of slots heads) env)) steps r sl he en
-      map-stops g = part-stops _ steps r sl he en
-          (λ w. goes-on calls x (pos k) (end-in (c .table) (at + 2)) (w .out .steps) (w .memory))
-          map-part (omega (arith, done .fewer)) g
+  pub loop-spent : (r : Out) → steps ≡ 0 → r ≡ out 21 (pos 0) 0 steps → Ended whole steps r slots heads env
+  unfolding loop-line stepping
+  loop-spent r z e = record { is = rw (e, z); fewer = rw e (omega arith) }
 
-      pub map-goes : r .stop ≡ 0 → (z : ℤ) → z ≡ pos k → (en′ : List ℤ) → en′ ≡ set en (place calls x) z → (next :
-          ℕ) →
-          next ≡ end-in (c .table) (at + 2) → (o : Out) → o ≡ out 0 z next (r .steps) →
-          Ended (map-line W c calls f x p a at steps (memory (store-of slots heads) env)) steps o sl he en′
-      map-goes g z ze en′ ee next ne o oe = part-goes _ steps r sl he en
-          (λ w. goes-on calls x (pos k) (end-in (c .table) (at + 2)) (w .out .steps) (w .memory))
-          map-part (omega (arith, done .fewer)) g o en′
-          (ap₂ (λ (y : ℤ) (b : ℕ). goes-on calls x y b (r .steps) (memory (store-of sl he) en)) (sym ze) (sym ne)
-          ∙ ap₂ (λ (y : Out) (l : List ℤ). ran y (memory (store-of sl he) l)) (sym oe) (sym ee))
-          (ap (λ (y : Out). y .steps) oe)
+  -- ws are the words of the atoms, and o tells how the first carrying ended
+  module _ (some : steps ≡ 0 → ⊥) (ws : List ℤ) (we : ws ≡ map (word-of calls env) us) (o : Out) (sl₁ : List ℤ)
+      (he₁ : List ℕ)
+      (oe : carry-first k (depth-in (c .table) f x - 1) ws (steps - 1) here ≡ ran o (memory (store-of sl₁ he₁) env))
+      (few : o .steps ≤ steps - 1) where
+    abbrev following : ℕ → ℕ → Ran → Ran
+    following from n v = and-then
+        (passes-on (looped k (W tree-at) calls ps from) n (v .out .value) 0 (v .out .steps) (v .memory))
+        bind
+
+    abbrev follows : Ran → Ran
+    follows = following (cell-of (looped-over k ws)) (length (array-of (store-of slots heads) (looped-over k ws)))
+
+    loop-is : whole ≡ and-then (ran o (memory (store-of sl₁ he₁) env)) follows
+    unfolding loop-line stepping
+    loop-is =
+        ap (λ (n : ℕ). loop-line W c calls f x k ps us at n here) (less-one steps (omega arith))
+        ∙ ap (loop-worked W c calls f x k ps tree-at (steps - 1) here) (sym we)
+        ∙ ap (λ (w : Ran). and-then w follows) oe
+
+    -- nothing could be carried into the first pass
+    pub loop-none : (o .stop ≡ 0 → ⊥) → Ended whole steps o sl₁ he₁ env
+    loop-none h = part-stops _ steps o sl₁ he₁ env follows loop-is (omega (arith, few)) h
+
+    module _ (go : o .stop ≡ 0) (from : ℕ) (fe : from ≡ cell-of (looped-over k ws)) (n : ℕ)
+        (ne : n ≡ length (elements (cell (store-of slots heads) from))) (r : Out) (sl : List ℤ) (he : List ℕ)
+        (en : List ℤ)
+        (done : Ended (passes-on (looped k (W tree-at) calls ps from) n (o .value) 0 (o .steps)
+        (memory (store-of sl₁ he₁) env)) (o .steps) r sl he en) where
+      loop-part : whole ≡ and-then (ran r (memory (store-of sl he) en)) bind
+      loop-part = loop-is ∙ then-go (ran o (memory (store-of sl₁ he₁) env)) follows go
+          ∙ ap (λ (g : ℕ). following g (length (elements (cell (store-of slots heads) g)))
+          (ran o (memory (store-of sl₁ he₁) env))) (sym fe)
+          ∙ ap (λ (g : ℕ). following from g (ran o (memory (store-of sl₁ he₁) env))) (sym ne)
+          ∙ ap (λ (w : Ran). and-then w bind) (sym (done .is))
+
+      pub loop-stops : (r .stop ≡ 0 → ⊥) → Ended whole steps r sl he en
+      loop-stops g = part-stops _ steps r sl he en bind loop-part (omega (arith, done .fewer, few)) g
+
+      pub loop-goes : r .stop ≡ 0 → (next : ℕ) → next ≡ end-in (c .table) tree-at → (en′ : List ℤ) →
+          en′ ≡ set en (place calls x) (r .value) → (q : Out) → q ≡ out 0 (r .value) next (r .steps) →
+          Ended whole steps q sl he en′
+      loop-goes g next ne en′ ee q qe = part-goes _ steps r sl he en
+          bind loop-part (omega (arith, done .fewer, few)) g q en′
+          (bound-result r calls x _ next sl he en en′ q ne ee qe) (ap (λ (y : Out). y .steps) qe)
+
+-- a map carries a new cell into its first pass
+module _ (d e : ℕ) (de : d ≡ e) (ws : List ℤ) (s : ℕ) (σ : Store) (env : List ℤ) (q : Acquired) (qe : q ≡ next-cell σ)
+    (τ : Store) (τe : τ ≡ acquired d [] σ) where
+  map-first : carry-first mapping e ws s (memory σ env) ≡ gave s (memory τ env) (acquired-given q)
+  map-first = ap₂ (λ (y : Store) (z : Acquired). gave s (memory y env) (acquired-given z))
+      (sym (τe ∙ ap (λ (n : ℕ). acquired n [] σ) de)) (sym qe)
+
+  pub map-cell : (k : ℕ) → q ≡ Cell k → (z : ℤ) → z ≡ pos k →
+      carry-first mapping e ws s (memory σ env) ≡ ran (out 0 z 0 s) (memory τ env)
+  map-cell k h z ze = map-first ∙ ap (λ (y : Acquired). gave s (memory τ env) (acquired-given y)) h
+      ∙ ap (λ (y : ℤ). ran (out 0 y 0 s) (memory τ env)) (sym ze)
+
+  pub map-none : q ≡ NoneFree → (r : Out) → r ≡ out 25 (pos 0) 0 s →
+      carry-first mapping e ws s (memory σ env) ≡ ran r (memory τ env)
+  map-none h r re = map-first ∙ ap (λ (y : Acquired). gave s (memory τ env) (acquired-given y)) h
+      ∙ ap (λ (y : Out). ran y (memory τ env)) (sym re)
 
 -- ---- which line
 
 module _ (W : Work) (C : Callee) (c : Code) (calls f at steps : ℕ) (slots : List ℤ) (heads : List ℕ) (env : List ℤ)
     (l : Line)
     (r : Out) (sl : List ℤ) (he : List ℕ) (en : List ℤ) where
+  abbrev line-here : Line → Ran
+  line-here k = line-on W C c calls f at steps (memory (store-of slots heads) env) k
+
+  -- a line that is known
+  line-is : (k : Line) → l ≡ k → (w : Ran) → w ≡ line-here k → Ended w steps r sl he en →
+      Ended (line-here l) steps r sl he en
+  line-is k e w g done = record { is = done .is ∙ g ∙ ap line-here (sym e); fewer = done .fewer }
+
   pub line-if : (x : ℕ) (g : Atom) → l ≡ L.If x g →
       Ended (if-line W (c .table) calls x g at steps (memory (store-of slots heads) env)) steps r sl he en →
-      Ended (line-on W C c calls f at steps (memory (store-of slots heads) env) l) steps r sl he en
-  unfolding line-on
-  line-if x g e done = record {
-    is = done .is ∙ ap (line-on W C c calls f at steps (memory (store-of slots heads) env)) (sym e);
-    fewer = done
-        .fewer;
-  }
+      Ended (line-here l) steps r sl he en
+  unfolding line-on line-done doing
+  line-if x g e = line-is (L.If x g) e _ refl
 
   pub line-call : (x g : ℕ) → l ≡ L.Call x g →
       Ended (call-line C c calls x g at steps (memory (store-of slots heads) env)) steps r sl he en →
-      Ended (line-on W C c calls f at steps (memory (store-of slots heads) env) l) steps r sl he en
-  unfolding line-on
-  line-call x g e done = record {
-    is = done .is ∙ ap (line-on W C c calls f at steps (memory (store-of slots heads) env)) (sym e);
-    fewer = done
-        .fewer;
-  }
+      Ended (line-here l) steps r sl he en
+  unfolding line-on line-done doing
+  line-call x g e = line-is (L.Call x g) e _ refl
 
   pub line-map : (x p : ℕ) (a : Atom) → l ≡ L.Map x p a →
       Ended (map-line W c calls f x p a at steps (memory (store-of slots heads) env)) steps r sl he en →
-      Ended (line-on W C c calls f at steps (memory (store-of slots heads) env) l) steps r sl he en
-  unfolding line-on
-  line-map x p a e done = record {
-    is = done .is ∙ ap (line-on W C c calls f at steps (memory (store-of slots heads) env)) (sym e);
-    fewer = done
-        .fewer;
-  }
+      Ended (line-here l) steps r sl he en
+  unfolding line-on line-done doing
+  line-map x p a e = line-is (L.Map x p a) e _ refl
 
-  pub line-leaf : OneOf (0 ∷ 2 ∷ 3 ∷ 4 ∷ 7 ∷ 8 ∷ 9 ∷ []) (tagOf the-type l) →
+  -- the variants that the leaf's worker takes
+  abbrev leaves : List ℕ
+  leaves = 0 ∷ 2 ∷ 3 ∷ 4 ∷ 7 ∷ 8 ∷ 9 ∷ []
+
+  pub line-leaf : OneOf leaves (tagOf the-type l) →
       Ends (leaf (c .kinds) (c .operands) calls at steps (memory (store-of slots heads) env) l) r sl he en →
-      Ended (line-on W C c calls f at steps (memory (store-of slots heads) env) l) steps r sl he en
-  unfolding line-on
+      Ended (line-here l) steps r sl he en
+  unfolding line-on line-done
   line-leaf h e = record {
-    is = e ∙ go l h;
-    fewer = let q : r .steps ≡ leaf (c .kinds) (c .operands) calls at steps (memory (store-of slots heads) env) l
-        .out .steps
+    is = e ∙ go (doing (c .kinds) (c .operands) calls at m l) (told (c .kinds) (c .operands) calls at m l);
+    fewer = let q : r .steps ≡ leaf (c .kinds) (c .operands) calls at steps m l .out .steps
         = ap (λ (w : Ran). w .out .steps) e in
-        rw q (leaf-fewer (c .kinds) (c .operands) calls at steps (memory (store-of slots heads) env) l);
+        rw q (leaf-fewer calls at steps m (doing (c .kinds) (c .operands) calls at m l));
   }
     where
-      none : {A : Type 0} (n : ℕ) → (n ≡ 0 → ⊥) → (n ≡ 2 → ⊥) → (n ≡ 3 → ⊥) → (n ≡ 4 → ⊥) → (n ≡ 7 → ⊥) → (n ≡ 8 →
-          ⊥) → (n ≡ 9 → ⊥) →
-          OneOf (0 ∷ 2 ∷ 3 ∷ 4 ∷ 7 ∷ 8 ∷ 9 ∷ []) n → A
-      none n a b d e f g i h = absurd (⊎-elim (λ z. a z) (⊎-elim (λ z. b z) (⊎-elim (λ z. d z) (⊎-elim (λ z. e z)
-          (⊎-elim (λ z. f z) (⊎-elim (λ z. g z) (λ z. i z)))))) h)
+      m : Memory
+      m = memory (store-of slots heads) env
 
-      go : (k : Line) → OneOf (0 ∷ 2 ∷ 3 ∷ 4 ∷ 7 ∷ 8 ∷ 9 ∷ []) (tagOf the-type k) →
-          leaf (c .kinds) (c .operands) calls at steps (memory (store-of slots heads) env) k
-          ≡ line-on W C c calls f at steps (memory (store-of slots heads) env) k
-      go (L.Operation kind x a b) h = refl
-      go (L.Call x g) h = none 1 (λ z. omega arith) (λ z. omega arith) (λ z. omega arith) (λ z. omega arith) (λ z.
-          omega arith) (λ z. omega arith) (λ z. omega arith) h
-      go (L.Literal x d) h = refl
-      go (L.Index x a b) h = refl
-      go (L.Length x a) h = refl
-      go (L.If x g) h = none 5 (λ z. omega arith) (λ z. omega arith) (λ z. omega arith) (λ z. omega arith) (λ z.
-          omega arith) (λ z. omega arith) (λ z. omega arith) h
-      go (L.Map x p a) h = none 6 (λ z. omega arith) (λ z. omega arith) (λ z. omega arith) (λ z. omega arith) (λ z.
-          omega arith) (λ z. omega arith) (λ z. omega arith) h
-      go (L.Retain x) h = refl
-      go (L.Release x) h = refl
-      go (L.End a) h = refl
+      go : (d : Doing) → Told d (tagOf the-type l) →
+          leaf-done calls at steps (memory (store-of slots heads) env) d
+          ≡ line-done W C c calls f at steps (memory (store-of slots heads) env) d
+      go (giving x next σ g) t = refl
+      go (changing σ) t = refl
+      go (ending a) t = refl
+      go (calling x g) t = absurd (miss leaves 1 tt (subst (OneOf leaves) t h))
+      go (branching x g) t = absurd (miss leaves 5 tt (subst (OneOf leaves) t h))
+      go (looping x k ps us) t = absurd (miss leaves 6 tt (subst (OneOf leaves) t h))

@@ -1,16 +1,16 @@
 -- The machine over positions of the code: structural on the lines left, the call depth left and the passes.
 use mathlib.Core.Path.{_≡_}
 use mathlib.Core.Bool.{Bool, true, false, cond}
-use mathlib.Core.List.{List, [], _∷_}
+use mathlib.Core.List.{List, [], _∷_, map}
 use Prim.Native.Nat.{ℕ, zero, suc, _+_, _-_, _≤_}
 use lib.IntN.{ℤ, pos}
 use lib.Dec.{ltb, eqb}
-use lib.ListN.{getD, set, length}
+use lib.ListN.{getD, length}
+use Rattle.semantics.specs.Kinds.{Loop, mapping, later-parts}
+use Rattle.semantics.specs.Machine.{argument, pass-words, looped-over}
 use Rattle.semantics.specs.Store.{cell, cell-of, elements, acquired, appended}
 use Rattle.semantics.specs.Words.{store-of}
 use Rattle.store.specs.Acquiring.{next-cell}
-use Rattle.store.specs.declared.Acquired.{Acquired}
-use Rattle.store.specs.declared.Acquired.the-variants.{Cell, NoneFree}
 use Rattle.machine_code.specs.Reading.{line-at, depth-in, start-in, end-in}
 use Rattle.machine_code.specs.declared.Atom.{Atom}
 use Rattle.machine_code.specs.declared.Line.{Line}
@@ -18,7 +18,8 @@ use Rattle.machine_code.specs.declared.Line.the-variants as L
 use Rattle.machine_lines.specs.declared.Out.{Out}
 use Rattle.machine_lines.specs.Frames.{place, word-of, words-at, put-all, branch-start, branch-end}
 use Rattle.machine_lines.specs.Lines.{Memory, memory, Ran, ran, out, halted, bound, goes-on, stepping, array-of}
-use Rattle.machine_lines.specs.Lines.{leaf}
+use Rattle.machine_lines.specs.Lines.{Given, word, stop, acquired-given, Doing, giving, changing, ending, calling}
+use Rattle.machine_lines.specs.Lines.{branching, looping, doing, leaf-done}
 
 -- the two code arrays, and the table of the functions and of the positions after trees
 pub record Code : Type 0 where
@@ -67,40 +68,80 @@ unfoldable pub call-line : Callee → Code → ℕ → ℕ → ℕ → ℕ → �
 call-line C c calls x f at steps m = stepping steps (halted 21 0 m)
     (λ s. call-worked C calls x f at s m (words-at 16 (c .kinds) (c .operands) calls (m .env) (at + 1)))
 
--- a map's passes from the i-th on, n of them, over the cell `from` into the cell `into`
-unfoldable pub passes-on : ℕ → (ℕ → Memory → Ran) → ℕ → ℕ → ℕ → ℕ → ℕ → ℕ → Memory → Ran
-passes-on zero W calls p from into i s m = ran (out 0 (pos 0) 0 s) m
-passes-on (suc n) W calls p from into i zero m = halted 21 0 m
-passes-on (suc n) W calls p from into i (suc s) m =
-    and-then (W s (memory (m .store) (bound calls p (getD (elements (cell (m .store) from)) i (pos 0)) (m .env))))
-    (λ w. passes-on n W calls p from into (i + 1) (w .out .steps)
-    (memory (appended into (w .out .value) (w .memory .store)) (w .memory .env)))
+-- ---- passes: what is carried from one to the next is a word
 
-abbrev pub map-worked : Work → Code → ℕ → ℕ → ℕ → ℕ → ℕ → ℕ → ℕ → Memory → Acquired → Ran
-map-worked W c calls x p at from n s m (Cell k) =
-    and-then (passes-on n (W (at + 2)) calls p from k 0 s m)
-    (λ w. goes-on calls x (pos k) (end-in (c .table) (at + 2)) (w .out .steps) (w .memory))
-map-worked W c calls x p at from n s m NoneFree = halted 25 s m
+-- what stays the same in all passes of a loop: its kind, its tree, the call's depth left, the names of a pass, and the
+-- cell that it goes over
+pub record Looped : Type 0 where
+  pub kind : Loop
+  pub body : ℕ → Memory → Ran
+  pub calls : ℕ
+  pub names : List ℕ
+  pub from : ℕ
 
-unfoldable pub map-line : Work → Code → ℕ → ℕ → ℕ → ℕ → Atom → ℕ → ℕ → Memory → Ran
-map-line W c calls f x p a at steps m = stepping steps (halted 21 0 m)
-    (λ s. map-worked W c calls x p at (cell-of (word-of calls (m .env) a))
-    (length (elements (cell (m .store) (cell-of (word-of calls (m .env) a))))) s
-    (memory (acquired (depth-in (c .table) f x - 1) [] (m .store)) (m .env)) (next-cell (m .store)))
+abbrev pub looped : Loop → (ℕ → Memory → Ran) → ℕ → List ℕ → ℕ → Looped
+looped k W calls ps from = record { kind = k; body = W; calls = calls; names = ps; from = from }
+
+-- names bound to words in turn
+abbrev pub bound-all : ℕ → List ℕ → List ℤ → List ℤ → List ℤ
+bound-all calls [] ws env = env
+bound-all calls (x ∷ xs) ws env = bound-all calls xs (later-parts ws) (bound calls x (argument ws 0) env)
+
+-- the frames at the beginning of pass i, into which v is carried
+abbrev pub entered : Looped → ℤ → ℕ → Memory → List ℤ
+entered l v i m = bound-all (l .calls) (l .names)
+    (pass-words (l .kind) v (getD (elements (cell (m .store) (l .from))) i (pos 0))) (m .env)
+
+-- a small work whose word is not bound
+abbrev pub gave : ℕ → Memory → Given → Ran
+gave s m (word w) = ran (out 0 w 0 s) m
+gave s m (stop n) = halted n s m
+
+-- what is carried into the first pass: a new cell of element depth d for the result
+abbrev pub carry-first : Loop → ℕ → List ℤ → ℕ → Memory → Ran
+carry-first mapping d ws s m =
+    gave s (memory (acquired d [] (m .store)) (m .env)) (acquired-given (next-cell (m .store)))
+
+-- what a pass carries on, by what was carried into it and how its tree ended
+abbrev pub carry-on : Loop → ℤ → Ran → Ran
+carry-on mapping v w = ran (out 0 v 0 (w .out .steps))
+    (memory (appended (cell-of v) (w .out .value) (w .memory .store)) (w .memory .env))
+
+-- n passes from the i-th on
+unfoldable pub passes-on : Looped → ℕ → ℤ → ℕ → ℕ → Memory → Ran
+passes-on l zero v i s m = ran (out 0 v 0 s) m
+passes-on l (suc n) v i zero m = halted 21 0 m
+passes-on l (suc n) v i (suc s) m =
+    and-then (l .body s (memory (m .store) (entered l v i m)))
+    (λ w. and-then (carry-on (l .kind) v w)
+    (λ u. passes-on l n (u .out .value) (i + 1) (u .out .steps) (u .memory)))
+
+-- a loop's line, whose tree is at a position, by the words of its atoms
+abbrev pub loop-worked : Work → Code → ℕ → ℕ → ℕ → Loop → List ℕ → ℕ → ℕ → Memory → List ℤ → Ran
+loop-worked W c calls f x k ps at s m ws =
+    and-then (carry-first k (depth-in (c .table) f x - 1) ws s m)
+    (λ v. and-then (passes-on (looped k (W at) calls ps (cell-of (looped-over k ws)))
+    (length (array-of (m .store) (looped-over k ws))) (v .out .value) 0 (v .out .steps) (v .memory))
+    (λ w. binding calls x (end-in (c .table) at) w))
+
+unfoldable pub loop-line : Work → Code → ℕ → ℕ → ℕ → Loop → List ℕ → List Atom → ℕ → ℕ → Memory → Ran
+loop-line W c calls f x k ps us at steps m = stepping steps (halted 21 0 m)
+    (λ s. loop-worked W c calls f x k ps (at + suc (length us)) s m (map (word-of calls (m .env)) us))
+
+abbrev pub map-line : Work → Code → ℕ → ℕ → ℕ → ℕ → Atom → ℕ → ℕ → Memory → Ran
+map-line W c calls f x p a at steps m = loop-line W c calls f x mapping (p ∷ []) (a ∷ []) at steps m
 
 -- a line that stands at a position, of function f: W works its trees, C its calls
+unfoldable pub line-done : Work → Callee → Code → ℕ → ℕ → ℕ → ℕ → Memory → Doing → Ran
+line-done W C c calls f at s m (giving x next σ g) = leaf-done calls at s m (giving x next σ g)
+line-done W C c calls f at s m (changing σ) = leaf-done calls at s m (changing σ)
+line-done W C c calls f at s m (ending a) = leaf-done calls at s m (ending a)
+line-done W C c calls f at s m (calling x g) = call-line C c calls x g at s m
+line-done W C c calls f at s m (branching x g) = if-line W (c .table) calls x g at s m
+line-done W C c calls f at s m (looping x k ps us) = loop-line W c calls f x k ps us at s m
+
 unfoldable pub line-on : Work → Callee → Code → ℕ → ℕ → ℕ → ℕ → Memory → Line → Ran
-line-on W C c calls f at s m (L.Operation kind x a b) =
-    leaf (c .kinds) (c .operands) calls at s m (L.Operation kind x a b)
-line-on W C c calls f at s m (L.Call x g) = call-line C c calls x g at s m
-line-on W C c calls f at s m (L.Literal x d) = leaf (c .kinds) (c .operands) calls at s m (L.Literal x d)
-line-on W C c calls f at s m (L.Index x a b) = leaf (c .kinds) (c .operands) calls at s m (L.Index x a b)
-line-on W C c calls f at s m (L.Length x a) = leaf (c .kinds) (c .operands) calls at s m (L.Length x a)
-line-on W C c calls f at s m (L.If x g) = if-line W (c .table) calls x g at s m
-line-on W C c calls f at s m (L.Map x p a) = map-line W c calls f x p a at s m
-line-on W C c calls f at s m (L.Retain x) = leaf (c .kinds) (c .operands) calls at s m (L.Retain x)
-line-on W C c calls f at s m (L.Release x) = leaf (c .kinds) (c .operands) calls at s m (L.Release x)
-line-on W C c calls f at s m (L.End a) = leaf (c .kinds) (c .operands) calls at s m (L.End a)
+line-on W C c calls f at s m l = line-done W C c calls f at s m (doing (c .kinds) (c .operands) calls at m l)
 
 -- ---- trees and calls
 

@@ -1,20 +1,18 @@
 -- What work goes on with, and the invariants of the two loops.
-use mathlib.Core.Path.{_≡_, refl, sym, ap, ap₂, _∙_}
-use mathlib.Core.Bool.{Bool, true, false, cond}
-use mathlib.Core.List.{List, [], _∷_}
-use Prim.Native.Nat.{ℕ, zero, suc, _+_, _-_, _<_, _≤_}
+use mathlib.Core.Path.{_≡_, refl, sym, ap, _∙_}
+use mathlib.Core.List.{List}
+use Prim.Native.Nat.{ℕ, suc, _+_, _-_, _<_, _≤_}
 use native.Mathlib.Omega.{arith}
 use lib.IntN.{ℤ, pos}
-use lib.Dec.{eqb}
-use lib.ListN.{getD, set, length}
+use lib.ListN.{length}
 use borrow.Author.Tests.{eq-eqb, ne-eqb}
-use Rattle.semantics.specs.Store.{Store, cell, elements, appended}
+use Rattle.semantics.specs.Kinds.{mapping}
+use Rattle.semantics.specs.Store.{Store, cell-of, appended}
 use Rattle.semantics.specs.Words.{store-of}
 use Rattle.machine_code.proofs.Reading.{less-one}
 use Rattle.machine_lines.specs.declared.Out.{Out}
-use Rattle.machine_lines.specs.Frames.{place}
-use Rattle.machine_lines.specs.Lines.{Memory, memory, Ran, ran, out, halted, bound}
-use Rattle.machine_positions.specs.Machine.{Work, Callee, Code, and-then, passes-on, tree-on, Ended}
+use Rattle.machine_lines.specs.Lines.{Memory, memory, Ran, ran, out, halted}
+use Rattle.machine_positions.specs.Machine.{and-then, Looped, entered, carry-on, passes-on, Ended}
 
 pub then-stop : (w : Ran) (f : Ran → Ran) → (w .out .stop ≡ 0 → ⊥) → and-then w f ≡ w
 then-stop w f h = rw (ne-eqb (w .out .stop) 0 h)
@@ -41,111 +39,107 @@ module _ (X : Ran) (steps : ℕ) (r : Out) (sl : List ℤ) (he : List ℕ) (en :
   part-goes h q en′ e t =
       record { is = sym (is ∙ then-go (ran r (memory (store-of sl he) en)) F h ∙ e); fewer = rw t fewer }
 
--- ---- the passes of a map
+-- ---- the passes of a loop
 
--- i passes are done; what is left gives what the whole gives
-pub record Passing (W : ℕ → Memory → Ran) (calls p from into count steps : ℕ) (slots₀ : List ℤ) (heads₀ : List ℕ)
-    (env₀ : List ℤ) (s i : ℕ) (slots : List ℤ) (heads : List ℕ) (env : List ℤ) : Type 0 where
-  pub same : passes-on count W calls p from into 0 steps (memory (store-of slots₀ heads₀) env₀)
-      ≡ passes-on (count - i) W calls p from into i s (memory (store-of slots heads) env)
+-- i passes are done, and v is carried; what is left gives what the whole gives
+pub record Passing (l : Looped) (count steps : ℕ) (v₀ : ℤ) (slots₀ : List ℤ) (heads₀ : List ℕ) (env₀ : List ℤ)
+    (v : ℤ) (s i : ℕ) (slots : List ℤ) (heads : List ℕ) (env : List ℤ) : Type 0 where
+  pub same : passes-on l count v₀ 0 steps (memory (store-of slots₀ heads₀) env₀)
+      ≡ passes-on l (count - i) v i s (memory (store-of slots heads) env)
   pub fewer : s ≤ steps
   pub few : i ≤ count
   pub sized : Sized slots heads env slots₀ heads₀ env₀
 
-passes-dry : (n : ℕ) (W : ℕ → Memory → Ran) (calls p from into i s : ℕ) (m : Memory) → 0 < n → s ≡ 0 →
-    passes-on n W calls p from into i s m ≡ halted 21 s m
-unfolding passes-on
-passes-dry n W calls p from into i s m h e = rw (less-one n h, e)
+module _ (l : Looped) (n : ℕ) (v : ℤ) (i s : ℕ) (m : Memory) where
+  passes-dry : 0 < n → s ≡ 0 → passes-on l n v i s m ≡ halted 21 s m
+  unfolding passes-on
+  passes-dry h e = rw (less-one n h, e)
 
-passes-end : (n : ℕ) (W : ℕ → Memory → Ran) (calls p from into i s : ℕ) (m : Memory) → n ≡ 0 →
-    passes-on n W calls p from into i s m ≡ ran (out 0 (pos 0) 0 s) m
-unfolding passes-on
-passes-end n W calls p from into i s m e = rw e
+  passes-end : n ≡ 0 → passes-on l n v i s m ≡ ran (out 0 v 0 s) m
+  unfolding passes-on
+  passes-end e = rw e
 
-passes-step : (n : ℕ) (W : ℕ → Memory → Ran) (calls p from into i s : ℕ) (m : Memory) → 0 < n → 0 < s →
-    passes-on n W calls p from into i s m ≡ and-then
-    (W (s - 1) (memory (m .store) (bound calls p (getD (elements (cell (m .store) from)) i (pos 0)) (m .env))))
-    (λ w. passes-on (n - 1) W calls p from into (i + 1) (w .out .steps)
-    (memory (appended into (w .out .value) (w .memory .store)) (w .memory .env)))
-unfolding passes-on
-passes-step n W calls p from into i s m h f =
-    ap (λ (k : ℕ). passes-on k W calls p from into i s m) (less-one n h)
-    ∙ ap (λ (k : ℕ). passes-on (suc (n - 1)) W calls p from into i k m) (less-one s f)
+  -- what follows the tree of a pass
+  abbrev carrying : Ran → Ran
+  carrying w = and-then (carry-on (l .kind) v w)
+      (λ u. passes-on l (n - 1) (u .out .value) (i + 1) (u .out .steps) (u .memory))
 
-module _ {W : ℕ → Memory → Ran} {calls p from into count steps : ℕ} {slots₀ : List ℤ} {heads₀ : List ℕ}
-    {env₀ : List ℤ} {s i : ℕ} {slots : List ℤ} {heads : List ℕ} {env : List ℤ}
-    (inv : Passing W calls p from into count steps slots₀ heads₀ env₀ s i slots heads env) where
-  pub pass-dry : i < count → s ≡ 0 → (r : Out) → r ≡ out 21 (pos 0) 0 s →
-      Ended (passes-on count W calls p from into 0 steps (memory (store-of slots₀ heads₀) env₀)) steps r slots heads
-      env
+  passes-step : 0 < n → 0 < s →
+      passes-on l n v i s m ≡ and-then (l .body (s - 1) (memory (m .store) (entered l v i m))) carrying
+  unfolding passes-on
+  passes-step h f = ap (λ (k : ℕ). passes-on l k v i s m) (less-one n h)
+      ∙ ap (λ (k : ℕ). passes-on l (suc (n - 1)) v i k m) (less-one s f)
+
+module _ {l : Looped} {count steps : ℕ} {v₀ : ℤ} {slots₀ : List ℤ} {heads₀ : List ℕ} {env₀ : List ℤ} {v : ℤ} {s i : ℕ}
+    {slots : List ℤ} {heads : List ℕ} {env : List ℤ}
+    (inv : Passing l count steps v₀ slots₀ heads₀ env₀ v s i slots heads env) where
+  abbrev whole : Ran
+  whole = passes-on l count v₀ 0 steps (memory (store-of slots₀ heads₀) env₀)
+
+  abbrev here : Memory
+  here = memory (store-of slots heads) env
+
+  pub pass-dry : i < count → s ≡ 0 → (r : Out) → r ≡ out 21 (pos 0) 0 s → Ended whole steps r slots heads env
   pass-dry h z r e = record {
-    is = ap (λ (y : Out). ran y (memory (store-of slots heads) env)) e
-        ∙ sym (inv .same ∙ passes-dry (count - i) W calls p from into i s (memory (store-of slots heads) env) (omega
-        arith) z);
+    is = ap (λ (y : Out). ran y here) e ∙ sym (inv .same ∙ passes-dry l (count - i) v i s here (omega arith) z);
     fewer = rw e (inv .fewer);
   }
 
-  pub pass-end : count ≤ i → (r : Out) → r ≡ out 0 (pos 0) 0 s →
-      Ended (passes-on count W calls p from into 0 steps (memory (store-of slots₀ heads₀) env₀)) steps r slots heads
-      env
+  pub pass-end : count ≤ i → (r : Out) → r ≡ out 0 v 0 s → Ended whole steps r slots heads env
   pass-end h r e = record {
-    is = ap (λ (y : Out). ran y (memory (store-of slots heads) env)) e
-        ∙ sym (inv .same ∙ passes-end (count - i) W calls p from into i s (memory (store-of slots heads) env) (omega
-        arith));
+    is = ap (λ (y : Out). ran y here) e ∙ sym (inv .same ∙ passes-end l (count - i) v i s here (omega arith));
     fewer = rw e (inv .fewer);
   }
 
-  module _ (h : i < count) (f : s ≡ 0 → ⊥) (v : ℤ) (ve : v ≡ getD (elements (cell (store-of slots heads) from)) i
-      (pos 0))
-      (env₁ : List ℤ) (ee : env₁ ≡ set env (place calls p) v) (r : Out) (sl : List ℤ) (he : List ℕ) (en : List ℤ)
-      (done : Ended (W (s - 1) (memory (store-of slots heads) env₁)) (s - 1) r sl he en) where
-    pass-part : passes-on count W calls p from into 0 steps (memory (store-of slots₀ heads₀) env₀)
-        ≡ and-then (ran r (memory (store-of sl he) en))
-        (λ w. passes-on (count - i - 1) W calls p from into (i + 1) (w .out .steps)
-        (memory (appended into (w .out .value) (w .memory .store)) (w .memory .env)))
-    pass-part = inv .same
-        ∙ passes-step (count - i) W calls p from into i s (memory (store-of slots heads) env) (omega arith) (omega
-        arith)
-        ∙ ap (λ (l : List ℤ). and-then (W (s - 1) (memory (store-of slots heads) l))
-        (λ w. passes-on (count - i - 1) W calls p from into (i + 1) (w .out .steps)
-        (memory (appended into (w .out .value) (w .memory .store)) (w .memory .env))))
-        (sym (ee ∙ ap (set env (place calls p)) ve))
-        ∙ ap (λ (w : Ran). and-then w
-        (λ w. passes-on (count - i - 1) W calls p from into (i + 1) (w .out .steps)
-        (memory (appended into (w .out .value) (w .memory .store)) (w .memory .env)))) (sym (done .is))
+  module _ (h : i < count) (f : s ≡ 0 → ⊥) (env₁ : List ℤ) (ee : env₁ ≡ entered l v i here) (r : Out) (sl : List ℤ)
+      (he : List ℕ) (en : List ℤ)
+      (done : Ended (l .body (s - 1) (memory (store-of slots heads) env₁)) (s - 1) r sl he en)
+    where
+      abbrev after : Ran → Ran
+      after = carrying l (count - i) v i s here
 
-    pub pass-stops : (r .stop ≡ 0 → ⊥) →
-        Ended (passes-on count W calls p from into 0 steps (memory (store-of slots₀ heads₀) env₀)) steps r sl he en
-    pass-stops g = part-stops _ steps r sl he en
-        (λ w. passes-on (count - i - 1) W calls p from into (i + 1) (w .out .steps)
-        (memory (appended into (w .out .value) (w .memory .store)) (w .memory .env)))
-        pass-part (omega (arith, done .fewer, inv .fewer)) g
+      pass-part : whole ≡ and-then (ran r (memory (store-of sl he) en)) after
+      pass-part = inv .same ∙ passes-step l (count - i) v i s here (omega arith) (omega arith)
+          ∙ ap (λ (y : List ℤ). and-then (l .body (s - 1) (memory (store-of slots heads) y)) after) (sym ee)
+          ∙ ap (λ (w : Ran). and-then w after) (sym (done .is))
 
-    pub pass-goes : r .stop ≡ 0 → (sl′ : List ℤ) (he′ : List ℕ) →
-        store-of sl′ he′ ≡ appended into (r .value) (store-of sl he) → Sized sl′ he′ en slots heads env →
-        Passing W calls p from into count steps slots₀ heads₀ env₀ (r .steps) (i + 1) sl′ he′ en
-    pass-goes g sl′ he′ σe z = record {
-      same = pass-part
-          ∙ then-go (ran r (memory (store-of sl he) en)) (λ w. passes-on (count - i - 1) W calls p from into (i + 1)
-          (w .out .steps) (memory (appended into (w .out .value) (w .memory .store)) (w .memory .env))) g
-          ∙ ap₂ (λ (n : ℕ) (τ : Store). passes-on n W calls p from into (i + 1) (r .steps) (memory τ en))
-          (let q : count - i - 1 ≡ count - (i + 1) = omega arith in q) (sym σe);
-      fewer = omega (arith, done .fewer, inv .fewer);
-      few = omega arith;
-      sized = record {
-        slots-long = z .slots-long ∙ inv .sized .slots-long;
-        heads-long = z .heads-long ∙ inv .sized .heads-long;
-        env-long = z .env-long ∙ inv .sized .env-long;
-      };
-    }
+      pub pass-stops : (r .stop ≡ 0 → ⊥) → Ended whole steps r sl he en
+      pass-stops g =
+          part-stops _ steps r sl he en after pass-part (omega (arith, done .fewer, inv .fewer)) g
 
-pub passing-starts : (W : ℕ → Memory → Ran) (calls p from into count steps : ℕ) (slots : List ℤ) (heads : List ℕ)
-    (env : List ℤ) →
-    Passing W calls p from into count steps slots heads env steps 0 slots heads env
-passing-starts W calls p from into count steps slots heads env = record {
-  same = ap (λ (n : ℕ). passes-on n W calls p from into 0 steps (memory (store-of slots heads) env))
+      pub pass-goes : r .stop ≡ 0 → (u : ℤ) (sl′ : List ℤ) (he′ : List ℕ) →
+          carry-on (l .kind) v (ran r (memory (store-of sl he) en))
+          ≡ ran (out 0 u 0 (r .steps)) (memory (store-of sl′ he′) en) →
+          Sized sl′ he′ en slots heads env →
+          Passing l count steps v₀ slots₀ heads₀ env₀ u (r .steps) (i + 1) sl′ he′ en
+      pass-goes g u sl′ he′ ce z = record {
+        same = pass-part ∙ then-go (ran r (memory (store-of sl he) en)) after g
+            ∙ ap (λ (w : Ran). and-then w
+            (λ u. passes-on l (count - i - 1) (u .out .value) (i + 1) (u .out .steps) (u .memory))) ce
+            ∙ ap (λ (n : ℕ). passes-on l n u (i + 1) (r .steps) (memory (store-of sl′ he′) en))
+            (let q : count - i - 1 ≡ count - (i + 1) = omega arith in q);
+        fewer = omega (arith, done .fewer, inv .fewer);
+        few = omega arith;
+        sized = record {
+          slots-long = z .slots-long ∙ inv .sized .slots-long;
+          heads-long = z .heads-long ∙ inv .sized .heads-long;
+          env-long = z .env-long ∙ inv .sized .env-long;
+        };
+      }
+
+pub passing-starts : (l : Looped) (count steps : ℕ) (v : ℤ) (slots : List ℤ) (heads : List ℕ) (env : List ℤ) →
+    Passing l count steps v slots heads env v steps 0 slots heads env
+passing-starts l count steps v slots heads env = record {
+  same = ap (λ (n : ℕ). passes-on l n v 0 steps (memory (store-of slots heads) env))
       (let z : count ≡ count - 0 = omega arith in z);
   fewer = omega arith;
   few = omega arith;
   sized = record { slots-long = refl; heads-long = refl; env-long = refl };
 }
+
+-- a map carries its result's cell, to which it appends
+pub map-carries : (v : ℤ) (into : ℕ) → into ≡ cell-of v → (r : Out) (σ τ : Store) (env : List ℤ) →
+    τ ≡ appended into (r .value) σ →
+    carry-on mapping v (ran r (memory σ env)) ≡ ran (out 0 v 0 (r .steps)) (memory τ env)
+map-carries v into e r σ τ env h = ap (λ (ρ : Store). ran (out 0 v 0 (r .steps)) (memory ρ env))
+    (ap (λ (c : ℕ). appended c (r .value) σ) (sym e) ∙ sym h)

@@ -1,5 +1,5 @@
 -- The loop over the lines of a tree.
-use mathlib.Core.Path.{_≡_, refl, sym, ap, ap₂, _∙_}
+use mathlib.Core.Path.{_≡_, refl, sym, ap, _∙_}
 use mathlib.Core.Bool.{Bool, true, false, cond}
 use mathlib.Core.List.{List}
 use mathlib.Core.Logic.{_⊎_, inl, inr}
@@ -18,7 +18,7 @@ use Rattle.machine_code.proofs.Reading.{less-one, line-here}
 use Rattle.machine_lines.specs.declared.Out.{Out}
 use Rattle.machine_lines.specs.Frames.{word-of}
 use Rattle.machine_lines.specs.Lines.{Memory, memory, Ran, ran, out, halted}
-use Rattle.machine_positions.specs.Machine.{Work, Callee, Code, and-then, is-end, end-word, line-on}
+use Rattle.machine_positions.specs.Machine.{Work, Callee, Code, and-then, is-end, line-on}
 use Rattle.machine_positions.specs.Machine.{tree-from, tree-on, Ended}
 use Rattle.machine_positions.specs.Parts.{then-go, Sized, part-stops}
 

@@ -2,20 +2,22 @@
 use Prim.Native.Nat.{ℕ, zero, suc, _+_, _*_, _/_, _%_, _<_, _≤_}
 use native.Mathlib.Omega.{arith}
 use mathlib.Core.Path.{_≡_, refl, sym, ap, subst, _∙_}
+use mathlib.Core.Logic.{inl, inr}
 use mathlib.Core.Bool.{Bool, true, false}
 use lib.Dec.{ltb}
 use mathlib.Core.List.{List, [], _∷_, _++_, map}
 use lib.IntN.{ℤ}
 use lib.ListN.{getD, set, length, length-append, length-set}
 use lib.Seq.{getD-set-same, getD-set-other}
+use types.Run.{OneOf, miss}
 use borrow.Author.Tests.{ne-eqb, ltb-true, ltb-false}
-use Rattle.semantics.specs.Number.{Operation, sum, difference, less}
+use Rattle.semantics.specs.Kinds.{Leaf, Loop, mapping, leaf-kind, loop-kind, packed-names}
 use Rattle.semantics.specs.Code as C
 use Rattle.semantics.specs.Code.{Row, row, atom-row, rows, line-rows}
 use Rattle.machine_code.specs.Reading.{end-in}
 use Rattle.machine_table.specs.Positions.{with-position, with-end, end-of, ends-from}
 use Rattle.machine_table.proofs.Filling.{length-position}
-use Rattle.machine_laws.specs.Rows.{Here, At, at-first, at-second}
+use Rattle.machine_laws.specs.Rows.{Here, At, at-first, at-second, not-leaves, leaf-apart}
 
 -- a table with room for the positions of 32 functions and 4,096 rows
 abbrev pub Roomy : List ℕ → Type 0
@@ -210,6 +212,17 @@ module _ (kinds : List ℕ) (operands : List ℤ) (n : ℕ) (few : n ≤ 4096) (
   plain-kind : (k a : ℕ) → (k ≡ 0 → ⊥) → (k ≡ 12 → ⊥) → (k ≡ 13 → ⊥) → (k ≡ 16 → ⊥) → Plain (row k a)
   plain-kind k a f g h e = record { some = f; no-if = g; no-map = h; no-end = e }
 
+  leaf-plain : (l : Leaf) (a : ℕ) → Plain (row (leaf-kind l) a)
+  leaf-plain l a = plain-kind (leaf-kind l) a (λ e. other (inl e)) (λ e. other (inr (inr (inr (inl e)))))
+      (λ e. other (inr (inr (inr (inr (inl e)))))) (λ e. other (inr (inr (inr (inr (inr e))))))
+    where
+      other : OneOf not-leaves (leaf-kind l) → ⊥
+      other = miss not-leaves (leaf-kind l) (leaf-apart l)
+
+  loop-row : (k : Loop) (q a e v : ℕ) → Here kinds operands q (row (loop-kind k) a) → E (q + 1) ≡ e → q < e → E e ≡ v →
+      v < 65536 → E q ≡ v
+  loop-row mapping = map-row
+
   -- a tree's rows are among the n
   tree-short : (t : C.Tree) (p : ℕ) → At kinds operands p (rows t) → p + length (rows t) ≤ n
   unfolding rows
@@ -235,22 +248,7 @@ module _ (kinds : List ℕ) (operands : List ℤ) (n : ℕ) (few : n ≤ 4096) (
     -- a line ends where what follows it does
     line-ends : (l : C.Line) (p v : ℕ) → At kinds operands p (line-rows l) → E (p + length (line-rows l)) ≡ v →
         v < 65536 → E p ≡ v
-    line-ends (C.operation x sum a b) p v h e small = plain-line 4 x (a ∷ b ∷ []) p v
-        (plain-kind 4 x (λ z. omega arith) (λ z. omega arith) (λ z. omega arith) (λ z. omega arith)) h e small
-    line-ends (C.operation x difference a b) p v h e small = plain-line 5 x (a ∷ b ∷ []) p v
-        (plain-kind 5 x (λ z. omega arith) (λ z. omega arith) (λ z. omega arith) (λ z. omega arith)) h e small
-    line-ends (C.operation x less a b) p v h e small = plain-line 6 x (a ∷ b ∷ []) p v
-        (plain-kind 6 x (λ z. omega arith) (λ z. omega arith) (λ z. omega arith) (λ z. omega arith)) h e small
-    line-ends (C.call x f us) p v h e small = plain-line 8 (x + 256 * f) us p v
-        (plain-kind 8 (x + 256 * f) (λ z. omega arith) (λ z. omega arith) (λ z. omega arith) (λ z. omega arith)) h e
-        small
-    line-ends (C.literal x d us) p v h e small = plain-line 9 (x + 256 * length us + 65536 * d) us p v
-        (plain-kind 9 (x + 256 * length us + 65536 * d) (λ z. omega arith) (λ z. omega arith) (λ z. omega arith)
-        (λ z. omega arith)) h e small
-    line-ends (C.index x a b) p v h e small = plain-line 10 x (a ∷ b ∷ []) p v
-        (plain-kind 10 x (λ z. omega arith) (λ z. omega arith) (λ z. omega arith) (λ z. omega arith)) h e small
-    line-ends (C.length-of x a) p v h e small = plain-line 11 x (a ∷ []) p v
-        (plain-kind 11 x (λ z. omega arith) (λ z. omega arith) (λ z. omega arith) (λ z. omega arith)) h e small
+    line-ends (C.leaf x l us) p v h e small = plain-line (leaf-kind l) _ us p v (leaf-plain l _) h e small
     line-ends (C.if-else x g t u) p v h e small =
         let in-t = at-first kinds operands (p + 1 + 1) (rows t) (rows u) (h .1 .1) in
         let in-u = at-second kinds operands (p + 1 + 1) (rows t) (rows u) (h .1 .1) in
@@ -261,12 +259,15 @@ module _ (kinds : List ℕ) (operands : List ℤ) (n : ℕ) (few : n ≤ 4096) (
         (plain-row (p + 1) (p + 1 + 1 + length (rows t)) (atom-row g) (h .1 .0) (atom-plain g)
         (tree-ends t (p + 1 + 1) in-t) small-t) (omega arith)
         (tree-ends u (p + 1 + 1 + length (rows t)) in-u) (omega arith) (ap E place ∙ e) small
-    line-ends (C.map-over x q a t) p v h e small =
-        let small-t : p + 1 + 1 + length (rows t) < 65536 = omega (arith, few, tree-short t (p + 1 + 1) (h .1 .1)) in
-        let place : p + 1 + 1 + length (rows t) ≡ p + suc (suc (length (rows t))) = omega arith in
-        map-row p (x + 256 * q) (p + 1 + 1 + length (rows t)) v (h .0)
-        (plain-row (p + 1) (p + 1 + 1 + length (rows t)) (atom-row a) (h .1 .0) (atom-plain a)
-        (tree-ends t (p + 1 + 1) (h .1 .1)) small-t) (omega arith) (ap E place ∙ e) small
+    line-ends (C.loop x k ps us t) p v h e small =
+        let us-rows = map atom-row us in
+        let in-t = at-second kinds operands (p + 1) us-rows (rows t) (h .1) in
+        let end = p + 1 + length us-rows + length (rows t) in
+        let small-t : end < 65536 = omega (arith, few, tree-short t (p + 1 + length us-rows) in-t) in
+        let place : end ≡ p + suc (length (us-rows ++ rows t)) = omega (arith, length-append us-rows (rows t)) in
+        loop-row k p (x + 256 * packed-names ps) end v (h .0)
+        (plain-rows us-rows (p + 1) end (at-first kinds operands (p + 1) us-rows (rows t) (h .1)) (atoms-plain us)
+        (tree-ends t (p + 1 + length us-rows) in-t) small-t) (omega arith) (ap E place ∙ e) small
     line-ends (C.retain x) p v h e small = plain-line 14 x [] p v
         (plain-kind 14 x (λ z. omega arith) (λ z. omega arith) (λ z. omega arith) (λ z. omega arith)) h e small
     line-ends (C.release x) p v h e small = plain-line 15 x [] p v

@@ -1,5 +1,3 @@
-pub mod Limits
-pub mod Annotated
 pub mod Script
 pub mod Ends
 pub mod Starts

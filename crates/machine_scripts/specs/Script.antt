@@ -1,38 +1,24 @@
 -- The delivery over positions, on the code of an accepted script, is the delivery of the definitions.
-use Prim.Native.Nat.{ℕ, zero, suc, _+_, _-_, _<_, _≤_}
+use Prim.Native.Nat.{ℕ, zero, suc, _+_, _<_, _≤_}
 use native.Mathlib.Omega.{arith}
 use mathlib.Core.Path.{_≡_, refl, sym, ap, subst, _∙_}
-use mathlib.Core.Bool.{Bool, true, false}
 use mathlib.Core.List.{List, [], _∷_, _++_, map, append-assoc}
 use lib.IntN.{ℤ, pos}
-use lib.Dec.{ltb}
-use lib.ListN.{getD, length, length-append}
-use Rattle.semantics.specs.Basics.{with-if, updated}
-use Rattle.semantics.specs.Syntax.{Expr, Parameter, Function, Script, function-at, no-function, function-size}
-use Rattle.semantics.specs.Syntax.{main-depth}
-use Rattle.semantics.specs.Names.{Scope, unknown, unknown-from, unknown-in, name-faults}
-use Rattle.semantics.specs.Types.{signatures-of, main-shape, type-faults}
-use Rattle.semantics.specs.Code.{Row, Tree, end, rows}
-use Rattle.semantics.specs.Live.{Set, empty, uses}
-use Rattle.semantics.specs.Normal.{fresh, atom, lines, normal, normal-body, parameter-names}
-use Rattle.semantics.specs.Annotate.{NameDepths, depths-of, dying, annotate, annotated-body, parameter-rows}
-use Rattle.semantics.specs.Annotate.{function-rows, functions-rows, code}
+use lib.ListN.{getD, length, length-append, length-map}
+use Rattle.semantics.specs.Syntax.{Parameter, Function, Script, function-at, no-function, main-depth}
+use Rattle.semantics.specs.Code.{Row, rows}
+use Rattle.semantics.specs.Annotate.{depths-of, annotated-body, parameter-rows, function-rows, functions-rows, code}
 use Rattle.semantics.specs.Calls.{judged, accepted}
 use Rattle.semantics.specs.Store.{Store}
-use Rattle.semantics.specs.Machine.{Routine, routine, no-routine, delivered}
-use Rattle.sound_annotation.specs.Formed.{Formed}
-use Rattle.sound_annotation.specs.Functions.{Accepted, formed, given-within}
+use Rattle.semantics.specs.Machine.{Routine, routine, no-routine, program, routine-of, delivered}
 use Rattle.sound_annotation.specs.Reader.{AllOf, FunctionLimits}
-use Rattle.sound_annotation.specs.Accepting.{Clean, judged-clean, Faultless, accepted-at, main-shape-of}
+use Rattle.sound_annotation.specs.Accepting.{Clean, judged-clean, functions-disciplined, main-shape-of}
 use Rattle.machine_code.specs.Reading.{depth-in, start-in}
 use Rattle.machine_positions.specs.Machine.{Code}
 use Rattle.machine_positions.specs.Delivery.{delivered-on}
-use Rattle.machine_laws.specs.Rows.{Here, At, Jumps, at-first, at-second}
-use Rattle.machine_laws.specs.Scopes.{Functions, Scoped}
-use Rattle.machine_laws.specs.Calls.{parameters, Stands}
+use Rattle.machine_laws.specs.Rows.{At, Jumps, at-first, at-second}
+use Rattle.machine_laws.specs.Calls.{Stands}
 use Rattle.machine_laws.specs.Delivery.{delivered-same}
-use Rattle.machine_scripts.specs.Limits.{Limited, CallsKnown, lines-limited, calls-known, nothing, not-there}
-use Rattle.machine_scripts.specs.Annotated.{in-dying, scoped-releases, tree-scoped}
 
 -- ---- where the functions' trees stand
 
@@ -117,24 +103,6 @@ pub record Coded (fs : Script) (c : Code) : Type 0 where
   pub depths : (g x : ℕ) → g < length fs → x < 256 → depth-in (c .table) g x ≡ depths-of fs (function-at fs g) x
   pub ends : Jumps c
 
-calls-in-function : (functions : ℕ) (xs : List Parameter) (known : Scope) (p : ℕ) (e : Expr) →
-    unknown-from functions xs known p e ≡ [] → CallsKnown 256 functions e
-unfolding unknown-from
-calls-in-function functions [] known p e h = calls-known 256 functions e known p h
-calls-in-function functions (x ∷ xs) known p e h =
-    calls-in-function functions xs (updated known (x .id) true) (p + 1) e (not-there (known (x .id)) p _ h .1)
-
-calls-in-script : (functions : ℕ) (gs : List Function) (p g : ℕ) → unknown-in functions gs p ≡ [] → g < length gs →
-    CallsKnown 256 functions (getD gs g no-function .body)
-unfolding unknown-in
-calls-in-script functions [] p g h l = absurd (omega arith)
-calls-in-script functions (f ∷ gs) p zero h l =
-    calls-in-function functions (f .parameters) (λ _. false) (p + 1) (f .body)
-    (nothing (unknown-from functions (f .parameters) (λ _. false) (p + 1) (f .body)) _ h .0)
-calls-in-script functions (f ∷ gs) p (suc g) h l =
-    calls-in-script functions gs (p + function-size f) g
-    (nothing (unknown-from functions (f .parameters) (λ _. false) (p + 1) (f .body)) _ h .1) (omega arith)
-
 length-depths : (xs : List Parameter) → length (map (λ x. x .depth) xs) ≡ length xs
 length-depths [] = refl
 length-depths (x ∷ xs) = ap suc (length-depths xs)
@@ -155,62 +123,42 @@ module _ (node : ℕ) (file : List ℕ) (fs : Script) (ok : judged node file ≡
   clean : Clean fs
   clean = judged-clean node file fs ok
 
-  abbrev pub F : Functions
-  F = record { count = length fs; arity = λ f. length (signatures-of fs f .parameters); few = few }
+  routines : length (program fs .routines) ≡ length fs
+  unfolding program
+  routines = length-map fs (routine fs)
 
-  arity-is : (f : ℕ) → F .arity f ≡ length (function-at fs f .parameters)
-  arity-is f = length-depths (function-at fs f .parameters)
+  routine-is : (f : ℕ) → f < length fs → routine fs (function-at fs f) ≡ routine-of (program fs) f
+  unfolding program
+  routine-is f h = sym (getD-routine fs fs f h)
 
-  arity-few : (f : ℕ) → F .arity f ≤ 16
-  arity-few f = omega (arith, arity-is f, few-parameters fs f (clean .limits .1))
-
-  is-accepted : (f : ℕ) → Accepted fs (function-at fs f)
-  unfolding name-faults type-faults
-  is-accepted f = accepted-at fs (length fs) (main-shape (signatures-of fs 0)) fs 0 f (clean .limits .1)
-      (record { names = clean .names; types = clean .types; roomy = clean .roomy })
-
-  body-limited : (f : ℕ) → f < length fs → Limited 256 (length fs) (normal-body (function-at fs f))
-  unfolding normal-body normal name-faults
-  body-limited f h = let g = function-at fs f in
-      lines-limited 256 (length fs) (g .body) (parameter-names (g .parameters) 0) (length (g .parameters)) _
-      (calls-in-script (length fs) fs 0 f (clean .names) h) (is-accepted f .few) tt
-
-  body-scoped : (f : ℕ) → f < length fs →
-      Scoped (depths-of fs (function-at fs f)) F (annotated-body fs (function-at fs f)) (parameters (F .arity f))
-  unfolding annotated-body
-  body-scoped f h =
-      let g = function-at fs f in
-      let Γ = depths-of fs g in
-      subst (λ (n : ℕ). Scoped Γ F (annotated-body fs g) (parameters n)) (sym (arity-is f))
-      (scoped-releases (signatures-of fs) Γ F (λ k. refl) arity-few (parameters (length (g .parameters)))
-      (dying Γ (parameters (length (g .parameters))) (uses (normal-body g))) (annotate Γ (normal-body g) empty)
-      (in-dying (signatures-of fs) Γ F (λ k. refl) arity-few (parameters (length (g .parameters)))
-      (parameters (length (g .parameters))) (uses (normal-body g)) (λ x e. e))
-      (tree-scoped (signatures-of fs) Γ F (λ k. refl) arity-few (normal-body g) (parameters (length (g
-      .parameters))) empty
-      (length (g .parameters)) (g .result) (formed fs g (is-accepted f)) (given-within fs g (is-accepted f))
-      (body-limited f h)))
-
-  pub stands : (c : Code) → Coded fs c → (f : ℕ) → f < length fs → Stands F c f (getD (map (routine fs) fs) f
-      no-routine)
-  unfolding routine code
-  stands c held f h = subst (Stands F c f) (sym (getD-routine fs fs f h)) (record {
-    scoped = body-scoped f h;
-    written = subst (λ (q : ℕ). At (c .kinds) (c .operands) q (rows (annotated-body fs (function-at fs f))))
-        (let z : 0 + body-at fs fs f ≡ start-in (c .table) f = omega (arith, held .starts f h) in z)
-        (body-written (c .kinds) (c .operands) fs fs 0 f (held .written) h);
-    short = omega (arith, body-short fs fs f h, held .short);
-    depths = λ x l. held .depths f x h l;
-    few = arity-few f;
-  })
+  pub stands : (c : Code) → Coded fs c → (f : ℕ) → f < length (program fs .routines) → Stands (program fs) c f
+  unfolding routine code program
+  stands c held f l =
+      let h : f < length fs = omega (arith, l, routines) in
+      let d = functions-disciplined node file fs ok f in
+      record {
+        fitting = d .fits;
+        scoped = d .scoped;
+        written = subst (λ (r : Routine). At (c .kinds) (c .operands) (start-in (c .table) f) (rows (r .tree)))
+            (routine-is f h)
+            (subst (λ (q : ℕ). At (c .kinds) (c .operands) q (rows (annotated-body fs (function-at fs f))))
+            (let z : 0 + body-at fs fs f ≡ start-in (c .table) f = omega (arith, held .starts f h) in z)
+            (body-written (c .kinds) (c .operands) fs fs 0 f (held .written) h));
+        short = subst (λ (r : Routine). length (rows (r .tree)) ≤ 4096) (routine-is f h)
+            (let z : length (rows (annotated-body fs (function-at fs f))) ≤ 4096 =
+            omega (arith, body-short fs fs f h, held .short) in z);
+        depths = λ x g. held .depths f x h g ∙ ap (λ (r : Routine). r .depths x) (routine-is f h);
+        few = omega (arith, length-depths (function-at fs f .parameters), few-parameters fs f (clean .limits .1));
+      }
 
   -- the delivery of an accepted script
   pub deliver-accepted : (c : Code) → Coded fs c → (readings : List ℤ) (budget : ℕ) (σ : Store) →
-      delivered-on c readings (main-depth fs) budget σ ≡ delivered fs readings budget σ
+      delivered-on c readings (main-depth fs) budget σ ≡ delivered (program fs) readings budget σ
+  unfolding program
   deliver-accepted c held readings budget σ =
-      delivered-same fs F c (clean .limits .0) (sym (ap (λ s. length (s .parameters)) (main-shape-of node file fs ok
-      .0)))
-      (stands c held) (held .ends) readings budget σ
+      delivered-same (program fs) (omega (arith, few, routines)) c (omega (arith, clean .limits .0, routines))
+      (sym (ap (λ s. length (s .parameters)) (main-shape-of node file fs ok .0))) (stands c held) (held .ends) readings
+      budget σ
 
 -- what `code-kinds` and `code-operands` leave in the arrays
 pub code-written : (fs : Script) (ks : List ℕ) (os : List ℤ) →

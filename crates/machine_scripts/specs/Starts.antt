@@ -1,18 +1,17 @@
 -- The table's positions, as one pass over the code of a script finds them, are those of the functions' trees.
-use Prim.Native.Nat.{ℕ, zero, suc, _+_, _-_, _*_, _/_, _%_, _<_, _≤_}
+use Prim.Native.Nat.{ℕ, zero, suc, _+_, _-_, _*_, _%_, _<_, _≤_}
 use native.Mathlib.Omega.{arith}
-use mathlib.Core.Path.{_≡_, refl, sym, ap, ap₂, subst, _∙_}
+use mathlib.Core.Path.{_≡_, refl, ap, ap₂, subst, _∙_}
 use mathlib.Core.Bool.{Bool, true, false, cond}
 use lib.Dec.{ltb}
 use mathlib.Core.List.{List, [], _∷_, _++_}
-use lib.IntN.{ℤ, pos}
-use lib.ListN.{getD, set, length, length-append, length-set}
-use lib.Seq.{getD-set-same, getD-set-other}
-use Rattle.semantics.specs.Syntax.{Parameter, Function, Script, no-function}
+use lib.IntN.{ℤ}
+use lib.ListN.{getD, length, length-append}
+use Rattle.semantics.specs.Syntax.{Function, Script}
 use Rattle.semantics.specs.Code.{Tree, rows}
 use Rattle.semantics.specs.Annotate.{annotated-body, parameter-rows, function-rows, functions-rows}
 use Rattle.sound_annotation.specs.Reader.{AllOf, FunctionLimits}
-use Rattle.machine_code.specs.Reading.{natural, start-in, end-in}
+use Rattle.machine_code.specs.Reading.{start-in, end-in}
 use Rattle.machine_table.specs.Positions.{with-start, tree-start, starts-from}
 use Rattle.machine_table.proofs.Filling.{length-position, from-more}
 use Rattle.machine_laws.specs.Rows.{At, at-first, at-second}

@@ -1,11 +1,11 @@
 -- The loops over the rows and over the functions.
-use mathlib.Core.Path.{_≡_, refl, sym, ap, ap₂, _∙_}
+use mathlib.Core.Path.{_≡_, refl, sym, ap, _∙_}
 use mathlib.Core.List.{List}
 use Prim.Native.Nat.{ℕ, zero, suc, _+_, _-_, _*_, _/_, _%_, _<_, _≤_}
 use native.Mathlib.Omega.{arith}
 use lib.IntN.{ℤ, pos}
 use lib.ListN.{getD, set, length, length-set}
-use borrow.Author.Tests.{lt-ltb, le-ltb, eq-eqb, ne-eqb}
+use borrow.Author.Tests.{lt-ltb, le-ltb, ne-eqb}
 use Rattle.machine_code.specs.Reading.{natural, end-in}
 use Rattle.machine_code.proofs.Reading.{less-one}
 use Rattle.machine_table.specs.Positions.{with-position, with-end, end-of, ends-from, with-start, tree-start}

@@ -10,7 +10,7 @@ use Rattle.semantics.specs.Types.{Signature}
 use Rattle.semantics.specs.Annotate.{annotated-body, code}
 use Rattle.semantics.specs.Machine.{routine, no-routine, program}
 use Rattle.semantics.specs.Calls.{accepted, judged}
-use Rattle.sound_machine.specs.Size.{function-lines, tree-lines}
+use Rattle.sound_machine.specs.Size.{function-adds, tree-adds}
 use Rattle.sound_machine.specs.Calls.{ProgramDisciplined, ProgramFrugal}
 use Rattle.sound_annotation.specs.Accepting.{judged-clean, functions-disciplined, functions-frugal, main-shape-of}
 
@@ -29,8 +29,8 @@ module _ (node : ℕ) (file : List ℕ) (fs : Script) (ok : judged node file ≡
     short = λ f h. omega (
       arith,
       few,
-      function-lines fs f,
-      ap tree-lines (tree-at fs fs f (omega (arith, length-map fs (routine fs)))),
+      function-adds fs f,
+      ap tree-adds (tree-at fs fs f (omega (arith, length-map fs (routine fs)))),
     );
     some = omega (arith, judged-clean node file fs ok .limits .0, length-map fs (routine fs));
     takes = ap (λ (s : Signature). s .parameters) (main-shape-of node file fs ok .0);

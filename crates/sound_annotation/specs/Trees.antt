@@ -191,10 +191,11 @@ module _ (Γ : NameDepths) where
             λ i. live-pass Γ x k ps t A empty i ∖∖ ps ∪ q i ∖ x in
             let inside = pass-sound s in
             let s′ : Sound Γ B j′ (hold-of Γ x ++ rest) [] (names Γ B L) L =
-            sound-same Γ B j′ (hold-of Γ x ++ names Γ B (behind Γ few B x us hands reads used A)) (hold-of Γ x ++ rest) []
-            (names Γ B L) (names Γ B L) L
+            sound-same Γ B j′ (hold-of Γ x ++ names Γ B (behind Γ few B x us hands reads used A)) (hold-of Γ x ++ rest)
+            [] (names Γ B L) (names Γ B L) L
             (same-append (hold-of Γ x) _ rest (λ n. sym (left Γ few B x us hands reads used A apart n))) (λ n. refl)
-            (releasing Γ few B (among reads used ∪ only x) A j _ [] L (bound Γ few B x us hands reads used A apart) sound) in
+            (releasing Γ few B (among reads used ∪ only x) A j _ [] L
+            (bound Γ few B x us hands reads used A apart) sound) in
             retains Γ B (again Γ few B x us hands reads used A) (line (loop x k ps us t′) j′)
             (names Γ B (before Γ few B x us hands reads used A)) (names Γ B L) L
             (retainable Γ few B x us hands reads used A apart) (

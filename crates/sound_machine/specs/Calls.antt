@@ -21,7 +21,7 @@ use Rattle.sound_machine.specs.Discipline.{parameter-holds, parameter-na
 use Rattle.sound_machine.specs.Agreement.{Start, Together, Agree, same, agree-map}
 use Rattle.sound_machine.specs.Frames.{Room, Setting, Situation, Returned, Arguments, named-all}
 use Rattle.sound_machine.specs.Standing.{none-in}
-use Rattle.sound_machine.specs.Size.{tree-lines}
+use Rattle.sound_machine.specs.Size.{tree-adds}
 use Rattle.sound_machine.specs.Rules.{TreeRules}
 use Rattle.sound_machine.specs.Claims.{CallClaim, LeafClaim}
 use Rattle.sound_machine.specs.Reading.{leaf-operation, leaf-index, leaf-length}
@@ -38,7 +38,11 @@ leaf-sound C grows calls (literal d) = leaf-literal C d
 leaf-sound C grows calls index = leaf-index C
 leaf-sound C grows calls length-of = leaf-length C
 
--- a program's code with some call depth left: each call below adds at most 1,000,000 references
+-- the most references that a function's own lines may add
+abbrev pub call-adds : ℕ
+call-adds = 1000000
+
+-- a program's code with some call depth left: each call below adds no more than that
 abbrev pub setting : Program → Start → ℕ → NameDepths → Setting
 setting p start n Γ = record {
   program = p;
@@ -46,13 +50,13 @@ setting p start n Γ = record {
   start = start;
   callee = machine p n;
   meant = running p n;
-  need = 1000000 * n;
+  need = call-adds * n;
 }
 
 -- Every function is disciplined, and short: code of 4,096 rows adds at most 69,632 references. The first is main.
 pub record ProgramDisciplined (p : Program) : Type 0 where
   pub functions : (f : ℕ) → f < length (p .routines) → FunctionDisciplined p f
-  pub short : (f : ℕ) → f < length (p .routines) → tree-lines (routine-of p f .tree) ≤ 1000000
+  pub short : (f : ℕ) → f < length (p .routines) → tree-adds (routine-of p f .tree) ≤ call-adds
   pub some : 0 < length (p .routines)
   pub takes : p .signatures 0 .parameters ≡ p .depth ∷ (1 ∷ [])
   pub gives : p .signatures 0 .result ≡ p .depth
@@ -68,7 +72,7 @@ module _ (p : Program) (disciplined : ProgramDisciplined p) (start : Start)
       (f : ℕ) (ws : List ℤ) (vs : List Value) (Z F R : List ℕ) (s : State) (m : Meter) → f < length (p .routines) →
       Together start s m → Arguments (s .store) (p .signatures f .parameters) ws vs →
       Invariant (s .store) Z (named-all (p .signatures f .parameters) ws ++ F) →
-      Room Z (named-all (p .signatures f .parameters) ws ++ F) (1000000 * suc n) →
+      Room Z (named-all (p .signatures f .parameters) ws ++ F) (call-adds * suc n) →
       (start .frugal ≡ true → (Z ++ F) ⊆ R) →
       Agree start (Returned start (p .signatures f .result) (s .store) Z F)
       (work (machine p n) (routine-of p f .depths) (routine-of p f .tree) empty R (frame-from ws 0) s)
@@ -77,7 +81,7 @@ module _ (p : Program) (disciplined : ProgramDisciplined p) (start : Start)
       agree-map (λ w s′ v m′ e. record { answered = e .answered; keeps = e .keeps })
       (tree-sound C (running-grows p n) (leaf-sound C (running-grows p n) (calls (r .depths))) (r .tree)
       [] (parameter-names ds) empty (parameter-holds ds 0) [] [] (p .signatures f .result) rules Z F R
-      (frame-from ws 0) (values-from vs 0) (1000000 * n) s m tog situation (omega arith))
+      (frame-from ws 0) (values-from vs 0) (call-adds * n) s m tog situation (omega arith))
     where
       r : Routine
       r = routine-of p f
@@ -102,14 +106,14 @@ module _ (p : Program) (disciplined : ProgramDisciplined p) (start : Start)
       }
 
       situation : Situation C (s .store) Z F R [] (parameter-holds ds 0) [] (frame-from ws 0)
-          (values-from vs 0) (tree-lines (r .tree) + 1000000 * n)
+          (values-from vs 0) (tree-adds (r .tree) + call-adds * n)
       situation = record {
         invariant = subst (λ (l : List ℕ). Invariant (s .store) Z (l ++ F)) (sym (parameters-hold args 0)) inv;
         numbers = parameter-numbers args (r .depths) (disciplined .functions f there .parameters);
         arrays = parameter-arrays args (r .depths) (disciplined .functions f there .parameters);
         pending = λ y h. absurd (none-in y h);
         lent = λ y h. absurd (none-in y h);
-        room = subst (λ (l : List ℕ). Room Z (l ++ F) (tree-lines (r .tree) + 1000000 * n))
+        room = subst (λ (l : List ℕ). Room Z (l ++ F) (tree-adds (r .tree) + call-adds * n))
             (sym (parameters-hold args 0))
             (record { few = λ c. omega (arith, room .few c, disciplined .short f there) });
         rooted = rooted;

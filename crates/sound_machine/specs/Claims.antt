@@ -25,7 +25,7 @@ use Rattle.sound_machine.specs.Growth.{Grows}
 use Rattle.sound_machine.specs.Agreement.{Together, Agree, after-step}
 use Rattle.sound_machine.specs.Frames.{hold, Room, Setting, Situation, Returned, Ended, Going, Arguments}
 use Rattle.sound_machine.specs.Frames.{named-all, given}
-use Rattle.sound_machine.specs.Size.{tree-lines, line-lines}
+use Rattle.sound_machine.specs.Size.{leaf-adds, tree-adds, line-adds}
 use Rattle.sound_machine.specs.Rules.{TreeRules, LineRules}
 
 module _ (C : Setting) where
@@ -38,14 +38,14 @@ module _ (C : Setting) where
   abbrev pub TreeClaim : Tree → Type 0
   TreeClaim t = (B : List ℕ) (S L : Set) (H P Δ : List ℕ) (d : ℕ) → TreeRules C t B S L H P Δ d →
       (Z F R : List ℕ) (ρ : Frame) (δ : Env) (n : ℕ) (s : State) (m : Meter) → Together (C .start) s m →
-      Situation C (s .store) Z F R B H P ρ δ (tree-lines t + n) → C .need ≤ n →
+      Situation C (s .store) Z F R B H P ρ δ (tree-adds t + n) → C .need ≤ n →
       Both (Ended C d (s .store) Z F Δ ρ δ n) (work (C .callee) (C .depths) t L R ρ) s (run (C .meant) t δ) m
 
   -- Of a line under its rules, after which A is live: the tree may go on.
   abbrev pub LineClaim : Line → Type 0
   LineClaim l = (B : List ℕ) (S A : Set) (H P Δ : List ℕ) → LineRules C l B S A H P Δ →
       (Z F R : List ℕ) (ρ : Frame) (δ : Env) (n : ℕ) (s : State) (m : Meter) → Together (C .start) s m →
-      Situation C (s .store) Z F R B H P ρ δ (line-lines l + n) → C .need ≤ n →
+      Situation C (s .store) Z F R B H P ρ δ (line-adds l + n) → C .need ≤ n →
       Both (Going C l (s .store) Z F R B H Δ ρ δ n) (work-line (C .callee) (C .depths) l A R ρ) s
       (run-line (C .meant) l δ) m
 
@@ -68,7 +68,7 @@ module _ (C : Setting) where
       LineHolding (C .depths) B (leaf x l us) H P →
       (C .start .frugal ≡ true → LineFrugal (C .depths) B (leaf x l us) H A) →
       (Z F R : List ℕ) (ρ : Frame) (δ : Env) (n : ℕ) (s : State) (m : Meter) → Together (C .start) s m →
-      Situation C (s .store) Z F R B H P ρ δ (17 + n) → C .need ≤ n →
+      Situation C (s .store) Z F R B H P ρ δ (leaf-adds + n) → C .need ≤ n →
       Both (Gave l x (s .store) Z (hold ρ (less (given C (leaf-hands l us)) H) ++ F))
       (Machine.step >>= λ _. work-leaf (C .callee) (R ++ held (C .depths) (among us (A ∖ x)) ρ)
       (R ++ held (C .depths) (A ∖ x) ρ) l (map (word ρ) us)) s

@@ -35,7 +35,7 @@ use Rattle.sound_machine.specs.Acquiring.{after-acquire, acquire-togethe
 use Rattle.sound_machine.specs.Acquiring.{cell-stands}
 use Rattle.sound_machine.specs.Totals.{totals-retained, retains-totals, Prepared, prepared, Finished}
 use Rattle.sound_machine.specs.Totals.{releases-totals, with-result, put-result, result-put}
-use Rattle.sound_machine.specs.Calls.{ProgramDisciplined, ProgramFrugal, call-sound}
+use Rattle.sound_machine.specs.Calls.{call-adds, ProgramDisciplined, ProgramFrugal, call-sound}
 
 -- The delivery ends as main does, or stops as main does, or is out of cells just where main wants one.
 pub data Delivers (start : Start) (d : ℕ) : Outcome State (Unit {0}) → Outcome Meter Value → Type 0 where
@@ -165,10 +165,10 @@ module _ (p : Program) (disciplined : ProgramDisciplined p) (careful : Bool)
         (subst (λ (l : List ℕ). Arguments (ready .store) l (old ∷ (pos c ∷ [])) values) (sym (disciplined .takes))
         (more totals-stand (more readings-stand none)))
         (subst (λ (l : List ℕ). Invariant (ready .store) [] l) (sym holds) (main-begins .invariant))
-        (subst (λ (l : List ℕ). Room [] l (1000000 * 32)) (sym holds) room)
+        (subst (λ (l : List ℕ). Room [] l (call-adds * 32)) (sym holds) room)
         (λ f r h. h))
       where
-        room : Room [] (held ++ (c ∷ held)) (1000000 * 32)
+        room : Room [] (held ++ (c ∷ held)) (call-adds * 32)
         room = record {
           few = λ k. omega (
             arith,

@@ -16,6 +16,7 @@ use Rattle.semantics.specs.Store.{Store, cell-of, named-by}
 use Rattle.semantics.specs.Sound.{all-inner}
 use Rattle.sound_base.specs.Lists.{_⊆_}
 use Rattle.sound_base.specs.Invariant.{Invariant, Keeps, Stands}
+use Rattle.sound_store.specs.Retain.{most-references}
 use Rattle.sound_machine.specs.Discipline.{hold-of, handed, holds-after, waits-after}
 use Rattle.sound_machine.specs.Agreement.{Start, Together}
 
@@ -25,7 +26,7 @@ hold ρ H = map (λ y. cell-of (ρ y)) H
 
 -- No cell is referred to so often that n references more come near the end of its count.
 pub record Room (Z R : List ℕ) (n : ℕ) : Type 0 where
-  pub few : (c : ℕ) → occurrences c R + occurrences c Z + n ≤ 1000000000
+  pub few : (c : ℕ) → occurrences c R + occurrences c Z + n ≤ most-references
 
 -- What is fixed while a function's tree is worked: the program, the depths of the function's names, the start of the
 -- delivery, the calls, and the references that a call may add.

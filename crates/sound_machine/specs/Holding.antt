@@ -25,7 +25,7 @@ use Rattle.sound_machine.specs.Images.{image-in, without-middle, first-o
 use Rattle.sound_machine.specs.Agreement.{both, with-store-together}
 use Rattle.sound_machine.specs.Frames.{hold, Setting, Situation}
 use Rattle.sound_machine.specs.Standing.{none-in, stands-held, hold-split, lent-kept}
-use Rattle.sound_machine.specs.Size.{line-lines}
+use Rattle.sound_machine.specs.Size.{line-adds}
 use Rattle.sound_machine.specs.Situations.{room-less, room-one, room-fewer, touch-together}
 use Rattle.sound_machine.specs.Claims.{LineClaim}
 use Rattle.sound_machine.specs.Discipline.{less, holds-after}
@@ -54,7 +54,7 @@ module _ (C : Setting) where
   ]
 
   pub line-retain : (x : ℕ) → LineClaim C (retain x)
-  unfolding work-line run-line onward retain-word with-store line-lines holds-after
+  unfolding work-line run-line onward retain-word with-store line-adds holds-after
   line-retain x B T A H P Δ rules Z F R ρ δ n s m t S need = both record {
     together = touch-together c (retained c σ) (S .invariant) used (r .free) (r .cells) t;
     situation = record {
@@ -95,7 +95,7 @@ module _ (C : Setting) where
       ]
 
   pub line-release : (x : ℕ) → LineClaim C (release x)
-  unfolding work-line run-line onward release-word with-store line-lines holds-after
+  unfolding work-line run-line onward release-word with-store line-adds holds-after
   line-release x B T A H P Δ rules Z F R ρ δ n s m t S need = both record {
     together = with-store-together (released deepest c σ) (release-events deepest c σ) (r .untouched) (r .replays)
         (r .cells) t;

@@ -19,8 +19,8 @@ use Rattle.sound_machine.specs.Discipline.{without, less, unlent, left-b
 use Rattle.sound_machine.specs.Discipline.{Fitting, Scoped, New, Holding, FunctionDisciplined, Covered}
 use Rattle.sound_machine.specs.Discipline.{RoutineFrugal}
 use Rattle.sound_machine.specs.Standing.{none-in}
-use Rattle.sound_machine.specs.Size.{tree-lines}
-use Rattle.sound_machine.specs.Calls.{ProgramDisciplined, ProgramFrugal}
+use Rattle.sound_machine.specs.Size.{tree-adds}
+use Rattle.sound_machine.specs.Calls.{call-adds, ProgramDisciplined, ProgramFrugal}
 
 abbrev pass : Tree
 pass = line (leaf 4 length-of (name 1 ∷ [])) (line (leaf 5 (operation sum) (name 3 ∷ (name 4 ∷ []))) (end (name 5)))
@@ -84,8 +84,8 @@ functions : (f : ℕ) → f < 1 → FunctionDisciplined small f
 functions zero h = instance
 functions (suc f) h = absurd (omega (arith, h))
 
-short : (f : ℕ) → f < 1 → tree-lines (routine-of small f .tree) ≤ 1000000
-unfolding tree-lines
+short : (f : ℕ) → f < 1 → tree-adds (routine-of small f .tree) ≤ call-adds
+unfolding tree-adds
 short zero h = omega arith
 short (suc f) h = absurd (omega (arith, h))
 

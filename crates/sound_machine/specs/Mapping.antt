@@ -24,7 +24,7 @@ use Rattle.sound_machine.specs.Growth.{pass-grows, tree-grows}
 use Rattle.sound_machine.specs.Agreement.{Together, Agree, both}
 use Rattle.sound_machine.specs.Frames.{hold, Setting, own, given}
 use Rattle.sound_machine.specs.Binding.{ended-depth}
-use Rattle.sound_machine.specs.Size.{tree-lines, line-lines}
+use Rattle.sound_machine.specs.Size.{tree-adds, line-adds}
 use Rattle.sound_machine.specs.Situations.{situation-less}
 use Rattle.sound_machine.specs.Fits.{map-fits, element-fits, first-same}
 use Rattle.sound_machine.specs.Rules.{LineRules, TreeRules, Fresh, fresh, outer-names, pass-rules, loop-fresh}
@@ -78,7 +78,7 @@ module _ (C : Setting) (grows : CalleeGrows (C .meant)) (x p : ℕ) (a : Atom) (
     -- what is carried is the cell, filled so far; before the first pass the store was σ
     abbrev Carried : Store → ℕ → ℤ → State → Value → Meter → Type 0
     Carried σ i w s v m = Together (C .start) s m
-        × Passing C d Z others R (lent-names C a B H) (outer C a B H) ρ δ (tree-lines t + n) σ i w v (s .store)
+        × Passing C d Z others R (lent-names C a B H) (outer C a B H) ρ δ (tree-adds t + n) σ i w v (s .store)
 
     pub map-pass : (σ : Store) (i : ℕ) (w : ℤ) (v : Value) (s : State) (m : Meter) → i < length (items (value δ a)) →
         Carried σ i w s v m → Agree (C .start) (Carried σ (suc i))
@@ -88,26 +88,26 @@ module _ (C : Setting) (grows : CalleeGrows (C .meant)) (x p : ℕ) (a : Atom) (
         (getD (items (value δ a)) i (num (pos 0))) m)
     unfolding work-pass do-pass append-word onward with-store appended
     map-pass σ i w v s m within q = pass-begins C grows p a t claim B H tree-rules array (new .lent) (new .before) d Z
-        others R ρ δ (tree-lines t + n) n (omega arith) need (λ e r. Machine.carried-on mapping w r)
+        others R ρ δ (tree-adds t + n) n (omega arith) need (λ e r. Machine.carried-on mapping w r)
         (λ r. with-item v r) within (q .0) (q .1)
         (λ τ r s′ v′ m′ P′ item E.
         let E′ = ended-depth C given-depth E in
         both (
-          pass-together C d Z others R (lent-names C a B H) (outer C a B H) ρ δ (tree-lines t + n) P′ (item .few) E′,
-          pass-done C d Z others R (lent-names C a B H) (outer C a B H) ρ δ (tree-lines t + n) P′ (item .few) E′,
+          pass-together C d Z others R (lent-names C a B H) (outer C a B H) ρ δ (tree-adds t + n) P′ (item .few) E′,
+          pass-done C d Z others R (lent-names C a B H) (outer C a B H) ρ δ (tree-adds t + n) P′ (item .few) E′,
         ))
 
 module _ (C : Setting) (grows : CalleeGrows (C .meant)) where
   map-line : (x p : ℕ) (a : Atom) (t : Tree) → TreeClaim C t → LineClaim C (loop x mapping (p ∷ []) (a ∷ []) t)
-  unfolding work-line run-line do-loop line-lines cell-of less holds-after
+  unfolding work-line run-line do-loop line-adds cell-of less holds-after
   map-line x p a t claim B T A H P Δ rules Z F R ρ δ n s m tog S need =
       filling-line C (loop x mapping (p ∷ []) (a ∷ []) t) x (pred (C .depths x)) (C .depths p) a B H P Δ
       (among (a ∷ []) (after-pass x (p ∷ []) t A)) (array C grows x p a t claim B T A H P Δ rules)
       (reads C grows x p a t claim B T A H P Δ rules) (shallow C grows x p a t claim B T A H P Δ rules)
       (result-depth C grows x p a t claim B T A H P Δ rules) (λ f. rules .frugal f .0) refl refl (loop-fresh C rules)
-      Z F R ρ δ (tree-lines t) n _ _ (pass-grows mapping _ (λ vs. tree-grows (C .meant) grows t _))
+      Z F R ρ δ (tree-adds t) n _ _ (pass-grows mapping _ (λ vs. tree-grows (C .meant) grows t _))
       (λ c. map-pass C grows x p a t claim B T A H P Δ rules Z F _ ρ δ n need) s m tog
-      (situation-less (suc (tree-lines t + n)) S (omega arith))
+      (situation-less (suc (tree-adds t + n)) S (omega arith))
 
   pub line-mapping : (x : ℕ) (ps : List ℕ) (us : List Atom) (t : Tree) → TreeClaim C t →
       LineClaim C (loop x mapping ps us t)

@@ -10,29 +10,32 @@ use Rattle.semantics.specs.Code.{atom-row, Line, leaf, if-else, loop, retain, r
 use Rattle.semantics.specs.Annotate.{annotated-body, parameter-rows, function-rows, functions-rows, code}
 use Rattle.semantics.specs.Computing.{computing}
 
--- The references that a tree may add at most, counted by its lines and those of the trees in it: a leaf adds one for
--- its result, and no more than one for each element of an array.
-unfoldable mutual
-  pub tree-lines : Tree → ℕ
-  tree-lines (end a) = 0
-  tree-lines (line l t) = line-lines l + tree-lines t
+-- the most that a leaf adds: one for its result, and no more than one for each element of an array
+abbrev pub leaf-adds : ℕ
+leaf-adds = 17
 
-  pub line-lines : Line → ℕ
-  line-lines (leaf x l us) = 17
-  line-lines (if-else x g t e) = 1 + tree-lines t + tree-lines e
-  line-lines (loop x k ps us t) = 2 + tree-lines t
-  line-lines (retain x) = 1
-  line-lines (release x) = 1
+-- The references that a tree may add at most, counted by its lines and those of the trees in it.
+unfoldable mutual
+  pub tree-adds : Tree → ℕ
+  tree-adds (end a) = 0
+  tree-adds (line l t) = line-adds l + tree-adds t
+
+  pub line-adds : Line → ℕ
+  line-adds (leaf x l us) = leaf-adds
+  line-adds (if-else x g t e) = 1 + tree-adds t + tree-adds e
+  line-adds (loop x k ps us t) = 2 + tree-adds t
+  line-adds (retain x) = 1
+  line-adds (release x) = 1
 
 mutual
-  unfolding tree-lines rows
+  unfolding tree-adds rows
 
   -- each line has a row of its own
-  pub tree-rows : (t : Tree) → tree-lines t ≤ 17 * length (rows t)
+  pub tree-rows : (t : Tree) → tree-adds t ≤ leaf-adds * length (rows t)
   tree-rows (end a) = omega arith
   tree-rows (line l t) = omega (arith, line-has-rows l, tree-rows t, length-append (line-rows l) (rows t))
 
-  pub line-has-rows : (l : Line) → line-lines l ≤ 17 * length (line-rows l)
+  pub line-has-rows : (l : Line) → line-adds l ≤ leaf-adds * length (line-rows l)
   line-has-rows (leaf x l us) = omega arith
   line-has-rows (if-else x g t e) = omega (arith, tree-rows t, tree-rows e, length-append (rows t) (rows e))
   line-has-rows (loop x k ps us t) = omega (arith, tree-rows t, length-append (map atom-row us) (rows t))
@@ -52,16 +55,17 @@ function-within fs (g ∷ gs) zero h = omega (
 function-within fs (g ∷ gs) (suc f) h =
     omega (arith, length-append (function-rows fs g) (functions-rows fs gs), function-within fs gs f (omega arith))
 
-no-lines : (fs : Script) → tree-lines (annotated-body fs no-function) ≡ 0
-unfolding computing tree-lines
+no-lines : (fs : Script) → tree-adds (annotated-body fs no-function) ≡ 0
+unfolding computing tree-adds
 no-lines fs = refl
 
--- no function has more lines than the code has rows, 17 for each
-pub function-lines : (fs : Script) (f : ℕ) → tree-lines (annotated-body fs (function-at fs f)) ≤ 17 * length (code fs)
+-- no function adds more than the rows of the code allow
+pub function-adds : (fs : Script) (f : ℕ) →
+    tree-adds (annotated-body fs (function-at fs f)) ≤ leaf-adds * length (code fs)
 unfolding code
-function-lines fs f = elim (decLt f (length fs)) [
+function-adds fs f = elim (decLt f (length fs)) [
   | yes h ↦ omega (arith, tree-rows (annotated-body fs (function-at fs f)), function-within fs fs f h)
   | no h ↦
       let e = List·getD-eq-default fs no-function {n = f} (omega (arith, h)) in
-      omega (arith, ap (λ (g : Function). tree-lines (annotated-body fs g)) e, no-lines fs)
+      omega (arith, ap (λ (g : Function). tree-adds (annotated-body fs g)) e, no-lines fs)
 ]

@@ -20,7 +20,7 @@ use Rattle.sound_machine.specs.Frames.{hold, Setting, given}
 use Rattle.sound_machine.specs.Standing.{atom-stands, handed-named}
 use Rattle.sound_machine.specs.Binding.{ended-back}
 use Rattle.sound_machine.specs.Atoms.{handed-same, hand-over}
-use Rattle.sound_machine.specs.Size.{tree-lines, line-lines}
+use Rattle.sound_machine.specs.Size.{tree-adds, line-adds}
 use Rattle.sound_machine.specs.Situations.{situation-less}
 use Rattle.sound_machine.specs.Rules.{line-rules, rest-rules}
 use Rattle.sound_machine.specs.Claims.{TreeClaim, LineClaim, LeafClaim}
@@ -32,7 +32,7 @@ use Rattle.sound_machine.specs.Mapping.{line-mapping}
 module _ (C : Setting) where
   -- a tree's end hands its atom over
   pub tree-end : (a : Atom) → TreeClaim C (end a)
-  unfolding work run tree-lines
+  unfolding work run tree-adds
   tree-end a B T L H P Δ d rules Z F R ρ δ n s m tog S need = both record {
     answered = record {
       together = tog;
@@ -59,10 +59,10 @@ module _ (C : Setting) where
   module _ (grows : CalleeGrows (C .meant)) where
     -- a line, and the tree that goes on after it
     pub tree-line : (l : Line) (t : Tree) → LineClaim C l → TreeClaim C t → TreeClaim C (line l t)
-    unfolding work run tree-lines
+    unfolding work run tree-adds
     tree-line l t first rest B T L H P Δ d rules Z F R ρ δ n s m tog S need =
         agree-bind (first B T (live t L) H P Δ (line-rules C rules)
-        Z F R ρ δ (tree-lines t + n) s m tog (situation-less (line-lines l + (tree-lines t + n)) S (omega arith))
+        Z F R ρ δ (tree-adds t + n) s m tog (situation-less (line-adds l + (tree-adds t + n)) S (omega arith))
         (omega arith))
         (λ δ′. tree-grows (C .meant) grows t δ′)
         (λ ρ′ s′ δ′ m′ g. agree-map (λ w s″ v m″ e. ended-back C (g .words) (g .values) (g .keeps) e)

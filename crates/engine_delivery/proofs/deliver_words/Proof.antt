@@ -1,5 +1,4 @@
 -- `engine_delivery::deliver_words` meets its contract.
-use native.Mathlib.Omega.{arith}
 use mathlib.Core.Path.{sym, _∙_}
 use borrow.Author.Needs.{needs}
 use borrow.Author.Tests.{not-true, not-false}
@@ -7,12 +6,6 @@ use Rattle.engine_store.proofs.Laws.{taken-few}
 use Rattle.engine_delivery.proofs.Laws.{refuses-10, refuses-11, sound-fits, delivers, steps-few}
 use Rattle.engine_delivery.proofs.deliver_words.Statement.{statement}
 use Rattle.engine_delivery.proofs.deliver_words.Tie as tie
-use Rattle.engine_delivery.proofs.deliver_words.Reads as reads
-use Rattle.engine_delivery.proofs.deliver_words.Lts as lts
-use Rattle.engine_delivery.proofs.request_fits.Reads as request-fits-reads
-use Rattle.machine_delivery.proofs.deliver_on.Reads as deliver-on-reads
-use Rattle.store_check.proofs.is_sound.Reads as is-sound-reads
-use Rattle.store_words.proofs.cells_taken.Reads as cells-taken-reads
 
 request-fits-requires : tie.Need-request-fits-requires
 request-fits-requires c κs = search needs

@@ -5,8 +5,6 @@ use borrow.Author.Tests.{le-leb, lt-leb}
 use Rattle.semantics.specs.Calls.{request-fits}
 use Rattle.engine_delivery.proofs.request_fits.Statement.{statement}
 use Rattle.engine_delivery.proofs.request_fits.Tie as tie
-use Rattle.engine_delivery.proofs.request_fits.Reads as reads
-use Rattle.engine_delivery.proofs.request_fits.Lts as lts
 
 returns : tie.Need-returns
 unfolding request-fits

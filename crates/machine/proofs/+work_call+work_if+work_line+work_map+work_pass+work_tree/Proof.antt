@@ -122,13 +122,13 @@ pub +work-call+work-if+work-line+work-map+work-pass+work-tree-spec : {M : Type 1
     (of-map.work-map-element-depth-requires t)
     (of-map.work-map-acquire-empty-requires t)
     (of-map.work-map-enum-known-c t)
+    (of-map.work-map-word-from-requires t)
     (of-map.work-map-sub-work-pass t)
     (of-map.work-map-add-work-pass t)
     (of-map.work-map-work-pass-requires t)
     (of-map.work-map-same-length t)
     (of-map.work-map-same-length-2 t)
     (of-map.work-map-returns-2 t)
-    (of-map.work-map-word-from-requires t)
     (of-map.work-map-bind-requires t)
     (of-map.work-map-add-end-in t)
     (of-map.work-map-end-in-requires t)
@@ -144,6 +144,7 @@ pub +work-call+work-if+work-line+work-map+work-pass+work-tree-spec : {M : Type 1
     (of-map.work-map-returns-4 t))
     (λ t. work-pass-lts.spec (work-pass-claims t) (work-pass-at t) work-pass.Post of-pass.work-pass-Inv-loop
     of-pass.work-pass-μ-loop
+    (of-pass.work-pass-named-cell-requires t)
     (of-pass.work-pass-loop-holds t)
     (of-pass.work-pass-halted-requires t)
     (of-pass.work-pass-same-length t)

@@ -1,5 +1,4 @@
-use mathlib.Core.Path.{sym}
-use borrow.Author.Tests.{eq-eqb, ne-eqb}
+use borrow.Author.Tests.{ne-eqb}
 use borrow.Author.Needs.{needs}
 use Rattle.machine_code.proofs.atom_stands.Statement.{statement}
 use Rattle.machine_code.proofs.atom_stands.Tie as tie

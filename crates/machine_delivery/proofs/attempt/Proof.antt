@@ -1,7 +1,6 @@
 use mir.Facts.{toZ-ofZ}
 use native.Mathlib.Omega.{arith}
-use mathlib.Core.Path.{sym, refl, ap, _∙_}
-use Rattle.semantics.specs.Words.{store-of}
+use mathlib.Core.Path.{_∙_}
 use Rattle.machine_lines.proofs.Lines.{next-small}
 use Rattle.machine_positions.specs.Machine.{code}
 use Rattle.machine_delivery.proofs.Laws.{attempt-cell, attempt-none}

@@ -1,6 +1,6 @@
 use Rattle.words.specs.declared.Exact.the-variants.{Value}
 use mir.Facts.{toZ-ofZ}
-use mathlib.Core.Path.{sym, refl, ap, _∙_}
+use mathlib.Core.Path.{ap, _∙_}
 use borrow.Author.Tests.{ne-eqb}
 use Rattle.machine_lines.proofs.Lines.{less-fits}
 use borrow.Author.Needs.{needs}

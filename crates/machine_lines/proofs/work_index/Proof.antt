@@ -1,5 +1,4 @@
 use mir.Facts.{toZ-ofZ}
-use mathlib.Core.Path.{sym, refl, ap, _∙_}
 use Rattle.semantics.specs.Words.{store-of}
 use Rattle.store_words.proofs.Naming.{not-negative}
 use Rattle.machine_lines.proofs.Lines.{index-spent, index-negative, index-past, index-value}

@@ -1,6 +1,4 @@
 use mir.Facts.{toZ-ofZ}
-use native.Mathlib.Omega.{arith}
-use mathlib.Core.Path.{sym, refl, ap, _∙_}
 use Rattle.semantics.specs.Words.{store-of}
 use Rattle.machine_lines.specs.Lines.{memory}
 use Rattle.machine_lines.proofs.Lines.{leaf-operation, leaf-index, leaf-length, leaf-literal, leaf-retain}
@@ -176,8 +174,8 @@ returns-6 c =
 returns-7 : tie.Need-returns-7
 returns-7 c =
     let a = c .before .before .before .before .args in
-    leaf-other (a .kinds .now) (a .operands .now) (a .calls) (a .at) (a .steps) (memory (store-of (a .slots .now)
-    (a .heads .now)) (a .env .now)) (a .l) (c .before .match .keys7) (c .halted .result) (c .halted .ensures)
+    leaf-other (a .kinds .now) (a .operands .now) (a .calls) (a .at) (memory (store-of (a .slots .now)
+    (a .heads .now)) (a .env .now)) (a .steps) (a .l) (c .before .match .keys7) (c .halted .result) (c .halted .ensures)
 
 pub work-leaf-spec : {M : Type 1} → statement M
 work-leaf-spec =

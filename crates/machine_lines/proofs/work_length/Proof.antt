@@ -1,6 +1,6 @@
 use mir.Facts.{toZ-ofZ}
 use native.Mathlib.Omega.{arith}
-use mathlib.Core.Path.{sym, refl, ap, _∙_}
+use mathlib.Core.Path.{ap, _∙_}
 use lib.IntN.{pos}
 use Rattle.semantics.specs.Words.{store-of}
 use Rattle.machine_lines.proofs.Lines.{length-spent, length-value, few-elements}

@@ -1,5 +1,4 @@
 use mir.Facts.{toZ-ofZ}
-use mathlib.Core.Path.{sym, refl, ap, _∙_}
 use Rattle.machine_lines.proofs.Lines.{operation-spent, operation-value, operation-over}
 use borrow.Author.Needs.{needs}
 use Rattle.machine_lines.proofs.work_operation.Statement.{statement}

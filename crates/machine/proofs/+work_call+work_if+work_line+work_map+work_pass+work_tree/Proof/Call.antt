@@ -76,14 +76,20 @@ work-call-same-length-2 t c = search needs
 
 pub work-call-returns-3 : (t : ℕ) → work-call-lts.Need-returns-3 (work-call-claims t) (work-call-at t) work-call.Post
 work-call-returns-3 t c =
-    let a = c .before .before .before .before .before .before .before .before .before .before .before .before .before .before .before .before .before .args in
+    let at-work-tree = c .before .before .before .before in
+    let at-start-in = at-work-tree .before .before .before .before in
+    let at-pass-arguments = at-start-in .before .before in
+    let at-if2 = at-pass-arguments .before .before .before .before in
+    let at-if1 = at-if2 .before in
+    let start = at-if1 .before .before in
+    let a = start .args in
     let k = code (a .kinds .now .now) (a .operands .now .now) (a .table .now) in
-    let given = c .before .before .before .before .before .before .before .before .before .before .pass-arguments in
-    let start = c .before .before .before .before .before .before .before .before .start-in in
-    let tree = c .before .before .before .before .work-tree in
+    let given = at-pass-arguments .pass-arguments in
+    let start = at-start-in .start-in in
+    let tree = at-work-tree .work-tree in
     call-stops k (a .calls) (a .x) (a .g) (a .at) (a .steps) (a .slots .now) (a .heads .now) (a .env .now)
-    (c .before .before .before .before .before .before .before .before .before .before .before .before .before .before .before .if1 .left)
-    (c .before .before .before .before .before .before .before .before .before .before .before .before .before .before .if2 .left)
+    (at-if1 .if1 .left)
+    (at-if2 .if2 .left)
     (given .result) (given .last .1 .1 .0) (given .ensures) (start .result) (start .ensures) (tree .result)
     (tree .last .1 .1 .1 .0) (tree .last .1 .1 .1 .1 .0) (tree .last .1 .1 .1 .1 .1 .0) (tree .ensures)
     (c .if3 .taken)
@@ -91,31 +97,40 @@ work-call-returns-3 t c =
 pub work-call-bind-requires : (t : ℕ) → work-call-lts.Need-bind-requires (work-call-claims t) (work-call-at t)
     work-call.Post
 work-call-bind-requires t c κs =
-    let a = c .before .before .before .before .before .before .before .before .before .before .before .before .before .before .before .before .before .before .before .args in
+    let at-work-tree = c .before .before .before .before .before .before in
+    let at-start-in = at-work-tree .before .before .before .before in
+    let at-pass-arguments = at-start-in .before .before in
+    let start = at-pass-arguments .before .before .before .before .before .before .before in
+    let a = start .args in
     let k = code (a .kinds .now .now) (a .operands .now .now) (a .table .now) in
-    let given = c .before .before .before .before .before .before .before .before .before .before .before .before .pass-arguments in (
-      c .before .before .before .before .before .before .before .before .before .before .before .before .before .before .before .before .before .before .before .pre .1 .1,
+    let given = at-pass-arguments .pass-arguments in (
+      start .pre .1 .1,
       tree-long k 4096 (a .calls - 1) (a .g)
-          (c .before .before .before .before .before .before .before .before .before .before .start-in .result) (a .steps
+          (at-start-in .start-in .result) (a .steps
           - 1) (memory (store-of (a .slots .now) (a .heads .now)) (given .last .1 .1 .0))
-          (c .before .before .before .before .before .before .work-tree .ensures) ∙ passed-long (given .ensures) ∙
-          c .before .before .before .before .before .before .before .before .before .before .before .before .before .before .before .before .before .before .before .pre .1 .2,
+          (at-work-tree .work-tree .ensures) ∙ passed-long (given .ensures) ∙
+          start .pre .1 .2,
     )
 
 pub work-call-add-done : (t : ℕ) → work-call-lts.Need-add-done (work-call-claims t) (work-call-at t) work-call.Post
 work-call-add-done t c =
+    let earlier = c .before .before .before .before .before .before .before .before .before .before in
+    let start = earlier .before .before .before .before .before .before .before .before .before .before in
     omega (
       arith,
-      c .before .before .before .before .before .before .before .before .before .before .before .before .before .before .before .before .before .before .before .before .pre,
+      start .pre,
     )
 
 pub work-call-add-done-2 : (t : ℕ) → work-call-lts.Need-add-done-2 (work-call-claims t) (work-call-at t)
     work-call.Post
 work-call-add-done-2 t c =
+    let earlier = c .before .before .before .before .before .before .before .before .before .before in
+    let at-pass-arguments = earlier .before .before .before in
+    let start = at-pass-arguments .before .before .before .before .before .before .before in
     omega (
       arith,
-      c .before .before .before .before .before .before .before .before .before .before .before .before .before .before .before .before .before .before .before .before .pre,
-      c .before .before .before .before .before .before .before .before .before .before .before .before .before .pass-arguments .ensures .few,
+      start .pre,
+      at-pass-arguments .pass-arguments .ensures .few,
     )
 
 pub work-call-done-requires : (t : ℕ) → work-call-lts.Need-done-requires (work-call-claims t) (work-call-at t)
@@ -132,18 +147,27 @@ work-call-same-length-4 t c = search needs
 
 pub work-call-returns-4 : (t : ℕ) → work-call-lts.Need-returns-4 (work-call-claims t) (work-call-at t) work-call.Post
 work-call-returns-4 t c =
-    let a = c .before .before .before .before .before .before .before .before .before .before .before .before .before .before .before .before .before .before .before .before .before .args in
+    let at-bind = c .before in
+    let at-struct-told = at-bind .before .before in
+    let at-if3 = at-struct-told .before in
+    let at-work-tree = at-if3 .before .before .before .before in
+    let at-start-in = at-work-tree .before .before .before .before in
+    let at-pass-arguments = at-start-in .before .before in
+    let at-if2 = at-pass-arguments .before .before .before .before in
+    let at-if1 = at-if2 .before in
+    let start = at-if1 .before .before in
+    let a = start .args in
     let k = code (a .kinds .now .now) (a .operands .now .now) (a .table .now) in
-    let given = c .before .before .before .before .before .before .before .before .before .before .before .before .before .before .pass-arguments in
-    let start = c .before .before .before .before .before .before .before .before .before .before .before .before .start-in in
-    let tree = c .before .before .before .before .before .before .before .before .work-tree in
+    let given = at-pass-arguments .pass-arguments in
+    let start = at-start-in .start-in in
+    let tree = at-work-tree .work-tree in
     call-goes k (a .calls) (a .x) (a .g) (a .at) (a .steps) (a .slots .now) (a .heads .now) (a .env .now)
-    (c .before .before .before .before .before .before .before .before .before .before .before .before .before .before .before .before .before .before .before .if1 .left) (c .before .before .before .before .before .before .before .before .before .before .before .before .before .before .before .before .before .before .if2 .left) (given .result)
+    (at-if1 .if1 .left) (at-if2 .if2 .left) (given .result)
     (given .last .1 .1 .0) (given .ensures) (start .result) (start .ensures) (tree .result) (tree .last .1 .1 .1 .0)
     (tree .last .1 .1 .1 .1 .0) (tree .last .1 .1 .1 .1 .1 .0) (tree .ensures)
-    (c .before .before .before .before .if3 .left) (c .before .bind .last .0) (rw (toZ-ofZ {z = tree .result .value}
-    (record { sfits = c .before .before .before .struct-told .given .1 .0 .1 })) at (c .before .bind .ensures))
+    (at-if3 .if3 .left) (at-bind .bind .last .0) (rw (toZ-ofZ {z = tree .result .value}
+    (record { sfits = at-struct-told .struct-told .given .1 .0 .1 })) at (at-bind .bind .ensures))
     (c .done .result) (rw (toZ-ofZ {z = tree .result .value} (record {
       sfits =
-          c .before .before .before .struct-told .given .1 .0 .1;
+          at-struct-told .struct-told .given .1 .0 .1;
     })) at (c .done .ensures))

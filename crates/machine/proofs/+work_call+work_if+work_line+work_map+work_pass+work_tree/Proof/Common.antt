@@ -159,10 +159,10 @@ work-map-claims t = (
   element-depth-reads.Learnt,
   acquire-empty-reads.Asked,
   acquire-empty-reads.Learnt,
-  work-pass-below t,
-  work-pass.Post,
   word-from-reads.Asked,
   word-from-reads.Learnt,
+  work-pass-below t,
+  work-pass.Post,
   bind-reads.Asked,
   bind-reads.Learnt,
   end-in-reads.Asked,
@@ -173,6 +173,8 @@ work-map-claims t = (
 
 abbrev pub work-pass-claims : ℕ → work-pass-lts.Claims
 work-pass-claims t = (
+  named-cell-reads.Asked,
+  named-cell-reads.Learnt,
   halted-reads.Asked,
   halted-reads.Learnt,
   read-slot-reads.Asked,

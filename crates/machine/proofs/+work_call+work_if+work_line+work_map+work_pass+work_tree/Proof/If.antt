@@ -52,14 +52,19 @@ work-if-same-length-2 t c = search needs
 
 pub work-if-returns-2 : (t : ℕ) → work-if-lts.Need-returns-2 (work-if-claims t) (work-if-at t) work-if.Post
 work-if-returns-2 t c =
-    let a = c .before .before .before .before .before .before .before .before .before .before .before .before .before .before .args in
+    let at-work-tree = c .before .before .before .before in
+    let at-branch-start = at-work-tree .before .before .before .before in
+    let at-word-of = at-branch-start .before .before in
+    let at-if1 = at-word-of .before .before in
+    let start = at-if1 .before .before in
+    let a = start .args in
     let k = code (a .kinds .now .now) (a .operands .now .now) (a .table .now) in
-    let word = c .before .before .before .before .before .before .before .before .before .before .word-of in
-    let start = c .before .before .before .before .before .before .before .before .branch-start in
-    let tree = c .before .before .before .before .work-tree in
+    let word = at-word-of .word-of in
+    let start = at-branch-start .branch-start in
+    let tree = at-work-tree .work-tree in
     if-stops (tree-on (a .lines) (call-on (a .calls) k) k (a .calls) (a .f)) (a .table .now) (a .calls) (a .x) (a .g)
     (a .at) (a .steps) (a .slots .now) (a .heads .now) (a .env .now)
-    (c .before .before .before .before .before .before .before .before .before .before .before .before .if1 .left)
+    (at-if1 .if1 .left)
     (word .result) (word .ensures) (start .result) (rw (toZ-ofZ {z = word .result} (record { sfits = word .ok })) at
     (start .ensures)) (tree .result) (tree .last .1 .1 .1 .0) (tree .last .1 .1 .1 .1 .0)
     (tree .last .1 .1 .1 .1 .1 .0) (tree .ensures) (c .if2 .taken)
@@ -70,14 +75,17 @@ work-if-branch-end-requires t c κs = search needs
 
 pub work-if-bind-requires : (t : ℕ) → work-if-lts.Need-bind-requires (work-if-claims t) (work-if-at t) work-if.Post
 work-if-bind-requires t c κs =
-    let a = c .before .before .before .before .before .before .before .before .before .before .before .before .before .before .before .before .before .before .args in
+    let at-work-tree = c .before .before .before .before .before .before .before .before in
+    let at-branch-start = at-work-tree .before .before .before .before in
+    let start = at-branch-start .before .before .before .before .before .before in
+    let a = start .args in
     let k = code (a .kinds .now .now) (a .operands .now .now) (a .table .now) in (
-      c .before .before .before .before .before .before .before .before .before .before .before .before .before .before .before .before .before .before .pre .1 .1,
+      start .pre .1 .1,
       tree-long k (a .lines) (a .calls) (a .f)
-          (c .before .before .before .before .before .before .before .before .before .before .before .before .branch-start
+          (at-branch-start .branch-start
           .result) (a .steps - 1) (memory (store-of (a .slots .now) (a .heads .now)) (a .env .now))
-          (c .before .before .before .before .before .before .before .before .work-tree .ensures) ∙
-          c .before .before .before .before .before .before .before .before .before .before .before .before .before .before .before .before .before .before .pre .1 .2,
+          (at-work-tree .work-tree .ensures) ∙
+          start .pre .1 .2,
     )
 
 pub work-if-done-requires : (t : ℕ) → work-if-lts.Need-done-requires (work-if-claims t) (work-if-at t) work-if.Post
@@ -91,22 +99,31 @@ work-if-same-length-4 t c = search needs
 
 pub work-if-returns-3 : (t : ℕ) → work-if-lts.Need-returns-3 (work-if-claims t) (work-if-at t) work-if.Post
 work-if-returns-3 t c =
-    let a = c .before .before .before .before .before .before .before .before .before .before .before .before .before .before .before .before .before .before .before .before .args in
+    let at-bind = c .before in
+    let at-branch-end = at-bind .before .before in
+    let at-struct-told = at-branch-end .before .before in
+    let at-if2 = at-struct-told .before in
+    let at-work-tree = at-if2 .before .before .before .before in
+    let at-branch-start = at-work-tree .before .before .before .before in
+    let at-word-of = at-branch-start .before .before in
+    let at-if1 = at-word-of .before .before in
+    let start = at-if1 .before .before in
+    let a = start .args in
     let k = code (a .kinds .now .now) (a .operands .now .now) (a .table .now) in
-    let word = c .before .before .before .before .before .before .before .before .before .before .before .before .before .before .before .before .word-of in
-    let start = c .before .before .before .before .before .before .before .before .before .before .before .before .before .before .branch-start in
-    let tree = c .before .before .before .before .before .before .before .before .before .before .work-tree in
-    let next = c .before .before .before .branch-end in
+    let word = at-word-of .word-of in
+    let start = at-branch-start .branch-start in
+    let tree = at-work-tree .work-tree in
+    let next = at-branch-end .branch-end in
     if-goes (tree-on (a .lines) (call-on (a .calls) k) k (a .calls) (a .f)) (a .table .now) (a .calls) (a .x) (a .g)
     (a .at) (a .steps) (a .slots .now) (a .heads .now) (a .env .now)
-    (c .before .before .before .before .before .before .before .before .before .before .before .before .before .before .before .before .before .before .if1 .left) (word .result) (word .ensures) (start .result) (rw (toZ-ofZ {z =
+    (at-if1 .if1 .left) (word .result) (word .ensures) (start .result) (rw (toZ-ofZ {z =
     word .result} (record { sfits = word .ok })) at (start .ensures)) (tree .result) (tree .last .1 .1 .1 .0)
     (tree .last .1 .1 .1 .1 .0) (tree .last .1 .1 .1 .1 .1 .0) (tree .ensures)
-    (c .before .before .before .before .before .before .if2 .left) (next .result) (rw (toZ-ofZ {z = word .result} (record {
+    (at-if2 .if2 .left) (next .result) (rw (toZ-ofZ {z = word .result} (record {
       sfits = word .ok;
-    })) at (next .ensures)) (c .before .bind .last .0) (rw (toZ-ofZ {z = tree .result .value}
-    (record { sfits = c .before .before .before .before .before .struct-told .given .1 .0 .1 })) at
-    (c .before .bind .ensures)) (c .done .result) (rw (toZ-ofZ {z = tree .result .value} (record {
+    })) at (next .ensures)) (at-bind .bind .last .0) (rw (toZ-ofZ {z = tree .result .value}
+    (record { sfits = at-struct-told .struct-told .given .1 .0 .1 })) at
+    (at-bind .bind .ensures)) (c .done .result) (rw (toZ-ofZ {z = tree .result .value} (record {
       sfits =
-          c .before .before .before .before .before .struct-told .given .1 .0 .1;
+          at-struct-told .struct-told .given .1 .0 .1;
     })) at (c .done .ensures))

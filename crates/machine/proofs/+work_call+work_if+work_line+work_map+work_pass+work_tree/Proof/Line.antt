@@ -48,10 +48,13 @@ work-line-same-length-2 t c = search needs
 
 pub work-line-returns : (t : ℕ) → work-line-lts.Need-returns (work-line-claims t) (work-line-at t) work-line.Post
 work-line-returns t c =
-    let a = c .before .before .before .before .before .before .before .before .before .before .before .args in
+    let at-work-if = c .before .before .before in
+    let at-l = at-work-if .before .before .before .before .before in
+    let start = at-l .before .before .before in
+    let a = start .args in
     let k = code (a .kinds .now .now) (a .operands .now .now) (a .table .now) in
-    let read = c .before .before .before .before .before .before .before .before .l in
-    let branch = c .before .before .before .work-if in
+    let read = at-l .l in
+    let branch = at-work-if .work-if in
     line-if (tree-on (a .lines) (call-on (a .calls) k) k (a .calls) (a .f)) (call-on (a .calls) k) k (a .calls) (a .f)
     (a .at) (a .steps) (a .slots .now) (a .heads .now) (a .env .now) (a .l) (branch .result)
     (branch .last .1 .1 .1 .0) (branch .last .1 .1 .1 .1 .0) (branch .last .1 .1 .1 .1 .1 .0) (read .given .0 .0)
@@ -67,16 +70,19 @@ work-line-same-length-4 t c = search needs
 
 pub work-line-returns-2 : (t : ℕ) → work-line-lts.Need-returns-2 (work-line-claims t) (work-line-at t) work-line.Post
 work-line-returns-2 t c =
-    let a = c .before .before .before .before .before .before .before .before .before .before .before .args in
+    let at-work-call = c .before .before .before in
+    let at-l2 = at-work-call .before .before .before .before .before in
+    let start = at-l2 .before .before .before in
+    let a = start .args in
     let k = code (a .kinds .now .now) (a .operands .now .now) (a .table .now) in
-    let called = c .before .before .before .work-call in
+    let called = at-work-call .work-call in
     line-call (tree-on (a .lines) (call-on (a .calls) k) k (a .calls) (a .f)) (call-on (a .calls) k) k (a .calls) (a
     .f)
     (a .at) (a .steps) (a .slots .now) (a .heads .now) (a .env .now) (a .l) (called .result)
     (called .last .1 .1 .1 .0) (called .last .1 .1 .1 .1 .0) (called .last .1 .1 .1 .1 .1 .0)
-    (c .before .before .before .before .before .before .before .before .l2 .given .0 .0)
-    (c .before .before .before .before .before .before .before .before .l2 .given .0 .1 .0)
-    (c .before .before .before .before .before .before .before .before .l2 .given .1) (called .ensures)
+    (at-l2 .l2 .given .0 .0)
+    (at-l2 .l2 .given .0 .1 .0)
+    (at-l2 .l2 .given .1) (called .ensures)
 
 pub work-line-same-length-5 : (t : ℕ) → work-line-lts.Need-same-length-5 (work-line-claims t) (work-line-at t)
     work-line.Post
@@ -88,17 +94,20 @@ work-line-same-length-6 t c = search needs
 
 pub work-line-returns-3 : (t : ℕ) → work-line-lts.Need-returns-3 (work-line-claims t) (work-line-at t) work-line.Post
 work-line-returns-3 t c =
-    let a = c .before .before .before .before .before .before .before .before .before .before .before .args in
+    let at-work-map = c .before .before .before in
+    let at-l3 = at-work-map .before .before .before .before .before in
+    let start = at-l3 .before .before .before in
+    let a = start .args in
     let k = code (a .kinds .now .now) (a .operands .now .now) (a .table .now) in
-    let mapped = c .before .before .before .work-map in
+    let mapped = at-work-map .work-map in
     line-map (tree-on (a .lines) (call-on (a .calls) k) k (a .calls) (a .f)) (call-on (a .calls) k) k (a .calls) (a
     .f)
     (a .at) (a .steps) (a .slots .now) (a .heads .now) (a .env .now) (a .l) (mapped .result)
     (mapped .last .1 .1 .1 .0) (mapped .last .1 .1 .1 .1 .0) (mapped .last .1 .1 .1 .1 .1 .0)
-    (c .before .before .before .before .before .before .before .before .l3 .given .0 .0)
-    (c .before .before .before .before .before .before .before .before .l3 .given .0 .1 .0)
-    (c .before .before .before .before .before .before .before .before .l3 .given .0 .1 .1 .0)
-    (c .before .before .before .before .before .before .before .before .l3 .given .1) (mapped .ensures)
+    (at-l3 .l3 .given .0 .0)
+    (at-l3 .l3 .given .0 .1 .0)
+    (at-l3 .l3 .given .0 .1 .1 .0)
+    (at-l3 .l3 .given .1) (mapped .ensures)
 
 pub work-line-same-length-7 : (t : ℕ) → work-line-lts.Need-same-length-7 (work-line-claims t) (work-line-at t)
     work-line.Post
@@ -110,10 +119,13 @@ work-line-same-length-8 t c = search needs
 
 pub work-line-returns-4 : (t : ℕ) → work-line-lts.Need-returns-4 (work-line-claims t) (work-line-at t) work-line.Post
 work-line-returns-4 t c =
-    let a = c .before .before .before .before .before .before .before .before .before .before .before .args in
+    let at-work-leaf = c .before .before .before in
+    let at-match = at-work-leaf .before .before .before .before .before .before in
+    let start = at-match .before .before in
+    let a = start .args in
     let k = code (a .kinds .now .now) (a .operands .now .now) (a .table .now) in
-    let leaf = c .before .before .before .work-leaf in
+    let leaf = at-work-leaf .work-leaf in
     line-leaf (tree-on (a .lines) (call-on (a .calls) k) k (a .calls) (a .f)) (call-on (a .calls) k) k (a .calls) (a
     .f)
     (a .at) (a .steps) (a .slots .now) (a .heads .now) (a .env .now) (a .l) (leaf .result) (leaf .last .1 .1 .0)
-    (leaf .last .1 .1 .1 .0) (leaf .last .1 .1 .1 .1 .0) (c .before .before .before .before .before .before .before .before .before .match .keys4) (leaf .ensures)
+    (leaf .last .1 .1 .1 .0) (leaf .last .1 .1 .1 .1 .0) (at-match .match .keys4) (leaf .ensures)

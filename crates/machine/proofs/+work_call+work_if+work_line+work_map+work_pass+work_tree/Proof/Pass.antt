@@ -2,9 +2,16 @@
 use mathlib.Core.Path.{_∙_}
 use Prim.Native.Nat.{_-_, ℕ}
 use native.Mathlib.Omega.{arith}
+use mathlib.Core.Path.{ap}
+use mathlib.Core.List.{[], _∷_}
+use lib.ListN.{set}
+use mir.Syntax.{w64}
 use mir.Facts.{toZ-ofZ}
-use Rattle.machine_positions.specs.Machine.{code, tree-on, call-on}
+use mir.Val.{toZ}
+use Rattle.semantics.specs.Kinds.{mapping}
+use Rattle.machine_positions.specs.Machine.{code, looped, tree-on, call-on}
 use Rattle.machine_positions.specs.Parts.{Passing, passing-starts, pass-dry, pass-end, pass-stops, pass-goes}
+use Rattle.machine_positions.specs.Parts.{map-carries}
 use borrow.Author.Needs.{needs}
 use Rattle.semantics.specs.Words.{store-of}
 use Rattle.machine_lines.specs.Frames.{place}
@@ -16,23 +23,29 @@ use Rattle.machine.proofs.+work_call+work_if+work_line+work_map+work_pa
 use Rattle.machine.proofs.+work_call+work_if+work_line+work_map+work_pass+work_tree.Proof.Common.{work-pass-claims}
 
 abbrev pub work-pass-Inv-loop : work-pass-lts.InvT-loop
-work-pass-Inv-loop kinds operands table slots₀ heads₀ env₀ steps lines calls f at p from into count s₀ i₀ slots
+work-pass-Inv-loop kinds operands table slots₀ heads₀ env₀ steps lines calls f at p from carried count into s₀ i₀ slots
     heads env s i =
-    Passing (tree-on lines (call-on calls (code (kinds .now) (operands .now) table)) (code (kinds .now) (operands .now) table) calls f at) calls
-    p from into count steps slots₀ heads₀ env₀ s i slots heads env
+    let k = code (kinds .now) (operands .now) table in
+    Passing (looped mapping (tree-on lines (call-on calls k) k calls f at) calls (p ∷ []) from) count steps
+    (toZ w64 carried) slots₀ heads₀ env₀ (toZ w64 carried) s i slots heads env
 
 abbrev pub work-pass-μ-loop : work-pass-lts.MeasureT-loop
-work-pass-μ-loop kinds operands table slots₀ heads₀ env₀ steps lines calls f at p from into count s₀ i₀ slots heads
-    env s i = count - i
+work-pass-μ-loop kinds operands table slots₀ heads₀ env₀ steps lines calls f at p from carried count into s₀ i₀ slots
+    heads env s i = count - i
+
+pub work-pass-named-cell-requires : (t : ℕ) → work-pass-lts.Need-named-cell-requires (work-pass-claims t)
+    (work-pass-at t) work-pass.Post work-pass-Inv-loop work-pass-μ-loop
+work-pass-named-cell-requires t c κs = search needs
 
 pub work-pass-loop-holds : (t : ℕ) → work-pass-lts.Need-loop-holds (work-pass-claims t) (work-pass-at t)
     work-pass.Post
     work-pass-Inv-loop work-pass-μ-loop
 work-pass-loop-holds t c =
-    let a = c .before .args in
+    let a = c .before .before .args in
     let k = code (a .kinds .now .now) (a .operands .now .now) (a .table .now) in
-    passing-starts (tree-on (a .lines) (call-on (a .calls) k) k (a .calls) (a .f) (a .at)) (a .calls) (a .p) (a .from)
-    (a .into) (a .count) (a .steps) (a .slots .now) (a .heads .now) (a .env .now)
+    rw (toZ-ofZ {z = a .carried} (c .before .before .fits .carried))
+    (passing-starts (looped mapping (tree-on (a .lines) (call-on (a .calls) k) k (a .calls) (a .f) (a .at)) (a .calls)
+    (a .p ∷ []) (a .from)) (a .count) (a .steps) (a .carried) (a .slots .now) (a .heads .now) (a .env .now))
 
 pub work-pass-halted-requires : (t : ℕ) → work-pass-lts.Need-halted-requires (work-pass-claims t) (work-pass-at t)
     work-pass.Post work-pass-Inv-loop work-pass-μ-loop
@@ -49,8 +62,13 @@ work-pass-same-length-2 t c = search needs
 pub work-pass-returns : (t : ℕ) → work-pass-lts.Need-returns (work-pass-claims t) (work-pass-at t) work-pass.Post
     work-pass-Inv-loop work-pass-μ-loop
 work-pass-returns t c =
-    pass-dry (c .before .before .before .loop .inv) (c .before .before .loop-test .taken) (c .before .if1 .taken)
-    (c .halted .result) (c .halted .ensures)
+    let at-if1 = c .before in
+    let at-loop-test = at-if1 .before in
+    let at-loop = at-loop-test .before in
+    let start = at-loop .before .before .before in
+    pass-dry (rw (toZ-ofZ {z = start .args .carried} (start .fits .carried)) at (at-loop .loop .inv))
+    (at-loop-test .loop-test .taken)
+    (at-if1 .if1 .taken) (c .halted .result) (c .halted .ensures)
 
 pub work-pass-read-slot-requires : (t : ℕ) → work-pass-lts.Need-read-slot-requires (work-pass-claims t)
     (work-pass-at t)
@@ -69,15 +87,19 @@ pub work-pass-work-tree-requires : (t : ℕ) → work-pass-lts.Need-work-tree-re
     (work-pass-at t)
     work-pass.Post work-pass-Inv-loop work-pass-μ-loop
 work-pass-work-tree-requires t c κs =
-    let a = c .before .before .before .before .before .before .before .before .before .before .before .before .args in
-    let o = c .before .before .before .before .before .before .before .before .before .before .loop in
-    let read = c .before .before .before .before .before .read-slot in
+    let at-bind = c .before .before .before in
+    let at-read-slot = at-bind .before .before in
+    let at-loop = at-read-slot .before .before .before .before .before in
+    let start = at-loop .before .before .before in
+    let a = start .args in
+    let o = at-loop .loop in
+    let read = at-read-slot .read-slot in
     search (
       needs,
       o .inv .sized .env-long,
       bound-long (o .env) (place (a .calls) (a .p)) (read .result) (rw
           (toZ-ofZ {z
-          = read .result} (record { sfits = read .ok })) at (c .before .before .before .bind .ensures)),
+          = read .result} (record { sfits = read .ok })) at (at-bind .bind .ensures)),
     )
 
 pub work-pass-same-length-3 : (t : ℕ) → work-pass-lts.Need-same-length-3 (work-pass-claims t) (work-pass-at t)
@@ -91,12 +113,22 @@ work-pass-same-length-4 t c = search needs
 pub work-pass-returns-2 : (t : ℕ) → work-pass-lts.Need-returns-2 (work-pass-claims t) (work-pass-at t) work-pass.Post
     work-pass-Inv-loop work-pass-μ-loop
 work-pass-returns-2 t c =
-    let read = c .before .before .before .before .before .before .before .before .before .before .read-slot in
-    let tree = c .before .before .before .before .work-tree in
-    pass-stops (c .before .before .before .before .before .before .before .before .before .before .before .before .before .before .before .loop .inv) (c .before .before .before .before .before .before .before .before .before .before .before .before .before .before .loop-test .taken)
-    (c .before .before .before .before .before .before .before .before .before .before .before .before .before .if1 .left) (read .result) (read .ensures) (c .before .before .before .before .before .before .before .before .bind .last .0) (rw (toZ-ofZ {z = read .result} (record { sfits = read .ok })) at
-    (c .before .before .before .before .before .before .before .before .bind .ensures)) (tree .result)
-    (tree .last .1 .1 .1 .0) (tree .last .1 .1 .1 .1 .0) (tree .last .1 .1 .1 .1 .1 .0) (tree .ensures)
+    let at-work-tree = c .before .before .before .before in
+    let at-bind = at-work-tree .before .before .before .before in
+    let at-read-slot = at-bind .before .before in
+    let at-if1 = at-read-slot .before .before .before in
+    let at-loop-test = at-if1 .before in
+    let at-loop = at-loop-test .before in
+    let start = at-loop .before .before .before in
+    let a = start .args in
+    let o = at-loop .loop in
+    let read = at-read-slot .read-slot in
+    let tree = at-work-tree .work-tree in
+    pass-stops (rw (toZ-ofZ {z = a .carried} (start .fits .carried)) at (o .inv)) (at-loop-test .loop-test .taken)
+    (at-if1 .if1 .left) (at-bind .bind .last .0)
+    ((rw (toZ-ofZ {z = read .result} (record { sfits = read .ok })) at (at-bind .bind .ensures))
+    ∙ ap (set (o .env) (place (a .calls) (a .p))) (read .ensures))
+    (tree .result) (tree .last .1 .1 .1 .0) (tree .last .1 .1 .1 .1 .0) (tree .last .1 .1 .1 .1 .1 .0) (tree .ensures)
     (c .if2 .taken)
 
 pub work-pass-append-requires : (t : ℕ) → work-pass-lts.Need-append-requires (work-pass-claims t) (work-pass-at t)
@@ -106,10 +138,14 @@ work-pass-append-requires t c κs = search needs
 pub work-pass-add-i : (t : ℕ) → work-pass-lts.Need-add-i (work-pass-claims t) (work-pass-at t) work-pass.Post
     work-pass-Inv-loop work-pass-μ-loop
 work-pass-add-i t c =
+    let earlier = c .before .before .before .before .before .before .before .before .before .before in
+    let earlier′ = earlier .before .before .before .before .before .before .before .before .before .before in
+    let at-loop-test = earlier′ .before in
+    let start = at-loop-test .before .before .before .before in
     omega (
       arith,
-      c .before .before .before .before .before .before .before .before .before .before .before .before .before .before .before .before .before .before .before .before .before .loop-test .taken,
-      c .before .before .before .before .before .before .before .before .before .before .before .before .before .before .before .before .before .before .before .before .before .before .before .before .fits .count,
+      at-loop-test .loop-test .taken,
+      start .fits .count,
     )
 
 pub work-pass-loop-less : (t : ℕ) → work-pass-lts.Need-loop-less (work-pass-claims t) (work-pass-at t) work-pass.Post
@@ -120,29 +156,45 @@ pub work-pass-loop-again : (t : ℕ) → work-pass-lts.Need-loop-again (work-pas
     work-pass.Post
     work-pass-Inv-loop work-pass-μ-loop
 work-pass-loop-again t c =
-    let a = c .before .before .before .before .before .before .before .before .before .before .before .before .before .before .before .before .before .before .before .before .before .before .before .before .args in
+    let at-append = c .before .before .before in
+    let at-struct-told = at-append .before .before .before in
+    let at-if2 = at-struct-told .before in
+    let at-work-tree = at-if2 .before .before .before .before in
+    let at-bind = at-work-tree .before .before .before .before in
+    let at-read-slot = at-bind .before .before in
+    let at-if1 = at-read-slot .before .before .before in
+    let at-loop-test = at-if1 .before in
+    let at-loop = at-loop-test .before in
+    let at-named-cell = at-loop .before in
+    let start = at-named-cell .before .before in
+    let a = start .args in
     let k = code (a .kinds .now .now) (a .operands .now .now) (a .table .now) in
-    let o = c .before .before .before .before .before .before .before .before .before .before .before .before .before .before .before .before .before .before .before .before .before .before .loop in
-    let read = c .before .before .before .before .before .before .before .before .before .before .before .before .before .before .before .before .before .read-slot in
-    let tree = c .before .before .before .before .before .before .before .before .before .before .before .work-tree in
-    pass-goes (o .inv) (c .before .before .before .before .before .before .before .before .before .before .before .before .before .before .before .before .before .before .before .before .before .loop-test .taken) (c .before .before .before .before .before .before .before .before .before .before .before .before .before .before .before .before .before .before .before .before .if1 .left) (read .result) (read .ensures) (c .before .before .before .before .before .before .before .before .before .before .before .before .before .before .before .bind .last .0) (rw (toZ-ofZ {z =
-    read .result} (record { sfits = read .ok })) at (c .before .before .before .before .before .before .before .before .before .before .before .before .before .before .before .bind .ensures)) (tree .result)
-    (tree .last .1 .1 .1 .0) (tree .last .1 .1 .1 .1 .0) (tree .last .1 .1 .1 .1 .1 .0) (tree .ensures)
-    (c .before .before .before .before .before .before .before .if2 .left)
-    (c .before .before .before .append .last .0) (c .before .before .before .append .last .1 .0) (rw (toZ-ofZ {z =
-    tree .result .value} (record {
-      sfits = c .before .before .before .before .before .before .struct-told .given .1 .0 .1;
-    })) at (c .before .before .before .append .ensures)) (record {
-      slots-long =
-          c .before .before .before .append .kept .0 ∙ tree .kept .1 .1 .1 .0;
-      heads-long =
-          c .before .before .before .append .kept .1 .0 ∙ tree .kept .1 .1 .1 .1 .0;
-      env-long = tree-long k (a .lines)
-          (a .calls) (a .f) (a .at) (o .s - 1) (memory (store-of (o .slots) (o .heads))
-          (c .before .before .before .before .before .before .before .before .before .before .before .before .before .before .before .bind .last .0)) (tree .ensures) ∙ bound-long (o .env) (place (a .calls) (a .p))
-          (read .result) (rw (toZ-ofZ {z = read .result} (record { sfits = read .ok })) at
-          (c .before .before .before .before .before .before .before .before .before .before .before .before .before .before .before .bind .ensures));
-    })
+    let o = at-loop .loop in
+    let read = at-read-slot .read-slot in
+    let bind = at-bind .bind in
+    let tree = at-work-tree .work-tree in
+    let put = at-append .append in
+    rw (toZ-ofZ {z = a .carried} (start .fits .carried))
+    (pass-goes (rw (toZ-ofZ {z = a .carried} (start .fits .carried)) at (o .inv)) (at-loop-test .loop-test .taken)
+    (at-if1 .if1 .left) (bind .last .0)
+    ((rw (toZ-ofZ {z = read .result} (record { sfits = read .ok })) at (bind .ensures))
+    ∙ ap (set (o .env) (place (a .calls) (a .p))) (read .ensures))
+    (tree .result) (tree .last .1 .1 .1 .0) (tree .last .1 .1 .1 .1 .0) (tree .last .1 .1 .1 .1 .1 .0) (tree .ensures)
+    (at-if2 .if2 .left) (a .carried) (put .last .0) (put .last .1 .0)
+    (map-carries (a .carried) (at-named-cell .named-cell .result)
+    (rw (toZ-ofZ {z = a .carried} (start .fits .carried)) at (at-named-cell .named-cell .ensures)) (tree .result)
+    (store-of (tree .last .1 .1 .1 .0) (tree .last .1 .1 .1 .1 .0)) (store-of (put .last .0) (put .last .1 .0))
+    (tree .last .1 .1 .1 .1 .1 .0)
+    (rw (toZ-ofZ {z = tree .result .value} (record { sfits = at-struct-told .struct-told .given .1 .0 .1 })) at
+    (put .ensures)))
+    (record {
+      slots-long = put .kept .0 ∙ tree .kept .1 .1 .1 .0;
+      heads-long = put .kept .1 .0 ∙ tree .kept .1 .1 .1 .1 .0;
+      env-long = tree-long k (a .lines) (a .calls) (a .f) (a .at) (o .s - 1)
+          (memory (store-of (o .slots) (o .heads)) (bind .last .0)) (tree .ensures)
+          ∙ bound-long (o .env) (place (a .calls) (a .p)) (read .result)
+          (rw (toZ-ofZ {z = read .result} (record { sfits = read .ok })) at (bind .ensures));
+    }))
 
 pub work-pass-done-requires : (t : ℕ) → work-pass-lts.Need-done-requires (work-pass-claims t) (work-pass-at t)
     work-pass.Post work-pass-Inv-loop work-pass-μ-loop
@@ -158,4 +210,8 @@ work-pass-same-length-6 t c = search needs
 
 pub work-pass-returns-3 : (t : ℕ) → work-pass-lts.Need-returns-3 (work-pass-claims t) (work-pass-at t) work-pass.Post
     work-pass-Inv-loop work-pass-μ-loop
-work-pass-returns-3 t c = pass-end (c .before .before .loop .inv) (omega arith) (c .done .result) (c .done .ensures)
+work-pass-returns-3 t c =
+    let start = c .before .before .before .before .before in
+    pass-end (rw (toZ-ofZ {z = start .args .carried} (start .fits .carried)) at (c .before .before .loop .inv))
+    (omega arith) (c .done .result)
+    (rw (toZ-ofZ {z = start .args .carried} (start .fits .carried)) at (c .done .ensures))

@@ -20,8 +20,8 @@ use Rattle.machine.proofs.+work_call+work_if+work_line+work_map+work_pa
 abbrev pub work-tree-Inv-loop : work-tree-lts.InvT-loop
 work-tree-Inv-loop kinds operands table slots₀ heads₀ env₀ steps lines calls f at p₀ s₀ left₀ slots heads env p s
     left =
-    Working (call-on calls (code (kinds .now) (operands .now) table)) (code (kinds .now) (operands .now) table) calls f lines at steps slots₀
-    heads₀ env₀ left p s slots heads env
+    let k = code (kinds .now) (operands .now) table in
+    Working (call-on calls k) k calls f lines at steps slots₀ heads₀ env₀ left p s slots heads env
 
 abbrev pub work-tree-μ-loop : work-tree-lts.MeasureT-loop
 work-tree-μ-loop kinds operands table slots₀ heads₀ env₀ steps lines calls f at p₀ s₀ left₀ slots heads env p s left
@@ -88,15 +88,22 @@ work-tree-same-length-4 t c = search needs
 pub work-tree-returns-2 : (t : ℕ) → work-tree-lts.Need-returns-2 (work-tree-claims t) (work-tree-at t) work-tree.Post
     work-tree-Inv-loop work-tree-μ-loop
 work-tree-returns-2 t c =
-    let a = c .before .before .before .before .before .before .before .before .before .before .before .before .args in
-    let atom = c .before .before .before .atom-at in
-    tree-closed (c .before .before .before .before .before .before .before .before .before .before .loop .inv) (L.End (atom .result))
-    (c .before .before .before .before .before .before .before .before .before .loop-test .taken)
-    (c .before .before .before .before .before .before .before .before .if1 .left) (end-here (a .kinds .now .now) (a .operands .now .now)
-    (c .before .before .before .before .before .before .before .before .before .before .loop .p) (atom .result)
-    (c .before .before .before .before .before .before .if2 .taken) (atom .ensures)) (atom .result) refl
-    (c .before .word-of .result) (c .before .word-of .ensures) (c .done .result) (rw (toZ-ofZ {z =
-    c .before .word-of .result} (record { sfits = c .before .word-of .ok })) at (c .done .ensures))
+    let at-word-of = c .before in
+    let at-atom-at = at-word-of .before .before in
+    let at-if2 = at-atom-at .before .before .before in
+    let at-if1 = at-if2 .before .before in
+    let at-loop-test = at-if1 .before in
+    let at-loop = at-loop-test .before in
+    let start = at-loop .before .before in
+    let a = start .args in
+    let atom = at-atom-at .atom-at in
+    tree-closed (at-loop .loop .inv) (L.End (atom .result))
+    (at-loop-test .loop-test .taken)
+    (at-if1 .if1 .left) (end-here (a .kinds .now .now) (a .operands .now .now)
+    (at-loop .loop .p) (atom .result)
+    (at-if2 .if2 .taken) (atom .ensures)) (atom .result) refl
+    (at-word-of .word-of .result) (at-word-of .word-of .ensures) (c .done .result) (rw (toZ-ofZ {z =
+    at-word-of .word-of .result} (record { sfits = at-word-of .word-of .ok })) at (c .done .ensures))
 
 pub work-tree-line-at-requires : (t : ℕ) → work-tree-lts.Need-line-at-requires (work-tree-claims t) (work-tree-at t)
     work-tree.Post work-tree-Inv-loop work-tree-μ-loop
@@ -122,13 +129,20 @@ work-tree-same-length-6 t c = search needs
 pub work-tree-returns-3 : (t : ℕ) → work-tree-lts.Need-returns-3 (work-tree-claims t) (work-tree-at t) work-tree.Post
     work-tree-Inv-loop work-tree-μ-loop
 work-tree-returns-3 t c =
-    let a = c .before .before .before .before .before .before .before .before .before .before .before .before .before .before .before .before .before .args in
-    let w = c .before .before .before .before .work-line in
-    let l = c .before .before .before .before .before .before .before .before .line-at in
-    tree-stops (c .before .before .before .before .before .before .before .before .before .before .before .before .before .before .before .loop .inv) (l .result) (c .before .before .before .before .before .before .before .before .before .before .before .before .before .before .loop-test .taken)
-    (c .before .before .before .before .before .before .before .before .before .before .before .before .before .if1 .left)
-    (l .ensures) (not-end (a .kinds .now .now) (a .operands .now .now) (c .before .before .before .before .before .before .before .before .before .before .before .before .before .before .before .loop .p) (l .result)
-    (c .before .before .before .before .before .before .before .before .before .before .before .if2 .left) (l .ensures)) (w .result)
+    let at-work-line = c .before .before .before .before in
+    let at-line-at = at-work-line .before .before .before .before in
+    let at-if2 = at-line-at .before .before .before in
+    let at-if1 = at-if2 .before .before in
+    let at-loop-test = at-if1 .before in
+    let at-loop = at-loop-test .before in
+    let start = at-loop .before .before in
+    let a = start .args in
+    let w = at-work-line .work-line in
+    let l = at-line-at .line-at in
+    tree-stops (at-loop .loop .inv) (l .result) (at-loop-test .loop-test .taken)
+    (at-if1 .if1 .left)
+    (l .ensures) (not-end (a .kinds .now .now) (a .operands .now .now) (at-loop .loop .p) (l .result)
+    (at-if2 .if2 .left) (l .ensures)) (w .result)
     (w .last .1 .1 .1 .0) (w .last .1 .1 .1 .1 .0) (w .last .1 .1 .1 .1 .1 .0) (w .ensures) (c .if3 .taken)
 
 pub work-tree-sub-left : (t : ℕ) → work-tree-lts.Need-sub-left (work-tree-claims t) (work-tree-at t) work-tree.Post
@@ -143,15 +157,22 @@ pub work-tree-loop-again : (t : ℕ) → work-tree-lts.Need-loop-again (work-tre
     work-tree.Post
     work-tree-Inv-loop work-tree-μ-loop
 work-tree-loop-again t c =
-    let a = c .before .before .before .before .before .before .before .before .before .before .before .before .before .before .before .before .before .args in
+    let at-work-line = c .before .before .before .before in
+    let at-line-at = at-work-line .before .before .before .before in
+    let at-if2 = at-line-at .before .before .before in
+    let at-if1 = at-if2 .before .before in
+    let at-loop-test = at-if1 .before in
+    let at-loop = at-loop-test .before in
+    let start = at-loop .before .before in
+    let a = start .args in
     let k = code (a .kinds .now .now) (a .operands .now .now) (a .table .now) in
-    let o = c .before .before .before .before .before .before .before .before .before .before .before .before .before .before .before .loop in
-    let w = c .before .before .before .before .work-line in
-    let l = c .before .before .before .before .before .before .before .before .line-at in
-    tree-goes (c .before .before .before .before .before .before .before .before .before .before .before .before .before .before .before .loop .inv) (l .result) (c .before .before .before .before .before .before .before .before .before .before .before .before .before .before .loop-test .taken)
-    (c .before .before .before .before .before .before .before .before .before .before .before .before .before .if1 .left)
-    (l .ensures) (not-end (a .kinds .now .now) (a .operands .now .now) (c .before .before .before .before .before .before .before .before .before .before .before .before .before .before .before .loop .p) (l .result)
-    (c .before .before .before .before .before .before .before .before .before .before .before .if2 .left) (l .ensures)) (w .result)
+    let o = at-loop .loop in
+    let w = at-work-line .work-line in
+    let l = at-line-at .line-at in
+    tree-goes (at-loop .loop .inv) (l .result) (at-loop-test .loop-test .taken)
+    (at-if1 .if1 .left)
+    (l .ensures) (not-end (a .kinds .now .now) (a .operands .now .now) (at-loop .loop .p) (l .result)
+    (at-if2 .if2 .left) (l .ensures)) (w .result)
     (w .last .1 .1 .1 .0) (w .last .1 .1 .1 .1 .0) (w .last .1 .1 .1 .1 .1 .0) (w .ensures) (c .if3 .left) (record {
       slots-long = w .kept .1 .1 .1 .0;
       heads-long = w .kept .1 .1 .1 .1 .0;

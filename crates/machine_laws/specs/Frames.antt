@@ -1,83 +1,29 @@
--- What the machine over positions asks of a tree: every name that is read is bound before, no name is bound twice on a
--- way through the tree, and each number is in the range of its place in a row. And frames that agree with a list of words.
-use mathlib.Core.Path.{_≡_, refl, sym, ap, ap₂, subst, _∙_}
-use mathlib.Core.Logic.{_≢_}
+-- Frames that agree with a list of words, and what work in the frame of a call leaves alone.
+use mathlib.Core.Path.{_≡_, refl, sym, ap, subst, _∙_}
+use mathlib.Core.Logic.{_≢_, inl, inr}
 use mathlib.Core.Bool.{Bool, true, false, cond, _||_}
-use mathlib.Core.List.{List, [], _∷_, _++_, map}
-use Prim.Native.Nat.{ℕ, zero, suc, _+_, _-_, _*_, _<_, _≤_}
+use mathlib.Core.List.{List, [], _∷_}
+use Prim.Native.Nat.{ℕ, _-_, _*_, _<_, _≤_}
 use native.Mathlib.Omega.{arith}
 use native.Mathlib.Decide.{ℕ-discrete}
 use lib.IntN.{ℤ, pos}
-use lib.Dec.{eqb, ltb}
+use lib.Dec.{eqb}
 use lib.ListN.{getD, set, length, length-set}
 use lib.Seq.{getD-set-same, getD-set-other}
 use borrow.Author.Tests.{eq-eqb, ne-eqb, eqb-true}
 use Rattle.semantics.specs.Basics.{updated}
+use Rattle.semantics.specs.Kinds.{later-parts}
 use Rattle.semantics.specs.Code as C
-use Rattle.semantics.specs.Code.{Tree, ending}
-use Rattle.semantics.specs.Live.{Set, _∪_, only}
-use Rattle.semantics.specs.Annotate.{NameDepths, atom-depth}
-use Rattle.semantics.specs.Machine.{Frame, word}
+use Rattle.semantics.specs.Live.{Set, _∪_, only, just}
+use Rattle.semantics.specs.Machine.{Frame, word, argument, binding}
+use Rattle.sound_base.specs.Tests.{or-cases, or-left}
+use Rattle.sound_machine.specs.Discipline.{Known, AllNew, known-after, LineScoped}
 use Rattle.machine_code.proofs.Reading.{no-bool}
 use Rattle.machine_lines.specs.Frames.{place, word-of}
+use Rattle.machine_positions.specs.Machine.{bound-all}
 use Rattle.machine_laws.specs.Rows.{coded, Small}
 
--- ---- scopes
-
-abbrev pub Known : C.Atom → Set → Type 0
-Known (C.number z) S = Unit {0}
-Known (C.name x) S = S x ≡ true
-
-abbrev pub AllKnown : List C.Atom → Set → Type 0
-AllKnown [] S = Unit {0}
-AllKnown (a ∷ us) S = Known a S × AllKnown us S
-
--- a name that may be bound
-pub record Fresh (x : ℕ) (S : Set) : Type 0 where
-  pub unknown : S x ≡ false
-  pub small : x < 256
-
--- the names known after a line
-abbrev pub known-after : C.Line → Set → Set
-known-after (C.operation x o a b) S = S ∪ only x
-known-after (C.call x f us) S = S ∪ only x
-known-after (C.literal x d us) S = S ∪ only x
-known-after (C.index x a b) S = S ∪ only x
-known-after (C.length-of x a) S = S ∪ only x
-known-after (C.if-else x g t e) S = S ∪ only x
-known-after (C.map-over x p a t) S = S ∪ only x
-known-after (C.retain x) S = S
-known-after (C.release x) S = S
-
--- how many functions a script has, and how many parameters each
-pub record Functions : Type 0 where
-  pub count : ℕ
-  pub arity : ℕ → ℕ
-  pub few : count ≤ 32
-
--- over the depths of a function's names, and the script's functions
-module _ (Γ : NameDepths) (F : Functions) where
-  abbrev mutual
-    -- a tree in which the names S are known
-    pub Scoped : Tree → Set → Type 0
-    Scoped (C.end a) S = Known a S
-    Scoped (C.line l t) S = LineScoped l S × Scoped t (known-after l S)
-
-    pub LineScoped : C.Line → Set → Type 0
-    LineScoped (C.operation x o a b) S = Known a S × Known b S × Fresh x S
-    LineScoped (C.call x f us) S = AllKnown us S × Fresh x S × (length us ≤ 16) × (f < F .count) × (length us ≡ F
-        .arity f)
-    LineScoped (C.literal x d us) S = AllKnown us S × Fresh x S × (length us ≤ 16) × (d < 256)
-    LineScoped (C.index x a b) S = Known a S × Known b S × Fresh x S
-    LineScoped (C.length-of x a) S = Known a S × Fresh x S
-    LineScoped (C.if-else x g t e) S = Known g S × Fresh x S × Scoped t S × Scoped e S
-    LineScoped (C.map-over x p a t) S =
-        Known a S × Fresh x S × Fresh p S × Scoped t (S ∪ only p) × (Γ x ≡ suc (atom-depth Γ (ending t)))
-    LineScoped (C.retain x) S = S x ≡ true
-    LineScoped (C.release x) S = S x ≡ true
-
--- ---- frames
-
+-- every known name fits a byte
 pub record Bounded (S : Set) : Type 0 where
   pub below : (x : ℕ) → S x ≡ true → x < 256
 
@@ -101,15 +47,8 @@ word-same calls env ρ S g (C.number z) h = refl
 word-same calls env ρ S g (C.name x) h = g .agree x h
 
 either-true : (x y : ℕ) (S : Set) → (S ∪ only x) y ≡ true → x ≢ y → S y ≡ true
-either-true x y S e f = go (eqb x y) refl e
-  where
-    or-false : (t : Bool) → (t || false) ≡ true → t ≡ true
-    or-false true p = refl
-    or-false false p = p
-
-    go : (t : Bool) → eqb x y ≡ t → (S y || eqb x y) ≡ true → S y ≡ true
-    go true p q = absurd (f (eqb-true x y p))
-    go false p q = or-false (S y) (rw p at q)
+either-true x y S e f =
+    elim (or-cases (S y) (eqb x y) e) [ inl q ↦ q | inr q ↦ absurd (f (eqb-true x y q)) ]
 
 pub bounded-more : (x : ℕ) (S : Set) → x < 256 → Bounded S → Bounded (S ∪ only x)
 bounded-more x S h b = record { below = λ y e. go y e (ℕ-discrete x y) }
@@ -154,24 +93,64 @@ kept-then calls e₀ e₁ e₂ S T i a b = record {
   long = b .long ∙ a .long;
 }
 
-pub or-true : (b c : Bool) → b ≡ true → (b || c) ≡ true
-or-true true c e = refl
-or-true false c e = no-bool (sym e)
-
 -- a known name stays known
 pub known-stays : (l : C.Line) (S : Set) (x : ℕ) → S x ≡ true → known-after l S x ≡ true
-known-stays (C.operation y o a b) S x e = or-true (S x) (eqb y x) e
-known-stays (C.call y f us) S x e = or-true (S x) (eqb y x) e
-known-stays (C.literal y d us) S x e = or-true (S x) (eqb y x) e
-known-stays (C.index y a b) S x e = or-true (S x) (eqb y x) e
-known-stays (C.length-of y a) S x e = or-true (S x) (eqb y x) e
-known-stays (C.if-else y g t u) S x e = or-true (S x) (eqb y x) e
-known-stays (C.map-over y p a t) S x e = or-true (S x) (eqb y x) e
+known-stays (C.leaf y l us) S x e = or-left (S x) (eqb y x) e
+known-stays (C.if-else y g t u) S x e = or-left (S x) (eqb y x) e
+known-stays (C.loop y k ps us t) S x e = or-left (S x) (eqb y x) e
 known-stays (C.retain y) S x e = e
 known-stays (C.release y) S x e = e
+
+pub bounded-after : (l : C.Line) (S : Set) → LineScoped l S → Bounded S → Bounded (known-after l S)
+bounded-after (C.leaf x l us) S h b = bounded-more x S (h .1 .small) b
+bounded-after (C.if-else x g t e) S h b = bounded-more x S (h .1 .small) b
+bounded-after (C.loop x k ps us t) S h b = bounded-more x S (h .1 .small) b
+bounded-after (C.retain x) S h b = b
+bounded-after (C.release x) S h b = b
 
 -- after work that kept them, the names still agree
 pub agrees-kept : (calls : ℕ) (env env′ : List ℤ) (ρ : Frame) (S : Set) → Agrees calls env ρ S → Kept calls env env′
     S →
     Agrees calls env′ ρ S
 agrees-kept calls env env′ ρ S g k = record { agree = λ x e. k .names x e ∙ g .agree x e }
+
+-- ---- names bound in turn
+
+or-none : (b : Bool) → b ≡ (b || false)
+or-none true = refl
+or-none false = refl
+
+or-either : (a b c : Bool) → ((a || b) || c) ≡ (a || (b || c))
+or-either true b c = refl
+or-either false b c = refl
+
+-- the names of a pass, one known after another
+just-none : (S : Set) → S ≡ S ∪ just []
+just-none S = λ i y. or-none (S y) i
+
+just-first : (S : Set) (p : ℕ) (ps : List ℕ) → (S ∪ only p) ∪ just ps ≡ S ∪ just (p ∷ ps)
+just-first S p ps = λ i y. or-either (S y) (eqb p y) (just ps y) i
+
+pub bounded-all : (ps : List ℕ) (S : Set) → AllNew ps S → Bounded S → Bounded (S ∪ just ps)
+bounded-all [] S h b = subst Bounded (just-none S) b
+bounded-all (p ∷ ps) S h b =
+    subst Bounded (just-first S p ps) (bounded-all ps (S ∪ only p) (h .1) (bounded-more p S (h .0 .small) b))
+
+module _ (calls : ℕ) where
+  pub agrees-all : (ps : List ℕ) (ws env : List ℤ) (ρ : Frame) (S : Set) → AllNew ps S → 8192 ≤ length env → Bounded S →
+      Agrees calls env ρ S → Agrees calls (bound-all calls ps ws env) (binding ps ws ρ) (S ∪ just ps)
+  agrees-all [] ws env ρ S h long b g = subst (Agrees calls env ρ) (just-none S) g
+  agrees-all (p ∷ ps) ws env ρ S h long b g =
+      let v = argument ws 0 in
+      subst (Agrees calls (bound-all calls (p ∷ ps) ws env) (binding (p ∷ ps) ws ρ)) (just-first S p ps)
+      (agrees-all ps (later-parts ws) (set env (place calls p) v) (updated ρ p v) (S ∪ only p) (h .1)
+      (omega (arith, long, length-set env (place calls p) v)) (bounded-more p S (h .0 .small) b)
+      (agrees-more calls env ρ S p v (h .0 .small) long b g))
+
+  pub kept-all : (ps : List ℕ) (ws env : List ℤ) (S : Set) → AllNew ps S → Kept calls env (bound-all calls ps ws env) S
+  kept-all [] ws env S h = kept-none calls env S
+  kept-all (p ∷ ps) ws env S h =
+      let v = argument ws 0 in
+      kept-then calls env (set env (place calls p) v) (bound-all calls (p ∷ ps) ws env) S (S ∪ only p)
+      (λ y e. or-left (S y) (eqb p y) e) (kept-more calls env S p v (h .0 .unknown))
+      (kept-all ps (later-parts ws) (set env (place calls p) v) (S ∪ only p) (h .1))

@@ -1,0 +1,274 @@
+-- The passes of a loop over positions are those of the machine, by what a pass carries; map is the first instance.
+use mathlib.Core.Path.{_≡_, refl, sym, ap, ap₂, subst, _∙_}
+use mathlib.Core.Bool.{Bool, true, false, cond}
+use mathlib.Core.List.{List, [], _∷_, _++_, map}
+use Prim.Native.Nat.{ℕ, zero, suc, _+_, _-_, _*_, _/_, _%_, _<_, _≤_, pred}
+use native.Mathlib.Omega.{arith}
+use lib.IntN.{ℤ, pos}
+use lib.ListN.{getD, length}
+use Rattle.semantics.specs.Basics.{tabulate, updated}
+use Rattle.semantics.specs.Outcome.{Outcome, onward, give, passes}
+use Rattle.semantics.specs.Kinds.{Loop, mapping, loop-kind, packed-names}
+use Rattle.semantics.specs.Store.{Store, cell, cell-of, elements, has-free, acquired, appended}
+use Rattle.semantics.specs.Code as K
+use Rattle.semantics.specs.Code.{row, atom-row, rows}
+use Rattle.semantics.specs.Live.{Set, _∪_, only, just, among, after-pass}
+use Rattle.semantics.specs.Annotate.{NameDepths}
+use Rattle.semantics.specs.Machine as M
+use Rattle.semantics.specs.Machine.{State, Frame, Program, word, step, stepped, with-left, work, work-line, work-pass}
+use Rattle.semantics.specs.Machine.{acquire, acquire-if, elements-of, append-word, held, touching, looped-over}
+use Rattle.semantics.specs.Machine.{carried-first, pass-words, carried-on, in-progress}
+use Rattle.sound_base.specs.Tests.{or-left}
+use Rattle.sound_machine.specs.Discipline.{AllKnown, New, AllNew, LoopFits, Fitting, Scoped}
+use Rattle.store.specs.Acquiring.{next-cell}
+use Rattle.store.specs.declared.Acquired.the-variants.{Cell, NoneFree}
+use Rattle.machine_code.specs.Reading.{line-at, depth-in, end-in}
+use Rattle.machine_code.specs.declared.Atom.{Atom}
+use Rattle.machine_lines.specs.Frames.{word-of}
+use Rattle.machine_lines.specs.Lines.{Memory, memory, Ran, acquired-given, array-of, looping, doing}
+use Rattle.machine_positions.specs.Machine.{Code, Callee, and-then, binding, Looped, looped, bound-all, gave}
+use Rattle.machine_positions.specs.Machine.{carry-first, carry-on, passes-on, loop-worked, loop-line, tree-on}
+use Rattle.machine_positions.specs.Lengths.{bound-all-keeps}
+use Rattle.machine_laws.specs.Rows.{Here, At, Jumps, coded, atom-here, line-read}
+use Rattle.machine_laws.specs.Frames.{Bounded, Agrees, Kept, small-known, word-same, kept-none, kept-then}
+use Rattle.machine_laws.specs.Frames.{agrees-kept, bounded-all, agrees-all, kept-all}
+use Rattle.machine_laws.specs.Same.{Rel, WordDone, TreeDone, LineDone, rel-then, rel-step, rel-map}
+use Rattle.machine_laws.specs.Same.{onward-onward, word-moved, word-kept, bound-done}
+
+-- ---- what a loop carries, and how it stands in the code: a clause for each kind of loop
+
+carry-first-same : (k : Loop) (R : List ℕ) (d : ℕ) (ws : List ℤ) (calls : ℕ) (S : Set) (env : List ℤ) (n : ℕ)
+    (s : State) → n ≡ s .left →
+    Rel (WordDone calls env S) (carry-first k d ws n (memory (s .store) env)) (carried-first k R d ws s)
+unfolding acquire acquire-if M.with-store M.with-roots next-cell
+carry-first-same mapping R d ws calls S env n s e = go (has-free (s .store)) refl
+  where
+    go : (t : Bool) → has-free (s .store) ≡ t → Rel (WordDone calls env S)
+        (gave n (memory (acquired d [] (s .store)) env)
+        (acquired-given (cond (has-free (s .store)) (Cell (s .store .first)) NoneFree)))
+        (acquire-if (has-free (s .store)) R d [] s)
+    go true q = rw q (refl, record { value = refl; steps = e; store = refl; kept = kept-none calls env S })
+    go false q = rw q (record { stop = refl; real = λ z. omega arith; steps = e })
+
+carry-on-same : (k : Loop) (v : ℤ) (calls : ℕ) (S : Set) (w : Ran) (r : ℤ) (s : State) → w .out .value ≡ r →
+    w .out .steps ≡ s .left → w .memory .store ≡ s .store →
+    Rel (WordDone calls (w .memory .env) S) (carry-on k v w) (carried-on k v r s)
+unfolding append-word onward M.with-store
+carry-on-same mapping v calls S w r s e f h = (
+  refl,
+  record {
+    value = refl;
+    steps = f;
+    store = ap₂ (appended (cell-of v)) e h;
+    kept = kept-none calls (w .memory .env) S;
+  },
+)
+
+module _ (p : Program) (Γ : NameDepths) (c : Code) (calls at : ℕ) (m : Memory) (S : Set) (b : Bounded S) where
+  pub loop-read : (x : ℕ) (k : Loop) (ps : List ℕ) (us : List K.Atom) (d : ℕ) → LoopFits p Γ x k ps us d → New x S →
+      AllNew ps S → AllKnown us S →
+      Here (c .kinds) (c .operands) at (row (loop-kind k) (x + 256 * packed-names ps)) →
+      At (c .kinds) (c .operands) (at + 1) (map atom-row us) →
+      doing (c .kinds) (c .operands) calls at m (line-at (c .kinds) (c .operands) at) ≡ looping x k ps (map coded us)
+  unfolding doing
+  loop-read x mapping (q ∷ []) (u ∷ []) d fits new news known r rs =
+      ap (doing (c .kinds) (c .operands) calls at m)
+      (line-read (c .kinds) (c .operands) at 13 (x + 256 * (q + 256 * 0)) (coded u) _ (r .kind) (r .operand)
+      (atom-here (c .kinds) (c .operands) (at + 1) u (small-known u S b (known .0)) (rs .0)) refl)
+      ∙ ap₂ (λ (y : ℕ) (z : ℕ). looping y mapping (z ∷ []) (coded u ∷ []))
+      (let z : (x + 256 * (q + 256 * 0)) % 256 ≡ x = omega (arith, new .small) in z)
+      (let z : (x + 256 * (q + 256 * 0)) / 256 % 256 ≡ q = omega (arith, new .small, news .0 .small) in z)
+  loop-read x mapping [] us d fits new news known r rs = absurd (omega (arith, ap length (fits .names)))
+  loop-read x mapping (q ∷ o ∷ ps) us d fits new news known r rs = absurd (omega (arith, ap length (fits .names)))
+  loop-read x mapping (q ∷ []) [] d fits new news known r rs = absurd (omega (arith, fits .limits))
+  loop-read x mapping (q ∷ []) (u ∷ v ∷ us) d fits new news known r rs = absurd (omega (arith, fits .limits))
+
+-- ---- all loops
+
+pred-less : (n : ℕ) → n - 1 ≡ pred n
+pred-less zero = refl
+pred-less (suc n) = omega arith
+
+coded-words : (calls : ℕ) (env : List ℤ) (ρ : Frame) (S : Set) → Agrees calls env ρ S → (us : List K.Atom) →
+    AllKnown us S → map (word-of calls env) (map coded us) ≡ map (word ρ) us
+coded-words calls env ρ S g [] h = refl
+coded-words calls env ρ S g (u ∷ us) h =
+    ap₂ {C = List ℤ} _∷_ (word-same calls env ρ S g u (h .0)) (coded-words calls env ρ S g us (h .1))
+
+module _ (p : Program) (callee : M.Callee) (Γ : NameDepths) (c : Code) (calls f : ℕ) (C : Callee) where
+  -- a tree at a position is worked as the tree
+  abbrev pub TreeClaim : K.Tree → Type 0
+  TreeClaim t = (n : ℕ) → length (rows t) ≤ n → n ≤ 4096 → (S : Set) (d : ℕ) → Fitting p Γ t d → Scoped t S →
+      Bounded S → (at : ℕ) → At (c .kinds) (c .operands) at (rows t) → (L : Set) (R : List ℕ) (ρ : Frame) (s : State)
+      (env : List ℤ) → Agrees calls env ρ S → 8192 ≤ length env →
+      Rel (TreeDone (at + length (rows t)) calls env S)
+      (tree-on n C c calls f at (s .left) (memory (s .store) env)) (work callee Γ t L R ρ s)
+
+  -- the passes of a loop over the array a, whose tree t is at a position
+  module _ (n : ℕ) (few : n ≤ 4096) (S : Set) (b : Bounded S) (ρ : Frame) (k : Loop) (ps : List ℕ) (new : AllNew ps S)
+      (t : K.Tree) (claim : TreeClaim t) (lt : length (rows t) ≤ n) (d : ℕ) (fit : Fitting p Γ t d)
+      (scoped : Scoped t (S ∪ just ps)) (at : ℕ) (rs : At (c .kinds) (c .operands) at (rows t)) (B : Set) (R : List ℕ)
+      (a : ℤ) where
+    abbrev W : ℕ → Memory → Ran
+    W = tree-on n C c calls f at
+
+    abbrev l : Looped
+    l = looped k W calls ps (cell-of a)
+
+    abbrev body : List ℤ → M.Work ℤ
+    body = λ vs. work callee Γ t B R (M.binding ps vs ρ)
+
+    abbrev rest : ℕ → ℕ → ℤ → M.Work ℤ
+    rest count i v = passes (work-pass k body a) v (tabulate i count (λ j. j))
+
+    -- one pass, before the others
+    pass-same : (count i : ℕ) (v : ℤ) (s₀ : State) (e₀ : List ℤ) → Agrees calls e₀ ρ S → 8192 ≤ length e₀ →
+        ((u : ℤ) (s₁ : State) (e₁ : List ℤ) → Agrees calls e₁ ρ S → 8192 ≤ length e₁ → Rel (WordDone calls e₁ S)
+        (passes-on l count u (suc i) (s₁ .left) (memory (s₁ .store) e₁)) (rest count (suc i) u s₁)) →
+        (m : ℕ) → s₀ .left ≡ m → Rel (WordDone calls e₀ S) (passes-on l (suc count) v i m (memory (s₀ .store) e₀))
+        (onward (λ u. rest count (suc i) u) (onward (λ _ s₁. onward (λ ws s₂. onward (λ r. carried-on k v r)
+        (body (pass-words k v (getD ws i (pos 0))) s₂)) (elements-of a s₁)) (stepped m s₀)))
+    unfolding passes-on onward stepped with-left elements-of M.with-store
+    pass-same count i v s₀ e₀ g₀ l₀ more zero e = record { stop = refl; real = λ z. omega arith; steps = sym e }
+    pass-same count i v s₀ e₀ g₀ l₀ more (suc m) e =
+        subst (λ (o : Outcome State ℤ). Rel (WordDone calls e₀ S) (and-then (W m (memory (s₀ .store) e₁)) carry) o)
+        (sym (onward-onward (λ u. rest count (suc i) u) (λ r. carried-on k v r) (body vs s₁)))
+        (rel-then (TreeDone (at + length (rows t)) calls e₁ (S ∪ just ps)) (WordDone calls e₀ S)
+        (W m (memory (s₀ .store) e₁)) (body vs s₁) carry
+        (λ r s₂. onward (λ u. rest count (suc i) u) (carried-on k v r s₂))
+        (claim n lt few (S ∪ just ps) d fit scoped (bounded-all ps S new b) at rs B R (M.binding ps vs ρ) s₁ e₁
+        (agrees-all calls ps vs e₀ ρ S new l₀ b g₀) (omega (arith, l₀, bound-all-keeps calls ps vs e₀)))
+        (λ r s₂ h. after r s₂ h))
+      where
+        vs : List ℤ
+        vs = pass-words k v (getD (elements (cell (s₀ .store) (cell-of a))) i (pos 0))
+
+        e₁ : List ℤ
+        e₁ = bound-all calls ps vs e₀
+
+        s₁ : State
+        s₁ = M.with-store (with-left s₀ m) (s₀ .store) (touching (s₀ .store) (cell-of a))
+
+        carry : Ran → Ran
+        carry = λ w. and-then (carry-on k v w)
+            (λ u. passes-on l count (u .out .value) (i + 1) (u .out .steps) (u .memory))
+
+        after : (r : ℤ) (s₂ : State) →
+            TreeDone (at + length (rows t)) calls e₁ (S ∪ just ps) (W m (memory (s₀ .store) e₁)) r s₂ →
+            Rel (WordDone calls e₀ S) (carry (W m (memory (s₀ .store) e₁)))
+            (onward (λ u. rest count (suc i) u) (carried-on k v r s₂))
+        after r s₂ h =
+            let w : Ran = W m (memory (s₀ .store) e₁) in
+            let x : Ran = carry-on k v w in
+            rel-then (WordDone calls (w .memory .env) S) (WordDone calls e₀ S) x (carried-on k v r s₂)
+            (λ u. passes-on l count (u .out .value) (i + 1) (u .out .steps) (u .memory)) (λ u. rest count (suc i) u)
+            (carry-on-same k v calls S w r s₂ (h .word .value) (h .word .steps) (h .word .store))
+            (λ u s₃ q.
+            let kept : Kept calls e₀ (x .memory .env) S =
+            kept-then calls e₀ (w .memory .env) (x .memory .env) S S (λ y z. z)
+            (kept-then calls e₀ e₁ (w .memory .env) S (S ∪ just ps) (λ y z. or-left (S y) (just ps y) z)
+            (kept-all calls ps vs e₀ S new) (h .word .kept)) (q .kept) in
+            subst (λ (y : Ran). Rel (WordDone calls e₀ S) y (rest count (suc i) u s₃))
+            (sym (word-moved (λ y j μ. passes-on l count y (i + 1) j μ) q
+            ∙ ap (λ (j : ℕ). passes-on l count u j (s₃ .left) (memory (s₃ .store) (x .memory .env)))
+            (let z : i + 1 ≡ suc i = omega arith in z)))
+            (rel-map (WordDone calls (x .memory .env) S) (WordDone calls e₀ S)
+            (passes-on l count u (suc i) (s₃ .left) (memory (s₃ .store) (x .memory .env))) (rest count (suc i) u s₃)
+            (λ y s₄ z. word-kept calls e₀ (x .memory .env) S S (λ o j. j) kept _ y s₄ z)
+            (more u s₃ (x .memory .env) (agrees-kept calls e₀ (x .memory .env) ρ S g₀ kept)
+            (omega (arith, l₀, kept .long)))))
+
+    passes-same : (count i : ℕ) (v : ℤ) (s₀ : State) (e₀ : List ℤ) → Agrees calls e₀ ρ S → 8192 ≤ length e₀ →
+        Rel (WordDone calls e₀ S) (passes-on l count v i (s₀ .left) (memory (s₀ .store) e₀)) (rest count i v s₀)
+    unfolding passes-on passes tabulate work-pass step
+    passes-same zero i v s₀ e₀ g₀ l₀ =
+        (refl, record { value = refl; steps = refl; store = refl; kept = kept-none calls e₀ S })
+    passes-same (suc count) i v s₀ e₀ g₀ l₀ =
+        pass-same count i v s₀ e₀ g₀ l₀ (λ u s₁ e₁ g₁ l₁. passes-same count (suc i) u s₁ e₁ g₁ l₁) (s₀ .left) refl
+
+  -- a loop's line
+  module _ (depths : (x : ℕ) → x < 256 → depth-in (c .table) f x ≡ Γ x) (jumps : Jumps c) (n : ℕ) (few : n ≤ 4096)
+      (S : Set) (b : Bounded S) (at : ℕ) (A : Set) (R : List ℕ) (ρ : Frame) (s : State) (env : List ℤ)
+      (g : Agrees calls env ρ S) (long : 8192 ≤ length env) (x : ℕ) (k : Loop) (ps : List ℕ) (us : List K.Atom)
+      (t : K.Tree) (new : New x S) (news : AllNew ps S) (known : AllKnown us S) (claim : TreeClaim t)
+      (lt : length (rows t) ≤ n) (d : ℕ) (fit : Fitting p Γ t d) (scoped : Scoped t (S ∪ just ps))
+      (rs : At (c .kinds) (c .operands) (at + suc (length (map coded us))) (rows t)) (goal : ℕ)
+      (ge : at + suc (length (map coded us)) + length (rows t) ≡ goal) where
+    abbrev Done : Ran → Frame → State → Type 0
+    Done = LineDone goal calls env S (S ∪ only x)
+
+    abbrev ws : List ℤ
+    ws = map (word ρ) us
+
+    abbrev array : ℤ
+    array = looped-over k ws
+
+    abbrev start : ℕ
+    start = at + suc (length (map coded us))
+
+    abbrev B : Set
+    B = after-pass x ps t A
+
+    abbrev R′ : List ℕ
+    R′ = R ++ held Γ (among us B) ρ
+
+    abbrev whole : Looped
+    whole = looped k (tree-on n C c calls f start) calls ps (cell-of array)
+
+    abbrev count : ℕ
+    count = length (array-of (s .store) array)
+
+    abbrev bind : Ran → Ran
+    bind = λ w. binding calls x (end-in (c .table) start) w
+
+    abbrev then-passes : ℤ → M.Work Frame
+    then-passes v s₃ = onward (λ w. give (updated ρ x w))
+        (passes (work-pass k (λ vs. work callee Γ t B (R′ ++ in-progress k v) (M.binding ps vs ρ)) array) v
+        (tabulate 0 count (λ i. i)) s₃)
+
+    after-first : (m : ℕ) (s₂ : State) → m ≡ s₂ .left → s .store ≡ s₂ .store →
+        Rel Done (and-then (carry-first k (pred (Γ x)) ws m (memory (s .store) env))
+        (λ v. and-then (passes-on whole count (v .out .value) 0 (v .out .steps) (v .memory)) bind))
+        (onward then-passes (carried-first k R′ (pred (Γ x)) ws s₂))
+    after-first m s₂ e h =
+        rel-then (WordDone calls env S) Done first (carried-first k R′ (pred (Γ x)) ws s₂)
+        (λ v. and-then (passes-on whole count (v .out .value) 0 (v .out .steps) (v .memory)) bind) then-passes
+        (subst (λ (σ : Store). Rel (WordDone calls env S) (carry-first k (pred (Γ x)) ws m (memory σ env))
+        (carried-first k R′ (pred (Γ x)) ws s₂)) (sym h)
+        (carry-first-same k R′ (pred (Γ x)) ws calls S env m s₂ e))
+        (λ v s₃ q.
+        subst (λ (y : Ran). Rel Done (and-then y bind) (then-passes v s₃))
+        (sym (word-moved (λ y j μ. passes-on whole count y 0 j μ) q))
+        (rel-then (WordDone calls (first .memory .env) S) Done
+        (passes-on whole count v 0 (s₃ .left) (memory (s₃ .store) (first .memory .env)))
+        (passes (work-pass k (λ vs. work callee Γ t B (R′ ++ in-progress k v) (M.binding ps vs ρ)) array) v
+        (tabulate 0 count (λ i. i)) s₃) bind (λ w. give (updated ρ x w))
+        (passes-same n few S b ρ k ps news t claim lt d fit scoped start rs B (R′ ++ in-progress k v) array count 0 v s₃
+        (first .memory .env) (agrees-kept calls env (first .memory .env) ρ S g (q .kept))
+        (omega (arith, long, q .kept .long)))
+        (λ w s₄ z. (
+          refl,
+          bound-done calls env ρ S b g long x new (end-in (c .table) start) goal (jumps t start rs ∙ ge) _ w s₄
+              (word-kept calls env (first .memory .env) S S (λ o j. j) (q .kept) _ w s₄ z),
+        ))))
+      where
+        first : Ran
+        first = carry-first k (pred (Γ x)) ws m (memory (s .store) env)
+
+    pub loop-same : Rel Done
+        (loop-line (tree-on n C c calls f) c calls f x k ps (map coded us) at (s .left) (memory (s .store) env))
+        (work-line callee Γ (K.loop x k ps us t) A R ρ s)
+    unfolding loop-line work-line onward with-left elements-of M.with-store
+    loop-same =
+        rel-step Done s (memory (s .store) env)
+        (λ m. loop-worked (tree-on n C c calls f) c calls f x k ps start m (memory (s .store) env)
+        (map (word-of calls env) (map coded us)))
+        (λ _ s₁. onward (λ vs s₂. onward (λ v s₃. onward (λ w. give (updated ρ x w))
+        (passes (work-pass k (λ vs. work callee Γ t B (R′ ++ in-progress k v) (M.binding ps vs ρ)) array) v
+        (tabulate 0 (length vs) (λ i. i)) s₃)) (carried-first k R′ (pred (Γ x)) ws s₂)) (elements-of array s₁))
+        (λ m. rw (
+          coded-words calls env ρ S g us known,
+          let z : depth-in (c .table) f x - 1 ≡ pred (Γ x) =
+              ap (λ (y : ℕ). y - 1) (depths x (new .small)) ∙ pred-less (Γ x) in z,
+        )
+        (after-first m (M.with-store (with-left s m) (s .store) (touching (s .store) (cell-of array))) refl refl))
