@@ -1,12 +1,10 @@
 -- Laws of moving what was written backwards to the front, and of the answer.
 use mathlib.Core.Path.{_≡_, refl, sym, ap, _∙_}
-use mathlib.Core.Bool.{Bool, true, false}
-use mathlib.Core.List.{List, [], _∷_, _++_, map, append-nil}
-use Prim.Native.Nat.{ℕ, zero, suc, min, _+_, _-_, _*_, _<_, _≤_}
+use mathlib.Core.List.{List, [], _∷_, _++_, append-nil}
+use Prim.Native.Nat.{ℕ, zero, suc, _+_, _-_, _<_, _≤_}
 use native.Mathlib.Omega.{arith}
 use native.Mathlib.Numerals.{add-one}
 use lib.IntN.{ℤ, pos}
-use lib.Dec.{leb}
 use lib.ListN.{length, getD, set, take, drop, replicate, length-append, length-replicate, length-set, length-drop}
 use lib.Seq.{drop-cons, set-at, take-suc, append-snoc, take-all, getD-set-same, drop-set-lt, drop-nil, length-take-le}
 use borrow.Author.Tests.{le-leb, lt-leb}

@@ -1,9 +1,10 @@
 // The A-normal form: a descent over the nodes that lays plain rows, notes and the depths of new names.
 use normal_made::Out;
 use script_read::Node;
+use script_read::Place;
 ghost use mathlib.Core.Path.{_≡_};
-ghost use Prim.Native.Nat.{_+_, _*_, _<_, _≤_};
-ghost use lib.ListN.{length, getD};
+ghost use Prim.Native.Nat.{_+_, _<_};
+ghost use lib.ListN.{getD};
 ghost use Rattle.semantics.specs.Syntax.{size, sizes};
 ghost use Rattle.normal_lay.specs.Laid.{meanings};
 ghost use Rattle.normal_made.specs.Source.{tree-at, several, compound, second-part, let-from, if-from, map-from};
@@ -50,7 +51,7 @@ pub fn lay_part(
             p,
         };
     }
-    match script_read::node_at(kinds, operands, at, 2, 13) {
+    match script_read::node_at(kinds, operands, at, Place::Part) {
         Node::Fits(kind, low, high) => {
             if kind == 2 {
                 return Out {

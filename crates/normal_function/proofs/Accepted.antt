@@ -1,26 +1,25 @@
 -- A function that the reader accepts is the function at its node, and there is room for it.
-use mathlib.Core.Path.{_≡_, refl, sym, ap, _∙_}
+use mathlib.Core.Path.{_≡_, refl}
 use mathlib.Core.List.{List, [], _∷_}
-use Prim.Native.Nat.{ℕ, zero, suc, _+_, _*_, _<_, _≤_}
+use Prim.Native.Nat.{ℕ, _+_, _≤_}
 use native.Mathlib.Omega.{arith}
 use lib.ListN.{length, getD}
-use Rattle.semantics.specs.Syntax.{Expr, Parameter, Function, Script, size, function-size}
-use Rattle.semantics.specs.File as S
+use Rattle.semantics.specs.Syntax.{Parameter, Function, function-size}
+use Rattle.semantics.specs.File.{Place}
 use Rattle.semantics.specs.Normal.{fresh}
 use Rattle.script_read.specs.Told.{Parts, low-at, high-at}
 use Rattle.script_read.proofs.Written.{HeadAt, ParametersWritten, FunctionWritten}
-use Rattle.normal_made.specs.Source.{tree-at, laid-rows}
 use Rattle.normal_made.proofs.Nodes.{written-tree}
 use Rattle.normal_function.specs.Read.{parameters-at, read-function, Fitting}
 use Rattle.normal_function.proofs.Size.{few-rows}
-use Rattle.normal_function.proofs.Parameters.{low-most}
+use Rattle.normal_function.proofs.Parameters.{count-most}
 
 module _ (k w : List ℕ) where
-  pub low-there : {a p y z : ℕ} → HeadAt k w a p y z → low-at k w a p ≡ y
+  pub low-there : {place : Place} {p y z : ℕ} → HeadAt k w place p y z → low-at k w place p ≡ y
   unfolding low-at
   low-there h = rw (h .is) (h .lower)
 
-  pub high-there : {a p y z : ℕ} → HeadAt k w a p y z → high-at k w a p ≡ z
+  pub high-there : {place : Place} {p y z : ℕ} → HeadAt k w place p y z → high-at k w place p ≡ z
   unfolding high-at
   high-there h = rw (h .is) (h .upper)
 
@@ -46,7 +45,7 @@ module _ (k w : List ℕ) where
   fitting results g p h s l n m = record {
     parts = s;
     low = l;
-    few = low-most k w 0 p;
+    few = count-most k w p;
     names = rw (low-there (h .head), function-is g p h) m;
     nodes = rw (low-there (h .head), function-is g p h) (omega arith);
     rows = rw (function-is g p h) (omega (arith, few-rows (g .body)));

@@ -1,58 +1,66 @@
 -- Laws of the parameters: bound and written from the last to the first.
 use mathlib.Core.Path.{_≡_, refl, sym, ap, _∙_, fun-ext}
-use mathlib.Core.Bool.{Bool, true, false, cond}
-use mathlib.Core.List.{List, [], _∷_, _++_}
+use mathlib.Core.Bool.{Bool, true}
+use mathlib.Core.List.{List, [], _∷_}
 use Prim.Native.Nat.{ℕ, zero, suc, _+_, _-_, _*_, _<_, _≤_}
 use native.Mathlib.Omega.{arith}
-use native.Mathlib.Decide.{decLt}
-use lib.IntN.{ℤ, pos}
+use lib.IntN.{ℤ}
 use lib.Dec.{ltb}
 use lib.ListN.{length, getD, set, length-set, replicate}
-use borrow.Author.Tests.{lt-ltb, le-ltb}
+use borrow.Author.Tests.{le-ltb, eqb-true}
 use Rattle.semantics.specs.Basics.{updated}
 use Rattle.semantics.specs.Syntax.{Parameter}
 use Rattle.semantics.specs.Code as C
-use Rattle.semantics.specs.Code.{Row, row}
+use Rattle.semantics.specs.Code.{row}
 use Rattle.semantics.specs.File as S
-use Rattle.semantics.specs.File.{node-at, low-limits, high-limits}
+use Rattle.semantics.specs.File.{Place, at-function, at-parameter, allowed, node-at, low-limits, high-limits}
 use Rattle.semantics.specs.Normal.{parameter-names}
 use Rattle.semantics.specs.Annotate.{parameter-depths-from, parameter-rows}
-use Rattle.script_read.specs.Told.{Parts, low-at, high-at, low-of, high-of}
-use Rattle.script_read.proofs.Nodes.{Within, node-within}
+use Rattle.script_read.specs.Told.{low-at, high-at, low-of, high-of}
+use Rattle.script_read.proofs.Nodes.{NodeFits, node-fits}
 use Rattle.script_read.proofs.Tables.{none-set}
 use Rattle.semantics.specs.Live.{Set}
 use Rattle.normal_code.specs.Plain.{meant, placed, set-of}
 use Rattle.normal_code.proofs.Sets.{Making, making-none, making-set, making-all}
-use Rattle.normal_lay.specs.Laid.{meanings, nowhere}
 use Rattle.normal_write.specs.Wrote.{Wrote}
-use Rattle.normal_write.specs.Parts.{depth-in}
 use Rattle.normal_write.proofs.Rows.{wrote-none, wrote-then, wrote-as}
-use Rattle.normal_made.specs.Made.{Low}
-use Rattle.normal_made.proofs.Chains.{SetAs, low-set}
+use Rattle.normal_made.proofs.Chains.{low-set}
 use Rattle.normal_made.proofs.Trees.{depth-set, name-placed}
 use Rattle.normal_made.proofs.Nodes.{nowhere-placed}
 use Rattle.normal_made.proofs.Members.{meanings-set}
 use Rattle.normal_function.specs.Read.{parameters-at, Binds}
 use Rattle.normal_function.specs.declared.Bound.{Bound}
 
--- the operand of a function's or a parameter's node is in range
-low-in : (a : ℕ) (v : S.Node) → Within a a v → low-of v ≤ getD low-limits a 0
-low-in a (S.fits h) i = let e : h .kind ≡ a = omega (arith, i .0, i .1) in rw e at (i .2)
-low-in a S.wrong-kind i = omega arith
-low-in a S.wrong-operand i = omega arith
+-- the operand of a node is in range, where one kind alone may stand
+module _ (k w : List ℕ) (place : Place) (kind : ℕ) (alone : (d : ℕ) → allowed place d ≡ true → d ≡ kind) (p : ℕ) where
+  low-in : (d : ℕ) (v : S.Node) → NodeFits place d v → low-of v ≤ getD low-limits kind 0
+  low-in d (S.fits h) i = rw (alone (h .kind) (i .stands)) at (i .low)
+  low-in d S.wrong-kind i = omega arith
+  low-in d S.wrong-operand i = omega arith
 
-high-in : (a : ℕ) (v : S.Node) → Within a a v → high-of v ≤ getD high-limits a 0
-high-in a (S.fits h) i = let e : h .kind ≡ a = omega (arith, i .0, i .1) in rw e at (i .3)
-high-in a S.wrong-kind i = omega arith
-high-in a S.wrong-operand i = omega arith
+  high-in : (d : ℕ) (v : S.Node) → NodeFits place d v → high-of v ≤ getD high-limits kind 0
+  high-in d (S.fits h) i = rw (alone (h .kind) (i .stands)) at (i .high)
+  high-in d S.wrong-kind i = omega arith
+  high-in d S.wrong-operand i = omega arith
 
-pub low-most : (k w : List ℕ) (a p : ℕ) → low-at k w a p ≤ getD low-limits a 0
-unfolding low-at
-low-most k w a p = low-in a (node-at k w a a p) (node-within k w a a p)
+  low-most : low-at k w place p ≤ getD low-limits kind 0
+  unfolding low-at
+  low-most = low-in (getD k p 255) (node-at k w place p) (node-fits k w place p)
 
-pub high-most : (k w : List ℕ) (a p : ℕ) → high-at k w a p ≤ getD high-limits a 0
-unfolding high-at
-high-most k w a p = high-in a (node-at k w a a p) (node-within k w a a p)
+  high-most : high-at k w place p ≤ getD high-limits kind 0
+  unfolding high-at
+  high-most = high-in (getD k p 255) (node-at k w place p) (node-fits k w place p)
+
+-- a function has at most 8 parameters, and depths are at most 4
+module _ (k w : List ℕ) (p : ℕ) where
+  pub count-most : low-at k w at-function p ≤ 8
+  count-most = low-most k w at-function 0 (λ d e. eqb-true d 0 e) p
+
+  pub result-most : high-at k w at-function p ≤ 4
+  result-most = high-most k w at-function 0 (λ d e. eqb-true d 0 e) p
+
+  pub depth-most : high-at k w at-parameter p ≤ 4
+  depth-most = high-most k w at-parameter 1 (λ d e. eqb-true d 1 e) p
 
 module _ (k w : List ℕ) (at : ℕ) where
   abbrev pub Rest : ℕ → ℕ → List Parameter
@@ -63,11 +71,11 @@ module _ (k w : List ℕ) (at : ℕ) where
   rest-none m = ap (parameters-at k w (at + m)) (let e : m - m ≡ 0 = omega arith in e)
 
   pub rest-more : (i m : ℕ) → 0 < i → i ≤ m →
-      Rest (i - 1) m ≡ record { id = low-at k w 1 (at + (i - 1)); depth = high-at k w 1 (at + (i - 1)) } ∷ Rest i m
+      Rest (i - 1) m ≡ record { id = low-at k w at-parameter (at + (i - 1)); depth = high-at k w at-parameter (at + (i - 1)) } ∷ Rest i m
   unfolding parameters-at
   rest-more i m g h =
       ap (parameters-at k w (at + (i - 1))) (let e : m - (i - 1) ≡ suc (m - i) = omega arith in e)
-      ∙ ap (λ (j : ℕ). record { id = low-at k w 1 (at + (i - 1)); depth = high-at k w 1 (at + (i - 1)) } ∷
+      ∙ ap (λ (j : ℕ). record { id = low-at k w at-parameter (at + (i - 1)); depth = high-at k w at-parameter (at + (i - 1)) } ∷
       parameters-at k w j (m - i))
       (let e : at + (i - 1) + 1 ≡ at + i = omega arith in e)
 
@@ -92,8 +100,8 @@ module _ (k w : List ℕ) (at : ℕ) where
     long = (refl, refl);
   })
 
-  pub bind-go : (i m x d : ℕ) {ps ds : List ℕ} → 0 < i → i ≤ m → m ≤ 8 → x < 256 → x ≡ low-at k w 1 (at + (i - 1)) →
-      d ≡ high-at k w 1 (at + (i - 1)) →
+  pub bind-go : (i m x d : ℕ) {ps ds : List ℕ} → 0 < i → i ≤ m → m ≤ 8 → x < 256 → x ≡ low-at k w at-parameter (at + (i - 1)) →
+      d ≡ high-at k w at-parameter (at + (i - 1)) →
       Binds w (Rest i m) i (record { places = ps; depths = ds }) →
       Binds w (Rest (i - 1) m) (i - 1) (record { places = set ps x (i - 1); depths = set ds (i - 1) d })
   unfolding parameter-names parameter-depths-from
@@ -106,7 +114,7 @@ module _ (k w : List ℕ) (at : ℕ) where
         deep = depth-set ds (i - 1) d (omega (arith, B .long .1))
             ∙ rw (B .deep, ← f) (ap (λ (j : ℕ). updated (parameter-depths-from (Rest i m) j) (i - 1) d) z);
         low = low-set 0 (i - 1) d (B .low) (record { is = refl }) (omega (arith, B .long .1)) (omega arith)
-            (omega (arith, f, high-most k w 1 (at + (i - 1))));
+            (omega (arith, f, depth-most k w (at + (i - 1))));
         long = (length-set ps x (i - 1) ∙ B .long .0, length-set ds (i - 1) d ∙ B .long .1);
       })
 
@@ -123,7 +131,7 @@ module _ (k w : List ℕ) (at : ℕ) where
   unfolding parameter-rows
   rows-begin m = wrote-as (sym (ap (λ (l : List Parameter). parameter-rows l m) (rest-none m))) wrote-none
 
-  pub rows-go : (i m d : ℕ) → 0 < i → i ≤ m → d ≡ high-at k w 1 (at + (i - 1)) →
+  pub rows-go : (i m d : ℕ) → 0 < i → i ≤ m → d ≡ high-at k w at-parameter (at + (i - 1)) →
       {ks ks₁ ks₂ : List ℕ} {os os₁ os₂ : List ℤ} {v v₁ v₂ : ℕ} → Wrote ks os ks₁ os₁ v v₁ (parameter-rows
       (Rest i m) i) →
       Wrote ks₁ os₁ ks₂ os₂ v₁ v₂ (row 1 (i - 1 + 256 * d) ∷ []) → Wrote ks os ks₂ os₂ v v₂ (parameter-rows
@@ -132,7 +140,7 @@ module _ (k w : List ℕ) (at : ℕ) where
   rows-go i m d g h e x y =
       wrote-as
       (rw (e) (sym (ap (λ (l : List Parameter). parameter-rows l (i - 1)) (rest-more i m g h)
-      ∙ ap (λ (j : ℕ). row 1 (i - 1 + 256 * high-at k w 1 (at + (i - 1))) ∷ parameter-rows (Rest i m) j)
+      ∙ ap (λ (j : ℕ). row 1 (i - 1 + 256 * high-at k w at-parameter (at + (i - 1))) ∷ parameter-rows (Rest i m) j)
       (let z : suc (i - 1) ≡ i = omega arith in z))))
       (wrote-then x y)
 

@@ -1,8 +1,7 @@
 -- The plain code of a tree takes less than three rows for each node.
-use Prim.Native.Nat.{ℕ, zero, suc, _+_, _*_, _≤_}
+use Prim.Native.Nat.{_+_, _*_, _≤_}
 use native.Mathlib.Omega.{arith}
-use Rattle.semantics.specs.Syntax.{Expr, number, name, operation, let-in, call, literal, index, length-of, if-else}
-use Rattle.semantics.specs.Syntax.{map-over, Exprs, none, more, size, sizes}
+use Rattle.semantics.specs.Syntax.{Expr, number, name, let-in, leaf, if-else, loop, Exprs, none, more, size, sizes}
 use Rattle.normal_made.specs.Source.{laid-rows, laid-all}
 
 mutual
@@ -11,14 +10,10 @@ mutual
   pub few-rows : (e : Expr) → laid-rows e + 2 ≤ 3 * size e
   few-rows (number z) = omega arith
   few-rows (name x) = omega arith
-  few-rows (operation o a b) = omega (arith, few-rows a, few-rows b)
   few-rows (let-in x a b) = omega (arith, few-rows a, few-rows b)
-  few-rows (call f es) = omega (arith, few-all es)
-  few-rows (literal d es) = omega (arith, few-all es)
-  few-rows (index a b) = omega (arith, few-rows a, few-rows b)
-  few-rows (length-of a) = omega (arith, few-rows a)
+  few-rows (leaf l es) = omega (arith, few-all es)
   few-rows (if-else a b c) = omega (arith, few-rows a, few-rows b, few-rows c)
-  few-rows (map-over x a b) = omega (arith, few-rows a, few-rows b)
+  few-rows (loop k xs es b) = omega (arith, few-all es, few-rows b)
 
   few-all : (es : Exprs) → laid-all es ≤ 3 * sizes es
   few-all none = omega arith

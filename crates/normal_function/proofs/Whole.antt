@@ -1,41 +1,36 @@
 -- The code of one function: all its parts together.
-use mathlib.Core.Path.{_≡_, refl, sym, ap, _∙_, subst}
-use mathlib.Core.Bool.{Bool}
-use mathlib.Core.List.{List, [], _∷_, _++_, append-assoc}
-use Prim.Native.Nat.{ℕ, zero, suc, _+_, _-_, _*_, _<_, _≤_}
+use mathlib.Core.Path.{_≡_, refl, sym, ap, _∙_}
+use mathlib.Core.List.{List, [], _∷_, _++_}
+use Prim.Native.Nat.{ℕ, _+_, _-_, _*_, _≤_}
 use native.Mathlib.Omega.{arith}
 use lib.IntN.{ℤ}
 use lib.Dec.{ltb}
-use lib.ListN.{length, getD, replicate}
+use lib.ListN.{length, getD}
 use Rattle.semantics.specs.Syntax.{Expr, Parameter, Function, size}
+use Rattle.semantics.specs.File.{at-function}
 use Rattle.semantics.specs.Code.{Tree, Row, row, rows, release-all}
-use Rattle.semantics.specs.Normal.{Meanings, fresh, parameter-names, normal, normal-body}
+use Rattle.semantics.specs.Normal.{parameter-names, normal, normal-body}
 use Rattle.semantics.specs.Live.{Set, empty, uses}
-use Rattle.semantics.specs.Annotate.{NameDepths, parameter-depths-from, parameter-rows, tree-depths, dying, annotate}
-use Rattle.script_read.specs.Told.{Parts, low-at, high-at}
-use Rattle.normal_code.specs.Plain.{Plain, plain, set-of, note, tree-to}
+use Rattle.semantics.specs.Annotate.{NameDepths, parameter-rows, tree-depths, dying, annotate}
+use Rattle.script_read.specs.Told.{low-at, high-at}
+use Rattle.normal_code.specs.Plain.{Plain, plain, set-of, tree-to}
 use Rattle.normal_uses.specs.Table.{Sets, sets-of}
-use Rattle.normal_uses.specs.Noted.{noted, TreeNoted}
+use Rattle.normal_uses.specs.Noted.{TreeNoted}
 use Rattle.normal_uses.specs.declared.Effect.{Effect}
 use Rattle.normal_write.specs.Wrote.{Wrote}
 use Rattle.normal_write.specs.Parts.{depth-in, release-rows}
 use Rattle.normal_write.proofs.Rows.{wrote-then, wrote-as}
 use Rattle.normal_walk.specs.Walk.{lives, walked, Done}
 use Rattle.normal_walk.specs.declared.Walked.{Walked}
-use Rattle.normal_walk.proofs.Annotated.{Right, lives-right, walked-right}
+use Rattle.normal_walk.proofs.Annotated.{Right, lives-right, rows-releases, walked-right}
 use Rattle.normal_walk.proofs.Right.{right-normal}
 use Rattle.normal_lay.specs.Laid.{meanings}
 use Rattle.normal_made.specs.Source.{tree-at, laid-rows}
-use Rattle.normal_made.specs.Made.{State, state, Sized, Low, Given, Ready, TreeMade, Agrees}
+use Rattle.normal_made.specs.Made.{state, Given, Ready, TreeMade}
 use Rattle.normal_made.specs.declared.Out.{Out}
 use Rattle.normal_function.specs.Read.{parameters-at, read-function, depths-by, rows-by, Binds, Fitting}
 use Rattle.normal_function.specs.declared.Bound.{Bound}
 use Rattle.normal_function.proofs.Parameters.{length-parameters}
-
-rows-releases : (xs : List ℕ) (t : Tree) → rows (release-all xs t) ≡ release-rows xs ++ rows t
-unfolding rows
-rows-releases [] t = refl
-rows-releases (x ∷ xs) t = ap (λ (l : List Row). row 15 x ∷ l) (rows-releases xs t)
 
 -- the rows of the parts are those of the function
 code-rows : (R : ℕ → ℕ) (g : Function) (Γ : NameDepths) (T : Tree) (U : Sets) (L S used : Set) (xs : List Parameter)
@@ -80,30 +75,30 @@ code-rows R g Γ T U L S used xs c res hΓ hT hL hS hu hx hc hr right =
         ∙ sym (rows-releases (dying (depths-by R g) (λ x. ltb x c) (uses (normal-body g))) (annotate (depths-by R g)
         (normal-body g) empty))
 
-parameters-there : (k w : List ℕ) (at : ℕ) → parameters-at k w (at + 1) (low-at k w 0 at) ≡ read-function k w at
+parameters-there : (k w : List ℕ) (at : ℕ) → parameters-at k w (at + 1) (low-at k w at-function at) ≡ read-function k w at
     .parameters
 unfolding read-function
 parameters-there k w at = refl
 
-result-there : (k w : List ℕ) (at : ℕ) → high-at k w 0 at ≡ read-function k w at .result
+result-there : (k w : List ℕ) (at : ℕ) → high-at k w at-function at ≡ read-function k w at .result
 unfolding read-function
 result-there k w at = refl
 
 module _ (k w results : List ℕ) (at : ℕ) (fit : Fitting k w results at) where
   abbrev Count : ℕ
-  Count = low-at k w 0 at
+  Count = low-at k w at-function at
 
   abbrev Body : Expr
-  Body = tree-at k w 64 (at + 1 + low-at k w 0 at)
+  Body = tree-at k w 64 (at + 1 + low-at k w at-function at)
 
-  body-is : read-function k w at .body ≡ tree-at k w 64 (at + 1 + low-at k w 0 at)
+  body-is : read-function k w at .body ≡ tree-at k w 64 (at + 1 + low-at k w at-function at)
   unfolding read-function
   body-is = refl
 
   pub given : {ps : List ℕ} → length ps ≡ 256 → Given k w results ps
   given h = record { parts = fit .parts; low = fit .low; long = h }
 
-  pub ready : {r : Bound} {xs : List Parameter} (c : ℕ) → c ≡ low-at k w 0 at → Binds w xs 0 r → {rs ns : List ℕ} →
+  pub ready : {r : Bound} {xs : List Parameter} (c : ℕ) → c ≡ low-at k w at-function at → Binds w xs 0 r → {rs ns : List ℕ} →
       length rs ≡ 4097 → length ns ≡ 4097 →
       Ready (state rs ns (r .depths)) (tree-at k w 64 (at + 1 + c)) (at + 1 + c + size (tree-at k w 64
       (at + 1 + c))) c 0
@@ -114,11 +109,11 @@ module _ (k w results : List ℕ) (at : ℕ) (fit : Fitting k w results at) wher
     below = omega arith;
     nodes = rw body-is at (fit .nodes);
     names = rw body-is at (fit .names);
-    rows = let z : laid-rows (tree-at k w 64 (at + 1 + low-at k w 0 at)) ≤ 4058 = rw body-is at (fit .rows) in omega
+    rows = let z : laid-rows (tree-at k w 64 (at + 1 + low-at k w at-function at)) ≤ 4058 = rw body-is at (fit .rows) in omega
         arith;
   })
 
-  module _ {r : Bound} {rs ns rs₁ ns₁ ds₁ : List ℕ} {o : Out} (c : ℕ) (ce : c ≡ low-at k w 0 at)
+  module _ {r : Bound} {rs ns rs₁ ns₁ ds₁ : List ℕ} {o : Out} (c : ℕ) (ce : c ≡ low-at k w at-function at)
       (B : Binds w (parameters-at k w (at + 1) c) 0 r)
       (M₀ : TreeMade w (λ f. getD results f 0) (tree-at k w 64 (at + 1 + c)) (meanings w (r .places))
       (state rs ns (r .depths)) (state rs₁ ns₁ ds₁) c 0 64
@@ -135,7 +130,7 @@ module _ (k w results : List ℕ) (at : ℕ) (fit : Fitting k w results at) wher
     M = rw (B .means) at M₀
 
     pub end-near : (e : ℕ) → e ≡ o .p - 2 → e ≤ 4096
-    end-near e h = let z : laid-rows (tree-at k w 64 (at + 1 + low-at k w 0 at)) ≤ 4058 = rw body-is at (fit .rows)
+    end-near e h = let z : laid-rows (tree-at k w 64 (at + 1 + low-at k w at-function at)) ≤ 4058 = rw body-is at (fit .rows)
         in omega (arith, M .reach, rw (← ce) at z)
 
     normal-is : normal (tree-at k w 64 (at + 1 + c)) (parameter-names (parameters-at k w (at + 1) c) 0) c ≡
@@ -159,7 +154,7 @@ module _ (k w results : List ℕ) (at : ℕ) (fit : Fitting k w results at) wher
         ∙ ap (λ (t : Tree). tree-depths (λ f. getD results f 0) t (depth-in (r .depths))) normal-is
         ∙ ap (tree-depths (λ f. getD results f 0) (normal-body (read-function k w at))) (B .deep ∙ rw ce)
 
-    pub next-is : o .next ≡ at + 1 + low-at k w 0 at + size (here .body)
+    pub next-is : o .next ≡ at + 1 + low-at k w at-function at + size (here .body)
     unfolding read-function
     next-is = M .next ∙ rw ce
 
@@ -178,7 +173,7 @@ module _ (k w results : List ℕ) (at : ℕ) (fit : Fitting k w results at) wher
           (tree-to (plain w rs₁ ns₁) 65 e) L) K O K₁ O₁ z wk →
           used ≡ (λ x. ltb x c) →
           Wrote K₁ O₁ K₂ O₂ (wk .at) w₁ (release-rows (dying (depth-in ds₁) used (set-of (wk .names)))) →
-          Wrote K₂ O₂ K₃ O₃ w₁ w₂ (parameter-rows (parameters-at k w (at + 1) c) 0) → res ≡ high-at k w 0 at →
+          Wrote K₂ O₂ K₃ O₃ w₁ w₂ (parameter-rows (parameters-at k w (at + 1) c) 0) → res ≡ high-at k w at-function at →
           Wrote K₃ O₃ K₄ O₄ w₂ w₃ (row 0 (c + 256 * res) ∷ []) →
           Wrote K O K₄ O₄ z w₃ (rows-by (λ f. getD results f 0) (read-function k w at))
       code-wrote {wk = wk} res used L le D ue y₁ y₂ re y₃ =
@@ -192,5 +187,5 @@ module _ (k w results : List ℕ) (at : ℕ) (fit : Fitting k w results at) wher
           params-is : parameters-at k w (at + 1) c ≡ read-function k w at .parameters
           params-is = ap (parameters-at k w (at + 1)) ce ∙ parameters-there k w at
 
-          result-is : high-at k w 0 at ≡ read-function k w at .result
+          result-is : high-at k w at-function at ≡ read-function k w at .result
           result-is = result-there k w at

@@ -1,9 +1,10 @@
 -- The function that stands at a node of an accepted file, and the code of one function.
 use mathlib.Core.Path.{_≡_}
 use mathlib.Core.List.{List, [], _∷_, _++_}
-use Prim.Native.Nat.{ℕ, zero, suc, _+_, _*_, _<_, _≤_}
+use Prim.Native.Nat.{ℕ, zero, suc, _+_, _*_, _≤_}
 use lib.ListN.{length, getD}
 use Rattle.semantics.specs.Syntax.{Parameter, Function, size}
+use Rattle.semantics.specs.File.{at-function, at-parameter}
 use Rattle.semantics.specs.Code.{Row, row, rows, release-all}
 use Rattle.semantics.specs.Normal.{fresh, parameter-names, normal-body}
 use Rattle.semantics.specs.Live.{empty, uses}
@@ -21,14 +22,14 @@ module _ (kinds operands : List ℕ) where
   unfoldable pub parameters-at : ℕ → ℕ → List Parameter
   parameters-at p zero = []
   parameters-at p (suc n) =
-      record { id = low-at kinds operands 1 p; depth = high-at kinds operands 1 p } ∷ parameters-at (p + 1) n
+      record { id = low-at kinds operands at-parameter p; depth = high-at kinds operands at-parameter p } ∷ parameters-at (p + 1) n
 
   -- the function at node p
   unfoldable pub read-function : ℕ → Function
   read-function p = record {
-    parameters = parameters-at (p + 1) (low-at kinds operands 0 p);
-    result = high-at kinds operands 0 p;
-    body = tree-at kinds operands 64 (p + 1 + low-at kinds operands 0 p);
+    parameters = parameters-at (p + 1) (low-at kinds operands at-function p);
+    result = high-at kinds operands at-function p;
+    body = tree-at kinds operands 64 (p + 1 + low-at kinds operands at-function p);
   }
 
 -- the depths of a function's names, over the results of the script's functions
@@ -55,7 +56,7 @@ pub record Binds (operands : List ℕ) (xs : List Parameter) (i : ℕ) (r : Boun
 pub record Fitting (kinds operands results : List ℕ) (p : ℕ) : Type 0 where
   pub parts : Parts kinds operands
   pub low : (f : ℕ) → getD results f 0 ≤ 4
-  pub few : low-at kinds operands 0 p ≤ 8
-  pub names : low-at kinds operands 0 p + fresh (read-function kinds operands p .body) ≤ 256
-  pub nodes : p + 1 + low-at kinds operands 0 p + size (read-function kinds operands p .body) ≤ 1024
+  pub few : low-at kinds operands at-function p ≤ 8
+  pub names : low-at kinds operands at-function p + fresh (read-function kinds operands p .body) ≤ 256
+  pub nodes : p + 1 + low-at kinds operands at-function p + size (read-function kinds operands p .body) ≤ 1024
   pub rows : laid-rows (read-function kinds operands p .body) ≤ 4058

@@ -1,12 +1,13 @@
 // The code of one function: its parameters, the plain code of its body, and the annotation.
+use script_read::Place;
 ghost use mathlib.Core.Path.{_≡_};
-ghost use mathlib.Core.List.{[], _∷_};
 ghost use Prim.Native.Nat.{_+_, _*_, _<_, _≤_};
 ghost use lib.Dec.{ltb};
-ghost use lib.ListN.{length, getD};
+ghost use lib.ListN.{getD};
 ghost use Rattle.semantics.specs.Syntax.{size};
+ghost use Rattle.semantics.specs.File.{at-function};
 ghost use Rattle.semantics.specs.Annotate.{parameter-rows};
-ghost use Rattle.script_read.specs.Told.{Parts, low-at, high-at};
+ghost use Rattle.script_read.specs.Told.{Parts, low-at};
 ghost use Rattle.normal_code.specs.Plain.{set-of};
 ghost use Rattle.normal_write.specs.Wrote.{Wrote};
 ghost use Rattle.normal_write.specs.Parts.{depth-in};
@@ -35,8 +36,8 @@ fn bind_parameters(kinds: &[u8], operands: &[u8], at: usize, count: u8) -> Bound
     let mut i = count as usize;
     while 0 < i {
         i = i - 1;
-        let x = script_read::low_at(kinds, operands, at + i, 1);
-        let d = script_read::high_at(kinds, operands, at + i, 1);
+        let x = script_read::low_at(kinds, operands, at + i, Place::Parameter);
+        let d = script_read::high_at(kinds, operands, at + i, Place::Parameter);
         places[x as usize] = i as u16;
         depths[i] = d;
     }
@@ -75,7 +76,7 @@ fn put_parameters(
     let mut i = count as usize;
     while 0 < i {
         i = i - 1;
-        let d = script_read::high_at(kinds, operands, at + i, 1);
+        let d = script_read::high_at(kinds, operands, at + i, Place::Parameter);
         let n = normal_write::put_row(ks, os, v, 1, i as u32 + 256 * (d as u32));
         v = n;
     }
@@ -96,13 +97,13 @@ pub fn function_code(
     ensures { λ r. ⌜ Wrote (now (ks .entry)) (now (os .entry)) (now (ks .exit)) (now (os .exit)) w (r .place)
         (rows-by (λ f. getD (now (results .entry)) f 0)
         (read-function (now (kinds .entry)) (now (operands .entry)) at)) ⌝ }
-    ensures { λ r. ⌜ r .next ≡ at + 1 + low-at (now (kinds .entry)) (now (operands .entry)) 0 at
+    ensures { λ r. ⌜ r .next ≡ at + 1 + low-at (now (kinds .entry)) (now (operands .entry)) at-function at
         + size (read-function (now (kinds .entry)) (now (operands .entry)) at .body) ⌝ }
     ensures { λ r. ⌜ depth-in (r .depths) ≡ depths-by (λ f. getD (now (results .entry)) f 0)
         (read-function (now (kinds .entry)) (now (operands .entry)) at) ⌝ }
 {
-    let count = script_read::low_at(kinds, operands, at, 0);
-    let result = script_read::high_at(kinds, operands, at, 0);
+    let count = script_read::low_at(kinds, operands, at, Place::Function);
+    let result = script_read::high_at(kinds, operands, at, Place::Function);
     let bound = bind_parameters(kinds, operands, at + 1, count);
     let places = bound.places;
     let mut depths = bound.depths;

@@ -2,7 +2,7 @@
 ghost use mathlib.Core.Path.{_≡_};
 ghost use mathlib.Core.List.{[], _∷_};
 ghost use Prim.Native.Nat.{pred, _+_, _*_, _<_, _≤_};
-ghost use lib.ListN.{length, getD, set};
+ghost use lib.ListN.{getD, set};
 ghost use Rattle.normal_code.specs.Plain.{packed-row};
 ghost use Rattle.normal_lay.specs.Laid.{laid, place-depth, line-depth, firsts};
 

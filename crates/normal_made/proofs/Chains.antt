@@ -1,17 +1,16 @@
 -- Laws of rows that stay, and of chains of lines that are read back.
 use mathlib.Core.Path.{_≡_, refl, sym, ap, _∙_}
-use mathlib.Core.List.{List, [], _∷_}
-use Prim.Native.Nat.{ℕ, zero, suc, _+_, _-_, _*_, _/_, _%_, _<_, _≤_}
+use mathlib.Core.List.{List}
+use Prim.Native.Nat.{ℕ, suc, _+_, _-_, _*_, _/_, _%_, _<_, _≤_}
 use native.Mathlib.Omega.{arith}
 use native.Mathlib.Decide.{ℕ-discrete, decLt}
 use borrow.Author.Tests.{lt-ltb, le-ltb}
 use lib.ListN.{length, getD, set, length-set}
 use lib.Seq.{getD-set-same, getD-set-other}
 use Rattle.semantics.specs.Code as C
-use Rattle.semantics.specs.Code.{Tree, end, line}
+use Rattle.semantics.specs.Code.{Tree, line}
 use Rattle.normal_code.specs.Plain.{Plain, placed, packed-row, line-of, line-at, note, start, as-line, back, end-at}
 use Rattle.normal_code.specs.Plain.{tree-to}
-use Rattle.normal_code.specs.declared.Atom.{Atom}
 use Rattle.normal_code.proofs.Trees.{back-goes, back-stops, start-goes, start-stops, tree-some}
 use Rattle.normal_lay.specs.Laid.{laid, place-depth}
 use Rattle.normal_lay.proofs.Laws.{laid-below, laid-at, length-laid}

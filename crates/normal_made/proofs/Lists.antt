@@ -1,154 +1,31 @@
--- Laws of laying a line without trees: its parts, one after the other, and then the line over their atoms.
+-- Laws of laying a leaf: its parts, one after the other, and then the line over their atoms.
 use mathlib.Core.Path.{_≡_, refl, sym, ap, _∙_}
-use mathlib.Core.Bool.{Bool, true, false, cond}
-use mathlib.Core.Logic.{_⊎_, inl, inr, ⊎-elim}
 use mathlib.Core.List.{List, [], _∷_, _++_, append-assoc}
-use Prim.Native.Nat.{ℕ, zero, suc, pred, _+_, _-_, _*_, _<_, _≤_}
+use Prim.Native.Nat.{ℕ, zero, suc, _+_, _-_, _*_, _<_, _≤_}
 use native.Mathlib.Omega.{arith}
 use native.Mathlib.Decide.{ℕ-discrete}
-use lib.IntN.{ℤ, pos}
-use lib.Dec.{eqb}
 use lib.ListN.{length, getD, set, length-set}
 use lib.Seq.{getD-set-same, getD-set-other}
 use borrow.Author.Tests.{ne-eqb}
-use Rattle.semantics.specs.Basics.{updated}
-use Rattle.semantics.specs.Syntax as S
-use Rattle.semantics.specs.Syntax.{Expr, Exprs, size, sizes}
+use Rattle.semantics.specs.Syntax.{Expr, size, sizes}
 use Rattle.semantics.specs.Code as C
-use Rattle.semantics.specs.Code.{Tree, end, line}
+use Rattle.semantics.specs.Code.{Tree, line}
 use Rattle.semantics.specs.Normal.{Meanings, fresh, fresh-all, atom, atoms, lines, all-lines}
-use Rattle.semantics.specs.Annotate.{NameDepths, atom-depth, tree-depths, line-depths}
-use Rattle.normal_code.specs.Plain.{Plain, meant, placed, atoms-at, packed-row, line-of, line-at, operation-of, note}
-use Rattle.normal_code.specs.Plain.{start, as-line, back, tree-to}
+use Rattle.semantics.specs.Annotate.{tree-depths, line-depths}
+use Rattle.normal_code.specs.Plain.{Plain, meant, placed, atoms-at, packed-row, line-at, as-line, tree-to}
 use Rattle.normal_write.specs.Parts.{depth-in}
 use Rattle.normal_write.proofs.Rows.{append-none}
-use Rattle.normal_lay.specs.Laid.{laid, firsts, place-depth, line-depth}
-use Rattle.normal_lay.proofs.Laws.{length-firsts, firsts-at, laid-at}
-use Rattle.normal_made.specs.Source.{several, compound, laid-rows, laid-all}
-use Rattle.normal_made.specs.Made.{State, state, Sized, Low, Agrees, Same, Chains, Counted, Given, Ready, Made}
+use Rattle.normal_lay.specs.Laid.{firsts, place-depth, line-depth}
+use Rattle.normal_lay.proofs.Laws.{length-firsts, firsts-at}
+use Rattle.normal_made.specs.Source.{several, leaf-by, compound, laid-rows, laid-all}
+use Rattle.normal_made.specs.Made.{State, state, Sized, Low, Agrees, Same, Chains, Counted, Ready, Made}
 use Rattle.normal_made.specs.declared.Out.{Out}
 use Rattle.normal_made.proofs.Chains.{same-all, same-less, same-then, same-laid, same-note, agrees-back}
 use Rattle.normal_made.proofs.Chains.{agrees-from, note-set, row-back, line-back, chains-none, chains-then}
 use Rattle.normal_made.proofs.Chains.{chains-more, chains-as, chains-line, LaidAs, SetAs, sized-laid}
 use Rattle.normal_made.proofs.Chains.{sized-note, sized-depth, low-more, low-set, low-place}
-use Rattle.normal_made.proofs.Trees.{out, depth-set, place-atom, name-placed, pred-le}
-
--- ---- the line of a node without trees
-
-abbrev two-line : ℕ → ℕ → List C.Atom → C.Line
-two-line kind x [] = C.retain x
-two-line kind x (a ∷ []) = C.length-of x a
-two-line kind x (a ∷ (b ∷ [])) = cond (eqb kind 10) (C.index x a b) (C.operation x (operation-of kind) a b)
-two-line kind x (a ∷ (b ∷ (c ∷ us))) = C.retain x
-
-abbrev pub compound-line : ℕ → ℕ → ℕ → List C.Atom → C.Line
-compound-line kind y x us = cond (eqb kind 8) (C.call x y us) (cond (eqb kind 9) (C.literal x y us) (two-line kind x
-    us))
-
--- the atoms of some places
-abbrev pub placed-all : List ℕ → List ℕ → List C.Atom
-placed-all w [] = []
-placed-all w (v ∷ vs) = meant (placed w v) ∷ placed-all w vs
-
--- what a node with these parts is
-pub record Shaped (kind y : ℕ) (m : ℕ) (es : Exprs) : Type 0 where
-  pub names : fresh (compound kind y es) ≡ fresh-all es + 1
-  pub rows : laid-rows (compound kind y es) ≡ laid-all es + 1
-  pub gives : (μ : Meanings) (n : ℕ) → atom (compound kind y es) μ n ≡ C.name (n + fresh-all es)
-  pub lays : (μ : Meanings) (n : ℕ) (k : Tree) →
-      lines (compound kind y es) μ n k ≡ all-lines es μ n (line (compound-line kind y (n + fresh-all es)
-      (atoms es μ n)) k)
-  pub reads : (F : Plain) (T : ℕ → Tree) (p q x : ℕ) →
-      as-line F T p q (line-of kind x y m (placed (F .operands) (getD (F .rows) (p + 1) 0)) (placed (F .operands)
-      (getD (F .rows) (p + 2) 0)))
-      ≡ compound-line kind y x (atoms-at (F .operands) (F .rows) (p + 1) m)
-  pub deep : (w rs ds vs : List ℕ) (x : ℕ) →
-      line-depths (λ f. getD rs f 0) (compound-line kind y x (placed-all w (firsts vs 0 m))) (depth-in ds)
-      ≡ updated (depth-in ds) x (line-depth rs ds kind y (getD vs 0 0))
-
-module _ (R : ℕ → Expr) (y at : ℕ) where
-  shape-call : (m : ℕ) → Shaped 8 y m (several R m at)
-  unfolding fresh laid-rows atom lines as-line tree-depths
-  shape-call m = record {
-    names = refl;
-    rows = refl;
-    gives = λ μ n. refl;
-    lays = λ μ n k. refl;
-    reads = λ F T p q x. refl;
-    deep = λ w rs ds vs x. refl;
-  }
-
-  shape-literal : (m : ℕ) → Shaped 9 y m (several R m at)
-  unfolding fresh laid-rows atom lines as-line tree-depths
-  shape-literal m = record {
-    names = refl;
-    rows = refl;
-    gives = λ μ n. refl;
-    lays = λ μ n k. refl;
-    reads = λ F T p q x. refl;
-    deep = λ w rs ds vs x. refl;
-  }
-
-  shape-length : Shaped 11 y 1 (several R 1 at)
-  unfolding several fresh laid-rows atom lines as-line atoms-at tree-depths firsts
-  shape-length = record {
-    names = omega arith;
-    rows = omega arith;
-    gives = λ μ n. ap C.name (let e : n + fresh (R at) ≡ n + (fresh (R at) + 0) = omega arith in e);
-    lays = λ μ n k. ap (λ (x : ℕ). lines (R at) μ n (line (C.length-of x (atom (R at) μ n)) k)) (let e : n + fresh
-        (R at) ≡ n + (fresh (R at) + 0) = omega arith in e);
-    reads = λ F T p q x. refl;
-    deep = λ w rs ds vs x. refl;
-  }
-
-  sum-is : (n : ℕ) → n + fresh (R at) + fresh (R (at + size (R at))) ≡ n + (fresh (R at) +
-      (fresh (R (at + size (R at))) + 0))
-  sum-is n = omega arith
-
-  shape-index : Shaped 10 y 2 (several R 2 at)
-  unfolding several fresh laid-rows atom lines as-line atoms-at tree-depths firsts
-  shape-index = record {
-    names = omega arith;
-    rows = omega arith;
-    gives = λ μ n. ap C.name (sum-is n);
-    lays = λ μ n k.
-        ap (λ (x : ℕ). lines (R at) μ n (lines (R (at + size (R at))) μ (n + fresh (R at))
-        (line (C.index x (atom (R at) μ n) (atom (R (at + size (R at))) μ (n + fresh (R at)))) k))) (sum-is n);
-    reads = λ F T p q x. ap (λ (i : ℕ). C.index x (meant (placed (F .operands) (getD (F .rows) (p + 1) 0)))
-        (meant (placed (F .operands) (getD (F .rows) i 0)))) (let e : p + 2 ≡ p + 1 + 1 = omega arith in e);
-    deep = λ w rs ds vs x. ap (λ (i : ℕ). updated (depth-in ds) x (pred i)) (sym (place-atom w ds (getD vs 0 0)));
-  }
-
-  shape-operation : (kind : ℕ) → kind ≤ 6 → Shaped kind y 2 (several R 2 at)
-  unfolding several fresh laid-rows atom lines as-line atoms-at tree-depths firsts
-  shape-operation kind h =
-      let n₈ : eqb kind 8 ≡ false = ne-eqb kind 8 (λ e. omega arith) in
-      let n₉ : eqb kind 9 ≡ false = ne-eqb kind 9 (λ e. omega arith) in
-      let n₁₀ : eqb kind 10 ≡ false = ne-eqb kind 10 (λ e. omega arith) in
-      let n₁₁ : eqb kind 11 ≡ false = ne-eqb kind 11 (λ e. omega arith) in
-      let n₁₂ : eqb kind 12 ≡ false = ne-eqb kind 12 (λ e. omega arith) in
-      let n₁₃ : eqb kind 13 ≡ false = ne-eqb kind 13 (λ e. omega arith) in
-      record {
-        names = rw (n₈, n₉, n₁₀) (omega arith);
-        rows = rw (n₈, n₉, n₁₀) (omega arith);
-        gives = λ μ n. rw (n₈, n₉, n₁₀) (ap C.name (sum-is n));
-        lays = λ μ n k. rw (n₈, n₉, n₁₀)
-            (ap (λ (x : ℕ). lines (R at) μ n (lines (R (at + size (R at))) μ (n + fresh (R at))
-            (line (C.operation x (operation-of kind) (atom (R at) μ n) (atom (R (at + size (R at))) μ
-            (n + fresh (R at)))) k))) (sum-is n));
-        reads = λ F T p q x. rw (n₈, n₉, n₁₀, n₁₁, n₁₂, n₁₃)
-            (ap (λ (i : ℕ). C.operation x (operation-of kind) (meant (placed (F .operands) (getD (F .rows) (p + 1)
-            0))) (meant (placed (F .operands) (getD (F .rows) i 0)))) (let e : p + 2 ≡ p + 1 + 1 = omega arith
-            in e));
-        deep = λ w rs ds vs x. rw (n₈, n₉, n₁₀);
-      }
-
-  pub shaped : (kind m : ℕ) → Counted kind y m → Shaped kind y m (several R m at)
-  shaped kind m c =
-      ⊎-elim (λ e. rw e (shape-call m))
-      (⊎-elim (λ e. rw e (shape-literal m))
-      (⊎-elim (λ e. rw (e .0, e .1) shape-length)
-      (⊎-elim (λ e. rw (e .0, e .1) shape-index) (λ e. rw (e .1 .1) (shape-operation kind (e .0)))))) (c .plain)
+use Rattle.normal_made.proofs.Trees.{out, depth-set, name-placed, pred-le}
+use Rattle.normal_made.proofs.Leaves.{placed-all, Shaped, shaped}
 
 -- ---- the parts
 
@@ -350,8 +227,8 @@ module _ (results : List ℕ) {w : List ℕ} {R : ℕ → Expr} {m at : ℕ} {μ
     (ve : v ≡ line-depth results d kind y (getD vs 0 0)) (f : SetAs d d₁ x v) (small : (j : ℕ) → getD results j 0 ≤ 4)
     (names : n + fresh (compound kind y (several R m at)) ≤ 256) (room : p + laid-rows (compound kind y
     (several R m at)) ≤ 4060) where
-  S-is : Shaped kind y m (several R m at)
-  S-is = shaped R y at kind m c
+  S-is : Shaped kind y m
+  S-is = shaped y kind m c
 
   i-is : i ≡ m
   i-is = omega (arith, L₀ .within)
@@ -372,10 +249,12 @@ module _ (results : List ℕ) {w : List ℕ} {R : ℕ → Expr} {m at : ℕ} {μ
   q-is = let z = rw none-left at (L₀ .reach) in omega (arith, z)
 
   few : x + 1 ≤ 256
-  few = omega (arith, S-is .names, x-is)
+  unfolding fresh
+  few = omega (arith, x-is)
 
   short : q + 1 + m ≤ 4060
-  short = omega (arith, S-is .rows, q-is)
+  unfolding laid-rows
+  short = omega (arith, q-is)
 
   atoms-is : atoms (several R m at) μ n ≡ placed-all w (firsts vs 0 m)
   unfolding several atom
@@ -394,7 +273,7 @@ module _ (results : List ℕ) {w : List ℕ} {R : ℕ → Expr} {m at : ℕ} {μ
   keep = same-then (same-laid {d₁ = d} q l) (same-note (q + 1 + m) q q q e (omega arith))
 
   the-line : C.Line
-  the-line = compound-line kind y (n + fresh-all (several R m at)) (atoms (several R m at) μ n)
+  the-line = C.leaf (n + fresh-all (several R m at)) (leaf-by kind y) (atoms (several R m at) μ n)
 
   line-there : (F : Plain) → F .operands ≡ w → Agrees (state k₁ nt₁ d₁) F p (q + 1 + m) (q + 1 + m) → (j : ℕ) → d₀ +
       1 ≤ j →
@@ -402,22 +281,16 @@ module _ (results : List ℕ) {w : List ℕ} {R : ℕ → Expr} {m at : ℕ} {μ
   unfolding the-line
   line-there F u g j h =
       ap (as-line F (tree-to F j) q (q + 1 + m))
-      (line-back F q kind x y m (getD (F .rows) (q + 1) 0) (kind-low (c .plain)) (omega (arith, few))
+      (line-back F q kind x y m (getD (F .rows) (q + 1) 0) (S-is .low) (omega (arith, few))
       (omega (arith, c .second)) (omega (arith, c .parts)) (row 0 q (omega arith) (omega (
         arith,
         length-firsts
             vs 0 m,
       ))) refl)
       ∙ S-is .reads F (tree-to F j) q (q + 1 + m) x
-      ∙ rw (u, x-is, atoms-is) (ap (compound-line kind y x) (atoms-placed w (F .rows) (q + 1) vs 0 m
+      ∙ rw (u, x-is, atoms-is) (ap (C.leaf x (leaf-by kind y)) (atoms-placed w (F .rows) (q + 1) vs 0 m
       (λ z b. at-place z b)))
     where
-      kind-low : (kind ≡ 8) ⊎ ((kind ≡ 9) ⊎ (((kind ≡ 11) × (m ≡ 1)) ⊎ (((kind ≡ 10) × (m ≡ 2)) ⊎ ((kind ≤ 6) ×
-          ((4 ≤ kind) × (m ≡ 2)))))) → kind < 256
-      kind-low z =
-          ⊎-elim (λ b. omega arith) (⊎-elim (λ b. omega arith) (⊎-elim (λ b. omega (arith, b .0))
-          (⊎-elim (λ b. omega (arith, b .0)) (λ b. omega (arith, b .0))))) z
-
       row : (s t : ℕ) → t ≡ q + s → s < suc (length (firsts vs 0 m)) → getD (F .rows) t 0 ≡ getD (packed-row kind x
           y m ∷ firsts vs 0 m) s 0
       row s t b o =
@@ -429,50 +302,41 @@ module _ (results : List ℕ) {w : List ℕ} {R : ℕ → Expr} {m at : ℕ} {μ
           row (suc z) (q + 1 + z) (omega arith) (omega (arith, length-firsts vs 0 m)) ∙ firsts-at vs 0 m z b
 
   line-deep : line-depths (λ f. getD results f 0) the-line (depth-in d) ≡ depth-in d₁
-  unfolding the-line
-  line-deep = first ∙ second
-    where
-      first : line-depths (λ f. getD results f 0) (compound-line kind y (n + fresh-all (several R m at))
-          (atoms (several R m at) μ n)) (depth-in d)
-          ≡ updated (depth-in d) x (line-depth results d kind y (getD vs 0 0))
-      first = rw (x-is, atoms-is) (S-is .deep w results d vs x)
-
-      second : updated (depth-in d) x (line-depth results d kind y (getD vs 0 0)) ≡ depth-in d₁
-      second = rw (← ve) (sym (ap depth-in (f .is) ∙ depth-set d x v (omega (arith, L₀ .sized .depths, few))))
+  unfolding the-line tree-depths
+  line-deep =
+      rw (x-is, atoms-is, S-is .deep w results d vs, ← ve)
+      (sym (ap depth-in (f .is) ∙ depth-set d x v (omega (arith, L₀ .sized .depths, few))))
 
   pub made-compound : Made w (λ f. getD results f 0) (compound kind y (several R m at)) μ X (state k₁ nt₁ d₁) n p
       (d₀ + 1) (at + sizes (several R m at)) (out x a (x + 1) (q + 1 + m))
-  unfolding the-line tree-depths
+  unfolding fresh laid-rows atom lines the-line tree-depths
   made-compound = record {
     next = sym node-is;
-    count = omega (arith, S-is .names, x-is);
-    reach = omega (arith, S-is .rows, q-is);
+    count = omega (arith, x-is);
+    reach = omega (arith, q-is);
     sized = sized-depth (sized-note (sized-laid (L₀ .sized) l) e) f;
     low = λ j s.
         let t = L₀ .low j s in
-        low-set (j + fresh (compound kind y (several R m at))) x v t f (omega (arith, L₀ .sized .depths, few))
-        (omega (arith, S-is .names, x-is, L₀ .taken-is))
+        low-set (j + (fresh-all (several R m at) + 1)) x v t f (omega (arith, L₀ .sized .depths, few))
+        (omega (arith, x-is, L₀ .taken-is))
         (omega (
           arith,
           ve,
           depth-low results d kind y (getD vs 0 0) (j + L₀ .taken) t small (c .depth),
-          S-is .names,
           x-is,
           L₀ .taken-is,
         ));
-    gives = name-placed w x (omega (arith, few)) ∙ ap C.name (sym x-is) ∙ sym (S-is .gives μ n);
+    gives = name-placed w x (omega (arith, few)) ∙ ap C.name (sym x-is);
     same = same-then (L₀ .same) (same-less p p keep (L₀ .on) (L₀ .on));
     width = L₀ .width + 1;
     thin = omega (arith, L₀ .thin);
     chains = λ F u g.
         chains-as (λ t. lines (compound kind y (several R m at)) μ n t)
-        (λ t. sym (S-is .lays μ n t ∙ whole-is (line the-line t)))
+        (λ t. sym (whole-is (line the-line t)))
         (chains-then
         (chains-more (d₀ + 1) (omega arith) (L₀ .chains F u (agrees-back q q g keep (omega arith) (omega arith))))
         (chains-line the-line (g .notes (q + 1 + m) (omega (arith, L₀ .on)) (omega arith) ∙ note-set nt nt₁
         (q + 1 + m) q e (omega (arith, L₀ .sized .notes, short))) (omega arith) (line-there F u g)));
     depths = λ t.
-        ap (λ (z : Tree). tree-depths (λ f. getD results f 0) z (depth-in (X .depths))) (S-is .lays μ n t)
-        ∙ depths-is (line the-line t)
-        ∙ ap (tree-depths (λ f. getD results f 0) t) line-deep;
+        depths-is (line the-line t) ∙ ap (tree-depths (λ f. getD results f 0) t) line-deep;
   }

@@ -1,31 +1,29 @@
 -- Laws of the descent, one for each of its functions: the room for each part, and what is made of all of them.
 use mathlib.Core.Path.{_≡_, refl, sym, ap, _∙_, fun-ext}
-use mathlib.Core.Bool.{Bool, cond}
+use mathlib.Core.Bool.{cond}
 use mathlib.Core.List.{List, [], _∷_}
-use Prim.Native.Nat.{ℕ, zero, suc, pred, _+_, _-_, _*_, _<_, _≤_}
+use Prim.Native.Nat.{ℕ, pred, _+_, _-_, _<_, _≤_}
 use native.Mathlib.Omega.{arith}
 use native.Mathlib.Decide.{ℕ-discrete}
-use lib.IntN.{ℤ, pos}
+use lib.IntN.{ℤ}
 use lib.Dec.{eqb}
 use lib.ListN.{length, getD, set, length-set}
 use lib.Seq.{getD-set-same, getD-set-other}
 use borrow.Author.Tests.{eq-eqb, ne-eqb}
 use Rattle.semantics.specs.Basics.{updated}
 use Rattle.semantics.specs.Syntax as S
-use Rattle.semantics.specs.Syntax.{Expr, Exprs, size, sizes}
+use Rattle.semantics.specs.Syntax.{Expr, size, sizes}
 use Rattle.semantics.specs.Code as C
-use Rattle.semantics.specs.Normal.{Meanings, fresh, fresh-all}
+use Rattle.semantics.specs.Normal.{Meanings, fresh}
 use Rattle.normal_code.specs.Plain.{meant, placed, packed-row}
 use Rattle.normal_lay.specs.Laid.{laid, firsts, nowhere, meanings, place-depth, line-depth}
-use Rattle.normal_made.specs.Source.{several, compound, let-from, if-from, map-from, laid-rows, laid-all}
+use Rattle.normal_made.specs.Source.{several, compound, let-from, if-from, map-from, laid-rows}
 use Rattle.normal_made.specs.Made.{State, state, Sized, Low, Given, Ready, Counted, Made, TreeMade}
 use Rattle.normal_made.specs.declared.Out.{Out}
-use Rattle.normal_made.proofs.Chains.{LaidAs, SetAs, sized-laid, sized-note, sized-depth, low-more, low-set}
-use Rattle.normal_made.proofs.Chains.{low-place}
-use Rattle.normal_made.proofs.Trees.{out, made-number, made-name, made-let, tree-made, made-if, made-map}
-use Rattle.normal_made.proofs.Trees.{name-placed, pred-le}
-use Rattle.normal_made.proofs.Lists.{Shaped, shaped, Listing, listing-begins, listing-ready, listing-goes}
-use Rattle.normal_made.proofs.Lists.{made-compound}
+use Rattle.normal_made.proofs.Chains.{LaidAs, SetAs, sized-laid, sized-note, sized-depth, low-set, low-place}
+use Rattle.normal_made.proofs.Trees.{out, made-number, made-name, made-let, name-placed, pred-le}
+use Rattle.normal_made.proofs.Nested.{made-if, made-map}
+use Rattle.normal_made.proofs.Lists.{Listing, listing-ready, made-compound}
 
 -- ---- the meanings of names
 
@@ -89,14 +87,10 @@ pub one-node : (e : Expr) → 1 ≤ size e
 unfolding size
 one-node (S.number z) = omega arith
 one-node (S.name x) = omega arith
-one-node (S.operation o a b) = omega arith
 one-node (S.let-in x a b) = omega arith
-one-node (S.call f es) = omega arith
-one-node (S.literal d es) = omega arith
-one-node (S.index a b) = omega arith
-one-node (S.length-of a) = omega arith
+one-node (S.leaf l es) = omega arith
 one-node (S.if-else a b c) = omega arith
-one-node (S.map-over x a b) = omega arith
+one-node (S.loop k xs es b) = omega arith
 
 module _ (w : List ℕ) (res : ℕ → ℕ) (R : ℕ → Expr) where
   -- ---- a let
@@ -310,15 +304,13 @@ module _ (w results : List ℕ) (R : ℕ → Expr) where
 
   module _ (at d : ℕ) (ps : List ℕ) {kind y m n p : ℕ} {X : State} (c : Counted kind y m)
       (r : Ready X (compound kind y (several R m at)) (at + sizes (several R m at)) n p) where
-    shape : Shaped kind y m (several R m at)
-    shape = shaped R y at kind m c
-
     pub part-ready : {Y : State} {vs : List ℕ} {i a x q : ℕ} → Listing w Res R m at (meanings w ps) X Y n p d vs i a
         x q → i < m →
         Ready Y (R a) (a + size (R a)) x q
+    unfolding fresh laid-rows
     part-ready L h =
-        listing-ready L h (r .credit) (r .low) (r .below) (r .nodes) (omega (arith, shape .names, r .names))
-        (omega (arith, shape .rows, r .rows))
+        listing-ready L h (r .credit) (r .low) (r .below) (r .nodes) (omega (arith, r .names))
+        (omega (arith, r .rows))
 
     -- after the last part
     pub end-ready : {Y : State} {vs : List ℕ} {i a x q : ℕ} → Listing w Res R m at (meanings w ps) X Y n p d vs i a
@@ -328,7 +320,7 @@ module _ (w results : List ℕ) (R : ℕ → Expr) where
         let z : m - i ≡ 0 = omega arith in
         let u = rw z at (L .count) in
         let v = rw z at (L .reach) in
-        (omega (arith, u, shape .names, r .names), omega (arith, v, L .within, shape .rows, r .rows))
+        (omega (arith, u, r .names), omega (arith, v, L .within, r .rows))
 
     pub compound-laid : {k k₁ nt nt₁ ds ds₁ vs : List ℕ} {i a x q q′ v : ℕ} → Listing w Res R m at (meanings w ps) X
         (state k nt ds) n p d vs i a x q → m ≤ i →

@@ -1,382 +1,249 @@
--- Laws of the tree at a node: one for each kind.
-use mathlib.Core.Path.{_≡_, refl, sym, ap, _∙_, subst}
-use mathlib.Core.Bool.{Bool, true, false, cond}
+-- Laws of the tree at a node: one for each kind of node that the code tells apart.
+use mathlib.Core.Path.{_≡_, refl, sym, ap, _∙_}
 use mathlib.Core.Logic.{_⊎_, inl, inr, ⊎-elim}
 use mathlib.Core.List.{List, [], _∷_}
-use Prim.Native.Nat.{ℕ, zero, suc, _+_, _-_, _*_, _/_, _%_, _<_, _≤_}
+use Prim.Native.Nat.{ℕ, zero, suc, _+_, _-_, _*_, _<_, _≤_}
 use native.Mathlib.Omega.{arith}
-use native.Mathlib.Decide.{ℕ-discrete, decLt}
-use lib.IntN.{ℤ, pos, negsuc}
-use lib.Dec.{eqb, ltb, leb}
-use lib.ListN.{length, getD, List·getD-eq-default}
-use borrow.Author.Tests.{ne-eqb, lt-ltb, le-ltb, le-leb, lt-leb}
-use Rattle.semantics.specs.Number.{sum, difference, less, signed, bytes-at}
-use Rattle.semantics.specs.Syntax.{Expr, number, name, operation, let-in, call, literal, index, length-of, if-else}
-use Rattle.semantics.specs.Syntax.{map-over, Exprs, none, more, size, sizes}
+use lib.IntN.{ℤ, pos}
+use lib.ListN.{length, getD}
+use borrow.Author.Tests.{le-ltb, le-leb, lt-leb}
+use Rattle.semantics.specs.Number.{Operation, sum, difference, less, signed, bytes-at}
+use Rattle.semantics.specs.Kinds.{Leaf, operation, call, literal, index, length-of, leaf-kind, mapping}
+use Rattle.semantics.specs.Syntax.{Expr, number, name, let-in, leaf, if-else, loop, Exprs, none, more, size, sizes}
 use Rattle.semantics.specs.Code as C
 use Rattle.semantics.specs.File as S
-use Rattle.semantics.specs.File.{node-at, node-of, part-count, in-parts, low-limits, high-limits}
+use Rattle.semantics.specs.File.{at-part, node-at, node-of, part-count, low-limits, high-limits, leaf-of, shape-of}
 use Rattle.script_read.specs.Told.{Parts, told-node}
 use Rattle.script_read.specs.declared.Node.{Node}
-use Rattle.script_read.specs.declared.Node.the-variants.{Fits, WrongKind, WrongOperand}
-use Rattle.script_read.proofs.Nodes.{Within, node-within}
-use Rattle.script_read.proofs.Written.{Written, AllWritten, amount, kind-of}
-use Rattle.normal_code.specs.Plain.{meant, placed, number-at, operation-of}
+use Rattle.script_read.specs.declared.Node.the-variants.{WrongKind, WrongOperand}
+use Rattle.script_read.proofs.Nodes.{Seen, HeadFits, head-fits, unfit}
+use Rattle.script_read.proofs.Sorts as K
+use Rattle.script_read.proofs.Sorts.{Sort, sort-of, kind-of-leaf, kind-of-loop}
+use Rattle.script_read.proofs.Written.{Written, AllWritten, amount}
+use Rattle.normal_code.specs.Plain.{meant, placed, number-at}
 use Rattle.normal_code.proofs.Trees.{pred-suc}
-use Rattle.normal_made.specs.Source.{several, second-part, compound, let-from, if-from, map-from, tree-of}
-use Rattle.normal_made.specs.Source.{node-tree, tree-at}
+use Rattle.normal_made.specs.Source.{several, second-part, leaf-by, compound, map-of, let-from, if-from}
+use Rattle.normal_made.specs.Source.{map-from, tree-of, node-tree, tree-at}
 use Rattle.normal_made.specs.Made.{Counted}
 
--- a node as the code sees it
-pub record Seen (k w : List ℕ) (p kind low high : ℕ) : Type 0 where
-  pub head : S.Head
-  pub is : node-at k w 2 13 p ≡ S.fits head
-  pub kind-is : head .kind ≡ kind
-  pub low-is : head .low ≡ low
-  pub high-is : head .high ≡ high
+-- ---- leaves
 
-pub seen : (k w : List ℕ) (p kind low high : ℕ) → Fits kind low high ≡ told-node (node-at k w 2 13 p) → Seen k w p
-    kind low high
-seen k w p kind low high e = go (node-at k w 2 13 p) refl e
+-- a node that is a leaf: its shape and its parts, by what its line has of it
+pub record LeafNode (h : S.Head) (kind y m : ℕ) : Type 0 where
+  pub shape : shape-of h ≡ leaf-of (leaf-by kind y)
+  pub counted : Counted kind y m
+
+module _ (h : S.Head) {kind low high : ℕ} (same-kind : h .kind ≡ kind) (same-low : h .low ≡ low)
+    (same-high : h .high ≡ high) (lowest : low ≤ getD low-limits kind 0) (highest : high ≤ getD high-limits kind 0)
   where
-    go : (v : S.Node) → node-at k w 2 13 p ≡ v → Fits kind low high ≡ told-node v → Seen k w p kind low high
-    go (S.fits h) i e = record { head = h; is = i; kind-is = cc; low-is = cc; high-is = cc }
-    go S.wrong-kind i e = absurd (let z : _≡_ {A = ℕ} 0 1 = cc in omega arith)
-    go S.wrong-operand i e = absurd (let z : _≡_ {A = ℕ} 0 1 = cc in omega arith)
+    abbrev Noted : Type 0
+    Noted = LeafNode h kind (second-part kind low high) (part-count kind low high)
+
+    operates : (kind : ℕ) → 4 ≤ kind → kind ≤ 6 → Counted kind 0 2
+    operates kind f g = record {
+      plain = inr (inr (inr (inr (g, (f, refl)))));
+      parts = omega arith;
+      second = omega arith;
+      depth = λ e. omega arith;
+    }
+
+    operation-node : (o : Operation) → kind ≡ leaf-kind (operation o) → Noted
+    unfolding part-count
+    operation-node sum e = rw e (record { shape = rw (same-kind ∙ e); counted = operates 4 (omega arith) (omega arith) })
+    operation-node difference e = rw e (record { shape = rw (same-kind ∙ e); counted = operates 5 (omega arith) (omega arith) })
+    operation-node less e = rw e (record { shape = rw (same-kind ∙ e); counted = operates 6 (omega arith) (omega arith) })
+
+    leaf-node : (l : Leaf) → kind ≡ leaf-kind l → Noted
+    unfolding part-count
+    leaf-node (operation o) e = operation-node o e
+    leaf-node (call f) e = rw e (record {
+      shape = rw (same-kind ∙ e, same-low);
+      counted = record {
+        plain = inl refl;
+        parts = omega (arith, rw e at highest);
+        second = omega (arith, rw e at lowest);
+        depth = λ i. absurd (let f : ⊥ = omega arith in f);
+      };
+    })
+    leaf-node (literal d) e = rw e (record {
+      shape = rw (same-kind ∙ e, same-high);
+      counted = record {
+        plain = inr (inl refl);
+        parts = omega (arith, rw e at lowest);
+        second = omega (arith, rw e at highest);
+        depth = λ i. omega (arith, rw e at highest);
+      };
+    })
+    leaf-node index e = rw e (record {
+      shape = rw (same-kind ∙ e);
+      counted = record {
+        plain = inr (inr (inr (inl (refl, refl))));
+        parts = omega arith;
+        second = omega arith;
+        depth = λ i. omega arith;
+      };
+    })
+    leaf-node length-of e = rw e (record {
+      shape = rw (same-kind ∙ e);
+      counted = record {
+        plain = inr (inr (inl (refl, refl)));
+        parts = omega arith;
+        second = omega arith;
+        depth = λ i. omega arith;
+      };
+    })
+
+-- a node whose kind is none of the others is a leaf, with y and m as the code finds them
+pub leaf-as : {k w : List ℕ} {p kind low high : ℕ} (s : Seen k w at-part p kind low high) (y m : ℕ) →
+    y ≡ second-part kind low high → m ≡ part-count kind low high → (kind ≡ 2 → ⊥) → (kind ≡ 3 → ⊥) → (kind ≡ 7 → ⊥) →
+    (kind ≡ 12 → ⊥) → (kind ≡ 13 → ⊥) → LeafNode (s .node) kind y m
+leaf-as {k} {w} {p} {kind} {low} {high} s y m e f n₂ n₃ n₇ n₁₂ n₁₃ = rw (e, f) (go (sort-of (s .node) (fit .stands)))
+  where
+    fit : HeadFits at-part (getD k p 255) (s .node)
+    fit = head-fits k w at-part p (s .node) (s .stands)
+
+    go : Sort (s .node) → LeafNode (s .node) kind (second-part kind low high) (part-count kind low high)
+    go (K.number e) = absurd (n₂ (sym (s .same-kind) ∙ e))
+    go (K.name e) = absurd (n₃ (sym (s .same-kind) ∙ e))
+    go (K.let-in e) = absurd (n₇ (sym (s .same-kind) ∙ e))
+    go (K.if-else e) = absurd (n₁₂ (sym (s .same-kind) ∙ e))
+    go (K.leaf l e) = leaf-node (s .node) (s .same-kind) (s .same-low) (s .same-high) (s .lowest) (s .highest) l
+        (sym (s .same-kind) ∙ kind-of-leaf (s .node) l e)
+    go (K.loop mapping xs c e) = absurd (n₁₃ (sym (s .same-kind) ∙ kind-of-loop (s .node) mapping xs c e))
+
+-- ---- the tree of each kind
 
 module _ (k w : List ℕ) (d p : ℕ) (some : d ≡ 0 → ⊥) where
-  R : ℕ → Expr
-  R = tree-at k w (d - 1)
-
-  pub tree-none : (v : S.Node) → node-at k w 2 13 p ≡ v → tree-at k w d p ≡ node-tree (tree-at k w (d - 1)) p v
+  tree-there : (v : S.Node) → node-at k w at-part p ≡ v → tree-at k w d p ≡ node-tree (tree-at k w (d - 1)) p v
   unfolding tree-at
-  tree-none v e = ap (λ (m : ℕ). tree-at k w m p) (pred-suc d (omega (arith, some))) ∙ go (d - 1)
+  tree-there v e = ap (λ (m : ℕ). tree-at k w m p) (pred-suc d (omega (arith, some))) ∙ go (d - 1)
     where
       go : (m : ℕ) → tree-at k w (suc m) p ≡ node-tree (tree-at k w m) p v
       go m = rw e
 
-  module _ {kind low high : ℕ} (s : Seen k w p kind low high) where
-    tree-is : tree-at k w d p ≡ tree-of (tree-at k w (d - 1)) p (s .head)
-    tree-is = tree-none (S.fits (s .head)) (s .is)
+  module _ {kind low high : ℕ} (s : Seen k w at-part p kind low high) where
+    tree-is : tree-at k w d p ≡ tree-of (tree-at k w (d - 1)) p (s .node) (shape-of (s .node))
+    tree-is = tree-there (S.fits (s .node)) (s .stands)
 
-    pub number-is : kind ≡ 2 → tree-at k w d p ≡ number (s .head .value)
-    number-is e = tree-is ∙ rw (s .kind-is, e)
+    pub number-is : kind ≡ 2 → tree-at k w d p ≡ number (s .node .value)
+    number-is e = tree-is ∙ rw (s .same-kind, e)
 
     pub name-is : kind ≡ 3 → tree-at k w d p ≡ name low
-    name-is e = tree-is ∙ rw (s .kind-is, e, s .low-is)
+    name-is e = tree-is ∙ rw (s .same-kind, e, s .same-low)
 
     pub let-is : kind ≡ 7 → tree-at k w d p ≡ let-from (tree-at k w (d - 1)) low (p + 1)
-    let-is e = tree-is ∙ rw (s .kind-is, e, s .low-is)
+    let-is e = tree-is ∙ rw (s .same-kind, e, s .same-low)
 
     pub if-is : kind ≡ 12 → tree-at k w d p ≡ if-from (tree-at k w (d - 1)) (p + 1)
-    if-is e = tree-is ∙ rw (s .kind-is, e)
+    if-is e = tree-is ∙ rw (s .same-kind, e)
 
     pub map-is : kind ≡ 13 → tree-at k w d p ≡ map-from (tree-at k w (d - 1)) low (p + 1)
-    map-is e = tree-is ∙ rw (s .kind-is, e, s .low-is)
+    unfolding several size
+    map-is e = tree-is ∙ rw (s .same-kind, e, s .same-low) (ap
+        (λ (i : ℕ). map-of low (tree-at k w (d - 1) (p + 1)) (tree-at k w (d - 1) i))
+        (let f : p + 1 + (size (tree-at k w (d - 1) (p + 1)) + 0) ≡ p + 1 + size (tree-at k w (d - 1) (p + 1)) =
+        omega arith in f))
 
-    pub compound-is : (kind ≡ 2 → ⊥) → (kind ≡ 3 → ⊥) → (kind ≡ 7 → ⊥) → (kind ≡ 12 → ⊥) → (kind ≡ 13 → ⊥) →
-        tree-at k w d p ≡ compound kind (second-part kind low high) (several (tree-at k w (d - 1)) (part-count kind
-        low high) (p + 1))
-    compound-is n₂ n₃ n₇ n₁₂ n₁₃ =
-        tree-is
-        ∙ rw (
-          s .kind-is,
-          s .low-is,
-          s .high-is,
-          ne-eqb kind 2 n₂,
-          ne-eqb kind 3 n₃,
-          ne-eqb kind 7 n₇,
-          ne-eqb kind
-              12 n₁₂,
-          ne-eqb kind 13 n₁₃,
-        )
+    pub leaf-is : {y : ℕ} (m : ℕ) → m ≡ part-count kind low high → LeafNode (s .node) kind y m →
+        tree-at k w d p ≡ compound kind y (several (tree-at k w (d - 1)) m (p + 1))
+    leaf-is m e l =
+        tree-is ∙ ap (tree-of (tree-at k w (d - 1)) p (s .node)) (l .shape)
+        ∙ rw (e, s .same-kind, s .same-low, s .same-high)
 
--- ---- how many parts
+  -- where no node fits stands the number 0
+  pub wrong-tree : (n : Node) → n ≡ told-node (node-at k w at-part p) → (n ≡ WrongKind) ⊎ (n ≡ WrongOperand) →
+      tree-at k w d p ≡ number (pos 0)
+  wrong-tree n e f = ⊎-elim (tree-there S.wrong-kind) (tree-there S.wrong-operand) (unfit k w at-part p n e f .is)
 
-counted-by : (kind low high : ℕ) → 2 ≤ kind → kind ≤ 13 → low ≤ getD low-limits kind 0 → high ≤ getD high-limits
-    kind 0 →
-    (kind ≡ 2 → ⊥) → (kind ≡ 3 → ⊥) → (kind ≡ 7 → ⊥) → (kind ≡ 12 → ⊥) → (kind ≡ 13 → ⊥) →
-    Counted kind (second-part kind low high) (part-count kind low high)
-unfolding part-count
-counted-by zero low high g h l u n₂ n₃ n₇ n₁₂ n₁₃ = absurd (let f : ⊥ = omega arith in f)
-counted-by (suc zero) low high g h l u n₂ n₃ n₇ n₁₂ n₁₃ = absurd (let f : ⊥ = omega arith in f)
-counted-by (suc (suc zero)) low high g h l u n₂ n₃ n₇ n₁₂ n₁₃ = absurd (n₂ refl)
-counted-by (suc (suc (suc zero))) low high g h l u n₂ n₃ n₇ n₁₂ n₁₃ = absurd (n₃ refl)
-counted-by (suc (suc (suc (suc zero)))) low high g h l u n₂ n₃ n₇ n₁₂ n₁₃ = record {
-  plain = inr
-      (inr (inr (inr (omega arith, (omega arith, refl)))));
-  parts = omega arith;
-  second = omega arith;
-  depth = λ e.
-      absurd (let f : ⊥ = omega arith in f);
-}
-counted-by (suc (suc (suc (suc (suc zero))))) low high g h l u n₂ n₃ n₇ n₁₂ n₁₃ = record {
-  plain = inr
-      (inr (inr (inr (omega arith, (omega arith, refl)))));
-  parts = omega arith;
-  second = omega arith;
-  depth = λ e.
-      absurd (let f : ⊥ = omega arith in f);
-}
-counted-by (suc (suc (suc (suc (suc (suc zero)))))) low high g h l u n₂ n₃ n₇ n₁₂ n₁₃ = record {
-  plain = inr
-      (inr (inr (inr (omega arith, (omega arith, refl)))));
-  parts = omega arith;
-  second = omega arith;
-  depth = λ e.
-      absurd (let f : ⊥ = omega arith in f);
-}
-counted-by (suc (suc (suc (suc (suc (suc (suc zero))))))) low high g h l u n₂ n₃ n₇ n₁₂ n₁₃ = absurd (n₇ refl)
-counted-by (suc (suc (suc (suc (suc (suc (suc (suc zero)))))))) low high g h l u n₂ n₃ n₇ n₁₂ n₁₃ = record {
-  plain = inl refl;
-  parts = omega arith;
-  second = omega arith;
-  depth = λ e. absurd (let f : ⊥ = omega arith in
-      f);
-}
-counted-by (suc (suc (suc (suc (suc (suc (suc (suc (suc zero))))))))) low high g h l u n₂ n₃ n₇ n₁₂ n₁₃ = record
-    { plain = inr (inl refl); parts = omega arith; second = omega arith; depth = λ e. omega arith }
-counted-by (suc (suc (suc (suc (suc (suc (suc (suc (suc (suc zero)))))))))) low high g h l u n₂ n₃ n₇ n₁₂ n₁₃ =
-    record {
-      plain = inr (inr (inr (inl (refl, refl))));
-      parts = omega arith;
-      second = omega arith;
-      depth = λ e.
-          absurd (let f : ⊥ = omega arith in f);
-    }
-counted-by (suc (suc (suc (suc (suc (suc (suc (suc (suc (suc (suc zero))))))))))) low high g h l u n₂ n₃ n₇ n₁₂ n₁₃
-    = record {
-      plain = inr (inr (inl (refl, refl)));
-      parts = omega arith;
-      second = omega arith;
-      depth = λ e. absurd
-          (let f : ⊥ = omega arith in f);
-    }
-counted-by (suc (suc (suc (suc (suc (suc (suc (suc (suc (suc (suc (suc zero)))))))))))) low high g h l u n₂ n₃ n₇
-    n₁₂ n₁₃ = absurd (n₁₂ refl)
-counted-by (suc (suc (suc (suc (suc (suc (suc (suc (suc (suc (suc (suc (suc zero))))))))))))) low high g h l u n₂ n₃
-    n₇ n₁₂ n₁₃ = absurd (n₁₃ refl)
-counted-by (suc (suc (suc (suc (suc (suc (suc (suc (suc (suc (suc (suc (suc (suc k)))))))))))))) low high g h l u n₂
-    n₃ n₇ n₁₂ n₁₃ = absurd (let f : ⊥ = omega arith in f)
-
-pub counted : {k w : List ℕ} {p kind low high : ℕ} → Seen k w p kind low high →
-    (kind ≡ 2 → ⊥) → (kind ≡ 3 → ⊥) → (kind ≡ 7 → ⊥) → (kind ≡ 12 → ⊥) → (kind ≡ 13 → ⊥) →
-    Counted kind (second-part kind low high) (part-count kind low high)
-counted {k} {w} {p} {kind} {low} {high} s n₂ n₃ n₇ n₁₂ n₁₃ = go (rw (s .is) at (node-within k w 2 13 p))
-  where
-    go : Within 2 13 (S.fits (s .head)) → Counted kind (second-part kind low high) (part-count kind low high)
-    go i =
-        counted-by kind low high (omega (arith, i .0, s .kind-is)) (omega (arith, i .1, s .kind-is))
-        (rw (s .kind-is, s .low-is) at (i .2)) (rw (s .kind-is, s .high-is) at (i .3)) n₂ n₃ n₇ n₁₂ n₁₃
+pub none-tree : (k w : List ℕ) (d p : ℕ) → d ≡ 0 → tree-at k w d p ≡ number (pos 0)
+unfolding tree-at
+none-tree k w d p e = rw e
 
 -- ---- the number of a node
-
-node-at-is : (k w : List ℕ) (p : ℕ) → node-at k w 2 13 p ≡ node-of 2 13 (getD k p 255) (signed (bytes-at 8 w (8 * p)))
-unfolding node-at
-node-at-is k w p = refl
 
 abbrev value-of : S.Node → ℤ
 value-of (S.fits h) = h .value
 value-of S.wrong-kind = pos 0
 value-of S.wrong-operand = pos 0
 
-abbrev kind-or : S.Node → ℕ → ℕ
-kind-or (S.fits h) c = h .kind
-kind-or S.wrong-kind c = c
-kind-or S.wrong-operand c = c
-
-kind-in-parts : (c : ℕ) (v : ℤ) → kind-or (in-parts c v) c ≡ c
-kind-in-parts c (pos n) = go (leb (n % 256) (getD low-limits c 0)) (leb (n / 256) (getD high-limits c 0))
-  where
-    go : (a b : Bool) →
-        kind-or (cond a (cond b (S.fits (record { kind = c; low = n % 256; high = n / 256; value = pos 0 }))
-        S.wrong-operand) S.wrong-operand) c ≡ c
-    go true true = refl
-    go true false = refl
-    go false b = refl
-kind-in-parts c (negsuc n) = refl
-
-kind-kept : (c : ℕ) (v : ℤ) → (c ≡ 2 → ⊥) → kind-or (node-of 2 13 c v) c ≡ c
-unfolding node-of
-kind-kept c v f = rw (ne-eqb c 2 f) (go (leb 2 c) (leb c 13))
-  where
-    go : (a b : Bool) → kind-or (cond a (cond b (in-parts c v) S.wrong-kind) S.wrong-kind) c ≡ c
-    go true true = kind-in-parts c v
-    go true false = refl
-    go false b = refl
-
-value-two : (v : ℤ) (h : S.Head) → node-of 2 13 2 v ≡ S.fits h → h .value ≡ v
-unfolding node-of
-value-two v h i = sym (ap value-of i)
-
-number-value : (c : ℕ) (v : ℤ) (h : S.Head) → node-of 2 13 c v ≡ S.fits h → h .kind ≡ 2 → h .value ≡ v
-number-value c v h e f = go (ℕ-discrete c 2)
-  where
-    go : Dec (c ≡ 2) → h .value ≡ v
-    go (yes g) = value-two v h (rw g at e)
-    go (no g) = absurd (g (sym (ap (λ n. kind-or n c) (sym e) ∙ kind-kept c v g) ∙ f))
+number-value : (k w : List ℕ) (p : ℕ) (h : S.Head) → node-at k w at-part p ≡ S.fits h → h .kind ≡ 2 →
+    signed (bytes-at 8 w (8 * p)) ≡ h .value
+unfolding node-at node-of
+number-value k w p h e f =
+    let c : getD k p 255 ≡ 2 = sym (head-fits k w at-part p h e .kind) ∙ f in
+    ap value-of (rw c at e)
 
 -- the place of a node's number means that number
-pub number-placed : (k w : List ℕ) (p : ℕ) (h : S.Head) → Parts k w → p < length k → node-at k w 2 13 p ≡ S.fits h →
-    h .kind ≡ 2 →
-    meant (placed w (256 + p)) ≡ C.number (h .value)
+pub number-placed : (k w : List ℕ) (p : ℕ) (h : S.Head) → Parts k w → p < length k → node-at k w at-part p ≡ S.fits h →
+    h .kind ≡ 2 → meant (placed w (256 + p)) ≡ C.number (h .value)
 unfolding placed number-at
 number-placed k w p h s g e f =
     let z : 256 + p - 256 ≡ p = omega arith in
     rw (le-ltb (256 + p) 256 (omega arith), z, le-leb (8 * p + 8) (length w) (omega (arith, s .whole)))
-    (ap C.number (sym (number-value (getD k p 255) (signed (bytes-at 8 w (8 * p))) h (sym (node-at-is k w p) ∙ e) f)))
+    (ap C.number (number-value k w p h e f))
 
 pub nowhere-placed : (w : List ℕ) → length w ≤ 8192 → meant (placed w 65535) ≡ C.number (pos 0)
 unfolding placed number-at
 nowhere-placed w h = rw (lt-leb (8 * 65279 + 8) (length w) (omega arith))
 
-wrong-255 : (v : ℤ) → node-of 2 13 255 v ≡ S.wrong-kind
-unfolding node-of
-wrong-255 v = refl
-
--- a node that is there
-pub within-file : (k w : List ℕ) (p : ℕ) (h : S.Head) → node-at k w 2 13 p ≡ S.fits h → p < length k
-within-file k w p h e = go (decLt p (length k))
-  where
-    past : length k ≤ p → node-of 2 13 (getD k p 255) (signed (bytes-at 8 w (8 * p))) ≡ S.wrong-kind
-    past g = ap (λ (c : ℕ). node-of 2 13 c (signed (bytes-at 8 w (8 * p)))) (List·getD-eq-default k 255 g) ∙
-        wrong-255 (signed (bytes-at 8 w (8 * p)))
-
-    go : Dec (p < length k) → p < length k
-    go (yes g) = g
-    go (no f) = absurd (let z : _≡_ {A = ℕ} 0 1 = cc (past (omega (arith, f)), node-at-is k w p) in omega arith)
-
 -- ---- what the reader accepts is the tree at its node
 
 module _ (k w : List ℕ) where
   mutual
-    unfolding tree-at several part-count size
+    unfolding tree-at several size
 
     pub written-tree : (e : Expr) (d p : ℕ) → Written k w e d p → tree-at k w d p ≡ e
-    written-tree (number z) zero p h = absurd h
-    written-tree (number z) (suc d) p h = rw h
-    written-tree (name x) zero p h = absurd h
-    written-tree (name x) (suc d) p h = rw (h .is)
-    written-tree (operation sum a b) zero p h = absurd h
-    written-tree (operation sum a b) (suc d) p h = rw (
+    written-tree (number z) d p h = rw (h .0 .is, h .1)
+    written-tree (name x) d p h = rw (h .0 .is, h .1 .is)
+    written-tree (let-in x a b) d p h = rw (
       h .0 .is,
-      written-tree a d (p + 1) (h .1),
-      written-tree b d
-          (p + 1 + size a) (h .2),
+      h .1 .is,
+      written-tree a (h .0 .below) (p + 1) (h .2),
+      written-tree b (h .0 .below) (p + 1 + size a) (h .3),
     )
-    written-tree (operation difference a b) zero p h = absurd h
-    written-tree (operation difference a b) (suc d) p h = rw (
+    written-tree (leaf l es) d p h = rw (
       h .0 .is,
-      written-tree a d (p + 1) (h .1),
-      written-tree b d (p + 1 + size a) (h .2),
+      h .1 .is,
+      h .1 .shape-is,
+      h .1 .count,
+      written-trees es (h .0 .below) (p + 1) (h .2),
     )
-    written-tree (operation less a b) zero p h = absurd h
-    written-tree (operation less a b) (suc d) p h = rw (
+    written-tree (if-else a b c) d p h = rw (
       h .0 .is,
-      written-tree a d (p + 1) (h .1),
-      written-tree b d
-          (p + 1 + size a) (h .2),
+      h .1 .is,
+      written-tree a (h .0 .below) (p + 1) (h .2),
+      written-tree b (h .0 .below) (p + 1 + size a) (h .3),
+      written-tree c (h .0 .below) (p + 1 + size a + size b) (h .4),
     )
-    written-tree (let-in x a b) zero p h = absurd h
-    written-tree (let-in x a b) (suc d) p h = rw (
+    written-tree (loop c xs es b) d p h = rw (
       h .0 .is,
-      written-tree a d (p + 1) (h .1),
-      written-tree b d
-          (p + 1 + size a) (h .2),
-    )
-    written-tree (call f es) zero p h = absurd h
-    written-tree (call f es) (suc d) p h = rw (h .0 .is, written-trees es d (p + 1) (h .1))
-    written-tree (literal t es) zero p h = absurd h
-    written-tree (literal t es) (suc d) p h = rw (h .0 .is, written-trees es d (p + 1) (h .1))
-    written-tree (index a b) zero p h = absurd h
-    written-tree (index a b) (suc d) p h = rw (
-      h .0 .is,
-      written-tree a d (p + 1) (h .1),
-      written-tree b d
-          (p + 1 + size a) (h .2),
-    )
-    written-tree (length-of a) zero p h = absurd h
-    written-tree (length-of a) (suc d) p h = rw (h .0 .is, written-tree a d (p + 1) (h .1))
-    written-tree (if-else a b c) zero p h = absurd h
-    written-tree (if-else a b c) (suc d) p h =
-        rw (
-          h .0 .is,
-          written-tree a d (p + 1) (h .1),
-          written-tree b d (p + 1 + size a) (h .2),
-          written-tree c d
-              (p + 1 + size a + size b) (h .3),
-        )
-    written-tree (map-over x a b) zero p h = absurd h
-    written-tree (map-over x a b) (suc d) p h = rw (
-      h .0 .is,
-      written-tree a d (p + 1) (h .1),
-      written-tree b d
-          (p + 1 + size a) (h .2),
+      h .1 .is,
+      h .1 .shape-is,
+      written-trees es (h .0 .below) (p + 1) (h .2),
+      written-tree b (h .0 .below) (p + 1 + sizes es) (h .3),
     )
 
     written-trees : (es : Exprs) (d p : ℕ) → AllWritten k w es d p → several (tree-at k w d) (amount es) p ≡ es
     written-trees none d p h = refl
     written-trees (more e es) d p h = rw (written-tree e d p (h .0), written-trees es d (p + size e) (h .1))
 
--- ---- the same in the code's terms
+-- ---- the node after a tree, from the node of its first part
 
-pub none-tree : (k w : List ℕ) (d p : ℕ) → d ≡ 0 → tree-at k w d p ≡ number (pos 0)
-unfolding tree-at
-none-tree k w d p e = rw e
-
-pub wrong-tree : (k w : List ℕ) (d p : ℕ) → (d ≡ 0 → ⊥) → (n : Node) → n ≡ told-node (node-at k w 2 13 p) →
-    (n ≡ WrongKind) ⊎ (n ≡ WrongOperand) → tree-at k w d p ≡ number (pos 0)
-wrong-tree k w d p some n e f = go (node-at k w 2 13 p) refl e f
-  where
-    go : (v : S.Node) → node-at k w 2 13 p ≡ v → n ≡ told-node v → (n ≡ WrongKind) ⊎ (n ≡ WrongOperand) → tree-at k
-        w d p ≡ number (pos 0)
-    go (S.fits h) i e (inl f) = absurd (let z : _≡_ {A = ℕ} 0 1 = cc in omega arith)
-    go (S.fits h) i e (inr f) = absurd (let z : _≡_ {A = ℕ} 0 1 = cc in omega arith)
-    go S.wrong-kind i e f = tree-none k w d p some S.wrong-kind i
-    go S.wrong-operand i e f = tree-none k w d p some S.wrong-operand i
-
-pub compound-as : (k w : List ℕ) (d p : ℕ) → (d ≡ 0 → ⊥) → {kind low high : ℕ} → Seen k w p kind low high →
-    (y m : ℕ) → y ≡ second-part kind low high →
-    m ≡ part-count kind low high → (kind ≡ 2 → ⊥) → (kind ≡ 3 → ⊥) → (kind ≡ 7 → ⊥) → (kind ≡ 12 → ⊥) →
-    (kind ≡ 13 → ⊥) →
-    tree-at k w d p ≡ compound kind y (several (tree-at k w (d - 1)) m (p + 1))
-compound-as k w d p some s y m e f n₂ n₃ n₇ n₁₂ n₁₃ = compound-is k w d p some s n₂ n₃ n₇ n₁₂ n₁₃ ∙ rw (e, f)
-
-pub counted-as : {k w : List ℕ} {p kind low high : ℕ} → Seen k w p kind low high → (y m : ℕ) → y ≡ second-part kind
-    low high →
-    m ≡ part-count kind low high → (kind ≡ 2 → ⊥) → (kind ≡ 3 → ⊥) → (kind ≡ 7 → ⊥) → (kind ≡ 12 → ⊥) →
-    (kind ≡ 13 → ⊥) → Counted kind y m
-counted-as s y m e f n₂ n₃ n₇ n₁₂ n₁₃ = rw (e, f) (counted s n₂ n₃ n₇ n₁₂ n₁₃)
-
--- the node after a tree, from the node of its first part
 pub two-after : (x at : ℕ) (a b : Expr) → at + 1 + size a + size b ≡ at + size (let-in x a b)
 unfolding size
 two-after x at a b = omega arith
-
-pub map-after : (x at : ℕ) (a b : Expr) → at + 1 + size a + size b ≡ at + size (map-over x a b)
-unfolding size
-map-after x at a b = omega arith
 
 pub three-after : (at : ℕ) (a b c : Expr) → at + 1 + size a + size b + size c ≡ at + size (if-else a b c)
 unfolding size
 three-after at a b c = omega arith
 
-pub compound-after : (k w : List ℕ) (d p kind y m : ℕ) → Counted kind y m →
-    p + 1 + sizes (several (tree-at k w (d - 1)) m (p + 1)) ≡ p + size (compound kind y
-    (several (tree-at k w (d - 1)) m (p + 1)))
-unfolding size several
-compound-after k w d p kind y m c =
-    ⊎-elim (λ e. rw e (omega arith))
-    (⊎-elim (λ e. rw e (omega arith))
-    (⊎-elim (λ e. rw (e .0, e .1) (omega arith))
-    (⊎-elim (λ e. rw (e .0, e .1) (omega arith))
-    (λ e. rw (
-      e .1 .1,
-      ne-eqb kind 8 (λ i. omega (arith, e .0)),
-      ne-eqb kind 9 (λ i. omega (arith, e .0)),
-      ne-eqb
-          kind 10 (λ i. omega (arith, e .0)),
-    ) (omega arith))))) (c .plain)
+pub map-after : (x at : ℕ) (a b : Expr) → at + 1 + size a + size b ≡ at + size (map-of x a b)
+unfolding size
+map-after x at a b = omega arith
+
+pub leaf-after : (l : Leaf) (at : ℕ) (es : Exprs) → at + 1 + sizes es ≡ at + size (leaf l es)
+unfolding size
+leaf-after l at es = omega arith
 
 pub any-default : (l : List ℕ) (x : ℕ) → length l ≡ 256 → x < 256 → getD l x 0 ≡ getD l x 65535
 any-default l x h g = same l x (omega arith)

@@ -1,13 +1,13 @@
 -- The tree that stands at a node of an accepted file, and how many rows its lines take.
 use mathlib.Core.Bool.{cond}
-use mathlib.Core.List.{List}
+use mathlib.Core.List.{List, [], _∷_}
 use Prim.Native.Nat.{ℕ, zero, suc, _+_}
-use lib.IntN.{ℤ, pos}
+use lib.IntN.{pos}
 use lib.Dec.{eqb}
-use Rattle.semantics.specs.Syntax.{Expr, number, name, operation, let-in, call, literal, index, length-of, if-else}
-use Rattle.semantics.specs.Syntax.{map-over, Exprs, none, more, size}
+use Rattle.semantics.specs.Kinds.{Leaf, operation, call, literal, index, length-of, mapping}
+use Rattle.semantics.specs.Syntax.{Expr, number, name, let-in, leaf, if-else, loop, Exprs, none, more, size, sizes}
 use Rattle.semantics.specs.File as S
-use Rattle.semantics.specs.File.{node-at, part-count}
+use Rattle.semantics.specs.File.{at-part, node-at, part-count, Shape, leaf-of, loop-of, shape-of}
 use Rattle.normal_code.specs.Plain.{operation-of}
 
 -- m trees, one after the other
@@ -19,16 +19,21 @@ several R (suc m) p = more (R p) (several R m (p + size (R p)))
 abbrev pub second-part : ℕ → ℕ → ℕ → ℕ
 second-part kind low high = cond (eqb kind 8) low (cond (eqb kind 9) high 0)
 
--- an operation, an index or a length
-abbrev pub of-two : ℕ → Exprs → Expr
-of-two kind none = number (pos 0)
-of-two kind (more a none) = length-of a
-of-two kind (more a (more b none)) = cond (eqb kind 10) (index a b) (operation (operation-of kind) a b)
-of-two kind (more a (more b (more c es))) = number (pos 0)
+-- the leaf of a line by its kind and its second number
+abbrev pub leaf-by : ℕ → ℕ → Leaf
+leaf-by kind y =
+    cond (eqb kind 8) (call y)
+    (cond (eqb kind 9) (literal y)
+    (cond (eqb kind 10) index
+    (cond (eqb kind 11) length-of (operation (operation-of kind)))))
 
 -- the tree of a node whose line has no trees
 abbrev pub compound : ℕ → ℕ → Exprs → Expr
-compound kind y es = cond (eqb kind 8) (call y es) (cond (eqb kind 9) (literal y es) (of-two kind es))
+compound kind y es = leaf (leaf-by kind y) es
+
+-- a map: one part before its body, and one name of a pass
+abbrev pub map-of : ℕ → Expr → Expr → Expr
+map-of x a b = loop mapping (x ∷ []) (more a none) b
 
 -- the trees of a let, an if and a map whose first part is at p
 abbrev pub let-from : (ℕ → Expr) → ℕ → ℕ → Expr
@@ -38,21 +43,20 @@ abbrev pub if-from : (ℕ → Expr) → ℕ → Expr
 if-from R p = if-else (R p) (R (p + size (R p))) (R (p + size (R p) + size (R (p + size (R p)))))
 
 abbrev pub map-from : (ℕ → Expr) → ℕ → ℕ → Expr
-map-from R x p = map-over x (R p) (R (p + size (R p)))
+map-from R x p = map-of x (R p) (R (p + size (R p)))
 
--- the tree of the node at p by its kind and operand; R reads its parts
-abbrev pub tree-of : (ℕ → Expr) → ℕ → S.Head → Expr
-tree-of R p h =
+-- the tree of the node at p by its shape; R reads its parts
+abbrev pub tree-of : (ℕ → Expr) → ℕ → S.Head → Shape → Expr
+tree-of R p h S.none =
     cond (eqb (h .kind) 2) (number (h .value))
     (cond (eqb (h .kind) 3) (name (h .low))
-    (cond (eqb (h .kind) 7) (let-from R (h .low) (p + 1))
-    (cond (eqb (h .kind) 12) (if-from R (p + 1))
-    (cond (eqb (h .kind) 13) (map-from R (h .low) (p + 1))
-    (compound (h .kind) (second-part (h .kind) (h .low) (h .high))
-    (several R (part-count (h .kind) (h .low) (h .high)) (p + 1)))))))
+    (cond (eqb (h .kind) 7) (let-from R (h .low) (p + 1)) (if-from R (p + 1))))
+tree-of R p h (leaf-of l) = leaf l (several R (part-count (h .kind) (h .low) (h .high)) (p + 1))
+tree-of R p h (loop-of k xs c) =
+    loop k xs (several R c (p + 1)) (R (p + 1 + sizes (several R c (p + 1))))
 
 abbrev pub node-tree : (ℕ → Expr) → ℕ → S.Node → Expr
-node-tree R p (S.fits h) = tree-of R p h
+node-tree R p (S.fits h) = tree-of R p h (shape-of h)
 node-tree R p S.wrong-kind = number (pos 0)
 node-tree R p S.wrong-operand = number (pos 0)
 
@@ -60,21 +64,17 @@ module _ (kinds operands : List ℕ) where
   -- the tree at node p, with so many levels left
   unfoldable pub tree-at : ℕ → ℕ → Expr
   tree-at zero p = number (pos 0)
-  tree-at (suc d) p = node-tree (tree-at d) p (node-at kinds operands 2 13 p)
+  tree-at (suc d) p = node-tree (tree-at d) p (node-at kinds operands at-part p)
 
 -- how many rows the lines of a tree take in the plain code
 unfoldable mutual
   pub laid-rows : Expr → ℕ
   laid-rows (number z) = 0
   laid-rows (name x) = 0
-  laid-rows (operation o a b) = laid-rows a + laid-rows b + 3
   laid-rows (let-in x a b) = laid-rows a + laid-rows b
-  laid-rows (call f es) = laid-all es + 1
-  laid-rows (literal d es) = laid-all es + 1
-  laid-rows (index a b) = laid-rows a + laid-rows b + 3
-  laid-rows (length-of a) = laid-rows a + 2
+  laid-rows (leaf l es) = laid-all es + 1
   laid-rows (if-else a b c) = laid-rows a + laid-rows b + laid-rows c + 6
-  laid-rows (map-over x a b) = laid-rows a + laid-rows b + 4
+  laid-rows (loop k xs es b) = laid-all es + laid-rows b + 3
 
   -- with a row for the atom of each
   pub laid-all : Exprs → ℕ

@@ -2,23 +2,22 @@
 use mathlib.Core.Path.{_≡_, refl, sym, ap, _∙_, fun-ext}
 use mathlib.Core.Bool.{Bool, true, false, cond}
 use mathlib.Core.List.{List, [], _∷_, _++_}
-use mathlib.Core.Option.{Option, none, some}
-use Prim.Native.Nat.{ℕ, zero, suc, _+_, _-_, _*_, _<_, _≤_}
+use mathlib.Core.Option.{none, some}
+use Prim.Native.Nat.{ℕ, zero, suc, _+_, _-_, _<_, _≤_}
 use native.Mathlib.Omega.{arith}
 use native.Mathlib.Decide.{ℕ-discrete, decLt}
 use lib.IntN.{ℤ}
 use lib.Dec.{ltb}
 use lib.ListN.{length, getD, set, drop, length-set, replicate}
 use lib.Seq.{getD-set-same, getD-set-other, drop-cons}
-use borrow.Author.Tests.{ltb-false, lt-ltb}
-use Rattle.semantics.specs.Outcome.{Outcome, done, stop}
-use Rattle.semantics.specs.Syntax.{Function, Script, function-at, no-function, function-size, size}
+use borrow.Author.Tests.{ltb-false}
+use Rattle.semantics.specs.Syntax.{Function, Script, function-at, no-function, function-size}
 use Rattle.semantics.specs.Code.{Row}
-use Rattle.semantics.specs.File.{script, part}
-use Rattle.semantics.specs.Normal.{fresh, too-many-names-from, too-many-names}
+use Rattle.semantics.specs.File.{at-function, part}
+use Rattle.semantics.specs.Normal.{fresh, too-many-names-from}
 use Rattle.semantics.specs.Annotate.{result-of, depths-of, annotated-body, function-rows, functions-rows, code}
-use Rattle.script_read.specs.Told.{Parts, low-at, high-at, told}
-use Rattle.script_read.proofs.Written.{FunctionWritten, ScriptWritten, HeadAt, total, After, script-written}
+use Rattle.script_read.specs.Told.{low-at, high-at, told}
+use Rattle.script_read.proofs.Written.{FunctionWritten, ScriptWritten, total, script-written}
 use Rattle.script_read.proofs.Starts.{start-of}
 use Rattle.script_read.proofs.Ends.{script-ends}
 use Rattle.script_read.proofs.Tables.{none-set}
@@ -27,7 +26,7 @@ use Rattle.normal_write.proofs.Rows.{wrote-none, wrote-then, wrote-as}
 use Rattle.normal_after.specs.After.{node-of}
 use Rattle.normal_after.proofs.Taken.{reads}
 use Rattle.normal_function.specs.Read.{read-function, rows-by, depths-by, Fitting}
-use Rattle.normal_function.proofs.Parameters.{high-most}
+use Rattle.normal_function.proofs.Parameters.{result-most}
 use Rattle.normal_function.proofs.Accepted.{function-is, fitting, low-there, high-there}
 use Rattle.normal_script.specs.Script.{Translatable, Headed}
 use Rattle.normal_script.specs.declared.Heads.{Heads}
@@ -72,7 +71,7 @@ module _ (k w : List ℕ) where
       go false f (suc j) h e later = later j (omega arith) e
 
   next-there : (g : Function) (p : ℕ) → FunctionWritten k w g p → node-of
-      (told (part k w 64 (p + 1 + low-at k w 0 p))) ≡ p + function-size g
+      (told (part k w 64 (p + 1 + low-at k w at-function p))) ≡ p + function-size g
   unfolding function-size
   next-there g p h =
       rw (
@@ -119,8 +118,8 @@ scan-begins k w n t = record {
 }
 
 module _ {k w : List ℕ} {fs : Script} {i p : ℕ} {ss rs : List ℕ} (s : Scanning k w fs i p ss rs) where
-  pub scan-goes : (d q : ℕ) → i < length fs → length fs ≤ 32 → d ≡ high-at k w 0 p → q ≡ node-of
-      (told (part k w 64 (p + 1 + low-at k w 0 p))) →
+  pub scan-goes : (d q : ℕ) → i < length fs → length fs ≤ 32 → d ≡ high-at k w at-function p → q ≡ node-of
+      (told (part k w 64 (p + 1 + low-at k w at-function p))) →
       Scanning k w fs (i + 1) q (set ss i p) (set rs i d)
   scan-goes d q h few e f = go (s .rest) (s .written) (s .count) (s .room) (s .same) (s .place)
     where
@@ -190,8 +189,7 @@ module _ {k w : List ℕ} {n : ℕ} (t : Translatable k w n) {r : Heads} (hd : H
             arith,
             hd .results f,
             high-there k w (written-at k w (t .tree) 0 f h (known t .0) .head),
-            high-most
-                k w 0 (start-of (t .tree) 0 f),
+            result-most k w (start-of (t .tree) 0 f),
           )
       go (no h) = omega (
         arith,

@@ -2,11 +2,11 @@
 use mathlib.Core.Path.{_≡_}
 use mathlib.Core.List.{List}
 use mathlib.Core.Option.{none}
-use Prim.Native.Nat.{ℕ, _+_, _<_, _≤_}
+use Prim.Native.Nat.{ℕ, _<_, _≤_}
 use lib.IntN.{ℤ}
 use lib.ListN.{length, getD}
 use Rattle.semantics.specs.Outcome.{Outcome, done, stop}
-use Rattle.semantics.specs.Syntax.{Script, function-at}
+use Rattle.semantics.specs.Syntax.{Script}
 use Rattle.semantics.specs.File.{script}
 use Rattle.semantics.specs.Normal.{too-many-names}
 use Rattle.semantics.specs.Annotate.{code, result-of}

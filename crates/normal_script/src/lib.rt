@@ -1,7 +1,6 @@
 // The code of a whole script, written backwards from its last function to its first, and the depths of its names.
-ghost use mathlib.Core.Path.{_≡_};
-ghost use Prim.Native.Nat.{_+_, _*_, _<_, _≤_};
-ghost use lib.ListN.{length};
+use script_read::Place;
+ghost use Prim.Native.Nat.{_+_, _*_, _<_};
 ghost use Rattle.semantics.specs.File.{script};
 ghost use Rattle.normal_script.specs.Script.{Translatable, Headed-by, Coded-by};
 ghost use Rattle.normal_script.specs.Depths.{Noted, Depths-by};
@@ -23,7 +22,7 @@ fn find_heads(kinds: &[u8], operands: &[u8], functions: usize) -> Heads
     let mut i: usize = 0;
     while i < functions {
         starts[i] = p;
-        let d = script_read::high_at(kinds, operands, p, 0);
+        let d = script_read::high_at(kinds, operands, p, Place::Function);
         results[i] = d;
         let q = normal_after::after_function(kinds, operands, p);
         p = q;

@@ -1,18 +1,18 @@
 -- Laws of a table of sets: a bit for each name.
 use mathlib.Core.Path.{_≡_, refl, sym, ap, _∙_, fun-ext}
 use mathlib.Core.Bool.{Bool, true, false, cond}
-use mathlib.Core.List.{List, [], _∷_}
+use mathlib.Core.List.{List}
 use Prim.Native.Nat.{ℕ, zero, suc, _+_, _*_, _/_, _%_, _<_, _≤_}
 use native.Mathlib.Omega.{arith}
 use native.Mathlib.Decide.{ℕ-discrete, decLt}
 use lib.Dec.{ltb, eqb}
-use lib.ListN.{length, getD, set, length-set, replicate, List·getD-eq-default}
+use lib.ListN.{length, getD, set, length-set, List·getD-eq-default}
 use lib.Seq.{getD-set-same, getD-set-other}
 use borrow.Author.Tests.{lt-ltb, le-ltb, eq-eqb, ne-eqb}
 use Rattle.semantics.specs.Basics.{updated}
 use Rattle.normal_code.specs.Plain.{set-of}
 use Rattle.normal_code.proofs.Sets.{Making, making-none, making-set, making-all}
-use Rattle.normal_uses.specs.Table.{bits, bit, digit, byte-of, sets-of}
+use Rattle.normal_uses.specs.Table.{bit, digit, byte-of, sets-of}
 
 pub digit-le : (b : Bool) → digit b ≤ 1
 digit-le true = omega arith

@@ -1,12 +1,11 @@
 -- What a tree makes of a live set: its own uses, joined with the set less what the tree binds on every way.
-use mathlib.Core.Path.{_≡_, refl, sym, ap, _∙_, fun-ext}
+use mathlib.Core.Path.{_≡_, refl, sym, ap, _∙_}
 use mathlib.Core.Bool.{Bool, true, false, _||_, _&&_, not}
 use mathlib.Core.List.{List, [], _∷_}
-use Prim.Native.Nat.{ℕ, zero, suc, _+_, _*_}
+use Prim.Native.Nat.{ℕ}
 use lib.Dec.{eqb}
-use Rattle.semantics.specs.Code.{Atom, Line, operation, call, literal, index, length-of, if-else, map-over, retain}
-use Rattle.semantics.specs.Code.{release, Tree, end, line}
-use Rattle.semantics.specs.Live.{Set, empty, _∪_, _∖_, only, is, among, live, live-before, uses}
+use Rattle.semantics.specs.Code.{Atom, Line, leaf, if-else, loop, retain, release, Tree, end, line}
+use Rattle.semantics.specs.Live.{Set, empty, _∪_, _∖_, _∖∖_, is, among, live, live-before, uses}
 use Rattle.normal_uses.specs.Noted.{bound, bound-by}
 
 -- ---- truth tables
@@ -43,13 +42,6 @@ two-split false false true true = refl
 two-split false false true false = refl
 two-split false false false true = refl
 two-split false false false false = refl
-
-one-split : (p e a : Bool) → p || (not e && a) ≡ (p || (not e && false)) || (a && not e)
-one-split true e a = refl
-one-split false true true = refl
-one-split false true false = refl
-one-split false false true = refl
-one-split false false false = refl
 
 if-split : (g t k j e x a : Bool) → g || ((t || ((not x && a) && not k)) || (e || ((not x && a) && not j))) ≡
     (g || ((t || ((not x && false) && not k)) || (e || ((not x && false) && not j)))) || (a && not (x || (k && j)))
@@ -122,7 +114,7 @@ both-bind false false false false = refl
 
 -- ---- live sets
 
-among-split : (us : List Atom) (A : Set) (y : ℕ) → among us A y ≡ among us empty y || A y
+pub among-split : (us : List Atom) (A : Set) (y : ℕ) → among us A y ≡ among us empty y || A y
 unfolding among
 among-split [] A y = refl
 among-split (a ∷ us) A y = rw (among-split us A y) (go (is a y) (among us empty y) (A y))
@@ -131,10 +123,12 @@ among-split (a ∷ us) A y = rw (among-split us A y) (go (is a y) (among us empt
     go true m a = refl
     go false m a = refl
 
-atoms-split : (us : List Atom) (x : ℕ) (A : Set) (y : ℕ) → among us (A ∖ x) y ≡ among us (empty ∖ x) y ||
-    (A y && not (eqb x y))
-atoms-split us x A y =
-    rw (among-split us (A ∖ x) y, among-split us (empty ∖ x) y) (one-split (among us empty y) (eqb x y) (A y))
+-- the atoms of a line whose trees use W
+atoms-split : (us : List Atom) (W : Set) (x : ℕ) (A : Set) (y : ℕ) →
+    among us (W ∪ A ∖ x) y ≡ among us (W ∪ empty ∖ x) y || (A y && not (eqb x y))
+atoms-split us W x A y =
+    rw (among-split us (W ∪ A ∖ x) y, among-split us (W ∪ empty ∖ x) y)
+    (two-split (among us empty y) (W y) (eqb x y) (A y))
 
 mutual
   unfolding live bound
@@ -147,14 +141,10 @@ mutual
       ∙ sym (ap (λ (b : Bool). b || (A y && not (bound-by l y || bound t y))) (line-split l (live t empty) y))
 
   line-split : (l : Line) (A : Set) (y : ℕ) → live-before l A y ≡ live-before l empty y || (A y && not (bound-by l y))
-  line-split (operation x o a b) A y = two-split (is a y) (is b y) (eqb x y) (A y)
-  line-split (call x f us) A y = atoms-split us x A y
-  line-split (literal x d us) A y = atoms-split us x A y
-  line-split (index x a b) A y = two-split (is a y) (is b y) (eqb x y) (A y)
-  line-split (length-of x a) A y = one-split (is a y) (eqb x y) (A y)
+  line-split (leaf x l us) A y = atoms-split us empty x A y
   line-split (if-else x g t e) A y =
       rw (live-split t (A ∖ x) y, live-split e (A ∖ x) y, live-split t (empty ∖ x) y, live-split e (empty ∖ x) y)
       (if-split (is g y) (live t empty y) (bound t y) (bound e y) (live e empty y) (eqb x y) (A y))
-  line-split (map-over x p a t) A y = two-split (is a y) ((uses t ∖ p) y) (eqb x y) (A y)
+  line-split (loop x k ps us t) A y = atoms-split us (uses t ∖∖ ps) x A y
   line-split (retain x) A y = end-split false (A y)
   line-split (release x) A y = end-split false (A y)

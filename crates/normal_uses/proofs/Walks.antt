@@ -1,12 +1,13 @@
 -- Laws of the walk backwards that notes what trees use.
 use mathlib.Core.Path.{_≡_, refl, sym, ap, _∙_, fun-ext}
-use mathlib.Core.Bool.{Bool, _||_, _&&_, not}
+use mathlib.Core.Bool.{Bool}
 use mathlib.Core.List.{List, [], _∷_}
-use Prim.Native.Nat.{ℕ, zero, suc, _+_, _-_, _*_, _<_, _≤_}
+use Prim.Native.Nat.{ℕ, _+_, _-_, _*_, _<_, _≤_}
 use native.Mathlib.Omega.{arith}
 use lib.Dec.{eqb}
-use lib.ListN.{length, getD}
+use lib.ListN.{getD}
 use Rattle.semantics.specs.Basics.{updated}
+use Rattle.semantics.specs.Kinds.{mapping}
 use Rattle.semantics.specs.Code as C
 use Rattle.semantics.specs.Code.{Tree, end, line}
 use Rattle.semantics.specs.Live.{Set, empty, is, only, _∪_, _∖_, among, live, live-before, uses}
@@ -16,8 +17,8 @@ use Rattle.normal_code.specs.declared.Atom.{Atom}
 use Rattle.normal_code.specs.declared.Line.{Line}
 use Rattle.normal_code.specs.declared.Line.the-variants.{Operation, Call, Literal, Index, Length, If, Map}
 use Rattle.normal_code.proofs.Trees.{tree-none, tree-some, back-goes, back-stops, back-none}
-use Rattle.normal_uses.specs.Table.{Sets, sets-of}
-use Rattle.normal_uses.specs.Noted.{bound, bound-by, noted, noted-line, first-of, second-of, TreeNoted, LineNoted}
+use Rattle.normal_uses.specs.Table.{sets-of}
+use Rattle.normal_uses.specs.Noted.{bound, bound-by, noted, noted-line, TreeNoted, LineNoted}
 use Rattle.normal_uses.specs.declared.Effect.{Effect}
 use Rattle.normal_uses.proofs.Effects.{live-split, branches, both-bind}
 
@@ -106,17 +107,17 @@ module _ {F : Plain} {d e : ℕ} {t₀ : List ℕ} where
 module _ (w rows : List ℕ) (p : ℕ) (A : Set) where
   pub before-two : (x k : ℕ) (a b : Atom) (U Z R : Set) → U ≡ A ∖ x → Z ≡ is (meant b) ∪ U → R ≡ is (meant a) ∪ Z →
       R ≡ line-uses w rows p (Operation x k a b) A
-  unfolding line-uses
+  unfolding line-uses among
   before-two x k a b U Z R u v r = rw (r, v, u)
 
   pub before-index : (x : ℕ) (a b : Atom) (U Z R : Set) → U ≡ A ∖ x → Z ≡ is (meant b) ∪ U → R ≡ is (meant a) ∪ Z →
       R ≡ line-uses w rows p (Index x a b) A
-  unfolding line-uses
+  unfolding line-uses among
   before-index x a b U Z R u v r = rw (r, v, u)
 
   pub before-length : (x : ℕ) (a : Atom) (U R : Set) → U ≡ A ∖ x → R ≡ is (meant a) ∪ U →
       R ≡ line-uses w rows p (Length x a) A
-  unfolding line-uses
+  unfolding line-uses among
   before-length x a U R u r = rw (r, u)
 
   pub before-call : (x f m : ℕ) (U R : Set) → U ≡ A ∖ x → R ≡ among (atoms-at w rows (p + 1) m) U →
@@ -209,7 +210,7 @@ module _ (F : Plain) (T : ℕ → Tree) (p q : ℕ) (U B : Set) (x : ℕ) (g : A
 
 -- a map; e is the end row of its tree
 module _ (F : Plain) (T : ℕ → Tree) (p q : ℕ) (U B : Set) (x y : ℕ) (a : Atom) {e : ℕ} (he : e ≡ q - 2) where
-  map-is : as-line F T p q (Map x y a) ≡ C.map-over x y (meant a) (T e)
+  map-is : as-line F T p q (Map x y a) ≡ C.loop x mapping (y ∷ []) (meant a ∷ []) (T e)
   unfolding as-line
   map-is = rw he
 
@@ -217,7 +218,7 @@ module _ (F : Plain) (T : ℕ → Tree) (p q : ℕ) (U B : Set) (x y : ℕ) (a :
       sets-of t₂ ≡ updated (sets-of t₁) (2 * x) (set-of (re .uses)) →
       (O J M : Set) → O ≡ set-of (re .uses) ∖ y → J ≡ U ∖ x → M ≡ O ∪ J → set-of (r .uses) ≡ is (meant a) ∪ M →
       set-of (r .binds) ≡ only x ∪ B → LineNoted (as-line F T p q (Map x y a)) U B t t₂ r
-  unfolding live bound noted
+  unfolding live bound noted among
   noted-map E t₂ O J M o j m n b =
       rw map-is (record {
         used = n ∙ rw (m, j, o, E .used);

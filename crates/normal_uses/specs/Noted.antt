@@ -1,13 +1,11 @@
 -- What each tree inside a tree uses, noted in a table of sets: each tree is walked once.
 -- What a tree makes of a live set is its own uses, joined with what is live after it less what it binds on every way.
 use mathlib.Core.Path.{_≡_}
-use mathlib.Core.Bool.{Bool, _&&_}
+use mathlib.Core.Bool.{_&&_}
 use mathlib.Core.List.{List}
-use Prim.Native.Nat.{ℕ, zero, suc, _+_, _*_}
-use lib.ListN.{length}
+use Prim.Native.Nat.{ℕ, _+_, _*_}
 use Rattle.semantics.specs.Basics.{updated}
-use Rattle.semantics.specs.Code.{Line, operation, call, literal, index, length-of, if-else, map-over, retain, release}
-use Rattle.semantics.specs.Code.{Tree, end, line}
+use Rattle.semantics.specs.Code.{Line, leaf, if-else, loop, retain, release, Tree, end, line}
 use Rattle.semantics.specs.Live.{Set, empty, _∪_, only, uses, live-before}
 use Rattle.normal_code.specs.Plain.{set-of}
 use Rattle.normal_uses.specs.Table.{Sets, sets-of}
@@ -27,13 +25,9 @@ unfoldable mutual
   bound (line l t) = bound-by l ∪ bound t
 
   pub bound-by : Line → Set
-  bound-by (operation x o a b) = only x
-  bound-by (call x f us) = only x
-  bound-by (literal x d us) = only x
-  bound-by (index x a b) = only x
-  bound-by (length-of x a) = only x
+  bound-by (leaf x l us) = only x
   bound-by (if-else x g t e) = only x ∪ (λ y. bound t y && bound e y)
-  bound-by (map-over x p a t) = only x
+  bound-by (loop x k ps us t) = only x
   bound-by (retain x) = empty
   bound-by (release x) = empty
 
@@ -44,13 +38,9 @@ unfoldable mutual
   noted (line l t) U = noted-line l (noted t U)
 
   pub noted-line : Line → Sets → Sets
-  noted-line (operation x o a b) U = U
-  noted-line (call x f us) U = U
-  noted-line (literal x d us) U = U
-  noted-line (index x a b) U = U
-  noted-line (length-of x a) U = U
+  noted-line (leaf x l us) U = U
   noted-line (if-else x g t e) U = updated (updated (noted t (noted e U)) (first-of x) (uses t)) (second-of x) (uses e)
-  noted-line (map-over x p a t) U = updated (noted t U) (first-of x) (uses t)
+  noted-line (loop x k ps us t) U = updated (noted t U) (first-of x) (uses t)
   noted-line (retain x) U = U
   noted-line (release x) U = U
 

@@ -1,21 +1,20 @@
 -- Where the table is right, the walk's rows are those of the annotated tree.
 use mathlib.Core.Path.{_≡_, refl, sym, ap, _∙_}
-use mathlib.Core.Bool.{Bool}
-use mathlib.Core.List.{List, [], _∷_, _++_, map, append-assoc}
-use Prim.Native.Nat.{ℕ, _+_, _*_}
-use lib.ListN.{length}
+use mathlib.Core.Bool.{_&&_}
+use mathlib.Core.List.{List, [], _∷_, _++_, append-assoc}
+use Prim.Native.Nat.{ℕ, _+_}
 use Rattle.semantics.specs.Basics.{with-if}
-use Rattle.semantics.specs.Code.{Atom, Line, operation, call, literal, index, length-of, if-else, map-over, retain}
-use Rattle.semantics.specs.Code.{release, Tree, end, line, retain-all, release-all, Row, row, atom-row, rows}
-use Rattle.semantics.specs.Code.{line-rows}
-use Rattle.semantics.specs.Live.{Set, is, only, among, _∪_, _∖_, live, live-before, uses}
-use Rattle.semantics.specs.Annotate.{NameDepths, is-array, dying, handed-again, annotate, annotate-line}
+use Rattle.semantics.specs.Kinds.{leaf-hands, leaf-reads, is-pending, loop-hands, loop-reads, element-name}
+use Rattle.semantics.specs.Code.{Atom, Line, leaf, if-else, loop, retain, release, Tree, end, line, retain-all}
+use Rattle.semantics.specs.Code.{release-all, Row, row, atom-row, rows, line-rows}
+use Rattle.semantics.specs.Live.{Set, empty, only, just, among, _∪_, _∖_, _∖∖_, live, live-before, uses}
+use Rattle.semantics.specs.Annotate.{NameDepths, is-array, arrays, dying, handed-again, annotate, annotate-line}
 use Rattle.normal_uses.specs.Table.{Sets}
 use Rattle.normal_uses.specs.Noted.{first-of, second-of}
 use Rattle.normal_write.specs.Parts.{retain-rows, release-rows, handed-one}
 use Rattle.normal_write.proofs.Rows.{append-none}
 use Rattle.normal_write.proofs.Names.{handed-cons}
-use Rattle.normal_walk.specs.Walk.{lives, before, walked, part, after-map}
+use Rattle.normal_walk.specs.Walk.{lives, before, walked, part, after-loop}
 
 module _ (U : Sets) where
   -- the table says what the trees inside a tree use
@@ -25,13 +24,9 @@ module _ (U : Sets) where
     Right (line l t) = RightLine l × Right t
 
     pub RightLine : Line → Type 0
-    RightLine (operation x o a b) = Unit {0}
-    RightLine (call x f us) = Unit {0}
-    RightLine (literal x d us) = Unit {0}
-    RightLine (index x a b) = Unit {0}
-    RightLine (length-of x a) = Unit {0}
+    RightLine (leaf x l us) = Unit {0}
     RightLine (if-else x g t e) = (U (first-of x) ≡ uses t) × (U (second-of x) ≡ uses e) × Right t × Right e
-    RightLine (map-over x p a t) = (U (first-of x) ≡ uses t) × Right t
+    RightLine (loop x j ps us t) = (U (first-of x) ≡ uses t) × Right t
     RightLine (retain x) = Unit {0}
     RightLine (release x) = Unit {0}
 
@@ -43,13 +38,9 @@ module _ (U : Sets) where
     lives-right (line l t) L h = ap (before U l) (lives-right t L (h .1)) ∙ before-right l (live t L) (h .0)
 
     before-right : (l : Line) (A : Set) → RightLine l → before U l A ≡ live-before l A
-    before-right (operation x o a b) A h = refl
-    before-right (call x f us) A h = refl
-    before-right (literal x d us) A h = refl
-    before-right (index x a b) A h = refl
-    before-right (length-of x a) A h = refl
+    before-right (leaf x l us) A h = refl
     before-right (if-else x g t e) A h = rw (lives-right t (A ∖ x) (h .2), lives-right e (A ∖ x) (h .3))
-    before-right (map-over x p a t) A h = rw (h .0)
+    before-right (loop x j ps us t) A h = rw (h .0)
     before-right (retain x) A h = refl
     before-right (release x) A h = refl
 
@@ -58,7 +49,7 @@ unfolding rows
 rows-retains [] t = refl
 rows-retains (x ∷ xs) t = ap (λ (l : List Row). row 14 x ∷ l) (rows-retains xs t)
 
-rows-releases : (xs : List ℕ) (t : Tree) → rows (release-all xs t) ≡ release-rows xs ++ rows t
+pub rows-releases : (xs : List ℕ) (t : Tree) → rows (release-all xs t) ≡ release-rows xs ++ rows t
 unfolding rows
 rows-releases [] t = refl
 rows-releases (x ∷ xs) t = ap (λ (l : List Row). row 15 x ∷ l) (rows-releases xs t)
@@ -66,16 +57,21 @@ rows-releases (x ∷ xs) t = ap (λ (l : List Row). row 15 x ∷ l) (rows-releas
 three : (a b c d e f t : List Row) → a ≡ d → b ≡ e → c ≡ f ++ t → (a ++ b) ++ c ≡ (d ++ (e ++ f)) ++ t
 three a b c d e f t g h i = rw (g, h, i) (simp append-assoc)
 
-module _ (Γ : NameDepths) where
-  rows-handing : (us : List Atom) (x : ℕ) (A : Set) (l : Line) (r : Row) (k : Tree) → line-rows l ≡ r ∷ map atom-row
-      us →
-      (retain-rows (handed-again Γ us A) ++ ((r ∷ map atom-row us) ++ release-rows (dying Γ (only x) A))) ++ rows k
-      ≡ rows (retain-all (handed-again Γ us A) (line l (release-all (dying Γ (only x) A) k)))
-  unfolding rows
-  rows-handing us x A l r k e =
-      sym (rows-retains (handed-again Γ us A) (line l (release-all (dying Γ (only x) A) k))
-      ∙ rw (e, rows-releases (dying Γ (only x) A) k) (simp append-assoc))
+-- a line between retains before it, and retains and releases after it
+around : (hs ps ds : List ℕ) (l : Line) (k : Tree) →
+    (retain-rows hs ++ (line-rows l ++ (retain-rows ps ++ release-rows ds))) ++ rows k
+    ≡ rows (retain-all hs (line l (retain-all ps (release-all ds k))))
+unfolding rows
+around hs ps ds l k =
+    sym (rows-retains hs (line l (retain-all ps (release-all ds k)))
+    ∙ rw (rows-retains ps (release-all ds k), rows-releases ds k) (simp append-assoc))
 
+-- a tree opened by retains and releases
+opened : (es ds : List ℕ) (t : Tree) → rows (retain-all es (release-all ds t)) ≡ retain-rows es ++ (release-rows ds ++
+    rows t)
+opened es ds t = rows-retains es (release-all ds t) ∙ rw (rows-releases ds t)
+
+module _ (Γ : NameDepths) where
   end-rows : (a : Atom) (L : Set) → handed-one Γ a L ≡ handed-again Γ (a ∷ []) L
   unfolding among handed-again
   end-rows a L = sym (append-none (handed-one Γ a L)) ∙ handed-cons Γ a [] L
@@ -93,16 +89,10 @@ module _ (Γ : NameDepths) where
 
       part-right : (l : Line) (A : Set) (k : Tree) → RightLine U l → part U Γ l A ++ rows k ≡ rows (annotate-line Γ
           l A k)
-      part-right (operation x o a b) A k h = refl
-      part-right (call x f us) A k h = rows-handing us x A (call x f us) (row 8 (x + 256 * f)) k refl
-      part-right (literal x d us) A k h =
-          rows-handing us x A (literal x d us) (row 9 (x + 256 * length us + 65536 * d)) k refl
-      part-right (index x a b) A k h =
-          sym (ap (λ (l : List Row). row 10 x ∷ (atom-row a ∷ (atom-row b ∷ l)))
-          (rows-retains (with-if (is-array Γ x) x []) (release-all (dying Γ (is a ∪ only x) A) k)
-          ∙ rw (rows-releases (dying Γ (is a ∪ only x) A) k) (simp append-assoc)))
-      part-right (length-of x a) A k h =
-          sym (ap (λ (l : List Row). row 11 x ∷ (atom-row a ∷ l)) (rows-releases (dying Γ (is a) A) k))
+      part-right (leaf x l us) A k h =
+          around (handed-again Γ (leaf-hands l us) (among (leaf-reads l us) empty ∪ A))
+          (with-if (is-pending l && is-array Γ x) x []) (dying Γ (among (leaf-reads l us) empty ∪ only x) A)
+          (leaf x l us) k
       part-right (if-else x g t e) A k h =
           rw (
             h .0,
@@ -117,21 +107,17 @@ module _ (Γ : NameDepths) where
           (rows-releases (dying Γ (uses e) (live t (A ∖ x))) (annotate Γ t (A ∖ x)))
           (rows-releases (dying Γ (uses t) (live e (A ∖ x))) (annotate Γ e (A ∖ x)))
           (rows-releases (dying Γ (only x) A) k))))
-      part-right (map-over x p a t) A k h =
+      part-right (loop x j ps us t) A k h =
           rw (
             h .0,
-            lives-right U t (after-map x p (uses t) A) (h .1),
-            walked-right t (after-map x p (uses t) A)
-                (h .1),
+            lives-right U t (after-loop x ps (uses t) A) (h .1),
+            walked-right t (after-loop x ps (uses t) A) (h .1),
+            ← opened (arrays Γ (element-name j ps)) (dying Γ (just ps) (live t (after-loop x ps (uses t) A)))
+                (annotate Γ t (after-loop x ps (uses t) A)),
           )
-          (sym (ap (λ (l : List Row). row 13 (x + 256 * p) ∷ (atom-row a ∷ l)) (two _ _ _ _ (rows k)
-          (rows-retains (with-if (is-array Γ p) p []) (release-all (dying Γ (only p) (live t (after-map x p (uses t)
-          A))) (annotate Γ t (after-map x p (uses t) A)))
-          ∙ ap (λ (l : List Row). retain-rows (with-if (is-array Γ p) p []) ++ l) (rows-releases (dying Γ (only p)
-          (live t (after-map x p (uses t) A))) (annotate Γ t (after-map x p (uses t) A))))
-          (rows-releases (dying Γ (is a ∪ uses t ∖ p ∪ only x) A) k))))
-        where
-          two : (a c d f t : List Row) → a ≡ d → c ≡ f ++ t → a ++ c ≡ (d ++ f) ++ t
-          two a c d f t g i = rw (g, i) (simp append-assoc)
+          (around (handed-again Γ (loop-hands j us) (among (loop-reads j us) (uses t ∖∖ ps) ∪ A)) []
+          (dying Γ (among (loop-reads j us) (uses t ∖∖ ps) ∪ only x) A) (loop x j ps us (retain-all
+          (arrays Γ (element-name j ps)) (release-all (dying Γ (just ps) (live t (after-loop x ps (uses t) A)))
+          (annotate Γ t (after-loop x ps (uses t) A))))) k)
       part-right (retain x) A k h = refl
       part-right (release x) A k h = refl

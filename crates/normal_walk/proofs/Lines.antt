@@ -1,15 +1,17 @@
 -- Laws of the walk of a line: one for each kind.
-use mathlib.Core.Path.{_≡_, refl, sym, ap, _∙_}
-use mathlib.Core.Bool.{Bool}
+use mathlib.Core.Path.{_≡_, refl, sym, ap, _∙_, fun-ext}
+use mathlib.Core.Bool.{Bool, true, false, _||_}
 use mathlib.Core.List.{List, [], _∷_, _++_, append-assoc}
-use Prim.Native.Nat.{ℕ, zero, suc, _+_, _-_, _*_, _<_, _≤_}
+use Prim.Native.Nat.{ℕ, _+_, _-_, _*_}
+use native.Mathlib.Omega.{arith}
 use lib.IntN.{ℤ}
-use lib.ListN.{length, getD}
+use lib.Dec.{eqb}
 use Rattle.semantics.specs.Basics.{with-if}
 use Rattle.semantics.specs.Code as C
-use Rattle.semantics.specs.Code.{Tree, Row, row, atom-row, operation-kind}
-use Rattle.semantics.specs.Live.{Set, empty, is, only, _∪_, _∖_}
-use Rattle.semantics.specs.Annotate.{NameDepths, is-array, dying}
+use Rattle.semantics.specs.Kinds.{operation, index, length-of, mapping}
+use Rattle.semantics.specs.Code.{Tree, Row, row, atom-row}
+use Rattle.semantics.specs.Live.{Set, empty, is, only, just, among, _∪_, _∖_}
+use Rattle.semantics.specs.Annotate.{NameDepths, is-array, arrays, dying, handed-again}
 use Rattle.normal_code.specs.Plain.{Plain, set-of, meant, atoms-at, operation-of, line-uses, start, as-line}
 use Rattle.normal_code.specs.declared.Atom.{Atom}
 use Rattle.normal_code.specs.declared.Line.the-variants.{Operation, Call, Literal, Index, Length, If, Map}
@@ -17,10 +19,10 @@ use Rattle.normal_code.proofs.Trees.{length-atoms}
 use Rattle.normal_uses.specs.Table.{Sets}
 use Rattle.normal_uses.specs.Noted.{first-of, second-of}
 use Rattle.normal_write.specs.Wrote.{Wrote}
-use Rattle.normal_write.specs.Parts.{retain-rows, release-rows, operating, handing, indexing, measuring}
-use Rattle.normal_write.proofs.Names.{only-one}
+use Rattle.normal_write.specs.Parts.{retain-rows, release-rows, leaf-part, handing}
+use Rattle.normal_write.proofs.Names.{only-one, call-rows, literal-rows}
 use Rattle.normal_write.proofs.Rows.{wrote-then, wrote-as}
-use Rattle.normal_walk.specs.Walk.{lives, before, walked, part, after-map, Done}
+use Rattle.normal_walk.specs.Walk.{lives, before, walked, part, after-loop, Done}
 use Rattle.normal_walk.specs.declared.Walked.{Walked}
 use Rattle.normal_walk.proofs.Trees.{done-at}
 
@@ -28,7 +30,7 @@ module _ (F : Plain) (T : ℕ → Tree) (U : Sets) (Γ : NameDepths) (p q : ℕ)
     {k k₁ : List ℕ} {o o₁ : List ℤ} {w v : ℕ} {s : List Bool} where
   pub operation-done : (x kind : ℕ) (a b : Atom) → set-of s ≡ line-uses (F .operands) (F .rows) p (Operation x kind
       a b) A →
-      Wrote k o k₁ o₁ w v (operating Γ (operation-kind (operation-of kind)) x (meant a) (meant b)) →
+      Wrote k o k₁ o₁ w v (leaf-part Γ x (operation (operation-of kind)) (meant a ∷ (meant b ∷ [])) A) →
       Done (before U (as-line F T p q (Operation x kind a b)) A) (part U Γ (as-line F T p q (Operation x kind a b))
       A) k o k₁ o₁ w (done-at s v)
   unfolding lives walked as-line line-uses
@@ -39,7 +41,7 @@ module _ (F : Plain) (T : ℕ → Tree) (U : Sets) (Γ : NameDepths) (p q : ℕ)
       Done (before U (as-line F T p q (Call x f m)) A) (part U Γ (as-line F T p q (Call x f m)) A) k o k₁ o₁ w
       (done-at s v)
   unfolding lives walked as-line line-uses
-  call-done x f m e y = record { seen = e; wrote = y }
+  call-done x f m e y = record { seen = e; wrote = wrote-as (call-rows Γ x A f _) y }
 
   pub literal-done : (x d m : ℕ) → set-of s ≡ line-uses (F .operands) (F .rows) p (Literal x d m) A →
       Wrote k o k₁ o₁ w v (handing Γ x (row 9 (x + 256 * m + 65536 * d)) (atoms-at (F .operands) (F .rows) (p + 1)
@@ -51,19 +53,20 @@ module _ (F : Plain) (T : ℕ → Tree) (U : Sets) (Γ : NameDepths) (p q : ℕ)
     seen = e;
     wrote = wrote-as
         (ap (λ (n : ℕ). handing Γ x (row 9 (x + 256 * n + 65536 * d)) (atoms-at (F .operands) (F .rows) (p + 1) m) A)
-        (sym (length-atoms (F .operands) (F .rows) (p + 1) m)))
+        (sym (length-atoms (F .operands) (F .rows) (p + 1) m))
+        ∙ literal-rows Γ x A d (atoms-at (F .operands) (F .rows) (p + 1) m))
         y;
   }
 
   pub index-done : (x : ℕ) (a b : Atom) → set-of s ≡ line-uses (F .operands) (F .rows) p (Index x a b) A →
-      Wrote k o k₁ o₁ w v (indexing Γ x (meant a) (meant b) A) →
+      Wrote k o k₁ o₁ w v (leaf-part Γ x index (meant a ∷ (meant b ∷ [])) A) →
       Done (before U (as-line F T p q (Index x a b)) A) (part U Γ (as-line F T p q (Index x a b)) A) k o k₁ o₁ w
       (done-at s v)
   unfolding lives walked as-line line-uses
   index-done x a b e y = record { seen = e; wrote = y }
 
   pub length-done : (x : ℕ) (a : Atom) → set-of s ≡ line-uses (F .operands) (F .rows) p (Length x a) A →
-      Wrote k o k₁ o₁ w v (measuring Γ x (meant a) A) →
+      Wrote k o k₁ o₁ w v (leaf-part Γ x length-of (meant a ∷ []) A) →
       Done (before U (as-line F T p q (Length x a)) A) (part U Γ (as-line F T p q (Length x a)) A) k o k₁ o₁ w
       (done-at s v)
   unfolding lives walked as-line line-uses
@@ -87,19 +90,44 @@ module _ (F : Plain) (T : ℕ → Tree) (U : Sets) (Γ : NameDepths) (q : ℕ) (
   unfolding lives as-line
   if-seen x g e f c B Z Y J R he hf hc b z y j r = rw (r, j, y, z, b, hc, hf, he)
 
+  map-same : (x y : ℕ) (a : Row) (k : List Row) (L : Set) {n m : ℕ} {J K S Q : Set} → n ≡ m → J ≡ K → S ≡ Q →
+      row 13 (x + 256 * n) ∷ (a ∷ (retain-rows (with-if (is-array Γ y) y [])
+      ++ (release-rows (dying Γ J L) ++ (k ++ release-rows (dying Γ S A)))))
+      ≡ row 13 (x + 256 * m) ∷ (a ∷ ((retain-rows (with-if (is-array Γ y) y [])
+      ++ (release-rows (dying Γ K L) ++ k)) ++ release-rows (dying Γ Q A)))
+  map-same x y a k L e f g = rw (e, f, g) (simp append-assoc)
+
+  -- a map's part: one atom, and one name of a pass
+  map-part : (x y : ℕ) (a : C.Atom) (t : Tree) →
+      row 13 (x + 256 * y) ∷ (atom-row a ∷ (retain-rows (with-if (is-array Γ y) y [])
+      ++ (release-rows (dying Γ (only y) (lives U t (after-loop x (y ∷ []) (U (first-of x)) A)))
+      ++ (walked U Γ t (after-loop x (y ∷ []) (U (first-of x)) A)
+      ++ release-rows (dying Γ (is a ∪ U (first-of x) ∖ y ∪ only x) A)))))
+      ≡ part U Γ (C.loop x mapping (y ∷ []) (a ∷ []) t) A
+  unfolding walked among arrays handed-again
+  map-part x y a t =
+      map-same x y (atom-row a) (walked U Γ t (after-loop x (y ∷ []) (U (first-of x)) A))
+      (lives U t (after-loop x (y ∷ []) (U (first-of x)) A)) (let e : y ≡ y + 256 * 0 = omega arith in e)
+      (sym (only-one y empty (just (y ∷ [])) refl refl))
+      (fun-ext (λ z. or-assoc (is a z) ((U (first-of x) ∖ y) z) (eqb x z)))
+    where
+      or-assoc : (i j k : Bool) → i || (j || k) ≡ (i || j) || k
+      or-assoc true j k = refl
+      or-assoc false j k = refl
+
   map-rows : (x y : ℕ) (a : Atom) (e : ℕ) (I O B D N J P S : Set) → e ≡ q - 2 → I ≡ U (first-of x) → O ≡ I ∖ y → B ≡
       A ∖ x →
       D ≡ O ∪ B → N ≡ empty → J ≡ only x ∪ N → P ≡ O ∪ J → S ≡ is (meant a) ∪ P →
       (row 13 (x + 256 * y) ∷ []) ++ ((atom-row (meant a) ∷ []) ++ (retain-rows (with-if (is-array Γ y) y [])
       ++ (release-rows (dying Γ (only y) (lives U (T e) D)) ++ (walked U Γ (T e) D ++ release-rows (dying Γ S A)))))
       ≡ part U Γ (as-line F T 0 q (Map x y a)) A
-  unfolding walked as-line
+  unfolding as-line
   map-rows x y a e I O B D N J P S he hI hO hB hD n hJ hP hS =
-      rw (hS, hP, only-one x N J n hJ, hD, hB, hO, hI, he) (simp append-assoc)
+      rw (hS, hP, only-one x N J n hJ, hD, hB, hO, hI, he) (map-part x y (meant a) (T (q - 2)))
 
   map-seen : (x y : ℕ) (a : Atom) (e : ℕ) (I O B D R : Set) → I ≡ U (first-of x) → O ≡ I ∖ y → B ≡ A ∖ x → D ≡ O ∪ B →
       R ≡ is (meant a) ∪ D → R ≡ before U (as-line F T 0 q (Map x y a)) A
-  unfolding lives as-line
+  unfolding lives as-line among
   map-seen x y a e I O B D R hI hO hB hD hR = rw (hR, hD, hB, hO, hI)
 
   pub if-done : (x : ℕ) (g : Atom) (e f c : ℕ) (E W B : Set) → e ≡ q - 2 → f ≡ start (F .notes) 4096 e → c ≡ f - 2 →

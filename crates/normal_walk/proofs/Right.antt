@@ -1,22 +1,20 @@
 -- The table that is noted from a normal form is right: each line of it binds a name of its own.
-use mathlib.Core.Path.{_≡_, refl, sym, ap, _∙_}
-use mathlib.Core.Bool.{Bool, cond}
+use mathlib.Core.Path.{_≡_, refl, _∙_}
 use mathlib.Core.Logic.{_⊎_, inl, inr, ⊎-elim}
-use mathlib.Core.List.{List, [], _∷_}
-use Prim.Native.Nat.{ℕ, zero, suc, _+_, _*_, _<_, _≤_}
+use Prim.Native.Nat.{ℕ, _+_, _*_, _<_, _≤_}
 use native.Mathlib.Omega.{arith}
-use lib.Dec.{eqb}
+use lib.ListN.{length}
 use borrow.Author.Tests.{eq-eqb, ne-eqb}
 use Rattle.semantics.specs.Basics.{updated}
 use Rattle.semantics.specs.Syntax as S
 use Rattle.semantics.specs.Syntax.{Expr, Exprs}
 use Rattle.semantics.specs.Code as C
 use Rattle.semantics.specs.Code.{Tree, end, line}
-use Rattle.semantics.specs.Normal.{fresh, fresh-all, Meanings, atom, atoms, lines, all-lines, normal}
-use Rattle.semantics.specs.Live.{Set, uses}
+use Rattle.semantics.specs.Normal.{fresh, fresh-all, Meanings, atom, atoms, numbered, meaning-names, lines, all-lines}
+use Rattle.semantics.specs.Normal.{normal}
 use Rattle.normal_uses.specs.Table.{Sets}
-use Rattle.normal_uses.specs.Noted.{first-of, second-of, noted, noted-line}
-use Rattle.normal_walk.proofs.Annotated.{Right, RightLine}
+use Rattle.normal_uses.specs.Noted.{first-of, second-of, noted}
+use Rattle.normal_walk.proofs.Annotated.{Right}
 
 -- a slot that is none of the names from n to before m
 abbrev Off : ℕ → ℕ → ℕ → Type 0
@@ -42,23 +40,12 @@ mutual
       noted (lines e μ n k) U z ≡ noted k U z
   keeps (S.number v) μ n k U z h = refl
   keeps (S.name x) μ n k U z h = refl
-  keeps (S.operation o a b) μ n k U z h =
-      keeps a μ n _ U z (off-part n _ n (n + fresh a) z h (omega arith) (omega arith))
-      ∙ keeps b μ (n + fresh a) _ U z (off-part n _ (n + fresh a) (n + fresh a + fresh b) z h (omega arith)
-      (omega arith))
   keeps (S.let-in x a b) μ n k U z h =
       keeps a μ n _ U z (off-part n _ n (n + fresh a) z h (omega arith) (omega arith))
       ∙ keeps b (updated μ x (atom a μ n)) (n + fresh a) k U z (off-part n _ (n + fresh a) (n + fresh a + fresh b) z
       h (omega arith) (omega arith))
-  keeps (S.call f es) μ n k U z h = all-keeps es μ n _ U z (off-part n _ n (n + fresh-all es) z h (omega arith)
+  keeps (S.leaf l es) μ n k U z h = all-keeps es μ n _ U z (off-part n _ n (n + fresh-all es) z h (omega arith)
       (omega arith))
-  keeps (S.literal d es) μ n k U z h = all-keeps es μ n _ U z (off-part n _ n (n + fresh-all es) z h (omega arith)
-      (omega arith))
-  keeps (S.index a b) μ n k U z h =
-      keeps a μ n _ U z (off-part n _ n (n + fresh a) z h (omega arith) (omega arith))
-      ∙ keeps b μ (n + fresh a) _ U z (off-part n _ (n + fresh a) (n + fresh a + fresh b) z h (omega arith)
-      (omega arith))
-  keeps (S.length-of a) μ n k U z h = keeps a μ n _ U z (off-part n _ n (n + fresh a) z h (omega arith) (omega arith))
   keeps (S.if-else a b c) μ n k U z h =
       keeps a μ n _ U z (off-part n _ n (n + fresh a) z h (omega arith) (omega arith))
       ∙ update-other _ (second-of (n + fresh a)) z _ (λ e. ⊎-elim (λ l. omega arith) (λ l. omega arith) h)
@@ -67,11 +54,12 @@ mutual
       (omega arith) (omega arith))
       ∙ keeps c μ (n + fresh a + 1 + fresh b) _ _ z (off-part n _ (n + fresh a + 1 + fresh b) (n + fresh a + 1 +
       fresh b + fresh c) z h (omega arith) (omega arith))
-  keeps (S.map-over y a b) μ n k U z h =
-      keeps a μ n _ U z (off-part n _ n (n + fresh a) z h (omega arith) (omega arith))
-      ∙ update-other _ (first-of (n + fresh a)) z _ (λ e. ⊎-elim (λ l. omega arith) (λ l. omega arith) h)
-      ∙ keeps b (updated μ y (C.name (n + fresh a + 1))) (n + fresh a + 2) _ _ z (off-part n _ (n + fresh a + 2)
-      (n + fresh a + 2 + fresh b) z h (omega arith) (omega arith))
+  keeps (S.loop j xs es b) μ n k U z h =
+      all-keeps es μ n _ U z (off-part n _ n (n + fresh-all es) z h (omega arith) (omega arith))
+      ∙ update-other _ (first-of (n + fresh-all es)) z _ (λ e. ⊎-elim (λ l. omega arith) (λ l. omega arith) h)
+      ∙ keeps b (meaning-names xs (n + fresh-all es + 1) μ) (n + fresh-all es + (1 + length xs)) _ _ z
+      (off-part n _ (n + fresh-all es + (1 + length xs)) (n + fresh-all es + (1 + length xs) + fresh b) z h
+      (omega arith) (omega arith))
 
   all-keeps : (es : Exprs) (μ : Meanings) (n : ℕ) (k : Tree) (U : Sets) (z : ℕ) → Off n (n + fresh-all es) z →
       noted (all-lines es μ n k) U z ≡ noted k U z
@@ -94,6 +82,12 @@ module _ (W : Sets) where
   later a μ n k U p q h p′ q′ g l i z x y =
       h z (omega arith) (omega arith) ∙ keeps a μ n k U z (inr (omega arith))
 
+  all-later : (es : Exprs) (μ : Meanings) (n : ℕ) (k : Tree) (U : Sets) (p q : ℕ) → Has W (noted (all-lines es μ n k)
+      U) p q →
+      (p′ q′ : ℕ) → p ≤ p′ → q′ ≤ q → n + fresh-all es ≤ p′ → Has W (noted k U) p′ q′
+  all-later es μ n k U p q h p′ q′ g l i z x y =
+      h z (omega arith) (omega arith) ∙ all-keeps es μ n k U z (inr (omega arith))
+
   mutual
     unfolding noted lines fresh
 
@@ -102,21 +96,11 @@ module _ (W : Sets) where
         Right W k → Right W (lines e μ n k)
     right (S.number v) μ n k U h r = r
     right (S.name x) μ n k U h r = r
-    right (S.operation o a b) μ n k U h r =
-        right a μ n _ U (λ z x y. h z x (omega arith))
-        (right b μ (n + fresh a) _ U (later a μ n _ U n _ h (n + fresh a) (n + fresh a + fresh b) (omega arith)
-        (omega arith) (omega arith)) (tt, r))
     right (S.let-in x a b) μ n k U h r =
         right a μ n _ U (λ z x y. h z x (omega arith))
         (right b (updated μ x (atom a μ n)) (n + fresh a) k U
         (later a μ n _ U n _ h (n + fresh a) (n + fresh a + fresh b) (omega arith) (omega arith) (omega arith)) r)
-    right (S.call f es) μ n k U h r = all-right es μ n _ U (λ z x y. h z x (omega arith)) (tt, r)
-    right (S.literal d es) μ n k U h r = all-right es μ n _ U (λ z x y. h z x (omega arith)) (tt, r)
-    right (S.index a b) μ n k U h r =
-        right a μ n _ U (λ z x y. h z x (omega arith))
-        (right b μ (n + fresh a) _ U (later a μ n _ U n _ h (n + fresh a) (n + fresh a + fresh b) (omega arith)
-        (omega arith) (omega arith)) (tt, r))
-    right (S.length-of a) μ n k U h r = right a μ n _ U (λ z x y. h z x (omega arith)) (tt, r)
+    right (S.leaf l es) μ n k U h r = all-right es μ n _ U (λ z x y. h z x (omega arith)) (tt, r)
     right (S.if-else a b c) μ n k U h r =
         let m : ℕ = n + fresh a in
         let t : Tree = lines b μ (m + 1) (end (atom b μ (m + 1))) in
@@ -143,16 +127,18 @@ module _ (W : Sets) where
           ),
           r,
         )
-    right (S.map-over y a b) μ n k U h r =
-        let m : ℕ = n + fresh a in
-        let μ′ : Meanings = updated μ y (C.name (m + 1)) in
-        let t : Tree = lines b μ′ (m + 2) (end (atom b μ′ (m + 2))) in
-        let g : Has W (noted (line (C.map-over m (m + 1) (atom a μ n) t) k) U) m (n + (fresh a + 2 + fresh b)) =
-        later a μ n _ U n _ h m _ (omega arith) (omega arith) (omega arith) in
-        right a μ n _ U (λ z x y. h z x (omega arith)) (
+    right (S.loop j xs es b) μ n k U h r =
+        let m : ℕ = n + fresh-all es in
+        let i : ℕ = m + (1 + length xs) in
+        let μ′ : Meanings = meaning-names xs (m + 1) μ in
+        let t : Tree = lines b μ′ i (end (atom b μ′ i)) in
+        let g : Has W (noted (line (C.loop m j (numbered xs (m + 1)) (atoms es μ n) t) k) U) m
+        (n + (fresh-all es + (1 + length xs) + fresh b)) = all-later es μ n _ U n _ h m _ (omega arith) (omega arith)
+        (omega arith) in
+        all-right es μ n _ U (λ z x y. h z x (omega arith)) (
           (
             g (first-of m) (omega arith) (omega arith) ∙ update-same _ (first-of m) _,
-            right b μ′ (m + 2) (end (atom b μ′ (m + 2))) (noted k U)
+            right b μ′ i (end (atom b μ′ i)) (noted k U)
                 (λ z x y. g z (omega arith) (omega arith) ∙ update-other _ (first-of m) z _ (λ i. omega arith))
                 tt,
           ),

@@ -1,13 +1,13 @@
 -- Laws of the walk of a tree.
-use mathlib.Core.Path.{_≡_, refl, sym, ap, _∙_, subst}
+use mathlib.Core.Path.{_≡_, sym, ap, _∙_, subst}
 use mathlib.Core.Bool.{Bool}
-use mathlib.Core.List.{List, [], _∷_, _++_}
-use Prim.Native.Nat.{ℕ, zero, suc, _+_, _-_, _<_, _≤_}
+use mathlib.Core.List.{List, _++_}
+use Prim.Native.Nat.{ℕ, _+_, _-_, _<_, _≤_}
 use native.Mathlib.Omega.{arith}
 use lib.IntN.{ℤ}
-use lib.ListN.{length, getD}
+use lib.ListN.{getD}
 use Rattle.semantics.specs.Code as C
-use Rattle.semantics.specs.Code.{Tree, end, line, Row}
+use Rattle.semantics.specs.Code.{Tree, end, line}
 use Rattle.semantics.specs.Live.{Set, is, _∪_}
 use Rattle.semantics.specs.Annotate.{NameDepths, dying}
 use Rattle.normal_code.specs.Plain.{Plain, set-of, meant, placed, line-at, note, as-line, back, end-at, tree-to}
@@ -15,7 +15,7 @@ use Rattle.normal_code.specs.declared.Atom.{Atom}
 use Rattle.normal_code.specs.declared.Line.{Line}
 use Rattle.normal_code.proofs.Trees.{tree-none, tree-some, back-goes, back-stops, back-none}
 use Rattle.normal_uses.specs.Table.{Sets}
-use Rattle.normal_uses.proofs.Walks.{Ended, ended}
+use Rattle.normal_uses.proofs.Walks.{ended}
 use Rattle.normal_write.specs.Wrote.{Wrote}
 use Rattle.normal_write.specs.Parts.{release-rows, ending}
 use Rattle.normal_write.proofs.Rows.{wrote-then, wrote-as}

@@ -1,24 +1,23 @@
 -- The walk that annotates: the rows of a tree and what is live before it, where a table says what the trees inside it use.
 use mathlib.Core.Path.{_≡_}
-use mathlib.Core.List.{List, [], _∷_, _++_}
+use mathlib.Core.List.{List, _∷_, _++_, map}
 use Prim.Native.Nat.{ℕ, _+_, _*_}
 use lib.IntN.{ℤ}
-use lib.ListN.{length}
-use Rattle.semantics.specs.Basics.{with-if}
-use Rattle.semantics.specs.Code.{Line, operation, call, literal, index, length-of, if-else, map-over, retain, release}
-use Rattle.semantics.specs.Code.{Tree, end, line, Row, row, atom-row, operation-kind, line-rows}
-use Rattle.semantics.specs.Live.{Set, is, only, among, _∪_, _∖_}
-use Rattle.semantics.specs.Annotate.{NameDepths, is-array, dying}
+use Rattle.semantics.specs.Kinds.{loop-kind, loop-hands, loop-reads, element-name, packed-names}
+use Rattle.semantics.specs.Code.{Line, leaf, if-else, loop, retain, release, Tree, end, line, Row, row, atom-row}
+use Rattle.semantics.specs.Code.{line-rows}
+use Rattle.semantics.specs.Live.{Set, is, only, just, among, _∪_, _∖_, _∖∖_}
+use Rattle.semantics.specs.Annotate.{NameDepths, arrays, dying, handed-again}
 use Rattle.normal_code.specs.Plain.{set-of}
 use Rattle.normal_uses.specs.Table.{Sets}
 use Rattle.normal_uses.specs.Noted.{first-of, second-of}
 use Rattle.normal_write.specs.Wrote.{Wrote}
-use Rattle.normal_write.specs.Parts.{retain-rows, release-rows, operating, handing, indexing, measuring, ending}
+use Rattle.normal_write.specs.Parts.{retain-rows, release-rows, leaf-part, ending}
 use Rattle.normal_walk.specs.declared.Walked.{Walked}
 
--- live after the tree of a map whose outer names are W, where A is live after the map line
-abbrev pub after-map : ℕ → ℕ → Set → Set → Set
-after-map x p W A = W ∖ p ∪ A ∖ x
+-- live after the tree of a loop that uses W, where A is live after the loop's line
+abbrev pub after-loop : ℕ → List ℕ → Set → Set → Set
+after-loop x ps W A = W ∖∖ ps ∪ A ∖ x
 
 module _ (U : Sets) where
   unfoldable mutual
@@ -29,13 +28,9 @@ module _ (U : Sets) where
 
     -- live before a line, after which A is live
     pub before : Line → Set → Set
-    before (operation x o a b) A = is a ∪ is b ∪ A ∖ x
-    before (call x f us) A = among us (A ∖ x)
-    before (literal x d us) A = among us (A ∖ x)
-    before (index x a b) A = is a ∪ is b ∪ A ∖ x
-    before (length-of x a) A = is a ∪ A ∖ x
+    before (leaf x l us) A = among us (A ∖ x)
     before (if-else x g t e) A = is g ∪ lives t (A ∖ x) ∪ lives e (A ∖ x)
-    before (map-over x p a t) A = is a ∪ after-map x p (U (first-of x)) A
+    before (loop x j ps us t) A = among us (after-loop x ps (U (first-of x)) A)
     before (retain x) A = A
     before (release x) A = A
 
@@ -48,22 +43,19 @@ module _ (U : Sets) where
 
       -- the rows that a line puts before the rest of its tree, before which A is live
       pub part : Line → Set → List Row
-      part (operation x o a b) A = operating Γ (operation-kind o) x a b
-      part (call x f us) A = handing Γ x (row 8 (x + 256 * f)) us A
-      part (literal x d us) A = handing Γ x (row 9 (x + 256 * length us + 65536 * d)) us A
-      part (index x a b) A = indexing Γ x a b A
-      part (length-of x a) A = measuring Γ x a A
+      part (leaf x l us) A = leaf-part Γ x l us A
       part (if-else x g t e) A =
           row 12 x ∷ (atom-row g
           ∷ ((release-rows (dying Γ (U (second-of x)) (lives t (A ∖ x))) ++ walked t (A ∖ x))
           ++ ((release-rows (dying Γ (U (first-of x)) (lives e (A ∖ x))) ++ walked e (A ∖ x))
           ++ release-rows (dying Γ (only x) A))))
-      part (map-over x p a t) A =
-          row 13 (x + 256 * p) ∷ (atom-row a
-          ∷ ((retain-rows (with-if (is-array Γ p) p [])
-          ++ (release-rows (dying Γ (only p) (lives t (after-map x p (U (first-of x)) A)))
-          ++ walked t (after-map x p (U (first-of x)) A)))
-          ++ release-rows (dying Γ (is a ∪ U (first-of x) ∖ p ∪ only x) A)))
+      part (loop x j ps us t) A =
+          retain-rows (handed-again Γ (loop-hands j us) (among (loop-reads j us) (U (first-of x) ∖∖ ps) ∪ A))
+          ++ ((row (loop-kind j) (x + 256 * packed-names ps) ∷ (map atom-row us
+          ++ (retain-rows (arrays Γ (element-name j ps))
+          ++ (release-rows (dying Γ (just ps) (lives t (after-loop x ps (U (first-of x)) A)))
+          ++ walked t (after-loop x ps (U (first-of x)) A)))))
+          ++ release-rows (dying Γ (among (loop-reads j us) (U (first-of x) ∖∖ ps) ∪ only x) A))
       part (retain x) A = line-rows (retain x)
       part (release x) A = line-rows (release x)
 

@@ -108,7 +108,7 @@ fn walk_line(
 {
     match l {
         Line::Operation(x, kind, a, b) => {
-            let v = normal_write::put_operation(ks, os, x, kind, a, b, w);
+            let v = normal_write::put_operation(ks, os, depths, x, kind, a, b, after, w);
             let s = normal_uses::before_line(operands, rows, l, p, after);
             Walked { names: s, at: v }
         }

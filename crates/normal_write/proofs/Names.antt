@@ -1,6 +1,7 @@
 -- Laws of the names that are released and retained.
 use mathlib.Core.Path.{_≡_, refl, sym, ap, _∙_, fun-ext}
 use mathlib.Core.Bool.{Bool, true, false, not, _&&_, _||_}
+use mathlib.Core.Logic.{_⊎_, inl, inr}
 use mathlib.Core.List.{List, [], _∷_, _++_, map}
 use Prim.Native.Nat.{ℕ, zero, suc, _+_, _-_, _*_, _<_, _≤_}
 use native.Mathlib.Omega.{arith}
@@ -10,15 +11,19 @@ use lib.Dec.{ltb, eqb}
 use lib.ListN.{length, getD}
 use borrow.Author.Tests.{lt-ltb, le-ltb, eq-eqb, ne-eqb}
 use Rattle.semantics.specs.Basics.{with-if}
+use Rattle.semantics.specs.Number.{Operation}
+use Rattle.semantics.specs.Kinds.{Leaf, operation, call, literal, index, length-of, operation-kind, leaf-kind}
+use Rattle.semantics.specs.Kinds.{leaf-operand, leaf-hands, leaf-reads, is-pending}
 use Rattle.semantics.specs.Code.{Atom, number, name, Row, row, atom-row}
 use Rattle.semantics.specs.Live.{Set, empty, is, only, among, _∪_, members-from, members}
-use Rattle.semantics.specs.Annotate.{NameDepths, is-array, dying, handed-again}
-use Rattle.normal_code.specs.Plain.{meant, placed, atoms-at, set-of}
+use Rattle.semantics.specs.Annotate.{NameDepths, atom-depth, is-array, dying, handed-again}
+use Rattle.normal_code.specs.Plain.{meant, placed, atoms-at}
 use Rattle.normal_code.specs.declared.Atom as P
 use Rattle.normal_code.proofs.Trees.{atoms-more, atoms-none, atoms-all}
+use Rattle.normal_uses.proofs.Effects.{among-split}
 use Rattle.normal_write.specs.Wrote.{Wrote}
-use Rattle.normal_write.specs.Parts.{retain-rows, release-rows, handed-one, indexing}
-use Rattle.normal_write.proofs.Rows.{map-append, append-none, wrote-none, wrote-then, wrote-as}
+use Rattle.normal_write.specs.Parts.{retain-rows, release-rows, handed-one, leaf-part, handing}
+use Rattle.normal_write.proofs.Rows.{map-append, wrote-none, wrote-then, wrote-as}
 
 and-false : (b : Bool) → b && false ≡ false
 and-false true = refl
@@ -196,23 +201,88 @@ module _ (w rows : List ℕ) (at : ℕ) where
         wrote-as (ap (λ (us : List Atom). retain-rows (handed-again Γ us A)) (atoms-all w rows at i m
         (omega arith))) x
 
--- ---- sets of one and two names
+-- ---- the names that a line reads and binds
 
-union-none : (A : Set) → A ∪ empty ≡ A
-union-none A = fun-ext (λ x. go (A x))
-  where
-    go : (b : Bool) → b || false ≡ b
-    go true = refl
-    go false = refl
+or-none : (b : Bool) → b || false ≡ b
+or-none true = refl
+or-none false = refl
 
 pub only-one : (x : ℕ) (N O : Set) → N ≡ empty → O ≡ only x ∪ N → O ≡ only x
-only-one x N O e f = f ∙ ap (λ (S : Set). only x ∪ S) e ∙ union-none (only x)
+only-one x N O e f = f ∙ rw e (fun-ext (λ y. or-none (eqb x y)))
 
-pub index-rows : (Γ : NameDepths) (x : ℕ) (a b : Atom) (N O U A : Set) → N ≡ empty → O ≡ only x ∪ N → U ≡ is a ∪ O →
-    (row 10 x ∷ []) ++ ((atom-row a ∷ []) ++ ((atom-row b ∷ []) ++ (retain-rows (with-if (is-array Γ x) x []) ++
-    release-rows (dying Γ U A))))
-    ≡ indexing Γ x a b A
-index-rows Γ x a b N O U A e f g =
-    ap (λ (S : Set). row 10 x ∷ (atom-row a ∷ (atom-row b ∷ (retain-rows (with-if (is-array Γ x) x []) ++
-    release-rows (dying Γ S A)))))
-    (g ∙ ap (λ (S : Set). is a ∪ S) (only-one x N O e f))
+module _ (Γ : NameDepths) where
+  -- only arrays are released
+  dying-arrays : (U W A : Set) → ((y : ℕ) → (is-array Γ y ≡ false) ⊎ (U y ≡ W y)) → dying Γ U A ≡ dying Γ W A
+  unfolding dying
+  dying-arrays U W A h = ap members (fun-ext (λ y. go y (h y)))
+    where
+      go : (y : ℕ) → (is-array Γ y ≡ false) ⊎ (U y ≡ W y) → dies Γ U A y ≡ dies Γ W A y
+      go y (inl e) = rw (e, and-false (U y), and-false (W y))
+      go y (inr e) = rw e
+
+  -- where the second atom and the name that is bound are numbers, the first atom's name alone may be released
+  pub first-alone : (x : ℕ) (a b : Atom) (d e : ℕ) (A : Set) → d ≡ Γ x → d ≡ 0 → e ≡ atom-depth Γ b → e ≡ 0 →
+      dying Γ (is a) A ≡ dying Γ (is a ∪ is b ∪ only x) A
+  first-alone x a b d e A f g h i = dying-arrays (is a) (is a ∪ is b ∪ only x) A (λ y. go b (sym h ∙ i) y (ℕ-discrete x y))
+    where
+      flat : (z y : ℕ) → Γ z ≡ 0 → z ≡ y → is-array Γ y ≡ false
+      flat z y f g = rw (← g, f)
+
+      named : (z y : ℕ) → Γ z ≡ 0 → eqb x y ≡ false → Dec (z ≡ y) →
+          (is-array Γ y ≡ false) ⊎ (is a y ≡ is a y || (eqb z y || eqb x y))
+      named z y f g (yes h) = inl (flat z y f h)
+      named z y f g (no h) = inr (rw (g, ne-eqb z y h) (sym (or-none (is a y))))
+
+      go : (b : Atom) → atom-depth Γ b ≡ 0 → (y : ℕ) → Dec (x ≡ y) →
+          (is-array Γ y ≡ false) ⊎ (is a y ≡ (is a ∪ is b ∪ only x) y)
+      go b h y (yes k) = inl (flat x y (sym f ∙ g) k)
+      go (number z) h y (no k) = inr (rw (ne-eqb x y k) (sym (or-none (is a y))))
+      go (name z) h y (no k) = named z y h (ne-eqb x y k) (ℕ-discrete z y)
+
+  pub all-read : (x : ℕ) (a b : Atom) (A N O T U : Set) → N ≡ empty → O ≡ only x ∪ N → T ≡ is b ∪ O → U ≡ is a ∪ T →
+      dying Γ U A ≡ dying Γ (is a ∪ is b ∪ only x) A
+  all-read x a b A N O T U n o t u = rw (u, t, only-one x N O n o)
+
+-- ---- the lines of leaves
+
+module _ (Γ : NameDepths) (x : ℕ) (A : Set) where
+  -- a leaf's part with its sets joined
+  abbrev joined-part : Leaf → List Atom → List Row
+  joined-part l us =
+      retain-rows (handed-again Γ (leaf-hands l us) (among (leaf-reads l us) A))
+      ++ ((row (leaf-kind l) (leaf-operand l x (length us)) ∷ map atom-row us)
+      ++ (retain-rows (with-if (is-pending l && is-array Γ x) x [])
+      ++ release-rows (dying Γ (among (leaf-reads l us) (only x)) A)))
+
+  joined : (us : List Atom) (B : Set) → among us B ≡ among us empty ∪ B
+  joined us B = fun-ext (λ y. among-split us B y)
+
+  leaf-rows : (l : Leaf) (us : List Atom) → joined-part l us ≡ leaf-part Γ x l us A
+  leaf-rows l us = rw (joined (leaf-reads l us) A, joined (leaf-reads l us) (only x))
+
+  pub operation-rows : (o : Operation) (a b : Atom) →
+      row (operation-kind o) x ∷ (atom-row a ∷ (atom-row b ∷ release-rows (dying Γ (is a ∪ is b ∪ only x) A)))
+      ≡ leaf-part Γ x (operation o) (a ∷ (b ∷ [])) A
+  unfolding handed-again among
+  operation-rows o a b = leaf-rows (operation o) (a ∷ (b ∷ []))
+
+  pub index-rows : (a b : Atom) →
+      row 10 x ∷ (atom-row a ∷ (atom-row b
+      ∷ (retain-rows (with-if (is-array Γ x) x []) ++ release-rows (dying Γ (is a ∪ is b ∪ only x) A))))
+      ≡ leaf-part Γ x index (a ∷ (b ∷ [])) A
+  unfolding handed-again among
+  index-rows a b = leaf-rows index (a ∷ (b ∷ []))
+
+  pub length-rows : (a : Atom) → row 11 x ∷ (atom-row a ∷ release-rows (dying Γ (is a ∪ only x) A)) ≡ leaf-part Γ x
+      length-of (a ∷ []) A
+  unfolding handed-again among
+  length-rows a = leaf-rows length-of (a ∷ [])
+
+  pub call-rows : (f : ℕ) (us : List Atom) → handing Γ x (row 8 (x + 256 * f)) us A ≡ leaf-part Γ x (call f) us A
+  unfolding among
+  call-rows f us = leaf-rows (call f) us
+
+  pub literal-rows : (d : ℕ) (us : List Atom) →
+      handing Γ x (row 9 (x + 256 * length us + 65536 * d)) us A ≡ leaf-part Γ x (literal d) us A
+  unfolding among
+  literal-rows d us = leaf-rows (literal d) us

@@ -3,18 +3,18 @@
 use normal_code::Atom;
 ghost use mathlib.Core.Path.{_≡_};
 ghost use mathlib.Core.Bool.{_&&_, not};
-ghost use mathlib.Core.List.{[], _∷_, _++_, map};
-ghost use Prim.Native.Nat.{_+_, _-_, _*_, _<_, _≤_};
+ghost use mathlib.Core.List.{[], _∷_, map};
+ghost use Prim.Native.Nat.{_+_, _-_, _<_, _≤_};
 ghost use lib.Dec.{ltb};
-ghost use lib.ListN.{length, getD};
 ghost use Rattle.semantics.specs.Basics.{with-if};
-ghost use Rattle.semantics.specs.Code.{row, atom-row, operation-kind};
-ghost use Rattle.semantics.specs.Live.{only, is};
-ghost use Rattle.semantics.specs.Annotate.{dying, handed-again};
+ghost use Rattle.semantics.specs.Kinds.{operation, index, length-of, operation-kind};
+ghost use Rattle.semantics.specs.Code.{row, atom-row};
+ghost use Rattle.semantics.specs.Live.{only, is, _∪_};
+ghost use Rattle.semantics.specs.Annotate.{atom-depth, dying, handed-again};
 ghost use Rattle.normal_code.specs.Plain.{set-of, meant, atoms-at, operation-of};
 ghost use Rattle.normal_write.specs.Wrote.{Wrote};
-ghost use Rattle.normal_write.specs.Parts.{depth-in, retain-rows, release-rows, handed-one, handing, indexing};
-ghost use Rattle.normal_write.specs.Parts.{measuring, ending};
+ghost use Rattle.normal_write.specs.Parts.{depth-in, retain-rows, release-rows, handed-one, leaf-part, handing};
+ghost use Rattle.normal_write.specs.Parts.{ending};
 
 fn less_one(w: usize) -> usize
     ensures { λ r. ⌜ r ≡ w - 1 ⌝ }
@@ -56,6 +56,16 @@ fn depth_at(depths: &[u8], x: usize) -> u8
     ensures { λ r. ⌜ r ≡ depth-in (now (depths .entry)) x ⌝ }
 {
     if x < depths.len() { depths[x] } else { 0 }
+}
+
+// The depth of an atom; a number has 0.
+fn depth_of_atom(depths: &[u8], a: Atom) -> u8
+    ensures { λ r. ⌜ r ≡ atom-depth (depth-in (now (depths .entry))) (meant a) ⌝ }
+{
+    match a {
+        Atom::Number(_) => 0,
+        Atom::Name(x) => depth_at(depths, x as usize),
+    }
 }
 
 // A release of x, if it is used, an array and not live.
@@ -145,6 +155,35 @@ fn release_atom(
         Atom::Number(_) => w,
         Atom::Name(x) => put_release(ks, os, depths, x, live, w),
     }
+}
+
+// Releases, lowest first, of the names of two atoms and of x that are arrays and not live.
+fn put_reads(
+    ks: &mut [u8; 4097],
+    os: &mut [i64; 4097],
+    depths: &[u8],
+    x: u8,
+    a: Atom,
+    b: Atom,
+    live: [bool; 256],
+    w: usize,
+) -> usize
+    requires { ⌜ w ≤ 4097 ⌝ }
+    ensures { λ r. ⌜ Wrote (now (ks .entry)) (now (os .entry)) (now (ks .exit)) (now (os .exit)) w r
+        (release-rows (dying (depth-in (now (depths .entry))) (is (meant a) ∪ is (meant b) ∪ only x) (set-of live))) ⌝ }
+{
+    let d = depth_at(depths, x as usize);
+    let e = depth_of_atom(depths, b);
+    if d == 0 {
+        if e == 0 {
+            return release_atom(ks, os, depths, a, live, w);
+        }
+    }
+    let none = normal_code::none();
+    let one = normal_code::with(none, x);
+    let two = normal_code::add(one, b);
+    let used = normal_code::add(two, a);
+    put_releases(ks, os, depths, used, live, w)
 }
 
 // A retain of x, if it is an array.
@@ -261,17 +300,21 @@ fn operation_kind(kind: u8) -> u8
 pub fn put_operation(
     ks: &mut [u8; 4097],
     os: &mut [i64; 4097],
+    depths: &[u8],
     x: u8,
     kind: u8,
     a: Atom,
     b: Atom,
+    after: [bool; 256],
     w: usize,
 ) -> usize
     requires { ⌜ w ≤ 4097 ⌝ }
     ensures { λ r. ⌜ Wrote (now (ks .entry)) (now (os .entry)) (now (ks .exit)) (now (os .exit)) w r
-        (row (operation-kind (operation-of kind)) x ∷ (atom-row (meant a) ∷ (atom-row (meant b) ∷ []))) ⌝ }
+        (leaf-part (depth-in (now (depths .entry))) x (operation (operation-of kind)) (meant a ∷ (meant b ∷ []))
+        (set-of after)) ⌝ }
 {
-    let u = put_atom(ks, os, w, b);
+    let t = put_reads(ks, os, depths, x, a, b, after, w);
+    let u = put_atom(ks, os, t, b);
     let v = put_atom(ks, os, u, a);
     let k = operation_kind(kind);
     put_row(ks, os, v, k, x as u32)
@@ -289,12 +332,9 @@ pub fn put_index(
 ) -> usize
     requires { ⌜ w ≤ 4097 ⌝ }
     ensures { λ r. ⌜ Wrote (now (ks .entry)) (now (os .entry)) (now (ks .exit)) (now (os .exit)) w r
-        (indexing (depth-in (now (depths .entry))) x (meant a) (meant b) (set-of after)) ⌝ }
+        (leaf-part (depth-in (now (depths .entry))) x index (meant a ∷ (meant b ∷ [])) (set-of after)) ⌝ }
 {
-    let none = normal_code::none();
-    let one = normal_code::with(none, x);
-    let used = normal_code::add(one, a);
-    let s = put_releases(ks, os, depths, used, after, w);
+    let s = put_reads(ks, os, depths, x, a, b, after, w);
     let t = put_retain(ks, os, depths, x, s);
     let u = put_atom(ks, os, t, b);
     let v = put_atom(ks, os, u, a);
@@ -312,9 +352,9 @@ pub fn put_length(
 ) -> usize
     requires { ⌜ w ≤ 4097 ⌝ }
     ensures { λ r. ⌜ Wrote (now (ks .entry)) (now (os .entry)) (now (ks .exit)) (now (os .exit)) w r
-        (measuring (depth-in (now (depths .entry))) x (meant a) (set-of after)) ⌝ }
+        (leaf-part (depth-in (now (depths .entry))) x length-of (meant a ∷ []) (set-of after)) ⌝ }
 {
-    let u = release_atom(ks, os, depths, a, after, w);
+    let u = put_reads(ks, os, depths, x, a, Atom::Number(0), after, w);
     let v = put_atom(ks, os, u, a);
     put_row(ks, os, v, 11, x as u32)
 }

@@ -1,16 +1,12 @@
-use mathlib.Core.Path.{_≡_, refl, sym, ap, _∙_}
+use mathlib.Core.Path.{sym}
 use native.Mathlib.Omega.{arith}
-use Prim.Native.Nat.{ℕ, zero, suc, _+_, _-_, _*_, _/_, _%_, _<_, _≤_}
-use lib.ListN.{length, getD, set, take, drop, replicate, length-drop, List·getD-eq-default, length-set}
+use Prim.Native.Nat.{_-_}
+use lib.ListN.{drop, length-drop, List·getD-eq-default}
 use lib.Seq.{getD-drop}
-use mathlib.Core.List.{List, [], _∷_, _++_, map}
-use lib.IntN.{pos}
-use Rattle.normal.proofs.Moves.{pad-at, moved-more, moved-all, target-long}
+use mathlib.Core.List.{List}
 use borrow.Author.Needs.{needs}
 use Rattle.normal.proofs.later_kinds.Statement.{statement}
 use Rattle.normal.proofs.later_kinds.Tie as tie
-use Rattle.normal.proofs.later_kinds.Reads as reads
-use Rattle.normal.proofs.later_kinds.Lts as lts
 
 sub-if1 : tie.Need-sub-if1
 sub-if1 c = search needs

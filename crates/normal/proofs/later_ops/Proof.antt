@@ -1,17 +1,14 @@
 use mir.Facts.{toZ-ofZ}
-use mathlib.Core.Path.{_≡_, refl, sym, ap, _∙_}
+use mathlib.Core.Path.{sym}
 use native.Mathlib.Omega.{arith}
-use Prim.Native.Nat.{ℕ, zero, suc, _+_, _-_, _*_, _/_, _%_, _<_, _≤_}
-use lib.ListN.{length, getD, set, take, drop, replicate, length-drop, List·getD-eq-default, length-set}
+use Prim.Native.Nat.{_+_, _-_}
+use lib.ListN.{getD, drop, length-drop, List·getD-eq-default}
 use lib.Seq.{getD-drop}
-use mathlib.Core.List.{List, [], _∷_, _++_, map}
+use mathlib.Core.List.{List}
 use lib.IntN.{pos}
-use Rattle.normal.proofs.Moves.{pad-at, moved-more, moved-all, target-long}
 use borrow.Author.Needs.{needs}
 use Rattle.normal.proofs.later_ops.Statement.{statement}
 use Rattle.normal.proofs.later_ops.Tie as tie
-use Rattle.normal.proofs.later_ops.Reads as reads
-use Rattle.normal.proofs.later_ops.Lts as lts
 
 sub-if1 : tie.Need-sub-if1
 sub-if1 c = search needs

@@ -1,15 +1,10 @@
 -- `normal::lay_code` meets its contract.
 use native.Mathlib.Omega.{arith}
-use Prim.Native.Nat.{ℕ, _+_, _-_, _*_, _<_, _≤_}
+use Prim.Native.Nat.{_-_}
 use Rattle.normal.proofs.Moves.{refused-is, all-fits}
 use borrow.Author.Needs.{needs}
 use Rattle.normal.proofs.lay_code.Statement.{statement}
 use Rattle.normal.proofs.lay_code.Tie as tie
-use Rattle.normal.proofs.lay_code.Reads as reads
-use Rattle.normal.proofs.lay_code.Lts as lts
-use Rattle.normal.proofs.move_kinds.Reads as move-kinds-reads
-use Rattle.normal.proofs.move_ops.Reads as move-ops-reads
-use Rattle.normal.proofs.refuse.Reads as refuse-reads
 
 refuse-requires : tie.Need-refuse-requires
 refuse-requires c κs = search needs

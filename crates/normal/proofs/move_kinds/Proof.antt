@@ -1,18 +1,12 @@
-use mir.Facts.{toZ-ofZ}
-use mathlib.Core.Path.{_≡_, refl, sym, ap, _∙_}
+use mathlib.Core.Path.{_≡_, refl, sym, _∙_}
 use native.Mathlib.Omega.{arith}
 use borrow.Author.Needs.{needs}
-use Prim.Native.Nat.{ℕ, zero, suc, _+_, _-_, _*_, _/_, _%_, _<_, _≤_}
-use lib.ListN.{length, getD, set, take, drop, replicate, length-drop, List·getD-eq-default, length-set}
-use lib.Seq.{getD-drop}
-use mathlib.Core.List.{List, [], _∷_, _++_, map}
-use lib.IntN.{pos}
+use Prim.Native.Nat.{_+_, _-_, _≤_}
+use lib.ListN.{length, take, drop, replicate, length-set}
+use mathlib.Core.List.{_++_}
 use Rattle.normal.proofs.Moves.{pad-at, moved-more, moved-all, target-long}
 use Rattle.normal.proofs.move_kinds.Statement.{statement}
 use Rattle.normal.proofs.move_kinds.Tie as tie
-use Rattle.normal.proofs.move_kinds.Reads as reads
-use Rattle.normal.proofs.move_kinds.Lts as lts
-use Rattle.normal.proofs.later_kinds.Reads as later-kinds-reads
 
 abbrev Inv-loop : tie.InvT-loop
 Inv-loop to₀ from at i₀ to i = (length to ≡ length to₀) × (i ≤ length to₀) × (at ≤ length from) ×

@@ -1,18 +1,14 @@
 use mir.Facts.{toZ-ofZ}
-use mathlib.Core.Path.{_≡_, refl, sym, ap, _∙_}
+use mathlib.Core.Path.{_≡_, refl, sym, _∙_}
 use native.Mathlib.Omega.{arith}
 use borrow.Author.Needs.{needs}
-use Prim.Native.Nat.{ℕ, zero, suc, _+_, _-_, _*_, _/_, _%_, _<_, _≤_}
-use lib.ListN.{length, getD, set, take, drop, replicate, length-drop, List·getD-eq-default, length-set}
-use lib.Seq.{getD-drop}
-use mathlib.Core.List.{List, [], _∷_, _++_, map}
+use Prim.Native.Nat.{_+_, _-_, _≤_}
+use lib.ListN.{length, take, drop, replicate, length-set}
+use mathlib.Core.List.{_++_}
 use lib.IntN.{pos}
 use Rattle.normal.proofs.Moves.{pad-at, moved-more, moved-all, target-long}
 use Rattle.normal.proofs.move_ops.Statement.{statement}
 use Rattle.normal.proofs.move_ops.Tie as tie
-use Rattle.normal.proofs.move_ops.Reads as reads
-use Rattle.normal.proofs.move_ops.Lts as lts
-use Rattle.normal.proofs.later_ops.Reads as later-ops-reads
 
 abbrev Inv-loop : tie.InvT-loop
 Inv-loop to₀ from at i₀ to i = (length to ≡ length to₀) × (i ≤ length to₀) × (at ≤ length from) ×

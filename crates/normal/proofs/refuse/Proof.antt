@@ -1,16 +1,11 @@
-use mathlib.Core.Path.{_≡_, refl, sym, ap, _∙_}
-use native.Mathlib.Omega.{arith}
-use Prim.Native.Nat.{ℕ, zero, suc, _+_, _-_, _*_, _/_, _%_, _<_, _≤_}
-use lib.ListN.{length, getD, set}
+use mathlib.Core.Path.{refl}
+use Prim.Native.Nat.{_-_}
+use lib.ListN.{length}
 use Rattle.normal.proofs.Moves.{cleared}
 use lib.IntN.{pos}
 use borrow.Author.Needs.{needs}
 use Rattle.normal.proofs.refuse.Statement.{statement}
 use Rattle.normal.proofs.refuse.Tie as tie
-use Rattle.normal.proofs.refuse.Reads as reads
-use Rattle.normal.proofs.refuse.Lts as lts
-use Rattle.normal.proofs.move_kinds.Reads as move-kinds-reads
-use Rattle.normal.proofs.move_ops.Reads as move-ops-reads
 
 slice-aggregate-move-kinds : tie.Need-slice-aggregate-move-kinds
 slice-aggregate-move-kinds c = search needs

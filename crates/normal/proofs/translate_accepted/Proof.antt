@@ -1,14 +1,10 @@
 -- `normal::translate_accepted` meets its contract.
 use native.Mathlib.Omega.{arith}
-use Prim.Native.Nat.{ℕ, _+_, _-_, _*_, _<_, _≤_}
+use Prim.Native.Nat.{_-_}
 use Rattle.normal.proofs.Moves.{kinds-long, operands-long}
 use borrow.Author.Needs.{needs}
 use Rattle.normal.proofs.translate_accepted.Statement.{statement}
 use Rattle.normal.proofs.translate_accepted.Tie as tie
-use Rattle.normal.proofs.translate_accepted.Reads as reads
-use Rattle.normal.proofs.translate_accepted.Lts as lts
-use Rattle.normal.proofs.lay_code.Reads as lay-code-reads
-use Rattle.normal_script.proofs.script_code.Reads as script-code-reads
 
 script-code-requires : tie.Need-script-code-requires
 script-code-requires c κs = search needs

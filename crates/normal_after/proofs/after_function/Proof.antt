@@ -1,12 +1,8 @@
-use mathlib.Core.Path.{_≡_, refl, sym, ap, _∙_}
+use mathlib.Core.Path.{sym, ap, _∙_}
 use Rattle.normal_after.specs.After.{node-of}
 use borrow.Author.Needs.{needs}
 use Rattle.normal_after.proofs.after_function.Statement.{statement}
 use Rattle.normal_after.proofs.after_function.Tie as tie
-use Rattle.normal_after.proofs.after_function.Reads as reads
-use Rattle.normal_after.proofs.after_function.Lts as lts
-use Rattle.script_read.proofs.low_at.Reads as low-at-reads
-use Rattle.script_read.proofs.read_part.Reads as read-part-reads
 
 low-at-requires : tie.Need-low-at-requires
 low-at-requires c κs = search needs

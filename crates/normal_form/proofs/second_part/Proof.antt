@@ -1,9 +1,6 @@
 use borrow.Author.Tests.{ne-eqb}
-use borrow.Author.Needs.{needs}
 use Rattle.normal_form.proofs.second_part.Statement.{statement}
 use Rattle.normal_form.proofs.second_part.Tie as tie
-use Rattle.normal_form.proofs.second_part.Reads as reads
-use Rattle.normal_form.proofs.second_part.Lts as lts
 
 returns : tie.Need-returns
 returns c = rw (c .if1 .taken)

@@ -1,16 +1,10 @@
 use Rattle.normal_function.specs.Read.{Binds}
 use Rattle.normal_function.proofs.Parameters.{Rest, bind-begin, bind-go, bind-end}
-use mathlib.Core.Path.{_≡_, refl, sym, ap, _∙_}
 use native.Mathlib.Omega.{arith}
-use Prim.Native.Nat.{ℕ, _+_, _-_, _*_, _<_, _≤_}
-use lib.ListN.{length}
+use Prim.Native.Nat.{_-_, _≤_}
 use borrow.Author.Needs.{needs}
 use Rattle.normal_function.proofs.bind_parameters.Statement.{statement}
 use Rattle.normal_function.proofs.bind_parameters.Tie as tie
-use Rattle.normal_function.proofs.bind_parameters.Reads as reads
-use Rattle.normal_function.proofs.bind_parameters.Lts as lts
-use Rattle.script_read.proofs.high_at.Reads as high-at-reads
-use Rattle.script_read.proofs.low_at.Reads as low-at-reads
 
 abbrev Inv-loop : tie.InvT-loop
 Inv-loop kinds operands at count places₀ depths₀ i₀ places depths i =

@@ -1,27 +1,12 @@
-use mathlib.Core.Path.{_≡_, refl, sym, ap, _∙_}
 use native.Mathlib.Omega.{arith}
-use Prim.Native.Nat.{ℕ, _+_, _-_, _*_, _<_, _≤_}
+use Prim.Native.Nat.{_-_}
 use Rattle.normal_code.specs.Plain.{set-of}
 use Rattle.normal_write.proofs.Rows.{lower}
-use Rattle.normal_function.proofs.Parameters.{low-most, high-most}
+use Rattle.normal_function.proofs.Parameters.{result-most}
 use Rattle.normal_function.proofs.Whole.{given, ready, end-near, depths-is, next-is, code-wrote}
 use borrow.Author.Needs.{needs}
 use Rattle.normal_function.proofs.function_code.Statement.{statement}
 use Rattle.normal_function.proofs.function_code.Tie as tie
-use Rattle.normal_function.proofs.function_code.Reads as reads
-use Rattle.normal_function.proofs.function_code.Lts as lts
-use Rattle.normal_code.proofs.none.Reads as none-reads
-use Rattle.normal_form.proofs.lay_tree.Reads as lay-tree-reads
-use Rattle.normal_function.proofs.bind_parameters.Reads as bind-parameters-reads
-use Rattle.normal_function.proofs.names_below.Reads as names-below-reads
-use Rattle.normal_function.proofs.put_parameters.Reads as put-parameters-reads
-use Rattle.normal_uses.proofs.less_two.Reads as less-two-reads
-use Rattle.normal_uses.proofs.note_tree.Reads as note-tree-reads
-use Rattle.normal_walk.proofs.walk_tree.Reads as walk-tree-reads
-use Rattle.normal_write.proofs.put_releases.Reads as put-releases-reads
-use Rattle.normal_write.proofs.put_row.Reads as put-row-reads
-use Rattle.script_read.proofs.high_at.Reads as high-at-reads
-use Rattle.script_read.proofs.low_at.Reads as low-at-reads
 
 low-at-requires : tie.Need-low-at-requires
 low-at-requires c κs = search needs
@@ -211,13 +196,13 @@ cast-put-row-2 c = omega (
   c .before .before .before .before .before .before .before .before .before .before
       .before .before .before .before .before .before .before .before .before .before .before .before .before .before
       .before .before .before .before .before .before .before .before .high-at .ensures,
-  high-most (c .before .before
+  result-most (c .before .before
       .before .before .before .before .before .before .before .before .before .before .before .before .before .before
       .before .before .before .before .before .before .before .before .before .before .before .before .before .before
       .before .before .before .before .before .before .before .args .kinds .now) (c .before .before .before .before
       .before .before .before .before .before .before .before .before .before .before .before .before .before .before
       .before .before .before .before .before .before .before .before .before .before .before .before .before .before
-      .before .before .before .before .before .args .operands .now) 0 (c .before .before .before .before .before
+      .before .before .before .before .before .args .operands .now) (c .before .before .before .before .before
       .before .before .before .before .before .before .before .before .before .before .before .before .before .before
       .before .before .before .before .before .before .before .before .before .before .before .before .before .before
       .before .before .before .before .args .at),
@@ -229,13 +214,13 @@ mul-put-row c = omega (
   c .before .before .before .before .before .before .before .before .before .before
       .before .before .before .before .before .before .before .before .before .before .before .before .before .before
       .before .before .before .before .before .before .before .before .high-at .ensures,
-  high-most (c .before .before
+  result-most (c .before .before
       .before .before .before .before .before .before .before .before .before .before .before .before .before .before
       .before .before .before .before .before .before .before .before .before .before .before .before .before .before
       .before .before .before .before .before .before .before .args .kinds .now) (c .before .before .before .before
       .before .before .before .before .before .before .before .before .before .before .before .before .before .before
       .before .before .before .before .before .before .before .before .before .before .before .before .before .before
-      .before .before .before .before .before .args .operands .now) 0 (c .before .before .before .before .before
+      .before .before .before .before .before .args .operands .now) (c .before .before .before .before .before
       .before .before .before .before .before .before .before .before .before .before .before .before .before .before
       .before .before .before .before .before .before .before .before .before .before .before .before .before .before
       .before .before .before .before .args .at),
@@ -255,12 +240,12 @@ add-put-row c = omega (
       .before .before .before .before .before .before .before .before .before .before .before .before .before .before
       .before .before .before .before .before .before .before .before .before .before .before .before .before .high-at
       .ensures,
-  high-most (c .before .before .before .before .before .before .before .before .before .before .before
+  result-most (c .before .before .before .before .before .before .before .before .before .before .before
       .before .before .before .before .before .before .before .before .before .before .before .before .before .before
       .before .before .before .before .before .before .before .before .before .before .before .before .args .kinds
       .now) (c .before .before .before .before .before .before .before .before .before .before .before .before .before
       .before .before .before .before .before .before .before .before .before .before .before .before .before .before
-      .before .before .before .before .before .before .before .before .before .before .args .operands .now) 0
+      .before .before .before .before .before .before .before .before .before .before .args .operands .now)
       (c .before .before .before .before .before .before .before .before .before .before .before .before .before
       .before .before .before .before .before .before .before .before .before .before .before .before .before .before
       .before .before .before .before .before .before .before .before .before .before .args .at),

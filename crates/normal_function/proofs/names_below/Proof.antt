@@ -1,13 +1,11 @@
 use Rattle.normal_function.proofs.Parameters.{Below, below-none, below-set, below-all}
-use mathlib.Core.Path.{_≡_, refl, sym, ap, _∙_}
+use mathlib.Core.Path.{_≡_, refl}
 use native.Mathlib.Omega.{arith}
-use Prim.Native.Nat.{ℕ, _+_, _-_, _*_, _<_, _≤_}
+use Prim.Native.Nat.{_-_, _≤_}
 use lib.ListN.{length}
 use borrow.Author.Needs.{needs}
 use Rattle.normal_function.proofs.names_below.Statement.{statement}
 use Rattle.normal_function.proofs.names_below.Tie as tie
-use Rattle.normal_function.proofs.names_below.Reads as reads
-use Rattle.normal_function.proofs.names_below.Lts as lts
 
 abbrev Inv-loop : tie.InvT-loop
 Inv-loop count n s₀ i₀ s i = (length s₀ ≡ 256) × (i ≤ 256) × (n ≤ 255) × Below n s₀ s i

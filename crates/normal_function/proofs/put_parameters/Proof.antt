@@ -1,18 +1,12 @@
 use Rattle.semantics.specs.Annotate.{parameter-rows}
 use Rattle.normal_write.specs.Wrote.{Wrote}
 use Rattle.normal_write.proofs.Rows.{lower}
-use Rattle.normal_function.proofs.Parameters.{Rest, rows-begin, rows-go, rows-end, high-most}
-use mathlib.Core.Path.{_≡_, refl, sym, ap, _∙_}
+use Rattle.normal_function.proofs.Parameters.{Rest, rows-begin, rows-go, rows-end, depth-most}
 use native.Mathlib.Omega.{arith}
-use Prim.Native.Nat.{ℕ, _+_, _-_, _*_, _<_, _≤_}
-use lib.ListN.{length}
+use Prim.Native.Nat.{_+_, _-_, _≤_}
 use borrow.Author.Needs.{needs}
 use Rattle.normal_function.proofs.put_parameters.Statement.{statement}
 use Rattle.normal_function.proofs.put_parameters.Tie as tie
-use Rattle.normal_function.proofs.put_parameters.Reads as reads
-use Rattle.normal_function.proofs.put_parameters.Lts as lts
-use Rattle.normal_write.proofs.put_row.Reads as put-row-reads
-use Rattle.script_read.proofs.high_at.Reads as high-at-reads
 
 abbrev Inv-loop : tie.InvT-loop
 Inv-loop ks₀ os₀ kinds operands at count w v₀ i₀ ks os v i =
@@ -48,9 +42,9 @@ mul-put-row : tie.Need-mul-put-row Inv-loop μ-loop
 mul-put-row c = omega (
   arith,
   c .before .before .high-at .ensures,
-  high-most (c .before .before .before .before
+  depth-most (c .before .before .before .before
       .before .before .before .args .kinds .now) (c .before .before .before .before .before .before .before .args
-      .operands .now) 1 (c .before .before .before .before .before .before .before .args .at + (c .before .before
+      .operands .now) (c .before .before .before .before .before .before .before .args .at + (c .before .before
       .before .before .loop .i - 1)),
 )
 
@@ -59,8 +53,8 @@ add-put-row c = omega (
   arith,
   c .before .before .before .before .loop .inv .0,
   c .before .before .high-at .ensures,
-  high-most (c .before .before .before .before .before .before .before .args .kinds .now) (c .before .before
-      .before .before .before .before .before .args .operands .now) 1 (c .before .before .before .before .before
+  depth-most (c .before .before .before .before .before .before .before .args .kinds .now) (c .before .before
+      .before .before .before .before .before .args .operands .now) (c .before .before .before .before .before
       .before .before .args .at + (c .before .before .before .before .loop .i - 1)),
 )
 

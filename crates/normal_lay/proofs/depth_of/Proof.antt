@@ -1,12 +1,8 @@
 use Rattle.normal_lay.proofs.Laws.{depth-name, depth-number}
-use mathlib.Core.Path.{_≡_, refl, sym, ap, _∙_}
-use native.Mathlib.Omega.{arith}
-use Prim.Native.Nat.{ℕ, _+_, _-_, _*_, _<_, _≤_}
+use Prim.Native.Nat.{_-_}
 use borrow.Author.Needs.{needs}
 use Rattle.normal_lay.proofs.depth_of.Statement.{statement}
 use Rattle.normal_lay.proofs.depth_of.Tie as tie
-use Rattle.normal_lay.proofs.depth_of.Reads as reads
-use Rattle.normal_lay.proofs.depth_of.Lts as lts
 
 element-copy-out-result : tie.Need-element-copy-out-result
 element-copy-out-result c = search needs

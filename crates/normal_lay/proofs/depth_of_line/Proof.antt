@@ -1,14 +1,8 @@
 use Rattle.normal_lay.proofs.Laws.{depth-call, depth-literal, depth-index, depth-other}
-use mathlib.Core.Path.{_≡_, refl, sym, ap, _∙_}
-use native.Mathlib.Omega.{arith}
-use Prim.Native.Nat.{ℕ, _+_, _-_, _*_, _<_, _≤_}
+use Prim.Native.Nat.{_-_}
 use borrow.Author.Needs.{needs}
 use Rattle.normal_lay.proofs.depth_of_line.Statement.{statement}
 use Rattle.normal_lay.proofs.depth_of_line.Tie as tie
-use Rattle.normal_lay.proofs.depth_of_line.Reads as reads
-use Rattle.normal_lay.proofs.depth_of_line.Lts as lts
-use Rattle.normal_lay.proofs.element_depth.Reads as element-depth-reads
-use Rattle.normal_lay.proofs.result_of.Reads as result-of-reads
 
 result-of-requires : tie.Need-result-of-requires
 result-of-requires c κs = search needs

@@ -1,14 +1,9 @@
 use Rattle.normal_lay.proofs.Laws.{laid-two}
 use Rattle.normal_code.specs.Plain.{packed-row}
-use mathlib.Core.Path.{_≡_, refl, sym, ap, _∙_}
-use native.Mathlib.Omega.{arith}
-use Prim.Native.Nat.{ℕ, _+_, _-_, _*_, _<_, _≤_}
+use Prim.Native.Nat.{_-_}
 use borrow.Author.Needs.{needs}
 use Rattle.normal_lay.proofs.lay_head.Statement.{statement}
 use Rattle.normal_lay.proofs.lay_head.Tie as tie
-use Rattle.normal_lay.proofs.lay_head.Reads as reads
-use Rattle.normal_lay.proofs.lay_head.Lts as lts
-use Rattle.normal_lay.proofs.packed_row.Reads as packed-row-reads
 
 packed-row-requires : tie.Need-packed-row-requires
 packed-row-requires c κs = search needs

@@ -1,14 +1,9 @@
 use Rattle.normal_lay.proofs.Laws.{laid-then}
-use mathlib.Core.Path.{_≡_, refl, sym, ap, _∙_}
-use native.Mathlib.Omega.{arith}
-use Prim.Native.Nat.{ℕ, _+_, _-_, _*_, _<_, _≤_}
+use mathlib.Core.Path.{refl}
+use Prim.Native.Nat.{_-_}
 use borrow.Author.Needs.{needs}
 use Rattle.normal_lay.proofs.lay_line.Statement.{statement}
 use Rattle.normal_lay.proofs.lay_line.Tie as tie
-use Rattle.normal_lay.proofs.lay_line.Reads as reads
-use Rattle.normal_lay.proofs.lay_line.Lts as lts
-use Rattle.normal_lay.proofs.lay_places.Reads as lay-places-reads
-use Rattle.normal_lay.proofs.packed_row.Reads as packed-row-reads
 
 cast-packed-row : tie.Need-cast-packed-row
 cast-packed-row c = search needs

@@ -1,14 +1,11 @@
 use Rattle.normal_lay.specs.Laid.{laid, firsts}
 use Rattle.normal_lay.proofs.Laws.{places-begin, places-go, places-end}
-use mathlib.Core.Path.{_≡_, refl, sym, ap, _∙_}
+use mathlib.Core.Path.{_≡_, sym, _∙_}
 use native.Mathlib.Omega.{arith}
-use Prim.Native.Nat.{ℕ, _+_, _-_, _*_, _<_, _≤_}
+use Prim.Native.Nat.{_+_, _-_, _≤_}
 use borrow.Author.Needs.{needs}
 use Rattle.normal_lay.proofs.lay_places.Statement.{statement}
 use Rattle.normal_lay.proofs.lay_places.Tie as tie
-use Rattle.normal_lay.proofs.lay_places.Reads as reads
-use Rattle.normal_lay.proofs.lay_places.Lts as lts
-use Rattle.normal_lay.proofs.wide.Reads as wide-reads
 
 abbrev Inv-loop : tie.InvT-loop
 Inv-loop rows₀ p m places i₀ rows i =

@@ -1,12 +1,9 @@
 use lib.ListN.{List·getD-eq-default}
-use mathlib.Core.Path.{_≡_, refl, sym, ap, _∙_}
-use native.Mathlib.Omega.{arith}
-use Prim.Native.Nat.{ℕ, _+_, _-_, _*_, _<_, _≤_}
+use mathlib.Core.Path.{sym}
+use Prim.Native.Nat.{_-_}
 use borrow.Author.Needs.{needs}
 use Rattle.normal_lay.proofs.result_of.Statement.{statement}
 use Rattle.normal_lay.proofs.result_of.Tie as tie
-use Rattle.normal_lay.proofs.result_of.Reads as reads
-use Rattle.normal_lay.proofs.result_of.Lts as lts
 
 shared-slice-read-result : tie.Need-shared-slice-read-result
 shared-slice-read-result c = search needs

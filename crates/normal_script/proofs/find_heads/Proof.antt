@@ -1,15 +1,10 @@
-use mathlib.Core.Path.{_≡_, refl, sym, ap, _∙_}
 use native.Mathlib.Omega.{arith}
-use Prim.Native.Nat.{ℕ, _+_, _-_, _*_, _<_, _≤_}
+use Prim.Native.Nat.{_-_, _≤_}
 use Rattle.normal_script.specs.Script.{Translatable}
 use Rattle.normal_script.proofs.Functions.{known, Scanning, scan-begins, scan-goes, scan-ends}
 use borrow.Author.Needs.{needs}
 use Rattle.normal_script.proofs.find_heads.Statement.{statement}
 use Rattle.normal_script.proofs.find_heads.Tie as tie
-use Rattle.normal_script.proofs.find_heads.Reads as reads
-use Rattle.normal_script.proofs.find_heads.Lts as lts
-use Rattle.normal_after.proofs.after_function.Reads as after-function-reads
-use Rattle.script_read.proofs.high_at.Reads as high-at-reads
 
 abbrev Inv-loop : tie.InvT-loop
 Inv-loop kinds operands functions starts₀ results₀ p₀ i₀ starts results p i =

@@ -1,15 +1,13 @@
 -- `normal_script::note_depths` meets its contract.
 use mathlib.Core.Logic.{⊎-elim}
-use mathlib.Core.Path.{_≡_, refl, subst}
+use mathlib.Core.Path.{_≡_, subst}
 use native.Mathlib.Omega.{arith}
-use Prim.Native.Nat.{_+_, _-_, _*_, _<_, _≤_}
+use Prim.Native.Nat.{_-_, _<_, _≤_}
 use borrow.Author.Needs.{needs}
 use Rattle.normal_script.specs.Depths.{NotedTo}
 use Rattle.normal_script.proofs.Depths.{noted-none, noted-one, noted-past}
 use Rattle.normal_script.proofs.note_depths.Statement.{statement}
 use Rattle.normal_script.proofs.note_depths.Tie as tie
-use Rattle.normal_script.proofs.note_depths.Reads as reads
-use Rattle.normal_script.proofs.note_depths.Lts as lts
 
 abbrev Inv-loop : tie.InvT-loop
 Inv-loop table₀ f depths x₀ table x =

@@ -1,6 +1,6 @@
-use mathlib.Core.Path.{_≡_, refl, sym, ap, subst, _∙_}
+use mathlib.Core.Path.{_≡_, refl, _∙_}
 use native.Mathlib.Omega.{arith}
-use Prim.Native.Nat.{ℕ, _+_, _-_, _*_, _<_, _≤_}
+use Prim.Native.Nat.{_+_, _-_, _≤_}
 use lib.ListN.{drop}
 use Rattle.semantics.specs.Annotate.{functions-rows}
 use Rattle.normal_write.specs.Wrote.{Wrote}
@@ -12,10 +12,6 @@ use Rattle.normal_script.proofs.Functions.{known, fits-at, depths-there
 use borrow.Author.Needs.{needs}
 use Rattle.normal_script.proofs.script_code.Statement.{statement}
 use Rattle.normal_script.proofs.script_code.Tie as tie
-use Rattle.normal_script.proofs.script_code.Reads as reads
-use Rattle.normal_script.proofs.script_code.Lts as lts
-use Rattle.normal_function.proofs.function_code.Reads as function-code-reads
-use Rattle.normal_script.proofs.find_heads.Reads as find-heads-reads
 
 abbrev Inv-loop : tie.InvT-loop
 Inv-loop kinds operands functions table₀ ks₀ os₀ starts results w₀ i₀ table ks os w i =

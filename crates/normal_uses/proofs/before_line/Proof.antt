@@ -1,17 +1,10 @@
 use Rattle.normal_code.specs.Plain.{set-of}
 use Rattle.normal_uses.proofs.Walks.{before-two, before-index, before-length, before-call, before-literal}
 use Rattle.normal_uses.proofs.Walks.{before-if, before-map}
-use mathlib.Core.Path.{_≡_, refl, sym, ap, _∙_}
-use native.Mathlib.Omega.{arith}
-use Prim.Native.Nat.{ℕ, _+_, _-_, _*_, _<_, _≤_}
+use Prim.Native.Nat.{_-_}
 use borrow.Author.Needs.{needs}
 use Rattle.normal_uses.proofs.before_line.Statement.{statement}
 use Rattle.normal_uses.proofs.before_line.Tie as tie
-use Rattle.normal_uses.proofs.before_line.Reads as reads
-use Rattle.normal_uses.proofs.before_line.Lts as lts
-use Rattle.normal_code.proofs.add.Reads as add-reads
-use Rattle.normal_code.proofs.without.Reads as without-reads
-use Rattle.normal_uses.proofs.with_atoms.Reads as with-atoms-reads
 
 enum-known-l : tie.Need-enum-known-l
 enum-known-l c = search needs

@@ -1,13 +1,9 @@
 use Rattle.normal_uses.proofs.Bits.{seven}
 use Rattle.normal_uses.specs.Table.{bit}
-use mathlib.Core.Path.{_≡_, refl, sym, ap, _∙_}
 use native.Mathlib.Omega.{arith}
-use Prim.Native.Nat.{ℕ, _+_, _-_, _*_, _<_, _≤_}
-use borrow.Author.Needs.{needs}
+use Prim.Native.Nat.{_-_}
 use Rattle.normal_uses.proofs.bit_of.Statement.{statement}
 use Rattle.normal_uses.proofs.bit_of.Tie as tie
-use Rattle.normal_uses.proofs.bit_of.Reads as reads
-use Rattle.normal_uses.proofs.bit_of.Lts as lts
 
 returns : tie.Need-returns
 unfolding bit

@@ -1,16 +1,12 @@
 use Rattle.normal_code.proofs.Trees.{start-none}
-use mathlib.Core.Path.{_≡_, refl, sym, ap, _∙_}
+use mathlib.Core.Path.{_≡_, refl, sym, _∙_}
 use native.Mathlib.Omega.{arith}
 use borrow.Author.Needs.{needs}
-use Prim.Native.Nat.{ℕ, zero, suc, _+_, _-_, _*_, _/_, _%_, _<_, _≤_}
-use lib.ListN.{length, getD, set}
+use Prim.Native.Nat.{_-_, _≤_}
 use Rattle.normal_code.specs.Plain.{start}
 use Rattle.normal_code.proofs.Trees.{start-goes, start-stops}
 use Rattle.normal_uses.proofs.first_row.Statement.{statement}
 use Rattle.normal_uses.proofs.first_row.Tie as tie
-use Rattle.normal_uses.proofs.first_row.Reads as reads
-use Rattle.normal_uses.proofs.first_row.Lts as lts
-use Rattle.normal_code.proofs.note_at.Reads as note-at-reads
 
 abbrev Inv-loop : tie.InvT-loop
 Inv-loop notes e q₀ left₀ q left = (left ≤ 4096) × (start notes 4096 e ≡ start notes left q)

@@ -1,14 +1,11 @@
 use lib.ListN.{length}
 use Rattle.normal_uses.proofs.Bits.{Loading, loading-none, loading-set, loaded}
-use mathlib.Core.Path.{_≡_, refl, sym, ap, _∙_}
+use mathlib.Core.Path.{_≡_, refl}
 use native.Mathlib.Omega.{arith}
-use Prim.Native.Nat.{ℕ, _+_, _-_, _*_, _<_, _≤_}
+use Prim.Native.Nat.{_-_, _≤_}
 use borrow.Author.Needs.{needs}
 use Rattle.normal_uses.proofs.load.Statement.{statement}
 use Rattle.normal_uses.proofs.load.Tie as tie
-use Rattle.normal_uses.proofs.load.Reads as reads
-use Rattle.normal_uses.proofs.load.Lts as lts
-use Rattle.normal_uses.proofs.bit_of.Reads as bit-of-reads
 
 abbrev Inv-loop : tie.InvT-loop
 Inv-loop table slot r₀ y₀ r y = (length r₀ ≡ 256) × (y ≤ 256) × Loading table slot r₀ r y

@@ -1,14 +1,9 @@
-use lib.ListN.{length}
 use Rattle.normal_uses.proofs.Bits.{Storing, storing-none, storing-set, stored}
-use mathlib.Core.Path.{_≡_, refl, sym, ap, _∙_}
 use native.Mathlib.Omega.{arith}
-use Prim.Native.Nat.{ℕ, _+_, _-_, _*_, _<_, _≤_}
+use Prim.Native.Nat.{_-_, _≤_}
 use borrow.Author.Needs.{needs}
 use Rattle.normal_uses.proofs.store.Statement.{statement}
 use Rattle.normal_uses.proofs.store.Tie as tie
-use Rattle.normal_uses.proofs.store.Reads as reads
-use Rattle.normal_uses.proofs.store.Lts as lts
-use Rattle.normal_uses.proofs.byte_of.Reads as byte-of-reads
 
 abbrev Inv-loop : tie.InvT-loop
 Inv-loop table₀ slot s i₀ table i = (i ≤ 32) × Storing table₀ table slot s i

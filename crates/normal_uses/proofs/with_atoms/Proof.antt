@@ -1,17 +1,12 @@
-use mathlib.Core.Path.{_≡_, refl, sym, ap, _∙_}
+use mathlib.Core.Path.{_≡_}
 use native.Mathlib.Omega.{arith}
-use Prim.Native.Nat.{ℕ, _+_, _-_, _<_, _≤_}
+use Prim.Native.Nat.{_+_, _-_, _<_, _≤_}
 use Rattle.semantics.specs.Live.{among}
 use Rattle.normal_code.specs.Plain.{atoms-at, set-of}
 use Rattle.normal_uses.proofs.Atoms.{among-none, among-more, among-all}
 use borrow.Author.Needs.{needs}
 use Rattle.normal_uses.proofs.with_atoms.Statement.{statement}
 use Rattle.normal_uses.proofs.with_atoms.Tie as tie
-use Rattle.normal_uses.proofs.with_atoms.Reads as reads
-use Rattle.normal_uses.proofs.with_atoms.Lts as lts
-use Rattle.normal_code.proofs.add.Reads as add-reads
-use Rattle.normal_code.proofs.atom_of.Reads as atom-of-reads
-use Rattle.normal_code.proofs.row_at.Reads as row-at-reads
 
 abbrev Inv-loop : tie.InvT-loop
 Inv-loop operands rows at m r₀ i₀ r i =

@@ -1,12 +1,9 @@
 use lib.ListN.{List·getD-eq-default}
-use mathlib.Core.Path.{_≡_, refl, sym, ap, _∙_}
-use native.Mathlib.Omega.{arith}
-use Prim.Native.Nat.{ℕ, _+_, _-_, _*_, _<_, _≤_}
+use mathlib.Core.Path.{sym}
+use Prim.Native.Nat.{_-_}
 use borrow.Author.Needs.{needs}
 use Rattle.normal_write.proofs.depth_at.Statement.{statement}
 use Rattle.normal_write.proofs.depth_at.Tie as tie
-use Rattle.normal_write.proofs.depth_at.Reads as reads
-use Rattle.normal_write.proofs.depth_at.Lts as lts
 
 shared-slice-read-result : tie.Need-shared-slice-read-result
 shared-slice-read-result c = search needs

@@ -1,12 +1,7 @@
 use borrow.Author.Tests.{ne-eqb}
-use mathlib.Core.Path.{_≡_, refl, sym, ap, _∙_}
-use native.Mathlib.Omega.{arith}
-use Prim.Native.Nat.{ℕ, _+_, _-_, _*_, _<_, _≤_}
-use borrow.Author.Needs.{needs}
+use Prim.Native.Nat.{_-_}
 use Rattle.normal_write.proofs.operation_kind.Statement.{statement}
 use Rattle.normal_write.proofs.operation_kind.Tie as tie
-use Rattle.normal_write.proofs.operation_kind.Reads as reads
-use Rattle.normal_write.proofs.operation_kind.Lts as lts
 
 returns : tie.Need-returns
 returns c = rw (c .if1 .taken)

@@ -1,14 +1,8 @@
 use mir.Facts.{toZ-ofZ}
-use mathlib.Core.Path.{_≡_, refl, sym, ap, _∙_}
-use native.Mathlib.Omega.{arith}
-use Prim.Native.Nat.{ℕ, _+_, _-_, _*_, _<_, _≤_}
+use Prim.Native.Nat.{_-_}
 use borrow.Author.Needs.{needs}
 use Rattle.normal_write.proofs.put_atom.Statement.{statement}
 use Rattle.normal_write.proofs.put_atom.Tie as tie
-use Rattle.normal_write.proofs.put_atom.Reads as reads
-use Rattle.normal_write.proofs.put_atom.Lts as lts
-use Rattle.normal_write.proofs.put_back.Reads as put-back-reads
-use Rattle.normal_write.proofs.put_row.Reads as put-row-reads
 
 enum-known-a : tie.Need-enum-known-a
 enum-known-a c = search needs

@@ -1,20 +1,14 @@
-use mathlib.Core.List.{List, map}
+use mathlib.Core.List.{map}
 use Rattle.semantics.specs.Code.{atom-row}
 use Rattle.normal_code.specs.Plain.{atoms-at}
 use Rattle.normal_write.specs.Wrote.{Wrote}
 use Rattle.normal_write.proofs.Rows.{lower}
 use Rattle.normal_write.proofs.Names.{atoms-begin, atoms-go, atoms-end}
-use mathlib.Core.Path.{_≡_, refl, sym, ap, _∙_}
 use native.Mathlib.Omega.{arith}
-use Prim.Native.Nat.{ℕ, _+_, _-_, _*_, _<_, _≤_}
+use Prim.Native.Nat.{_+_, _-_, _<_, _≤_}
 use borrow.Author.Needs.{needs}
 use Rattle.normal_write.proofs.put_atoms.Statement.{statement}
 use Rattle.normal_write.proofs.put_atoms.Tie as tie
-use Rattle.normal_write.proofs.put_atoms.Reads as reads
-use Rattle.normal_write.proofs.put_atoms.Lts as lts
-use Rattle.normal_code.proofs.atom_of.Reads as atom-of-reads
-use Rattle.normal_code.proofs.row_at.Reads as row-at-reads
-use Rattle.normal_write.proofs.put_atom.Reads as put-atom-reads
 
 abbrev Inv-loop : tie.InvT-loop
 Inv-loop ks₀ os₀ operands rows at m w v₀ i₀ ks os v i =

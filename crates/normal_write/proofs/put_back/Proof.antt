@@ -1,14 +1,10 @@
 use mir.Facts.{toZ-ofZ}
 use Rattle.normal_write.proofs.Rows.{wrote-one}
-use mathlib.Core.Path.{_≡_, refl, sym, ap, _∙_}
-use native.Mathlib.Omega.{arith}
-use Prim.Native.Nat.{ℕ, _+_, _-_, _*_, _<_, _≤_}
+use mathlib.Core.Path.{refl}
+use Prim.Native.Nat.{_-_}
 use borrow.Author.Needs.{needs}
 use Rattle.normal_write.proofs.put_back.Statement.{statement}
 use Rattle.normal_write.proofs.put_back.Tie as tie
-use Rattle.normal_write.proofs.put_back.Reads as reads
-use Rattle.normal_write.proofs.put_back.Lts as lts
-use Rattle.normal_write.proofs.less_one.Reads as less-one-reads
 
 less-one-requires : tie.Need-less-one-requires
 less-one-requires c κs = search needs

@@ -1,15 +1,9 @@
 use Rattle.normal_write.proofs.Rows.{wrote-then, lower}
-use mathlib.Core.Path.{_≡_, refl, sym, ap, _∙_}
 use native.Mathlib.Omega.{arith}
-use Prim.Native.Nat.{ℕ, _+_, _-_, _*_, _<_, _≤_}
+use Prim.Native.Nat.{_-_}
 use borrow.Author.Needs.{needs}
 use Rattle.normal_write.proofs.put_end.Statement.{statement}
 use Rattle.normal_write.proofs.put_end.Tie as tie
-use Rattle.normal_write.proofs.put_end.Reads as reads
-use Rattle.normal_write.proofs.put_end.Lts as lts
-use Rattle.normal_write.proofs.put_atom.Reads as put-atom-reads
-use Rattle.normal_write.proofs.put_row.Reads as put-row-reads
-use Rattle.normal_write.proofs.retain_atom.Reads as retain-atom-reads
 
 put-atom-requires : tie.Need-put-atom-requires
 put-atom-requires c κs = search needs

@@ -3,12 +3,6 @@ use Rattle.normal_write.proofs.Rows.{wrote-then, lower}
 use borrow.Author.Needs.{needs}
 use Rattle.normal_write.proofs.put_handing.Statement.{statement}
 use Rattle.normal_write.proofs.put_handing.Tie as tie
-use Rattle.normal_write.proofs.put_handing.Reads as reads
-use Rattle.normal_write.proofs.put_handing.Lts as lts
-use Rattle.normal_write.proofs.put_atoms.Reads as put-atoms-reads
-use Rattle.normal_write.proofs.put_release.Reads as put-release-reads
-use Rattle.normal_write.proofs.put_retains.Reads as put-retains-reads
-use Rattle.normal_write.proofs.put_row.Reads as put-row-reads
 
 put-release-requires : tie.Need-put-release-requires
 put-release-requires c κs = search needs

@@ -1,30 +1,27 @@
-use Rattle.normal_write.proofs.Rows.{wrote-then, lower}
-use mathlib.Core.Path.{_≡_, refl, sym, ap, _∙_}
 use native.Mathlib.Omega.{arith}
-use Prim.Native.Nat.{ℕ, _+_, _-_, _*_, _<_, _≤_}
+use Rattle.normal_code.specs.Plain.{set-of, meant}
+use Rattle.normal_write.specs.Parts.{depth-in}
+use Rattle.normal_write.proofs.Rows.{wrote-then, wrote-as, lower}
+use Rattle.normal_write.proofs.Names.{length-rows}
 use borrow.Author.Needs.{needs}
 use Rattle.normal_write.proofs.put_length.Statement.{statement}
 use Rattle.normal_write.proofs.put_length.Tie as tie
-use Rattle.normal_write.proofs.put_length.Reads as reads
-use Rattle.normal_write.proofs.put_length.Lts as lts
-use Rattle.normal_write.proofs.put_atom.Reads as put-atom-reads
-use Rattle.normal_write.proofs.put_row.Reads as put-row-reads
-use Rattle.normal_write.proofs.release_atom.Reads as release-atom-reads
 
-release-atom-requires : tie.Need-release-atom-requires
-release-atom-requires c κs = search needs
+put-reads-requires : tie.Need-put-reads-requires
+put-reads-requires c κs = search needs
 
 put-atom-requires : tie.Need-put-atom-requires
-put-atom-requires c κs = lower (c .before .before .release-atom .ensures) (omega arith)
+put-atom-requires c κs = lower (c .before .before .put-reads .ensures) (omega arith)
 
 put-row-requires : tie.Need-put-row-requires
-put-row-requires c κs = lower (c .before .before .put-atom .ensures) (lower (c .before .before .before .before
-    .before .release-atom .ensures) (omega arith))
+put-row-requires c κs = lower (c .before .before .put-atom .ensures) (lower (c .before .before .before .before .before .put-reads .ensures) (omega arith))
 
 returns : tie.Need-returns
-returns c = wrote-then (wrote-then (c .before .before .before .before .before .before .release-atom .ensures)
-    (c .before .before .before .put-atom .ensures)) (c .put-row .ensures)
+returns c =
+    let s = c .before .before .before .before .before .before .before .before .before .before in
+    wrote-as (length-rows (depth-in (s .args .depths .now)) (s .args .x) (set-of (s .args .after)) (meant (s .args .a)))
+    (wrote-then (wrote-then (c .before .before .before .before .before .before .put-reads .ensures) (c .before .before .before .put-atom .ensures)) (c .put-row .ensures))
 
 pub put-length-spec : {M : Type 1} → statement M
 put-length-spec =
-    tie.close (tie.spec release-atom-requires put-atom-requires put-row-requires returns)
+    tie.close (tie.spec put-reads-requires put-atom-requires put-row-requires returns)

@@ -1,18 +1,13 @@
-use mathlib.Core.List.{List}
 use Rattle.normal_code.specs.Plain.{set-of}
 use Rattle.normal_write.specs.Wrote.{Wrote}
 use Rattle.normal_write.specs.Parts.{depth-in}
 use Rattle.normal_write.proofs.Rows.{wrote-then, wrote-as, lower}
 use Rattle.normal_write.proofs.Names.{releases-from, release-none, release-more, release-all}
-use mathlib.Core.Path.{_≡_, refl, sym, ap, _∙_}
 use native.Mathlib.Omega.{arith}
-use Prim.Native.Nat.{ℕ, _+_, _-_, _*_, _<_, _≤_}
+use Prim.Native.Nat.{_-_, _≤_}
 use borrow.Author.Needs.{needs}
 use Rattle.normal_write.proofs.put_releases.Statement.{statement}
 use Rattle.normal_write.proofs.put_releases.Tie as tie
-use Rattle.normal_write.proofs.put_releases.Reads as reads
-use Rattle.normal_write.proofs.put_releases.Lts as lts
-use Rattle.normal_write.proofs.release_one.Reads as release-one-reads
 
 abbrev Inv-loop : tie.InvT-loop
 Inv-loop ks₀ os₀ depths w used live at₀ i₀ ks os at i =

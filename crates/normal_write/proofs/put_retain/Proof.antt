@@ -1,15 +1,9 @@
 use Rattle.normal_write.proofs.Rows.{wrote-none, wrote-as}
 use Rattle.normal_write.proofs.Names.{retain-on, retain-off}
-use mathlib.Core.Path.{_≡_, refl, sym, ap, _∙_}
-use native.Mathlib.Omega.{arith}
-use Prim.Native.Nat.{ℕ, _+_, _-_, _*_, _<_, _≤_}
+use Prim.Native.Nat.{_-_}
 use borrow.Author.Needs.{needs}
 use Rattle.normal_write.proofs.put_retain.Statement.{statement}
 use Rattle.normal_write.proofs.put_retain.Tie as tie
-use Rattle.normal_write.proofs.put_retain.Reads as reads
-use Rattle.normal_write.proofs.put_retain.Lts as lts
-use Rattle.normal_write.proofs.depth_at.Reads as depth-at-reads
-use Rattle.normal_write.proofs.put_row.Reads as put-row-reads
 
 depth-at-requires : tie.Need-depth-at-requires
 depth-at-requires c κs = search needs

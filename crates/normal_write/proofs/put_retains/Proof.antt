@@ -1,4 +1,3 @@
-use mathlib.Core.List.{List}
 use Rattle.semantics.specs.Live.{among}
 use Rattle.normal_code.specs.Plain.{atoms-at, set-of}
 use Rattle.normal_uses.proofs.Atoms.{among-none, among-more}
@@ -6,18 +5,12 @@ use Rattle.normal_write.specs.Wrote.{Wrote}
 use Rattle.normal_write.specs.Parts.{depth-in}
 use Rattle.normal_write.proofs.Rows.{lower}
 use Rattle.normal_write.proofs.Names.{retains-at, retains-begin, retains-go, retains-end}
-use mathlib.Core.Path.{_≡_, refl, sym, ap, _∙_}
+use mathlib.Core.Path.{_≡_}
 use native.Mathlib.Omega.{arith}
-use Prim.Native.Nat.{ℕ, _+_, _-_, _*_, _<_, _≤_}
+use Prim.Native.Nat.{_+_, _-_, _<_, _≤_}
 use borrow.Author.Needs.{needs}
 use Rattle.normal_write.proofs.put_retains.Statement.{statement}
 use Rattle.normal_write.proofs.put_retains.Tie as tie
-use Rattle.normal_write.proofs.put_retains.Reads as reads
-use Rattle.normal_write.proofs.put_retains.Lts as lts
-use Rattle.normal_code.proofs.add.Reads as add-reads
-use Rattle.normal_code.proofs.atom_of.Reads as atom-of-reads
-use Rattle.normal_code.proofs.row_at.Reads as row-at-reads
-use Rattle.normal_write.proofs.retain_atom.Reads as retain-atom-reads
 
 abbrev Inv-loop : tie.InvT-loop
 Inv-loop ks₀ os₀ depths operands rows at m w later₀ v₀ i₀ ks os later v i =

@@ -1,15 +1,11 @@
 use mir.Facts.{toZ-ofZ}
 use mir.Syntax.{w64}
 use lib.IntN.{pos}
-use mathlib.Core.Path.{_≡_, refl, sym, ap, _∙_}
 use native.Mathlib.Omega.{arith}
-use Prim.Native.Nat.{ℕ, _+_, _-_, _*_, _<_, _≤_}
+use Prim.Native.Nat.{_-_}
 use borrow.Author.Needs.{needs}
 use Rattle.normal_write.proofs.put_row.Statement.{statement}
 use Rattle.normal_write.proofs.put_row.Tie as tie
-use Rattle.normal_write.proofs.put_row.Reads as reads
-use Rattle.normal_write.proofs.put_row.Lts as lts
-use Rattle.normal_write.proofs.put_back.Reads as put-back-reads
 
 cast-put-back : tie.Need-cast-put-back
 cast-put-back c = search needs

@@ -3,15 +3,11 @@ use Rattle.normal_write.specs.Parts.{depth-in, retain-rows}
 use Rattle.normal_write.proofs.Rows.{wrote-none, wrote-as}
 use Rattle.normal_write.proofs.Names.{handed-on, handed-off, handed-number}
 use mathlib.Core.List.{List}
-use mathlib.Core.Path.{_≡_, refl, sym, ap, _∙_}
-use native.Mathlib.Omega.{arith}
-use Prim.Native.Nat.{ℕ, _+_, _-_, _*_, _<_, _≤_}
+use mathlib.Core.Path.{ap}
+use Prim.Native.Nat.{ℕ, _-_}
 use borrow.Author.Needs.{needs}
 use Rattle.normal_write.proofs.retain_atom.Statement.{statement}
 use Rattle.normal_write.proofs.retain_atom.Tie as tie
-use Rattle.normal_write.proofs.retain_atom.Reads as reads
-use Rattle.normal_write.proofs.retain_atom.Lts as lts
-use Rattle.normal_write.proofs.put_retain.Reads as put-retain-reads
 
 enum-told : tie.Need-enum-told
 enum-told c = search needs

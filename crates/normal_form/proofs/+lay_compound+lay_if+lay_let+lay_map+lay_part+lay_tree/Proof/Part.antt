@@ -1,13 +1,16 @@
 -- What `lay_part` has to show.
-use mathlib.Core.Path.{sym, _∙_}
+use mathlib.Core.Path.{_∙_}
 use native.Mathlib.Omega.{arith}
 use lib.ListN.{getD}
 use lib.IntN.{pos}
 use mathlib.Core.Logic.{inl, inr}
+use Rattle.semantics.specs.File.{at-part}
+use Rattle.script_read.proofs.Nodes.{seen}
+use Rattle.script_read.proofs.Ends.{node-inside}
 use Rattle.normal_made.specs.Source.{tree-at}
-use Rattle.normal_made.proofs.Nodes.{seen, none-tree, wrong-tree, compound-as, counted-as, compound-after, two-after}
-use Rattle.normal_made.proofs.Nodes.{three-after, map-after, any-default, number-is, name-is, let-is, if-is, map-is}
-use Rattle.normal_made.proofs.Nodes.{number-placed, nowhere-placed, within-file}
+use Rattle.normal_made.proofs.Nodes.{none-tree, wrong-tree, leaf-as, leaf-is, leaf-after, two-after, three-after}
+use Rattle.normal_made.proofs.Nodes.{map-after, any-default, number-is, name-is, let-is, if-is, map-is}
+use Rattle.normal_made.proofs.Nodes.{number-placed, nowhere-placed}
 use Rattle.normal_made.proofs.Members.{ready-as, ready-made, number-laid, name-laid, one-node}
 use borrow.Author.Needs.{needs}
 use Prim.Native.Nat.{ℕ}
@@ -37,22 +40,22 @@ pub lay-part-enum-known-kind : (t : ℕ) → lay-part-lts.Need-enum-known-kind (
     lay-part.Post
 lay-part-enum-known-kind t c = search needs
 
-pub lay-part-add-t23 : (t : ℕ) → lay-part-lts.Need-add-t23 (lay-part-claims t) (lay-part-at t) lay-part.Post
-lay-part-add-t23 t c = omega (
+pub lay-part-add-t24 : (t : ℕ) → lay-part-lts.Need-add-t24 (lay-part-claims t) (lay-part-at t) lay-part.Post
+lay-part-add-t24 t c = omega (
   arith,
   c .before .before .before .before .before .before .before .before .before .pre
       .1 .1 .nodes,
 )
 
-pub lay-part-cast-t24 : (t : ℕ) → lay-part-lts.Need-cast-t24 (lay-part-claims t) (lay-part-at t) lay-part.Post
-lay-part-cast-t24 t c = omega (
+pub lay-part-cast-t25 : (t : ℕ) → lay-part-lts.Need-cast-t25 (lay-part-claims t) (lay-part-at t) lay-part.Post
+lay-part-cast-t25 t c = omega (
   arith,
   c .before .before .before .before .before .before .before .before .before .pre
       .1 .1 .nodes,
 )
 
-pub lay-part-add-t25 : (t : ℕ) → lay-part-lts.Need-add-t25 (lay-part-claims t) (lay-part-at t) lay-part.Post
-lay-part-add-t25 t c = omega (
+pub lay-part-add-t26 : (t : ℕ) → lay-part-lts.Need-add-t26 (lay-part-claims t) (lay-part-at t) lay-part.Post
+lay-part-add-t26 t c = omega (
   arith,
   c .before .before .before .before .before .before .before .before .before .pre
       .1 .1 .nodes,
@@ -63,14 +66,13 @@ lay-part-returns-2 t c =
     let start = c .before .before .before .before .before .before .before .before .before in
     let a = start .args in
     let asked = start .pre in
-    let node = seen (a .kinds .now) (a .operands .now) (a .at) _ _ _
-    (sym (c .before .before .kind .given .1) ∙ c .before .before .before .before .node-at .ensures) in
+    let node = seen (a .kinds .now) (a .operands .now) at-part (a .at) _ (c .before .before .before .before .node-at .ensures) _ _ _ (c .before .before .kind .given .1) in
     number-laid (a .operands .now) (λ f. getD (a .results .now) f 0) (a .levels) (a .at) _ _
     (number-is (a .kinds .now) (a .operands .now) (a .levels) (a .at)
     (c .before .before .before .before .before .if1 .left) node (c .if2 .taken))
-    (number-placed (a .kinds .now) (a .operands .now) (a .at) (node .head) (asked .1 .0 .parts)
-    (within-file (a .kinds .now) (a .operands .now) (a .at) (node .head) (node .is)) (node .is)
-    (node .kind-is ∙ c .if2 .taken)) (asked .1 .1 .sized)
+    (number-placed (a .kinds .now) (a .operands .now) (a .at) (node .node) (asked .1 .0 .parts)
+    (node-inside (a .kinds .now) (a .operands .now) at-part (a .at) (node .node) (node .stands)) (node .stands)
+    (node .same-kind ∙ c .if2 .taken)) (asked .1 .1 .sized)
 
 pub lay-part-cast-place : (t : ℕ) → lay-part-lts.Need-cast-place (lay-part-claims t) (lay-part-at t) lay-part.Post
 lay-part-cast-place t c = search needs
@@ -82,8 +84,8 @@ pub lay-part-element-copy-out-place : (t : ℕ) → lay-part-lts.Need-element-co
     (lay-part-at t) lay-part.Post
 lay-part-element-copy-out-place t c = search needs
 
-pub lay-part-add-t26 : (t : ℕ) → lay-part-lts.Need-add-t26 (lay-part-claims t) (lay-part-at t) lay-part.Post
-lay-part-add-t26 t c = omega (
+pub lay-part-add-t27 : (t : ℕ) → lay-part-lts.Need-add-t27 (lay-part-claims t) (lay-part-at t) lay-part.Post
+lay-part-add-t27 t c = omega (
   arith,
   c .before .before .before .before .before .before .before .before .before
       .before .before .pre .1 .1 .nodes,
@@ -98,9 +100,7 @@ lay-part-returns-3 t c =
     (c .before .before .before .before .kind .given .0 .1 .0)
     (name-is (a .kinds .now) (a .operands .now) (a .levels) (a .at)
     (c .before .before .before .before .before .before .before .if1 .left)
-    (seen (a .kinds .now) (a .operands .now) (a .at) _ _ _
-    (sym (c .before .before .before .before .kind .given .1)
-    ∙ c .before .before .before .before .before .before .node-at .ensures)) (c .before .if3 .taken))
+    (seen (a .kinds .now) (a .operands .now) at-part (a .at) _ (c .before .before .before .before .before .before .node-at .ensures) _ _ _ (c .before .before .before .before .kind .given .1)) (c .before .if3 .taken))
     (any-default (a .places .now) _ (asked .1 .0 .long) (search needs)) (asked .1 .1 .sized)
 
 pub lay-part-add-lay-let : (t : ℕ) → lay-part-lts.Need-add-lay-let (lay-part-claims t) (lay-part-at t) lay-part.Post
@@ -130,9 +130,7 @@ lay-part-lay-let-requires t c κs =
         ready-as _ (a .at) _ (asked .1 .1)
             (let-is (a .kinds .now) (a .operands .now) (a .levels) (a .at)
             (c .before .before .before .before .before .before .before .before .before .before .if1 .left)
-            (seen (a .kinds .now) (a .operands .now) (a .at) _ _ _
-            (sym (c .before .before .before .before .before .before .before .kind .given .1)
-            ∙ c .before .before .before .before .before .before .before .before .before .node-at .ensures))
+            (seen (a .kinds .now) (a .operands .now) at-part (a .at) _ (c .before .before .before .before .before .before .before .before .before .node-at .ensures) _ _ _ (c .before .before .before .before .before .before .before .kind .given .1))
             (c .before .before .before .if4 .taken)) (two-after _ (a .at) _ _),
       ),
     )
@@ -144,9 +142,7 @@ lay-part-returns-4 t c =
     ready-made (a .operands .now) (λ f. getD (a .results .now) f 0) (a .levels) (a .at)
     (let-is (a .kinds .now) (a .operands .now) (a .levels) (a .at)
     (c .before .before .before .before .before .before .before .before .before .before .before .if1 .left)
-    (seen (a .kinds .now) (a .operands .now) (a .at) _ _ _
-    (sym (c .before .before .before .before .before .before .before .before .kind .given .1)
-    ∙ c .before .before .before .before .before .before .before .before .before .before .node-at .ensures))
+    (seen (a .kinds .now) (a .operands .now) at-part (a .at) _ (c .before .before .before .before .before .before .before .before .before .before .node-at .ensures) _ _ _ (c .before .before .before .before .before .before .before .before .kind .given .1))
     (c .before .before .before .before .if4 .taken))
     (omega (
       arith,
@@ -181,10 +177,8 @@ lay-part-lay-if-requires t c κs =
         ready-as _ (a .at) _ (asked .1 .1)
             (if-is (a .kinds .now) (a .operands .now) (a .levels) (a .at)
             (c .before .before .before .before .before .before .before .before .before .before .before .if1 .left)
-            (seen (a .kinds .now) (a .operands .now) (a .at) _ _ _
-            (sym (c .before .before .before .before .before .before .before .before .kind .given .1)
-            ∙ c .before .before .before .before .before .before .before .before .before .before .node-at
-            .ensures)) (c .before .before .before .if5 .taken)) (three-after (a .at) _ _ _),
+            (seen (a .kinds .now) (a .operands .now) at-part (a .at) _ (c .before .before .before .before .before .before .before .before .before .before .node-at
+            .ensures) _ _ _ (c .before .before .before .before .before .before .before .before .kind .given .1)) (c .before .before .before .if5 .taken)) (three-after (a .at) _ _ _),
       ),
     )
 
@@ -196,10 +190,8 @@ lay-part-returns-5 t c =
     (if-is (a .kinds .now) (a .operands .now) (a .levels) (a .at)
     (c .before .before .before .before .before .before .before .before .before .before .before .before .if1
     .left)
-    (seen (a .kinds .now) (a .operands .now) (a .at) _ _ _
-    (sym (c .before .before .before .before .before .before .before .before .before .kind .given .1)
-    ∙ c .before .before .before .before .before .before .before .before .before .before .before .node-at
-    .ensures)) (c .before .before .before .before .if5 .taken))
+    (seen (a .kinds .now) (a .operands .now) at-part (a .at) _ (c .before .before .before .before .before .before .before .before .before .before .before .node-at
+    .ensures) _ _ _ (c .before .before .before .before .before .before .before .before .before .kind .given .1)) (c .before .before .before .before .if5 .taken))
     (omega (
       arith,
       c .before .before .before .before .before .before .before .before .before .before .before
@@ -234,10 +226,8 @@ lay-part-lay-map-requires t c κs =
             (map-is (a .kinds .now) (a .operands .now) (a .levels) (a .at)
             (c .before .before .before .before .before .before .before .before .before .before .before .before .if1
             .left)
-            (seen (a .kinds .now) (a .operands .now) (a .at) _ _ _
-            (sym (c .before .before .before .before .before .before .before .before .before .kind .given .1)
-            ∙ c .before .before .before .before .before .before .before .before .before .before .before .node-at
-            .ensures)) (c .before .before .before .if6 .taken)) (map-after _ (a .at) _ _),
+            (seen (a .kinds .now) (a .operands .now) at-part (a .at) _ (c .before .before .before .before .before .before .before .before .before .before .before .node-at
+            .ensures) _ _ _ (c .before .before .before .before .before .before .before .before .before .kind .given .1)) (c .before .before .before .if6 .taken)) (map-after _ (a .at) _ _),
       ),
     )
 
@@ -249,10 +239,8 @@ lay-part-returns-6 t c =
     (map-is (a .kinds .now) (a .operands .now) (a .levels) (a .at)
     (c .before .before .before .before .before .before .before .before .before .before .before .before .before
     .if1 .left)
-    (seen (a .kinds .now) (a .operands .now) (a .at) _ _ _
-    (sym (c .before .before .before .before .before .before .before .before .before .before .kind .given .1)
-    ∙ c .before .before .before .before .before .before .before .before .before .before .before .before
-    .node-at .ensures)) (c .before .before .before .before .if6 .taken))
+    (seen (a .kinds .now) (a .operands .now) at-part (a .at) _ (c .before .before .before .before .before .before .before .before .before .before .before .before
+    .node-at .ensures) _ _ _ (c .before .before .before .before .before .before .before .before .before .before .kind .given .1)) (c .before .before .before .before .if6 .taken))
     (omega (
       arith,
       c .before .before .before .before .before .before .before .before .before .before .before
@@ -286,50 +274,18 @@ lay-part-lay-compound-requires t c κs =
     .before .before .before .before .before .before in
     let a = start .args in
     let asked = start .pre in
-    let node = seen (a .kinds .now) (a .operands .now) (a .at) _ _ _
-    (sym
-    (c .before .before .before .before .before .before .before .before .before .before .before .kind .given .1)
-    ∙ c .before .before .before .before .before .before .before .before .before .before .before .before .before
-    .node-at .ensures) in (
-      omega (
-        arith,
-        asked .0,
-        c .before .before .before .before .before .before .before .before .before .before .before .before .before
-            .before .if1 .left,
-      ),
+    let node = seen (a .kinds .now) (a .operands .now) at-part (a .at) _ (c .before .before .before .before .before .before .before .before .before .before .before .before .before
+    .node-at .ensures) _ _ _ (c .before .before .before .before .before .before .before .before .before .before .before .kind .given .1) in
+    let l = leaf-as node (c .before .before .before .before .second-part .result) (c .before .before .before .parts-of .result) (c .before .before .before .before .second-part .ensures)
+    (c .before .before .before .parts-of .ensures) (c .before .before .before .before .before .before .before .before .before .if2 .left) (c .before .before .before .before .before .before .before .before .if3 .left) (c .before .before .before .before .before .before .before .if4 .left) (c .before .before .before .before .before .before .if5 .left) (c .before .before .before .before .before .if6 .left) in (
+      omega (arith, asked .0, c .before .before .before .before .before .before .before .before .before .before .before .before .before .before .if1 .left),
       (
-        (counted-as node (c .before .before .before .before .second-part .result)
-            (c .before .before .before .parts-of .result) (c .before .before .before .before .second-part .ensures)
-            (c .before .before .before .parts-of .ensures)
-            (c .before .before .before .before .before .before .before .before .before .if2 .left)
-            (c .before .before .before .before .before .before .before .before .if3 .left)
-            (c .before .before .before .before .before .before .before .if4 .left)
-            (c .before .before .before .before .before .before .if5 .left)
-            (c .before .before .before .before .before .if6 .left)),
+        l .counted,
         (
           asked .1 .0,
           ready-as _ (a .at) _ (asked .1 .1)
-              (compound-as (a .kinds .now) (a .operands .now) (a .levels) (a .at)
-              (c .before .before .before .before .before .before .before .before .before .before .before .before
-              .before .before .if1 .left) node (c .before .before .before .before .second-part .result)
-              (c .before .before .before .parts-of .result)
-              (c .before .before .before .before .second-part .ensures)
-              (c .before .before .before .parts-of .ensures)
-              (c .before .before .before .before .before .before .before .before .before .if2 .left)
-              (c .before .before .before .before .before .before .before .before .if3 .left)
-              (c .before .before .before .before .before .before .before .if4 .left)
-              (c .before .before .before .before .before .before .if5 .left)
-              (c .before .before .before .before .before .if6 .left))
-              (compound-after (a .kinds .now) (a .operands .now) (a .levels) (a .at) _ _ _
-              (counted-as node (c .before .before .before .before .second-part .result)
-              (c .before .before .before .parts-of .result)
-              (c .before .before .before .before .second-part .ensures)
-              (c .before .before .before .parts-of .ensures)
-              (c .before .before .before .before .before .before .before .before .before .if2 .left)
-              (c .before .before .before .before .before .before .before .before .if3 .left)
-              (c .before .before .before .before .before .before .before .if4 .left)
-              (c .before .before .before .before .before .before .if5 .left)
-              (c .before .before .before .before .before .if6 .left))),
+              (leaf-is (a .kinds .now) (a .operands .now) (a .levels) (a .at) (c .before .before .before .before .before .before .before .before .before .before .before .before .before .before .if1 .left) node _
+              (c .before .before .before .parts-of .ensures) l) (leaf-after _ (a .at) _),
         ),
       ),
     )
@@ -337,8 +293,8 @@ lay-part-lay-compound-requires t c κs =
 pub lay-part-enum-told : (t : ℕ) → lay-part-lts.Need-enum-told (lay-part-claims t) (lay-part-at t) lay-part.Post
 lay-part-enum-told t c = search needs
 
-pub lay-part-add-t51 : (t : ℕ) → lay-part-lts.Need-add-t51 (lay-part-claims t) (lay-part-at t) lay-part.Post
-lay-part-add-t51 t c =
+pub lay-part-add-t52 : (t : ℕ) → lay-part-lts.Need-add-t52 (lay-part-claims t) (lay-part-at t) lay-part.Post
+lay-part-add-t52 t c =
     let start = c .before .before .before .before .before .before .before in
     let a = start .args in
     let asked = start .pre in
@@ -347,8 +303,8 @@ lay-part-add-t51 t c =
 pub lay-part-enum-told-2 : (t : ℕ) → lay-part-lts.Need-enum-told-2 (lay-part-claims t) (lay-part-at t) lay-part.Post
 lay-part-enum-told-2 t c = search needs
 
-pub lay-part-add-t52 : (t : ℕ) → lay-part-lts.Need-add-t52 (lay-part-claims t) (lay-part-at t) lay-part.Post
-lay-part-add-t52 t c =
+pub lay-part-add-t53 : (t : ℕ) → lay-part-lts.Need-add-t53 (lay-part-claims t) (lay-part-at t) lay-part.Post
+lay-part-add-t53 t c =
     let start = c .before .before .before .before .before .before .before in
     let a = start .args in
     let asked = start .pre in
@@ -358,38 +314,14 @@ pub lay-part-returns-7 : (t : ℕ) → lay-part-lts.Need-returns-7 (lay-part-cla
 lay-part-returns-7 t c =
     let a = c .before .before .before .before .before .before .before .before .before .before .before .before .before
     .before .before .before .before .before .before .args in
-    let node = seen (a .kinds .now) (a .operands .now) (a .at) _ _ _
-    (sym (c .before .before .before .before .before .before .before .before .before .before .before .before .kind
-    .given .1)
-    ∙ c .before .before .before .before .before .before .before .before .before .before .before .before .before
-    .before .node-at .ensures) in
+    let node = seen (a .kinds .now) (a .operands .now) at-part (a .at) _ (c .before .before .before .before .before .before .before .before .before .before .before .before .before
+    .before .node-at .ensures) _ _ _ (c .before .before .before .before .before .before .before .before .before .before .before .before .kind
+    .given .1) in
+    let l = leaf-as node (c .before .before .before .before .before .second-part .result) (c .before .before .before .before .parts-of .result) (c .before .before .before .before .before .second-part .ensures)
+    (c .before .before .before .before .parts-of .ensures) (c .before .before .before .before .before .before .before .before .before .before .if2 .left) (c .before .before .before .before .before .before .before .before .before .if3 .left) (c .before .before .before .before .before .before .before .before .if4 .left) (c .before .before .before .before .before .before .before .if5 .left) (c .before .before .before .before .before .before .if6 .left) in
     ready-made (a .operands .now) (λ f. getD (a .results .now) f 0) (a .levels) (a .at)
-    (compound-as (a .kinds .now) (a .operands .now) (a .levels) (a .at)
-    (c .before .before .before .before .before .before .before .before .before .before .before .before .before
-    .before .before .if1 .left) node (c .before .before .before .before .before .second-part .result)
-    (c .before .before .before .before .parts-of .result)
-    (c .before .before .before .before .before .second-part .ensures)
-    (c .before .before .before .before .parts-of .ensures)
-    (c .before .before .before .before .before .before .before .before .before .before .if2 .left)
-    (c .before .before .before .before .before .before .before .before .before .if3 .left)
-    (c .before .before .before .before .before .before .before .before .if4 .left)
-    (c .before .before .before .before .before .before .before .if5 .left)
-    (c .before .before .before .before .before .before .if6 .left))
-    (omega (
-      arith,
-      c .before .before .before .before .before .before .before .before .before .before .before
-          .before .before .before .before .if1 .left,
-    ))
-    (compound-after (a .kinds .now) (a .operands .now) (a .levels) (a .at) _ _ _
-    (counted-as node (c .before .before .before .before .before .second-part .result)
-    (c .before .before .before .before .parts-of .result)
-    (c .before .before .before .before .before .second-part .ensures)
-    (c .before .before .before .before .parts-of .ensures)
-    (c .before .before .before .before .before .before .before .before .before .before .if2 .left)
-    (c .before .before .before .before .before .before .before .before .before .if3 .left)
-    (c .before .before .before .before .before .before .before .before .if4 .left)
-    (c .before .before .before .before .before .before .before .if5 .left)
-    (c .before .before .before .before .before .before .if6 .left))) (c .lay-compound .ensures)
+    (leaf-is (a .kinds .now) (a .operands .now) (a .levels) (a .at) (c .before .before .before .before .before .before .before .before .before .before .before .before .before .before .before .if1 .left) node _ (c .before .before .before .before .parts-of .ensures) l)
+    (omega (arith, c .before .before .before .before .before .before .before .before .before .before .before .before .before .before .before .if1 .left)) (leaf-after _ (a .at) _) (c .lay-compound .ensures)
 
 pub lay-part-returns-8 : (t : ℕ) → lay-part-lts.Need-returns-8 (lay-part-claims t) (lay-part-at t) lay-part.Post
 lay-part-returns-8 t c =
