@@ -1,5 +1,4 @@
 // One store in the engine and its ledger beside it: opened and worked together, and compared after each call.
-use super::ledger;
 use cross_values::rows;
 
 // Given instead of a number where the engine and the second interpreter differ.
@@ -9,7 +8,7 @@ pub const DIFFERS: u64 = 26;
 fn set_numbers(numbers: &mut [i64], readings: &[u64]) {
     let mut i: usize = 0;
     while i < readings.len() && i < numbers.len() {
-        numbers[i] = ledger::signed(readings[i]);
+        numbers[i] = cross_values::signed(readings[i]);
         i = i + 1;
     }
 }
@@ -50,20 +49,20 @@ fn is_sound(
     answer: u64,
 ) -> bool {
     let checked = engine::engine_check(file, kinds, operands, slots, heads);
-    if ledger::number_of(checked) != 0 {
+    if cross_ledger::number_of(checked) != 0 {
         return false;
     }
-    let number = ledger::number_of(answer);
+    let number = cross_ledger::number_of(answer);
     if number == 10 {
         return true;
     }
-    let cells = ledger::cells_of(answer);
-    if number == ledger::DRY && ledger::steps_of(answer) == 0 {
+    let cells = cross_ledger::cells_of(answer);
+    if number == cross_ledger::DRY && cross_ledger::steps_of(answer) == 0 {
         if cells != (heads.len() / 4) as u64 {
             return false;
         }
     }
-    cells == ledger::cells_of(checked)
+    cells == cross_ledger::cells_of(checked)
 }
 
 // Opens a store and its ledger; false where the script is refused or the totals differ.
@@ -78,12 +77,12 @@ pub fn open_both(
     book: &mut [u64],
 ) -> bool {
     rows::read_script(file, script);
-    ledger::open(memory, book);
+    cross_ledger::open(memory, book);
     let answer = engine::engine_open(file, kinds, operands, slots, heads);
-    if ledger::number_of(answer) != 0 {
+    if cross_ledger::number_of(answer) != 0 {
         return false;
     }
-    ledger::has_totals(script, slots, heads, memory, book)
+    cross_ledger::has_totals(script, slots, heads, memory, book)
 }
 
 // Works a delivery in both; the number of the answer if all agrees. Of the readings there are at most 17.
@@ -112,16 +111,16 @@ pub fn deliver_both(
         count,
         budget,
     );
-    if !ledger::judge(script, memory, book, readings, budget, answer) {
+    if !cross_ledger::judge(script, memory, book, readings, budget, answer) {
         return DIFFERS;
     }
-    if !ledger::has_totals(script, slots, heads, memory, book) {
+    if !cross_ledger::has_totals(script, slots, heads, memory, book) {
         return DIFFERS;
     }
     if !is_sound(file, kinds, operands, slots, heads, answer) {
         return DIFFERS;
     }
-    ledger::number_of(answer)
+    cross_ledger::number_of(answer)
 }
 
 // Works a delivery in both, and one that stops with 22 to 25 after some steps once more with a step less: that is 21,
@@ -150,8 +149,8 @@ pub fn deliver_twice(
         readings,
         budget,
     );
-    let steps = ledger::answered_steps(book);
-    if number < 22 || ledger::DRY < number {
+    let steps = cross_ledger::answered_steps(book);
+    if number < 22 || cross_ledger::DRY < number {
         return number;
     }
     if steps == 0 {

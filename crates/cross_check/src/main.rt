@@ -1,7 +1,6 @@
 // Runs the engine and a second interpreter on the same scripts and deliveries: document 01's remaining trials, and
 // scripts made from seeds. It prints how many deliveries agree in number, steps and totals, by number.
 mod both;
-mod ledger;
 mod tally;
 mod trials;
 
@@ -108,7 +107,7 @@ fn run_store(
     let mut operands = [0i64; 4096];
     let mut script = [0u64; rows::ROW_WORDS];
     let mut memory = [0u64; 131072];
-    let mut book = [0u64; ledger::LEDGER_WORDS];
+    let mut book = [0u64; cross_ledger::LEDGER_WORDS];
     if !both::open_both(
         file,
         &mut kinds[..],
@@ -124,7 +123,7 @@ fn run_store(
     tally::count(counts, tally::OPENED);
     tally::count(
         counts,
-        tally::DEPTHS + ledger::totals_depth(&script[..]) as usize,
+        tally::DEPTHS + cross_ledger::totals_depth(&script[..]) as usize,
     );
     run_deliveries(
         file,

@@ -1,7 +1,6 @@
 // Document 01's trials that its theorems leave: 16 and 17 readings with the printed script, and a call depth of 32 and
 // of 33. Each is one delivery to a fresh store.
 use super::both;
-use super::ledger;
 use cross_values::rows;
 use libc::STDOUT_FILENO;
 ghost use Prim.Native.Nat.{_<_};
@@ -60,7 +59,7 @@ fn number_of(file: &[u8], readings: &[u64]) -> u64 {
     let mut heads = [0u32; 9];
     let mut script = [0u64; rows::ROW_WORDS];
     let mut memory = [0u64; 1024];
-    let mut book = [0u64; ledger::LEDGER_WORDS];
+    let mut book = [0u64; cross_ledger::LEDGER_WORDS];
     if !both::open_both(
         file,
         &mut kinds[..],

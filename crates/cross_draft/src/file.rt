@@ -9,7 +9,7 @@ fn put_byte(file: &mut [u8], i: usize, value: u64) {
 }
 
 // Eight bytes, low byte first.
-pub fn put_bits(file: &mut [u8], i: usize, bits: u64)
+fn put_bits(file: &mut [u8], i: usize, bits: u64)
     requires { ⌜ i ≤ 65536 ⌝ }
 {
     let mut k: usize = 0;

@@ -1,4 +1,5 @@
 // The arena, the meter and the nodes that need no more than the values of their parts.
+use super::SIGN;
 use super::Worked;
 ghost use Prim.Native.Nat.{_+_, _<_, _≤_};
 ghost use lib.ListN.{length};
@@ -14,9 +15,6 @@ pub const ASKED: usize = 2;
 pub const WANTED: usize = 3;
 
 pub const USED: usize = 4;
-
-// The bit that makes a number negative.
-const SIGN: u64 = 9223372036854775808;
 
 // Takes one step, of a node that wants a cell or not; false where none is left.
 pub fn step(meter: &mut [u64], wants: bool) -> bool {

@@ -17,6 +17,11 @@ pub const FULL: u64 = 98;
 // Something that no accepted script has. No answer of the engine has this number.
 pub const BROKEN: u64 = 99;
 
+// The bit that makes a number negative, and the number that has this bit alone.
+const SIGN: u64 = 9223372036854775808;
+
+const LEAST: i64 = -9223372036854775808;
+
 // A word; 0 past the end.
 pub fn word(words: &[u64], i: usize) -> u64 {
     if i < words.len() {
@@ -30,4 +35,12 @@ pub fn put(words: &mut [u64], i: usize, value: u64) {
     if i < words.len() {
         words[i] = value;
     }
+}
+
+// The number with these bits.
+pub fn signed(bits: u64) -> i64 {
+    if bits < SIGN {
+        return bits as i64;
+    }
+    LEAST + (bits - SIGN) as i64
 }

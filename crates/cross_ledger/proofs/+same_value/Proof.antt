@@ -1,19 +1,19 @@
--- `cross_check::ledger::same_value` calls itself and ends: the depth falls. In its loop the elements left fall.
+-- `cross_ledger::same_value` calls itself and ends: the depth falls. In its loop the elements left fall.
 use borrow.Author.Needs.{needs}
 use Prim.Native.Nat.{ℕ, _-_, _<_}
 use borrow.Fn.Kinds.{In}
 use borrow.Fn.PlainCycle.{Measures, is, falls, and}
-use Rattle.cross_check.proofs.ledger.same_value.Reads as same-value
-use Rattle.cross_check.proofs.ledger.same_value.Kinds as same-value-kinds
-use Rattle.cross_check.proofs.ledger.+same_value.Lts-same_value as same-value-lts
-use Rattle.cross_check.proofs.ledger.cell_of.Reads as cell-of-reads
-use Rattle.cross_check.proofs.ledger.element_in.Reads as element-in-reads
-use Rattle.cross_check.proofs.ledger.has_head.Reads as has-head-reads
-use Rattle.cross_check.proofs.ledger.signed.Reads as signed-reads
+use Rattle.cross_ledger.proofs.same_value.Reads as same-value
+use Rattle.cross_ledger.proofs.same_value.Kinds as same-value-kinds
+use Rattle.cross_ledger.proofs.+same_value.Lts-same_value as same-value-lts
+use Rattle.cross_ledger.proofs.cell_of.Reads as cell-of-reads
+use Rattle.cross_ledger.proofs.element_in.Reads as element-in-reads
+use Rattle.cross_ledger.proofs.has_head.Reads as has-head-reads
+use Rattle.cross_values.proofs.signed.Reads as signed-reads
 use Rattle.cross_values.proofs.arena.element_at.Reads as element-at-reads
 use Rattle.cross_values.proofs.arena.length_at.Reads as length-at-reads
-use Rattle.cross_check.proofs.ledger.+same_value.{statement}
-use Rattle.cross_check.proofs.ledger.+same_value.Tie.{close}
+use Rattle.cross_ledger.proofs.+same_value.{statement}
+use Rattle.cross_ledger.proofs.+same_value.Tie.{close}
 
 abbrev μ-same-value : Measures 3 same-value-kinds.ps ℕ
 μ-same-value κs a = a .1 .1 .1 .1 .1 .0

@@ -1,4 +1,4 @@
--- `cross_check::ledger::cell_of` gives at most 256: a word that is neither negative nor above 255 is a number to 255.
+-- `cross_ledger::cell_of` gives at most 256: a word that is neither negative nor above 255 is a number to 255.
 use mathlib.Core.Path.{_≡_}
 use mathlib.Core.Bool.{true, false}
 use Prim.Native.Nat.{ℕ, _≤_, _^_}
@@ -11,8 +11,8 @@ use mir.Val.{Fits}
 use mir.Facts.{toZ-ofZ}
 use borrow.Author.Tests.{ltb-false}
 use borrow.Author.Needs.{needs}
-use Rattle.cross_check.proofs.ledger.cell_of.Statement.{statement}
-use Rattle.cross_check.proofs.ledger.cell_of.Tie as tie
+use Rattle.cross_ledger.proofs.cell_of.Statement.{statement}
+use Rattle.cross_ledger.proofs.cell_of.Tie as tie
 
 no-bool : {A : Type 0} → true ≡ false → A
 no-bool e = let z : _≡_ {A = ℕ} 0 1 = cc in absurd (let f : ⊥ = omega arith in f)

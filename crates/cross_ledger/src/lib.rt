@@ -113,13 +113,6 @@ pub fn judge(
     }
 }
 
-// The number with these bits.
-pub fn signed(bits: u64) -> i64 {
-    let mut bytes = [0u8; 8];
-    cross_draft::file::put_bits(&mut bytes[..], 0, bits);
-    words::signed_at(&bytes[..], 0)
-}
-
 // A slot of the store; 0 past the end.
 fn slot(slots: &[i64], i: usize) -> i64 {
     if i < slots.len() {
@@ -184,7 +177,7 @@ fn same_value(
     depth: u64,
 ) -> bool {
     if depth == 0 {
-        return held == signed(value);
+        return held == cross_values::signed(value);
     }
     let cell = cell_of(held);
     let count = arena::length_at(memory, value);
