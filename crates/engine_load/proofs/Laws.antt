@@ -1,8 +1,8 @@
 -- What a verdict on a file says, and one law for each way out of loading.
-use Prim.Native.Nat.{ℕ, zero, suc, _≤_}
+use Prim.Native.Nat.{ℕ, _≤_}
 use native.Mathlib.Omega.{arith}
-use mathlib.Core.Bool.{Bool, true, false, cond}
-use mathlib.Core.Path.{_≡_, refl, sym, ap, subst, _∙_}
+use mathlib.Core.Bool.{Bool, true, false}
+use mathlib.Core.Path.{_≡_, refl, ap, _∙_}
 use mathlib.Core.Option.{Option, none, some}
 use mathlib.Core.List.{List, [], _∷_}
 use lib.IntN.{ℤ, pos}
@@ -10,17 +10,14 @@ use lib.ListN.{length, replicate}
 use Rattle.semantics.specs.Outcome.{Outcome, done, stop}
 use Rattle.semantics.specs.Number.{bytes-at}
 use Rattle.semantics.specs.Syntax.{Script, main-depth}
-use Rattle.semantics.specs.File.{script, read-file}
+use Rattle.semantics.specs.File.{at-function, script, read-file}
 use Rattle.semantics.specs.Names.{name-faults}
 use Rattle.semantics.specs.Types.{type-faults}
 use Rattle.semantics.specs.Normal.{too-many-names}
-use Rattle.semantics.specs.Annotate.{code}
 use Rattle.semantics.specs.Calls as C
-use Rattle.semantics.specs.Calls.{packed, judged, judged-read, judged-script, admitted, admitted-if, room, code-fits}
-use Rattle.semantics.specs.Calls.{code-kinds, code-operands}
-use Rattle.script_read.specs.Told.{told, high-at}
-use Rattle.script_read.specs.declared.Read.the-variants as R
-use Rattle.script_read.proofs.Written.{After, ScriptWritten, script-written}
+use Rattle.semantics.specs.Calls.{packed, judged, judged-read, judged-script, admitted, room, code-fits}
+use Rattle.script_read.specs.Told.{high-at}
+use Rattle.script_read.proofs.Written.{ScriptWritten, script-written}
 use Rattle.script.specs.declared.Verdict.the-variants.{Accepted, Refused}
 use Rattle.script.specs.Verdicts.{told-verdict, Judges}
 use Rattle.script.proofs.Whole.{kinds-of, operands-of, Taken, taken}
@@ -31,7 +28,7 @@ use Rattle.normal.specs.declared.Laid.the-variants.{Lines, TooLong}
 use Rattle.normal.specs.Left.{Left, left-of, Leaves}
 use Rattle.engine_load.specs.declared.Loaded.{Loaded}
 use Rattle.engine_load.specs.declared.Loaded.the-variants as L
-use Rattle.engine_load.specs.Loading.{told-load, Loads}
+use Rattle.engine_load.specs.Loading.{Loads}
 
 no-equation : {A : Type 0} → _≡_ {A = ℕ} 0 1 → A
 no-equation e = absurd (omega arith)
@@ -94,14 +91,14 @@ module _ {file : List ℕ} {f n : ℕ} (a : AcceptedFile file f n) where
   }
 
   -- the node of main has the depth of its result
-  pub depth-read : high-at (kinds-of file n) (operands-of file n) 0 0 ≡ main-depth (a .tree)
+  pub depth-read : high-at (kinds-of file n) (operands-of file n) at-function 0 ≡ main-depth (a .tree)
   unfolding high-at
   depth-read =
       let h = rw script-reads at (script-written (kinds-of file n) (operands-of file n) f 0) in
       first (a .tree) (h .0) (omega (arith, h .1, file-taken .readable .one))
     where
       first : (gs : Script) → ScriptWritten (kinds-of file n) (operands-of file n) gs 0 → 1 ≤ length gs →
-          high-at (kinds-of file n) (operands-of file n) 0 0 ≡ main-depth gs
+          high-at (kinds-of file n) (operands-of file n) at-function 0 ≡ main-depth gs
       first [] h l = absurd (omega arith)
       first (g ∷ gs) h l = rw (h .0 .head .is) (h .0 .head .upper)
 
@@ -126,7 +123,7 @@ ready d TooLong = L.Refused 9
 module _ {file : List ℕ} {kinds : List ℕ} {operands : List ℤ} {kinds′ : List ℕ} {operands′ : List ℤ} where
   -- what the translator leaves
   pub loads-laid : {f n : ℕ} (r : Laid) (d : ℕ) → Judges file (Accepted f n) →
-      d ≡ high-at (kinds-of file n) (operands-of file n) 0 0 →
+      d ≡ high-at (kinds-of file n) (operands-of file n) at-function 0 →
       Leaves (script (kinds-of file n) (operands-of file n) f 0) kinds operands
       (record { answer = r; kinds = kinds′; operands = operands′ }) →
       Loads file kinds operands (ready d r) kinds′ operands′

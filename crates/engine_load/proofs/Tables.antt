@@ -5,12 +5,12 @@ use mathlib.Core.Bool.{Bool, true, false, cond}
 use mathlib.Core.Path.{_≡_, refl, sym, ap, subst, _∙_}
 use mathlib.Core.List.{List, [], _∷_, _++_, map}
 use lib.IntN.{ℤ, pos}
-use lib.ListN.{getD, length, replicate, length-append, length-map, length-replicate}
+use lib.ListN.{getD, length, replicate, length-append, length-map}
 use borrow.Author.Tests.{leb-true}
-use Rattle.semantics.specs.Syntax.{Script, function-at}
-use Rattle.semantics.specs.File.{script}
+use Rattle.semantics.specs.Syntax.{Script}
+use Rattle.semantics.specs.File.{at-function, script}
 use Rattle.semantics.specs.Code.{Row}
-use Rattle.semantics.specs.Annotate.{code, depths-of}
+use Rattle.semantics.specs.Annotate.{code}
 use Rattle.semantics.specs.Calls as C
 use Rattle.semantics.specs.Calls.{packed, admitted, room, code-fits, code-kinds, code-operands}
 use Rattle.script_read.specs.Told.{high-at}
@@ -33,7 +33,7 @@ use Rattle.normal.specs.declared.Laid.{Laid}
 use Rattle.normal.specs.declared.Laid.the-variants.{Lines, TooLong}
 use Rattle.normal.specs.Left.{left-of, Leaves}
 use Rattle.engine_load.specs.declared.Loaded.the-variants as L
-use Rattle.engine_load.specs.Loading.{Loads, LoadsWith}
+use Rattle.engine_load.specs.Loading.{LoadsWith}
 use Rattle.engine_load.proofs.Laws.{AcceptedFile, accepted-file, file-taken, script-reads, ready, refused-so}
 use Rattle.engine_load.proofs.Laws.{loads-laid, loads-refusal}
 
@@ -168,7 +168,7 @@ laid-within {file} {f} {n} a kinds kinds′ operands operands′ r m is left =
 module _ {file kinds : List ℕ} {operands : List ℤ} {table kinds′ : List ℕ} {operands′ : List ℤ} where
   -- what the translator leaves
   pub loads-with-laid : {f n : ℕ} (r : Laid) (d : ℕ) (table′ : List ℕ) → Judges file (Accepted f n) →
-      d ≡ high-at (kinds-of file n) (operands-of file n) 0 0 →
+      d ≡ high-at (kinds-of file n) (operands-of file n) at-function 0 →
       Leaves (script (kinds-of file n) (operands-of file n) f 0) kinds operands
       (record { answer = r; kinds = kinds′; operands = operands′ }) →
       Depths-by (script (kinds-of file n) (operands-of file n) f 0) table table′ →

@@ -1,6 +1,7 @@
 // Loading a script: refusals 1 to 9, or its code in the two lent arrays and what the machine needs beside it.
 use normal::Laid;
 use script::Verdict;
+use script_read::Place;
 ghost use Rattle.engine_load.specs.Loading.{Loads, LoadsWith};
 
 // How many lines the code has and main's depth, or the packed answer of a refusal.
@@ -20,7 +21,7 @@ pub fn load_with(file: &[u8], kinds: &mut [u8], operands: &mut [i64], table: &mu
             let end = 4 + nodes;
             let file_kinds = &file[4..end];
             let file_operands = &file[end..];
-            let depth = script_read::high_at(file_kinds, file_operands, 0, 0);
+            let depth = script_read::high_at(file_kinds, file_operands, 0, Place::Function);
             match normal::translate_accepted(
                 file_kinds,
                 file_operands,

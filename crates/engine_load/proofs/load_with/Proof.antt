@@ -1,6 +1,6 @@
 -- `engine_load::load_with` meets its contract.
 use native.Mathlib.Omega.{arith}
-use mathlib.Core.Path.{subst, sym, _∙_}
+use mathlib.Core.Path.{subst, _∙_}
 use borrow.Author.Needs.{needs}
 use Rattle.script.specs.declared.Verdict.the-variants.{Accepted, Refused}
 use Rattle.script.specs.Verdicts.{Judges}
@@ -10,14 +10,6 @@ use Rattle.engine_load.proofs.Laws.{ready, accepted-file, file-taken, t
 use Rattle.engine_load.proofs.Tables.{table-after, laid-within, loads-with-laid, loads-with-refusal}
 use Rattle.engine_load.proofs.load_with.Statement.{statement}
 use Rattle.engine_load.proofs.load_with.Tie as tie
-use Rattle.engine_load.proofs.load_with.Reads as reads
-use Rattle.engine_load.proofs.load_with.Lts as lts
-use Rattle.machine_table.proofs.fill.Reads as fill-reads
-use Rattle.normal.proofs.refuse.Reads as refuse-reads
-use Rattle.normal.proofs.translate_accepted.Reads as translate-accepted-reads
-use Rattle.script.proofs.judge.Reads as judge-reads
-use Rattle.script_read.proofs.high_at.Reads as high-at-reads
-use Rattle.words.proofs.pack.Reads as pack-reads
 
 -- the verdict, once it is known to accept
 verdict : (c : tie.After-known-told) →
@@ -88,8 +80,8 @@ fill-requires c κs =
           (laid .result) (at-n .n .given .0 .0) (at-n .n .given .1) (laid .ensures .0),
     )
 
-cast-t36 : tie.Need-cast-t36
-cast-t36 c = search needs
+cast-t37 : tie.Need-cast-t37
+cast-t37 c = search needs
 
 enum-told : tie.Need-enum-told
 enum-told c = search needs
@@ -195,7 +187,7 @@ load-with-spec =
     translate-accepted-requires
     enum-known-n
     fill-requires
-    cast-t36
+    cast-t37
     enum-told
     enum-known-number
     refuse-requires
