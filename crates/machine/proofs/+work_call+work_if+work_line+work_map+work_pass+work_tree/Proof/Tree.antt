@@ -5,15 +5,13 @@ use native.Mathlib.Omega.{arith}
 use mir.Facts.{toZ-ofZ}
 use Rattle.machine_positions.specs.Machine.{code, call-on}
 use Rattle.machine_positions.specs.TreeLaws.{Working, working-starts, not-end, tree-out, tree-closed, tree-stops}
-use Rattle.machine_positions.specs.TreeLaws.{tree-goes, end-here}
+use Rattle.machine_positions.specs.TreeLaws.{tree-goes}
 use borrow.Author.Needs.{needs}
-use mathlib.Core.Path.{refl}
 use Rattle.semantics.specs.Words.{store-of}
 use Rattle.machine_lines.specs.Lines.{memory}
 use Rattle.machine_positions.specs.Lengths.{line-long}
 use Rattle.machine.proofs.work_tree.Reads as work-tree
 use Rattle.machine.proofs.+work_call+work_if+work_line+work_map+work_pass+work_tree.Lts-work_tree as work-tree-lts
-use Rattle.machine_code.specs.declared.Line.the-variants as L
 use Rattle.machine.proofs.+work_call+work_if+work_line+work_map+work_pass+work_tree.Proof.Common.{work-tree-at}
 use Rattle.machine.proofs.+work_call+work_if+work_line+work_map+work_pass+work_tree.Proof.Common.{work-tree-claims}
 
@@ -53,17 +51,13 @@ pub work-tree-returns : (t : ℕ) → work-tree-lts.Need-returns (work-tree-clai
 work-tree-returns t c = tree-out (c .before .before .before .loop .inv) (inr (c .before .if1 .taken)) (c .halted
     .result) (c .halted .ensures)
 
-pub work-tree-index-1-if2 : (t : ℕ) → work-tree-lts.Need-index-1-if2 (work-tree-claims t)
-    (work-tree-at t) work-tree.Post work-tree-Inv-loop work-tree-μ-loop
-work-tree-index-1-if2 t c = search needs
-
-pub work-tree-add-atom-at : (t : ℕ) → work-tree-lts.Need-add-atom-at (work-tree-claims t) (work-tree-at t)
+pub work-tree-line-at-requires : (t : ℕ) → work-tree-lts.Need-line-at-requires (work-tree-claims t) (work-tree-at t)
     work-tree.Post work-tree-Inv-loop work-tree-μ-loop
-work-tree-add-atom-at t c = search needs
+work-tree-line-at-requires t c κs = search needs
 
-pub work-tree-atom-at-requires : (t : ℕ) → work-tree-lts.Need-atom-at-requires (work-tree-claims t) (work-tree-at t)
+pub work-tree-enum-known-l : (t : ℕ) → work-tree-lts.Need-enum-known-l (work-tree-claims t) (work-tree-at t)
     work-tree.Post work-tree-Inv-loop work-tree-μ-loop
-work-tree-atom-at-requires t c κs = search needs
+work-tree-enum-known-l t c = search needs
 
 pub work-tree-word-of-requires : (t : ℕ) → work-tree-lts.Need-word-of-requires (work-tree-claims t) (work-tree-at t)
     work-tree.Post work-tree-Inv-loop work-tree-μ-loop
@@ -88,19 +82,14 @@ work-tree-same-length-4 t c = search needs
 pub work-tree-returns-2 : (t : ℕ) → work-tree-lts.Need-returns-2 (work-tree-claims t) (work-tree-at t) work-tree.Post
     work-tree-Inv-loop work-tree-μ-loop
 work-tree-returns-2 t c =
-    let a = c .before .before .before .before .before .before .before .before .before .before .before .before .args in
-    let atom = c .before .before .before .atom-at in
-    tree-closed (c .before .before .before .before .before .before .before .before .before .before .loop .inv) (L.End (atom .result))
-    (c .before .before .before .before .before .before .before .before .before .loop-test .taken)
-    (c .before .before .before .before .before .before .before .before .if1 .left) (end-here (a .kinds .now .now) (a .operands .now .now)
-    (c .before .before .before .before .before .before .before .before .before .before .loop .p) (atom .result)
-    (c .before .before .before .before .before .before .if2 .taken) (atom .ensures)) (atom .result) refl
-    (c .before .word-of .result) (c .before .word-of .ensures) (c .done .result) (rw (toZ-ofZ {z =
-    c .before .word-of .result} (record { sfits = c .before .word-of .ok })) at (c .done .ensures))
-
-pub work-tree-line-at-requires : (t : ℕ) → work-tree-lts.Need-line-at-requires (work-tree-claims t) (work-tree-at t)
-    work-tree.Post work-tree-Inv-loop work-tree-μ-loop
-work-tree-line-at-requires t c κs = search needs
+    let word = c .before .word-of in
+    let end = c .before .before .before .before .l in
+    let line = c .before .before .before .before .before .before .line-at in
+    tree-closed (c .before .before .before .before .before .before .before .before .before .before .before .loop .inv) (line .result)
+    (c .before .before .before .before .before .before .before .before .before .before .loop-test .taken)
+    (c .before .before .before .before .before .before .before .before .before .if1 .left) (line .ensures)
+    (end .given .0 .0) (end .given .1) (word .result) (word .ensures) (c .done .result)
+    (rw (toZ-ofZ {z = word .result} (record { sfits = word .ok })) at (c .done .ensures))
 
 pub work-tree-sub-work-line : (t : ℕ) → work-tree-lts.Need-sub-work-line (work-tree-claims t) (work-tree-at t)
     work-tree.Post work-tree-Inv-loop work-tree-μ-loop
@@ -122,14 +111,14 @@ work-tree-same-length-6 t c = search needs
 pub work-tree-returns-3 : (t : ℕ) → work-tree-lts.Need-returns-3 (work-tree-claims t) (work-tree-at t) work-tree.Post
     work-tree-Inv-loop work-tree-μ-loop
 work-tree-returns-3 t c =
-    let a = c .before .before .before .before .before .before .before .before .before .before .before .before .before .before .before .before .before .args in
-    let w = c .before .before .before .before .work-line in
-    let l = c .before .before .before .before .before .before .before .before .line-at in
-    tree-stops (c .before .before .before .before .before .before .before .before .before .before .before .before .before .before .before .loop .inv) (l .result) (c .before .before .before .before .before .before .before .before .before .before .before .before .before .before .loop-test .taken)
-    (c .before .before .before .before .before .before .before .before .before .before .before .before .before .if1 .left)
-    (l .ensures) (not-end (a .kinds .now .now) (a .operands .now .now) (c .before .before .before .before .before .before .before .before .before .before .before .before .before .before .before .loop .p) (l .result)
-    (c .before .before .before .before .before .before .before .before .before .before .before .if2 .left) (l .ensures)) (w .result)
-    (w .last .1 .1 .1 .0) (w .last .1 .1 .1 .1 .0) (w .last .1 .1 .1 .1 .1 .0) (w .ensures) (c .if3 .taken)
+    let worked = c .before .before .before .before .work-line in
+    let line = c .before .before .before .before .before .before .before .before .before .line-at in
+    tree-stops (c .before .before .before .before .before .before .before .before .before .before .before .before .before .before .loop .inv) (line .result)
+    (c .before .before .before .before .before .before .before .before .before .before .before .before .before .loop-test .taken)
+    (c .before .before .before .before .before .before .before .before .before .before .before .before .if1 .left) (line .ensures)
+    (not-end (line .result) (c .before .before .before .before .before .before .before .before .match .keys2)) (worked .result)
+    (worked .last .1 .1 .1 .0) (worked .last .1 .1 .1 .1 .0) (worked .last .1 .1 .1 .1 .1 .0) (worked .ensures)
+    (c .if2 .taken)
 
 pub work-tree-sub-left : (t : ℕ) → work-tree-lts.Need-sub-left (work-tree-claims t) (work-tree-at t) work-tree.Post
     work-tree-Inv-loop work-tree-μ-loop
@@ -143,20 +132,21 @@ pub work-tree-loop-again : (t : ℕ) → work-tree-lts.Need-loop-again (work-tre
     work-tree.Post
     work-tree-Inv-loop work-tree-μ-loop
 work-tree-loop-again t c =
-    let a = c .before .before .before .before .before .before .before .before .before .before .before .before .before .before .before .before .before .args in
+    let a = c .before .before .before .before .before .before .before .before .before .before .before .before .before .before .before .before .args in
     let k = code (a .kinds .now .now) (a .operands .now .now) (a .table .now) in
-    let o = c .before .before .before .before .before .before .before .before .before .before .before .before .before .before .before .loop in
-    let w = c .before .before .before .before .work-line in
-    let l = c .before .before .before .before .before .before .before .before .line-at in
-    tree-goes (c .before .before .before .before .before .before .before .before .before .before .before .before .before .before .before .loop .inv) (l .result) (c .before .before .before .before .before .before .before .before .before .before .before .before .before .before .loop-test .taken)
-    (c .before .before .before .before .before .before .before .before .before .before .before .before .before .if1 .left)
-    (l .ensures) (not-end (a .kinds .now .now) (a .operands .now .now) (c .before .before .before .before .before .before .before .before .before .before .before .before .before .before .before .loop .p) (l .result)
-    (c .before .before .before .before .before .before .before .before .before .before .before .if2 .left) (l .ensures)) (w .result)
-    (w .last .1 .1 .1 .0) (w .last .1 .1 .1 .1 .0) (w .last .1 .1 .1 .1 .1 .0) (w .ensures) (c .if3 .left) (record {
-      slots-long = w .kept .1 .1 .1 .0;
-      heads-long = w .kept .1 .1 .1 .1 .0;
-      env-long = line-long k (o .left - 1)
-          (a .calls) (a .f) (o .p) (o .s) (memory (store-of (o .slots) (o .heads)) (o .env)) (l .result) (w .ensures);
+    let o = c .before .before .before .before .before .before .before .before .before .before .before .before .before .before .loop in
+    let worked = c .before .before .before .before .work-line in
+    let line = c .before .before .before .before .before .before .before .before .before .line-at in
+    tree-goes (c .before .before .before .before .before .before .before .before .before .before .before .before .before .before .loop .inv) (line .result)
+    (c .before .before .before .before .before .before .before .before .before .before .before .before .before .loop-test .taken)
+    (c .before .before .before .before .before .before .before .before .before .before .before .before .if1 .left) (line .ensures)
+    (not-end (line .result) (c .before .before .before .before .before .before .before .before .match .keys2)) (worked .result)
+    (worked .last .1 .1 .1 .0) (worked .last .1 .1 .1 .1 .0) (worked .last .1 .1 .1 .1 .1 .0) (worked .ensures)
+    (c .if2 .left) (record {
+      slots-long = worked .kept .1 .1 .1 .0;
+      heads-long = worked .kept .1 .1 .1 .1 .0;
+      env-long = line-long k (o .left - 1) (a .calls) (a .f) (o .p) (o .s)
+          (memory (store-of (o .slots) (o .heads)) (o .env)) (line .result) (worked .ensures);
     })
 
 pub work-tree-halted-requires-2 : (t : ℕ) → work-tree-lts.Need-halted-requires-2 (work-tree-claims t) (work-tree-at t)
