@@ -18,10 +18,7 @@ use Rattle.semantics.specs.Machine as M
 use Rattle.semantics.specs.Machine.{State, Frame, Callee, word, step, with-left, work-line, acquire, acquire-if}
 use Rattle.semantics.specs.Machine.{elements-of, retain-word, release-word, held, touching, release-events}
 use Rattle.words.specs.Words.{checked}
-use Rattle.words.specs.declared.Exact.{Exact}
-use Rattle.words.specs.declared.Exact.the-variants.{Value, Overflow}
 use Rattle.store.specs.Acquiring.{next-cell}
-use Rattle.store.specs.declared.Acquired.the-variants.{Cell, NoneFree}
 use Rattle.machine_code.specs.Reading.{natural, atom-at, is-atom, line-of, line-at}
 use Rattle.machine_code.specs.declared.Atom.{Atom}
 use Rattle.machine_code.specs.declared.Line.{Line}
@@ -199,7 +196,7 @@ module _ (callee : Callee) (Γ : NameDepths) (kinds : List ℕ) (operands : List
       (exact o (word ρ a) (word ρ c))) refl)))
     where
       go : (n : ℕ) (r : ℤ) (t : Bool) → fits r ≡ t → Rel (LineDone (at + 3) calls env S (S ∪ only x))
-          (with-store (s .store) (operated calls x (at + 3) n env (cond (fits r) (Value r) Overflow)))
+          (with-store (s .store) (operated calls x (at + 3) n env (cond (fits r) (done r tt) (stop 24 tt))))
           (onward (λ _. give (updated ρ x r)) (require (fits r) 24 (with-left s n)))
       go n r true e = rw e (
         refl,
@@ -288,7 +285,7 @@ module _ (callee : Callee) (Γ : NameDepths) (kinds : List ℕ) (operands : List
       go : (n : ℕ) (ws : List ℤ) (t : Bool) → has-free (s .store) ≡ t →
           Rel (LineDone (at + 1 + length us) calls env S (S ∪ only x))
           (acquired-line calls x (at + 1 + length us) n (memory (acquired d ws (s .store)) env)
-          (cond (has-free (s .store)) (Cell (s .store .first)) NoneFree))
+          (cond (has-free (s .store)) (done (s .store .first) tt) (stop 25 tt)))
           (onward (λ w. give (updated ρ x w))
           (acquire-if (has-free (s .store)) (R ++ held Γ (among us (A ∖ x)) ρ) d ws (with-left s n)))
       go n ws true q = rw q (

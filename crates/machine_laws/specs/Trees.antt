@@ -20,7 +20,6 @@ use Rattle.semantics.specs.Machine as M
 use Rattle.semantics.specs.Machine.{State, Frame, word, step, stepped, with-left, work, work-line, work-pass}
 use Rattle.semantics.specs.Machine.{acquire, acquire-if, elements-of, append-word, held, touching}
 use Rattle.store.specs.Acquiring.{next-cell}
-use Rattle.store.specs.declared.Acquired.the-variants.{Cell, NoneFree}
 use Rattle.machine_code.specs.Reading.{is-atom, atom-at, line-at, depth-in, end-in}
 use Rattle.machine_code.specs.declared.Line.{Line}
 use Rattle.machine_code.specs.declared.Line.the-variants as L
@@ -361,7 +360,7 @@ module _ (callee : M.Callee) (Γ : NameDepths) (F : Functions) (c : Code) (calls
             Rel (LineDone (at + 2 + length (rows t)) calls env S (S ∪ only x))
             (map-worked W c calls x p at (cell-of (word ρ a)) (length ws) m
             (memory (acquired (atom-depth Γ (ending t)) [] (s .store)) env)
-            (cond (has-free (s .store)) (Cell (s .store .first)) NoneFree))
+            (cond (has-free (s .store)) (done (s .store .first) tt) (stop 25 tt)))
             (onward (λ k s₃. onward (λ _. give (updated ρ x k))
             (passes (work-pass (λ w. work callee Γ t B (R′ ++ (cell-of k ∷ [])) (updated ρ p w)) (word ρ a) k)
             tt

@@ -15,14 +15,15 @@ use denote.Enum.Declared.{tagOf}
 use types.Run.{OneOf}
 use Rattle.machine_code.proofs.Line.{the-type}
 use borrow.Author.Tests.{lt-ltb, le-ltb, eq-eqb, ne-eqb, ltb-true, ltb-false}
+use Rattle.semantics.specs.Outcome.{Outcome, done, stop}
 use Rattle.semantics.specs.Number.{Operation, sum, difference, less, exact, fits, inside}
 use Rattle.semantics.specs.Store.{Store, cell, cell-of, elements, acquired, has-free, cell-count, retained}
 use Rattle.semantics.specs.Store.{released, deepest}
 use Rattle.semantics.specs.Words.{store-of, cells-in}
-use Rattle.words.specs.Words.{checked}
+use Rattle.words.specs.Words.{exact-outcome, checked}
 use Rattle.words.specs.declared.Exact.{Exact}
 use Rattle.words.specs.declared.Exact.the-variants.{Value, Overflow}
-use Rattle.store.specs.Acquiring.{next-cell}
+use Rattle.store.specs.Acquiring.{acquired-outcome, next-cell}
 use Rattle.store.specs.declared.Acquired.{Acquired}
 use Rattle.store.specs.declared.Acquired.the-variants.{Cell, NoneFree}
 use Rattle.store.proofs.Filling.{cell-given}
@@ -40,12 +41,12 @@ use Rattle.machine_lines.specs.Lines.{index-line, length-line, acquired-
 
 -- ---- operations
 
-pub less-fits : (a b : ℤ) → Value (exact less a b) ≡ checked (exact less a b)
+pub less-fits : (a b : ℤ) → done (exact less a b) tt ≡ checked (exact less a b)
 unfolding checked
 less-fits a b = go (ltZ a b)
   where
-    go : (t : Bool) → Value (cond t (pos 1) (pos 0)) ≡ cond (fits (cond t (pos 1) (pos 0))) (Value (cond t (pos 1)
-        (pos 0))) Overflow
+    go : (t : Bool) → _≡_ {A = Outcome (Unit {0}) ℤ} (done (cond t (pos 1) (pos 0)) tt)
+        (cond (fits (cond t (pos 1) (pos 0))) (done (cond t (pos 1) (pos 0)) tt) (stop 24 tt))
     go true = refl
     go false = refl
 
@@ -56,8 +57,8 @@ module _ (calls kind x : ℕ) (a b : Atom) (next steps : ℕ) (env : List ℤ) w
   operation-spent r z e = rw (e, z)
 
   module _ (some : steps ≡ 0 → ⊥) (v w : ℤ) (ve : v ≡ word-of calls env a) (we : w ≡ word-of calls env b)
-      (e : Exact) (ee : e ≡ checked (exact (operation-of kind) v w)) where
-    operation-is : operation-line calls kind x a b next steps env ≡ operated calls x next (steps - 1) env e
+      (e : Exact) (ee : exact-outcome e ≡ checked (exact (operation-of kind) v w)) where
+    operation-is : operation-line calls kind x a b next steps env ≡ operated calls x next (steps - 1) env (exact-outcome e)
     unfolding operation-line stepping
     operation-is = ap (λ (n : ℕ). operation-line calls kind x a b next n env) (less-one steps (omega arith))
         ∙ ap (operated calls x next (steps - 1) env) (sym (ee
@@ -65,12 +66,12 @@ module _ (calls kind x : ℕ) (a b : Atom) (next steps : ℕ) (env : List ℤ) w
 
     pub operation-value : (z : ℤ) → e ≡ Value z → (env′ : List ℤ) → env′ ≡ set env (place calls x) z → (r : Out) →
         r ≡ out 0 z next (steps - 1) → left r env′ ≡ operation-line calls kind x a b next steps env
-    operation-value z h env′ g r q = sym (operation-is ∙ ap (operated calls x next (steps - 1) env) h ∙ ap₂ left
+    operation-value z h env′ g r q = sym (operation-is ∙ ap (λ (y : Exact). operated calls x next (steps - 1) env (exact-outcome y)) h ∙ ap₂ left
         (sym q) (sym g))
 
     pub operation-over : e ≡ Overflow → (r : Out) → r ≡ out 24 (pos 0) 0 (steps - 1) →
         left r env ≡ operation-line calls kind x a b next steps env
-    operation-over h r q = sym (operation-is ∙ ap (operated calls x next (steps - 1) env) h ∙ ap (λ (y : Out). left
+    operation-over h r q = sym (operation-is ∙ ap (λ (y : Exact). operated calls x next (steps - 1) env (exact-outcome y)) h ∙ ap (λ (y : Out). left
         y env) (sym q))
 
 -- ---- index and length
@@ -153,10 +154,11 @@ module _ (σ : Store) (calls x : ℕ) (a : Atom) (next steps : ℕ) (env : List 
 -- ---- a literal
 
 -- the cell that an acquire answers is small
-pub next-small : (slots : List ℤ) (heads : List ℕ) (q : Acquired) (c : ℕ) → q ≡ next-cell (store-of slots heads) →
+pub next-small : (slots : List ℤ) (heads : List ℕ) (q : Acquired) (c : ℕ) →
+    acquired-outcome q ≡ next-cell (store-of slots heads) →
     q ≡ Cell c → c < 256
 unfolding has-free
-next-small slots heads q c e h = let given = cell-given (store-of slots heads) c (sym h ∙ e) in omega (
+next-small slots heads q c e h = let given = cell-given (store-of slots heads) c (ap acquired-outcome (sym h) ∙ e) in omega (
   arith,
   given .1,
   ltb-true (store-of slots heads .first) (cell-count (store-of slots heads)) (given .0),
@@ -171,9 +173,9 @@ module _ (kinds : List ℕ) (operands : List ℤ) (calls x d at steps : ℕ) (m 
   literal-spent r z e = rw (e, z)
 
   module _ (some : steps ≡ 0 → ⊥) (ws : List ℤ) (we : ws ≡ words-at 16 kinds operands calls (m .env) (at + 1))
-      (q : Acquired) (qe : q ≡ next-cell (m .store)) (σ : Store) (σe : σ ≡ acquired d ws (m .store)) where
+      (q : Acquired) (qe : acquired-outcome q ≡ next-cell (m .store)) (σ : Store) (σe : σ ≡ acquired d ws (m .store)) where
     literal-is : literal-line kinds operands calls x d at steps m
-        ≡ acquired-line calls x (at + 1 + length ws) (steps - 1) (memory σ (m .env)) q
+        ≡ acquired-line calls x (at + 1 + length ws) (steps - 1) (memory σ (m .env)) (acquired-outcome q)
     unfolding literal-line stepping
     literal-is = ap (λ (n : ℕ). literal-line kinds operands calls x d at n m) (less-one steps (omega arith))
         ∙ rw (← we, ← qe, ← σe) refl
@@ -183,14 +185,16 @@ module _ (kinds : List ℕ) (operands : List ℤ) (calls x d at steps : ℕ) (m 
         (n : ℕ) → n ≡ length ws → (r : Out) → r ≡ out 0 z (at + 1 + n) (steps - 1) →
         ran r (memory σ env′) ≡ literal-line kinds operands calls x d at steps m
     literal-cell c h z ze env′ g n ne r p = sym (literal-is
-        ∙ ap (acquired-line calls x (at + 1 + length ws) (steps - 1) (memory σ (m .env))) h
+        ∙ ap (λ (y : Acquired). acquired-line calls x (at + 1 + length ws) (steps - 1) (memory σ (m .env))
+        (acquired-outcome y)) h
         ∙ ap₂ (λ (y : ℤ) (k : ℕ). goes-on calls x y (at + 1 + k) (steps - 1) (memory σ (m .env))) (sym ze) (sym ne)
         ∙ ap₂ (λ (y : Out) (l : List ℤ). ran y (memory σ l)) (sym p) (sym g))
 
     pub literal-none : q ≡ NoneFree → (r : Out) → r ≡ out 25 (pos 0) 0 (steps - 1) →
         ran r (memory σ (m .env)) ≡ literal-line kinds operands calls x d at steps m
     literal-none h r p = sym (literal-is
-        ∙ ap (acquired-line calls x (at + 1 + length ws) (steps - 1) (memory σ (m .env))) h
+        ∙ ap (λ (y : Acquired). acquired-line calls x (at + 1 + length ws) (steps - 1) (memory σ (m .env))
+        (acquired-outcome y)) h
         ∙ ap (λ (y : Out). ran y (memory σ (m .env))) (sym p))
 
 -- ---- any leaf
@@ -269,9 +273,9 @@ pub leaf-fewer : (kinds : List ℕ) (operands : List ℤ) (calls at steps : ℕ)
 unfolding leaf operation-line index-line length-line literal-line stepping
 leaf-fewer kinds operands calls at steps m l = go l steps
   where
-    done-or-over : (x next s : ℕ) (e : Exact) → operated calls x next s (m .env) e .out .steps ≤ suc s
-    done-or-over x next s (Value z) = omega arith
-    done-or-over x next s Overflow = omega arith
+    done-or-over : (x next s : ℕ) (e : Outcome (Unit {0}) ℤ) → operated calls x next s (m .env) e .out .steps ≤ suc s
+    done-or-over x next s (done z u) = omega arith
+    done-or-over x next s (stop n u) = omega arith
 
     either : (u v : Left) (s : ℕ) → u .out .steps ≡ s → v .out .steps ≡ s → (t : Bool) → cond t u v .out .steps ≤
         suc s
@@ -284,9 +288,10 @@ leaf-fewer kinds operands calls at steps m l = go l steps
     in-or-off x next s z t =
         either (left (out 0 z next s) (bound calls x z (m .env))) (left (out 23 (pos 0) 0 s) (m .env)) s refl refl t
 
-    got-or-none : (x next s : ℕ) (k : Memory) (q : Acquired) → acquired-line calls x next s k q .out .steps ≤ suc s
-    got-or-none x next s k (Cell c) = omega arith
-    got-or-none x next s k NoneFree = omega arith
+    got-or-none : (x next s : ℕ) (k : Memory) (q : Outcome (Unit {0}) ℕ) →
+        acquired-line calls x next s k q .out .steps ≤ suc s
+    got-or-none x next s k (done c u) = omega arith
+    got-or-none x next s k (stop n u) = omega arith
 
     go : (k : Line) (s : ℕ) → leaf kinds operands calls at s m k .out .steps ≤ s
     go (L.Operation kind x a b) zero = omega arith

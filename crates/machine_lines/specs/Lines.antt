@@ -6,15 +6,12 @@ use Prim.Native.Nat.{ℕ, zero, suc, _+_, _-_, _*_}
 use lib.IntN.{ℤ, pos, natAbs}
 use lib.Dec.{eqb}
 use lib.ListN.{getD, set, length}
+use Rattle.semantics.specs.Outcome.{Outcome, done, stop}
 use Rattle.semantics.specs.Number.{Operation, sum, difference, less, exact, inside}
 use Rattle.semantics.specs.Store.{Store, cell, cell-of, elements, acquired, retained, released, deepest}
 use Rattle.semantics.specs.Words.{store-of}
 use Rattle.words.specs.Words.{checked}
-use Rattle.words.specs.declared.Exact.{Exact}
-use Rattle.words.specs.declared.Exact.the-variants.{Value, Overflow}
 use Rattle.store.specs.Acquiring.{next-cell}
-use Rattle.store.specs.declared.Acquired.{Acquired}
-use Rattle.store.specs.declared.Acquired.the-variants.{Cell, NoneFree}
 use Rattle.machine_code.specs.declared.Atom.{Atom}
 use Rattle.machine_code.specs.declared.Atom.the-variants.{Name}
 use Rattle.machine_code.specs.declared.Line.{Line}
@@ -41,7 +38,7 @@ pub record Left : Type 0 where
   pub env : List ℤ
 
 abbrev pub out : ℕ → ℤ → ℕ → ℕ → Out
-out stop value next steps = record { stop = stop; value = value; next = next; steps = steps }
+out number value next steps = record { stop = number; value = value; next = next; steps = steps }
 
 abbrev pub left : Out → List ℤ → Left
 left r env = record { out = r; env = env }
@@ -78,9 +75,9 @@ Ends w r slots heads env = ran r (memory (store-of slots heads) env) ≡ w
 abbrev pub operation-of : ℕ → Operation
 operation-of kind = cond (eqb kind 4) sum (cond (eqb kind 5) difference less)
 
-abbrev pub operated : ℕ → ℕ → ℕ → ℕ → List ℤ → Exact → Left
-operated calls x next s env (Value z) = left (out 0 z next s) (bound calls x z env)
-operated calls x next s env Overflow = left (out 24 (pos 0) 0 s) env
+abbrev pub operated : ℕ → ℕ → ℕ → ℕ → List ℤ → Outcome (Unit {0}) ℤ → Left
+operated calls x next s env (done z u) = left (out 0 z next s) (bound calls x z env)
+operated calls x next s env (stop n u) = left (out n (pos 0) 0 s) env
 
 unfoldable pub operation-line : ℕ → ℕ → ℕ → Atom → Atom → ℕ → ℕ → List ℤ → Left
 operation-line calls kind x a b next steps env = stepping steps (left (out 21 (pos 0) 0 0) env)
@@ -103,9 +100,9 @@ length-line σ calls x a next steps env = stepping steps (left (out 21 (pos 0) 0
     (λ s. left (out 0 (pos (length (array-of σ (word-of calls env a)))) next s)
     (bound calls x (pos (length (array-of σ (word-of calls env a)))) env))
 
-abbrev pub acquired-line : ℕ → ℕ → ℕ → ℕ → Memory → Acquired → Ran
-acquired-line calls x next s m (Cell c) = goes-on calls x (pos c) next s m
-acquired-line calls x next s m NoneFree = halted 25 s m
+abbrev pub acquired-line : ℕ → ℕ → ℕ → ℕ → Memory → Outcome (Unit {0}) ℕ → Ran
+acquired-line calls x next s m (done c u) = goes-on calls x (pos c) next s m
+acquired-line calls x next s m (stop n u) = halted n s m
 
 abbrev pub literal-of : ℕ → ℕ → ℕ → ℕ → ℕ → Memory → List ℤ → Ran
 literal-of calls x depth at s m ws =

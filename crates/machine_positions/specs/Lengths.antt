@@ -6,14 +6,11 @@ use Prim.Native.Nat.{ℕ, zero, suc, _+_, _-_}
 use lib.IntN.{ℤ, pos, natAbs}
 use lib.Dec.{eqb, ltb}
 use lib.ListN.{length, getD, set, length-set}
+use Rattle.semantics.specs.Outcome.{Outcome, done, stop}
 use Rattle.semantics.specs.Number.{exact, inside}
 use Rattle.semantics.specs.Store.{Store, cell, cell-of, elements, acquired, appended}
 use Rattle.words.specs.Words.{checked}
-use Rattle.words.specs.declared.Exact.{Exact}
-use Rattle.words.specs.declared.Exact.the-variants.{Value, Overflow}
 use Rattle.store.specs.Acquiring.{next-cell}
-use Rattle.store.specs.declared.Acquired.{Acquired}
-use Rattle.store.specs.declared.Acquired.the-variants.{Cell, NoneFree}
 use Rattle.machine_code.specs.Reading.{line-at, depth-in, start-in, end-in}
 use Rattle.machine_code.specs.declared.Atom.{Atom}
 use Rattle.machine_code.specs.declared.Line.{Line}
@@ -53,19 +50,19 @@ then-keeps m w f k g = either m (f w) w (g w k) k (eqb (w .out .stop) 0)
 
 -- ---- lines
 
-got-keeps : (calls x next s : ℕ) (m : Memory) (σ : Store) (q : Acquired) →
+got-keeps : (calls x next s : ℕ) (m : Memory) (σ : Store) (q : Outcome (Unit {0}) ℕ) →
     Keeps m (acquired-line calls x next s (memory σ (m .env)) q)
-got-keeps calls x next s m σ (Cell c) = length-set (m .env) (place calls x) (pos c)
-got-keeps calls x next s m σ NoneFree = refl
+got-keeps calls x next s m σ (done c u) = length-set (m .env) (place calls x) (pos c)
+got-keeps calls x next s m σ (stop n u) = refl
 
 leaf-keeps : (kinds : List ℕ) (operands : List ℤ) (calls at s : ℕ) (m : Memory) (l : Line) →
     Keeps m (leaf kinds operands calls at s m l)
 unfolding leaf operation-line index-line length-line literal-line stepping
 leaf-keeps kinds operands calls at s m l = go l s
   where
-    operated-keeps : (x next s : ℕ) (e : Exact) → length (operated calls x next s (m .env) e .env) ≡ length (m .env)
-    operated-keeps x next s (Value z) = length-set (m .env) (place calls x) z
-    operated-keeps x next s Overflow = refl
+    operated-keeps : (x next s : ℕ) (e : Outcome (Unit {0}) ℤ) → length (operated calls x next s (m .env) e .env) ≡ length (m .env)
+    operated-keeps x next s (done z u) = length-set (m .env) (place calls x) z
+    operated-keeps x next s (stop n u) = refl
 
     inside-keeps : (x : ℕ) (z : ℤ) (u v : Out) (t : Bool) →
         length (cond t (left u (bound calls x z (m .env))) (left v (m .env)) .env) ≡ length (m .env)
@@ -130,14 +127,14 @@ module _ (W : Work) (w : (at s : ℕ) (m : Memory) → Keeps m (W at s m)) where
       taken : Memory
       taken = memory (acquired (depth-in (c .table) f x - 1) [] (m .store)) (m .env)
 
-      go : (q : Acquired) →
+      go : (q : Outcome (Unit {0}) ℕ) →
           Keeps m (map-worked W c calls x p at from (length (elements (cell (m .store) from))) s taken q)
-      go (Cell k) = then-keeps m
+      go (done k u) = then-keeps m
           (passes-on (length (elements (cell (m .store) from))) (W (at + 2)) calls p from k 0 s taken)
           (λ v. goes-on calls x (pos k) (end-in (c .table) (at + 2)) (v .out .steps) (v .memory))
           (passes-keeps (length (elements (cell (m .store) from))) (at + 2) calls p from k 0 s taken)
           (λ v h. length-set (v .memory .env) (place calls x) (pos k) ∙ h)
-      go NoneFree = refl
+      go (stop n u) = refl
 
   module _ (C : Callee) (h : (f : ℕ) (ws : List ℤ) (s : ℕ) (m : Memory) → Keeps m (C f ws s m)) (c : Code) where
     call-keeps : (calls x f at s : ℕ) (m : Memory) → Keeps m (call-line C c calls x f at s m)

@@ -11,7 +11,7 @@ use denote.Enum.Declared.{tagOf}
 use types.Run.{OneOf}
 use Rattle.semantics.specs.Store.{Store, cell, cell-of, elements, acquired}
 use Rattle.semantics.specs.Words.{store-of}
-use Rattle.store.specs.Acquiring.{next-cell}
+use Rattle.store.specs.Acquiring.{acquired-outcome, next-cell}
 use Rattle.store.specs.declared.Acquired.{Acquired}
 use Rattle.store.specs.declared.Acquired.the-variants.{Cell, NoneFree}
 use Rattle.machine_code.specs.Reading.{depth-in, start-in, end-in}
@@ -146,10 +146,10 @@ module _ (W : Work) (c : Code) (calls f x p : ℕ) (a : Atom) (at steps : ℕ) (
 
   module _ (some : steps ≡ 0 → ⊥) (v : ℤ) (ve : v ≡ word-of calls env a) (from : ℕ) (fe : from ≡ cell-of v) (n : ℕ)
       (ne : n ≡ length (elements (cell (store-of slots heads) from))) (d : ℕ) (de : d ≡ depth-in (c .table) f x - 1)
-      (q : Acquired) (qe : q ≡ next-cell (store-of slots heads)) (sl₁ : List ℤ) (he₁ : List ℕ)
+      (q : Acquired) (qe : acquired-outcome q ≡ next-cell (store-of slots heads)) (sl₁ : List ℤ) (he₁ : List ℕ)
       (σe : store-of sl₁ he₁ ≡ acquired d [] (store-of slots heads)) where
     map-is : map-line W c calls f x p a at steps (memory (store-of slots heads) env)
-        ≡ map-worked W c calls x p at from n (steps - 1) (memory (store-of sl₁ he₁) env) q
+        ≡ map-worked W c calls x p at from n (steps - 1) (memory (store-of sl₁ he₁) env) (acquired-outcome q)
     unfolding map-line stepping
     map-is = ap (λ (k : ℕ). map-line W c calls f x p a at k (memory (store-of slots heads) env)) (less-one steps
         (omega arith))
@@ -166,7 +166,8 @@ module _ (W : Work) (c : Code) (calls f x p : ℕ) (a : Atom) (at steps : ℕ) (
     pub map-none : q ≡ NoneFree → (r : Out) → r ≡ out 25 (pos 0) 0 (steps - 1) →
         Ended (map-line W c calls f x p a at steps (memory (store-of slots heads) env)) steps r sl₁ he₁ env
     map-none h r e = record {
-      is = sym (map-is ∙ ap (map-worked W c calls x p at from n (steps - 1) (memory (store-of sl₁ he₁) env)) h
+      is = sym (map-is ∙ ap (λ (y : Acquired). map-worked W c calls x p at from n (steps - 1)
+          (memory (store-of sl₁ he₁) env) (acquired-outcome y)) h
           ∙ ap (λ (y : Out). ran y (memory (store-of sl₁ he₁) env)) (sym e));
       fewer = rw e (omega arith);
     }
@@ -177,7 +178,8 @@ module _ (W : Work) (c : Code) (calls f x p : ℕ) (a : Atom) (at steps : ℕ) (
       map-part : map-line W c calls f x p a at steps (memory (store-of slots heads) env)
           ≡ and-then (ran r (memory (store-of sl he) en))
           (λ w. goes-on calls x (pos k) (end-in (c .table) (at + 2)) (w .out .steps) (w .memory))
-      map-part = map-is ∙ ap (map-worked W c calls x p at from n (steps - 1) (memory (store-of sl₁ he₁) env)) h
+      map-part = map-is ∙ ap (λ (y : Acquired). map-worked W c calls x p at from n (steps - 1)
+          (memory (store-of sl₁ he₁) env) (acquired-outcome y)) h
           ∙ ap (λ (w : Ran). and-then w
           (λ w. goes-on calls x (pos k) (end-in (c .table) (at + 2)) (w .out .steps) (w .memory))) (sym
           (done .is))

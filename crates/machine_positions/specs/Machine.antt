@@ -6,11 +6,10 @@ use Prim.Native.Nat.{ℕ, zero, suc, _+_, _-_, _≤_}
 use lib.IntN.{ℤ, pos}
 use lib.Dec.{ltb, eqb}
 use lib.ListN.{getD, set, length}
+use Rattle.semantics.specs.Outcome.{Outcome, done, stop}
 use Rattle.semantics.specs.Store.{cell, cell-of, elements, acquired, appended}
 use Rattle.semantics.specs.Words.{store-of}
 use Rattle.store.specs.Acquiring.{next-cell}
-use Rattle.store.specs.declared.Acquired.{Acquired}
-use Rattle.store.specs.declared.Acquired.the-variants.{Cell, NoneFree}
 use Rattle.machine_code.specs.Reading.{line-at, depth-in, start-in, end-in}
 use Rattle.machine_code.specs.declared.Atom.{Atom}
 use Rattle.machine_code.specs.declared.Line.{Line}
@@ -76,11 +75,11 @@ passes-on (suc n) W calls p from into i (suc s) m =
     (λ w. passes-on n W calls p from into (i + 1) (w .out .steps)
     (memory (appended into (w .out .value) (w .memory .store)) (w .memory .env)))
 
-abbrev pub map-worked : Work → Code → ℕ → ℕ → ℕ → ℕ → ℕ → ℕ → ℕ → Memory → Acquired → Ran
-map-worked W c calls x p at from n s m (Cell k) =
+abbrev pub map-worked : Work → Code → ℕ → ℕ → ℕ → ℕ → ℕ → ℕ → ℕ → Memory → Outcome (Unit {0}) ℕ → Ran
+map-worked W c calls x p at from n s m (done k u) =
     and-then (passes-on n (W (at + 2)) calls p from k 0 s m)
     (λ w. goes-on calls x (pos k) (end-in (c .table) (at + 2)) (w .out .steps) (w .memory))
-map-worked W c calls x p at from n s m NoneFree = halted 25 s m
+map-worked W c calls x p at from n s m (stop number u) = halted number s m
 
 unfoldable pub map-line : Work → Code → ℕ → ℕ → ℕ → ℕ → Atom → ℕ → ℕ → Memory → Ran
 map-line W c calls f x p a at steps m = stepping steps (halted 21 0 m)
