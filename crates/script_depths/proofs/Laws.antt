@@ -11,8 +11,8 @@ use lib.Seq.{take-suc-set}
 use borrow.Author.Tests.{ne-eqb}
 use Rattle.semantics.specs.Basics.{updated}
 use Rattle.semantics.specs.File as S
-use Rattle.semantics.specs.File.{node-at, part-count}
-use Rattle.script_read.specs.Told.{told-node}
+use Rattle.semantics.specs.File.{look, node-at, part-count}
+use Rattle.script_read.specs.Told.{node-outcome, parted}
 use Rattle.script_read.specs.declared.Node.{Node}
 use Rattle.script_read.specs.declared.Node.the-variants.{WrongKind, WrongOperand}
 use Rattle.script_read.proofs.Nodes.{Seen, unfit}
@@ -31,7 +31,7 @@ module _ (k w s : List ℕ) (d : ℕ) (γ : ℕ → ℕ) (p : ℕ) where
   unfolding types
   no-levels e = rw e
 
-pub no-node : (k w s : List ℕ) (d : ℕ) (γ : ℕ → ℕ) (p : ℕ) (n : Node) → n ≡ told-node (node-at k w 2 13 p) →
+pub no-node : (k w s : List ℕ) (d : ℕ) (γ : ℕ → ℕ) (p : ℕ) (n : Node) → node-outcome n p ≡ parted (look k w 2 13 p) →
     (n ≡ WrongKind) ⊎ (n ≡ WrongOperand) → Fault p ≡ types k w s d γ p
 unfolding types
 no-node k w s zero γ p n e f = refl

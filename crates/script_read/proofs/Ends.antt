@@ -8,13 +8,14 @@ use Rattle.semantics.specs.File as S
 use Rattle.semantics.specs.File.{node-at}
 use Rattle.semantics.specs.Syntax.{Expr, number, name, operation, let-in, call, literal, index, length-of, if-else}
 use Rattle.semantics.specs.Syntax.{map-over, Exprs, none, more, size, sizes, Script, function-size}
-use Rattle.script_read.specs.Told.{told-node}
-use Rattle.script_read.proofs.Nodes.{inside}
+use Rattle.script_read.proofs.Nodes.{told-node, node-says, inside}
 use Rattle.script_read.proofs.Written.{Written, AllWritten, ScriptWritten, total}
 
 module _ (k w : List ℕ) where
   pub node-inside : (a b p : ℕ) (h : S.Head) → b ≤ 13 → node-at k w a b p ≡ S.fits h → p < length k
-  node-inside a b p h l e = inside k w a b p _ _ _ (told-node (node-at k w a b p)) l refl (ap told-node e)
+  node-inside a b p h l e =
+      let n = told-node (node-at k w a b p) in
+      inside k w a b p _ _ _ n l (node-says k w a b p n refl) (ap told-node e)
 
   mutual
     unfolding size

@@ -1,5 +1,5 @@
 -- A node: what the code sees of it is what the definition says.
-use mathlib.Core.Path.{_≡_, refl, sym}
+use mathlib.Core.Path.{_≡_, refl, sym, ap}
 use mathlib.Core.Bool.{Bool, true, false, cond}
 use mathlib.Core.Logic.{_⊎_, inl, inr}
 use mathlib.Core.List.{List, [], _∷_}
@@ -9,11 +9,11 @@ use lib.IntN.{ℤ, pos, negsuc}
 use lib.Dec.{leb, ltb, eqb}
 use lib.ListN.{length, getD, List·getD-eq-default}
 use borrow.Author.Tests.{ltb-true, ltb-false, leb-true, eqb-true, lt-ltb, le-leb, lt-leb, eq-eqb, ne-eqb}
-use Rattle.semantics.specs.Outcome.{done, stop}
+use Rattle.semantics.specs.Outcome.{Outcome, done, stop}
 use Rattle.semantics.specs.File as S
 use Rattle.semantics.specs.File.{node-of, node-at, in-parts, low-limits, high-limits, part-count, part-counts, look}
 use Rattle.semantics.specs.File.{looked}
-use Rattle.script_read.specs.Told.{told-node, low-at, high-at}
+use Rattle.script_read.specs.Told.{Parted, node-outcome, parted, low-at, high-at}
 use Rattle.script_read.specs.declared.Node.{Node}
 use Rattle.script_read.specs.declared.Node.the-variants.{Fits, WrongKind, WrongOperand}
 use Rattle.semantics.specs.Number.{signed, bytes-at}
@@ -29,6 +29,47 @@ either false a = refl
 
 low-number : (n : ℕ) → n < 2 ^ 63 → signed n ≡ pos n
 low-number n h = rw (lt-ltb n (2 ^ 63) h)
+
+-- ---- an answer and the node of the definition
+
+-- the case of a node
+abbrev pub told-node : S.Node → Node
+told-node (S.fits h) = Fits (h .kind) (h .low) (h .high)
+told-node S.wrong-kind = WrongKind
+told-node S.wrong-operand = WrongOperand
+
+-- the case tells what looking at the node gives, and is told by it
+module _ (k w : List ℕ) (a b p : ℕ) (n : Node) where
+  pub node-says : n ≡ told-node (node-at k w a b p) → node-outcome n p ≡ parted (look k w a b p)
+  unfolding look
+  node-says e = rw e (go (node-at k w a b p))
+    where
+      go : (v : S.Node) → node-outcome (told-node v) p ≡ parted (looked v p)
+      go (S.fits h) = refl
+      go S.wrong-kind = refl
+      go S.wrong-operand = refl
+
+  pub node-told : node-outcome n p ≡ parted (look k w a b p) → n ≡ told-node (node-at k w a b p)
+  unfolding look
+  node-told e = go n (node-at k w a b p) e
+    where
+      fitting : Outcome ℕ Parted → Node
+      fitting (done r q) = Fits (r .kind) (r .low) (r .high)
+      fitting (stop m q) = WrongKind
+
+      no : {A : Type 0} → _≡_ {A = ℕ} 0 1 → A
+      no z = absurd (omega arith)
+
+      go : (m : Node) (v : S.Node) → node-outcome m p ≡ parted (looked v p) → m ≡ told-node v
+      go (Fits x y z) (S.fits h) e = ap fitting e
+      go (Fits x y z) S.wrong-kind e = no cc
+      go (Fits x y z) S.wrong-operand e = no cc
+      go WrongKind (S.fits h) e = no cc
+      go WrongKind S.wrong-kind e = refl
+      go WrongKind S.wrong-operand e = no cc
+      go WrongOperand (S.fits h) e = no cc
+      go WrongOperand S.wrong-kind e = no cc
+      go WrongOperand S.wrong-operand e = refl
 
 -- the parts of an operand that is read as an unsigned number
 module _ (d u : ℕ) where
@@ -180,13 +221,13 @@ pub record Seen (k w : List ℕ) (a b p x y z : ℕ) : Type 0 where
 pub record Halted (k w : List ℕ) (a b p c : ℕ) : Type 0 where
   pub is : look k w a b p ≡ stop c p
 
-module _ (k w : List ℕ) (a b p : ℕ) (n : Node) (e : n ≡ told-node (node-at k w a b p)) where
+module _ (k w : List ℕ) (a b p : ℕ) (n : Node) (e : node-outcome n p ≡ parted (look k w a b p)) where
   pub seen : (x y z : ℕ) → n ≡ Fits x y z → Seen k w a b p x y z
   unfolding look
-  seen x y z f = go (node-at k w a b p) refl (node-within k w a b p)
+  seen x y z f = go (node-at k w a b p) refl (node-within k w a b p) (node-told k w a b p n e)
     where
-      go : (v : S.Node) → node-at k w a b p ≡ v → Within a b v → Seen k w a b p x y z
-      go (S.fits h) g wi =
+      go : (v : S.Node) → node-at k w a b p ≡ v → Within a b v → n ≡ told-node v → Seen k w a b p x y z
+      go (S.fits h) g wi t =
           let i : h .kind ≡ x = cc in
           let j : h .low ≡ y = cc in
           let l : h .high ≡ z = cc in
@@ -202,41 +243,41 @@ module _ (k w : List ℕ) (a b p : ℕ) (n : Node) (e : n ≡ told-node (node-at
             lowest = rw (i, j) at (wi .2);
             highest = rw (i, l) at (wi .3);
           }
-      go S.wrong-kind g wi = let z : _≡_ {A = ℕ} 0 1 = cc in absurd (omega arith)
-      go S.wrong-operand g wi = let z : _≡_ {A = ℕ} 0 1 = cc in absurd (omega arith)
+      go S.wrong-kind g wi t = let z : _≡_ {A = ℕ} 0 1 = cc in absurd (omega arith)
+      go S.wrong-operand g wi t = let z : _≡_ {A = ℕ} 0 1 = cc in absurd (omega arith)
 
   pub no-kind : n ≡ WrongKind → Halted k w a b p 3
   unfolding look
-  no-kind f = record { is = go (node-at k w a b p) refl }
+  no-kind f = record { is = go (node-at k w a b p) refl (node-told k w a b p n e) }
     where
-      go : (v : S.Node) → node-at k w a b p ≡ v → looked (node-at k w a b p) p ≡ stop 3 p
-      go (S.fits h) g = let z : _≡_ {A = ℕ} 0 1 = cc in absurd (omega arith)
-      go S.wrong-kind g = rw g
-      go S.wrong-operand g = let z : _≡_ {A = ℕ} 0 1 = cc in absurd (omega arith)
+      go : (v : S.Node) → node-at k w a b p ≡ v → n ≡ told-node v → looked (node-at k w a b p) p ≡ stop 3 p
+      go (S.fits h) g t = let z : _≡_ {A = ℕ} 0 1 = cc in absurd (omega arith)
+      go S.wrong-kind g t = rw g
+      go S.wrong-operand g t = let z : _≡_ {A = ℕ} 0 1 = cc in absurd (omega arith)
 
   pub no-operand : n ≡ WrongOperand → Halted k w a b p 4
   unfolding look
-  no-operand f = record { is = go (node-at k w a b p) refl }
+  no-operand f = record { is = go (node-at k w a b p) refl (node-told k w a b p n e) }
     where
-      go : (v : S.Node) → node-at k w a b p ≡ v → looked (node-at k w a b p) p ≡ stop 4 p
-      go (S.fits h) g = let z : _≡_ {A = ℕ} 0 1 = cc in absurd (omega arith)
-      go S.wrong-kind g = let z : _≡_ {A = ℕ} 0 1 = cc in absurd (omega arith)
-      go S.wrong-operand g = rw g
+      go : (v : S.Node) → node-at k w a b p ≡ v → n ≡ told-node v → looked (node-at k w a b p) p ≡ stop 4 p
+      go (S.fits h) g t = let z : _≡_ {A = ℕ} 0 1 = cc in absurd (omega arith)
+      go S.wrong-kind g t = let z : _≡_ {A = ℕ} 0 1 = cc in absurd (omega arith)
+      go S.wrong-operand g t = rw g
 
 -- no node fits there
 pub record Unfit (k w : List ℕ) (a b p : ℕ) : Type 0 where
   pub is : (node-at k w a b p ≡ S.wrong-kind) ⊎ (node-at k w a b p ≡ S.wrong-operand)
 
-pub unfit : (k w : List ℕ) (a b p : ℕ) (n : Node) → n ≡ told-node (node-at k w a b p) →
+pub unfit : (k w : List ℕ) (a b p : ℕ) (n : Node) → node-outcome n p ≡ parted (look k w a b p) →
     (n ≡ WrongKind) ⊎ (n ≡ WrongOperand) → Unfit k w a b p
-unfit k w a b p n e f = record { is = go (node-at k w a b p) refl f }
+unfit k w a b p n e f = record { is = go (node-at k w a b p) refl (node-told k w a b p n e) f }
   where
-    go : (v : S.Node) → node-at k w a b p ≡ v → (n ≡ WrongKind) ⊎ (n ≡ WrongOperand) →
+    go : (v : S.Node) → node-at k w a b p ≡ v → n ≡ told-node v → (n ≡ WrongKind) ⊎ (n ≡ WrongOperand) →
         (node-at k w a b p ≡ S.wrong-kind) ⊎ (node-at k w a b p ≡ S.wrong-operand)
-    go (S.fits h) i (inl g) = let z : _≡_ {A = ℕ} 0 1 = cc in absurd (omega arith)
-    go (S.fits h) i (inr g) = let z : _≡_ {A = ℕ} 0 1 = cc in absurd (omega arith)
-    go S.wrong-kind i g = inl i
-    go S.wrong-operand i g = inr i
+    go (S.fits h) i t (inl g) = let z : _≡_ {A = ℕ} 0 1 = cc in absurd (omega arith)
+    go (S.fits h) i t (inr g) = let z : _≡_ {A = ℕ} 0 1 = cc in absurd (omega arith)
+    go S.wrong-kind i t g = inl i
+    go S.wrong-operand i t g = inr i
 
 -- the parts of the operand of a node of kind a
 module _ {k w : List ℕ} {a p : ℕ} where
@@ -266,13 +307,15 @@ module _ {k w : List ℕ} {a p : ℕ} where
       go (inr e) = rw e
 
 -- a node that is taken is there
-pub inside : (k w : List ℕ) (x y p a b c : ℕ) (n : Node) → y ≤ 13 → n ≡ told-node (node-at k w x y p) →
-    n ≡ Fits a b c → p < length k
+pub inside : (k w : List ℕ) (x y p a b c : ℕ) (n : Node) → y ≤ 13 →
+    node-outcome n p ≡ parted (look k w x y p) → n ≡ Fits a b c → p < length k
 inside k w x y p a b c n l e f = go (ltb p (length k)) refl
   where
     go : (t : Bool) → ltb p (length k) ≡ t → p < length k
     go true g = ltb-true p (length k) g
-    go false g = let q : WrongKind ≡ told-node (node-at k w x y p) = past k w x y p (ltb-false p (length k) g) l in
+    go false g =
+        let q : WrongKind ≡ told-node (node-at k w x y p) = past k w x y p (ltb-false p (length k) g) l in
+        let t : n ≡ told-node (node-at k w x y p) = node-told k w x y p n e in
         let z : _≡_ {A = ℕ} 0 1 = cc in absurd (omega arith)
 
 pub no-parts : (d low high : ℕ) → (d ≡ 8 → ⊥) → (d ≡ 9 → ⊥) → (r : ℕ) → r ≡ getD part-counts d 0 →

@@ -4,9 +4,9 @@ ghost use mathlib.Core.Bool.{_&&_};
 ghost use Prim.Native.Nat.{_+_, _*_, _^_, _<_, _≤_};
 ghost use lib.ListN.{length, getD, take, drop};
 ghost use Rattle.semantics.specs.Number.{bytes-at};
-ghost use Rattle.semantics.specs.File.{low-limits, high-limits, node-at, part-count, part, parameter, function};
+ghost use Rattle.semantics.specs.File.{low-limits, high-limits, look, part-count, part, parameter, function};
 ghost use Rattle.semantics.specs.File.{script, read-file, between};
-ghost use Rattle.script_read.specs.Told.{told-node, told, low-at, high-at, repeated};
+ghost use Rattle.script_read.specs.Told.{node-outcome, parted, told, low-at, high-at, repeated};
 
 // A node: its kind and the two parts of its operand (low + 256 * high), or what is wrong with it.
 pub enum Node {
@@ -63,7 +63,7 @@ fn operand_at(operands: &[u8], at: usize) -> u64
 
 // The node at a place where the kinds from first to last are allowed.
 pub fn node_at(kinds: &[u8], operands: &[u8], at: usize, first: u8, last: u8) -> Node
-    ensures { λ r. ⌜ r ≡ told-node (node-at (now (kinds .entry)) (now (operands .entry)) first last at) ⌝ }
+    ensures { λ r. ⌜ node-outcome r at ≡ parted (look (now (kinds .entry)) (now (operands .entry)) first last at) ⌝ }
 {
     let kind = kind_at(kinds, at);
     if kind < first {

@@ -1,5 +1,6 @@
 -- `script_read::node_at` meets its contract, by the laws of `Nodes`.
-use Rattle.script_read.proofs.Nodes.{early, late, number, judged, low-wrong, high-wrong, in-range}
+use Rattle.script_read.proofs.Nodes.{node-says, early, late, number, judged, low-wrong, high-wrong}
+use Rattle.script_read.proofs.Nodes.{in-range}
 use native.Mathlib.Omega.{arith}
 use borrow.Author.Needs.{needs}
 use Rattle.script_read.proofs.node_at.Statement.{statement}
@@ -10,19 +11,22 @@ kind-at-requires c κs = search needs
 
 returns : tie.Need-returns
 returns c = let a = c .before .before .before .before .args in
-    early (a .kinds .now) (a .operands .now) (a .first) (a .last) (a .at) (c .before .kind-at .result)
-    (c .before .kind-at .ensures) (c .if1 .taken)
+    node-says (a .kinds .now) (a .operands .now) (a .first) (a .last) (a .at) _
+    (early (a .kinds .now) (a .operands .now) (a .first) (a .last) (a .at) (c .before .kind-at .result)
+    (c .before .kind-at .ensures) (c .if1 .taken))
 
 returns-2 : tie.Need-returns-2
 returns-2 c = let a = c .before .before .before .before .before .args in
-    late (a .kinds .now) (a .operands .now) (a .first) (a .last) (a .at) (c .before .before .kind-at .result)
-    (c .before .before .kind-at .ensures) (c .if2 .taken)
+    node-says (a .kinds .now) (a .operands .now) (a .first) (a .last) (a .at) _
+    (late (a .kinds .now) (a .operands .now) (a .first) (a .last) (a .at) (c .before .before .kind-at .result)
+    (c .before .before .kind-at .ensures) (c .if2 .taken))
 
 returns-3 : tie.Need-returns-3
 returns-3 c = let a = c .before .before .before .before .before .before .args in
-    number (a .kinds .now) (a .operands .now) (a .first) (a .last) (a .at) (c .before .before .before .kind-at .result)
+    node-says (a .kinds .now) (a .operands .now) (a .first) (a .last) (a .at) _
+    (number (a .kinds .now) (a .operands .now) (a .first) (a .last) (a .at) (c .before .before .before .kind-at .result)
     (c .before .before .before .kind-at .ensures)
-    (c .before .before .if1 .left) (c .before .if2 .left) (c .if3 .taken)
+    (c .before .before .if1 .left) (c .before .if2 .left) (c .if3 .taken))
 
 operand-at-requires : tie.Need-operand-at-requires
 operand-at-requires c κs = search needs
@@ -37,11 +41,12 @@ returns-4 : tie.Need-returns-4
 returns-4 c = let a = c .before .before .before .before .before .before .before .before .before .before .args in
     let k = c .before .before .before .before .before .before .before .kind-at in
     let n = c .before .before .before .operand-at in
-    judged (a .kinds .now) (a .operands .now) (a .first) (a .last) (a .at) (k .result) (k .ensures)
+    node-says (a .kinds .now) (a .operands .now) (a .first) (a .last) (a .at) _
+    (judged (a .kinds .now) (a .operands .now) (a .first) (a .last) (a .at) (k .result) (k .ensures)
     (c .before .before .before .before .before .before .if1 .left)
     (c .before .before .before .before .before .if2 .left)
     (c .before .before .before .before .if3 .left)
-    (n .result) (n .ensures) _ (low-wrong (k .result) (n .result) (omega arith))
+    (n .result) (n .ensures) _ (low-wrong (k .result) (n .result) (omega arith)))
 
 high-limit-requires : tie.Need-high-limit-requires
 high-limit-requires c κs = search needs
@@ -55,11 +60,12 @@ returns-5 c = let a =
     .args in
     let k = c .before .before .before .before .before .before .before .before .before .before .kind-at in
     let n = c .before .before .before .before .before .before .operand-at in
-    judged (a .kinds .now) (a .operands .now) (a .first) (a .last) (a .at) (k .result) (k .ensures)
+    node-says (a .kinds .now) (a .operands .now) (a .first) (a .last) (a .at) _
+    (judged (a .kinds .now) (a .operands .now) (a .first) (a .last) (a .at) (k .result) (k .ensures)
     (c .before .before .before .before .before .before .before .before .before .if1 .left)
     (c .before .before .before .before .before .before .before .before .if2 .left)
     (c .before .before .before .before .before .before .before .if3 .left)
-    (n .result) (n .ensures) _ (high-wrong (k .result) (n .result) (omega arith))
+    (n .result) (n .ensures) _ (high-wrong (k .result) (n .result) (omega arith)))
 
 cast-t12 : tie.Need-cast-t12
 cast-t12 c = search needs
@@ -73,11 +79,12 @@ returns-6 c = let a =
     .args in
     let k = c .before .before .before .before .before .before .before .before .before .before .kind-at in
     let n = c .before .before .before .before .before .before .operand-at in
-    judged (a .kinds .now) (a .operands .now) (a .first) (a .last) (a .at) (k .result) (k .ensures)
+    node-says (a .kinds .now) (a .operands .now) (a .first) (a .last) (a .at) _
+    (judged (a .kinds .now) (a .operands .now) (a .first) (a .last) (a .at) (k .result) (k .ensures)
     (c .before .before .before .before .before .before .before .before .before .if1 .left)
     (c .before .before .before .before .before .before .before .before .if2 .left)
     (c .before .before .before .before .before .before .before .if3 .left)
-    (n .result) (n .ensures) _ (in-range _ _ (omega arith) (omega arith) (omega arith))
+    (n .result) (n .ensures) _ (in-range _ _ (omega arith) (omega arith) (omega arith)))
 
 pub node-at-spec : {M : Type 1} → statement M
 node-at-spec =
