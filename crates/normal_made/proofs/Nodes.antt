@@ -15,11 +15,12 @@ use Rattle.semantics.specs.Syntax.{Expr, number, name, operation, let-in, call,
 use Rattle.semantics.specs.Syntax.{map-over, Exprs, none, more, size, sizes}
 use Rattle.semantics.specs.Code as C
 use Rattle.semantics.specs.File as S
-use Rattle.semantics.specs.File.{node-at, node-of, part-count, in-parts, low-limits, high-limits}
-use Rattle.script_read.specs.Told.{Parts, told-node}
+use Rattle.semantics.specs.File.{look, node-at, node-of, part-count, in-parts, low-limits, high-limits}
+use Rattle.script_read.specs.Told.{Parts, node-outcome, parted}
 use Rattle.script_read.specs.declared.Node.{Node}
 use Rattle.script_read.specs.declared.Node.the-variants.{Fits, WrongKind, WrongOperand}
-use Rattle.script_read.proofs.Nodes.{Within, node-within}
+use Rattle.script_read.proofs.Nodes.{Within, node-within, unfit}
+use Rattle.script_read.proofs.Nodes as Reader
 use Rattle.script_read.proofs.Written.{Written, AllWritten, amount, kind-of}
 use Rattle.normal_code.specs.Plain.{meant, placed, number-at, operation-of}
 use Rattle.normal_code.proofs.Trees.{pred-suc}
@@ -35,14 +36,10 @@ pub record Seen (k w : List ℕ) (p kind low high : ℕ) : Type 0 where
   pub low-is : head .low ≡ low
   pub high-is : head .high ≡ high
 
-pub seen : (k w : List ℕ) (p kind low high : ℕ) → Fits kind low high ≡ told-node (node-at k w 2 13 p) → Seen k w p
-    kind low high
-seen k w p kind low high e = go (node-at k w 2 13 p) refl e
-  where
-    go : (v : S.Node) → node-at k w 2 13 p ≡ v → Fits kind low high ≡ told-node v → Seen k w p kind low high
-    go (S.fits h) i e = record { head = h; is = i; kind-is = cc; low-is = cc; high-is = cc }
-    go S.wrong-kind i e = absurd (let z : _≡_ {A = ℕ} 0 1 = cc in omega arith)
-    go S.wrong-operand i e = absurd (let z : _≡_ {A = ℕ} 0 1 = cc in omega arith)
+pub seen : (k w : List ℕ) (p kind low high : ℕ) {n : Node} → n ≡ Fits kind low high →
+    node-outcome n p ≡ parted (look k w 2 13 p) → Seen k w p kind low high
+seen k w p kind low high {n} f e = let s = Reader.seen k w 2 13 p n e kind low high f in
+    record { head = s .node; is = s .stands; kind-is = s .same-kind; low-is = s .same-low; high-is = s .same-high }
 
 module _ (k w : List ℕ) (d p : ℕ) (some : d ≡ 0 → ⊥) where
   R : ℕ → Expr
@@ -324,16 +321,14 @@ pub none-tree : (k w : List ℕ) (d p : ℕ) → d ≡ 0 → tree-at k w d p ≡
 unfolding tree-at
 none-tree k w d p e = rw e
 
-pub wrong-tree : (k w : List ℕ) (d p : ℕ) → (d ≡ 0 → ⊥) → (n : Node) → n ≡ told-node (node-at k w 2 13 p) →
+pub wrong-tree : (k w : List ℕ) (d p : ℕ) → (d ≡ 0 → ⊥) → (n : Node) → node-outcome n p ≡ parted (look k w 2 13 p) →
     (n ≡ WrongKind) ⊎ (n ≡ WrongOperand) → tree-at k w d p ≡ number (pos 0)
-wrong-tree k w d p some n e f = go (node-at k w 2 13 p) refl e f
+wrong-tree k w d p some n e f = go (unfit k w 2 13 p n e f .is)
   where
-    go : (v : S.Node) → node-at k w 2 13 p ≡ v → n ≡ told-node v → (n ≡ WrongKind) ⊎ (n ≡ WrongOperand) → tree-at k
-        w d p ≡ number (pos 0)
-    go (S.fits h) i e (inl f) = absurd (let z : _≡_ {A = ℕ} 0 1 = cc in omega arith)
-    go (S.fits h) i e (inr f) = absurd (let z : _≡_ {A = ℕ} 0 1 = cc in omega arith)
-    go S.wrong-kind i e f = tree-none k w d p some S.wrong-kind i
-    go S.wrong-operand i e f = tree-none k w d p some S.wrong-operand i
+    go : (node-at k w 2 13 p ≡ S.wrong-kind) ⊎ (node-at k w 2 13 p ≡ S.wrong-operand) →
+        tree-at k w d p ≡ number (pos 0)
+    go (inl i) = tree-none k w d p some S.wrong-kind i
+    go (inr i) = tree-none k w d p some S.wrong-operand i
 
 pub compound-as : (k w : List ℕ) (d p : ℕ) → (d ≡ 0 → ⊥) → {kind low high : ℕ} → Seen k w p kind low high →
     (y m : ℕ) → y ≡ second-part kind low high →

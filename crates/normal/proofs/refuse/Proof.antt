@@ -1,4 +1,5 @@
-use mathlib.Core.Path.{_≡_, refl, sym, ap, _∙_}
+-- `normal::refuse` meets its contract.
+use mathlib.Core.Path.{_≡_}
 use native.Mathlib.Omega.{arith}
 use Prim.Native.Nat.{ℕ, zero, suc, _+_, _-_, _*_, _/_, _%_, _<_, _≤_}
 use lib.ListN.{length, getD, set}
@@ -32,12 +33,8 @@ same-length-2 c = search needs
 
 returns : tie.Need-returns
 returns c = let a = c .before .before .before .before .before .before .before .before .before .before .args in (
-  refl,
-  (
-    cleared _ (length (a .ks .now)) 0 (c .before .before .before .before .before .before .move-kinds
-        .ensures),
-    cleared _ (length (a .os .now)) (pos 0) (c .before .move-ops .ensures),
-  ),
+  cleared _ (length (a .ks .now)) 0 (c .before .before .before .before .before .before .move-kinds .ensures),
+  cleared _ (length (a .os .now)) (pos 0) (c .before .move-ops .ensures),
 )
 
 pub refuse-spec : {M : Type 1} → statement M

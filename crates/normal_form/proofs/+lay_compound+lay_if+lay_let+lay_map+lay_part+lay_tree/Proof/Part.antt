@@ -1,5 +1,5 @@
 -- What `lay_part` has to show.
-use mathlib.Core.Path.{sym, _∙_}
+use mathlib.Core.Path.{_∙_}
 use native.Mathlib.Omega.{arith}
 use lib.ListN.{getD}
 use lib.IntN.{pos}
@@ -64,7 +64,7 @@ lay-part-returns-2 t c =
     let a = start .args in
     let asked = start .pre in
     let node = seen (a .kinds .now) (a .operands .now) (a .at) _ _ _
-    (sym (c .before .before .kind .given .1) ∙ c .before .before .before .before .node-at .ensures) in
+    (c .before .before .kind .given .1) (c .before .before .before .before .node-at .ensures) in
     number-laid (a .operands .now) (λ f. getD (a .results .now) f 0) (a .levels) (a .at) _ _
     (number-is (a .kinds .now) (a .operands .now) (a .levels) (a .at)
     (c .before .before .before .before .before .if1 .left) node (c .if2 .taken))
@@ -99,8 +99,7 @@ lay-part-returns-3 t c =
     (name-is (a .kinds .now) (a .operands .now) (a .levels) (a .at)
     (c .before .before .before .before .before .before .before .if1 .left)
     (seen (a .kinds .now) (a .operands .now) (a .at) _ _ _
-    (sym (c .before .before .before .before .kind .given .1)
-    ∙ c .before .before .before .before .before .before .node-at .ensures)) (c .before .if3 .taken))
+    (c .before .before .before .before .kind .given .1) (c .before .before .before .before .before .before .node-at .ensures)) (c .before .if3 .taken))
     (any-default (a .places .now) _ (asked .1 .0 .long) (search needs)) (asked .1 .1 .sized)
 
 pub lay-part-add-lay-let : (t : ℕ) → lay-part-lts.Need-add-lay-let (lay-part-claims t) (lay-part-at t) lay-part.Post
@@ -131,8 +130,7 @@ lay-part-lay-let-requires t c κs =
             (let-is (a .kinds .now) (a .operands .now) (a .levels) (a .at)
             (c .before .before .before .before .before .before .before .before .before .before .if1 .left)
             (seen (a .kinds .now) (a .operands .now) (a .at) _ _ _
-            (sym (c .before .before .before .before .before .before .before .kind .given .1)
-            ∙ c .before .before .before .before .before .before .before .before .before .node-at .ensures))
+            (c .before .before .before .before .before .before .before .kind .given .1) (c .before .before .before .before .before .before .before .before .before .node-at .ensures))
             (c .before .before .before .if4 .taken)) (two-after _ (a .at) _ _),
       ),
     )
@@ -145,8 +143,7 @@ lay-part-returns-4 t c =
     (let-is (a .kinds .now) (a .operands .now) (a .levels) (a .at)
     (c .before .before .before .before .before .before .before .before .before .before .before .if1 .left)
     (seen (a .kinds .now) (a .operands .now) (a .at) _ _ _
-    (sym (c .before .before .before .before .before .before .before .before .kind .given .1)
-    ∙ c .before .before .before .before .before .before .before .before .before .before .node-at .ensures))
+    (c .before .before .before .before .before .before .before .before .kind .given .1) (c .before .before .before .before .before .before .before .before .before .before .node-at .ensures))
     (c .before .before .before .before .if4 .taken))
     (omega (
       arith,
@@ -182,8 +179,7 @@ lay-part-lay-if-requires t c κs =
             (if-is (a .kinds .now) (a .operands .now) (a .levels) (a .at)
             (c .before .before .before .before .before .before .before .before .before .before .before .if1 .left)
             (seen (a .kinds .now) (a .operands .now) (a .at) _ _ _
-            (sym (c .before .before .before .before .before .before .before .before .kind .given .1)
-            ∙ c .before .before .before .before .before .before .before .before .before .before .node-at
+            (c .before .before .before .before .before .before .before .before .kind .given .1) (c .before .before .before .before .before .before .before .before .before .before .node-at
             .ensures)) (c .before .before .before .if5 .taken)) (three-after (a .at) _ _ _),
       ),
     )
@@ -197,8 +193,7 @@ lay-part-returns-5 t c =
     (c .before .before .before .before .before .before .before .before .before .before .before .before .if1
     .left)
     (seen (a .kinds .now) (a .operands .now) (a .at) _ _ _
-    (sym (c .before .before .before .before .before .before .before .before .before .kind .given .1)
-    ∙ c .before .before .before .before .before .before .before .before .before .before .before .node-at
+    (c .before .before .before .before .before .before .before .before .before .kind .given .1) (c .before .before .before .before .before .before .before .before .before .before .before .node-at
     .ensures)) (c .before .before .before .before .if5 .taken))
     (omega (
       arith,
@@ -235,8 +230,7 @@ lay-part-lay-map-requires t c κs =
             (c .before .before .before .before .before .before .before .before .before .before .before .before .if1
             .left)
             (seen (a .kinds .now) (a .operands .now) (a .at) _ _ _
-            (sym (c .before .before .before .before .before .before .before .before .before .kind .given .1)
-            ∙ c .before .before .before .before .before .before .before .before .before .before .before .node-at
+            (c .before .before .before .before .before .before .before .before .before .kind .given .1) (c .before .before .before .before .before .before .before .before .before .before .before .node-at
             .ensures)) (c .before .before .before .if6 .taken)) (map-after _ (a .at) _ _),
       ),
     )
@@ -250,8 +244,7 @@ lay-part-returns-6 t c =
     (c .before .before .before .before .before .before .before .before .before .before .before .before .before
     .if1 .left)
     (seen (a .kinds .now) (a .operands .now) (a .at) _ _ _
-    (sym (c .before .before .before .before .before .before .before .before .before .before .kind .given .1)
-    ∙ c .before .before .before .before .before .before .before .before .before .before .before .before
+    (c .before .before .before .before .before .before .before .before .before .before .kind .given .1) (c .before .before .before .before .before .before .before .before .before .before .before .before
     .node-at .ensures)) (c .before .before .before .before .if6 .taken))
     (omega (
       arith,
@@ -287,9 +280,7 @@ lay-part-lay-compound-requires t c κs =
     let a = start .args in
     let asked = start .pre in
     let node = seen (a .kinds .now) (a .operands .now) (a .at) _ _ _
-    (sym
-    (c .before .before .before .before .before .before .before .before .before .before .before .kind .given .1)
-    ∙ c .before .before .before .before .before .before .before .before .before .before .before .before .before
+    (c .before .before .before .before .before .before .before .before .before .before .before .kind .given .1) (c .before .before .before .before .before .before .before .before .before .before .before .before .before
     .node-at .ensures) in (
       omega (
         arith,
@@ -359,9 +350,8 @@ lay-part-returns-7 t c =
     let a = c .before .before .before .before .before .before .before .before .before .before .before .before .before
     .before .before .before .before .before .before .args in
     let node = seen (a .kinds .now) (a .operands .now) (a .at) _ _ _
-    (sym (c .before .before .before .before .before .before .before .before .before .before .before .before .kind
-    .given .1)
-    ∙ c .before .before .before .before .before .before .before .before .before .before .before .before .before
+    (c .before .before .before .before .before .before .before .before .before .before .before .before .kind
+    .given .1) (c .before .before .before .before .before .before .before .before .before .before .before .before .before
     .before .node-at .ensures) in
     ready-made (a .operands .now) (λ f. getD (a .results .now) f 0) (a .levels) (a .at)
     (compound-as (a .kinds .now) (a .operands .now) (a .levels) (a .at)
