@@ -23,8 +23,6 @@ use Rattle.script.specs.Verdicts.{told-verdict, Judges}
 use Rattle.script.proofs.Whole.{kinds-of, operands-of, Taken, taken}
 use Rattle.script_nodes.specs.Nodes.{refused-node}
 use Rattle.normal_script.specs.Script.{Translatable}
-use Rattle.normal.specs.declared.Laid.{Laid}
-use Rattle.normal.specs.declared.Laid.the-variants.{Lines, TooLong}
 use Rattle.normal.specs.Left.{Left, left-of, Leaves}
 use Rattle.engine_load.specs.declared.Loaded.{Loaded}
 use Rattle.engine_load.specs.declared.Loaded.the-variants as L
@@ -116,13 +114,13 @@ pub node-fits : {file : List ℕ} {n p : ℕ} → Judges file (Refused n p) → 
 node-fits {file} {n} {p} j = refused-node p n p file (j .faulty) (refused-so j)
 
 -- an answer of the translator, as one of loading
-abbrev pub ready : ℕ → Laid → Loaded
-ready d (Lines m) = L.Ready m d
-ready d TooLong = L.Refused 9
+abbrev pub ready : ℕ → Outcome (Unit {0}) ℕ → Loaded
+ready d (done m u) = L.Ready m d
+ready d (stop n u) = L.Refused n
 
 module _ {file : List ℕ} {kinds : List ℕ} {operands : List ℤ} {kinds′ : List ℕ} {operands′ : List ℤ} where
   -- what the translator leaves
-  pub loads-laid : {f n : ℕ} (r : Laid) (d : ℕ) → Judges file (Accepted f n) →
+  pub loads-laid : {f n : ℕ} (r : Outcome (Unit {0}) ℕ) (d : ℕ) → Judges file (Accepted f n) →
       d ≡ high-at (kinds-of file n) (operands-of file n) at-function 0 →
       Leaves (script (kinds-of file n) (operands-of file n) f 0) kinds operands
       (record { answer = r; kinds = kinds′; operands = operands′ }) →

@@ -7,6 +7,7 @@ use mathlib.Core.List.{List, [], _∷_, _++_, map}
 use lib.IntN.{ℤ, pos}
 use lib.ListN.{getD, length, replicate, length-append, length-map}
 use borrow.Author.Tests.{leb-true}
+use Rattle.semantics.specs.Outcome.{Outcome, done, stop}
 use Rattle.semantics.specs.Syntax.{Script}
 use Rattle.semantics.specs.File.{at-function, script}
 use Rattle.semantics.specs.Code.{Row}
@@ -29,8 +30,6 @@ use Rattle.machine_scripts.specs.Script.{body-at, Coded, code-written}
 use Rattle.machine_scripts.specs.Ends.{Roomy, ends-below, ends-long, tree-ends}
 use Rattle.machine_scripts.specs.Starts.{Jumping, starts-below, starts-ends, starts-stand}
 use Rattle.normal_script.specs.Depths.{DepthsFrom, Depths-by}
-use Rattle.normal.specs.declared.Laid.{Laid}
-use Rattle.normal.specs.declared.Laid.the-variants.{Lines, TooLong}
 use Rattle.normal.specs.Left.{left-of, Leaves}
 use Rattle.engine_load.specs.declared.Loaded.the-variants as L
 use Rattle.engine_load.specs.Loading.{LoadsWith}
@@ -128,13 +127,13 @@ module _ {file : List ℕ} {f n : ℕ} (a : AcceptedFile file f n) where
 -- ---- the ways out of loading
 
 -- the table after the translator's answer
-abbrev pub table-after : ℕ → List ℕ → List ℤ → Laid → List ℕ → List ℕ
-table-after f kinds operands (Lines m) table = filled f m kinds operands table
-table-after f kinds operands TooLong table = table
+abbrev pub table-after : ℕ → List ℕ → List ℤ → Outcome (Unit {0}) ℕ → List ℕ → List ℕ
+table-after f kinds operands (done m u) table = filled f m kinds operands table
+table-after f kinds operands (stop n u) table = table
 
 -- the code that the translator left is within its array
 pub laid-within : {file : List ℕ} {f n : ℕ} (a : AcceptedFile file f n) (kinds kinds′ : List ℕ)
-    (operands operands′ : List ℤ) (r : Laid) (m : ℕ) → r ≡ Lines m →
+    (operands operands′ : List ℤ) (r : Outcome (Unit {0}) ℕ) (m : ℕ) → r ≡ done m tt →
     Leaves (script (kinds-of file n) (operands-of file n) f 0) kinds operands
     (record { answer = r; kinds = kinds′; operands = operands′ }) → (m ≤ length kinds′) × (m ≤ 4096)
 unfolding left-of code-fits
@@ -167,7 +166,7 @@ laid-within {file} {f} {n} a kinds kinds′ operands operands′ r m is left =
 
 module _ {file kinds : List ℕ} {operands : List ℤ} {table kinds′ : List ℕ} {operands′ : List ℤ} where
   -- what the translator leaves
-  pub loads-with-laid : {f n : ℕ} (r : Laid) (d : ℕ) (table′ : List ℕ) → Judges file (Accepted f n) →
+  pub loads-with-laid : {f n : ℕ} (r : Outcome (Unit {0}) ℕ) (d : ℕ) (table′ : List ℕ) → Judges file (Accepted f n) →
       d ≡ high-at (kinds-of file n) (operands-of file n) at-function 0 →
       Leaves (script (kinds-of file n) (operands-of file n) f 0) kinds operands
       (record { answer = r; kinds = kinds′; operands = operands′ }) →

@@ -43,12 +43,11 @@ pub fn work_tree(
         if kinds.len() <= p {
             return machine_lines::halted(99, s);
         }
-        if kinds[p] == 16 {
-            let a = machine_code::atom_at(*kinds, *operands, p + 1);
+        let l = machine_code::line_at(*kinds, *operands, p);
+        if let Line::End(a) = l {
             let w = machine_lines::word_of(env, calls, a);
             return machine_lines::done(w, p + 2, s);
         }
-        let l = machine_code::line_at(*kinds, *operands, p);
         let r = work_line(
             kinds,
             operands,

@@ -9,7 +9,7 @@ use lib.ListN.{getD, set, replicate}
 use borrow.Author.Tests.{eq-eqb, ne-eqb}
 use Rattle.semantics.specs.Store.{Store, cell-of, acquired, retained, released, deepest, with-totals, relinked}
 use Rattle.semantics.specs.Words.{store-of}
-use Rattle.store.specs.Acquiring.{next-cell}
+use Rattle.store.specs.Acquiring.{acquired-outcome, next-cell}
 use Rattle.store.specs.declared.Acquired.{Acquired}
 use Rattle.store.specs.declared.Acquired.the-variants.{Cell, NoneFree}
 use Rattle.machine_code.specs.Reading.{start-in}
@@ -85,10 +85,10 @@ module _ (c : Code) (d : ℕ) (old : ℤ) (k budget : ℕ) (slots : List ℤ) (h
 -- ---- the attempt
 
 module _ (c : Code) (readings : List ℤ) (d budget : ℕ) (slots : List ℤ) (heads : List ℕ) (q : Acquired)
-    (qe : q ≡ next-cell (store-of slots heads)) (sl₁ : List ℤ) (he₁ : List ℕ)
+    (qe : acquired-outcome q ≡ next-cell (store-of slots heads)) (sl₁ : List ℤ) (he₁ : List ℕ)
     (σe : store-of sl₁ he₁ ≡ acquired 0 readings (store-of slots heads)) where
   attempt-is : attempt-on c readings d budget (store-of slots heads)
-      ≡ attempt-with c d (store-of slots heads .totals) budget (store-of sl₁ he₁) q
+      ≡ attempt-with c d (store-of slots heads .totals) budget (store-of sl₁ he₁) (acquired-outcome q)
   unfolding attempt-on
   attempt-is = ap₂ (attempt-with c d (store-of slots heads .totals) budget) (sym σe) (sym qe)
 
@@ -98,7 +98,8 @@ module _ (c : Code) (readings : List ℤ) (d budget : ℕ) (slots : List ℤ) (h
       Tries (attempt-on c readings d budget (store-of slots heads)) budget r sl he
   unfolding store-of
   attempt-cell k h old oe r sl he done = record {
-    is = done .is ∙ sym (attempt-is ∙ ap (attempt-with c d (getD slots 0 (pos 0)) budget (store-of sl₁ he₁)) h
+    is = done .is ∙ sym (attempt-is ∙ ap (λ (y : Acquired). attempt-with c d (getD slots 0 (pos 0)) budget
+        (store-of sl₁ he₁) (acquired-outcome y)) h
         ∙ ap (λ (y : ℤ). main-on c d y k budget (store-of sl₁ he₁)) (sym oe));
     fewer = done .fewer;
   }
@@ -106,7 +107,8 @@ module _ (c : Code) (readings : List ℤ) (d budget : ℕ) (slots : List ℤ) (h
   pub attempt-none : q ≡ NoneFree → (r : Out) → r ≡ out 25 (pos 0) 0 budget →
       Tries (attempt-on c readings d budget (store-of slots heads)) budget r sl₁ he₁
   attempt-none h r e = record {
-    is = sym (attempt-is ∙ ap (attempt-with c d (store-of slots heads .totals) budget (store-of sl₁ he₁)) h
+    is = sym (attempt-is ∙ ap (λ (y : Acquired). attempt-with c d (store-of slots heads .totals) budget
+        (store-of sl₁ he₁) (acquired-outcome y)) h
         ∙ ap (λ (y : Out). tried y (store-of sl₁ he₁)) (sym e));
     fewer = rw e (omega arith);
   }

@@ -15,7 +15,6 @@ use Rattle.semantics.specs.Machine as M
 use Rattle.semantics.specs.Machine.{State, Program, routine-of, machine, acquire, acquire-if, retain-word}
 use Rattle.semantics.specs.Machine.{release-word, if-array, delivery, starting, delivered-by, delivered}
 use Rattle.store.specs.Acquiring.{next-cell}
-use Rattle.store.specs.declared.Acquired.the-variants.{Cell, NoneFree}
 use Rattle.machine_code.specs.Reading.{start-in}
 use Rattle.machine_lines.specs.Lines.{memory, Ran, out}
 use Rattle.machine_positions.specs.Machine.{Code, tree-on, call-on}
@@ -98,8 +97,8 @@ module _ (p : Program) (enough : length (p .routines) ≤ 32) (c : Code) (some :
       R = named-by d (old ∷ [])
 
       by-cell : (t : Bool) → has-free σ ≡ t →
-          settled budget σ (attempt-with c d old budget (acquired 0 readings σ) (cond (has-free σ) (Cell (σ .first))
-          NoneFree))
+          settled budget σ (attempt-with c d old budget (acquired 0 readings σ) (cond (has-free σ) (done (σ .first) tt)
+          (stop 25 tt)))
           ≡ delivered-by budget σ (onward (λ k s. onward (λ _ s′. onward (λ v s″. onward (λ _. if-array d
           (release-word old)) (put-totals v s″))
           (machine p 32 R 0 (old ∷ k ∷ []) s′)) (if-array d (retain-word old) s))

@@ -25,15 +25,12 @@ use Rattle.semantics.specs.Machine.{elements-of, retain-word, release-word, hel
 use Rattle.sound_base.specs.Tests.{some-if-holds, same-lists}
 use Rattle.sound_machine.specs.Discipline.{AllKnown, New, LeafFits}
 use Rattle.words.specs.Words.{checked}
-use Rattle.words.specs.declared.Exact.the-variants.{Value, Overflow}
 use Rattle.store.specs.Acquiring.{next-cell}
-use Rattle.store.specs.declared.Acquired.the-variants.{Cell, NoneFree}
 use Rattle.machine_code.specs.Reading.{atom-at, is-atom, line-of, line-at}
 use Rattle.machine_code.specs.declared.Atom.{Atom}
 use Rattle.machine_code.specs.declared.Line.the-variants as L
 use Rattle.machine_lines.specs.Frames.{word-of, words-at}
-use Rattle.machine_lines.specs.Lines as G
-use Rattle.machine_lines.specs.Lines.{Memory, memory, Ran, ran, out, with-store, Given, given, operation-of, exact-given}
+use Rattle.machine_lines.specs.Lines.{Memory, memory, Ran, ran, out, with-store, Given, given, operation-of}
 use Rattle.machine_lines.specs.Lines.{operation-given, array-of, index-given, length-given, acquired-given, Doing}
 use Rattle.machine_lines.specs.Lines.{giving, calling, doing, leaf-done}
 use Rattle.machine_positions.specs.Machine.{Code, Work, Callee, binding, call-worked, call-line, line-done}
@@ -98,7 +95,7 @@ operation-back sum = refl
 operation-back difference = refl
 operation-back less = refl
 
-operation-read : (o : Operation) (n : ℕ) (u v : Atom) →
+pub operation-read : (o : Operation) (n : ℕ) (u v : Atom) →
     line-of (operation-kind o) n u v ≡ L.Operation (operation-kind o) (n % 256) u v
 operation-read sum n u v = refl
 operation-read difference n u v = refl
@@ -167,15 +164,15 @@ module _ (p : Program) (few : length (p .routines) ≤ 32) (callee : M.Callee) (
       where
         go : (n : ℕ) (y : Given) (o : Outcome State ℤ) → Gives n σ y o →
             Rel Done (with-store σ (given calls x next n env y)) (onward (λ w. give (updated ρ x w)) o)
-        go n (G.word w) (done v s′) q = (
+        go n (done w u) (done v s′) q = (
           refl,
           bound-done calls env ρ S b g long x new next (at + suc (length us)) e (ran (out 0 w next n) (memory σ env)) v
               s′
               (record { value = q .0; steps = q .1; store = q .2; kept = kept-none calls env S }),
         )
-        go n (G.word w) (stop k s′) q = absurd q
-        go n (G.stop j) (done v s′) q = absurd q
-        go n (G.stop j) (stop k s′) q = record { stop = q .0; real = q .1; steps = q .2 }
+        go n (done w u) (stop k s′) q = absurd q
+        go n (stop j u) (done v s′) q = absurd q
+        go n (stop j u) (stop k s′) q = record { stop = q .0; real = q .1; steps = q .2 }
 
     operation-same : (o : Operation) → length us ≡ 2 → Stands (operation o) → Claim (operation o)
     unfolding doing work-leaf onward require checked with-left
@@ -189,7 +186,7 @@ module _ (p : Program) (few : length (p .routines) ≤ 32) (callee : M.Callee) (
         (λ n. rw (operation-back o) (go n (exact o (argument ws 0) (argument ws 1)) _ refl))
       where
         go : (n : ℕ) (z : ℤ) (t : Bool) → fits z ≡ t →
-            Gives n (s .store) (exact-given (cond (fits z) (Value z) Overflow))
+            Gives n (s .store) (cond (fits z) (done z tt) (stop 24 tt))
             (onward (λ _. give z) (require (fits z) 24 (with-left s n)))
         go n z true e = rw e (refl, refl, refl)
         go n z false e = rw e (refl, λ q. omega arith, refl)
@@ -233,8 +230,8 @@ module _ (p : Program) (few : length (p .routines) ≤ 32) (callee : M.Callee) (
         (omega (arith, length-map us (word ρ))) (λ n. go n (has-free (s .store)) refl)
       where
         go : (n : ℕ) (t : Bool) → has-free (s .store) ≡ t →
-            Gives n (acquired d ws (s .store))
-            (acquired-given (cond (has-free (s .store)) (Cell (s .store .first)) NoneFree))
+            Gives n (acquired d ws (s .store)) (acquired-given
+            (cond (has-free (s .store)) (done (s .store .first) tt) (stop 25 tt)))
             (acquire-if (has-free (s .store)) cell-roots d ws (with-left s n))
         go n true e = rw e (refl, refl, refl)
         go n false e = rw e (refl, λ q. omega arith, refl)

@@ -7,7 +7,7 @@ use native.Mathlib.Omega.{arith}
 use lib.IntN.{ℤ, pos}
 use lib.ListN.{getD, length}
 use Rattle.semantics.specs.Basics.{tabulate, updated}
-use Rattle.semantics.specs.Outcome.{Outcome, onward, give, passes}
+use Rattle.semantics.specs.Outcome.{Outcome, done, stop, onward, give, passes}
 use Rattle.semantics.specs.Kinds.{Loop, mapping, loop-kind, packed-names}
 use Rattle.semantics.specs.Store.{Store, cell, cell-of, elements, has-free, acquired, appended}
 use Rattle.semantics.specs.Code as K
@@ -21,7 +21,6 @@ use Rattle.semantics.specs.Machine.{carried-first, pass-words, carried-on, in-p
 use Rattle.sound_base.specs.Tests.{or-left}
 use Rattle.sound_machine.specs.Discipline.{AllKnown, New, AllNew, LoopFits, Fitting, Scoped}
 use Rattle.store.specs.Acquiring.{next-cell}
-use Rattle.store.specs.declared.Acquired.the-variants.{Cell, NoneFree}
 use Rattle.machine_code.specs.Reading.{line-at, depth-in, end-in}
 use Rattle.machine_code.specs.declared.Atom.{Atom}
 use Rattle.machine_lines.specs.Frames.{word-of}
@@ -45,7 +44,7 @@ carry-first-same mapping R d ws calls S env n s e = go (has-free (s .store)) ref
   where
     go : (t : Bool) → has-free (s .store) ≡ t → Rel (WordDone calls env S)
         (gave n (memory (acquired d [] (s .store)) env)
-        (acquired-given (cond (has-free (s .store)) (Cell (s .store .first)) NoneFree)))
+        (acquired-given (cond (has-free (s .store)) (done (s .store .first) tt) (stop 25 tt))))
         (acquire-if (has-free (s .store)) R d [] s)
     go true q = rw q (refl, record { value = refl; steps = e; store = refl; kept = kept-none calls env S })
     go false q = rw q (record { stop = refl; real = λ z. omega arith; steps = e })

@@ -15,7 +15,6 @@ use Rattle.semantics.specs.Store.{Store}
 use Rattle.semantics.specs.Machine.{State, Frame, step, stepped, with-left}
 use Rattle.sound_machine.specs.Discipline.{New}
 use Rattle.machine_lines.specs.Frames.{place}
-use Rattle.machine_lines.specs.Lines as G
 use Rattle.machine_lines.specs.Lines.{Memory, memory, Ran, halted, stepping, Given}
 use Rattle.machine_positions.specs.Machine.{and-then, binding}
 use Rattle.machine_laws.specs.Frames.{Bounded, Agrees, Kept, agrees-more, agrees-kept, kept-more, kept-then}
@@ -59,10 +58,10 @@ pub record CallDone (calls : ℕ) (env : List ℤ) (w : Ran) (v : ℤ) (s : Stat
 
 -- a small work, in n steps left and with a store, is that of the machine
 abbrev pub Gives : ℕ → Store → Given → Outcome State ℤ → Type 0
-Gives n σ (G.word w) (done v s) = (w ≡ v) × (n ≡ s .left) × (σ ≡ s .store)
-Gives n σ (G.word w) (stop k s) = ⊥
-Gives n σ (G.stop j) (done v s) = ⊥
-Gives n σ (G.stop j) (stop k s) = (j ≡ k) × (k ≡ 0 → ⊥) × (n ≡ s .left)
+Gives n σ (done w u) (done v s) = (w ≡ v) × (n ≡ s .left) × (σ ≡ s .store)
+Gives n σ (done w u) (stop k s) = ⊥
+Gives n σ (stop j u) (done v s) = ⊥
+Gives n σ (stop j u) (stop k s) = (j ≡ k) × (k ≡ 0 → ⊥) × (n ≡ s .left)
 
 pub rel-then : {A B : Type 0} (P : Ran → A → State → Type 0) (Q : Ran → B → State → Type 0) (w : Ran)
     (o : Outcome State A) (F : Ran → Ran) (f : A → Run State B) → Rel P w o →

@@ -1,18 +1,17 @@
 -- The machine over positions is the machine of the definitions: lines and trees.
 use mathlib.Core.Path.{_≡_, refl, sym, ap, ap₂, subst, _∙_}
 use mathlib.Core.Bool.{Bool, true, false, cond}
-use mathlib.Core.Logic.{inr}
 use mathlib.Core.List.{List, _++_, map}
 use Prim.Native.Nat.{ℕ, zero, suc, _+_, _-_, _%_, _<_, _≤_}
 use native.Mathlib.Omega.{arith}
 use lib.IntN.{ℤ}
 use lib.ListN.{getD, length, length-append, length-map}
-use types.Run.{miss}
 use borrow.Author.Tests.{lt-ltb}
 use Rattle.semantics.specs.Basics.{updated}
 use Rattle.semantics.specs.Outcome.{onward, give}
 use Rattle.semantics.specs.Number.{is-zero}
-use Rattle.semantics.specs.Kinds.{Loop, mapping, leaf-kind, loop-kind}
+use Rattle.semantics.specs.Kinds.{Leaf, operation, call, literal, index, length-of, Loop, mapping, leaf-kind}
+use Rattle.semantics.specs.Kinds.{loop-kind}
 use Rattle.semantics.specs.Store.{Store}
 use Rattle.semantics.specs.Code as K
 use Rattle.semantics.specs.Code.{atom-row, rows, line-rows, ending}
@@ -21,18 +20,18 @@ use Rattle.semantics.specs.Annotate.{NameDepths, atom-depth}
 use Rattle.semantics.specs.Machine as M
 use Rattle.semantics.specs.Machine.{State, Frame, Program, word, with-left, work, work-line}
 use Rattle.sound_machine.specs.Discipline.{Known, New, known-after, LineFitting, Fitting, LineScoped, Scoped}
-use Rattle.machine_code.specs.Reading.{is-atom, atom-at, line-at, depth-in, end-in}
+use Rattle.machine_code.specs.Reading.{is-atom, atom-at, line-of, line-at, depth-in, end-in}
+use Rattle.machine_code.specs.declared.Atom.{Atom}
 use Rattle.machine_lines.specs.Frames.{word-of}
 use Rattle.machine_lines.specs.Lines.{Memory, memory, Ran, Doing, branching, doing}
 use Rattle.machine_positions.specs.Machine.{Code, Work, Callee, and-then, binding, if-worked, if-line, line-done, line-on}
 use Rattle.machine_positions.specs.Machine.{is-end, tree-from, tree-on}
-use Rattle.machine_positions.specs.TreeLaws.{not-end}
 use Rattle.machine_laws.specs.Rows.{At, Jumps, at-first, at-second, coded, atom-here, line-read}
-use Rattle.machine_laws.specs.Rows.{not-leaves, leaf-apart, no-atom, tree-within, line-some, rows-some}
+use Rattle.machine_laws.specs.Rows.{no-atom, tree-within, line-some, rows-some}
 use Rattle.machine_laws.specs.Frames.{Bounded, Agrees, small-known, word-same, kept-none, known-stays}
 use Rattle.machine_laws.specs.Frames.{bounded-after}
 use Rattle.machine_laws.specs.Same.{Rel, TreeDone, LineDone, rel-then, rel-step, rel-map, word-kept, bound-done}
-use Rattle.machine_laws.specs.Leaves.{CalleeSame, leaf-same, retain-same, release-same}
+use Rattle.machine_laws.specs.Leaves.{CalleeSame, operation-read, leaf-same, retain-same, release-same}
 use Rattle.machine_laws.specs.Loops.{TreeClaim, loop-read, loop-same}
 
 -- the same work from the same place
@@ -41,22 +40,25 @@ pub moved : (W : Work) (p q a b : ℕ) (m : Memory) (σ : Store) → p ≡ q →
 moved W p q a b m σ e f g =
     ap₂ (λ (x : ℕ) (y : ℕ). W x y m) e f ∙ ap (λ (τ : Store). W q b (memory τ (m .env))) g
 
-loop-no-end : (k : Loop) → loop-kind k ≡ 16 → ⊥
-loop-no-end mapping e = omega (arith, e)
+-- a line is no end, by the kind of its first row
+leaf-open : (l : Leaf) (n : ℕ) (a b : Atom) → is-end (line-of (leaf-kind l) n a b) ≡ false
+leaf-open (operation o) n a b = ap is-end (operation-read o n a b)
+leaf-open (call f) n a b = refl
+leaf-open (literal d) n a b = refl
+leaf-open index n a b = refl
+leaf-open length-of n a b = refl
 
--- a line is no end
+loop-open : (k : Loop) (n : ℕ) (a b : Atom) → is-end (line-of (loop-kind k) n a b) ≡ false
+loop-open mapping n a b = refl
+
 line-open : (kinds : List ℕ) (operands : List ℤ) (at : ℕ) (l : K.Line) → At kinds operands at (line-rows l) →
     is-end (line-at kinds operands at) ≡ false
-unfolding line-rows
-line-open kinds operands at l h = not-end kinds operands at (line-at kinds operands at) (λ e. other l h e) refl
-  where
-    other : (l : K.Line) → At kinds operands at (line-rows l) → getD kinds at 0 ≡ 16 → ⊥
-    other (K.leaf x l us) h e =
-        miss not-leaves (leaf-kind l) (leaf-apart l) (inr (inr (inr (inr (inr (sym (h .0 .kind) ∙ e))))))
-    other (K.if-else x g t u) h e = omega (arith, h .0 .kind, e)
-    other (K.loop x k ps us t) h e = loop-no-end k (sym (h .0 .kind) ∙ e)
-    other (K.retain x) h e = omega (arith, h .0 .kind, e)
-    other (K.release x) h e = omega (arith, h .0 .kind, e)
+unfolding line-rows line-at
+line-open kinds operands at (K.leaf x l us) h = rw (h .0 .kind) (leaf-open l _ _ _)
+line-open kinds operands at (K.if-else x g t u) h = rw (h .0 .kind) refl
+line-open kinds operands at (K.loop x k ps us t) h = rw (h .0 .kind) (loop-open k _ _ _)
+line-open kinds operands at (K.retain x) h = rw (h .0 .kind) refl
+line-open kinds operands at (K.release x) h = rw (h .0 .kind) refl
 
 module _ (p : Program) (enough : length (p .routines) ≤ 32) (callee : M.Callee) (Γ : NameDepths) (c : Code)
     (calls f : ℕ) (C : Callee) (depths : (x : ℕ) → x < 256 → depth-in (c .table) f x ≡ Γ x) (jumps : Jumps c)

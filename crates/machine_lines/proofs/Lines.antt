@@ -13,14 +13,15 @@ use types.Run.{OneOf, miss}
 use mir.Val.{hasKey}
 use Rattle.machine_code.proofs.Line.{the-type}
 use borrow.Author.Tests.{lt-ltb, le-ltb, ltb-true, ltb-false}
+use Rattle.semantics.specs.Outcome.{Outcome, done, stop}
 use Rattle.semantics.specs.Number.{Operation, less, exact, fits, inside}
 use Rattle.semantics.specs.Store.{Store, cell, cell-of, elements, acquired, has-free, cell-count, retained}
 use Rattle.semantics.specs.Store.{released, deepest}
 use Rattle.semantics.specs.Words.{store-of, cells-in}
-use Rattle.words.specs.Words.{checked}
+use Rattle.words.specs.Words.{exact-outcome, checked}
 use Rattle.words.specs.declared.Exact.{Exact}
 use Rattle.words.specs.declared.Exact.the-variants.{Value, Overflow}
-use Rattle.store.specs.Acquiring.{next-cell}
+use Rattle.store.specs.Acquiring.{acquired-outcome, next-cell}
 use Rattle.store.specs.declared.Acquired.{Acquired}
 use Rattle.store.specs.declared.Acquired.the-variants.{Cell, NoneFree}
 use Rattle.store.proofs.Filling.{cell-given}
@@ -33,19 +34,19 @@ use Rattle.machine_code.proofs.Reading.{no-bool, less-one}
 use Rattle.machine_lines.specs.declared.Out.{Out}
 use Rattle.machine_lines.specs.Frames.{place, word-of, words-at}
 use Rattle.machine_lines.specs.Lines.{Memory, memory, Ran, ran, left, out, with-store, halted, stepping}
-use Rattle.machine_lines.specs.Lines.{Given, word, stop, given, worked, operation-of, exact-given, operation-given}
+use Rattle.machine_lines.specs.Lines.{Given, given, worked, operation-of, operation-given}
 use Rattle.machine_lines.specs.Lines.{array-of, index-given, length-given, acquired-given, operation-line}
 use Rattle.machine_lines.specs.Lines.{index-line, length-line, Doing, giving, changing, ending, calling, branching, looping}
 use Rattle.machine_lines.specs.Lines.{doing, leaf-done, literal-line, leaf}
 
 -- ---- operations
 
-pub less-fits : (a b : ℤ) → Value (exact less a b) ≡ checked (exact less a b)
+pub less-fits : (a b : ℤ) → done (exact less a b) tt ≡ checked (exact less a b)
 unfolding checked
 less-fits a b = go (ltZ a b)
   where
-    go : (t : Bool) → Value (cond t (pos 1) (pos 0)) ≡ cond (fits (cond t (pos 1) (pos 0))) (Value (cond t (pos 1)
-        (pos 0))) Overflow
+    go : (t : Bool) → _≡_ {A = Outcome (Unit {0}) ℤ} (done (cond t (pos 1) (pos 0)) tt)
+        (cond (fits (cond t (pos 1) (pos 0))) (done (cond t (pos 1) (pos 0)) tt) (stop 24 tt))
     go true = refl
     go false = refl
 
@@ -62,13 +63,13 @@ module _ (calls x next steps : ℕ) (env : List ℤ) (g : Given) where
   worked-is some h e = ap (λ (n : ℕ). worked calls x next n env g) (less-one steps (omega arith))
       ∙ ap (given calls x next (steps - 1) env) e
 
-  worked-word : (steps ≡ 0 → ⊥) → (z : ℤ) → g ≡ word z → (env′ : List ℤ) → env′ ≡ set env (place calls x) z →
+  worked-word : (steps ≡ 0 → ⊥) → (z : ℤ) → g ≡ done z tt → (env′ : List ℤ) → env′ ≡ set env (place calls x) z →
       (r : Out) → r ≡ out 0 z next (steps - 1) → left r env′ ≡ worked calls x next steps env g
-  worked-word some z e env′ h r q = sym (worked-is some (word z) e ∙ ap₂ left (sym q) (sym h))
+  worked-word some z e env′ h r q = sym (worked-is some (done z tt) e ∙ ap₂ left (sym q) (sym h))
 
-  worked-stop : (steps ≡ 0 → ⊥) → (n : ℕ) → g ≡ stop n → (r : Out) → r ≡ out n (pos 0) 0 (steps - 1) →
+  worked-stop : (steps ≡ 0 → ⊥) → (n : ℕ) → g ≡ stop n tt → (r : Out) → r ≡ out n (pos 0) 0 (steps - 1) →
       left r env ≡ worked calls x next steps env g
-  worked-stop some n e r q = sym (worked-is some (stop n) e ∙ ap (λ (y : Out). left y env) (sym q))
+  worked-stop some n e r q = sym (worked-is some (stop n tt) e ∙ ap (λ (y : Out). left y env) (sym q))
 
 module _ (calls kind x : ℕ) (a b : Atom) (next steps : ℕ) (env : List ℤ) where
   abbrev operation-here : Given
@@ -79,19 +80,18 @@ module _ (calls kind x : ℕ) (a b : Atom) (next steps : ℕ) (env : List ℤ) w
   operation-spent = worked-spent calls x next steps env operation-here
 
   module _ (some : steps ≡ 0 → ⊥) (v w : ℤ) (ve : v ≡ word-of calls env a) (we : w ≡ word-of calls env b)
-      (e : Exact) (ee : e ≡ checked (exact (operation-of kind) v w)) where
-    operation-is : operation-here ≡ exact-given e
-    operation-is = sym (ap exact-given (ee
-        ∙ ap₂ (λ (y : ℤ) (z : ℤ). checked (exact (operation-of kind) y z)) ve we))
+      (e : Exact) (ee : exact-outcome e ≡ checked (exact (operation-of kind) v w)) where
+    operation-is : operation-here ≡ exact-outcome e
+    operation-is = sym (ee ∙ ap₂ (λ (y : ℤ) (z : ℤ). checked (exact (operation-of kind) y z)) ve we)
 
     pub operation-value : (z : ℤ) → e ≡ Value z → (env′ : List ℤ) → env′ ≡ set env (place calls x) z → (r : Out) →
         r ≡ out 0 z next (steps - 1) → left r env′ ≡ operation-line calls kind x a b next steps env
     operation-value z h =
-        worked-word calls x next steps env operation-here some z (operation-is ∙ ap exact-given h)
+        worked-word calls x next steps env operation-here some z (operation-is ∙ ap exact-outcome h)
 
     pub operation-over : e ≡ Overflow → (r : Out) → r ≡ out 24 (pos 0) 0 (steps - 1) →
         left r env ≡ operation-line calls kind x a b next steps env
-    operation-over h = worked-stop calls x next steps env operation-here some 24 (operation-is ∙ ap exact-given h)
+    operation-over h = worked-stop calls x next steps env operation-here some 24 (operation-is ∙ ap exact-outcome h)
 
 -- ---- index and length
 
@@ -126,7 +126,7 @@ module _ (σ : Store) (calls x : ℕ) (a b : Atom) (next steps : ℕ) (env : Lis
   module _ (some : steps ≡ 0 → ⊥) (v w : ℤ) (ve : v ≡ word-of calls env a) (we : w ≡ word-of calls env b)
       (c : ℕ) (ce : c ≡ cell-of v) where
     index-is : (t : Bool) → inside w (length (elements (cell σ c))) ≡ t →
-        index-here ≡ cond t (word (getD (elements (cell σ c)) (natAbs w) (pos 0))) (stop 23)
+        index-here ≡ cond t (done (getD (elements (cell σ c)) (natAbs w) (pos 0)) tt) (stop 23 tt)
     index-is t e = rw (← ve, ← we, ← ce, e) refl
 
     pub index-off : (inside w (length (elements (cell σ c))) ≡ false) → (r : Out) → r ≡ out 23 (pos 0) 0 (steps - 1)
@@ -148,7 +148,7 @@ module _ (σ : Store) (calls x : ℕ) (a b : Atom) (next steps : ℕ) (env : Lis
           (env′ : List ℤ) → env′ ≡ set env (place calls x) z → (r : Out) → r ≡ out 0 z next (steps - 1) →
           left r env′ ≡ index-line σ calls x a b next steps env
       index-value l h z ze = worked-word calls x next steps env index-here some z
-          (index-is true (inside-in w _ l (omega (arith, h, ne))) ∙ ap word (sym ze))
+          (index-is true (inside-in w _ l (omega (arith, h, ne))) ∙ ap (λ (y : ℤ). done y tt) (sym ze))
 
 module _ (σ : Store) (calls x : ℕ) (a : Atom) (next steps : ℕ) (env : List ℤ) where
   abbrev length-here : Given
@@ -162,21 +162,23 @@ module _ (σ : Store) (calls x : ℕ) (a : Atom) (next steps : ℕ) (env : List 
       z ≡ pos (length (elements (cell σ c))) → (env′ : List ℤ) → env′ ≡ set env (place calls x) z → (r : Out) →
       r ≡ out 0 z next (steps - 1) → left r env′ ≡ length-line σ calls x a next steps env
   length-value some v ve c ce z ze = worked-word calls x next steps env length-here some z
-      (ap word (sym (ze ∙ ap (λ (k : ℕ). pos (length (elements (cell σ k)))) (ce ∙ ap cell-of ve))))
+      (ap (λ (y : ℤ). done y tt) (sym (ze ∙ ap (λ (k : ℕ). pos (length (elements (cell σ k)))) (ce ∙ ap cell-of ve))))
 
 -- ---- a literal
 
 -- the cell that an acquire answers is small
-pub next-small : (slots : List ℤ) (heads : List ℕ) (q : Acquired) (c : ℕ) → q ≡ next-cell (store-of slots heads) →
+pub next-small : (slots : List ℤ) (heads : List ℕ) (q : Acquired) (c : ℕ) →
+    acquired-outcome q ≡ next-cell (store-of slots heads) →
     q ≡ Cell c → c < 256
 unfolding has-free
-next-small slots heads q c e h = let given = cell-given (store-of slots heads) c (sym h ∙ e) in omega (
-  arith,
-  given .1,
-  ltb-true (store-of slots heads .first) (cell-count (store-of slots heads)) (given .0),
-  store-size slots heads,
-  few-cells slots heads,
-)
+next-small slots heads q c e h = let e′ = ap acquired-outcome (sym h) ∙ e in
+    let given = cell-given (store-of slots heads) c e′ in omega (
+      arith,
+      given .1,
+      ltb-true (store-of slots heads .first) (cell-count (store-of slots heads)) (given .0),
+      store-size slots heads,
+      few-cells slots heads,
+    )
 
 module _ (kinds : List ℕ) (operands : List ℤ) (calls x d at steps : ℕ) (m : Memory) where
   pub literal-spent : (r : Out) → steps ≡ 0 → r ≡ out 21 (pos 0) 0 steps →
@@ -185,9 +187,10 @@ module _ (kinds : List ℕ) (operands : List ℤ) (calls x d at steps : ℕ) (m 
   literal-spent r z e = rw (e, z)
 
   module _ (some : steps ≡ 0 → ⊥) (ws : List ℤ) (we : ws ≡ words-at 16 kinds operands calls (m .env) (at + 1))
-      (q : Acquired) (qe : q ≡ next-cell (m .store)) (σ : Store) (σe : σ ≡ acquired d ws (m .store)) where
+      (q : Acquired) (qe : acquired-outcome q ≡ next-cell (m .store)) (σ : Store)
+      (σe : σ ≡ acquired d ws (m .store)) where
     literal-is : literal-line kinds operands calls x d at steps m
-        ≡ with-store σ (given calls x (at + 1 + length ws) (steps - 1) (m .env) (acquired-given q))
+        ≡ with-store σ (given calls x (at + 1 + length ws) (steps - 1) (m .env) (acquired-given (acquired-outcome q)))
     unfolding leaf-done stepping
     literal-is = ap (λ (n : ℕ). literal-line kinds operands calls x d at n m) (less-one steps (omega arith))
         ∙ rw (← we, ← qe, ← σe) refl
@@ -198,14 +201,14 @@ module _ (kinds : List ℕ) (operands : List ℤ) (calls x d at steps : ℕ) (m 
         ran r (memory σ env′) ≡ literal-line kinds operands calls x d at steps m
     literal-cell c h z ze env′ g n ne r p = sym (literal-is
         ∙ ap₂ (λ (y : Given) (k : ℕ). with-store σ (given calls x (at + 1 + k) (steps - 1) (m .env) y))
-        (ap acquired-given h ∙ ap word (sym ze)) (sym ne)
+        (ap (λ (y : Acquired). acquired-given (acquired-outcome y)) h ∙ ap (λ (y : ℤ). done y tt) (sym ze)) (sym ne)
         ∙ ap₂ (λ (y : Out) (l : List ℤ). ran y (memory σ l)) (sym p) (sym g))
 
     pub literal-none : q ≡ NoneFree → (r : Out) → r ≡ out 25 (pos 0) 0 (steps - 1) →
         ran r (memory σ (m .env)) ≡ literal-line kinds operands calls x d at steps m
     literal-none h r p = sym (literal-is
         ∙ ap (λ (y : Acquired). with-store σ (given calls x (at + 1 + length ws) (steps - 1) (m .env)
-        (acquired-given y))) h
+        (acquired-given (acquired-outcome y)))) h
         ∙ ap (λ (y : Out). ran y (memory σ (m .env))) (sym p))
 
 -- ---- any leaf
@@ -314,8 +317,8 @@ module _ (kinds : List ℕ) (operands : List ℤ) (calls at : ℕ) (m : Memory) 
 -- ---- the steps left
 
 given-fewer : (calls x next s : ℕ) (env : List ℤ) (g : Given) → given calls x next s env g .out .steps ≤ suc s
-given-fewer calls x next s env (word z) = omega arith
-given-fewer calls x next s env (stop n) = omega arith
+given-fewer calls x next s env (done z u) = omega arith
+given-fewer calls x next s env (stop n u) = omega arith
 
 pub leaf-fewer : (calls at s : ℕ) (m : Memory) (d : Doing) → leaf-done calls at s m d .out .steps ≤ s
 unfolding leaf-done stepping

@@ -6,16 +6,13 @@ use Prim.Native.Nat.{ℕ, zero, suc, _+_, _-_}
 use lib.IntN.{ℤ, pos, natAbs}
 use lib.Dec.{eqb}
 use lib.ListN.{getD, set, length}
+use Rattle.semantics.specs.Outcome.{Outcome, done, stop}
 use Rattle.semantics.specs.Kinds.{Loop, mapping}
 use Rattle.semantics.specs.Number.{Operation, sum, difference, less, exact, inside}
 use Rattle.semantics.specs.Store.{Store, cell, cell-of, elements, acquired, retained, released, deepest}
 use Rattle.semantics.specs.Words.{store-of}
 use Rattle.words.specs.Words.{checked}
-use Rattle.words.specs.declared.Exact.{Exact}
-use Rattle.words.specs.declared.Exact.the-variants.{Value, Overflow}
 use Rattle.store.specs.Acquiring.{next-cell}
-use Rattle.store.specs.declared.Acquired.{Acquired}
-use Rattle.store.specs.declared.Acquired.the-variants.{Cell, NoneFree}
 use Rattle.machine_code.specs.declared.Atom.{Atom}
 use Rattle.machine_code.specs.declared.Atom.the-variants.{Name}
 use Rattle.machine_code.specs.declared.Line.{Line}
@@ -42,7 +39,7 @@ pub record Left : Type 0 where
   pub env : List ℤ
 
 abbrev pub out : ℕ → ℤ → ℕ → ℕ → Out
-out stop value next steps = record { stop = stop; value = value; next = next; steps = steps }
+out number value next steps = record { stop = number; value = value; next = next; steps = steps }
 
 abbrev pub left : Out → List ℤ → Left
 left r env = record { out = r; env = env }
@@ -76,14 +73,13 @@ Ends w r slots heads env = ran r (memory (store-of slots heads) env) ≡ w
 
 -- ---- small works: each gives a word, or a stop
 
-pub data Given : Type 0 where
-  word : ℤ → Given
-  stop : ℕ → Given
+abbrev pub Given : Type 0
+Given = Outcome (Unit {0}) ℤ
 
 -- what a small work gave, bound to a name, with the code going on at a position
 abbrev pub given : ℕ → ℕ → ℕ → ℕ → List ℤ → Given → Left
-given calls x next s env (word w) = left (out 0 w next s) (bound calls x w env)
-given calls x next s env (stop n) = left (out n (pos 0) 0 s) env
+given calls x next s env (done w u) = left (out 0 w next s) (bound calls x w env)
+given calls x next s env (stop n u) = left (out n (pos 0) 0 s) env
 
 -- a step, and then a small work that leaves the store alone
 unfoldable pub worked : ℕ → ℕ → ℕ → ℕ → List ℤ → Given → Left
@@ -93,26 +89,22 @@ worked calls x next steps env g =
 abbrev pub operation-of : ℕ → Operation
 operation-of kind = cond (eqb kind 4) sum (cond (eqb kind 5) difference less)
 
-abbrev pub exact-given : Exact → Given
-exact-given (Value z) = word z
-exact-given Overflow = stop 24
-
 abbrev pub operation-given : ℕ → ℤ → ℤ → Given
-operation-given kind v w = exact-given (checked (exact (operation-of kind) v w))
+operation-given kind v w = checked (exact (operation-of kind) v w)
 
 -- the words of the array that a word names
 abbrev pub array-of : Store → ℤ → List ℤ
 array-of σ w = elements (cell σ (cell-of w))
 
 abbrev pub index-given : List ℤ → ℤ → Given
-index-given ws w = cond (inside w (length ws)) (word (getD ws (natAbs w) (pos 0))) (stop 23)
+index-given ws w = cond (inside w (length ws)) (done (getD ws (natAbs w) (pos 0)) tt) (stop 23 tt)
 
 abbrev pub length-given : List ℤ → Given
-length-given ws = word (pos (length ws))
+length-given ws = done (pos (length ws)) tt
 
-abbrev pub acquired-given : Acquired → Given
-acquired-given (Cell c) = word (pos c)
-acquired-given NoneFree = stop 25
+abbrev pub acquired-given : Outcome (Unit {0}) ℕ → Given
+acquired-given (done c u) = done (pos c) tt
+acquired-given (stop n u) = stop n tt
 
 -- ---- the lines
 

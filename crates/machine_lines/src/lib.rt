@@ -10,7 +10,7 @@ ghost use lib.IntN.{pos};
 ghost use lib.ListN.{length, set};
 ghost use Rattle.semantics.specs.Number.{exact};
 ghost use Rattle.semantics.specs.Words.{store-of};
-ghost use Rattle.words.specs.Words.{checked};
+ghost use Rattle.words.specs.Words.{exact-outcome, checked};
 ghost use Rattle.machine_lines.specs.Frames.{place, word-of, words-at, Passed, Appended};
 ghost use Rattle.machine_lines.specs.Frames.{branch-start, branch-end};
 ghost use Rattle.machine_lines.specs.Lines.{out, left, memory, operation-of, operation-line, index-line};
@@ -127,7 +127,7 @@ pub fn branch_end(table: &[u8], guard: i64, next: usize) -> usize
 
 // The exact result of an operation, if it is in 64 bits.
 fn operate(kind: u8, a: i64, b: i64) -> Exact
-    ensures { λ r. ⌜ r ≡ checked (exact (operation-of kind) a b) ⌝ }
+    ensures { λ r. ⌜ exact-outcome r ≡ checked (exact (operation-of kind) a b) ⌝ }
 {
     if kind == 4 {
         return words::exact_sum(a, b);

@@ -5,11 +5,10 @@ use Prim.Native.Nat.{ℕ, zero, suc, _-_}
 use lib.IntN.{ℤ, pos}
 use lib.Dec.{eqb}
 use lib.ListN.{replicate}
+use Rattle.semantics.specs.Outcome.{Outcome, done, stop}
 use Rattle.semantics.specs.Store.{Store, cell-of, acquired, retained, released, deepest, with-totals, relinked}
 use Rattle.semantics.specs.Machine.{Delivered}
 use Rattle.store.specs.Acquiring.{next-cell}
-use Rattle.store.specs.declared.Acquired.{Acquired}
-use Rattle.store.specs.declared.Acquired.the-variants.{Cell, NoneFree}
 use Rattle.machine_code.specs.Reading.{start-in}
 use Rattle.machine_lines.specs.declared.Out.{Out}
 use Rattle.machine_lines.specs.Frames.{place, put-all}
@@ -50,9 +49,9 @@ main-on c d old k budget σ =
     finished d old (tree-on 4096 (call-on 31 c) c 31 0 (start-in (c .table) 0) budget
     (memory (retained-totals d old σ) (main-frame old (pos k))))
 
-abbrev pub attempt-with : Code → ℕ → ℤ → ℕ → Store → Acquired → Tried
-attempt-with c d old budget σ (Cell k) = main-on c d old k budget σ
-attempt-with c d old budget σ NoneFree = tried (out 25 (pos 0) 0 budget) σ
+abbrev pub attempt-with : Code → ℕ → ℤ → ℕ → Store → Outcome (Unit {0}) ℕ → Tried
+attempt-with c d old budget σ (done k u) = main-on c d old k budget σ
+attempt-with c d old budget σ (stop number u) = tried (out number (pos 0) 0 budget) σ
 
 unfoldable pub attempt-on : Code → List ℤ → ℕ → ℕ → Store → Tried
 attempt-on c readings d budget σ =

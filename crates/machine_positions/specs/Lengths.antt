@@ -6,6 +6,7 @@ use Prim.Native.Nat.{ℕ, zero, suc, _+_, _-_}
 use lib.IntN.{ℤ}
 use lib.Dec.{eqb, ltb}
 use lib.ListN.{length, set, length-set}
+use Rattle.semantics.specs.Outcome.{done, stop}
 use Rattle.semantics.specs.Kinds.{Loop, mapping, later-parts}
 use Rattle.semantics.specs.Machine.{argument, looped-over}
 use Rattle.semantics.specs.Store.{Store, cell-of, acquired}
@@ -15,7 +16,7 @@ use Rattle.machine_code.specs.declared.Atom.{Atom}
 use Rattle.machine_code.specs.declared.Line.{Line}
 use Rattle.machine_lines.specs.declared.Out.{Out}
 use Rattle.machine_lines.specs.Frames.{place, word-of, words-at, put-all, Passed, branch-start, branch-end}
-use Rattle.machine_lines.specs.Lines.{Memory, memory, Ran, with-store, stepping, Given, word, stop, given, array-of}
+use Rattle.machine_lines.specs.Lines.{Memory, memory, Ran, with-store, stepping, Given, given, array-of}
 use Rattle.machine_lines.specs.Lines.{acquired-given, Doing, giving, changing, ending, calling, branching, looping}
 use Rattle.machine_lines.specs.Lines.{doing, leaf-done}
 use Rattle.machine_positions.specs.Machine.{Work, Callee, Code, and-then, binding, if-line, call-line, looped}
@@ -50,8 +51,8 @@ then-keeps m w f k g = either m (f w) w (g w k) k (eqb (w .out .stop) 0)
 
 given-keeps : (calls x next s : ℕ) (σ : Store) (m : Memory) (g : Given) →
     Keeps m (with-store σ (given calls x next s (m .env) g))
-given-keeps calls x next s σ m (word w) = length-set (m .env) (place calls x) w
-given-keeps calls x next s σ m (stop n) = refl
+given-keeps calls x next s σ m (done w u) = length-set (m .env) (place calls x) w
+given-keeps calls x next s σ m (stop n u) = refl
 
 leaf-keeps : (calls at s : ℕ) (m : Memory) (d : Doing) → Keeps m (leaf-done calls at s m d)
 unfolding leaf-done stepping
@@ -71,8 +72,8 @@ bound-all-keeps calls (p ∷ ps) ws env =
     bound-all-keeps calls ps (later-parts ws) _ ∙ length-set env (place calls p) (argument ws 0)
 
 gave-keeps : (s : ℕ) (m : Memory) (g : Given) → Keeps m (gave s m g)
-gave-keeps s m (word w) = refl
-gave-keeps s m (stop n) = refl
+gave-keeps s m (done w u) = refl
+gave-keeps s m (stop n u) = refl
 
 carry-first-keeps : (k : Loop) (d : ℕ) (ws : List ℤ) (s : ℕ) (m : Memory) → Keeps m (carry-first k d ws s m)
 carry-first-keeps mapping d ws s m =

@@ -7,11 +7,12 @@ use lib.IntN.{ℤ, pos}
 use lib.ListN.{set, length}
 use denote.Enum.Declared.{tagOf}
 use types.Run.{OneOf, miss}
+use Rattle.semantics.specs.Outcome.{Outcome}
 use Rattle.semantics.specs.Kinds.{Loop, mapping}
 use Rattle.semantics.specs.Machine.{looped-over}
 use Rattle.semantics.specs.Store.{Store, cell, cell-of, elements, acquired}
 use Rattle.semantics.specs.Words.{store-of}
-use Rattle.store.specs.Acquiring.{next-cell}
+use Rattle.store.specs.Acquiring.{acquired-outcome, next-cell}
 use Rattle.store.specs.declared.Acquired.{Acquired}
 use Rattle.store.specs.declared.Acquired.the-variants.{Cell, NoneFree}
 use Rattle.machine_code.specs.Reading.{depth-in, start-in, end-in}
@@ -205,20 +206,20 @@ module _ (W : Work) (c : Code) (calls f x : ℕ) (k : Loop) (ps : List ℕ) (us 
           (bound-result r calls x _ next sl he en en′ q ne ee qe) (ap (λ (y : Out). y .steps) qe)
 
 -- a map carries a new cell into its first pass
-module _ (d e : ℕ) (de : d ≡ e) (ws : List ℤ) (s : ℕ) (σ : Store) (env : List ℤ) (q : Acquired) (qe : q ≡ next-cell σ)
-    (τ : Store) (τe : τ ≡ acquired d [] σ) where
-  map-first : carry-first mapping e ws s (memory σ env) ≡ gave s (memory τ env) (acquired-given q)
-  map-first = ap₂ (λ (y : Store) (z : Acquired). gave s (memory y env) (acquired-given z))
+module _ (d e : ℕ) (de : d ≡ e) (ws : List ℤ) (s : ℕ) (σ : Store) (env : List ℤ) (q : Acquired)
+    (qe : acquired-outcome q ≡ next-cell σ) (τ : Store) (τe : τ ≡ acquired d [] σ) where
+  map-first : carry-first mapping e ws s (memory σ env) ≡ gave s (memory τ env) (acquired-given (acquired-outcome q))
+  map-first = ap₂ (λ (y : Store) (z : Outcome (Unit {0}) ℕ). gave s (memory y env) (acquired-given z))
       (sym (τe ∙ ap (λ (n : ℕ). acquired n [] σ) de)) (sym qe)
 
   pub map-cell : (k : ℕ) → q ≡ Cell k → (z : ℤ) → z ≡ pos k →
       carry-first mapping e ws s (memory σ env) ≡ ran (out 0 z 0 s) (memory τ env)
-  map-cell k h z ze = map-first ∙ ap (λ (y : Acquired). gave s (memory τ env) (acquired-given y)) h
+  map-cell k h z ze = map-first ∙ ap (λ (y : Acquired). gave s (memory τ env) (acquired-given (acquired-outcome y))) h
       ∙ ap (λ (y : ℤ). ran (out 0 y 0 s) (memory τ env)) (sym ze)
 
   pub map-none : q ≡ NoneFree → (r : Out) → r ≡ out 25 (pos 0) 0 s →
       carry-first mapping e ws s (memory σ env) ≡ ran r (memory τ env)
-  map-none h r re = map-first ∙ ap (λ (y : Acquired). gave s (memory τ env) (acquired-given y)) h
+  map-none h r re = map-first ∙ ap (λ (y : Acquired). gave s (memory τ env) (acquired-given (acquired-outcome y))) h
       ∙ ap (λ (y : Out). ran y (memory τ env)) (sym re)
 
 -- ---- which line

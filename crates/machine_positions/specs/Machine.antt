@@ -6,6 +6,7 @@ use Prim.Native.Nat.{ℕ, zero, suc, _+_, _-_, _≤_}
 use lib.IntN.{ℤ, pos}
 use lib.Dec.{ltb, eqb}
 use lib.ListN.{getD, length}
+use Rattle.semantics.specs.Outcome.{done, stop}
 use Rattle.semantics.specs.Kinds.{Loop, mapping, later-parts}
 use Rattle.semantics.specs.Machine.{argument, pass-words, looped-over}
 use Rattle.semantics.specs.Store.{cell, cell-of, elements, acquired, appended}
@@ -18,7 +19,7 @@ use Rattle.machine_code.specs.declared.Line.the-variants as L
 use Rattle.machine_lines.specs.declared.Out.{Out}
 use Rattle.machine_lines.specs.Frames.{place, word-of, words-at, put-all, branch-start, branch-end}
 use Rattle.machine_lines.specs.Lines.{Memory, memory, Ran, ran, out, halted, bound, goes-on, stepping, array-of}
-use Rattle.machine_lines.specs.Lines.{Given, word, stop, acquired-given, Doing, giving, changing, ending, calling}
+use Rattle.machine_lines.specs.Lines.{Given, acquired-given, Doing, giving, changing, ending, calling}
 use Rattle.machine_lines.specs.Lines.{branching, looping, doing, leaf-done}
 
 -- the two code arrays, and the table of the functions and of the positions after trees
@@ -94,8 +95,8 @@ entered l v i m = bound-all (l .calls) (l .names)
 
 -- a small work whose word is not bound
 abbrev pub gave : ℕ → Memory → Given → Ran
-gave s m (word w) = ran (out 0 w 0 s) m
-gave s m (stop n) = halted n s m
+gave s m (done w u) = ran (out 0 w 0 s) m
+gave s m (stop n u) = halted n s m
 
 -- what is carried into the first pass: a new cell of element depth d for the result
 abbrev pub carry-first : Loop → ℕ → List ℤ → ℕ → Memory → Ran

@@ -1,20 +1,22 @@
 -- The loop over the lines of a tree.
 use mathlib.Core.Path.{_≡_, refl, sym, ap, _∙_}
-use mathlib.Core.Bool.{Bool, true, false, cond}
-use mathlib.Core.List.{List}
-use mathlib.Core.Logic.{_⊎_, inl, inr}
-use Prim.Native.Nat.{ℕ, zero, suc, _+_, _-_, _/_, _%_, _<_, _≤_}
+use mathlib.Core.Bool.{false}
+use mathlib.Core.List.{List, [], _∷_}
+use mathlib.Core.Logic.{_⊎_, inl, inr, ⊎-elim}
+use Prim.Native.Nat.{ℕ, zero, suc, _+_, _-_, _<_, _≤_}
 use native.Mathlib.Omega.{arith}
 use lib.IntN.{ℤ, pos}
-use lib.Dec.{eqb}
-use lib.ListN.{length, getD}
-use borrow.Author.Tests.{lt-ltb, le-ltb, ne-eqb}
+use lib.ListN.{length}
+use denote.Enum.Declared.{tagOf}
+use types.Run.{OneOf}
+use Rattle.machine_code.proofs.Line.{the-type}
+use borrow.Author.Tests.{lt-ltb, le-ltb}
 use Rattle.semantics.specs.Words.{store-of}
-use Rattle.machine_code.specs.Reading.{natural, atom-at, line-at}
+use Rattle.machine_code.specs.Reading.{line-at}
 use Rattle.machine_code.specs.declared.Atom.{Atom}
 use Rattle.machine_code.specs.declared.Line.{Line}
 use Rattle.machine_code.specs.declared.Line.the-variants as L
-use Rattle.machine_code.proofs.Reading.{less-one, line-here}
+use Rattle.machine_code.proofs.Reading.{less-one}
 use Rattle.machine_lines.specs.declared.Out.{Out}
 use Rattle.machine_lines.specs.Frames.{word-of}
 use Rattle.machine_lines.specs.Lines.{Memory, memory, Ran, ran, out, halted}
@@ -22,47 +24,20 @@ use Rattle.machine_positions.specs.Machine.{Work, Callee, Code, and-then
 use Rattle.machine_positions.specs.Machine.{tree-from, tree-on, Ended}
 use Rattle.machine_positions.specs.Parts.{then-go, Sized, part-stops}
 
--- an end line, by its kind
-pub end-here : (kinds : List ℕ) (operands : List ℤ) (at : ℕ) (a : Atom) → getD kinds at 0 ≡ 16 →
-    a ≡ atom-at kinds operands (at + 1) → L.End a ≡ line-at kinds operands at
-end-here kinds operands at a e h = line-here kinds operands at 16 _ a _ (sym e) refl h refl
-
--- a line of another kind is no end
-pub not-end : (kinds : List ℕ) (operands : List ℤ) (at : ℕ) (l : Line) → (getD kinds at 0 ≡ 16 → ⊥) →
-    l ≡ line-at kinds operands at → is-end l ≡ false
-unfolding line-at
-not-end kinds operands at l f e = ap is-end e ∙ ap is-end
-    (ap (named (getD kinds at 0)) (ne-eqb (getD kinds at 0) 16 f)) ∙ others (getD kinds at 0)
-  where
-    n : ℕ
-    n = natural (getD operands at (pos 0))
-
-    a : Atom
-    a = atom-at kinds operands (at + 1)
-
-    b : Atom
-    b = atom-at kinds operands (at + 2)
-
-    -- the line, by whether its kind is that of an end
-    named : ℕ → Bool → Line
-    named kind t = cond (eqb kind 8) (L.Call (n % 256) (n / 256 % 256))
-        (cond (eqb kind 9) (L.Literal (n % 256) (n / 65536 % 256))
-        (cond (eqb kind 10) (L.Index (n % 256) a b)
-        (cond (eqb kind 11) (L.Length (n % 256) a)
-        (cond (eqb kind 12) (L.If (n % 256) a)
-        (cond (eqb kind 13) (L.Map (n % 256) (n / 256 % 256) a)
-        (cond (eqb kind 14) (L.Retain (n % 256))
-        (cond (eqb kind 15) (L.Release (n % 256))
-        (cond t (L.End a) (L.Operation kind (n % 256) a b)))))))))
-
-    either : (t : Bool) (x y : Line) → is-end x ≡ false → is-end y ≡ false → is-end (cond t x y) ≡ false
-    either true x y p q = p
-    either false x y p q = q
-
-    others : (kind : ℕ) → is-end (named kind false) ≡ false
-    others kind = either (eqb kind 8) _ _ refl (either (eqb kind 9) _ _ refl (either (eqb kind 10) _ _ refl
-        (either (eqb kind 11) _ _ refl (either (eqb kind 12) _ _ refl (either (eqb kind 13) _ _ refl
-        (either (eqb kind 14) _ _ refl (either (eqb kind 15) _ _ refl refl)))))))
+-- a line of another case is no end
+pub not-end : (l : Line) → OneOf (0 ∷ 1 ∷ 2 ∷ 3 ∷ 4 ∷ 5 ∷ 6 ∷ 7 ∷ 8 ∷ []) (tagOf the-type l) → is-end l ≡ false
+not-end (L.Operation kind x a b) h = refl
+not-end (L.Call x g) h = refl
+not-end (L.Literal x d) h = refl
+not-end (L.Index x a b) h = refl
+not-end (L.Length x a) h = refl
+not-end (L.If x g) h = refl
+not-end (L.Map x p a) h = refl
+not-end (L.Retain x) h = refl
+not-end (L.Release x) h = refl
+not-end (L.End a) h = absurd (⊎-elim (λ z. omega arith) (⊎-elim (λ z. omega arith) (⊎-elim (λ z. omega arith)
+    (⊎-elim (λ z. omega arith) (⊎-elim (λ z. omega arith) (⊎-elim (λ z. omega arith) (⊎-elim (λ z. omega arith)
+    (⊎-elim (λ z. omega arith) (λ z. omega arith)))))))) h)
 
 tree-none : (n : ℕ) (C : Callee) (c : Code) (calls f at s : ℕ) (m : Memory) → n ≡ 0 → tree-on n C c calls f at s m ≡
     halted 99 s m

@@ -8,6 +8,7 @@ use lib.IntN.{ℤ, pos}
 use lib.ListN.{length, getD, set, take, drop, replicate, length-append, length-replicate, length-set, length-drop}
 use lib.Seq.{drop-cons, set-at, take-suc, append-snoc, take-all, getD-set-same, drop-set-lt, drop-nil, length-take-le}
 use borrow.Author.Tests.{le-leb, lt-leb}
+use Rattle.semantics.specs.Outcome.{done, stop}
 use Rattle.semantics.specs.Syntax.{Script}
 use Rattle.semantics.specs.Code.{Row}
 use Rattle.semantics.specs.Annotate.{code}
@@ -15,8 +16,6 @@ use Rattle.semantics.specs.Calls.{room, code-fits}
 use Rattle.normal_write.specs.Wrote.{backed, kinds-of, operands-of, Wrote}
 use Rattle.normal_write.proofs.Rows.{map-length}
 use Rattle.normal.specs.Left.{Left, left-of}
-use Rattle.normal.specs.declared.Laid.{Laid}
-use Rattle.normal.specs.declared.Laid.the-variants.{Lines, TooLong}
 
 -- what was written backwards, at the end
 drop-set : {A : Type 0} (l : List A) (j : ℕ) (v : A) → j < length l → drop j (set l j v) ≡ v ∷ drop (suc j) l
@@ -114,16 +113,16 @@ module _ (fs : Script) (k : List ℕ) (o : List ℤ) (at : ℕ) {k₁ : List ℕ
       ∙ ap (λ l. operands-of (code fs) ++ l) (drop-none (replicate 4097 (pos 0)) 4097
       (omega (arith, length-replicate 4097 (pos 0)))) ∙ append-nil (operands-of (code fs)))
 
-  pub refused-is : room k o < length (code fs) → (r : Laid) (k₂ : List ℕ) (o₂ : List ℤ) →
-      (r ≡ TooLong) × ((k₂ ≡ replicate (length k) 0) × (o₂ ≡ replicate (length o) (pos 0))) →
-      _≡_ {A = Left} (record { answer = r; kinds = k₂; operands = o₂ }) (left-of fs k o)
+  pub refused-is : room k o < length (code fs) → (k₂ : List ℕ) (o₂ : List ℤ) →
+      (k₂ ≡ replicate (length k) 0) × (o₂ ≡ replicate (length o) (pos 0)) →
+      _≡_ {A = Left} (record { answer = stop 9 tt; kinds = k₂; operands = o₂ }) (left-of fs k o)
   unfolding left-of code-fits
-  refused-is e r k₂ o₂ h = rw (lt-leb (length (code fs)) (room k o) e, h .0, h .1 .0, h .1 .1)
+  refused-is e k₂ o₂ h = rw (lt-leb (length (code fs)) (room k o) e, h .0, h .1)
 
   pub all-fits : (at ≡ 0 → ⊥) → 4097 - at ≤ length k → 4097 - at ≤ length o → (k₂ : List ℕ) (o₂ : List ℤ) →
       k₂ ≡ drop at k₁ ++ replicate (length k - (length k₁ - at)) 0 → o₂ ≡ drop at o₁ ++ replicate
       (length o - (length o₁ - at)) (pos 0) →
-      _≡_ {A = Left} (record { answer = Lines (4097 - at); kinds = k₂; operands = o₂ }) (left-of fs k o)
+      _≡_ {A = Left} (record { answer = done (4097 - at) tt; kinds = k₂; operands = o₂ }) (left-of fs k o)
   unfolding left-of code-fits
   all-fits f g h k₂ o₂ x y =
       rw (

@@ -12,25 +12,29 @@ use Rattle.semantics.specs.Calls.{room, code-fits, code-kinds, code-operands}
 use Rattle.normal.specs.declared.Laid.{Laid}
 use Rattle.normal.specs.declared.Laid.the-variants.{Lines, TooLong}
 
+-- document 01's number and value for each case: how many lines, or 9
+abbrev pub laid-outcome : Laid → Outcome (Unit {0}) ℕ
+laid-outcome (Lines n) = done n tt
+laid-outcome TooLong = stop 9 tt
+
 pub record Left : Type 0 where
-  pub answer : Laid
+  pub answer : Outcome (Unit {0}) ℕ
   pub kinds : List ℕ
   pub operands : List ℤ
 
 -- all zero, where the code does not fit
 abbrev pub cleared : List ℕ → List ℤ → Left
 cleared kinds operands = record {
-  answer = TooLong;
+  answer = stop 9 tt;
   kinds = replicate (length kinds) 0;
-  operands = replicate
-      (length operands) (pos 0);
+  operands = replicate (length operands) (pos 0);
 }
 
--- the code and zeros past it, or number 9's case
+-- the code and zeros past it, or 9
 unfoldable pub left-of : Script → List ℕ → List ℤ → Left
 left-of fs kinds operands =
     cond (code-fits fs (room kinds operands))
-    (record { answer = Lines (length (code fs)); kinds = code-kinds fs kinds; operands = code-operands fs operands })
+    (record { answer = done (length (code fs)) tt; kinds = code-kinds fs kinds; operands = code-operands fs operands })
     (cleared kinds operands)
 
 abbrev pub Leaves : Outcome ℕ Script → List ℕ → List ℤ → Left → Type 0

@@ -10,8 +10,7 @@ ghost use Rattle.semantics.specs.Annotate.{code};
 ghost use Rattle.normal_write.specs.Wrote.{Wrote};
 ghost use Rattle.normal_script.specs.Script.{Translatable};
 ghost use Rattle.normal_script.specs.Depths.{Depths-by};
-ghost use Rattle.normal.specs.Left.{left-of, Leaves};
-ghost use Rattle.normal.specs.declared.Laid.the-variants.{TooLong};
+ghost use Rattle.normal.specs.Left.{laid-outcome, left-of, Leaves};
 
 // How many lines the code has, or that they do not fit.
 pub enum Laid {
@@ -63,16 +62,15 @@ fn move_ops(to: &mut [i64], from: &[i64], at: usize)
     }
 }
 
-// Both arrays all zero.
-pub fn refuse(ks: &mut [u8], os: &mut [i64]) -> Laid
-    ensures { λ r. ⌜ (r ≡ TooLong) × ((now (ks .exit) ≡ replicate (length (now (ks .entry))) 0)
-        × (now (os .exit) ≡ replicate (length (now (os .entry))) (pos 0))) ⌝ }
+// Makes both arrays all zero, as every refusal leaves them.
+pub fn refuse(ks: &mut [u8], os: &mut [i64])
+    ensures { λ _. ⌜ (now (ks .exit) ≡ replicate (length (now (ks .entry))) 0)
+        × (now (os .exit) ≡ replicate (length (now (os .entry))) (pos 0)) ⌝ }
 {
     let zk = [0u8; 1];
     let zo = [0i64; 1];
     move_kinds(ks, &zk, 1);
     move_ops(os, &zo, 1);
-    Laid::TooLong
 }
 
 // Moves the code whose kinds and operands stand from `at` to the end of two arrays to the front of the lent ones, if it
@@ -81,18 +79,21 @@ fn lay_code(written: &[u8], numbers: &[i64], at: usize, ks: &mut [u8], os: &mut 
     requires { ⌜ (at ≤ 4097) × (length (now written) ≡ 4097) × (length (now numbers) ≡ 4097) ⌝ }
     ensures { λ r. ⌜ ((fs : Script) →
         Wrote (replicate 4097 0) (replicate 4097 (pos 0)) (now (written .entry)) (now (numbers .entry)) 4097 at (code fs) →
-        record { answer = r; kinds = now (ks .exit); operands = now (os .exit) }
+        record { answer = laid-outcome r; kinds = now (ks .exit); operands = now (os .exit) }
         ≡ left-of fs (now (ks .entry)) (now (os .entry))) ⌝ }
 {
     if at == 0 {
-        return refuse(ks, os);
+        refuse(ks, os);
+        return Laid::TooLong;
     }
     let n = 4097 - at;
     if ks.len() < n {
-        return refuse(ks, os);
+        refuse(ks, os);
+        return Laid::TooLong;
     }
     if os.len() < n {
-        return refuse(ks, os);
+        refuse(ks, os);
+        return Laid::TooLong;
     }
     move_kinds(ks, written, at);
     move_ops(os, numbers, at);
@@ -112,7 +113,7 @@ pub fn translate_accepted(
     requires { ⌜ Translatable (now kinds) (now operands) functions ⌝ }
     ensures { λ r. ⌜ Leaves (script (now (kinds .entry)) (now (operands .entry)) functions 0)
         (now (ks .entry)) (now (os .entry))
-        (record { answer = r; kinds = now (ks .exit); operands = now (os .exit) }) ⌝ }
+        (record { answer = laid-outcome r; kinds = now (ks .exit); operands = now (os .exit) }) ⌝ }
     ensures { λ _. ⌜ Depths-by (script (now (kinds .entry)) (now (operands .entry)) functions 0)
         (now (table .entry)) (now (table .exit)) ⌝ }
 {

@@ -125,7 +125,7 @@ pub fn function_code(
     );
     let e = normal_uses::less_two(tree.p);
     let mut table = [0u8; 16384];
-    let effect = normal_uses::note_tree(operands, &rows, &notes, &mut table, e, 65);
+    normal_uses::note_tree(operands, &rows, &notes, &mut table, e, 65);
     let none = normal_code::none();
     let walked = normal_walk::walk_tree(
         ks,

@@ -12,8 +12,8 @@ use Rattle.semantics.specs.Kinds.{Leaf, operation, call, literal, index, length
 use Rattle.semantics.specs.Syntax.{Expr, number, name, let-in, leaf, if-else, loop, Exprs, none, more, size, sizes}
 use Rattle.semantics.specs.Code as C
 use Rattle.semantics.specs.File as S
-use Rattle.semantics.specs.File.{at-part, node-at, node-of, part-count, low-limits, high-limits, leaf-of, shape-of}
-use Rattle.script_read.specs.Told.{Parts, told-node}
+use Rattle.semantics.specs.File.{at-part, look, node-at, node-of, part-count, low-limits, high-limits, leaf-of, shape-of}
+use Rattle.script_read.specs.Told.{Parts, node-outcome, parted}
 use Rattle.script_read.specs.declared.Node.{Node}
 use Rattle.script_read.specs.declared.Node.the-variants.{WrongKind, WrongOperand}
 use Rattle.script_read.proofs.Nodes.{Seen, HeadFits, head-fits, unfit}
@@ -151,7 +151,7 @@ module _ (k w : List ℕ) (d p : ℕ) (some : d ≡ 0 → ⊥) where
         ∙ rw (e, s .same-kind, s .same-low, s .same-high)
 
   -- where no node fits stands the number 0
-  pub wrong-tree : (n : Node) → n ≡ told-node (node-at k w at-part p) → (n ≡ WrongKind) ⊎ (n ≡ WrongOperand) →
+  pub wrong-tree : (n : Node) → node-outcome n p ≡ parted (look k w at-part p) → (n ≡ WrongKind) ⊎ (n ≡ WrongOperand) →
       tree-at k w d p ≡ number (pos 0)
   wrong-tree n e f = ⊎-elim (tree-there S.wrong-kind) (tree-there S.wrong-operand) (unfit k w at-part p n e f .is)
 

@@ -20,7 +20,7 @@ use Rattle.script_names.proofs.Tree.{names-script}
 use Rattle.script_names.proofs.Starts.{names-walk}
 use Rattle.script_types.specs.Functions.{types-script}
 use Rattle.script_types.proofs.Script.{types-faults}
-use Rattle.script_count.specs.Count.{crowd, told-crowd}
+use Rattle.script_count.specs.Count.{crowd, counted-outcome, crowd-outcome}
 use Rattle.script_count.specs.declared.Counted.{Counted}
 use Rattle.script_count.specs.declared.Counted.the-variants.{Within, Over}
 use Rattle.script_count.proofs.Tree.{count-all}
@@ -102,27 +102,30 @@ module _ {k w : List ℕ} {f : ℕ} (a : Readable k w f) where
             go (n ∷ l) q v h = cc
 
         -- after depths that all match
-        module _ (s₂ : ℕ) (g₂ : r₂ ≡ R.Next s₂) (r₃ : Counted) (e₃ : r₃ ≡ told-crowd (crowd k (length k) 0 0 0)) where
+        module _ (s₂ : ℕ) (g₂ : r₂ ≡ R.Next s₂) (r₃ : Counted) (e₃ : counted-outcome r₃
+            ≡ crowd-outcome (crowd k (length k) 0 0 0)) where
           all-match : type-faults (a .tree) ≡ []
           all-match = found-none 7 (type-faults (a .tree)) (types-answer .0) s₂ (sym g₂ ∙ types-answer .1)
 
-          count-answer : r₃ ≡ told-crowd (too-many-names (a .tree))
-          count-answer = e₃ ∙ ap told-crowd (count-all k w (a .tree) (written .0) (omega (arith, written .2)))
+          count-answer : counted-outcome r₃ ≡ crowd-outcome (too-many-names (a .tree))
+          count-answer = e₃ ∙ ap crowd-outcome (count-all k w (a .tree) (written .0) (omega (arith, written .2)))
 
           pub crowd-found : (p : ℕ) → r₃ ≡ Over p → Says (Refused 8 p)
           crowd-found p h =
-              says (Refused 8 p) (rw (all-known, all-match) (go (too-many-names (a .tree)) (sym h ∙ count-answer)))
+              says (Refused 8 p) (rw (all-known, all-match) (go (too-many-names (a .tree))
+              (ap counted-outcome (sym h) ∙ count-answer)))
             where
-              go : (o : Option ℕ) → Over p ≡ told-crowd o →
+              go : (o : Option ℕ) → counted-outcome (Over p) ≡ crowd-outcome o →
                   Refused 8 p ≡ refused-by 8 (listed o) (Accepted f (length k))
               go none h = let z : _≡_ {A = ℕ} 0 1 = cc in absurd (omega arith)
               go (some q) h = cc
 
           pub accepted : r₃ ≡ Within → Says (Accepted f (length k))
           accepted h =
-              says (Accepted f (length k)) (rw (all-known, all-match) (go (too-many-names (a .tree)) (sym h ∙ count-answer)))
+              says (Accepted f (length k)) (rw (all-known, all-match) (go (too-many-names (a .tree))
+              (ap counted-outcome (sym h) ∙ count-answer)))
             where
-              go : (o : Option ℕ) → Within ≡ told-crowd o →
+              go : (o : Option ℕ) → counted-outcome Within ≡ crowd-outcome o →
                   Accepted f (length k) ≡ refused-by 8 (listed o) (Accepted f (length k))
               go none h = refl
               go (some q) h = let z : _≡_ {A = ℕ} 0 1 = cc in absurd (omega arith)

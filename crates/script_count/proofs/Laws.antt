@@ -8,9 +8,9 @@ use native.Mathlib.Omega.{arith}
 use lib.Dec.{eqb, ltb}
 use lib.ListN.{length, getD}
 use borrow.Author.Tests.{ltb-true, lt-ltb, le-ltb}
+use Rattle.semantics.specs.Outcome.{done, stop}
 use Rattle.script_count.specs.Count.{new-names, crowd-ends, start-after, count-after, counted-on, crowd}
-use Rattle.script_count.specs.Count.{told-crowd}
-use Rattle.script_count.specs.declared.Counted.the-variants.{Within, Over}
+use Rattle.script_count.specs.Count.{crowd-outcome}
 
 -- how far a count is over 256 makes no difference
 over : (k : List ℕ) (n p s c d : ℕ) → 256 < c → 256 < d → crowd k n p s c ≡ crowd k n p s d
@@ -58,7 +58,7 @@ module _ {k : List ℕ} {o : Option ℕ} {p s c : ℕ} (v : Passing k o p s c) w
   unfolding crowd
   turn h = let e : length k - p ≡ suc (length k - (p + 1)) = omega arith in ap (λ (n : ℕ). crowd k n p s c) e
 
-  pub pass-stops : p < length k → crowd-ends (getD k p 0) c ≡ true → Over s ≡ told-crowd o
+  pub pass-stops : p < length k → crowd-ends (getD k p 0) c ≡ true → stop 8 s ≡ crowd-outcome o
   pass-stops h e = rw (v .same, turn h, e)
 
   pub pass-goes : p < length k → crowd-ends (getD k p 0) c ≡ false → (s′ c′ : ℕ) →
@@ -72,8 +72,8 @@ module _ {k : List ℕ} {o : Option ℕ} {p s c : ℕ} (v : Passing k o p s c) w
   unfolding crowd
   ended h = let e : length k - p ≡ 0 = omega arith in v .same ∙ rw e
 
-  pub pass-over : length k ≤ p → 256 < c → Over s ≡ told-crowd o
+  pub pass-over : length k ≤ p → 256 < c → stop 8 s ≡ crowd-outcome o
   pass-over h l = rw (ended h, lt-ltb 256 c l)
 
-  pub pass-within : length k ≤ p → c ≤ 256 → Within ≡ told-crowd o
+  pub pass-within : length k ≤ p → c ≤ 256 → done tt 0 ≡ crowd-outcome o
   pass-within h l = rw (ended h, le-ltb 256 c l)

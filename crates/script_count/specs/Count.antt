@@ -5,6 +5,7 @@ use mathlib.Core.Option.{Option, none, some}
 use Prim.Native.Nat.{ℕ, zero, suc, _+_}
 use lib.Dec.{eqb, ltb}
 use lib.ListN.{getD}
+use Rattle.semantics.specs.Outcome.{Outcome, done, stop}
 use Rattle.script_count.specs.declared.Counted.{Counted}
 use Rattle.script_count.specs.declared.Counted.the-variants.{Within, Over}
 
@@ -33,6 +34,12 @@ crowd kinds (suc n) p start count =
     let kind = getD kinds p 0 in
     cond (crowd-ends kind count) (some start) (crowd kinds n (p + 1) (start-after kind p start) (count-after kind count))
 
-abbrev pub told-crowd : Option ℕ → Counted
-told-crowd (some p) = Over p
-told-crowd none = Within
+-- document 01's number and node for each case: none, or 8 with the function's node
+abbrev pub counted-outcome : Counted → Outcome ℕ (Unit {0})
+counted-outcome Within = done tt 0
+counted-outcome (Over p) = stop 8 p
+
+-- 8 with the node of a function that has too many names, if there is one
+abbrev pub crowd-outcome : Option ℕ → Outcome ℕ (Unit {0})
+crowd-outcome (some p) = stop 8 p
+crowd-outcome none = done tt 0

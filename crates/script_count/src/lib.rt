@@ -2,7 +2,8 @@
 ghost use mathlib.Core.Path.{_≡_};
 ghost use Prim.Native.Nat.{_+_, _<_};
 ghost use lib.ListN.{length, getD};
-ghost use Rattle.script_count.specs.Count.{new-names, crowd-ends, start-after, counted-on, crowd, told-crowd};
+ghost use Rattle.script_count.specs.Count.{new-names, crowd-ends, start-after, counted-on, crowd};
+ghost use Rattle.script_count.specs.Count.{counted-outcome, crowd-outcome};
 
 // The node of a function with too many names, if there is one.
 pub enum Counted {
@@ -52,7 +53,8 @@ fn count_after(kind: u8, count: u64) -> u64
 
 // The first function with too many new names.
 pub fn count_script(kinds: &[u8]) -> Counted
-    ensures { λ r. ⌜ r ≡ told-crowd (crowd (now (kinds .entry)) (length (now (kinds .entry))) 0 0 0) ⌝ }
+    ensures { λ r. ⌜ counted-outcome r
+        ≡ crowd-outcome (crowd (now (kinds .entry)) (length (now (kinds .entry))) 0 0 0) ⌝ }
 {
     let mut p: usize = 0;
     let mut start: usize = 0;

@@ -10,8 +10,8 @@ use lib.ListN.{length, set, take, length-set}
 use lib.Seq.{take-suc-set}
 use borrow.Author.Tests.{ne-eqb}
 use Rattle.semantics.specs.Basics.{updated}
-use Rattle.semantics.specs.File.{at-part, node-at, part-count}
-use Rattle.script_read.specs.Told.{told-node}
+use Rattle.semantics.specs.File.{at-part, look, part-count}
+use Rattle.script_read.specs.Told.{node-outcome, parted}
 use Rattle.script_read.specs.declared.Node.{Node}
 use Rattle.script_read.specs.declared.Node.the-variants.{WrongKind, WrongOperand}
 use Rattle.script_read.proofs.Nodes.{Seen, unfit}
@@ -30,7 +30,7 @@ module _ (k w s : List ℕ) (d : ℕ) (γ : ℕ → ℕ) (p : ℕ) where
   unfolding types
   no-levels e = rw e
 
-pub no-node : (k w s : List ℕ) (d : ℕ) (γ : ℕ → ℕ) (p : ℕ) (n : Node) → n ≡ told-node (node-at k w at-part p) →
+pub no-node : (k w s : List ℕ) (d : ℕ) (γ : ℕ → ℕ) (p : ℕ) (n : Node) → node-outcome n p ≡ parted (look k w at-part p) →
     (n ≡ WrongKind) ⊎ (n ≡ WrongOperand) → Fault p ≡ types k w s d γ p
 unfolding types
 no-node k w s zero γ p n e f = refl

@@ -15,7 +15,7 @@ use Rattle.semantics.specs.Types.{Signature, all-are, same, call-rule, index-ru
 use Rattle.script_read.specs.Told.{low-at, high-at}
 use Rattle.script_read.specs.declared.Node.the-variants.{WrongKind}
 use Rattle.script_read.proofs.Sorts.{both}
-use Rattle.script_read.proofs.Nodes.{past, unfit, low-none, high-none}
+use Rattle.script_read.proofs.Nodes.{node-says, past, unfit, low-none, high-none}
 use Rattle.script_depths.specs.declared.Typed.{Typed}
 use Rattle.script_depths.specs.declared.Typed.the-variants.{Depth, Fault}
 use Rattle.script_depths.specs.declared.Judged.{Judged}
@@ -78,7 +78,8 @@ module _ (k w : List ℕ) (p n : ℕ) (ds : List ℕ) (l : n ≤ length ds) wher
 pub signature-past : (k w : List ℕ) (p : ℕ) → length k ≤ p → signature-at k w p ≡ record { parameters = []; result = 0 }
 unfolding signature-at depths-from
 signature-past k w p h =
-    let u = unfit k w at-function p WrongKind (past k w at-function p h) (inl refl) in
+    let says = node-says k w at-function p WrongKind (past k w at-function p h) in
+    let u = unfit k w at-function p WrongKind says (inl refl) in
     rw (← low-none u, ← high-none u)
 
 pub at-the-end : (k w : List ℕ) (p q : ℕ) → q ≡ min p (length k) → signature-at k w q ≡ signature-at k w p

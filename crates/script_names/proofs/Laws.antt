@@ -8,9 +8,9 @@ use lib.ListN.{length, getD, set, replicate}
 use borrow.Author.Tests.{eq-eqb, ne-eqb}
 use mathlib.Core.Logic.{_⊎_, ⊎-elim}
 use Rattle.semantics.specs.File as S
-use Rattle.semantics.specs.File.{at-function, at-parameter, at-part, node-at, part-count}
+use Rattle.semantics.specs.File.{at-function, at-parameter, at-part, look, node-at, part-count}
 use Rattle.semantics.specs.Names.{Scope}
-use Rattle.script_read.specs.Told.{told-node, repeated}
+use Rattle.script_read.specs.Told.{node-outcome, parted, repeated}
 use Rattle.script_read.specs.declared.Node.{Node}
 use Rattle.script_read.specs.declared.Node.the-variants.{WrongKind, WrongOperand}
 use Rattle.script_read.specs.declared.Read.{Read}
@@ -53,7 +53,7 @@ module _ {k w : List ℕ} {p x y z : ℕ} (s : Seen k w at-part p x y z) (F d : 
       others g n i r j = j ∙ sym (case ∙ rw (ne-eqb x 3 e, f, g, ← i))
 
 -- no node fits
-pub no-node : (k w : List ℕ) (F d : ℕ) (ρ : Scope) (p : ℕ) (n : Node) → n ≡ told-node (node-at k w at-part p) →
+pub no-node : (k w : List ℕ) (F d : ℕ) (ρ : Scope) (p : ℕ) (n : Node) → node-outcome n p ≡ parted (look k w at-part p) →
     (n ≡ WrongKind) ⊎ (n ≡ WrongOperand) → Refused 6 p ≡ names k w F d ρ p
 unfolding names
 no-node k w F zero ρ p n e f = refl
@@ -102,7 +102,8 @@ module _ (k w : List ℕ) (F : ℕ) where
             (scope (set t y true)) (p + 1)
         go = rw (s .same-low, at-scope t y false e, table-set false t y true (omega arith))
 
-    pub parameter-none : (n : Node) → n ≡ told-node (node-at k w at-parameter p) → (n ≡ WrongKind) ⊎ (n ≡ WrongOperand) →
+    pub parameter-none : (n : Node) → node-outcome n p ≡ parted (look k w at-parameter p) →
+        (n ≡ WrongKind) ⊎ (n ≡ WrongOperand) →
         Refused 6 p ≡ r
     parameter-none n e f =
         sym (inv ∙ from-step c (scope t) p h
@@ -121,7 +122,8 @@ module _ (k w : List ℕ) (F : ℕ) where
       go : named-head (names-from k w F) p (node-at k w at-function p) ≡ names-from k w F y (λ x. false) (p + 1)
       go = rw (s .stands, s .same-low)
 
-  pub function-none : (p : ℕ) (n : Node) → n ≡ told-node (node-at k w at-function p) → (n ≡ WrongKind) ⊎ (n ≡ WrongOperand) →
+  pub function-none : (p : ℕ) (n : Node) → node-outcome n p ≡ parted (look k w at-function p) →
+      (n ≡ WrongKind) ⊎ (n ≡ WrongOperand) →
       Refused 6 p ≡ names-function k w F p
   unfolding names-function
   function-none p n e f = ⊎-elim (λ g. rw g) (λ g. rw g) (unfit k w at-function p n e f .is)

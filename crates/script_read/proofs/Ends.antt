@@ -8,13 +8,14 @@ use Rattle.semantics.specs.File as S
 use Rattle.semantics.specs.File.{Place, at-part, node-at}
 use Rattle.semantics.specs.Syntax.{Expr, number, name, let-in, leaf, if-else, loop, Exprs, none, more, size, sizes}
 use Rattle.semantics.specs.Syntax.{Script, function-size}
-use Rattle.script_read.specs.Told.{told-node}
-use Rattle.script_read.proofs.Nodes.{inside}
+use Rattle.script_read.proofs.Nodes.{told-node, node-says, inside}
 use Rattle.script_read.proofs.Written.{Written, AllWritten, ScriptWritten, total}
 
 module _ (k w : List ℕ) where
   pub node-inside : (place : Place) (p : ℕ) (h : S.Head) → node-at k w place p ≡ S.fits h → p < length k
-  node-inside place p h e = inside k w place p _ _ _ (told-node (node-at k w place p)) refl (ap told-node e)
+  node-inside place p h e =
+      let n = told-node (node-at k w place p) in
+      inside k w place p _ _ _ n (node-says k w place p n refl) (ap told-node e)
 
   mutual
     unfolding size

@@ -9,11 +9,11 @@ use lib.IntN.{ℤ, pos, negsuc}
 use lib.Dec.{leb, ltb, eqb}
 use lib.ListN.{length, getD, List·getD-eq-default}
 use borrow.Author.Tests.{ltb-true, ltb-false, leb-true, eqb-true, lt-ltb, le-leb, lt-leb, eq-eqb, ne-eqb}
-use Rattle.semantics.specs.Outcome.{done, stop}
+use Rattle.semantics.specs.Outcome.{Outcome, done, stop}
 use Rattle.semantics.specs.File as S
 use Rattle.semantics.specs.File.{Place, at-function, at-parameter, at-part, allowed, node-of, node-at, in-parts}
-use Rattle.semantics.specs.File.{low-limits, high-limits, part-count, part-counts, look}
-use Rattle.script_read.specs.Told.{told-node, low-at, high-at}
+use Rattle.semantics.specs.File.{low-limits, high-limits, part-count, part-counts, look, looked}
+use Rattle.script_read.specs.Told.{Parted, node-outcome, parted, low-at, high-at}
 use Rattle.script_read.specs.declared.Node.{Node}
 use Rattle.script_read.specs.declared.Node.the-variants.{Fits, WrongKind, WrongOperand}
 use Rattle.semantics.specs.Number.{signed, bytes-at}
@@ -29,6 +29,47 @@ either false a = refl
 
 low-number : (n : ℕ) → n < 2 ^ 63 → signed n ≡ pos n
 low-number n h = rw (lt-ltb n (2 ^ 63) h)
+
+-- ---- an answer and the node of the definition
+
+-- the case of a node
+abbrev pub told-node : S.Node → Node
+told-node (S.fits h) = Fits (h .kind) (h .low) (h .high)
+told-node S.wrong-kind = WrongKind
+told-node S.wrong-operand = WrongOperand
+
+-- the case tells what looking at the node gives, and is told by it
+module _ (k w : List ℕ) (place : Place) (p : ℕ) (n : Node) where
+  pub node-says : n ≡ told-node (node-at k w place p) → node-outcome n p ≡ parted (look k w place p)
+  unfolding look
+  node-says e = rw e (go (node-at k w place p))
+    where
+      go : (v : S.Node) → node-outcome (told-node v) p ≡ parted (looked v p)
+      go (S.fits h) = refl
+      go S.wrong-kind = refl
+      go S.wrong-operand = refl
+
+  pub node-told : node-outcome n p ≡ parted (look k w place p) → n ≡ told-node (node-at k w place p)
+  unfolding look
+  node-told e = go n (node-at k w place p) e
+    where
+      fitting : Outcome ℕ Parted → Node
+      fitting (done r q) = Fits (r .kind) (r .low) (r .high)
+      fitting (stop m q) = WrongKind
+
+      no : {A : Type 0} → _≡_ {A = ℕ} 0 1 → A
+      no z = absurd (omega arith)
+
+      go : (m : Node) (v : S.Node) → node-outcome m p ≡ parted (looked v p) → m ≡ told-node v
+      go (Fits x y z) (S.fits h) e = ap fitting e
+      go (Fits x y z) S.wrong-kind e = no cc
+      go (Fits x y z) S.wrong-operand e = no cc
+      go WrongKind (S.fits h) e = no cc
+      go WrongKind S.wrong-kind e = refl
+      go WrongKind S.wrong-operand e = no cc
+      go WrongOperand (S.fits h) e = no cc
+      go WrongOperand S.wrong-kind e = no cc
+      go WrongOperand S.wrong-operand e = refl
 
 -- the parts of an operand that is read as an unsigned number
 module _ (d u : ℕ) where
@@ -171,13 +212,16 @@ told-wrong-operand (S.fits h) e = let z : _≡_ {A = ℕ} 0 1 = cc in absurd (om
 told-wrong-operand S.wrong-kind e = let z : _≡_ {A = ℕ} 0 1 = cc in absurd (omega arith)
 told-wrong-operand S.wrong-operand e = refl
 
-module _ (k w : List ℕ) (place : Place) (p : ℕ) (n : Node) (e : n ≡ told-node (node-at k w place p)) where
+module _ (k w : List ℕ) (place : Place) (p : ℕ) (n : Node) (e : node-outcome n p ≡ parted (look k w place p)) where
+  told : n ≡ told-node (node-at k w place p)
+  told = node-told k w place p n e
+
   pub seen : (x y z : ℕ) → n ≡ Fits x y z → Seen k w place p x y z
   unfolding look
-  seen x y z f = go (node-at k w place p) refl
+  seen x y z f = go (node-at k w place p) refl told
     where
-      go : (v : S.Node) → node-at k w place p ≡ v → Seen k w place p x y z
-      go (S.fits h) g =
+      go : (v : S.Node) → node-at k w place p ≡ v → n ≡ told-node v → Seen k w place p x y z
+      go (S.fits h) g t =
           let i : h .kind ≡ x = cc in
           let j : h .low ≡ y = cc in
           let l : h .high ≡ z = cc in
@@ -192,20 +236,20 @@ module _ (k w : List ℕ) (place : Place) (p : ℕ) (n : Node) (e : n ≡ told-n
             lowest = rw (i, j) at (fit .low);
             highest = rw (i, l) at (fit .high);
           }
-      go S.wrong-kind g = let z : _≡_ {A = ℕ} 0 1 = cc in absurd (omega arith)
-      go S.wrong-operand g = let z : _≡_ {A = ℕ} 0 1 = cc in absurd (omega arith)
+      go S.wrong-kind g t = let z : _≡_ {A = ℕ} 0 1 = cc in absurd (omega arith)
+      go S.wrong-operand g t = let z : _≡_ {A = ℕ} 0 1 = cc in absurd (omega arith)
 
   pub no-kind : n ≡ WrongKind → Halted k w place p 3
   unfolding look
-  no-kind f = record { is = rw (told-wrong-kind (node-at k w place p) (sym f ∙ e)) }
+  no-kind f = record { is = rw (told-wrong-kind (node-at k w place p) (sym f ∙ told)) }
 
   pub no-operand : n ≡ WrongOperand → Halted k w place p 4
   unfolding look
-  no-operand f = record { is = rw (told-wrong-operand (node-at k w place p) (sym f ∙ e)) }
+  no-operand f = record { is = rw (told-wrong-operand (node-at k w place p) (sym f ∙ told)) }
 
   pub unfit : (n ≡ WrongKind) ⊎ (n ≡ WrongOperand) → Unfit k w place p
-  unfit (inl f) = record { is = inl (told-wrong-kind (node-at k w place p) (sym f ∙ e)) }
-  unfit (inr f) = record { is = inr (told-wrong-operand (node-at k w place p) (sym f ∙ e)) }
+  unfit (inl f) = record { is = inl (told-wrong-kind (node-at k w place p) (sym f ∙ told)) }
+  unfit (inr f) = record { is = inr (told-wrong-operand (node-at k w place p) (sym f ∙ told)) }
 
 -- the parts of the operand of a node
 module _ {k w : List ℕ} {place : Place} {p : ℕ} where
@@ -228,13 +272,15 @@ module _ {k w : List ℕ} {place : Place} {p : ℕ} where
     high-none = ⊎-elim (λ e. rw e) (λ e. rw e) (u .is)
 
 -- a node that is taken is there
-pub inside : (k w : List ℕ) (place : Place) (p a b c : ℕ) (n : Node) → n ≡ told-node (node-at k w place p) →
-    n ≡ Fits a b c → p < length k
+pub inside : (k w : List ℕ) (place : Place) (p a b c : ℕ) (n : Node) →
+    node-outcome n p ≡ parted (look k w place p) → n ≡ Fits a b c → p < length k
 inside k w place p a b c n e f = go (ltb p (length k)) refl
   where
     go : (t : Bool) → ltb p (length k) ≡ t → p < length k
     go true g = ltb-true p (length k) g
-    go false g = let q : WrongKind ≡ told-node (node-at k w place p) = past k w place p (ltb-false p (length k) g) in
+    go false g =
+        let q : WrongKind ≡ told-node (node-at k w place p) = past k w place p (ltb-false p (length k) g) in
+        let t : n ≡ told-node (node-at k w place p) = node-told k w place p n e in
         let z : _≡_ {A = ℕ} 0 1 = cc in absurd (omega arith)
 
 pub no-parts : (d low high : ℕ) → (d ≡ 8 → ⊥) → (d ≡ 9 → ⊥) → (r : ℕ) → r ≡ getD part-counts d 0 →

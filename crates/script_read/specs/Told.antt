@@ -22,10 +22,22 @@ place-of Function = S.at-function
 place-of Parameter = S.at-parameter
 place-of Part = S.at-part
 
-abbrev pub told-node : S.Node → Node
-told-node (S.fits h) = Fits (h .kind) (h .low) (h .high)
-told-node S.wrong-kind = WrongKind
-told-node S.wrong-operand = WrongOperand
+-- the kind of a node and the two parts of its operand
+pub record Parted : Type 0 where
+  pub kind : ℕ
+  pub low : ℕ
+  pub high : ℕ
+
+-- document 01's number and values for each case, at the node p: the kind and the parts, or 3, or 4
+abbrev pub node-outcome : Node → ℕ → Outcome ℕ Parted
+node-outcome (Fits kind low high) p = done (record { kind = kind; low = low; high = high }) p
+node-outcome WrongKind p = stop 3 p
+node-outcome WrongOperand p = stop 4 p
+
+-- what looking at a node gives, less the value of a number
+abbrev pub parted : Outcome ℕ S.Head → Outcome ℕ Parted
+parted (done h p) = done (record { kind = h .kind; low = h .low; high = h .high }) p
+parted (stop n p) = stop n p
 
 -- the two parts of a node's operand; 0 where no node fits
 abbrev pub low-of : S.Node → ℕ

@@ -4,9 +4,9 @@ ghost use mathlib.Core.Bool.{false, _&&_};
 ghost use Prim.Native.Nat.{_+_, _*_, _<_};
 ghost use lib.ListN.{getD};
 ghost use Rattle.semantics.specs.Number.{bytes-at};
-ghost use Rattle.semantics.specs.File.{low-limits, high-limits, part-kinds, allowed, node-at, part-count, part};
+ghost use Rattle.semantics.specs.File.{low-limits, high-limits, part-kinds, allowed, look, part-count, part};
 ghost use Rattle.semantics.specs.File.{parameter, function, script, read-file, between};
-ghost use Rattle.script_read.specs.Told.{place-of, told-node, told, low-at, high-at, repeated};
+ghost use Rattle.script_read.specs.Told.{place-of, node-outcome, parted, told, low-at, high-at, repeated};
 
 // Where a node stands.
 pub enum Place {
@@ -99,7 +99,8 @@ fn operand_at(operands: &[u8], at: usize) -> u64
 
 // The node that stands at a place.
 pub fn node_at(kinds: &[u8], operands: &[u8], at: usize, place: Place) -> Node
-    ensures { λ r. ⌜ r ≡ told-node (node-at (now (kinds .entry)) (now (operands .entry)) (place-of place) at) ⌝ }
+    ensures { λ r. ⌜ node-outcome r at
+        ≡ parted (look (now (kinds .entry)) (now (operands .entry)) (place-of place) at) ⌝ }
 {
     let kind = kind_at(kinds, at);
     if !is_allowed(place, kind) {

@@ -9,9 +9,9 @@ use lib.Dec.{eqb}
 use lib.ListN.{length, set, replicate}
 use borrow.Author.Tests.{eq-eqb, ne-eqb}
 use Rattle.semantics.specs.File as S
-use Rattle.semantics.specs.File.{at-function, at-parameter, node-at}
+use Rattle.semantics.specs.File.{at-function, at-parameter, look, node-at}
 use Rattle.semantics.specs.Types.{main-shape}
-use Rattle.script_read.specs.Told.{told-node, low-at, high-at, repeated}
+use Rattle.script_read.specs.Told.{node-outcome, parted, low-at, high-at, repeated}
 use Rattle.script_read.specs.declared.Node.{Node}
 use Rattle.script_read.specs.declared.Node.the-variants.{WrongKind, WrongOperand}
 use Rattle.script_read.specs.declared.Read.{Read}
@@ -63,7 +63,8 @@ module _ (k w s : List ℕ) where
         ∙ ap (λ (v : S.Node). typed-parameter (types-from k w s (c - 1)) (depths t) p v) (n .stands)
         ∙ rw (n .same-low, n .same-high, table-set 0 t y z (omega arith))
 
-    pub parameter-none : (n : Node) → n ≡ told-node (node-at k w at-parameter p) → (n ≡ WrongKind) ⊎ (n ≡ WrongOperand) →
+    pub parameter-none : (n : Node) → node-outcome n p ≡ parted (look k w at-parameter p) →
+        (n ≡ WrongKind) ⊎ (n ≡ WrongOperand) →
         Fault p ≡ r
     parameter-none n e f =
         sym (inv ∙ from-step c (depths t) p h
@@ -93,7 +94,8 @@ module _ (k w s : List ℕ) where
     pub body-faulty : (m : ℕ) → b ≡ Fault m → Refused 7 m ≡ types-function k w s p
     body-faulty m e = sym (by-body ∙ rw e)
 
-  pub no-function : (p : ℕ) (n : Node) → n ≡ told-node (node-at k w at-function p) → (n ≡ WrongKind) ⊎ (n ≡ WrongOperand) →
+  pub no-function : (p : ℕ) (n : Node) → node-outcome n p ≡ parted (look k w at-function p) →
+      (n ≡ WrongKind) ⊎ (n ≡ WrongOperand) →
       Refused 7 p ≡ types-function k w s p
   unfolding types-function
   no-function p n e f = ⊎-elim (λ g. rw g) (λ g. rw g) (unfit k w at-function p n e f .is)

@@ -7,11 +7,11 @@ use native.Mathlib.Omega.{arith}
 use lib.IntN.{ℤ}
 use lib.ListN.{getD}
 use borrow.Author.Tests.{lt-ltb, le-ltb}
+use Rattle.semantics.specs.Outcome.{done, stop}
 use Rattle.semantics.specs.Store.{cell-count, with-first, has-free, filled, acquired, freed}
 use Rattle.semantics.specs.Words.{cells-in, store-of}
 use Rattle.store_words.proofs.CellWords.{store-size, first-is, next-is}
 use Rattle.store_words.proofs.Written.{Written, written-store, cleared-store}
-use Rattle.store.specs.declared.Acquired.the-variants.{Cell, NoneFree}
 use Rattle.store.specs.Acquiring.{next-cell}
 
 -- ---- a cell freed
@@ -36,7 +36,7 @@ module _ (slots : List ℤ) (heads : List ℕ) where
       (omega (arith, store-size slots heads, first-is slots heads))
 
   pub none-acquired : (depth : ℕ) (words : List ℤ) → cells-in slots heads ≤ getD heads 0 0 →
-      (NoneFree ≡ next-cell (store-of slots heads))
+      (stop 25 tt ≡ next-cell (store-of slots heads))
       × (store-of slots heads ≡ acquired depth words (store-of slots heads))
   unfolding next-cell acquired
   none-acquired depth words h = (sym (rw (first-out h) refl), sym (rw (first-out h) refl))
@@ -44,7 +44,7 @@ module _ (slots : List ℤ) (heads : List ℕ) where
   pub one-acquired : (depth : ℕ) {slots′ : List ℤ} {heads′ : List ℕ} →
       Written slots heads (getD heads 0 0) (getD heads (4 + 4 * getD heads 0 0) 0) 1 0 depth 0 slots′ heads′ →
       getD heads 0 0 < cells-in slots heads →
-      (Cell (getD heads 0 0) ≡ next-cell (store-of slots heads))
+      (done (getD heads 0 0) tt ≡ next-cell (store-of slots heads))
       × (store-of slots′ heads′ ≡ acquired depth [] (store-of slots heads))
   unfolding next-cell acquired filled with-first store-of
   one-acquired depth w h = (

@@ -10,13 +10,12 @@ use lib.IntN.{ℤ, pos}
 use lib.ListN.{length, getD, set, drop, length-append, List·getD-append, List·getD-eq-default}
 use lib.Seq.{getD-append-seam, append-snoc, set-set, drop-cons, drop-length}
 use borrow.Author.Tests.{lt-ltb, le-ltb, ltb-true}
+use Rattle.semantics.specs.Outcome.{Outcome, done, stop}
 use Rattle.semantics.specs.Store.{Store, cell, cell-count, with-cell, with-first, padded, filled, wider, has-free}
 use Rattle.semantics.specs.Store.{acquired, appended}
 use Rattle.semantics.specs.Store as C
 use Rattle.store_laws.specs.CellLaws.{same-cell, same-store, with-here}
 use Rattle.store_words.proofs.Tables.{tabulate-same, set-tabulate}
-use Rattle.store.specs.declared.Acquired.{Acquired}
-use Rattle.store.specs.declared.Acquired.the-variants.{Cell, NoneFree}
 use Rattle.store.specs.Acquiring.{next-cell, appended-all}
 
 -- ---- one word more in a cell
@@ -79,32 +78,28 @@ module _ (d : ℕ) (σ : Store) (free : has-free σ ≡ true) where
       ∙ appended-all-acquired ws (vs ++ (w ∷ [])) ∙ ap (λ (l : List ℤ). acquired d l σ) (append-snoc vs w ws)
 
 -- what an acquire that gave a cell says
-pub cell-given : (σ : Store) (c : ℕ) → Cell c ≡ next-cell σ → (has-free σ ≡ true) × (c ≡ σ .first)
+pub cell-given : (σ : Store) (c : ℕ) → done c tt ≡ next-cell σ → (has-free σ ≡ true) × (c ≡ σ .first)
 unfolding next-cell
 cell-given σ c e = go (has-free σ) refl e
   where
-    number : Acquired → ℕ
-    number (Cell k) = k
-    number NoneFree = c + 1
-
-    go : (t : Bool) → has-free σ ≡ t → Cell c ≡ cond t (Cell (σ .first)) NoneFree → (has-free σ ≡ true) × (c ≡ σ .first)
-    go true f g = (f, ap number g)
-    go false f g = absurd (omega (arith, ap number g))
+    go : (t : Bool) → has-free σ ≡ t →
+        _≡_ {A = Outcome (Unit {0}) ℕ} (done c tt) (cond t (done (σ .first) tt) (stop 25 tt)) →
+        (has-free σ ≡ true) × (c ≡ σ .first)
+    go true f g = (f, cc)
+    go false f g = let z : _≡_ {A = ℕ} 0 1 = cc in absurd (omega arith)
 
 -- where none is free, an acquire changes nothing
-pub none-given : (d : ℕ) (σ : Store) (ws : List ℤ) → NoneFree ≡ next-cell σ → acquired d [] σ ≡ acquired d ws σ
+pub none-given : (d : ℕ) (σ : Store) (ws : List ℤ) → stop 25 tt ≡ next-cell σ → acquired d [] σ ≡ acquired d ws σ
 unfolding next-cell acquired
 none-given d σ ws e = go (has-free σ) refl e
   where
-    number : Acquired → ℕ
-    number (Cell k) = 1
-    number NoneFree = 0
-
-    go : (t : Bool) → has-free σ ≡ t → NoneFree ≡ cond t (Cell (σ .first)) NoneFree → acquired d [] σ ≡ acquired d ws σ
-    go true f g = absurd (omega (arith, ap number g))
+    go : (t : Bool) → has-free σ ≡ t →
+        _≡_ {A = Outcome (Unit {0}) ℕ} (stop 25 tt) (cond t (done (σ .first) tt) (stop 25 tt)) →
+        acquired d [] σ ≡ acquired d ws σ
+    go true f g = let z : _≡_ {A = ℕ} 0 1 = cc in absurd (omega arith)
     go false f g = rw f
 
-pub filled-by-appending : (d : ℕ) (σ : Store) (c : ℕ) (ws : List ℤ) → Cell c ≡ next-cell σ →
+pub filled-by-appending : (d : ℕ) (σ : Store) (c : ℕ) (ws : List ℤ) → done c tt ≡ next-cell σ →
     appended-all c ws (acquired d [] σ) ≡ acquired d ws σ
 filled-by-appending d σ c ws e = rw (cell-given σ c e .1) (appended-all-acquired d σ (cell-given σ c e .0) ws [])
 

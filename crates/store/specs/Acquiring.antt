@@ -3,13 +3,19 @@ use mathlib.Core.Bool.{cond}
 use mathlib.Core.List.{List, [], _∷_}
 use Prim.Native.Nat.{ℕ}
 use lib.IntN.{ℤ}
+use Rattle.semantics.specs.Outcome.{Outcome, done, stop}
 use Rattle.semantics.specs.Store.{Store, has-free, appended}
 use Rattle.store.specs.declared.Acquired.{Acquired}
 use Rattle.store.specs.declared.Acquired.the-variants.{Cell, NoneFree}
 
--- the free list's first cell, if there is one
-unfoldable pub next-cell : Store → Acquired
-next-cell σ = cond (has-free σ) (Cell (σ .first)) NoneFree
+-- document 01's number and value for each case: a cell, or 25
+abbrev pub acquired-outcome : Acquired → Outcome (Unit {0}) ℕ
+acquired-outcome (Cell c) = done c tt
+acquired-outcome NoneFree = stop 25 tt
+
+-- the free list's first cell, and where there is none 25
+unfoldable pub next-cell : Store → Outcome (Unit {0}) ℕ
+next-cell σ = cond (has-free σ) (done (σ .first) tt) (stop 25 tt)
 
 -- words appended to a cell, first to last
 unfoldable pub appended-all : ℕ → List ℤ → Store → Store

@@ -6,7 +6,7 @@ ghost use mathlib.Core.List.{[]};
 ghost use lib.ListN.{length};
 ghost use Rattle.semantics.specs.Store.{retained, acquired, appended, freed, released};
 ghost use Rattle.semantics.specs.Words.{slots-at, store-of};
-ghost use Rattle.store.specs.Acquiring.{next-cell, appended-all};
+ghost use Rattle.store.specs.Acquiring.{acquired-outcome, next-cell, appended-all};
 
 // One reference more to a cell.
 pub fn retain(slots: &[i64], heads: &mut [u32], c: usize)
@@ -29,7 +29,7 @@ pub enum Acquired {
 
 // Acquires the free list's first cell, with no elements.
 pub fn acquire_empty(slots: &mut [i64], heads: &mut [u32], depth: u32) -> Acquired
-    ensures { λ r. ⌜ (r ≡ next-cell (store-of (now (slots .entry)) (now (heads .entry))))
+    ensures { λ r. ⌜ (acquired-outcome r ≡ next-cell (store-of (now (slots .entry)) (now (heads .entry))))
         × (store-of (now (slots .exit)) (now (heads .exit))
         ≡ acquired depth [] (store-of (now (slots .entry)) (now (heads .entry)))) ⌝ }
 {
@@ -76,7 +76,7 @@ fn append_all(slots: &mut [i64], heads: &mut [u32], c: usize, words: &[i64])
 
 // Acquires the free list's first cell with these words, the first 16 of them, as elements of this depth.
 pub fn acquire(slots: &mut [i64], heads: &mut [u32], depth: u32, words: &[i64]) -> Acquired
-    ensures { λ r. ⌜ (r ≡ next-cell (store-of (now (slots .entry)) (now (heads .entry))))
+    ensures { λ r. ⌜ (acquired-outcome r ≡ next-cell (store-of (now (slots .entry)) (now (heads .entry))))
         × (store-of (now (slots .exit)) (now (heads .exit))
         ≡ acquired depth (now (words .entry)) (store-of (now (slots .entry)) (now (heads .entry)))) ⌝ }
 {

@@ -128,7 +128,3 @@ module _ (slots : List ℤ) (heads : List ℕ) (c : ℕ) where
   element-in i h l = sym (ap (λ (ws : List ℤ). getD ws i (pos 0)) (elements-are h)
       ∙ getD-take (getD heads (2 + 4 * c) 0) (slots-at slots c) i (pos 0) (omega arith)
       ∙ slot-is slots c i (omega arith))
-
-  pub depth-out : cells-in slots heads ≤ c → 0 ≡ cell (store-of slots heads) c .depth
-  unfolding clear
-  depth-out h = sym (ap (λ (x : Cell). x .depth) (cell-out slots heads c h))

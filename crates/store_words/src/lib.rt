@@ -98,16 +98,6 @@ pub fn read_slot(slots: &[i64], heads: &[u32], c: usize, i: usize) -> i64
     slots[1 + 16 * c + i]
 }
 
-// A cell's element depth.
-pub fn read_depth(slots: &[i64], heads: &[u32], c: usize) -> u32
-    ensures { λ r. ⌜ r ≡ cell (store-of (now (slots .entry)) (now (heads .entry))) c .depth ⌝ }
-{
-    if !is_cell(slots, heads, c) {
-        return 0;
-    }
-    heads[3 + 4 * c]
-}
-
 // 1 for a count above 0.
 fn one_used(count: u32) -> usize
     ensures { λ r. ⌜ r ≡ one-if-used count ⌝ }

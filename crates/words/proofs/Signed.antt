@@ -1,16 +1,17 @@
--- Laws of exact sums. A difference is a sum with the opposite, so one set of laws serves both.
+-- Laws of exact sums, and of the complement, which makes a difference of a sum.
 -- `shifted z` is z + 2^66 as a natural number, so that `omega` can be used.
-use mathlib.Core.Path.{_≡_, refl}
+use mathlib.Core.Path.{_≡_, refl, sym, ap, _∙_}
 use mathlib.Core.Bool.{Bool, true, false, cond}
 use Prim.Native.Nat.{ℕ, zero, suc, _+_, _-_, _<_, _≤_, _^_}
 use native.Mathlib.Omega.{arith}
-use lib.IntN.{ℤ, pos, negsuc, negℤ, subℕ, _+ℤ_}
+use native.Mathlib.Nat.{zero-add}
+use lib.IntN.{ℤ, pos, negsuc, negℤ, subℕ, _+ℤ_, _-ℤ_, +ℤ-idl, +ℤ-assoc, negℤ-+ℤ, negℤ-negℤ}
 use lib.Dec.{ltb}
 use lib.Signed.{mag, ltZ}
 use borrow.Author.Tests.{ltb-true, ltb-false, lt-ltb, le-ltb}
+use Rattle.semantics.specs.Outcome.{Outcome, done, stop}
 use Rattle.semantics.specs.Number.{fits}
 use Rattle.words.specs.Words.{checked}
-use Rattle.words.specs.declared.Exact.the-variants.{Value, Overflow}
 
 abbrev pub shifted : ℤ → ℕ
 shifted (pos n) = 2 ^ 66 + n
@@ -68,11 +69,11 @@ fits-test : (z : ℤ) → fits z ≡ ltb (mag z) (2 ^ 63)
 fits-test (pos n) = refl
 fits-test (negsuc n) = refl
 
-pub checked-value : (z : ℤ) → mag z < 2 ^ 63 → checked z ≡ Value z
+pub checked-value : (z : ℤ) → mag z < 2 ^ 63 → checked z ≡ done z tt
 unfolding checked
 checked-value z h = rw (fits-test z, lt-ltb (mag z) (2 ^ 63) h)
 
-checked-overflow : (z : ℤ) → (mag z < 2 ^ 63 → ⊥) → checked z ≡ Overflow
+checked-overflow : (z : ℤ) → (mag z < 2 ^ 63 → ⊥) → checked z ≡ stop 24 tt
 unfolding checked
 checked-overflow z f = rw (fits-test z, le-ltb (mag z) (2 ^ 63) (go (ltb (mag z) (2 ^ 63)) refl))
   where
@@ -86,48 +87,98 @@ most = pos 9223372036854775807
 abbrev least : ℤ
 least = negsuc 9223372036854775807
 
--- A sum a + k where x is -k. Where k is not negative the test on most + x decides whether the sum
--- is in 64 bits, where k is not positive the test on least + x.
-pub record Addends (a k x : ℤ) : Type 0 where
+-- A sum a + b. Where b is not negative the test on most - b decides whether the sum is in 64 bits, where b is
+-- negative the test on least - b.
+pub record Addends (a b : ℤ) : Type 0 where
   pub first : mag a < 2 ^ 63
-  pub second : mag k < 2 ^ 64
-  pub minus : mag x < 2 ^ 64
-  pub opposite : shifted k + shifted x ≡ 2 ^ 67
+  pub second : mag b < 2 ^ 63
 
-module _ {a k x : ℤ} (of : Addends a k x) where
-  upper : shifted (most +ℤ x) + 2 ^ 66 ≡ shifted most + shifted x
-  upper = shifted-sum most x (omega arith) (of .minus)
+module _ {a b : ℤ} (of : Addends a b) where
+  minus : shifted (negℤ b) + shifted b ≡ 2 ^ 67
+  minus = shifted-opposite b (omega arith)
 
-  lower : shifted (least +ℤ x) + 2 ^ 66 ≡ shifted least + shifted x
-  lower = shifted-sum least x (omega arith) (of .minus)
+  upper : shifted (most -ℤ b) + 2 ^ 66 ≡ shifted most + shifted (negℤ b)
+  upper = shifted-sum most (negℤ b) (omega arith) (opposite-bound b (of .second))
 
-  whole : shifted (a +ℤ k) + 2 ^ 66 ≡ shifted a + shifted k
-  whole = shifted-sum a k (omega arith) (of .second)
+  lower : shifted (least -ℤ b) + 2 ^ 66 ≡ shifted least + shifted (negℤ b)
+  lower = shifted-sum least (negℤ b) (omega arith) (opposite-bound b (of .second))
 
-  pub upper-fits : shifted x ≤ 2 ^ 66 → 2 ^ 66 ≤ shifted x + 2 ^ 63 → mag (most +ℤ x) < 2 ^ 63
-  upper-fits h l = in-range (most +ℤ x) (omega (arith, upper)) (omega (arith, upper))
+  whole : shifted (a +ℤ b) + 2 ^ 66 ≡ shifted a + shifted b
+  whole = shifted-sum a b (omega arith) (omega arith)
 
-  pub lower-fits : 2 ^ 66 ≤ shifted x → shifted x ≤ 2 ^ 66 + 2 ^ 63 → mag (least +ℤ x) < 2 ^ 63
-  lower-fits h l = in-range (least +ℤ x) (omega (arith, lower)) (omega (arith, lower))
+  pub upper-fits : 2 ^ 66 ≤ shifted b → mag (most -ℤ b) < 2 ^ 63
+  upper-fits h =
+      in-range (most -ℤ b)
+      (omega (arith, upper, minus, range-high b (of .second)))
+      (omega (arith, upper, minus))
 
-  pub above-range : mag (most +ℤ x) < 2 ^ 63 → ltZ (most +ℤ x) a ≡ true → checked (a +ℤ k) ≡ Overflow
+  pub lower-fits : shifted b < 2 ^ 66 → mag (least -ℤ b) < 2 ^ 63
+  lower-fits h =
+      in-range (least -ℤ b)
+      (omega (arith, lower, minus))
+      (omega (arith, lower, minus, range-low b (of .second)))
+
+  pub above-range : 2 ^ 66 ≤ shifted b → ltZ (most -ℤ b) a ≡ true → checked (a +ℤ b) ≡ stop 24 tt
   above-range h e =
-      checked-overflow (a +ℤ k) (λ f.
-      omega (arith, upper, whole, range-high (a +ℤ k) f, below (most +ℤ x) a (omega arith) e))
+      checked-overflow (a +ℤ b) (λ f.
+      omega (
+        arith,
+        upper,
+        minus,
+        whole,
+        range-high (a +ℤ b) f,
+        below (most -ℤ b) a (omega (arith, upper-fits h)) e,
+      ))
 
-  pub not-above : shifted x ≤ 2 ^ 66 → ltZ (most +ℤ x) a ≡ false → mag (a +ℤ k) < 2 ^ 63
+  pub not-above : 2 ^ 66 ≤ shifted b → ltZ (most -ℤ b) a ≡ false → mag (a +ℤ b) < 2 ^ 63
   not-above h e =
-      in-range (a +ℤ k)
+      in-range (a +ℤ b)
       (omega (arith, whole, range-low a (of .first)))
-      (omega (arith, upper, whole, not-below (most +ℤ x) a e))
+      (omega (arith, upper, minus, whole, not-below (most -ℤ b) a e))
 
-  pub below-range : ltZ a (least +ℤ x) ≡ true → checked (a +ℤ k) ≡ Overflow
+  pub below-range : ltZ a (least -ℤ b) ≡ true → checked (a +ℤ b) ≡ stop 24 tt
   below-range e =
-      checked-overflow (a +ℤ k) (λ f.
-      omega (arith, lower, whole, range-low (a +ℤ k) f, below a (least +ℤ x) (omega arith) e))
+      checked-overflow (a +ℤ b) (λ f.
+      omega (arith, lower, minus, whole, range-low (a +ℤ b) f, below a (least -ℤ b) (omega arith) e))
 
-  pub not-under : 2 ^ 66 ≤ shifted x → ltZ a (least +ℤ x) ≡ false → mag (a +ℤ k) < 2 ^ 63
+  pub not-under : shifted b < 2 ^ 66 → ltZ a (least -ℤ b) ≡ false → mag (a +ℤ b) < 2 ^ 63
   not-under h e =
-      in-range (a +ℤ k)
-      (omega (arith, lower, whole, not-below a (least +ℤ x) e))
+      in-range (a +ℤ b)
+      (omega (arith, lower, minus, whole, not-below a (least -ℤ b) e))
       (omega (arith, whole, range-high a (of .first)))
+
+-- ---- the complement -1 - z
+
+pub complement-pos : (n : ℕ) → negsuc 0 -ℤ pos n ≡ negsuc n
+complement-pos zero = refl
+complement-pos (suc n) = rw zero-add
+
+complement-negsuc : (n : ℕ) → negsuc 0 -ℤ negsuc n ≡ pos n
+complement-negsuc n = rw (le-ltb (suc n) 1 (omega arith)) (ap pos (omega arith))
+
+-- a number is in 64 bits where its complement is
+pub complement-mag : (z : ℤ) → mag (negsuc 0 -ℤ z) ≡ mag z
+complement-mag (pos n) = rw (complement-pos n)
+complement-mag (negsuc n) = rw (complement-negsuc n)
+
+abbrev pub complemented : Outcome (Unit {0}) ℤ → Outcome (Unit {0}) ℤ
+complemented (done z u) = done (negsuc 0 -ℤ z) u
+complemented (stop n u) = stop n u
+
+checked-complement : (z : ℤ) → checked (negsuc 0 -ℤ z) ≡ complemented (checked z)
+unfolding checked
+checked-complement z = rw (fits-test (negsuc 0 -ℤ z), complement-mag z, fits-test z) (go (ltb (mag z) (2 ^ 63)))
+  where
+    go : (t : Bool) → cond t (done (negsuc 0 -ℤ z) tt) (stop 24 tt) ≡ complemented (cond t (done z tt) (stop 24 tt))
+    go true = refl
+    go false = refl
+
+difference-is : (a b : ℤ) → a -ℤ b ≡ negsuc 0 -ℤ (negsuc 0 -ℤ a +ℤ b)
+difference-is a b = sym (ap (λ (z : ℤ). negsuc 0 +ℤ z) (negℤ-+ℤ (negsuc 0 -ℤ a) b) ∙
+    ap (λ (z : ℤ). negsuc 0 +ℤ (z -ℤ b)) (negℤ-+ℤ (negsuc 0) (negℤ a) ∙ ap (λ (z : ℤ). pos 1 +ℤ z) (negℤ-negℤ a)) ∙
+    sym (+ℤ-assoc (negsuc 0) (pos 1 +ℤ a) (negℤ b)) ∙
+    ap (λ (z : ℤ). z -ℤ b) (sym (+ℤ-assoc (negsuc 0) (pos 1) a) ∙ +ℤ-idl a))
+
+-- a difference is the complement of the sum of b and a's complement
+pub difference-checked : (a b : ℤ) → checked (a -ℤ b) ≡ complemented (checked (negsuc 0 -ℤ a +ℤ b))
+difference-checked a b = ap checked (difference-is a b) ∙ checked-complement (negsuc 0 -ℤ a +ℤ b)

@@ -4,7 +4,7 @@ ghost use Prim.Native.Nat.{_+_, _*_, _^_, _<_, _≤_, _%_};
 ghost use lib.ListN.{length, getD};
 ghost use Rattle.semantics.specs.Number.{exact, sum, difference, less, bytes-at, signed};
 ghost use Rattle.semantics.specs.Calls.{packed};
-ghost use Rattle.words.specs.Words.{checked, Unpacked};
+ghost use Rattle.words.specs.Words.{exact-outcome, checked, Unpacked};
 
 // A number in 64 bits, or none.
 pub enum Exact {
@@ -18,7 +18,7 @@ const LEAST: i64 = -9223372036854775808;
 
 // The exact sum, if it is in 64 bits.
 pub fn exact_sum(a: i64, b: i64) -> Exact
-    ensures { λ r. ⌜ r ≡ checked (exact sum a b) ⌝ }
+    ensures { λ r. ⌜ exact-outcome r ≡ checked (exact sum a b) ⌝ }
 {
     if b < 0 {
         if a < LEAST - b {
@@ -35,22 +35,14 @@ pub fn exact_sum(a: i64, b: i64) -> Exact
     }
 }
 
-// The exact difference, if it is in 64 bits.
+// The exact difference, if it is in 64 bits: the complement -1 - z of the sum z of b and a's complement. A number is in
+// 64 bits where its complement is, so the sum's tests serve both.
 pub fn exact_difference(a: i64, b: i64) -> Exact
-    ensures { λ r. ⌜ r ≡ checked (exact difference a b) ⌝ }
+    ensures { λ r. ⌜ exact-outcome r ≡ checked (exact difference a b) ⌝ }
 {
-    if b < 0 {
-        if MOST + b < a {
-            Exact::Overflow
-        } else {
-            Exact::Value(a - b)
-        }
-    } else {
-        if a < LEAST + b {
-            Exact::Overflow
-        } else {
-            Exact::Value(a - b)
-        }
+    match exact_sum(-1 - a, b) {
+        Exact::Value(z) => Exact::Value(-1 - z),
+        Exact::Overflow => Exact::Overflow,
     }
 }
 

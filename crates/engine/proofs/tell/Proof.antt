@@ -53,7 +53,7 @@ returns-2 c =
     let cleared = c .before .before .before .refuse in
     subst (λ e. Tells e (a .kinds .now) (a .operands .now) number (cleared .last .0) (cleared .last .1 .0))
     (sym (c .before .before .before .before .before .before .before .ended2 .given .1))
-    (packed-alone number, cleared .ensures .1)
+    (packed-alone number, cleared .ensures)
 
 pub tell-spec : {M : Type 1} → statement M
 tell-spec =

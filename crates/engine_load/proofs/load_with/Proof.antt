@@ -1,9 +1,10 @@
 -- `engine_load::load_with` meets its contract.
 use native.Mathlib.Omega.{arith}
-use mathlib.Core.Path.{subst, _∙_}
+use mathlib.Core.Path.{subst, ap, _∙_}
 use borrow.Author.Needs.{needs}
 use Rattle.script.specs.declared.Verdict.the-variants.{Accepted, Refused}
 use Rattle.script.specs.Verdicts.{Judges}
+use Rattle.normal.specs.Left.{laid-outcome}
 use Rattle.words.proofs.Packing.{packed-small}
 use Rattle.engine_load.specs.Loading.{LoadsWith}
 use Rattle.engine_load.proofs.Laws.{ready, accepted-file, file-taken, translatable, node-fits}
@@ -77,7 +78,8 @@ fill-requires c κs =
       file-taken accepted .readable .few,
       laid-within accepted (a .kinds .now) (laid .last .1 .1 .1 .1 .0) (a .operands .now) (laid .last .1 .1 .1 .1 .1
           .0)
-          (laid .result) (at-n .n .given .0 .0) (at-n .n .given .1) (laid .ensures .0),
+          (laid-outcome (laid .result)) (at-n .n .given .0 .0) (ap laid-outcome (at-n .n .given .1))
+          (laid .ensures .0),
     )
 
 cast-t37 : tie.Need-cast-t37
@@ -123,9 +125,9 @@ returns c =
     let kinds = laid .last .1 .1 .1 .1 .0 in
     let operands = laid .last .1 .1 .1 .1 .1 .0 in
     rw (c .before .before .fill .ensures) (subst
-    (λ r. LoadsWith (a .file .now) (a .kinds .now) (a .operands .now) (a .table .now) (ready (d .result) r)
-    kinds operands (table-after functions kinds operands r table)) (at-n .n .given .1)
-    (loads-with-laid (laid .result) (d .result) table j (d .ensures) (laid .ensures .0) (laid .ensures .1)))
+    (λ r. LoadsWith (a .file .now) (a .kinds .now) (a .operands .now) (a .table .now) (ready (d .result) (laid-outcome r))
+    kinds operands (table-after functions kinds operands (laid-outcome r) table)) (at-n .n .given .1)
+    (loads-with-laid (laid-outcome (laid .result)) (d .result) table j (d .ensures) (laid .ensures .0) (laid .ensures .1)))
 
 same-length-4 : tie.Need-same-length-4
 same-length-4 c = search needs
@@ -150,9 +152,9 @@ returns-2 c =
     let table = laid .last .1 .1 .1 .0 in
     let kinds = laid .last .1 .1 .1 .1 .0 in
     let operands = laid .last .1 .1 .1 .1 .1 .0 in
-    subst (λ r. LoadsWith (a .file .now) (a .kinds .now) (a .operands .now) (a .table .now) (ready (d .result) r)
-    kinds operands (table-after functions kinds operands r table)) (c .enum-told .given .1)
-    (loads-with-laid (laid .result) (d .result) table j (d .ensures) (laid .ensures .0) (laid .ensures .1))
+    subst (λ r. LoadsWith (a .file .now) (a .kinds .now) (a .operands .now) (a .table .now) (ready (d .result) (laid-outcome r))
+    kinds operands (table-after functions kinds operands (laid-outcome r) table)) (c .enum-told .given .1)
+    (loads-with-laid (laid-outcome (laid .result)) (d .result) table j (d .ensures) (laid .ensures .0) (laid .ensures .1))
 
 same-length-7 : tie.Need-same-length-7
 same-length-7 c = search needs
@@ -168,7 +170,7 @@ returns-3 c =
     let refused = refusal (c .before .before .before .before .before .before .before) in
     let small = packed-small {number = parts .0} {node = parts .1 .0} {count = 0} {cells = 0}
     (omega (arith, told .given .0 .1)) (omega (arith, node-fits refused)) (omega arith) (omega arith) in
-    loads-with-refusal refused (c .pack .ensures ∙ small) (cleared .ensures .1 .0) (cleared .ensures .1 .1)
+    loads-with-refusal refused (c .pack .ensures ∙ small) (cleared .ensures .0) (cleared .ensures .1)
 
 pub load-with-spec : {M : Type 1} → statement M
 load-with-spec =

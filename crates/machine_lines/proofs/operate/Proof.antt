@@ -1,7 +1,9 @@
-use Rattle.words.specs.declared.Exact.the-variants.{Value}
+-- `machine_lines::operate` meets its contract.
+use lib.IntN.{ℤ}
 use mir.Facts.{toZ-ofZ}
 use mathlib.Core.Path.{ap, _∙_}
 use borrow.Author.Tests.{ne-eqb}
+use Rattle.semantics.specs.Outcome.{done}
 use Rattle.machine_lines.proofs.Lines.{less-fits}
 use borrow.Author.Needs.{needs}
 use Rattle.machine_lines.proofs.operate.Statement.{statement}
@@ -36,7 +38,7 @@ returns-3 c = rw (
   ne-eqb _ 5 (c .before .if2 .left),
   toZ-ofZ {z = c
       .is-less .result} (record { sfits = c .is-less .ok }),
-) (ap Value (rw (
+) (ap (λ (z : ℤ). done z tt) (rw (
   toZ-ofZ {z = c .before .before .before
       .args .a} (c .before .before .before .fits .a),
   toZ-ofZ {z = c .before .before .before .args .b} (c .before

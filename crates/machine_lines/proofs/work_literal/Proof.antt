@@ -4,7 +4,7 @@ use native.Mathlib.Omega.{arith}
 use mathlib.Core.Path.{sym, refl, ap, _∙_}
 use Prim.Native.Nat.{_+_}
 use Rattle.semantics.specs.Words.{store-of}
-use Rattle.store.specs.Acquiring.{appended-all}
+use Rattle.store.specs.Acquiring.{acquired-outcome, appended-all}
 use Rattle.store.proofs.Filling.{filled-by-appending, none-given}
 use Rattle.machine_lines.specs.Frames.{words-at}
 use Rattle.machine_lines.specs.Lines.{memory}
@@ -98,8 +98,8 @@ returns-2 c =
     .c .given .0 .0) ws) (c .before .before .before .before .before .before
     .before .before .before .before .before .before .before .before .before .before .before .acquire-empty
     .ensures .1) ∙ filled-by-appending (a .depth) (m .store) (c .before .before .before .before .before .before
-    .before .before .before .before .before .before .c .given .0 .0) ws (sym
-    (c .before .before .before .before .before .before .before .before .before .before .before .before .c .given .1)
+    .before .before .before .before .before .before .c .given .0 .0) ws (ap acquired-outcome (sym
+    (c .before .before .before .before .before .before .before .before .before .before .before .before .c .given .1))
     ∙ c .before .before .before .before .before .before .before .before .before .before .before .before
     .before .before .before .before .before .acquire-empty .ensures .0))
     (c .before .before .before .before .before .before .before .before .before .before .before .before
@@ -132,7 +132,7 @@ returns-3 c =
     (c .before .before .before .before .before .before .acquire-empty .last .0)
     (c .before .before .before .before .before .before .acquire-empty .last .1 .0))
     (c .before .before .before .before .before .before .acquire-empty .ensures .1 ∙ none-given (a .depth) (m .store)
-    ws (sym (c .before .enum-told .given .1) ∙ c .before .before .before .before .before .before
+    ws (ap acquired-outcome (sym (c .before .enum-told .given .1)) ∙ c .before .before .before .before .before .before
     .acquire-empty .ensures .0)) (c .before .enum-told .given .1) (c .halted2 .result) (c .halted2 .ensures)
 
 pub work-literal-spec : {M : Type 1} → statement M

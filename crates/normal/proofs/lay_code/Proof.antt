@@ -19,7 +19,7 @@ returns : tie.Need-returns
 returns c =
     let a = c .before .before .before .before .before .before .before .before .before .args in
     λ fs w. refused-is fs (a .ks .now) (a .os .now) (a .at) w
-    (omega (arith, w .at, c .before .before .before .before .before .before .if1 .taken)) _ _ _
+    (omega (arith, w .at, c .before .before .before .before .before .before .if1 .taken)) _ _
     (c .before .before .before .refuse .ensures)
 
 sub-n : tie.Need-sub-n
@@ -44,7 +44,7 @@ returns-2 c =
       c .before .before .before .before .before .before .before .if1 .left,
       c .before .before
           .before .before .before .before .if2 .taken,
-    )) _ _ _
+    )) _ _
     (c .before .before .before .refuse2 .ensures)
 
 refuse-requires-3 : tie.Need-refuse-requires-3
@@ -66,7 +66,7 @@ returns-3 c =
       c .before .before .before .before .before .before .before .before .if1 .left,
       c .before
           .before .before .before .before .before .if3 .taken,
-    )) _ _ _
+    )) _ _
     (c .before .before .before .refuse3 .ensures)
 
 move-kinds-requires : tie.Need-move-kinds-requires

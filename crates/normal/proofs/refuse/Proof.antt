@@ -1,3 +1,4 @@
+-- `normal::refuse` meets its contract.
 use mathlib.Core.Path.{refl}
 use Prim.Native.Nat.{_-_}
 use lib.ListN.{length}
@@ -27,12 +28,8 @@ same-length-2 c = search needs
 
 returns : tie.Need-returns
 returns c = let a = c .before .before .before .before .before .before .before .before .before .before .args in (
-  refl,
-  (
-    cleared _ (length (a .ks .now)) 0 (c .before .before .before .before .before .before .move-kinds
-        .ensures),
-    cleared _ (length (a .os .now)) (pos 0) (c .before .move-ops .ensures),
-  ),
+  cleared _ (length (a .ks .now)) 0 (c .before .before .before .before .before .before .move-kinds .ensures),
+  cleared _ (length (a .os .now)) (pos 0) (c .before .move-ops .ensures),
 )
 
 pub refuse-spec : {M : Type 1} → statement M

@@ -1,5 +1,5 @@
 -- `script_read::node_at` meets its contract, by the laws of `Nodes`.
-use Rattle.script_read.proofs.Nodes.{not-allowed, number, judged, low-wrong, high-wrong, in-range}
+use Rattle.script_read.proofs.Nodes.{node-says, not-allowed, number, judged, low-wrong, high-wrong, in-range}
 use Rattle.script_read.specs.Told.{place-of}
 use borrow.Author.Tests.{not-true, not-false}
 use native.Mathlib.Omega.{arith}
@@ -16,14 +16,17 @@ is-allowed-requires c κs = search needs
 
 returns : tie.Need-returns
 returns c = let a = c .before .before .before .before .before .args in
-    not-allowed (a .kinds .now) (a .operands .now) (place-of (a .place)) (a .at) (c .before .before .kind-at .result)
-    (c .before .before .kind-at .ensures) (sym (c .before .is-allowed .ensures) ∙ not-true _ (c .if1 .taken))
+    node-says (a .kinds .now) (a .operands .now) (place-of (a .place)) (a .at) _
+    (not-allowed (a .kinds .now) (a .operands .now) (place-of (a .place)) (a .at) (c .before .before .kind-at .result)
+    (c .before .before .kind-at .ensures) (sym (c .before .is-allowed .ensures) ∙ not-true _ (c .if1 .taken)))
 
 returns-2 : tie.Need-returns-2
 returns-2 c = let a = c .before .before .before .before .before .before .args in
-    number (a .kinds .now) (a .operands .now) (place-of (a .place)) (a .at) (c .before .before .before .kind-at .result)
+    node-says (a .kinds .now) (a .operands .now) (place-of (a .place)) (a .at) _
+    (number (a .kinds .now) (a .operands .now) (place-of (a .place)) (a .at)
+    (c .before .before .before .kind-at .result)
     (c .before .before .before .kind-at .ensures)
-    (sym (c .before .before .is-allowed .ensures) ∙ not-false _ (c .before .if1 .left)) (c .if2 .taken)
+    (sym (c .before .before .is-allowed .ensures) ∙ not-false _ (c .before .if1 .left)) (c .if2 .taken))
 
 operand-at-requires : tie.Need-operand-at-requires
 operand-at-requires c κs = search needs
@@ -38,10 +41,11 @@ returns-3 : tie.Need-returns-3
 returns-3 c = let a = c .before .before .before .before .before .before .before .before .before .before .args in
     let k = c .before .before .before .before .before .before .before .kind-at in
     let n = c .before .before .before .operand-at in
-    judged (a .kinds .now) (a .operands .now) (place-of (a .place)) (a .at) (k .result) (k .ensures)
+    node-says (a .kinds .now) (a .operands .now) (place-of (a .place)) (a .at) _
+    (judged (a .kinds .now) (a .operands .now) (place-of (a .place)) (a .at) (k .result) (k .ensures)
     (sym (c .before .before .before .before .before .before .is-allowed .ensures) ∙ not-false _ (c .before .before .before .before .before .if1 .left))
     (c .before .before .before .before .if2 .left)
-    (n .result) (n .ensures) _ (low-wrong (k .result) (n .result) (omega arith))
+    (n .result) (n .ensures) _ (low-wrong (k .result) (n .result) (omega arith)))
 
 high-limit-requires : tie.Need-high-limit-requires
 high-limit-requires c κs = search needs
@@ -55,10 +59,11 @@ returns-4 c = let a =
     .args in
     let k = c .before .before .before .before .before .before .before .before .before .before .kind-at in
     let n = c .before .before .before .before .before .before .operand-at in
-    judged (a .kinds .now) (a .operands .now) (place-of (a .place)) (a .at) (k .result) (k .ensures)
+    node-says (a .kinds .now) (a .operands .now) (place-of (a .place)) (a .at) _
+    (judged (a .kinds .now) (a .operands .now) (place-of (a .place)) (a .at) (k .result) (k .ensures)
     (sym (c .before .before .before .before .before .before .before .before .before .is-allowed .ensures) ∙ not-false _ (c .before .before .before .before .before .before .before .before .if1 .left))
     (c .before .before .before .before .before .before .before .if2 .left)
-    (n .result) (n .ensures) _ (high-wrong (k .result) (n .result) (omega arith))
+    (n .result) (n .ensures) _ (high-wrong (k .result) (n .result) (omega arith)))
 
 cast-t12 : tie.Need-cast-t12
 cast-t12 c = search needs
@@ -72,10 +77,11 @@ returns-5 c = let a =
     .args in
     let k = c .before .before .before .before .before .before .before .before .before .before .kind-at in
     let n = c .before .before .before .before .before .before .operand-at in
-    judged (a .kinds .now) (a .operands .now) (place-of (a .place)) (a .at) (k .result) (k .ensures)
+    node-says (a .kinds .now) (a .operands .now) (place-of (a .place)) (a .at) _
+    (judged (a .kinds .now) (a .operands .now) (place-of (a .place)) (a .at) (k .result) (k .ensures)
     (sym (c .before .before .before .before .before .before .before .before .before .is-allowed .ensures) ∙ not-false _ (c .before .before .before .before .before .before .before .before .if1 .left))
     (c .before .before .before .before .before .before .before .if2 .left)
-    (n .result) (n .ensures) _ (in-range _ _ (omega arith) (omega arith) (omega arith))
+    (n .result) (n .ensures) _ (in-range _ _ (omega arith) (omega arith) (omega arith)))
 
 pub node-at-spec : {M : Type 1} → statement M
 node-at-spec =

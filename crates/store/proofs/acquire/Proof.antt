@@ -2,7 +2,7 @@
 use mathlib.Core.Path.{sym, ap, _∙_}
 use borrow.Author.Needs.{needs}
 use Rattle.semantics.specs.Words.{store-of}
-use Rattle.store.specs.Acquiring.{appended-all}
+use Rattle.store.specs.Acquiring.{acquired-outcome, appended-all}
 use Rattle.store.proofs.Filling.{filled-by-appending, none-given}
 use Rattle.store.proofs.acquire.Statement.{statement}
 use Rattle.store.proofs.acquire.Tie as tie
@@ -30,7 +30,7 @@ returns c =
     let a = c .before .before .before .before .before .before .before .before .before .before .before .before
     .before .before .before .before .args in
     let σ = store-of (a .slots .now) (a .heads .now) in
-    let e = sym (c .before .before .before .before .before .before .before .c .given .1) ∙
+    let e = ap acquired-outcome (sym (c .before .before .before .before .before .before .before .c .given .1)) ∙
     c .before .before .before .before .before .before .before .before .before .before .before .before
     .acquire-empty .ensures .0 in (
       e,
@@ -51,7 +51,8 @@ returns-2 : tie.Need-returns-2
 returns-2 c =
     let a = c .before .before .before .before .before .before .before .before .before .args in
     let σ = store-of (a .slots .now) (a .heads .now) in
-    let e = sym (c .enum-told .given .1) ∙ c .before .before .before .before .before .acquire-empty .ensures .0 in (
+    let e = ap acquired-outcome (sym (c .enum-told .given .1))
+    ∙ c .before .before .before .before .before .acquire-empty .ensures .0 in (
       e,
       c .before .before .before .before .before .acquire-empty .ensures .1 ∙ none-given (a .depth) σ (a .words .now)
           e,

@@ -2,24 +2,17 @@
 use mathlib.Core.Path.{sym}
 use Prim.Native.Nat.{_<_, _≤_, _^_}
 use native.Mathlib.Omega.{arith}
-use lib.IntN.{pos, negsuc, negℤ, _+ℤ_, _-ℤ_}
+use lib.IntN.{pos, negsuc, _+ℤ_, _-ℤ_}
 use mir.Syntax.{w64}
 use mir.Val.{SFits}
 use mir.Facts.{toZ-ofZ}
-use Rattle.words.proofs.Signed.{shifted, shifted-opposite, opposite-bound, below, not-below, range-low}
-use Rattle.words.proofs.Signed.{range-high, Addends, upper-fits, lower-fits, above-range, not-above}
-use Rattle.words.proofs.Signed.{below-range, not-under, checked-value}
+use Rattle.words.proofs.Signed.{shifted, below, not-below, Addends, upper-fits, lower-fits, above-range}
+use Rattle.words.proofs.Signed.{not-above, below-range, not-under, checked-value}
 use Rattle.words.proofs.exact_sum.Statement.{statement}
 use Rattle.words.proofs.exact_sum.Tie as tie
 
-addends : (c : tie.Start) → Addends (c .args .a) (c .args .b) (negℤ (c .args .b))
-addends c =
-    record {
-      first = c .fits .a .sfits;
-      second = omega arith;
-      minus = opposite-bound (c .args .b) (c .fits .b .sfits);
-      opposite = omega (arith, shifted-opposite (c .args .b) (omega arith));
-    }
+addends : (c : tie.Start) → Addends (c .args .a) (c .args .b)
+addends c = record { first = c .fits .a .sfits; second = c .fits .b .sfits }
 
 negative : (c : tie.Then1) → shifted (c .before .args .b) < 2 ^ 66
 negative c = below (c .before .args .b) (pos 0) (omega arith) (rw (toZ-ofZ (c .before .fits .b)) at (c .if1 .taken))
@@ -28,18 +21,7 @@ not-negative : (c : tie.Else1) → 2 ^ 66 ≤ shifted (c .before .args .b)
 not-negative c = not-below (c .before .args .b) (pos 0) (rw (toZ-ofZ (c .before .fits .b)) at (c .if1 .left))
 
 down : (c : tie.Then1) → SFits w64 (negsuc 9223372036854775807 -ℤ c .before .args .b)
-down c =
-    record {
-      sfits = lower-fits (addends (c .before))
-          (omega (arith, negative c, shifted-opposite (c .before .args .b) (omega arith)))
-          (omega (
-            arith,
-            shifted-opposite (c .before .args .b) (omega arith),
-            range-low (c .before .args .b)
-                (omega arith),
-            range-high (c .before .args .b) (omega arith),
-          ));
-    }
+down c = record { sfits = lower-fits (addends (c .before)) (negative c) }
 
 sub-if2 : tie.Need-sub-if2
 sub-if2 c = rw (toZ-ofZ (c .before .fits .b)) (down c)
@@ -47,13 +29,11 @@ sub-if2 c = rw (toZ-ofZ (c .before .fits .b)) (down c)
 sum-fits-down : (c : tie.Else2) → SFits w64 (c .before .before .args .a +ℤ c .before .before .args .b)
 sum-fits-down c =
     record {
-      sfits = not-under (addends (c .before .before))
-          (omega (arith, negative (c .before), shifted-opposite (c .before .before .args .b) (omega arith)))
+      sfits = not-under (addends (c .before .before)) (negative (c .before))
           (rw (
             toZ-ofZ (c .before .before .fits .a),
             toZ-ofZ (c .before .before .fits .b),
-            toZ-ofZ
-                (down (c .before)),
+            toZ-ofZ (down (c .before)),
           ) at (c .if2 .left));
     }
 
@@ -66,8 +46,7 @@ returns c =
     (rw (
       toZ-ofZ (c .before .before .fits .a),
       toZ-ofZ (c .before .before .fits .b),
-      toZ-ofZ
-          (down (c .before)),
+      toZ-ofZ (down (c .before)),
     ) at (c .if2 .taken)))
 
 returns-2 : tie.Need-returns-2
@@ -76,18 +55,7 @@ returns-2 c =
     (sym (checked-value _ (sum-fits-down c .sfits)))
 
 up : (c : tie.Else1) → SFits w64 (pos 9223372036854775807 -ℤ c .before .args .b)
-up c =
-    record {
-      sfits = upper-fits (addends (c .before))
-          (omega (arith, not-negative c, shifted-opposite (c .before .args .b) (omega arith)))
-          (omega (
-            arith,
-            shifted-opposite (c .before .args .b) (omega arith),
-            range-low (c .before .args .b)
-                (omega arith),
-            range-high (c .before .args .b) (omega arith),
-          ));
-    }
+up c = record { sfits = upper-fits (addends (c .before)) (not-negative c) }
 
 sub-if3 : tie.Need-sub-if3
 sub-if3 c = rw (toZ-ofZ (c .before .fits .b)) (up c)
@@ -95,13 +63,11 @@ sub-if3 c = rw (toZ-ofZ (c .before .fits .b)) (up c)
 sum-fits-up : (c : tie.Else3) → SFits w64 (c .before .before .args .a +ℤ c .before .before .args .b)
 sum-fits-up c =
     record {
-      sfits = not-above (addends (c .before .before))
-          (omega (arith, not-negative (c .before), shifted-opposite (c .before .before .args .b) (omega arith)))
+      sfits = not-above (addends (c .before .before)) (not-negative (c .before))
           (rw (
             toZ-ofZ (c .before .before .fits .a),
             toZ-ofZ (c .before .before .fits .b),
-            toZ-ofZ
-                (up (c .before)),
+            toZ-ofZ (up (c .before)),
           ) at (c .if3 .left));
     }
 
@@ -110,12 +76,11 @@ add-t12 c = rw (toZ-ofZ (c .before .before .fits .a), toZ-ofZ (c .before .before
 
 returns-3 : tie.Need-returns-3
 returns-3 c =
-    sym (above-range (addends (c .before .before)) (up (c .before) .sfits)
+    sym (above-range (addends (c .before .before)) (not-negative (c .before))
     (rw (
       toZ-ofZ (c .before .before .fits .a),
       toZ-ofZ (c .before .before .fits .b),
-      toZ-ofZ
-          (up (c .before)),
+      toZ-ofZ (up (c .before)),
     ) at (c .if3 .taken)))
 
 returns-4 : tie.Need-returns-4

@@ -1,7 +1,6 @@
 -- `words::signed_of` meets its contract.
 use mathlib.Core.Path.{_≡_, refl, ap, _∙_}
 use Prim.Native.Nat.{ℕ, zero, suc, _-_, _<_, _≤_, _^_}
-use native.Mathlib.Nat.{zero-add}
 use native.Mathlib.Omega.{arith}
 use lib.IntN.{ℤ, pos, negsuc, _-ℤ_}
 use lib.Signed.{mag}
@@ -11,12 +10,9 @@ use mir.Val.{toZ, ofZ}
 use mir.Facts.{toZ-ofZ}
 use borrow.Author.Tests.{lt-ltb, le-ltb}
 use borrow.Author.Needs.{needs}
+use Rattle.words.proofs.Signed.{complement-pos}
 use Rattle.words.proofs.signed_of.Statement.{statement}
 use Rattle.words.proofs.signed_of.Tie as tie
-
-neg-less : (n : ℕ) → n < 2 ^ 63 → negsuc 0 -ℤ pos n ≡ negsuc n
-neg-less zero h = refl
-neg-less (suc n) h = rw zero-add
 
 low : (n : ℕ) → n < 2 ^ 63 → toZ w64 n ≡ pos n
 low n h = rw (lt-ltb n (2 ^ 63) h)
@@ -27,7 +23,7 @@ negative : (v : ℕ) → 9223372036854775808 ≤ v → v < 2 ^ 64 →
 negative v l h =
     let n = 18446744073709551615 - v in
     let e : negsuc 0 -ℤ toZ w64 n ≡ negsuc n =
-    ap (λ (z : ℤ). negsuc 0 -ℤ z) (low n (omega arith)) ∙ neg-less n (omega arith) in (
+    ap (λ (z : ℤ). negsuc 0 -ℤ z) (low n (omega arith)) ∙ complement-pos n in (
       rw e (omega arith),
       rw (e, toZ-ofZ {w = w64} {z = negsuc n} (record { sfits = omega arith }), le-ltb v (2 ^ 63) l)
           (ap negsuc (omega arith)),

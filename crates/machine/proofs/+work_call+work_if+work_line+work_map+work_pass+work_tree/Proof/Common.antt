@@ -38,7 +38,6 @@ use Rattle.store.proofs.append.Reads as append-reads
 use Rattle.store_words.proofs.named_cell.Reads as named-cell-reads
 use Rattle.store_words.proofs.read_length.Reads as read-length-reads
 use Rattle.store_words.proofs.read_slot.Reads as read-slot-reads
-use Rattle.machine_code.proofs.atom_at.Reads as atom-at-reads
 
 abbrev pub μ-work-call : Measures 8 work-call-kinds.ps ℕ
 μ-work-call κs a = 4 * (a .1 .1 .1 .1 .1 .1 .0 * 4097) + 2
@@ -193,14 +192,12 @@ abbrev pub work-tree-claims : ℕ → work-tree-lts.Claims
 work-tree-claims t = (
   halted-reads.Asked,
   halted-reads.Learnt,
-  atom-at-reads.Asked,
-  atom-at-reads.Learnt,
+  line-at-reads.Asked,
+  line-at-reads.Learnt,
   word-of-reads.Asked,
   word-of-reads.Learnt,
   done-reads.Asked,
   done-reads.Learnt,
-  line-at-reads.Asked,
-  line-at-reads.Learnt,
   work-line-below t,
   work-line.Post,
 )

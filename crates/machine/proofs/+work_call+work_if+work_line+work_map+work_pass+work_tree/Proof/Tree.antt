@@ -5,15 +5,13 @@ use native.Mathlib.Omega.{arith}
 use mir.Facts.{toZ-ofZ}
 use Rattle.machine_positions.specs.Machine.{code, call-on}
 use Rattle.machine_positions.specs.TreeLaws.{Working, working-starts, not-end, tree-out, tree-closed, tree-stops}
-use Rattle.machine_positions.specs.TreeLaws.{tree-goes, end-here}
+use Rattle.machine_positions.specs.TreeLaws.{tree-goes}
 use borrow.Author.Needs.{needs}
-use mathlib.Core.Path.{refl}
 use Rattle.semantics.specs.Words.{store-of}
 use Rattle.machine_lines.specs.Lines.{memory}
 use Rattle.machine_positions.specs.Lengths.{line-long}
 use Rattle.machine.proofs.work_tree.Reads as work-tree
 use Rattle.machine.proofs.+work_call+work_if+work_line+work_map+work_pass+work_tree.Lts-work_tree as work-tree-lts
-use Rattle.machine_code.specs.declared.Line.the-variants as L
 use Rattle.machine.proofs.+work_call+work_if+work_line+work_map+work_pass+work_tree.Proof.Common.{work-tree-at}
 use Rattle.machine.proofs.+work_call+work_if+work_line+work_map+work_pass+work_tree.Proof.Common.{work-tree-claims}
 
@@ -53,17 +51,13 @@ pub work-tree-returns : (t : ℕ) → work-tree-lts.Need-returns (work-tree-clai
 work-tree-returns t c = tree-out (c .before .before .before .loop .inv) (inr (c .before .if1 .taken)) (c .halted
     .result) (c .halted .ensures)
 
-pub work-tree-index-1-if2 : (t : ℕ) → work-tree-lts.Need-index-1-if2 (work-tree-claims t)
-    (work-tree-at t) work-tree.Post work-tree-Inv-loop work-tree-μ-loop
-work-tree-index-1-if2 t c = search needs
-
-pub work-tree-add-atom-at : (t : ℕ) → work-tree-lts.Need-add-atom-at (work-tree-claims t) (work-tree-at t)
+pub work-tree-line-at-requires : (t : ℕ) → work-tree-lts.Need-line-at-requires (work-tree-claims t) (work-tree-at t)
     work-tree.Post work-tree-Inv-loop work-tree-μ-loop
-work-tree-add-atom-at t c = search needs
+work-tree-line-at-requires t c κs = search needs
 
-pub work-tree-atom-at-requires : (t : ℕ) → work-tree-lts.Need-atom-at-requires (work-tree-claims t) (work-tree-at t)
+pub work-tree-enum-known-l : (t : ℕ) → work-tree-lts.Need-enum-known-l (work-tree-claims t) (work-tree-at t)
     work-tree.Post work-tree-Inv-loop work-tree-μ-loop
-work-tree-atom-at-requires t c κs = search needs
+work-tree-enum-known-l t c = search needs
 
 pub work-tree-word-of-requires : (t : ℕ) → work-tree-lts.Need-word-of-requires (work-tree-claims t) (work-tree-at t)
     work-tree.Post work-tree-Inv-loop work-tree-μ-loop
@@ -89,25 +83,17 @@ pub work-tree-returns-2 : (t : ℕ) → work-tree-lts.Need-returns-2 (work-tree-
     work-tree-Inv-loop work-tree-μ-loop
 work-tree-returns-2 t c =
     let at-word-of = c .before in
-    let at-atom-at = at-word-of .before .before in
-    let at-if2 = at-atom-at .before .before .before in
-    let at-if1 = at-if2 .before .before in
+    let at-end = at-word-of .before .before .before in
+    let at-line-at = at-end .before .before in
+    let at-if1 = at-line-at .before .before .before in
     let at-loop-test = at-if1 .before in
     let at-loop = at-loop-test .before in
-    let start = at-loop .before .before in
-    let a = start .args in
-    let atom = at-atom-at .atom-at in
-    tree-closed (at-loop .loop .inv) (L.End (atom .result))
-    (at-loop-test .loop-test .taken)
-    (at-if1 .if1 .left) (end-here (a .kinds .now .now) (a .operands .now .now)
-    (at-loop .loop .p) (atom .result)
-    (at-if2 .if2 .taken) (atom .ensures)) (atom .result) refl
-    (at-word-of .word-of .result) (at-word-of .word-of .ensures) (c .done .result) (rw (toZ-ofZ {z =
-    at-word-of .word-of .result} (record { sfits = at-word-of .word-of .ok })) at (c .done .ensures))
-
-pub work-tree-line-at-requires : (t : ℕ) → work-tree-lts.Need-line-at-requires (work-tree-claims t) (work-tree-at t)
-    work-tree.Post work-tree-Inv-loop work-tree-μ-loop
-work-tree-line-at-requires t c κs = search needs
+    let end = at-end .l in
+    let line = at-line-at .line-at in
+    let word = at-word-of .word-of in
+    tree-closed (at-loop .loop .inv) (line .result) (at-loop-test .loop-test .taken) (at-if1 .if1 .left)
+    (line .ensures) (end .given .0 .0) (end .given .1) (word .result) (word .ensures) (c .done .result)
+    (rw (toZ-ofZ {z = word .result} (record { sfits = word .ok })) at (c .done .ensures))
 
 pub work-tree-sub-work-line : (t : ℕ) → work-tree-lts.Need-sub-work-line (work-tree-claims t) (work-tree-at t)
     work-tree.Post work-tree-Inv-loop work-tree-μ-loop
@@ -130,20 +116,17 @@ pub work-tree-returns-3 : (t : ℕ) → work-tree-lts.Need-returns-3 (work-tree-
     work-tree-Inv-loop work-tree-μ-loop
 work-tree-returns-3 t c =
     let at-work-line = c .before .before .before .before in
-    let at-line-at = at-work-line .before .before .before .before in
-    let at-if2 = at-line-at .before .before .before in
-    let at-if1 = at-if2 .before .before in
+    let at-match = at-work-line .before .before .before .before in
+    let at-line-at = at-match .before in
+    let at-if1 = at-line-at .before .before .before in
     let at-loop-test = at-if1 .before in
     let at-loop = at-loop-test .before in
-    let start = at-loop .before .before in
-    let a = start .args in
-    let w = at-work-line .work-line in
-    let l = at-line-at .line-at in
-    tree-stops (at-loop .loop .inv) (l .result) (at-loop-test .loop-test .taken)
-    (at-if1 .if1 .left)
-    (l .ensures) (not-end (a .kinds .now .now) (a .operands .now .now) (at-loop .loop .p) (l .result)
-    (at-if2 .if2 .left) (l .ensures)) (w .result)
-    (w .last .1 .1 .1 .0) (w .last .1 .1 .1 .1 .0) (w .last .1 .1 .1 .1 .1 .0) (w .ensures) (c .if3 .taken)
+    let worked = at-work-line .work-line in
+    let line = at-line-at .line-at in
+    tree-stops (at-loop .loop .inv) (line .result) (at-loop-test .loop-test .taken) (at-if1 .if1 .left)
+    (line .ensures) (not-end (line .result) (at-match .match .keys2)) (worked .result)
+    (worked .last .1 .1 .1 .0) (worked .last .1 .1 .1 .1 .0) (worked .last .1 .1 .1 .1 .1 .0) (worked .ensures)
+    (c .if2 .taken)
 
 pub work-tree-sub-left : (t : ℕ) → work-tree-lts.Need-sub-left (work-tree-claims t) (work-tree-at t) work-tree.Post
     work-tree-Inv-loop work-tree-μ-loop
@@ -158,26 +141,25 @@ pub work-tree-loop-again : (t : ℕ) → work-tree-lts.Need-loop-again (work-tre
     work-tree-Inv-loop work-tree-μ-loop
 work-tree-loop-again t c =
     let at-work-line = c .before .before .before .before in
-    let at-line-at = at-work-line .before .before .before .before in
-    let at-if2 = at-line-at .before .before .before in
-    let at-if1 = at-if2 .before .before in
+    let at-match = at-work-line .before .before .before .before in
+    let at-line-at = at-match .before in
+    let at-if1 = at-line-at .before .before .before in
     let at-loop-test = at-if1 .before in
     let at-loop = at-loop-test .before in
     let start = at-loop .before .before in
     let a = start .args in
     let k = code (a .kinds .now .now) (a .operands .now .now) (a .table .now) in
     let o = at-loop .loop in
-    let w = at-work-line .work-line in
-    let l = at-line-at .line-at in
-    tree-goes (at-loop .loop .inv) (l .result) (at-loop-test .loop-test .taken)
-    (at-if1 .if1 .left)
-    (l .ensures) (not-end (a .kinds .now .now) (a .operands .now .now) (at-loop .loop .p) (l .result)
-    (at-if2 .if2 .left) (l .ensures)) (w .result)
-    (w .last .1 .1 .1 .0) (w .last .1 .1 .1 .1 .0) (w .last .1 .1 .1 .1 .1 .0) (w .ensures) (c .if3 .left) (record {
-      slots-long = w .kept .1 .1 .1 .0;
-      heads-long = w .kept .1 .1 .1 .1 .0;
-      env-long = line-long k (o .left - 1)
-          (a .calls) (a .f) (o .p) (o .s) (memory (store-of (o .slots) (o .heads)) (o .env)) (l .result) (w .ensures);
+    let worked = at-work-line .work-line in
+    let line = at-line-at .line-at in
+    tree-goes (at-loop .loop .inv) (line .result) (at-loop-test .loop-test .taken) (at-if1 .if1 .left)
+    (line .ensures) (not-end (line .result) (at-match .match .keys2)) (worked .result)
+    (worked .last .1 .1 .1 .0) (worked .last .1 .1 .1 .1 .0) (worked .last .1 .1 .1 .1 .1 .0) (worked .ensures)
+    (c .if2 .left) (record {
+      slots-long = worked .kept .1 .1 .1 .0;
+      heads-long = worked .kept .1 .1 .1 .1 .0;
+      env-long = line-long k (o .left - 1) (a .calls) (a .f) (o .p) (o .s)
+          (memory (store-of (o .slots) (o .heads)) (o .env)) (line .result) (worked .ensures);
     })
 
 pub work-tree-halted-requires-2 : (t : ℕ) → work-tree-lts.Need-halted-requires-2 (work-tree-claims t) (work-tree-at t)
