@@ -75,10 +75,13 @@ pub fn line_at(kinds: &[u8], operands: &[i64], at: usize) -> Line
     ensures { λ r. ⌜ r ≡ line-at (now (kinds .entry)) (now (operands .entry)) at ⌝ }
 {
     let kind = kinds[at];
+    let a = atom_at(kinds, operands, at + 1);
+    if kind == 16 {
+        return Line::End(a);
+    }
     let n = natural_at(operands, at);
     let x = (n % 256) as u8;
     let y = (n / 256 % 256) as u8;
-    let a = atom_at(kinds, operands, at + 1);
     match kind {
         8 => Line::Call(x, y),
         9 => Line::Literal(x, (n / 65536 % 256) as u8),
@@ -88,7 +91,6 @@ pub fn line_at(kinds: &[u8], operands: &[i64], at: usize) -> Line
         13 => Line::Map(x, y, a),
         14 => Line::Retain(x),
         15 => Line::Release(x),
-        16 => Line::End(a),
         _ => Line::Operation(kind, x, a, atom_at(kinds, operands, at + 2)),
     }
 }

@@ -1,3 +1,4 @@
+-- `machine_code::line_at` meets its contract: the line of a kind, an operand and the atoms after it.
 use mathlib.Core.Path.{refl, sym, _∙_}
 use lib.ListN.{getD}
 use Rattle.machine_code.proofs.Reading.{line-here, operation-of-kind}
@@ -8,6 +9,18 @@ use Rattle.machine_code.proofs.line_at.Tie as tie
 shared-slice-read-kind : tie.Need-shared-slice-read-kind
 shared-slice-read-kind c = search needs
 
+add-atom-at : tie.Need-add-atom-at
+add-atom-at c = search needs
+
+atom-at-requires : tie.Need-atom-at-requires
+atom-at-requires c κs = search needs
+
+returns : tie.Need-returns
+returns c =
+    let a = c .before .before .before .before .args in
+    line-here (a .kinds .now) (a .operands .now) (a .at) 16 _ (c .before .atom-at .result) _ (sym (c .if1 .taken)) refl
+    (c .before .atom-at .ensures) refl
+
 natural-at-requires : tie.Need-natural-at-requires
 natural-at-requires c κs = search needs
 
@@ -17,14 +30,8 @@ cast-x c = search needs
 cast-y : tie.Need-cast-y
 cast-y c = search needs
 
-add-atom-at : tie.Need-add-atom-at
-add-atom-at c = search needs
-
-atom-at-requires : tie.Need-atom-at-requires
-atom-at-requires c κs = search needs
-
-cast-t17 : tie.Need-cast-t17
-cast-t17 c = search needs
+cast-t18 : tie.Need-cast-t18
+cast-t18 c = search needs
 
 add-atom-at-2 : tie.Need-add-atom-at-2
 add-atom-at-2 c = search needs
@@ -38,87 +45,106 @@ add-atom-at-3 c = search needs
 atom-at-requires-3 : tie.Need-atom-at-requires-3
 atom-at-requires-3 c κs = search needs
 
-returns : tie.Need-returns
-returns c = let a = c .before .before .before .before .before .args in line-here (a .kinds .now) (a .operands .now)
-    (a .at) 8 (c .before .before .natural-at .result) (c .before .atom-at .result) _ (sym (c .match .keys1)) (c
-    .before .before .natural-at .ensures) (c .before .atom-at .ensures) refl
-
 returns-2 : tie.Need-returns-2
-returns-2 c = let a = c .before .before .before .before .before .args in line-here (a .kinds .now) (a .operands
-    .now) (a .at) 9 (c .before .before .natural-at .result) (c .before .atom-at .result) _ (sym (c .match .keys2))
-    (c .before .before .natural-at .ensures) (c .before .atom-at .ensures) refl
+returns-2 c =
+    let a = c .before .before .before .before .before .before .args in
+    let n = c .before .natural-at in
+    let atom = c .before .before .before .atom-at in
+    line-here (a .kinds .now) (a .operands .now) (a .at) 8 (n .result) (atom .result) _ (sym (c .match .keys1))
+    (n .ensures) (atom .ensures) refl
 
 returns-3 : tie.Need-returns-3
-returns-3 c = let a = c .before .before .before .before .before .before .args in line-here (a .kinds .now) (a
-    .operands .now) (a .at) 10 (c .before .before .before .natural-at .result) (c .before .before .atom-at .result)
-    (c .atom-at2 .result) (sym (c .before .match .keys3)) (c .before .before .before .natural-at .ensures) (c
-    .before .before .atom-at .ensures) (c .atom-at2 .ensures)
+returns-3 c =
+    let a = c .before .before .before .before .before .before .args in
+    let n = c .before .natural-at in
+    let atom = c .before .before .before .atom-at in
+    line-here (a .kinds .now) (a .operands .now) (a .at) 9 (n .result) (atom .result) _ (sym (c .match .keys2))
+    (n .ensures) (atom .ensures) refl
 
 returns-4 : tie.Need-returns-4
-returns-4 c = let a = c .before .before .before .before .before .args in line-here (a .kinds .now) (a .operands
-    .now) (a .at) 11 (c .before .before .natural-at .result) (c .before .atom-at .result) _ (sym (c .match .keys4))
-    (c .before .before .natural-at .ensures) (c .before .atom-at .ensures) refl
+returns-4 c =
+    let a = c .before .before .before .before .before .before .before .args in
+    let n = c .before .before .natural-at in
+    let atom = c .before .before .before .before .atom-at in
+    line-here (a .kinds .now) (a .operands .now) (a .at) 10 (n .result) (atom .result) (c .atom-at2 .result) (sym (c .before .match .keys3))
+    (n .ensures) (atom .ensures) (c .atom-at2 .ensures)
 
 returns-5 : tie.Need-returns-5
-returns-5 c = let a = c .before .before .before .before .before .args in line-here (a .kinds .now) (a .operands
-    .now) (a .at) 12 (c .before .before .natural-at .result) (c .before .atom-at .result) _ (sym (c .match .keys5))
-    (c .before .before .natural-at .ensures) (c .before .atom-at .ensures) refl
+returns-5 c =
+    let a = c .before .before .before .before .before .before .args in
+    let n = c .before .natural-at in
+    let atom = c .before .before .before .atom-at in
+    line-here (a .kinds .now) (a .operands .now) (a .at) 11 (n .result) (atom .result) _ (sym (c .match .keys4))
+    (n .ensures) (atom .ensures) refl
 
 returns-6 : tie.Need-returns-6
-returns-6 c = let a = c .before .before .before .before .before .args in line-here (a .kinds .now) (a .operands
-    .now) (a .at) 13 (c .before .before .natural-at .result) (c .before .atom-at .result) _ (sym (c .match .keys6))
-    (c .before .before .natural-at .ensures) (c .before .atom-at .ensures) refl
+returns-6 c =
+    let a = c .before .before .before .before .before .before .args in
+    let n = c .before .natural-at in
+    let atom = c .before .before .before .atom-at in
+    line-here (a .kinds .now) (a .operands .now) (a .at) 12 (n .result) (atom .result) _ (sym (c .match .keys5))
+    (n .ensures) (atom .ensures) refl
 
 returns-7 : tie.Need-returns-7
-returns-7 c = let a = c .before .before .before .before .before .args in line-here (a .kinds .now) (a .operands
-    .now) (a .at) 14 (c .before .before .natural-at .result) (c .before .atom-at .result) _ (sym (c .match .keys7))
-    (c .before .before .natural-at .ensures) (c .before .atom-at .ensures) refl
+returns-7 c =
+    let a = c .before .before .before .before .before .before .args in
+    let n = c .before .natural-at in
+    let atom = c .before .before .before .atom-at in
+    line-here (a .kinds .now) (a .operands .now) (a .at) 13 (n .result) (atom .result) _ (sym (c .match .keys6))
+    (n .ensures) (atom .ensures) refl
 
 returns-8 : tie.Need-returns-8
-returns-8 c = let a = c .before .before .before .before .before .args in line-here (a .kinds .now) (a .operands
-    .now) (a .at) 15 (c .before .before .natural-at .result) (c .before .atom-at .result) _ (sym (c .match .keys8))
-    (c .before .before .natural-at .ensures) (c .before .atom-at .ensures) refl
+returns-8 c =
+    let a = c .before .before .before .before .before .before .args in
+    let n = c .before .natural-at in
+    let atom = c .before .before .before .atom-at in
+    line-here (a .kinds .now) (a .operands .now) (a .at) 14 (n .result) (atom .result) _ (sym (c .match .keys7))
+    (n .ensures) (atom .ensures) refl
 
 returns-9 : tie.Need-returns-9
-returns-9 c = let a = c .before .before .before .before .before .args in line-here (a .kinds .now) (a .operands
-    .now) (a .at) 16 (c .before .before .natural-at .result) (c .before .atom-at .result) _ (sym (c .match .keys9))
-    (c .before .before .natural-at .ensures) (c .before .atom-at .ensures) refl
+returns-9 c =
+    let a = c .before .before .before .before .before .before .args in
+    let n = c .before .natural-at in
+    let atom = c .before .before .before .atom-at in
+    line-here (a .kinds .now) (a .operands .now) (a .at) 15 (n .result) (atom .result) _ (sym (c .match .keys8))
+    (n .ensures) (atom .ensures) refl
 
 returns-10 : tie.Need-returns-10
-returns-10 c = let a = c .before .before .before .before .before .before .args in let r = c .before .match .rest in
-    operation-of-kind (getD (a .kinds .now) (a .at) 0) (c .before .before .before .natural-at .result) (c .before
-    .before .atom-at .result) (c .atom-at3 .result) (record {
-      k8 = r .0 .0 .0 .0 .0 .0 .0 .0 .1;
-      k9 = r .0 .0 .0 .0
-          .0 .0 .0 .1;
-      k10 = r .0 .0 .0 .0 .0 .0 .1;
-      k11 = r .0 .0 .0 .0 .0 .1;
-      k12 = r .0 .0 .0 .0 .1;
-      k13 = r .0 .0 .0
-          .1;
-      k14 = r .0 .0 .1;
-      k15 = r .0 .1;
-      k16 = r .1;
-    }) ∙ line-here (a .kinds .now) (a .operands .now) (a .at) _ (c
-    .before .before .before .natural-at .result) (c .before .before .atom-at .result) (c .atom-at3 .result) refl (c
-    .before .before .before .natural-at .ensures) (c .before .before .atom-at .ensures) (c .atom-at3 .ensures)
+returns-10 c =
+    let a = c .before .before .before .before .before .before .before .args in
+    let n = c .before .before .natural-at in
+    let atom = c .before .before .before .before .atom-at in
+    let r = c .before .match .rest in
+    operation-of-kind (getD (a .kinds .now) (a .at) 0) (n .result) (atom .result) (c .atom-at3 .result) (record {
+      k8 = r .0 .0 .0 .0 .0 .0 .0 .1;
+      k9 = r .0 .0 .0 .0 .0 .0 .1;
+      k10 = r .0 .0 .0 .0 .0 .1;
+      k11 = r .0 .0 .0 .0 .1;
+      k12 = r .0 .0 .0 .1;
+      k13 = r .0 .0 .1;
+      k14 = r .0 .1;
+      k15 = r .1;
+      k16 = c .before .before .before .if1 .left;
+    })
+    ∙ line-here (a .kinds .now) (a .operands .now) (a .at) _ (n .result) (atom .result) (c .atom-at3 .result) refl
+    (n .ensures) (atom .ensures) (c .atom-at3 .ensures)
 
 pub line-at-spec : {M : Type 1} → statement M
 line-at-spec =
     tie.close
     (tie.spec
     shared-slice-read-kind
+    add-atom-at
+    atom-at-requires
+    returns
     natural-at-requires
     cast-x
     cast-y
-    add-atom-at
-    atom-at-requires
-    cast-t17
+    cast-t18
     add-atom-at-2
     atom-at-requires-2
     add-atom-at-3
     atom-at-requires-3
-    returns
     returns-2
     returns-3
     returns-4
