@@ -1,7 +1,7 @@
 // How many calls the cases make, and how much of what each leaves is right: counted by call and by the number that the
 // case wants, and printed.
 use libc::STDOUT_FILENO;
-ghost use Prim.Native.Nat.{_<_, _≤_};
+ghost use Prim.Native.Nat.{_<_};
 
 // The parts of a tally: the four calls, and the stores that the cases of deliver.txt end with.
 pub const TRANSLATE: usize = 0;

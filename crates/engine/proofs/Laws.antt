@@ -2,19 +2,18 @@
 use Prim.Native.Nat.{ℕ, _^_, _%_, _<_, _≤_}
 use native.Mathlib.Omega.{arith}
 use mathlib.Core.Bool.{Bool, true, false, cond}
-use mathlib.Core.Path.{_≡_, refl, sym, ap, subst, _∙_}
+use mathlib.Core.Path.{_≡_, refl, sym, ap, _∙_}
 use mathlib.Core.List.{List}
 use lib.IntN.{ℤ, pos}
 use lib.ListN.{length, replicate}
 use Rattle.semantics.specs.Syntax.{Script, main-depth}
 use Rattle.semantics.specs.Annotate.{code}
-use Rattle.semantics.specs.Store.{Store, opened, cells-taken}
-use Rattle.semantics.specs.Words.{store-of, cells-in, shaped, slot-words, head-words}
+use Rattle.semantics.specs.Store.{opened}
+use Rattle.semantics.specs.Words.{store-of, cells-in, shaped}
 use Rattle.semantics.specs.Sound.{sound-words}
-use Rattle.semantics.specs.Calls.{Verdict, accepted, refused, Faulty, packed, admitted, room, code-kinds, code-operands}
-use Rattle.semantics.specs.Calls.{Reply, StoreReply, translated, refusing, answering, open-for, check-for, judged}
+use Rattle.semantics.specs.Calls.{Verdict, accepted, refused, packed, admitted, room, code-kinds, code-operands}
+use Rattle.semantics.specs.Calls.{StoreReply, translated, refusing, answering, open-for, check-for, judged}
 use Rattle.semantics.specs.Calls.{admitted-if, code-fits}
-use lib.Dec.{leb}
 use borrow.Author.Tests.{leb-true}
 use Rattle.semantics.specs.Calls.{engine-translate, request-fits, deliver-in, deliver-for}
 use Rattle.semantics.specs.Machine.{delivered}
@@ -22,7 +21,6 @@ use Rattle.engine_store.specs.declared.Ended.{Ended}
 use Rattle.engine_store.specs.declared.Ended.the-variants as E
 use Rattle.engine_store.specs.Left.{Left, left, left-by, opened-left, checked-left, Small}
 use Rattle.engine_delivery.specs.Delivered.{left-of, delivered-left}
-use Rattle.engine_load.specs.declared.Loaded.{Loaded}
 use Rattle.engine_load.specs.declared.Loaded.the-variants.{Ready, Refused}
 use Rattle.engine_load.specs.Loading.{told-load, kinds-after, operands-after, Loads}
 use Rattle.engine.specs.Promises.{Translates, Replies}

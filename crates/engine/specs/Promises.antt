@@ -4,7 +4,7 @@ use Prim.Native.Nat.{ℕ}
 use mathlib.Core.Path.{_≡_}
 use mathlib.Core.List.{List}
 use lib.IntN.{ℤ}
-use Rattle.semantics.specs.Calls.{Faulty, Reply, StoreReply, engine-translate}
+use Rattle.semantics.specs.Calls.{Faulty, StoreReply, engine-translate}
 
 pub record Translates (file kinds : List ℕ) (operands : List ℤ) (answer : ℕ) (kinds′ : List ℕ) (operands′ : List ℤ)
     : Type 0 where

@@ -13,11 +13,11 @@ use Rattle.semantics.specs.Store.{Store, cells-taken}
 use Rattle.semantics.specs.Words.{store-of, shaped}
 use Rattle.semantics.specs.Sound.{sound, sound-words}
 use Rattle.semantics.specs.Calls.{judged, accepted, request-fits}
-use Rattle.store_laws.specs.Tests.{both-hold}
+use Rattle.laws.specs.Tests.{both-hold}
 use Rattle.store_words.proofs.Puts.{Kept}
 use Rattle.machine_positions.specs.Machine as M
 use Rattle.machine_positions.specs.Delivery.{delivered-on}
-use Rattle.machine_scripts.specs.Script.{Coded, deliver-accepted}
+use Rattle.machine_laws.specs.Script.{Coded, deliver-accepted}
 use Rattle.engine_store.specs.declared.Ended.the-variants.{Answered, Refused}
 use Rattle.engine_store.specs.Left.{left}
 use Rattle.engine_store.proofs.Laws.{words-left}

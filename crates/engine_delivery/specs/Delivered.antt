@@ -11,7 +11,7 @@ use Rattle.semantics.specs.Sound.{sound-words}
 use Rattle.semantics.specs.Machine.{Delivered, program, delivered}
 use Rattle.semantics.specs.Calls.{judged, accepted, request-fits}
 use Rattle.machine_positions.specs.Machine as M
-use Rattle.machine_scripts.specs.Script.{Coded}
+use Rattle.machine_laws.specs.Script.{Coded}
 use Rattle.engine_store.specs.declared.Ended.{Ended}
 use Rattle.engine_store.specs.declared.Ended.the-variants.{Refused}
 use Rattle.engine_store.specs.Left.{Left, left, left-by}

@@ -1,7 +1,6 @@
 -- Demand 3 of the compiled calls. Of a call of `engine_open` or `engine_deliver` nothing is known but its own contract
 -- (`Reads.Post`), which holds of what the call was lent, what it answered and what it left.
 use Prim.Native.Nat.{ℕ}
-use mathlib.Core.Path.{_≡_}
 use mathlib.Core.List.{List}
 use lib.IntN.{ℤ}
 use contract.Lifetimes.{Lfts}

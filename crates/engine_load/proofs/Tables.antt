@@ -20,15 +20,15 @@ use Rattle.script.specs.declared.Verdict.the-variants.{Accepted, Refused}
 use Rattle.script.specs.Verdicts.{Judges}
 use Rattle.script.proofs.Whole.{kinds-of, operands-of}
 use Rattle.script_nodes.specs.Free.{no-script, admitted-free}
-use Rattle.sound_annotation.specs.Accepting.{judged-clean}
+use Rattle.soundness.specs.annotation.Accepting.{judged-clean}
 use Rattle.machine_code.specs.Reading.{depth-in, start-in}
 use Rattle.machine_positions.specs.Machine as M
 use Rattle.machine_laws.specs.Rows.{At}
 use Rattle.machine_table.specs.Positions.{ends-from, starts-from, filled}
 use Rattle.machine_table.proofs.Filling.{filled-long}
-use Rattle.machine_scripts.specs.Script.{body-at, Coded, code-written}
-use Rattle.machine_scripts.specs.Ends.{Roomy, ends-below, ends-long, tree-ends}
-use Rattle.machine_scripts.specs.Starts.{Jumping, starts-below, starts-ends, starts-stand}
+use Rattle.machine_laws.specs.Script.{body-at, Coded, code-written}
+use Rattle.machine_laws.specs.Ends.{Roomy, ends-below, ends-long, tree-ends}
+use Rattle.machine_laws.specs.Starts.{Jumping, starts-below, starts-ends, starts-stand}
 use Rattle.normal_script.specs.Depths.{DepthsFrom, Depths-by}
 use Rattle.normal.specs.Left.{left-of, Leaves}
 use Rattle.engine_load.specs.declared.Loaded.the-variants as L

@@ -8,7 +8,7 @@ use Rattle.semantics.specs.Syntax.{Script, main-depth}
 use Rattle.semantics.specs.Annotate.{code}
 use Rattle.semantics.specs.Calls.{Verdict, accepted, refused, Faulty, packed, admitted, room, code-kinds, code-operands}
 use Rattle.machine_positions.specs.Machine as M
-use Rattle.machine_scripts.specs.Script.{Coded}
+use Rattle.machine_laws.specs.Script.{Coded}
 use Rattle.engine_load.specs.declared.Loaded.{Loaded}
 use Rattle.engine_load.specs.declared.Loaded.the-variants.{Ready, Refused}
 

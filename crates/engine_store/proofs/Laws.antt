@@ -2,15 +2,15 @@
 use Prim.Native.Nat.{ℕ, zero, suc, _+_, _≤_}
 use native.Mathlib.Omega.{arith}
 use mathlib.Core.Bool.{true, false}
-use mathlib.Core.Path.{_≡_, refl, sym, ap, _∙_}
+use mathlib.Core.Path.{_≡_, refl, ap}
 use mathlib.Core.List.{List, [], _∷_}
 use lib.ListN.{length}
 use lib.IntN.{ℤ}
 use Rattle.semantics.specs.Basics.{tabulate}
 use Rattle.semantics.specs.Store.{Cell, Store, opened, one-if-used, used-cells, cells-taken}
-use Rattle.semantics.specs.Words.{cells-in, cell-at, store-of, shaped, slot-words, head-words}
+use Rattle.semantics.specs.Words.{cells-in, cell-at, store-of, shaped}
 use Rattle.semantics.specs.Sound.{sound, sound-words}
-use Rattle.store_laws.specs.Tests.{both-hold}
+use Rattle.laws.specs.Tests.{both-hold}
 use Rattle.store_words.proofs.Puts.{Kept}
 use Rattle.store_words.proofs.Spelling.{shaped-means, words-are}
 use Rattle.engine_store.specs.declared.Ended.the-variants.{Answered, Refused}

@@ -14,7 +14,7 @@ use Rattle.semantics.specs.Outcome.{stop}
 use Rattle.semantics.specs.Code.{rows}
 use Rattle.semantics.specs.Live.{Set, empty}
 use Rattle.semantics.specs.Machine.{State, Program, routine-of, frame-from, machine}
-use Rattle.sound_machine.specs.Discipline.{Fitting, Scoped, parameter-names}
+use Rattle.soundness.specs.machine.Discipline.{Fitting, Scoped, parameter-names}
 use Rattle.machine_code.specs.Reading.{depth-in, start-in}
 use Rattle.machine_lines.specs.Frames.{place, put-all}
 use Rattle.machine_lines.specs.Lines.{memory}

@@ -16,8 +16,8 @@ use Rattle.semantics.specs.Kinds.{later-parts}
 use Rattle.semantics.specs.Code as C
 use Rattle.semantics.specs.Live.{Set, _∪_, only, just}
 use Rattle.semantics.specs.Machine.{Frame, word, argument, binding}
-use Rattle.sound_base.specs.Tests.{or-cases, or-left}
-use Rattle.sound_machine.specs.Discipline.{Known, AllNew, known-after, LineScoped}
+use Rattle.laws.specs.Tests.{or-cases, or-left}
+use Rattle.soundness.specs.machine.Discipline.{Known, AllNew, known-after, LineScoped}
 use Rattle.machine_code.proofs.Reading.{no-bool}
 use Rattle.machine_lines.specs.Frames.{place, word-of}
 use Rattle.machine_positions.specs.Machine.{bound-all}

@@ -22,8 +22,8 @@ use Rattle.semantics.specs.Annotate.{NameDepths, atom-depth}
 use Rattle.semantics.specs.Machine as M
 use Rattle.semantics.specs.Machine.{State, Frame, Program, word, with-left, work-leaf, work-line, acquire, acquire-if}
 use Rattle.semantics.specs.Machine.{elements-of, retain-word, release-word, held, argument, touching}
-use Rattle.sound_base.specs.Tests.{some-if-holds, same-lists}
-use Rattle.sound_machine.specs.Discipline.{AllKnown, New, LeafFits}
+use Rattle.laws.specs.Tests.{some-if-holds, same-lists}
+use Rattle.soundness.specs.machine.Discipline.{AllKnown, New, LeafFits}
 use Rattle.words.specs.Words.{checked}
 use Rattle.store.specs.Acquiring.{next-cell}
 use Rattle.machine_code.specs.Reading.{atom-at, is-atom, line-of, line-at}

@@ -6,3 +6,6 @@ pub mod Loops
 pub mod Trees
 pub mod Calls
 pub mod Delivery
+pub mod Script
+pub mod Ends
+pub mod Starts

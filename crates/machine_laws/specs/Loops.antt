@@ -18,8 +18,8 @@ use Rattle.semantics.specs.Machine as M
 use Rattle.semantics.specs.Machine.{State, Frame, Program, word, step, stepped, with-left, work, work-line, work-pass}
 use Rattle.semantics.specs.Machine.{acquire, acquire-if, elements-of, append-word, held, touching, looped-over}
 use Rattle.semantics.specs.Machine.{carried-first, pass-words, carried-on, in-progress}
-use Rattle.sound_base.specs.Tests.{or-left}
-use Rattle.sound_machine.specs.Discipline.{AllKnown, New, AllNew, LoopFits, Fitting, Scoped}
+use Rattle.laws.specs.Tests.{or-left}
+use Rattle.soundness.specs.machine.Discipline.{AllKnown, New, AllNew, LoopFits, Fitting, Scoped}
 use Rattle.store.specs.Acquiring.{next-cell}
 use Rattle.machine_code.specs.Reading.{line-at, depth-in, end-in}
 use Rattle.machine_code.specs.declared.Atom.{Atom}

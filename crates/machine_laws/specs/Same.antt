@@ -13,7 +13,7 @@ use Rattle.semantics.specs.Outcome.{Outcome, done, stop, Run, onward}
 use Rattle.semantics.specs.Live.{Set, _∪_, only}
 use Rattle.semantics.specs.Store.{Store}
 use Rattle.semantics.specs.Machine.{State, Frame, step, stepped, with-left}
-use Rattle.sound_machine.specs.Discipline.{New}
+use Rattle.soundness.specs.machine.Discipline.{New}
 use Rattle.machine_lines.specs.Frames.{place}
 use Rattle.machine_lines.specs.Lines.{Memory, memory, Ran, halted, stepping, Given}
 use Rattle.machine_positions.specs.Machine.{and-then, binding}

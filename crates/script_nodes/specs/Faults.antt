@@ -19,7 +19,7 @@ use Rattle.semantics.specs.Types.{let-rule, if-rule, leaf-rule, loop-rule, arra
 use Rattle.semantics.specs.Types.{loop-node, check, checks, check-function, function-faults, parameter-depths}
 use Rattle.semantics.specs.Types.{result-rule}
 use Rattle.semantics.specs.Normal.{fresh, too-many-names-from}
-use Rattle.sound_base.specs.Lists.{occurrences-append, hits}
+use Rattle.laws.specs.Lists.{occurrences-append, hits}
 use Rattle.script_read.proofs.Written.{total}
 
 -- every number of a list is below b

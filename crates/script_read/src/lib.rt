@@ -4,7 +4,7 @@ ghost use mathlib.Core.Bool.{false, _&&_};
 ghost use Prim.Native.Nat.{_+_, _*_, _<_};
 ghost use lib.ListN.{getD};
 ghost use Rattle.semantics.specs.Number.{bytes-at};
-ghost use Rattle.semantics.specs.File.{low-limits, high-limits, part-kinds, allowed, look, part-count, part};
+ghost use Rattle.semantics.specs.File.{low-limits, high-limits, allowed, look, part-count, part};
 ghost use Rattle.semantics.specs.File.{parameter, function, script, read-file, between};
 ghost use Rattle.script_read.specs.Told.{place-of, node-outcome, parted, told, low-at, high-at, repeated};
 

@@ -1,7 +1,7 @@
 -- Document 01, "The code": the retains and releases that the live sets require, and the code of a script.
 use Prim.Native.Nat.{ℕ, zero, suc, _+_, _*_, pred}
-use mathlib.Core.Bool.{Bool, true, false, not, _&&_}
-use mathlib.Core.List.{List, [], _∷_, _++_, map}
+use mathlib.Core.Bool.{Bool, not, _&&_}
+use mathlib.Core.List.{List, [], _∷_, _++_}
 use lib.ListN.{length}
 use lib.Dec.{ltb}
 use Rattle.semantics.specs.Basics.{with-if, updated}
@@ -12,7 +12,7 @@ use Rattle.semantics.specs.Code.{Atom, number, name, Line, leaf, if-else
 use Rattle.semantics.specs.Code.{ending, retain-all, release-all}
 use Rattle.semantics.specs.Code.{Row, row, rows}
 use Rattle.semantics.specs.Normal.{normal-body}
-use Rattle.semantics.specs.Live.{Set, empty, _∪_, _∖_, _∖∖_, only, just, is, among, members, live, uses}
+use Rattle.semantics.specs.Live.{Set, empty, _∪_, _∖_, _∖∖_, only, just, among, members, live, uses}
 use Rattle.semantics.specs.Live.{after-branch}
 use Rattle.semantics.specs.Live.{after-pass}
 

@@ -1,6 +1,6 @@
 -- The kinds of nodes and lines that are not numbers, names, lets or ifs: leaves, which work no tree, and loops, which
 -- work one tree a pass. What a new kind says of itself stands here.
-use Prim.Native.Nat.{ℕ, zero, suc, _+_, _*_}
+use Prim.Native.Nat.{ℕ, _+_, _*_}
 use mathlib.Core.Bool.{Bool, true, false}
 use mathlib.Core.List.{List, [], _∷_}
 use Rattle.semantics.specs.Number.{Operation, sum, difference, less}

@@ -5,7 +5,6 @@ use Prim.Native.Nat.{ℕ, zero, suc, _+_, _-_, pred}
 use mathlib.Core.Bool.{Bool, true, false, cond, _&&_}
 use mathlib.Core.List.{List, [], _∷_, _++_, map}
 use lib.IntN.{ℤ, pos, natAbs}
-use lib.ListN as List
 use lib.ListN.{length, getD}
 use lib.Dec.{ltb}
 use Rattle.semantics.specs.Basics.{tabulate, with-if, occurrences, updated}
@@ -16,9 +15,8 @@ use Rattle.semantics.specs.Types.{Signature, signatures-of}
 use Rattle.semantics.specs.Kinds.{Leaf, operation, call, literal, index, length-of, Loop, mapping}
 use Rattle.semantics.specs.Kinds.{later-parts}
 use Rattle.semantics.specs.Code.{Atom, number, name, Line, leaf, if-else, loop, retain, release, Tree, end, line}
-use Rattle.semantics.specs.Code.{ending}
-use Rattle.semantics.specs.Live.{Set, empty, _∪_, _∖_, _∖∖_, is, among, members, live, after-branch, after-pass}
-use Rattle.semantics.specs.Annotate.{NameDepths, atom-depth, depth-of, is-array, depths-of, annotated-body}
+use Rattle.semantics.specs.Live.{Set, empty, _∖_, among, members, live, after-branch, after-pass}
+use Rattle.semantics.specs.Annotate.{NameDepths, is-array, depths-of, annotated-body}
 use Rattle.semantics.specs.Store.{Store, cell, cell-of, elements, inner, named-by, with-totals, has-free}
 use Rattle.semantics.specs.Store.{acquired, retained, released, freed, appended, relinked, deepest}
 use Rattle.semantics.specs.Sound.{free-list}

@@ -3,14 +3,13 @@
 use Prim.Native.Nat.{ℕ, zero, suc, _+_}
 use mathlib.Core.Bool.{Bool, true, false, cond}
 use mathlib.Core.List.{List, [], _∷_, _++_}
-use lib.IntN.{ℤ, pos, natAbs}
-use lib.ListN as List
+use lib.IntN.{pos, natAbs}
 use lib.ListN.{length, getD}
 use lib.Dec.{eqb}
-use Rattle.semantics.specs.Basics.{updated, tabulate}
+use Rattle.semantics.specs.Basics.{updated}
 use Rattle.semantics.specs.Outcome.{Outcome, done, stop, Run, _>>=_, _>>_, give, halt, require, passes}
 use Rattle.semantics.specs.Number.{Operation, exact, fits, inside, is-zero}
-use Rattle.semantics.specs.Value.{Value, num, array, items, number-in, list}
+use Rattle.semantics.specs.Value.{Value, num, items, number-in, list}
 use Rattle.semantics.specs.Syntax as S
 use Rattle.semantics.specs.Kinds.{Leaf, operation, call, literal, index, length-of, Loop, mapping}
 use Rattle.semantics.specs.Kinds.{takes-cell, later-parts}

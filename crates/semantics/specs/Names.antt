@@ -1,5 +1,5 @@
 -- Refusal 6 (document 01, "Names are found innermost first"): the nodes that break the rule, in rising order.
-use Prim.Native.Nat.{ℕ, zero, suc, _+_}
+use Prim.Native.Nat.{ℕ, _+_}
 use mathlib.Core.Bool.{Bool, true, false, not}
 use mathlib.Core.List.{List, [], _∷_, _++_}
 use lib.ListN.{length}
@@ -7,7 +7,7 @@ use lib.Dec.{leb}
 use Rattle.semantics.specs.Basics.{with-if, updated}
 use Rattle.semantics.specs.Kinds.{Leaf, operation, call, literal, index, length-of}
 use Rattle.semantics.specs.Syntax.{Expr, number, name, let-in, leaf, if-else, loop, Exprs, none, more, size}
-use Rattle.semantics.specs.Syntax.{sizes, Parameter, Function, Script}
+use Rattle.semantics.specs.Syntax.{sizes, Parameter, Script}
 use Rattle.semantics.specs.Syntax.{function-size}
 
 -- the names that are known

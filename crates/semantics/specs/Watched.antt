@@ -1,22 +1,21 @@
 -- Computed rows for the parts of the machine that leave no word in a store: wrong code that touches a free cell, with its
 -- log, and a stop 25 inside a map inside a call, with its roots.
 use Prim.Native.Nat.{ℕ, zero, suc, _+_}
-use mathlib.Core.Bool.{Bool, true, false, cond}
+use mathlib.Core.Bool.{cond}
 use mathlib.Core.Path.{_≡_, refl}
 use mathlib.Core.List.{List, [], _∷_, _++_}
-use lib.IntN.{ℤ, pos}
-use lib.ListN.{getD, replicate}
+use lib.IntN.{pos}
+use lib.ListN.{replicate}
 use lib.Dec.{ltb, eqb}
 use Rattle.semantics.specs.Basics.{occurrences, updated}
 use Rattle.semantics.specs.Outcome.{Outcome, done, stop, halt}
-use Rattle.semantics.specs.Syntax.{Script}
 use Rattle.semantics.specs.Kinds.{index, length-of, mapping}
 use Rattle.semantics.specs.Code.{number, name, leaf, loop, retain, release, Tree, end, line, Row, row}
 use Rattle.semantics.specs.Live.{empty}
-use Rattle.semantics.specs.Store.{Store, cell, cell-count, inner, has-free, opened, filled}
+use Rattle.semantics.specs.Store.{Store, cell, cell-count, inner, opened, filled}
 use Rattle.semantics.specs.Words.{store-of}
 use Rattle.semantics.specs.Machine.{Frame, State, work, starting, state-of, program, delivery}
-use Rattle.semantics.specs.Calls.{Verdict, accepted, refused, judged, StoreReply, engine-open}
+use Rattle.semantics.specs.Calls.{Verdict, accepted, refused, judged, engine-open}
 use Rattle.semantics.specs.Demands.{touched}
 use Rattle.semantics.specs.Computing.{computing}
 use Rattle.semantics.specs.Slips.{file-of, low-first, operand-bytes}

@@ -17,11 +17,11 @@ use Rattle.semantics.specs.Annotate.{code}
 use Rattle.semantics.specs.Machine.{State, program, delivery, starting}
 use Rattle.semantics.specs.Calls.{accepted, judged, code-fits, request-fits}
 use Rattle.semantics.specs.Demands.{value-of}
-use Rattle.sound_base.specs.Tests.{both-hold}
-use Rattle.sound_annotation.specs.Programs.{program-disciplined, program-frugal}
-use Rattle.sound_machine.specs.Agreement.{Start}
-use Rattle.sound_machine.specs.Totals.{Finished}
-use Rattle.sound_machine.specs.Delivery.{Delivers, delivery-sound, script-delivery}
+use Rattle.laws.specs.Tests.{both-hold}
+use Rattle.soundness.specs.annotation.Programs.{program-disciplined, program-frugal}
+use Rattle.soundness.specs.machine.Agreement.{Start}
+use Rattle.soundness.specs.machine.Totals.{Finished}
+use Rattle.soundness.specs.machine.Delivery.{Delivers, delivery-sound, script-delivery}
 use Rattle.soundness.specs.Settled.{Settled}
 
 -- code that fits fewer lines fits 4,096

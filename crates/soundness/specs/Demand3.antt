@@ -1,11 +1,11 @@
 -- Demand 3: the whole list of deliveries, one after another from the opening.
-use Prim.Native.Nat.{ℕ, zero, suc, _<_, _≤_}
+use Prim.Native.Nat.{ℕ, _<_, _≤_}
 use native.Mathlib.Omega.{arith}
-use mathlib.Core.Bool.{Bool, true, false, cond, _&&_}
-use mathlib.Core.Path.{_≡_, refl, sym, ap, subst}
+use mathlib.Core.Bool.{Bool, true, false, cond}
+use mathlib.Core.Path.{_≡_, refl, sym, subst}
 use mathlib.Core.List.{List, [], _∷_}
 use lib.IntN.{ℤ}
-use lib.Dec.{ltb, eqb}
+use lib.Dec.{ltb}
 use borrow.Author.Tests.{ltb-true}
 use Rattle.semantics.specs.Syntax.{Script, main-depth}
 use Rattle.semantics.specs.Value.{Value, first-totals}
@@ -14,14 +14,14 @@ use Rattle.semantics.specs.Machine.{program, delivery, starting, delivered}
 use Rattle.semantics.specs.Calls.{packed, number-of, Verdict, accepted, refused, judged, admitted, admitted-if, room}
 use Rattle.semantics.specs.Calls.{code-fits, request-fits, StoreReply, refusing, answering, open-for, deliver-for}
 use Rattle.semantics.specs.Calls.{engine-open, engine-deliver}
-use Rattle.semantics.specs.Ledger.{Delivery, entry, dry-steps, meant, value-after}
-use Rattle.semantics.specs.Demands.{Engine, Call, InTurn, entered, Kept, Serves, Demand3, defined}
-use Rattle.sound_base.specs.Tests.{both-hold}
+use Rattle.semantics.specs.Ledger.{Delivery, entry, dry-steps, meant}
+use Rattle.semantics.specs.Demands.{Engine, Call, InTurn, entered, Kept, Demand3, defined}
+use Rattle.laws.specs.Tests.{both-hold}
 use Rattle.script_nodes.specs.Free.{judged-free}
 use Rattle.script_nodes.specs.Nodes.{Numbered, judged-numbered}
 use Rattle.soundness.specs.Answers.{number-packed}
 use Rattle.soundness.specs.Settled.{opened-settles}
-use Rattle.sound_annotation.specs.Accepting.{main-shape-of}
+use Rattle.soundness.specs.annotation.Accepting.{main-shape-of}
 use Rattle.soundness.specs.Delivering.{few-lines, delivers}
 use Rattle.soundness.specs.Step.{Standing, standing-settled, settled-standing, Stepped, refused-step, worked-step}
 use Rattle.soundness.specs.Settled.{settled-rests}

@@ -1,14 +1,14 @@
 -- The statements leave an engine no choice: what a delivery answers and leaves is fixed by what it agrees with, and a
 -- machine that runs dry while a cell is free does not do what is meant. Each is tried where a wrong engine would tell
 -- something else.
-use Prim.Native.Nat.{ℕ, zero, suc}
+use Prim.Native.Nat.{ℕ}
 use native.Mathlib.Omega.{arith}
 use mathlib.Core.Bool.{Bool, true, false, cond}
-use mathlib.Core.Path.{_≡_, refl, sym, ap, _∙_}
+use mathlib.Core.Path.{_≡_, sym, ap, _∙_}
 use mathlib.Core.Option as O
 use mathlib.Core.Option.{Option, some}
-use mathlib.Core.List.{List, [], _∷_}
-use lib.IntN.{ℤ, pos}
+use mathlib.Core.List.{[], _∷_}
+use lib.IntN.{pos}
 use lib.ListN.{replicate}
 use Rattle.semantics.specs.Outcome.{Outcome, done, stop}
 use Rattle.semantics.specs.Number.{sum}

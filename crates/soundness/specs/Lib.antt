@@ -1,3 +1,7 @@
+pub mod store
+pub mod normal
+pub mod machine
+pub mod annotation
 pub mod Answers
 pub mod Settled
 pub mod Delivering

@@ -1,9 +1,9 @@
 -- One delivery: from a store that the ledger agrees with, to the next.
-use Prim.Native.Nat.{ℕ, zero, suc, _-_, _^_, _<_, _≤_}
+use Prim.Native.Nat.{ℕ, _-_, _^_, _<_}
 use native.Mathlib.Omega.{arith}
-use mathlib.Core.Bool.{Bool, true, false, _&&_}
-use mathlib.Core.Path.{_≡_, refl, sym, subst, _∙_}
-use mathlib.Core.List.{List, []}
+use mathlib.Core.Bool.{true}
+use mathlib.Core.Path.{_≡_, refl, sym, subst}
+use mathlib.Core.List.{List}
 use lib.IntN.{ℤ}
 use lib.ListN.{length}
 use lib.Dec.{leb}
@@ -14,18 +14,18 @@ use Rattle.semantics.specs.Value.{Value}
 use Rattle.semantics.specs.Meaning.{Meter}
 use Rattle.semantics.specs.Store.{Store, cells-taken, relinked}
 use Rattle.semantics.specs.Words.{store-of, slot-words, head-words}
-use Rattle.semantics.specs.Sound.{sound-words, free-list}
+use Rattle.semantics.specs.Sound.{sound-words}
 use Rattle.semantics.specs.Machine.{State, program, delivery, starting, delivered-by}
 use Rattle.semantics.specs.Calls.{StoreReply, request-fits, refusing, answering, deliver-in}
 use Rattle.semantics.specs.Ledger as L
 use Rattle.semantics.specs.Ledger.{Delivery, Entry, worked, meant, entry-by, dry-steps, wants-cell, value-after}
 use Rattle.semantics.specs.Demands.{value-of, Agrees, OutOfCells}
-use Rattle.sound_base.specs.Tests.{both-hold}
-use Rattle.soundness.specs.Answers.{number-packed, not-dry, dry-packed}
+use Rattle.laws.specs.Tests.{both-hold}
+use Rattle.soundness.specs.Answers.{not-dry, dry-packed}
 use Rattle.soundness.specs.Settled.{Settled, sound-settles, settled-sound, settled-words, settled-rests}
 use Rattle.soundness.specs.Settled.{relinked-settles, relinked-alone}
-use Rattle.sound_machine.specs.Agreement.{Start, Clean}
-use Rattle.sound_machine.specs.Delivery.{Delivers, finishes, stops, runs-dry}
+use Rattle.soundness.specs.machine.Agreement.{Start, Clean}
+use Rattle.soundness.specs.machine.Delivery.{Delivers, finishes, stops, runs-dry}
 use Rattle.soundness.specs.Delivering.{start-of, finished-settled}
 
 -- the store in two arrays is sound, and its totals have the ledger's value

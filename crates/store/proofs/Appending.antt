@@ -10,7 +10,7 @@ use lib.Seq.{getD-set-same, getD-set-other}
 use borrow.Author.Tests.{lt-ltb, le-ltb}
 use Rattle.semantics.specs.Store.{Cell, cell, with-cell, wider, appended}
 use Rattle.semantics.specs.Words.{cells-in, slots-at, cell-at, store-of}
-use Rattle.store_laws.specs.CellLaws.{same-cell}
+use Rattle.laws.specs.Cells.{same-cell}
 use Rattle.store_words.proofs.Tables.{tabulate-same, set-tabulate}
 use Rattle.store_words.proofs.CellWords.{in-cells, cell-is, size-is, with-out, with-self}
 use Rattle.store_words.proofs.Puts.{Put, put-store, first-same}

@@ -14,7 +14,7 @@ use Rattle.semantics.specs.Outcome.{Outcome, done, stop}
 use Rattle.semantics.specs.Store.{Store, cell, cell-count, with-cell, with-first, padded, filled, wider, has-free}
 use Rattle.semantics.specs.Store.{acquired, appended}
 use Rattle.semantics.specs.Store as C
-use Rattle.store_laws.specs.CellLaws.{same-cell, same-store, with-here}
+use Rattle.laws.specs.Cells.{same-cell, same-store, with-here}
 use Rattle.store_words.proofs.Tables.{tabulate-same, set-tabulate}
 use Rattle.store.specs.Acquiring.{next-cell, appended-all}
 

@@ -10,7 +10,7 @@ use Rattle.semantics.specs.Basics.{each}
 use Rattle.semantics.specs.Store.{Cell, Store, cell, cell-of, clear, inner, with-cell, with-count}
 use Rattle.semantics.specs.Store.{freed, released}
 use Rattle.semantics.specs.Words.{cells-in, slots-at, store-of}
-use Rattle.store_laws.specs.Releases.{released-none, released-one, released-last}
+use Rattle.laws.specs.Releases.{released-none, released-one, released-last}
 use Rattle.store_words.proofs.CellWords.{cell-out, count-is, depth-is}
 use Rattle.store_words.proofs.Naming.{inner-flat, inner-are}
 use Rattle.store_words.proofs.Each.{Doing, doing-none, doing-more, doing-all}

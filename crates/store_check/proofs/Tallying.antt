@@ -8,7 +8,7 @@ use lib.ListN.{length, getD, set, length-set, replicate, length-replicate, getD-
 use lib.Seq.{getD-set-same, getD-set-other, set-out, set-getD}
 use Rattle.semantics.specs.Basics.{each, occurrences}
 use Rattle.semantics.specs.Store.{one-more}
-use Rattle.store_laws.specs.Counts.{occurs-here, occurs-after}
+use Rattle.laws.specs.Counts.{occurs-here, occurs-after}
 use Rattle.store_words.proofs.Counting.{most, more-small, more-full}
 use Rattle.store_check.specs.Tallies.{tally-one, tally}
 

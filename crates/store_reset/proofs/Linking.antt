@@ -9,7 +9,7 @@ use lib.Seq.{drop-cons, drop-length, take-length, take-suc, set-at, getD-at, app
 use Rattle.semantics.specs.Store.{Cell, Store, cell, cell-count, clear, with-cell, with-first}
 use Rattle.semantics.specs.Store.{Linked, link, linked, relinked}
 use Rattle.semantics.specs.Words.{cells-in, store-of}
-use Rattle.store_laws.specs.CellLaws.{same-store}
+use Rattle.laws.specs.Cells.{same-store}
 use Rattle.store_words.specs.Parts.{Cleared, with-head}
 use Rattle.store_words.proofs.CellWords.{store-size, count-is, first-is, with-self}
 use Rattle.store_words.proofs.Puts.{first-same, first-store}

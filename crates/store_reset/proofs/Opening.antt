@@ -9,7 +9,7 @@ use lib.ListN.{length, getD, replicate, List·getD-eq-default}
 use Rattle.semantics.specs.Basics.{tabulate}
 use Rattle.semantics.specs.Store.{Cell, Store, clear, padded, relinked, acquired, zeroed, opened}
 use Rattle.semantics.specs.Words.{cells-in, slots-at, cell-at, store-of}
-use Rattle.store_laws.specs.CellLaws.{same-cell, same-store}
+use Rattle.laws.specs.Cells.{same-cell, same-store}
 use Rattle.store_words.proofs.Tables.{tabulate-same}
 use Rattle.store_words.proofs.Puts.{cells-kept}
 use Rattle.store_reset.specs.Resetting.{words-of}

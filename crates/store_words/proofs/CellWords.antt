@@ -11,7 +11,7 @@ use lib.Seq.{set-out, set-getD, getD-take}
 use borrow.Author.Tests.{ltb-true, ltb-false}
 use Rattle.semantics.specs.Store.{Cell, Store, cell, cell-count, clear, elements, with-cell}
 use Rattle.semantics.specs.Words.{cells-in, slots-at, cell-at, store-of}
-use Rattle.store_laws.specs.CellLaws.{same-store}
+use Rattle.laws.specs.Cells.{same-store}
 use Rattle.store_words.specs.Parts.{Stands}
 use Rattle.store_words.proofs.Tables.{length-tabulate, tabulate-at}
 

@@ -11,7 +11,7 @@ use Rattle.semantics.specs.Basics.{tabulate}
 use Rattle.semantics.specs.Store.{Cell, cell, with-cell, with-first, with-count, with-totals}
 use Rattle.semantics.specs.Words.{cells-in, slots-at, cell-at, store-of}
 use Rattle.store_words.proofs.Tables.{tabulate-same, set-tabulate}
-use Rattle.store_laws.specs.CellLaws.{same-cell, same-store}
+use Rattle.laws.specs.Cells.{same-cell, same-store}
 use Rattle.store_words.proofs.CellWords.{in-cells, cell-is}
 
 -- the lengths are kept

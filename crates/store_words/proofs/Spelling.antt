@@ -13,7 +13,7 @@ use Rattle.semantics.specs.Basics.{tabulate}
 use Rattle.semantics.specs.Store.{Cell, Store}
 use Rattle.semantics.specs.Words.{cells-in, slots-at, cell-at, store-of, shaped}
 use Rattle.semantics.specs.Words.{all-slots, all-heads, slot-words, head-words}
-use Rattle.store_laws.specs.Tests.{both-hold}
+use Rattle.laws.specs.Tests.{both-hold}
 use Rattle.store_words.proofs.CellWords.{slots-length, slot-is}
 use Rattle.store_words.proofs.Puts.{Kept, cells-kept}
 

@@ -4,12 +4,12 @@ use mathlib.Core.Logic.{_≢_}
 use mathlib.Core.List.{List, []}
 use Prim.Native.Nat.{ℕ, _+_, _*_, _<_}
 use native.Mathlib.Omega.{arith}
-use lib.IntN.{ℤ, pos}
+use lib.IntN.{ℤ}
 use lib.ListN.{length, getD, set, length-set}
 use lib.Seq.{getD-set-same, getD-set-other}
 use Rattle.semantics.specs.Store.{clear, padded, with-cell, with-first}
 use Rattle.semantics.specs.Words.{cells-in, cell-at, store-of}
-use Rattle.store_laws.specs.CellLaws.{same-cell}
+use Rattle.laws.specs.Cells.{same-cell}
 use Rattle.store_words.specs.Parts.{Cleared, with-head}
 use Rattle.store_words.proofs.CellWords.{in-cells}
 use Rattle.store_words.proofs.Puts.{Put, put-store}

@@ -1,7 +1,7 @@
 // Numbers: exact sums and differences, numbers in bytes, and the packed answer of a call.
 ghost use mathlib.Core.Path.{_≡_};
 ghost use Prim.Native.Nat.{_+_, _*_, _^_, _<_, _≤_, _%_};
-ghost use lib.ListN.{length, getD};
+ghost use lib.ListN.{length};
 ghost use Rattle.semantics.specs.Number.{exact, sum, difference, less, bytes-at, signed};
 ghost use Rattle.semantics.specs.Calls.{packed};
 ghost use Rattle.words.specs.Words.{exact-outcome, checked, Unpacked};

@@ -11,8 +11,6 @@ slice-aggregate-deliver-twice c = simp length-take (omega arith)
 pub run-delivery-spec : {M : Type 1} → statement M
 run-delivery-spec =
     tie.close
-    (tie.spec
-    (λ c. search needs)
-    slice-aggregate-deliver-twice
+    (tie.spec (λ c. search needs) slice-aggregate-deliver-twice
     (λ c κs. search needs) (λ c. search needs) (λ c. search needs) (λ c. search needs) (λ c. search needs)
     (λ c. search needs) (λ c. search needs) (λ c. search needs))

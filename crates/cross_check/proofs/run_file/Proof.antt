@@ -17,12 +17,6 @@ slice-aggregate-run-store-3 c = simp (length-take, length-replicate) (omega arit
 pub run-file-spec : {M : Type 1} → statement M
 run-file-spec =
     tie.close
-    (tie.spec
-    (λ c. search needs) (λ c κs. search needs) (λ c. search needs) (λ c. search needs) (λ c. search needs)
-    (λ c. search needs)
-    slice-aggregate-run-store
-    (λ c. search needs)
-    slice-aggregate-run-store-2
-    (λ c. search needs)
-    slice-aggregate-run-store-3
-    (λ c κs. search needs) (λ c. search needs) (λ c. search needs) (λ c. search needs))
+    (tie.spec (λ c. search needs) (λ c κs. search needs) (λ c. search needs) (λ c. search needs) (λ c. search needs)
+    (λ c. search needs) slice-aggregate-run-store (λ c. search needs) slice-aggregate-run-store-2 (λ c. search needs)
+    slice-aggregate-run-store-3 (λ c κs. search needs) (λ c. search needs) (λ c. search needs) (λ c. search needs))

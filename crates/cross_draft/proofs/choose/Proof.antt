@@ -4,24 +4,9 @@ use borrow.Author.Needs.{needs}
 use Rattle.cross_draft.proofs.choose.Statement.{statement}
 use Rattle.cross_draft.proofs.choose.Tie as tie
 
-word-requires : tie.Need-word-requires
-word-requires c κs = search needs
-
-mul-seed : tie.Need-mul-seed
-mul-seed c = search needs
-
-put-requires : tie.Need-put-requires
-put-requires c κs = search needs
-
-rem-result : tie.Need-rem-result
-rem-result c = search needs
-
-same-length : tie.Need-same-length
-same-length c = search needs
-
 returns : tie.Need-returns
 returns c = mod-lt _ (c .before .before .before .before .before .before .before .pre)
 
 pub choose-spec : {M : Type 1} → statement M
 choose-spec =
-    tie.close (tie.spec word-requires mul-seed put-requires rem-result same-length returns)
+    tie.close (tie.spec (λ c κs. search needs) (λ c. search needs) (λ c κs. search needs) (λ c. search needs) (λ c. search needs) returns)

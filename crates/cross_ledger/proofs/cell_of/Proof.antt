@@ -1,7 +1,7 @@
 -- `cross_ledger::cell_of` gives at most 256: a word that is neither negative nor above 255 is a number to 255.
 use mathlib.Core.Path.{_≡_}
 use mathlib.Core.Bool.{true, false}
-use Prim.Native.Nat.{ℕ, _≤_, _^_}
+use Prim.Native.Nat.{ℕ, _≤_}
 use native.Mathlib.Omega.{arith}
 use lib.Dec.{T}
 use lib.IntN.{ℤ, pos, negsuc, natAbs}
@@ -22,12 +22,6 @@ small : (z : ℤ) → ltZ z (pos 0) ≡ false → ltZ (pos 255) z ≡ false →
 small (pos n) e f = let h = ltb-false 255 n f in ((tt, record { fits = omega arith }), omega arith)
 small (negsuc n) e f = no-bool e
 
-returns : tie.Need-returns
-returns c = search needs
-
-returns-2 : tie.Need-returns-2
-returns-2 c = search needs
-
 cast-result : tie.Need-cast-result
 cast-result c =
     let z = c .before .before .args .held in
@@ -41,4 +35,4 @@ returns-3 c =
     rw e (small z (rw e at (c .before .if1 .left)) (rw e at (c .if2 .left)) .1)
 
 pub cell-of-spec : {M : Type 1} → statement M
-cell-of-spec = tie.close (tie.spec returns returns-2 cast-result returns-3)
+cell-of-spec = tie.close (tie.spec (λ c. search needs) (λ c. search needs) cast-result returns-3)

@@ -8,28 +8,6 @@ use Rattle.engine.proofs.Laws.{translates, translates-not, few-lines}
 use borrow.Author.Needs.{needs}
 use Rattle.engine.proofs.engine_translate.Statement.{statement}
 use Rattle.engine.proofs.engine_translate.Tie as tie
-use Rattle.engine.proofs.engine_translate.Reads as reads
-use Rattle.engine.proofs.engine_translate.Lts as lts
-use Rattle.engine_load.proofs.load.Reads as load-reads
-use Rattle.words.proofs.pack.Reads as pack-reads
-
-load-requires : tie.Need-load-requires
-load-requires c κs = search needs
-
-enum-known-lines : tie.Need-enum-known-lines
-enum-known-lines c = search needs
-
-pack-requires : tie.Need-pack-requires
-pack-requires c κs = search needs
-
-enum-known-answer : tie.Need-enum-known-answer
-enum-known-answer c = search needs
-
-same-length : tie.Need-same-length
-same-length c = search needs
-
-same-length-2 : tie.Need-same-length-2
-same-length-2 c = search needs
 
 returns : tie.Need-returns
 returns c =
@@ -44,12 +22,6 @@ returns c =
     (loaded .last .1 .1 .0))
     (sym (c .pack .ensures ∙ small)) (translates h)
 
-same-length-3 : tie.Need-same-length-3
-same-length-3 c = search needs
-
-same-length-4 : tie.Need-same-length-4
-same-length-4 c = search needs
-
 returns-2 : tie.Need-returns-2
 returns-2 c =
     let a = c .before .before .before .before .before .before .before .before .before .before .before .args in
@@ -62,14 +34,5 @@ returns-2 c =
 pub engine-translate-spec : {M : Type 1} → statement M
 engine-translate-spec =
     tie.close
-    (tie.spec
-    load-requires
-    enum-known-lines
-    pack-requires
-    enum-known-answer
-    same-length
-    same-length-2
-    returns
-    same-length-3
-    same-length-4
-    returns-2)
+    (tie.spec (λ c κs. search needs) (λ c. search needs) (λ c κs. search needs) (λ c. search needs)
+    (λ c. search needs) (λ c. search needs) returns (λ c. search needs) (λ c. search needs) returns-2)

@@ -7,9 +7,6 @@ use Rattle.engine_delivery.proofs.Laws.{refuses-10, refuses-11, sound-f
 use Rattle.engine_delivery.proofs.deliver_words.Statement.{statement}
 use Rattle.engine_delivery.proofs.deliver_words.Tie as tie
 
-request-fits-requires : tie.Need-request-fits-requires
-request-fits-requires c κs = search needs
-
 returns : tie.Need-returns
 returns c =
     let a = c .before .before .before .before .args in
@@ -18,15 +15,6 @@ returns c =
           (sym (asked .ensures) ∙ not-true (asked .result) (c .if1 .taken)),
       tt,
     )
-
-is-sound-requires : tie.Need-is-sound-requires
-is-sound-requires c κs = search needs
-
-same-length : tie.Need-same-length
-same-length c = search needs
-
-same-length-2 : tie.Need-same-length-2
-same-length-2 c = search needs
 
 returns-2 : tie.Need-returns-2
 returns-2 c =
@@ -47,15 +35,6 @@ deliver-on-requires c κs =
     let test = c .before .before .before .is-sound in
     sound-fits (a .depth) (a .slots .now) (a .heads .now)
     (sym (test .ensures) ∙ not-false (test .result) (c .before .before .if2 .left))
-
-cells-taken-requires : tie.Need-cells-taken-requires
-cells-taken-requires c κs = search needs
-
-same-length-3 : tie.Need-same-length-3
-same-length-3 c = search needs
-
-same-length-4 : tie.Need-same-length-4
-same-length-4 c = search needs
 
 returns-3 : tie.Need-returns-3
 returns-3 c =
@@ -83,15 +62,5 @@ returns-3 c =
 pub deliver-words-spec : {M : Type 1} → statement M
 deliver-words-spec =
     tie.close
-    (tie.spec
-    request-fits-requires
-    returns
-    is-sound-requires
-    same-length
-    same-length-2
-    returns-2
-    deliver-on-requires
-    cells-taken-requires
-    same-length-3
-    same-length-4
-    returns-3)
+    (tie.spec (λ c κs. search needs) returns (λ c κs. search needs) (λ c. search needs) (λ c. search needs) returns-2
+    deliver-on-requires (λ c κs. search needs) (λ c. search needs) (λ c. search needs) returns-3)

@@ -28,22 +28,10 @@ refusal c = subst (Judges (c .before .before .before .before .before .before .be
     (c .before .number .given .1)
     (c .before .before .before .judge .ensures)
 
-judge-requires : tie.Need-judge-requires
-judge-requires c κs = search needs
-
-enum-known-functions : tie.Need-enum-known-functions
-enum-known-functions c = search needs
-
 add-end : tie.Need-add-end
 add-end c =
     let t = file-taken (accepted-file _ _ _ (verdict c)) in
     record { fits = omega (arith, t .sized, t .readable .parts .few) }
-
-sub-file-kinds : tie.Need-sub-file-kinds
-sub-file-kinds c = search needs
-
-part-file-kinds-start : tie.Need-part-file-kinds-start
-part-file-kinds-start c = search needs
 
 part-file-kinds-end : tie.Need-part-file-kinds-end
 part-file-kinds-end c = omega (arith, file-taken (accepted-file _ _ _ (verdict c)) .long)
@@ -54,18 +42,9 @@ sub-file-operands c = omega (arith, file-taken (accepted-file _ _ _ (verdict (c 
 part-file-operands-start : tie.Need-part-file-operands-start
 part-file-operands-start c = omega (arith, file-taken (accepted-file _ _ _ (verdict (c .before))) .long)
 
-part-file-operands-end : tie.Need-part-file-operands-end
-part-file-operands-end c = search needs
-
-high-at-requires : tie.Need-high-at-requires
-high-at-requires c κs = search needs
-
 translate-accepted-requires : tie.Need-translate-accepted-requires
 translate-accepted-requires c κs = translatable
     (accepted-file _ _ _ (verdict (c .before .before .before .before .before .before)))
-
-enum-known-n : tie.Need-enum-known-n
-enum-known-n c = search needs
 
 fill-requires : tie.Need-fill-requires
 fill-requires c κs =
@@ -81,33 +60,6 @@ fill-requires c κs =
           (laid-outcome (laid .result)) (at-n .n .given .0 .0) (ap laid-outcome (at-n .n .given .1))
           (laid .ensures .0),
     )
-
-cast-t37 : tie.Need-cast-t37
-cast-t37 c = search needs
-
-enum-told : tie.Need-enum-told
-enum-told c = search needs
-
-enum-known-number : tie.Need-enum-known-number
-enum-known-number c = search needs
-
-refuse-requires : tie.Need-refuse-requires
-refuse-requires c κs = search needs
-
-cast-pack : tie.Need-cast-pack
-cast-pack c = search needs
-
-pack-requires : tie.Need-pack-requires
-pack-requires c κs = search needs
-
-same-length : tie.Need-same-length
-same-length c = search needs
-
-same-length-2 : tie.Need-same-length-2
-same-length-2 c = search needs
-
-same-length-3 : tie.Need-same-length-3
-same-length-3 c = search needs
 
 returns : tie.Need-returns
 returns c =
@@ -129,15 +81,6 @@ returns c =
     kinds operands (table-after functions kinds operands (laid-outcome r) table)) (at-n .n .given .1)
     (loads-with-laid (laid-outcome (laid .result)) (d .result) table j (d .ensures) (laid .ensures .0) (laid .ensures .1)))
 
-same-length-4 : tie.Need-same-length-4
-same-length-4 c = search needs
-
-same-length-5 : tie.Need-same-length-5
-same-length-5 c = search needs
-
-same-length-6 : tie.Need-same-length-6
-same-length-6 c = search needs
-
 returns-2 : tie.Need-returns-2
 returns-2 c =
     let at-translate-accepted = c .before .before .before .before .before .before .before in
@@ -156,12 +99,6 @@ returns-2 c =
     kinds operands (table-after functions kinds operands (laid-outcome r) table)) (c .enum-told .given .1)
     (loads-with-laid (laid-outcome (laid .result)) (d .result) table j (d .ensures) (laid .ensures .0) (laid .ensures .1))
 
-same-length-7 : tie.Need-same-length-7
-same-length-7 c = search needs
-
-same-length-8 : tie.Need-same-length-8
-same-length-8 c = search needs
-
 returns-3 : tie.Need-returns-3
 returns-3 c =
     let told = c .before .before .before .before .before .before .before .known-told3 in
@@ -175,34 +112,9 @@ returns-3 c =
 pub load-with-spec : {M : Type 1} → statement M
 load-with-spec =
     tie.close
-    (tie.spec
-    judge-requires
-    enum-known-functions
-    add-end
-    sub-file-kinds
-    part-file-kinds-start
-    part-file-kinds-end
-    sub-file-operands
-    part-file-operands-start
-    part-file-operands-end
-    high-at-requires
-    translate-accepted-requires
-    enum-known-n
-    fill-requires
-    cast-t37
-    enum-told
-    enum-known-number
-    refuse-requires
-    cast-pack
-    pack-requires
-    same-length
-    same-length-2
-    same-length-3
-    returns
-    same-length-4
-    same-length-5
-    same-length-6
-    returns-2
-    same-length-7
-    same-length-8
-    returns-3)
+    (tie.spec (λ c κs. search needs) (λ c. search needs) add-end (λ c. search needs) (λ c. search needs)
+    part-file-kinds-end sub-file-operands part-file-operands-start (λ c. search needs) (λ c κs. search needs)
+    translate-accepted-requires (λ c. search needs) fill-requires (λ c. search needs) (λ c. search needs)
+    (λ c. search needs) (λ c κs. search needs) (λ c. search needs) (λ c κs. search needs) (λ c. search needs)
+    (λ c. search needs) (λ c. search needs) returns (λ c. search needs) (λ c. search needs) (λ c. search needs)
+    returns-2 (λ c. search needs) (λ c. search needs) returns-3)

@@ -6,13 +6,6 @@ use borrow.Author.Tests.{not-true, not-false}
 use Rattle.engine_store.proofs.Laws.{not-checked, checks, taken-few}
 use Rattle.engine_store.proofs.check_words.Statement.{statement}
 use Rattle.engine_store.proofs.check_words.Tie as tie
-use Rattle.engine_store.proofs.check_words.Reads as reads
-use Rattle.engine_store.proofs.check_words.Lts as lts
-use Rattle.store_check.proofs.is_sound.Reads as is-sound-reads
-use Rattle.store_words.proofs.cells_taken.Reads as cells-taken-reads
-
-is-sound-requires : tie.Need-is-sound-requires
-is-sound-requires c κs = search needs
 
 returns : tie.Need-returns
 returns c =
@@ -22,9 +15,6 @@ returns c =
           (sym (test .ensures) ∙ not-true (test .result) (c .if1 .taken)),
       tt,
     )
-
-cells-taken-requires : tie.Need-cells-taken-requires
-cells-taken-requires c κs = search needs
 
 returns-2 : tie.Need-returns-2
 returns-2 c =
@@ -36,4 +26,4 @@ returns-2 c =
     )
 
 pub check-words-spec : {M : Type 1} → statement M
-check-words-spec = tie.close (tie.spec is-sound-requires returns cells-taken-requires returns-2)
+check-words-spec = tie.close (tie.spec (λ c κs. search needs) returns (λ c κs. search needs) returns-2)

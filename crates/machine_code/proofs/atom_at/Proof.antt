@@ -4,18 +4,6 @@ use borrow.Author.Needs.{needs}
 use Rattle.machine_code.proofs.atom_at.Statement.{statement}
 use Rattle.machine_code.proofs.atom_at.Tie as tie
 
-kind-at-requires : tie.Need-kind-at-requires
-kind-at-requires c κs = search needs
-
-operand-at-requires : tie.Need-operand-at-requires
-operand-at-requires c κs = search needs
-
-natural-at-requires : tie.Need-natural-at-requires
-natural-at-requires c κs = search needs
-
-cast-t10 : tie.Need-cast-t10
-cast-t10 c = search needs
-
 returns : tie.Need-returns
 returns c = rw (toZ-ofZ {z = c .operand-at .result} (record { sfits = c .operand-at .ok })) (let a = c .before
     .before .before .before .args in number-here (a .kinds .now) (a .operands .now) (a .at) (c .before .before
@@ -30,4 +18,4 @@ returns-2 c = let a = c .before .before .before .before .args in name-here (a .k
 pub atom-at-spec : {M : Type 1} → statement M
 atom-at-spec =
     tie.close
-    (tie.spec kind-at-requires operand-at-requires natural-at-requires cast-t10 returns returns-2)
+    (tie.spec (λ c κs. search needs) (λ c κs. search needs) (λ c κs. search needs) (λ c. search needs) returns returns-2)

@@ -3,9 +3,6 @@ use borrow.Author.Needs.{needs}
 use Rattle.machine_code.proofs.atom_stands.Statement.{statement}
 use Rattle.machine_code.proofs.atom_stands.Tie as tie
 
-kind-at-requires : tie.Need-kind-at-requires
-kind-at-requires c κs = search needs
-
 returns : tie.Need-returns
 returns c = rw (← c .before .kind-at .ensures, c .if1 .taken)
 
@@ -13,4 +10,4 @@ returns-2 : tie.Need-returns-2
 returns-2 c = rw (← c .before .kind-at .ensures, ne-eqb _ 2 (c .if1 .left))
 
 pub atom-stands-spec : {M : Type 1} → statement M
-atom-stands-spec = tie.close (tie.spec kind-at-requires returns returns-2)
+atom-stands-spec = tie.close (tie.spec (λ c κs. search needs) returns returns-2)

@@ -17,26 +17,11 @@ returns c =
     List·getD-eq-default (a .table .now) 0 (omega (arith, c .if1 .taken)) in
     (omega (arith, low, high), omega arith)
 
-mul-place : tie.Need-mul-place
-mul-place c = search needs
-
 add-place : tie.Need-add-place
 add-place c = omega (arith, c .if1 .left, c .before .before .good .0)
 
-byte-at-requires : tie.Need-byte-at-requires
-byte-at-requires c κs = search needs
-
 add-byte-at : tie.Need-add-byte-at
 add-byte-at c = omega (arith, c .before .if1 .left, c .before .before .before .good .0)
-
-byte-at-requires-2 : tie.Need-byte-at-requires-2
-byte-at-requires-2 c κs = search needs
-
-mul-result : tie.Need-mul-result
-mul-result c = search needs
-
-add-result : tie.Need-add-result
-add-result c = search needs
 
 returns-2 : tie.Need-returns-2
 unfolding end-in
@@ -46,13 +31,5 @@ returns-2 c = let low = c .before .byte-at .ensures in let high = c .byte-at2 .e
 pub end-in-spec : {M : Type 1} → statement M
 end-in-spec =
     tie.close
-    (tie.spec
-    returns
-    mul-place
-    add-place
-    byte-at-requires
-    add-byte-at
-    byte-at-requires-2
-    mul-result
-    add-result
-    returns-2)
+    (tie.spec returns (λ c. search needs) add-place (λ c κs. search needs) add-byte-at (λ c κs. search needs)
+    (λ c. search needs) (λ c. search needs) returns-2)

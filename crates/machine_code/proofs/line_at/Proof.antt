@@ -6,44 +6,11 @@ use borrow.Author.Needs.{needs}
 use Rattle.machine_code.proofs.line_at.Statement.{statement}
 use Rattle.machine_code.proofs.line_at.Tie as tie
 
-shared-slice-read-kind : tie.Need-shared-slice-read-kind
-shared-slice-read-kind c = search needs
-
-add-atom-at : tie.Need-add-atom-at
-add-atom-at c = search needs
-
-atom-at-requires : tie.Need-atom-at-requires
-atom-at-requires c κs = search needs
-
 returns : tie.Need-returns
 returns c =
     let a = c .before .before .before .before .args in
     line-here (a .kinds .now) (a .operands .now) (a .at) 16 _ (c .before .atom-at .result) _ (sym (c .if1 .taken)) refl
     (c .before .atom-at .ensures) refl
-
-natural-at-requires : tie.Need-natural-at-requires
-natural-at-requires c κs = search needs
-
-cast-x : tie.Need-cast-x
-cast-x c = search needs
-
-cast-y : tie.Need-cast-y
-cast-y c = search needs
-
-cast-t18 : tie.Need-cast-t18
-cast-t18 c = search needs
-
-add-atom-at-2 : tie.Need-add-atom-at-2
-add-atom-at-2 c = search needs
-
-atom-at-requires-2 : tie.Need-atom-at-requires-2
-atom-at-requires-2 c κs = search needs
-
-add-atom-at-3 : tie.Need-add-atom-at-3
-add-atom-at-3 c = search needs
-
-atom-at-requires-3 : tie.Need-atom-at-requires-3
-atom-at-requires-3 c κs = search needs
 
 returns-2 : tie.Need-returns-2
 returns-2 c =
@@ -132,25 +99,7 @@ returns-10 c =
 pub line-at-spec : {M : Type 1} → statement M
 line-at-spec =
     tie.close
-    (tie.spec
-    shared-slice-read-kind
-    add-atom-at
-    atom-at-requires
-    returns
-    natural-at-requires
-    cast-x
-    cast-y
-    cast-t18
-    add-atom-at-2
-    atom-at-requires-2
-    add-atom-at-3
-    atom-at-requires-3
-    returns-2
-    returns-3
-    returns-4
-    returns-5
-    returns-6
-    returns-7
-    returns-8
-    returns-9
-    returns-10)
+    (tie.spec (λ c. search needs) (λ c. search needs) (λ c κs. search needs) returns (λ c κs. search needs)
+    (λ c. search needs) (λ c. search needs) (λ c. search needs) (λ c. search needs) (λ c κs. search needs)
+    (λ c. search needs) (λ c κs. search needs) returns-2 returns-3 returns-4 returns-5 returns-6 returns-7 returns-8
+    returns-9 returns-10)

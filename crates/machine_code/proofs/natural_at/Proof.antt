@@ -6,9 +6,6 @@ use borrow.Author.Needs.{needs}
 use Rattle.machine_code.proofs.natural_at.Statement.{statement}
 use Rattle.machine_code.proofs.natural_at.Tie as tie
 
-operand-at-requires : tie.Need-operand-at-requires
-operand-at-requires c κs = search needs
-
 cast-result : tie.Need-cast-result
 cast-result c = rw (toZ-ofZ {z = c .before .operand-at .result} (record { sfits = c .before .operand-at .ok }))
     (not-negative (c .before .operand-at .result) (c .before .operand-at .ok) (rw (toZ-ofZ {z = c .before
@@ -28,4 +25,4 @@ returns-2 c = rw (
     .operand-at .result} (record { sfits = c .before .operand-at .ok })) at (c .if1 .left)))
 
 pub natural-at-spec : {M : Type 1} → statement M
-natural-at-spec = tie.close (tie.spec operand-at-requires cast-result returns returns-2)
+natural-at-spec = tie.close (tie.spec (λ c κs. search needs) cast-result returns returns-2)

@@ -9,12 +9,6 @@ use borrow.Author.Needs.{needs}
 use Rattle.machine_delivery.proofs.deliver_on.Statement.{statement}
 use Rattle.machine_delivery.proofs.deliver_on.Tie as tie
 
-slice-aggregate-deliver-kept : tie.Need-slice-aggregate-deliver-kept
-slice-aggregate-deliver-kept c = search needs
-
-slice-aggregate-deliver-kept-2 : tie.Need-slice-aggregate-deliver-kept-2
-slice-aggregate-deliver-kept-2 c = search needs
-
 deliver-kept-requires : tie.Need-deliver-kept-requires
 deliver-kept-requires c κs =
     let a = c .before .before .before .before .before .before .before .args in
@@ -32,21 +26,6 @@ deliver-kept-requires c κs =
       omega (arith, fit .slots-long, fit .heads-long, few-cells (a .slots .now) (a .heads .now), length-replicate {A = ℕ} 65 0, c .before .before .before .before .if1 .taken),
     )
 
-same-length : tie.Need-same-length
-same-length c = search needs
-
-same-length-2 : tie.Need-same-length-2
-same-length-2 c = search needs
-
-returns : tie.Need-returns
-returns c = search needs
-
-slice-aggregate-deliver-kept-3 : tie.Need-slice-aggregate-deliver-kept-3
-slice-aggregate-deliver-kept-3 c = search needs
-
-slice-aggregate-deliver-kept-4 : tie.Need-slice-aggregate-deliver-kept-4
-slice-aggregate-deliver-kept-4 c = search needs
-
 deliver-kept-requires-2 : tie.Need-deliver-kept-requires-2
 deliver-kept-requires-2 c κs =
     let a = c .before .before .before .before .before .before .before .args in
@@ -57,28 +36,9 @@ deliver-kept-requires-2 c κs =
       omega (arith, fit .slots-long, fit .heads-long, few-cells (a .slots .now) (a .heads .now), length-replicate {A = ℕ} 1025 0),
     )
 
-same-length-3 : tie.Need-same-length-3
-same-length-3 c = search needs
-
-same-length-4 : tie.Need-same-length-4
-same-length-4 c = search needs
-
-returns-2 : tie.Need-returns-2
-returns-2 c = search needs
-
 pub deliver-on-spec : {M : Type 1} → statement M
 deliver-on-spec =
     tie.close
-    (tie.spec
-    slice-aggregate-deliver-kept
-    slice-aggregate-deliver-kept-2
-    deliver-kept-requires
-    same-length
-    same-length-2
-    returns
-    slice-aggregate-deliver-kept-3
-    slice-aggregate-deliver-kept-4
-    deliver-kept-requires-2
-    same-length-3
-    same-length-4
-    returns-2)
+    (tie.spec (λ c. search needs) (λ c. search needs) deliver-kept-requires (λ c. search needs) (λ c. search needs)
+    (λ c. search needs) (λ c. search needs) (λ c. search needs) deliver-kept-requires-2 (λ c. search needs)
+    (λ c. search needs) (λ c. search needs))

@@ -5,18 +5,6 @@ use borrow.Author.Needs.{needs}
 use Rattle.machine_delivery.proofs.release_totals.Statement.{statement}
 use Rattle.machine_delivery.proofs.release_totals.Tie as tie
 
-named-cell-requires : tie.Need-named-cell-requires
-named-cell-requires c κs = search needs
-
-release-requires : tie.Need-release-requires
-release-requires c κs = search needs
-
-same-length : tie.Need-same-length
-same-length c = search needs
-
-same-length-2 : tie.Need-same-length-2
-same-length-2 c = search needs
-
 returns : tie.Need-returns
 returns c = release-some (c .before .before .before .before .before .before .before .before .before .args .depth) (c
     .before .before .before .before .named-cell .result) (c .before .before .before .before .before .before .before
@@ -34,4 +22,4 @@ returns-2 c = release-none (c .before .before .args .depth) (c .before .before .
 pub release-totals-spec : {M : Type 1} → statement M
 release-totals-spec =
     tie.close
-    (tie.spec named-cell-requires release-requires same-length same-length-2 returns returns-2)
+    (tie.spec (λ c κs. search needs) (λ c κs. search needs) (λ c. search needs) (λ c. search needs) returns returns-2)

@@ -5,15 +5,6 @@ use borrow.Author.Needs.{needs}
 use Rattle.machine_delivery.proofs.retain_totals.Statement.{statement}
 use Rattle.machine_delivery.proofs.retain_totals.Tie as tie
 
-named-cell-requires : tie.Need-named-cell-requires
-named-cell-requires c κs = search needs
-
-retain-requires : tie.Need-retain-requires
-retain-requires c κs = search needs
-
-same-length : tie.Need-same-length
-same-length c = search needs
-
 returns : tie.Need-returns
 returns c = retain-some (c .before .before .before .before .before .before .before .args .depth) (c .before .before
     .before .named-cell .result) (c .before .before .before .before .before .before .before .args .old) (rw (toZ-ofZ
@@ -29,4 +20,4 @@ returns-2 c = retain-none (c .before .before .args .depth) (c .before .before .a
 
 pub retain-totals-spec : {M : Type 1} → statement M
 retain-totals-spec =
-    tie.close (tie.spec named-cell-requires retain-requires same-length returns returns-2)
+    tie.close (tie.spec (λ c κs. search needs) (λ c κs. search needs) (λ c. search needs) returns returns-2)

@@ -16,12 +16,6 @@ use borrow.Author.Needs.{needs}
 use Rattle.machine_delivery.proofs.work_main.Statement.{statement}
 use Rattle.machine_delivery.proofs.work_main.Tie as tie
 
-retain-totals-requires : tie.Need-retain-totals-requires
-retain-totals-requires c κs = search needs
-
-bind-requires : tie.Need-bind-requires
-bind-requires c κs = search needs
-
 bind-requires-2 : tie.Need-bind-requires-2
 bind-requires-2 c κs =
     let a = c .before .before .before .before .before .before .before .before .before .before .args in (
@@ -30,9 +24,6 @@ bind-requires-2 c κs =
           (c .before .before .before .before .before .before .before .before .before .before .fits .old)) at
           (c .before .bind .ensures)) ∙ length-replicate 8192 (pos 0),
     )
-
-start-in-requires : tie.Need-start-in-requires
-start-in-requires c κs = search needs
 
 work-tree-requires : tie.Need-work-tree-requires
 work-tree-requires c κs =
@@ -55,12 +46,6 @@ work-tree-requires c κs =
             .before .before .before .before .before .before .good .0,
       ),
     )
-
-same-length : tie.Need-same-length
-same-length c = search needs
-
-same-length-2 : tie.Need-same-length-2
-same-length-2 c = search needs
 
 returns : tie.Need-returns
 returns c = λ k e.
@@ -88,15 +73,6 @@ returns c = λ k e.
     .result) (c .before .before .before .before .before .before .before .before .before .before .start-in .ensures)
     (tree .result) (tree .last .1 .1 .1 .0) (tree .last .1 .1 .1 .1 .0)
     (tree .last .1 .1 .1 .1 .1 .0) (tree .ensures) (c .if1 .taken)
-
-set-totals-requires : tie.Need-set-totals-requires
-set-totals-requires c κs = search needs
-
-release-totals-requires : tie.Need-release-totals-requires
-release-totals-requires c κs = search needs
-
-same-length-3 : tie.Need-same-length-3
-same-length-3 c = search needs
 
 same-length-4 : tie.Need-same-length-4
 same-length-4 c =
@@ -159,17 +135,6 @@ returns-2 c = λ k e.
 pub work-main-spec : {M : Type 1} → statement M
 work-main-spec =
     tie.close
-    (tie.spec
-    retain-totals-requires
-    bind-requires
-    bind-requires-2
-    start-in-requires
-    work-tree-requires
-    same-length
-    same-length-2
-    returns
-    set-totals-requires
-    release-totals-requires
-    same-length-3
-    same-length-4
-    returns-2)
+    (tie.spec (λ c κs. search needs) (λ c κs. search needs) bind-requires-2 (λ c κs. search needs) work-tree-requires
+    (λ c. search needs) (λ c. search needs) returns (λ c κs. search needs) (λ c κs. search needs) (λ c. search needs)
+    same-length-4 returns-2)

@@ -27,40 +27,10 @@ loop-holds c = let a = c .before .before .args in (
   appending-none (a .kinds .now) (a .operands .now) (a .calls) (a .at) (a .env .now) (a .c) _,
 )
 
-add-atom-stands : tie.Need-add-atom-stands Inv-loop μ-loop
-add-atom-stands c = search needs
-
-atom-stands-requires : tie.Need-atom-stands-requires Inv-loop μ-loop
-atom-stands-requires c κs = search needs
-
-same-length : tie.Need-same-length Inv-loop μ-loop
-same-length c = search needs
-
-same-length-2 : tie.Need-same-length-2 Inv-loop μ-loop
-same-length-2 c = search needs
-
 returns : tie.Need-returns Inv-loop μ-loop
 returns c =
     appended-end (c .before .before .before .loop .inv .2) (sym (c .before .atom-stands .ensures) ∙ not-true
     (c .before .atom-stands .result) (c .if1 .taken))
-
-add-atom-at : tie.Need-add-atom-at Inv-loop μ-loop
-add-atom-at c = search needs
-
-atom-at-requires : tie.Need-atom-at-requires Inv-loop μ-loop
-atom-at-requires c κs = search needs
-
-word-of-requires : tie.Need-word-of-requires Inv-loop μ-loop
-word-of-requires c κs = search needs
-
-append-requires : tie.Need-append-requires Inv-loop μ-loop
-append-requires c κs = search needs
-
-add-n : tie.Need-add-n Inv-loop μ-loop
-add-n c = search needs
-
-loop-less : tie.Need-loop-less Inv-loop μ-loop
-loop-less c = search needs
 
 loop-again : tie.Need-loop-again Inv-loop μ-loop
 loop-again c =
@@ -79,34 +49,13 @@ loop-again c =
           = word .result} (record { sfits = word .ok })) at (one .ensures)),
     )
 
-same-length-3 : tie.Need-same-length-3 Inv-loop μ-loop
-same-length-3 c = search needs
-
-same-length-4 : tie.Need-same-length-4 Inv-loop μ-loop
-same-length-4 c = search needs
-
 returns-2 : tie.Need-returns-2 Inv-loop μ-loop
 returns-2 c = appended-full (c .before .loop .inv .2) (omega arith)
 
 pub append-atoms-spec : {M : Type 1} → statement M
 append-atoms-spec =
     tie.close
-    (tie.spec
-    Inv-loop
-    μ-loop
-    loop-holds
-    add-atom-stands
-    atom-stands-requires
-    same-length
-    same-length-2
-    returns
-    add-atom-at
-    atom-at-requires
-    word-of-requires
-    append-requires
-    add-n
-    loop-less
-    loop-again
-    same-length-3
-    same-length-4
+    (tie.spec Inv-loop μ-loop loop-holds (λ c. search needs) (λ c κs. search needs) (λ c. search needs)
+    (λ c. search needs) returns (λ c. search needs) (λ c κs. search needs) (λ c κs. search needs)
+    (λ c κs. search needs) (λ c. search needs) (λ c. search needs) loop-again (λ c. search needs) (λ c. search needs)
     returns-2)

@@ -7,18 +7,9 @@ use borrow.Author.Needs.{needs}
 use Rattle.machine_lines.proofs.bind.Statement.{statement}
 use Rattle.machine_lines.proofs.bind.Tie as tie
 
-place-requires : tie.Need-place-requires
-place-requires c κs = search needs
-
-mul-w : tie.Need-mul-w
-mul-w c = search needs
-
-element-set-from-w : tie.Need-element-set-from-w
-element-set-from-w c = search needs
-
 returns : tie.Need-returns
 returns c = rw (toZ-ofZ {z = c .before .args .w} (c .before .fits .w))
     (ap (λ (n : ℕ). set (c .before .args .env .now) n (c .before .args .w)) (c .place .ensures .0))
 
 pub bind-spec : {M : Type 1} → statement M
-bind-spec = tie.close (tie.spec place-requires mul-w element-set-from-w returns)
+bind-spec = tie.close (tie.spec (λ c κs. search needs) (λ c. search needs) (λ c. search needs) returns)

@@ -9,17 +9,11 @@ use borrow.Author.Needs.{needs}
 use Rattle.machine_lines.proofs.operate.Statement.{statement}
 use Rattle.machine_lines.proofs.operate.Tie as tie
 
-exact-sum-requires : tie.Need-exact-sum-requires
-exact-sum-requires c κs = search needs
-
 returns : tie.Need-returns
 returns c = rw (c .before .if1 .taken) (rw (
   toZ-ofZ {z = c .before .before .args .a} (c .before .before .fits .a),
   toZ-ofZ {z = c .before .before .args .b} (c .before .before .fits .b),
 ) at (c .exact-sum .ensures))
-
-exact-difference-requires : tie.Need-exact-difference-requires
-exact-difference-requires c κs = search needs
 
 returns-2 : tie.Need-returns-2
 returns-2 c = rw (c .before .if2 .taken) (rw (
@@ -28,9 +22,6 @@ returns-2 c = rw (c .before .if2 .taken) (rw (
   toZ-ofZ {z = c .before .before .before .args .b} (c .before .before .before .fits .b),
 ) at (c
     .exact-difference .ensures))
-
-is-less-requires : tie.Need-is-less-requires
-is-less-requires c κs = search needs
 
 returns-3 : tie.Need-returns-3
 returns-3 c = rw (
@@ -49,10 +40,4 @@ returns-3 c = rw (
 pub operate-spec : {M : Type 1} → statement M
 operate-spec =
     tie.close
-    (tie.spec
-    exact-sum-requires
-    returns
-    exact-difference-requires
-    returns-2
-    is-less-requires
-    returns-3)
+    (tie.spec (λ c κs. search needs) returns (λ c κs. search needs) returns-2 (λ c κs. search needs) returns-3)

@@ -15,29 +15,14 @@ Inv-loop kinds operands env₀ calls below at first i₀ env i = Copying kinds o
 abbrev μ-loop : tie.MeasureT-loop
 μ-loop kinds operands env₀ calls below at first i₀ env i = 16 - i
 
-place-requires : tie.Need-place-requires Inv-loop μ-loop
-place-requires c κs = search needs
-
 loop-holds : tie.Need-loop-holds Inv-loop μ-loop
 loop-holds c = let a = c .before .before .args in
     copying-none (a .kinds .now) (a .operands .now) (a .calls) (a .below) (a .at) (a .env .now)
-
-add-atom-stands : tie.Need-add-atom-stands Inv-loop μ-loop
-add-atom-stands c = search needs
-
-atom-stands-requires : tie.Need-atom-stands-requires Inv-loop μ-loop
-atom-stands-requires c κs = search needs
 
 returns : tie.Need-returns Inv-loop μ-loop
 returns c =
     copied-end (c .before .before .before .loop .inv) (sym (c .before .atom-stands .ensures) ∙ not-true
     (c .before .atom-stands .result) (c .if1 .taken))
-
-add-atom-at : tie.Need-add-atom-at Inv-loop μ-loop
-add-atom-at c = search needs
-
-atom-at-requires : tie.Need-atom-at-requires Inv-loop μ-loop
-atom-at-requires c κs = search needs
 
 word-of-requires : tie.Need-word-of-requires Inv-loop μ-loop
 word-of-requires c κs = search (needs, c .before .before .before .before .before .loop .inv .long)
@@ -55,12 +40,6 @@ element-set-from-w c =
       c .before .before .before .before .before .before .loop .inv .long,
       c .before .before .before .before .before .before .before .place .ensures,
     )
-
-add-i : tie.Need-add-i Inv-loop μ-loop
-add-i c = search needs
-
-loop-less : tie.Need-loop-less Inv-loop μ-loop
-loop-less c = search needs
 
 loop-again : tie.Need-loop-again Inv-loop μ-loop
 loop-again c =
@@ -80,21 +59,6 @@ returns-2 c = copied-full (c .before .loop .inv) (omega arith)
 pub pass-arguments-spec : {M : Type 1} → statement M
 pass-arguments-spec =
     tie.close
-    (tie.spec
-    Inv-loop
-    μ-loop
-    place-requires
-    loop-holds
-    add-atom-stands
-    atom-stands-requires
-    returns
-    add-atom-at
-    atom-at-requires
-    word-of-requires
-    add-w
-    mul-w
-    element-set-from-w
-    add-i
-    loop-less
-    loop-again
-    returns-2)
+    (tie.spec Inv-loop μ-loop (λ c κs. search needs) loop-holds (λ c. search needs) (λ c κs. search needs) returns
+    (λ c. search needs) (λ c κs. search needs) word-of-requires add-w mul-w element-set-from-w (λ c. search needs)
+    (λ c. search needs) loop-again returns-2)

@@ -5,11 +5,8 @@ use borrow.Author.Needs.{needs}
 use Rattle.machine_lines.proofs.word_from.Statement.{statement}
 use Rattle.machine_lines.proofs.word_from.Tie as tie
 
-cast-result : tie.Need-cast-result
-cast-result c = search needs
-
 returns : tie.Need-returns
 returns c = rw (lt-ltb (c .args .n) (2 ^ 63) (omega (arith, c .pre)))
 
 pub word-from-spec : {M : Type 1} → statement M
-word-from-spec = tie.close (tie.spec cast-result returns)
+word-from-spec = tie.close (tie.spec (λ c. search needs) returns)

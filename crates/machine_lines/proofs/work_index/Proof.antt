@@ -6,29 +6,11 @@ use borrow.Author.Needs.{needs}
 use Rattle.machine_lines.proofs.work_index.Statement.{statement}
 use Rattle.machine_lines.proofs.work_index.Tie as tie
 
-halted-requires : tie.Need-halted-requires
-halted-requires c κs = search needs
-
 returns : tie.Need-returns
 returns c =
     let a = c .before .before .before .args in
     index-spent (store-of (a .slots .now) (a .heads .now)) (a .calls) (a .x) (a .a) (a .b) (a .next) (a .steps)
     (a .env .now) (c .halted .result) (c .before .if1 .taken) (c .halted .ensures)
-
-word-of-requires : tie.Need-word-of-requires
-word-of-requires c κs = search needs
-
-named-cell-requires : tie.Need-named-cell-requires
-named-cell-requires c κs = search needs
-
-word-of-requires-2 : tie.Need-word-of-requires-2
-word-of-requires-2 c κs = search needs
-
-sub-halted : tie.Need-sub-halted
-sub-halted c = search needs
-
-halted-requires-2 : tie.Need-halted-requires-2
-halted-requires-2 c κs = search needs
 
 returns-2 : tie.Need-returns-2
 returns-2 c =
@@ -50,15 +32,6 @@ cast-i c = rw (toZ-ofZ {z = c .before .word-of2 .result} (record { sfits = c .be
       sfits = c .before .word-of2 .ok;
     })) at (c .if2 .left)))
 
-read-length-requires : tie.Need-read-length-requires
-read-length-requires c κs = search needs
-
-sub-halted-2 : tie.Need-sub-halted-2
-sub-halted-2 c = search needs
-
-halted-requires-3 : tie.Need-halted-requires-3
-halted-requires-3 c κs = search needs
-
 returns-3 : tie.Need-returns-3
 returns-3 c =
     let a = c .before .before .before .before .before .before .before .before .before .before .before .args in
@@ -72,18 +45,6 @@ returns-3 c =
     (record { sfits = word .ok })) at (cell .ensures)) (size .result) (size .ensures) (rw (toZ-ofZ {z =
     word2 .result} (record { sfits = word2 .ok })) at (c .before .if3 .taken)) (c .halted3 .result)
     (c .halted3 .ensures)
-
-read-slot-requires : tie.Need-read-slot-requires
-read-slot-requires c κs = search needs
-
-bind-requires : tie.Need-bind-requires
-bind-requires c κs = search needs
-
-sub-done : tie.Need-sub-done
-sub-done c = search needs
-
-done-requires : tie.Need-done-requires
-done-requires c κs = search needs
 
 returns-4 : tie.Need-returns-4
 returns-4 c =
@@ -110,22 +71,7 @@ returns-4 c =
 pub work-index-spec : {M : Type 1} → statement M
 work-index-spec =
     tie.close
-    (tie.spec
-    halted-requires
-    returns
-    word-of-requires
-    named-cell-requires
-    word-of-requires-2
-    sub-halted
-    halted-requires-2
-    returns-2
-    cast-i
-    read-length-requires
-    sub-halted-2
-    halted-requires-3
-    returns-3
-    read-slot-requires
-    bind-requires
-    sub-done
-    done-requires
-    returns-4)
+    (tie.spec (λ c κs. search needs) returns (λ c κs. search needs) (λ c κs. search needs) (λ c κs. search needs)
+    (λ c. search needs) (λ c κs. search needs) returns-2 cast-i (λ c κs. search needs) (λ c. search needs)
+    (λ c κs. search needs) returns-3 (λ c κs. search needs) (λ c κs. search needs) (λ c. search needs)
+    (λ c κs. search needs) returns-4)

@@ -8,37 +8,16 @@ use borrow.Author.Needs.{needs}
 use Rattle.machine_lines.proofs.work_length.Statement.{statement}
 use Rattle.machine_lines.proofs.work_length.Tie as tie
 
-halted-requires : tie.Need-halted-requires
-halted-requires c κs = search needs
-
 returns : tie.Need-returns
 returns c =
     let a = c .before .before .before .args in
     length-spent (store-of (a .slots .now) (a .heads .now)) (a .calls) (a .x) (a .a) (a .next) (a .steps) (a .env .now)
     (c .halted .result) (c .before .if1 .taken) (c .halted .ensures)
 
-word-of-requires : tie.Need-word-of-requires
-word-of-requires c κs = search needs
-
-named-cell-requires : tie.Need-named-cell-requires
-named-cell-requires c κs = search needs
-
-read-length-requires : tie.Need-read-length-requires
-read-length-requires c κs = search needs
-
 word-from-requires : tie.Need-word-from-requires
 word-from-requires c κs =
     let a = c .before .before .before .before .before .before .args in
     omega (arith, c .read-length .ensures, few-elements (a .slots .now) (a .heads .now) (c .before .named-cell .result))
-
-bind-requires : tie.Need-bind-requires
-bind-requires c κs = search needs
-
-sub-done : tie.Need-sub-done
-sub-done c = search needs
-
-done-requires : tie.Need-done-requires
-done-requires c κs = search needs
 
 returns-2 : tie.Need-returns-2
 returns-2 c =
@@ -56,14 +35,5 @@ returns-2 c =
 pub work-length-spec : {M : Type 1} → statement M
 work-length-spec =
     tie.close
-    (tie.spec
-    halted-requires
-    returns
-    word-of-requires
-    named-cell-requires
-    read-length-requires
-    word-from-requires
-    bind-requires
-    sub-done
-    done-requires
-    returns-2)
+    (tie.spec (λ c κs. search needs) returns (λ c κs. search needs) (λ c κs. search needs) (λ c κs. search needs)
+    word-from-requires (λ c κs. search needs) (λ c. search needs) (λ c κs. search needs) returns-2)

@@ -13,26 +13,11 @@ use borrow.Author.Needs.{needs}
 use Rattle.machine_lines.proofs.work_literal.Statement.{statement}
 use Rattle.machine_lines.proofs.work_literal.Tie as tie
 
-halted-requires : tie.Need-halted-requires
-halted-requires c κs = search needs
-
 returns : tie.Need-returns
 returns c = let a = c .before .before .before .before .args in
     literal-spent (a .kinds .now) (a .operands .now) (a .calls) (a .x) (a .depth) (a .at) (a .steps)
     (memory (store-of (a .slots .now) (a .heads .now)) (a .env .now)) (c .halted .result) (c .before .if1 .taken)
     (c .halted .ensures)
-
-acquire-empty-requires : tie.Need-acquire-empty-requires
-acquire-empty-requires c κs = search needs
-
-enum-known-c : tie.Need-enum-known-c
-enum-known-c c = search needs
-
-add-append-atoms : tie.Need-add-append-atoms
-add-append-atoms c = search needs
-
-append-atoms-requires : tie.Need-append-atoms-requires
-append-atoms-requires c κs = search needs
 
 word-from-requires : tie.Need-word-from-requires
 word-from-requires c κs =
@@ -47,36 +32,6 @@ word-from-requires c κs =
           .before .acquire-empty .ensures .0) (c .before .before .before .before .before .before
           .before .before .c .given .1),
     )
-
-bind-requires : tie.Need-bind-requires
-bind-requires c κs = search needs
-
-add-done : tie.Need-add-done
-add-done c = search needs
-
-add-done-2 : tie.Need-add-done-2
-add-done-2 c = search needs
-
-sub-done : tie.Need-sub-done
-sub-done c = search needs
-
-done-requires : tie.Need-done-requires
-done-requires c κs = search needs
-
-enum-told : tie.Need-enum-told
-enum-told c = search needs
-
-sub-halted : tie.Need-sub-halted
-sub-halted c = search needs
-
-halted-requires-2 : tie.Need-halted-requires-2
-halted-requires-2 c κs = search needs
-
-same-length : tie.Need-same-length
-same-length c = search needs
-
-same-length-2 : tie.Need-same-length-2
-same-length-2 c = search needs
 
 returns-2 : tie.Need-returns-2
 returns-2 c =
@@ -114,12 +69,6 @@ returns-2 c =
           c .before .before .before .word-from .ok;
     })) at (c .done .ensures))
 
-same-length-3 : tie.Need-same-length-3
-same-length-3 c = search needs
-
-same-length-4 : tie.Need-same-length-4
-same-length-4 c = search needs
-
 returns-3 : tie.Need-returns-3
 returns-3 c =
     let a = c .before .before .before .before .before .before .before .before .before .before .before .before .args in
@@ -138,25 +87,7 @@ returns-3 c =
 pub work-literal-spec : {M : Type 1} → statement M
 work-literal-spec =
     tie.close
-    (tie.spec
-    halted-requires
-    returns
-    acquire-empty-requires
-    enum-known-c
-    add-append-atoms
-    append-atoms-requires
-    word-from-requires
-    bind-requires
-    add-done
-    add-done-2
-    sub-done
-    done-requires
-    enum-told
-    sub-halted
-    halted-requires-2
-    same-length
-    same-length-2
-    returns-2
-    same-length-3
-    same-length-4
-    returns-3)
+    (tie.spec (λ c κs. search needs) returns (λ c κs. search needs) (λ c. search needs) (λ c. search needs)
+    (λ c κs. search needs) word-from-requires (λ c κs. search needs) (λ c. search needs) (λ c. search needs)
+    (λ c. search needs) (λ c κs. search needs) (λ c. search needs) (λ c. search needs) (λ c κs. search needs)
+    (λ c. search needs) (λ c. search needs) returns-2 (λ c. search needs) (λ c. search needs) returns-3)

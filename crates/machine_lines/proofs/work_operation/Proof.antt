@@ -4,44 +4,11 @@ use borrow.Author.Needs.{needs}
 use Rattle.machine_lines.proofs.work_operation.Statement.{statement}
 use Rattle.machine_lines.proofs.work_operation.Tie as tie
 
-halted-requires : tie.Need-halted-requires
-halted-requires c κs = search needs
-
 returns : tie.Need-returns
 returns c =
     let a = c .before .before .args in
     operation-spent (a .calls) (a .kind) (a .x) (a .a) (a .b) (a .next) (a .steps) (a .env .now) (c .halted .result)
     (c .before .if1 .taken) (c .halted .ensures)
-
-word-of-requires : tie.Need-word-of-requires
-word-of-requires c κs = search needs
-
-word-of-requires-2 : tie.Need-word-of-requires-2
-word-of-requires-2 c κs = search needs
-
-operate-requires : tie.Need-operate-requires
-operate-requires c κs = search needs
-
-enum-known-z : tie.Need-enum-known-z
-enum-known-z c = search needs
-
-bind-requires : tie.Need-bind-requires
-bind-requires c κs = search needs
-
-sub-done : tie.Need-sub-done
-sub-done c = search needs
-
-done-requires : tie.Need-done-requires
-done-requires c κs = search needs
-
-enum-told : tie.Need-enum-told
-enum-told c = search needs
-
-sub-halted : tie.Need-sub-halted
-sub-halted c = search needs
-
-halted-requires-2 : tie.Need-halted-requires-2
-halted-requires-2 c κs = search needs
 
 returns-2 : tie.Need-returns-2
 returns-2 c =
@@ -82,18 +49,6 @@ returns-3 c =
 pub work-operation-spec : {M : Type 1} → statement M
 work-operation-spec =
     tie.close
-    (tie.spec
-    halted-requires
-    returns
-    word-of-requires
-    word-of-requires-2
-    operate-requires
-    enum-known-z
-    bind-requires
-    sub-done
-    done-requires
-    enum-told
-    sub-halted
-    halted-requires-2
-    returns-2
-    returns-3)
+    (tie.spec (λ c κs. search needs) returns (λ c κs. search needs) (λ c κs. search needs) (λ c κs. search needs)
+    (λ c. search needs) (λ c κs. search needs) (λ c. search needs) (λ c κs. search needs) (λ c. search needs)
+    (λ c. search needs) (λ c κs. search needs) returns-2 returns-3)

@@ -3,20 +3,8 @@ use borrow.Author.Needs.{needs}
 use Rattle.machine_table.proofs.end_of.Statement.{statement}
 use Rattle.machine_table.proofs.end_of.Tie as tie
 
-add-result : tie.Need-add-result
-add-result c = search needs
-
 returns : tie.Need-returns
 returns c = let a = c .before .before .args in end-here (a .kind) (a .table .now) (a .at) (c .if1 .taken)
-
-add-end-in : tie.Need-add-end-in
-add-end-in c = search needs
-
-end-in-requires : tie.Need-end-in-requires
-end-in-requires c κs = search needs
-
-end-in-requires-2 : tie.Need-end-in-requires-2
-end-in-requires-2 c κs = search needs
 
 returns-2 : tie.Need-returns-2
 returns-2 c =
@@ -24,12 +12,6 @@ returns-2 c =
     end-map (a .kind) (a .table .now) (a .at) (c .before .before .end-in .result) (c .end-in2 .result) (c .before
     .before .before .if1 .left)
     (c .before .if2 .taken) (c .before .before .end-in .ensures .0) (c .end-in2 .ensures .0)
-
-end-in-requires-3 : tie.Need-end-in-requires-3
-end-in-requires-3 c κs = search needs
-
-end-in-requires-4 : tie.Need-end-in-requires-4
-end-in-requires-4 c κs = search needs
 
 returns-3 : tie.Need-returns-3
 returns-3 c =
@@ -50,14 +32,5 @@ returns-4 c =
 pub end-of-spec : {M : Type 1} → statement M
 end-of-spec =
     tie.close
-    (tie.spec
-    add-result
-    returns
-    add-end-in
-    end-in-requires
-    end-in-requires-2
-    returns-2
-    end-in-requires-3
-    end-in-requires-4
-    returns-3
-    returns-4)
+    (tie.spec (λ c. search needs) returns (λ c. search needs) (λ c κs. search needs) (λ c κs. search needs) returns-2
+    (λ c κs. search needs) (λ c κs. search needs) returns-3 returns-4)

@@ -7,15 +7,6 @@ returns : tie.Need-returns
 returns c = let a = c .before .before .before .args in
     filled-short (a .functions) (a .rows) (a .kinds .now) (a .operands .now) (a .table .now) (c .if1 .taken)
 
-fill-ends-requires : tie.Need-fill-ends-requires
-fill-ends-requires c κs = search needs
-
-fill-starts-requires : tie.Need-fill-starts-requires
-fill-starts-requires c κs = search needs
-
-same-length : tie.Need-same-length
-same-length c = search needs
-
 returns-2 : tie.Need-returns-2
 returns-2 c = let a = c .before .before .before .before .before .before .before .before .before .before .before .args
     in
@@ -26,4 +17,4 @@ returns-2 c = let a = c .before .before .before .before .before .before .before 
 
 pub fill-spec : {M : Type 1} → statement M
 fill-spec =
-    tie.close (tie.spec returns fill-ends-requires fill-starts-requires same-length returns-2)
+    tie.close (tie.spec returns (λ c κs. search needs) (λ c κs. search needs) (λ c. search needs) returns-2)

@@ -15,9 +15,6 @@ loop-holds : tie.Need-loop-holds Inv-loop μ-loop
 loop-holds c = ending-starts (c .before .before .args .kinds .now) (c .before .before .args .rows) (c .before .before
     .args .table .now)
 
-sub-at : tie.Need-sub-at Inv-loop μ-loop
-sub-at c = search needs
-
 shared-slice-read-end-of : tie.Need-shared-slice-read-end-of Inv-loop μ-loop
 shared-slice-read-end-of c = omega (
   arith,
@@ -59,9 +56,6 @@ put-position-requires c κs = omega (
       .before .before .before .before .before .before .before .pre,
 )
 
-loop-less : tie.Need-loop-less Inv-loop μ-loop
-loop-less c = search needs
-
 loop-again : tie.Need-loop-again Inv-loop μ-loop
 loop-again c = end-more (c .before .before .before .before .before .before .before .before .loop .inv) (c .before
     .before .before .before .before .before .before .loop-test .taken) (c .before .before .before .before .end-of
@@ -77,17 +71,5 @@ returns c = ended (c .before .loop .inv) (λ h. omega arith)
 pub fill-ends-spec : {M : Type 1} → statement M
 fill-ends-spec =
     tie.close
-    (tie.spec
-    Inv-loop
-    μ-loop
-    loop-holds
-    sub-at
-    shared-slice-read-end-of
-    end-of-requires
-    mul-put-position
-    add-put-position
-    put-position-requires
-    loop-less
-    loop-again
-    same-length
-    returns)
+    (tie.spec Inv-loop μ-loop loop-holds (λ c. search needs) shared-slice-read-end-of end-of-requires mul-put-position
+    add-put-position put-position-requires (λ c. search needs) loop-again same-length returns)

@@ -22,15 +22,6 @@ same-length c = c .before .before .loop .inv .long
 returns : tie.Need-returns Inv-loop μ-loop
 returns c = filled-past (c .before .before .loop .inv) (c .if1 .taken)
 
-natural-at-requires : tie.Need-natural-at-requires Inv-loop μ-loop
-natural-at-requires c κs = search needs
-
-add-start : tie.Need-add-start Inv-loop μ-loop
-add-start c = search needs
-
-add-start-2 : tie.Need-add-start-2 Inv-loop μ-loop
-add-start-2 c = search needs
-
 mul-put-position : tie.Need-mul-put-position Inv-loop μ-loop
 mul-put-position c = omega (
   arith,
@@ -55,9 +46,6 @@ put-position-requires c κs = omega (
       .before .before .before .before .pre,
 )
 
-end-in-requires : tie.Need-end-in-requires Inv-loop μ-loop
-end-in-requires c κs = search needs
-
 add-f : tie.Need-add-f Inv-loop μ-loop
 add-f c = omega (
   arith,
@@ -65,9 +53,6 @@ add-f c = omega (
   c
       .before .before .before .before .before .before .before .before .before .before .before .before .pre,
 )
-
-loop-less : tie.Need-loop-less Inv-loop μ-loop
-loop-less c = search needs
 
 loop-again : tie.Need-loop-again Inv-loop μ-loop
 loop-again c = fill-more (c .before .before .before .before .before .before .before .before .before .loop .inv) (c
@@ -87,21 +72,6 @@ returns-2 c = filled-all (c .before .loop .inv) (omega arith)
 pub fill-starts-spec : {M : Type 1} → statement M
 fill-starts-spec =
     tie.close
-    (tie.spec
-    Inv-loop
-    μ-loop
-    loop-holds
-    same-length
-    returns
-    natural-at-requires
-    add-start
-    add-start-2
-    mul-put-position
-    add-put-position
-    put-position-requires
-    end-in-requires
-    add-f
-    loop-less
-    loop-again
-    same-length-2
-    returns-2)
+    (tie.spec Inv-loop μ-loop loop-holds same-length returns (λ c κs. search needs) (λ c. search needs)
+    (λ c. search needs) mul-put-position add-put-position put-position-requires (λ c κs. search needs) add-f
+    (λ c. search needs) loop-again same-length-2 returns-2)

@@ -8,15 +8,6 @@ use borrow.Author.Needs.{needs}
 use Rattle.normal.proofs.later_kinds.Statement.{statement}
 use Rattle.normal.proofs.later_kinds.Tie as tie
 
-sub-if1 : tie.Need-sub-if1
-sub-if1 c = search needs
-
-add-result : tie.Need-add-result
-add-result c = search needs
-
-shared-slice-read-result : tie.Need-shared-slice-read-result
-shared-slice-read-result c = search needs
-
 returns : tie.Need-returns
 returns c = sym (getD-drop (c .before .before .args .at) (c .before .before .args .from .now)
     (c .before .before .args .i) 0)
@@ -27,4 +18,4 @@ returns-2 c = sym (List·getD-eq-default (drop (c .before .args .at) (c .before 
 
 pub later-kinds-spec : {M : Type 1} → statement M
 later-kinds-spec =
-    tie.close (tie.spec sub-if1 add-result shared-slice-read-result returns returns-2)
+    tie.close (tie.spec (λ c. search needs) (λ c. search needs) (λ c. search needs) returns returns-2)

@@ -10,18 +10,6 @@ use borrow.Author.Needs.{needs}
 use Rattle.normal.proofs.later_ops.Statement.{statement}
 use Rattle.normal.proofs.later_ops.Tie as tie
 
-sub-if1 : tie.Need-sub-if1
-sub-if1 c = search needs
-
-add-result : tie.Need-add-result
-add-result c = search needs
-
-mul-result : tie.Need-mul-result
-mul-result c = search needs
-
-shared-slice-copy-out-result : tie.Need-shared-slice-copy-out-result
-shared-slice-copy-out-result c = search needs
-
 returns : tie.Need-returns
 returns c = let a = c .before .before .args in rw (toZ-ofZ {z = getD (a .from .now) (a .at + a .i) (pos 0)}
     (record { sfits = c .result .given })) (sym (getD-drop (a .at) (a .from .now) (a .i) (pos 0)))
@@ -33,4 +21,4 @@ returns-2 c = sym (List·getD-eq-default (drop (c .before .args .at) (c .before 
 pub later-ops-spec : {M : Type 1} → statement M
 later-ops-spec =
     tie.close
-    (tie.spec sub-if1 add-result mul-result shared-slice-copy-out-result returns returns-2)
+    (tie.spec (λ c. search needs) (λ c. search needs) (λ c. search needs) (λ c. search needs) returns returns-2)

@@ -6,15 +6,6 @@ use borrow.Author.Needs.{needs}
 use Rattle.normal.proofs.lay_code.Statement.{statement}
 use Rattle.normal.proofs.lay_code.Tie as tie
 
-refuse-requires : tie.Need-refuse-requires
-refuse-requires c κs = search needs
-
-same-length : tie.Need-same-length
-same-length c = search needs
-
-same-length-2 : tie.Need-same-length-2
-same-length-2 c = search needs
-
 returns : tie.Need-returns
 returns c =
     let a = c .before .before .before .before .before .before .before .before .before .args in
@@ -24,15 +15,6 @@ returns c =
 
 sub-n : tie.Need-sub-n
 sub-n c = omega (arith, c .before .before .before .pre .0)
-
-refuse-requires-2 : tie.Need-refuse-requires-2
-refuse-requires-2 c κs = search needs
-
-same-length-3 : tie.Need-same-length-3
-same-length-3 c = search needs
-
-same-length-4 : tie.Need-same-length-4
-same-length-4 c = search needs
 
 returns-2 : tie.Need-returns-2
 returns-2 c =
@@ -46,15 +28,6 @@ returns-2 c =
           .before .before .before .before .if2 .taken,
     )) _ _
     (c .before .before .before .refuse2 .ensures)
-
-refuse-requires-3 : tie.Need-refuse-requires-3
-refuse-requires-3 c κs = search needs
-
-same-length-5 : tie.Need-same-length-5
-same-length-5 c = search needs
-
-same-length-6 : tie.Need-same-length-6
-same-length-6 c = search needs
 
 returns-3 : tie.Need-returns-3
 returns-3 c =
@@ -79,12 +52,6 @@ move-ops-requires c κs =
     let long = c .before .before .before .before .before .before .before .before .before .before .pre in
     (omega (arith, long .0, long .2), omega (arith, long .2, c .before .before .before .before .before .if3 .left))
 
-same-length-7 : tie.Need-same-length-7
-same-length-7 c = search needs
-
-same-length-8 : tie.Need-same-length-8
-same-length-8 c = search needs
-
 returns-4 : tie.Need-returns-4
 returns-4 c =
     let a = c .before .before .before .before .before .before .before .before .before .before .before .before .args in
@@ -97,22 +64,6 @@ returns-4 c =
 pub lay-code-spec : {M : Type 1} → statement M
 lay-code-spec =
     tie.close
-    (tie.spec
-    refuse-requires
-    same-length
-    same-length-2
-    returns
-    sub-n
-    refuse-requires-2
-    same-length-3
-    same-length-4
-    returns-2
-    refuse-requires-3
-    same-length-5
-    same-length-6
-    returns-3
-    move-kinds-requires
-    move-ops-requires
-    same-length-7
-    same-length-8
-    returns-4)
+    (tie.spec (λ c κs. search needs) (λ c. search needs) (λ c. search needs) returns sub-n (λ c κs. search needs)
+    (λ c. search needs) (λ c. search needs) returns-2 (λ c κs. search needs) (λ c. search needs) (λ c. search needs)
+    returns-3 move-kinds-requires move-ops-requires (λ c. search needs) (λ c. search needs) returns-4)

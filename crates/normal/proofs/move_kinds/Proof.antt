@@ -19,18 +19,6 @@ abbrev μ-loop : tie.MeasureT-loop
 loop-holds : tie.Need-loop-holds Inv-loop μ-loop
 loop-holds c = (refl, omega arith, omega (arith, c .before .before .pre), omega (arith, c .before .before .pre), refl)
 
-later-kinds-requires : tie.Need-later-kinds-requires Inv-loop μ-loop
-later-kinds-requires c κs = search needs
-
-slice-write-to : tie.Need-slice-write-to Inv-loop μ-loop
-slice-write-to c = search needs
-
-add-i : tie.Need-add-i Inv-loop μ-loop
-add-i c = search needs
-
-loop-less : tie.Need-loop-less Inv-loop μ-loop
-loop-less c = search needs
-
 loop-again : tie.Need-loop-again Inv-loop μ-loop
 loop-again c = let a = c .before .before .before .before .before .args in let v = c .before .before .loop .inv in (
   simp length-set (v .0),
@@ -45,9 +33,6 @@ loop-again c = let a = c .before .before .before .before .before .args in let v 
       (length (a .to .now) - (length (a .from .now) - a .at)) (c .before .before .loop .i) 0)),
 )
 
-same-length : tie.Need-same-length Inv-loop μ-loop
-same-length c = search needs
-
 returns : tie.Need-returns Inv-loop μ-loop
 returns c = let a = c .before .before .before .before .args in let v = c .before .loop .inv in moved-all
     (c .before .loop .to) (a .to .now) (drop (a .at) (a .from .now) ++ replicate
@@ -57,14 +42,5 @@ returns c = let a = c .before .before .before .before .args in let v = c .before
 pub move-kinds-spec : {M : Type 1} → statement M
 move-kinds-spec =
     tie.close
-    (tie.spec
-    Inv-loop
-    μ-loop
-    loop-holds
-    later-kinds-requires
-    slice-write-to
-    add-i
-    loop-less
-    loop-again
-    same-length
-    returns)
+    (tie.spec Inv-loop μ-loop loop-holds (λ c κs. search needs) (λ c. search needs) (λ c. search needs)
+    (λ c. search needs) loop-again (λ c. search needs) returns)

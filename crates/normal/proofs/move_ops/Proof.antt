@@ -21,21 +21,6 @@ abbrev μ-loop : tie.MeasureT-loop
 loop-holds : tie.Need-loop-holds Inv-loop μ-loop
 loop-holds c = (refl, omega arith, omega (arith, c .pre), omega (arith, c .pre), refl)
 
-later-ops-requires : tie.Need-later-ops-requires Inv-loop μ-loop
-later-ops-requires c κs = search needs
-
-mul-v : tie.Need-mul-v Inv-loop μ-loop
-mul-v c = search needs
-
-slice-set-from-v : tie.Need-slice-set-from-v Inv-loop μ-loop
-slice-set-from-v c = search needs
-
-add-i : tie.Need-add-i Inv-loop μ-loop
-add-i c = search needs
-
-loop-less : tie.Need-loop-less Inv-loop μ-loop
-loop-less c = search needs
-
 loop-again : tie.Need-loop-again Inv-loop μ-loop
 loop-again c = let a = c .before .before .before .args in let v = c .before .before .loop .inv in (
   simp length-set (v .0),
@@ -52,9 +37,6 @@ loop-again c = let a = c .before .before .before .args in let v = c .before .bef
       (length (a .to .now) - (length (a .from .now) - a .at)) (c .before .before .loop .i) (pos 0)))),
 )
 
-same-length : tie.Need-same-length Inv-loop μ-loop
-same-length c = search needs
-
 returns : tie.Need-returns Inv-loop μ-loop
 returns c = let a = c .before .before .args in let v = c .before .loop .inv in moved-all (c .before .loop .to)
     (a .to .now) (drop (a .at) (a .from .now) ++ replicate (length (a .to .now) - (length (a .from .now) - a .at))
@@ -64,15 +46,5 @@ returns c = let a = c .before .before .args in let v = c .before .loop .inv in m
 pub move-ops-spec : {M : Type 1} → statement M
 move-ops-spec =
     tie.close
-    (tie.spec
-    Inv-loop
-    μ-loop
-    loop-holds
-    later-ops-requires
-    mul-v
-    slice-set-from-v
-    add-i
-    loop-less
-    loop-again
-    same-length
-    returns)
+    (tie.spec Inv-loop μ-loop loop-holds (λ c κs. search needs) (λ c. search needs) (λ c. search needs)
+    (λ c. search needs) (λ c. search needs) loop-again (λ c. search needs) returns)

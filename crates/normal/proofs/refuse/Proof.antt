@@ -1,5 +1,4 @@
 -- `normal::refuse` meets its contract.
-use mathlib.Core.Path.{refl}
 use Prim.Native.Nat.{_-_}
 use lib.ListN.{length}
 use Rattle.normal.proofs.Moves.{cleared}
@@ -7,24 +6,6 @@ use lib.IntN.{pos}
 use borrow.Author.Needs.{needs}
 use Rattle.normal.proofs.refuse.Statement.{statement}
 use Rattle.normal.proofs.refuse.Tie as tie
-
-slice-aggregate-move-kinds : tie.Need-slice-aggregate-move-kinds
-slice-aggregate-move-kinds c = search needs
-
-move-kinds-requires : tie.Need-move-kinds-requires
-move-kinds-requires c κs = search needs
-
-slice-aggregate-move-ops : tie.Need-slice-aggregate-move-ops
-slice-aggregate-move-ops c = search needs
-
-move-ops-requires : tie.Need-move-ops-requires
-move-ops-requires c κs = search needs
-
-same-length : tie.Need-same-length
-same-length c = search needs
-
-same-length-2 : tie.Need-same-length-2
-same-length-2 c = search needs
 
 returns : tie.Need-returns
 returns c = let a = c .before .before .before .before .before .before .before .before .before .before .args in (
@@ -35,11 +16,5 @@ returns c = let a = c .before .before .before .before .before .before .before .b
 pub refuse-spec : {M : Type 1} → statement M
 refuse-spec =
     tie.close
-    (tie.spec
-    slice-aggregate-move-kinds
-    move-kinds-requires
-    slice-aggregate-move-ops
-    move-ops-requires
-    same-length
-    same-length-2
-    returns)
+    (tie.spec (λ c. search needs) (λ c κs. search needs) (λ c. search needs) (λ c κs. search needs)
+    (λ c. search needs) (λ c. search needs) returns)

@@ -6,9 +6,6 @@ use borrow.Author.Needs.{needs}
 use Rattle.normal.proofs.translate_accepted.Statement.{statement}
 use Rattle.normal.proofs.translate_accepted.Tie as tie
 
-script-code-requires : tie.Need-script-code-requires
-script-code-requires c κs = search needs
-
 slice-aggregate-lay-code : tie.Need-slice-aggregate-lay-code
 slice-aggregate-lay-code c =
     let a = c .before .before .before .before .before .before .before .before .before .before .before .args in
@@ -38,15 +35,6 @@ lay-code-requires c κs =
       operands-long (t .tree) (a .ks .now) (a .os .now) (code .result) wrote,
     )
 
-same-length : tie.Need-same-length
-same-length c = search needs
-
-same-length-2 : tie.Need-same-length-2
-same-length-2 c = search needs
-
-same-length-3 : tie.Need-same-length-3
-same-length-3 c = search needs
-
 returns : tie.Need-returns
 returns c =
     let t = c .before .before .before .before .before .before .before .before .before .before .before .before .before
@@ -60,12 +48,5 @@ returns c =
 pub translate-accepted-spec : {M : Type 1} → statement M
 translate-accepted-spec =
     tie.close
-    (tie.spec
-    script-code-requires
-    slice-aggregate-lay-code
-    slice-aggregate-lay-code-2
-    lay-code-requires
-    same-length
-    same-length-2
-    same-length-3
-    returns)
+    (tie.spec (λ c κs. search needs) slice-aggregate-lay-code slice-aggregate-lay-code-2 lay-code-requires
+    (λ c. search needs) (λ c. search needs) (λ c. search needs) returns)

@@ -31,26 +31,11 @@ sub-i c = omega arith
 add-low-at : tie.Need-add-low-at Inv-loop μ-loop
 add-low-at c = omega (arith, c .before .loop .inv .0)
 
-low-at-requires : tie.Need-low-at-requires Inv-loop μ-loop
-low-at-requires c κs = search needs
-
 add-high-at : tie.Need-add-high-at Inv-loop μ-loop
 add-high-at c = omega (arith, c .before .before .loop .inv .0)
 
-high-at-requires : tie.Need-high-at-requires Inv-loop μ-loop
-high-at-requires c κs = search needs
-
-cast-places : tie.Need-cast-places Inv-loop μ-loop
-cast-places c = search needs
-
 cast-places-2 : tie.Need-cast-places-2 Inv-loop μ-loop
 cast-places-2 c = omega (arith, c .before .before .before .loop .inv .0)
-
-mul-places : tie.Need-mul-places Inv-loop μ-loop
-mul-places c = search needs
-
-array-write-places : tie.Need-array-write-places Inv-loop μ-loop
-array-write-places c = search needs
 
 array-write-depths : tie.Need-array-write-depths Inv-loop μ-loop
 array-write-depths c = omega (
@@ -83,20 +68,6 @@ returns c = bind-end (c .before .before .before .before .args .kinds .now) (c .b
 pub bind-parameters-spec : {M : Type 1} → statement M
 bind-parameters-spec =
     tie.close
-    (tie.spec
-    Inv-loop
-    μ-loop
-    loop-holds
-    sub-i
-    add-low-at
-    low-at-requires
-    add-high-at
-    high-at-requires
-    cast-places
-    cast-places-2
-    mul-places
-    array-write-places
-    array-write-depths
-    loop-less
-    loop-again
+    (tie.spec Inv-loop μ-loop loop-holds sub-i add-low-at (λ c κs. search needs) add-high-at (λ c κs. search needs)
+    (λ c. search needs) cast-places-2 (λ c. search needs) (λ c. search needs) array-write-depths loop-less loop-again
     returns)

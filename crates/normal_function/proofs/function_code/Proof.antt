@@ -8,27 +8,6 @@ use borrow.Author.Needs.{needs}
 use Rattle.normal_function.proofs.function_code.Statement.{statement}
 use Rattle.normal_function.proofs.function_code.Tie as tie
 
-low-at-requires : tie.Need-low-at-requires
-low-at-requires c κs = search needs
-
-high-at-requires : tie.Need-high-at-requires
-high-at-requires c κs = search needs
-
-add-bind-parameters : tie.Need-add-bind-parameters
-add-bind-parameters c = search needs
-
-bind-parameters-requires : tie.Need-bind-parameters-requires
-bind-parameters-requires c κs = search needs
-
-cast-n : tie.Need-cast-n
-cast-n c = search needs
-
-add-lay-tree : tie.Need-add-lay-tree
-add-lay-tree c = search needs
-
-add-lay-tree-2 : tie.Need-add-lay-tree-2
-add-lay-tree-2 c = search needs
-
 lay-tree-requires : tie.Need-lay-tree-requires
 lay-tree-requires c κs = (
   given (c .before .before .before .before .before .before .before .before .before .before
@@ -49,15 +28,6 @@ lay-tree-requires c κs = (
       (search needs),
 )
 
-less-two-requires : tie.Need-less-two-requires
-less-two-requires c κs = search needs
-
-slice-aggregate-note-tree : tie.Need-slice-aggregate-note-tree
-slice-aggregate-note-tree c = search needs
-
-slice-aggregate-note-tree-2 : tie.Need-slice-aggregate-note-tree-2
-slice-aggregate-note-tree-2 c = search needs
-
 note-tree-requires : tie.Need-note-tree-requires
 note-tree-requires c κs = (
   end-near (c .before .before .before .before .before .before .before .before .before
@@ -75,21 +45,6 @@ note-tree-requires c κs = (
       .ensures),
   search needs,
 )
-
-none-requires : tie.Need-none-requires
-none-requires c κs = search needs
-
-slice-aggregate-walk-tree : tie.Need-slice-aggregate-walk-tree
-slice-aggregate-walk-tree c = search needs
-
-slice-aggregate-walk-tree-2 : tie.Need-slice-aggregate-walk-tree-2
-slice-aggregate-walk-tree-2 c = search needs
-
-slice-aggregate-walk-tree-3 : tie.Need-slice-aggregate-walk-tree-3
-slice-aggregate-walk-tree-3 c = search needs
-
-slice-aggregate-walk-tree-4 : tie.Need-slice-aggregate-walk-tree-4
-slice-aggregate-walk-tree-4 c = search needs
 
 walk-tree-requires : tie.Need-walk-tree-requires
 walk-tree-requires c κs = (
@@ -120,9 +75,6 @@ walk-tree-requires c κs = (
         .ensures .1,
   ),
 )
-
-names-below-requires : tie.Need-names-below-requires
-names-below-requires c κs = search needs
 
 slice-aggregate-put-releases : tie.Need-slice-aggregate-put-releases
 slice-aggregate-put-releases c = omega (
@@ -365,33 +317,9 @@ returns c = (
 pub function-code-spec : {M : Type 1} → statement M
 function-code-spec =
     tie.close
-    (tie.spec
-    low-at-requires
-    high-at-requires
-    add-bind-parameters
-    bind-parameters-requires
-    cast-n
-    add-lay-tree
-    add-lay-tree-2
-    lay-tree-requires
-    less-two-requires
-    slice-aggregate-note-tree
-    slice-aggregate-note-tree-2
-    note-tree-requires
-    none-requires
-    slice-aggregate-walk-tree
-    slice-aggregate-walk-tree-2
-    slice-aggregate-walk-tree-3
-    slice-aggregate-walk-tree-4
-    walk-tree-requires
-    names-below-requires
-    slice-aggregate-put-releases
-    put-releases-requires
-    add-put-parameters
-    put-parameters-requires
-    cast-put-row
-    cast-put-row-2
-    mul-put-row
-    add-put-row
-    put-row-requires
-    returns)
+    (tie.spec (λ c κs. search needs) (λ c κs. search needs) (λ c. search needs) (λ c κs. search needs)
+    (λ c. search needs) (λ c. search needs) (λ c. search needs) lay-tree-requires (λ c κs. search needs)
+    (λ c. search needs) (λ c. search needs) note-tree-requires (λ c κs. search needs) (λ c. search needs)
+    (λ c. search needs) (λ c. search needs) (λ c. search needs) walk-tree-requires (λ c κs. search needs)
+    slice-aggregate-put-releases put-releases-requires add-put-parameters put-parameters-requires cast-put-row
+    cast-put-row-2 mul-put-row add-put-row put-row-requires returns)

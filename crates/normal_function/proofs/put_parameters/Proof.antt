@@ -29,14 +29,8 @@ sub-i c = omega arith
 add-high-at : tie.Need-add-high-at Inv-loop μ-loop
 add-high-at c = omega (arith, c .before .loop .inv .0)
 
-high-at-requires : tie.Need-high-at-requires Inv-loop μ-loop
-high-at-requires c κs = search needs
-
 cast-put-row : tie.Need-cast-put-row Inv-loop μ-loop
 cast-put-row c = omega (arith, c .before .before .before .before .loop .inv .0)
-
-cast-put-row-2 : tie.Need-cast-put-row-2 Inv-loop μ-loop
-cast-put-row-2 c = search needs
 
 mul-put-row : tie.Need-mul-put-row Inv-loop μ-loop
 mul-put-row c = omega (
@@ -85,18 +79,5 @@ returns c = rows-end (c .before .before .before .before .args .kinds .now) (c .b
 pub put-parameters-spec : {M : Type 1} → statement M
 put-parameters-spec =
     tie.close
-    (tie.spec
-    Inv-loop
-    μ-loop
-    loop-holds
-    sub-i
-    add-high-at
-    high-at-requires
-    cast-put-row
-    cast-put-row-2
-    mul-put-row
-    add-put-row
-    put-row-requires
-    loop-less
-    loop-again
-    returns)
+    (tie.spec Inv-loop μ-loop loop-holds sub-i add-high-at (λ c κs. search needs) cast-put-row (λ c. search needs)
+    mul-put-row add-put-row put-row-requires loop-less loop-again returns)

@@ -4,9 +4,6 @@ use borrow.Author.Needs.{needs}
 use Rattle.normal_lay.proofs.depth_of.Statement.{statement}
 use Rattle.normal_lay.proofs.depth_of.Tie as tie
 
-element-copy-out-result : tie.Need-element-copy-out-result
-element-copy-out-result c = search needs
-
 returns : tie.Need-returns
 returns c = depth-name (c .before .before .args .depths .now) (c .before .before .args .place) (c .before .if1 .taken)
 
@@ -14,4 +11,4 @@ returns-2 : tie.Need-returns-2
 returns-2 c = depth-number (c .before .args .depths .now) (c .before .args .place) (c .if1 .left)
 
 pub depth-of-spec : {M : Type 1} → statement M
-depth-of-spec = tie.close (tie.spec element-copy-out-result returns returns-2)
+depth-of-spec = tie.close (tie.spec (λ c. search needs) returns returns-2)

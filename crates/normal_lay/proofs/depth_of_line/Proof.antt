@@ -4,24 +4,15 @@ use borrow.Author.Needs.{needs}
 use Rattle.normal_lay.proofs.depth_of_line.Statement.{statement}
 use Rattle.normal_lay.proofs.depth_of_line.Tie as tie
 
-result-of-requires : tie.Need-result-of-requires
-result-of-requires c κs = search needs
-
 returns : tie.Need-returns
 returns c = depth-call (c .before .before .before .args .results .now) (c .before .before .before .args .depths
     .now) (c .before .before .before .args .y) (c .before .before .before .args .place) (c .before .before .before
     .args .kind) _ (c .before .if1 .taken) (c .result-of .ensures)
 
-add-result : tie.Need-add-result
-add-result c = search needs
-
 returns-2 : tie.Need-returns-2
 returns-2 c = depth-literal (c .before .before .before .args .results .now) (c .before .before .before .args .depths
     .now) (c .before .before .before .args .y) (c .before .before .before .args .place) (c .before .before .before
     .args .kind) (c .before .if1 .left) (c .if2 .taken)
-
-element-depth-requires : tie.Need-element-depth-requires
-element-depth-requires c κs = search needs
 
 returns-3 : tie.Need-returns-3
 returns-3 c = depth-index (c .before .before .before .before .before .args .results .now) (c .before .before .before
@@ -39,11 +30,4 @@ returns-4 c = depth-other (c .before .before .before .before .args .results .now
 pub depth-of-line-spec : {M : Type 1} → statement M
 depth-of-line-spec =
     tie.close
-    (tie.spec
-    result-of-requires
-    returns
-    add-result
-    returns-2
-    element-depth-requires
-    returns-3
-    returns-4)
+    (tie.spec (λ c κs. search needs) returns (λ c. search needs) returns-2 (λ c κs. search needs) returns-3 returns-4)

@@ -22,14 +22,8 @@ loop-holds c = (
       (c .before .before .args .operands .now) (c .before .before .args .functions) (c .before .before .pre),
 )
 
-mul-starts : tie.Need-mul-starts Inv-loop μ-loop
-mul-starts c = search needs
-
 array-write-starts : tie.Need-array-write-starts Inv-loop μ-loop
 array-write-starts c = omega (arith, c .before .loop .inv .0 .few)
-
-high-at-requires : tie.Need-high-at-requires Inv-loop μ-loop
-high-at-requires c κs = search needs
 
 array-write-results : tie.Need-array-write-results Inv-loop μ-loop
 array-write-results c = omega (arith, c .before .before .loop .inv .0 .few)
@@ -65,16 +59,5 @@ returns c = let v = c .before .loop .inv in rw (v .0 .reads) (scan-ends (v .2) (
 pub find-heads-spec : {M : Type 1} → statement M
 find-heads-spec =
     tie.close
-    (tie.spec
-    Inv-loop
-    μ-loop
-    loop-holds
-    mul-starts
-    array-write-starts
-    high-at-requires
-    array-write-results
-    after-function-requires
-    add-i
-    loop-less
-    loop-again
-    returns)
+    (tie.spec Inv-loop μ-loop loop-holds (λ c. search needs) array-write-starts (λ c κs. search needs)
+    array-write-results after-function-requires add-i loop-less loop-again returns)

@@ -40,14 +40,8 @@ loop-holds c =
 sub-i : tie.Need-sub-i Inv-loop μ-loop
 sub-i c = omega arith
 
-mul-at : tie.Need-mul-at Inv-loop μ-loop
-mul-at c = search needs
-
 array-read-at : tie.Need-array-read-at Inv-loop μ-loop
 array-read-at c = omega (arith, c .before .loop .inv .2, c .before .loop .inv .0 .few)
-
-slice-aggregate-function-code : tie.Need-slice-aggregate-function-code Inv-loop μ-loop
-slice-aggregate-function-code c = search needs
 
 function-code-requires : tie.Need-function-code-requires Inv-loop μ-loop
 function-code-requires c κs =
@@ -98,18 +92,5 @@ returns c =
 pub script-code-spec : {M : Type 1} → statement M
 script-code-spec =
     tie.close
-    (tie.spec
-    Inv-loop
-    μ-loop
-    find-heads-requires
-    loop-holds
-    sub-i
-    mul-at
-    array-read-at
-    slice-aggregate-function-code
-    function-code-requires
-    note-depths-requires
-    loop-less
-    loop-again
-    same-length
-    returns)
+    (tie.spec Inv-loop μ-loop find-heads-requires loop-holds sub-i (λ c. search needs) array-read-at
+    (λ c. search needs) function-code-requires note-depths-requires loop-less loop-again same-length returns)

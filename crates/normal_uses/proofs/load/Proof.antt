@@ -31,12 +31,6 @@ bit-of-requires c κs = omega arith
 array-write-r : tie.Need-array-write-r Inv-loop μ-loop
 array-write-r c = omega arith
 
-add-y : tie.Need-add-y Inv-loop μ-loop
-add-y c = search needs
-
-loop-less : tie.Need-loop-less Inv-loop μ-loop
-loop-less c = search needs
-
 loop-again : tie.Need-loop-again Inv-loop μ-loop
 loop-again c = let v = c .before .before .before .loop .inv in (
   v .0,
@@ -51,16 +45,5 @@ returns c = let v = c .before .loop .inv in loaded (v .2) (v .0) (c .loop-test .
 pub load-spec : {M : Type 1} → statement M
 load-spec =
     tie.close
-    (tie.spec
-    Inv-loop
-    μ-loop
-    loop-holds
-    mul-b
-    add-b
-    shared-slice-read-b
-    bit-of-requires
-    array-write-r
-    add-y
-    loop-less
-    loop-again
-    returns)
+    (tie.spec Inv-loop μ-loop loop-holds mul-b add-b shared-slice-read-b bit-of-requires array-write-r
+    (λ c. search needs) (λ c. search needs) loop-again returns)

@@ -27,24 +27,6 @@ loop-holds c = (
       (c .before .before .args .rows .now) (c .before .before .args .at) (c .before .before .args .m),
 )
 
-sub-i : tie.Need-sub-i Inv-loop μ-loop
-sub-i c = search needs
-
-add-row-at : tie.Need-add-row-at Inv-loop μ-loop
-add-row-at c = search needs
-
-row-at-requires : tie.Need-row-at-requires Inv-loop μ-loop
-row-at-requires c κs = search needs
-
-atom-of-requires : tie.Need-atom-of-requires Inv-loop μ-loop
-atom-of-requires c κs = search needs
-
-put-atom-requires : tie.Need-put-atom-requires Inv-loop μ-loop
-put-atom-requires c κs = search needs
-
-loop-less : tie.Need-loop-less Inv-loop μ-loop
-loop-less c = search needs
-
 loop-again : tie.Need-loop-again Inv-loop μ-loop
 loop-again c = let v = c .before .before .before .before .before .before .loop .inv in (
   omega arith,
@@ -68,15 +50,5 @@ returns c = atoms-end (c .before .before .before .before .args .operands .now) (
 pub put-atoms-spec : {M : Type 1} → statement M
 put-atoms-spec =
     tie.close
-    (tie.spec
-    Inv-loop
-    μ-loop
-    loop-holds
-    sub-i
-    add-row-at
-    row-at-requires
-    atom-of-requires
-    put-atom-requires
-    loop-less
-    loop-again
-    returns)
+    (tie.spec Inv-loop μ-loop loop-holds (λ c. search needs) (λ c. search needs) (λ c κs. search needs)
+    (λ c κs. search needs) (λ c κs. search needs) (λ c. search needs) loop-again returns)

@@ -5,9 +5,6 @@ use borrow.Author.Needs.{needs}
 use Rattle.normal_write.proofs.put_end.Statement.{statement}
 use Rattle.normal_write.proofs.put_end.Tie as tie
 
-put-atom-requires : tie.Need-put-atom-requires
-put-atom-requires c κs = search needs
-
 put-row-requires : tie.Need-put-row-requires
 put-row-requires c κs = lower (c .before .before .put-atom .ensures) (omega arith)
 
@@ -20,4 +17,4 @@ returns c = wrote-then (wrote-then (c .before .before .before .before .before .b
     (c .before .before .before .put-row .ensures)) (c .retain-atom .ensures)
 
 pub put-end-spec : {M : Type 1} → statement M
-put-end-spec = tie.close (tie.spec put-atom-requires put-row-requires retain-atom-requires returns)
+put-end-spec = tie.close (tie.spec (λ c κs. search needs) put-row-requires retain-atom-requires returns)

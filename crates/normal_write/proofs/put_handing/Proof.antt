@@ -4,9 +4,6 @@ use borrow.Author.Needs.{needs}
 use Rattle.normal_write.proofs.put_handing.Statement.{statement}
 use Rattle.normal_write.proofs.put_handing.Tie as tie
 
-put-release-requires : tie.Need-put-release-requires
-put-release-requires c κs = search needs
-
 put-atoms-requires : tie.Need-put-atoms-requires
 put-atoms-requires c κs = (omega arith, lower (c .before .before .put-release .ensures) (omega arith))
 
@@ -30,9 +27,4 @@ returns c = wrote-then (wrote-then (wrote-then (c .before .before .before .befor
 pub put-handing-spec : {M : Type 1} → statement M
 put-handing-spec =
     tie.close
-    (tie.spec
-    put-release-requires
-    put-atoms-requires
-    put-row-requires
-    put-retains-requires
-    returns)
+    (tie.spec (λ c κs. search needs) put-atoms-requires put-row-requires put-retains-requires returns)

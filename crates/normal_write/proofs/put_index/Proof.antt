@@ -7,9 +7,6 @@ use borrow.Author.Needs.{needs}
 use Rattle.normal_write.proofs.put_index.Statement.{statement}
 use Rattle.normal_write.proofs.put_index.Tie as tie
 
-put-reads-requires : tie.Need-put-reads-requires
-put-reads-requires c κs = search needs
-
 put-retain-requires : tie.Need-put-retain-requires
 put-retain-requires c κs = lower (c .before .before .put-reads .ensures) (omega arith)
 
@@ -33,10 +30,5 @@ returns c =
 pub put-index-spec : {M : Type 1} → statement M
 put-index-spec =
     tie.close
-    (tie.spec
-    put-reads-requires
-    put-retain-requires
-    put-atom-requires
-    put-atom-requires-2
-    put-row-requires
+    (tie.spec (λ c κs. search needs) put-retain-requires put-atom-requires put-atom-requires-2 put-row-requires
     returns)

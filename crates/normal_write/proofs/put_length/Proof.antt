@@ -7,9 +7,6 @@ use borrow.Author.Needs.{needs}
 use Rattle.normal_write.proofs.put_length.Statement.{statement}
 use Rattle.normal_write.proofs.put_length.Tie as tie
 
-put-reads-requires : tie.Need-put-reads-requires
-put-reads-requires c κs = search needs
-
 put-atom-requires : tie.Need-put-atom-requires
 put-atom-requires c κs = lower (c .before .before .put-reads .ensures) (omega arith)
 
@@ -24,4 +21,4 @@ returns c =
 
 pub put-length-spec : {M : Type 1} → statement M
 put-length-spec =
-    tie.close (tie.spec put-reads-requires put-atom-requires put-row-requires returns)
+    tie.close (tie.spec (λ c κs. search needs) put-atom-requires put-row-requires returns)

@@ -7,17 +7,11 @@ use borrow.Author.Needs.{needs}
 use Rattle.normal_write.proofs.put_operation.Statement.{statement}
 use Rattle.normal_write.proofs.put_operation.Tie as tie
 
-put-reads-requires : tie.Need-put-reads-requires
-put-reads-requires c κs = search needs
-
 put-atom-requires : tie.Need-put-atom-requires
 put-atom-requires c κs = lower (c .before .before .put-reads .ensures) (omega arith)
 
 put-atom-requires-2 : tie.Need-put-atom-requires-2
 put-atom-requires-2 c κs = lower (c .before .before .put-atom .ensures) (lower (c .before .before .before .before .before .put-reads .ensures) (omega arith))
-
-operation-kind-requires : tie.Need-operation-kind-requires
-operation-kind-requires c κs = search needs
 
 put-row-requires : tie.Need-put-row-requires
 put-row-requires c κs = lower (c .before .before .before .put-atom2 .ensures) (lower (c .before .before .before .before .before .before .put-atom .ensures) (lower (c .before .before .before .before .before .before .before .before .before .put-reads .ensures) (omega arith)))
@@ -34,10 +28,5 @@ returns c =
 pub put-operation-spec : {M : Type 1} → statement M
 put-operation-spec =
     tie.close
-    (tie.spec
-    put-reads-requires
-    put-atom-requires
-    put-atom-requires-2
-    operation-kind-requires
-    put-row-requires
+    (tie.spec (λ c κs. search needs) put-atom-requires put-atom-requires-2 (λ c κs. search needs) put-row-requires
     returns)

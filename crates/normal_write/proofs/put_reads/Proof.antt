@@ -9,15 +9,6 @@ use borrow.Author.Needs.{needs}
 use Rattle.normal_write.proofs.put_reads.Statement.{statement}
 use Rattle.normal_write.proofs.put_reads.Tie as tie
 
-depth-at-requires : tie.Need-depth-at-requires
-depth-at-requires c κs = search needs
-
-depth-of-atom-requires : tie.Need-depth-of-atom-requires
-depth-of-atom-requires c κs = search needs
-
-release-atom-requires : tie.Need-release-atom-requires
-release-atom-requires c κs = search needs
-
 returns : tie.Need-returns
 returns c =
     let s = c .before .before .before .before .before .before .before .before in
@@ -25,21 +16,6 @@ returns c =
     (first-alone (depth-in (s .args .depths .now)) (s .args .x) (meant (s .args .a)) (meant (s .args .b)) _ _
     (set-of (s .args .live)) (c .before .before .before .before .before .before .depth-at .ensures) (c .before .before .before .before .if1 .taken) (c .before .before .before .before .before .depth-of-atom .ensures) (c .before .before .before .if2 .taken)))
     (c .release-atom .ensures)
-
-none-requires : tie.Need-none-requires
-none-requires c κs = search needs
-
-with-requires : tie.Need-with-requires
-with-requires c κs = search needs
-
-add-requires : tie.Need-add-requires
-add-requires c κs = search needs
-
-add-requires-2 : tie.Need-add-requires-2
-add-requires-2 c κs = search needs
-
-put-releases-requires : tie.Need-put-releases-requires
-put-releases-requires c κs = search needs
 
 returns-2 : tie.Need-returns-2
 returns-2 c =
@@ -52,14 +28,5 @@ returns-2 c =
 pub put-reads-spec : {M : Type 1} → statement M
 put-reads-spec =
     tie.close
-    (tie.spec
-    depth-at-requires
-    depth-of-atom-requires
-    release-atom-requires
-    returns
-    none-requires
-    with-requires
-    add-requires
-    add-requires-2
-    put-releases-requires
-    returns-2)
+    (tie.spec (λ c κs. search needs) (λ c κs. search needs) (λ c κs. search needs) returns (λ c κs. search needs)
+    (λ c κs. search needs) (λ c κs. search needs) (λ c κs. search needs) (λ c κs. search needs) returns-2)

@@ -9,16 +9,10 @@ use borrow.Author.Needs.{needs}
 use Rattle.normal_write.proofs.put_release.Statement.{statement}
 use Rattle.normal_write.proofs.put_release.Tie as tie
 
-array-read-l : tie.Need-array-read-l
-array-read-l c = search needs
-
-release-one-requires : tie.Need-release-one-requires
-release-one-requires c κs = search needs
-
 returns : tie.Need-returns
 returns c = wrote-as (ap (λ (l : List ℕ). release-rows l) (dying-one (depth-in (c .before .before .before .before
     .args .depths .now)) (c .before .before .before .before .args .x) (set-of (c .before .before .before .before
     .args .t5)) (search needs))) (c .release-one .ensures)
 
 pub put-release-spec : {M : Type 1} → statement M
-put-release-spec = tie.close (tie.spec array-read-l release-one-requires returns)
+put-release-spec = tie.close (tie.spec (λ c. search needs) (λ c κs. search needs) returns)

@@ -24,21 +24,6 @@ loop-holds c = (
       (set-of (c .before .args .t4)) (set-of (c .before .args .t5)),
 )
 
-sub-i : tie.Need-sub-i Inv-loop μ-loop
-sub-i c = search needs
-
-array-read-u : tie.Need-array-read-u Inv-loop μ-loop
-array-read-u c = search needs
-
-array-read-l : tie.Need-array-read-l Inv-loop μ-loop
-array-read-l c = search needs
-
-release-one-requires : tie.Need-release-one-requires Inv-loop μ-loop
-release-one-requires c κs = search needs
-
-loop-less : tie.Need-loop-less Inv-loop μ-loop
-loop-less c = search needs
-
 loop-again : tie.Need-loop-again Inv-loop μ-loop
 loop-again c = let v = c .before .before .before .before .loop .inv in (
   omega arith,
@@ -57,14 +42,5 @@ returns c = release-all (depth-in (c .before .before .before .args .depths .now)
 pub put-releases-spec : {M : Type 1} → statement M
 put-releases-spec =
     tie.close
-    (tie.spec
-    Inv-loop
-    μ-loop
-    loop-holds
-    sub-i
-    array-read-u
-    array-read-l
-    release-one-requires
-    loop-less
-    loop-again
-    returns)
+    (tie.spec Inv-loop μ-loop loop-holds (λ c. search needs) (λ c. search needs) (λ c. search needs)
+    (λ c κs. search needs) (λ c. search needs) loop-again returns)

@@ -5,12 +5,6 @@ use borrow.Author.Needs.{needs}
 use Rattle.normal_write.proofs.put_retain.Statement.{statement}
 use Rattle.normal_write.proofs.put_retain.Tie as tie
 
-depth-at-requires : tie.Need-depth-at-requires
-depth-at-requires c κs = search needs
-
-put-row-requires : tie.Need-put-row-requires
-put-row-requires c κs = search needs
-
 returns : tie.Need-returns
 returns c = wrote-as (retain-on (c .before .before .before .before .before .before .args .x) (c .before .before
     .before .before .depth-at .result) _ (c .before .before .before .before .depth-at .ensures) (c .before .before
@@ -21,4 +15,4 @@ returns-2 c = wrote-as (retain-off (c .before .before .before .args .x) (c .befo
     (c .before .depth-at .ensures) (c .if1 .left)) wrote-none
 
 pub put-retain-spec : {M : Type 1} → statement M
-put-retain-spec = tie.close (tie.spec depth-at-requires put-row-requires returns returns-2)
+put-retain-spec = tie.close (tie.spec (λ c κs. search needs) (λ c κs. search needs) returns returns-2)

@@ -35,27 +35,6 @@ loop-holds c = (
       .args .m) (set-of (c .before .before .before .args .live)),
 )
 
-sub-i : tie.Need-sub-i Inv-loop μ-loop
-sub-i c = search needs
-
-add-row-at : tie.Need-add-row-at Inv-loop μ-loop
-add-row-at c = search needs
-
-row-at-requires : tie.Need-row-at-requires Inv-loop μ-loop
-row-at-requires c κs = search needs
-
-atom-of-requires : tie.Need-atom-of-requires Inv-loop μ-loop
-atom-of-requires c κs = search needs
-
-retain-atom-requires : tie.Need-retain-atom-requires Inv-loop μ-loop
-retain-atom-requires c κs = search needs
-
-add-requires : tie.Need-add-requires Inv-loop μ-loop
-add-requires c κs = search needs
-
-loop-less : tie.Need-loop-less Inv-loop μ-loop
-loop-less c = search needs
-
 loop-again : tie.Need-loop-again Inv-loop μ-loop
 loop-again c = let v = c .before .before .before .before .before .before .before .loop .inv in (
   omega arith,
@@ -94,16 +73,5 @@ returns c = retains-end (c .before .before .before .before .before .args .operan
 pub put-retains-spec : {M : Type 1} → statement M
 put-retains-spec =
     tie.close
-    (tie.spec
-    Inv-loop
-    μ-loop
-    loop-holds
-    sub-i
-    add-row-at
-    row-at-requires
-    atom-of-requires
-    retain-atom-requires
-    add-requires
-    loop-less
-    loop-again
-    returns)
+    (tie.spec Inv-loop μ-loop loop-holds (λ c. search needs) (λ c. search needs) (λ c κs. search needs)
+    (λ c κs. search needs) (λ c κs. search needs) (λ c κs. search needs) (λ c. search needs) loop-again returns)

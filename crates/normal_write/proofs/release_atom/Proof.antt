@@ -9,15 +9,6 @@ use borrow.Author.Needs.{needs}
 use Rattle.normal_write.proofs.release_atom.Statement.{statement}
 use Rattle.normal_write.proofs.release_atom.Tie as tie
 
-enum-told : tie.Need-enum-told
-enum-told c = search needs
-
-enum-known-a : tie.Need-enum-known-a
-enum-known-a c = search needs
-
-put-release-requires : tie.Need-put-release-requires
-put-release-requires c κs = search needs
-
 returns : tie.Need-returns
 returns c = rw (c .enum-told .given .1) (wrote-as (ap (λ (l : List ℕ). release-rows l)
     (dying-none (depth-in (c .before .before .before .args .depths .now)) (set-of (c .before .before .before .args
@@ -28,4 +19,4 @@ returns-2 c = rw (c .before .before .before .before .a .given .1) (c .put-releas
 
 pub release-atom-spec : {M : Type 1} → statement M
 release-atom-spec =
-    tie.close (tie.spec enum-told enum-known-a put-release-requires returns returns-2)
+    tie.close (tie.spec (λ c. search needs) (λ c. search needs) (λ c κs. search needs) returns returns-2)

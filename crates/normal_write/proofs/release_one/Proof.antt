@@ -6,20 +6,11 @@ use borrow.Author.Needs.{needs}
 use Rattle.normal_write.proofs.release_one.Statement.{statement}
 use Rattle.normal_write.proofs.release_one.Tie as tie
 
-depth-at-requires : tie.Need-depth-at-requires
-depth-at-requires c κs = search needs
-
 returns : tie.Need-returns
 returns c = wrote-as (release-live (c .before .before .before .before .before .args .x) (c .before .before .before
     .before .before .args .used) (c .before .before .before .before .before .args .live)
     (depth-in (c .before .before .before .before .before .args .depths .now) (c .before .before .before .before
     .before .args .x)) (c .if3 .taken)) wrote-none
-
-cast-put-row : tie.Need-cast-put-row
-cast-put-row c = search needs
-
-put-row-requires : tie.Need-put-row-requires
-put-row-requires c κs = search needs
 
 returns-2 : tie.Need-returns-2
 returns-2 c = wrote-as (release-on (c .before .before .before .before .before .before .before .before .args .x)
@@ -42,11 +33,4 @@ returns-4 c = wrote-as (release-unused (c .before .before .args .x) (c .before .
 pub release-one-spec : {M : Type 1} → statement M
 release-one-spec =
     tie.close
-    (tie.spec
-    depth-at-requires
-    returns
-    cast-put-row
-    put-row-requires
-    returns-2
-    returns-3
-    returns-4)
+    (tie.spec (λ c κs. search needs) returns (λ c. search needs) (λ c κs. search needs) returns-2 returns-3 returns-4)

@@ -74,16 +74,7 @@ cast-result-2 c =
 returns : tie.Need-returns
 returns c = next-is (c .before .args .x) (c .before .fits .x) (c .if1 .taken)
 
-returns-2 : tie.Need-returns-2
-returns-2 c = search needs
-
 pub magnitude-spec : {M : Type 1} → statement M
 magnitude-spec =
     tie.close
-    (tie.spec
-    sub-result
-    cast-result
-    add-result
-    cast-result-2
-    returns
-    returns-2)
+    (tie.spec sub-result cast-result add-result cast-result-2 returns (λ c. search needs))

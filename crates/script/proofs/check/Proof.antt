@@ -4,42 +4,6 @@ use borrow.Author.Needs.{needs}
 use Rattle.script.proofs.check.Statement.{statement}
 use Rattle.script.proofs.check.Tie as tie
 
-cast-count : tie.Need-cast-count
-cast-count c = search needs
-
-slice-aggregate-name-script : tie.Need-slice-aggregate-name-script
-slice-aggregate-name-script c = search needs
-
-name-script-requires : tie.Need-name-script-requires
-name-script-requires c κs = search needs
-
-enum-told : tie.Need-enum-told
-enum-told c = search needs
-
-slice-aggregate-type-script : tie.Need-slice-aggregate-type-script
-slice-aggregate-type-script c = search needs
-
-type-script-requires : tie.Need-type-script-requires
-type-script-requires c κs = search needs
-
-enum-told-2 : tie.Need-enum-told-2
-enum-told-2 c = search needs
-
-count-script-requires : tie.Need-count-script-requires
-count-script-requires c κs = search needs
-
-enum-told-3 : tie.Need-enum-told-3
-enum-told-3 c = search needs
-
-enum-known-p : tie.Need-enum-known-p
-enum-known-p c = search needs
-
-enum-known-n : tie.Need-enum-known-n
-enum-known-n c = search needs
-
-enum-known-n-2 : tie.Need-enum-known-n-2
-enum-known-n-2 c = search needs
-
 returns : tie.Need-returns
 returns c =
     accepted
@@ -79,20 +43,6 @@ returns-4 c =
 pub check-spec : {M : Type 1} → statement M
 check-spec =
     tie.close
-    (tie.spec
-    cast-count
-    slice-aggregate-name-script
-    name-script-requires
-    enum-told
-    slice-aggregate-type-script
-    type-script-requires
-    enum-told-2
-    count-script-requires
-    enum-told-3
-    enum-known-p
-    enum-known-n
-    enum-known-n-2
-    returns
-    returns-2
-    returns-3
-    returns-4)
+    (tie.spec (λ c. search needs) (λ c. search needs) (λ c κs. search needs) (λ c. search needs) (λ c. search needs)
+    (λ c κs. search needs) (λ c. search needs) (λ c κs. search needs) (λ c. search needs) (λ c. search needs)
+    (λ c. search needs) (λ c. search needs) returns returns-2 returns-3 returns-4)

@@ -17,28 +17,10 @@ abbrev μ-loop : tie.MeasureT-loop
 loop-holds : tie.Need-loop-holds Inv-loop μ-loop
 loop-holds c = pass-starts _
 
-shared-slice-read-kind : tie.Need-shared-slice-read-kind Inv-loop μ-loop
-shared-slice-read-kind c = search needs
-
-crowd-ends-requires : tie.Need-crowd-ends-requires Inv-loop μ-loop
-crowd-ends-requires c κs = search needs
-
 returns : tie.Need-returns Inv-loop μ-loop
 returns c =
     pass-stops (c .before .before .before .before .loop .inv) (c .before .before .before .loop-test .taken)
     (sym (c .before .crowd-ends .ensures) ∙ c .if1 .taken)
-
-start-after-requires : tie.Need-start-after-requires Inv-loop μ-loop
-start-after-requires c κs = search needs
-
-count-after-requires : tie.Need-count-after-requires Inv-loop μ-loop
-count-after-requires c κs = search needs
-
-add-p : tie.Need-add-p Inv-loop μ-loop
-add-p c = search needs
-
-loop-less : tie.Need-loop-less Inv-loop μ-loop
-loop-less c = search needs
 
 loop-again : tie.Need-loop-again Inv-loop μ-loop
 loop-again c =
@@ -56,17 +38,5 @@ returns-3 c = pass-within (c .before .before .loop .inv) (c .before .loop-test .
 pub count-script-spec : {M : Type 1} → statement M
 count-script-spec =
     tie.close
-    (tie.spec
-    Inv-loop
-    μ-loop
-    loop-holds
-    shared-slice-read-kind
-    crowd-ends-requires
-    returns
-    start-after-requires
-    count-after-requires
-    add-p
-    loop-less
-    loop-again
-    returns-2
-    returns-3)
+    (tie.spec Inv-loop μ-loop loop-holds (λ c. search needs) (λ c κs. search needs) returns (λ c κs. search needs)
+    (λ c κs. search needs) (λ c. search needs) (λ c. search needs) loop-again returns-2 returns-3)

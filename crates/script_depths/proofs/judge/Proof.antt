@@ -14,9 +14,6 @@ use Rattle.script_depths.proofs.judge.Tie as tie
 abbrev signatures : tie.Start → ℕ → Signature
 signatures c = signature-of (c .args .kinds .now) (c .args .operands .now) (c .args .starts .now)
 
-start-of-requires : tie.Need-start-of-requires
-start-of-requires c κs = search needs
-
 judge-call-requires : tie.Need-judge-call-requires
 judge-call-requires c κs = (
   omega (
@@ -61,20 +58,11 @@ returns-3 c =
     (c .before .before .before .before .before .before .before .before .pre .0) (c .before .before .if2 .taken) _
     (c .before .all-are .ensures) (c .if3 .left)
 
-shared-slice-read-a : tie.Need-shared-slice-read-a
-shared-slice-read-a c = search needs
-
-shared-slice-read-b : tie.Need-shared-slice-read-b
-shared-slice-read-b c = search needs
-
 returns-4 : tie.Need-returns-4
 returns-4 c =
     index-number (signatures (c .before .before .before .before .before .before .before .before .before .before)) _ _
     _ _ (c .before .before .before .before .before .before .before .before .before .before .pre .0)
     (c .before .if4 .taken) (c .if5 .taken)
-
-sub-t20 : tie.Need-sub-t20
-sub-t20 c = search needs
 
 returns-5 : tie.Need-returns-5
 returns-5 c =
@@ -110,9 +98,6 @@ returns-9 c =
     (c .before .before .before .before .before .before .before .before .before .before .before .before .pre .0)
     (c .before .if9 .taken) (c .if10 .taken)
 
-shared-slice-read-if11 : tie.Need-shared-slice-read-if11
-shared-slice-read-if11 c = search needs
-
 returns-10 : tie.Need-returns-10
 returns-10 c =
     if-good (signatures
@@ -128,12 +113,6 @@ returns-11 c =
     .before)) _ _ _ _ (c .before .before .before .before .before .before .before .before .before .before .before
     .before .before .before .pre .0) (c .before .before .before .if9 .taken) (c .before .before .if10 .left)
     (c .if11 .left)
-
-parts-of-requires : tie.Need-parts-of-requires
-parts-of-requires c κs = search needs
-
-cast-n : tie.Need-cast-n
-cast-n c = search needs
 
 all-are-requires-2 : tie.Need-all-are-requires-2
 all-are-requires-2 c κs =
@@ -179,28 +158,7 @@ returns-13 c =
 pub judge-spec : {M : Type 1} → statement M
 judge-spec =
     tie.close
-    (tie.spec
-    start-of-requires
-    judge-call-requires
-    returns
-    all-are-requires
-    add-t15
-    returns-2
-    returns-3
-    shared-slice-read-a
-    shared-slice-read-b
-    returns-4
-    sub-t20
-    returns-5
-    returns-6
-    returns-7
-    returns-8
-    returns-9
-    shared-slice-read-if11
-    returns-10
-    returns-11
-    parts-of-requires
-    cast-n
-    all-are-requires-2
-    returns-12
-    returns-13)
+    (tie.spec (λ c κs. search needs) judge-call-requires returns all-are-requires add-t15 returns-2 returns-3
+    (λ c. search needs) (λ c. search needs) returns-4 (λ c. search needs) returns-5 returns-6 returns-7 returns-8
+    returns-9 (λ c. search needs) returns-10 returns-11 (λ c κs. search needs) (λ c. search needs) all-are-requires-2
+    returns-12 returns-13)

@@ -21,26 +21,11 @@ abbrev μ-loop : tie.MeasureT-loop
 loop-holds : tie.Need-loop-holds Inv-loop μ-loop
 loop-holds c = (omega arith, match-starts _ _ _ _ _ (c .before .before .before .pre .0))
 
-add-high-at : tie.Need-add-high-at Inv-loop μ-loop
-add-high-at c = search needs
-
-high-at-requires : tie.Need-high-at-requires Inv-loop μ-loop
-high-at-requires c κs = search needs
-
-shared-slice-read-if1 : tie.Need-shared-slice-read-if1 Inv-loop μ-loop
-shared-slice-read-if1 c = search needs
-
 returns : tie.Need-returns Inv-loop μ-loop
 returns c =
     match-not _ _ _ _ _ (c .before .before .before .before .before .before .before .before .pre .0)
     (c .before .before .before .before .loop .i) (c .before .before .before .loop-test .taken)
     (λ e. c .if1 .taken (c .before .before .high-at .ensures ∙ e)) (c .before .before .before .before .loop .inv .1)
-
-add-i : tie.Need-add-i Inv-loop μ-loop
-add-i c = search needs
-
-loop-less : tie.Need-loop-less Inv-loop μ-loop
-loop-less c = search needs
 
 loop-again : tie.Need-loop-again Inv-loop μ-loop
 loop-again c = (
@@ -58,15 +43,5 @@ returns-2 c =
 pub parameters-match-spec : {M : Type 1} → statement M
 parameters-match-spec =
     tie.close
-    (tie.spec
-    Inv-loop
-    μ-loop
-    loop-holds
-    add-high-at
-    high-at-requires
-    shared-slice-read-if1
-    returns
-    add-i
-    loop-less
-    loop-again
-    returns-2)
+    (tie.spec Inv-loop μ-loop loop-holds (λ c. search needs) (λ c κs. search needs) (λ c. search needs) returns
+    (λ c. search needs) (λ c. search needs) loop-again returns-2)

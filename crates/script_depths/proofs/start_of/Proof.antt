@@ -7,23 +7,11 @@ use borrow.Author.Needs.{needs}
 use Rattle.script_depths.proofs.start_of.Statement.{statement}
 use Rattle.script_depths.proofs.start_of.Tie as tie
 
-mul-lesser : tie.Need-mul-lesser
-mul-lesser c = search needs
-
-shared-slice-read-lesser : tie.Need-shared-slice-read-lesser
-shared-slice-read-lesser c = search needs
-
-lesser-requires : tie.Need-lesser-requires
-lesser-requires c κs = search needs
-
 returns : tie.Need-returns
 returns c =
     let a = c .before .before .before .before .before .args in
     c .lesser .ensures ∙ ap (λ (n : ℕ). min n (length (a .kinds .now)))
     (getD-any (a .starts .now) (a .f) 0 1024 (c .before .before .if1 .taken))
-
-lesser-requires-2 : tie.Need-lesser-requires-2
-lesser-requires-2 c κs = search needs
 
 returns-2 : tie.Need-returns-2
 returns-2 c =
@@ -34,10 +22,4 @@ returns-2 c =
 pub start-of-spec : {M : Type 1} → statement M
 start-of-spec =
     tie.close
-    (tie.spec
-    mul-lesser
-    shared-slice-read-lesser
-    lesser-requires
-    returns
-    lesser-requires-2
-    returns-2)
+    (tie.spec (λ c. search needs) (λ c. search needs) (λ c κs. search needs) returns (λ c κs. search needs) returns-2)

@@ -113,22 +113,6 @@ module _ (t : ℕ) where
       (c .before .before .before .node-at .result) (c .before .before .before .node-at .ensures)
       (c .before .kind .given .1)
 
-name-binding-name-part-requires : (t : ℕ) →
-    name-binding-lts.Need-name-part-requires (name-binding-claims t) (name-binding-at t) name-binding.Post
-name-binding-name-part-requires t c κs = search needs
-
-name-binding-enum-known-q : (t : ℕ) →
-    name-binding-lts.Need-enum-known-q (name-binding-claims t) (name-binding-at t) name-binding.Post
-name-binding-enum-known-q t c = search needs
-
-name-binding-slice-read-old : (t : ℕ) →
-    name-binding-lts.Need-slice-read-old (name-binding-claims t) (name-binding-at t) name-binding.Post
-name-binding-slice-read-old t c = search needs
-
-name-binding-slice-write-known : (t : ℕ) →
-    name-binding-lts.Need-slice-write-known (name-binding-claims t) (name-binding-at t) name-binding.Post
-name-binding-slice-write-known t c = search needs
-
 name-binding-name-part-requires-2 : (t : ℕ) →
     name-binding-lts.Need-name-part-requires-2 (name-binding-claims t) (name-binding-at t) name-binding.Post
 name-binding-name-part-requires-2 t c κs = (
@@ -148,10 +132,6 @@ name-binding-slice-write-known-2 t c =
       c .before .before .before .before .before .before .before .before .before .before .before .before .before
           .before .before .pre .1,
     )
-
-name-binding-enum-known-n : (t : ℕ) →
-    name-binding-lts.Need-enum-known-n (name-binding-claims t) (name-binding-at t) name-binding.Post
-name-binding-enum-known-n t c = search needs
 
 name-binding-same-length : (t : ℕ) →
     name-binding-lts.Need-same-length (name-binding-claims t) (name-binding-at t) name-binding.Post
@@ -182,10 +162,6 @@ name-binding-returns t c = let a =
     (c .before .before .before .before .before .before .before .before .before .before .name-part .ensures .0)
     (c .before .before .before .before .before .before .q .given .1) (c .before .before .name-part2 .ensures .0)
 
-name-binding-same-length-2 : (t : ℕ) →
-    name-binding-lts.Need-same-length-2 (name-binding-claims t) (name-binding-at t) name-binding.Post
-name-binding-same-length-2 t c = search needs
-
 name-binding-returns-2 : (t : ℕ) →
     name-binding-lts.Need-returns-2 (name-binding-claims t) (name-binding-at t) name-binding.Post
 name-binding-returns-2 t c = let a =
@@ -198,21 +174,6 @@ name-binding-returns-2 t c = let a =
 
 name-part-returns : (t : ℕ) → name-part-lts.Need-returns (name-part-claims t) (name-part-at t) name-part.Post
 name-part-returns t c = (no-levels _ _ _ _ _ _ (c .if1 .taken), refl)
-
-name-part-node-at-requires : (t : ℕ) →
-    name-part-lts.Need-node-at-requires (name-part-claims t) (name-part-at t) name-part.Post
-name-part-node-at-requires t c κs = search needs
-
-name-part-enum-known-kind : (t : ℕ) →
-    name-part-lts.Need-enum-known-kind (name-part-claims t) (name-part-at t) name-part.Post
-name-part-enum-known-kind t c = search needs
-
-name-part-cast-if3 : (t : ℕ) → name-part-lts.Need-cast-if3 (name-part-claims t) (name-part-at t) name-part.Post
-name-part-cast-if3 t c = search needs
-
-name-part-slice-read-if3 : (t : ℕ) →
-    name-part-lts.Need-slice-read-if3 (name-part-claims t) (name-part-at t) name-part.Post
-name-part-slice-read-if3 t c = search needs
 
 name-part-add-t19 : (t : ℕ) → name-part-lts.Need-add-t19 (name-part-claims t) (name-part-at t) name-part.Post
 name-part-add-t19 t c = omega (arith, there t (c .before .before .before))
@@ -233,24 +194,9 @@ name-part-returns-3 t c = (
   refl,
 )
 
-name-part-is-binding-requires : (t : ℕ) →
-    name-part-lts.Need-is-binding-requires (name-part-claims t) (name-part-at t) name-part.Post
-name-part-is-binding-requires t c κs = search needs
-
 name-part-add-name-binding : (t : ℕ) →
     name-part-lts.Need-add-name-binding (name-part-claims t) (name-part-at t) name-part.Post
 name-part-add-name-binding t c = omega (arith, there t (c .before .before .before .before))
-
-name-part-sub-name-binding : (t : ℕ) →
-    name-part-lts.Need-sub-name-binding (name-part-claims t) (name-part-at t) name-part.Post
-name-part-sub-name-binding t c = search needs
-
-name-part-name-binding-requires : (t : ℕ) →
-    name-part-lts.Need-name-binding-requires (name-part-claims t) (name-part-at t) name-part.Post
-name-part-name-binding-requires t c κs = search needs
-
-name-part-same-length : (t : ℕ) → name-part-lts.Need-same-length (name-part-claims t) (name-part-at t) name-part.Post
-name-part-same-length t c = search needs
 
 name-part-returns-4 : (t : ℕ) → name-part-lts.Need-returns-4 (name-part-claims t) (name-part-at t) name-part.Post
 name-part-returns-4 t c = (
@@ -261,10 +207,6 @@ name-part-returns-4 t c = (
       ∙ c .before .before .before .before .if4 .taken) _ (c .before .before .name-binding .ensures .0),
   c .before .before .name-binding .ensures .1,
 )
-
-name-part-calls-none-requires : (t : ℕ) →
-    name-part-lts.Need-calls-none-requires (name-part-claims t) (name-part-at t) name-part.Post
-name-part-calls-none-requires t c κs = search needs
 
 name-part-returns-5 : (t : ℕ) → name-part-lts.Need-returns-5 (name-part-claims t) (name-part-at t) name-part.Post
 name-part-returns-5 t c = (
@@ -279,28 +221,6 @@ name-part-returns-5 t c = (
 name-part-add-name-parts : (t : ℕ) →
     name-part-lts.Need-add-name-parts (name-part-claims t) (name-part-at t) name-part.Post
 name-part-add-name-parts t c = omega (arith, there t (c .before .before .before .before .before .before))
-
-name-part-parts-of-requires : (t : ℕ) →
-    name-part-lts.Need-parts-of-requires (name-part-claims t) (name-part-at t) name-part.Post
-name-part-parts-of-requires t c κs = search needs
-
-name-part-sub-name-parts : (t : ℕ) →
-    name-part-lts.Need-sub-name-parts (name-part-claims t) (name-part-at t) name-part.Post
-name-part-sub-name-parts t c = search needs
-
-name-part-name-parts-requires : (t : ℕ) →
-    name-part-lts.Need-name-parts-requires (name-part-claims t) (name-part-at t) name-part.Post
-name-part-name-parts-requires t c κs = search needs
-
-name-part-enum-told : (t : ℕ) → name-part-lts.Need-enum-told (name-part-claims t) (name-part-at t) name-part.Post
-name-part-enum-told t c = search needs
-
-name-part-enum-told-2 : (t : ℕ) → name-part-lts.Need-enum-told-2 (name-part-claims t) (name-part-at t) name-part.Post
-name-part-enum-told-2 t c = search needs
-
-name-part-same-length-2 : (t : ℕ) →
-    name-part-lts.Need-same-length-2 (name-part-claims t) (name-part-at t) name-part.Post
-name-part-same-length-2 t c = search needs
 
 name-part-returns-6 : (t : ℕ) → name-part-lts.Need-returns-6 (name-part-claims t) (name-part-at t) name-part.Post
 name-part-returns-6 t c = (
@@ -351,21 +271,6 @@ name-parts-name-part-requires t c κs = (
   ap length (c .before .before .loop .inv .1) ∙ c .before .before .before .before .before .before .pre .1,
 )
 
-name-parts-enum-known-q : (t : ℕ) →
-    name-parts-lts.Need-enum-known-q (name-parts-claims t) (name-parts-at t) name-parts.Post name-parts-Inv-loop
-    name-parts-μ-loop
-name-parts-enum-known-q t c = search needs
-
-name-parts-enum-known-n : (t : ℕ) →
-    name-parts-lts.Need-enum-known-n (name-parts-claims t) (name-parts-at t) name-parts.Post name-parts-Inv-loop
-    name-parts-μ-loop
-name-parts-enum-known-n t c = search needs
-
-name-parts-same-length : (t : ℕ) →
-    name-parts-lts.Need-same-length (name-parts-claims t) (name-parts-at t) name-parts.Post name-parts-Inv-loop
-    name-parts-μ-loop
-name-parts-same-length t c = search needs
-
 name-parts-returns :
     (t : ℕ) →
     name-parts-lts.Need-returns
@@ -386,26 +291,6 @@ name-parts-returns t c = let a =
       c .before .before .before .before .before .name-part .ensures .1 ∙ v .1,
     )
 
-name-parts-sub-left :
-    (t : ℕ) →
-    name-parts-lts.Need-sub-left
-    (name-part-below t, name-part.Post)
-    (name-parts-at t)
-    name-parts.Post
-    name-parts-Inv-loop
-    name-parts-μ-loop
-name-parts-sub-left t c = search needs
-
-name-parts-loop-less :
-    (t : ℕ) →
-    name-parts-lts.Need-loop-less
-    (name-part-below t, name-part.Post)
-    (name-parts-at t)
-    name-parts.Post
-    name-parts-Inv-loop
-    name-parts-μ-loop
-name-parts-loop-less t c = search needs
-
 name-parts-loop-again : (t : ℕ) →
     name-parts-lts.Need-loop-again (name-parts-claims t) (name-parts-at t) name-parts.Post name-parts-Inv-loop
     name-parts-μ-loop
@@ -423,11 +308,6 @@ name-parts-loop-again t c = let a =
           (c .before .before .before .before .before .before .before .loop-test .taken)
           (rw (v .1) at (c .before .before .before .before .before .name-part .ensures .0)) (c .before .q .given .1),
     )
-
-name-parts-same-length-2 : (t : ℕ) →
-    name-parts-lts.Need-same-length-2 (name-parts-claims t) (name-parts-at t) name-parts.Post name-parts-Inv-loop
-    name-parts-μ-loop
-name-parts-same-length-2 t c = search needs
 
 name-parts-returns-2 :
     (t : ℕ) →
@@ -451,16 +331,16 @@ pub +name-binding+name-part+name-parts-spec : {M : Type 1} → statement M
     )
     (name-binding-at t)
     name-binding.Post
-    (name-binding-name-part-requires t)
-    (name-binding-enum-known-q t)
-    (name-binding-slice-read-old t)
-    (name-binding-slice-write-known t)
+    (λ c κs. search needs)
+    (λ c. search needs)
+    (λ c. search needs)
+    (λ c. search needs)
     (name-binding-name-part-requires-2 t)
     (name-binding-slice-write-known-2 t)
-    (name-binding-enum-known-n t)
+    (λ c. search needs)
     (name-binding-same-length t)
     (name-binding-returns t)
-    (name-binding-same-length-2 t)
+    (λ c. search needs)
     (name-binding-returns-2 t))
     (λ t. name-part-lts.spec (
       node-at-reads.Asked,
@@ -479,45 +359,32 @@ pub +name-binding+name-part+name-parts-spec : {M : Type 1} → statement M
     (name-part-at t)
     name-part.Post
     (name-part-returns t)
-    (name-part-node-at-requires t)
-    (name-part-enum-known-kind t)
-    (name-part-cast-if3 t)
-    (name-part-slice-read-if3 t)
+    (λ c κs. search needs)
+    (λ c. search needs)
+    (λ c. search needs)
+    (λ c. search needs)
     (name-part-add-t19 t)
     (name-part-returns-2 t)
     (name-part-returns-3 t)
-    (name-part-is-binding-requires t)
+    (λ c κs. search needs)
     (name-part-add-name-binding t)
-    (name-part-sub-name-binding t)
-    (name-part-name-binding-requires t)
-    (name-part-same-length t)
+    (λ c. search needs)
+    (λ c κs. search needs)
+    (λ c. search needs)
     (name-part-returns-4 t)
-    (name-part-calls-none-requires t)
+    (λ c κs. search needs)
     (name-part-returns-5 t)
     (name-part-add-name-parts t)
-    (name-part-parts-of-requires t)
-    (name-part-sub-name-parts t)
-    (name-part-name-parts-requires t)
-    (name-part-enum-told t)
-    (name-part-enum-told-2 t)
-    (name-part-same-length-2 t)
+    (λ c κs. search needs)
+    (λ c. search needs)
+    (λ c κs. search needs)
+    (λ c. search needs)
+    (λ c. search needs)
+    (λ c. search needs)
     (name-part-returns-6 t)
     (name-part-returns-7 t)
     (name-part-returns-8 t))
-    λ t. name-parts-lts.spec
-    (name-part-below t, name-part.Post)
-    (name-parts-at t)
-    name-parts.Post
-    name-parts-Inv-loop
-    name-parts-μ-loop
-    (name-parts-loop-holds t)
-    (name-parts-name-part-requires t)
-    (name-parts-enum-known-q t)
-    (name-parts-enum-known-n t)
-    (name-parts-same-length t)
-    (name-parts-returns t)
-    (name-parts-sub-left t)
-    (name-parts-loop-less t)
-    (name-parts-loop-again t)
-    (name-parts-same-length-2 t)
-    (name-parts-returns-2 t)
+    λ t. name-parts-lts.spec (name-part-below t, name-part.Post) (name-parts-at t) name-parts.Post name-parts-Inv-loop
+    name-parts-μ-loop (name-parts-loop-holds t) (name-parts-name-part-requires t) (λ c. search needs)
+    (λ c. search needs) (λ c. search needs) (name-parts-returns t) (λ c. search needs) (λ c. search needs)
+    (name-parts-loop-again t) (λ c. search needs) (name-parts-returns-2 t)

@@ -8,15 +8,6 @@ use borrow.Author.Needs.{needs}
 use Rattle.script_names.proofs.name_function.Statement.{statement}
 use Rattle.script_names.proofs.name_function.Tie as tie
 
-node-at-requires : tie.Need-node-at-requires
-node-at-requires c κs = search needs
-
-enum-known-count : tie.Need-enum-known-count
-enum-known-count c = search needs
-
-slice-aggregate-name-parameters : tie.Need-slice-aggregate-name-parameters
-slice-aggregate-name-parameters c = search needs
-
 add-name-parameters : tie.Need-add-name-parameters
 add-name-parameters c = let a = c .before .before .before .before .before .before .before .args in
     omega (
@@ -25,15 +16,6 @@ add-name-parameters c = let a = c .before .before .before .before .before .befor
           (c .before .before .before .before .node-at .result)
           (c .before .before .before .before .node-at .ensures) (c .before .before .count .given .1),
     )
-
-name-parameters-requires : tie.Need-name-parameters-requires
-name-parameters-requires c κs = search needs
-
-enum-told : tie.Need-enum-told
-enum-told c = search needs
-
-enum-told-2 : tie.Need-enum-told-2
-enum-told-2 c = search needs
 
 returns : tie.Need-returns
 returns c = let a = c .before .before .before .before .before .before .before .before .before .args in
@@ -57,14 +39,5 @@ returns-3 c = let a = c .before .before .before .before .before .args in
 pub name-function-spec : {M : Type 1} → statement M
 name-function-spec =
     tie.close
-    (tie.spec
-    node-at-requires
-    enum-known-count
-    slice-aggregate-name-parameters
-    add-name-parameters
-    name-parameters-requires
-    enum-told
-    enum-told-2
-    returns
-    returns-2
-    returns-3)
+    (tie.spec (λ c κs. search needs) (λ c. search needs) (λ c. search needs) add-name-parameters
+    (λ c κs. search needs) (λ c. search needs) (λ c. search needs) returns returns-2 returns-3)

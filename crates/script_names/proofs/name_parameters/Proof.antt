@@ -23,20 +23,8 @@ abbrev μ-loop : tie.MeasureT-loop
 loop-holds : tie.Need-loop-holds Inv-loop μ-loop
 loop-holds c = (omega arith, c .before .before .before .pre, refl)
 
-node-at-requires : tie.Need-node-at-requires Inv-loop μ-loop
-node-at-requires c κs = search needs
-
-enum-known-low : tie.Need-enum-known-low Inv-loop μ-loop
-enum-known-low c = search needs
-
-cast-x : tie.Need-cast-x Inv-loop μ-loop
-cast-x c = search needs
-
 slice-read-if1 : tie.Need-slice-read-if1 Inv-loop μ-loop
 slice-read-if1 c = omega (arith, c .before .before .before .before .before .before .loop .inv .1)
-
-same-length : tie.Need-same-length Inv-loop μ-loop
-same-length c = search needs
 
 returns : tie.Need-returns Inv-loop μ-loop
 returns c = let a = c .before .before .before .before .before .before .before .before .before .before .before .args in
@@ -64,12 +52,6 @@ add-p c = let a = c .before .before .before .before .before .before .before .bef
           (c .before .before .before .before .before .node-at .ensures) (c .before .before .before .low .given .1),
     )
 
-enum-told : tie.Need-enum-told Inv-loop μ-loop
-enum-told c = search needs
-
-same-length-2 : tie.Need-same-length-2 Inv-loop μ-loop
-same-length-2 c = search needs
-
 returns-2 : tie.Need-returns-2 Inv-loop μ-loop
 returns-2 c = let a = c .before .before .before .before .before .before .before .before .args in let v =
     c .before .before .before .before .loop .inv in
@@ -78,12 +60,6 @@ returns-2 c = let a = c .before .before .before .before .before .before .before 
     (c .before .before .before .loop-test .taken) (c .before .before .node-at .result)
     (c .before .before .node-at .ensures) (inl (c .enum-told .given .1))
 
-enum-told-2 : tie.Need-enum-told-2 Inv-loop μ-loop
-enum-told-2 c = search needs
-
-same-length-3 : tie.Need-same-length-3 Inv-loop μ-loop
-same-length-3 c = search needs
-
 returns-3 : tie.Need-returns-3 Inv-loop μ-loop
 returns-3 c = let a = c .before .before .before .before .before .before .before .before .args in let v =
     c .before .before .before .before .loop .inv in
@@ -91,12 +67,6 @@ returns-3 c = let a = c .before .before .before .before .before .before .before 
     (c .before .before .before .before .loop .p) (c .before .before .before .before .loop .known) (v .2)
     (c .before .before .before .loop-test .taken) (c .before .before .node-at .result)
     (c .before .before .node-at .ensures) (inr (c .enum-told2 .given .1))
-
-sub-left : tie.Need-sub-left Inv-loop μ-loop
-sub-left c = search needs
-
-loop-less : tie.Need-loop-less Inv-loop μ-loop
-loop-less c = search needs
 
 loop-again : tie.Need-loop-again Inv-loop μ-loop
 loop-again c = let a =
@@ -120,9 +90,6 @@ loop-again c = let a =
 name-part-requires : tie.Need-name-part-requires Inv-loop μ-loop
 name-part-requires c κs = c .before .before .loop .inv .1
 
-same-length-4 : tie.Need-same-length-4 Inv-loop μ-loop
-same-length-4 c = search needs
-
 returns-4 : tie.Need-returns-4 Inv-loop μ-loop
 returns-4 c = let v = c .before .before .before .before .before .loop .inv in
     body-next _ _ _ _ (c .before .before .before .before .before .loop .left) _ _ (omega arith)
@@ -131,27 +98,7 @@ returns-4 c = let v = c .before .before .before .before .before .loop .inv in
 pub name-parameters-spec : {M : Type 1} → statement M
 name-parameters-spec =
     tie.close
-    (tie.spec
-    Inv-loop
-    μ-loop
-    loop-holds
-    node-at-requires
-    enum-known-low
-    cast-x
-    slice-read-if1
-    same-length
-    returns
-    slice-write-known
-    add-p
-    enum-told
-    same-length-2
-    returns-2
-    enum-told-2
-    same-length-3
-    returns-3
-    sub-left
-    loop-less
-    loop-again
-    name-part-requires
-    same-length-4
-    returns-4)
+    (tie.spec Inv-loop μ-loop loop-holds (λ c κs. search needs) (λ c. search needs) (λ c. search needs) slice-read-if1
+    (λ c. search needs) returns slice-write-known add-p (λ c. search needs) (λ c. search needs) returns-2
+    (λ c. search needs) (λ c. search needs) returns-3 (λ c. search needs) (λ c. search needs) loop-again
+    name-part-requires (λ c. search needs) returns-4)

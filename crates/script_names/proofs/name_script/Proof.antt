@@ -25,21 +25,6 @@ abbrev μ-loop : tie.MeasureT-loop
 loop-holds : tie.Need-loop-holds Inv-loop μ-loop
 loop-holds c = (omega arith, refl, refl, refl)
 
-put-requires : tie.Need-put-requires Inv-loop μ-loop
-put-requires c κs = search needs
-
-name-function-requires : tie.Need-name-function-requires Inv-loop μ-loop
-name-function-requires c κs = search needs
-
-enum-known-q : tie.Need-enum-known-q Inv-loop μ-loop
-enum-known-q c = search needs
-
-enum-known-n : tie.Need-enum-known-n Inv-loop μ-loop
-enum-known-n c = search needs
-
-same-length : tie.Need-same-length Inv-loop μ-loop
-same-length c = search needs
-
 returns : tie.Need-returns Inv-loop μ-loop
 returns c =
     let named = c .before .before .before .name-function in
@@ -49,15 +34,6 @@ returns c =
       c .before .before .before .before .before .before .put .ensures
           ∙ marked-stops _ _ _ _ _ _ (inv .3) (test .taken) _ (named .ensures) _ _ (c .before .n .given .1),
     )
-
-add-i : tie.Need-add-i Inv-loop μ-loop
-add-i c = search needs
-
-sub-left : tie.Need-sub-left Inv-loop μ-loop
-sub-left c = search needs
-
-loop-less : tie.Need-loop-less Inv-loop μ-loop
-loop-less c = search needs
 
 loop-again : tie.Need-loop-again Inv-loop μ-loop
 loop-again c =
@@ -72,9 +48,6 @@ loop-again c =
           (marked-goes _ _ _ _ _ _ (inv .3) (test .taken) _ (named .ensures) _ (c .before .q .given .1)),
     )
 
-same-length-2 : tie.Need-same-length-2 Inv-loop μ-loop
-same-length-2 c = search needs
-
 returns-2 : tie.Need-returns-2 Inv-loop μ-loop
 returns-2 c = (
   repeated-none _ _ _ (omega arith) ∙ sym (c .before .loop .inv .2),
@@ -85,19 +58,6 @@ returns-2 c = (
 pub name-script-spec : {M : Type 1} → statement M
 name-script-spec =
     tie.close
-    (tie.spec
-    Inv-loop
-    μ-loop
-    loop-holds
-    put-requires
-    name-function-requires
-    enum-known-q
-    enum-known-n
-    same-length
-    returns
-    add-i
-    sub-left
-    loop-less
-    loop-again
-    same-length-2
-    returns-2)
+    (tie.spec Inv-loop μ-loop loop-holds (λ c κs. search needs) (λ c κs. search needs) (λ c. search needs)
+    (λ c. search needs) (λ c. search needs) returns (λ c. search needs) (λ c. search needs) (λ c. search needs)
+    loop-again (λ c. search needs) returns-2)

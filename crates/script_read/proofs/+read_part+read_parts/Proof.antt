@@ -57,14 +57,6 @@ read-part-claims t = (
 abbrev read-parts-claims : ℕ → read-parts-lts.Claims
 read-parts-claims t = (read-part-below t, read-part.Post)
 
-read-part-node-at-requires : (t : ℕ) →
-    read-part-lts.Need-node-at-requires (read-part-claims t) (read-part-at t) read-part.Post
-read-part-node-at-requires t c κs = search needs
-
-read-part-enum-known-kind : (t : ℕ) →
-    read-part-lts.Need-enum-known-kind (read-part-claims t) (read-part-at t) read-part.Post
-read-part-enum-known-kind t c = search needs
-
 read-part-returns : (t : ℕ) → read-part-lts.Need-returns (read-part-claims t) (read-part-at t) read-part.Post
 read-part-returns t c = let a = c .before .before .before .before .before .before .before .args in
     deep (seen (a .kinds .now) (a .operands .now) at-part (a .at) (c .before .before .before .before .node-at .result)
@@ -81,24 +73,6 @@ read-part-add-read-parts t c = let a = c .before .before .before .before .before
           (c .before .before .before .before .node-at .result)
           (c .before .before .before .before .node-at .ensures) (c .before .before .kind .given .1),
     )
-
-read-part-parts-of-requires : (t : ℕ) →
-    read-part-lts.Need-parts-of-requires (read-part-claims t) (read-part-at t) read-part.Post
-read-part-parts-of-requires t c κs = search needs
-
-read-part-sub-read-parts : (t : ℕ) →
-    read-part-lts.Need-sub-read-parts (read-part-claims t) (read-part-at t) read-part.Post
-read-part-sub-read-parts t c = search needs
-
-read-part-read-parts-requires : (t : ℕ) →
-    read-part-lts.Need-read-parts-requires (read-part-claims t) (read-part-at t) read-part.Post
-read-part-read-parts-requires t c κs = search needs
-
-read-part-enum-told : (t : ℕ) → read-part-lts.Need-enum-told (read-part-claims t) (read-part-at t) read-part.Post
-read-part-enum-told t c = search needs
-
-read-part-enum-told-2 : (t : ℕ) → read-part-lts.Need-enum-told-2 (read-part-claims t) (read-part-at t) read-part.Post
-read-part-enum-told-2 t c = search needs
 
 read-part-returns-2 : (t : ℕ) → read-part-lts.Need-returns-2 (read-part-claims t) (read-part-at t) read-part.Post
 read-part-returns-2 t c = let a = c .before .before .before .before .before .before .before .before .before .args in
@@ -131,21 +105,6 @@ read-parts-loop-holds : (t : ℕ) →
     read-parts-μ-loop
 read-parts-loop-holds t c = (omega arith, refl)
 
-read-parts-read-part-requires : (t : ℕ) →
-    read-parts-lts.Need-read-part-requires (read-parts-claims t) (read-parts-at t) read-parts.Post read-parts-Inv-loop
-    read-parts-μ-loop
-read-parts-read-part-requires t c κs = search needs
-
-read-parts-enum-known-q : (t : ℕ) →
-    read-parts-lts.Need-enum-known-q (read-parts-claims t) (read-parts-at t) read-parts.Post read-parts-Inv-loop
-    read-parts-μ-loop
-read-parts-enum-known-q t c = search needs
-
-read-parts-enum-known-n : (t : ℕ) →
-    read-parts-lts.Need-enum-known-n (read-parts-claims t) (read-parts-at t) read-parts.Post read-parts-Inv-loop
-    read-parts-μ-loop
-read-parts-enum-known-n t c = search needs
-
 read-parts-returns :
     (t : ℕ) →
     read-parts-lts.Need-returns
@@ -161,26 +120,6 @@ read-parts-returns t c = let a = c .before .before .before .before .before .befo
     (c .before .before .before .read-part .result) (c .before .before .before .before .before .loop .inv .1)
     (c .before .before .before .before .loop-test .taken) (c .before .before .before .read-part .ensures)
     (c .before .n .given .1)
-
-read-parts-sub-left :
-    (t : ℕ) →
-    read-parts-lts.Need-sub-left
-    (read-part-below t, read-part.Post)
-    (read-parts-at t)
-    read-parts.Post
-    read-parts-Inv-loop
-    read-parts-μ-loop
-read-parts-sub-left t c = search needs
-
-read-parts-loop-less :
-    (t : ℕ) →
-    read-parts-lts.Need-loop-less
-    (read-part-below t, read-part.Post)
-    (read-parts-at t)
-    read-parts.Post
-    read-parts-Inv-loop
-    read-parts-μ-loop
-read-parts-loop-less t c = search needs
 
 read-parts-loop-again : (t : ℕ) →
     read-parts-lts.Need-loop-again (read-parts-claims t) (read-parts-at t) read-parts.Post read-parts-Inv-loop
@@ -211,30 +150,18 @@ pub +read-part+read-parts-spec : {M : Type 1} → statement M
 +read-part+read-parts-spec = close μ-read-part μ-read-parts (λ t. read-part-lts.spec (read-part-claims t)
     (read-part-at t)
     read-part.Post
-    (read-part-node-at-requires t)
-    (read-part-enum-known-kind t)
+    (λ c κs. search needs)
+    (λ c. search needs)
     (read-part-returns t)
     (read-part-add-read-parts t)
-    (read-part-parts-of-requires t)
-    (read-part-sub-read-parts t)
-    (read-part-read-parts-requires t)
-    (read-part-enum-told t)
-    (read-part-enum-told-2 t)
+    (λ c κs. search needs)
+    (λ c. search needs)
+    (λ c κs. search needs)
+    (λ c. search needs)
+    (λ c. search needs)
     (read-part-returns-2 t)
     (read-part-returns-3 t)
     (read-part-returns-4 t))
-    λ t. read-parts-lts.spec
-    (read-part-below t, read-part.Post)
-    (read-parts-at t)
-    read-parts.Post
-    read-parts-Inv-loop
-    read-parts-μ-loop
-    (read-parts-loop-holds t)
-    (read-parts-read-part-requires t)
-    (read-parts-enum-known-q t)
-    (read-parts-enum-known-n t)
-    (read-parts-returns t)
-    (read-parts-sub-left t)
-    (read-parts-loop-less t)
-    (read-parts-loop-again t)
-    (read-parts-returns-2 t)
+    λ t. read-parts-lts.spec (read-part-below t, read-part.Post) (read-parts-at t) read-parts.Post read-parts-Inv-loop
+    read-parts-μ-loop (read-parts-loop-holds t) (λ c κs. search needs) (λ c. search needs) (λ c. search needs)
+    (read-parts-returns t) (λ c. search needs) (λ c. search needs) (read-parts-loop-again t) (read-parts-returns-2 t)

@@ -6,14 +6,8 @@ use borrow.Author.Needs.{needs}
 use Rattle.script_read.proofs.low_limit.Statement.{statement}
 use Rattle.script_read.proofs.low_limit.Tie as tie
 
-array-read-result : tie.Need-array-read-result
-array-read-result c = search needs
-
-returns : tie.Need-returns
-returns c = search needs
-
 returns-2 : tie.Need-returns-2
 returns-2 c = sym (List·getD-eq-default low-limits 0 (c .if1 .left))
 
 pub low-limit-spec : {M : Type 1} → statement M
-low-limit-spec = tie.close (tie.spec array-read-result returns returns-2)
+low-limit-spec = tie.close (tie.spec (λ c. search needs) (λ c. search needs) returns-2)

@@ -8,12 +8,6 @@ use borrow.Author.Needs.{needs}
 use Rattle.script_read.proofs.node_at.Statement.{statement}
 use Rattle.script_read.proofs.node_at.Tie as tie
 
-kind-at-requires : tie.Need-kind-at-requires
-kind-at-requires c κs = search needs
-
-is-allowed-requires : tie.Need-is-allowed-requires
-is-allowed-requires c κs = search needs
-
 returns : tie.Need-returns
 returns c = let a = c .before .before .before .before .before .args in
     node-says (a .kinds .now) (a .operands .now) (place-of (a .place)) (a .at) _
@@ -28,15 +22,6 @@ returns-2 c = let a = c .before .before .before .before .before .before .args in
     (c .before .before .before .kind-at .ensures)
     (sym (c .before .before .is-allowed .ensures) ∙ not-false _ (c .before .if1 .left)) (c .if2 .taken))
 
-operand-at-requires : tie.Need-operand-at-requires
-operand-at-requires c κs = search needs
-
-low-limit-requires : tie.Need-low-limit-requires
-low-limit-requires c κs = search needs
-
-wide-requires : tie.Need-wide-requires
-wide-requires c κs = search needs
-
 returns-3 : tie.Need-returns-3
 returns-3 c = let a = c .before .before .before .before .before .before .before .before .before .before .args in
     let k = c .before .before .before .before .before .before .before .kind-at in
@@ -46,12 +31,6 @@ returns-3 c = let a = c .before .before .before .before .before .before .before 
     (sym (c .before .before .before .before .before .before .is-allowed .ensures) ∙ not-false _ (c .before .before .before .before .before .if1 .left))
     (c .before .before .before .before .if2 .left)
     (n .result) (n .ensures) _ (low-wrong (k .result) (n .result) (omega arith)))
-
-high-limit-requires : tie.Need-high-limit-requires
-high-limit-requires c κs = search needs
-
-wide-requires-2 : tie.Need-wide-requires-2
-wide-requires-2 c κs = search needs
 
 returns-4 : tie.Need-returns-4
 returns-4 c = let a =
@@ -64,12 +43,6 @@ returns-4 c = let a =
     (sym (c .before .before .before .before .before .before .before .before .before .is-allowed .ensures) ∙ not-false _ (c .before .before .before .before .before .before .before .before .if1 .left))
     (c .before .before .before .before .before .before .before .if2 .left)
     (n .result) (n .ensures) _ (high-wrong (k .result) (n .result) (omega arith)))
-
-cast-t12 : tie.Need-cast-t12
-cast-t12 c = search needs
-
-cast-t13 : tie.Need-cast-t13
-cast-t13 c = search needs
 
 returns-5 : tie.Need-returns-5
 returns-5 c = let a =
@@ -86,18 +59,6 @@ returns-5 c = let a =
 pub node-at-spec : {M : Type 1} → statement M
 node-at-spec =
     tie.close
-    (tie.spec
-    kind-at-requires
-    is-allowed-requires
-    returns
-    returns-2
-    operand-at-requires
-    low-limit-requires
-    wide-requires
-    returns-3
-    high-limit-requires
-    wide-requires-2
-    returns-4
-    cast-t12
-    cast-t13
-    returns-5)
+    (tie.spec (λ c κs. search needs) (λ c κs. search needs) returns returns-2 (λ c κs. search needs)
+    (λ c κs. search needs) (λ c κs. search needs) returns-3 (λ c κs. search needs) (λ c κs. search needs) returns-4
+    (λ c. search needs) (λ c. search needs) returns-5)

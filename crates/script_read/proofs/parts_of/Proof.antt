@@ -15,9 +15,6 @@ returns-2 c =
     literal-parts (c .before .before .args .kind) (c .before .before .args .low) (c .before .before .args .high)
     (c .if2 .taken)
 
-array-read-result : tie.Need-array-read-result
-array-read-result c = search needs
-
 returns-3 : tie.Need-returns-3
 returns-3 c =
     no-parts (c .before .before .before .args .kind) (c .before .before .before .args .low)
@@ -30,4 +27,4 @@ returns-4 c =
     (sym (List·getD-eq-default part-counts 0 (c .if3 .left)))
 
 pub parts-of-spec : {M : Type 1} → statement M
-parts-of-spec = tie.close (tie.spec returns returns-2 array-read-result returns-3 returns-4)
+parts-of-spec = tie.close (tie.spec returns returns-2 (λ c. search needs) returns-3 returns-4)

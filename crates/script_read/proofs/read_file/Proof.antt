@@ -10,27 +10,12 @@ use Rattle.script_read.proofs.read_file.Tie as tie
 returns : tie.Need-returns
 returns c = too-short (c .before .before .args .bytes .now) (c .if1 .taken)
 
-short-at-requires : tie.Need-short-at-requires
-short-at-requires c κs = search needs
-
-short-at-requires-2 : tie.Need-short-at-requires-2
-short-at-requires-2 c κs = search needs
-
-sizes-fit-requires : tie.Need-sizes-fit-requires
-sizes-fit-requires c κs = search needs
-
 returns-2 : tie.Need-returns-2
 returns-2 c =
     out-of-range (c .before .before .before .before .before .before .args .bytes .now)
     (c .before .before .before .before .if1 .left) (c .before .before .before .short-at .result)
     (c .before .before .short-at2 .result) (c .before .before .before .short-at .ensures .0)
     (c .before .before .short-at2 .ensures .0) (sym (c .before .sizes-fit .ensures) ∙ not-true _ (c .if2 .taken))
-
-mul-if3 : tie.Need-mul-if3
-mul-if3 c = search needs
-
-add-if3 : tie.Need-add-if3
-add-if3 c = search needs
 
 returns-3 : tie.Need-returns-3
 returns-3 c =
@@ -39,30 +24,6 @@ returns-3 c =
     (c .before .before .before .short-at2 .result) (c .before .before .before .before .short-at .ensures .0)
     (c .before .before .before .short-at2 .ensures .0)
     (sym (c .before .before .sizes-fit .ensures) ∙ not-false _ (c .before .if2 .left)) (c .if3 .taken)
-
-add-end : tie.Need-add-end
-add-end c = search needs
-
-sub-kinds : tie.Need-sub-kinds
-sub-kinds c = search needs
-
-part-kinds-start : tie.Need-part-kinds-start
-part-kinds-start c = search needs
-
-part-kinds-end : tie.Need-part-kinds-end
-part-kinds-end c = search needs
-
-sub-operands : tie.Need-sub-operands
-sub-operands c = search needs
-
-part-operands-start : tie.Need-part-operands-start
-part-operands-start c = search needs
-
-part-operands-end : tie.Need-part-operands-end
-part-operands-end c = search needs
-
-read-script-requires : tie.Need-read-script-requires
-read-script-requires c κs = search needs
 
 returns-4 : tie.Need-returns-4
 returns-4 c =
@@ -79,21 +40,6 @@ returns-4 c =
 pub read-file-spec : {M : Type 1} → statement M
 read-file-spec =
     tie.close
-    (tie.spec
-    returns
-    short-at-requires
-    short-at-requires-2
-    sizes-fit-requires
-    returns-2
-    mul-if3
-    add-if3
-    returns-3
-    add-end
-    sub-kinds
-    part-kinds-start
-    part-kinds-end
-    sub-operands
-    part-operands-start
-    part-operands-end
-    read-script-requires
-    returns-4)
+    (tie.spec returns (λ c κs. search needs) (λ c κs. search needs) (λ c κs. search needs) returns-2
+    (λ c. search needs) (λ c. search needs) returns-3 (λ c. search needs) (λ c. search needs) (λ c. search needs)
+    (λ c. search needs) (λ c. search needs) (λ c. search needs) (λ c. search needs) (λ c κs. search needs) returns-4)

@@ -8,12 +8,6 @@ use borrow.Author.Needs.{needs}
 use Rattle.script_read.proofs.read_function.Statement.{statement}
 use Rattle.script_read.proofs.read_function.Tie as tie
 
-node-at-requires : tie.Need-node-at-requires
-node-at-requires c κs = search needs
-
-enum-known-count : tie.Need-enum-known-count
-enum-known-count c = search needs
-
 add-read-parameters : tie.Need-add-read-parameters
 add-read-parameters c = let a = c .before .before .before .before .before .before .args in
     omega (
@@ -22,24 +16,6 @@ add-read-parameters c = let a = c .before .before .before .before .before .befor
           (c .before .before .before .node-at .result) (c .before .before .before .node-at .ensures)
           (c .before .count .given .1),
     )
-
-read-parameters-requires : tie.Need-read-parameters-requires
-read-parameters-requires c κs = search needs
-
-enum-known-q : tie.Need-enum-known-q
-enum-known-q c = search needs
-
-read-part-requires : tie.Need-read-part-requires
-read-part-requires c κs = search needs
-
-enum-known-n : tie.Need-enum-known-n
-enum-known-n c = search needs
-
-enum-told : tie.Need-enum-told
-enum-told c = search needs
-
-enum-told-2 : tie.Need-enum-told-2
-enum-told-2 c = search needs
 
 returns : tie.Need-returns
 returns c = let a = c .before .before .before .before .before .before .before .before .before .before .before .args in
@@ -72,17 +48,6 @@ returns-4 c = let a = c .before .before .before .before .before .args in
 pub read-function-spec : {M : Type 1} → statement M
 read-function-spec =
     tie.close
-    (tie.spec
-    node-at-requires
-    enum-known-count
-    add-read-parameters
-    read-parameters-requires
-    enum-known-q
-    read-part-requires
-    enum-known-n
-    enum-told
-    enum-told-2
-    returns
-    returns-2
-    returns-3
-    returns-4)
+    (tie.spec (λ c κs. search needs) (λ c. search needs) add-read-parameters (λ c κs. search needs)
+    (λ c. search needs) (λ c κs. search needs) (λ c. search needs) (λ c. search needs) (λ c. search needs) returns
+    returns-2 returns-3 returns-4)

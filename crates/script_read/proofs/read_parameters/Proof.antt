@@ -22,12 +22,6 @@ abbrev μ-loop : tie.MeasureT-loop
 loop-holds : tie.Need-loop-holds Inv-loop μ-loop
 loop-holds c = (omega arith, refl)
 
-node-at-requires : tie.Need-node-at-requires Inv-loop μ-loop
-node-at-requires c κs = search needs
-
-enum-told : tie.Need-enum-told Inv-loop μ-loop
-enum-told c = search needs
-
 add-p : tie.Need-add-p Inv-loop μ-loop
 add-p c = let a = c .before .before .before .before .before .before .before .args in
     omega (
@@ -36,9 +30,6 @@ add-p c = let a = c .before .before .before .before .before .before .before .arg
           (c .before .before .node-at .result) (c .before .before .node-at .ensures)
           (c .enum-told .given .1),
     )
-
-enum-told-2 : tie.Need-enum-told-2 Inv-loop μ-loop
-enum-told-2 c = search needs
 
 returns : tie.Need-returns Inv-loop μ-loop
 returns c = let a = c .before .before .before .before .before .before .before .args in
@@ -49,9 +40,6 @@ returns c = let a = c .before .before .before .before .before .before .before .a
     (parameter-stops (no-kind (a .kinds .now) (a .operands .now) at-parameter (c .before .before .before .before .loop .p)
     (c .before .before .node-at .result) (c .before .before .node-at .ensures) (c .enum-told2 .given .1)))
 
-enum-told-3 : tie.Need-enum-told-3 Inv-loop μ-loop
-enum-told-3 c = search needs
-
 returns-2 : tie.Need-returns-2 Inv-loop μ-loop
 returns-2 c = let a = c .before .before .before .before .before .before .before .args in
     repeated-stops (λ q. told (parameter (a .kinds .now) (a .operands .now) q)) (a .count)
@@ -60,12 +48,6 @@ returns-2 c = let a = c .before .before .before .before .before .before .before 
     (c .before .before .before .loop-test .taken) refl
     (parameter-stops (no-operand (a .kinds .now) (a .operands .now) at-parameter (c .before .before .before .before .loop .p)
     (c .before .before .node-at .result) (c .before .before .node-at .ensures) (c .enum-told3 .given .1)))
-
-sub-left : tie.Need-sub-left Inv-loop μ-loop
-sub-left c = search needs
-
-loop-less : tie.Need-loop-less Inv-loop μ-loop
-loop-less c = search needs
 
 loop-again : tie.Need-loop-again Inv-loop μ-loop
 loop-again c = let a = c .before .before .before .before .before .before .before .args in (
@@ -86,18 +68,5 @@ returns-3 c = let a = c .before .before .before .before .args in
 pub read-parameters-spec : {M : Type 1} → statement M
 read-parameters-spec =
     tie.close
-    (tie.spec
-    Inv-loop
-    μ-loop
-    loop-holds
-    node-at-requires
-    enum-told
-    add-p
-    enum-told-2
-    returns
-    enum-told-3
-    returns-2
-    sub-left
-    loop-less
-    loop-again
-    returns-3)
+    (tie.spec Inv-loop μ-loop loop-holds (λ c κs. search needs) (λ c. search needs) add-p (λ c. search needs) returns
+    (λ c. search needs) returns-2 (λ c. search needs) (λ c. search needs) loop-again returns-3)

@@ -21,15 +21,6 @@ abbrev μ-loop : tie.MeasureT-loop
 loop-holds : tie.Need-loop-holds Inv-loop μ-loop
 loop-holds c = refl
 
-read-function-requires : tie.Need-read-function-requires Inv-loop μ-loop
-read-function-requires c κs = search needs
-
-enum-known-q : tie.Need-enum-known-q Inv-loop μ-loop
-enum-known-q c = search needs
-
-enum-known-n : tie.Need-enum-known-n Inv-loop μ-loop
-enum-known-n c = search needs
-
 returns : tie.Need-returns Inv-loop μ-loop
 returns c = let a = c .before .before .before .before .before .before .before .before .args in
     script-ends (a .kinds .now) (a .operands .now) (a .functions) _ _
@@ -38,12 +29,6 @@ returns c = let a = c .before .before .before .before .before .before .before .b
     (c .before .n .given .0 .0) (c .before .n .given .0 .1 .0) (c .before .before .before .read-function .result)
     (c .before .before .before .before .before .loop .inv) (c .before .before .before .before .loop-test .taken)
     (c .before .before .before .read-function .ensures) (c .before .n .given .1))) refl
-
-sub-left : tie.Need-sub-left Inv-loop μ-loop
-sub-left c = search needs
-
-loop-less : tie.Need-loop-less Inv-loop μ-loop
-loop-less c = search needs
 
 loop-again : tie.Need-loop-again Inv-loop μ-loop
 loop-again c = let a = c .before .before .before .before .before .before .before .before .args in
@@ -72,16 +57,5 @@ returns-3 c = let a = c .before .before .before .before .before .args in
 pub read-script-spec : {M : Type 1} → statement M
 read-script-spec =
     tie.close
-    (tie.spec
-    Inv-loop
-    μ-loop
-    loop-holds
-    read-function-requires
-    enum-known-q
-    enum-known-n
-    returns
-    sub-left
-    loop-less
-    loop-again
-    returns-2
-    returns-3)
+    (tie.spec Inv-loop μ-loop loop-holds (λ c κs. search needs) (λ c. search needs) (λ c. search needs) returns
+    (λ c. search needs) (λ c. search needs) loop-again returns-2 returns-3)

@@ -4,25 +4,13 @@ use borrow.Author.Needs.{needs}
 use Rattle.script_types.proofs.main_fits.Statement.{statement}
 use Rattle.script_types.proofs.main_fits.Tie as tie
 
-low-at-requires : tie.Need-low-at-requires
-low-at-requires c κs = search needs
-
 returns : tie.Need-returns
 returns c = other-count _ _ _ (c .before .low-at .ensures) (c .if1 .taken)
-
-high-at-requires : tie.Need-high-at-requires
-high-at-requires c κs = search needs
-
-high-at-requires-2 : tie.Need-high-at-requires-2
-high-at-requires-2 c κs = search needs
 
 returns-2 : tie.Need-returns-2
 returns-2 c =
     first-differs _ _ _ (c .before .before .before .before .low-at .ensures) (c .before .before .before .if1 .left) _
     _ (c .before .high-at2 .ensures) (c .before .before .high-at .ensures) (c .if2 .taken)
-
-high-at-requires-3 : tie.Need-high-at-requires-3
-high-at-requires-3 c κs = search needs
 
 returns-3 : tie.Need-returns-3
 returns-3 c =
@@ -33,11 +21,5 @@ returns-3 c =
 pub main-fits-spec : {M : Type 1} → statement M
 main-fits-spec =
     tie.close
-    (tie.spec
-    low-at-requires
-    returns
-    high-at-requires
-    high-at-requires-2
-    returns-2
-    high-at-requires-3
-    returns-3)
+    (tie.spec (λ c κs. search needs) returns (λ c κs. search needs) (λ c κs. search needs) returns-2
+    (λ c κs. search needs) returns-3)

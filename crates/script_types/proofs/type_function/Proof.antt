@@ -8,12 +8,6 @@ use borrow.Author.Needs.{needs}
 use Rattle.script_types.proofs.type_function.Statement.{statement}
 use Rattle.script_types.proofs.type_function.Tie as tie
 
-node-at-requires : tie.Need-node-at-requires
-node-at-requires c κs = search needs
-
-enum-known-count : tie.Need-enum-known-count
-enum-known-count c = search needs
-
 add-type-parameters : tie.Need-add-type-parameters
 add-type-parameters c =
     omega (
@@ -22,21 +16,6 @@ add-type-parameters c =
           at-function _ _ _ _ (c .before .before .before .node-at .result)
           (c .before .before .before .node-at .ensures) (c .before .count .given .1),
     )
-
-type-parameters-requires : tie.Need-type-parameters-requires
-type-parameters-requires c κs = search needs
-
-enum-known-d : tie.Need-enum-known-d
-enum-known-d c = search needs
-
-enum-known-n : tie.Need-enum-known-n
-enum-known-n c = search needs
-
-enum-told : tie.Need-enum-told
-enum-told c = search needs
-
-enum-told-2 : tie.Need-enum-told-2
-enum-told-2 c = search needs
 
 returns : tie.Need-returns
 returns c =
@@ -77,17 +56,6 @@ returns-5 c =
 pub type-function-spec : {M : Type 1} → statement M
 type-function-spec =
     tie.close
-    (tie.spec
-    node-at-requires
-    enum-known-count
-    add-type-parameters
-    type-parameters-requires
-    enum-known-d
-    enum-known-n
-    enum-told
-    enum-told-2
-    returns
-    returns-2
-    returns-3
-    returns-4
-    returns-5)
+    (tie.spec (λ c κs. search needs) (λ c. search needs) add-type-parameters (λ c κs. search needs)
+    (λ c. search needs) (λ c. search needs) (λ c. search needs) (λ c. search needs) returns returns-2 returns-3
+    returns-4 returns-5)

@@ -24,18 +24,6 @@ abbrev μ-loop : tie.MeasureT-loop
 loop-holds : tie.Need-loop-holds Inv-loop μ-loop
 loop-holds c = (omega arith, search needs, refl)
 
-node-at-requires : tie.Need-node-at-requires Inv-loop μ-loop
-node-at-requires c κs = search needs
-
-enum-known-low : tie.Need-enum-known-low Inv-loop μ-loop
-enum-known-low c = search needs
-
-cast-known : tie.Need-cast-known Inv-loop μ-loop
-cast-known c = search needs
-
-array-write-known : tie.Need-array-write-known Inv-loop μ-loop
-array-write-known c = search needs
-
 add-p : tie.Need-add-p Inv-loop μ-loop
 add-p c =
     omega (
@@ -46,29 +34,17 @@ add-p c =
           (c .before .before .before .node-at .ensures) (c .before .low .given .1),
     )
 
-enum-told : tie.Need-enum-told Inv-loop μ-loop
-enum-told c = search needs
-
 returns : tie.Need-returns Inv-loop μ-loop
 returns c =
     parameter-none _ _ _ _ _ _ _ (c .before .before .before .before .loop .inv .2)
     (c .before .before .before .loop-test .taken) (c .before .before .node-at .result)
     (c .before .before .node-at .ensures) (inl (c .enum-told .given .1))
 
-enum-told-2 : tie.Need-enum-told-2 Inv-loop μ-loop
-enum-told-2 c = search needs
-
 returns-2 : tie.Need-returns-2 Inv-loop μ-loop
 returns-2 c =
     parameter-none _ _ _ _ _ _ _ (c .before .before .before .before .loop .inv .2)
     (c .before .before .before .loop-test .taken) (c .before .before .node-at .result)
     (c .before .before .node-at .ensures) (inr (c .enum-told2 .given .1))
-
-sub-left : tie.Need-sub-left Inv-loop μ-loop
-sub-left c = search needs
-
-loop-less : tie.Need-loop-less Inv-loop μ-loop
-loop-less c = search needs
 
 loop-again : tie.Need-loop-again Inv-loop μ-loop
 loop-again c = (
@@ -81,9 +57,6 @@ loop-again c = (
       (c .before .low .given .1)) (c .before .before .before .before .before .loop .inv .1) (omega arith),
 )
 
-type-body-requires : tie.Need-type-body-requires Inv-loop μ-loop
-type-body-requires c κs = search needs
-
 returns-3 : tie.Need-returns-3 Inv-loop μ-loop
 returns-3 c =
     body-next _ _ _ _ _ _ _ (omega (arith, c .before .loop-test .left)) (c .type-body .ensures)
@@ -92,21 +65,6 @@ returns-3 c =
 pub type-parameters-spec : {M : Type 1} → statement M
 type-parameters-spec =
     tie.close
-    (tie.spec
-    Inv-loop
-    μ-loop
-    loop-holds
-    node-at-requires
-    enum-known-low
-    cast-known
-    array-write-known
-    add-p
-    enum-told
-    returns
-    enum-told-2
-    returns-2
-    sub-left
-    loop-less
-    loop-again
-    type-body-requires
-    returns-3)
+    (tie.spec Inv-loop μ-loop loop-holds (λ c κs. search needs) (λ c. search needs) (λ c. search needs)
+    (λ c. search needs) add-p (λ c. search needs) returns (λ c. search needs) returns-2 (λ c. search needs)
+    (λ c. search needs) loop-again (λ c κs. search needs) returns-3)

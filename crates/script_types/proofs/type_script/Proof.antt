@@ -18,23 +18,11 @@ Inv-loop kinds operands starts functions p₀ left₀ p left =
 abbrev μ-loop : tie.MeasureT-loop
 μ-loop kinds operands starts functions p₀ left₀ p left = left
 
-main-fits-requires : tie.Need-main-fits-requires Inv-loop μ-loop
-main-fits-requires c κs = search needs
-
 returns : tie.Need-returns Inv-loop μ-loop
 returns c = wrong-shape _ _ _ _ _ (c .before .main-fits .ensures) (not-true _ (c .if1 .taken))
 
 loop-holds : tie.Need-loop-holds Inv-loop μ-loop
 loop-holds c = refl
-
-type-function-requires : tie.Need-type-function-requires Inv-loop μ-loop
-type-function-requires c κs = search needs
-
-enum-known-q : tie.Need-enum-known-q Inv-loop μ-loop
-enum-known-q c = search needs
-
-enum-known-n : tie.Need-enum-known-n Inv-loop μ-loop
-enum-known-n c = search needs
 
 returns-2 : tie.Need-returns-2 Inv-loop μ-loop
 returns-2 c =
@@ -43,12 +31,6 @@ returns-2 c =
     (repeated-stops _ _ _ _ _ _ _ _ (c .before .before .before .before .before .loop .inv)
     (c .before .before .before .before .loop-test .taken) (c .before .before .before .type-function .ensures)
     (c .before .n .given .1))
-
-sub-left : tie.Need-sub-left Inv-loop μ-loop
-sub-left c = search needs
-
-loop-less : tie.Need-loop-less Inv-loop μ-loop
-loop-less c = search needs
 
 loop-again : tie.Need-loop-again Inv-loop μ-loop
 loop-again c =
@@ -64,17 +46,5 @@ returns-3 c =
 pub type-script-spec : {M : Type 1} → statement M
 type-script-spec =
     tie.close
-    (tie.spec
-    Inv-loop
-    μ-loop
-    main-fits-requires
-    returns
-    loop-holds
-    type-function-requires
-    enum-known-q
-    enum-known-n
-    returns-2
-    sub-left
-    loop-less
-    loop-again
-    returns-3)
+    (tie.spec Inv-loop μ-loop (λ c κs. search needs) returns loop-holds (λ c κs. search needs) (λ c. search needs)
+    (λ c. search needs) returns-2 (λ c. search needs) (λ c. search needs) loop-again returns-3)

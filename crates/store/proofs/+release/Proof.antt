@@ -64,18 +64,6 @@ release-returns t c =
     let a = c .before .before .args in
     no-levels (a .levels) (a .c) (store-of (a .slots .now) (a .heads .now)) (c .if1 .taken)
 
-release-is-cell-requires : (t : ℕ) →
-    release-lts.Need-is-cell-requires (release-claims t) (release-at t) release.Post release-Inv-loop release-μ-loop
-release-is-cell-requires t c κs = search needs
-
-release-same-length : (t : ℕ) → release-lts.Need-same-length (release-claims t) (release-at t) release.Post
-    release-Inv-loop release-μ-loop
-release-same-length t c = search needs
-
-release-same-length-2 : (t : ℕ) → release-lts.Need-same-length-2 (release-claims t) (release-at t) release.Post
-    release-Inv-loop release-μ-loop
-release-same-length-2 t c = search needs
-
 release-returns-2 : (t : ℕ) → release-lts.Need-returns-2 (release-claims t) (release-at t) release.Post
     release-Inv-loop release-μ-loop
 release-returns-2 t c =
@@ -107,14 +95,6 @@ release-slice-read-n t c =
     let there = c .before .before .is-cell in
     search (needs, there .ensures .there (not-false (there .result) (c .before .if2 .left)))
 
-release-same-length-3 : (t : ℕ) → release-lts.Need-same-length-3 (release-claims t) (release-at t) release.Post
-    release-Inv-loop release-μ-loop
-release-same-length-3 t c = search needs
-
-release-same-length-4 : (t : ℕ) → release-lts.Need-same-length-4 (release-claims t) (release-at t) release.Post
-    release-Inv-loop release-μ-loop
-release-same-length-4 t c = search needs
-
 release-returns-3 : (t : ℕ) → release-lts.Need-returns-3 (release-claims t) (release-at t) release.Post
     release-Inv-loop release-μ-loop
 release-returns-3 t c =
@@ -124,10 +104,6 @@ release-returns-3 t c =
       c .before .before .before .is-cell .ensures .there (not-false (c .before .before .before .is-cell .result)
           (c .before .before .if2 .left)),
     )) (c .if3 .taken)
-
-release-sub-heads : (t : ℕ) → release-lts.Need-sub-heads (release-claims t) (release-at t) release.Post
-    release-Inv-loop release-μ-loop
-release-sub-heads t c = search needs
 
 release-mul-heads : (t : ℕ) → release-lts.Need-mul-heads (release-claims t) (release-at t) release.Post
     release-Inv-loop release-μ-loop
@@ -153,14 +129,6 @@ release-slice-write-heads : (t : ℕ) →
 release-slice-write-heads t c =
     let there = c .before .before .before .before .is-cell in
     search (needs, there .ensures .there (not-false (there .result) (c .before .before .before .if2 .left)))
-
-release-same-length-5 : (t : ℕ) → release-lts.Need-same-length-5 (release-claims t) (release-at t) release.Post
-    release-Inv-loop release-μ-loop
-release-same-length-5 t c = search needs
-
-release-same-length-6 : (t : ℕ) → release-lts.Need-same-length-6 (release-claims t) (release-at t) release.Post
-    release-Inv-loop release-μ-loop
-release-same-length-6 t c = search needs
 
 release-returns-4 : (t : ℕ) → release-lts.Need-returns-4 (release-claims t) (release-at t) release.Post
     release-Inv-loop release-μ-loop
@@ -253,14 +221,6 @@ release-free-requires t c κs =
           .before .before .before .if2 .left)),
     )
 
-release-same-length-7 : (t : ℕ) → release-lts.Need-same-length-7 (release-claims t) (release-at t) release.Post
-    release-Inv-loop release-μ-loop
-release-same-length-7 t c = search needs
-
-release-same-length-8 : (t : ℕ) → release-lts.Need-same-length-8 (release-claims t) (release-at t) release.Post
-    release-Inv-loop release-μ-loop
-release-same-length-8 t c = search needs
-
 release-returns-5 : (t : ℕ) → release-lts.Need-returns-5 (release-claims t) (release-at t) release.Post
     release-Inv-loop release-μ-loop
 release-returns-5 t c =
@@ -302,10 +262,6 @@ release-cast-at-most t c =
       );
     }
 
-release-at-most-requires : (t : ℕ) →
-    release-lts.Need-at-most-requires (release-claims t) (release-at t) release.Post release-Inv-loop release-μ-loop
-release-at-most-requires t c κs = search needs
-
 release-loop-holds : (t : ℕ) → release-lts.Need-loop-holds (release-claims t) (release-at t) release.Post
     release-Inv-loop release-μ-loop
 release-loop-holds t c =
@@ -319,36 +275,6 @@ release-loop-holds t c =
           (c .before .before .before .before .before .before .before .before .slots-of .ensures) ∙ slots-length
           (a .slots .now) (a .c)) (omega arith),
     )
-
-release-mul-named-cell : (t : ℕ) →
-    release-lts.Need-mul-named-cell (release-claims t) (release-at t) release.Post release-Inv-loop release-μ-loop
-release-mul-named-cell t c = search needs
-
-release-array-copy-out-named-cell : (t : ℕ) →
-    release-lts.Need-array-copy-out-named-cell (release-claims t) (release-at t) release.Post release-Inv-loop
-    release-μ-loop
-release-array-copy-out-named-cell t c = search needs
-
-release-named-cell-requires : (t : ℕ) →
-    release-lts.Need-named-cell-requires (release-claims t) (release-at t) release.Post release-Inv-loop
-    release-μ-loop
-release-named-cell-requires t c κs = search needs
-
-release-sub-release : (t : ℕ) → release-lts.Need-sub-release (release-claims t) (release-at t) release.Post
-    release-Inv-loop release-μ-loop
-release-sub-release t c = search needs
-
-release-release-requires : (t : ℕ) →
-    release-lts.Need-release-requires (release-claims t) (release-at t) release.Post release-Inv-loop release-μ-loop
-release-release-requires t c κs = search needs
-
-release-add-i : (t : ℕ) → release-lts.Need-add-i (release-claims t) (release-at t) release.Post release-Inv-loop
-    release-μ-loop
-release-add-i t c = search needs
-
-release-loop-less : (t : ℕ) → release-lts.Need-loop-less (release-claims t) (release-at t) release.Post
-    release-Inv-loop release-μ-loop
-release-loop-less t c = search needs
 
 release-loop-again : (t : ℕ) → release-lts.Need-loop-again (release-claims t) (release-at t) release.Post
     release-Inv-loop release-μ-loop
@@ -368,14 +294,6 @@ release-loop-again t c =
           })) at
           (c .before .before .before .before .named-cell .ensures)) _ (c .before .before .before .release .ensures),
     )
-
-release-same-length-9 : (t : ℕ) → release-lts.Need-same-length-9 (release-claims t) (release-at t) release.Post
-    release-Inv-loop release-μ-loop
-release-same-length-9 t c = search needs
-
-release-same-length-10 : (t : ℕ) →
-    release-lts.Need-same-length-10 (release-claims t) (release-at t) release.Post release-Inv-loop release-μ-loop
-release-same-length-10 t c = search needs
 
 release-returns-6 : (t : ℕ) → release-lts.Need-returns-6 (release-claims t) (release-at t) release.Post
     release-Inv-loop release-μ-loop
@@ -429,24 +347,24 @@ pub +release-spec : {M : Type 1} → statement M
     release-Inv-loop
     release-μ-loop
     (release-returns t)
-    (release-is-cell-requires t)
-    (release-same-length t)
-    (release-same-length-2 t)
+    (λ c κs. search needs)
+    (λ c. search needs)
+    (λ c. search needs)
     (release-returns-2 t)
     (release-mul-n t)
     (release-add-n t)
     (release-mul-n-2 t)
     (release-slice-read-n t)
-    (release-same-length-3 t)
-    (release-same-length-4 t)
+    (λ c. search needs)
+    (λ c. search needs)
     (release-returns-3 t)
-    (release-sub-heads t)
+    (λ c. search needs)
     (release-mul-heads t)
     (release-add-heads t)
     (release-mul-heads-2 t)
     (release-slice-write-heads t)
-    (release-same-length-5 t)
-    (release-same-length-6 t)
+    (λ c. search needs)
+    (λ c. search needs)
     (release-returns-4 t)
     (release-mul-size t)
     (release-add-size t)
@@ -458,20 +376,20 @@ pub +release-spec : {M : Type 1} → statement M
     (release-slice-read-depth t)
     (release-slots-of-requires t)
     (release-free-requires t)
-    (release-same-length-7 t)
-    (release-same-length-8 t)
+    (λ c. search needs)
+    (λ c. search needs)
     (release-returns-5 t)
     (release-cast-at-most t)
-    (release-at-most-requires t)
+    (λ c κs. search needs)
     (release-loop-holds t)
-    (release-mul-named-cell t)
-    (release-array-copy-out-named-cell t)
-    (release-named-cell-requires t)
-    (release-sub-release t)
-    (release-release-requires t)
-    (release-add-i t)
-    (release-loop-less t)
+    (λ c. search needs)
+    (λ c. search needs)
+    (λ c κs. search needs)
+    (λ c. search needs)
+    (λ c κs. search needs)
+    (λ c. search needs)
+    (λ c. search needs)
     (release-loop-again t)
-    (release-same-length-9 t)
-    (release-same-length-10 t)
+    (λ c. search needs)
+    (λ c. search needs)
     (release-returns-6 t)

@@ -7,24 +7,6 @@ use Rattle.store.proofs.Filling.{filled-by-appending, none-given}
 use Rattle.store.proofs.acquire.Statement.{statement}
 use Rattle.store.proofs.acquire.Tie as tie
 
-acquire-empty-requires : tie.Need-acquire-empty-requires
-acquire-empty-requires c κs = search needs
-
-enum-known-c : tie.Need-enum-known-c
-enum-known-c c = search needs
-
-append-all-requires : tie.Need-append-all-requires
-append-all-requires c κs = search needs
-
-enum-told : tie.Need-enum-told
-enum-told c = search needs
-
-same-length : tie.Need-same-length
-same-length c = search needs
-
-same-length-2 : tie.Need-same-length-2
-same-length-2 c = search needs
-
 returns : tie.Need-returns
 returns c =
     let a = c .before .before .before .before .before .before .before .before .before .before .before .before
@@ -41,12 +23,6 @@ returns c =
           (c .before .before .before .before .before .before .before .c .given .0 .0) (a .words .now) e,
     )
 
-same-length-3 : tie.Need-same-length-3
-same-length-3 c = search needs
-
-same-length-4 : tie.Need-same-length-4
-same-length-4 c = search needs
-
 returns-2 : tie.Need-returns-2
 returns-2 c =
     let a = c .before .before .before .before .before .before .before .before .before .args in
@@ -61,14 +37,5 @@ returns-2 c =
 pub acquire-spec : {M : Type 1} → statement M
 acquire-spec =
     tie.close
-    (tie.spec
-    acquire-empty-requires
-    enum-known-c
-    append-all-requires
-    enum-told
-    same-length
-    same-length-2
-    returns
-    same-length-3
-    same-length-4
-    returns-2)
+    (tie.spec (λ c κs. search needs) (λ c. search needs) (λ c κs. search needs) (λ c. search needs)
+    (λ c. search needs) (λ c. search needs) returns (λ c. search needs) (λ c. search needs) returns-2)

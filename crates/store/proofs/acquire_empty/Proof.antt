@@ -16,20 +16,8 @@ returns c =
     let a = c .before .before .args in
     none-acquired (a .slots .now) (a .heads .now) (a .depth) [] (omega arith)
 
-slice-read-c : tie.Need-slice-read-c
-slice-read-c c = search needs
-
 cast-c : tie.Need-cast-c
 cast-c c = record { fits = omega (arith, c .slice-known2 .given 0) }
-
-is-cell-requires : tie.Need-is-cell-requires
-is-cell-requires c κs = search needs
-
-same-length : tie.Need-same-length
-same-length c = search needs
-
-same-length-2 : tie.Need-same-length-2
-same-length-2 c = search needs
 
 returns-2 : tie.Need-returns-2
 returns-2 c =
@@ -74,9 +62,6 @@ clear-slots-requires c κs =
           .if2 .left)),
     )
 
-same-length-3 : tie.Need-same-length-3
-same-length-3 c = search needs
-
 same-length-4 : tie.Need-same-length-4
 same-length-4 c =
     c .before .before .before .before .before .write-head .kept .0 ∙ length-set
@@ -100,21 +85,6 @@ returns-3 c =
 pub acquire-empty-spec : {M : Type 1} → statement M
 acquire-empty-spec =
     tie.close
-    (tie.spec
-    returns
-    slice-read-c
-    cast-c
-    is-cell-requires
-    same-length
-    same-length-2
-    returns-2
-    mul-next
-    add-next
-    mul-next-2
-    slice-read-next
-    slice-write-heads
-    write-head-requires
-    clear-slots-requires
-    same-length-3
-    same-length-4
-    returns-3)
+    (tie.spec returns (λ c. search needs) cast-c (λ c κs. search needs) (λ c. search needs) (λ c. search needs)
+    returns-2 mul-next add-next mul-next-2 slice-read-next slice-write-heads write-head-requires clear-slots-requires
+    (λ c. search needs) same-length-4 returns-3)

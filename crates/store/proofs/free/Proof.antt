@@ -7,28 +7,6 @@ use Rattle.store_words.proofs.CellWords.{to-cells}
 use Rattle.store.proofs.Acquiring.{freed-store}
 use Rattle.store.proofs.free.Statement.{statement}
 use Rattle.store.proofs.free.Tie as tie
-use Rattle.store.proofs.free.Reads as reads
-use Rattle.store.proofs.free.Lts as lts
-use Rattle.store_words.proofs.clear_slots.Reads as clear-slots-reads
-use Rattle.store_words.proofs.write_head.Reads as write-head-reads
-
-slice-read-first : tie.Need-slice-read-first
-slice-read-first c = search needs
-
-cast-freed : tie.Need-cast-freed
-cast-freed c = search needs
-
-slice-write-heads : tie.Need-slice-write-heads
-slice-write-heads c = search needs
-
-write-head-requires : tie.Need-write-head-requires
-write-head-requires c κs = search needs
-
-clear-slots-requires : tie.Need-clear-slots-requires
-clear-slots-requires c κs = search needs
-
-same-length : tie.Need-same-length
-same-length c = search needs
 
 same-length-2 : tie.Need-same-length-2
 same-length-2 c =
@@ -48,12 +26,5 @@ returns c = freed-store
 pub free-spec : {M : Type 1} → statement M
 free-spec =
     tie.close
-    (tie.spec
-    slice-read-first
-    cast-freed
-    slice-write-heads
-    write-head-requires
-    clear-slots-requires
-    same-length
-    same-length-2
-    returns)
+    (tie.spec (λ c. search needs) (λ c. search needs) (λ c. search needs) (λ c κs. search needs)
+    (λ c κs. search needs) (λ c. search needs) same-length-2 returns)

@@ -4,12 +4,6 @@ use borrow.Author.Needs.{needs}
 use Rattle.store.proofs.Retaining.{retain-out, retain-one, retain-full}
 use Rattle.store.proofs.retain.Statement.{statement}
 use Rattle.store.proofs.retain.Tie as tie
-use Rattle.store.proofs.retain.Reads as reads
-use Rattle.store.proofs.retain.Lts as lts
-use Rattle.store_words.proofs.is_cell.Reads as is-cell-reads
-
-is-cell-requires : tie.Need-is-cell-requires
-is-cell-requires c κs = search needs
 
 mul-n : tie.Need-mul-n
 mul-n c = search (needs, c .before .is-cell .ensures .there (c .if1 .taken))
@@ -22,9 +16,6 @@ mul-n-2 c = search (needs, c .before .is-cell .ensures .there (c .if1 .taken))
 
 slice-read-n : tie.Need-slice-read-n
 slice-read-n c = search (needs, c .before .before .is-cell .ensures .there (c .before .if1 .taken))
-
-add-heads : tie.Need-add-heads
-add-heads c = search needs
 
 mul-heads : tie.Need-mul-heads
 mul-heads c = search (needs, c .before .before .before .is-cell .ensures .there (c .before .before .if1 .taken))
@@ -39,9 +30,6 @@ slice-write-heads : tie.Need-slice-write-heads
 slice-write-heads c =
     search (needs, c .before .before .before .is-cell .ensures .there (c .before .before .if1 .taken))
 
-same-length : tie.Need-same-length
-same-length c = search needs
-
 returns : tie.Need-returns
 returns c =
     let a = c .before .before .before .before .before .before .args in
@@ -54,9 +42,6 @@ returns c =
       c .before .before .before .is-cell .ensures .there
           (c .before .before .if1 .taken),
     ))
-
-same-length-2 : tie.Need-same-length-2
-same-length-2 c = search needs
 
 returns-2 : tie.Need-returns-2
 returns-2 c =
@@ -71,9 +56,6 @@ returns-2 c =
           (c .before .before .if1 .taken),
     ))
 
-same-length-3 : tie.Need-same-length-3
-same-length-3 c = search needs
-
 returns-3 : tie.Need-returns-3
 returns-3 c =
     let a = c .before .before .before .before .args in
@@ -82,20 +64,6 @@ returns-3 c =
 pub retain-spec : {M : Type 1} → statement M
 retain-spec =
     tie.close
-    (tie.spec
-    is-cell-requires
-    mul-n
-    add-n
-    mul-n-2
-    slice-read-n
-    add-heads
-    mul-heads
-    add-heads-2
-    mul-heads-2
-    slice-write-heads
-    same-length
-    returns
-    same-length-2
-    returns-2
-    same-length-3
+    (tie.spec (λ c κs. search needs) mul-n add-n mul-n-2 slice-read-n (λ c. search needs) mul-heads add-heads-2
+    mul-heads-2 slice-write-heads (λ c. search needs) returns (λ c. search needs) returns-2 (λ c. search needs)
     returns-3)

@@ -9,10 +9,6 @@ use Rattle.store_check.proofs.Ranges.{Testing, testing-none, testing-mo
 use Rattle.store_check.specs.Tallies.{named-as-counted}
 use Rattle.store_check.proofs.all_counted.Statement.{statement}
 use Rattle.store_check.proofs.all_counted.Tie as tie
-use Rattle.store_check.proofs.all_counted.Reads as reads
-use Rattle.store_check.proofs.all_counted.Lts as lts
-use Rattle.store_words.proofs.cells.Reads as cells-reads
-use Rattle.store_check.proofs.is_counted.Reads as is-counted-reads
 
 abbrev Inv-loop : tie.InvT-loop
 Inv-loop slots heads named n i₀ i = Testing (named-as-counted (store-of slots heads) named) 0 n i
@@ -20,33 +16,9 @@ Inv-loop slots heads named n i₀ i = Testing (named-as-counted (store-of slots 
 abbrev μ-loop : tie.MeasureT-loop
 μ-loop slots heads named n i₀ i = n - i
 
-cells-requires : tie.Need-cells-requires Inv-loop μ-loop
-cells-requires c κs = search needs
-
 loop-holds : tie.Need-loop-holds Inv-loop μ-loop
 loop-holds c = let a = c .before .before .before .args in
     testing-none (named-as-counted (store-of (a .slots .now) (a .heads .now)) (a .named .now)) 0 (c .cells .result)
-
-mul-is-counted : tie.Need-mul-is-counted Inv-loop μ-loop
-mul-is-counted c = search needs
-
-add-is-counted : tie.Need-add-is-counted Inv-loop μ-loop
-add-is-counted c = search needs
-
-mul-is-counted-2 : tie.Need-mul-is-counted-2 Inv-loop μ-loop
-mul-is-counted-2 c = search needs
-
-shared-slice-read-is-counted : tie.Need-shared-slice-read-is-counted Inv-loop μ-loop
-shared-slice-read-is-counted c = search needs
-
-mul-is-counted-3 : tie.Need-mul-is-counted-3 Inv-loop μ-loop
-mul-is-counted-3 c = search needs
-
-shared-slice-read-is-counted-2 : tie.Need-shared-slice-read-is-counted-2 Inv-loop μ-loop
-shared-slice-read-is-counted-2 c = search needs
-
-is-counted-requires : tie.Need-is-counted-requires Inv-loop μ-loop
-is-counted-requires c κs = search needs
 
 returns : tie.Need-returns Inv-loop μ-loop
 returns c = let a = c .before .before .before .before .before .before .before .before .before .args in
@@ -57,12 +29,6 @@ returns c = let a = c .before .before .before .before .before .before .before .b
     (counted-is (a .slots .now) (a .heads .now) (a .named .now)
     (c .before .before .before .before .before .loop .i)
     (omega arith) (c .before .is-counted .ensures) (not-true (c .before .is-counted .result) (c .if1 .taken))))
-
-add-i : tie.Need-add-i Inv-loop μ-loop
-add-i c = search needs
-
-loop-less : tie.Need-loop-less Inv-loop μ-loop
-loop-less c = search needs
 
 loop-again : tie.Need-loop-again Inv-loop μ-loop
 loop-again c = let a = c .before .before .before .before .before .before .before .before .before .args in
@@ -81,20 +47,6 @@ returns-2 c = let a = c .before .before .before .before .before .args in
 pub all-counted-spec : {M : Type 1} → statement M
 all-counted-spec =
     tie.close
-    (tie.spec
-    Inv-loop
-    μ-loop
-    cells-requires
-    loop-holds
-    mul-is-counted
-    add-is-counted
-    mul-is-counted-2
-    shared-slice-read-is-counted
-    mul-is-counted-3
-    shared-slice-read-is-counted-2
-    is-counted-requires
-    returns
-    add-i
-    loop-less
-    loop-again
-    returns-2)
+    (tie.spec Inv-loop μ-loop (λ c κs. search needs) loop-holds (λ c. search needs) (λ c. search needs)
+    (λ c. search needs) (λ c. search needs) (λ c. search needs) (λ c. search needs) (λ c κs. search needs) returns
+    (λ c. search needs) (λ c. search needs) loop-again returns-2)

@@ -9,10 +9,6 @@ use Rattle.semantics.specs.Words.{cells-in, store-of}
 use Rattle.store_check.proofs.Ranges.{Testing, testing-none, testing-more, testing-fails, testing-all, from-zero}
 use Rattle.store_check.proofs.all_formed.Statement.{statement}
 use Rattle.store_check.proofs.all_formed.Tie as tie
-use Rattle.store_check.proofs.all_formed.Reads as reads
-use Rattle.store_check.proofs.all_formed.Lts as lts
-use Rattle.store_words.proofs.cells.Reads as cells-reads
-use Rattle.store_check.proofs.well_formed.Reads as well-formed-reads
 
 abbrev Inv-loop : tie.InvT-loop
 Inv-loop slots heads n i₀ i = Testing (formed (store-of slots heads)) 0 n i
@@ -20,16 +16,10 @@ Inv-loop slots heads n i₀ i = Testing (formed (store-of slots heads)) 0 n i
 abbrev μ-loop : tie.MeasureT-loop
 μ-loop slots heads n i₀ i = n - i
 
-cells-requires : tie.Need-cells-requires Inv-loop μ-loop
-cells-requires c κs = search needs
-
 loop-holds : tie.Need-loop-holds Inv-loop μ-loop
 loop-holds c =
     let a = c .before .before .args in
     testing-none (formed (store-of (a .slots .now) (a .heads .now))) 0 (c .cells .result)
-
-well-formed-requires : tie.Need-well-formed-requires Inv-loop μ-loop
-well-formed-requires c κs = search needs
 
 returns : tie.Need-returns Inv-loop μ-loop
 returns c = let a = c .before .before .before .before .before .before .args in
@@ -37,12 +27,6 @@ returns c = let a = c .before .before .before .before .before .before .args in
     (c .before .before .before .before .cells .ensures .is)
     (testing-fails (c .before .before .before .loop .inv) (c .before .before .loop-test .taken)
     (sym (c .before .well-formed .ensures) ∙ not-true (c .before .well-formed .result) (c .if1 .taken)))
-
-add-i : tie.Need-add-i Inv-loop μ-loop
-add-i c = search needs
-
-loop-less : tie.Need-loop-less Inv-loop μ-loop
-loop-less c = search needs
 
 loop-again : tie.Need-loop-again Inv-loop μ-loop
 loop-again c = testing-more (c .before .before .before .loop .inv) (c .before .before .loop-test .taken)
@@ -57,14 +41,5 @@ returns-2 c = let a = c .before .before .before .before .args in
 pub all-formed-spec : {M : Type 1} → statement M
 all-formed-spec =
     tie.close
-    (tie.spec
-    Inv-loop
-    μ-loop
-    cells-requires
-    loop-holds
-    well-formed-requires
-    returns
-    add-i
-    loop-less
-    loop-again
-    returns-2)
+    (tie.spec Inv-loop μ-loop (λ c κs. search needs) loop-holds (λ c κs. search needs) returns (λ c. search needs)
+    (λ c. search needs) loop-again returns-2)

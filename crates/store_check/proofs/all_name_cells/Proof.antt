@@ -14,9 +14,6 @@ use Rattle.store_check.proofs.CellTests.{names-at, names-are}
 use Rattle.store_check.proofs.Ranges.{Testing, testing-none, testing-more, testing-fails, testing-all}
 use Rattle.store_check.proofs.all_name_cells.Statement.{statement}
 use Rattle.store_check.proofs.all_name_cells.Tie as tie
-use Rattle.store_check.proofs.all_name_cells.Reads as reads
-use Rattle.store_check.proofs.all_name_cells.Lts as lts
-use Rattle.store_check.proofs.names_cell.Reads as names-cell-reads
 
 abbrev Inv-loop : tie.InvT-loop
 Inv-loop slots heads c n depth i₀ i = Testing (names-at slots heads depth c) 0 n i
@@ -29,24 +26,6 @@ loop-holds c =
     let a = c .before .args in
     testing-none (names-at (a .slots .now) (a .heads .now) (a .depth) (a .c)) 0 (a .n)
 
-mul-w : tie.Need-mul-w Inv-loop μ-loop
-mul-w c = search needs
-
-add-w : tie.Need-add-w Inv-loop μ-loop
-add-w c = search needs
-
-add-w-2 : tie.Need-add-w-2 Inv-loop μ-loop
-add-w-2 c = search needs
-
-mul-w-2 : tie.Need-mul-w-2 Inv-loop μ-loop
-mul-w-2 c = search needs
-
-shared-slice-copy-out-w : tie.Need-shared-slice-copy-out-w Inv-loop μ-loop
-shared-slice-copy-out-w c = search needs
-
-names-cell-requires : tie.Need-names-cell-requires Inv-loop μ-loop
-names-cell-requires c κs = search needs
-
 returns : tie.Need-returns Inv-loop μ-loop
 returns c =
     let a = c .before .before .before .before .before .before .args in
@@ -58,12 +37,6 @@ returns c =
     (slot-is (a .slots .now) (a .c) i (omega arith))
     ∙ sym (rw (toZ-ofZ {z = w} (record { sfits = c .before .before .w .given })) at (c .before .names-cell .ensures))
     ∙ not-true (c .before .names-cell .result) (c .if1 .taken)))
-
-add-i : tie.Need-add-i Inv-loop μ-loop
-add-i c = search needs
-
-loop-less : tie.Need-loop-less Inv-loop μ-loop
-loop-less c = search needs
 
 loop-again : tie.Need-loop-again Inv-loop μ-loop
 loop-again c =
@@ -84,18 +57,6 @@ returns-2 c = let a = c .before .before .before .args in
 pub all-name-cells-spec : {M : Type 1} → statement M
 all-name-cells-spec =
     tie.close
-    (tie.spec
-    Inv-loop
-    μ-loop
-    loop-holds
-    mul-w
-    add-w
-    add-w-2
-    mul-w-2
-    shared-slice-copy-out-w
-    names-cell-requires
-    returns
-    add-i
-    loop-less
-    loop-again
-    returns-2)
+    (tie.spec Inv-loop μ-loop loop-holds (λ c. search needs) (λ c. search needs) (λ c. search needs)
+    (λ c. search needs) (λ c. search needs) (λ c κs. search needs) returns (λ c. search needs) (λ c. search needs)
+    loop-again returns-2)

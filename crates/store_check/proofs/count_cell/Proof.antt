@@ -15,11 +15,6 @@ use Rattle.store_check.proofs.Places.{flat-cell, deep-cell, names-lengt
 use Rattle.store_check.specs.Tallies.{tally-one}
 use Rattle.store_check.proofs.count_cell.Statement.{statement}
 use Rattle.store_check.proofs.count_cell.Tie as tie
-use Rattle.store_check.proofs.count_cell.Reads as reads
-use Rattle.store_check.proofs.count_cell.Lts as lts
-use Rattle.store_words.proofs.at_most.Reads as at-most-reads
-use Rattle.store_words.proofs.named_cell.Reads as named-cell-reads
-use Rattle.store_check.proofs.count_one.Reads as count-one-reads
 
 abbrev Inv-loop : tie.InvT-loop
 Inv-loop slots heads c named₀ k i₀ named i =
@@ -29,33 +24,9 @@ Inv-loop slots heads c named₀ k i₀ named i =
 abbrev μ-loop : tie.MeasureT-loop
 μ-loop slots heads c named₀ k i₀ named i = k - i
 
-mul-if1 : tie.Need-mul-if1 Inv-loop μ-loop
-mul-if1 c = search needs
-
-add-if1 : tie.Need-add-if1 Inv-loop μ-loop
-add-if1 c = search needs
-
-mul-if1-2 : tie.Need-mul-if1-2 Inv-loop μ-loop
-mul-if1-2 c = search needs
-
-shared-slice-read-if1 : tie.Need-shared-slice-read-if1 Inv-loop μ-loop
-shared-slice-read-if1 c = search needs
-
 returns : tie.Need-returns Inv-loop μ-loop
 returns c = let a = c .before .before .before .before .args in flat-cell (a .slots .now) (a .heads .now) (a .c)
     (to-cells _ _ _ (omega arith) (omega arith) (omega arith)) (a .named .now) (c .if1 .taken)
-
-mul-at-most : tie.Need-mul-at-most Inv-loop μ-loop
-mul-at-most c = search needs
-
-add-at-most : tie.Need-add-at-most Inv-loop μ-loop
-add-at-most c = search needs
-
-mul-at-most-2 : tie.Need-mul-at-most-2 Inv-loop μ-loop
-mul-at-most-2 c = search needs
-
-shared-slice-read-at-most : tie.Need-shared-slice-read-at-most Inv-loop μ-loop
-shared-slice-read-at-most c = search needs
 
 cast-at-most : tie.Need-cast-at-most Inv-loop μ-loop
 cast-at-most c =
@@ -67,42 +38,12 @@ cast-at-most c =
       );
     }
 
-at-most-requires : tie.Need-at-most-requires Inv-loop μ-loop
-at-most-requires c κs = search needs
-
 loop-holds : tie.Need-loop-holds Inv-loop μ-loop
 loop-holds c = let a = c .before .before .before .before .before .before .args in (
   omega arith,
   refl,
   doing-none tally-one (map cell-of (take (c .at-most .result) (slots-at (a .slots .now) (a .c)))) (a .named .now),
 )
-
-mul-named-cell : tie.Need-mul-named-cell Inv-loop μ-loop
-mul-named-cell c = search needs
-
-add-named-cell : tie.Need-add-named-cell Inv-loop μ-loop
-add-named-cell c = search needs
-
-add-named-cell-2 : tie.Need-add-named-cell-2 Inv-loop μ-loop
-add-named-cell-2 c = search needs
-
-mul-named-cell-2 : tie.Need-mul-named-cell-2 Inv-loop μ-loop
-mul-named-cell-2 c = search needs
-
-shared-slice-copy-out-named-cell : tie.Need-shared-slice-copy-out-named-cell Inv-loop μ-loop
-shared-slice-copy-out-named-cell c = search needs
-
-named-cell-requires : tie.Need-named-cell-requires Inv-loop μ-loop
-named-cell-requires c κs = search needs
-
-count-one-requires : tie.Need-count-one-requires Inv-loop μ-loop
-count-one-requires c κs = search needs
-
-add-i : tie.Need-add-i Inv-loop μ-loop
-add-i c = search needs
-
-loop-less : tie.Need-loop-less Inv-loop μ-loop
-loop-less c = search needs
 
 loop-again : tie.Need-loop-again Inv-loop μ-loop
 loop-again c =
@@ -127,9 +68,6 @@ loop-again c =
           (c .before .before .count-one .ensures),
     )
 
-same-length : tie.Need-same-length Inv-loop μ-loop
-same-length c = search needs
-
 returns-2 : tie.Need-returns-2 Inv-loop μ-loop
 returns-2 c =
     let a = c .before .before .before .before .before .before .before .before .args in
@@ -142,30 +80,8 @@ returns-2 c =
 pub count-cell-spec : {M : Type 1} → statement M
 count-cell-spec =
     tie.close
-    (tie.spec
-    Inv-loop
-    μ-loop
-    mul-if1
-    add-if1
-    mul-if1-2
-    shared-slice-read-if1
-    returns
-    mul-at-most
-    add-at-most
-    mul-at-most-2
-    shared-slice-read-at-most
-    cast-at-most
-    at-most-requires
-    loop-holds
-    mul-named-cell
-    add-named-cell
-    add-named-cell-2
-    mul-named-cell-2
-    shared-slice-copy-out-named-cell
-    named-cell-requires
-    count-one-requires
-    add-i
-    loop-less
-    loop-again
-    same-length
-    returns-2)
+    (tie.spec Inv-loop μ-loop (λ c. search needs) (λ c. search needs) (λ c. search needs) (λ c. search needs) returns
+    (λ c. search needs) (λ c. search needs) (λ c. search needs) (λ c. search needs) cast-at-most
+    (λ c κs. search needs) loop-holds (λ c. search needs) (λ c. search needs) (λ c. search needs) (λ c. search needs)
+    (λ c. search needs) (λ c κs. search needs) (λ c κs. search needs) (λ c. search needs) (λ c. search needs)
+    loop-again (λ c. search needs) returns-2)

@@ -11,10 +11,6 @@ use Rattle.store_words.proofs.Each.{Doing, doing-none, doing-more, doing-all}
 use Rattle.store_check.proofs.Places.{tally-cell, tally-cells}
 use Rattle.store_check.proofs.count_cells.Statement.{statement}
 use Rattle.store_check.proofs.count_cells.Tie as tie
-use Rattle.store_check.proofs.count_cells.Reads as reads
-use Rattle.store_check.proofs.count_cells.Lts as lts
-use Rattle.store_words.proofs.cells.Reads as cells-reads
-use Rattle.store_check.proofs.count_cell.Reads as count-cell-reads
 
 abbrev Inv-loop : tie.InvT-loop
 Inv-loop slots heads named₀ n i₀ named i =
@@ -23,22 +19,10 @@ Inv-loop slots heads named₀ n i₀ named i =
 abbrev μ-loop : tie.MeasureT-loop
 μ-loop slots heads named₀ n i₀ named i = n - i
 
-cells-requires : tie.Need-cells-requires Inv-loop μ-loop
-cells-requires c κs = search needs
-
 loop-holds : tie.Need-loop-holds Inv-loop μ-loop
 loop-holds c =
     let a = c .before .before .before .args in
     (refl, omega arith, doing-none tally-cell (store-of (a .slots .now) (a .heads .now) .cells) (a .named .now))
-
-count-cell-requires : tie.Need-count-cell-requires Inv-loop μ-loop
-count-cell-requires c κs = search needs
-
-add-i : tie.Need-add-i Inv-loop μ-loop
-add-i c = search needs
-
-loop-less : tie.Need-loop-less Inv-loop μ-loop
-loop-less c = search needs
 
 loop-again : tie.Need-loop-again Inv-loop μ-loop
 loop-again c =
@@ -52,9 +36,6 @@ loop-again c =
           (c .before .before .count-cell .ensures),
     )
 
-same-length : tie.Need-same-length Inv-loop μ-loop
-same-length c = search needs
-
 returns : tie.Need-returns Inv-loop μ-loop
 returns c =
     let a = c .before .before .before .before .before .args in
@@ -64,14 +45,5 @@ returns c =
 pub count-cells-spec : {M : Type 1} → statement M
 count-cells-spec =
     tie.close
-    (tie.spec
-    Inv-loop
-    μ-loop
-    cells-requires
-    loop-holds
-    count-cell-requires
-    add-i
-    loop-less
-    loop-again
-    same-length
-    returns)
+    (tie.spec Inv-loop μ-loop (λ c κs. search needs) loop-holds (λ c κs. search needs) (λ c. search needs)
+    (λ c. search needs) loop-again (λ c. search needs) returns)

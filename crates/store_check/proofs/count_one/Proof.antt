@@ -4,26 +4,6 @@ use borrow.Author.Needs.{needs}
 use Rattle.store_check.proofs.Tallying.{count-small, count-full, count-out}
 use Rattle.store_check.proofs.count_one.Statement.{statement}
 use Rattle.store_check.proofs.count_one.Tie as tie
-use Rattle.store_check.proofs.count_one.Reads as reads
-use Rattle.store_check.proofs.count_one.Lts as lts
-
-mul-n : tie.Need-mul-n
-mul-n c = search needs
-
-slice-read-n : tie.Need-slice-read-n
-slice-read-n c = search needs
-
-add-counts : tie.Need-add-counts
-add-counts c = search needs
-
-mul-counts : tie.Need-mul-counts
-mul-counts c = search needs
-
-slice-write-counts : tie.Need-slice-write-counts
-slice-write-counts c = search needs
-
-same-length : tie.Need-same-length
-same-length c = search needs
 
 returns : tie.Need-returns
 returns c = let a = c .before .before .before .args in count-small (a .counts .now) (a .c) (omega arith)
@@ -37,13 +17,5 @@ returns-3 c = let a = c .before .args in count-out (a .counts .now) (a .c) (omeg
 pub count-one-spec : {M : Type 1} → statement M
 count-one-spec =
     tie.close
-    (tie.spec
-    mul-n
-    slice-read-n
-    add-counts
-    mul-counts
-    slice-write-counts
-    same-length
-    returns
-    returns-2
-    returns-3)
+    (tie.spec (λ c. search needs) (λ c. search needs) (λ c. search needs) (λ c. search needs) (λ c. search needs)
+    (λ c. search needs) returns returns-2 returns-3)

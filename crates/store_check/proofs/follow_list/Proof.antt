@@ -9,10 +9,6 @@ use Rattle.store_check.proofs.FreeList.{Following, following-none, foll
 use Rattle.store_check.proofs.FreeList.{following-spent, following-out}
 use Rattle.store_check.proofs.follow_list.Statement.{statement}
 use Rattle.store_check.proofs.follow_list.Tie as tie
-use Rattle.store_check.proofs.follow_list.Reads as reads
-use Rattle.store_check.proofs.follow_list.Lts as lts
-use Rattle.store_words.proofs.cells.Reads as cells-reads
-use Rattle.store_check.proofs.count_one.Reads as count-one-reads
 
 abbrev Inv-loop : tie.InvT-loop
 Inv-loop slots heads met₀ n c₀ left₀ met c left =
@@ -20,12 +16,6 @@ Inv-loop slots heads met₀ n c₀ left₀ met c left =
 
 abbrev μ-loop : tie.MeasureT-loop
 μ-loop slots heads met₀ n c₀ left₀ met c left = left
-
-cells-requires : tie.Need-cells-requires Inv-loop μ-loop
-cells-requires c κs = search needs
-
-shared-slice-read-c : tie.Need-shared-slice-read-c Inv-loop μ-loop
-shared-slice-read-c c = search needs
 
 cast-c : tie.Need-cast-c Inv-loop μ-loop
 cast-c c = record { fits = omega (arith, c .shared-slice-known2 .given 0) }
@@ -38,28 +28,10 @@ loop-holds c = let a = c .before .before .before .before .args in (
       (a .met .now),
 )
 
-same-length : tie.Need-same-length Inv-loop μ-loop
-same-length c = search needs
-
 returns : tie.Need-returns Inv-loop μ-loop
 returns c = let a = c .before .before .before .before .before .before .before .args in
     rw (c .before .before .before .before .cells .ensures .is) at
     (following-spent (a .slots .now) (a .heads .now) (c .before .before .loop .inv .2) (c .if1 .taken))
-
-count-one-requires : tie.Need-count-one-requires Inv-loop μ-loop
-count-one-requires c κs = search needs
-
-mul-c : tie.Need-mul-c Inv-loop μ-loop
-mul-c c = search needs
-
-add-c : tie.Need-add-c Inv-loop μ-loop
-add-c c = search needs
-
-mul-c-2 : tie.Need-mul-c-2 Inv-loop μ-loop
-mul-c-2 c = search needs
-
-shared-slice-read-c-2 : tie.Need-shared-slice-read-c-2 Inv-loop μ-loop
-shared-slice-read-c-2 c = search needs
 
 cast-c-2 : tie.Need-cast-c-2 Inv-loop μ-loop
 cast-c-2 c =
@@ -70,12 +42,6 @@ cast-c-2 c =
             (4 + 4 * c .before .before .before .before .before .before .before .loop .c),
       );
     }
-
-sub-left : tie.Need-sub-left Inv-loop μ-loop
-sub-left c = search needs
-
-loop-less : tie.Need-loop-less Inv-loop μ-loop
-loop-less c = search needs
 
 loop-again : tie.Need-loop-again Inv-loop μ-loop
 loop-again c =
@@ -89,9 +55,6 @@ loop-again c =
           (c .before .before .before .before .before .if1 .left) (c .before .before .before .count-one .ensures),
     )
 
-same-length-2 : tie.Need-same-length-2 Inv-loop μ-loop
-same-length-2 c = search needs
-
 returns-2 : tie.Need-returns-2 Inv-loop μ-loop
 returns-2 c = let a = c .before .before .before .before .before .before .args in
     rw (c .before .before .before .cells .ensures .is) at
@@ -100,23 +63,6 @@ returns-2 c = let a = c .before .before .before .before .before .before .args in
 pub follow-list-spec : {M : Type 1} → statement M
 follow-list-spec =
     tie.close
-    (tie.spec
-    Inv-loop
-    μ-loop
-    cells-requires
-    shared-slice-read-c
-    cast-c
-    loop-holds
-    same-length
-    returns
-    count-one-requires
-    mul-c
-    add-c
-    mul-c-2
-    shared-slice-read-c-2
-    cast-c-2
-    sub-left
-    loop-less
-    loop-again
-    same-length-2
-    returns-2)
+    (tie.spec Inv-loop μ-loop (λ c κs. search needs) (λ c. search needs) cast-c loop-holds (λ c. search needs) returns
+    (λ c κs. search needs) (λ c. search needs) (λ c. search needs) (λ c. search needs) (λ c. search needs) cast-c-2
+    (λ c. search needs) (λ c. search needs) loop-again (λ c. search needs) returns-2)

@@ -2,8 +2,6 @@
 use Rattle.store_check.proofs.Places.{counted-free, counted-used}
 use Rattle.store_check.proofs.is_counted.Statement.{statement}
 use Rattle.store_check.proofs.is_counted.Tie as tie
-use Rattle.store_check.proofs.is_counted.Reads as reads
-use Rattle.store_check.proofs.is_counted.Lts as lts
 
 returns : tie.Need-returns
 returns c = let a = c .before .args in counted-free (a .count) (a .named) (c .if1 .taken)

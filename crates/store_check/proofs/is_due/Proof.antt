@@ -2,8 +2,6 @@
 use Rattle.store_check.proofs.FreeList.{due-free, due-used}
 use Rattle.store_check.proofs.is_due.Statement.{statement}
 use Rattle.store_check.proofs.is_due.Tie as tie
-use Rattle.store_check.proofs.is_due.Reads as reads
-use Rattle.store_check.proofs.is_due.Lts as lts
 
 returns : tie.Need-returns
 returns c = let a = c .before .args in due-free (a .count) (a .met) (c .if1 .taken)

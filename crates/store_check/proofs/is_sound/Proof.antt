@@ -4,16 +4,6 @@ use borrow.Author.Tests.{not-true, not-false}
 use Rattle.store_check.proofs.Whole.{first-words, unfit, list-fails, cells-fail, totals-fail, counts-decide}
 use Rattle.store_check.proofs.is_sound.Statement.{statement}
 use Rattle.store_check.proofs.is_sound.Tie as tie
-use Rattle.store_check.proofs.is_sound.Reads as reads
-use Rattle.store_check.proofs.is_sound.Lts as lts
-use Rattle.store_words.proofs.lengths_fit.Reads as lengths-fit-reads
-use Rattle.store_check.proofs.all_formed.Reads as all-formed-reads
-use Rattle.store_check.proofs.counts_are_sound.Reads as counts-are-sound-reads
-use Rattle.store_check.proofs.list_is_sound.Reads as list-is-sound-reads
-use Rattle.store_check.proofs.totals_sound.Reads as totals-sound-reads
-
-lengths-fit-requires : tie.Need-lengths-fit-requires
-lengths-fit-requires c κs = search needs
 
 returns : tie.Need-returns
 returns c = let a = c .before .before .before .args in
@@ -31,9 +21,6 @@ returns-2 c = let a = c .before .before .before .before .before .args in
     (c .before .before .before .lengths-fit .ensures)
     (not-false (c .before .before .before .lengths-fit .result) (c .before .before .if1 .left))
     (c .before .list-is-sound .ensures) (not-true (c .before .list-is-sound .result) (c .if2 .taken))
-
-all-formed-requires : tie.Need-all-formed-requires
-all-formed-requires c κs = search needs
 
 returns-3 : tie.Need-returns-3
 returns-3 c = let a = c .before .before .before .before .before .before .before .args in
@@ -91,14 +78,5 @@ returns-5 c = let a = c .before .before .before .before .before .before .before 
 pub is-sound-spec : {M : Type 1} → statement M
 is-sound-spec =
     tie.close
-    (tie.spec
-    lengths-fit-requires
-    returns
-    list-is-sound-requires
-    returns-2
-    all-formed-requires
-    returns-3
-    totals-sound-requires
-    returns-4
-    counts-are-sound-requires
-    returns-5)
+    (tie.spec (λ c κs. search needs) returns list-is-sound-requires returns-2 (λ c κs. search needs) returns-3
+    totals-sound-requires returns-4 counts-are-sound-requires returns-5)

@@ -6,21 +6,9 @@ use borrow.Author.Needs.{needs}
 use Rattle.store_check.proofs.CellTests.{totals-flat, totals-deep}
 use Rattle.store_check.proofs.totals_sound.Statement.{statement}
 use Rattle.store_check.proofs.totals_sound.Tie as tie
-use Rattle.store_check.proofs.totals_sound.Reads as reads
-use Rattle.store_check.proofs.totals_sound.Lts as lts
-use Rattle.store_check.proofs.names_cell.Reads as names-cell-reads
 
 returns : tie.Need-returns
 returns c = let a = c .before .before .args in totals-flat (a .slots .now) (a .heads .now) (a .depth) (c .if1 .taken)
-
-shared-slice-copy-out-names-cell : tie.Need-shared-slice-copy-out-names-cell
-shared-slice-copy-out-names-cell c = search needs
-
-sub-names-cell : tie.Need-sub-names-cell
-sub-names-cell c = search needs
-
-names-cell-requires : tie.Need-names-cell-requires
-names-cell-requires c κs = search needs
 
 returns-2 : tie.Need-returns-2
 returns-2 c =
@@ -32,9 +20,4 @@ returns-2 c =
 pub totals-sound-spec : {M : Type 1} → statement M
 totals-sound-spec =
     tie.close
-    (tie.spec
-    returns
-    shared-slice-copy-out-names-cell
-    sub-names-cell
-    names-cell-requires
-    returns-2)
+    (tie.spec returns (λ c. search needs) (λ c. search needs) (λ c κs. search needs) returns-2)

@@ -12,8 +12,6 @@ use Rattle.store_check.proofs.CellTests.{zero-at, zero-is, zero-not, ze
 use Rattle.store_check.proofs.Ranges.{Testing, testing-none, testing-more, testing-fails, testing-all}
 use Rattle.store_check.proofs.zero_from.Statement.{statement}
 use Rattle.store_check.proofs.zero_from.Tie as tie
-use Rattle.store_check.proofs.zero_from.Reads as reads
-use Rattle.store_check.proofs.zero_from.Lts as lts
 
 abbrev Inv-loop : tie.InvT-loop
 Inv-loop slots c from i₀ i = Testing (zero-at (slots-at slots c)) from 16 i
@@ -24,21 +22,6 @@ abbrev μ-loop : tie.MeasureT-loop
 loop-holds : tie.Need-loop-holds Inv-loop μ-loop
 loop-holds c = let a = c .args in testing-none (zero-at (slots-at (a .slots .now) (a .c))) (a .from) 16
 
-mul-w : tie.Need-mul-w Inv-loop μ-loop
-mul-w c = search needs
-
-add-w : tie.Need-add-w Inv-loop μ-loop
-add-w c = search needs
-
-add-w-2 : tie.Need-add-w-2 Inv-loop μ-loop
-add-w-2 c = search needs
-
-mul-w-2 : tie.Need-mul-w-2 Inv-loop μ-loop
-mul-w-2 c = search needs
-
-shared-slice-copy-out-w : tie.Need-shared-slice-copy-out-w Inv-loop μ-loop
-shared-slice-copy-out-w c = search needs
-
 returns : tie.Need-returns Inv-loop μ-loop
 returns c =
     let a = c .before .before .before .before .args in
@@ -47,12 +30,6 @@ returns c =
     zeros-are (slots-at (a .slots .now) (a .c)) (a .from)
     (testing-fails (c .before .before .before .loop .inv) inside (ap is-zero (slot-is (a .slots .now) (a .c) i inside)
     ∙ zero-not (getD (a .slots .now) (1 + 16 * a .c + i) (pos 0)) (c .if1 .taken)))
-
-add-i : tie.Need-add-i Inv-loop μ-loop
-add-i c = search needs
-
-loop-less : tie.Need-loop-less Inv-loop μ-loop
-loop-less c = search needs
 
 loop-again : tie.Need-loop-again Inv-loop μ-loop
 loop-again c =
@@ -70,17 +47,5 @@ returns-2 c =
 pub zero-from-spec : {M : Type 1} → statement M
 zero-from-spec =
     tie.close
-    (tie.spec
-    Inv-loop
-    μ-loop
-    loop-holds
-    mul-w
-    add-w
-    add-w-2
-    mul-w-2
-    shared-slice-copy-out-w
-    returns
-    add-i
-    loop-less
-    loop-again
-    returns-2)
+    (tie.spec Inv-loop μ-loop loop-holds (λ c. search needs) (λ c. search needs) (λ c. search needs)
+    (λ c. search needs) (λ c. search needs) returns (λ c. search needs) (λ c. search needs) loop-again returns-2)

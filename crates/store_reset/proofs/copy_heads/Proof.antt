@@ -7,9 +7,6 @@ use borrow.Author.Needs.{needs}
 use Rattle.store_reset.proofs.Copying.{Copying, copying-none, copying-more, copying-all}
 use Rattle.store_reset.proofs.copy_heads.Statement.{statement}
 use Rattle.store_reset.proofs.copy_heads.Tie as tie
-use Rattle.store_reset.proofs.copy_heads.Reads as reads
-use Rattle.store_reset.proofs.copy_heads.Lts as lts
-use Rattle.store_reset.proofs.number_at.Reads as number-at-reads
 
 abbrev Inv-loop : tie.InvT-loop
 Inv-loop to₀ from k₀ to i = (i ≤ length to₀) × (length to ≡ length to₀) × Copying 0 from to i
@@ -20,30 +17,12 @@ abbrev μ-loop : tie.MeasureT-loop
 loop-holds : tie.Need-loop-holds Inv-loop μ-loop
 loop-holds c = let a = c .before .before .args in (omega arith, refl, copying-none 0 (a .from .now) (a .to .now))
 
-number-at-requires : tie.Need-number-at-requires Inv-loop μ-loop
-number-at-requires c κs = search needs
-
-mul-to : tie.Need-mul-to Inv-loop μ-loop
-mul-to c = search needs
-
-slice-write-to : tie.Need-slice-write-to Inv-loop μ-loop
-slice-write-to c = search needs
-
-add-k : tie.Need-add-k Inv-loop μ-loop
-add-k c = search needs
-
-loop-less : tie.Need-loop-less Inv-loop μ-loop
-loop-less c = search needs
-
 loop-again : tie.Need-loop-again Inv-loop μ-loop
 loop-again c = let inv = c .before .before .loop .inv in (
   omega (arith, inv .1),
   simp length-set (inv .1),
   copying-more (inv .2) (c .number-at .result) (omega arith) (c .number-at .ensures),
 )
-
-same-length : tie.Need-same-length Inv-loop μ-loop
-same-length c = search needs
 
 returns : tie.Need-returns Inv-loop μ-loop
 returns c =
@@ -54,15 +33,5 @@ returns c =
 pub copy-heads-spec : {M : Type 1} → statement M
 copy-heads-spec =
     tie.close
-    (tie.spec
-    Inv-loop
-    μ-loop
-    loop-holds
-    number-at-requires
-    mul-to
-    slice-write-to
-    add-k
-    loop-less
-    loop-again
-    same-length
-    returns)
+    (tie.spec Inv-loop μ-loop loop-holds (λ c κs. search needs) (λ c. search needs) (λ c. search needs)
+    (λ c. search needs) (λ c. search needs) loop-again (λ c. search needs) returns)

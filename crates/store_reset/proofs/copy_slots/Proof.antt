@@ -9,9 +9,6 @@ use borrow.Author.Needs.{needs}
 use Rattle.store_reset.proofs.Copying.{Copying, copying-none, copying-more, copying-all}
 use Rattle.store_reset.proofs.copy_slots.Statement.{statement}
 use Rattle.store_reset.proofs.copy_slots.Tie as tie
-use Rattle.store_reset.proofs.copy_slots.Reads as reads
-use Rattle.store_reset.proofs.copy_slots.Lts as lts
-use Rattle.store_words.proofs.word_at.Reads as word-at-reads
 
 abbrev Inv-loop : tie.InvT-loop
 Inv-loop to₀ from i₀ to i = (i ≤ length to₀) × (length to ≡ length to₀) × Copying (pos 0) from to i
@@ -21,21 +18,6 @@ abbrev μ-loop : tie.MeasureT-loop
 
 loop-holds : tie.Need-loop-holds Inv-loop μ-loop
 loop-holds c = let a = c .args in (omega arith, refl, copying-none (pos 0) (a .from .now) (a .to .now))
-
-word-at-requires : tie.Need-word-at-requires Inv-loop μ-loop
-word-at-requires c κs = search needs
-
-mul-t4 : tie.Need-mul-t4 Inv-loop μ-loop
-mul-t4 c = search needs
-
-slice-set-from-to : tie.Need-slice-set-from-to Inv-loop μ-loop
-slice-set-from-to c = search needs
-
-add-i : tie.Need-add-i Inv-loop μ-loop
-add-i c = search needs
-
-loop-less : tie.Need-loop-less Inv-loop μ-loop
-loop-less c = search needs
 
 loop-again : tie.Need-loop-again Inv-loop μ-loop
 loop-again c =
@@ -47,9 +29,6 @@ loop-again c =
           (copying-more (inv .2) w (omega arith) (c .word-at .ensures)),
     )
 
-same-length : tie.Need-same-length Inv-loop μ-loop
-same-length c = search needs
-
 returns : tie.Need-returns Inv-loop μ-loop
 returns c =
     let a = c .before .before .args in
@@ -59,15 +38,5 @@ returns c =
 pub copy-slots-spec : {M : Type 1} → statement M
 copy-slots-spec =
     tie.close
-    (tie.spec
-    Inv-loop
-    μ-loop
-    loop-holds
-    word-at-requires
-    mul-t4
-    slice-set-from-to
-    add-i
-    loop-less
-    loop-again
-    same-length
-    returns)
+    (tie.spec Inv-loop μ-loop loop-holds (λ c κs. search needs) (λ c. search needs) (λ c. search needs)
+    (λ c. search needs) (λ c. search needs) loop-again (λ c. search needs) returns)

@@ -5,26 +5,6 @@ use Rattle.semantics.specs.Words.{store-of}
 use Rattle.semantics.specs.Store.{relinked}
 use Rattle.store_reset.proofs.put_back.Statement.{statement}
 use Rattle.store_reset.proofs.put_back.Tie as tie
-use Rattle.store_reset.proofs.put_back.Reads as reads
-use Rattle.store_reset.proofs.put_back.Lts as lts
-use Rattle.store_reset.proofs.copy_heads.Reads as copy-heads-reads
-use Rattle.store_reset.proofs.copy_slots.Reads as copy-slots-reads
-use Rattle.store_reset.proofs.relink.Reads as relink-reads
-
-copy-slots-requires : tie.Need-copy-slots-requires
-copy-slots-requires c κs = search needs
-
-copy-heads-requires : tie.Need-copy-heads-requires
-copy-heads-requires c κs = search needs
-
-relink-requires : tie.Need-relink-requires
-relink-requires c κs = search needs
-
-same-length : tie.Need-same-length
-same-length c = search needs
-
-same-length-2 : tie.Need-same-length-2
-same-length-2 c = search needs
 
 returns : tie.Need-returns
 returns c =
@@ -35,10 +15,5 @@ returns c =
 pub put-back-spec : {M : Type 1} → statement M
 put-back-spec =
     tie.close
-    (tie.spec
-    copy-slots-requires
-    copy-heads-requires
-    relink-requires
-    same-length
-    same-length-2
-    returns)
+    (tie.spec (λ c κs. search needs) (λ c κs. search needs) (λ c κs. search needs) (λ c. search needs)
+    (λ c. search needs) returns)

@@ -5,42 +5,11 @@ use Rattle.store_words.proofs.CellWords.{to-cells}
 use Rattle.store_reset.proofs.Linking.{link-used, link-free}
 use Rattle.store_reset.proofs.relink_cell.Statement.{statement}
 use Rattle.store_reset.proofs.relink_cell.Tie as tie
-use Rattle.store_reset.proofs.relink_cell.Reads as reads
-use Rattle.store_reset.proofs.relink_cell.Lts as lts
-use Rattle.store_words.proofs.clear_slots.Reads as clear-slots-reads
-use Rattle.store_words.proofs.write_head.Reads as write-head-reads
-
-mul-if1 : tie.Need-mul-if1
-mul-if1 c = search needs
-
-add-if1 : tie.Need-add-if1
-add-if1 c = search needs
-
-mul-if1-2 : tie.Need-mul-if1-2
-mul-if1-2 c = search needs
-
-slice-read-if1 : tie.Need-slice-read-if1
-slice-read-if1 c = search needs
 
 returns : tie.Need-returns
 returns c =
     let a = c .before .before .before .args in
     link-used (a .slots .now) (a .heads .now) (a .c) (a .head) (c .if1 .taken)
-
-write-head-requires : tie.Need-write-head-requires
-write-head-requires c κs = search needs
-
-clear-slots-requires : tie.Need-clear-slots-requires
-clear-slots-requires c κs = search needs
-
-cast-result : tie.Need-cast-result
-cast-result c = search needs
-
-same-length : tie.Need-same-length
-same-length c = search needs
-
-same-length-2 : tie.Need-same-length-2
-same-length-2 c = search needs
 
 returns-2 : tie.Need-returns-2
 returns-2 c =
@@ -52,15 +21,6 @@ returns-2 c =
 pub relink-cell-spec : {M : Type 1} → statement M
 relink-cell-spec =
     tie.close
-    (tie.spec
-    mul-if1
-    add-if1
-    mul-if1-2
-    slice-read-if1
-    returns
-    write-head-requires
-    clear-slots-requires
-    cast-result
-    same-length
-    same-length-2
+    (tie.spec (λ c. search needs) (λ c. search needs) (λ c. search needs) (λ c. search needs) returns
+    (λ c κs. search needs) (λ c κs. search needs) (λ c. search needs) (λ c. search needs) (λ c. search needs)
     returns-2)

@@ -17,15 +17,6 @@ abbrev μ-loop : tie.MeasureT-loop
 loop-holds : tie.Need-loop-holds Inv-loop μ-loop
 loop-holds c = let a = c .args in (omega arith, refl, copying-none 0 (a .heads .now) (a .saved .now))
 
-mul-saved : tie.Need-mul-saved Inv-loop μ-loop
-mul-saved c = search needs
-
-shared-slice-read-saved : tie.Need-shared-slice-read-saved Inv-loop μ-loop
-shared-slice-read-saved c = search needs
-
-mul-saved-2 : tie.Need-mul-saved-2 Inv-loop μ-loop
-mul-saved-2 c = search needs
-
 slice-write-saved : tie.Need-slice-write-saved Inv-loop μ-loop
 slice-write-saved c = omega (
   arith,
@@ -34,12 +25,6 @@ slice-write-saved c = omega (
   c .before .before
       .before .pre,
 )
-
-add-i : tie.Need-add-i Inv-loop μ-loop
-add-i c = search needs
-
-loop-less : tie.Need-loop-less Inv-loop μ-loop
-loop-less c = search needs
 
 loop-again : tie.Need-loop-again Inv-loop μ-loop
 loop-again c =
@@ -58,16 +43,5 @@ returns c = copying-back (c .before .loop .inv .2) (omega arith)
 pub save-heads-spec : {M : Type 1} → statement M
 save-heads-spec =
     tie.close
-    (tie.spec
-    Inv-loop
-    μ-loop
-    loop-holds
-    mul-saved
-    shared-slice-read-saved
-    mul-saved-2
-    slice-write-saved
-    add-i
-    loop-less
-    loop-again
-    same-length
-    returns)
+    (tie.spec Inv-loop μ-loop loop-holds (λ c. search needs) (λ c. search needs) (λ c. search needs) slice-write-saved
+    (λ c. search needs) (λ c. search needs) loop-again same-length returns)

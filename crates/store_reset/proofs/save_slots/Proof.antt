@@ -19,15 +19,6 @@ abbrev μ-loop : tie.MeasureT-loop
 loop-holds : tie.Need-loop-holds Inv-loop μ-loop
 loop-holds c = let a = c .args in (omega arith, refl, copying-none (pos 0) (a .slots .now) (a .saved .now))
 
-mul-saved : tie.Need-mul-saved Inv-loop μ-loop
-mul-saved c = search needs
-
-shared-slice-copy-out-saved : tie.Need-shared-slice-copy-out-saved Inv-loop μ-loop
-shared-slice-copy-out-saved c = search needs
-
-mul-t8 : tie.Need-mul-t8 Inv-loop μ-loop
-mul-t8 c = search needs
-
 slice-set-from-saved : tie.Need-slice-set-from-saved Inv-loop μ-loop
 slice-set-from-saved c = omega (
   arith,
@@ -36,12 +27,6 @@ slice-set-from-saved c = omega (
   c .before
       .before .before .pre,
 )
-
-add-i : tie.Need-add-i Inv-loop μ-loop
-add-i c = search needs
-
-loop-less : tie.Need-loop-less Inv-loop μ-loop
-loop-less c = search needs
 
 loop-again : tie.Need-loop-again Inv-loop μ-loop
 loop-again c =
@@ -63,16 +48,5 @@ returns c = copying-back (c .before .loop .inv .2) (omega arith)
 pub save-slots-spec : {M : Type 1} → statement M
 save-slots-spec =
     tie.close
-    (tie.spec
-    Inv-loop
-    μ-loop
-    loop-holds
-    mul-saved
-    shared-slice-copy-out-saved
-    mul-t8
-    slice-set-from-saved
-    add-i
-    loop-less
-    loop-again
-    same-length
-    returns)
+    (tie.spec Inv-loop μ-loop loop-holds (λ c. search needs) (λ c. search needs) (λ c. search needs)
+    slice-set-from-saved (λ c. search needs) (λ c. search needs) loop-again same-length returns)

@@ -6,9 +6,6 @@ use borrow.Author.Needs.{needs}
 use Rattle.semantics.specs.Words.{cells-in}
 use Rattle.store_words.proofs.cells.Statement.{statement}
 use Rattle.store_words.proofs.cells.Tie as tie
-use Rattle.store_words.proofs.cells.Reads as reads
-use Rattle.store_words.proofs.cells.Lts as lts
-use Rattle.store_words.proofs.at_most.Reads as at-most-reads
 
 returns : tie.Need-returns
 unfolding cells-in
@@ -17,18 +14,6 @@ returns c = record { is = omega arith; in-heads = omega arith; in-slots = omega 
 returns-2 : tie.Need-returns-2
 unfolding cells-in
 returns-2 c = record { is = omega arith; in-heads = omega arith; in-slots = omega arith; most = omega arith }
-
-sub-in-heads : tie.Need-sub-in-heads
-sub-in-heads c = search needs
-
-sub-in-slots : tie.Need-sub-in-slots
-sub-in-slots c = search needs
-
-at-most-requires : tie.Need-at-most-requires
-at-most-requires c κs = search needs
-
-at-most-requires-2 : tie.Need-at-most-requires-2
-at-most-requires-2 c κs = search needs
 
 returns-3 : tie.Need-returns-3
 unfolding cells-in
@@ -42,11 +27,5 @@ returns-3 c = record {
 pub cells-spec : {M : Type 1} → statement M
 cells-spec =
     tie.close
-    (tie.spec
-    returns
-    returns-2
-    sub-in-heads
-    sub-in-slots
-    at-most-requires
-    at-most-requires-2
+    (tie.spec returns returns-2 (λ c. search needs) (λ c. search needs) (λ c κs. search needs) (λ c κs. search needs)
     returns-3)

@@ -13,22 +13,10 @@ unfolding cells-in
 returns c = let a = c .before .args in stands (a .slots .now) (a .heads .now) (a .c) _
     (sym (le-ltb (a .c) (cells-in (a .slots .now) (a .heads .now)) (omega arith)))
 
-mul-if2 : tie.Need-mul-if2
-mul-if2 c = search needs
-
-add-if2 : tie.Need-add-if2
-add-if2 c = search needs
-
 returns-2 : tie.Need-returns-2
 unfolding cells-in
 returns-2 c = let a = c .before .before .args in stands (a .slots .now) (a .heads .now) (a .c) _
     (sym (le-ltb (a .c) (cells-in (a .slots .now) (a .heads .now)) (omega arith)))
-
-mul-if3 : tie.Need-mul-if3
-mul-if3 c = search needs
-
-add-if3 : tie.Need-add-if3
-add-if3 c = search needs
 
 returns-3 : tie.Need-returns-3
 unfolding cells-in
@@ -42,4 +30,4 @@ returns-4 c = let a = c .before .before .before .args in stands (a .slots .now) 
 
 pub is-cell-spec : {M : Type 1} → statement M
 is-cell-spec =
-    tie.close (tie.spec returns mul-if2 add-if2 returns-2 mul-if3 add-if3 returns-3 returns-4)
+    tie.close (tie.spec returns (λ c. search needs) (λ c. search needs) returns-2 (λ c. search needs) (λ c. search needs) returns-3 returns-4)

@@ -3,35 +3,17 @@ use borrow.Author.Needs.{needs}
 use Rattle.store_words.proofs.Counting.{none-fit, slots-unfit, heads-fit}
 use Rattle.store_words.proofs.lengths_fit.Statement.{statement}
 use Rattle.store_words.proofs.lengths_fit.Tie as tie
-use Rattle.store_words.proofs.lengths_fit.Reads as reads
-use Rattle.store_words.proofs.lengths_fit.Lts as lts
-use Rattle.store_words.proofs.cells.Reads as cells-reads
-
-cells-requires : tie.Need-cells-requires
-cells-requires c κs = search needs
 
 returns : tie.Need-returns
 returns c =
     let a = c .before .before .before .args in
     none-fit (a .slots .now) (a .heads .now) _ (c .before .cells .ensures) (c .if1 .taken)
 
-mul-if2 : tie.Need-mul-if2
-mul-if2 c = search needs
-
-add-if2 : tie.Need-add-if2
-add-if2 c = search needs
-
 returns-2 : tie.Need-returns-2
 returns-2 c =
     let a = c .before .before .before .before .args in
     slots-unfit (a .slots .now) (a .heads .now) _ (c .before .before .cells .ensures) (c .before .if1 .left)
     (c .if2 .taken)
-
-mul-result : tie.Need-mul-result
-mul-result c = search needs
-
-add-result : tie.Need-add-result
-add-result c = search needs
 
 returns-3 : tie.Need-returns-3
 returns-3 c =
@@ -42,4 +24,4 @@ returns-3 c =
 pub lengths-fit-spec : {M : Type 1} → statement M
 lengths-fit-spec =
     tie.close
-    (tie.spec cells-requires returns mul-if2 add-if2 returns-2 mul-result add-result returns-3)
+    (tie.spec (λ c κs. search needs) returns (λ c. search needs) (λ c. search needs) returns-2 (λ c. search needs) (λ c. search needs) returns-3)

@@ -3,8 +3,6 @@ use mir.Facts.{toZ-ofZ}
 use Rattle.store_words.proofs.Naming.{not-negative, cell-not-negative, cell-negative}
 use Rattle.store_words.proofs.named_cell.Statement.{statement}
 use Rattle.store_words.proofs.named_cell.Tie as tie
-use Rattle.store_words.proofs.named_cell.Reads as reads
-use Rattle.store_words.proofs.named_cell.Lts as lts
 
 cast-result : tie.Need-cast-result
 cast-result c = let w = c .before .args .w in let e = toZ-ofZ {z = w} (c .before .fits .w) in

@@ -2,8 +2,6 @@
 use Rattle.store_words.proofs.Counting.{used-none, used-some}
 use Rattle.store_words.proofs.one_used.Statement.{statement}
 use Rattle.store_words.proofs.one_used.Tie as tie
-use Rattle.store_words.proofs.one_used.Reads as reads
-use Rattle.store_words.proofs.one_used.Lts as lts
 
 returns : tie.Need-returns
 returns c = used-none (c .before .args .count) (c .if1 .taken)

@@ -7,13 +7,6 @@ use borrow.Author.Tests.{not-true, not-false}
 use Rattle.store_words.proofs.CellWords.{length-in, length-out}
 use Rattle.store_words.proofs.read_length.Statement.{statement}
 use Rattle.store_words.proofs.read_length.Tie as tie
-use Rattle.store_words.proofs.read_length.Reads as reads
-use Rattle.store_words.proofs.read_length.Lts as lts
-use Rattle.store_words.proofs.at_most.Reads as at-most-reads
-use Rattle.store_words.proofs.is_cell.Reads as is-cell-reads
-
-is-cell-requires : tie.Need-is-cell-requires
-is-cell-requires c κs = search needs
 
 returns : tie.Need-returns
 returns c =
@@ -51,9 +44,6 @@ cast-at-most c =
       );
     }
 
-at-most-requires : tie.Need-at-most-requires
-at-most-requires c κs = search needs
-
 returns-2 : tie.Need-returns-2
 returns-2 c =
     let a = c .before .before .before .before .before .args in
@@ -66,13 +56,5 @@ returns-2 c =
 pub read-length-spec : {M : Type 1} → statement M
 read-length-spec =
     tie.close
-    (tie.spec
-    is-cell-requires
-    returns
-    mul-at-most
-    add-at-most
-    mul-at-most-2
-    shared-slice-read-at-most
-    cast-at-most
-    at-most-requires
-    returns-2)
+    (tie.spec (λ c κs. search needs) returns mul-at-most add-at-most mul-at-most-2 shared-slice-read-at-most
+    cast-at-most (λ c κs. search needs) returns-2)

@@ -9,13 +9,6 @@ use borrow.Author.Tests.{not-true, not-false}
 use Rattle.store_words.proofs.CellWords.{length-in, length-out, element-in, element-out}
 use Rattle.store_words.proofs.read_slot.Statement.{statement}
 use Rattle.store_words.proofs.read_slot.Tie as tie
-use Rattle.store_words.proofs.read_slot.Reads as reads
-use Rattle.store_words.proofs.read_slot.Lts as lts
-use Rattle.store_words.proofs.at_most.Reads as at-most-reads
-use Rattle.store_words.proofs.is_cell.Reads as is-cell-reads
-
-is-cell-requires : tie.Need-is-cell-requires
-is-cell-requires c κs = search needs
 
 returns : tie.Need-returns
 returns c =
@@ -56,9 +49,6 @@ cast-at-most c =
             (2 + 4 * c .before .before .before .before .args .c),
       );
     }
-
-at-most-requires : tie.Need-at-most-requires
-at-most-requires c κs = search needs
 
 returns-2 : tie.Need-returns-2
 returns-2 c =
@@ -120,19 +110,6 @@ returns-3 c =
 pub read-slot-spec : {M : Type 1} → statement M
 read-slot-spec =
     tie.close
-    (tie.spec
-    is-cell-requires
-    returns
-    mul-at-most
-    add-at-most
-    mul-at-most-2
-    shared-slice-read-at-most
-    cast-at-most
-    at-most-requires
-    returns-2
-    mul-result
-    add-result
-    add-result-2
-    mul-result-2
-    shared-slice-copy-out-result
-    returns-3)
+    (tie.spec (λ c κs. search needs) returns mul-at-most add-at-most mul-at-most-2 shared-slice-read-at-most
+    cast-at-most (λ c κs. search needs) returns-2 mul-result add-result add-result-2 mul-result-2
+    shared-slice-copy-out-result returns-3)

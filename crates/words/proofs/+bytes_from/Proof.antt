@@ -30,21 +30,6 @@ returns t c = none _ _ _ (c .if1 .taken)
 returns-2 : (t : ℕ) → lts.Need-returns-2 (claims t) (at t) bytes-from.Post
 returns-2 t c = none-left _ _ _ (c .if2 .taken)
 
-shared-slice-read-wide : (t : ℕ) → lts.Need-shared-slice-read-wide (claims t) (at t) bytes-from.Post
-shared-slice-read-wide t c = search needs
-
-wide-requires : (t : ℕ) → lts.Need-wide-requires (claims t) (at t) bytes-from.Post
-wide-requires t c κs = search needs
-
-add-bytes-from : (t : ℕ) → lts.Need-add-bytes-from (claims t) (at t) bytes-from.Post
-add-bytes-from t c = search needs
-
-sub-bytes-from : (t : ℕ) → lts.Need-sub-bytes-from (claims t) (at t) bytes-from.Post
-sub-bytes-from t c = search needs
-
-bytes-from-requires : (t : ℕ) → lts.Need-bytes-from-requires (claims t) (at t) bytes-from.Post
-bytes-from-requires t c κs = search needs
-
 -- how many bytes are left after this one
 few : (t : ℕ) (c : lts.After-bytes-from (claims t) (at t) bytes-from.Post) →
     c .before .before .before .before .before .before .args .count - 1 ≤ 7
@@ -66,11 +51,11 @@ pub +bytes-from-spec : {M : Type 1} → statement M
     close measure λ t. lts.spec (claims t) (at t) bytes-from.Post
     (returns t)
     (returns-2 t)
-    (shared-slice-read-wide t)
-    (wide-requires t)
-    (add-bytes-from t)
-    (sub-bytes-from t)
-    (bytes-from-requires t)
+    (λ c. search needs)
+    (λ c κs. search needs)
+    (λ c. search needs)
+    (λ c. search needs)
+    (λ c κs. search needs)
     (mul-result t)
     (add-result t)
     (returns-3 t)

@@ -16,12 +16,6 @@ complement-fits z h = record { sfits = rw (complement-mag z) (h .sfits) }
 sub-exact-sum : tie.Need-sub-exact-sum
 sub-exact-sum c = rw (toZ-ofZ (c .fits .a)) (complement-fits _ (c .fits .a))
 
-exact-sum-requires : tie.Need-exact-sum-requires
-exact-sum-requires c κs = search needs
-
-enum-known-z : tie.Need-enum-known-z
-enum-known-z c = search needs
-
 -- the sum that the match takes apart
 summed : (c : tie.After-exact-sum) → exact-outcome (c .exact-sum .result)
     ≡ checked (negsuc 0 -ℤ c .before .args .a +ℤ c .before .args .b)
@@ -37,9 +31,6 @@ known c = record { sfits = c .known-told .given .0 .1 }
 sub-t7 : tie.Need-sub-t7
 sub-t7 c = rw (toZ-ofZ (known c)) (complement-fits _ (known c))
 
-enum-told : tie.Need-enum-told
-enum-told c = search needs
-
 returns : tie.Need-returns
 returns c = let a = c .before .before .before .before .args in
     rw (toZ-ofZ (known c), toZ-ofZ (complement-fits _ (known c)))
@@ -54,4 +45,4 @@ returns-2 c = let a = c .before .before .before .args in
 pub exact-difference-spec : {M : Type 1} → statement M
 exact-difference-spec =
     tie.close
-    (tie.spec sub-exact-sum exact-sum-requires enum-known-z sub-t7 enum-told returns returns-2)
+    (tie.spec sub-exact-sum (λ c κs. search needs) (λ c. search needs) sub-t7 (λ c. search needs) returns returns-2)

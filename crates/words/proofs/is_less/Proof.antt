@@ -1,7 +1,6 @@
 -- `words::is_less` meets its contract.
 use mathlib.Core.Path.{refl}
 use mir.Facts.{toZ-ofZ}
-use borrow.Author.Needs.{needs}
 use Rattle.words.proofs.is_less.Statement.{statement}
 use Rattle.words.proofs.is_less.Tie as tie
 

@@ -4,14 +4,8 @@ use borrow.Author.Needs.{needs}
 use Rattle.words.proofs.signed_at.Statement.{statement}
 use Rattle.words.proofs.signed_at.Tie as tie
 
-word-at-requires : tie.Need-word-at-requires
-word-at-requires c κs = search needs
-
-signed-of-requires : tie.Need-signed-of-requires
-signed-of-requires c κs = search needs
-
 returns : tie.Need-returns
 returns c = rw (toZ-ofZ (record { sfits = c .signed-of .ok }), ← c .before .word-at .ensures) (c .signed-of .ensures)
 
 pub signed-at-spec : {M : Type 1} → statement M
-signed-at-spec = tie.close (tie.spec word-at-requires signed-of-requires returns)
+signed-at-spec = tie.close (tie.spec (λ c κs. search needs) (λ c κs. search needs) returns)

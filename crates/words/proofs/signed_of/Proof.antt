@@ -1,6 +1,6 @@
 -- `words::signed_of` meets its contract.
-use mathlib.Core.Path.{_≡_, refl, ap, _∙_}
-use Prim.Native.Nat.{ℕ, zero, suc, _-_, _<_, _≤_, _^_}
+use mathlib.Core.Path.{_≡_, ap, _∙_}
+use Prim.Native.Nat.{ℕ, _-_, _<_, _≤_, _^_}
 use native.Mathlib.Omega.{arith}
 use lib.IntN.{ℤ, pos, negsuc, _-ℤ_}
 use lib.Signed.{mag}
@@ -29,23 +29,8 @@ negative v l h =
           (ap negsuc (omega arith)),
     )
 
-cast-result : tie.Need-cast-result
-cast-result c = search needs
-
-sub-result : tie.Need-sub-result
-sub-result c = search needs
-
-sub-result-2 : tie.Need-sub-result-2
-sub-result-2 c = search needs
-
-cast-result-2 : tie.Need-cast-result-2
-cast-result-2 c = search needs
-
 sub-result-3 : tie.Need-sub-result-3
 sub-result-3 c = record { sfits = negative (c .before .args .v) (c .if1 .left) (c .before .fits .v .fits) .0 }
-
-returns : tie.Need-returns
-returns c = search needs
 
 returns-2 : tie.Need-returns-2
 returns-2 c = negative (c .before .args .v) (c .if1 .left) (c .before .fits .v .fits) .1
@@ -53,4 +38,4 @@ returns-2 c = negative (c .before .args .v) (c .if1 .left) (c .before .fits .v .
 pub signed-of-spec : {M : Type 1} → statement M
 signed-of-spec =
     tie.close
-    (tie.spec cast-result sub-result sub-result-2 cast-result-2 sub-result-3 returns returns-2)
+    (tie.spec (λ c. search needs) (λ c. search needs) (λ c. search needs) (λ c. search needs) sub-result-3 (λ c. search needs) returns-2)

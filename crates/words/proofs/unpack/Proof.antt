@@ -1,7 +1,6 @@
 -- `words::unpack` meets its contract.
 use Rattle.semantics.specs.Calls.{packed}
 use native.Mathlib.Omega.{arith}
-use borrow.Author.Needs.{needs}
 use Rattle.words.proofs.unpack.Statement.{statement}
 use Rattle.words.proofs.unpack.Tie as tie
 

@@ -18,16 +18,10 @@ slice-aggregate-same c =
     let a = c .before .before .before .before .before .args in
     sym (length-take-le _ (a .wanted-kinds .now) (omega arith))
 
-same-requires : tie.Need-same-requires
-same-requires c κs = search needs
-
 slice-aggregate-same-slots : tie.Need-slice-aggregate-same-slots
 slice-aggregate-same-slots c =
     let a = c .before .before .before .before .before .before .before .before .args in
     sym (length-take-le _ (a .wanted-operands .now) (omega arith))
-
-same-slots-requires : tie.Need-same-slots-requires
-same-slots-requires c κs = search needs
 
 returns-3 : tie.Need-returns-3
 returns-3 c e = (
@@ -41,12 +35,5 @@ returns-4 c e = never e
 pub same-code-spec : {M : Type 1} → statement M
 same-code-spec =
     tie.close
-    (tie.spec
-    returns
-    returns-2
-    slice-aggregate-same
-    same-requires
-    slice-aggregate-same-slots
-    same-slots-requires
-    returns-3
-    returns-4)
+    (tie.spec returns returns-2 slice-aggregate-same (λ c κs. search needs) slice-aggregate-same-slots
+    (λ c κs. search needs) returns-3 returns-4)

@@ -35,6 +35,5 @@ returns-4 c e = never e
 pub same-store-spec : {M : Type 1} → statement M
 same-store-spec =
     tie.close
-    (tie.spec
-    returns returns-2 slice-aggregate-same-slots (λ c κs. search needs) slice-aggregate-same-heads
+    (tie.spec returns returns-2 slice-aggregate-same-slots (λ c κs. search needs) slice-aggregate-same-heads
     (λ c κs. search needs) returns-3 returns-4)

@@ -1,6 +1,6 @@
 -- `cases::number::with_sign` meets its contract.
 use mathlib.Core.Path.{sym, subst}
-use Prim.Native.Nat.{ℕ, zero, suc, _<_, _≤_, _^_}
+use Prim.Native.Nat.{ℕ, zero, suc, _<_, _^_}
 use native.Mathlib.Omega.{arith}
 use lib.IntN.{ℤ, pos, negsuc, _-ℤ_, +ℤ-idl}
 use lib.Signed.{mag}
@@ -18,27 +18,9 @@ opposite (suc n) h = subst (λ (z : ℤ). mag z < 2 ^ 63) (sym (+ℤ-idl (negsuc
 negated : (n : ℕ) → n < 2 ^ 63 → mag (pos 0 -ℤ toZ w64 n) < 2 ^ 63
 negated n h = rw (lt-ltb n (2 ^ 63) h) (opposite n h)
 
-returns : tie.Need-returns
-returns c = search needs
-
-returns-2 : tie.Need-returns-2
-returns-2 c = search needs
-
-cast-result : tie.Need-cast-result
-cast-result c = search needs
-
 sub-result : tie.Need-sub-result
 sub-result c = record { sfits = negated (c .before .before .args .size) (omega arith) }
 
-cast-result-2 : tie.Need-cast-result-2
-cast-result-2 c = search needs
-
-returns-3 : tie.Need-returns-3
-returns-3 c = search needs
-
-returns-4 : tie.Need-returns-4
-returns-4 c = search needs
-
 pub with-sign-spec : {M : Type 1} → statement M
 with-sign-spec =
-    tie.close (tie.spec returns returns-2 cast-result sub-result cast-result-2 returns-3 returns-4)
+    tie.close (tie.spec (λ c. search needs) (λ c. search needs) (λ c. search needs) sub-result (λ c. search needs) (λ c. search needs) (λ c. search needs))

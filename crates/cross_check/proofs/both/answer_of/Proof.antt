@@ -11,8 +11,6 @@ slice-aggregate-engine-deliver c = simp length-take (omega arith)
 pub answer-of-spec : {M : Type 1} → statement M
 answer-of-spec =
     tie.close
-    (tie.spec
-    (λ c. search needs)
-    slice-aggregate-engine-deliver
+    (tie.spec (λ c. search needs) slice-aggregate-engine-deliver
     (λ c κs. search needs) (λ c. search needs) (λ c. search needs) (λ c. search needs) (λ c. search needs)
     (λ c. search needs))

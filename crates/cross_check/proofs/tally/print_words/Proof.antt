@@ -1,7 +1,5 @@
 -- `cross_check::tally::print_words` ends: the words left fall.
-use mathlib.Core.Path.{_≡_}
 use Prim.Native.Nat.{_-_}
-use lib.ListN.{length}
 use borrow.Author.Needs.{needs}
 use Rattle.cross_check.proofs.tally.print_words.Statement.{statement}
 use Rattle.cross_check.proofs.tally.print_words.Tie as tie
@@ -15,8 +13,6 @@ abbrev μ-loop : tie.MeasureT-loop
 pub print-words-spec : {M : Type 1} → statement M
 print-words-spec =
     tie.close
-    (tie.spec
-    Inv-loop
-    μ-loop
+    (tie.spec Inv-loop μ-loop
     (λ c. search needs) (λ c. search needs) (λ c κs. search needs) (λ c κs. search needs) (λ c. search needs)
     (λ c. search needs) (λ c. search needs) (λ c. search needs))

@@ -14,9 +14,6 @@ slice-aggregate-number-of-2 c = simp length-take (omega arith)
 pub run-trial-spec : {M : Type 1} → statement M
 run-trial-spec =
     tie.close
-    (tie.spec
-    (λ c. search needs) (λ c. search needs)
-    slice-aggregate-number-of
-    slice-aggregate-number-of-2
+    (tie.spec (λ c. search needs) (λ c. search needs) slice-aggregate-number-of slice-aggregate-number-of-2
     (λ c κs. search needs) (λ c κs. search needs) (λ c. search needs) (λ c κs. search needs)
     (λ c κs. search needs) (λ c. search needs) (λ c κs. search needs) (λ c. search needs))

@@ -14,8 +14,6 @@ abbrev μ-loop : tie.MeasureT-loop
 pub push-elements-spec : {M : Type 1} → statement M
 push-elements-spec =
     tie.close
-    (tie.spec
-    Inv-loop
-    μ-loop
+    (tie.spec Inv-loop μ-loop
     (λ c. search needs) (λ c κs. search needs) (λ c. search needs) (λ c. search needs) (λ c. search needs)
     (λ c. search needs) (λ c. search needs))

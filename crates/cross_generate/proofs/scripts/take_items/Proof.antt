@@ -14,8 +14,6 @@ abbrev μ-loop : tie.MeasureT-loop
 pub take-items-spec : {M : Type 1} → statement M
 take-items-spec =
     tie.close
-    (tie.spec
-    Inv-loop
-    μ-loop
+    (tie.spec Inv-loop μ-loop
     (λ c. search needs) (λ c κs. search needs) (λ c. search needs) (λ c. search needs) (λ c. search needs)
     (λ c. search needs) (λ c. search needs) (λ c. search needs) (λ c. search needs))

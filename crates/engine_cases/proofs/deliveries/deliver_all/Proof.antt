@@ -16,6 +16,5 @@ abbrev μ-loop : tie.MeasureT-loop
 pub deliver-all-spec : {M : Type 1} → statement M
 deliver-all-spec =
     tie.close
-    (tie.spec
-    Inv-loop μ-loop (λ c. search needs) (λ c κs. search needs) (λ c κs. search needs) (λ c κs. search needs)
+    (tie.spec Inv-loop μ-loop (λ c. search needs) (λ c κs. search needs) (λ c κs. search needs) (λ c κs. search needs)
     (λ c. search needs) (λ c. search needs) (λ c. search needs) (λ c. search needs) (λ c. search needs))

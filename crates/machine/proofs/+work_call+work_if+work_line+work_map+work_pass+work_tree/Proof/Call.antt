@@ -14,24 +14,12 @@ use Rattle.machine.proofs.+work_call+work_if+work_line+work_map+work_pa
 use Rattle.machine.proofs.+work_call+work_if+work_line+work_map+work_pass+work_tree.Proof.Common.{work-call-at}
 use Rattle.machine.proofs.+work_call+work_if+work_line+work_map+work_pass+work_tree.Proof.Common.{work-call-claims}
 
-pub work-call-halted-requires : (t : ℕ) → work-call-lts.Need-halted-requires (work-call-claims t) (work-call-at t)
-    work-call.Post
-work-call-halted-requires t c κs = search needs
-
 pub work-call-returns : (t : ℕ) → work-call-lts.Need-returns (work-call-claims t) (work-call-at t) work-call.Post
 work-call-returns t c =
     let a = c .before .before .before .args in
     let k = code (a .kinds .now .now) (a .operands .now .now) (a .table .now) in
     call-spent k (a .calls) (a .x) (a .g) (a .at) (a .steps) (a .slots .now) (a .heads .now) (a .env .now)
     (c .halted .result) (c .before .if1 .taken) (c .halted .ensures)
-
-pub work-call-sub-halted : (t : ℕ) → work-call-lts.Need-sub-halted (work-call-claims t) (work-call-at t)
-    work-call.Post
-work-call-sub-halted t c = search needs
-
-pub work-call-halted-requires-2 : (t : ℕ) → work-call-lts.Need-halted-requires-2 (work-call-claims t) (work-call-at t)
-    work-call.Post
-work-call-halted-requires-2 t c κs = search needs
 
 pub work-call-returns-2 : (t : ℕ) → work-call-lts.Need-returns-2 (work-call-claims t) (work-call-at t) work-call.Post
 work-call-returns-2 t c =
@@ -40,39 +28,11 @@ work-call-returns-2 t c =
     call-deep k (a .calls) (a .x) (a .g) (a .at) (a .steps) (a .slots .now) (a .heads .now) (a .env .now)
     (c .before .before .if1 .left) (c .before .if2 .taken) (c .halted2 .result) (c .halted2 .ensures)
 
-pub work-call-sub-below : (t : ℕ) → work-call-lts.Need-sub-below (work-call-claims t) (work-call-at t) work-call.Post
-work-call-sub-below t c = search needs
-
-pub work-call-add-pass-arguments : (t : ℕ) → work-call-lts.Need-add-pass-arguments (work-call-claims t)
-    (work-call-at t)
-    work-call.Post
-work-call-add-pass-arguments t c = search needs
-
-pub work-call-pass-arguments-requires : (t : ℕ) → work-call-lts.Need-pass-arguments-requires (work-call-claims t)
-    (work-call-at t) work-call.Post
-work-call-pass-arguments-requires t c κs = search needs
-
-pub work-call-start-in-requires : (t : ℕ) → work-call-lts.Need-start-in-requires (work-call-claims t) (work-call-at t)
-    work-call.Post
-work-call-start-in-requires t c κs = search needs
-
-pub work-call-sub-work-tree : (t : ℕ) → work-call-lts.Need-sub-work-tree (work-call-claims t) (work-call-at t)
-    work-call.Post
-work-call-sub-work-tree t c = search needs
-
 pub work-call-work-tree-requires : (t : ℕ) → work-call-lts.Need-work-tree-requires (work-call-claims t)
     (work-call-at t)
     work-call.Post
 work-call-work-tree-requires t c κs =
     search (needs, passed-long (c .before .before .before .before .before .pass-arguments .ensures))
-
-pub work-call-same-length : (t : ℕ) → work-call-lts.Need-same-length (work-call-claims t) (work-call-at t)
-    work-call.Post
-work-call-same-length t c = search needs
-
-pub work-call-same-length-2 : (t : ℕ) → work-call-lts.Need-same-length-2 (work-call-claims t) (work-call-at t)
-    work-call.Post
-work-call-same-length-2 t c = search needs
 
 pub work-call-returns-3 : (t : ℕ) → work-call-lts.Need-returns-3 (work-call-claims t) (work-call-at t) work-call.Post
 work-call-returns-3 t c =
@@ -132,18 +92,6 @@ work-call-add-done-2 t c =
       start .pre,
       at-pass-arguments .pass-arguments .ensures .few,
     )
-
-pub work-call-done-requires : (t : ℕ) → work-call-lts.Need-done-requires (work-call-claims t) (work-call-at t)
-    work-call.Post
-work-call-done-requires t c κs = search needs
-
-pub work-call-same-length-3 : (t : ℕ) → work-call-lts.Need-same-length-3 (work-call-claims t) (work-call-at t)
-    work-call.Post
-work-call-same-length-3 t c = search needs
-
-pub work-call-same-length-4 : (t : ℕ) → work-call-lts.Need-same-length-4 (work-call-claims t) (work-call-at t)
-    work-call.Post
-work-call-same-length-4 t c = search needs
 
 pub work-call-returns-4 : (t : ℕ) → work-call-lts.Need-returns-4 (work-call-claims t) (work-call-at t) work-call.Post
 work-call-returns-4 t c =

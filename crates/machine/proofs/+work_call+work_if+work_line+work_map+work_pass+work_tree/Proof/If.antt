@@ -4,7 +4,6 @@ use Prim.Native.Nat.{_-_, ℕ}
 use mir.Facts.{toZ-ofZ}
 use Rattle.machine_positions.specs.Machine.{code, tree-on, call-on}
 use Rattle.machine_positions.specs.LineLaws.{if-spent, if-stops, if-goes}
-use borrow.Author.Needs.{needs}
 use Rattle.semantics.specs.Words.{store-of}
 use Rattle.machine_lines.specs.Lines.{memory}
 use Rattle.machine_positions.specs.Lengths.{tree-long}
@@ -13,10 +12,6 @@ use Rattle.machine.proofs.+work_call+work_if+work_line+work_map+work_pa
 use Rattle.machine.proofs.+work_call+work_if+work_line+work_map+work_pass+work_tree.Proof.Common.{work-if-at}
 use Rattle.machine.proofs.+work_call+work_if+work_line+work_map+work_pass+work_tree.Proof.Common.{work-if-claims}
 
-pub work-if-halted-requires : (t : ℕ) → work-if-lts.Need-halted-requires (work-if-claims t) (work-if-at t)
-    work-if.Post
-work-if-halted-requires t c κs = search needs
-
 pub work-if-returns : (t : ℕ) → work-if-lts.Need-returns (work-if-claims t) (work-if-at t) work-if.Post
 work-if-returns t c =
     let a = c .before .before .before .args in
@@ -24,31 +19,6 @@ work-if-returns t c =
     if-spent (tree-on (a .lines) (call-on (a .calls) k) k (a .calls) (a .f)) (a .table .now) (a .calls) (a .x) (a .g)
     (a .at) (a .steps) (a .slots .now) (a .heads .now) (a .env .now) (c .halted .result) (c .before .if1 .taken)
     (c .halted .ensures)
-
-pub work-if-word-of-requires : (t : ℕ) → work-if-lts.Need-word-of-requires (work-if-claims t) (work-if-at t)
-    work-if.Post
-work-if-word-of-requires t c κs = search needs
-
-pub work-if-add-branch-start : (t : ℕ) → work-if-lts.Need-add-branch-start (work-if-claims t) (work-if-at t)
-    work-if.Post
-work-if-add-branch-start t c = search needs
-
-pub work-if-branch-start-requires : (t : ℕ) → work-if-lts.Need-branch-start-requires (work-if-claims t) (work-if-at t)
-    work-if.Post
-work-if-branch-start-requires t c κs = search needs
-
-pub work-if-sub-work-tree : (t : ℕ) → work-if-lts.Need-sub-work-tree (work-if-claims t) (work-if-at t) work-if.Post
-work-if-sub-work-tree t c = search needs
-
-pub work-if-work-tree-requires : (t : ℕ) → work-if-lts.Need-work-tree-requires (work-if-claims t) (work-if-at t)
-    work-if.Post
-work-if-work-tree-requires t c κs = search needs
-
-pub work-if-same-length : (t : ℕ) → work-if-lts.Need-same-length (work-if-claims t) (work-if-at t) work-if.Post
-work-if-same-length t c = search needs
-
-pub work-if-same-length-2 : (t : ℕ) → work-if-lts.Need-same-length-2 (work-if-claims t) (work-if-at t) work-if.Post
-work-if-same-length-2 t c = search needs
 
 pub work-if-returns-2 : (t : ℕ) → work-if-lts.Need-returns-2 (work-if-claims t) (work-if-at t) work-if.Post
 work-if-returns-2 t c =
@@ -69,10 +39,6 @@ work-if-returns-2 t c =
     (start .ensures)) (tree .result) (tree .last .1 .1 .1 .0) (tree .last .1 .1 .1 .1 .0)
     (tree .last .1 .1 .1 .1 .1 .0) (tree .ensures) (c .if2 .taken)
 
-pub work-if-branch-end-requires : (t : ℕ) → work-if-lts.Need-branch-end-requires (work-if-claims t) (work-if-at t)
-    work-if.Post
-work-if-branch-end-requires t c κs = search needs
-
 pub work-if-bind-requires : (t : ℕ) → work-if-lts.Need-bind-requires (work-if-claims t) (work-if-at t) work-if.Post
 work-if-bind-requires t c κs =
     let at-work-tree = c .before .before .before .before .before .before .before .before in
@@ -87,15 +53,6 @@ work-if-bind-requires t c κs =
           (at-work-tree .work-tree .ensures) ∙
           start .pre .1 .2,
     )
-
-pub work-if-done-requires : (t : ℕ) → work-if-lts.Need-done-requires (work-if-claims t) (work-if-at t) work-if.Post
-work-if-done-requires t c κs = search needs
-
-pub work-if-same-length-3 : (t : ℕ) → work-if-lts.Need-same-length-3 (work-if-claims t) (work-if-at t) work-if.Post
-work-if-same-length-3 t c = search needs
-
-pub work-if-same-length-4 : (t : ℕ) → work-if-lts.Need-same-length-4 (work-if-claims t) (work-if-at t) work-if.Post
-work-if-same-length-4 t c = search needs
 
 pub work-if-returns-3 : (t : ℕ) → work-if-lts.Need-returns-3 (work-if-claims t) (work-if-at t) work-if.Post
 work-if-returns-3 t c =

@@ -1,50 +1,11 @@
 -- What `work_line` has to show.
 use Rattle.machine_positions.specs.Machine.{code, tree-on, call-on}
 use Rattle.machine_positions.specs.LineLaws.{line-if, line-call, line-map, line-leaf}
-use borrow.Author.Needs.{needs}
 use Prim.Native.Nat.{ℕ}
 use Rattle.machine.proofs.work_line.Reads as work-line
 use Rattle.machine.proofs.+work_call+work_if+work_line+work_map+work_pass+work_tree.Lts-work_line as work-line-lts
 use Rattle.machine.proofs.+work_call+work_if+work_line+work_map+work_pass+work_tree.Proof.Common.{work-line-at}
 use Rattle.machine.proofs.+work_call+work_if+work_line+work_map+work_pass+work_tree.Proof.Common.{work-line-claims}
-
-pub work-line-enum-known-l : (t : ℕ) → work-line-lts.Need-enum-known-l (work-line-claims t) (work-line-at t)
-    work-line.Post
-work-line-enum-known-l t c = search needs
-
-pub work-line-work-if-requires : (t : ℕ) → work-line-lts.Need-work-if-requires (work-line-claims t) (work-line-at t)
-    work-line.Post
-work-line-work-if-requires t c κs = search needs
-
-pub work-line-enum-known-l-2 : (t : ℕ) → work-line-lts.Need-enum-known-l-2 (work-line-claims t) (work-line-at t)
-    work-line.Post
-work-line-enum-known-l-2 t c = search needs
-
-pub work-line-work-call-requires : (t : ℕ) → work-line-lts.Need-work-call-requires (work-line-claims t)
-    (work-line-at t)
-    work-line.Post
-work-line-work-call-requires t c κs = search needs
-
-pub work-line-enum-known-l-3 : (t : ℕ) → work-line-lts.Need-enum-known-l-3 (work-line-claims t) (work-line-at t)
-    work-line.Post
-work-line-enum-known-l-3 t c = search needs
-
-pub work-line-work-map-requires : (t : ℕ) → work-line-lts.Need-work-map-requires (work-line-claims t) (work-line-at t)
-    work-line.Post
-work-line-work-map-requires t c κs = search needs
-
-pub work-line-work-leaf-requires : (t : ℕ) → work-line-lts.Need-work-leaf-requires (work-line-claims t)
-    (work-line-at t)
-    work-line.Post
-work-line-work-leaf-requires t c κs = search needs
-
-pub work-line-same-length : (t : ℕ) → work-line-lts.Need-same-length (work-line-claims t) (work-line-at t)
-    work-line.Post
-work-line-same-length t c = search needs
-
-pub work-line-same-length-2 : (t : ℕ) → work-line-lts.Need-same-length-2 (work-line-claims t) (work-line-at t)
-    work-line.Post
-work-line-same-length-2 t c = search needs
 
 pub work-line-returns : (t : ℕ) → work-line-lts.Need-returns (work-line-claims t) (work-line-at t) work-line.Post
 work-line-returns t c =
@@ -59,14 +20,6 @@ work-line-returns t c =
     (a .at) (a .steps) (a .slots .now) (a .heads .now) (a .env .now) (a .l) (branch .result)
     (branch .last .1 .1 .1 .0) (branch .last .1 .1 .1 .1 .0) (branch .last .1 .1 .1 .1 .1 .0) (read .given .0 .0)
     (read .given .0 .1 .0) (read .given .1) (branch .ensures)
-
-pub work-line-same-length-3 : (t : ℕ) → work-line-lts.Need-same-length-3 (work-line-claims t) (work-line-at t)
-    work-line.Post
-work-line-same-length-3 t c = search needs
-
-pub work-line-same-length-4 : (t : ℕ) → work-line-lts.Need-same-length-4 (work-line-claims t) (work-line-at t)
-    work-line.Post
-work-line-same-length-4 t c = search needs
 
 pub work-line-returns-2 : (t : ℕ) → work-line-lts.Need-returns-2 (work-line-claims t) (work-line-at t) work-line.Post
 work-line-returns-2 t c =
@@ -84,14 +37,6 @@ work-line-returns-2 t c =
     (at-l2 .l2 .given .0 .1 .0)
     (at-l2 .l2 .given .1) (called .ensures)
 
-pub work-line-same-length-5 : (t : ℕ) → work-line-lts.Need-same-length-5 (work-line-claims t) (work-line-at t)
-    work-line.Post
-work-line-same-length-5 t c = search needs
-
-pub work-line-same-length-6 : (t : ℕ) → work-line-lts.Need-same-length-6 (work-line-claims t) (work-line-at t)
-    work-line.Post
-work-line-same-length-6 t c = search needs
-
 pub work-line-returns-3 : (t : ℕ) → work-line-lts.Need-returns-3 (work-line-claims t) (work-line-at t) work-line.Post
 work-line-returns-3 t c =
     let at-work-map = c .before .before .before in
@@ -108,14 +53,6 @@ work-line-returns-3 t c =
     (at-l3 .l3 .given .0 .1 .0)
     (at-l3 .l3 .given .0 .1 .1 .0)
     (at-l3 .l3 .given .1) (mapped .ensures)
-
-pub work-line-same-length-7 : (t : ℕ) → work-line-lts.Need-same-length-7 (work-line-claims t) (work-line-at t)
-    work-line.Post
-work-line-same-length-7 t c = search needs
-
-pub work-line-same-length-8 : (t : ℕ) → work-line-lts.Need-same-length-8 (work-line-claims t) (work-line-at t)
-    work-line.Post
-work-line-same-length-8 t c = search needs
 
 pub work-line-returns-4 : (t : ℕ) → work-line-lts.Need-returns-4 (work-line-claims t) (work-line-at t) work-line.Post
 work-line-returns-4 t c =

@@ -10,7 +10,6 @@ use mir.Facts.{toZ-ofZ}
 use Rattle.machine_lines.proofs.Lines.{next-small}
 use Rattle.machine_positions.specs.Machine.{code, tree-on, call-on}
 use Rattle.machine_positions.specs.LineLaws.{loop-spent, loop-none, loop-stops, loop-goes, map-cell, map-none}
-use borrow.Author.Needs.{needs}
 use Rattle.semantics.specs.Words.{store-of}
 use Rattle.machine_lines.specs.Lines.{memory}
 use Rattle.machine_positions.specs.Lengths.{passes-long}
@@ -19,10 +18,6 @@ use Rattle.machine.proofs.+work_call+work_if+work_line+work_map+work_pa
 use Rattle.machine.proofs.+work_call+work_if+work_line+work_map+work_pass+work_tree.Proof.Common.{work-map-at}
 use Rattle.machine.proofs.+work_call+work_if+work_line+work_map+work_pass+work_tree.Proof.Common.{work-map-claims}
 
-pub work-map-halted-requires : (t : ℕ) → work-map-lts.Need-halted-requires (work-map-claims t) (work-map-at t)
-    work-map.Post
-work-map-halted-requires t c κs = search needs
-
 pub work-map-returns : (t : ℕ) → work-map-lts.Need-returns (work-map-claims t) (work-map-at t) work-map.Post
 work-map-returns t c =
     let a = c .before .before .before .args in
@@ -30,49 +25,6 @@ work-map-returns t c =
     loop-spent (tree-on (a .lines) (call-on (a .calls) k) k (a .calls) (a .f)) k (a .calls) (a .f) (a .x) mapping
     (a .p ∷ []) (a .a ∷ []) (a .at) (a .steps) (a .slots .now) (a .heads .now) (a .env .now)
     (c .halted .result) (c .before .if1 .taken) (c .halted .ensures)
-
-pub work-map-word-of-requires : (t : ℕ) → work-map-lts.Need-word-of-requires (work-map-claims t) (work-map-at t)
-    work-map.Post
-work-map-word-of-requires t c κs = search needs
-
-pub work-map-named-cell-requires : (t : ℕ) → work-map-lts.Need-named-cell-requires (work-map-claims t) (work-map-at t)
-    work-map.Post
-work-map-named-cell-requires t c κs = search needs
-
-pub work-map-read-length-requires : (t : ℕ) → work-map-lts.Need-read-length-requires (work-map-claims t)
-    (work-map-at t)
-    work-map.Post
-work-map-read-length-requires t c κs = search needs
-
-pub work-map-element-depth-requires : (t : ℕ) → work-map-lts.Need-element-depth-requires (work-map-claims t)
-    (work-map-at t) work-map.Post
-work-map-element-depth-requires t c κs = search needs
-
-pub work-map-acquire-empty-requires : (t : ℕ) → work-map-lts.Need-acquire-empty-requires (work-map-claims t)
-    (work-map-at t) work-map.Post
-work-map-acquire-empty-requires t c κs = search needs
-
-pub work-map-enum-known-c : (t : ℕ) → work-map-lts.Need-enum-known-c (work-map-claims t) (work-map-at t) work-map.Post
-work-map-enum-known-c t c = search needs
-
-pub work-map-sub-work-pass : (t : ℕ) → work-map-lts.Need-sub-work-pass (work-map-claims t) (work-map-at t)
-    work-map.Post
-work-map-sub-work-pass t c = search needs
-
-pub work-map-add-work-pass : (t : ℕ) → work-map-lts.Need-add-work-pass (work-map-claims t) (work-map-at t)
-    work-map.Post
-work-map-add-work-pass t c = search needs
-
-pub work-map-work-pass-requires : (t : ℕ) → work-map-lts.Need-work-pass-requires (work-map-claims t) (work-map-at t)
-    work-map.Post
-work-map-work-pass-requires t c κs = search needs
-
-pub work-map-same-length : (t : ℕ) → work-map-lts.Need-same-length (work-map-claims t) (work-map-at t) work-map.Post
-work-map-same-length t c = search needs
-
-pub work-map-same-length-2 : (t : ℕ) → work-map-lts.Need-same-length-2 (work-map-claims t) (work-map-at t)
-    work-map.Post
-work-map-same-length-2 t c = search needs
 
 pub work-map-returns-2 : (t : ℕ) → work-map-lts.Need-returns-2 (work-map-claims t) (work-map-at t) work-map.Post
 work-map-returns-2 t c =
@@ -158,24 +110,6 @@ work-map-add-end-in t c =
       start .pre,
     )
 
-pub work-map-end-in-requires : (t : ℕ) → work-map-lts.Need-end-in-requires (work-map-claims t) (work-map-at t)
-    work-map.Post
-work-map-end-in-requires t c κs = search needs
-
-pub work-map-done-requires : (t : ℕ) → work-map-lts.Need-done-requires (work-map-claims t) (work-map-at t)
-    work-map.Post
-work-map-done-requires t c κs = search needs
-
-pub work-map-enum-told : (t : ℕ) → work-map-lts.Need-enum-told (work-map-claims t) (work-map-at t) work-map.Post
-work-map-enum-told t c = search needs
-
-pub work-map-sub-halted : (t : ℕ) → work-map-lts.Need-sub-halted (work-map-claims t) (work-map-at t) work-map.Post
-work-map-sub-halted t c = search needs
-
-pub work-map-halted-requires-2 : (t : ℕ) → work-map-lts.Need-halted-requires-2 (work-map-claims t) (work-map-at t)
-    work-map.Post
-work-map-halted-requires-2 t c κs = search needs
-
 pub work-map-same-length-3 : (t : ℕ) → work-map-lts.Need-same-length-3 (work-map-claims t) (work-map-at t)
     work-map.Post
 work-map-same-length-3 t c =
@@ -234,14 +168,6 @@ work-map-returns-3 t c =
     (at-bind .bind .ensures)) (c .done .result)
     (rw (toZ-ofZ {z = passes .result .value} (record { sfits = at-struct-told .struct-told .given .1 .0 .1 })) at
     (c .done .ensures))
-
-pub work-map-same-length-5 : (t : ℕ) → work-map-lts.Need-same-length-5 (work-map-claims t) (work-map-at t)
-    work-map.Post
-work-map-same-length-5 t c = search needs
-
-pub work-map-same-length-6 : (t : ℕ) → work-map-lts.Need-same-length-6 (work-map-claims t) (work-map-at t)
-    work-map.Post
-work-map-same-length-6 t c = search needs
 
 pub work-map-returns-4 : (t : ℕ) → work-map-lts.Need-returns-4 (work-map-claims t) (work-map-at t) work-map.Post
 work-map-returns-4 t c =

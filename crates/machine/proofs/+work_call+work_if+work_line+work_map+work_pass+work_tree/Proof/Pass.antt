@@ -33,10 +33,6 @@ abbrev pub work-pass-μ-loop : work-pass-lts.MeasureT-loop
 work-pass-μ-loop kinds operands table slots₀ heads₀ env₀ steps lines calls f at p from carried count into s₀ i₀ slots
     heads env s i = count - i
 
-pub work-pass-named-cell-requires : (t : ℕ) → work-pass-lts.Need-named-cell-requires (work-pass-claims t)
-    (work-pass-at t) work-pass.Post work-pass-Inv-loop work-pass-μ-loop
-work-pass-named-cell-requires t c κs = search needs
-
 pub work-pass-loop-holds : (t : ℕ) → work-pass-lts.Need-loop-holds (work-pass-claims t) (work-pass-at t)
     work-pass.Post
     work-pass-Inv-loop work-pass-μ-loop
@@ -46,18 +42,6 @@ work-pass-loop-holds t c =
     rw (toZ-ofZ {z = a .carried} (c .before .before .fits .carried))
     (passing-starts (looped mapping (tree-on (a .lines) (call-on (a .calls) k) k (a .calls) (a .f) (a .at)) (a .calls)
     (a .p ∷ []) (a .from)) (a .count) (a .steps) (a .carried) (a .slots .now) (a .heads .now) (a .env .now))
-
-pub work-pass-halted-requires : (t : ℕ) → work-pass-lts.Need-halted-requires (work-pass-claims t) (work-pass-at t)
-    work-pass.Post work-pass-Inv-loop work-pass-μ-loop
-work-pass-halted-requires t c κs = search needs
-
-pub work-pass-same-length : (t : ℕ) → work-pass-lts.Need-same-length (work-pass-claims t) (work-pass-at t)
-    work-pass.Post work-pass-Inv-loop work-pass-μ-loop
-work-pass-same-length t c = search needs
-
-pub work-pass-same-length-2 : (t : ℕ) → work-pass-lts.Need-same-length-2 (work-pass-claims t) (work-pass-at t)
-    work-pass.Post work-pass-Inv-loop work-pass-μ-loop
-work-pass-same-length-2 t c = search needs
 
 pub work-pass-returns : (t : ℕ) → work-pass-lts.Need-returns (work-pass-claims t) (work-pass-at t) work-pass.Post
     work-pass-Inv-loop work-pass-μ-loop
@@ -69,19 +53,6 @@ work-pass-returns t c =
     pass-dry (rw (toZ-ofZ {z = start .args .carried} (start .fits .carried)) at (at-loop .loop .inv))
     (at-loop-test .loop-test .taken)
     (at-if1 .if1 .taken) (c .halted .result) (c .halted .ensures)
-
-pub work-pass-read-slot-requires : (t : ℕ) → work-pass-lts.Need-read-slot-requires (work-pass-claims t)
-    (work-pass-at t)
-    work-pass.Post work-pass-Inv-loop work-pass-μ-loop
-work-pass-read-slot-requires t c κs = search needs
-
-pub work-pass-bind-requires : (t : ℕ) → work-pass-lts.Need-bind-requires (work-pass-claims t) (work-pass-at t)
-    work-pass.Post work-pass-Inv-loop work-pass-μ-loop
-work-pass-bind-requires t c κs = search needs
-
-pub work-pass-sub-work-tree : (t : ℕ) → work-pass-lts.Need-sub-work-tree (work-pass-claims t) (work-pass-at t)
-    work-pass.Post work-pass-Inv-loop work-pass-μ-loop
-work-pass-sub-work-tree t c = search needs
 
 pub work-pass-work-tree-requires : (t : ℕ) → work-pass-lts.Need-work-tree-requires (work-pass-claims t)
     (work-pass-at t)
@@ -101,14 +72,6 @@ work-pass-work-tree-requires t c κs =
           (toZ-ofZ {z
           = read .result} (record { sfits = read .ok })) at (at-bind .bind .ensures)),
     )
-
-pub work-pass-same-length-3 : (t : ℕ) → work-pass-lts.Need-same-length-3 (work-pass-claims t) (work-pass-at t)
-    work-pass.Post work-pass-Inv-loop work-pass-μ-loop
-work-pass-same-length-3 t c = search needs
-
-pub work-pass-same-length-4 : (t : ℕ) → work-pass-lts.Need-same-length-4 (work-pass-claims t) (work-pass-at t)
-    work-pass.Post work-pass-Inv-loop work-pass-μ-loop
-work-pass-same-length-4 t c = search needs
 
 pub work-pass-returns-2 : (t : ℕ) → work-pass-lts.Need-returns-2 (work-pass-claims t) (work-pass-at t) work-pass.Post
     work-pass-Inv-loop work-pass-μ-loop
@@ -131,10 +94,6 @@ work-pass-returns-2 t c =
     (tree .result) (tree .last .1 .1 .1 .0) (tree .last .1 .1 .1 .1 .0) (tree .last .1 .1 .1 .1 .1 .0) (tree .ensures)
     (c .if2 .taken)
 
-pub work-pass-append-requires : (t : ℕ) → work-pass-lts.Need-append-requires (work-pass-claims t) (work-pass-at t)
-    work-pass.Post work-pass-Inv-loop work-pass-μ-loop
-work-pass-append-requires t c κs = search needs
-
 pub work-pass-add-i : (t : ℕ) → work-pass-lts.Need-add-i (work-pass-claims t) (work-pass-at t) work-pass.Post
     work-pass-Inv-loop work-pass-μ-loop
 work-pass-add-i t c =
@@ -147,10 +106,6 @@ work-pass-add-i t c =
       at-loop-test .loop-test .taken,
       start .fits .count,
     )
-
-pub work-pass-loop-less : (t : ℕ) → work-pass-lts.Need-loop-less (work-pass-claims t) (work-pass-at t) work-pass.Post
-    work-pass-Inv-loop work-pass-μ-loop
-work-pass-loop-less t c = search needs
 
 pub work-pass-loop-again : (t : ℕ) → work-pass-lts.Need-loop-again (work-pass-claims t) (work-pass-at t)
     work-pass.Post
@@ -195,18 +150,6 @@ work-pass-loop-again t c =
           ∙ bound-long (o .env) (place (a .calls) (a .p)) (read .result)
           (rw (toZ-ofZ {z = read .result} (record { sfits = read .ok })) at (bind .ensures));
     }))
-
-pub work-pass-done-requires : (t : ℕ) → work-pass-lts.Need-done-requires (work-pass-claims t) (work-pass-at t)
-    work-pass.Post work-pass-Inv-loop work-pass-μ-loop
-work-pass-done-requires t c κs = search needs
-
-pub work-pass-same-length-5 : (t : ℕ) → work-pass-lts.Need-same-length-5 (work-pass-claims t) (work-pass-at t)
-    work-pass.Post work-pass-Inv-loop work-pass-μ-loop
-work-pass-same-length-5 t c = search needs
-
-pub work-pass-same-length-6 : (t : ℕ) → work-pass-lts.Need-same-length-6 (work-pass-claims t) (work-pass-at t)
-    work-pass.Post work-pass-Inv-loop work-pass-μ-loop
-work-pass-same-length-6 t c = search needs
 
 pub work-pass-returns-3 : (t : ℕ) → work-pass-lts.Need-returns-3 (work-pass-claims t) (work-pass-at t) work-pass.Post
     work-pass-Inv-loop work-pass-μ-loop

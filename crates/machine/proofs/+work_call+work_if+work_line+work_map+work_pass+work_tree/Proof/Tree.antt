@@ -6,7 +6,6 @@ use mir.Facts.{toZ-ofZ}
 use Rattle.machine_positions.specs.Machine.{code, call-on}
 use Rattle.machine_positions.specs.TreeLaws.{Working, working-starts, not-end, tree-out, tree-closed, tree-stops}
 use Rattle.machine_positions.specs.TreeLaws.{tree-goes}
-use borrow.Author.Needs.{needs}
 use Rattle.semantics.specs.Words.{store-of}
 use Rattle.machine_lines.specs.Lines.{memory}
 use Rattle.machine_positions.specs.Lengths.{line-long}
@@ -34,50 +33,10 @@ work-tree-loop-holds t c =
     working-starts (call-on (a .calls) k) k (a .calls) (a .f) (a .lines) (a .at) (a .steps) (a .slots .now)
     (a .heads .now) (a .env .now)
 
-pub work-tree-halted-requires : (t : ℕ) → work-tree-lts.Need-halted-requires (work-tree-claims t) (work-tree-at t)
-    work-tree.Post work-tree-Inv-loop work-tree-μ-loop
-work-tree-halted-requires t c κs = search needs
-
-pub work-tree-same-length : (t : ℕ) → work-tree-lts.Need-same-length (work-tree-claims t) (work-tree-at t)
-    work-tree.Post work-tree-Inv-loop work-tree-μ-loop
-work-tree-same-length t c = search needs
-
-pub work-tree-same-length-2 : (t : ℕ) → work-tree-lts.Need-same-length-2 (work-tree-claims t) (work-tree-at t)
-    work-tree.Post work-tree-Inv-loop work-tree-μ-loop
-work-tree-same-length-2 t c = search needs
-
 pub work-tree-returns : (t : ℕ) → work-tree-lts.Need-returns (work-tree-claims t) (work-tree-at t) work-tree.Post
     work-tree-Inv-loop work-tree-μ-loop
 work-tree-returns t c = tree-out (c .before .before .before .loop .inv) (inr (c .before .if1 .taken)) (c .halted
     .result) (c .halted .ensures)
-
-pub work-tree-line-at-requires : (t : ℕ) → work-tree-lts.Need-line-at-requires (work-tree-claims t) (work-tree-at t)
-    work-tree.Post work-tree-Inv-loop work-tree-μ-loop
-work-tree-line-at-requires t c κs = search needs
-
-pub work-tree-enum-known-l : (t : ℕ) → work-tree-lts.Need-enum-known-l (work-tree-claims t) (work-tree-at t)
-    work-tree.Post work-tree-Inv-loop work-tree-μ-loop
-work-tree-enum-known-l t c = search needs
-
-pub work-tree-word-of-requires : (t : ℕ) → work-tree-lts.Need-word-of-requires (work-tree-claims t) (work-tree-at t)
-    work-tree.Post work-tree-Inv-loop work-tree-μ-loop
-work-tree-word-of-requires t c κs = search needs
-
-pub work-tree-add-done : (t : ℕ) → work-tree-lts.Need-add-done (work-tree-claims t) (work-tree-at t) work-tree.Post
-    work-tree-Inv-loop work-tree-μ-loop
-work-tree-add-done t c = search needs
-
-pub work-tree-done-requires : (t : ℕ) → work-tree-lts.Need-done-requires (work-tree-claims t) (work-tree-at t)
-    work-tree.Post work-tree-Inv-loop work-tree-μ-loop
-work-tree-done-requires t c κs = search needs
-
-pub work-tree-same-length-3 : (t : ℕ) → work-tree-lts.Need-same-length-3 (work-tree-claims t) (work-tree-at t)
-    work-tree.Post work-tree-Inv-loop work-tree-μ-loop
-work-tree-same-length-3 t c = search needs
-
-pub work-tree-same-length-4 : (t : ℕ) → work-tree-lts.Need-same-length-4 (work-tree-claims t) (work-tree-at t)
-    work-tree.Post work-tree-Inv-loop work-tree-μ-loop
-work-tree-same-length-4 t c = search needs
 
 pub work-tree-returns-2 : (t : ℕ) → work-tree-lts.Need-returns-2 (work-tree-claims t) (work-tree-at t) work-tree.Post
     work-tree-Inv-loop work-tree-μ-loop
@@ -95,23 +54,6 @@ work-tree-returns-2 t c =
     (line .ensures) (end .given .0 .0) (end .given .1) (word .result) (word .ensures) (c .done .result)
     (rw (toZ-ofZ {z = word .result} (record { sfits = word .ok })) at (c .done .ensures))
 
-pub work-tree-sub-work-line : (t : ℕ) → work-tree-lts.Need-sub-work-line (work-tree-claims t) (work-tree-at t)
-    work-tree.Post work-tree-Inv-loop work-tree-μ-loop
-work-tree-sub-work-line t c = search needs
-
-pub work-tree-work-line-requires : (t : ℕ) → work-tree-lts.Need-work-line-requires (work-tree-claims t)
-    (work-tree-at t)
-    work-tree.Post work-tree-Inv-loop work-tree-μ-loop
-work-tree-work-line-requires t c κs = search needs
-
-pub work-tree-same-length-5 : (t : ℕ) → work-tree-lts.Need-same-length-5 (work-tree-claims t) (work-tree-at t)
-    work-tree.Post work-tree-Inv-loop work-tree-μ-loop
-work-tree-same-length-5 t c = search needs
-
-pub work-tree-same-length-6 : (t : ℕ) → work-tree-lts.Need-same-length-6 (work-tree-claims t) (work-tree-at t)
-    work-tree.Post work-tree-Inv-loop work-tree-μ-loop
-work-tree-same-length-6 t c = search needs
-
 pub work-tree-returns-3 : (t : ℕ) → work-tree-lts.Need-returns-3 (work-tree-claims t) (work-tree-at t) work-tree.Post
     work-tree-Inv-loop work-tree-μ-loop
 work-tree-returns-3 t c =
@@ -127,14 +69,6 @@ work-tree-returns-3 t c =
     (line .ensures) (not-end (line .result) (at-match .match .keys2)) (worked .result)
     (worked .last .1 .1 .1 .0) (worked .last .1 .1 .1 .1 .0) (worked .last .1 .1 .1 .1 .1 .0) (worked .ensures)
     (c .if2 .taken)
-
-pub work-tree-sub-left : (t : ℕ) → work-tree-lts.Need-sub-left (work-tree-claims t) (work-tree-at t) work-tree.Post
-    work-tree-Inv-loop work-tree-μ-loop
-work-tree-sub-left t c = search needs
-
-pub work-tree-loop-less : (t : ℕ) → work-tree-lts.Need-loop-less (work-tree-claims t) (work-tree-at t) work-tree.Post
-    work-tree-Inv-loop work-tree-μ-loop
-work-tree-loop-less t c = search needs
 
 pub work-tree-loop-again : (t : ℕ) → work-tree-lts.Need-loop-again (work-tree-claims t) (work-tree-at t)
     work-tree.Post
@@ -161,18 +95,6 @@ work-tree-loop-again t c =
       env-long = line-long k (o .left - 1) (a .calls) (a .f) (o .p) (o .s)
           (memory (store-of (o .slots) (o .heads)) (o .env)) (line .result) (worked .ensures);
     })
-
-pub work-tree-halted-requires-2 : (t : ℕ) → work-tree-lts.Need-halted-requires-2 (work-tree-claims t) (work-tree-at t)
-    work-tree.Post work-tree-Inv-loop work-tree-μ-loop
-work-tree-halted-requires-2 t c κs = search needs
-
-pub work-tree-same-length-7 : (t : ℕ) → work-tree-lts.Need-same-length-7 (work-tree-claims t) (work-tree-at t)
-    work-tree.Post work-tree-Inv-loop work-tree-μ-loop
-work-tree-same-length-7 t c = search needs
-
-pub work-tree-same-length-8 : (t : ℕ) → work-tree-lts.Need-same-length-8 (work-tree-claims t) (work-tree-at t)
-    work-tree.Post work-tree-Inv-loop work-tree-μ-loop
-work-tree-same-length-8 t c = search needs
 
 pub work-tree-returns-4 : (t : ℕ) → work-tree-lts.Need-returns-4 (work-tree-claims t) (work-tree-at t) work-tree.Post
     work-tree-Inv-loop work-tree-μ-loop

@@ -46,10 +46,6 @@ lay-compound-lay-part-requires t c κs =
       ),
     )
 
-pub lay-compound-mul-atoms : (t : ℕ) → lay-compound-lts.Need-mul-atoms (lay-compound-claims t) (lay-compound-at t)
-    lay-compound.Post lay-compound-Inv-loop lay-compound-μ-loop
-lay-compound-mul-atoms t c = search needs
-
 pub lay-compound-array-write-atoms : (t : ℕ) → lay-compound-lts.Need-array-write-atoms (lay-compound-claims t)
     (lay-compound-at t) lay-compound.Post lay-compound-Inv-loop lay-compound-μ-loop
 lay-compound-array-write-atoms t c = omega (
@@ -59,14 +55,6 @@ lay-compound-array-write-atoms t c = omega (
       .before .before .before .before .before .before .before .before .pre .1 .0 .parts,
 )
 
-pub lay-compound-add-i : (t : ℕ) → lay-compound-lts.Need-add-i (lay-compound-claims t) (lay-compound-at t)
-    lay-compound.Post lay-compound-Inv-loop lay-compound-μ-loop
-lay-compound-add-i t c = search needs
-
-pub lay-compound-loop-less : (t : ℕ) → lay-compound-lts.Need-loop-less (lay-compound-claims t) (lay-compound-at t)
-    lay-compound.Post lay-compound-Inv-loop lay-compound-μ-loop
-lay-compound-loop-less t c = search needs
-
 pub lay-compound-loop-again : (t : ℕ) → lay-compound-lts.Need-loop-again (lay-compound-claims t) (lay-compound-at t)
     lay-compound.Post lay-compound-Inv-loop lay-compound-μ-loop
 lay-compound-loop-again t c = (
@@ -75,10 +63,6 @@ lay-compound-loop-again t c = (
       .before .before .before .before .before .pre .1 .0 .parts),
   search needs,
 )
-
-pub lay-compound-array-read-depth-of-line : (t : ℕ) → lay-compound-lts.Need-array-read-depth-of-line
-    (lay-compound-claims t) (lay-compound-at t) lay-compound.Post lay-compound-Inv-loop lay-compound-μ-loop
-lay-compound-array-read-depth-of-line t c = search needs
 
 pub lay-compound-depth-of-line-requires : (t : ℕ) → lay-compound-lts.Need-depth-of-line-requires (lay-compound-claims t)
     (lay-compound-at t) lay-compound.Post lay-compound-Inv-loop lay-compound-μ-loop

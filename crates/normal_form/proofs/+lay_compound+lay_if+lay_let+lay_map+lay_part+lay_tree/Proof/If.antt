@@ -4,7 +4,6 @@ use native.Mathlib.Omega.{arith}
 use lib.ListN.{getD}
 use Rattle.normal_made.specs.Source.{tree-at}
 use Rattle.normal_made.proofs.Members.{if-first, if-place, if-own, if-middle, if-other, if-end, if-laid}
-use borrow.Author.Needs.{needs}
 use Prim.Native.Nat.{ℕ}
 use Rattle.normal_form.proofs.lay_if.Reads as lay-if
 use Rattle.normal_form.proofs.+lay_compound+lay_if+lay_let+lay_map+lay_part+lay_tree.Lts-lay_if as lay-if-lts
@@ -214,9 +213,6 @@ lay-if-put-note-requires-3 t c κs =
             .before .before .before .lay-part .ensures)) .1,
       ),
     )
-
-pub lay-if-depth-of-requires : (t : ℕ) → lay-if-lts.Need-depth-of-requires (lay-if-claims t) (lay-if-at t) lay-if.Post
-lay-if-depth-of-requires t c κs = search needs
 
 pub lay-if-element-write-depths : (t : ℕ) → lay-if-lts.Need-element-write-depths (lay-if-claims t) (lay-if-at t)
     lay-if.Post

@@ -3,7 +3,6 @@ use native.Mathlib.Omega.{arith}
 use lib.ListN.{getD}
 use Rattle.normal_made.specs.Source.{tree-at}
 use Rattle.normal_made.proofs.Members.{given-bound, let-first, let-second, let-laid}
-use borrow.Author.Needs.{needs}
 use Prim.Native.Nat.{ℕ}
 use Rattle.normal_form.proofs.lay_let.Reads as lay-let
 use Rattle.normal_form.proofs.+lay_compound+lay_if+lay_let+lay_map+lay_part+lay_tree.Lts-lay_let as lay-let-lts
@@ -23,9 +22,6 @@ lay-let-lay-part-requires t c κs =
             (tree-at (a .kinds .now) (a .operands .now) (a .levels)) (asked .1 .1),
       ),
     )
-
-pub lay-let-bound-requires : (t : ℕ) → lay-let-lts.Need-bound-requires (lay-let-claims t) (lay-let-at t) lay-let.Post
-lay-let-bound-requires t c κs = search needs
 
 pub lay-let-lay-part-requires-2 : (t : ℕ) → lay-let-lts.Need-lay-part-requires-2 (lay-let-claims t) (lay-let-at t)
     lay-let.Post

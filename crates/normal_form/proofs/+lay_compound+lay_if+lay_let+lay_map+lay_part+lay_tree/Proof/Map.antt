@@ -5,7 +5,6 @@ use Prim.Native.Nat.{_+_, ℕ}
 use lib.ListN.{getD}
 use Rattle.normal_made.specs.Source.{tree-at}
 use Rattle.normal_made.proofs.Members.{given-bound, map-first, map-place, map-tree, map-end, map-deep, map-laid}
-use borrow.Author.Needs.{needs}
 use Rattle.normal_form.proofs.lay_map.Reads as lay-map
 use Rattle.normal_form.proofs.+lay_compound+lay_if+lay_let+lay_map+lay_part+lay_tree.Lts-lay_map as lay-map-lts
 use Rattle.normal_form.proofs.+lay_compound+lay_if+lay_let+lay_map+lay_part+lay_tree.Proof.Common.{lay-map-at}
@@ -117,10 +116,6 @@ lay-map-put-note-requires t c κs =
       ),
     )
 
-pub lay-map-element-depth-requires : (t : ℕ) → lay-map-lts.Need-element-depth-requires (lay-map-claims t) (lay-map-at t)
-    lay-map.Post
-lay-map-element-depth-requires t c κs = search needs
-
 pub lay-map-add-depths : (t : ℕ) → lay-map-lts.Need-add-depths (lay-map-claims t) (lay-map-at t) lay-map.Post
 lay-map-add-depths t c =
     let start = c .before .before .before .before .before .before .before .before .before .before .before .before
@@ -173,9 +168,6 @@ lay-map-cast-bound t c =
           (tree-at (a .kinds .now) (a .operands .now) (a .levels)) (a .places .now) (asked .1 .1)
           (c .before .before .before .before .before .before .lay-part .ensures)) .0,
     )
-
-pub lay-map-bound-requires : (t : ℕ) → lay-map-lts.Need-bound-requires (lay-map-claims t) (lay-map-at t) lay-map.Post
-lay-map-bound-requires t c κs = search needs
 
 pub lay-map-add-lay-tree : (t : ℕ) → lay-map-lts.Need-add-lay-tree (lay-map-claims t) (lay-map-at t) lay-map.Post
 lay-map-add-lay-tree t c =
@@ -259,10 +251,6 @@ lay-map-put-note-requires-2 t c κs =
             .before .lay-part .ensures)) .1,
       ),
     )
-
-pub lay-map-depth-of-requires : (t : ℕ) → lay-map-lts.Need-depth-of-requires (lay-map-claims t) (lay-map-at t)
-    lay-map.Post
-lay-map-depth-of-requires t c κs = search needs
 
 pub lay-map-add-depths-2 : (t : ℕ) → lay-map-lts.Need-add-depths-2 (lay-map-claims t) (lay-map-at t) lay-map.Post
 lay-map-add-depths-2 t c =

@@ -32,14 +32,6 @@ lay-part-returns t c =
     (nowhere-placed (a .operands .now) (omega (arith, asked .1 .0 .parts .few, asked .1 .0 .parts .whole)))
     (asked .1 .1 .sized)
 
-pub lay-part-node-at-requires : (t : ℕ) → lay-part-lts.Need-node-at-requires (lay-part-claims t) (lay-part-at t)
-    lay-part.Post
-lay-part-node-at-requires t c κs = search needs
-
-pub lay-part-enum-known-kind : (t : ℕ) → lay-part-lts.Need-enum-known-kind (lay-part-claims t) (lay-part-at t)
-    lay-part.Post
-lay-part-enum-known-kind t c = search needs
-
 pub lay-part-add-t24 : (t : ℕ) → lay-part-lts.Need-add-t24 (lay-part-claims t) (lay-part-at t) lay-part.Post
 lay-part-add-t24 t c = omega (
   arith,
@@ -74,16 +66,6 @@ lay-part-returns-2 t c =
     (node-inside (a .kinds .now) (a .operands .now) at-part (a .at) (node .node) (node .stands)) (node .stands)
     (node .same-kind ∙ c .if2 .taken)) (asked .1 .1 .sized)
 
-pub lay-part-cast-place : (t : ℕ) → lay-part-lts.Need-cast-place (lay-part-claims t) (lay-part-at t) lay-part.Post
-lay-part-cast-place t c = search needs
-
-pub lay-part-mul-place : (t : ℕ) → lay-part-lts.Need-mul-place (lay-part-claims t) (lay-part-at t) lay-part.Post
-lay-part-mul-place t c = search needs
-
-pub lay-part-element-copy-out-place : (t : ℕ) → lay-part-lts.Need-element-copy-out-place (lay-part-claims t)
-    (lay-part-at t) lay-part.Post
-lay-part-element-copy-out-place t c = search needs
-
 pub lay-part-add-t27 : (t : ℕ) → lay-part-lts.Need-add-t27 (lay-part-claims t) (lay-part-at t) lay-part.Post
 lay-part-add-t27 t c = omega (
   arith,
@@ -109,9 +91,6 @@ lay-part-add-lay-let t c = omega (
   c .before .before .before .before .before .before .before .before .before
       .before .before .before .before .before .pre .1 .1 .nodes,
 )
-
-pub lay-part-sub-lay-let : (t : ℕ) → lay-part-lts.Need-sub-lay-let (lay-part-claims t) (lay-part-at t) lay-part.Post
-lay-part-sub-lay-let t c = search needs
 
 pub lay-part-lay-let-requires : (t : ℕ) → lay-part-lts.Need-lay-let-requires (lay-part-claims t) (lay-part-at t)
     lay-part.Post
@@ -156,9 +135,6 @@ lay-part-add-lay-if t c = omega (
   c .before .before .before .before .before .before .before .before .before
       .before .before .before .before .before .before .pre .1 .1 .nodes,
 )
-
-pub lay-part-sub-lay-if : (t : ℕ) → lay-part-lts.Need-sub-lay-if (lay-part-claims t) (lay-part-at t) lay-part.Post
-lay-part-sub-lay-if t c = search needs
 
 pub lay-part-lay-if-requires : (t : ℕ) → lay-part-lts.Need-lay-if-requires (lay-part-claims t) (lay-part-at t)
     lay-part.Post
@@ -205,9 +181,6 @@ lay-part-add-lay-map t c = omega (
       .before .before .before .before .before .before .before .pre .1 .1 .nodes,
 )
 
-pub lay-part-sub-lay-map : (t : ℕ) → lay-part-lts.Need-sub-lay-map (lay-part-claims t) (lay-part-at t) lay-part.Post
-lay-part-sub-lay-map t c = search needs
-
 pub lay-part-lay-map-requires : (t : ℕ) → lay-part-lts.Need-lay-map-requires (lay-part-claims t) (lay-part-at t)
     lay-part.Post
 lay-part-lay-map-requires t c κs =
@@ -247,14 +220,6 @@ lay-part-returns-6 t c =
           .before .before .if1 .left,
     )) (map-after _ (a .at) _ _) (c .lay-map .ensures)
 
-pub lay-part-second-part-requires : (t : ℕ) → lay-part-lts.Need-second-part-requires (lay-part-claims t) (lay-part-at t)
-    lay-part.Post
-lay-part-second-part-requires t c κs = search needs
-
-pub lay-part-parts-of-requires : (t : ℕ) → lay-part-lts.Need-parts-of-requires (lay-part-claims t) (lay-part-at t)
-    lay-part.Post
-lay-part-parts-of-requires t c κs = search needs
-
 pub lay-part-add-lay-compound : (t : ℕ) → lay-part-lts.Need-add-lay-compound (lay-part-claims t) (lay-part-at t)
     lay-part.Post
 lay-part-add-lay-compound t c = omega (
@@ -262,10 +227,6 @@ lay-part-add-lay-compound t c = omega (
   c .before .before .before .before .before .before .before .before
       .before .before .before .before .before .before .before .before .before .before .pre .1 .1 .nodes,
 )
-
-pub lay-part-sub-lay-compound : (t : ℕ) → lay-part-lts.Need-sub-lay-compound (lay-part-claims t) (lay-part-at t)
-    lay-part.Post
-lay-part-sub-lay-compound t c = search needs
 
 pub lay-part-lay-compound-requires : (t : ℕ) → lay-part-lts.Need-lay-compound-requires (lay-part-claims t)
     (lay-part-at t) lay-part.Post
@@ -290,18 +251,12 @@ lay-part-lay-compound-requires t c κs =
       ),
     )
 
-pub lay-part-enum-told : (t : ℕ) → lay-part-lts.Need-enum-told (lay-part-claims t) (lay-part-at t) lay-part.Post
-lay-part-enum-told t c = search needs
-
 pub lay-part-add-t52 : (t : ℕ) → lay-part-lts.Need-add-t52 (lay-part-claims t) (lay-part-at t) lay-part.Post
 lay-part-add-t52 t c =
     let start = c .before .before .before .before .before .before .before in
     let a = start .args in
     let asked = start .pre in
     omega (arith, asked .1 .1 .nodes, one-node (tree-at (a .kinds .now) (a .operands .now) (a .levels) (a .at)))
-
-pub lay-part-enum-told-2 : (t : ℕ) → lay-part-lts.Need-enum-told-2 (lay-part-claims t) (lay-part-at t) lay-part.Post
-lay-part-enum-told-2 t c = search needs
 
 pub lay-part-add-t53 : (t : ℕ) → lay-part-lts.Need-add-t53 (lay-part-claims t) (lay-part-at t) lay-part.Post
 lay-part-add-t53 t c =

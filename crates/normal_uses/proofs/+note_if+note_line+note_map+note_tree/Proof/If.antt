@@ -3,23 +3,10 @@ use native.Mathlib.Omega.{arith}
 use Rattle.normal_code.specs.Plain.{plain, tree-to, set-of}
 use Rattle.normal_code.proofs.Trees.{start-le}
 use Rattle.normal_uses.proofs.Walks.{noted-if}
-use borrow.Author.Needs.{needs}
 use Prim.Native.Nat.{ℕ}
 use Rattle.normal_uses.proofs.note_if.Reads as note-if
 use Rattle.normal_uses.proofs.+note_if+note_line+note_map+note_tree.Lts-note_if as note-if-lts
 use Rattle.normal_uses.proofs.+note_if+note_line+note_map+note_tree.Proof.Common.{note-if-at, note-if-claims}
-
-pub note-if-less-two-requires : (t : ℕ) → note-if-lts.Need-less-two-requires (note-if-claims t) (note-if-at t)
-    note-if.Post
-note-if-less-two-requires t c κs = search needs
-
-pub note-if-first-row-requires : (t : ℕ) → note-if-lts.Need-first-row-requires (note-if-claims t) (note-if-at t)
-    note-if.Post
-note-if-first-row-requires t c κs = search needs
-
-pub note-if-less-two-requires-2 : (t : ℕ) → note-if-lts.Need-less-two-requires-2 (note-if-claims t) (note-if-at t)
-    note-if.Post
-note-if-less-two-requires-2 t c κs = search needs
 
 pub note-if-note-tree-requires : (t : ℕ) → note-if-lts.Need-note-tree-requires (note-if-claims t) (note-if-at t)
     note-if.Post
@@ -45,51 +32,12 @@ note-if-note-tree-requires-2 t c κs = let h = start-le (c .before .before .befo
       ),
     )
 
-pub note-if-mul-store : (t : ℕ) → note-if-lts.Need-mul-store (note-if-claims t) (note-if-at t) note-if.Post
-note-if-mul-store t c = search needs
-
 pub note-if-store-requires : (t : ℕ) → note-if-lts.Need-store-requires (note-if-claims t) (note-if-at t) note-if.Post
 note-if-store-requires t c κs = (omega arith, c .before .before .before .note-tree2 .ensures .1)
-
-pub note-if-mul-store-2 : (t : ℕ) → note-if-lts.Need-mul-store-2 (note-if-claims t) (note-if-at t) note-if.Post
-note-if-mul-store-2 t c = search needs
-
-pub note-if-add-store : (t : ℕ) → note-if-lts.Need-add-store (note-if-claims t) (note-if-at t) note-if.Post
-note-if-add-store t c = search needs
 
 pub note-if-store-requires-2 : (t : ℕ) →
     note-if-lts.Need-store-requires-2 (note-if-claims t) (note-if-at t) note-if.Post
 note-if-store-requires-2 t c κs = (omega arith, c .before .store .ensures .1)
-
-pub note-if-less-requires : (t : ℕ) → note-if-lts.Need-less-requires (note-if-claims t) (note-if-at t) note-if.Post
-note-if-less-requires t c κs = search needs
-
-pub note-if-less-requires-2 : (t : ℕ) → note-if-lts.Need-less-requires-2 (note-if-claims t) (note-if-at t) note-if.Post
-note-if-less-requires-2 t c κs = search needs
-
-pub note-if-without-requires : (t : ℕ) →
-    note-if-lts.Need-without-requires (note-if-claims t) (note-if-at t) note-if.Post
-note-if-without-requires t c κs = search needs
-
-pub note-if-less-requires-3 : (t : ℕ) → note-if-lts.Need-less-requires-3 (note-if-claims t) (note-if-at t) note-if.Post
-note-if-less-requires-3 t c κs = search needs
-
-pub note-if-joined-requires : (t : ℕ) → note-if-lts.Need-joined-requires (note-if-claims t) (note-if-at t) note-if.Post
-note-if-joined-requires t c κs = search needs
-
-pub note-if-joined-requires-2 : (t : ℕ) → note-if-lts.Need-joined-requires-2 (note-if-claims t) (note-if-at t)
-    note-if.Post
-note-if-joined-requires-2 t c κs = search needs
-
-pub note-if-add-requires : (t : ℕ) → note-if-lts.Need-add-requires (note-if-claims t) (note-if-at t) note-if.Post
-note-if-add-requires t c κs = search needs
-
-pub note-if-joined-requires-3 : (t : ℕ) → note-if-lts.Need-joined-requires-3 (note-if-claims t) (note-if-at t)
-    note-if.Post
-note-if-joined-requires-3 t c κs = search needs
-
-pub note-if-with-requires : (t : ℕ) → note-if-lts.Need-with-requires (note-if-claims t) (note-if-at t) note-if.Post
-note-if-with-requires t c κs = search needs
 
 pub note-if-returns : (t : ℕ) → note-if-lts.Need-returns (note-if-claims t) (note-if-at t) note-if.Post
 note-if-returns t c =

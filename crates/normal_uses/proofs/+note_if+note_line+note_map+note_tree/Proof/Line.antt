@@ -1,67 +1,10 @@
 -- What `note_line` has to show.
 use Rattle.normal_code.specs.Plain.{as-line, plain, tree-to, set-of}
 use Rattle.normal_uses.proofs.Walks.{noted-operation, noted-call, noted-literal, noted-index, noted-length}
-use borrow.Author.Needs.{needs}
 use Prim.Native.Nat.{ℕ}
 use Rattle.normal_uses.proofs.note_line.Reads as note-line
 use Rattle.normal_uses.proofs.+note_if+note_line+note_map+note_tree.Lts-note_line as note-line-lts
 use Rattle.normal_uses.proofs.+note_if+note_line+note_map+note_tree.Proof.Common.{note-line-at, note-line-claims}
-
-pub note-line-enum-known-l : (t : ℕ) → note-line-lts.Need-enum-known-l (note-line-claims t) (note-line-at t)
-    note-line.Post
-note-line-enum-known-l t c = search needs
-
-pub note-line-note-plain-requires : (t : ℕ) → note-line-lts.Need-note-plain-requires (note-line-claims t)
-    (note-line-at t) note-line.Post
-note-line-note-plain-requires t c κs = search needs
-
-pub note-line-enum-known-l-2 : (t : ℕ) → note-line-lts.Need-enum-known-l-2 (note-line-claims t) (note-line-at t)
-    note-line.Post
-note-line-enum-known-l-2 t c = search needs
-
-pub note-line-note-plain-requires-2 : (t : ℕ) → note-line-lts.Need-note-plain-requires-2 (note-line-claims t)
-    (note-line-at t) note-line.Post
-note-line-note-plain-requires-2 t c κs = search needs
-
-pub note-line-enum-known-l-3 : (t : ℕ) → note-line-lts.Need-enum-known-l-3 (note-line-claims t) (note-line-at t)
-    note-line.Post
-note-line-enum-known-l-3 t c = search needs
-
-pub note-line-note-plain-requires-3 : (t : ℕ) → note-line-lts.Need-note-plain-requires-3 (note-line-claims t)
-    (note-line-at t) note-line.Post
-note-line-note-plain-requires-3 t c κs = search needs
-
-pub note-line-enum-known-l-4 : (t : ℕ) → note-line-lts.Need-enum-known-l-4 (note-line-claims t) (note-line-at t)
-    note-line.Post
-note-line-enum-known-l-4 t c = search needs
-
-pub note-line-note-plain-requires-4 : (t : ℕ) → note-line-lts.Need-note-plain-requires-4 (note-line-claims t)
-    (note-line-at t) note-line.Post
-note-line-note-plain-requires-4 t c κs = search needs
-
-pub note-line-enum-known-l-5 : (t : ℕ) → note-line-lts.Need-enum-known-l-5 (note-line-claims t) (note-line-at t)
-    note-line.Post
-note-line-enum-known-l-5 t c = search needs
-
-pub note-line-note-plain-requires-5 : (t : ℕ) → note-line-lts.Need-note-plain-requires-5 (note-line-claims t)
-    (note-line-at t) note-line.Post
-note-line-note-plain-requires-5 t c κs = search needs
-
-pub note-line-enum-known-l-6 : (t : ℕ) → note-line-lts.Need-enum-known-l-6 (note-line-claims t) (note-line-at t)
-    note-line.Post
-note-line-enum-known-l-6 t c = search needs
-
-pub note-line-note-if-requires : (t : ℕ) → note-line-lts.Need-note-if-requires (note-line-claims t) (note-line-at t)
-    note-line.Post
-note-line-note-if-requires t c κs = search needs
-
-pub note-line-enum-known-l-7 : (t : ℕ) → note-line-lts.Need-enum-known-l-7 (note-line-claims t) (note-line-at t)
-    note-line.Post
-note-line-enum-known-l-7 t c = search needs
-
-pub note-line-note-map-requires : (t : ℕ) → note-line-lts.Need-note-map-requires (note-line-claims t) (note-line-at t)
-    note-line.Post
-note-line-note-map-requires t c κs = search needs
 
 pub note-line-returns : (t : ℕ) → note-line-lts.Need-returns (note-line-claims t) (note-line-at t) note-line.Post
 note-line-returns t c =

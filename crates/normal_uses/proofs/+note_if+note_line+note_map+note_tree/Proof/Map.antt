@@ -2,15 +2,10 @@
 use native.Mathlib.Omega.{arith}
 use Rattle.normal_code.specs.Plain.{plain, tree-to, set-of}
 use Rattle.normal_uses.proofs.Walks.{noted-map}
-use borrow.Author.Needs.{needs}
 use Prim.Native.Nat.{ℕ}
 use Rattle.normal_uses.proofs.note_map.Reads as note-map
 use Rattle.normal_uses.proofs.+note_if+note_line+note_map+note_tree.Lts-note_map as note-map-lts
 use Rattle.normal_uses.proofs.+note_if+note_line+note_map+note_tree.Proof.Common.{note-map-at, note-map-claims}
-
-pub note-map-less-two-requires : (t : ℕ) → note-map-lts.Need-less-two-requires (note-map-claims t) (note-map-at t)
-    note-map.Post
-note-map-less-two-requires t c κs = search needs
 
 pub note-map-note-tree-requires : (t : ℕ) → note-map-lts.Need-note-tree-requires (note-map-claims t) (note-map-at t)
     note-map.Post
@@ -23,30 +18,9 @@ note-map-note-tree-requires t c κs = (
   ),
 )
 
-pub note-map-mul-store : (t : ℕ) → note-map-lts.Need-mul-store (note-map-claims t) (note-map-at t) note-map.Post
-note-map-mul-store t c = search needs
-
 pub note-map-store-requires : (t : ℕ) →
     note-map-lts.Need-store-requires (note-map-claims t) (note-map-at t) note-map.Post
 note-map-store-requires t c κs = (omega arith, c .before .before .note-tree .ensures .1)
-
-pub note-map-without-requires : (t : ℕ) → note-map-lts.Need-without-requires (note-map-claims t) (note-map-at t)
-    note-map.Post
-note-map-without-requires t c κs = search needs
-
-pub note-map-without-requires-2 : (t : ℕ) → note-map-lts.Need-without-requires-2 (note-map-claims t) (note-map-at t)
-    note-map.Post
-note-map-without-requires-2 t c κs = search needs
-
-pub note-map-joined-requires : (t : ℕ) → note-map-lts.Need-joined-requires (note-map-claims t) (note-map-at t)
-    note-map.Post
-note-map-joined-requires t c κs = search needs
-
-pub note-map-add-requires : (t : ℕ) → note-map-lts.Need-add-requires (note-map-claims t) (note-map-at t) note-map.Post
-note-map-add-requires t c κs = search needs
-
-pub note-map-with-requires : (t : ℕ) → note-map-lts.Need-with-requires (note-map-claims t) (note-map-at t) note-map.Post
-note-map-with-requires t c κs = search needs
 
 pub note-map-returns : (t : ℕ) → note-map-lts.Need-returns (note-map-claims t) (note-map-at t) note-map.Post
 note-map-returns t c =

@@ -4,7 +4,6 @@ use native.Mathlib.Omega.{arith}
 use lib.ListN.{length}
 use Rattle.normal_code.specs.Plain.{plain}
 use Rattle.normal_uses.proofs.Walks.{Walking, begun, noted-none, walk-begins, walk-goes, walk-stops, walk-ends}
-use borrow.Author.Needs.{needs}
 use Prim.Native.Nat.{ℕ}
 use Rattle.normal_uses.proofs.note_tree.Reads as note-tree
 use Rattle.normal_uses.proofs.+note_if+note_line+note_map+note_tree.Lts-note_tree as note-tree-lts
@@ -17,26 +16,6 @@ note-tree-Inv-loop operands rows notes table₀ e levels place binds₀ uses₀ 
 abbrev pub note-tree-μ-loop : note-tree-lts.MeasureT-loop
 note-tree-μ-loop operands rows notes table₀ e levels place binds₀ uses₀ q₀ left₀ table binds uses q left =
     left
-
-pub note-tree-add-row-at : (t : ℕ) → note-tree-lts.Need-add-row-at (note-tree-claims t) (note-tree-at t) note-tree.Post
-    note-tree-Inv-loop note-tree-μ-loop
-note-tree-add-row-at t c = search needs
-
-pub note-tree-row-at-requires : (t : ℕ) → note-tree-lts.Need-row-at-requires (note-tree-claims t) (note-tree-at t)
-    note-tree.Post note-tree-Inv-loop note-tree-μ-loop
-note-tree-row-at-requires t c κs = search needs
-
-pub note-tree-atom-of-requires : (t : ℕ) → note-tree-lts.Need-atom-of-requires (note-tree-claims t) (note-tree-at t)
-    note-tree.Post note-tree-Inv-loop note-tree-μ-loop
-note-tree-atom-of-requires t c κs = search needs
-
-pub note-tree-none-requires : (t : ℕ) → note-tree-lts.Need-none-requires (note-tree-claims t) (note-tree-at t)
-    note-tree.Post note-tree-Inv-loop note-tree-μ-loop
-note-tree-none-requires t c κs = search needs
-
-pub note-tree-add-requires : (t : ℕ) → note-tree-lts.Need-add-requires (note-tree-claims t) (note-tree-at t)
-    note-tree.Post note-tree-Inv-loop note-tree-μ-loop
-note-tree-add-requires t c κs = search needs
 
 pub note-tree-returns : (t : ℕ) → note-tree-lts.Need-returns (note-tree-claims t) (note-tree-at t) note-tree.Post
     note-tree-Inv-loop note-tree-μ-loop
@@ -68,10 +47,6 @@ note-tree-loop-holds t c =
       asked .1 .1,
     )
 
-pub note-tree-note-at-requires : (t : ℕ) → note-tree-lts.Need-note-at-requires (note-tree-claims t) (note-tree-at t)
-    note-tree.Post note-tree-Inv-loop note-tree-μ-loop
-note-tree-note-at-requires t c κs = search needs
-
 pub note-tree-returns-2 : (t : ℕ) → note-tree-lts.Need-returns-2 (note-tree-claims t) (note-tree-at t) note-tree.Post
     note-tree-Inv-loop note-tree-μ-loop
 note-tree-returns-2 t c = (
@@ -79,14 +54,6 @@ note-tree-returns-2 t c = (
       (c .before .note-at .ensures) (c .if2 .taken),
   c .before .before .before .loop .inv .1,
 )
-
-pub note-tree-line-at-requires : (t : ℕ) → note-tree-lts.Need-line-at-requires (note-tree-claims t) (note-tree-at t)
-    note-tree.Post note-tree-Inv-loop note-tree-μ-loop
-note-tree-line-at-requires t c κs = search needs
-
-pub note-tree-sub-note-line : (t : ℕ) → note-tree-lts.Need-sub-note-line (note-tree-claims t) (note-tree-at t)
-    note-tree.Post note-tree-Inv-loop note-tree-μ-loop
-note-tree-sub-note-line t c = search needs
 
 pub note-tree-note-line-requires : (t : ℕ) → note-tree-lts.Need-note-line-requires (note-tree-claims t) (note-tree-at t)
     note-tree.Post note-tree-Inv-loop note-tree-μ-loop
@@ -98,14 +65,6 @@ note-tree-note-line-requires t c κs = (
         .before .loop .inv .1,
   ),
 )
-
-pub note-tree-sub-left : (t : ℕ) → note-tree-lts.Need-sub-left (note-tree-claims t) (note-tree-at t) note-tree.Post
-    note-tree-Inv-loop note-tree-μ-loop
-note-tree-sub-left t c = search needs
-
-pub note-tree-loop-less : (t : ℕ) → note-tree-lts.Need-loop-less (note-tree-claims t) (note-tree-at t) note-tree.Post
-    note-tree-Inv-loop note-tree-μ-loop
-note-tree-loop-less t c = search needs
 
 pub note-tree-loop-again : (t : ℕ) → note-tree-lts.Need-loop-again (note-tree-claims t) (note-tree-at t) note-tree.Post
     note-tree-Inv-loop note-tree-μ-loop

@@ -6,27 +6,11 @@ use Rattle.normal_uses.specs.Table.{sets-of}
 use Rattle.normal_write.specs.Parts.{depth-in}
 use Rattle.normal_write.proofs.Rows.{lower}
 use Rattle.normal_walk.proofs.Lines.{if-done}
-use borrow.Author.Needs.{needs}
 use Prim.Native.Nat.{ℕ}
 use Rattle.normal_walk.proofs.walk_if.Reads as walk-if
 use Rattle.normal_walk.proofs.+walk_branch+walk_if+walk_line+walk_map+walk_tree.Lts-walk_if as walk-if-lts
 use Rattle.normal_walk.proofs.+walk_branch+walk_if+walk_line+walk_map+walk_tree.Proof.Common.{walk-if-at}
 use Rattle.normal_walk.proofs.+walk_branch+walk_if+walk_line+walk_map+walk_tree.Proof.Common.{walk-if-claims}
-
-pub walk-if-less-two-requires : (t : ℕ) → walk-if-lts.Need-less-two-requires (walk-if-claims t) (walk-if-at t)
-    walk-if.Post
-walk-if-less-two-requires t c κs = search needs
-
-pub walk-if-first-row-requires : (t : ℕ) → walk-if-lts.Need-first-row-requires (walk-if-claims t) (walk-if-at t)
-    walk-if.Post
-walk-if-first-row-requires t c κs = search needs
-
-pub walk-if-less-two-requires-2 : (t : ℕ) → walk-if-lts.Need-less-two-requires-2 (walk-if-claims t) (walk-if-at t)
-    walk-if.Post
-walk-if-less-two-requires-2 t c κs = search needs
-
-pub walk-if-mul-load : (t : ℕ) → walk-if-lts.Need-mul-load (walk-if-claims t) (walk-if-at t) walk-if.Post
-walk-if-mul-load t c = search needs
 
 pub walk-if-load-requires : (t : ℕ) → walk-if-lts.Need-load-requires (walk-if-claims t) (walk-if-at t) walk-if.Post
 walk-if-load-requires t c κs = (
@@ -35,26 +19,12 @@ walk-if-load-requires t c κs = (
       .1 .1 .1,
 )
 
-pub walk-if-mul-load-2 : (t : ℕ) → walk-if-lts.Need-mul-load-2 (walk-if-claims t) (walk-if-at t) walk-if.Post
-walk-if-mul-load-2 t c = search needs
-
-pub walk-if-add-load : (t : ℕ) → walk-if-lts.Need-add-load (walk-if-claims t) (walk-if-at t) walk-if.Post
-walk-if-add-load t c = search needs
-
 pub walk-if-load-requires-2 : (t : ℕ) → walk-if-lts.Need-load-requires-2 (walk-if-claims t) (walk-if-at t) walk-if.Post
 walk-if-load-requires-2 t c κs = (
   omega arith,
   c .before .before .before .before .before .before .before .before
       .before .pre .1 .1 .1,
 )
-
-pub walk-if-without-requires : (t : ℕ) →
-    walk-if-lts.Need-without-requires (walk-if-claims t) (walk-if-at t) walk-if.Post
-walk-if-without-requires t c κs = search needs
-
-pub walk-if-put-release-requires : (t : ℕ) → walk-if-lts.Need-put-release-requires (walk-if-claims t) (walk-if-at t)
-    walk-if.Post
-walk-if-put-release-requires t c κs = search needs
 
 pub walk-if-walk-branch-requires : (t : ℕ) → walk-if-lts.Need-walk-branch-requires (walk-if-claims t) (walk-if-at t)
     walk-if.Post
@@ -108,12 +78,6 @@ walk-if-put-row-requires t c κs = lower (c .before .before .put-atom .ensures) 
     .before .before .before .before .before .before .before .before .put-release .ensures) (c .before .before
     .before .before .before .before .before .before .before .before .before .before .before .before .before .before
     .before .before .before .before .before .before .before .before .before .before .before .pre .1 .1 .0))))
-
-pub walk-if-joined-requires : (t : ℕ) → walk-if-lts.Need-joined-requires (walk-if-claims t) (walk-if-at t) walk-if.Post
-walk-if-joined-requires t c κs = search needs
-
-pub walk-if-add-requires : (t : ℕ) → walk-if-lts.Need-add-requires (walk-if-claims t) (walk-if-at t) walk-if.Post
-walk-if-add-requires t c κs = search needs
 
 pub walk-if-returns : (t : ℕ) → walk-if-lts.Need-returns (walk-if-claims t) (walk-if-at t) walk-if.Post
 walk-if-returns t c =

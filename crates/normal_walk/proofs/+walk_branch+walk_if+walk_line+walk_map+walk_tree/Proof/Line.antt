@@ -4,127 +4,17 @@ use Rattle.normal_code.specs.Plain.{plain, tree-to, set-of, as-line}
 use Rattle.normal_uses.specs.Table.{sets-of}
 use Rattle.normal_write.specs.Parts.{depth-in}
 use Rattle.normal_walk.proofs.Lines.{operation-done, call-done, literal-done, index-done, length-done}
-use borrow.Author.Needs.{needs}
 use Prim.Native.Nat.{ℕ}
 use Rattle.normal_walk.proofs.walk_line.Reads as walk-line
 use Rattle.normal_walk.proofs.+walk_branch+walk_if+walk_line+walk_map+walk_tree.Lts-walk_line as walk-line-lts
 use Rattle.normal_walk.proofs.+walk_branch+walk_if+walk_line+walk_map+walk_tree.Proof.Common.{walk-line-at}
 use Rattle.normal_walk.proofs.+walk_branch+walk_if+walk_line+walk_map+walk_tree.Proof.Common.{walk-line-claims}
 
-pub walk-line-enum-known-l : (t : ℕ) → walk-line-lts.Need-enum-known-l (walk-line-claims t) (walk-line-at t)
-    walk-line.Post
-walk-line-enum-known-l t c = search needs
-
-pub walk-line-put-operation-requires : (t : ℕ) → walk-line-lts.Need-put-operation-requires (walk-line-claims t)
-    (walk-line-at t) walk-line.Post
-walk-line-put-operation-requires t c κs = search needs
-
-pub walk-line-before-line-requires : (t : ℕ) → walk-line-lts.Need-before-line-requires (walk-line-claims t)
-    (walk-line-at t) walk-line.Post
-walk-line-before-line-requires t c κs = search needs
-
-pub walk-line-enum-known-l-2 : (t : ℕ) → walk-line-lts.Need-enum-known-l-2 (walk-line-claims t) (walk-line-at t)
-    walk-line.Post
-walk-line-enum-known-l-2 t c = search needs
-
-pub walk-line-cast-n : (t : ℕ) → walk-line-lts.Need-cast-n (walk-line-claims t) (walk-line-at t) walk-line.Post
-walk-line-cast-n t c = search needs
-
-pub walk-line-cast-n-2 : (t : ℕ) → walk-line-lts.Need-cast-n-2 (walk-line-claims t) (walk-line-at t) walk-line.Post
-walk-line-cast-n-2 t c = search needs
-
-pub walk-line-mul-n : (t : ℕ) → walk-line-lts.Need-mul-n (walk-line-claims t) (walk-line-at t) walk-line.Post
-walk-line-mul-n t c = search needs
-
-pub walk-line-add-n : (t : ℕ) → walk-line-lts.Need-add-n (walk-line-claims t) (walk-line-at t) walk-line.Post
-walk-line-add-n t c = search needs
-
-pub walk-line-add-put-handing : (t : ℕ) → walk-line-lts.Need-add-put-handing (walk-line-claims t) (walk-line-at t)
-    walk-line.Post
-walk-line-add-put-handing t c = search needs
-
-pub walk-line-put-handing-requires : (t : ℕ) → walk-line-lts.Need-put-handing-requires (walk-line-claims t)
-    (walk-line-at t) walk-line.Post
-walk-line-put-handing-requires t c κs = search needs
-
-pub walk-line-before-line-requires-2 : (t : ℕ) → walk-line-lts.Need-before-line-requires-2 (walk-line-claims t)
-    (walk-line-at t) walk-line.Post
-walk-line-before-line-requires-2 t c κs = search needs
-
-pub walk-line-enum-known-l-3 : (t : ℕ) → walk-line-lts.Need-enum-known-l-3 (walk-line-claims t) (walk-line-at t)
-    walk-line.Post
-walk-line-enum-known-l-3 t c = search needs
-
-pub walk-line-cast-n-3 : (t : ℕ) → walk-line-lts.Need-cast-n-3 (walk-line-claims t) (walk-line-at t) walk-line.Post
-walk-line-cast-n-3 t c = search needs
-
-pub walk-line-cast-n-4 : (t : ℕ) → walk-line-lts.Need-cast-n-4 (walk-line-claims t) (walk-line-at t) walk-line.Post
-walk-line-cast-n-4 t c = search needs
-
-pub walk-line-mul-n-2 : (t : ℕ) → walk-line-lts.Need-mul-n-2 (walk-line-claims t) (walk-line-at t) walk-line.Post
-walk-line-mul-n-2 t c = search needs
-
-pub walk-line-add-n-2 : (t : ℕ) → walk-line-lts.Need-add-n-2 (walk-line-claims t) (walk-line-at t) walk-line.Post
-walk-line-add-n-2 t c = search needs
-
-pub walk-line-cast-n-5 : (t : ℕ) → walk-line-lts.Need-cast-n-5 (walk-line-claims t) (walk-line-at t) walk-line.Post
-walk-line-cast-n-5 t c = search needs
-
-pub walk-line-mul-n-3 : (t : ℕ) → walk-line-lts.Need-mul-n-3 (walk-line-claims t) (walk-line-at t) walk-line.Post
-walk-line-mul-n-3 t c = search needs
-
-pub walk-line-add-n-3 : (t : ℕ) → walk-line-lts.Need-add-n-3 (walk-line-claims t) (walk-line-at t) walk-line.Post
-walk-line-add-n-3 t c = search needs
-
-pub walk-line-add-put-handing-2 : (t : ℕ) → walk-line-lts.Need-add-put-handing-2 (walk-line-claims t) (walk-line-at t)
-    walk-line.Post
-walk-line-add-put-handing-2 t c = search needs
-
-pub walk-line-put-handing-requires-2 : (t : ℕ) → walk-line-lts.Need-put-handing-requires-2 (walk-line-claims t)
-    (walk-line-at t) walk-line.Post
-walk-line-put-handing-requires-2 t c κs = search needs
-
-pub walk-line-before-line-requires-3 : (t : ℕ) → walk-line-lts.Need-before-line-requires-3 (walk-line-claims t)
-    (walk-line-at t) walk-line.Post
-walk-line-before-line-requires-3 t c κs = search needs
-
-pub walk-line-enum-known-l-4 : (t : ℕ) → walk-line-lts.Need-enum-known-l-4 (walk-line-claims t) (walk-line-at t)
-    walk-line.Post
-walk-line-enum-known-l-4 t c = search needs
-
-pub walk-line-put-index-requires : (t : ℕ) → walk-line-lts.Need-put-index-requires (walk-line-claims t) (walk-line-at t)
-    walk-line.Post
-walk-line-put-index-requires t c κs = search needs
-
-pub walk-line-before-line-requires-4 : (t : ℕ) → walk-line-lts.Need-before-line-requires-4 (walk-line-claims t)
-    (walk-line-at t) walk-line.Post
-walk-line-before-line-requires-4 t c κs = search needs
-
-pub walk-line-enum-known-l-5 : (t : ℕ) → walk-line-lts.Need-enum-known-l-5 (walk-line-claims t) (walk-line-at t)
-    walk-line.Post
-walk-line-enum-known-l-5 t c = search needs
-
-pub walk-line-put-length-requires : (t : ℕ) → walk-line-lts.Need-put-length-requires (walk-line-claims t)
-    (walk-line-at t) walk-line.Post
-walk-line-put-length-requires t c κs = search needs
-
-pub walk-line-before-line-requires-5 : (t : ℕ) → walk-line-lts.Need-before-line-requires-5 (walk-line-claims t)
-    (walk-line-at t) walk-line.Post
-walk-line-before-line-requires-5 t c κs = search needs
-
-pub walk-line-enum-known-l-6 : (t : ℕ) → walk-line-lts.Need-enum-known-l-6 (walk-line-claims t) (walk-line-at t)
-    walk-line.Post
-walk-line-enum-known-l-6 t c = search needs
-
 pub walk-line-walk-if-requires : (t : ℕ) → walk-line-lts.Need-walk-if-requires (walk-line-claims t) (walk-line-at t)
     walk-line.Post
 walk-line-walk-if-requires t c κs =
     let asked = c .before .before .before .before .before .before .before .before .before .before .pre in
     (omega arith, (asked .1 .0 .1, asked .1 .1))
-
-pub walk-line-enum-known-l-7 : (t : ℕ) → walk-line-lts.Need-enum-known-l-7 (walk-line-claims t) (walk-line-at t)
-    walk-line.Post
-walk-line-enum-known-l-7 t c = search needs
 
 pub walk-line-walk-map-requires : (t : ℕ) → walk-line-lts.Need-walk-map-requires (walk-line-claims t) (walk-line-at t)
     walk-line.Post

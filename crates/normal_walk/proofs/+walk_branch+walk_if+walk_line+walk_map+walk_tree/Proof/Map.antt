@@ -5,51 +5,14 @@ use Rattle.normal_uses.specs.Table.{sets-of}
 use Rattle.normal_write.specs.Parts.{depth-in}
 use Rattle.normal_write.proofs.Rows.{lower}
 use Rattle.normal_walk.proofs.Lines.{map-done}
-use borrow.Author.Needs.{needs}
 use Prim.Native.Nat.{ℕ}
 use Rattle.normal_walk.proofs.walk_map.Reads as walk-map
 use Rattle.normal_walk.proofs.+walk_branch+walk_if+walk_line+walk_map+walk_tree.Lts-walk_map as walk-map-lts
 use Rattle.normal_walk.proofs.+walk_branch+walk_if+walk_line+walk_map+walk_tree.Proof.Common.{walk-map-at}
 use Rattle.normal_walk.proofs.+walk_branch+walk_if+walk_line+walk_map+walk_tree.Proof.Common.{walk-map-claims}
 
-pub walk-map-less-two-requires : (t : ℕ) → walk-map-lts.Need-less-two-requires (walk-map-claims t) (walk-map-at t)
-    walk-map.Post
-walk-map-less-two-requires t c κs = search needs
-
-pub walk-map-mul-load : (t : ℕ) → walk-map-lts.Need-mul-load (walk-map-claims t) (walk-map-at t) walk-map.Post
-walk-map-mul-load t c = search needs
-
 pub walk-map-load-requires : (t : ℕ) → walk-map-lts.Need-load-requires (walk-map-claims t) (walk-map-at t) walk-map.Post
 walk-map-load-requires t c κs = (omega arith, c .before .before .before .before .before .before .pre .1 .1 .1)
-
-pub walk-map-without-requires : (t : ℕ) → walk-map-lts.Need-without-requires (walk-map-claims t) (walk-map-at t)
-    walk-map.Post
-walk-map-without-requires t c κs = search needs
-
-pub walk-map-without-requires-2 : (t : ℕ) → walk-map-lts.Need-without-requires-2 (walk-map-claims t) (walk-map-at t)
-    walk-map.Post
-walk-map-without-requires-2 t c κs = search needs
-
-pub walk-map-joined-requires : (t : ℕ) → walk-map-lts.Need-joined-requires (walk-map-claims t) (walk-map-at t)
-    walk-map.Post
-walk-map-joined-requires t c κs = search needs
-
-pub walk-map-none-requires : (t : ℕ) → walk-map-lts.Need-none-requires (walk-map-claims t) (walk-map-at t) walk-map.Post
-walk-map-none-requires t c κs = search needs
-
-pub walk-map-with-requires : (t : ℕ) → walk-map-lts.Need-with-requires (walk-map-claims t) (walk-map-at t) walk-map.Post
-walk-map-with-requires t c κs = search needs
-
-pub walk-map-joined-requires-2 : (t : ℕ) → walk-map-lts.Need-joined-requires-2 (walk-map-claims t) (walk-map-at t)
-    walk-map.Post
-walk-map-joined-requires-2 t c κs = search needs
-
-pub walk-map-add-requires : (t : ℕ) → walk-map-lts.Need-add-requires (walk-map-claims t) (walk-map-at t) walk-map.Post
-walk-map-add-requires t c κs = search needs
-
-pub walk-map-put-releases-requires : (t : ℕ) → walk-map-lts.Need-put-releases-requires (walk-map-claims t)
-    (walk-map-at t) walk-map.Post
-walk-map-put-releases-requires t c κs = search needs
 
 pub walk-map-walk-tree-requires : (t : ℕ) → walk-map-lts.Need-walk-tree-requires (walk-map-claims t) (walk-map-at t)
     walk-map.Post
@@ -123,10 +86,6 @@ walk-map-put-row-requires t c κs = lower (c .before .before .put-atom .ensures)
     .before .before .before .before .before .before .before .before .before .before .before .before .before .before
     .before .before .before .before .before .before .before .before .before .before .before .before .before .before
     .before .before .pre .1 .1 .0)))))
-
-pub walk-map-add-requires-2 : (t : ℕ) →
-    walk-map-lts.Need-add-requires-2 (walk-map-claims t) (walk-map-at t) walk-map.Post
-walk-map-add-requires-2 t c κs = search needs
 
 pub walk-map-returns : (t : ℕ) → walk-map-lts.Need-returns (walk-map-claims t) (walk-map-at t) walk-map.Post
 walk-map-returns t c =

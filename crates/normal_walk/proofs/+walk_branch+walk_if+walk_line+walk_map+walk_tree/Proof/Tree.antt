@@ -6,7 +6,6 @@ use Rattle.normal_write.specs.Parts.{depth-in}
 use Rattle.normal_write.proofs.Rows.{lower}
 use Rattle.normal_walk.proofs.Trees.{Annotating, end-done, none-done, walk-begins, walk-goes, walk-stops}
 use Rattle.normal_walk.proofs.Trees.{walk-ends}
-use borrow.Author.Needs.{needs}
 use Prim.Native.Nat.{ℕ}
 use Rattle.normal_walk.proofs.walk_tree.Reads as walk-tree
 use Rattle.normal_walk.proofs.+walk_branch+walk_if+walk_line+walk_map+walk_tree.Lts-walk_tree as walk-tree-lts
@@ -19,26 +18,6 @@ walk-tree-Inv-loop ks₀ os₀ operands rows notes table depths e levels w place
 
 abbrev pub walk-tree-μ-loop : walk-tree-lts.MeasureT-loop
 walk-tree-μ-loop ks₀ os₀ operands rows notes table depths e levels w place v₀ s₀ q₀ left₀ ks os v s q left = left
-
-pub walk-tree-add-row-at : (t : ℕ) → walk-tree-lts.Need-add-row-at (walk-tree-claims t) (walk-tree-at t) walk-tree.Post
-    walk-tree-Inv-loop walk-tree-μ-loop
-walk-tree-add-row-at t c = search needs
-
-pub walk-tree-row-at-requires : (t : ℕ) → walk-tree-lts.Need-row-at-requires (walk-tree-claims t) (walk-tree-at t)
-    walk-tree.Post walk-tree-Inv-loop walk-tree-μ-loop
-walk-tree-row-at-requires t c κs = search needs
-
-pub walk-tree-atom-of-requires : (t : ℕ) → walk-tree-lts.Need-atom-of-requires (walk-tree-claims t) (walk-tree-at t)
-    walk-tree.Post walk-tree-Inv-loop walk-tree-μ-loop
-walk-tree-atom-of-requires t c κs = search needs
-
-pub walk-tree-put-end-requires : (t : ℕ) → walk-tree-lts.Need-put-end-requires (walk-tree-claims t) (walk-tree-at t)
-    walk-tree.Post walk-tree-Inv-loop walk-tree-μ-loop
-walk-tree-put-end-requires t c κs = search needs
-
-pub walk-tree-add-requires : (t : ℕ) → walk-tree-lts.Need-add-requires (walk-tree-claims t) (walk-tree-at t)
-    walk-tree.Post walk-tree-Inv-loop walk-tree-μ-loop
-walk-tree-add-requires t c κs = search needs
 
 pub walk-tree-returns : (t : ℕ) → walk-tree-lts.Need-returns (walk-tree-claims t) (walk-tree-at t) walk-tree.Post
     walk-tree-Inv-loop walk-tree-μ-loop
@@ -59,10 +38,6 @@ walk-tree-loop-holds t c = walk-begins (c .if1 .left) (omega arith) (lower (c .b
     (c .before .before .before .before .before .before .before .before .before .before .before .before .pre .1 .1
     .0))
 
-pub walk-tree-note-at-requires : (t : ℕ) → walk-tree-lts.Need-note-at-requires (walk-tree-claims t) (walk-tree-at t)
-    walk-tree.Post walk-tree-Inv-loop walk-tree-μ-loop
-walk-tree-note-at-requires t c κs = search needs
-
 pub walk-tree-returns-2 : (t : ℕ) → walk-tree-lts.Need-returns-2 (walk-tree-claims t) (walk-tree-at t) walk-tree.Post
     walk-tree-Inv-loop walk-tree-μ-loop
 walk-tree-returns-2 t c =
@@ -80,14 +55,6 @@ walk-tree-returns-2 t c =
     (c .before .before .before .before .before .add .ensures)
     (c .before .before .before .before .before .before .put-end .ensures))
 
-pub walk-tree-line-at-requires : (t : ℕ) → walk-tree-lts.Need-line-at-requires (walk-tree-claims t) (walk-tree-at t)
-    walk-tree.Post walk-tree-Inv-loop walk-tree-μ-loop
-walk-tree-line-at-requires t c κs = search needs
-
-pub walk-tree-sub-walk-line : (t : ℕ) → walk-tree-lts.Need-sub-walk-line (walk-tree-claims t) (walk-tree-at t)
-    walk-tree.Post walk-tree-Inv-loop walk-tree-μ-loop
-walk-tree-sub-walk-line t c = search needs
-
 pub walk-tree-walk-line-requires : (t : ℕ) → walk-tree-lts.Need-walk-line-requires (walk-tree-claims t) (walk-tree-at t)
     walk-tree.Post walk-tree-Inv-loop walk-tree-μ-loop
 walk-tree-walk-line-requires t c κs = (
@@ -102,14 +69,6 @@ walk-tree-walk-line-requires t c κs = (
     ),
   ),
 )
-
-pub walk-tree-sub-left : (t : ℕ) → walk-tree-lts.Need-sub-left (walk-tree-claims t) (walk-tree-at t) walk-tree.Post
-    walk-tree-Inv-loop walk-tree-μ-loop
-walk-tree-sub-left t c = search needs
-
-pub walk-tree-loop-less : (t : ℕ) → walk-tree-lts.Need-loop-less (walk-tree-claims t) (walk-tree-at t) walk-tree.Post
-    walk-tree-Inv-loop walk-tree-μ-loop
-walk-tree-loop-less t c = search needs
 
 pub walk-tree-loop-again : (t : ℕ) → walk-tree-lts.Need-loop-again (walk-tree-claims t) (walk-tree-at t) walk-tree.Post
     walk-tree-Inv-loop walk-tree-μ-loop

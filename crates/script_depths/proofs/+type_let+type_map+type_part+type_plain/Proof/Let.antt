@@ -5,28 +5,12 @@ use mathlib.Core.Path.{refl, ap, _∙_}
 use lib.ListN.{length, length-set}
 use Rattle.script_read.proofs.Tables.{put-back}
 use Rattle.script_depths.proofs.Laws.{let-bound, let-faulty}
-use borrow.Author.Needs.{needs}
 use Rattle.script_depths.proofs.type_let.Reads as type-let
 use Rattle.script_depths.proofs.+type_let+type_map+type_part+type_plain.Lts-type_let as type-let-lts
 use Rattle.script_depths.proofs.type_part.Reads as type-part
 use Rattle.script_depths.proofs.+type_let+type_map+type_part+type_plain.Proof.Common.{type-let-at}
 use Rattle.script_depths.proofs.+type_let+type_map+type_part+type_plain.Proof.Common.{type-part-below}
 use Rattle.script_depths.proofs.+type_let+type_map+type_part+type_plain.Proof.Common.{type-let-claims}
-
-pub type-let-type-part-requires : (t : ℕ) →
-    type-let-lts.Need-type-part-requires (type-let-claims t) (type-let-at t) type-let.Post
-type-let-type-part-requires t c κs = search needs
-
-pub type-let-enum-known-d : (t : ℕ) → type-let-lts.Need-enum-known-d (type-let-claims t) (type-let-at t) type-let.Post
-type-let-enum-known-d t c = search needs
-
-pub type-let-slice-read-old : (t : ℕ) →
-    type-let-lts.Need-slice-read-old (type-let-claims t) (type-let-at t) type-let.Post
-type-let-slice-read-old t c = search needs
-
-pub type-let-slice-write-table : (t : ℕ) →
-    type-let-lts.Need-slice-write-table (type-let-claims t) (type-let-at t) type-let.Post
-type-let-slice-write-table t c = search needs
 
 pub type-let-type-part-requires-2 : (t : ℕ) →
     type-let-lts.Need-type-part-requires-2 (type-let-claims t) (type-let-at t) type-let.Post
@@ -49,9 +33,6 @@ type-let-slice-write-table-2 t c =
       c .before .before .before .before .before .before .before .before .before .before .before .before .before
           .before .before .before .pre .1,
     )
-
-pub type-let-enum-known-n : (t : ℕ) → type-let-lts.Need-enum-known-n (type-let-claims t) (type-let-at t) type-let.Post
-type-let-enum-known-n t c = search needs
 
 pub type-let-same-length :
     (t : ℕ) →
@@ -80,9 +61,6 @@ type-let-returns t c = (
   put-back 0 _ _ _ _ _ (c .before .before .before .before .before .before .before .before .before .before .type-part
       .ensures .1) (c .before .before .type-part2 .ensures .1),
 )
-
-pub type-let-same-length-2 : (t : ℕ) → type-let-lts.Need-same-length-2 (type-let-claims t) (type-let-at t) type-let.Post
-type-let-same-length-2 t c = search needs
 
 pub type-let-returns-2 :
     (t : ℕ) →

@@ -5,24 +5,10 @@ use mathlib.Core.Path.{refl, ap, _∙_}
 use lib.ListN.{length, length-set}
 use Rattle.script_read.proofs.Tables.{put-back}
 use Rattle.script_depths.proofs.Laws.{map-bound, map-faulty, map-number}
-use borrow.Author.Needs.{needs}
 use Rattle.script_depths.proofs.type_map.Reads as type-map
 use Rattle.script_depths.proofs.+type_let+type_map+type_part+type_plain.Lts-type_map as type-map-lts
 use Rattle.script_depths.proofs.+type_let+type_map+type_part+type_plain.Proof.Common.{type-map-at}
 use Rattle.script_depths.proofs.+type_let+type_map+type_part+type_plain.Proof.Common.{type-map-claims}
-
-pub type-map-add-type-part : (t : ℕ) → type-map-lts.Need-add-type-part (type-map-claims t) (type-map-at t) type-map.Post
-type-map-add-type-part t c = search needs
-
-pub type-map-type-part-requires : (t : ℕ) →
-    type-map-lts.Need-type-part-requires (type-map-claims t) (type-map-at t) type-map.Post
-type-map-type-part-requires t c κs = search needs
-
-pub type-map-enum-known-d : (t : ℕ) → type-map-lts.Need-enum-known-d (type-map-claims t) (type-map-at t) type-map.Post
-type-map-enum-known-d t c = search needs
-
-pub type-map-same-length : (t : ℕ) → type-map-lts.Need-same-length (type-map-claims t) (type-map-at t) type-map.Post
-type-map-same-length t c = search needs
 
 pub type-map-returns : (t : ℕ) → type-map-lts.Need-returns (type-map-claims t) (type-map-at t) type-map.Post
 type-map-returns t c = (
@@ -33,17 +19,6 @@ type-map-returns t c = (
       (c .if1 .taken),
   c .before .before .before .before .before .before .type-part .ensures .1,
 )
-
-pub type-map-slice-read-old : (t : ℕ) →
-    type-map-lts.Need-slice-read-old (type-map-claims t) (type-map-at t) type-map.Post
-type-map-slice-read-old t c = search needs
-
-pub type-map-sub-table : (t : ℕ) → type-map-lts.Need-sub-table (type-map-claims t) (type-map-at t) type-map.Post
-type-map-sub-table t c = search needs
-
-pub type-map-slice-write-table : (t : ℕ) →
-    type-map-lts.Need-slice-write-table (type-map-claims t) (type-map-at t) type-map.Post
-type-map-slice-write-table t c = search needs
 
 pub type-map-type-part-requires-2 : (t : ℕ) →
     type-map-lts.Need-type-part-requires-2 (type-map-claims t) (type-map-at t) type-map.Post
@@ -68,12 +43,6 @@ type-map-slice-write-table-2 t c =
           .before .before .before .before .pre .1 .0,
     )
 
-pub type-map-wrap-requires : (t : ℕ) → type-map-lts.Need-wrap-requires (type-map-claims t) (type-map-at t) type-map.Post
-type-map-wrap-requires t c κs = search needs
-
-pub type-map-enum-known-n : (t : ℕ) → type-map-lts.Need-enum-known-n (type-map-claims t) (type-map-at t) type-map.Post
-type-map-enum-known-n t c = search needs
-
 pub type-map-same-length-2 : (t : ℕ) → type-map-lts.Need-same-length-2 (type-map-claims t) (type-map-at t) type-map.Post
 type-map-same-length-2 t c =
     simp length-set (ap length (c .before .before .before .type-part2 .ensures .1) ∙ simp length-set
@@ -97,9 +66,6 @@ type-map-returns-2 t c = (
   put-back 0 _ _ _ _ _ (c .before .before .before .before .before .before .before .before .before .before .before
       .before .type-part .ensures .1) (c .before .before .before .type-part2 .ensures .1),
 )
-
-pub type-map-same-length-3 : (t : ℕ) → type-map-lts.Need-same-length-3 (type-map-claims t) (type-map-at t) type-map.Post
-type-map-same-length-3 t c = search needs
 
 pub type-map-returns-3 : (t : ℕ) → type-map-lts.Need-returns-3 (type-map-claims t) (type-map-at t) type-map.Post
 type-map-returns-3 t c = (

@@ -8,7 +8,6 @@ use lib.ListN.{length}
 use Rattle.script_read.proofs.Nodes.{Seen, seen, inside}
 use Rattle.script_read.proofs.Tables.{table-at}
 use Rattle.script_depths.proofs.Laws.{no-levels, no-node, a-number, a-name, a-let, a-map, any-other}
-use borrow.Author.Needs.{needs}
 use Rattle.script_depths.proofs.type_part.Reads as type-part
 use Rattle.script_depths.proofs.+type_let+type_map+type_part+type_plain.Lts-type_part as type-part-lts
 use Rattle.script_depths.proofs.+type_let+type_map+type_part+type_plain.Proof.Common.{type-part-at}
@@ -37,14 +36,6 @@ module _ (t : ℕ) where
 pub type-part-returns : (t : ℕ) → type-part-lts.Need-returns (type-part-claims t) (type-part-at t) type-part.Post
 type-part-returns t c = (no-levels _ _ _ _ _ _ (c .if1 .taken), refl)
 
-pub type-part-node-at-requires : (t : ℕ) →
-    type-part-lts.Need-node-at-requires (type-part-claims t) (type-part-at t) type-part.Post
-type-part-node-at-requires t c κs = search needs
-
-pub type-part-enum-known-kind : (t : ℕ) →
-    type-part-lts.Need-enum-known-kind (type-part-claims t) (type-part-at t) type-part.Post
-type-part-enum-known-kind t c = search needs
-
 pub type-part-add-t15 : (t : ℕ) → type-part-lts.Need-add-t15 (type-part-claims t) (type-part-at t) type-part.Post
 type-part-add-t15 t c = omega (arith, there t (c .before))
 
@@ -53,13 +44,6 @@ type-part-returns-2 t c = (
   a-number (node-seen t (c .before)) _ _ _ (c .before .before .before .before .before .if1 .left) (c .if2 .taken),
   refl,
 )
-
-pub type-part-cast-t16 : (t : ℕ) → type-part-lts.Need-cast-t16 (type-part-claims t) (type-part-at t) type-part.Post
-type-part-cast-t16 t c = search needs
-
-pub type-part-slice-read-t18 : (t : ℕ) →
-    type-part-lts.Need-slice-read-t18 (type-part-claims t) (type-part-at t) type-part.Post
-type-part-slice-read-t18 t c = search needs
 
 pub type-part-add-t19 : (t : ℕ) → type-part-lts.Need-add-t19 (type-part-claims t) (type-part-at t) type-part.Post
 type-part-add-t19 t c = omega (arith, there t (c .before .before .before))
@@ -76,18 +60,6 @@ pub type-part-add-type-let : (t : ℕ) →
     type-part-lts.Need-add-type-let (type-part-claims t) (type-part-at t) type-part.Post
 type-part-add-type-let t c = omega (arith, there t (c .before .before .before .before))
 
-pub type-part-sub-type-let : (t : ℕ) →
-    type-part-lts.Need-sub-type-let (type-part-claims t) (type-part-at t) type-part.Post
-type-part-sub-type-let t c = search needs
-
-pub type-part-type-let-requires : (t : ℕ) →
-    type-part-lts.Need-type-let-requires (type-part-claims t) (type-part-at t) type-part.Post
-type-part-type-let-requires t c κs = search needs
-
-pub type-part-same-length : (t : ℕ) →
-    type-part-lts.Need-same-length (type-part-claims t) (type-part-at t) type-part.Post
-type-part-same-length t c = search needs
-
 pub type-part-returns-4 : (t : ℕ) → type-part-lts.Need-returns-4 (type-part-claims t) (type-part-at t) type-part.Post
 type-part-returns-4 t c = (
   a-let (node-seen t (c .before .before .before .before .before .before .before)) _ _ _
@@ -95,10 +67,6 @@ type-part-returns-4 t c = (
       (c .before .before .before .before .if4 .taken) _ (c .before .before .type-let .ensures .0),
   c .before .before .type-let .ensures .1,
 )
-
-pub type-part-sub-type-map : (t : ℕ) →
-    type-part-lts.Need-sub-type-map (type-part-claims t) (type-part-at t) type-part.Post
-type-part-sub-type-map t c = search needs
 
 pub type-part-type-map-requires : (t : ℕ) →
     type-part-lts.Need-type-map-requires (type-part-claims t) (type-part-at t) type-part.Post
@@ -111,10 +79,6 @@ type-part-type-map-requires t c κs = (
   ),
 )
 
-pub type-part-same-length-2 : (t : ℕ) →
-    type-part-lts.Need-same-length-2 (type-part-claims t) (type-part-at t) type-part.Post
-type-part-same-length-2 t c = search needs
-
 pub type-part-returns-5 : (t : ℕ) → type-part-lts.Need-returns-5 (type-part-claims t) (type-part-at t) type-part.Post
 type-part-returns-5 t c = (
   a-map (node-seen t (c .before .before .before .before .before .before .before .before)) _ _ _
@@ -122,10 +86,6 @@ type-part-returns-5 t c = (
       (c .before .before .before .before .if5 .taken) _ (c .before .before .type-map .ensures .0),
   c .before .before .type-map .ensures .1,
 )
-
-pub type-part-sub-type-plain : (t : ℕ) →
-    type-part-lts.Need-sub-type-plain (type-part-claims t) (type-part-at t) type-part.Post
-type-part-sub-type-plain t c = search needs
 
 pub type-part-type-plain-requires : (t : ℕ) →
     type-part-lts.Need-type-plain-requires (type-part-claims t) (type-part-at t) type-part.Post
@@ -139,17 +99,6 @@ type-part-type-plain-requires t c κs = (
     node-seen t (c .before .before .before .before .before) .highest,
   ),
 )
-
-pub type-part-enum-told : (t : ℕ) → type-part-lts.Need-enum-told (type-part-claims t) (type-part-at t) type-part.Post
-type-part-enum-told t c = search needs
-
-pub type-part-enum-told-2 : (t : ℕ) →
-    type-part-lts.Need-enum-told-2 (type-part-claims t) (type-part-at t) type-part.Post
-type-part-enum-told-2 t c = search needs
-
-pub type-part-same-length-3 : (t : ℕ) →
-    type-part-lts.Need-same-length-3 (type-part-claims t) (type-part-at t) type-part.Post
-type-part-same-length-3 t c = search needs
 
 pub type-part-returns-6 : (t : ℕ) → type-part-lts.Need-returns-6 (type-part-claims t) (type-part-at t) type-part.Post
 type-part-returns-6 t c = (

@@ -7,7 +7,6 @@ use Rattle.semantics.specs.File.{part-count}
 use Rattle.script_depths.specs.Walk.{depths, types}
 use Rattle.script_depths.proofs.Rules.{few-parts}
 use Rattle.script_depths.proofs.Laws.{Going, going-starts, going-on, part-faulty, judged-good, judged-bad}
-use borrow.Author.Needs.{needs}
 use Rattle.script_depths.proofs.type_plain.Reads as type-plain
 use Rattle.script_depths.proofs.+type_let+type_map+type_part+type_plain.Lts-type_plain as type-plain-lts
 use Rattle.script_depths.proofs.+type_let+type_map+type_part+type_plain.Proof.Common.{type-plain-at}
@@ -20,21 +19,6 @@ type-plain-Inv-loop kinds operands starts table₀ at kind low high levels ds₀
 
 abbrev pub type-plain-μ-loop : type-plain-lts.MeasureT-loop
 type-plain-μ-loop kinds operands starts table₀ at kind low high levels ds₀ n p₀ i₀ table ds p i = n - i
-
-pub type-plain-parts-of-requires : (t : ℕ) →
-    type-plain-lts.Need-parts-of-requires (type-plain-claims t) (type-plain-at t) type-plain.Post type-plain-Inv-loop
-    type-plain-μ-loop
-type-plain-parts-of-requires t c κs = search needs
-
-pub type-plain-cast-n : (t : ℕ) →
-    type-plain-lts.Need-cast-n (type-plain-claims t) (type-plain-at t) type-plain.Post type-plain-Inv-loop
-    type-plain-μ-loop
-type-plain-cast-n t c = search needs
-
-pub type-plain-add-p : (t : ℕ) →
-    type-plain-lts.Need-add-p (type-plain-claims t) (type-plain-at t) type-plain.Post type-plain-Inv-loop
-    type-plain-μ-loop
-type-plain-add-p t c = search needs
 
 pub type-plain-loop-holds : (t : ℕ) →
     type-plain-lts.Need-loop-holds (type-plain-claims t) (type-plain-at t) type-plain.Post type-plain-Inv-loop
@@ -64,21 +48,11 @@ type-plain-type-part-requires t c κs = (
       ∙ c .before .before .before .before .before .before .before .before .pre .1 .0,
 )
 
-pub type-plain-enum-known-d : (t : ℕ) →
-    type-plain-lts.Need-enum-known-d (type-plain-claims t) (type-plain-at t) type-plain.Post type-plain-Inv-loop
-    type-plain-μ-loop
-type-plain-enum-known-d t c = search needs
-
 pub type-plain-array-write-ds : (t : ℕ) →
     type-plain-lts.Need-array-write-ds (type-plain-claims t) (type-plain-at t) type-plain.Post type-plain-Inv-loop
     type-plain-μ-loop
 type-plain-array-write-ds t c =
     omega (arith, c .before .before .before .before .before .before .before .before .loop .inv .2 .few)
-
-pub type-plain-enum-known-m : (t : ℕ) →
-    type-plain-lts.Need-enum-known-m (type-plain-claims t) (type-plain-at t) type-plain.Post type-plain-Inv-loop
-    type-plain-μ-loop
-type-plain-enum-known-m t c = search needs
 
 pub type-plain-same-length : (t : ℕ) →
     type-plain-lts.Need-same-length (type-plain-claims t) (type-plain-at t) type-plain.Post type-plain-Inv-loop
@@ -100,16 +74,6 @@ type-plain-returns t c = (
       ∙ c .before .before .before .before .before .before .before .before .loop .inv .1,
 )
 
-pub type-plain-add-i : (t : ℕ) →
-    type-plain-lts.Need-add-i (type-plain-claims t) (type-plain-at t) type-plain.Post type-plain-Inv-loop
-    type-plain-μ-loop
-type-plain-add-i t c = search needs
-
-pub type-plain-loop-less : (t : ℕ) →
-    type-plain-lts.Need-loop-less (type-plain-claims t) (type-plain-at t) type-plain.Post type-plain-Inv-loop
-    type-plain-μ-loop
-type-plain-loop-less t c = search needs
-
 pub type-plain-loop-again : (t : ℕ) →
     type-plain-lts.Need-loop-again (type-plain-claims t) (type-plain-at t) type-plain.Post type-plain-Inv-loop
     type-plain-μ-loop
@@ -124,11 +88,6 @@ type-plain-loop-again t c = (
       .before .before .before .type-part .ensures .0)) _ _ (c .before .d .given .1),
 )
 
-pub type-plain-slice-aggregate-judge : (t : ℕ) →
-    type-plain-lts.Need-slice-aggregate-judge (type-plain-claims t) (type-plain-at t) type-plain.Post
-    type-plain-Inv-loop type-plain-μ-loop
-type-plain-slice-aggregate-judge t c = search needs
-
 pub type-plain-judge-requires : (t : ℕ) →
     type-plain-lts.Need-judge-requires (type-plain-claims t) (type-plain-at t) type-plain.Post type-plain-Inv-loop
     type-plain-μ-loop
@@ -137,16 +96,6 @@ type-plain-judge-requires t c κs = (
   c .before .before .before .before .before .before .before .before .pre .1 .2,
   c .before .before .before .before .before .before .before .before .pre .1 .3,
 )
-
-pub type-plain-enum-known-d-2 : (t : ℕ) →
-    type-plain-lts.Need-enum-known-d-2 (type-plain-claims t) (type-plain-at t) type-plain.Post type-plain-Inv-loop
-    type-plain-μ-loop
-type-plain-enum-known-d-2 t c = search needs
-
-pub type-plain-enum-told : (t : ℕ) →
-    type-plain-lts.Need-enum-told (type-plain-claims t) (type-plain-at t) type-plain.Post type-plain-Inv-loop
-    type-plain-μ-loop
-type-plain-enum-told t c = search needs
 
 pub type-plain-same-length-2 : (t : ℕ) →
     type-plain-lts.Need-same-length-2 (type-plain-claims t) (type-plain-at t) type-plain.Post type-plain-Inv-loop

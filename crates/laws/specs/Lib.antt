@@ -1,0 +1,5 @@
+pub mod Cells
+pub mod Counts
+pub mod Lists
+pub mod Releases
+pub mod Tests

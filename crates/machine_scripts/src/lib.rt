@@ -1,1 +1,0 @@
-// Laws only: the code of an accepted script is what the machine over positions asks for.

@@ -1,0 +1,24 @@
+-- The annotation keeps the discipline.
+pub mod Typed
+pub mod Rules
+pub mod Checking
+pub mod Tables
+pub mod Fitted
+pub mod Sets
+pub mod Formed
+pub mod NormalFormed
+pub mod Members
+pub mod Unchanged
+pub mod Held
+pub mod Moves
+pub mod Counts
+pub mod Lines
+pub mod Trees
+pub mod Annotated
+pub mod Scopes
+pub mod Parameters
+pub mod Calling
+pub mod Reader
+pub mod Functions
+pub mod Accepting
+pub mod Programs

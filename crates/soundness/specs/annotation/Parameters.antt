@@ -1,0 +1,117 @@
+-- The parameters of a function: the depths of their names, written and new, and what they hold.
+use Prim.Native.Nat.{ℕ, zero, suc, _+_, _<_, min}
+use native.Mathlib.Omega.{arith}
+use native.Mathlib.Decide.{ℕ-discrete}
+use mathlib.Core.Path.{_≡_, refl, sym, ap, _∙_}
+use mathlib.Core.Logic.{_≢_, inl, inr}
+use mathlib.Core.Bool.{true, false, false≢true}
+use mathlib.Core.List.{List, [], _∷_, map}
+use mathlib.Core.Option.{some}
+use lib.ListN.{getD}
+use Rattle.semantics.specs.Basics.{updated, occurrences}
+use Rattle.semantics.specs.Syntax.{Parameter}
+use Rattle.semantics.specs.Names.{Scope}
+use Rattle.semantics.specs.Types.{Signature, Depths, parameter-depths}
+use Rattle.semantics.specs.Code.{Atom, number, name}
+use Rattle.semantics.specs.Normal.{parameter-names}
+use Rattle.semantics.specs.Annotate.{NameDepths, atom-depth, parameter-depths-from}
+use Rattle.laws.specs.Lists.{hits}
+use Rattle.soundness.specs.machine.Discipline.{parameter-holds}
+use Rattle.soundness.specs.normal.Agree.{updated-same, updated-other}
+use Rattle.soundness.specs.normal.Parameters.{From, parameters-from}
+use Rattle.soundness.specs.annotation.Checking.{Known, known-updated}
+
+-- ---- the parameters' depths
+
+-- the depths of the written names, the parameters' from last to first
+abbrev pub written : List Parameter → (ℕ → ℕ) → ℕ → ℕ
+written [] δ = δ
+written (x ∷ xs) δ = written xs (updated δ (x .id) (x .depth))
+
+-- no parameter has a name that is known
+abbrev pub Distinct : List Parameter → Scope → Type 0
+Distinct [] known = Unit {0}
+Distinct (x ∷ xs) known = (known (x .id) ≡ false) × Distinct xs (updated known (x .id) true)
+
+pub written-known : (signatures : ℕ → Signature) (xs : List Parameter) (Δ : Depths) (δ : ℕ → ℕ) → Known Δ δ →
+    Known (parameter-depths signatures xs Δ) (written xs δ)
+written-known signatures [] Δ δ k = k
+written-known signatures (x ∷ xs) Δ δ k =
+    written-known signatures xs (updated Δ (x .id) (some (x .depth))) (updated δ (x .id) (x .depth))
+    (known-updated Δ δ (x .id) (some (x .depth)) (x .depth) k refl)
+
+-- a known name keeps its depth
+written-kept : (xs : List Parameter) (known : Scope) (δ : ℕ → ℕ) (y : ℕ) → Distinct xs known → known y ≡ true →
+    written xs δ y ≡ δ y
+written-kept [] known δ y h e = refl
+written-kept (x ∷ xs) known δ y h e =
+    let apart : x .id ≢ y = λ q. false≢true (sym (h .0) ∙ ap known q ∙ e) in
+    written-kept xs (updated known (x .id) true) (updated δ (x .id) (x .depth)) y (h .1)
+    (updated-other known (x .id) true y apart ∙ e)
+    ∙ updated-other δ (x .id) (x .depth) y apart
+
+depth-above : (u : Atom) (Γ : NameDepths) (i n v : ℕ) → i < n → From u n → atom-depth (updated Γ i v) u ≡ atom-depth Γ u
+depth-above (number z) Γ i n v h from = refl
+depth-above (name x) Γ i n v h from = updated-other Γ i v x (λ e. omega arith)
+
+-- the new name of a parameter has the parameter's depth
+pub written-depth : (xs : List Parameter) (known : Scope) (δ : ℕ → ℕ) (n y : ℕ) → Distinct xs known →
+    known y ≡ false → δ y ≡ 0 →
+    atom-depth (parameter-depths-from xs n) (parameter-names xs n y) ≡ written xs δ y
+unfolding parameter-names parameter-depths-from
+written-depth [] known δ n y h e z = sym z
+written-depth (x ∷ xs) known δ n y h e z = elim (ℕ-discrete (x .id) y) [
+  | yes q ↦
+      let Γ = parameter-depths-from xs (suc n) in
+      let δ′ = updated δ (x .id) (x .depth) in
+      ap (λ v. atom-depth (updated Γ n (x .depth)) (updated (parameter-names xs (suc n)) (x .id) (name n) v)) (sym q)
+      ∙ ap (atom-depth (updated Γ n (x .depth))) (updated-same (parameter-names xs (suc n)) (x .id) (name n))
+      ∙ updated-same Γ n (x .depth)
+      ∙ sym (updated-same δ (x .id) (x .depth))
+      ∙ sym (written-kept xs (updated known (x .id) true) δ′ (x .id) (h .1) (updated-same known (x .id) true))
+      ∙ ap (written xs δ′) q
+  | no f ↦
+      let Γ = parameter-depths-from xs (suc n) in
+      let u = parameter-names xs (suc n) y in
+      ap (atom-depth (updated Γ n (x .depth))) (updated-other (parameter-names xs (suc n)) (x .id) (name n) y f)
+      ∙ depth-above u Γ n (suc n) (x .depth) (omega arith) (parameters-from xs (suc n) y)
+      ∙ written-depth xs (updated known (x .id) true) (updated δ (x .id) (x .depth)) (suc n) y (h .1)
+      (updated-other known (x .id) true y f ∙ e) (updated-other δ (x .id) (x .depth) y f ∙ z)
+]
+
+-- the depth of a new name; past the parameters it is 0
+pub parameter-depth : (xs : List Parameter) (n i y : ℕ) → y ≡ n + i →
+    parameter-depths-from xs n y ≡ getD (map (λ x. x .depth) xs) i 0
+unfolding parameter-depths-from
+parameter-depth [] n i y e = refl
+parameter-depth (x ∷ xs) n zero y e =
+    ap (updated (parameter-depths-from xs (suc n)) n (x .depth)) (let q : y ≡ n = omega arith in q)
+    ∙ updated-same (parameter-depths-from xs (suc n)) n (x .depth)
+parameter-depth (x ∷ xs) n (suc i) y e =
+    updated-other (parameter-depths-from xs (suc n)) n (x .depth) y (λ q. omega arith)
+    ∙ parameter-depth xs (suc n) i y (omega arith)
+
+-- ---- the parameters' holds
+
+holds-below : (ds : List ℕ) (n y : ℕ) → y < n → occurrences y (parameter-holds ds n) ≡ 0
+unfolding parameter-holds occurrences
+holds-below [] n y h = refl
+holds-below (zero ∷ ds) n y h = holds-below ds (suc n) y (omega arith)
+holds-below (suc d ∷ ds) n y h = elim (hits y n) [
+  | inl g ↦ absurd (omega arith)
+  | inr g ↦ omega (arith, holds-below ds (suc n) y (omega arith))
+]
+
+pub parameter-held : (ds : List ℕ) (n i y : ℕ) → y ≡ n + i → occurrences y (parameter-holds ds n) ≡ min 1 (getD ds i 0)
+unfolding parameter-holds occurrences
+parameter-held [] n i y e = omega arith
+parameter-held (zero ∷ ds) n zero y e = holds-below ds (suc n) y (omega arith) ∙ omega arith
+parameter-held (zero ∷ ds) n (suc i) y e = parameter-held ds (suc n) i y (omega arith)
+parameter-held (suc d ∷ ds) n zero y e = elim (hits y n) [
+  | inl g ↦ omega (arith, holds-below ds (suc n) y (omega arith))
+  | inr g ↦ absurd (g .0 (omega arith))
+]
+parameter-held (suc d ∷ ds) n (suc i) y e = elim (hits y n) [
+  | inl g ↦ absurd (omega arith)
+  | inr g ↦ omega (arith, parameter-held ds (suc n) i y (omega arith))
+]

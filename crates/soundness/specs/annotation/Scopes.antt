@@ -1,0 +1,306 @@
+-- `annotated-fits`: annotation gives trees whose depths fit and whose names are known.
+use Prim.Native.Nat.{ℕ, suc, _≤_, _<_}
+use native.Mathlib.Omega.{arith}
+use mathlib.Core.Path.{_≡_, refl, sym, ap, _∙_, subst}
+use mathlib.Core.Logic.{inl, inr}
+use mathlib.Core.Bool.{Bool, true, false, _&&_, not, false≢true}
+use mathlib.Core.List.{List, [], _∷_}
+use lib.ListN.{length}
+use borrow.Author.Tests.{eq-eqb, ltb-true}
+use Rattle.semantics.specs.Basics.{with-if, occurrences, _∈_}
+use Rattle.semantics.specs.Kinds.{Leaf, operation, call, literal, index, length-of, leaf-hands, leaf-reads, Loop}
+use Rattle.semantics.specs.Kinds.{mapping, loop-hands, loop-reads, element-name, is-pending}
+use Rattle.semantics.specs.Code.{Atom, Line, leaf, if-else, loop, retain, release, Tree, end, line, ending, retain-all}
+use Rattle.semantics.specs.Code.{release-all}
+use Rattle.semantics.specs.Live.{Set, empty, _∪_, _∖_, _∖∖_, only, just, among, live, uses, after-branch, after-pass}
+use Rattle.semantics.specs.Annotate.{NameDepths, atom-depth, is-array, arrays, dying, handed-again, annotate}
+use Rattle.semantics.specs.Annotate.{annotate-line}
+use Rattle.semantics.specs.Machine.{Program}
+use Rattle.laws.specs.Tests.{both-hold, or-cases, or-left, or-right}
+use Rattle.laws.specs.Lists.{hits}
+use Rattle.soundness.specs.machine.Discipline.{array-place, LoopFits, Fitting, AllNew, AllKnown, Scoped}
+use Rattle.soundness.specs.annotation.Typed.{Functions}
+use Rattle.soundness.specs.annotation.Rules.{depth-of-map, pass-gives}
+use Rattle.soundness.specs.annotation.Members.{members-true}
+use Rattle.soundness.specs.annotation.Held.{held, held-live, held-among, again-held}
+use Rattle.soundness.specs.annotation.Sets.{Inside, inside-pass}
+use Rattle.soundness.specs.annotation.Formed.{Within, within-up, within-bound, Rising, rising-up, within-pass}
+use Rattle.soundness.specs.annotation.Formed.{bound-by, Placed, Formed, LineFormed, LoopForm, seen-among, live-seen}
+use Rattle.soundness.specs.annotation.Unchanged.{pass, ending-pass}
+
+-- ---- names
+
+unknown : (S : Set) (c n : ℕ) → Within S c → c ≤ n → S n ≡ false
+unknown S c n w h = go (S n) refl
+  where
+    go : (b : Bool) → S n ≡ b → b ≡ false
+    go true e = absurd (omega (arith, w .below n e))
+    go false e = refl
+
+all-new : (ps : List ℕ) (S : Set) (c e : ℕ) → Within S c → Rising c ps e → e ≤ 256 → AllNew ps S
+all-new [] S c e w r h = tt
+all-new (p ∷ ps) S c e w r h = (
+  record { unknown = unknown S c p w (r .0); small = omega (arith, rising-up ps (suc p) e (r .1)) },
+  all-new ps (S ∪ only p) (suc p) e (within-bound S p c (suc p) (omega (arith, r .0)) (omega arith) w) (r .1) h,
+)
+
+just-in : (ps : List ℕ) (n : ℕ) → n ∈ ps → just ps n ≡ true
+unfolding occurrences
+just-in [] n h = absurd (omega arith)
+just-in (p ∷ ps) n h = elim (hits n p) [
+  | inl q ↦ or-left (only p n) (just ps n) (eq-eqb p n (sym (q .0)))
+  | inr q ↦ or-right (only p n) (just ps n) (just-in ps n (omega arith))
+]
+
+element-in : (k : Loop) (ps : List ℕ) (n : ℕ) → n ∈ element-name k ps → n ∈ ps
+unfolding occurrences
+element-in mapping ps n h = h
+
+with-if-in : (b : Bool) (x n : ℕ) → n ∈ with-if b x [] → (n ≡ x) × (b ≡ true)
+unfolding occurrences
+with-if-in true x n h = elim (hits n x) [ inl q ↦ (q .0, refl) | inr q ↦ absurd (omega arith) ]
+with-if-in false x n h = absurd (omega arith)
+
+-- ---- depths
+
+module _ (p : Program) where
+  abbrev pub functions-of : Functions
+  functions-of = record { number = length (p .routines); signatures = p .signatures }
+
+  module _ (Γ : NameDepths) where
+    loop-fits : (x : ℕ) (k : Loop) (ps : List ℕ) (us : List Atom) (d : ℕ) (S : Set) (c : ℕ) →
+        LoopForm functions-of Γ x k ps us d S c → LoopFits p Γ x k ps us d
+    loop-fits x k ps us d S c f = record {
+      limits = f .fits .parted;
+      deep = omega (
+        arith,
+        f .fits .array,
+        depth-of-map Γ us (array-place k),
+      );
+      names = f .depths ∙ sym (pass-gives k Γ us);
+      gives = f .fits .rule;
+    }
+
+    -- a tree that gives depth d, before which the names S are known
+    abbrev pub Fits : Tree → ℕ → Set → Type 0
+    Fits t d S = Fitting p Γ t d × Scoped t S
+
+    -- the names of a list are arrays, and known
+    abbrev pub Arrays : List ℕ → Set → Type 0
+    Arrays xs S = (n : ℕ) → n ∈ xs → (0 < Γ n) × (S n ≡ true)
+
+    first-array : (x : ℕ) (xs : List ℕ) (S : Set) → Arrays (x ∷ xs) S → (0 < Γ x) × (S x ≡ true)
+    unfolding occurrences
+    first-array x xs S h =
+        h x (elim (hits x x) [ inl q ↦ omega (arith, q .1) | inr q ↦ absurd (q .0 refl) ])
+
+    later-arrays : (x : ℕ) (xs : List ℕ) (S : Set) → Arrays (x ∷ xs) S → Arrays xs S
+    unfolding occurrences
+    later-arrays x xs S h n g = h n (omega arith)
+
+    pub fits-releases : (xs : List ℕ) (t : Tree) (d : ℕ) (S : Set) → Arrays xs S → Fits t d S →
+        Fits (release-all xs t) d S
+    fits-releases [] t d S h f = f
+    fits-releases (x ∷ xs) t d S h f =
+        let here = first-array x xs S h in
+        let rest = fits-releases xs t d S (later-arrays x xs S h) f in
+        ((here .0, rest .0), (here .1, rest .1))
+
+    fits-retains : (xs : List ℕ) (t : Tree) (d : ℕ) (S : Set) → Arrays xs S → Fits t d S → Fits (retain-all xs t) d S
+    fits-retains [] t d S h f = f
+    fits-retains (x ∷ xs) t d S h f =
+        let here = first-array x xs S h in
+        let rest = fits-retains xs t d S (later-arrays x xs S h) f in
+        ((here .0, rest .0), (here .1, rest .1))
+
+    -- ---- what is retained and released is an array, and known
+
+    pub dying-in : (used A S : Set) → ((n : ℕ) → used n ≡ true → S n ≡ true) → Arrays (dying Γ used A) S
+    unfolding dying
+    dying-in used A S h n g =
+        let both = both-hold (used n) (is-array Γ n && not (A n))
+        (members-true n (λ x. used x && (is-array Γ x && not (A x))) g) in
+        (ltb-true 0 (Γ n) (both-hold (is-array Γ n) (not (A n)) (both .1) .0), h n (both .0))
+
+    among-known : (us : List Atom) (A S : Set) → AllKnown us S → ((n : ℕ) → A n ≡ true → S n ≡ true) → (n : ℕ) →
+        among us A n ≡ true → S n ≡ true
+    among-known us A S seen h n e =
+        let inside : Inside (among us A) S empty = seen-among us seen (record { either = λ m q. inl (h m q) }) in
+        elim (inside .either n e) [ inl q ↦ q | inr q ↦ absurd (false≢true q) ]
+
+    again-in : (us : List Atom) (A S : Set) → AllKnown us S → Arrays (handed-again Γ us A) S
+    again-in us A S seen n g =
+        let held-here : 0 < held Γ (among us empty) n =
+        omega (arith, g, again-held Γ us A n, held-among Γ us empty n) in
+        let both = held-live Γ (among us empty) n held-here in
+        (ltb-true 0 (Γ n) (both .1), among-known us empty S seen (λ m q. absurd (false≢true q)) n (both .0))
+
+    arrays-in : (xs : List ℕ) (n : ℕ) → n ∈ arrays Γ xs → (0 < Γ n) × (n ∈ xs)
+    unfolding occurrences arrays
+    arrays-in [] n h = absurd (omega arith)
+    arrays-in (x ∷ xs) n h = go (is-array Γ x) refl (λ g. arrays-in xs n g) h
+      where
+        go : (b : Bool) → is-array Γ x ≡ b → (n ∈ arrays Γ xs → (0 < Γ n) × (n ∈ xs)) → n ∈ with-if b x (arrays Γ xs) →
+            (0 < Γ n) × (n ∈ (x ∷ xs))
+        go true e rest g = elim (hits n x) [
+          | inl q ↦ (omega (arith, q .0, ltb-true 0 (Γ x) e, ap Γ (q .0)), omega arith)
+          | inr q ↦
+              let more = rest (omega arith) in
+              (more .0, omega (arith, more .1))
+        ]
+        go false e rest g =
+            let more = rest g in
+            (more .0, omega (arith, more .1))
+
+    -- ---- the annotated tree
+
+    -- what a line read, and what it binds, is known after it
+    read-known : (us : List Atom) (U S : Set) (x : ℕ) → AllKnown us S → ((n : ℕ) → U n ≡ true → S n ≡ true) → (n : ℕ) →
+        (among us U ∪ only x) n ≡ true → (S ∪ only x) n ≡ true
+    read-known us U S x seen h n e = elim (or-cases (among us U n) (only x n) e) [
+      | inl q ↦ or-left (S n) (only x n) (among-known us U S seen h n q)
+      | inr q ↦ or-right (S n) (only x n) q
+    ]
+
+    only-known : (S : Set) (x n : ℕ) → only x n ≡ true → (S ∪ only x) n ≡ true
+    only-known S x n e = or-right (S n) (only x n) e
+
+    -- of known atoms, those that are handed over and those that are read
+    leaf-known : (l : Leaf) (us : List Atom) (S : Set) → AllKnown us S →
+        AllKnown (leaf-hands l us) S × AllKnown (leaf-reads l us) S
+    leaf-known (operation o) us S h = (tt, h)
+    leaf-known (call f) us S h = (h, tt)
+    leaf-known (literal d) us S h = (h, tt)
+    leaf-known index us S h = (tt, h)
+    leaf-known length-of us S h = (tt, h)
+
+    loop-known : (k : Loop) (us : List Atom) (S : Set) → AllKnown us S →
+        AllKnown (loop-hands k us) S × AllKnown (loop-reads k us) S
+    loop-known mapping us S h = (tt, h)
+
+    -- the outer names that a tree uses are known
+    uses-known : (t : Tree) (S : Set) (c d : ℕ) → Formed functions-of Γ t S c d → (n : ℕ) → uses t n ≡ true → S n ≡ true
+    uses-known t S c d f n e =
+        elim (live-seen functions-of Γ t S empty c d f .either n e) [ inl q ↦ q | inr q ↦ absurd (false≢true q) ]
+
+    pass-known : (ps : List ℕ) (t : Tree) (S : Set) (c d : ℕ) → Formed functions-of Γ t (S ∪ just ps) c d → (n : ℕ) →
+        (uses t ∖∖ ps) n ≡ true → S n ≡ true
+    pass-known ps t S c d f n e =
+        let inside : Inside (uses t ∖∖ ps) S empty =
+        inside-pass ps (live-seen functions-of Γ t (S ∪ just ps) empty c d f) in
+        elim (inside .either n e) [ inl q ↦ q | inr q ↦ absurd (false≢true q) ]
+
+    mutual
+      unfolding annotate
+
+      pub annotated-fits : (t : Tree) (S L : Set) (c d : ℕ) → Formed functions-of Γ t S c d → Within S c →
+          Fits (annotate Γ t L) d S
+      annotated-fits (end a) S L c d f w =
+          fits-retains (handed-again Γ (a ∷ []) L) (end a) d S (again-in (a ∷ []) L S (f .0, tt)) (f .1, f .0)
+      annotated-fits (line l t) S L c d f w =
+          let x = bound-by l in
+          let c′ = f .0 in
+          let up : c ≤ c′ = omega (arith, f .1 .above, f .1 .below) in
+          annotated-line-fits l (live t L) (annotate Γ t L) S c c′ d (f .1) (f .2) w
+          (annotated-fits t (S ∪ only x) L c′ d (f .3) (within-bound S x c c′ up (f .1 .below) w))
+
+      annotated-line-fits : (l : Line) (A : Set) (k : Tree) (S : Set) (c c′ d : ℕ) → Placed (bound-by l) c c′ →
+          LineFormed functions-of Γ l S → Within S c → Fits k d (S ∪ only (bound-by l)) →
+          Fits (annotate-line Γ l A k) d S
+      annotated-line-fits (leaf x l us) A k S c c′ d place f w s =
+          let parts = leaf-known l us S (f .seen) in
+          let R = among (leaf-reads l us) empty in
+          let S′ = S ∪ only x in
+          let k′ = release-all (dying Γ (R ∪ only x) A) k in
+          let pend = with-if (is-pending l && is-array Γ x) x [] in
+          let rest = fits-retains pend k′ d S′
+          (λ n h.
+          let here = with-if-in (is-pending l && is-array Γ x) x n h in (
+            omega (
+              arith,
+              here .0,
+              ap Γ (here .0),
+              ltb-true 0 (Γ x) (both-hold (is-pending l) (is-array Γ x) (here .1) .1),
+            ),
+            only-known S x n (eq-eqb x n (sym (here .0))),
+          ))
+          (fits-releases (dying Γ (R ∪ only x) A) k d S′
+          (dying-in (R ∪ only x) A S′
+          (read-known (leaf-reads l us) empty S x (parts .1) (λ n q. absurd (false≢true q)))) s) in
+          fits-retains (handed-again Γ (leaf-hands l us) (R ∪ A)) (line (leaf x l us) (retain-all pend k′)) d S
+          (again-in (leaf-hands l us) (R ∪ A) S (parts .0)) (
+            (record { limits = f .fits .limits; calls = f .fits .calls; gives = f .fits .rule }, rest .0),
+            ((f .seen, record { unknown = unknown S c x w (place .above); small = place .small }), rest .1),
+          )
+      annotated-line-fits (if-else x g t e) A k S c c′ d place f w s =
+          let A′ = after-branch x A in
+          let S′ = S ∪ only x in
+          let c₁ = f .1 .0 in
+          let c₂ = f .2 .0 in
+          let t₁ = fits-releases (dying Γ (uses e) (live t A′)) (annotate Γ t A′) (Γ x) S
+          (dying-in (uses e) (live t A′) S (uses-known e S c₂ (Γ x) (f .2 .2)))
+          (annotated-fits t S A′ c₁ (Γ x) (f .1 .2) (within-up S c c₁ (omega (arith, place .above, f .1 .1)) w)) in
+          let e₁ = fits-releases (dying Γ (uses t) (live e A′)) (annotate Γ e A′) (Γ x) S
+          (dying-in (uses t) (live e A′) S (uses-known t S c₁ (Γ x) (f .1 .2)))
+          (annotated-fits e S A′ c₂ (Γ x) (f .2 .2) (within-up S c c₂ (omega (arith, place .above, f .2 .1)) w)) in
+          let rest = fits-releases (dying Γ (only x) A) k d S′ (dying-in (only x) A S′ (only-known S x)) s in (
+            ((f .0 .guard, t₁ .0, e₁ .0), rest .0),
+            (
+              (
+                f .0 .seen,
+                record { unknown = unknown S c x w (place .above); small = place .small },
+                t₁ .1,
+                e₁ .1,
+              ),
+              rest .1,
+            ),
+          )
+      annotated-line-fits (loop x j ps us t) A k S c c′ d place f w s =
+          let i = f .0 in
+          let form = f .1 in
+          let r = atom-depth Γ (ending t) in
+          let parts = loop-known j us S (form .seen) in
+          let B = after-pass x ps t A in
+          let U = uses t ∖∖ ps in
+          let R = among (loop-reads j us) U in
+          let S′ = S ∪ only x in
+          let Q = S ∪ just ps in
+          let free = dying Γ (just ps) (live t B) in
+          let t₀ = release-all free (annotate Γ t B) in
+          let t′ = pass Γ x j ps t A in
+          let same : atom-depth Γ (ending t) ≡ atom-depth Γ (ending t′) =
+          ap (atom-depth Γ) (sym (ending-pass Γ x j ps t A)) in
+          let inside : Fits t′ r Q = fits-retains (arrays Γ (element-name j ps)) t₀ r Q
+          (λ n h.
+          let here = arrays-in (element-name j ps) n h in
+          (here .0, or-right (S n) (just ps n) (just-in ps n (element-in j ps n (here .1)))))
+          (fits-releases free (annotate Γ t B) r Q
+          (dying-in (just ps) (live t B) Q (λ n q. or-right (S n) (just ps n) q))
+          (annotated-fits t Q B i r (f .2) (within-pass S ps c (suc x) i (omega (arith, place .above))
+          (form .rising) w))) in
+          let rest = fits-releases (dying Γ (R ∪ only x) A) k d S′
+          (dying-in (R ∪ only x) A S′ (read-known (loop-reads j us) U S x (parts .1) (pass-known ps t S i r
+          (f .2)))) s in
+          fits-retains (handed-again Γ (loop-hands j us) (R ∪ A))
+          (line (loop x j ps us t′) (release-all (dying Γ (R ∪ only x) A) k)) d S
+          (again-in (loop-hands j us) (R ∪ A) S (parts .0)) (
+            (
+              (
+                subst (LoopFits p Γ x j ps us) same (loop-fits x j ps us r S i form),
+                subst (Fitting p Γ t′) same (inside .0),
+              ),
+              rest .0,
+            ),
+            (
+              (
+                form .seen,
+                record { unknown = unknown S c x w (place .above); small = place .small },
+                all-new ps S (suc x) i (within-up S c (suc x) (omega (arith, place .above)) w) (form .rising)
+                    (form .small),
+                inside .1,
+              ),
+              rest .1,
+            ),
+          )
+      annotated-line-fits (retain x) A k S c c′ d place f w s = absurd f
+      annotated-line-fits (release x) A k S c c′ d place f w s = absurd f

@@ -1,0 +1,131 @@
+-- A call of a disciplined program, by induction on the call depth left.
+use Prim.Native.Nat.{ℕ, zero, suc, _+_, _*_, _<_, _≤_}
+use native.Mathlib.Omega.{arith}
+use mathlib.Core.Bool.{true}
+use mathlib.Core.Path.{_≡_, refl, sym, subst}
+use mathlib.Core.List.{List, [], _∷_, _++_}
+use lib.IntN.{ℤ}
+use lib.ListN.{length}
+use borrow.Author.Tests.{lt-ltb}
+use Rattle.semantics.specs.Value.{Value}
+use Rattle.semantics.specs.Kinds.{Leaf, operation, call, literal, index, length-of}
+use Rattle.semantics.specs.Live.{empty}
+use Rattle.semantics.specs.Annotate.{NameDepths}
+use Rattle.semantics.specs.Meaning.{Meter}
+use Rattle.semantics.specs.Machine.{State, Routine, Program, routine-of, frame-from, machine, work}
+use Rattle.laws.specs.Lists.{_⊆_}
+use Rattle.soundness.specs.normal.Plain.{run, running, values-from}
+use Rattle.soundness.specs.store.Invariant.{Invariant}
+use Rattle.soundness.specs.normal.Trace.{CalleeGrows, running-grows}
+use Rattle.soundness.specs.machine.Discipline.{parameter-holds, parameter-names, FunctionDisciplined, FunctionFrugal}
+use Rattle.soundness.specs.machine.Agreement.{Start, Together, Agree, same, agree-map}
+use Rattle.soundness.specs.machine.Frames.{Room, Setting, Situation, Returned, Arguments, named-all}
+use Rattle.soundness.specs.machine.Standing.{none-in}
+use Rattle.soundness.specs.machine.Size.{tree-adds}
+use Rattle.soundness.specs.machine.Rules.{TreeRules}
+use Rattle.soundness.specs.machine.Claims.{CallClaim, LeafClaim}
+use Rattle.soundness.specs.machine.Reading.{leaf-operation, leaf-index, leaf-length}
+use Rattle.soundness.specs.machine.Making.{leaf-literal}
+use Rattle.soundness.specs.machine.Calling.{leaf-call}
+use Rattle.soundness.specs.machine.Trees.{tree-sound}
+use Rattle.soundness.specs.machine.Parameters.{parameters-hold, parameter-numbers, parameter-arrays, held-range}
+
+-- every leaf
+pub leaf-sound : (C : Setting) → CalleeGrows (C .meant) → CallClaim C → (l : Leaf) → LeafClaim C l
+leaf-sound C grows calls (operation o) = leaf-operation C o
+leaf-sound C grows calls (call f) = leaf-call C grows calls f
+leaf-sound C grows calls (literal d) = leaf-literal C d
+leaf-sound C grows calls index = leaf-index C
+leaf-sound C grows calls length-of = leaf-length C
+
+-- the most references that a function's own lines may add
+abbrev pub call-adds : ℕ
+call-adds = 1000000
+
+-- a program's code with some call depth left: each call below adds no more than that
+abbrev pub setting : Program → Start → ℕ → NameDepths → Setting
+setting p start n Γ = record {
+  program = p;
+  depths = Γ;
+  start = start;
+  callee = machine p n;
+  meant = running p n;
+  need = call-adds * n;
+}
+
+-- Every function is disciplined, and short: code of 4,096 rows adds at most 69,632 references. The first is main.
+pub record ProgramDisciplined (p : Program) : Type 0 where
+  pub functions : (f : ℕ) → f < length (p .routines) → FunctionDisciplined p f
+  pub short : (f : ℕ) → f < length (p .routines) → tree-adds (routine-of p f .tree) ≤ call-adds
+  pub some : 0 < length (p .routines)
+  pub takes : p .signatures 0 .parameters ≡ p .depth ∷ (1 ∷ [])
+  pub gives : p .signatures 0 .result ≡ p .depth
+
+-- what is asked of a program for every taken cell to be in use where none is free
+abbrev pub ProgramFrugal : Program → Type 0
+ProgramFrugal p = (f : ℕ) → f < length (p .routines) → FunctionFrugal p f
+
+module _ (p : Program) (disciplined : ProgramDisciplined p) (start : Start)
+    (frugal : start .frugal ≡ true → ProgramFrugal p) where
+  -- the body of a function, on arguments that stand for values
+  body-sound : (n : ℕ) → ((Γ : NameDepths) → CallClaim (setting p start n Γ)) →
+      (f : ℕ) (ws : List ℤ) (vs : List Value) (Z F R : List ℕ) (s : State) (m : Meter) → f < length (p .routines) →
+      Together start s m → Arguments (s .store) (p .signatures f .parameters) ws vs →
+      Invariant (s .store) Z (named-all (p .signatures f .parameters) ws ++ F) →
+      Room Z (named-all (p .signatures f .parameters) ws ++ F) (call-adds * suc n) →
+      (start .frugal ≡ true → (Z ++ F) ⊆ R) →
+      Agree start (Returned start (p .signatures f .result) (s .store) Z F)
+      (work (machine p n) (routine-of p f .depths) (routine-of p f .tree) empty R (frame-from ws 0) s)
+      (run (running p n) (routine-of p f .tree) (values-from vs 0) m)
+  body-sound n calls f ws vs Z F R s m there tog args inv room rooted =
+      agree-map (λ w s′ v m′ e. record { answered = e .answered; keeps = e .keeps })
+      (tree-sound C (running-grows p n) (leaf-sound C (running-grows p n) (calls (r .depths))) (r .tree)
+      [] (parameter-names ds) empty (parameter-holds ds 0) [] [] (p .signatures f .result) rules Z F R
+      (frame-from ws 0) (values-from vs 0) (call-adds * n) s m tog situation (omega arith))
+    where
+      r : Routine
+      r = routine-of p f
+
+      C : Setting
+      C = setting p start n (r .depths)
+
+      ds : List ℕ
+      ds = p .signatures f .parameters
+
+      rules : TreeRules C (r .tree) [] (parameter-names ds) empty (parameter-holds ds 0) [] [] (p .signatures f .result)
+      rules = record {
+        fits = disciplined .functions f there .fits;
+        scoped = disciplined .functions f there .scoped;
+        names = record {
+          lent = λ y h. absurd (none-in y h);
+          held = λ y h. lt-ltb y (length ds) (omega (arith, held-range ds 0 y h));
+          left = λ y h. absurd (none-in y h);
+        };
+        holds = disciplined .functions f there .holds;
+        frugal = λ q. frugal q f there;
+      }
+
+      situation : Situation C (s .store) Z F R [] (parameter-holds ds 0) [] (frame-from ws 0)
+          (values-from vs 0) (tree-adds (r .tree) + call-adds * n)
+      situation = record {
+        invariant = subst (λ (l : List ℕ). Invariant (s .store) Z (l ++ F)) (sym (parameters-hold args 0)) inv;
+        numbers = parameter-numbers args (r .depths) (disciplined .functions f there .parameters);
+        arrays = parameter-arrays args (r .depths) (disciplined .functions f there .parameters);
+        pending = λ y h. absurd (none-in y h);
+        lent = λ y h. absurd (none-in y h);
+        room = subst (λ (l : List ℕ). Room Z (l ++ F) (tree-adds (r .tree) + call-adds * n))
+            (sym (parameters-hold args 0))
+            (record { few = λ c. omega (arith, room .few c, disciplined .short f there) });
+        rooted = rooted;
+      }
+
+  pub call-sound : (n : ℕ) (Γ : NameDepths) → CallClaim (setting p start n Γ)
+  unfolding machine running
+  call-sound zero Γ f ws vs Z F R s m there tog args inv room rooted = same {k = 22} record {
+    number = refl;
+    stops = record { low = omega arith; high = omega arith; other = λ h. omega arith };
+    left = tog .left;
+    clean = tog .clean;
+  }
+  call-sound (suc n) Γ f ws vs Z F R s m there tog args inv room rooted =
+      body-sound n (call-sound n) f ws vs Z F R s m there tog args inv room rooted

@@ -1,0 +1,144 @@
+-- The lines that retain and release.
+use Prim.Native.Nat.{ℕ, suc, _+_, _<_, _≤_}
+use native.Mathlib.Omega.{arith}
+use mathlib.Core.Path.{refl, sym, subst}
+use mathlib.Core.Logic.{inl, inr}
+use mathlib.Core.List.{List, [], _∷_, _++_}
+use Rattle.semantics.specs.Basics.{occurrences, _∈_}
+use Rattle.semantics.specs.Outcome.{onward}
+use Rattle.semantics.specs.Code.{retain, release}
+use Rattle.semantics.specs.Meaning.{Env}
+use Rattle.semantics.specs.Machine.{Frame, with-store, release-events, work-line, retain-word, release-word}
+use Rattle.semantics.specs.Store.{Store, cell, cell-of, retained, released, deepest}
+use Rattle.semantics.specs.Sound.{all-inner}
+use Rattle.soundness.specs.normal.Plain.{run-line}
+use Rattle.soundness.specs.store.Invariant.{Invariant, Keeps, Stands}
+use Rattle.soundness.specs.store.Counting.{in-append-left, in-append-right, append-cases}
+use Rattle.soundness.specs.store.Change.{permute, held-used}
+use Rattle.soundness.specs.store.Kept.{keeps-fewer}
+use Rattle.soundness.specs.store.Retain.{Retains}
+use Rattle.soundness.specs.store.Retain as Store-retain
+use Rattle.soundness.specs.store.Release.{Releases, releases-keep}
+use Rattle.soundness.specs.store.Release as Store-release
+use Rattle.laws.specs.Lists.{_≈_}
+use Rattle.soundness.specs.machine.Images.{image-in, without-middle, first-or-later, one-more}
+use Rattle.soundness.specs.machine.Agreement.{both, with-store-together}
+use Rattle.soundness.specs.machine.Frames.{hold, Setting, Situation}
+use Rattle.soundness.specs.machine.Standing.{none-in, stands-held, hold-split, lent-kept}
+use Rattle.soundness.specs.machine.Size.{line-adds}
+use Rattle.soundness.specs.machine.Situations.{room-less, room-one, room-fewer, touch-together}
+use Rattle.soundness.specs.machine.Claims.{LineClaim}
+use Rattle.soundness.specs.machine.Discipline.{less, holds-after}
+use Rattle.soundness.specs.machine.Spending.{spend-split, spend-one, less-in}
+
+module _ (C : Setting) where
+  -- a name that may be retained: its cell is held or named, and it stands for its value
+  record Retainable (σ : Store) (F H : List ℕ) (ρ : Frame) (δ : Env) (x : ℕ) : Type 0 where
+    pub named : 0 < occurrences (cell-of (ρ x)) (hold ρ H ++ F) + occurrences (cell-of (ρ x)) (all-inner (σ .cells))
+    pub stands : Stands σ (C .depths x) (ρ x) (δ x)
+
+  retainable : {σ : Store} {Z F R B H P : List ℕ} {ρ : Frame} {δ : Env} {n : ℕ} (x : ℕ) →
+      Situation C σ Z F R B H P ρ δ n → x ∈ (P ++ (B ++ H)) → Retainable σ F H ρ δ x
+  retainable {F = F} {B = B} {H} {P} {ρ} x S h = elim (append-cases x P (B ++ H) h) [
+    | inl g ↦ record { named = omega (arith, S .pending x g .named); stands = S .pending x g .stands }
+    | inr g ↦ elim (append-cases x B H g) [
+      | inl q ↦ record {
+        named = omega (arith, in-append-right (cell-of (ρ x)) (hold ρ H) F (S .lent x q .kept));
+        stands = S .lent x q .stands;
+      }
+      | inr q ↦ record {
+        named = omega (arith, in-append-left (cell-of (ρ x)) (hold ρ H) F (image-in (λ y. cell-of (ρ y)) x H q));
+        stands = S .arrays x q;
+      }
+    ]
+  ]
+
+  pub line-retain : (x : ℕ) → LineClaim C (retain x)
+  unfolding work-line run-line onward retain-word with-store line-adds holds-after
+  line-retain x B T A H P Δ rules Z F R ρ δ n s m t S need = both record {
+    together = touch-together c (retained c σ) (S .invariant) used (r .free) (r .cells) t;
+    situation = record {
+      invariant = r .holds;
+      numbers = S .numbers;
+      arrays = λ y h. stands-held ρ y (x ∷ H) h (stood y h) (λ k g. r .alike k)
+          (λ k g. held-used (r .holds) k (in-append-left k (hold ρ (x ∷ H)) F g));
+      pending = λ y h. absurd (none-in y h);
+      lent = λ y h. lent-kept Z F record { keep = λ k g. r .alike k }
+          (λ k g. held-used (r .holds) k (in-append-right k (hold ρ (x ∷ H)) F g)) (S .lent y h);
+      room = room-one c n (room-less (suc n) (S .room) (omega arith));
+      rooted = S .rooted;
+    };
+    keeps = record { keep = λ k h. r .alike k };
+    words = λ y h. refl;
+    values = λ y h. refl;
+  }
+    where
+      σ : Store
+      σ = s .store
+
+      c : ℕ
+      c = cell-of (ρ x)
+
+      able : Retainable σ F H ρ δ x
+      able = retainable x S (rules .holds)
+
+      used : 0 < cell σ c .count
+      used = omega (arith, able .named, S .invariant .counts c)
+
+      r : Retains σ (retained c σ) c Z (hold ρ H ++ F)
+      r = Store-retain.retain c (S .invariant) (able .named) (omega (arith, S .room .few c))
+
+      stood : (y : ℕ) → y ∈ (x ∷ H) → Stands σ (C .depths y) (ρ y) (δ y)
+      stood y h = elim (first-or-later y x H h) [
+        | inl e ↦ subst (λ (k : ℕ). Stands σ (C .depths k) (ρ k) (δ k)) (sym e) (able .stands)
+        | inr g ↦ S .arrays y g
+      ]
+
+  pub line-release : (x : ℕ) → LineClaim C (release x)
+  unfolding work-line run-line onward release-word with-store line-adds holds-after
+  line-release x B T A H P Δ rules Z F R ρ δ n s m t S need = both record {
+    together = with-store-together (released deepest c σ) (release-events deepest c σ) (r .untouched) (r .replays)
+        (r .cells) t;
+    situation = record {
+      invariant = r .holds;
+      numbers = S .numbers;
+      arrays = λ y h. stands-held ρ y H′ h (S .arrays y (less-in (x ∷ []) H y h))
+          (λ k g. keeps .keep k (in-append-right k Z (hold ρ H′ ++ F) (in-append-left k (hold ρ H′) F g)))
+          (λ k g. held-used (r .holds) k (in-append-left k (hold ρ H′) F g));
+      pending = λ y h. absurd (none-in y h);
+      lent = λ y h. lent-kept Z F kept (λ k g. held-used (r .holds) k (in-append-right k (hold ρ H′) F g))
+          (S .lent y h);
+      room = room-fewer (hold ρ H′ ++ F) fewer (room-less n (S .room) (omega arith));
+      rooted = S .rooted;
+    };
+    keeps = kept;
+    words = λ y h. refl;
+    values = λ y h. refl;
+  }
+    where
+      σ : Store
+      σ = s .store
+
+      c : ℕ
+      c = cell-of (ρ x)
+
+      H′ : List ℕ
+      H′ = less (x ∷ []) H
+
+      split : H ≈ (x ∷ []) ++ H′
+      split = spend-split (x ∷ []) H (spend-one x H (rules .holds))
+
+      before : Invariant σ Z (hold ρ (x ∷ H′) ++ F)
+      before = permute Z (hold ρ (x ∷ H′) ++ F) (S .invariant) (λ k. refl) (hold-split ρ H (x ∷ []) H′ F split)
+
+      r : Releases σ (released deepest c σ) (release-events deepest c σ) Z (hold ρ H′ ++ F)
+      r = Store-release.release c before
+
+      keeps : Keeps σ (released deepest c σ) (Z ++ (hold ρ H′ ++ F))
+      keeps = releases-keep before r
+
+      kept : Keeps σ (released deepest c σ) (Z ++ F)
+      kept = keeps-fewer (Z ++ (hold ρ H′ ++ F)) (Z ++ F) (without-middle Z (hold ρ H′) F) keeps
+
+      fewer : (k : ℕ) → occurrences k (hold ρ H′ ++ F) ≤ occurrences k (hold ρ H ++ F)
+      fewer k = omega (arith, hold-split ρ H (x ∷ []) H′ F split k, one-more k c (hold ρ H′ ++ F))

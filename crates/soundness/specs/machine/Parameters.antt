@@ -1,0 +1,102 @@
+-- The arguments of a call as the words and values of its parameters.
+use Prim.Native.Nat.{ℕ, zero, suc, _+_, _<_, _≤_}
+use native.Mathlib.Omega.{arith}
+use native.Mathlib.Decide.{ℕ-discrete, decLt}
+use mathlib.Core.Path.{_≡_, refl, sym, ap, ap₂, _∙_, subst}
+use mathlib.Core.Logic.{inl, inr}
+use mathlib.Core.List.{List, [], _∷_}
+use lib.IntN.{ℤ, pos}
+use lib.ListN.{length, getD, List·getD-eq-default}
+use Rattle.semantics.specs.Basics.{occurrences, _∈_, updated}
+use Rattle.semantics.specs.Value.{Value, num}
+use Rattle.semantics.specs.Machine.{frame-from}
+use Rattle.semantics.specs.Store.{Store, cell-of}
+use Rattle.soundness.specs.normal.Plain.{values-from}
+use Rattle.soundness.specs.store.Invariant.{Stands}
+use Rattle.soundness.specs.machine.Discipline.{parameter-holds}
+use Rattle.soundness.specs.machine.Images.{updated-here, updated-there, first-or-later}
+use Rattle.soundness.specs.machine.Frames.{hold, named-all, Arguments, none, more}
+use Rattle.soundness.specs.machine.Standing.{none-in, number-stands, stands-number, hold-updated}
+
+-- the depths of the parameters from name n on
+unfoldable depths-from : List ℕ → ℕ → ℕ → ℕ
+depths-from [] n = λ _. 0
+depths-from (d ∷ ds) n = updated (depths-from ds (suc n)) n d
+
+depths-at : (ds : List ℕ) (n i : ℕ) → depths-from ds n (n + i) ≡ getD ds i 0
+unfolding depths-from
+depths-at [] n i = refl
+depths-at (d ∷ ds) n zero = ap (updated (depths-from ds (suc n)) n d) (omega arith) ∙ updated-here
+    (depths-from ds (suc n)) n d
+depths-at (d ∷ ds) n (suc i) =
+    updated-there (depths-from ds (suc n)) n d (n + suc i) (λ e. omega arith)
+    ∙ ap (depths-from ds (suc n)) (omega arith) ∙ depths-at ds (suc n) i
+
+names-stand : {σ : Store} {ds : List ℕ} {ws : List ℤ} {vs : List Value} → Arguments σ ds ws vs → (n y : ℕ) →
+    Stands σ (depths-from ds n y) (frame-from ws n y) (values-from vs n y)
+unfolding depths-from frame-from values-from
+names-stand none n y = number-stands (pos 0) (num (pos 0)) refl
+names-stand (more {d} {w} {v} {ds} {ws} {vs} s rest) n y = elim (ℕ-discrete y n) [
+  | yes e ↦ rw (
+    e,
+    updated-here (depths-from ds (suc n)) n d,
+    updated-here (frame-from ws (suc n)) n w,
+    updated-here (values-from vs (suc n)) n v,
+  ) s
+  | no f ↦ rw (
+    updated-there (depths-from ds (suc n)) n d y f,
+    updated-there (frame-from ws (suc n)) n w y f,
+    updated-there (values-from vs (suc n)) n v y f,
+  ) (names-stand rest (suc n) y)
+]
+
+-- ---- the holds
+
+pub held-range : (ds : List ℕ) (n y : ℕ) → y ∈ parameter-holds ds n → (n ≤ y) × (y < n + length ds)
+unfolding parameter-holds
+held-range [] n y h = absurd (none-in y h)
+held-range (zero ∷ ds) n y h = let q = held-range ds (suc n) y h in (omega (arith, q), omega (arith, q))
+held-range (suc d ∷ ds) n y h = elim (first-or-later y n (parameter-holds ds (suc n)) h) [
+  | inl e ↦ (omega (arith, e), omega (arith, e))
+  | inr g ↦ let q = held-range ds (suc n) y g in (omega (arith, q), omega (arith, q))
+]
+
+not-held : (ds : List ℕ) (n : ℕ) → occurrences n (parameter-holds ds (suc n)) ≡ 0
+not-held ds n = elim (decLt 0 (occurrences n (parameter-holds ds (suc n)))) [
+  | yes h ↦ absurd (omega (arith, held-range ds (suc n) n h))
+  | no f ↦ omega arith
+]
+
+pub parameters-hold : {σ : Store} {ds : List ℕ} {ws : List ℤ} {vs : List Value} → Arguments σ ds ws vs → (n : ℕ) →
+    hold (frame-from ws n) (parameter-holds ds n) ≡ named-all ds ws
+unfolding parameter-holds frame-from
+parameters-hold none n = refl
+parameters-hold (more {d = zero} {w} {v} {ds} {ws} s rest) n =
+    hold-updated (frame-from ws (suc n)) n w (parameter-holds ds (suc n)) (not-held ds n) ∙ parameters-hold rest (suc n)
+parameters-hold (more {d = suc d} {w} {v} {ds} {ws} s rest) n =
+    ap₂ {C = List ℕ} (λ (z : ℤ) (l : List ℕ). cell-of z ∷ l) (updated-here (frame-from ws (suc n)) n w)
+    (hold-updated (frame-from ws (suc n)) n w (parameter-holds ds (suc n)) (not-held ds n) ∙ parameters-hold rest
+    (suc n))
+
+-- ---- under the depths of the function's names
+
+module _ {σ : Store} {ds : List ℕ} {ws : List ℤ} {vs : List Value} (args : Arguments σ ds ws vs) (Γ : ℕ → ℕ)
+    (depths : (i : ℕ) → i < length ds → Γ i ≡ getD ds i 0) where
+  depth-of : (y : ℕ) → depths-from ds 0 y ≡ getD ds y 0
+  depth-of y = ap (depths-from ds 0) (omega arith) ∙ depths-at ds 0 y
+
+  below-stand : (y : ℕ) → y < length ds → Stands σ (Γ y) (frame-from ws 0 y) (values-from vs 0 y)
+  below-stand y h = subst (λ (d : ℕ). Stands σ d (frame-from ws 0 y) (values-from vs 0 y))
+      (depth-of y ∙ sym (depths y h)) (names-stand args 0 y)
+
+  pub parameter-arrays : (y : ℕ) → y ∈ parameter-holds ds 0 → Stands σ (Γ y) (frame-from ws 0 y) (values-from vs 0 y)
+  parameter-arrays y h = below-stand y (omega (arith, held-range ds 0 y h))
+
+  pub parameter-numbers : (y : ℕ) → Γ y ≡ 0 → num (frame-from ws 0 y) ≡ values-from vs 0 y
+  parameter-numbers y e = stands-number zero-depth (names-stand args 0 y)
+    where
+      zero-depth : depths-from ds 0 y ≡ 0
+      zero-depth = depth-of y ∙ elim (decLt y (length ds)) [
+        | yes h ↦ sym (depths y h) ∙ e
+        | no f ↦ List·getD-eq-default ds 0 {n = y} (omega (arith, f))
+      ]

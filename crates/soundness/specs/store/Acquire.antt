@@ -1,0 +1,231 @@
+-- A cell taken from the free list: with words, or empty for the result of a map.
+use Prim.Native.Nat.{ℕ, zero, suc, _+_, _<_, _≤_}
+use native.Mathlib.Omega.{arith}
+use mathlib.Core.Path.{_≡_, refl, sym, ap, ap₂, _∙_, subst}
+use mathlib.Core.Logic.{inl, inr}
+use mathlib.Core.Bool.{true, false}
+use mathlib.Core.List.{List, [], _∷_, _++_, map}
+use lib.IntN.{ℤ, pos}
+use lib.ListN.{length, List·getD-eq-default}
+use borrow.Author.Tests.{ltb-true}
+use Rattle.semantics.specs.Basics.{occurrences, _∈_}
+use Rattle.semantics.specs.Value.{Value, list}
+use Rattle.semantics.specs.Store.{Cell, Store, cell, cell-of, cell-count, inner, elements, named-by, filled, has-free}
+use Rattle.semantics.specs.Store.{acquired, with-cell, with-first}
+use Rattle.semantics.specs.Sound.{free-list, free-from, due, all-inner}
+use Rattle.semantics.specs.Demands.{value-of}
+use Rattle.laws.specs.Lists.{occurrences-append, occurs-first}
+use Rattle.soundness.specs.store.Invariant.{Tidy, Invariant, Alike, Keeps}
+use Rattle.soundness.specs.store.Counting.{hits-itself, named-by-none}
+use Rattle.soundness.specs.store.Tabulate.{padded-length, padded-at, take-padded}
+use Rattle.soundness.specs.store.Cells.{same-agree, Put, put-size, put-cases, put-inner, put-same, put-other}
+use Rattle.soundness.specs.store.Cells.{with-first-put}
+use Rattle.soundness.specs.store.FreeList.{Links, Listed, listed, listed-taken}
+use Rattle.soundness.specs.store.Change.{set-aside, root-used, free-names, Change, changed, changed-list}
+use Rattle.soundness.specs.store.Kept.{alike-used}
+
+-- ---- a filled cell
+
+pub filled-elements : (d : ℕ) (ws : List ℤ) → length ws ≤ 16 → elements (filled d ws) ≡ ws
+unfolding filled elements
+filled-elements d ws h = take-padded ws h
+
+filled-inner : (d : ℕ) (ws : List ℤ) → length ws ≤ 16 → inner (filled d ws) ≡ named-by d ws
+unfolding filled inner
+filled-inner d ws h = ap (named-by d) (filled-elements d ws h)
+
+filled-tidy : (d : ℕ) (ws : List ℤ) → length ws ≤ 16 → d ≤ 3 → Tidy (filled d ws)
+unfolding filled
+filled-tidy d ws h l = record {
+  whole = padded-length ws;
+  size = omega arith;
+  depth = l;
+  next = refl;
+  zeros = λ i a b. padded-at ws i b ∙ List·getD-eq-default ws (pos 0) (omega arith);
+}
+
+filled-head : (d : ℕ) (ws : List ℤ) → (filled d ws .count ≡ 1) × (filled d ws .depth ≡ d)
+unfolding filled
+filled-head d ws = (refl, refl)
+
+-- ---- the first free cell
+
+-- where no cell is free, the list is empty
+pub none-free : (σ : Store) → has-free σ ≡ false → free-list σ ≡ []
+unfolding has-free free-list free-from
+none-free σ e = go (cell-count σ)
+  where
+    go : (n : ℕ) → free-from σ (σ .first) n ≡ []
+    go zero = refl
+    go (suc n) = rw (e, free-from) refl
+
+due-none : (n : ℕ) → due n ≡ 0 → 0 < n
+due-none zero h = absurd (omega (arith, h))
+due-none (suc n) h = omega arith
+
+-- where no cell is free, each is taken
+pub none-left : {σ : Store} {Z R : List ℕ} → Invariant σ Z R → has-free σ ≡ false → (c : ℕ) → c < cell-count σ →
+    0 < cell σ c .count
+unfolding occurrences
+none-left {σ} i e c h = due-none (cell σ c .count)
+    (sym (i .free c h) ∙ ap (occurrences c) (none-free σ e))
+
+first-listed : (σ : Store) (l : List ℕ) → Links σ (σ .first) l → σ .first < cell-count σ →
+    (m : List ℕ) × (l ≡ σ .first ∷ m)
+first-listed σ [] k h = absurd (omega arith)
+first-listed σ (x ∷ m) k h = (m, ap (λ (y : ℕ). y ∷ m) (sym (k .0)))
+
+due-free : (n : ℕ) → 0 < due n → n ≡ 0
+due-free zero h = refl
+due-free (suc n) h = absurd (omega arith)
+
+-- ---- acquire
+
+-- from σ to τ: the cell c, which was the first of the free list, has the words ws of depth d
+pub record Acquires (σ τ : Store) (c d : ℕ) (ws : List ℤ) (Z R : List ℕ) : Type 0 where
+  pub holds : Invariant τ Z (c ∷ R)
+  pub keeps : Keeps σ τ (Z ++ (named-by d ws ++ R))
+  -- all cells that were in use are left alone
+  pub alike : (r : ℕ) → 0 < cell σ r .count → Alike σ τ r
+  pub free : free-list σ ≡ c ∷ free-list τ
+  pub cells : cell-count τ ≡ cell-count σ
+  pub was-free : cell σ c .count ≡ 0
+  pub new : cell τ c ≡ filled d ws
+  pub value : value-of τ (suc d) (pos c) ≡ list (map (value-of σ d) ws)
+
+module _ {σ : Store} {Z : List ℕ} (R : List ℕ) (d : ℕ) (ws : List ℤ) (v : Invariant σ Z (named-by d ws ++ R))
+    (short : length ws ≤ 16) (shallow : d ≤ 3) (typed : (r : ℕ) → r ∈ named-by d ws → d ≡ suc (cell σ r .depth))
+    (within : σ .first < cell-count σ) where
+  abbrev c : ℕ
+  c = σ .first
+
+  abbrev τ : Store
+  τ = with-first (with-cell σ c (filled d ws)) (cell σ c .next)
+
+  rest : (m : List ℕ) × (free-list σ ≡ c ∷ m)
+  rest = first-listed σ (free-list σ) (listed v .links) within
+
+  is-free : cell σ c .count ≡ 0
+  unfolding occurrences
+  is-free = due-free (cell σ c .count) (omega (arith, v .free c within, ap (occurrences c) (rest .1), hits-itself c))
+
+  taken-put : Put σ τ c (filled d ws)
+  taken-put = with-first-put σ c (filled d ws) (cell σ c .next) within
+
+  -- what was in use stays as it is
+  taken-kept : (r : ℕ) → 0 < cell σ r .count → cell τ r ≡ cell σ r
+  taken-kept r h = put-other taken-put r (λ e. omega (arith, is-free, ap (λ (k : ℕ). cell σ k .count) e))
+
+  taken-inner : (n : ℕ) →
+      occurrences n (all-inner (τ .cells)) ≡ occurrences n (all-inner (σ .cells)) + occurrences n (named-by d ws)
+  taken-inner n =
+      omega (arith, put-inner taken-put n, free-names v c n is-free, ap (occurrences n) (filled-inner d ws short))
+
+  taken-list : Listed τ (rest .0)
+  unfolding with-first
+  taken-list =
+      listed-taken taken-put (rest .0) (subst (Listed σ) (rest .1) (listed v)) refl (omega (arith, filled-head d ws))
+
+  taken-counts : (n : ℕ) →
+      cell τ n .count ≡ occurrences n (c ∷ R) + occurrences n Z + occurrences n (all-inner (τ .cells))
+  unfolding occurrences
+  taken-counts n =
+      let before = v .counts n in
+      let split = occurrences-append n (named-by d ws) R in
+      elim (put-cases taken-put n) [
+        | inl g ↦ omega (arith, filled-head d ws, is-free, taken-inner n)
+        | inr g ↦ omega (arith, taken-inner n)
+      ]
+
+  word-used : (r : ℕ) → r ∈ named-by d ws → 0 < cell σ r .count
+  word-used r h = omega (arith, v .counts r, occurrences-append r (named-by d ws) R)
+
+  taken-typed : (r : ℕ) → r ∈ inner (filled d ws) → filled d ws .depth ≡ suc (cell τ r .depth)
+  taken-typed r h =
+      let named : r ∈ named-by d ws = subst (λ (l : List ℕ). r ∈ l) (filled-inner d ws short) h in
+      filled-head d ws .1 ∙ typed r named ∙ ap (λ (y : Cell). suc (y .depth)) (sym (taken-kept r (word-used r named)))
+
+  taken-change : Change σ τ c (filled d ws) Z (c ∷ R) (rest .0)
+  taken-change = record {
+    put = taken-put;
+    counts = taken-counts;
+    alone = λ n h. ap (λ (y : Cell). y .count) (taken-kept n (omega (arith, v .alone n h))) ∙ v .alone n h;
+    typed = taken-typed;
+    depth = λ h. absurd (omega (arith, is-free, v .counts c));
+    tidy = λ h. filled-tidy d ws short shallow;
+    blank = λ e. absurd (omega (arith, e, filled-head d ws));
+    list = taken-list;
+  }
+
+  taken-alike : (r : ℕ) → 0 < cell σ r .count → Alike σ τ r
+  taken-alike = alike-used v (λ n h. same-agree (cell τ n) (cell σ n) (taken-kept n h))
+
+  words-kept : (k : ℕ) (us : List ℤ) → ((r : ℕ) → r ∈ named-by k us → Alike σ τ r × (k ≡ suc (cell σ r .depth))) →
+      map (value-of τ k) us ≡ map (value-of σ k) us
+  unfolding occurrences value-of
+  words-kept zero us f = refl
+  words-kept (suc k) [] f = refl
+  words-kept (suc k) (u ∷ us) f =
+      let a = f (cell-of u) (occurs-first (cell-of u) (map cell-of us)) in
+      ap₂ {C = List Value} _∷_ (a .0 .values (suc k) u refl (a .1)) (words-kept (suc k) us (λ r h. f r (omega arith)))
+
+  taken-value : value-of τ (suc d) (pos c) ≡ list (map (value-of σ d) ws)
+  unfolding value-of cell-of
+  taken-value =
+      ap (λ (l : List ℤ). list (map (value-of τ d) l)) (ap elements (put-same taken-put) ∙ filled-elements d ws short)
+      ∙ ap (λ (l : List Value). list l) (words-kept d ws (λ r h. (taken-alike r (word-used r h), typed r h)))
+
+  acquires : Acquires σ τ c d ws Z R
+  acquires = record {
+    holds = changed v taken-change;
+    keeps = record { keep = λ r h. taken-alike r (root-used v r h) };
+    alike = taken-alike;
+    free = rest .1 ∙ ap (λ (l : List ℕ). c ∷ l) (sym (changed-list v taken-change));
+    cells = put-size taken-put;
+    was-free = is-free;
+    new = put-same taken-put;
+    value = taken-value;
+  }
+
+-- the words' references go into the cell
+pub acquire : {σ : Store} {Z R : List ℕ} (d : ℕ) (ws : List ℤ) → Invariant σ Z (named-by d ws ++ R) →
+    has-free σ ≡ true → length ws ≤ 16 → d ≤ 3 → ((r : ℕ) → r ∈ named-by d ws → d ≡ suc (cell σ r .depth)) →
+    Acquires σ (acquired d ws σ) (σ .first) d ws Z R
+unfolding acquired has-free
+acquire {σ} {Z} {R} d ws v e short shallow typed =
+    rw e (acquires R d ws v short shallow typed (ltb-true (σ .first) (cell-count σ) e))
+
+-- without words
+pub acquire-empty : {σ : Store} {Z R : List ℕ} (d : ℕ) → Invariant σ Z R → has-free σ ≡ true → d ≤ 3 →
+    Acquires σ (acquired d [] σ) (σ .first) d [] Z R
+unfolding occurrences
+acquire-empty {σ} {Z} {R} d v e shallow =
+    acquire d [] (subst (λ (l : List ℕ). Invariant σ Z (l ++ R)) (sym (named-by-none d)) v) e (omega arith) shallow
+    (λ r h. absurd (omega (arith, ap (occurrences r) (named-by-none d))))
+
+-- ---- reserve
+
+-- from σ to τ: the cell c, which was the first of the free list, is the empty result of a map in progress
+pub record Reserves (σ τ : Store) (c d : ℕ) (Z R : List ℕ) : Type 0 where
+  pub holds : Invariant τ (c ∷ Z) R
+  pub keeps : Keeps σ τ (Z ++ R)
+  pub alike : (r : ℕ) → 0 < cell σ r .count → Alike σ τ r
+  pub free : free-list σ ≡ c ∷ free-list τ
+  pub cells : cell-count τ ≡ cell-count σ
+  pub new : cell τ c ≡ filled d []
+  pub fresh : occurrences c (Z ++ R) ≡ 0
+
+pub reserve : {σ : Store} {Z R : List ℕ} (d : ℕ) → Invariant σ Z R → has-free σ ≡ true → d ≤ 3 →
+    Reserves σ (acquired d [] σ) (σ .first) d Z R
+reserve {σ} {Z} {R} d v e shallow = record {
+  holds = set-aside (ap (λ (y : Cell). y .count) (a .new) ∙ filled-head d [] .0) (a .holds);
+  keeps = record { keep = λ r h. a .alike r (root-used v r h) };
+  alike = a .alike;
+  free = a .free;
+  cells = a .cells;
+  new = a .new;
+  fresh = omega (arith, a .was-free, v .counts (σ .first), occurrences-append (σ .first) Z R);
+}
+  where
+    a : Acquires σ (acquired d [] σ) (σ .first) d [] Z R
+    a = acquire-empty d v e shallow
