@@ -19,7 +19,7 @@ use Rattle.semantics.specs.Calls.{engine-translate, request-fits, deliver-in, d
 use Rattle.semantics.specs.Machine.{delivered}
 use Rattle.engine_store.specs.declared.Ended.{Ended}
 use Rattle.engine_store.specs.declared.Ended.the-variants as E
-use Rattle.engine_store.specs.Left.{Left, left, left-by, opened-left, checked-left, Small}
+use Rattle.engine_store.specs.Left.{StoreLeft, left, left-by, opened-left, checked-left, SmallAnswer}
 use Rattle.engine_delivery.specs.Delivered.{left-of, delivered-left}
 use Rattle.engine_load.specs.declared.Loaded.the-variants.{Ready, Refused}
 use Rattle.engine_load.specs.Loading.{told-load, kinds-after, operands-after, Loads}
@@ -86,7 +86,7 @@ few-lines {file} {kinds} {operands} {l} {d} h = go (judged (h .node) file) (h .i
 
 module _ (kinds : List ℕ) (operands : List ℤ) where
   -- the reply for an accepted script, by what the store's part leaves
-  abbrev pub reply-for : Script → Left → Ended → StoreReply
+  abbrev pub reply-for : Script → StoreLeft → Ended → StoreReply
   reply-for fs l (E.Answered number steps cells) = record {
     answer = packed number 0 steps cells;
     kinds = code-kinds fs kinds;
@@ -103,7 +103,7 @@ module _ (kinds : List ℕ) (operands : List ℤ) where
   }
 
   -- a call refuses as the verdict does, and serves an accepted script by the store's part
-  pub record Serves (slots : List ℤ) (heads : List ℕ) (call : Verdict → StoreReply) (part : Script → Left) : Type 0
+  pub record Serves (slots : List ℤ) (heads : List ℕ) (call : Verdict → StoreReply) (part : Script → StoreLeft) : Type 0
     where
       pub refuses : (n p : ℕ) → call (refused n p) ≡ refusing kinds operands slots heads n p
       pub serves : (fs : Script) → call (accepted fs) ≡ reply-for fs (part fs) (part fs .answer)
@@ -172,7 +172,7 @@ unfolding packed
 packed-counts number steps cells f g = omega arith
 
 module _ {file kinds : List ℕ} {operands slots : List ℤ} {heads : List ℕ} {call : Verdict → StoreReply}
-    {part : Script → Left} (s : Serves kinds operands slots heads call part) where
+    {part : Script → StoreLeft} (s : Serves kinds operands slots heads call part) where
   -- loading refused the script
   pub replies-refused : {a : ℕ} {kinds′ : List ℕ} {operands′ : List ℤ} →
       Loads file kinds operands (Refused a) kinds′ operands′ →
@@ -199,7 +199,7 @@ module _ {file kinds : List ℕ} {operands slots : List ℤ} {heads : List ℕ} 
       (h : Loads file kinds operands (Ready l d) kinds′ operands′)
       (kinds-long : length kinds′ ≡ length kinds) (operands-long : length operands′ ≡ length operands)
       {a : ℕ} {kinds″ : List ℕ} {operands″ : List ℤ} {slots′ : List ℤ} {heads′ : List ℕ} where
-    told : (fs : Script) → admitted (h .node) file (room kinds operands) ≡ accepted fs → (r : Ended) → Small r →
+    told : (fs : Script) → admitted (h .node) file (room kinds operands) ≡ accepted fs → (r : Ended) → SmallAnswer r →
         Tells r kinds′ operands′ a kinds″ operands″ →
         _≡_ {A = StoreReply} (record
         { answer = a; kinds = kinds″; operands = operands″; slots = slots′; heads = heads′ })
@@ -213,7 +213,7 @@ module _ {file kinds : List ℕ} {operands slots : List ℤ} {heads : List ℕ} 
     told fs q (E.Refused number) few t = rw (t .0, t .1 .0, t .1 .1, kinds-long, operands-long) refl
 
     pub replies-told : (r : Ended) → ((fs : Script) → admitted (h .node) file (room kinds operands) ≡ accepted fs →
-        d ≡ main-depth fs → left r slots′ heads′ ≡ part fs) → Small r → Tells r kinds′ operands′ a kinds″ operands″ →
+        d ≡ main-depth fs → left r slots′ heads′ ≡ part fs) → SmallAnswer r → Tells r kinds′ operands′ a kinds″ operands″ →
         Replies file (λ node. call (admitted node file (room kinds operands))) a kinds″ operands″ slots′ heads′
     replies-told r e few t = record {
       node = h .node;

@@ -14,7 +14,7 @@ use Rattle.semantics.specs.Words.{store-of, shaped}
 use Rattle.semantics.specs.Sound.{sound, sound-words}
 use Rattle.semantics.specs.Calls.{judged, accepted, request-fits}
 use Rattle.laws.specs.Tests.{both-hold}
-use Rattle.store_words.proofs.Puts.{Kept}
+use Rattle.store_words.proofs.Puts.{LengthsKept}
 use Rattle.machine_positions.specs.Machine as M
 use Rattle.machine_positions.specs.Delivery.{delivered-on}
 use Rattle.machine_laws.specs.Script.{Coded, deliver-accepted}
@@ -44,7 +44,7 @@ sound-fits d slots heads e = both-hold (shaped slots heads) (sound d (store-of s
 module _ (node : ℕ) (file : List ℕ) (fs : Script) (ok : judged node file ≡ accepted fs) (few : length fs ≤ 32)
     (c : M.Code) (coded : Coded fs c) (readings : List ℤ) (budget : ℕ) (slots : List ℤ) (heads : List ℕ) where
   pub delivers : {slots′ : List ℤ} {heads′ : List ℕ} {number steps n : ℕ} (d : ℕ) → d ≡ main-depth fs →
-      request-fits readings budget ≡ true → sound-words d slots heads ≡ true → Kept slots heads slots′ heads′ →
+      request-fits readings budget ≡ true → sound-words d slots heads ≡ true → LengthsKept slots heads slots′ heads′ →
       store-of slots′ heads′ ≡ delivered-on c readings d budget (store-of slots heads) .store →
       number ≡ delivered-on c readings d budget (store-of slots heads) .number →
       steps ≡ delivered-on c readings d budget (store-of slots heads) .steps →

@@ -14,14 +14,14 @@ use Rattle.machine_positions.specs.Machine as M
 use Rattle.machine_laws.specs.Script.{Coded}
 use Rattle.engine_store.specs.declared.Ended.{Ended}
 use Rattle.engine_store.specs.declared.Ended.the-variants.{Refused}
-use Rattle.engine_store.specs.Left.{Left, left, left-by}
+use Rattle.engine_store.specs.Left.{StoreLeft, left, left-by}
 
 -- the answer and the words of a delivery
-abbrev pub left-of : Delivered → Left
+abbrev pub left-of : Delivered → StoreLeft
 left-of d = left-by (d .number) (d .steps) (d .store)
 
 -- refusal 10 before 11; either leaves the store as it is
-unfoldable pub delivered-left : Script → List ℤ → ℕ → List ℤ → List ℕ → Left
+unfoldable pub delivered-left : Script → List ℤ → ℕ → List ℤ → List ℕ → StoreLeft
 delivered-left fs readings budget slots heads =
     cond (request-fits readings budget)
     (cond (sound-words (main-depth fs) slots heads)
@@ -30,8 +30,8 @@ delivered-left fs readings budget slots heads =
     (left (Refused 10) slots heads)
 
 -- for every accepted script of which these are the code, the table and main's depth
-abbrev pub Delivers : List ℕ → List ℤ → List ℕ → List ℤ → List ℕ → List ℤ → ℕ → ℕ → Ended → List ℤ → List ℕ → Type 0
-Delivers kinds operands table slots heads readings depth budget r slots′ heads′ =
+abbrev pub DeliversWords : List ℕ → List ℤ → List ℕ → List ℤ → List ℕ → List ℤ → ℕ → ℕ → Ended → List ℤ → List ℕ → Type 0
+DeliversWords kinds operands table slots heads readings depth budget r slots′ heads′ =
     (node : ℕ) (file : List ℕ) (fs : Script) → judged node file ≡ accepted fs → length fs ≤ 32 →
     Coded fs (M.code kinds operands table) → depth ≡ main-depth fs →
     left r slots′ heads′ ≡ delivered-left fs readings budget slots heads

@@ -2,8 +2,8 @@
 use engine_store::Ended;
 ghost use mathlib.Core.Path.{_≡_};
 ghost use Rattle.semantics.specs.Calls.{request-fits};
-ghost use Rattle.engine_store.specs.Left.{Small};
-ghost use Rattle.engine_delivery.specs.Delivered.{Delivers};
+ghost use Rattle.engine_store.specs.Left.{SmallAnswer};
+ghost use Rattle.engine_delivery.specs.Delivered.{DeliversWords};
 
 // Whether there are at most 16 readings and 1,000,000 steps.
 fn request_fits(readings: &[i64], budget: u64) -> bool
@@ -26,10 +26,10 @@ pub fn deliver_words(
     depth: u32,
     budget: u64,
 ) -> Ended
-    ensures { λ r. ⌜ Delivers (now (kinds .entry)) (now (operands .entry)) (now (table .entry))
+    ensures { λ r. ⌜ DeliversWords (now (kinds .entry)) (now (operands .entry)) (now (table .entry))
         (now (slots .entry)) (now (heads .entry)) (now (readings .entry)) depth budget
         r (now (slots .exit)) (now (heads .exit)) ⌝ }
-    ensures { λ r. ⌜ Small r ⌝ }
+    ensures { λ r. ⌜ SmallAnswer r ⌝ }
 {
     if !request_fits(readings, budget) {
         return Ended::Refused(10);

@@ -18,10 +18,10 @@ use Rattle.engine.proofs.engine_deliver.Reads as deliver
 
 -- a call of `engine_open`: file, two code arrays and two store arrays as they were lent; the answer, and the four arrays
 -- as they were left
-pub data Opens : List ℕ → List ℕ → List ℤ → List ℤ → List ℕ → StoreReply → Type 0 where
+pub data OpenCall : List ℕ → List ℕ → List ℤ → List ℤ → List ℕ → StoreReply → Type 0 where
   opens : (κs : Lfts 5) (a : Dens κs O.ps) (r : resT O.r κs .Denot) (s : AtExit (endedOf 5 O.ps O.r) κs) →
       opening.Post κs a r s →
-      Opens (now (a .0)) (now (a .1 .0)) (now (a .1 .1 .0)) (now (a .1 .1 .1 .0)) (now (a .1 .1 .1 .1 .0))
+      OpenCall (now (a .0)) (now (a .1 .0)) (now (a .1 .1 .0)) (now (a .1 .1 .1 .0)) (now (a .1 .1 .1 .1 .0))
       (record {
         answer = r;
         kinds = now (s .1 .0);
@@ -31,10 +31,10 @@ pub data Opens : List ℕ → List ℕ → List ℤ → List ℤ → List ℕ �
       })
 
 -- a call of `engine_deliver`: the same, with readings and a budget
-pub data Delivers : List ℕ → List ℤ → List ℕ → Delivery → StoreReply → Type 0 where
+pub data DeliverCall : List ℕ → List ℤ → List ℕ → Delivery → StoreReply → Type 0 where
   delivers : (κs : Lfts 6) (a : Dens κs D.ps) (r : resT D.r κs .Denot) (s : AtExit (endedOf 6 D.ps D.r) κs) →
       deliver.Post κs a r s →
-      Delivers (now (a .0)) (now (a .1 .1 .1 .0)) (now (a .1 .1 .1 .1 .0))
+      DeliverCall (now (a .0)) (now (a .1 .1 .1 .0)) (now (a .1 .1 .1 .1 .0))
       (record {
         kinds = now (a .1 .0);
         operands = now (a .1 .1 .0);
@@ -50,17 +50,17 @@ pub data Delivers : List ℕ → List ℤ → List ℕ → Delivery → StoreRep
       })
 
 abbrev pub compiled : Engine
-compiled = record { opens = Opens; delivers = Delivers }
+compiled = record { opens = OpenCall; delivers = DeliverCall }
 
 -- each is a call of the definitions
 
 opens-defined : (file kinds : List ℕ) (operands slots : List ℤ) (heads : List ℕ) (r : StoreReply) →
-    Opens file kinds operands slots heads r → defined .opens file kinds operands slots heads r
+    OpenCall file kinds operands slots heads r → defined .opens file kinds operands slots heads r
 unfolding defined
 opens-defined file kinds operands slots heads r (opens κs a q s h) = (h .node, h .is)
 
 delivers-defined : (file : List ℕ) (slots : List ℤ) (heads : List ℕ) (δ : Delivery) (r : StoreReply) →
-    Delivers file slots heads δ r → defined .delivers file slots heads δ r
+    DeliverCall file slots heads δ r → defined .delivers file slots heads δ r
 unfolding defined
 delivers-defined file slots heads δ r (delivers κs a q s h) = (h .node, h .is)
 

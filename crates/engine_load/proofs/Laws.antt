@@ -20,10 +20,10 @@ use Rattle.script_read.specs.Told.{high-at}
 use Rattle.script_read.proofs.Written.{ScriptWritten, script-written}
 use Rattle.script.specs.declared.Verdict.the-variants.{Accepted, Refused}
 use Rattle.script.specs.Verdicts.{told-verdict, Judges}
-use Rattle.script.proofs.Whole.{kinds-of, operands-of, Taken, taken}
+use Rattle.script.proofs.Whole.{kinds-of, operands-of, FileTaken, taken}
 use Rattle.script_nodes.specs.Nodes.{refused-node}
 use Rattle.normal_script.specs.Script.{Translatable}
-use Rattle.normal.specs.Left.{Left, left-of, Leaves}
+use Rattle.normal.specs.Left.{CodeLeft, left-of, Leaves}
 use Rattle.engine_load.specs.declared.Loaded.{Loaded}
 use Rattle.engine_load.specs.declared.Loaded.the-variants as L
 use Rattle.engine_load.specs.Loading.{Loads}
@@ -72,7 +72,7 @@ accepted-file file f n h = go (read-file file) refl (h .is)
     go (stop m q) r e = no-equation (let s : Accepted f n ≡ Refused m q = rw r at e in let z : _≡_ {A = ℕ} 0 1 = cc in z)
 
 module _ {file : List ℕ} {f n : ℕ} (a : AcceptedFile file f n) where
-  pub file-taken : Taken file f n
+  pub file-taken : FileTaken file f n
   file-taken = taken file f n (a .last) (a .functions) (a .nodes) (rw (a .reads) refl)
 
   pub script-reads : script (kinds-of file n) (operands-of file n) f 0 ≡ done (a .tree) (a .last)
@@ -136,7 +136,7 @@ module _ {file : List ℕ} {kinds : List ℕ} {operands : List ℤ} {kinds′ : 
       fs = a .tree
 
       by : (t : Bool) → code-fits fs (room kinds operands) ≡ t →
-          _≡_ {A = Left} (record { answer = r; kinds = kinds′; operands = operands′ }) (left-of fs kinds operands) →
+          _≡_ {A = CodeLeft} (record { answer = r; kinds = kinds′; operands = operands′ }) (left-of fs kinds operands) →
           Loads file kinds operands (ready d r) kinds′ operands′
       by true q g =
           let s = rw q at g in

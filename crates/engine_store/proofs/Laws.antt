@@ -11,7 +11,7 @@ use Rattle.semantics.specs.Store.{Cell, Store, opened, one-if-used, used-cells,
 use Rattle.semantics.specs.Words.{cells-in, cell-at, store-of, shaped}
 use Rattle.semantics.specs.Sound.{sound, sound-words}
 use Rattle.laws.specs.Tests.{both-hold}
-use Rattle.store_words.proofs.Puts.{Kept}
+use Rattle.store_words.proofs.Puts.{LengthsKept}
 use Rattle.store_words.proofs.Spelling.{shaped-means, words-are}
 use Rattle.engine_store.specs.declared.Ended.the-variants.{Answered, Refused}
 use Rattle.engine_store.specs.Left.{left, left-by, opened-left, checked-left}
@@ -19,7 +19,7 @@ use Rattle.engine_store.specs.Left.{left, left-by, opened-left, checked-
 -- arrays of the right lengths that hold σ, with its cells counted
 pub words-left : {slots : List ℤ} {heads : List ℕ} {slots′ : List ℤ} {heads′ : List ℕ} {σ : Store}
     {number steps n : ℕ} →
-    Kept slots heads slots′ heads′ → shaped slots heads ≡ true → store-of slots′ heads′ ≡ σ →
+    LengthsKept slots heads slots′ heads′ → shaped slots heads ≡ true → store-of slots′ heads′ ≡ σ →
     n ≡ cells-taken (store-of slots′ heads′) → left (Answered number steps n) slots′ heads′ ≡ left-by number steps σ
 words-left {slots} {heads} {slots′} {heads′} {σ} kept fit holds counted =
     let words = words-are kept (shaped-means slots heads fit) holds in
@@ -31,7 +31,7 @@ unfolding opened-left
 not-opened d slots heads e = rw e
 
 pub opens : (d : ℕ) (slots : List ℤ) (heads : List ℕ) (slots′ : List ℤ) (heads′ : List ℕ) (n : ℕ) →
-    shaped slots heads ≡ true → Kept slots heads slots′ heads′ →
+    shaped slots heads ≡ true → LengthsKept slots heads slots′ heads′ →
     store-of slots′ heads′ ≡ opened (cells-in slots heads) d → n ≡ cells-taken (store-of slots′ heads′) →
     left (Answered 0 0 n) slots′ heads′ ≡ opened-left d slots heads
 unfolding opened-left

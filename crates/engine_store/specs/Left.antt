@@ -9,27 +9,27 @@ use Rattle.semantics.specs.Sound.{sound-words}
 use Rattle.engine_store.specs.declared.Ended.{Ended}
 use Rattle.engine_store.specs.declared.Ended.the-variants.{Answered, Refused}
 
-pub record Left : Type 0 where
+pub record StoreLeft : Type 0 where
   pub answer : Ended
   pub slots : List ℤ
   pub heads : List ℕ
 
-abbrev pub left : Ended → List ℤ → List ℕ → Left
+abbrev pub left : Ended → List ℤ → List ℕ → StoreLeft
 left answer slots heads = record { answer = answer; slots = slots; heads = heads }
 
 -- an answer with the words of a store, and the cells taken there
-abbrev pub left-by : ℕ → ℕ → Store → Left
+abbrev pub left-by : ℕ → ℕ → Store → StoreLeft
 left-by number steps σ = left (Answered number steps (cells-taken σ)) (slot-words σ) (head-words σ)
 
-unfoldable pub opened-left : ℕ → List ℤ → List ℕ → Left
+unfoldable pub opened-left : ℕ → List ℤ → List ℕ → StoreLeft
 opened-left d slots heads =
     cond (shaped slots heads) (left-by 0 0 (opened (cells-in slots heads) d)) (left (Refused 11) slots heads)
 
-unfoldable pub checked-left : ℕ → List ℤ → List ℕ → Left
+unfoldable pub checked-left : ℕ → List ℤ → List ℕ → StoreLeft
 checked-left d slots heads =
     cond (sound-words d slots heads) (left-by 0 0 (store-of slots heads)) (left (Refused 11) slots heads)
 
 -- steps and cells have room in an answer
-abbrev pub Small : Ended → Type 0
-Small (Answered number steps cells) = (steps ≤ 1000000) × (cells ≤ 256)
-Small (Refused number) = Unit {0}
+abbrev pub SmallAnswer : Ended → Type 0
+SmallAnswer (Answered number steps cells) = (steps ≤ 1000000) × (cells ≤ 256)
+SmallAnswer (Refused number) = Unit {0}

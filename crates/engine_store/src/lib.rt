@@ -1,6 +1,6 @@
 // The store's part of opening and checking, with every word of the two lent arrays promised.
 ghost use mathlib.Core.Path.{_≡_};
-ghost use Rattle.engine_store.specs.Left.{left, opened-left, checked-left, Small};
+ghost use Rattle.engine_store.specs.Left.{left, opened-left, checked-left, SmallAnswer};
 
 // How the store's part of a call ends: the number of a stop or 0, the steps and the cells taken; or a refusal.
 pub enum Ended {
@@ -12,7 +12,7 @@ pub enum Ended {
 pub fn open_words(slots: &mut [i64], heads: &mut [u32], depth: u32) -> Ended
     ensures { λ r. ⌜ left r (now (slots .exit)) (now (heads .exit))
         ≡ opened-left depth (now (slots .entry)) (now (heads .entry)) ⌝ }
-    ensures { λ r. ⌜ Small r ⌝ }
+    ensures { λ r. ⌜ SmallAnswer r ⌝ }
 {
     if !store_words::lengths_fit(slots, heads) {
         return Ended::Refused(11);
@@ -25,7 +25,7 @@ pub fn open_words(slots: &mut [i64], heads: &mut [u32], depth: u32) -> Ended
 pub fn check_words(slots: &[i64], heads: &[u32], depth: u32) -> Ended
     ensures { λ r. ⌜ left r (now (slots .entry)) (now (heads .entry))
         ≡ checked-left depth (now (slots .entry)) (now (heads .entry)) ⌝ }
-    ensures { λ r. ⌜ Small r ⌝ }
+    ensures { λ r. ⌜ SmallAnswer r ⌝ }
 {
     if !store_check::is_sound(slots, heads, depth) {
         return Ended::Refused(11);

@@ -19,7 +19,7 @@ use Rattle.machine_lines.specs.Lines.{memory, ran, out}
 use Rattle.machine_positions.specs.Machine.{Code, tree-on, call-on, Ended}
 use Rattle.machine_positions.specs.Delivery.{tried, retained-totals, released-totals, finished}
 use Rattle.machine_positions.specs.Delivery.{main-on, attempt-with, attempt-on, settled, delivered-on}
-use Rattle.machine_delivery.specs.Promises.{Tries, Delivers}
+use Rattle.machine_delivery.specs.Promises.{Tries, DeliversOn}
 
 -- ---- the totals' own reference
 
@@ -122,7 +122,7 @@ module _ (c : Code) (readings : List ℤ) (d budget : ℕ) (σ : Store) (r : Out
   delivered-is = ap (settled budget σ) (sym (done .is))
 
   pub delivery-stops : (r .stop ≡ 0 → ⊥) → (sl′ : List ℤ) (he′ : List ℕ) → store-of sl′ he′ ≡ relinked σ →
-      Delivers (delivered-on c readings d budget σ) (record { number = r .stop; steps = budget - r .steps }) sl′ he′
+      DeliversOn (delivered-on c readings d budget σ) (record { number = r .stop; steps = budget - r .steps }) sl′ he′
   delivery-stops h sl′ he′ e = record {
     number = sym (ap (λ t. t .number) delivered-is);
     steps = sym (ap (λ t. t .steps) delivered-is);
@@ -131,7 +131,7 @@ module _ (c : Code) (readings : List ℤ) (d budget : ℕ) (σ : Store) (r : Out
   }
 
   pub delivery-goes : r .stop ≡ 0 →
-      Delivers (delivered-on c readings d budget σ) (record { number = 0; steps = budget - r .steps }) sl he
+      DeliversOn (delivered-on c readings d budget σ) (record { number = 0; steps = budget - r .steps }) sl he
   delivery-goes h = record {
     number = sym (ap (λ t. t .number) delivered-is ∙ h);
     steps = sym (ap (λ t. t .steps) delivered-is);

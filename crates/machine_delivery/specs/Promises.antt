@@ -13,7 +13,7 @@ pub record Tries (t : Tried) (budget : ℕ) (r : Out) (slots : List ℤ) (heads 
   pub is : tried r (store-of slots heads) ≡ t
   pub fewer : r .steps ≤ budget
 
-pub record Delivers (d : Delivered) (r : Delivery) (slots : List ℤ) (heads : List ℕ) : Type 0 where
+pub record DeliversOn (d : Delivered) (r : Delivery) (slots : List ℤ) (heads : List ℕ) : Type 0 where
   pub number : r .number ≡ d .number
   pub steps : r .steps ≡ d .steps
   pub store : store-of slots heads ≡ d .store

@@ -10,7 +10,7 @@ ghost use lib.ListN.{length};
 ghost use Rattle.semantics.specs.Words.{store-of, shaped};
 ghost use Rattle.machine_positions.specs.Machine.{code};
 ghost use Rattle.machine_positions.specs.Delivery.{retained-totals, released-totals, main-on, attempt-on, delivered-on};
-ghost use Rattle.machine_delivery.specs.Promises.{Tries, Delivers};
+ghost use Rattle.machine_delivery.specs.Promises.{Tries, DeliversOn};
 
 // How a delivery ends: the number of its stop or 0, and the steps taken.
 pub struct Delivery {
@@ -127,7 +127,7 @@ fn deliver_kept(
 ) -> Delivery
     requires { ⌜ (0 < length (now slots)) × (length (now slots) ≤ length (now «old_slots»))
         × (length (now heads) ≤ length (now «old_heads»)) ⌝ }
-    ensures { λ r. ⌜ Delivers
+    ensures { λ r. ⌜ DeliversOn
         (delivered-on (code (now (kinds .entry)) (now (operands .entry)) (now (table .entry))) (now (readings .entry)) depth
         budget (store-of (now (slots .entry)) (now (heads .entry))))
         r (now (slots .exit)) (now (heads .exit)) ⌝ }
@@ -171,7 +171,7 @@ pub fn deliver_on(
     budget: u64,
 ) -> Delivery
     requires { ⌜ shaped (now slots) (now heads) ≡ true ⌝ }
-    ensures { λ r. ⌜ Delivers
+    ensures { λ r. ⌜ DeliversOn
         (delivered-on (code (now (kinds .entry)) (now (operands .entry)) (now (table .entry))) (now (readings .entry)) depth
         budget (store-of (now (slots .entry)) (now (heads .entry))))
         r (now (slots .exit)) (now (heads .exit)) ⌝ }

@@ -21,7 +21,7 @@ use Rattle.machine_lines.specs.Lines.{memory}
 use Rattle.machine_positions.specs.Machine.{Code, call-on, tree-on}
 use Rattle.machine_positions.specs.Lengths.{put-keeps}
 use Rattle.machine_laws.specs.Rows.{At, Jumps}
-use Rattle.machine_laws.specs.Frames.{Bounded, Agrees}
+use Rattle.machine_laws.specs.Frames.{Bounded, FrameAgrees}
 use Rattle.machine_laws.specs.Same.{Rel, TreeDone, CallDone, rel-map}
 use Rattle.machine_laws.specs.Leaves.{CalleeSame}
 use Rattle.machine_laws.specs.Trees.{tree-same}
@@ -67,7 +67,7 @@ pub bounded-parameters : (n : ℕ) → n ≤ 16 → Bounded (parameters n)
 bounded-parameters n h = record { below = λ x e. omega (arith, h, ltb-true x n e) }
 
 pub arguments-agree : (calls : ℕ) (ws : List ℤ) (env : List ℤ) → length ws ≤ 16 → 8192 ≤ length env →
-    Agrees calls (put-all ws (place calls 0) env) (frame-from ws 0) (parameters (length ws))
+    FrameAgrees calls (put-all ws (place calls 0) env) (frame-from ws 0) (parameters (length ws))
 arguments-agree calls ws env few long = record {
   agree = λ x e.
       ap (λ (q : ℕ). getD (put-all ws (place calls 0) env) q (pos 0)) (let z : place calls x ≡ place calls 0 + x =
@@ -80,7 +80,7 @@ arguments-agree calls ws env few long = record {
 -- ---- the routines of a program in the code
 
 -- routine g of a program stands in the code and in the table
-pub record Stands (p : Program) (c : Code) (g : ℕ) : Type 0 where
+pub record FunctionStands (p : Program) (c : Code) (g : ℕ) : Type 0 where
   pub fitting : Fitting p (routine-of p g .depths) (routine-of p g .tree) (p .signatures g .result)
   pub scoped : Scoped (routine-of p g .tree) (parameter-names (p .signatures g .parameters))
   pub written : At (c .kinds) (c .operands) (start-in (c .table) g) (rows (routine-of p g .tree))
@@ -89,7 +89,7 @@ pub record Stands (p : Program) (c : Code) (g : ℕ) : Type 0 where
   pub few : length (p .signatures g .parameters) ≤ 16
 
 module _ (p : Program) (enough : length (p .routines) ≤ 32) (c : Code)
-    (all : (g : ℕ) → g < length (p .routines) → Stands p c g) (jumps : Jumps c) where
+    (all : (g : ℕ) → g < length (p .routines) → FunctionStands p c g) (jumps : Jumps c) where
   -- a routine's tree, with some call depth left
   pub function-same : (n : ℕ) → n ≤ 31 → CalleeSame p n (call-on n c) (machine p n) → (R : List ℕ) (g : ℕ)
       (ws : List ℤ) (env : List ℤ) (s : State) → g < length (p .routines) →

@@ -22,7 +22,7 @@ use Rattle.machine_positions.specs.Delivery.{finished, main-frame, main-on}
 use Rattle.machine_positions.specs.Delivery.{attempt-with, attempt-on, settled, delivered-on}
 use Rattle.machine_laws.specs.Rows.{Jumps}
 use Rattle.machine_laws.specs.Same.{Rel, TreeDone}
-use Rattle.machine_laws.specs.Calls.{parameters, Stands, function-same, calls-same}
+use Rattle.machine_laws.specs.Calls.{parameters, FunctionStands, function-same, calls-same}
 
 -- the result in the totals' place
 abbrev put-totals : ℤ → Run State (Unit {0})
@@ -49,7 +49,7 @@ finish-same d old budget σ next calls env S w (stop n s) h =
     ) refl
 
 module _ (p : Program) (enough : length (p .routines) ≤ 32) (c : Code) (some : 0 < length (p .routines))
-    (two : 2 ≡ length (p .signatures 0 .parameters)) (all : (g : ℕ) → g < length (p .routines) → Stands p c g)
+    (two : 2 ≡ length (p .signatures 0 .parameters)) (all : (g : ℕ) → g < length (p .routines) → FunctionStands p c g)
     (jumps : Jumps c) where
   -- main, from a state, and what follows it
   run-same : (d : ℕ) (old : ℤ) (k budget : ℕ) (σ : Store) (R : List ℕ) (s : State) → s .left ≡ budget →

@@ -21,27 +21,27 @@ use Rattle.soundness.specs.machine.Discipline.{Known, AllNew, known-after, Line
 use Rattle.machine_code.proofs.Reading.{no-bool}
 use Rattle.machine_lines.specs.Frames.{place, word-of}
 use Rattle.machine_positions.specs.Machine.{bound-all}
-use Rattle.machine_laws.specs.Rows.{coded, Small}
+use Rattle.machine_laws.specs.Rows.{coded, SmallAtom}
 
 -- every known name fits a byte
 pub record Bounded (S : Set) : Type 0 where
   pub below : (x : ℕ) → S x ≡ true → x < 256
 
 -- the words of the known names
-pub record Agrees (calls : ℕ) (env : List ℤ) (ρ : Frame) (S : Set) : Type 0 where
+pub record FrameAgrees (calls : ℕ) (env : List ℤ) (ρ : Frame) (S : Set) : Type 0 where
   pub agree : (x : ℕ) → S x ≡ true → getD env (place calls x) (pos 0) ≡ ρ x
 
 -- what work in the frame of a call leaves alone: the known names, and the frames of its callers
-pub record Kept (calls : ℕ) (env env′ : List ℤ) (S : Set) : Type 0 where
+pub record FrameKept (calls : ℕ) (env env′ : List ℤ) (S : Set) : Type 0 where
   pub names : (x : ℕ) → S x ≡ true → getD env′ (place calls x) (pos 0) ≡ getD env (place calls x) (pos 0)
   pub callers : (q : ℕ) → q < 256 * (31 - calls) → getD env′ q (pos 0) ≡ getD env q (pos 0)
   pub long : length env′ ≡ length env
 
-pub small-known : (a : C.Atom) (S : Set) → Bounded S → Known a S → Small a
+pub small-known : (a : C.Atom) (S : Set) → Bounded S → Known a S → SmallAtom a
 small-known (C.number z) S b h = tt
 small-known (C.name x) S b h = b .below x h
 
-pub word-same : (calls : ℕ) (env : List ℤ) (ρ : Frame) (S : Set) → Agrees calls env ρ S → (a : C.Atom) → Known a S →
+pub word-same : (calls : ℕ) (env : List ℤ) (ρ : Frame) (S : Set) → FrameAgrees calls env ρ S → (a : C.Atom) → Known a S →
     word-of calls env (coded a) ≡ word ρ a
 word-same calls env ρ S g (C.number z) h = refl
 word-same calls env ρ S g (C.name x) h = g .agree x h
@@ -58,7 +58,7 @@ bounded-more x S h b = record { below = λ y e. go y e (ℕ-discrete x y) }
     go y e (no p) = b .below y (either-true x y S e p)
 
 pub agrees-more : (calls : ℕ) (env : List ℤ) (ρ : Frame) (S : Set) (x : ℕ) (v : ℤ) → x < 256 → 8192 ≤ length env →
-    Bounded S → Agrees calls env ρ S → Agrees calls (set env (place calls x) v) (updated ρ x v) (S ∪ only x)
+    Bounded S → FrameAgrees calls env ρ S → FrameAgrees calls (set env (place calls x) v) (updated ρ x v) (S ∪ only x)
 unfolding updated
 agrees-more calls env ρ S x v h l b g = record { agree = λ y e. go y e (ℕ-discrete x y) }
   where
@@ -73,11 +73,11 @@ agrees-more calls env ρ S x v h l b g = record { agree = λ y e. go y e (ℕ-di
         ∙ g .agree y (either-true x y S e p)
         ∙ sym (ap (λ (t : Bool). cond t v (ρ y)) (ne-eqb x y p))
 
-pub kept-none : (calls : ℕ) (env : List ℤ) (S : Set) → Kept calls env env S
+pub kept-none : (calls : ℕ) (env : List ℤ) (S : Set) → FrameKept calls env env S
 kept-none calls env S = record { names = λ x e. refl; callers = λ q h. refl; long = refl }
 
 pub kept-more : (calls : ℕ) (env : List ℤ) (S : Set) (x : ℕ) (v : ℤ) → S x ≡ false →
-    Kept calls env (set env (place calls x) v) S
+    FrameKept calls env (set env (place calls x) v) S
 kept-more calls env S x v u = record {
   names = λ y e. getD-set-other env (place calls x) (place calls y) v (pos 0)
       (λ q. no-bool (sym e ∙ ap S (let z : y ≡ x = omega (arith, q) in z) ∙ u));
@@ -86,7 +86,7 @@ kept-more calls env S x v u = record {
 }
 
 pub kept-then : (calls : ℕ) (e₀ e₁ e₂ : List ℤ) (S T : Set) → ((x : ℕ) → S x ≡ true → T x ≡ true) →
-    Kept calls e₀ e₁ S → Kept calls e₁ e₂ T → Kept calls e₀ e₂ S
+    FrameKept calls e₀ e₁ S → FrameKept calls e₁ e₂ T → FrameKept calls e₀ e₂ S
 kept-then calls e₀ e₁ e₂ S T i a b = record {
   names = λ x e. b .names x (i x e) ∙ a .names x e;
   callers = λ q h. b .callers q h ∙ a .callers q h;
@@ -109,9 +109,9 @@ bounded-after (C.retain x) S h b = b
 bounded-after (C.release x) S h b = b
 
 -- after work that kept them, the names still agree
-pub agrees-kept : (calls : ℕ) (env env′ : List ℤ) (ρ : Frame) (S : Set) → Agrees calls env ρ S → Kept calls env env′
+pub agrees-kept : (calls : ℕ) (env env′ : List ℤ) (ρ : Frame) (S : Set) → FrameAgrees calls env ρ S → FrameKept calls env env′
     S →
-    Agrees calls env′ ρ S
+    FrameAgrees calls env′ ρ S
 agrees-kept calls env env′ ρ S g k = record { agree = λ x e. k .names x e ∙ g .agree x e }
 
 -- ---- names bound in turn
@@ -138,16 +138,16 @@ bounded-all (p ∷ ps) S h b =
 
 module _ (calls : ℕ) where
   pub agrees-all : (ps : List ℕ) (ws env : List ℤ) (ρ : Frame) (S : Set) → AllNew ps S → 8192 ≤ length env → Bounded S →
-      Agrees calls env ρ S → Agrees calls (bound-all calls ps ws env) (binding ps ws ρ) (S ∪ just ps)
-  agrees-all [] ws env ρ S h long b g = subst (Agrees calls env ρ) (just-none S) g
+      FrameAgrees calls env ρ S → FrameAgrees calls (bound-all calls ps ws env) (binding ps ws ρ) (S ∪ just ps)
+  agrees-all [] ws env ρ S h long b g = subst (FrameAgrees calls env ρ) (just-none S) g
   agrees-all (p ∷ ps) ws env ρ S h long b g =
       let v = argument ws 0 in
-      subst (Agrees calls (bound-all calls (p ∷ ps) ws env) (binding (p ∷ ps) ws ρ)) (just-first S p ps)
+      subst (FrameAgrees calls (bound-all calls (p ∷ ps) ws env) (binding (p ∷ ps) ws ρ)) (just-first S p ps)
       (agrees-all ps (later-parts ws) (set env (place calls p) v) (updated ρ p v) (S ∪ only p) (h .1)
       (omega (arith, long, length-set env (place calls p) v)) (bounded-more p S (h .0 .small) b)
       (agrees-more calls env ρ S p v (h .0 .small) long b g))
 
-  pub kept-all : (ps : List ℕ) (ws env : List ℤ) (S : Set) → AllNew ps S → Kept calls env (bound-all calls ps ws env) S
+  pub kept-all : (ps : List ℕ) (ws env : List ℤ) (S : Set) → AllNew ps S → FrameKept calls env (bound-all calls ps ws env) S
   kept-all [] ws env S h = kept-none calls env S
   kept-all (p ∷ ps) ws env S h =
       let v = argument ws 0 in

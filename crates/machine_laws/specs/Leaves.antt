@@ -35,13 +35,13 @@ use Rattle.machine_lines.specs.Lines.{operation-given, array-of, index-given, l
 use Rattle.machine_lines.specs.Lines.{giving, calling, doing, leaf-done}
 use Rattle.machine_positions.specs.Machine.{Code, Work, Callee, binding, call-worked, call-line, line-done}
 use Rattle.machine_laws.specs.Rows.{Here, At, atom-here, atom-kind, line-read}
-use Rattle.machine_laws.specs.Frames.{Bounded, Agrees, small-known, word-same, kept-none}
+use Rattle.machine_laws.specs.Frames.{Bounded, FrameAgrees, small-known, word-same, kept-none}
 use Rattle.machine_laws.specs.Same.{Rel, LineDone, CallDone, Gives, rel-then, rel-step, call-word, bound-done}
 
 -- ---- the words of the atoms that follow a line
 
 module _ (kinds : List ℕ) (operands : List ℤ) (calls : ℕ) (env : List ℤ) (ρ : Frame) (S : Set) (b : Bounded S)
-    (g : Agrees calls env ρ S) where
+    (g : FrameAgrees calls env ρ S) where
   pub words-same : (us : List K.Atom) (n at : ℕ) → length us ≤ n → AllKnown us S →
       At kinds operands at (map atom-row us) → is-atom (getD kinds (at + length us) 0) ≡ false →
       words-at n kinds operands calls env at ≡ map (word ρ) us
@@ -104,7 +104,7 @@ operation-read less n u v = refl
 -- a line at a position, which binds x and has the atoms us
 module _ (p : Program) (few : length (p .routines) ≤ 32) (callee : M.Callee) (Γ : NameDepths) (c : Code) (calls f : ℕ)
     (C : Callee) (calling-same : CalleeSame p calls C callee) (W : Work) (at : ℕ) (A : Set) (R : List ℕ) (ρ : Frame)
-    (s : State) (env : List ℤ) (S : Set) (b : Bounded S) (g : Agrees calls env ρ S) (long : 8192 ≤ length env) where
+    (s : State) (env : List ℤ) (S : Set) (b : Bounded S) (g : FrameAgrees calls env ρ S) (long : 8192 ≤ length env) where
   abbrev here : Memory
   here = memory (s .store) env
 
@@ -132,8 +132,8 @@ module _ (p : Program) (few : length (p .routines) ≤ 32) (callee : M.Callee) (
     abbrev Claim : Leaf → Type 0
     Claim l = Rel Done (line-done W C c calls f at (s .left) here found) (work-line callee Γ (K.leaf x l us) A R ρ s)
 
-    abbrev Stands : Leaf → Type 0
-    Stands l = Here (c .kinds) (c .operands) at (row (leaf-kind l) (leaf-operand l x (length us)))
+    abbrev LeafStands : Leaf → Type 0
+    LeafStands l = Here (c .kinds) (c .operands) at (row (leaf-kind l) (leaf-operand l x (length us)))
 
     byte : x % 256 ≡ x
     byte = omega (arith, new .small)
@@ -174,7 +174,7 @@ module _ (p : Program) (few : length (p .routines) ≤ 32) (callee : M.Callee) (
         go n (stop j u) (done v s′) q = absurd q
         go n (stop j u) (stop k s′) q = record { stop = q .0; real = q .1; steps = q .2 }
 
-    operation-same : (o : Operation) → length us ≡ 2 → Stands (operation o) → Claim (operation o)
+    operation-same : (o : Operation) → length us ≡ 2 → LeafStands (operation o) → Claim (operation o)
     unfolding doing work-leaf onward require checked with-left
     operation-same o two r = gives-same (operation o) (at + 3) (s .store)
         (operation-given (operation-kind o) (argument ws 0) (argument ws 1))
@@ -191,7 +191,7 @@ module _ (p : Program) (few : length (p .routines) ≤ 32) (callee : M.Callee) (
         go n z true e = rw e (refl, refl, refl)
         go n z false e = rw e (refl, λ q. omega arith, refl)
 
-    length-same : length us ≡ 1 → Stands length-of → Claim length-of
+    length-same : length us ≡ 1 → LeafStands length-of → Claim length-of
     unfolding doing work-leaf onward elements-of M.with-store with-left
     length-same one r = gives-same length-of (at + 2) (s .store) (length-given (array-of (s .store) (argument ws 0)))
         (ap (doing (c .kinds) (c .operands) calls at here)
@@ -199,7 +199,7 @@ module _ (p : Program) (few : length (p .routines) ≤ 32) (callee : M.Callee) (
         ∙ rw (byte, first-word (omega (arith, one))) refl)
         (omega (arith, one)) (λ n. (refl, refl, refl))
 
-    index-same : length us ≡ 2 → Stands index → Claim index
+    index-same : length us ≡ 2 → LeafStands index → Claim index
     unfolding doing work-leaf onward require elements-of M.with-store with-left
     index-same two r = gives-same index (at + 3) (s .store)
         (index-given (array-of (s .store) (argument ws 0)) (argument ws 1))
@@ -216,7 +216,7 @@ module _ (p : Program) (few : length (p .routines) ≤ 32) (callee : M.Callee) (
         go n vs w true e = rw e (refl, refl, refl)
         go n vs w false e = rw e (refl, λ q. omega arith, refl)
 
-    literal-same : (d : ℕ) → length us ≤ 16 → d ≤ 3 → Stands (literal d) → Claim (literal d)
+    literal-same : (d : ℕ) → length us ≤ 16 → d ≤ 3 → LeafStands (literal d) → Claim (literal d)
     unfolding doing work-leaf acquire acquire-if M.with-store M.with-roots with-left next-cell
     literal-same d little shallow r = gives-same (literal d) (at + 1 + length ws) (acquired d ws (s .store))
         (acquired-given (next-cell (s .store)))
@@ -237,7 +237,7 @@ module _ (p : Program) (few : length (p .routines) ≤ 32) (callee : M.Callee) (
         go n false e = rw e (refl, λ q. omega arith, refl)
 
     call-same : (h : ℕ) → h < length (p .routines) → length us ≡ length (p .signatures h .parameters) →
-        Stands (call h) → Claim (call h)
+        LeafStands (call h) → Claim (call h)
     unfolding doing line-done call-line work-line work-leaf onward with-left
     call-same h there arity r =
         subst (λ (z : Doing). Rel Done (line-done W C c calls f at (s .left) here z)
@@ -262,7 +262,7 @@ module _ (p : Program) (few : length (p .routines) ≤ 32) (callee : M.Callee) (
         )))))
 
     -- every leaf
-    pub leaf-same : (l : Leaf) → LeafFits p Γ x l us → Stands l → Claim l
+    pub leaf-same : (l : Leaf) → LeafFits p Γ x l us → LeafStands l → Claim l
     leaf-same (operation o) h r = operation-same o (h .limits) r
     leaf-same (call k) h r =
         call-same k (leb-false (length (p .routines)) k (h .calls)) (call-long Γ us (p .signatures k) (Γ x) (h .gives)) r

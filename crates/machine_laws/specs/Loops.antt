@@ -29,7 +29,7 @@ use Rattle.machine_positions.specs.Machine.{Code, Callee, and-then, binding, Lo
 use Rattle.machine_positions.specs.Machine.{carry-first, carry-on, passes-on, loop-worked, loop-line, tree-on}
 use Rattle.machine_positions.specs.Lengths.{bound-all-keeps}
 use Rattle.machine_laws.specs.Rows.{Here, At, Jumps, coded, atom-here, line-read}
-use Rattle.machine_laws.specs.Frames.{Bounded, Agrees, Kept, small-known, word-same, kept-none, kept-then}
+use Rattle.machine_laws.specs.Frames.{Bounded, FrameAgrees, FrameKept, small-known, word-same, kept-none, kept-then}
 use Rattle.machine_laws.specs.Frames.{agrees-kept, bounded-all, agrees-all, kept-all}
 use Rattle.machine_laws.specs.Same.{Rel, WordDone, TreeDone, LineDone, rel-then, rel-step, rel-map}
 use Rattle.machine_laws.specs.Same.{onward-onward, word-moved, word-kept, bound-done}
@@ -88,7 +88,7 @@ pred-less : (n : ℕ) → n - 1 ≡ pred n
 pred-less zero = refl
 pred-less (suc n) = omega arith
 
-coded-words : (calls : ℕ) (env : List ℤ) (ρ : Frame) (S : Set) → Agrees calls env ρ S → (us : List K.Atom) →
+coded-words : (calls : ℕ) (env : List ℤ) (ρ : Frame) (S : Set) → FrameAgrees calls env ρ S → (us : List K.Atom) →
     AllKnown us S → map (word-of calls env) (map coded us) ≡ map (word ρ) us
 coded-words calls env ρ S g [] h = refl
 coded-words calls env ρ S g (u ∷ us) h =
@@ -99,7 +99,7 @@ module _ (p : Program) (callee : M.Callee) (Γ : NameDepths) (c : Code) (calls f
   abbrev pub TreeClaim : K.Tree → Type 0
   TreeClaim t = (n : ℕ) → length (rows t) ≤ n → n ≤ 4096 → (S : Set) (d : ℕ) → Fitting p Γ t d → Scoped t S →
       Bounded S → (at : ℕ) → At (c .kinds) (c .operands) at (rows t) → (L : Set) (R : List ℕ) (ρ : Frame) (s : State)
-      (env : List ℤ) → Agrees calls env ρ S → 8192 ≤ length env →
+      (env : List ℤ) → FrameAgrees calls env ρ S → 8192 ≤ length env →
       Rel (TreeDone (at + length (rows t)) calls env S)
       (tree-on n C c calls f at (s .left) (memory (s .store) env)) (work callee Γ t L R ρ s)
 
@@ -121,8 +121,8 @@ module _ (p : Program) (callee : M.Callee) (Γ : NameDepths) (c : Code) (calls f
     rest count i v = passes (work-pass k body a) v (tabulate i count (λ j. j))
 
     -- one pass, before the others
-    pass-same : (count i : ℕ) (v : ℤ) (s₀ : State) (e₀ : List ℤ) → Agrees calls e₀ ρ S → 8192 ≤ length e₀ →
-        ((u : ℤ) (s₁ : State) (e₁ : List ℤ) → Agrees calls e₁ ρ S → 8192 ≤ length e₁ → Rel (WordDone calls e₁ S)
+    pass-same : (count i : ℕ) (v : ℤ) (s₀ : State) (e₀ : List ℤ) → FrameAgrees calls e₀ ρ S → 8192 ≤ length e₀ →
+        ((u : ℤ) (s₁ : State) (e₁ : List ℤ) → FrameAgrees calls e₁ ρ S → 8192 ≤ length e₁ → Rel (WordDone calls e₁ S)
         (passes-on l count u (suc i) (s₁ .left) (memory (s₁ .store) e₁)) (rest count (suc i) u s₁)) →
         (m : ℕ) → s₀ .left ≡ m → Rel (WordDone calls e₀ S) (passes-on l (suc count) v i m (memory (s₀ .store) e₀))
         (onward (λ u. rest count (suc i) u) (onward (λ _ s₁. onward (λ ws s₂. onward (λ r. carried-on k v r)
@@ -163,7 +163,7 @@ module _ (p : Program) (callee : M.Callee) (Γ : NameDepths) (c : Code) (calls f
             (λ u. passes-on l count (u .out .value) (i + 1) (u .out .steps) (u .memory)) (λ u. rest count (suc i) u)
             (carry-on-same k v calls S w r s₂ (h .word .value) (h .word .steps) (h .word .store))
             (λ u s₃ q.
-            let kept : Kept calls e₀ (x .memory .env) S =
+            let kept : FrameKept calls e₀ (x .memory .env) S =
             kept-then calls e₀ (w .memory .env) (x .memory .env) S S (λ y z. z)
             (kept-then calls e₀ e₁ (w .memory .env) S (S ∪ just ps) (λ y z. or-left (S y) (just ps y) z)
             (kept-all calls ps vs e₀ S new) (h .word .kept)) (q .kept) in
@@ -177,7 +177,7 @@ module _ (p : Program) (callee : M.Callee) (Γ : NameDepths) (c : Code) (calls f
             (more u s₃ (x .memory .env) (agrees-kept calls e₀ (x .memory .env) ρ S g₀ kept)
             (omega (arith, l₀, kept .long)))))
 
-    passes-same : (count i : ℕ) (v : ℤ) (s₀ : State) (e₀ : List ℤ) → Agrees calls e₀ ρ S → 8192 ≤ length e₀ →
+    passes-same : (count i : ℕ) (v : ℤ) (s₀ : State) (e₀ : List ℤ) → FrameAgrees calls e₀ ρ S → 8192 ≤ length e₀ →
         Rel (WordDone calls e₀ S) (passes-on l count v i (s₀ .left) (memory (s₀ .store) e₀)) (rest count i v s₀)
     unfolding passes-on passes tabulate work-pass step
     passes-same zero i v s₀ e₀ g₀ l₀ =
@@ -188,7 +188,7 @@ module _ (p : Program) (callee : M.Callee) (Γ : NameDepths) (c : Code) (calls f
   -- a loop's line
   module _ (depths : (x : ℕ) → x < 256 → depth-in (c .table) f x ≡ Γ x) (jumps : Jumps c) (n : ℕ) (few : n ≤ 4096)
       (S : Set) (b : Bounded S) (at : ℕ) (A : Set) (R : List ℕ) (ρ : Frame) (s : State) (env : List ℤ)
-      (g : Agrees calls env ρ S) (long : 8192 ≤ length env) (x : ℕ) (k : Loop) (ps : List ℕ) (us : List K.Atom)
+      (g : FrameAgrees calls env ρ S) (long : 8192 ≤ length env) (x : ℕ) (k : Loop) (ps : List ℕ) (us : List K.Atom)
       (t : K.Tree) (new : New x S) (news : AllNew ps S) (known : AllKnown us S) (claim : TreeClaim t)
       (lt : length (rows t) ≤ n) (d : ℕ) (fit : Fitting p Γ t d) (scoped : Scoped t (S ∪ just ps))
       (rs : At (c .kinds) (c .operands) (at + suc (length (map coded us))) (rows t)) (goal : ℕ)

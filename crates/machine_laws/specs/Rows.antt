@@ -53,12 +53,12 @@ coded (C.number z) = Number z
 coded (C.name x) = Name x
 
 -- a name that fits a byte
-abbrev pub Small : C.Atom → Type 0
-Small (C.number z) = Unit {0}
-Small (C.name x) = x < 256
+abbrev pub SmallAtom : C.Atom → Type 0
+SmallAtom (C.number z) = Unit {0}
+SmallAtom (C.name x) = x < 256
 
 module _ (kinds : List ℕ) (operands : List ℤ) (at : ℕ) where
-  pub atom-here : (a : C.Atom) → Small a → Here kinds operands at (atom-row a) → atom-at kinds operands at ≡ coded a
+  pub atom-here : (a : C.Atom) → SmallAtom a → Here kinds operands at (atom-row a) → atom-at kinds operands at ≡ coded a
   unfolding atom-at
   atom-here (C.number z) h e = rw (e .kind, e .operand) refl
   atom-here (C.name x) h e = rw (e .kind, e .operand) (ap Name (let z : x % 256 ≡ x = omega arith in z))

@@ -17,7 +17,7 @@ use Rattle.soundness.specs.machine.Discipline.{New}
 use Rattle.machine_lines.specs.Frames.{place}
 use Rattle.machine_lines.specs.Lines.{Memory, memory, Ran, halted, stepping, Given}
 use Rattle.machine_positions.specs.Machine.{and-then, binding}
-use Rattle.machine_laws.specs.Frames.{Bounded, Agrees, Kept, agrees-more, agrees-kept, kept-more, kept-then}
+use Rattle.machine_laws.specs.Frames.{Bounded, FrameAgrees, FrameKept, agrees-more, agrees-kept, kept-more, kept-then}
 
 pub record Stopped (w : Ran) (n : ℕ) (s : State) : Type 0 where
   pub stop : w .out .stop ≡ n
@@ -33,7 +33,7 @@ pub record WordDone (calls : ℕ) (env : List ℤ) (S : Set) (w : Ran) (v : ℤ)
   pub value : w .out .value ≡ v
   pub steps : w .out .steps ≡ s .left
   pub store : w .memory .store ≡ s .store
-  pub kept : Kept calls env (w .memory .env) S
+  pub kept : FrameKept calls env (w .memory .env) S
 
 -- a tree gave its word: the code goes on at a position
 pub record TreeDone (goal calls : ℕ) (env : List ℤ) (S : Set) (w : Ran) (v : ℤ) (s : State) : Type 0 where
@@ -45,8 +45,8 @@ pub record LineDone (goal calls : ℕ) (env : List ℤ) (S T : Set) (w : Ran) (�
   pub next : w .out .next ≡ goal
   pub steps : w .out .steps ≡ s .left
   pub store : w .memory .store ≡ s .store
-  pub agrees : Agrees calls (w .memory .env) ρ T
-  pub kept : Kept calls env (w .memory .env) S
+  pub agrees : FrameAgrees calls (w .memory .env) ρ T
+  pub kept : FrameKept calls env (w .memory .env) S
 
 -- a call gave its word, and left all frames up to its caller's
 pub record CallDone (calls : ℕ) (env : List ℤ) (w : Ran) (v : ℤ) (s : State) : Type 0 where
@@ -102,7 +102,7 @@ word-moved X {w = w} {v = v} {s = s} h = ap₂ (λ (y : ℤ) (n : ℕ). X y n (w
     ∙ ap (λ (σ : Store). X v (s .left) (memory σ (w .memory .env))) (h .store)
 
 -- the same word, known from another list of words that kept the names
-pub word-kept : (calls : ℕ) (e₀ e₁ : List ℤ) (S T : Set) → ((x : ℕ) → S x ≡ true → T x ≡ true) → Kept calls e₀ e₁ S →
+pub word-kept : (calls : ℕ) (e₀ e₁ : List ℤ) (S T : Set) → ((x : ℕ) → S x ≡ true → T x ≡ true) → FrameKept calls e₀ e₁ S →
     (w : Ran) (v : ℤ) (s : State) → WordDone calls e₁ T w v s → WordDone calls e₀ S w v s
 word-kept calls e₀ e₁ S T i k w v s h = record {
   value = h .value;
@@ -126,7 +126,7 @@ call-word calls env S b w v s k = record {
 }
 
 -- a name bound to a word that work gave
-pub bound-done : (calls : ℕ) (env : List ℤ) (ρ : Frame) (S : Set) → Bounded S → Agrees calls env ρ S →
+pub bound-done : (calls : ℕ) (env : List ℤ) (ρ : Frame) (S : Set) → Bounded S → FrameAgrees calls env ρ S →
     8192 ≤ length env → (x : ℕ) → New x S → (next goal : ℕ) → next ≡ goal → (w : Ran) (v : ℤ) (s : State) →
     WordDone calls env S w v s →
     LineDone goal calls env S (S ∪ only x) (binding calls x next w) (updated ρ x v) s
@@ -134,7 +134,7 @@ bound-done calls env ρ S b g long x new next goal e w v s h = record {
   next = e;
   steps = h .steps;
   store = h .store;
-  agrees = subst (λ (y : ℤ). Agrees calls (set (w .memory .env) (place calls x) y) (updated ρ x v) (S ∪ only x))
+  agrees = subst (λ (y : ℤ). FrameAgrees calls (set (w .memory .env) (place calls x) y) (updated ρ x v) (S ∪ only x))
       (sym (h .value))
       (agrees-more calls (w .memory .env) ρ S x v (new .small) (omega (arith, long, h .kept .long)) b
       (agrees-kept calls env (w .memory .env) ρ S g (h .kept)));

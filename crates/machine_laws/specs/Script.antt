@@ -17,7 +17,7 @@ use Rattle.machine_code.specs.Reading.{depth-in, start-in}
 use Rattle.machine_positions.specs.Machine.{Code}
 use Rattle.machine_positions.specs.Delivery.{delivered-on}
 use Rattle.machine_laws.specs.Rows.{At, Jumps, at-first, at-second}
-use Rattle.machine_laws.specs.Calls.{Stands}
+use Rattle.machine_laws.specs.Calls.{FunctionStands}
 use Rattle.machine_laws.specs.Delivery.{delivered-same}
 
 -- ---- where the functions' trees stand
@@ -131,7 +131,7 @@ module _ (node : ℕ) (file : List ℕ) (fs : Script) (ok : judged node file ≡
   unfolding program
   routine-is f h = sym (getD-routine fs fs f h)
 
-  pub stands : (c : Code) → Coded fs c → (f : ℕ) → f < length (program fs .routines) → Stands (program fs) c f
+  pub stands : (c : Code) → Coded fs c → (f : ℕ) → f < length (program fs .routines) → FunctionStands (program fs) c f
   unfolding routine code program
   stands c held f l =
       let h : f < length fs = omega (arith, l, routines) in

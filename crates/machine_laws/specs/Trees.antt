@@ -28,7 +28,7 @@ use Rattle.machine_positions.specs.Machine.{Code, Work, Callee, and-then, bindi
 use Rattle.machine_positions.specs.Machine.{is-end, tree-from, tree-on}
 use Rattle.machine_laws.specs.Rows.{At, Jumps, at-first, at-second, coded, atom-here, line-read}
 use Rattle.machine_laws.specs.Rows.{no-atom, tree-within, line-some, rows-some}
-use Rattle.machine_laws.specs.Frames.{Bounded, Agrees, small-known, word-same, kept-none, known-stays}
+use Rattle.machine_laws.specs.Frames.{Bounded, FrameAgrees, small-known, word-same, kept-none, known-stays}
 use Rattle.machine_laws.specs.Frames.{bounded-after}
 use Rattle.machine_laws.specs.Same.{Rel, TreeDone, LineDone, rel-then, rel-step, rel-map, word-kept, bound-done}
 use Rattle.machine_laws.specs.Leaves.{CalleeSame, operation-read, leaf-same, retain-same, release-same}
@@ -75,7 +75,7 @@ module _ (p : Program) (enough : length (p .routines) ≤ 32) (callee : M.Callee
   LineClaims (K.release x) = Unit {0}
 
   module _ (n : ℕ) (few : n ≤ 4096) (S : Set) (b : Bounded S) (at : ℕ) (A : Set) (R : List ℕ) (ρ : Frame) (s : State)
-      (env : List ℤ) (g : Agrees calls env ρ S) (long : 8192 ≤ length env) where
+      (env : List ℤ) (g : FrameAgrees calls env ρ S) (long : 8192 ≤ length env) where
     abbrev W : Work
     W = tree-on n C c calls f
 

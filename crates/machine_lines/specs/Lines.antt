@@ -34,20 +34,20 @@ pub record Ran : Type 0 where
   pub memory : Memory
 
 -- the same for work that leaves the store alone
-pub record Left : Type 0 where
+pub record FrameLeft : Type 0 where
   pub out : Out
   pub env : List ℤ
 
 abbrev pub out : ℕ → ℤ → ℕ → ℕ → Out
 out number value next steps = record { stop = number; value = value; next = next; steps = steps }
 
-abbrev pub left : Out → List ℤ → Left
+abbrev pub left : Out → List ℤ → FrameLeft
 left r env = record { out = r; env = env }
 
 abbrev pub ran : Out → Memory → Ran
 ran r m = record { out = r; memory = m }
 
-abbrev pub with-store : Store → Left → Ran
+abbrev pub with-store : Store → FrameLeft → Ran
 with-store σ l = ran (l .out) (memory σ (l .env))
 
 -- a stop with some steps left
@@ -77,12 +77,12 @@ abbrev pub Given : Type 0
 Given = Outcome (Unit {0}) ℤ
 
 -- what a small work gave, bound to a name, with the code going on at a position
-abbrev pub given : ℕ → ℕ → ℕ → ℕ → List ℤ → Given → Left
+abbrev pub given : ℕ → ℕ → ℕ → ℕ → List ℤ → Given → FrameLeft
 given calls x next s env (done w u) = left (out 0 w next s) (bound calls x w env)
 given calls x next s env (stop n u) = left (out n (pos 0) 0 s) env
 
 -- a step, and then a small work that leaves the store alone
-unfoldable pub worked : ℕ → ℕ → ℕ → ℕ → List ℤ → Given → Left
+unfoldable pub worked : ℕ → ℕ → ℕ → ℕ → List ℤ → Given → FrameLeft
 worked calls x next steps env g =
     stepping steps (left (out 21 (pos 0) 0 0) env) (λ s. given calls x next s env g)
 
@@ -108,15 +108,15 @@ acquired-given (stop n u) = stop n tt
 
 -- ---- the lines
 
-abbrev pub operation-line : ℕ → ℕ → ℕ → Atom → Atom → ℕ → ℕ → List ℤ → Left
+abbrev pub operation-line : ℕ → ℕ → ℕ → Atom → Atom → ℕ → ℕ → List ℤ → FrameLeft
 operation-line calls kind x a b next steps env =
     worked calls x next steps env (operation-given kind (word-of calls env a) (word-of calls env b))
 
-abbrev pub index-line : Store → ℕ → ℕ → Atom → Atom → ℕ → ℕ → List ℤ → Left
+abbrev pub index-line : Store → ℕ → ℕ → Atom → Atom → ℕ → ℕ → List ℤ → FrameLeft
 index-line σ calls x a b next steps env =
     worked calls x next steps env (index-given (array-of σ (word-of calls env a)) (word-of calls env b))
 
-abbrev pub length-line : Store → ℕ → ℕ → Atom → ℕ → ℕ → List ℤ → Left
+abbrev pub length-line : Store → ℕ → ℕ → Atom → ℕ → ℕ → List ℤ → FrameLeft
 length-line σ calls x a next steps env =
     worked calls x next steps env (length-given (array-of σ (word-of calls env a)))
 

@@ -15,7 +15,7 @@ use Rattle.semantics.specs.Annotate.{code}
 use Rattle.semantics.specs.Calls.{room, code-fits}
 use Rattle.normal_write.specs.Wrote.{backed, kinds-of, operands-of, Wrote}
 use Rattle.normal_write.proofs.Rows.{map-length}
-use Rattle.normal.specs.Left.{Left, left-of}
+use Rattle.normal.specs.Left.{CodeLeft, left-of}
 
 -- what was written backwards, at the end
 drop-set : {A : Type 0} (l : List A) (j : ℕ) (v : A) → j < length l → drop j (set l j v) ≡ v ∷ drop (suc j) l
@@ -115,14 +115,14 @@ module _ (fs : Script) (k : List ℕ) (o : List ℤ) (at : ℕ) {k₁ : List ℕ
 
   pub refused-is : room k o < length (code fs) → (k₂ : List ℕ) (o₂ : List ℤ) →
       (k₂ ≡ replicate (length k) 0) × (o₂ ≡ replicate (length o) (pos 0)) →
-      _≡_ {A = Left} (record { answer = stop 9 tt; kinds = k₂; operands = o₂ }) (left-of fs k o)
+      _≡_ {A = CodeLeft} (record { answer = stop 9 tt; kinds = k₂; operands = o₂ }) (left-of fs k o)
   unfolding left-of code-fits
   refused-is e k₂ o₂ h = rw (lt-leb (length (code fs)) (room k o) e, h .0, h .1)
 
   pub all-fits : (at ≡ 0 → ⊥) → 4097 - at ≤ length k → 4097 - at ≤ length o → (k₂ : List ℕ) (o₂ : List ℤ) →
       k₂ ≡ drop at k₁ ++ replicate (length k - (length k₁ - at)) 0 → o₂ ≡ drop at o₁ ++ replicate
       (length o - (length o₁ - at)) (pos 0) →
-      _≡_ {A = Left} (record { answer = done (4097 - at) tt; kinds = k₂; operands = o₂ }) (left-of fs k o)
+      _≡_ {A = CodeLeft} (record { answer = done (4097 - at) tt; kinds = k₂; operands = o₂ }) (left-of fs k o)
   unfolding left-of code-fits
   all-fits f g h k₂ o₂ x y =
       rw (

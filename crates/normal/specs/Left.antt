@@ -17,13 +17,13 @@ abbrev pub laid-outcome : Laid → Outcome (Unit {0}) ℕ
 laid-outcome (Lines n) = done n tt
 laid-outcome TooLong = stop 9 tt
 
-pub record Left : Type 0 where
+pub record CodeLeft : Type 0 where
   pub answer : Outcome (Unit {0}) ℕ
   pub kinds : List ℕ
   pub operands : List ℤ
 
 -- all zero, where the code does not fit
-abbrev pub cleared : List ℕ → List ℤ → Left
+abbrev pub cleared : List ℕ → List ℤ → CodeLeft
 cleared kinds operands = record {
   answer = stop 9 tt;
   kinds = replicate (length kinds) 0;
@@ -31,12 +31,12 @@ cleared kinds operands = record {
 }
 
 -- the code and zeros past it, or 9
-unfoldable pub left-of : Script → List ℕ → List ℤ → Left
+unfoldable pub left-of : Script → List ℕ → List ℤ → CodeLeft
 left-of fs kinds operands =
     cond (code-fits fs (room kinds operands))
     (record { answer = done (length (code fs)) tt; kinds = code-kinds fs kinds; operands = code-operands fs operands })
     (cleared kinds operands)
 
-abbrev pub Leaves : Outcome ℕ Script → List ℕ → List ℤ → Left → Type 0
+abbrev pub Leaves : Outcome ℕ Script → List ℕ → List ℤ → CodeLeft → Type 0
 Leaves (done fs q) kinds operands l = l ≡ left-of fs kinds operands
 Leaves (stop n p) kinds operands l = Unit {0}

@@ -157,16 +157,16 @@ module _ (k w : List ℕ) (at : ℕ) where
 
 -- ---- the names below a number
 
-pub record Below (n : ℕ) (a r : List Bool) (i : ℕ) : Type 0 where
+pub record BelowReached (n : ℕ) (a r : List Bool) (i : ℕ) : Type 0 where
   pub made : Making (λ x. ltb x n) a r i
 
-pub below-none : (n : ℕ) (a : List Bool) → Below n a a 0
+pub below-none : (n : ℕ) (a : List Bool) → BelowReached n a a 0
 below-none n a = record { made = making-none (λ x. ltb x n) a }
 
-pub below-set : {n i : ℕ} {a r : List Bool} → Below n a r i → (v : Bool) → i < length a → v ≡ ltb i n → Below n a
+pub below-set : {n i : ℕ} {a r : List Bool} → BelowReached n a r i → (v : Bool) → i < length a → v ≡ ltb i n → BelowReached n a
     (set r i v) (i + 1)
 below-set b v h e = record { made = making-set (b .made) v h e }
 
-pub below-all : {n i : ℕ} {a r : List Bool} → Below n a r i → length a ≤ i → n ≤ i → _≡_ {A = Set} (set-of r)
+pub below-all : {n i : ℕ} {a r : List Bool} → BelowReached n a r i → length a ≤ i → n ≤ i → _≡_ {A = Set} (set-of r)
     (λ x. ltb x n)
 below-all {n} {i} b h g = making-all (b .made) h (λ k l. le-ltb k n (omega arith))

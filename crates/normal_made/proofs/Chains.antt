@@ -14,7 +14,7 @@ use Rattle.normal_code.specs.Plain.{tree-to}
 use Rattle.normal_code.proofs.Trees.{back-goes, back-stops, start-goes, start-stops, tree-some}
 use Rattle.normal_lay.specs.Laid.{laid, place-depth}
 use Rattle.normal_lay.proofs.Laws.{laid-below, laid-at, length-laid}
-use Rattle.normal_made.specs.Made.{State, state, Sized, Low, Agrees, Same, Chains}
+use Rattle.normal_made.specs.Made.{State, state, Sized, Low, RowsAgree, Same, Chains}
 
 -- k₁ is k with vs laid from p on
 pub record LaidAs (k k₁ : List ℕ) (p : ℕ) (vs : List ℕ) : Type 0 where
@@ -53,18 +53,18 @@ same-note {k} {nt} {nt₁} i v p t e h = record {
 pub same-depths : {k nt d d₁ : List ℕ} {X : State} {p t : ℕ} → Same X (state k nt d) p t → Same X (state k nt d₁) p t
 same-depths s = record { rows = s .rows; notes = s .notes }
 
-pub agrees-depths : {k nt d d₁ : List ℕ} {F : Plain} {lo hi top : ℕ} → Agrees (state k nt d₁) F lo hi top → Agrees
+pub agrees-depths : {k nt d d₁ : List ℕ} {F : Plain} {lo hi top : ℕ} → RowsAgree (state k nt d₁) F lo hi top → RowsAgree
     (state k nt d) F lo hi top
 agrees-depths s = record { rows = s .rows; notes = s .notes }
 
-pub agrees-back : {Y Z : State} {F : Plain} {lo hi top : ℕ} (q t : ℕ) → Agrees Z F lo hi top → Same Y Z q t → q ≤ hi
-    → t ≤ top → Agrees Y F lo q t
+pub agrees-back : {Y Z : State} {F : Plain} {lo hi top : ℕ} (q t : ℕ) → RowsAgree Z F lo hi top → Same Y Z q t → q ≤ hi
+    → t ≤ top → RowsAgree Y F lo q t
 agrees-back q t a s g h = record {
   rows = λ i l m. a .rows i l (omega arith) ∙ s .rows i m;
   notes = λ i l m. a .notes i l (omega arith) ∙ s .notes i m;
 }
 
-pub agrees-from : {Y : State} {F : Plain} {lo hi top : ℕ} (p : ℕ) → Agrees Y F lo hi top → lo ≤ p → Agrees Y F p hi
+pub agrees-from : {Y : State} {F : Plain} {lo hi top : ℕ} (p : ℕ) → RowsAgree Y F lo hi top → lo ≤ p → RowsAgree Y F p hi
     top
 agrees-from p a h = record {
   rows = λ i l m. a .rows i (omega arith) m;
@@ -77,7 +77,7 @@ note-set nt nt₁ i v e h = ap (λ (x : List ℕ). getD x i i) (e .is) ∙ getD-
 -- ---- a row that was laid, read back
 
 module _ {k k₁ nt d : List ℕ} {p : ℕ} {vs : List ℕ} (l : LaidAs k k₁ p vs) {F : Plain} {lo hi top : ℕ}
-    (a : Agrees (state k₁ nt d) F lo hi top) (h : lo ≤ p) (g : p + length vs ≤ hi) (s : p + length vs ≤ length k)
+    (a : RowsAgree (state k₁ nt d) F lo hi top) (h : lo ≤ p) (g : p + length vs ≤ hi) (s : p + length vs ≤ length k)
   where
     pub row-back : (i j : ℕ) → j ≡ p + i → i < length vs → getD (F .rows) j 0 ≡ getD vs i 0
     row-back i j e u =

@@ -18,7 +18,7 @@ use Rattle.normal_write.proofs.Rows.{append-none}
 use Rattle.normal_lay.specs.Laid.{firsts, place-depth, line-depth}
 use Rattle.normal_lay.proofs.Laws.{length-firsts, firsts-at}
 use Rattle.normal_made.specs.Source.{several, leaf-by, compound, laid-rows, laid-all}
-use Rattle.normal_made.specs.Made.{State, state, Sized, Low, Agrees, Same, Chains, Counted, Ready, Made}
+use Rattle.normal_made.specs.Made.{State, state, Sized, Low, RowsAgree, Same, Chains, Counted, Ready, Made}
 use Rattle.normal_made.specs.declared.Out.{Out}
 use Rattle.normal_made.proofs.Chains.{same-all, same-less, same-then, same-laid, same-note, agrees-back}
 use Rattle.normal_made.proofs.Chains.{agrees-from, note-set, row-back, line-back, chains-none, chains-then}
@@ -48,7 +48,7 @@ pub record Listing (w : List ℕ) (res : ℕ → ℕ) (R : ℕ → Expr) (m at :
   pub thin : p + width ≤ q
   pub go : Tree → Tree
   pub whole : (t : Tree) → all-lines (several R m at) μ n t ≡ go (all-lines (several R (m - i) a) μ x t)
-  pub chains : (F : Plain) → F .operands ≡ w → Agrees Y F p q q → Chains F p q width d₀ go
+  pub chains : (F : Plain) → F .operands ≡ w → RowsAgree Y F p q q → Chains F p q width d₀ go
   pub depths : (t : Tree) →
       tree-depths res (all-lines (several R m at) μ n t) (depth-in (X .depths))
       ≡ tree-depths res (all-lines (several R (m - i) a) μ x t) (depth-in (Y .depths))
@@ -275,7 +275,7 @@ module _ (results : List ℕ) {w : List ℕ} {R : ℕ → Expr} {m at : ℕ} {μ
   the-line : C.Line
   the-line = C.leaf (n + fresh-all (several R m at)) (leaf-by kind y) (atoms (several R m at) μ n)
 
-  line-there : (F : Plain) → F .operands ≡ w → Agrees (state k₁ nt₁ d₁) F p (q + 1 + m) (q + 1 + m) → (j : ℕ) → d₀ +
+  line-there : (F : Plain) → F .operands ≡ w → RowsAgree (state k₁ nt₁ d₁) F p (q + 1 + m) (q + 1 + m) → (j : ℕ) → d₀ +
       1 ≤ j →
       as-line F (tree-to F j) q (q + 1 + m) (line-at (F .operands) (F .rows) q) ≡ the-line
   unfolding the-line

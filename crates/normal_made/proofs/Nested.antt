@@ -15,7 +15,7 @@ use Rattle.normal_code.specs.Plain.{Plain, meant, placed, packed-row, line-at, 
 use Rattle.normal_write.specs.Parts.{depth-in}
 use Rattle.normal_lay.specs.Laid.{place-depth}
 use Rattle.normal_made.specs.Source.{map-of, laid-rows}
-use Rattle.normal_made.specs.Made.{State, state, Low, Agrees, Same, Made, TreeMade}
+use Rattle.normal_made.specs.Made.{State, state, Low, RowsAgree, Same, Made, TreeMade}
 use Rattle.normal_made.specs.declared.Out.{Out}
 use Rattle.normal_made.proofs.Chains.{same-less, same-then, same-laid, same-note, agrees-back, agrees-from}
 use Rattle.normal_made.proofs.Chains.{note-set, row-back, line-back, chains-then, chains-more, chains-as}
@@ -112,7 +112,7 @@ module _ (w : List ℕ) (res : ℕ → ℕ) where
     if-line = C.if-else (n + fresh g) (atom g μ n) (normal b μ (n + fresh g + 1)) (normal c μ (n + fresh g + 1 +
         fresh b))
 
-    if-there : (F : Plain) → F .operands ≡ w → Agrees (state k₆ n₇ d₇) F p (re .p) (re .p) → (d : ℕ) → d₀ + 1 ≤ d →
+    if-there : (F : Plain) → F .operands ≡ w → RowsAgree (state k₆ n₇ d₇) F p (re .p) (re .p) → (d : ℕ) → d₀ + 1 ≤ d →
         as-line F (tree-to F d) (rg .p) (re .p) (line-at (F .operands) (F .rows) (rg .p)) ≡ if-line
     unfolding as-line if-line
     if-there F u a d h =
@@ -137,7 +137,7 @@ module _ (w : List ℕ) (res : ℕ → ℕ) where
         (ap (λ (i : ℕ). tree-to F d (start (F .notes) 4096 i - 2)) last-two ∙ ap (tree-to F d) first-two ∙ own)
         (ap (tree-to F d) last-two ∙ other)
       where
-        in₂ : Agrees (state k₂ n₁ d₁) F p (rg .p + 2) (rg .p)
+        in₂ : RowsAgree (state k₂ n₁ d₁) F p (rg .p + 2) (rg .p)
         in₂ = agrees-back (rg .p + 2) (rg .p) a keep₂ (omega (arith, end-is, A .reach))
             (omega (arith, end-is, A .reach))
 
@@ -157,12 +157,12 @@ module _ (w : List ℕ) (res : ℕ → ℕ) where
               ∙ note-set n₄ n₅ (rt .p) (rt .p) e₅ (omega (arith, B-is .sized .notes, end-is, short, C-is .reach)),
         )
 
-        in₄ : Agrees (state k₄ n₄ d₄) F (rg .p + 2) (rt .p) (rg .p + 2 + laid-rows b)
+        in₄ : RowsAgree (state k₄ n₄ d₄) F (rg .p + 2) (rt .p) (rg .p + 2 + laid-rows b)
         in₄ = agrees-from (rg .p + 2) (agrees-back (rt .p) (rg .p + 2 + laid-rows b) a (same-less (rt .p)
             (rg .p + 2 + laid-rows b) keep₄ (omega arith) (omega (arith, B-is .reach))) (omega (arith, C-is .reach))
             (omega (arith, B-is .reach, C-is .reach))) (omega (arith, A .reach))
 
-        in₆ : Agrees (state k₆ n₆ d₆) F (rt .p) (re .p) (rt .p + laid-rows c)
+        in₆ : RowsAgree (state k₆ n₆ d₆) F (rt .p) (re .p) (rt .p + laid-rows c)
         in₆ = agrees-from (rt .p) (agrees-back (re .p) (rt .p + laid-rows c) a (same-less (re .p) (rt .p + laid-rows
             c) keep₆ (omega arith) (omega (arith, C-is .reach))) (omega arith) (omega (arith, C-is .reach)))
             (omega (arith, A .reach, B-is .reach))
@@ -272,7 +272,7 @@ module _ (w : List ℕ) (res : ℕ → ℕ) where
     map-line : C.Line
     map-line = C.loop (n + fresh a) mapping ((n + fresh a + 1) ∷ []) (atom a μ n ∷ []) (normal b inner (n + fresh a + 2))
 
-    map-there : (F : Plain) → F .operands ≡ w → Agrees (state k₄ n₅ d₅) F p (rt .p) (rt .p) → (d : ℕ) → d₀ + 1 ≤ d →
+    map-there : (F : Plain) → F .operands ≡ w → RowsAgree (state k₄ n₅ d₅) F p (rt .p) (rt .p) → (d : ℕ) → d₀ + 1 ≤ d →
         as-line F (tree-to F d) (ra .p) (rt .p) (line-at (F .operands) (F .rows) (ra .p)) ≡ map-line
     unfolding as-line map-line
     map-there F u g d h =
@@ -297,7 +297,7 @@ module _ (w : List ℕ) (res : ℕ → ℕ) where
         u ∙ A .gives)
         (ap (tree-to F d) last-two ∙ body)
       where
-        in₂ : Agrees (state k₂ n₁ d₁) F p (ra .p + 2) (ra .p)
+        in₂ : RowsAgree (state k₂ n₁ d₁) F p (ra .p + 2) (ra .p)
         in₂ = agrees-back (ra .p + 2) (ra .p) g held₂ (omega (arith, stop-is, A .reach))
             (omega (arith, stop-is, A .reach))
 
@@ -309,7 +309,7 @@ module _ (w : List ℕ) (res : ℕ → ℕ) where
               ∙ note-set n₁ n₂ (ra .p + 2) (ra .p + 2) e₂ (omega (arith, A .sized .notes, stop-is, brief, A .reach)),
         )
 
-        in₄ : Agrees (state k₄ n₄ d₄) F (ra .p + 2) (rt .p) (ra .p + 2 + laid-rows b)
+        in₄ : RowsAgree (state k₄ n₄ d₄) F (ra .p + 2) (rt .p) (ra .p + 2 + laid-rows b)
         in₄ = agrees-from (ra .p + 2) (agrees-back (rt .p) (ra .p + 2 + laid-rows b) g (same-less (rt .p)
             (ra .p + 2 + laid-rows b) held₄ (omega arith) (omega (arith, T-is .reach))) (omega arith)
             (omega (arith, T-is .reach))) (omega (arith, A .reach))

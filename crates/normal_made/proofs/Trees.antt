@@ -21,7 +21,7 @@ use Rattle.normal_code.specs.Plain.{Plain, meant, placed, packed-row, end-at}
 use Rattle.normal_write.specs.Parts.{depth-in}
 use Rattle.normal_lay.specs.Laid.{place-depth}
 use Rattle.normal_made.specs.Source.{laid-rows}
-use Rattle.normal_made.specs.Made.{State, state, Sized, Agrees, Chains, Made, TreeMade}
+use Rattle.normal_made.specs.Made.{State, state, Sized, RowsAgree, Chains, Made, TreeMade}
 use Rattle.normal_made.specs.declared.Out.{Out}
 use Rattle.normal_made.proofs.Chains.{same-all, same-less, same-then, same-laid, agrees-back, agrees-from}
 use Rattle.normal_made.proofs.Chains.{row-back, chains-none, chains-then, chains-more, chains-as, chains-tree}
@@ -157,12 +157,12 @@ module _ (w : List ℕ) (res : ℕ → ℕ) where
     depths = A .depths (end (atom e μ n));
   }
     where
-      lines-there : (F : Plain) → F .operands ≡ w → Agrees (state k₁ nt d) F p (r .p + 2) (p + laid-rows e) → Chains
+      lines-there : (F : Plain) → F .operands ≡ w → RowsAgree (state k₁ nt d) F p (r .p + 2) (p + laid-rows e) → Chains
           F p (r .p) (A .width) d₀ (λ t. lines e μ n t)
       lines-there F u g = A .chains F u (agrees-back (r .p) (r .p) g (same-laid (r .p) l) (omega arith)
           (omega (arith, A .reach)))
 
-      end-there : (F : Plain) → F .operands ≡ w → Agrees (state k₁ nt d) F p (r .p + 2) (p + laid-rows e) → end-at F
+      end-there : (F : Plain) → F .operands ≡ w → RowsAgree (state k₁ nt d) F p (r .p + 2) (p + laid-rows e) → end-at F
           (r .p) ≡ end (atom e μ n)
       end-there F u g =
           ap (λ (v : ℕ). end (meant (placed (F .operands) v)))

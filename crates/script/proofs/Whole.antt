@@ -39,7 +39,7 @@ file-parts l n h e = record {
 }
 
 -- a file that the reader takes, with its sizes
-pub record Taken (l : List ℕ) (f n : ℕ) : Type 0 where
+pub record FileTaken (l : List ℕ) (f n : ℕ) : Type 0 where
   pub long : length l ≡ 4 + 9 * n
   pub readable : Readable (kinds-of l n) (operands-of l n) f
   pub same : script (kinds-of l n) (operands-of l n) f 0 ≡ read-file l
@@ -59,7 +59,7 @@ module _ (l : List ℕ) (f n q : ℕ) (fe : f ≡ bytes-at 2 l 0) (ne : n ≡ by
       take-all (length l - (4 + n)) (drop (4 + n) l) (omega (arith, length-drop (4 + n) l)) in
       rw (i, j)
 
-  pub taken : R.Next q ≡ told (read-file l) → Taken l f n
+  pub taken : R.Next q ≡ told (read-file l) → FileTaken l f n
   unfolding read-file
   taken e =
       go (ltb (length l) 4) refl (between 1 32 f && between 1 1024 n) refl (eqb (length l) (4 + 9 * n)) refl
@@ -69,7 +69,7 @@ module _ (l : List ℕ) (f n q : ℕ) (fe : f ≡ bytes-at 2 l 0) (ne : n ≡ by
           (u : Bool) → eqb (length l) (4 + 9 * n) ≡ u →
           R.Next q ≡ told (cond s (stop 1 0)
           (cond t (cond u (script (take n (drop 4 l)) (drop (4 + n) l) f 0) (stop 1 0)) (stop 2 0))) →
-          Taken l f n
+          FileTaken l f n
       go true i t j u g e = let z : _≡_ {A = ℕ} 0 1 = cc in absurd (omega arith)
       go false i false j u g e = let z : _≡_ {A = ℕ} 0 1 = cc in absurd (omega arith)
       go false i true j false g e = let z : _≡_ {A = ℕ} 0 1 = cc in absurd (omega arith)
@@ -125,6 +125,6 @@ module _ (l : List ℕ) (r : Verdict) where
       go (done fs q) f = let z : _≡_ {A = ℕ} 0 1 = cc in absurd (omega arith)
       go (stop m q) f = cc
 
-  pub checked : {f n : ℕ} → f ≡ bytes-at 2 l 0 → n ≡ bytes-at 2 l 2 → Taken l f n →
+  pub checked : {f n : ℕ} → f ≡ bytes-at 2 l 0 → n ≡ bytes-at 2 l 2 → FileTaken l f n →
       r ≡ checked-as f (length (kinds-of l n)) (script (kinds-of l n) (operands-of l n) f 0) → Judges l r
   checked fe ne t e = judges (rw (← fe, ← ne) (rw (t .sized, t .same) at e))

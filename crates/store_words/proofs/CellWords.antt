@@ -12,7 +12,7 @@ use borrow.Author.Tests.{ltb-true, ltb-false}
 use Rattle.semantics.specs.Store.{Cell, Store, cell, cell-count, clear, elements, with-cell}
 use Rattle.semantics.specs.Words.{cells-in, slots-at, cell-at, store-of}
 use Rattle.laws.specs.Cells.{same-store}
-use Rattle.store_words.specs.Parts.{Stands}
+use Rattle.store_words.specs.Parts.{CellThere}
 use Rattle.store_words.proofs.Tables.{length-tabulate, tabulate-at}
 
 -- a cell put back where it is
@@ -36,7 +36,7 @@ module _ (slots : List ℤ) (heads : List ℕ) where
   to-cells c a b d = omega arith
 
   -- what a test for a cell that is there says
-  pub stands : (c : ℕ) (r : Bool) → r ≡ ltb c (cells-in slots heads) → Stands slots heads c r
+  pub stands : (c : ℕ) (r : Bool) → r ≡ ltb c (cells-in slots heads) → CellThere slots heads c r
   stands c r e = record {
     there = λ t. let h = ltb-true c (cells-in slots heads) (sym e ∙ t) in
         (h, in-cells c h .0, in-cells c h .1, in-cells c h .2);

@@ -15,19 +15,19 @@ use Rattle.laws.specs.Cells.{same-cell, same-store}
 use Rattle.store_words.proofs.CellWords.{in-cells, cell-is}
 
 -- the lengths are kept
-pub record Kept (slots : List ℤ) (heads : List ℕ) (slots′ : List ℤ) (heads′ : List ℕ) : Type 0 where
+pub record LengthsKept (slots : List ℤ) (heads : List ℕ) (slots′ : List ℤ) (heads′ : List ℕ) : Type 0 where
   pub slots-long : length slots′ ≡ length slots
   pub heads-long : length heads′ ≡ length heads
 
 pub cells-kept : {slots : List ℤ} {heads : List ℕ} {slots′ : List ℤ} {heads′ : List ℕ} →
-    Kept slots heads slots′ heads′ → cells-in slots′ heads′ ≡ cells-in slots heads
+    LengthsKept slots heads slots′ heads′ → cells-in slots′ heads′ ≡ cells-in slots heads
 unfolding cells-in
 cells-kept k = rw (k .slots-long, k .heads-long)
 
 -- cell c is now x, the first free cell is now `first`, and nothing else has changed
 pub record Put (slots : List ℤ) (heads : List ℕ) (c : ℕ) (x : Cell) (first : ℕ) (slots′ : List ℤ) (heads′ : List ℕ)
     : Type 0 where
-  pub kept : Kept slots heads slots′ heads′
+  pub kept : LengthsKept slots heads slots′ heads′
   pub here : cell-at slots′ heads′ c ≡ x
   pub other : (d : ℕ) → d ≢ c → cell-at slots′ heads′ d ≡ cell-at slots heads d
   pub totals : getD slots′ 0 (pos 0) ≡ getD slots 0 (pos 0)

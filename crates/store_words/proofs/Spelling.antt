@@ -15,7 +15,7 @@ use Rattle.semantics.specs.Words.{cells-in, slots-at, cell-at, store-of, shaped
 use Rattle.semantics.specs.Words.{all-slots, all-heads, slot-words, head-words}
 use Rattle.laws.specs.Tests.{both-hold}
 use Rattle.store_words.proofs.CellWords.{slots-length, slot-is}
-use Rattle.store_words.proofs.Puts.{Kept, cells-kept}
+use Rattle.store_words.proofs.Puts.{LengthsKept, cells-kept}
 
 -- ---- the lengths that the test accepts
 
@@ -110,7 +110,7 @@ module _ (slots : List ℤ) (heads : List ℕ) (fit : Shaped slots heads) where
 -- ---- after an operation, which keeps the lengths
 
 pub shaped-kept : {slots : List ℤ} {heads : List ℕ} {slots′ : List ℤ} {heads′ : List ℕ} →
-    Kept slots heads slots′ heads′ →
+    LengthsKept slots heads slots′ heads′ →
     Shaped slots heads → Shaped slots′ heads′
 shaped-kept k fit = record {
   some = omega (arith, fit .some, cells-kept k);
@@ -120,7 +120,7 @@ shaped-kept k fit = record {
 
 -- arrays of the right lengths that hold σ are its words
 pub words-are : {slots : List ℤ} {heads : List ℕ} {slots′ : List ℤ} {heads′ : List ℕ} {σ : Store} →
-    Kept slots heads slots′ heads′ → Shaped slots heads → store-of slots′ heads′ ≡ σ →
+    LengthsKept slots heads slots′ heads′ → Shaped slots heads → store-of slots′ heads′ ≡ σ →
     (slots′ ≡ slot-words σ) × (heads′ ≡ head-words σ)
 words-are {slots} {heads} {slots′} {heads′} k fit e =
     let fit′ = shaped-kept k fit in

@@ -16,7 +16,7 @@ pub record Holds (slots : List ℤ) (heads : List ℕ) (n : ℕ) : Type 0 where
   pub most : n ≤ 256
 
 -- the answer says whether cell c is there
-pub record Stands (slots : List ℤ) (heads : List ℕ) (c : ℕ) (r : Bool) : Type 0 where
+pub record CellThere (slots : List ℤ) (heads : List ℕ) (c : ℕ) (r : Bool) : Type 0 where
   pub there : r ≡ true → (c < cells-in slots heads) × (c < 256) × (4 * c + 4 < length heads)
       × (16 * c + 16 < length slots)
   pub gone : r ≡ false → cells-in slots heads ≤ c

@@ -7,7 +7,7 @@ ghost use lib.IntN.{pos};
 ghost use lib.ListN.{length, set, getD};
 ghost use Rattle.semantics.specs.Store.{cell, cell-of, elements, one-if-used, cells-taken};
 ghost use Rattle.semantics.specs.Words.{store-of, shaped};
-ghost use Rattle.store_words.specs.Parts.{Cleared, Holds, Stands, with-head};
+ghost use Rattle.store_words.specs.Parts.{Cleared, Holds, CellThere, with-head};
 
 // The smaller of two numbers.
 pub fn at_most(a: usize, b: usize) -> usize
@@ -33,7 +33,7 @@ pub fn cells(slots: &[i64], heads: &[u32]) -> usize
 
 // Whether a cell is there.
 pub fn is_cell(slots: &[i64], heads: &[u32], c: usize) -> bool
-    ensures { λ r. ⌜ Stands (now (slots .entry)) (now (heads .entry)) c r ⌝ }
+    ensures { λ r. ⌜ CellThere (now (slots .entry)) (now (heads .entry)) c r ⌝ }
 {
     if 256 <= c {
         return false;

@@ -1,4 +1,4 @@
-use Rattle.normal_function.proofs.Parameters.{Below, below-none, below-set, below-all}
+use Rattle.normal_function.proofs.Parameters.{BelowReached, below-none, below-set, below-all}
 use mathlib.Core.Path.{_≡_, refl}
 use native.Mathlib.Omega.{arith}
 use Prim.Native.Nat.{_-_, _≤_}
@@ -8,7 +8,7 @@ use Rattle.normal_function.proofs.names_below.Statement.{statement}
 use Rattle.normal_function.proofs.names_below.Tie as tie
 
 abbrev Inv-loop : tie.InvT-loop
-Inv-loop count n s₀ i₀ s i = (length s₀ ≡ 256) × (i ≤ 256) × (n ≤ 255) × Below n s₀ s i
+Inv-loop count n s₀ i₀ s i = (length s₀ ≡ 256) × (i ≤ 256) × (n ≤ 255) × BelowReached n s₀ s i
 
 abbrev μ-loop : tie.MeasureT-loop
 μ-loop count n s₀ i₀ s i = 256 - i

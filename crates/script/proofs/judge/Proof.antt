@@ -1,14 +1,14 @@
 -- `script::judge` meets its contract, by the laws of `Whole`.
 use native.Mathlib.Omega.{arith}
 use mathlib.Core.Path.{refl, sym, _∙_}
-use Rattle.script.proofs.Whole.{Taken, taken, refused, checked}
+use Rattle.script.proofs.Whole.{FileTaken, taken, refused, checked}
 use borrow.Author.Needs.{needs}
 use Rattle.script.proofs.judge.Statement.{statement}
 use Rattle.script.proofs.judge.Tie as tie
 
 -- once both sizes are read
 sizes-known : (c : tie.After-short-at2) →
-    Taken (c .before .before .before .before .before .before .args .file .now) (c .before .short-at .result)
+    FileTaken (c .before .before .before .before .before .before .args .file .now) (c .before .short-at .result)
     (c .short-at2 .result)
 sizes-known c =
     taken _ _ _ _ (c .before .short-at .ensures .0) (c .short-at2 .ensures .0)

@@ -16,7 +16,7 @@ use Rattle.semantics.specs.Types.{leaf-rule, loop-rule}
 use Rattle.semantics.specs.Code.{Atom, number, name}
 use Rattle.semantics.specs.Normal.{Meanings, fresh, fresh-all, atom, atoms, numbered, meaning-names}
 use Rattle.semantics.specs.Annotate.{NameDepths, atom-depth, with-depths, pass-depths, leaf-depth, loop-depth}
-use Rattle.soundness.specs.normal.Agree.{Below, updated-same, updated-other, below-more, below-updated, atom-below}
+use Rattle.soundness.specs.normal.Agree.{AtomBelow, updated-same, updated-other, below-more, below-updated, atom-below}
 use Rattle.soundness.specs.annotation.Typed.{count, element-depths, Functions, LeafType, LoopType, Typed, AllTyped}
 use Rattle.soundness.specs.annotation.Rules.{leaf-gives, loop-gives, pass-gives, element-count}
 use Rattle.soundness.specs.annotation.Tables.{with-off, numbered-agree, with-same, table, tables, table-off}
@@ -26,14 +26,14 @@ use Rattle.soundness.specs.annotation.Tables.{tables-off}
 
 -- they are below n, and have the depths δ in the table Γ
 pub record Standing (μ : Meanings) (δ : ℕ → ℕ) (n : ℕ) (Γ : NameDepths) : Type 0 where
-  pub below : (y : ℕ) → Below (μ y) n
+  pub below : (y : ℕ) → AtomBelow (μ y) n
   pub depth : (y : ℕ) → atom-depth Γ (μ y) ≡ δ y
 
 -- the names from n to m have the same depths
-pub record Agrees (Γ Δ : NameDepths) (n m : ℕ) : Type 0 where
+pub record DepthsAgree (Γ Δ : NameDepths) (n m : ℕ) : Type 0 where
   pub same : (y : ℕ) → n ≤ y → y < m → Γ y ≡ Δ y
 
-atom-kept : (u : Atom) (Γ Δ : NameDepths) (n : ℕ) → Below u n → ((y : ℕ) → y < n → Δ y ≡ Γ y) →
+atom-kept : (u : Atom) (Γ Δ : NameDepths) (n : ℕ) → AtomBelow u n → ((y : ℕ) → y < n → Δ y ≡ Γ y) →
     atom-depth Δ u ≡ atom-depth Γ u
 atom-kept (number z) Γ Δ n below kept = refl
 atom-kept (name x) Γ Δ n below kept = kept x below
@@ -49,7 +49,7 @@ pub standing-up : (μ : Meanings) (δ : ℕ → ℕ) (n m : ℕ) (Γ : NameDepth
 standing-up μ δ n m Γ le s = standing-kept μ δ n m Γ Γ le (λ y h. refl) s
 
 pub standing-updated : (μ : Meanings) (δ : ℕ → ℕ) (n : ℕ) (Γ : NameDepths) (x : ℕ) (u : Atom) (d : ℕ) →
-    Below u n → atom-depth Γ u ≡ d → Standing μ δ n Γ → Standing (updated μ x u) (updated δ x d) n Γ
+    AtomBelow u n → atom-depth Γ u ≡ d → Standing μ δ n Γ → Standing (updated μ x u) (updated δ x d) n Γ
 unfolding updated
 standing-updated μ δ n Γ x u d below e s = record {
   below = below-updated μ n x u below (s .below);
@@ -72,12 +72,12 @@ standing-with (x ∷ xs) ds μ δ m Γ e s =
     (with-depths xs (map Γ (numbered xs (suc m))) (updated δ x (Γ m))) (suc m + length xs) (m + suc (length xs)) Γ
     (omega arith) inner)
 
-agrees-part : (Γ Δ : NameDepths) (n m n′ m′ : ℕ) → n ≤ n′ → m′ ≤ m → Agrees Γ Δ n m → Agrees Γ Δ n′ m′
+agrees-part : (Γ Δ : NameDepths) (n m n′ m′ : ℕ) → n ≤ n′ → m′ ≤ m → DepthsAgree Γ Δ n m → DepthsAgree Γ Δ n′ m′
 agrees-part Γ Δ n m n′ m′ le ge g = record { same = λ y p q. g .same y (omega arith) (omega arith) }
 
 -- without the name that was bound last
 agrees-inner : (Γ Δ : NameDepths) (x v n m n′ m′ : ℕ) → n ≤ n′ → m′ ≤ m → ((y : ℕ) → n′ ≤ y → y < m′ → x ≢ y) →
-    Agrees Γ (updated Δ x v) n m → Agrees Γ Δ n′ m′
+    DepthsAgree Γ (updated Δ x v) n m → DepthsAgree Γ Δ n′ m′
 agrees-inner Γ Δ x v n m n′ m′ le ge apart g = record {
   same = λ y p q. g .same y (omega arith) (omega arith) ∙ updated-other Δ x v y (apart y p q);
 }
@@ -140,22 +140,22 @@ module _ (F : Functions) where
 
   -- before the lines of b, the names below them
   agrees-before : (Γ Δ : NameDepths) (b : Expr) (μ : Meanings) (n m i : ℕ) → m ≤ i →
-      Agrees Γ (table results b μ i Δ) n m → Agrees Γ Δ n m
+      DepthsAgree Γ (table results b μ i Δ) n m → DepthsAgree Γ Δ n m
   agrees-before Γ Δ b μ n m i le g = record {
     same = λ y p q. g .same y p q ∙ table-off results b μ i Δ y (λ u v. omega arith);
   }
 
   -- the two parts of a node
   agrees-first : (Γ Δ : NameDepths) (b : Expr) (μ : Meanings) (n m i : ℕ) → i ≤ m →
-      Agrees Γ (table results b μ i Δ) n m → Agrees Γ Δ n i
+      DepthsAgree Γ (table results b μ i Δ) n m → DepthsAgree Γ Δ n i
   agrees-first Γ Δ b μ n m i le g =
       agrees-before Γ Δ b μ n i i (omega arith) (agrees-part Γ (table results b μ i Δ) n m n i (omega arith) le g)
 
-  agrees-self : (Γ : NameDepths) (n m : ℕ) → Agrees Γ Γ n m
+  agrees-self : (Γ : NameDepths) (n m : ℕ) → DepthsAgree Γ Γ n m
   agrees-self Γ n m = record { same = λ y p q. refl }
 
   -- the lines of an expression leave the depths of an atom below their names
-  atom-table : (u : Atom) (Γ : NameDepths) (b : Expr) (μ : Meanings) (i : ℕ) → Below u i →
+  atom-table : (u : Atom) (Γ : NameDepths) (b : Expr) (μ : Meanings) (i : ℕ) → AtomBelow u i →
       atom-depth (table results b μ i Γ) u ≡ atom-depth Γ u
   atom-table u Γ b μ i below =
       atom-kept u Γ (table results b μ i Γ) i below (λ y h. table-off results b μ i Γ y (λ p q. omega arith))
@@ -187,7 +187,7 @@ module _ (F : Functions) where
 
     -- a typed expression fits a table that agrees with that of its lines on the new names
     pub typed-fitted : (e : Expr) (μ : Meanings) (δ : ℕ → ℕ) (d n : ℕ) (Γ₀ Γ : NameDepths) → Typed F e δ d →
-        Standing μ δ n Γ₀ → Agrees Γ (table results e μ n Γ₀) n (n + fresh e) → Fitted F Γ e δ d n
+        Standing μ δ n Γ₀ → DepthsAgree Γ (table results e μ n Γ₀) n (n + fresh e) → Fitted F Γ e δ d n
     typed-fitted (S.number z) μ δ d n Γ₀ Γ t s g = t
     typed-fitted (S.name x) μ δ d n Γ₀ Γ t s g = t
     typed-fitted (S.let-in x a b) μ δ d n Γ₀ Γ t s g =
@@ -230,9 +230,9 @@ module _ (F : Functions) where
         let v = atom-depth Γ₃ u in
         let s₁ = standing-table a μ δ n (x + 1) Γ₀ (omega arith) s in
         let s₂ = standing-table b μ δ (x + 1) y Γ₁ (omega arith) s₁ in
-        let upper : Agrees Γ Γ₃ (x + 1) (y + fresh c) =
+        let upper : DepthsAgree Γ Γ₃ (x + 1) (y + fresh c) =
         agrees-inner Γ Γ₃ x v n _ (x + 1) (y + fresh c) (omega arith) (omega arith) (λ z p q e. omega arith) g in
-        let lower : Agrees Γ Γ₃ n x = agrees-inner Γ Γ₃ x v n _ n x (omega arith) (omega arith)
+        let lower : DepthsAgree Γ Γ₃ n x = agrees-inner Γ Γ₃ x v n _ n x (omega arith) (omega arith)
         (λ z p q e. omega arith) g in
         let depth : v ≡ d =
         atom-table u Γ₂ c μ y (atom-below b μ (x + 1) (s₁ .below))
@@ -274,14 +274,14 @@ module _ (F : Functions) where
         let s₂ : Standing μ′ δ′ i Γ₂ =
         standing-up μ′ δ′ (x + 1 + length xs) i Γ₂ (omega arith)
         (standing-with xs (element-depths k ds) μ δ (x + 1) Γ₂ elements s₁) in
-        let upper : Agrees Γ Γ₃ (x + 1) (i + fresh b) =
+        let upper : DepthsAgree Γ Γ₃ (x + 1) (i + fresh b) =
         agrees-inner Γ Γ₃ x v n _ (x + 1) (i + fresh b) (omega arith) (omega arith) (λ y p q e. omega arith) g in
-        let lower : Agrees Γ Γ₃ n x = agrees-inner Γ Γ₃ x v n _ n x (omega arith) (omega arith)
+        let lower : DepthsAgree Γ Γ₃ n x = agrees-inner Γ Γ₃ x v n _ n x (omega arith) (omega arith)
         (λ y p q e. omega arith) g in
-        let first : Agrees Γ Γ₁ n x = record {
+        let first : DepthsAgree Γ Γ₁ n x = record {
           same = λ y p q. agrees-before Γ Γ₂ b μ′ n x i (omega arith) lower .same y p q ∙ kept y (omega arith);
         } in
-        let outer : Agrees Γ₃ Γ₁ n x = record {
+        let outer : DepthsAgree Γ₃ Γ₁ n x = record {
           same = λ y p q. table-off results b μ′ i Γ₂ y (λ u h. omega arith) ∙ kept y (omega arith);
         } in
         let body : atom-depth Γ₃ w ≡ r =
@@ -306,7 +306,7 @@ module _ (F : Functions) where
 
     pub all-typed-fitted : (es : Exprs) (μ : Meanings) (δ : ℕ → ℕ) (ds : List ℕ) (n : ℕ) (Γ₀ Γ : NameDepths) →
         AllTyped F es δ ds → Standing μ δ n Γ₀ →
-        Agrees Γ (tables results es μ n Γ₀) n (n + fresh-all es) → AllFitted F Γ es δ ds n
+        DepthsAgree Γ (tables results es μ n Γ₀) n (n + fresh-all es) → AllFitted F Γ es δ ds n
     all-typed-fitted S.none μ δ ds n Γ₀ Γ t s g = t
     all-typed-fitted (S.more e es) μ δ ds n Γ₀ Γ t s g =
         let m = n + fresh e in

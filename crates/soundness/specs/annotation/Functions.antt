@@ -19,7 +19,7 @@ use Rattle.semantics.specs.Annotate.{result-of, depths-of, annotated-body}
 use Rattle.semantics.specs.Machine.{routine, no-routine, Program, program}
 use Rattle.soundness.specs.machine.Discipline as D
 use Rattle.soundness.specs.machine.Discipline.{parameter-holds, Known, RoutineDisciplined, RoutineFrugal}
-use Rattle.soundness.specs.normal.Agree.{Below, below-more}
+use Rattle.soundness.specs.normal.Agree.{AtomBelow, below-more}
 use Rattle.soundness.specs.normal.Parameters.{parameters-below}
 use Rattle.soundness.specs.annotation.Typed.{Functions, Typed}
 use Rattle.soundness.specs.annotation.Held.{Few, free, free-or, held, names, held-most, held-le, held-empty}
@@ -34,7 +34,7 @@ use Rattle.soundness.specs.annotation.Fitted.{Standing, Fitted, atom-fit
 use Rattle.soundness.specs.annotation.NormalFormed.{InScope, lines-formed}
 use Rattle.soundness.specs.annotation.Parameters.{written, Distinct, written-depth, parameter-depth, parameter-held}
 
-below-known : (u : Atom) (n : ℕ) → Below u n → Known u (λ y. ltb y n)
+below-known : (u : Atom) (n : ℕ) → AtomBelow u n → Known u (λ y. ltb y n)
 below-known (number z) n h = tt
 below-known (name x) n h = lt-ltb x n h
 
@@ -121,7 +121,7 @@ module _ (fs : Script) (g : Function) (ok : Accepted fs g) where
     depth = λ y. written-depth (g .parameters) (λ _. false) (λ _. 0) 0 y (ok .distinct) refl refl;
   }
 
-  atom-parameter : (u : Atom) → Below u arity → atom-depth Γ u ≡ atom-depth Γ₀ u
+  atom-parameter : (u : Atom) → AtomBelow u arity → atom-depth Γ u ≡ atom-depth Γ₀ u
   atom-parameter (number z) h = refl
   atom-parameter (name x) h = parameters-fit x h ∙ sym (parameter-depth (g .parameters) 0 x x (omega arith))
 

@@ -17,7 +17,7 @@ use Rattle.semantics.specs.Normal.{Meanings, fresh, fresh-all, atom, atoms, num
 use Rattle.semantics.specs.Annotate.{NameDepths, atom-depth, with-depths}
 use Rattle.laws.specs.Tests.{or-left, or-right}
 use Rattle.soundness.specs.machine.Discipline.{Known, AllKnown}
-use Rattle.soundness.specs.normal.Agree.{Below, atom-below}
+use Rattle.soundness.specs.normal.Agree.{AtomBelow, atom-below}
 use Rattle.soundness.specs.annotation.Formed.{Within, within-up, within-bound, Rising, within-pass, Formed}
 use Rattle.soundness.specs.annotation.Typed.{count, element-depths, Functions, LeafType, LoopType}
 use Rattle.soundness.specs.annotation.Tables.{ending-lines}
@@ -87,7 +87,7 @@ module _ (F : Functions) (Γ : NameDepths) where
     within = w;
   }
 
-  scope-updated : (μ : Meanings) (δ : ℕ → ℕ) (n : ℕ) (S : Set) (x : ℕ) (u : Atom) (d : ℕ) → Below u n → Known u S →
+  scope-updated : (μ : Meanings) (δ : ℕ → ℕ) (n : ℕ) (S : Set) (x : ℕ) (u : Atom) (d : ℕ) → AtomBelow u n → Known u S →
       atom-depth Γ u ≡ d → InScope μ δ n S → InScope (updated μ x u) (updated δ x d) n S
   scope-updated μ δ n S x u d below v e s = record {
     standing = standing-updated μ δ n Γ x u d below e (s .standing);

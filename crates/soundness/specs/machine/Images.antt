@@ -43,12 +43,12 @@ pub image-subset : (f : ℕ → ℕ) (l m : List ℕ) → l ⊆ m → map f l �
 image-subset f l m h c g = let q = source f c l g in rw (q .is) (image-in f (q .from) m (h (q .from) (q .member)))
 
 -- a list with one member taken out
-record Taken (f : ℕ → ℕ) (x : ℕ) (l : List ℕ) : Type 0 where
+record TakenOut (f : ℕ → ℕ) (x : ℕ) (l : List ℕ) : Type 0 where
   pub rest : List ℕ
   pub counts : (n : ℕ) → occurrences n l ≡ cond (eqb n x) 1 0 + occurrences n rest
   pub images : (c : ℕ) → occurrences c (map f l) ≡ cond (eqb c (f x)) 1 0 + occurrences c (map f rest)
 
-take-out : (f : ℕ → ℕ) (x : ℕ) (l : List ℕ) → x ∈ l → Taken f x l
+take-out : (f : ℕ → ℕ) (x : ℕ) (l : List ℕ) → x ∈ l → TakenOut f x l
 unfolding occurrences
 take-out f x [] h = absurd (omega arith)
 take-out f x (y ∷ l) h = elim (hits x y) [

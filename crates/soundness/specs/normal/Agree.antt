@@ -19,18 +19,18 @@ use Rattle.semantics.specs.Normal.{Meanings, fresh, atom, meaning-names, number
 use Rattle.soundness.specs.normal.Plain.{value}
 
 -- an atom that is a number, or a name below n
-abbrev pub Below : Atom → ℕ → Type 0
-Below (number z) n = Unit {0}
-Below (name y) n = y < n
+abbrev pub AtomBelow : Atom → ℕ → Type 0
+AtomBelow (number z) n = Unit {0}
+AtomBelow (name y) n = y < n
 
 -- the written names mean in ρ what their atoms are worth in δ, and the atoms are below n
-pub record Agree (μ : Meanings) (δ ρ : Env) (n : ℕ) : Type 0 where
+pub record NamesAgree (μ : Meanings) (δ ρ : Env) (n : ℕ) : Type 0 where
   pub same : (y : ℕ) → value δ (μ y) ≡ ρ y
-  pub below : (y : ℕ) → Below (μ y) n
+  pub below : (y : ℕ) → AtomBelow (μ y) n
 
 -- the names below n keep their values
-abbrev pub Kept : Env → Env → ℕ → Type 0
-Kept δ δ′ n = (y : ℕ) → y < n → δ′ y ≡ δ y
+abbrev pub EnvKept : Env → Env → ℕ → Type 0
+EnvKept δ δ′ n = (y : ℕ) → y < n → δ′ y ≡ δ y
 
 pub updated-same : {A : Type 0} (f : ℕ → A) (x : ℕ) (a : A) → updated f x a x ≡ a
 unfolding updated
@@ -40,31 +40,31 @@ pub updated-other : {A : Type 0} (f : ℕ → A) (x : ℕ) (a : A) (y : ℕ) →
 unfolding updated
 updated-other f x a y h = rw (ne-eqb x y h)
 
-pub value-kept : (u : Atom) {δ δ′ : Env} {n : ℕ} → Below u n → Kept δ δ′ n → value δ′ u ≡ value δ u
+pub value-kept : (u : Atom) {δ δ′ : Env} {n : ℕ} → AtomBelow u n → EnvKept δ δ′ n → value δ′ u ≡ value δ u
 value-kept (number z) below kept = refl
 value-kept (name x) below kept = kept x below
 
-pub below-more : (u : Atom) {n m : ℕ} → n ≤ m → Below u n → Below u m
+pub below-more : (u : Atom) {n m : ℕ} → n ≤ m → AtomBelow u n → AtomBelow u m
 below-more (number z) le below = tt
 below-more (name x) le below = omega arith
 
-pub agree-kept : {μ : Meanings} {δ δ′ ρ : Env} {n m : ℕ} → n ≤ m → Agree μ δ ρ n → Kept δ δ′ n → Agree μ δ′ ρ m
+pub agree-kept : {μ : Meanings} {δ δ′ ρ : Env} {n m : ℕ} → n ≤ m → NamesAgree μ δ ρ n → EnvKept δ δ′ n → NamesAgree μ δ′ ρ m
 agree-kept {μ} le g kept = record {
   same = λ x. value-kept (μ x) (g .below x) kept ∙ g .same x;
   below = λ x. below-more (μ x) le (g .below x);
 }
 
-pub below-updated : (μ : Meanings) (n : ℕ) (x : ℕ) (u : Atom) → Below u n → ((y : ℕ) → Below (μ y) n) →
-    (y : ℕ) → Below (updated μ x u y) n
+pub below-updated : (μ : Meanings) (n : ℕ) (x : ℕ) (u : Atom) → AtomBelow u n → ((y : ℕ) → AtomBelow (μ y) n) →
+    (y : ℕ) → AtomBelow (updated μ x u y) n
 unfolding updated
 below-updated μ n x u below all y = by (eqb x y)
   where
-    by : (t : Bool) → Below (cond t u (μ y)) n
+    by : (t : Bool) → AtomBelow (cond t u (μ y)) n
     by true = below
     by false = all y
 
 pub agree-updated : {μ : Meanings} {δ ρ : Env} {n : ℕ} (x : ℕ) (u : Atom) (v : Value) →
-    Agree μ δ ρ n → Below u n → value δ u ≡ v → Agree (updated μ x u) δ (updated ρ x v) n
+    NamesAgree μ δ ρ n → AtomBelow u n → value δ u ≡ v → NamesAgree (updated μ x u) δ (updated ρ x v) n
 unfolding updated
 agree-updated {μ} {δ} {ρ} {n} x u v g below e = record {
   same = λ y. same-by (eqb x y) y;
@@ -76,12 +76,12 @@ agree-updated {μ} {δ} {ρ} {n} x u v g below e = record {
     same-by false y = g .same y
 
 -- the atom of an expression is below the names that come after
-pub atom-below : (e : Expr) (μ : Meanings) (n : ℕ) → ((y : ℕ) → Below (μ y) n) → Below (atom e μ n) (n + fresh e)
+pub atom-below : (e : Expr) (μ : Meanings) (n : ℕ) → ((y : ℕ) → AtomBelow (μ y) n) → AtomBelow (atom e μ n) (n + fresh e)
 unfolding atom fresh
 atom-below (S.number z) μ n h = tt
 atom-below (S.name x) μ n h = below-more (μ x) (omega arith) (h x)
 atom-below (S.let-in x a b) μ n h =
-    let above : (y : ℕ) → Below (μ y) (n + fresh a) = λ y. below-more (μ y) (omega arith) (h y) in
+    let above : (y : ℕ) → AtomBelow (μ y) (n + fresh a) = λ y. below-more (μ y) (omega arith) (h y) in
     below-more (atom b (updated μ x (atom a μ n)) (n + fresh a)) (omega arith)
     (atom-below b (updated μ x (atom a μ n)) (n + fresh a)
     (below-updated μ (n + fresh a) x (atom a μ n) (atom-below a μ n h) above))
@@ -90,8 +90,8 @@ atom-below (S.if-else a b c) μ n h = omega arith
 atom-below (S.loop k xs es b) μ n h = omega arith
 
 -- the names of a pass: bound to values, they mean in the source what their new names are worth
-pub agree-binding : (xs : List ℕ) (vs : List Value) {μ : Meanings} {δ ρ : Env} (n : ℕ) → Agree μ δ ρ n →
-    Agree (meaning-names xs n μ) (binding (numbered xs n) vs δ) (binding xs vs ρ) (n + length xs)
+pub agree-binding : (xs : List ℕ) (vs : List Value) {μ : Meanings} {δ ρ : Env} (n : ℕ) → NamesAgree μ δ ρ n →
+    NamesAgree (meaning-names xs n μ) (binding (numbered xs n) vs δ) (binding xs vs ρ) (n + length xs)
 agree-binding [] vs n g = agree-kept (omega arith) g (λ y h. refl)
 agree-binding (x ∷ xs) vs {μ} {δ} {ρ} n g =
     let v = argument vs 0 in

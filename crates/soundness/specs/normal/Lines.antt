@@ -14,20 +14,20 @@ use Rattle.semantics.specs.Code.{Atom, number, name, Tree, end}
 use Rattle.semantics.specs.Normal.{Meanings, fresh, fresh-all, atom, atoms, meaning-names, numbered, lines, all-lines}
 use Rattle.semantics.specs.Normal.{normal}
 use Rattle.soundness.specs.normal.Plain.{value, run}
-use Rattle.soundness.specs.normal.Agree.{Agree, Kept, updated-same, updated-other, value-kept, agree-kept}
+use Rattle.soundness.specs.normal.Agree.{NamesAgree, EnvKept, updated-same, updated-other, value-kept, agree-kept}
 use Rattle.soundness.specs.normal.Agree.{agree-updated, atom-below, agree-binding}
 
 module _ (callee : Callee) where
   -- Lines before the tree k do what an outcome says: `look` reads its answer in the environment that they leave.
   pub data Reach {A : Type 0} (δ : Env) (n : ℕ) (look : Env → A) (k : Tree) (o : Outcome Meter A)
       (whole : Outcome Meter Value) : Type 0 where
-    ran : (v : A) (m : Meter) (δ′ : Env) → o ≡ done v m → whole ≡ run callee k δ′ m → look δ′ ≡ v → Kept δ δ′ n →
+    ran : (v : A) (m : Meter) (δ′ : Env) → o ≡ done v m → whole ≡ run callee k δ′ m → look δ′ ≡ v → EnvKept δ δ′ n →
         Reach δ n look k o whole
     halted : (c : ℕ) (m : Meter) → o ≡ stop c m → whole ≡ stop c m → Reach δ n look k o whole
 
   weaken : {A : Type 0} {δ δ′ : Env} {n i : ℕ} {look : Env → A} {k : Tree} {o : Outcome Meter A}
       {whole : Outcome Meter Value} →
-      n ≤ i → Kept δ δ′ n → Reach δ′ i look k o whole → Reach δ n look k o whole
+      n ≤ i → EnvKept δ δ′ n → Reach δ′ i look k o whole → Reach δ n look k o whole
   weaken le kept (halted c m eo ew) = halted c m eo ew
   weaken le kept (ran v m δ″ eo ew ev kept′) = ran v m δ″ eo ew ev (λ y h. kept′ y (omega arith) ∙ kept y h)
 
@@ -35,7 +35,7 @@ module _ (callee : Callee) where
   chain : {A B : Type 0} {δ : Env} {n : ℕ} {look : Env → A} {look′ : Env → B} {k l : Tree} {o : Outcome Meter A}
       {whole : Outcome Meter Value} (f : A → Work B) (i : ℕ) → n ≤ i →
       Reach δ n look l o whole →
-      ((v : A) (m : Meter) (δ′ : Env) → Kept δ δ′ n → look δ′ ≡ v → Reach δ′ i look′ k (f v m) (run callee l δ′ m)) →
+      ((v : A) (m : Meter) (δ′ : Env) → EnvKept δ δ′ n → look δ′ ≡ v → Reach δ′ i look′ k (f v m) (run callee l δ′ m)) →
       Reach δ n look′ k (onward f o) whole
   unfolding onward
   chain f i le (halted c m eo ew) next = rw eo (halted c m refl ew)
@@ -59,7 +59,7 @@ module _ (callee : Callee) where
   mutual
     unfolding eval run lines atom
 
-    pub lines-run : (e : Expr) (μ : Meanings) (ρ δ : Env) (n : ℕ) (k : Tree) (m : Meter) → Agree μ δ ρ n →
+    pub lines-run : (e : Expr) (μ : Meanings) (ρ δ : Env) (n : ℕ) (k : Tree) (m : Meter) → NamesAgree μ δ ρ n →
         Reach δ n (λ γ. value γ (atom e μ n)) k (eval callee e ρ m) (run callee (lines e μ n k) δ m)
     lines-run (S.number z) μ ρ δ n k m g = ran (num z) m δ refl refl refl (λ y h. refl)
     lines-run (S.name x) μ ρ δ n k m g = ran (ρ x) m δ refl refl (g .same x) (λ y h. refl)
@@ -93,7 +93,7 @@ module _ (callee : Callee) where
         (agree-kept (omega arith) (agree-binding xs ws (x + 1) (agree-kept (omega arith) g kept₁)) (λ y h. refl)))) in
         simp (ev, t) (leaf (do-loop j vs (λ ws. eval callee b (binding xs ws ρ)) m₁) (omega arith))
 
-    pub all-lines-run : (es : Exprs) (μ : Meanings) (ρ δ : Env) (n : ℕ) (k : Tree) (m : Meter) → Agree μ δ ρ n →
+    pub all-lines-run : (es : Exprs) (μ : Meanings) (ρ δ : Env) (n : ℕ) (k : Tree) (m : Meter) → NamesAgree μ δ ρ n →
         Reach δ n (λ γ. map (value γ) (atoms es μ n)) k (eval-all callee es ρ m) (run callee (all-lines es μ n k) δ m)
     all-lines-run S.none μ ρ δ n k m g = ran [] m δ refl refl refl (λ y h. refl)
     all-lines-run (S.more e es) μ ρ δ n k m g =
@@ -105,7 +105,7 @@ module _ (callee : Callee) where
         (λ y h. refl)
 
   -- running an expression's tree is the expression's meaning
-  pub normal-run : (e : Expr) (μ : Meanings) (ρ δ : Env) (n : ℕ) → Agree μ δ ρ n →
+  pub normal-run : (e : Expr) (μ : Meanings) (ρ δ : Env) (n : ℕ) → NamesAgree μ δ ρ n →
       run callee (normal e μ n) δ ≡ eval callee e ρ
   unfolding normal
   normal-run e μ ρ δ n g = fun-ext (λ m. whole-tree (lines-run e μ ρ δ n (end (atom e μ n)) m g))

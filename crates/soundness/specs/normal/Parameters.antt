@@ -14,13 +14,13 @@ use Rattle.semantics.specs.Meaning.{Env, bound}
 use Rattle.semantics.specs.Code.{Atom, number, name}
 use Rattle.semantics.specs.Normal.{parameter-names}
 use Rattle.soundness.specs.normal.Plain.{value, values-from}
-use Rattle.soundness.specs.normal.Agree.{Below, Agree, updated-same, updated-other, below-more}
+use Rattle.soundness.specs.normal.Agree.{AtomBelow, NamesAgree, updated-same, updated-other, below-more}
 
-pub parameters-below : (xs : List Parameter) (n : ℕ) (y : ℕ) → Below (parameter-names xs n y) (n + length xs)
+pub parameters-below : (xs : List Parameter) (n : ℕ) (y : ℕ) → AtomBelow (parameter-names xs n y) (n + length xs)
 unfolding parameter-names updated
 parameters-below [] n y = tt
 parameters-below (x ∷ xs) n y =
-    elim (eqb (x .id) y) as (λ t. Below (cond t (name n) (parameter-names xs (suc n) y)) (n + suc (length xs))) [
+    elim (eqb (x .id) y) as (λ t. AtomBelow (cond t (name n) (parameter-names xs (suc n) y)) (n + suc (length xs))) [
       | true ↦ omega arith
       | false ↦ below-more (parameter-names xs (suc n) y) (omega arith) (parameters-below xs (suc n) y)
     ]
@@ -76,7 +76,7 @@ parameters-same (x ∷ xs) (v ∷ vs) n y =
 
 -- the arguments are what the parameters' names mean, whatever the number of either
 pub parameters-agree : (xs : List Parameter) (vs : List Value) →
-    Agree (parameter-names xs 0) (values-from vs 0) (bound xs vs) (length xs)
+    NamesAgree (parameter-names xs 0) (values-from vs 0) (bound xs vs) (length xs)
 parameters-agree xs vs = record {
   same = λ y. parameters-same xs vs 0 y;
   below = λ y. below-more (parameter-names xs 0 y) (omega arith) (parameters-below xs 0 y);

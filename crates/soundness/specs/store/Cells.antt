@@ -50,21 +50,21 @@ unused-names σ blank c e = elim (decLt c (cell-count σ)) [
 ]
 
 -- two cells with the same words within their lengths; the second is the older
-abbrev pub Agree : Cell → Cell → Type 0
-Agree y x = (y .size ≡ x .size) × (y .depth ≡ x .depth) × (y .slots ≡ x .slots)
+abbrev pub CellsAgree : Cell → Cell → Type 0
+CellsAgree y x = (y .size ≡ x .size) × (y .depth ≡ x .depth) × (y .slots ≡ x .slots)
 
-pub agree-elements : (y x : Cell) → Agree y x → elements y ≡ elements x
+pub agree-elements : (y x : Cell) → CellsAgree y x → elements y ≡ elements x
 unfolding elements
 agree-elements y x a = ap₂ take (a .0) (a .2)
 
-pub agree-inner : (y x : Cell) → Agree y x → inner y ≡ inner x
+pub agree-inner : (y x : Cell) → CellsAgree y x → inner y ≡ inner x
 unfolding inner
 agree-inner y x a = ap₂ named-by (a .1) (agree-elements y x a)
 
-pub same-agree : (y x : Cell) → y ≡ x → Agree y x
+pub same-agree : (y x : Cell) → y ≡ x → CellsAgree y x
 same-agree y x e = (ap (λ z. z .size) e, ap (λ z. z .depth) e, ap (λ z. z .slots) e)
 
-pub agree-trans : (z y x : Cell) → Agree z y → Agree y x → Agree z x
+pub agree-trans : (z y x : Cell) → CellsAgree z y → CellsAgree y x → CellsAgree z x
 agree-trans z y x a b = (a .0 ∙ b .0, a .1 ∙ b .1, a .2 ∙ b .2)
 
 -- what one cell names is named in the store
@@ -186,7 +186,7 @@ module _ {σ τ : Store} {c : ℕ} {x : Cell} (p : Put σ τ c x) where
   ]
 
   -- a cell written with the same words
-  pub put-agree : Agree x (cell σ c) → (d : ℕ) → Agree (cell τ d) (cell σ d)
+  pub put-agree : CellsAgree x (cell σ c) → (d : ℕ) → CellsAgree (cell τ d) (cell σ d)
   put-agree a d = elim (put-cases d) [
     | inl g ↦ agree-trans (cell τ d) x (cell σ d) (same-agree (cell τ d) x (g .new))
         (agree-trans x (cell σ c) (cell σ d) a (same-agree (cell σ c) (cell σ d) (sym (g .old))))

@@ -12,7 +12,7 @@ use Rattle.semantics.specs.Store.{Store, cell, cell-of, elements, inner, named-
 use Rattle.semantics.specs.Demands.{value-of, Reached, root, slot}
 use Rattle.laws.specs.Lists.{_⊆_, hits, occurs-first, occurrences-append}
 use Rattle.soundness.specs.store.Invariant.{Invariant, Alike, Keeps, Stands}
-use Rattle.soundness.specs.store.Cells.{Agree, agree-elements, agree-inner, agree-trans, namer}
+use Rattle.soundness.specs.store.Cells.{CellsAgree, agree-elements, agree-inner, agree-trans, namer}
 use Rattle.soundness.specs.store.Change.{root-used, inner-used, namer-used}
 
 -- ---- reached cells
@@ -33,7 +33,7 @@ unfolding occurrences
 only P r p c h = elim (hits c r) [ inl g ↦ subst P (sym (g .0)) p | inr g ↦ absurd (omega arith) ]
 
 -- where the cells reached agree, the other store reaches the same
-reached-there : (σ τ : Store) (R : List ℕ) → ((c : ℕ) → Reached σ R c → Agree (cell τ c) (cell σ c)) →
+reached-there : (σ τ : Store) (R : List ℕ) → ((c : ℕ) → Reached σ R c → CellsAgree (cell τ c) (cell σ c)) →
     (c : ℕ) → Reached σ R c → Reached τ R c
 reached-there σ τ R f c (root e h) = root e h
 reached-there σ τ R f c (slot b e q h) =
@@ -45,7 +45,7 @@ reached-there σ τ R f c (slot b e q h) =
 -- cells of a set closed under naming, which agree in two stores, have the same values in both
 module _ (σ τ : Store) (P : ℕ → Type 0) (closed : (b c : ℕ) → P b → c ∈ inner (cell σ b) → P c)
     (typed : (c r : ℕ) → r ∈ inner (cell σ c) → cell σ c .depth ≡ suc (cell σ r .depth))
-    (agree : (c : ℕ) → P c → Agree (cell τ c) (cell σ c)) where
+    (agree : (c : ℕ) → P c → CellsAgree (cell τ c) (cell σ c)) where
   -- the words of cells of element depth d have the same values
   abbrev SameAt : ℕ → Type 0
   SameAt d = (w : ℤ) → P (cell-of w) → d ≡ cell σ (cell-of w) .depth → value-of τ (suc d) w ≡ value-of σ (suc d) w
@@ -112,24 +112,24 @@ keeps-fewer R R′ f a = record { keep = λ r h. a .keep r (f r h) }
 
 -- all cells reached agree
 pub alike-reached : {σ τ : Store} {Z R : List ℕ} {r : ℕ} → Invariant σ Z R →
-    ((c : ℕ) → Reached σ (r ∷ []) c → Agree (cell τ c) (cell σ c)) → Alike σ τ r
+    ((c : ℕ) → Reached σ (r ∷ []) c → CellsAgree (cell τ c) (cell σ c)) → Alike σ τ r
 alike-reached {σ} {τ} {r = r} v f =
     alike-on σ τ (Reached σ (r ∷ [])) (λ b c q h. slot b c q h) (v .typed) f r (root r (occurs-first r []))
 
 -- all cells agree
-pub alike-all : {σ τ : Store} {Z R : List ℕ} → Invariant σ Z R → ((c : ℕ) → Agree (cell τ c) (cell σ c)) →
+pub alike-all : {σ τ : Store} {Z R : List ℕ} → Invariant σ Z R → ((c : ℕ) → CellsAgree (cell τ c) (cell σ c)) →
     (r : ℕ) → Alike σ τ r
 alike-all {σ} {τ} v f r = alike-on σ τ (λ c. Unit {0}) (λ b c p h. tt) (v .typed) (λ c p. f c) r tt
 
 -- the cells in use agree
 pub alike-used : {σ τ : Store} {Z R : List ℕ} → Invariant σ Z R →
-    ((c : ℕ) → 0 < cell σ c .count → Agree (cell τ c) (cell σ c)) → (r : ℕ) → 0 < cell σ r .count → Alike σ τ r
+    ((c : ℕ) → 0 < cell σ c .count → CellsAgree (cell τ c) (cell σ c)) → (r : ℕ) → 0 < cell σ r .count → Alike σ τ r
 alike-used {σ} {τ} v f r h =
     alike-on σ τ (λ c. 0 < cell σ c .count) (λ b c p g. inner-used v b c g) (v .typed) f r h
 
 -- the cells in use afterwards agree
 pub alike-still-used : {σ τ : Store} {Z R Z′ R′ : List ℕ} → Invariant σ Z R → Invariant τ Z′ R′ →
-    ((c : ℕ) → 0 < cell τ c .count → Agree (cell τ c) (cell σ c)) → (r : ℕ) → 0 < cell τ r .count → Alike σ τ r
+    ((c : ℕ) → 0 < cell τ c .count → CellsAgree (cell τ c) (cell σ c)) → (r : ℕ) → 0 < cell τ r .count → Alike σ τ r
 alike-still-used {σ} {τ} v u f r h = alike-on σ τ (λ c. 0 < cell τ c .count) closed (v .typed) f r h
   where
     closed : (b c : ℕ) → 0 < cell τ b .count → c ∈ inner (cell σ b) → 0 < cell τ c .count

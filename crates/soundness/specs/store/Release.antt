@@ -14,7 +14,7 @@ use Rattle.semantics.specs.Demands.{touched, taken-off, put-on, replayed}
 use Rattle.laws.specs.Lists.{occurrences-append, occurs-first}
 use Rattle.soundness.specs.store.Invariant.{Invariant, Keeps}
 use Rattle.soundness.specs.store.Counting.{hits-itself}
-use Rattle.soundness.specs.store.Cells.{in-range, clear-names, Agree, agree-trans, same-agree, Put, Here, There}
+use Rattle.soundness.specs.store.Cells.{in-range, clear-names, CellsAgree, agree-trans, same-agree, Put, Here, There}
 use Rattle.soundness.specs.store.Cells.{put-size, put-cases, put-inner, with-first-put}
 use Rattle.soundness.specs.store.FreeList.{Listed, listed, listed-freed}
 use Rattle.soundness.specs.store.Change.{root-used, held-used, touch, Change, changed, changed-list}
@@ -46,7 +46,7 @@ untouched-append a b p q = touched-append a b ∙ ap (λ (l : List ℕ). l ++ to
 -- from σ to τ by the events of a log: what is in use in τ was so in σ, with the same words
 pub record Releases (σ τ : Store) (log : List Event) (Z R : List ℕ) : Type 0 where
   pub holds : Invariant τ Z R
-  pub same : (c : ℕ) → 0 < cell τ c .count → Agree (cell τ c) (cell σ c)
+  pub same : (c : ℕ) → 0 < cell τ c .count → CellsAgree (cell τ c) (cell σ c)
   pub untouched : touched log ≡ []
   pub replays : some (free-list τ) ≡ replayed log (some (free-list σ))
   pub totals : τ .totals ≡ σ .totals

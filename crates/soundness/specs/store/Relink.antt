@@ -14,7 +14,7 @@ use Rattle.semantics.specs.Demands.{value-of, LeftAlone}
 use Rattle.laws.specs.Lists.{hits}
 use Rattle.soundness.specs.store.Invariant.{Tidy, Invariant, Alike}
 use Rattle.soundness.specs.store.Counting.{hits-itself}
-use Rattle.soundness.specs.store.Cells.{in-range, out-of-range, Agree, same-agree, agree-inner}
+use Rattle.soundness.specs.store.Cells.{in-range, out-of-range, CellsAgree, same-agree, agree-inner}
 use Rattle.soundness.specs.store.FreeList.{Links, Listed}
 use Rattle.soundness.specs.store.Change.{held-used, Unlisted, unlisted, relisted}
 use Rattle.soundness.specs.store.Kept.{alike-on, stands-kept}
@@ -30,7 +30,7 @@ clear-parts : (n : ℕ) → (clear n .count ≡ 0) × (clear n .next ≡ n)
 unfolding clear
 clear-parts n = (refl, refl)
 
-both-clear : (y x : Cell) → y ≡ clear (y .next) → x ≡ clear (x .next) → (y .count ≡ x .count) × Agree y x
+both-clear : (y x : Cell) → y ≡ clear (y .next) → x ≡ clear (x .next) → (y .count ≡ x .count) × CellsAgree y x
 unfolding clear
 both-clear y x p q = (
   ap (λ (z : Cell). z .count) p ∙ sym (ap (λ (z : Cell). z .count) q),
@@ -163,7 +163,7 @@ pub record Relinks (σ τ : Store) (Z R : List ℕ) : Type 0 where
   pub holds : Invariant τ Z R
   pub left-alone : LeftAlone σ τ
   pub alike : (r : ℕ) → Alike σ τ r
-  pub agree : (c : ℕ) → Agree (cell τ c) (cell σ c)
+  pub agree : (c : ℕ) → CellsAgree (cell τ c) (cell σ c)
   pub taken : cells-taken τ ≡ cells-taken σ
   pub cells : cell-count τ ≡ cell-count σ
 
@@ -183,7 +183,7 @@ module _ {σ : Store} {Z R : List ℕ} (v : Unlisted σ Z R) where
   pub relinked-used : (c : ℕ) → 0 < cell σ c .count → cell τ c ≡ cell σ c
   relinked-used c u = elim (relinked-at c (in-range σ c u)) [ inl g ↦ g .1 | inr g ↦ absurd (omega (arith, g .0)) ]
 
-  relinked-agree : (c : ℕ) → (cell τ c .count ≡ cell σ c .count) × Agree (cell τ c) (cell σ c)
+  relinked-agree : (c : ℕ) → (cell τ c .count ≡ cell σ c .count) × CellsAgree (cell τ c) (cell σ c)
   relinked-agree c = elim (decLt c (cell-count σ)) [
     | yes h ↦ elim (relinked-at c h) [
       | inl g ↦ (ap (λ (y : Cell). y .count) (g .1), same-agree (cell τ c) (cell σ c) (g .1))

@@ -11,7 +11,7 @@ use Rattle.semantics.specs.Store.{Cell, Store, cell, cell-count, inner, with-to
 use Rattle.semantics.specs.Store.{retained}
 use Rattle.semantics.specs.Sound.{free-list, all-inner}
 use Rattle.soundness.specs.store.Invariant.{Tidy, Invariant, Alike}
-use Rattle.soundness.specs.store.Cells.{in-range, Agree, agree-inner, Put, Here, There, put-size, put-cases}
+use Rattle.soundness.specs.store.Cells.{in-range, CellsAgree, agree-inner, Put, Here, There, put-size, put-cases}
 use Rattle.soundness.specs.store.Cells.{put-inner, put-agree, with-cell-put}
 use Rattle.soundness.specs.store.FreeList.{Listed, listed, listed-is, listed-used, links-keep}
 use Rattle.soundness.specs.store.Change.{few-names, relisted, Change, changed, changed-list}
@@ -69,7 +69,7 @@ pub count-tidy : (x : Cell) (n : ℕ) → Tidy x → Tidy (with-count x n)
 unfolding with-count
 count-tidy x n t = record { whole = t .whole; size = t .size; depth = t .depth; next = t .next; zeros = t .zeros }
 
-pub count-agree : (x : Cell) (n : ℕ) → Agree (with-count x n) x
+pub count-agree : (x : Cell) (n : ℕ) → CellsAgree (with-count x n) x
 unfolding with-count
 count-agree x n = (refl, refl, refl)
 
@@ -85,7 +85,7 @@ module _ {σ : Store} {Z R : List ℕ} (v : Invariant σ Z R) (c n : ℕ) (used 
   pub recount-put : Put σ τ c (with-count (cell σ c) n)
   recount-put = with-cell-put σ c (with-count (cell σ c) n) (in-range σ c used)
 
-  pub recount-agree : (d : ℕ) → Agree (cell τ d) (cell σ d)
+  pub recount-agree : (d : ℕ) → CellsAgree (cell τ d) (cell σ d)
   recount-agree = put-agree recount-put (count-agree (cell σ c) n)
 
   same-names : inner (with-count (cell σ c) n) ≡ inner (cell σ c)

@@ -4,7 +4,7 @@ use Prim.Native.Nat.{_≤_}
 use native.Mathlib.Omega.{arith}
 use borrow.Author.Needs.{needs}
 use Rattle.semantics.specs.Words.{store-of}
-use Rattle.store_words.proofs.Puts.{Kept, cells-kept}
+use Rattle.store_words.proofs.Puts.{LengthsKept, cells-kept}
 use Rattle.store_words.proofs.CellWords.{store-size}
 use Rattle.store_reset.proofs.Linking.{Linking, linking-none, linking-step, linking-all, linking-empty}
 use Rattle.store_reset.proofs.relink.Statement.{statement}
@@ -12,7 +12,7 @@ use Rattle.store_reset.proofs.relink.Tie as tie
 
 abbrev Inv-loop : tie.InvT-loop
 Inv-loop slots₀ heads₀ n c₀ head₀ slots heads c head =
-    (c ≤ n) × Kept slots₀ heads₀ slots heads × Linking (store-of slots₀ heads₀) (store-of slots heads) c head
+    (c ≤ n) × LengthsKept slots₀ heads₀ slots heads × Linking (store-of slots₀ heads₀) (store-of slots heads) c head
 
 abbrev μ-loop : tie.MeasureT-loop
 μ-loop slots₀ heads₀ n c₀ head₀ slots heads c head = c
