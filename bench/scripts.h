@@ -24,10 +24,10 @@ void map_script(struct script *script);
 /* Fibonacci's numbers by two calls each, for the first reading. */
 void call_script(struct script *script);
 
-/* 62 ifs within one another, with a call of the function itself at the innermost: 32 call depths, then a stop. */
+/* 62 ifs within one another, with a call of the function itself at the innermost: 31 calls below main, then a stop. */
 void deep_if_script(struct script *script);
 
-/* The same with 7 maps, as many as 256 cells allow at 32 call depths, and 48 ifs in them. */
+/* The same with 7 maps and 48 ifs in them. */
 void deep_mixed_script(struct script *script);
 
 #endif

@@ -271,6 +271,11 @@ name-parts-name-part-requires t c κs = (
   ap length (c .before .before .loop .inv .1) ∙ c .before .before .before .before .before .before .pre .1,
 )
 
+name-parts-same-length : (t : ℕ) →
+    name-parts-lts.Need-same-length (name-parts-claims t) (name-parts-at t) name-parts.Post name-parts-Inv-loop
+    name-parts-μ-loop
+name-parts-same-length t c = search needs
+
 name-parts-returns :
     (t : ℕ) →
     name-parts-lts.Need-returns
@@ -386,5 +391,5 @@ pub +name-binding+name-part+name-parts-spec : {M : Type 1} → statement M
     (name-part-returns-8 t))
     λ t. name-parts-lts.spec (name-part-below t, name-part.Post) (name-parts-at t) name-parts.Post name-parts-Inv-loop
     name-parts-μ-loop (name-parts-loop-holds t) (name-parts-name-part-requires t) (λ c. search needs)
-    (λ c. search needs) (λ c. search needs) (name-parts-returns t) (λ c. search needs) (λ c. search needs)
+    (λ c. search needs) (name-parts-same-length t) (name-parts-returns t) (λ c. search needs) (λ c. search needs)
     (name-parts-loop-again t) (λ c. search needs) (name-parts-returns-2 t)
