@@ -41,7 +41,7 @@ pub fn work_tree(
     let mut left = lines;
     while 0 < left {
         if kinds.len() <= p {
-            return machine_lines::halted(99, s);
+            return machine_lines::halted(machine_lines::NO_LINE, s);
         }
         let l = machine_code::line_at(*kinds, *operands, p);
         if let Line::End(a) = l {
@@ -70,7 +70,7 @@ pub fn work_tree(
         s = r.steps;
         left = left - 1;
     }
-    machine_lines::halted(99, s)
+    machine_lines::halted(machine_lines::NO_LINE, s)
 }
 
 // Works a line that stands at a position.
@@ -173,7 +173,7 @@ fn work_if(
         steps r (now (slots .exit)) (now (heads .exit)) (now (env .exit)) ⌝ }
 {
     if steps == 0 {
-        return machine_lines::halted(21, steps);
+        return machine_lines::halted(machine_lines::OUT_OF_STEPS, steps);
     }
     let guard = machine_lines::word_of(env, calls, g);
     let start = machine_lines::branch_start(table, guard, at + 2);
@@ -222,10 +222,10 @@ fn work_call(
         steps r (now (slots .exit)) (now (heads .exit)) (now (env .exit)) ⌝ }
 {
     if steps == 0 {
-        return machine_lines::halted(21, steps);
+        return machine_lines::halted(machine_lines::OUT_OF_STEPS, steps);
     }
     if calls == 0 {
-        return machine_lines::halted(22, steps - 1);
+        return machine_lines::halted(machine_lines::CALL_TOO_DEEP, steps - 1);
     }
     let below = calls - 1;
     let n = machine_lines::pass_arguments(*kinds, *operands, env, calls, below, at + 1);
@@ -279,7 +279,7 @@ fn work_map(
         steps r (now (slots .exit)) (now (heads .exit)) (now (env .exit)) ⌝ }
 {
     if steps == 0 {
-        return machine_lines::halted(21, steps);
+        return machine_lines::halted(machine_lines::OUT_OF_STEPS, steps);
     }
     let from = store_words::named_cell(machine_lines::word_of(env, calls, a));
     let count = store_words::read_length(slots, heads, from);
@@ -313,7 +313,7 @@ fn work_map(
             let next = machine_code::end_in(table, at + 2);
             machine_lines::done(w, next, r.steps)
         }
-        Acquired::NoneFree => machine_lines::halted(25, steps - 1),
+        Acquired::NoneFree => machine_lines::halted(machine_lines::OUT_OF_CELLS, steps - 1),
     }
 }
 
@@ -350,7 +350,7 @@ fn work_pass(
     let mut i: usize = 0;
     while i < count {
         if s == 0 {
-            return machine_lines::halted(21, s);
+            return machine_lines::halted(machine_lines::OUT_OF_STEPS, s);
         }
         let w = store_words::read_slot(slots, heads, from, i);
         machine_lines::bind(env, calls, p, w);

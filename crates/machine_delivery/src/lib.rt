@@ -107,7 +107,7 @@ fn attempt(
             let w = machine_lines::word_from(c);
             work_main(kinds, operands, table, slots, heads, depth, old, w, budget)
         }
-        Acquired::NoneFree => machine_lines::halted(25, budget),
+        Acquired::NoneFree => machine_lines::halted(machine_lines::OUT_OF_CELLS, budget),
     }
 }
 

@@ -33,7 +33,7 @@ use Rattle.machine_code.specs.declared.Line.the-variants as L
 use Rattle.machine_code.proofs.Reading.{no-bool, less-one}
 use Rattle.machine_lines.specs.declared.Out.{Out}
 use Rattle.machine_lines.specs.Frames.{place, word-of, words-at}
-use Rattle.machine_lines.specs.Lines.{Memory, memory, Ran, ran, left, out, with-store, halted, stepping}
+use Rattle.machine_lines.specs.Lines.{no-line, Memory, memory, Ran, ran, left, out, with-store, halted, stepping}
 use Rattle.machine_lines.specs.Lines.{Given, given, worked, operation-of, operation-given}
 use Rattle.machine_lines.specs.Lines.{array-of, index-given, length-given, acquired-given, operation-line}
 use Rattle.machine_lines.specs.Lines.{index-line, length-line, Doing, giving, changing, ending, calling, branching, looping}
@@ -301,12 +301,12 @@ module _ (kinds : List ℕ) (operands : List ℤ) (calls at : ℕ) (m : Memory) 
   told (L.End a) = refl
 
   -- a line that works or ends a tree
-  pub leaf-other : (steps : ℕ) (l : Line) → OneOf bigger (tagOf the-type l) → (r : Out) → r ≡ out 99 (pos 0) 0 steps →
+  pub leaf-other : (steps : ℕ) (l : Line) → OneOf bigger (tagOf the-type l) → (r : Out) → r ≡ out no-line (pos 0) 0 steps →
       ran r m ≡ leaf kinds operands calls at steps m l
   unfolding leaf-done
   leaf-other steps l h r e = ap (λ (y : Out). ran y m) e ∙ go (doing kinds operands calls at m l) (told l)
     where
-      go : (d : Doing) → Told d (tagOf the-type l) → halted 99 steps m ≡ leaf-done calls at steps m d
+      go : (d : Doing) → Told d (tagOf the-type l) → halted no-line steps m ≡ leaf-done calls at steps m d
       go (giving x next σ g) t = absurd (miss bigger (tagOf the-type l) t h)
       go (changing σ) t = absurd (miss bigger (tagOf the-type l) t h)
       go (ending a) t = refl

@@ -50,6 +50,10 @@ ran r m = record { out = r; memory = m }
 abbrev pub with-store : Store → FrameLeft → Ran
 with-store σ l = ran (l .out) (memory σ (l .env))
 
+-- the stop of work that comes to no line that it can do: the code of an accepted script never does
+abbrev pub no-line : ℕ
+no-line = 99
+
 -- a stop with some steps left
 abbrev pub halted : ℕ → ℕ → Memory → Ran
 halted n s m = ran (out n (pos 0) 0 s) m
@@ -158,10 +162,10 @@ unfoldable pub leaf-done : ℕ → ℕ → ℕ → Memory → Doing → Ran
 leaf-done calls at s m (giving x next σ g) =
     stepping s (halted 21 0 m) (λ n. with-store σ (given calls x next n (m .env) g))
 leaf-done calls at s m (changing σ) = ran (out 0 (pos 0) (at + 1) s) (memory σ (m .env))
-leaf-done calls at s m (ending a) = halted 99 s m
-leaf-done calls at s m (calling x f) = halted 99 s m
-leaf-done calls at s m (branching x g) = halted 99 s m
-leaf-done calls at s m (looping x j ps us) = halted 99 s m
+leaf-done calls at s m (ending a) = halted no-line s m
+leaf-done calls at s m (calling x f) = halted no-line s m
+leaf-done calls at s m (branching x g) = halted no-line s m
+leaf-done calls at s m (looping x j ps us) = halted no-line s m
 
 abbrev pub literal-line : List ℕ → List ℤ → ℕ → ℕ → ℕ → ℕ → ℕ → Memory → Ran
 literal-line kinds operands calls x depth at steps m =

@@ -24,6 +24,20 @@ pub struct Out {
     pub steps: u64,
 }
 
+// The stops, by document 01's numbers.
+pub const OUT_OF_STEPS: u8 = 21;
+
+pub const CALL_TOO_DEEP: u8 = 22;
+
+pub const INDEX_OUT_OF_RANGE: u8 = 23;
+
+pub const OVERFLOW: u8 = 24;
+
+pub const OUT_OF_CELLS: u8 = 25;
+
+// The stop of work that comes to no line that it can do: the code of an accepted script never does.
+pub const NO_LINE: u8 = 99;
+
 // A stop.
 pub fn halted(stop: u8, steps: u64) -> Out
     ensures { λ r. ⌜ r ≡ out stop (pos 0) 0 steps ⌝ }
@@ -161,7 +175,7 @@ fn work_operation(
     ensures { λ r. ⌜ left r (now (env .exit)) ≡ operation-line calls kind x a b next steps (now (env .entry)) ⌝ }
 {
     if steps == 0 {
-        return halted(21, steps);
+        return halted(OUT_OF_STEPS, steps);
     }
     let v = word_of(env, calls, a);
     let w = word_of(env, calls, b);
@@ -170,7 +184,7 @@ fn work_operation(
             bind(env, calls, x, z);
             done(z, next, steps - 1)
         }
-        Exact::Overflow => halted(24, steps - 1),
+        Exact::Overflow => halted(OVERFLOW, steps - 1),
     }
 }
 
@@ -191,16 +205,16 @@ fn work_index(
         ≡ index-line (store-of (now (slots .entry)) (now (heads .entry))) calls x a b next steps (now (env .entry)) ⌝ }
 {
     if steps == 0 {
-        return halted(21, steps);
+        return halted(OUT_OF_STEPS, steps);
     }
     let cell = store_words::named_cell(word_of(env, calls, a));
     let w = word_of(env, calls, b);
     if w < 0 {
-        return halted(23, steps - 1);
+        return halted(INDEX_OUT_OF_RANGE, steps - 1);
     }
     let i = w as usize;
     if store_words::read_length(slots, heads, cell) <= i {
-        return halted(23, steps - 1);
+        return halted(INDEX_OUT_OF_RANGE, steps - 1);
     }
     let v = store_words::read_slot(slots, heads, cell, i);
     bind(env, calls, x, v);
@@ -223,7 +237,7 @@ fn work_length(
         ≡ length-line (store-of (now (slots .entry)) (now (heads .entry))) calls x a next steps (now (env .entry)) ⌝ }
 {
     if steps == 0 {
-        return halted(21, steps);
+        return halted(OUT_OF_STEPS, steps);
     }
     let cell = store_words::named_cell(word_of(env, calls, a));
     let n = word_from(store_words::read_length(slots, heads, cell));
@@ -278,7 +292,7 @@ fn work_literal(
         r (now (slots .exit)) (now (heads .exit)) (now (env .exit)) ⌝ }
 {
     if steps == 0 {
-        return halted(21, steps);
+        return halted(OUT_OF_STEPS, steps);
     }
     match store::acquire_empty(slots, heads, depth as u32) {
         Acquired::Cell(c) => {
@@ -287,7 +301,7 @@ fn work_literal(
             bind(env, calls, x, w);
             done(w, at + 1 + n, steps - 1)
         }
-        Acquired::NoneFree => halted(25, steps - 1),
+        Acquired::NoneFree => halted(OUT_OF_CELLS, steps - 1),
     }
 }
 
@@ -334,6 +348,6 @@ pub fn work_leaf(
             store::release(slots, heads, cell, 4);
             done(0, at + 1, steps)
         }
-        _ => halted(99, steps),
+        _ => halted(NO_LINE, steps),
     }
 }

@@ -18,7 +18,7 @@ use Rattle.machine_code.specs.declared.Line.{Line}
 use Rattle.machine_code.specs.declared.Line.the-variants as L
 use Rattle.machine_lines.specs.declared.Out.{Out}
 use Rattle.machine_lines.specs.Frames.{place, word-of, words-at, put-all, branch-start, branch-end}
-use Rattle.machine_lines.specs.Lines.{Memory, memory, Ran, ran, out, halted, bound, goes-on, stepping, array-of}
+use Rattle.machine_lines.specs.Lines.{no-line, Memory, memory, Ran, ran, out, halted, bound, goes-on, stepping, array-of}
 use Rattle.machine_lines.specs.Lines.{Given, acquired-given, Doing, giving, changing, ending, calling}
 use Rattle.machine_lines.specs.Lines.{branching, looping, doing, leaf-done}
 
@@ -179,11 +179,11 @@ tree-from W C c calls f at s m l =
 
 -- the tree at a position, with so many lines left
 unfoldable pub tree-on : ℕ → Callee → Code → ℕ → ℕ → Work
-tree-on zero C c calls f at s m = halted 99 s m
+tree-on zero C c calls f at s m = halted no-line s m
 tree-on (suc n) C c calls f at s m =
     cond (ltb at (length (c .kinds)))
     (tree-from (tree-on n C c calls f) C c calls f at s m (line-at (c .kinds) (c .operands) at))
-    (halted 99 s m)
+    (halted no-line s m)
 
 -- a call, with some call depth left
 unfoldable pub call-on : ℕ → Code → Callee

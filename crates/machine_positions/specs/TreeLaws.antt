@@ -19,7 +19,7 @@ use Rattle.machine_code.specs.declared.Line.the-variants as L
 use Rattle.machine_code.proofs.Reading.{less-one}
 use Rattle.machine_lines.specs.declared.Out.{Out}
 use Rattle.machine_lines.specs.Frames.{word-of}
-use Rattle.machine_lines.specs.Lines.{Memory, memory, Ran, ran, out, halted}
+use Rattle.machine_lines.specs.Lines.{no-line, Memory, memory, Ran, ran, out, halted}
 use Rattle.machine_positions.specs.Machine.{Work, Callee, Code, and-then, is-end, line-on}
 use Rattle.machine_positions.specs.Machine.{tree-from, tree-on, Ended}
 use Rattle.machine_positions.specs.Parts.{then-go, Sized, part-stops}
@@ -40,12 +40,12 @@ not-end (L.End a) h = absurd (⊎-elim (λ z. omega arith) (⊎-elim (λ z. omeg
     (⊎-elim (λ z. omega arith) (λ z. omega arith)))))))) h)
 
 tree-none : (n : ℕ) (C : Callee) (c : Code) (calls f at s : ℕ) (m : Memory) → n ≡ 0 → tree-on n C c calls f at s m ≡
-    halted 99 s m
+    halted no-line s m
 unfolding tree-on
 tree-none n C c calls f at s m e = rw e
 
 tree-past : (n : ℕ) (C : Callee) (c : Code) (calls f at s : ℕ) (m : Memory) → length (c .kinds) ≤ at →
-    tree-on n C c calls f at s m ≡ halted 99 s m
+    tree-on n C c calls f at s m ≡ halted no-line s m
 unfolding tree-on
 tree-past zero C c calls f at s m h = refl
 tree-past (suc n) C c calls f at s m h = rw (le-ltb at (length (c .kinds)) h)
@@ -89,7 +89,7 @@ pub record Working (C : Callee) (c : Code) (calls f lines at steps : ℕ) (slots
 module _ {C : Callee} {c : Code} {calls f lines at steps : ℕ} {slots₀ : List ℤ} {heads₀ : List ℕ} {env₀ : List ℤ}
     {left p s : ℕ} {slots : List ℤ} {heads : List ℕ} {env : List ℤ}
     (inv : Working C c calls f lines at steps slots₀ heads₀ env₀ left p s slots heads env) where
-  pub tree-out : (left ≡ 0) ⊎ (length (c .kinds) ≤ p) → (r : Out) → r ≡ out 99 (pos 0) 0 s →
+  pub tree-out : (left ≡ 0) ⊎ (length (c .kinds) ≤ p) → (r : Out) → r ≡ out no-line (pos 0) 0 s →
       Ended (tree-on lines C c calls f at steps (memory (store-of slots₀ heads₀) env₀)) steps r slots heads env
   tree-out (inl h) r e = record {
     is = ap (λ (y : Out). ran y (memory (store-of slots heads) env)) e
