@@ -16,7 +16,7 @@ use Rattle.semantics.specs.Calls.{StoreReply, translated, refusing, answering, 
 use Rattle.semantics.specs.Calls.{admitted-if, code-fits}
 use borrow.Author.Tests.{leb-true}
 use Rattle.semantics.specs.Calls.{engine-translate, request-fits, deliver-in, deliver-for}
-use Rattle.semantics.specs.Machine.{delivered}
+use Rattle.semantics.specs.Machine.{program, delivered}
 use Rattle.engine_store.specs.declared.Ended.{Ended}
 use Rattle.engine_store.specs.declared.Ended.the-variants as E
 use Rattle.engine_store.specs.Left.{StoreLeft, left, left-by, opened-left, checked-left, SmallAnswer}
@@ -144,7 +144,7 @@ module _ (kinds : List ℕ) (operands : List ℤ) where
     }
       where
         by : (fs : Script) (t u : Bool) →
-            let d = delivered fs readings budget (store-of slots heads) in
+            let d = delivered (program fs) readings budget (store-of slots heads) in
             let l = cond t (cond u (left-of d) (left (E.Refused 11) slots heads)) (left (E.Refused 10) slots heads) in
             cond t (cond u (deliver-in kinds operands slots heads fs d) (refusing kinds operands slots heads 11 0))
             (refusing kinds operands slots heads 10 0) ≡ reply-for fs l (l .answer)

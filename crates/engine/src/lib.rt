@@ -1,4 +1,5 @@
-// The calls for C. Each takes the script file and the two code arrays, translates afresh, and answers one packed number.
+// The calls for C. Each takes the script file and the two code arrays, translates afresh, and answers one packed
+// number.
 use engine_load::Loaded;
 use engine_store::Ended;
 ghost use Rattle.semantics.specs.Calls.{engine-open, engine-check, engine-deliver};

@@ -16,8 +16,8 @@ use Rattle.engine.proofs.engine_open.Reads as opening
 use Rattle.engine.proofs.engine_deliver.Kinds as D
 use Rattle.engine.proofs.engine_deliver.Reads as deliver
 
--- a call of `engine_open`: file, two code arrays and two store arrays as they were lent; the answer, and the four arrays
--- as they were left
+-- a call of `engine_open`: file, two code arrays and two store arrays as they were lent; the answer, and the four
+-- arrays as they were left
 pub data OpenCall : List ℕ → List ℕ → List ℤ → List ℤ → List ℕ → StoreReply → Type 0 where
   opens : (κs : Lfts 5) (a : Dens κs O.ps) (r : resT O.r κs .Denot) (s : AtExit (endedOf 5 O.ps O.r) κs) →
       opening.Post κs a r s →

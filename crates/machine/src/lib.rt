@@ -88,7 +88,8 @@ fn work_line(
     at: usize,
     l: Line,
 ) -> Out
-    requires { ⌜ (at < length (now (now kinds))) × (calls < 32) × (length (now env) ≡ 8192) × Short (now (now kinds)) ⌝ }
+    requires { ⌜ (at < length (now (now kinds))) × (calls < 32) × (length (now env) ≡ 8192)
+        × Short (now (now kinds)) ⌝ }
     ensures { λ r. ⌜ Ended (line-on
         (tree-on lines
         (call-on calls (code (now (now (kinds .entry))) (now (now (operands .entry))) (now (table .entry))))
@@ -163,7 +164,8 @@ fn work_if(
     x: u8,
     g: Atom,
 ) -> Out
-    requires { ⌜ (at < length (now (now kinds))) × (calls < 32) × (length (now env) ≡ 8192) × Short (now (now kinds)) ⌝ }
+    requires { ⌜ (at < length (now (now kinds))) × (calls < 32) × (length (now env) ≡ 8192)
+        × Short (now (now kinds)) ⌝ }
     ensures { λ r. ⌜ Ended (if-line
         (tree-on lines
         (call-on calls (code (now (now (kinds .entry))) (now (now (operands .entry))) (now (table .entry))))
@@ -214,7 +216,8 @@ fn work_call(
     x: u8,
     g: u8,
 ) -> Out
-    requires { ⌜ (at < length (now (now kinds))) × (calls < 32) × (length (now env) ≡ 8192) × Short (now (now kinds)) ⌝ }
+    requires { ⌜ (at < length (now (now kinds))) × (calls < 32) × (length (now env) ≡ 8192)
+        × Short (now (now kinds)) ⌝ }
     ensures { λ r. ⌜ Ended (call-line
         (call-on calls (code (now (now (kinds .entry))) (now (now (operands .entry))) (now (table .entry))))
         (code (now (now (kinds .entry))) (now (now (operands .entry))) (now (table .entry))) calls x g at steps
@@ -269,7 +272,8 @@ fn work_map(
     p: u8,
     a: Atom,
 ) -> Out
-    requires { ⌜ (at < length (now (now kinds))) × (calls < 32) × (length (now env) ≡ 8192) × Short (now (now kinds)) ⌝ }
+    requires { ⌜ (at < length (now (now kinds))) × (calls < 32) × (length (now env) ≡ 8192)
+        × Short (now (now kinds)) ⌝ }
     ensures { λ r. ⌜ Ended (map-line
         (tree-on lines
         (call-on calls (code (now (now (kinds .entry))) (now (now (operands .entry))) (now (table .entry))))

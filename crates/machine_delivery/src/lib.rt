@@ -97,8 +97,8 @@ fn attempt(
 ) -> Out
     requires { ⌜ 0 < length (now slots) ⌝ }
     ensures { λ r. ⌜ Tries
-        (attempt-on (code (now (kinds .entry)) (now (operands .entry)) (now (table .entry))) (now (readings .entry)) depth
-        budget (store-of (now (slots .entry)) (now (heads .entry))))
+        (attempt-on (code (now (kinds .entry)) (now (operands .entry)) (now (table .entry)))
+        (now (readings .entry)) depth budget (store-of (now (slots .entry)) (now (heads .entry))))
         budget r (now (slots .exit)) (now (heads .exit)) ⌝ }
 {
     let old = store_words::word_at(slots, 0);
@@ -128,8 +128,8 @@ fn deliver_kept(
     requires { ⌜ (0 < length (now slots)) × (length (now slots) ≤ length (now «old_slots»))
         × (length (now heads) ≤ length (now «old_heads»)) ⌝ }
     ensures { λ r. ⌜ DeliversOn
-        (delivered-on (code (now (kinds .entry)) (now (operands .entry)) (now (table .entry))) (now (readings .entry)) depth
-        budget (store-of (now (slots .entry)) (now (heads .entry))))
+        (delivered-on (code (now (kinds .entry)) (now (operands .entry)) (now (table .entry)))
+        (now (readings .entry)) depth budget (store-of (now (slots .entry)) (now (heads .entry))))
         r (now (slots .exit)) (now (heads .exit)) ⌝ }
 {
     store_reset::save_slots(old_slots, slots);
@@ -172,8 +172,8 @@ pub fn deliver_on(
 ) -> Delivery
     requires { ⌜ shaped (now slots) (now heads) ≡ true ⌝ }
     ensures { λ r. ⌜ DeliversOn
-        (delivered-on (code (now (kinds .entry)) (now (operands .entry)) (now (table .entry))) (now (readings .entry)) depth
-        budget (store-of (now (slots .entry)) (now (heads .entry))))
+        (delivered-on (code (now (kinds .entry)) (now (operands .entry)) (now (table .entry)))
+        (now (readings .entry)) depth budget (store-of (now (slots .entry)) (now (heads .entry))))
         r (now (slots .exit)) (now (heads .exit)) ⌝ }
 {
     if slots.len() <= 257 {

@@ -17,7 +17,8 @@ use Rattle.soundness.specs.machine.Discipline.{New}
 use Rattle.machine_lines.specs.Frames.{place}
 use Rattle.machine_lines.specs.Lines.{Memory, memory, Ran, halted, stepping, Given}
 use Rattle.machine_positions.specs.Machine.{and-then, binding}
-use Rattle.machine_laws.specs.Frames.{Bounded, FrameAgrees, FrameKept, agrees-more, agrees-kept, kept-more, kept-then}
+use Rattle.machine_laws.specs.Frames.{Bounded, FrameAgrees, FrameKept, agrees-more, agrees-kept, kept-more}
+use Rattle.machine_laws.specs.Frames.{kept-then}
 
 pub record Stopped (w : Ran) (n : ℕ) (s : State) : Type 0 where
   pub stop : w .out .stop ≡ n

@@ -24,7 +24,8 @@ use Rattle.machine_code.specs.Reading.{is-atom, atom-at, line-of, line-at, dept
 use Rattle.machine_code.specs.declared.Atom.{Atom}
 use Rattle.machine_lines.specs.Frames.{word-of}
 use Rattle.machine_lines.specs.Lines.{Memory, memory, Ran, Doing, branching, doing}
-use Rattle.machine_positions.specs.Machine.{Code, Work, Callee, and-then, binding, if-worked, if-line, line-done, line-on}
+use Rattle.machine_positions.specs.Machine.{Code, Work, Callee, and-then, binding, if-worked, if-line, line-done}
+use Rattle.machine_positions.specs.Machine.{line-on}
 use Rattle.machine_positions.specs.Machine.{is-end, tree-from, tree-on}
 use Rattle.machine_laws.specs.Rows.{At, Jumps, at-first, at-second, coded, atom-here, line-read}
 use Rattle.machine_laws.specs.Rows.{no-atom, tree-within, line-some, rows-some}

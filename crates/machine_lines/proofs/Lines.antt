@@ -36,7 +36,8 @@ use Rattle.machine_lines.specs.Frames.{place, word-of, words-at}
 use Rattle.machine_lines.specs.Lines.{no-line, Memory, memory, Ran, ran, left, out, with-store, halted, stepping}
 use Rattle.machine_lines.specs.Lines.{Given, given, worked, operation-of, operation-given}
 use Rattle.machine_lines.specs.Lines.{array-of, index-given, length-given, acquired-given, operation-line}
-use Rattle.machine_lines.specs.Lines.{index-line, length-line, Doing, giving, changing, ending, calling, branching, looping}
+use Rattle.machine_lines.specs.Lines.{index-line, length-line, Doing, giving, changing, ending, calling}
+use Rattle.machine_lines.specs.Lines.{branching, looping}
 use Rattle.machine_lines.specs.Lines.{doing, leaf-done, literal-line, leaf}
 
 -- ---- operations

@@ -18,7 +18,8 @@ use Rattle.machine_code.specs.declared.Line.{Line}
 use Rattle.machine_code.specs.declared.Line.the-variants as L
 use Rattle.machine_lines.specs.declared.Out.{Out}
 use Rattle.machine_lines.specs.Frames.{place, word-of, words-at, put-all, branch-start, branch-end}
-use Rattle.machine_lines.specs.Lines.{no-line, Memory, memory, Ran, ran, out, halted, bound, goes-on, stepping, array-of}
+use Rattle.machine_lines.specs.Lines.{no-line, Memory, memory, Ran, ran, out, halted, bound, goes-on, stepping}
+use Rattle.machine_lines.specs.Lines.{array-of}
 use Rattle.machine_lines.specs.Lines.{Given, acquired-given, Doing, giving, changing, ending, calling}
 use Rattle.machine_lines.specs.Lines.{branching, looping, doing, leaf-done}
 

@@ -12,7 +12,8 @@ use Rattle.semantics.specs.Kinds.{Leaf, operation, call, literal, index, length
 use Rattle.semantics.specs.Syntax.{Expr, number, name, let-in, leaf, if-else, loop, Exprs, none, more, size, sizes}
 use Rattle.semantics.specs.Code as C
 use Rattle.semantics.specs.File as S
-use Rattle.semantics.specs.File.{at-part, look, node-at, node-of, part-count, low-limits, high-limits, leaf-of, shape-of}
+use Rattle.semantics.specs.File.{at-part, look, node-at, node-of, part-count, low-limits, high-limits, leaf-of}
+use Rattle.semantics.specs.File.{shape-of}
 use Rattle.script_read.specs.Told.{Parts, node-outcome, parted}
 use Rattle.script_read.specs.declared.Node.{Node}
 use Rattle.script_read.specs.declared.Node.the-variants.{WrongKind, WrongOperand}

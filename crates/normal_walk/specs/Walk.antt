@@ -1,4 +1,5 @@
--- The walk that annotates: the rows of a tree and what is live before it, where a table says what the trees inside it use.
+-- The walk that annotates: the rows of a tree and what is live before it, where a table says what the trees inside it
+-- use.
 use mathlib.Core.Path.{_≡_}
 use mathlib.Core.List.{List, _∷_, _++_, map}
 use Prim.Native.Nat.{ℕ, _+_, _*_}

@@ -15,7 +15,8 @@ use Rattle.semantics.specs.Syntax.{Expr, number, name, let-in, leaf, if-else, l
 use Rattle.semantics.specs.File as S
 use Rattle.semantics.specs.File.{part-count, leaf-of, loop-of, shape-of}
 use Rattle.semantics.specs.Types.{Checked, Depths, part-depths, part-faults, Rule, Signature, node, some-if, let-rule}
-use Rattle.semantics.specs.Types.{is-number, if-rule, leaf-rule, loop-rule, loop-node, pass-depths, depths-with, check, checks}
+use Rattle.semantics.specs.Types.{is-number, if-rule, leaf-rule, loop-rule, loop-node, pass-depths, depths-with}
+use Rattle.semantics.specs.Types.{check, checks}
 use Rattle.semantics.specs.Annotate.{with-depths}
 use Rattle.script_read.proofs.Sorts.{kind-of-leaf, kind-of-loop}
 use Rattle.script_read.proofs.Written.{amount, Written, AllWritten}

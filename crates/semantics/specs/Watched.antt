@@ -1,5 +1,5 @@
--- Computed rows for the parts of the machine that leave no word in a store: wrong code that touches a free cell, with its
--- log, and a stop 25 inside a map inside a call, with its roots.
+-- Computed rows for the parts of the machine that leave no word in a store: wrong code that touches a free cell, with
+-- its log, and a stop 25 inside a map inside a call, with its roots.
 use Prim.Native.Nat.{ℕ, zero, suc, _+_}
 use mathlib.Core.Bool.{cond}
 use mathlib.Core.Path.{_≡_, refl}
@@ -22,8 +22,8 @@ use Rattle.semantics.specs.Slips.{file-of, low-first, operand-bytes}
 
 -- ---- touches
 
--- Two cells: cell 0 holds one word, which is 1 too, and cell 1 is free. Name 0 is the array in cell 0, and name 1 has the
--- number of cell 1.
+-- Two cells: cell 0 holds one word, which is 1 too, and cell 1 is free. Name 0 is the array in cell 0, and name 1 has
+-- the number of cell 1.
 unfoldable pub half-free : Store
 half-free = record {
   totals = pos 0;
@@ -116,9 +116,9 @@ dry-in file (accepted fs) =
     dry-of (delivery (program fs) (pos 5 ∷ pos 6 ∷ []) (starting 100 (store-of (r .slots) (r .heads))))
 dry-in file (refused n p) = record { number = n; left = 0; roots = []; missed = 0; missed-without = [] }
 
--- The ninth step's literal wants a cell. In use are the old totals (cell 0), the caller's a (2), the map's array (1), its
--- result so far (3, with 4 and 5 below it) and the literal's atom (6); without any one of these starts a taken cell is
--- reached from none.
+-- The ninth step's literal wants a cell. In use are the old totals (cell 0), the caller's a (2), the map's array (1),
+-- its result so far (3, with 4 and 5 below it) and the literal's atom (6); without any one of these starts a taken cell
+-- is reached from none.
 pub dry-roots :
     dry-in (file-of 2 map-in-a-call) (judged 0 (file-of 2 map-in-a-call))
     ≡ record {

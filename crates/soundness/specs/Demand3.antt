@@ -151,7 +151,8 @@ pub demand-3-within : {E F : Engine} →
     E .delivers file slots heads δ r → F .delivers file slots heads δ r) →
     Demand3 F → Demand3 E
 demand-3-within {E} {F} opens delivers whole file kinds operands slots heads opening opened answered =
-    let s = whole file kinds operands slots heads opening (opens file kinds operands slots heads opening opened) answered in
+    let o = opens file kinds operands slots heads opening opened in
+    let s = whole file kinds operands slots heads opening o answered in
     record {
       script = s .script;
       is-accepted = s .is-accepted;
@@ -161,5 +162,7 @@ demand-3-within {E} {F} opens delivers whole file kinds operands slots heads ope
     in-turn : (cs : List Call) (slots : List ℤ) (heads : List ℕ) → InTurn (E .delivers file) slots heads cs →
         InTurn (F .delivers file) slots heads cs
     in-turn [] slots heads turn = tt
-    in-turn (c ∷ cs) slots heads turn =
-        (delivers file slots heads (c .lent) (c .reply) (turn .0), in-turn cs (c .reply .slots) (c .reply .heads) (turn .1))
+    in-turn (c ∷ cs) slots heads turn = (
+      delivers file slots heads (c .lent) (c .reply) (turn .0),
+      in-turn cs (c .reply .slots) (c .reply .heads) (turn .1),
+    )

@@ -34,7 +34,9 @@ module _ (fs : Script) (σ : Store) (v : Value) (δ : Delivery) where
   -- the answer and the store after it, by whether the code and the request fit
   abbrev fixed-answer : Bool → Bool → ℕ
   fixed-answer a b =
-      cond a (cond b (packed (run .number) 0 (run .steps) (cells-taken (run .store))) (packed 10 0 0 0)) (packed 9 0 0 0)
+      cond a
+      (cond b (packed (run .number) 0 (run .steps) (cells-taken (run .store))) (packed 10 0 0 0))
+      (packed 9 0 0 0)
 
   abbrev fixed-store : Bool → Bool → Store
   fixed-store a b = cond a (cond b (run .store) σ) σ
@@ -74,7 +76,8 @@ module _ (fs : Script) (σ : Store) (v : Value) (δ : Delivery) where
     unfolding entry
     fixed = by (code-fits fs (room (δ .kinds) (δ .operands))) (request-fits (δ .readings) (δ .budget))
       where
-        by : (a b : Bool) → AgreesOn (cond a (cond b (entry-by fs v δ (dry-steps answer)) (L.refused 10)) (L.refused 9)) →
+        by : (a b : Bool) →
+            AgreesOn (cond a (cond b (entry-by fs v δ (dry-steps answer)) (L.refused 10)) (L.refused 9)) →
             Fixes (fixed-answer a b) (fixed-store a b)
         by true true g = by-fixes (dry-steps answer) g
         by true false g = (g .answered, g .owed)

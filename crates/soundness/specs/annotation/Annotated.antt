@@ -17,7 +17,8 @@ use Rattle.laws.specs.Tests.{or-cases}
 use Rattle.laws.specs.Lists.{hits, occurrences-append}
 use Rattle.soundness.specs.machine.Discipline.{handed, pass-lent}
 use Rattle.soundness.specs.annotation.Typed.{Functions}
-use Rattle.soundness.specs.annotation.Held.{Few, free, free-or, held, names, held-most, held-or, held-less, held-le}
+use Rattle.soundness.specs.annotation.Held.{Few, free, free-or, held, names, held-most, held-or, held-less}
+use Rattle.soundness.specs.annotation.Held.{held-le}
 use Rattle.soundness.specs.annotation.Held.{held-is, again-held, append-held, rising-off}
 use Rattle.soundness.specs.annotation.Moves.{Sound, retains}
 use Rattle.soundness.specs.annotation.Sets.{Inside, inside-bound, inside-pass}

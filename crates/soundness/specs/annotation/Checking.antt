@@ -14,7 +14,8 @@ use Rattle.semantics.specs.Types.{Depths, part-faults, Signature, let-rule, if-
 use Rattle.semantics.specs.Types.{checks}
 use Rattle.semantics.specs.Annotate.{with-depths}
 use Rattle.laws.specs.Tests.{some-same}
-use Rattle.soundness.specs.annotation.Typed.{count, Limited, AllLimited, Called, AllCalled, element-depths, Functions}
+use Rattle.soundness.specs.annotation.Typed.{count, Limited, AllLimited, Called, AllCalled, element-depths}
+use Rattle.soundness.specs.annotation.Typed.{Functions}
 use Rattle.soundness.specs.annotation.Typed.{Typed, AllTyped}
 use Rattle.soundness.specs.annotation.Rules.{if-typed, append-empty, Each, node-parts, node-depth, loop-whole}
 use Rattle.soundness.specs.annotation.Rules.{loop-parts, loop-found, pass-found}

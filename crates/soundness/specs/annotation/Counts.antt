@@ -17,7 +17,8 @@ use Rattle.soundness.specs.machine.Spending.{less-is, less-spends}
 use Rattle.soundness.specs.annotation.Typed.{Functions}
 use Rattle.soundness.specs.annotation.Held.{Few, hit, free, free-or, held, names, held-most, held-or, held-less}
 use Rattle.soundness.specs.annotation.Held.{held-number, held-empty, held-either, held-le, hold-held, only-other}
-use Rattle.soundness.specs.annotation.Held.{held-among, again-held, names-held, append-held, dying-held, covered-by}
+use Rattle.soundness.specs.annotation.Held.{held-among, again-held, names-held, append-held, dying-held}
+use Rattle.soundness.specs.annotation.Held.{covered-by}
 use Rattle.soundness.specs.annotation.Moves.{Sound, releases}
 use Rattle.soundness.specs.annotation.Sets.{Inside, inside-right, inside-empty}
 use Rattle.soundness.specs.annotation.Formed.{Within, Formed, live-inside, seen-among, live-stays}

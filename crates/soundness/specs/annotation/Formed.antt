@@ -15,7 +15,8 @@ use Rattle.semantics.specs.Annotate.{NameDepths, atom-depth}
 use Rattle.laws.specs.Tests.{or-cases, or-left, or-right}
 use Rattle.soundness.specs.machine.Discipline.{Known, AllKnown}
 use Rattle.soundness.specs.annotation.Typed.{element-depths, Functions, LeafType, LoopType}
-use Rattle.soundness.specs.annotation.Sets.{less-in, Inside, inside-right, inside-empty, inside-both, inside-trans}
+use Rattle.soundness.specs.annotation.Sets.{less-in, Inside, inside-right, inside-empty, inside-both}
+use Rattle.soundness.specs.annotation.Sets.{inside-trans}
 use Rattle.soundness.specs.annotation.Sets.{inside-or, inside-with, inside-less, inside-bound, inside-pass}
 use Rattle.soundness.specs.annotation.Sets.{inside-among}
 

@@ -32,7 +32,8 @@ use Rattle.soundness.specs.annotation.Annotated.{annotated-sound}
 use Rattle.soundness.specs.annotation.Tables.{Off, table, lines-table, table-off}
 use Rattle.soundness.specs.annotation.Fitted.{Standing, Fitted, atom-fitted, typed-fitted}
 use Rattle.soundness.specs.annotation.NormalFormed.{InScope, lines-formed}
-use Rattle.soundness.specs.annotation.Parameters.{written, Distinct, written-depth, parameter-depth, parameter-held}
+use Rattle.soundness.specs.annotation.Parameters.{written, Distinct, written-depth, parameter-depth}
+use Rattle.soundness.specs.annotation.Parameters.{parameter-held}
 
 below-known : (u : Atom) (n : ℕ) → AtomBelow u n → Known u (λ y. ltb y n)
 below-known (number z) n h = tt

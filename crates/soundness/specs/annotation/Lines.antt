@@ -14,11 +14,13 @@ use Rattle.semantics.specs.Annotate.{NameDepths, atom-depth, is-array, dying, a
 use Rattle.laws.specs.Lists.{hits}
 use Rattle.soundness.specs.machine.Discipline.{hold-of, handed, less, left-by, Covered, Frugal}
 use Rattle.soundness.specs.machine.Spending.{same-append, holding-left, holding-same}
-use Rattle.soundness.specs.annotation.Held.{Few, free, held, names, held-most, held-or, held-less, held-le, hold-held}
+use Rattle.soundness.specs.annotation.Held.{Few, free, held, names, held-most, held-or, held-less, held-le}
+use Rattle.soundness.specs.annotation.Held.{hold-held}
 use Rattle.soundness.specs.annotation.Held.{only-other, names-held, append-held}
 use Rattle.soundness.specs.annotation.Moves.{Sound, sound-same, retains, retains-result}
 use Rattle.soundness.specs.annotation.Unchanged.{live-release-all, live-retain-all, branch}
-use Rattle.soundness.specs.annotation.Counts.{free-most, number-held, Needs, Steady, releasing, Apart, before, behind}
+use Rattle.soundness.specs.annotation.Counts.{free-most, number-held, Needs, Steady, releasing, Apart, before}
+use Rattle.soundness.specs.annotation.Counts.{behind}
 use Rattle.soundness.specs.annotation.Counts.{again, retainable, handable, left, readable, bound, covered-before}
 use Rattle.soundness.specs.annotation.Counts.{covered-behind}
 

@@ -12,7 +12,8 @@ use Rattle.semantics.specs.Machine.{routine, no-routine, program}
 use Rattle.semantics.specs.Calls.{accepted, judged}
 use Rattle.soundness.specs.machine.Size.{function-adds, tree-adds}
 use Rattle.soundness.specs.machine.Calls.{ProgramDisciplined, ProgramFrugal}
-use Rattle.soundness.specs.annotation.Accepting.{judged-clean, functions-disciplined, functions-frugal, main-shape-of}
+use Rattle.soundness.specs.annotation.Accepting.{judged-clean, functions-disciplined, functions-frugal}
+use Rattle.soundness.specs.annotation.Accepting.{main-shape-of}
 
 tree-at : (fs : Script) (gs : List Function) (f : ℕ) → f < length gs →
     getD (map (routine fs) gs) f no-routine .tree ≡ annotated-body fs (getD gs f no-function)

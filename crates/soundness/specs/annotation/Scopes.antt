@@ -25,7 +25,8 @@ use Rattle.soundness.specs.annotation.Members.{members-true}
 use Rattle.soundness.specs.annotation.Held.{held, held-live, held-among, again-held}
 use Rattle.soundness.specs.annotation.Sets.{Inside, inside-pass}
 use Rattle.soundness.specs.annotation.Formed.{Within, within-up, within-bound, Rising, rising-up, within-pass}
-use Rattle.soundness.specs.annotation.Formed.{bound-by, Placed, Formed, LineFormed, LoopForm, seen-among, live-seen}
+use Rattle.soundness.specs.annotation.Formed.{bound-by, Placed, Formed, LineFormed, LoopForm, seen-among}
+use Rattle.soundness.specs.annotation.Formed.{live-seen}
 use Rattle.soundness.specs.annotation.Unchanged.{pass, ending-pass}
 
 -- ---- names

@@ -11,7 +11,8 @@ use Rattle.semantics.specs.Kinds.{Loop, mapping, loop-hands, loop-reads, elemen
 use Rattle.semantics.specs.Code.{Atom, loop, Tree, line, retain-all, release-all}
 use Rattle.semantics.specs.Live.{Set, empty, _∪_, _∖_, _∖∖_, only, just, among, live, live-before, uses, after-pass}
 use Rattle.semantics.specs.Annotate.{NameDepths, arrays, dying, annotate, annotate-line}
-use Rattle.soundness.specs.machine.Discipline.{loop-arity, hold-of, holds-of, handed, less, unlent, left-by, carried-name}
+use Rattle.soundness.specs.machine.Discipline.{loop-arity, hold-of, holds-of, handed, less, unlent, left-by}
+use Rattle.soundness.specs.machine.Discipline.{carried-name}
 use Rattle.soundness.specs.machine.Discipline.{outer-holds, pass-lent, pass-holds, aside, Covered, Frugal}
 use Rattle.laws.specs.Lists.{_≈_, occurrences-append}
 use Rattle.soundness.specs.machine.Spending.{less-counts, same-append, unlent-few, lent-or-not}
@@ -20,7 +21,8 @@ use Rattle.soundness.specs.annotation.Held.{append-held, held-pass, just
 use Rattle.soundness.specs.annotation.Formed.{Rising}
 use Rattle.soundness.specs.annotation.Moves.{Sound, sound-same, retains, retains-element}
 use Rattle.soundness.specs.annotation.Unchanged.{live-release-all, pass, live-pass}
-use Rattle.soundness.specs.annotation.Counts.{Needs, releasing, Apart, before, behind, again, retainable, handable}
+use Rattle.soundness.specs.annotation.Counts.{Needs, releasing, Apart, before, behind, again, retainable}
+use Rattle.soundness.specs.annotation.Counts.{handable}
 use Rattle.soundness.specs.annotation.Counts.{left, readable, bound, covered-before}
 
 -- a pass has one element

@@ -21,7 +21,8 @@ use Rattle.soundness.specs.store.Kept.{keeps-fewer, keeps-trans}
 use Rattle.soundness.specs.machine.Discipline.{holds-after, waits-after}
 use Rattle.soundness.specs.machine.Rules.{Fresh}
 use Rattle.soundness.specs.machine.Images.{image-alike, updated-here, updated-there, apart, without-middle}
-use Rattle.soundness.specs.machine.Frames.{hold, Room, Setting, Pending, Lent, Situation, Returned, Ended, Going, own}
+use Rattle.soundness.specs.machine.Frames.{hold, Room, Setting, Pending, Lent, Situation, Returned, Ended}
+use Rattle.soundness.specs.machine.Frames.{Going, own}
 use Rattle.soundness.specs.machine.Situations.{room-less}
 use Rattle.soundness.specs.machine.Standing.{none-in, stands-number, stands-held, hold-updated, hold-of-number}
 use Rattle.soundness.specs.machine.Standing.{hold-bound, hold-of-other, lent-kept}

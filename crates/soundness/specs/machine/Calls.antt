@@ -17,7 +17,8 @@ use Rattle.laws.specs.Lists.{_⊆_}
 use Rattle.soundness.specs.normal.Plain.{run, running, values-from}
 use Rattle.soundness.specs.store.Invariant.{Invariant}
 use Rattle.soundness.specs.normal.Trace.{CalleeGrows, running-grows}
-use Rattle.soundness.specs.machine.Discipline.{parameter-holds, parameter-names, FunctionDisciplined, FunctionFrugal}
+use Rattle.soundness.specs.machine.Discipline.{parameter-holds, parameter-names, FunctionDisciplined}
+use Rattle.soundness.specs.machine.Discipline.{FunctionFrugal}
 use Rattle.soundness.specs.machine.Agreement.{Start, Together, Agree, same, agree-map}
 use Rattle.soundness.specs.machine.Frames.{Room, Setting, Situation, Returned, Arguments, named-all}
 use Rattle.soundness.specs.machine.Standing.{none-in}

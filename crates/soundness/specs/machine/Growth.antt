@@ -14,7 +14,8 @@ use Rattle.semantics.specs.Code.{Tree}
 use Rattle.semantics.specs.Meaning.{Meter, Callee, Env, step, step-wants, meter-of, do-pass}
 use Rattle.soundness.specs.normal.Plain.{run}
 use Rattle.soundness.specs.normal.Trace as Trace
-use Rattle.soundness.specs.normal.Trace.{CalleeGrows, wants-stays, run-grows, grows-give, grows-require, grows-step}
+use Rattle.soundness.specs.normal.Trace.{CalleeGrows, wants-stays, run-grows, grows-give, grows-require}
+use Rattle.soundness.specs.normal.Trace.{grows-step}
 
 -- ---- the trace
 

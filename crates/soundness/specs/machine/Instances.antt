@@ -15,7 +15,8 @@ use Rattle.semantics.specs.Live.{Set, _∪_, just, live, among}
 use Rattle.semantics.specs.Annotate.{NameDepths, is-array}
 use Rattle.semantics.specs.Machine.{Routine, Program, routine-of}
 use Rattle.soundness.specs.store.Kept.{only}
-use Rattle.soundness.specs.machine.Discipline.{without, less, unlent, left-by, parameter-holds, RoutineDisciplined}
+use Rattle.soundness.specs.machine.Discipline.{without, less, unlent, left-by, parameter-holds}
+use Rattle.soundness.specs.machine.Discipline.{RoutineDisciplined}
 use Rattle.soundness.specs.machine.Discipline.{Fitting, Scoped, New, Holding, FunctionDisciplined, Covered}
 use Rattle.soundness.specs.machine.Discipline.{RoutineFrugal}
 use Rattle.soundness.specs.machine.Standing.{none-in}

@@ -17,7 +17,8 @@ use Rattle.semantics.specs.Annotate.{atom-depth}
 use Rattle.laws.specs.Tests.{or-left, or-right}
 use Rattle.soundness.specs.store.Counting.{append-cases}
 use Rattle.soundness.specs.machine.Discipline.{Fitting, LineFitting, Scoped, LineScoped, known-after, Holding}
-use Rattle.soundness.specs.machine.Discipline.{LineHolding, Frugal, LineFrugal, handed, holds-of, less, holds-after}
+use Rattle.soundness.specs.machine.Discipline.{LineHolding, Frugal, LineFrugal, handed, holds-of, less}
+use Rattle.soundness.specs.machine.Discipline.{holds-after}
 use Rattle.soundness.specs.machine.Discipline.{waits-after, left-by, carried-name, aside, loop-holds, outer-holds}
 use Rattle.soundness.specs.machine.Discipline.{pass-lent, pass-holds}
 use Rattle.soundness.specs.machine.Spending.{less-in}

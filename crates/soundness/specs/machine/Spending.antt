@@ -15,7 +15,8 @@ use Rattle.semantics.specs.Live.{Set, live}
 use Rattle.semantics.specs.Annotate.{NameDepths}
 use Rattle.laws.specs.Lists.{_≈_, _⊆_, hits, occurrences-append}
 use Rattle.soundness.specs.machine.Discipline.{without, less, unlent, _⊑_, handed, hold-of, holds-of, left-by}
-use Rattle.soundness.specs.machine.Discipline.{holds-after, waits-after, loop-holds, outer-holds, pass-holds, aside}
+use Rattle.soundness.specs.machine.Discipline.{holds-after, waits-after, loop-holds, outer-holds, pass-holds}
+use Rattle.soundness.specs.machine.Discipline.{aside}
 use Rattle.soundness.specs.machine.Discipline.{carried-name, leaf-holds, pass-lent, Holding, LineHolding, Covered}
 use Rattle.soundness.specs.machine.Discipline.{Frugal, LineFrugal}
 

@@ -21,7 +21,8 @@ use Rattle.soundness.specs.normal.Plain.{value}
 use Rattle.soundness.specs.store.Invariant.{Alike, Keeps, Stands}
 use Rattle.soundness.specs.store.Counting.{append-cases, in-append-right}
 use Rattle.soundness.specs.store.Kept.{stands-kept}
-use Rattle.soundness.specs.machine.Images.{image-in, image-same, map-append, image-alike, updated-here, updated-there}
+use Rattle.soundness.specs.machine.Images.{image-in, image-same, map-append, image-alike, updated-here}
+use Rattle.soundness.specs.machine.Images.{updated-there}
 use Rattle.soundness.specs.machine.Images.{apart}
 use Rattle.soundness.specs.machine.Frames.{hold, Setting, Situation, Lent, own, given}
 

@@ -14,7 +14,8 @@ use Rattle.semantics.specs.Machine.{touching}
 use Rattle.laws.specs.Lists.{_≈_, hits, occurrences-append}
 use Rattle.soundness.specs.store.Invariant.{Tidy, Invariant}
 use Rattle.soundness.specs.store.Counting.{occurs-at-most}
-use Rattle.soundness.specs.store.Cells.{in-range, clear-names, unused-names, inner-short, short-list, inner-in-all}
+use Rattle.soundness.specs.store.Cells.{in-range, clear-names, unused-names, inner-short, short-list}
+use Rattle.soundness.specs.store.Cells.{inner-in-all}
 use Rattle.soundness.specs.store.Cells.{Put, put-size, put-cases}
 use Rattle.soundness.specs.store.FreeList.{Listed, listed-is, due-used}
 

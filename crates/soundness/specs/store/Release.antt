@@ -14,7 +14,8 @@ use Rattle.semantics.specs.Demands.{touched, taken-off, put-on, replayed}
 use Rattle.laws.specs.Lists.{occurrences-append, occurs-first}
 use Rattle.soundness.specs.store.Invariant.{Invariant, Keeps}
 use Rattle.soundness.specs.store.Counting.{hits-itself}
-use Rattle.soundness.specs.store.Cells.{in-range, clear-names, CellsAgree, agree-trans, same-agree, Put, Here, There}
+use Rattle.soundness.specs.store.Cells.{in-range, clear-names, CellsAgree, agree-trans, same-agree, Put, Here}
+use Rattle.soundness.specs.store.Cells.{There}
 use Rattle.soundness.specs.store.Cells.{put-size, put-cases, put-inner, with-first-put}
 use Rattle.soundness.specs.store.FreeList.{Listed, listed, listed-freed}
 use Rattle.soundness.specs.store.Change.{root-used, held-used, touch, Change, changed, changed-list}
