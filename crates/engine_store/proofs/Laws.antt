@@ -2,11 +2,11 @@
 use Prim.Native.Nat.{ℕ, zero, suc, _+_, _≤_}
 use native.Mathlib.Omega.{arith}
 use mathlib.Core.Bool.{true, false}
-use mathlib.Core.Path.{_≡_, refl, ap}
+use mathlib.Core.Path.{_≡_, refl}
 use mathlib.Core.List.{List, [], _∷_}
 use lib.ListN.{length}
 use lib.IntN.{ℤ}
-use Rattle.semantics.specs.Basics.{tabulate}
+use Rattle.laws.specs.Lists.{tabulate-length}
 use Rattle.semantics.specs.Store.{Cell, Store, opened, one-if-used, used-cells, cells-taken}
 use Rattle.semantics.specs.Words.{cells-in, cell-at, store-of, shaped}
 use Rattle.semantics.specs.Sound.{sound, sound-words}
@@ -60,11 +60,6 @@ used-few (x ∷ l) = go (used-few l) (x .count)
     go h zero = omega (arith, h)
     go h (suc n) = omega (arith, h)
 
-tabulate-length : {A : Type 0} (i n : ℕ) (f : ℕ → A) → length (tabulate i n f) ≡ n
-unfolding tabulate
-tabulate-length i zero f = refl
-tabulate-length i (suc n) f = ap suc (tabulate-length (suc i) n f)
-
 pub taken-few : (slots : List ℤ) (heads : List ℕ) (n : ℕ) → n ≡ cells-taken (store-of slots heads) → n ≤ 256
 unfolding store-of cells-in
 taken-few slots heads n e =
@@ -72,5 +67,5 @@ taken-few slots heads n e =
       arith,
       e,
       used-few (store-of slots heads .cells),
-      tabulate-length 0 (cells-in slots heads) (cell-at slots heads),
+      tabulate-length (cells-in slots heads) 0 (cell-at slots heads),
     )

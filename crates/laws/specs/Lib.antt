@@ -3,3 +3,4 @@ pub mod Counts
 pub mod Lists
 pub mod Releases
 pub mod Tests
+pub mod Updates

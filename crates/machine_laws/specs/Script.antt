@@ -5,6 +5,7 @@ use mathlib.Core.Path.{_≡_, refl, sym, ap, subst, _∙_}
 use mathlib.Core.List.{List, [], _∷_, _++_, map, append-assoc}
 use lib.IntN.{ℤ, pos}
 use lib.ListN.{getD, length, length-append, length-map}
+use Rattle.soundness.specs.machine.Size.{function-within}
 use Rattle.semantics.specs.Syntax.{Parameter, Function, Script, function-at, no-function, main-depth}
 use Rattle.semantics.specs.Code.{Row, rows}
 use Rattle.semantics.specs.Annotate.{depths-of, annotated-body, parameter-rows, function-rows, functions-rows, code}
@@ -49,19 +50,6 @@ body-written kinds operands fs (f ∷ gs) p (suc g) h l =
     subst (λ (q : ℕ). At kinds operands q (rows (annotated-body fs (getD gs g no-function)))) z
     (body-written kinds operands fs gs (p + length (function-rows fs f)) g
     (at-second kinds operands p (function-rows fs f) (functions-rows fs gs) h) (omega arith))
-
-body-short : (fs : Script) (gs : List Function) (g : ℕ) → g < length gs →
-    length (rows (annotated-body fs (getD gs g no-function))) ≤ length (functions-rows fs gs)
-unfolding functions-rows function-rows
-body-short fs [] g l = absurd (omega arith)
-body-short fs (f ∷ gs) zero l =
-    omega (
-      arith,
-      length-append (function-rows fs f) (functions-rows fs gs),
-      length-append (parameter-rows (f .parameters) 0) (rows (annotated-body fs f)),
-    )
-body-short fs (f ∷ gs) (suc g) l =
-    omega (arith, length-append (function-rows fs f) (functions-rows fs gs), body-short fs gs g (omega arith))
 
 -- rows written at the front of two lists stand there
 pub front-written : (rs : List Row) (ks ps : List ℕ) (os qs : List ℤ) → length ps ≡ length qs →
@@ -146,7 +134,7 @@ module _ (node : ℕ) (file : List ℕ) (fs : Script) (ok : judged node file ≡
             (body-written (c .kinds) (c .operands) fs fs 0 f (held .written) h));
         short = subst (λ (r : Routine). length (rows (r .tree)) ≤ 4096) (routine-is f h)
             (let z : length (rows (annotated-body fs (function-at fs f))) ≤ 4096 =
-            omega (arith, body-short fs fs f h, held .short) in z);
+            omega (arith, function-within fs fs f h, held .short) in z);
         depths = λ x g. held .depths f x h g ∙ ap (λ (r : Routine). r .depths x) (routine-is f h);
         few = omega (arith, length-depths (function-at fs f .parameters), few-parameters fs f (clean .limits .1));
       }

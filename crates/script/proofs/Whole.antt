@@ -20,7 +20,7 @@ use Rattle.semantics.specs.Normal.{too-many-names}
 use Rattle.semantics.specs.Calls.{judged, judged-script, Faulty-in}
 use Rattle.script_read.specs.Told.{Parts, told}
 use Rattle.script_read.specs.declared.Read.the-variants as R
-use Rattle.script_read.proofs.Sorts.{both}
+use Rattle.laws.specs.Tests.{both-hold}
 use Rattle.script.specs.Verdicts.{Readable, told-verdict, node-of, Judges, refused-by, listed, checked-as}
 use Rattle.script.specs.declared.Verdict.{Verdict}
 use Rattle.script.specs.declared.Verdict.the-variants.{Accepted, Refused}
@@ -76,9 +76,9 @@ module _ (l : List ℕ) (f n q : ℕ) (fe : f ≡ bytes-at 2 l 0) (ne : n ≡ by
       go false i true j true g e =
           let v = tree-of (script (take n (drop 4 l)) (drop (4 + n) l) f 0) q e in
           let whole = eqb-true (length l) (4 + 9 * n) g in
-          let sizes = both (between 1 32 f) (between 1 1024 n) j in
-          let functions = both (leb 1 f) (leb f 32) (sizes .0) in
-          let nodes = both (leb 1 n) (leb n 1024) (sizes .1) in
+          let sizes = both-hold (between 1 32 f) (between 1 1024 n) j in
+          let functions = both-hold (leb 1 f) (leb f 32) (sizes .0) in
+          let nodes = both-hold (leb 1 n) (leb n 1024) (sizes .1) in
           record {
             long = whole;
             readable = record {

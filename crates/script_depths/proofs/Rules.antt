@@ -14,7 +14,7 @@ use Rattle.semantics.specs.File.{at-function, at-parameter, part-count, part-co
 use Rattle.semantics.specs.Types.{Signature, all-are, same, call-rule, index-rule, length-rule}
 use Rattle.script_read.specs.Told.{low-at, high-at}
 use Rattle.script_read.specs.declared.Node.the-variants.{WrongKind}
-use Rattle.script_read.proofs.Sorts.{both}
+use Rattle.laws.specs.Tests.{both-hold}
 use Rattle.script_read.proofs.Nodes.{node-says, past, unfit, low-none, high-none}
 use Rattle.script_depths.specs.declared.Typed.{Typed}
 use Rattle.script_depths.specs.declared.Typed.the-variants.{Depth, Fault}
@@ -227,8 +227,8 @@ under b (a ∷ l) = leb a b && under b l
 
 under-at : (b : ℕ) (l : List ℕ) (i : ℕ) → under b l ≡ true → getD l i 0 ≤ b
 under-at b [] i h = omega arith
-under-at b (a ∷ l) zero h = leb-true a b (both (leb a b) (under b l) h .0)
-under-at b (a ∷ l) (suc i) h = under-at b l i (both (leb a b) (under b l) h .1)
+under-at b (a ∷ l) zero h = leb-true a b (both-hold (leb a b) (under b l) h .0)
+under-at b (a ∷ l) (suc i) h = under-at b l i (both-hold (leb a b) (under b l) h .1)
 
 pub few-parts : (x y z : ℕ) → y ≤ getD low-limits x 0 → z ≤ getD high-limits x 0 → part-count x y z ≤ 16
 unfolding part-count

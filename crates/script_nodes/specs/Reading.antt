@@ -15,7 +15,7 @@ use Rattle.semantics.specs.Syntax as S
 use Rattle.semantics.specs.File.{Head, Node, fits, wrong-kind, wrong-operand, Place, at-function, at-parameter, at-part}
 use Rattle.semantics.specs.File.{Read, next, looked, part-count, Shape, none, leaf-of, loop-of, shape-of, shaped, parts}
 use Rattle.semantics.specs.File.{node-at, look, part, parameter, function, finish, script, between, read-file}
-use Rattle.script_read.proofs.Sorts.{both}
+use Rattle.laws.specs.Tests.{both-hold}
 use Rattle.script_read.proofs.Written as W
 use Rattle.script_read.proofs.Written.{ScriptWritten, total, script-written}
 use Rattle.script_read.proofs.Ends.{node-inside, script-ends}
@@ -179,8 +179,8 @@ read-small file = short (ltb (length file) 4)
     sized : (t : Bool) → (between 1 32 functions && between 1 1024 count) ≡ t →
         Small 1024 (cond t (cond (eqb (length file) (4 + 9 * count)) whole (stop 1 0)) (stop 2 0))
     sized true e =
-        let nodes = both (between 1 32 functions) (between 1 1024 count) e .1 in
-        long (eqb (length file) (4 + 9 * count)) (leb-true count 1024 (both (leb 1 count) (leb count 1024) nodes .1))
+        let nodes = both-hold (between 1 32 functions) (between 1 1024 count) e .1 in
+        long (eqb (length file) (4 + 9 * count)) (leb-true count 1024 (both-hold (leb 1 count) (leb count 1024) nodes .1))
     sized false e = refuse 1024 2 (omega arith) (omega arith) (omega arith)
 
     short : (t : Bool) → Small 1024 (cond t (stop 1 0) (cond (between 1 32 functions && between 1 1024 count)

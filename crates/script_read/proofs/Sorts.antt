@@ -7,15 +7,12 @@ use mathlib.Core.Path.{_≡_, refl, ap}
 use lib.Dec.{eqb}
 use lib.ListN.{getD}
 use borrow.Author.Tests.{eqb-true, ne-eqb}
+use Rattle.laws.specs.Tests.{both-hold}
 use Rattle.semantics.specs.Kinds.{Leaf, leaf-kind, Loop, loop-kind}
 use Rattle.semantics.specs.Syntax.{Expr}
 use Rattle.semantics.specs.File as S
 use Rattle.semantics.specs.File.{Shape, none, leaf-of, loop-of, shapes, shape-of, shaped, parts, part-kinds, part-count}
 use Rattle.semantics.specs.File.{allowed, at-part}
-
-pub both : (s t : Bool) → (s && t) ≡ true → (s ≡ true) × (t ≡ true)
-both true t e = (refl, e)
-both false t e = absurd (false≢true e)
 
 -- a table by kind and the shapes: a test that holds of both entries for each kind
 module _ {A : Type 0} (test : ℕ → A → Shape → Bool) (a : A) where
@@ -33,9 +30,9 @@ module _ {A : Type 0} (test : ℕ → A → Shape → Bool) (a : A) where
     fit-at i j n (b ∷ m) [] e f = absurd (false≢true f)
     fit-at i zero n (b ∷ m) (s ∷ l) e f =
         let g : n ≡ i = omega arith in
-        rw g (both (test i b s) (all-fit (suc i) m l) f .0)
+        rw g (both-hold (test i b s) (all-fit (suc i) m l) f .0)
     fit-at i (suc j) n (b ∷ m) (s ∷ l) e f =
-        fit-at (suc i) j n m l (omega arith) (both (test i b s) (all-fit (suc i) m l) f .1)
+        fit-at (suc i) j n m l (omega arith) (both-hold (test i b s) (all-fit (suc i) m l) f .1)
 
     pub fit : (h : S.Head) (m : List A) → all-fit 0 m (shapes h) ≡ true →
         test (h .kind) (getD m (h .kind) a) (shape-of h) ≡ true
@@ -57,7 +54,7 @@ module _ (h : S.Head) where
 
   module _ (k : Loop) (xs : List ℕ) (c : ℕ) (e : shape-of h ≡ loop-of k xs c) where
     of-loop : (eqb (h .kind) (loop-kind k) ≡ true) × (eqb (part-count (h .kind) (h .low) (h .high)) (suc c) ≡ true)
-    of-loop = both (eqb (h .kind) (loop-kind k)) _ (rw e at kinds-fit)
+    of-loop = both-hold (eqb (h .kind) (loop-kind k)) _ (rw e at kinds-fit)
 
     pub kind-of-loop : h .kind ≡ loop-kind k
     kind-of-loop = eqb-true (h .kind) (loop-kind k) (of-loop .0)

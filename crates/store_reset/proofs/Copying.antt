@@ -6,13 +6,14 @@ use native.Mathlib.Omega.{arith}
 use native.Mathlib.Decide.{ℕ-discrete}
 use lib.ListN.{length, getD, set}
 use lib.Seq.{ext-getD, getD-set-same, getD-set-other}
-use Rattle.store_words.proofs.Tables.{length-tabulate, tabulate-at}
+use Rattle.laws.specs.Lists.{tabulate-length}
+use Rattle.store_words.proofs.Tables.{tabulate-at}
 use Rattle.store_reset.specs.Resetting.{words-of}
 
 module _ {A : Type 0} (z : A) (n : ℕ) (l : List A) where
   pub words-length : length (words-of z n l) ≡ n
   unfolding words-of
-  words-length = length-tabulate 0 n (λ i. getD l i z)
+  words-length = tabulate-length n 0 (λ i. getD l i z)
 
   pub word-is : (i : ℕ) → i < n → getD (words-of z n l) i z ≡ getD l i z
   unfolding words-of

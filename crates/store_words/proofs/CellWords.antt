@@ -12,8 +12,9 @@ use borrow.Author.Tests.{ltb-true, ltb-false}
 use Rattle.semantics.specs.Store.{Cell, Store, cell, cell-count, clear, elements, with-cell}
 use Rattle.semantics.specs.Words.{cells-in, slots-at, cell-at, store-of}
 use Rattle.laws.specs.Cells.{same-store}
+use Rattle.laws.specs.Lists.{tabulate-length}
 use Rattle.store_words.specs.Parts.{CellThere}
-use Rattle.store_words.proofs.Tables.{length-tabulate, tabulate-at}
+use Rattle.store_words.proofs.Tables.{tabulate-at}
 
 -- a cell put back where it is
 pub with-self : (σ : Store) (c : ℕ) → with-cell σ c (cell σ c) ≡ σ
@@ -49,7 +50,7 @@ module _ (slots : List ℤ) (heads : List ℕ) where
 
   pub store-size : cell-count (store-of slots heads) ≡ cells-in slots heads
   unfolding store-of
-  store-size = length-tabulate 0 (cells-in slots heads) (cell-at slots heads)
+  store-size = tabulate-length (cells-in slots heads) 0 (cell-at slots heads)
 
   pub first-is : store-of slots heads .first ≡ getD heads 0 0
   unfolding store-of
@@ -94,7 +95,7 @@ module _ (slots : List ℤ) (heads : List ℕ) where
 
 pub slots-length : (slots : List ℤ) (c : ℕ) → length (slots-at slots c) ≡ 16
 unfolding slots-at
-slots-length slots c = length-tabulate 0 16 (λ i. getD slots (1 + 16 * c + i) (pos 0))
+slots-length slots c = tabulate-length 16 0 (λ i. getD slots (1 + 16 * c + i) (pos 0))
 
 pub slot-is : (slots : List ℤ) (c i : ℕ) → i < 16 → getD (slots-at slots c) i (pos 0)
     ≡ getD slots (1 + 16 * c + i) (pos 0)

@@ -5,16 +5,12 @@ use mathlib.Core.List.{List, _∷_}
 use Prim.Native.Nat.{ℕ, zero, suc, _+_, _<_, _≤_}
 use native.Mathlib.Omega.{arith}
 use native.Mathlib.Decide.{ℕ-discrete}
-use lib.ListN.{length, getD, set, length-set}
+use lib.ListN.{getD, set, length-set}
 use lib.Seq.{ext-getD, getD-set-same, getD-set-other}
+use Rattle.laws.specs.Lists.{tabulate-length}
 use Rattle.semantics.specs.Basics.{tabulate}
 
 module _ {A : Type 0} where
-  pub length-tabulate : (i n : ℕ) (f : ℕ → A) → length (tabulate i n f) ≡ n
-  unfolding tabulate
-  length-tabulate i zero f = refl
-  length-tabulate i (suc n) f = ap suc (length-tabulate (suc i) n f)
-
   getD-tabulate : (i n : ℕ) (f : ℕ → A) (j : ℕ) (d : A) → j < n → getD (tabulate i n f) j d ≡ f (i + j)
   unfolding tabulate
   getD-tabulate i zero f j d h = absurd (omega arith)
@@ -38,11 +34,11 @@ module _ {A : Type 0} where
   pub set-tabulate : (n : ℕ) (f g : ℕ → A) (j : ℕ) (v : A) → j < n → g j ≡ v →
       ((i : ℕ) → i < n → i ≢ j → g i ≡ f i) → tabulate 0 n g ≡ set (tabulate 0 n f) j v
   set-tabulate n f g j v h e k = ext-getD v (tabulate 0 n g) (set (tabulate 0 n f) j v)
-      (length-tabulate 0 n g ∙ sym (length-set (tabulate 0 n f) j v ∙ length-tabulate 0 n f))
-      (λ i l. go i (omega (arith, length-tabulate 0 n g)) (ℕ-discrete i j))
+      (tabulate-length n 0 g ∙ sym (length-set (tabulate 0 n f) j v ∙ tabulate-length n 0 f))
+      (λ i l. go i (omega (arith, tabulate-length n 0 g)) (ℕ-discrete i j))
     where
       go : (i : ℕ) → i < n → Dec (i ≡ j) → getD (tabulate 0 n g) i v ≡ getD (set (tabulate 0 n f) j v) i v
       go i l (yes p) = tabulate-at n g i v l ∙ ap g p ∙ e ∙ sym (ap (λ (x : ℕ). getD (set (tabulate 0 n f) j v) x v) p
-          ∙ getD-set-same (tabulate 0 n f) j v v (omega (arith, length-tabulate 0 n f)))
+          ∙ getD-set-same (tabulate 0 n f) j v v (omega (arith, tabulate-length n 0 f)))
       go i l (no p) = tabulate-at n g i v l ∙ k i l p
           ∙ sym (getD-set-other (tabulate 0 n f) j i v v p ∙ tabulate-at n f i v l)

@@ -9,6 +9,7 @@ use mathlib.Core.Option.{Option, none, some}
 use lib.ListN.{length, getD, length-map}
 use lib.Dec.{ltb}
 use borrow.Author.Tests.{ltb-false}
+use Rattle.script_nodes.specs.Free.{no-script}
 use Rattle.semantics.specs.Basics.{updated}
 use Rattle.semantics.specs.Outcome.{Outcome, done, stop}
 use Rattle.semantics.specs.Syntax.{Expr, Parameter, Function, Script, no-function, function-size, main-depth}
@@ -22,7 +23,8 @@ use Rattle.semantics.specs.Machine.{program, routine}
 use Rattle.laws.specs.Tests.{not-some, some-if-holds, all-equal, same-lists}
 use Rattle.soundness.specs.machine.Discipline.{FunctionDisciplined, FunctionFrugal}
 use Rattle.soundness.specs.annotation.Typed.{Limited, Called, Functions, Typed}
-use Rattle.soundness.specs.annotation.Rules.{with-if-empty, append-empty, node-parts, node-depth}
+use Rattle.laws.specs.Lists.{append-empty}
+use Rattle.soundness.specs.annotation.Rules.{with-if-empty, node-parts, node-depth}
 use Rattle.soundness.specs.annotation.Calling.{body-called}
 use Rattle.soundness.specs.annotation.Checking.{check-typed}
 use Rattle.soundness.specs.annotation.Parameters.{written, written-known, Distinct}
@@ -31,16 +33,9 @@ use Rattle.soundness.specs.annotation.Reader.{After, AllOf, FunctionLimi
 
 -- ---- what an accepting verdict says
 
-abbrev Accepts : Verdict → Type 0
-Accepts (accepted fs) = Unit {0}
-Accepts (refused n p) = ⊥
-
 script-of : Verdict → Script
 script-of (accepted fs) = fs
 script-of (refused n p) = []
-
-not-accepted : {A : Type 0} (n p : ℕ) (fs : Script) → refused n p ≡ accepted fs → A
-not-accepted n p fs e = absurd (subst Accepts (sym e) tt)
 
 -- a script that is read, within limits and without fault
 pub record Clean (fs : Script) : Type 0 where
@@ -54,9 +49,9 @@ script-clean : (node : ℕ) (gs fs : Script) (ps qs : List ℕ) (o : Option ℕ)
     (gs ≡ fs) × (ps ≡ []) × (qs ≡ []) × (o ≡ none)
 unfolding script-of
 script-clean node gs fs [] [] none e = (ap script-of e, refl, refl, refl)
-script-clean node gs fs [] [] (some p) e = not-accepted 8 p fs e
-script-clean node gs fs [] (q ∷ qs) o e = not-accepted 7 node fs e
-script-clean node gs fs (p ∷ ps) qs o e = not-accepted 6 node fs e
+script-clean node gs fs [] [] (some p) e = no-script 8 p fs e
+script-clean node gs fs [] (q ∷ qs) o e = no-script 7 node fs e
+script-clean node gs fs (p ∷ ps) qs o e = no-script 6 node fs e
 
 pub judged-clean : (node : ℕ) (file : List ℕ) (fs : Script) → judged node file ≡ accepted fs → Clean fs
 unfolding judged
@@ -66,7 +61,7 @@ judged-clean node file fs = go (read-file file) (file-limited file)
     go (done gs p) l e =
         let clean = script-clean node gs fs (name-faults gs) (type-faults gs) (too-many-names gs) e in
         subst Clean (clean .0) (record { limits = l; names = clean .1; types = clean .2; roomy = clean .3 })
-    go (stop n p) l e = not-accepted n p fs e
+    go (stop n p) l e = no-script n p fs e
 
 -- ---- one function
 

@@ -8,7 +8,8 @@ use Rattle.semantics.specs.Syntax.{Expr, number, name, let-in, leaf, if-else, l
 use Rattle.semantics.specs.Syntax.{Parameter}
 use Rattle.semantics.specs.Names.{Scope, scope-with, calls-none, unknown, unknowns, unknown-from}
 use Rattle.soundness.specs.annotation.Typed.{Called, AllCalled}
-use Rattle.soundness.specs.annotation.Rules.{append-empty, with-if-empty}
+use Rattle.laws.specs.Lists.{append-empty}
+use Rattle.soundness.specs.annotation.Rules.{with-if-empty}
 
 module _ (functions : ℕ) where
   mutual

@@ -17,7 +17,8 @@ use Rattle.laws.specs.Tests.{some-same}
 use Rattle.soundness.specs.annotation.Typed.{count, Limited, AllLimited, Called, AllCalled, element-depths}
 use Rattle.soundness.specs.annotation.Typed.{Functions}
 use Rattle.soundness.specs.annotation.Typed.{Typed, AllTyped}
-use Rattle.soundness.specs.annotation.Rules.{if-typed, append-empty, Each, node-parts, node-depth, loop-whole}
+use Rattle.laws.specs.Lists.{append-empty}
+use Rattle.soundness.specs.annotation.Rules.{if-typed, Each, node-parts, node-depth, loop-whole}
 use Rattle.soundness.specs.annotation.Rules.{loop-parts, loop-found, pass-found}
 
 -- every written name has a depth

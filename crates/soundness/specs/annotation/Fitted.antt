@@ -9,6 +9,7 @@ use mathlib.Core.List.{List, [], _∷_, _++_, map}
 use mathlib.Core.Option.{some}
 use lib.ListN.{length}
 use lib.Dec.{eqb}
+use Rattle.laws.specs.Updates.{updated-other, updated-same}
 use Rattle.semantics.specs.Basics.{updated}
 use Rattle.semantics.specs.Syntax as S
 use Rattle.semantics.specs.Syntax.{Expr, Exprs}
@@ -16,7 +17,7 @@ use Rattle.semantics.specs.Types.{leaf-rule, loop-rule}
 use Rattle.semantics.specs.Code.{Atom, number, name}
 use Rattle.semantics.specs.Normal.{Meanings, fresh, fresh-all, atom, atoms, numbered, meaning-names}
 use Rattle.semantics.specs.Annotate.{NameDepths, atom-depth, with-depths, pass-depths, leaf-depth, loop-depth}
-use Rattle.soundness.specs.normal.Agree.{AtomBelow, updated-same, updated-other, below-more, below-updated}
+use Rattle.soundness.specs.normal.Agree.{AtomBelow, below-more, below-updated}
 use Rattle.soundness.specs.normal.Agree.{atom-below}
 use Rattle.soundness.specs.annotation.Typed.{count, element-depths, Functions, LeafType, LoopType, Typed}
 use Rattle.soundness.specs.annotation.Typed.{AllTyped}

@@ -8,6 +8,7 @@ use mathlib.Core.Bool.{true, false, false≢true}
 use mathlib.Core.List.{List, [], _∷_, map}
 use mathlib.Core.Option.{some}
 use lib.ListN.{getD}
+use Rattle.laws.specs.Updates.{updated-other, updated-same}
 use Rattle.semantics.specs.Basics.{updated, occurrences}
 use Rattle.semantics.specs.Syntax.{Parameter}
 use Rattle.semantics.specs.Names.{Scope}
@@ -17,7 +18,6 @@ use Rattle.semantics.specs.Normal.{parameter-names}
 use Rattle.semantics.specs.Annotate.{NameDepths, atom-depth, parameter-depths-from}
 use Rattle.laws.specs.Lists.{hits}
 use Rattle.soundness.specs.machine.Discipline.{parameter-holds}
-use Rattle.soundness.specs.normal.Agree.{updated-same, updated-other}
 use Rattle.soundness.specs.normal.Parameters.{From, parameters-from}
 use Rattle.soundness.specs.annotation.Checking.{Known, known-updated}
 

@@ -8,6 +8,7 @@ use mathlib.Core.Option.{Option, none, some}
 use lib.ListN.{length, getD}
 use lib.Dec.{eqb, leb}
 use borrow.Author.Tests.{eqb-true}
+use Rattle.laws.specs.Lists.{append-empty}
 use Rattle.semantics.specs.Basics.{with-if}
 use Rattle.semantics.specs.Kinds.{Leaf, operation, call, literal, index, length-of, Loop, mapping}
 use Rattle.semantics.specs.Types as T
@@ -99,10 +100,6 @@ each-at (c ∷ cs) (d ∷ ds) zero h g = h .0
 each-at (c ∷ cs) (d ∷ ds) (suc i) h g = each-at cs ds i (h .1) (omega arith)
 
 -- ---- a node without fault
-
-pub append-empty : (l m : List ℕ) → l ++ m ≡ [] → (l ≡ []) × (m ≡ [])
-append-empty [] m e = (refl, e)
-append-empty (x ∷ l) m e = absurd (omega (arith, ap length e))
 
 pub with-if-empty : (b : Bool) (x : ℕ) (l : List ℕ) → with-if b x l ≡ [] → (b ≡ false) × (l ≡ [])
 with-if-empty true x l e = absurd (omega (arith, ap length e))

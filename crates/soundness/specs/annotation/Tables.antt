@@ -4,6 +4,7 @@ use native.Mathlib.Omega.{arith}
 use mathlib.Core.Path.{_≡_, refl, ap, _∙_}
 use mathlib.Core.List.{List, [], _∷_, map}
 use lib.ListN.{length}
+use Rattle.laws.specs.Updates.{updated-other, updated-same}
 use Rattle.semantics.specs.Basics.{updated}
 use Rattle.semantics.specs.Syntax as S
 use Rattle.semantics.specs.Syntax.{Expr, Exprs}
@@ -11,7 +12,6 @@ use Rattle.semantics.specs.Code.{Tree, end, ending}
 use Rattle.semantics.specs.Normal.{Meanings, fresh, fresh-all, atom, atoms, numbered, meaning-names, lines, all-lines}
 use Rattle.semantics.specs.Annotate.{NameDepths, atom-depth, with-depths, pass-depths, leaf-depth, loop-depth}
 use Rattle.semantics.specs.Annotate.{tree-depths}
-use Rattle.soundness.specs.normal.Agree.{updated-same, updated-other}
 
 mutual
   unfolding lines ending

@@ -6,6 +6,7 @@ use mathlib.Core.Bool.{true}
 use mathlib.Core.Path.{_≡_, refl, sym, ap, _∙_, subst}
 use mathlib.Core.List.{List, [], _∷_, _++_, append-assoc}
 use lib.IntN.{ℤ}
+use Rattle.laws.specs.Updates.{updated-same, updated-there}
 use Rattle.semantics.specs.Basics.{occurrences, _∈_, updated}
 use Rattle.semantics.specs.Value.{Value, num}
 use Rattle.semantics.specs.Code.{Line}
@@ -20,7 +21,7 @@ use Rattle.soundness.specs.store.Change.{held-used}
 use Rattle.soundness.specs.store.Kept.{keeps-fewer, keeps-trans}
 use Rattle.soundness.specs.machine.Discipline.{holds-after, waits-after}
 use Rattle.soundness.specs.machine.Rules.{Fresh}
-use Rattle.soundness.specs.machine.Images.{image-alike, updated-here, updated-there, apart, without-middle}
+use Rattle.soundness.specs.machine.Images.{image-alike, apart, without-middle}
 use Rattle.soundness.specs.machine.Frames.{hold, Room, Setting, Pending, Lent, Situation, Returned, Ended}
 use Rattle.soundness.specs.machine.Frames.{Going, own}
 use Rattle.soundness.specs.machine.Situations.{room-less}
@@ -36,14 +37,14 @@ module _ (C : Setting) where
   pending-situation {σ} {Z} {F} {R} {B} {H} {P} {ρ} {δ} {n} {x} {w} {v} S apart-lent fresh stands named = record {
     invariant = subst (λ (l : List ℕ). Invariant σ Z (l ++ F)) (sym (hold-updated ρ x w H fresh)) (S .invariant);
     numbers = λ y z. elim (ℕ-discrete y x) [
-      | yes q ↦ rw (q, updated-here ρ x w, updated-here δ x v) (stands-number (ap (C .depths) (sym q) ∙ z) stands)
+      | yes q ↦ rw (q, updated-same ρ x w, updated-same δ x v) (stands-number (ap (C .depths) (sym q) ∙ z) stands)
       | no q ↦ rw (updated-there ρ x w y q, updated-there δ x v y q) (S .numbers y z)
     ];
     arrays = λ y h.
         let q = apart x y H fresh h in
         rw (updated-there ρ x w y q, updated-there δ x v y q) (S .arrays y h);
     pending = λ y h. elim (ℕ-discrete y x) [
-      | yes q ↦ rw (q, updated-here ρ x w, updated-here δ x v)
+      | yes q ↦ rw (q, updated-same ρ x w, updated-same δ x v)
           (waits (C .depths x) refl (subst (λ (k : ℕ). k ∈ own C x) q h))
       | no q ↦ absurd (none-in y (hold-of-other C x y [] q
           (in-append-left y (own C x) [] h)))
@@ -102,7 +103,7 @@ module _ (C : Setting) where
 
       number-at : (y : ℕ) → C .depths y ≡ 0 → num (updated ρ x w y) ≡ updated δ x v y
       number-at y z = elim (ℕ-discrete y x) [
-        | yes q ↦ rw (q, updated-here ρ x w, updated-here δ x v) (stands-number (ap (C .depths) (sym q) ∙ z)
+        | yes q ↦ rw (q, updated-same ρ x w, updated-same δ x v) (stands-number (ap (C .depths) (sym q) ∙ z)
             (e .answered .stands))
         | no q ↦ rw (updated-there ρ x w y q, updated-there δ x v y q) (numbers y z)
       ]
@@ -110,7 +111,7 @@ module _ (C : Setting) where
       array-at : (y : ℕ) → y ∈ (own C x ++ H) →
           Stands (s .store) (C .depths y) (updated ρ x w y) (updated δ x v y)
       array-at y h = elim (ℕ-discrete y x) [
-        | yes q ↦ rw (q, updated-here ρ x w, updated-here δ x v) (e .answered .stands)
+        | yes q ↦ rw (q, updated-same ρ x w, updated-same δ x v) (e .answered .stands)
         | no q ↦ rw (updated-there ρ x w y q, updated-there δ x v y q)
             (e .arrays y (hold-of-other C x y H q h))
       ]

@@ -5,6 +5,7 @@ use mathlib.Core.Path.{_≡_, refl, sym, subst}
 use mathlib.Core.List.{List, _∷_, _++_}
 use lib.IntN.{ℤ, pos}
 use lib.ListN.{length, getD}
+use Rattle.laws.specs.Updates.{updated-there}
 use Rattle.semantics.specs.Basics.{occurrences, updated}
 use Rattle.semantics.specs.Outcome.{done, onward, _>>=_, _>>_, give}
 use Rattle.semantics.specs.Value.{Value, num, items}
@@ -19,7 +20,7 @@ use Rattle.semantics.specs.Store.{Store, cell-of}
 use Rattle.soundness.specs.normal.Plain.{value, run}
 use Rattle.soundness.specs.store.Kept.{keeps-self}
 use Rattle.soundness.specs.normal.Trace.{CalleeGrows}
-use Rattle.soundness.specs.machine.Images.{updated-there, apart}
+use Rattle.soundness.specs.machine.Images.{apart}
 use Rattle.soundness.specs.machine.Growth.{give-grows, bind-grows, tree-grows}
 use Rattle.soundness.specs.machine.Agreement.{Together, Agree, agree-bind, after-step}
 use Rattle.soundness.specs.machine.Frames.{Setting, Ended, own}

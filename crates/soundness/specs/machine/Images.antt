@@ -7,8 +7,7 @@ use mathlib.Core.Logic.{_≢_, _⊎_, inl, inr}
 use mathlib.Core.Bool.{Bool, true, false, cond}
 use mathlib.Core.List.{List, [], _∷_, _++_, map}
 use lib.Dec.{eqb}
-use borrow.Author.Tests.{eq-eqb, ne-eqb}
-use Rattle.semantics.specs.Basics.{occurrences, _∈_, updated, with-if}
+use Rattle.semantics.specs.Basics.{occurrences, _∈_, with-if}
 use Rattle.semantics.specs.Live.{Set, members, members-from}
 use Rattle.laws.specs.Lists.{_≈_, _⊆_, hits, occurrences-append}
 use Rattle.soundness.specs.store.Counting.{hits-itself}
@@ -129,14 +128,6 @@ unfolding members
 member A y below h = members-have 256 0 A y (omega arith) (omega arith) h
 
 -- ---- a function changed at one number
-
-pub updated-here : {A : Type 0} (f : ℕ → A) (x : ℕ) (a : A) → updated f x a x ≡ a
-unfolding updated
-updated-here f x a = rw (eq-eqb x x refl) refl
-
-pub updated-there : {A : Type 0} (f : ℕ → A) (x : ℕ) (a : A) (y : ℕ) → y ≢ x → updated f x a y ≡ f y
-unfolding updated
-updated-there f x a y h = rw (ne-eqb x y (λ e. h (sym e))) refl
 
 -- what is not in a list differs from its members
 pub apart : (x y : ℕ) (l : List ℕ) → occurrences x l ≡ 0 → y ∈ l → y ≢ x

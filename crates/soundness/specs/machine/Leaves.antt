@@ -5,6 +5,7 @@ use mathlib.Core.Bool.{Bool, false, cond}
 use mathlib.Core.Path.{_≡_, sym, ap, subst}
 use mathlib.Core.List.{List, [], _++_}
 use lib.IntN.{ℤ}
+use Rattle.laws.specs.Updates.{updated-there}
 use Rattle.semantics.specs.Basics.{occurrences, updated}
 use Rattle.semantics.specs.Outcome.{done}
 use Rattle.semantics.specs.Value.{Value}
@@ -20,7 +21,7 @@ use Rattle.soundness.specs.store.Kept.{keeps-self}
 use Rattle.soundness.specs.store.Invariant.{Invariant, Keeps}
 use Rattle.soundness.specs.machine.Discipline.{less, holds-after, leaf-holds, leaf-waits}
 use Rattle.soundness.specs.machine.Spending.{spend-split, less-in, less-counts}
-use Rattle.soundness.specs.machine.Images.{updated-there, apart, image-fewer}
+use Rattle.soundness.specs.machine.Images.{apart, image-fewer}
 use Rattle.soundness.specs.machine.Growth.{give-grows}
 use Rattle.soundness.specs.machine.Agreement.{both, agree-after, agree-bind}
 use Rattle.soundness.specs.machine.Frames.{hold, Setting, Situation, Going, given, own}

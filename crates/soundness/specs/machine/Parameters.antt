@@ -7,6 +7,7 @@ use mathlib.Core.Logic.{inl, inr}
 use mathlib.Core.List.{List, [], _∷_}
 use lib.IntN.{ℤ, pos}
 use lib.ListN.{length, getD, List·getD-eq-default}
+use Rattle.laws.specs.Updates.{updated-same, updated-there}
 use Rattle.semantics.specs.Basics.{occurrences, _∈_, updated}
 use Rattle.semantics.specs.Value.{Value, num}
 use Rattle.semantics.specs.Machine.{frame-from}
@@ -14,7 +15,7 @@ use Rattle.semantics.specs.Store.{Store, cell-of}
 use Rattle.soundness.specs.normal.Plain.{values-from}
 use Rattle.soundness.specs.store.Invariant.{Stands}
 use Rattle.soundness.specs.machine.Discipline.{parameter-holds}
-use Rattle.soundness.specs.machine.Images.{updated-here, updated-there, first-or-later}
+use Rattle.soundness.specs.machine.Images.{first-or-later}
 use Rattle.soundness.specs.machine.Frames.{hold, named-all, Arguments, none, more}
 use Rattle.soundness.specs.machine.Standing.{none-in, number-stands, stands-number, hold-updated}
 
@@ -26,7 +27,7 @@ depths-from (d ∷ ds) n = updated (depths-from ds (suc n)) n d
 depths-at : (ds : List ℕ) (n i : ℕ) → depths-from ds n (n + i) ≡ getD ds i 0
 unfolding depths-from
 depths-at [] n i = refl
-depths-at (d ∷ ds) n zero = ap (updated (depths-from ds (suc n)) n d) (omega arith) ∙ updated-here
+depths-at (d ∷ ds) n zero = ap (updated (depths-from ds (suc n)) n d) (omega arith) ∙ updated-same
     (depths-from ds (suc n)) n d
 depths-at (d ∷ ds) n (suc i) =
     updated-there (depths-from ds (suc n)) n d (n + suc i) (λ e. omega arith)
@@ -39,9 +40,9 @@ names-stand none n y = number-stands (pos 0) (num (pos 0)) refl
 names-stand (more {d} {w} {v} {ds} {ws} {vs} s rest) n y = elim (ℕ-discrete y n) [
   | yes e ↦ rw (
     e,
-    updated-here (depths-from ds (suc n)) n d,
-    updated-here (frame-from ws (suc n)) n w,
-    updated-here (values-from vs (suc n)) n v,
+    updated-same (depths-from ds (suc n)) n d,
+    updated-same (frame-from ws (suc n)) n w,
+    updated-same (values-from vs (suc n)) n v,
   ) s
   | no f ↦ rw (
     updated-there (depths-from ds (suc n)) n d y f,
@@ -74,7 +75,7 @@ parameters-hold none n = refl
 parameters-hold (more {d = zero} {w} {v} {ds} {ws} s rest) n =
     hold-updated (frame-from ws (suc n)) n w (parameter-holds ds (suc n)) (not-held ds n) ∙ parameters-hold rest (suc n)
 parameters-hold (more {d = suc d} {w} {v} {ds} {ws} s rest) n =
-    ap₂ {C = List ℕ} (λ (z : ℤ) (l : List ℕ). cell-of z ∷ l) (updated-here (frame-from ws (suc n)) n w)
+    ap₂ {C = List ℕ} (λ (z : ℤ) (l : List ℕ). cell-of z ∷ l) (updated-same (frame-from ws (suc n)) n w)
     (hold-updated (frame-from ws (suc n)) n w (parameter-holds ds (suc n)) (not-held ds n) ∙ parameters-hold rest
     (suc n))
 

@@ -43,7 +43,7 @@ mutual
   line-has-rows (release x) = omega arith
 
 -- the rows of a function are among those of the code
-function-within : (fs gs : List Function) (f : ℕ) → f < length gs →
+pub function-within : (fs gs : List Function) (f : ℕ) → f < length gs →
     length (rows (annotated-body fs (getD gs f no-function))) ≤ length (functions-rows fs gs)
 unfolding functions-rows function-rows
 function-within fs [] f h = absurd (omega arith)

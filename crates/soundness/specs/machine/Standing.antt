@@ -8,6 +8,7 @@ use mathlib.Core.List.{List, [], _∷_, _++_, append-nil}
 use lib.IntN.{ℤ}
 use lib.Dec.{ltb}
 use borrow.Author.Tests.{lt-ltb}
+use Rattle.laws.specs.Updates.{updated-same, updated-there}
 use Rattle.semantics.specs.Basics.{occurrences, _∈_, with-if, updated}
 use Rattle.semantics.specs.Value.{Value, num, number-in}
 use Rattle.semantics.specs.Code.{Atom, number, name}
@@ -21,8 +22,7 @@ use Rattle.soundness.specs.normal.Plain.{value}
 use Rattle.soundness.specs.store.Invariant.{Alike, Keeps, Stands}
 use Rattle.soundness.specs.store.Counting.{append-cases, in-append-right}
 use Rattle.soundness.specs.store.Kept.{stands-kept}
-use Rattle.soundness.specs.machine.Images.{image-in, image-same, map-append, image-alike, updated-here}
-use Rattle.soundness.specs.machine.Images.{updated-there}
+use Rattle.soundness.specs.machine.Images.{image-in, image-same, map-append, image-alike}
 use Rattle.soundness.specs.machine.Images.{apart}
 use Rattle.soundness.specs.machine.Frames.{hold, Setting, Situation, Lent, own, given}
 
@@ -116,7 +116,7 @@ module _ (C : Setting) where
   hold-bound ρ x w H fresh =
       map-append (λ y. cell-of (updated ρ x w y)) (own C x) H
       ∙ ap₂ {C = List ℕ} _++_
-      (hold-named (updated ρ x w) x ∙ ap (λ (z : ℤ). named-by (C .depths x) (z ∷ [])) (updated-here ρ x w))
+      (hold-named (updated ρ x w) x ∙ ap (λ (z : ℤ). named-by (C .depths x) (z ∷ [])) (updated-same ρ x w))
       (hold-updated ρ x w H fresh)
 
   pub hold-of-other : (x y : ℕ) (H : List ℕ) → y ≢ x → y ∈ (own C x ++ H) → y ∈ H

@@ -3,11 +3,10 @@ use Prim.Native.Nat.{ℕ, _+_, _≤_, _<_, suc}
 use native.Mathlib.Omega.{arith}
 use mathlib.Core.Bool.{Bool, true, false, cond}
 use mathlib.Core.Path.{_≡_, refl, _∙_}
-use mathlib.Core.Logic.{_≢_}
 use mathlib.Core.List.{List, [], _∷_}
 use lib.Dec.{eqb}
 use lib.ListN.{length}
-use borrow.Author.Tests.{eq-eqb, ne-eqb}
+use Rattle.laws.specs.Updates.{updated-same, updated-other}
 use Rattle.semantics.specs.Basics.{updated}
 use Rattle.semantics.specs.Value.{Value}
 use Rattle.semantics.specs.Kinds.{later-parts}
@@ -31,14 +30,6 @@ pub record NamesAgree (μ : Meanings) (δ ρ : Env) (n : ℕ) : Type 0 where
 -- the names below n keep their values
 abbrev pub EnvKept : Env → Env → ℕ → Type 0
 EnvKept δ δ′ n = (y : ℕ) → y < n → δ′ y ≡ δ y
-
-pub updated-same : {A : Type 0} (f : ℕ → A) (x : ℕ) (a : A) → updated f x a x ≡ a
-unfolding updated
-updated-same f x a = rw (eq-eqb x x refl)
-
-pub updated-other : {A : Type 0} (f : ℕ → A) (x : ℕ) (a : A) (y : ℕ) → x ≢ y → updated f x a y ≡ f y
-unfolding updated
-updated-other f x a y h = rw (ne-eqb x y h)
 
 pub value-kept : (u : Atom) {δ δ′ : Env} {n : ℕ} → AtomBelow u n → EnvKept δ δ′ n → value δ′ u ≡ value δ u
 value-kept (number z) below kept = refl

@@ -4,6 +4,7 @@ use native.Mathlib.Omega.{arith}
 use mathlib.Core.List.{List, [], _∷_, map}
 use mathlib.Core.Path.{_≡_, refl, _∙_, ap, fun-ext}
 use lib.ListN.{length}
+use Rattle.laws.specs.Updates.{updated-other, updated-same}
 use Rattle.semantics.specs.Basics.{updated}
 use Rattle.semantics.specs.Outcome.{Outcome, done, stop, _>>=_, give, onward}
 use Rattle.semantics.specs.Value.{Value, num}
@@ -14,7 +15,7 @@ use Rattle.semantics.specs.Code.{Atom, number, name, Tree, end}
 use Rattle.semantics.specs.Normal.{Meanings, fresh, fresh-all, atom, atoms, meaning-names, numbered, lines, all-lines}
 use Rattle.semantics.specs.Normal.{normal}
 use Rattle.soundness.specs.normal.Plain.{value, run}
-use Rattle.soundness.specs.normal.Agree.{NamesAgree, EnvKept, updated-same, updated-other, value-kept, agree-kept}
+use Rattle.soundness.specs.normal.Agree.{NamesAgree, EnvKept, value-kept, agree-kept}
 use Rattle.soundness.specs.normal.Agree.{agree-updated, atom-below, agree-binding}
 
 module _ (callee : Callee) where

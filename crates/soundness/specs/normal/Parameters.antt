@@ -7,6 +7,7 @@ use mathlib.Core.Path.{_≡_, refl, _∙_}
 use lib.IntN.{pos}
 use lib.ListN.{length}
 use lib.Dec.{eqb}
+use Rattle.laws.specs.Updates.{updated-other, updated-same}
 use Rattle.semantics.specs.Basics.{updated}
 use Rattle.semantics.specs.Value.{Value, num}
 use Rattle.semantics.specs.Syntax.{Parameter}
@@ -14,7 +15,7 @@ use Rattle.semantics.specs.Meaning.{Env, bound}
 use Rattle.semantics.specs.Code.{Atom, number, name}
 use Rattle.semantics.specs.Normal.{parameter-names}
 use Rattle.soundness.specs.normal.Plain.{value, values-from}
-use Rattle.soundness.specs.normal.Agree.{AtomBelow, NamesAgree, updated-same, updated-other, below-more}
+use Rattle.soundness.specs.normal.Agree.{AtomBelow, NamesAgree, below-more}
 
 pub parameters-below : (xs : List Parameter) (n : ℕ) (y : ℕ) → AtomBelow (parameter-names xs n y) (n + length xs)
 unfolding parameter-names updated
