@@ -71,12 +71,16 @@ module _ (k w : List ℕ) (at : ℕ) where
   rest-none m = ap (parameters-at k w (at + m)) (let e : m - m ≡ 0 = omega arith in e)
 
   pub rest-more : (i m : ℕ) → 0 < i → i ≤ m →
-      Rest (i - 1) m ≡ record { id = low-at k w at-parameter (at + (i - 1)); depth = high-at k w at-parameter (at + (i - 1)) } ∷ Rest i m
+      Rest (i - 1) m
+      ≡ record { id = low-at k w at-parameter (at + (i - 1)); depth = high-at k w at-parameter (at + (i - 1)) }
+      ∷ Rest i m
   unfolding parameters-at
   rest-more i m g h =
       ap (parameters-at k w (at + (i - 1))) (let e : m - (i - 1) ≡ suc (m - i) = omega arith in e)
-      ∙ ap (λ (j : ℕ). record { id = low-at k w at-parameter (at + (i - 1)); depth = high-at k w at-parameter (at + (i - 1)) } ∷
-      parameters-at k w j (m - i))
+      ∙ ap (λ (j : ℕ). record {
+        id = low-at k w at-parameter (at + (i - 1));
+        depth = high-at k w at-parameter (at + (i - 1));
+      } ∷ parameters-at k w j (m - i))
       (let e : at + (i - 1) + 1 ≡ at + i = omega arith in e)
 
   pub rest-all : (i m : ℕ) → i ≤ 0 → Rest i m ≡ parameters-at k w at m
@@ -100,7 +104,8 @@ module _ (k w : List ℕ) (at : ℕ) where
     long = (refl, refl);
   })
 
-  pub bind-go : (i m x d : ℕ) {ps ds : List ℕ} → 0 < i → i ≤ m → m ≤ 8 → x < 256 → x ≡ low-at k w at-parameter (at + (i - 1)) →
+  pub bind-go : (i m x d : ℕ) {ps ds : List ℕ} → 0 < i → i ≤ m → m ≤ 8 → x < 256 →
+      x ≡ low-at k w at-parameter (at + (i - 1)) →
       d ≡ high-at k w at-parameter (at + (i - 1)) →
       Binds w (Rest i m) i (record { places = ps; depths = ds }) →
       Binds w (Rest (i - 1) m) (i - 1) (record { places = set ps x (i - 1); depths = set ds (i - 1) d })

@@ -75,8 +75,8 @@ code-rows R g Γ T U L S used xs c res hΓ hT hL hS hu hx hc hr right =
         ∙ sym (rows-releases (dying (depths-by R g) (λ x. ltb x c) (uses (normal-body g))) (annotate (depths-by R g)
         (normal-body g) empty))
 
-parameters-there : (k w : List ℕ) (at : ℕ) → parameters-at k w (at + 1) (low-at k w at-function at) ≡ read-function k w at
-    .parameters
+parameters-there : (k w : List ℕ) (at : ℕ) →
+    parameters-at k w (at + 1) (low-at k w at-function at) ≡ read-function k w at .parameters
 unfolding read-function
 parameters-there k w at = refl
 
@@ -98,7 +98,8 @@ module _ (k w results : List ℕ) (at : ℕ) (fit : Fitting k w results at) wher
   pub given : {ps : List ℕ} → length ps ≡ 256 → Given k w results ps
   given h = record { parts = fit .parts; low = fit .low; long = h }
 
-  pub ready : {r : Bound} {xs : List Parameter} (c : ℕ) → c ≡ low-at k w at-function at → Binds w xs 0 r → {rs ns : List ℕ} →
+  pub ready : {r : Bound} {xs : List Parameter} (c : ℕ) → c ≡ low-at k w at-function at → Binds w xs 0 r →
+      {rs ns : List ℕ} →
       length rs ≡ 4097 → length ns ≡ 4097 →
       Ready (state rs ns (r .depths)) (tree-at k w 64 (at + 1 + c)) (at + 1 + c + size (tree-at k w 64
       (at + 1 + c))) c 0
@@ -109,8 +110,9 @@ module _ (k w results : List ℕ) (at : ℕ) (fit : Fitting k w results at) wher
     below = omega arith;
     nodes = rw body-is at (fit .nodes);
     names = rw body-is at (fit .names);
-    rows = let z : laid-rows (tree-at k w 64 (at + 1 + low-at k w at-function at)) ≤ 4058 = rw body-is at (fit .rows) in omega
-        arith;
+    rows =
+        let z : laid-rows (tree-at k w 64 (at + 1 + low-at k w at-function at)) ≤ 4058 = rw body-is at (fit .rows) in
+        omega arith;
   })
 
   module _ {r : Bound} {rs ns rs₁ ns₁ ds₁ : List ℕ} {o : Out} (c : ℕ) (ce : c ≡ low-at k w at-function at)
@@ -130,8 +132,9 @@ module _ (k w results : List ℕ) (at : ℕ) (fit : Fitting k w results at) wher
     M = rw (B .means) at M₀
 
     pub end-near : (e : ℕ) → e ≡ o .p - 2 → e ≤ 4096
-    end-near e h = let z : laid-rows (tree-at k w 64 (at + 1 + low-at k w at-function at)) ≤ 4058 = rw body-is at (fit .rows)
-        in omega (arith, M .reach, rw (← ce) at z)
+    end-near e h =
+        let z : laid-rows (tree-at k w 64 (at + 1 + low-at k w at-function at)) ≤ 4058 = rw body-is at (fit .rows) in
+        omega (arith, M .reach, rw (← ce) at z)
 
     normal-is : normal (tree-at k w 64 (at + 1 + c)) (parameter-names (parameters-at k w (at + 1) c) 0) c ≡
         normal-body here

@@ -22,7 +22,8 @@ module _ (kinds operands : List ℕ) where
   unfoldable pub parameters-at : ℕ → ℕ → List Parameter
   parameters-at p zero = []
   parameters-at p (suc n) =
-      record { id = low-at kinds operands at-parameter p; depth = high-at kinds operands at-parameter p } ∷ parameters-at (p + 1) n
+      record { id = low-at kinds operands at-parameter p; depth = high-at kinds operands at-parameter p }
+      ∷ parameters-at (p + 1) n
 
   -- the function at node p
   unfoldable pub read-function : ℕ → Function

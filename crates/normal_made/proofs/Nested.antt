@@ -270,7 +270,8 @@ module _ (w : List ℕ) (res : ℕ → ℕ) where
     held₁ = same-then (same-laid {d₁ = d₁} (ra .p) l) (same-less (ra .p) (ra .p) held₂ (omega arith) (omega arith))
 
     map-line : C.Line
-    map-line = C.loop (n + fresh a) mapping ((n + fresh a + 1) ∷ []) (atom a μ n ∷ []) (normal b inner (n + fresh a + 2))
+    map-line =
+        C.loop (n + fresh a) mapping ((n + fresh a + 1) ∷ []) (atom a μ n ∷ []) (normal b inner (n + fresh a + 2))
 
     map-there : (F : Plain) → F .operands ≡ w → RowsAgree (state k₄ n₅ d₅) F p (rt .p) (rt .p) → (d : ℕ) → d₀ + 1 ≤ d →
         as-line F (tree-to F d) (ra .p) (rt .p) (line-at (F .operands) (F .rows) (ra .p)) ≡ map-line

@@ -50,9 +50,12 @@ module _ (h : S.Head) {kind low high : ℕ} (same-kind : h .kind ≡ kind) (same
 
     operation-node : (o : Operation) → kind ≡ leaf-kind (operation o) → Noted
     unfolding part-count
-    operation-node sum e = rw e (record { shape = rw (same-kind ∙ e); counted = operates 4 (omega arith) (omega arith) })
-    operation-node difference e = rw e (record { shape = rw (same-kind ∙ e); counted = operates 5 (omega arith) (omega arith) })
-    operation-node less e = rw e (record { shape = rw (same-kind ∙ e); counted = operates 6 (omega arith) (omega arith) })
+    operation-node sum e =
+        rw e (record { shape = rw (same-kind ∙ e); counted = operates 4 (omega arith) (omega arith) })
+    operation-node difference e =
+        rw e (record { shape = rw (same-kind ∙ e); counted = operates 5 (omega arith) (omega arith) })
+    operation-node less e =
+        rw e (record { shape = rw (same-kind ∙ e); counted = operates 6 (omega arith) (omega arith) })
 
     leaf-node : (l : Leaf) → kind ≡ leaf-kind l → Noted
     unfolding part-count

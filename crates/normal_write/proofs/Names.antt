@@ -223,7 +223,8 @@ module _ (Γ : NameDepths) where
   -- where the second atom and the name that is bound are numbers, the first atom's name alone may be released
   pub first-alone : (x : ℕ) (a b : Atom) (d e : ℕ) (A : Set) → d ≡ Γ x → d ≡ 0 → e ≡ atom-depth Γ b → e ≡ 0 →
       dying Γ (is a) A ≡ dying Γ (is a ∪ is b ∪ only x) A
-  first-alone x a b d e A f g h i = dying-arrays (is a) (is a ∪ is b ∪ only x) A (λ y. go b (sym h ∙ i) y (ℕ-discrete x y))
+  first-alone x a b d e A f g h i =
+      dying-arrays (is a) (is a ∪ is b ∪ only x) A (λ y. go b (sym h ∙ i) y (ℕ-discrete x y))
     where
       flat : (z y : ℕ) → Γ z ≡ 0 → z ≡ y → is-array Γ y ≡ false
       flat z y f g = rw (← g, f)

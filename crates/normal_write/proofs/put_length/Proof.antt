@@ -11,13 +11,17 @@ put-atom-requires : tie.Need-put-atom-requires
 put-atom-requires c κs = lower (c .before .before .put-reads .ensures) (omega arith)
 
 put-row-requires : tie.Need-put-row-requires
-put-row-requires c κs = lower (c .before .before .put-atom .ensures) (lower (c .before .before .before .before .before .put-reads .ensures) (omega arith))
+put-row-requires c κs =
+    let at-atom = c .before .before in
+    lower (at-atom .put-atom .ensures) (lower (at-atom .before .before .before .put-reads .ensures) (omega arith))
 
 returns : tie.Need-returns
 returns c =
-    let s = c .before .before .before .before .before .before .before .before .before .before in
-    wrote-as (length-rows (depth-in (s .args .depths .now)) (s .args .x) (set-of (s .args .after)) (meant (s .args .a)))
-    (wrote-then (wrote-then (c .before .before .before .before .before .before .put-reads .ensures) (c .before .before .before .put-atom .ensures)) (c .put-row .ensures))
+    let at-atom = c .before .before .before in
+    let at-reads = at-atom .before .before .before in
+    let a = at-reads .before .before .before .before .args in
+    wrote-as (length-rows (depth-in (a .depths .now)) (a .x) (set-of (a .after)) (meant (a .a)))
+    (wrote-then (wrote-then (at-reads .put-reads .ensures) (at-atom .put-atom .ensures)) (c .put-row .ensures))
 
 pub put-length-spec : {M : Type 1} → statement M
 put-length-spec =

@@ -11,18 +11,26 @@ use Rattle.normal_write.proofs.put_reads.Tie as tie
 
 returns : tie.Need-returns
 returns c =
-    let s = c .before .before .before .before .before .before .before .before in
+    let at-if2 = c .before .before .before in
+    let at-if1 = at-if2 .before in
+    let at-depth = at-if1 .before in
+    let at-name = at-depth .before in
+    let a = at-name .before .before .args in
     wrote-as (ap (λ (l : List ℕ). release-rows l)
-    (first-alone (depth-in (s .args .depths .now)) (s .args .x) (meant (s .args .a)) (meant (s .args .b)) _ _
-    (set-of (s .args .live)) (c .before .before .before .before .before .before .depth-at .ensures) (c .before .before .before .before .if1 .taken) (c .before .before .before .before .before .depth-of-atom .ensures) (c .before .before .before .if2 .taken)))
+    (first-alone (depth-in (a .depths .now)) (a .x) (meant (a .a)) (meant (a .b)) _ _ (set-of (a .live))
+    (at-name .depth-at .ensures) (at-if1 .if1 .taken) (at-depth .depth-of-atom .ensures) (at-if2 .if2 .taken)))
     (c .release-atom .ensures)
 
 returns-2 : tie.Need-returns-2
 returns-2 c =
-    let s = c .before .before .before .before .before .before .before .before .before .before .before in
+    let at-used = c .before .before .before in
+    let at-two = at-used .before in
+    let at-one = at-two .before in
+    let at-none = at-one .before in
+    let a = at-none .before .before .before .before .before .args in
     wrote-as (ap (λ (l : List ℕ). release-rows l)
-    (all-read (depth-in (s .args .depths .now)) (s .args .x) (meant (s .args .a)) (meant (s .args .b))
-    (set-of (s .args .live)) _ _ _ _ (c .before .before .before .before .before .before .none .ensures) (c .before .before .before .before .before .with .ensures) (c .before .before .before .before .add .ensures) (c .before .before .before .add2 .ensures)))
+    (all-read (depth-in (a .depths .now)) (a .x) (meant (a .a)) (meant (a .b)) (set-of (a .live)) _ _ _ _
+    (at-none .none .ensures) (at-one .with .ensures) (at-two .add .ensures) (at-used .add2 .ensures)))
     (c .put-releases .ensures)
 
 pub put-reads-spec : {M : Type 1} → statement M

@@ -58,7 +58,8 @@ lay-part-returns-2 t c =
     let start = c .before .before .before .before .before .before .before .before .before in
     let a = start .args in
     let asked = start .pre in
-    let node = seen (a .kinds .now) (a .operands .now) at-part (a .at) _ (c .before .before .before .before .node-at .ensures) _ _ _ (c .before .before .kind .given .1) in
+    let node = seen (a .kinds .now) (a .operands .now) at-part (a .at) _ (c .before .before .before .before .node-at
+    .ensures) _ _ _ (c .before .before .kind .given .1) in
     number-laid (a .operands .now) (λ f. getD (a .results .now) f 0) (a .levels) (a .at) _ _
     (number-is (a .kinds .now) (a .operands .now) (a .levels) (a .at)
     (c .before .before .before .before .before .if1 .left) node (c .if2 .taken))
@@ -82,7 +83,8 @@ lay-part-returns-3 t c =
     (c .before .before .before .before .kind .given .0 .1 .0)
     (name-is (a .kinds .now) (a .operands .now) (a .levels) (a .at)
     (c .before .before .before .before .before .before .before .if1 .left)
-    (seen (a .kinds .now) (a .operands .now) at-part (a .at) _ (c .before .before .before .before .before .before .node-at .ensures) _ _ _ (c .before .before .before .before .kind .given .1)) (c .before .if3 .taken))
+    (seen (a .kinds .now) (a .operands .now) at-part (a .at) _ (c .before .before .before .before .before .before
+    .node-at .ensures) _ _ _ (c .before .before .before .before .kind .given .1)) (c .before .if3 .taken))
     (any-default (a .places .now) _ (asked .1 .0 .long) (search needs)) (asked .1 .1 .sized)
 
 pub lay-part-add-lay-let : (t : ℕ) → lay-part-lts.Need-add-lay-let (lay-part-claims t) (lay-part-at t) lay-part.Post
@@ -109,7 +111,9 @@ lay-part-lay-let-requires t c κs =
         ready-as _ (a .at) _ (asked .1 .1)
             (let-is (a .kinds .now) (a .operands .now) (a .levels) (a .at)
             (c .before .before .before .before .before .before .before .before .before .before .if1 .left)
-            (seen (a .kinds .now) (a .operands .now) at-part (a .at) _ (c .before .before .before .before .before .before .before .before .before .node-at .ensures) _ _ _ (c .before .before .before .before .before .before .before .kind .given .1))
+            (seen (a .kinds .now) (a .operands .now) at-part (a .at) _ (c .before .before .before .before .before
+            .before .before .before .before .node-at .ensures) _ _ _ (c .before .before .before .before .before
+            .before .before .kind .given .1))
             (c .before .before .before .if4 .taken)) (two-after _ (a .at) _ _),
       ),
     )
@@ -121,7 +125,9 @@ lay-part-returns-4 t c =
     ready-made (a .operands .now) (λ f. getD (a .results .now) f 0) (a .levels) (a .at)
     (let-is (a .kinds .now) (a .operands .now) (a .levels) (a .at)
     (c .before .before .before .before .before .before .before .before .before .before .before .if1 .left)
-    (seen (a .kinds .now) (a .operands .now) at-part (a .at) _ (c .before .before .before .before .before .before .before .before .before .before .node-at .ensures) _ _ _ (c .before .before .before .before .before .before .before .before .kind .given .1))
+    (seen (a .kinds .now) (a .operands .now) at-part (a .at) _ (c .before .before .before .before .before .before
+    .before .before .before .before .node-at .ensures) _ _ _ (c .before .before .before .before .before .before
+    .before .before .kind .given .1))
     (c .before .before .before .before .if4 .taken))
     (omega (
       arith,
@@ -153,8 +159,10 @@ lay-part-lay-if-requires t c κs =
         ready-as _ (a .at) _ (asked .1 .1)
             (if-is (a .kinds .now) (a .operands .now) (a .levels) (a .at)
             (c .before .before .before .before .before .before .before .before .before .before .before .if1 .left)
-            (seen (a .kinds .now) (a .operands .now) at-part (a .at) _ (c .before .before .before .before .before .before .before .before .before .before .node-at
-            .ensures) _ _ _ (c .before .before .before .before .before .before .before .before .kind .given .1)) (c .before .before .before .if5 .taken)) (three-after (a .at) _ _ _),
+            (seen (a .kinds .now) (a .operands .now) at-part (a .at) _ (c .before .before .before .before .before
+            .before .before .before .before .before .node-at
+            .ensures) _ _ _ (c .before .before .before .before .before .before .before .before .kind .given .1)) (c
+            .before .before .before .if5 .taken)) (three-after (a .at) _ _ _),
       ),
     )
 
@@ -166,8 +174,10 @@ lay-part-returns-5 t c =
     (if-is (a .kinds .now) (a .operands .now) (a .levels) (a .at)
     (c .before .before .before .before .before .before .before .before .before .before .before .before .if1
     .left)
-    (seen (a .kinds .now) (a .operands .now) at-part (a .at) _ (c .before .before .before .before .before .before .before .before .before .before .before .node-at
-    .ensures) _ _ _ (c .before .before .before .before .before .before .before .before .before .kind .given .1)) (c .before .before .before .before .if5 .taken))
+    (seen (a .kinds .now) (a .operands .now) at-part (a .at) _ (c .before .before .before .before .before .before
+    .before .before .before .before .before .node-at
+    .ensures) _ _ _ (c .before .before .before .before .before .before .before .before .before .kind .given .1)) (c
+    .before .before .before .before .if5 .taken))
     (omega (
       arith,
       c .before .before .before .before .before .before .before .before .before .before .before
@@ -199,8 +209,10 @@ lay-part-lay-map-requires t c κs =
             (map-is (a .kinds .now) (a .operands .now) (a .levels) (a .at)
             (c .before .before .before .before .before .before .before .before .before .before .before .before .if1
             .left)
-            (seen (a .kinds .now) (a .operands .now) at-part (a .at) _ (c .before .before .before .before .before .before .before .before .before .before .before .node-at
-            .ensures) _ _ _ (c .before .before .before .before .before .before .before .before .before .kind .given .1)) (c .before .before .before .if6 .taken)) (map-after _ (a .at) _ _),
+            (seen (a .kinds .now) (a .operands .now) at-part (a .at) _ (c .before .before .before .before .before
+            .before .before .before .before .before .before .node-at
+            .ensures) _ _ _ (c .before .before .before .before .before .before .before .before .before .kind .given
+            .1)) (c .before .before .before .if6 .taken)) (map-after _ (a .at) _ _),
       ),
     )
 
@@ -212,8 +224,10 @@ lay-part-returns-6 t c =
     (map-is (a .kinds .now) (a .operands .now) (a .levels) (a .at)
     (c .before .before .before .before .before .before .before .before .before .before .before .before .before
     .if1 .left)
-    (seen (a .kinds .now) (a .operands .now) at-part (a .at) _ (c .before .before .before .before .before .before .before .before .before .before .before .before
-    .node-at .ensures) _ _ _ (c .before .before .before .before .before .before .before .before .before .before .kind .given .1)) (c .before .before .before .before .if6 .taken))
+    (seen (a .kinds .now) (a .operands .now) at-part (a .at) _ (c .before .before .before .before .before .before
+    .before .before .before .before .before .before
+    .node-at .ensures) _ _ _ (c .before .before .before .before .before .before .before .before .before .before .kind
+    .given .1)) (c .before .before .before .before .if6 .taken))
     (omega (
       arith,
       c .before .before .before .before .before .before .before .before .before .before .before
@@ -235,17 +249,29 @@ lay-part-lay-compound-requires t c κs =
     .before .before .before .before .before .before in
     let a = start .args in
     let asked = start .pre in
-    let node = seen (a .kinds .now) (a .operands .now) at-part (a .at) _ (c .before .before .before .before .before .before .before .before .before .before .before .before .before
-    .node-at .ensures) _ _ _ (c .before .before .before .before .before .before .before .before .before .before .before .kind .given .1) in
-    let l = leaf-as node (c .before .before .before .before .second-part .result) (c .before .before .before .parts-of .result) (c .before .before .before .before .second-part .ensures)
-    (c .before .before .before .parts-of .ensures) (c .before .before .before .before .before .before .before .before .before .if2 .left) (c .before .before .before .before .before .before .before .before .if3 .left) (c .before .before .before .before .before .before .before .if4 .left) (c .before .before .before .before .before .before .if5 .left) (c .before .before .before .before .before .if6 .left) in (
-      omega (arith, asked .0, c .before .before .before .before .before .before .before .before .before .before .before .before .before .before .if1 .left),
+    let node = seen (a .kinds .now) (a .operands .now) at-part (a .at) _ (c .before .before .before .before .before
+    .before .before .before .before .before .before .before .before
+    .node-at .ensures) _ _ _ (c .before .before .before .before .before .before .before .before .before .before
+    .before .kind .given .1) in
+    let l = leaf-as node (c .before .before .before .before .second-part .result) (c .before .before .before .parts-of
+    .result) (c .before .before .before .before .second-part .ensures)
+    (c .before .before .before .parts-of .ensures) (c .before .before .before .before .before .before .before .before
+    .before .if2 .left) (c .before .before .before .before .before .before .before .before .if3 .left) (c .before
+    .before .before .before .before .before .before .if4 .left) (c .before .before .before .before .before .before
+    .if5 .left) (c .before .before .before .before .before .if6 .left) in (
+      omega (
+        arith,
+        asked .0,
+        c .before .before .before .before .before .before .before .before .before .before
+            .before .before .before .before .if1 .left,
+      ),
       (
         l .counted,
         (
           asked .1 .0,
           ready-as _ (a .at) _ (asked .1 .1)
-              (leaf-is (a .kinds .now) (a .operands .now) (a .levels) (a .at) (c .before .before .before .before .before .before .before .before .before .before .before .before .before .before .if1 .left) node _
+              (leaf-is (a .kinds .now) (a .operands .now) (a .levels) (a .at) (c .before .before .before .before
+              .before .before .before .before .before .before .before .before .before .before .if1 .left) node _
               (c .before .before .before .parts-of .ensures) l) (leaf-after _ (a .at) _),
         ),
       ),
@@ -269,14 +295,27 @@ pub lay-part-returns-7 : (t : ℕ) → lay-part-lts.Need-returns-7 (lay-part-cla
 lay-part-returns-7 t c =
     let a = c .before .before .before .before .before .before .before .before .before .before .before .before .before
     .before .before .before .before .before .before .args in
-    let node = seen (a .kinds .now) (a .operands .now) at-part (a .at) _ (c .before .before .before .before .before .before .before .before .before .before .before .before .before
-    .before .node-at .ensures) _ _ _ (c .before .before .before .before .before .before .before .before .before .before .before .before .kind
+    let node = seen (a .kinds .now) (a .operands .now) at-part (a .at) _ (c .before .before .before .before .before
+    .before .before .before .before .before .before .before .before
+    .before .node-at .ensures) _ _ _ (c .before .before .before .before .before .before .before .before .before
+    .before .before .before .kind
     .given .1) in
-    let l = leaf-as node (c .before .before .before .before .before .second-part .result) (c .before .before .before .before .parts-of .result) (c .before .before .before .before .before .second-part .ensures)
-    (c .before .before .before .before .parts-of .ensures) (c .before .before .before .before .before .before .before .before .before .before .if2 .left) (c .before .before .before .before .before .before .before .before .before .if3 .left) (c .before .before .before .before .before .before .before .before .if4 .left) (c .before .before .before .before .before .before .before .if5 .left) (c .before .before .before .before .before .before .if6 .left) in
+    let l = leaf-as node (c .before .before .before .before .before .second-part .result) (c .before .before .before
+    .before .parts-of .result) (c .before .before .before .before .before .second-part .ensures)
+    (c .before .before .before .before .parts-of .ensures) (c .before .before .before .before .before .before .before
+    .before .before .before .if2 .left) (c .before .before .before .before .before .before .before .before .before
+    .if3 .left) (c .before .before .before .before .before .before .before .before .if4 .left) (c .before .before
+    .before .before .before .before .before .if5 .left) (c .before .before .before .before .before .before .if6 .left)
+    in
     ready-made (a .operands .now) (λ f. getD (a .results .now) f 0) (a .levels) (a .at)
-    (leaf-is (a .kinds .now) (a .operands .now) (a .levels) (a .at) (c .before .before .before .before .before .before .before .before .before .before .before .before .before .before .before .if1 .left) node _ (c .before .before .before .before .parts-of .ensures) l)
-    (omega (arith, c .before .before .before .before .before .before .before .before .before .before .before .before .before .before .before .if1 .left)) (leaf-after _ (a .at) _) (c .lay-compound .ensures)
+    (leaf-is (a .kinds .now) (a .operands .now) (a .levels) (a .at) (c .before .before .before .before .before .before
+    .before .before .before .before .before .before .before .before .before .if1 .left) node _ (c .before .before
+    .before .before .parts-of .ensures) l)
+    (omega (
+      arith,
+      c .before .before .before .before .before .before .before .before .before .before .before .before
+          .before .before .before .if1 .left,
+    )) (leaf-after _ (a .at) _) (c .lay-compound .ensures)
 
 pub lay-part-returns-8 : (t : ℕ) → lay-part-lts.Need-returns-8 (lay-part-claims t) (lay-part-at t) lay-part.Post
 lay-part-returns-8 t c =
