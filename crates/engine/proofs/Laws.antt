@@ -213,7 +213,8 @@ module _ {file kinds : List ℕ} {operands slots : List ℤ} {heads : List ℕ} 
     told fs q (E.Refused number) few t = rw (t .0, t .1 .0, t .1 .1, kinds-long, operands-long) refl
 
     pub replies-told : (r : Ended) → ((fs : Script) → admitted (h .node) file (room kinds operands) ≡ accepted fs →
-        d ≡ main-depth fs → left r slots′ heads′ ≡ part fs) → SmallAnswer r → Tells r kinds′ operands′ a kinds″ operands″ →
+        d ≡ main-depth fs → left r slots′ heads′ ≡ part fs) → SmallAnswer r →
+        Tells r kinds′ operands′ a kinds″ operands″ →
         Replies file (λ node. call (admitted node file (room kinds operands))) a kinds″ operands″ slots′ heads′
     replies-told r e few t = record {
       node = h .node;

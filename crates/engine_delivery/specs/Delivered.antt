@@ -30,7 +30,8 @@ delivered-left fs readings budget slots heads =
     (left (Refused 10) slots heads)
 
 -- for every accepted script of which these are the code, the table and main's depth
-abbrev pub DeliversWords : List ℕ → List ℤ → List ℕ → List ℤ → List ℕ → List ℤ → ℕ → ℕ → Ended → List ℤ → List ℕ → Type 0
+abbrev pub DeliversWords : List ℕ → List ℤ → List ℕ → List ℤ → List ℕ → List ℤ → ℕ → ℕ → Ended → List ℤ → List ℕ →
+    Type 0
 DeliversWords kinds operands table slots heads readings depth budget r slots′ heads′ =
     (node : ℕ) (file : List ℕ) (fs : Script) → judged node file ≡ accepted fs → length fs ≤ 32 →
     Coded fs (M.code kinds operands table) → depth ≡ main-depth fs →

@@ -66,10 +66,12 @@ accepted-file file f n h = go (read-file file) refl (h .is)
     by fs q r [] (x ∷ m) o a b c e = no-equation (let z : _≡_ {A = ℕ} 0 1 = cc in z)
     by fs q r (x ∷ l) m o a b c e = no-equation (let z : _≡_ {A = ℕ} 0 1 = cc in z)
 
-    go : (o : Outcome ℕ Script) → read-file file ≡ o → Accepted f n ≡ told-verdict file (judged-read 0 (read-file file)) →
+    go : (o : Outcome ℕ Script) → read-file file ≡ o → Accepted f n ≡ told-verdict file (judged-read 0
+        (read-file file)) →
         AcceptedFile file f n
     go (done fs q) r e = by fs q r (name-faults fs) (type-faults fs) (too-many-names fs) refl refl refl (rw r at e)
-    go (stop m q) r e = no-equation (let s : Accepted f n ≡ Refused m q = rw r at e in let z : _≡_ {A = ℕ} 0 1 = cc in z)
+    go (stop m q) r e = no-equation (let s : Accepted f n ≡ Refused m q = rw r at e in let z : _≡_ {A = ℕ} 0 1 = cc
+        in z)
 
 module _ {file : List ℕ} {f n : ℕ} (a : AcceptedFile file f n) where
   pub file-taken : FileTaken file f n

@@ -112,7 +112,8 @@ module _ {file : List ℕ} {f n : ℕ} (a : AcceptedFile file f n) where
           depths = λ g x l m. starts-below ks os fs f 0 0 ends (256 * g + x) (omega (arith, few))
               ∙ ends-below ks (length (code fs)) table′ (256 * g + x) (omega (arith, few))
               ∙ h .there g x (omega arith) l m (omega (arith, few, long₀));
-          ends = λ t q w. starts-ends ks os fs f 0 0 ends q (omega (arith, few, functions-are)) ∙ jumping table′ long t q w;
+          ends = λ t q w. starts-ends ks os fs f 0 0 ends q (omega (arith, few, functions-are))
+              ∙ jumping table′ long t q w;
         }
 
     pub coded-so : {table table′ : List ℕ} → DepthsFrom 0 fs table table′ → Roomy table →
@@ -197,5 +198,6 @@ module _ {file kinds : List ℕ} {operands : List ℤ} {table kinds′ : List �
   unfolding admitted
   loads-with-refusal {n} {p} j e k o = record {
     loads = loads-refusal j e k o;
-    coded = λ node fs g long. no-script n p fs (rw (refused-so j) at (admitted-free node p fs file (room kinds operands) g));
+    coded = λ node fs g long. no-script n p fs (rw (refused-so j) at (admitted-free node p fs file
+        (room kinds operands) g));
   }

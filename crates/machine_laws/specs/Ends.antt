@@ -31,7 +31,8 @@ module _ (table : List ℕ) (place position : ℕ) where
       ≡ position
   position-read long small =
       let low : getD (with-position table place position) place 0 ≡ position % 256 =
-      getD-set-other (set table place (position % 256)) (place + 1) place (position / 256 % 256) 0 (λ e. omega (arith, e))
+      getD-set-other (set table place (position % 256)) (place + 1) place (position / 256 % 256) 0 (λ e. omega
+      (arith, e))
       ∙ getD-set-same table place (position % 256) 0 (omega (arith, long)) in
       let high : getD (with-position table place position) (place + 1) 0 ≡ position / 256 % 256 =
       getD-set-same (set table place (position % 256)) (place + 1) (position / 256 % 256) 0
@@ -54,7 +55,8 @@ end-kept table place position at h = omega (
   position-other table place position (8256 + 2 * at + 1) (λ e. omega (arith, e, h)) (λ e. omega (arith, e, h)),
 )
 
-end-read : (table : List ℕ) (at end : ℕ) → Roomy table → at < 4096 → end < 65536 → end-in (with-end table at end) at ≡ end
+end-read : (table : List ℕ) (at end : ℕ) → Roomy table → at < 4096 → end < 65536 → end-in
+    (with-end table at end) at ≡ end
 unfolding end-in
 end-read table at end long h small = position-read table (8256 + 2 * at) end (omega (arith, long, h)) small
 

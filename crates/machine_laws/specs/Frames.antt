@@ -41,7 +41,8 @@ pub small-known : (a : C.Atom) (S : Set) → Bounded S → Known a S → SmallAt
 small-known (C.number z) S b h = tt
 small-known (C.name x) S b h = b .below x h
 
-pub word-same : (calls : ℕ) (env : List ℤ) (ρ : Frame) (S : Set) → FrameAgrees calls env ρ S → (a : C.Atom) → Known a S →
+pub word-same : (calls : ℕ) (env : List ℤ) (ρ : Frame) (S : Set) → FrameAgrees calls env ρ S → (a : C.Atom) →
+    Known a S →
     word-of calls env (coded a) ≡ word ρ a
 word-same calls env ρ S g (C.number z) h = refl
 word-same calls env ρ S g (C.name x) h = g .agree x h
@@ -109,7 +110,8 @@ bounded-after (C.retain x) S h b = b
 bounded-after (C.release x) S h b = b
 
 -- after work that kept them, the names still agree
-pub agrees-kept : (calls : ℕ) (env env′ : List ℤ) (ρ : Frame) (S : Set) → FrameAgrees calls env ρ S → FrameKept calls env env′
+pub agrees-kept : (calls : ℕ) (env env′ : List ℤ) (ρ : Frame) (S : Set) → FrameAgrees calls env ρ S →
+    FrameKept calls env env′
     S →
     FrameAgrees calls env′ ρ S
 agrees-kept calls env env′ ρ S g k = record { agree = λ x e. k .names x e ∙ g .agree x e }
@@ -147,7 +149,8 @@ module _ (calls : ℕ) where
       (omega (arith, long, length-set env (place calls p) v)) (bounded-more p S (h .0 .small) b)
       (agrees-more calls env ρ S p v (h .0 .small) long b g))
 
-  pub kept-all : (ps : List ℕ) (ws env : List ℤ) (S : Set) → AllNew ps S → FrameKept calls env (bound-all calls ps ws env) S
+  pub kept-all : (ps : List ℕ) (ws env : List ℤ) (S : Set) → AllNew ps S → FrameKept calls env
+      (bound-all calls ps ws env) S
   kept-all [] ws env S h = kept-none calls env S
   kept-all (p ∷ ps) ws env S h =
       let v = argument ws 0 in

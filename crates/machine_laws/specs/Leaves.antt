@@ -104,7 +104,8 @@ operation-read less n u v = refl
 -- a line at a position, which binds x and has the atoms us
 module _ (p : Program) (few : length (p .routines) ≤ 32) (callee : M.Callee) (Γ : NameDepths) (c : Code) (calls f : ℕ)
     (C : Callee) (calling-same : CalleeSame p calls C callee) (W : Work) (at : ℕ) (A : Set) (R : List ℕ) (ρ : Frame)
-    (s : State) (env : List ℤ) (S : Set) (b : Bounded S) (g : FrameAgrees calls env ρ S) (long : 8192 ≤ length env) where
+    (s : State) (env : List ℤ) (S : Set) (b : Bounded S) (g : FrameAgrees calls env ρ S)
+    (long : 8192 ≤ length env) where
   abbrev here : Memory
   here = memory (s .store) env
 
@@ -265,7 +266,8 @@ module _ (p : Program) (few : length (p .routines) ≤ 32) (callee : M.Callee) (
     pub leaf-same : (l : Leaf) → LeafFits p Γ x l us → LeafStands l → Claim l
     leaf-same (operation o) h r = operation-same o (h .limits) r
     leaf-same (call k) h r =
-        call-same k (leb-false (length (p .routines)) k (h .calls)) (call-long Γ us (p .signatures k) (Γ x) (h .gives)) r
+        call-same k (leb-false (length (p .routines)) k (h .calls)) (call-long Γ us (p .signatures k) (Γ x)
+        (h .gives)) r
     leaf-same (literal d) h r = literal-same d (h .limits .0) (h .limits .1) r
     leaf-same index h r = index-same (h .limits) r
     leaf-same length-of h r = length-same (h .limits) r

@@ -103,7 +103,8 @@ word-moved X {w = w} {v = v} {s = s} h = ap₂ (λ (y : ℤ) (n : ℕ). X y n (w
     ∙ ap (λ (σ : Store). X v (s .left) (memory σ (w .memory .env))) (h .store)
 
 -- the same word, known from another list of words that kept the names
-pub word-kept : (calls : ℕ) (e₀ e₁ : List ℤ) (S T : Set) → ((x : ℕ) → S x ≡ true → T x ≡ true) → FrameKept calls e₀ e₁ S →
+pub word-kept : (calls : ℕ) (e₀ e₁ : List ℤ) (S T : Set) → ((x : ℕ) → S x ≡ true → T x ≡ true) →
+    FrameKept calls e₀ e₁ S →
     (w : Ran) (v : ℤ) (s : State) → WordDone calls e₁ T w v s → WordDone calls e₀ S w v s
 word-kept calls e₀ e₁ S T i k w v s h = record {
   value = h .value;

@@ -118,7 +118,8 @@ module _ (kinds : List ℕ) (operands : List ℤ) (fs : Script) where
 
   -- each position that the pass writes is that of the function's tree
   pub starts-stand : (gs : List Function) (f p : ℕ) (table : List ℕ) → At kinds operands p (functions-rows fs gs) →
-      AllOf FunctionLimits gs → Roomy table → Jumping table → f + length gs ≤ 32 → p + length (functions-rows fs gs) ≤ 4096 →
+      AllOf FunctionLimits gs → Roomy table → Jumping table → f + length gs ≤ 32 → p + length
+      (functions-rows fs gs) ≤ 4096 →
       (g : ℕ) → g < length gs → start-in (starts-from (length gs) kinds operands f p table) (f + g) ≡ p + body-at fs
       gs g
   unfolding functions-rows body-at function-rows
@@ -134,7 +135,8 @@ module _ (kinds : List ℕ) (operands : List ℤ) (fs : Script) where
       ∙ by g l
       (λ j m. starts-stand gs (f + 1) (p + length (function-rows fs k)) (with-start table f st)
       (at-second kinds operands p (function-rows fs k) (functions-rows fs gs) h) (few .1)
-      (omega (arith, long, length-position table (8192 + 2 * f) st)) (jumps-more p) (omega arith) (omega (arith, len, short)) j m)
+      (omega (arith, long, length-position table (8192 + 2 * f) st)) (jumps-more p) (omega arith) (omega
+      (arith, len, short)) j m)
     where
       jumps-more : (p : ℕ) → Jumping (with-start table f (tree-start operands p))
       jumps-more p t q h = start-ends table f (tree-start operands p) q (omega (arith, room)) ∙ jumps t q h

@@ -302,7 +302,8 @@ module _ (kinds : List ℕ) (operands : List ℤ) (calls at : ℕ) (m : Memory) 
   told (L.End a) = refl
 
   -- a line that works or ends a tree
-  pub leaf-other : (steps : ℕ) (l : Line) → OneOf bigger (tagOf the-type l) → (r : Out) → r ≡ out no-line (pos 0) 0 steps →
+  pub leaf-other : (steps : ℕ) (l : Line) → OneOf bigger (tagOf the-type l) → (r : Out) → r ≡ out no-line
+      (pos 0) 0 steps →
       ran r m ≡ leaf kinds operands calls at steps m l
   unfolding leaf-done
   leaf-other steps l h r e = ap (λ (y : Out). ran y m) e ∙ go (doing kinds operands calls at m l) (told l)

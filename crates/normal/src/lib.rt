@@ -78,7 +78,8 @@ pub fn refuse(ks: &mut [u8], os: &mut [i64])
 fn lay_code(written: &[u8], numbers: &[i64], at: usize, ks: &mut [u8], os: &mut [i64]) -> Laid
     requires { ⌜ (at ≤ 4097) × (length (now written) ≡ 4097) × (length (now numbers) ≡ 4097) ⌝ }
     ensures { λ r. ⌜ ((fs : Script) →
-        Wrote (replicate 4097 0) (replicate 4097 (pos 0)) (now (written .entry)) (now (numbers .entry)) 4097 at (code fs) →
+        Wrote (replicate 4097 0) (replicate 4097 (pos 0)) (now (written .entry)) (now (numbers .entry)) 4097 at
+        (code fs) →
         record { answer = laid-outcome r; kinds = now (ks .exit); operands = now (os .exit) }
         ≡ left-of fs (now (ks .entry)) (now (os .entry))) ⌝ }
 {

@@ -168,7 +168,8 @@ pub record BelowReached (n : ℕ) (a r : List Bool) (i : ℕ) : Type 0 where
 pub below-none : (n : ℕ) (a : List Bool) → BelowReached n a a 0
 below-none n a = record { made = making-none (λ x. ltb x n) a }
 
-pub below-set : {n i : ℕ} {a r : List Bool} → BelowReached n a r i → (v : Bool) → i < length a → v ≡ ltb i n → BelowReached n a
+pub below-set : {n i : ℕ} {a r : List Bool} → BelowReached n a r i → (v : Bool) → i < length a → v ≡ ltb i n →
+    BelowReached n a
     (set r i v) (i + 1)
 below-set b v h e = record { made = making-set (b .made) v h e }
 

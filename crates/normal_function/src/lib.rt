@@ -29,7 +29,8 @@ pub struct Coded {
 // The parameters from a node on are the new names from 0 on.
 fn bind_parameters(kinds: &[u8], operands: &[u8], at: usize, count: u8) -> Bound
     requires { ⌜ Parts (now kinds) (now operands) × ((at ≤ 1024) × (count ≤ 8)) ⌝ }
-    ensures { λ r. ⌜ Binds (now (operands .entry)) (parameters-at (now (kinds .entry)) (now (operands .entry)) at count) 0 r ⌝ }
+    ensures { λ r. ⌜ Binds (now (operands .entry)) (parameters-at (now (kinds .entry)) (now
+        (operands .entry)) at count) 0 r ⌝ }
 {
     let mut places = [65535u16; 256];
     let mut depths = [0u8; 256];

@@ -54,7 +54,8 @@ pub fn lay_line(
 ) -> usize
     requires { ⌜ (p < 4079) × (m ≤ 16) ⌝ }
     ensures { λ r. ⌜ (r ≡ p + 1 + m) × (now (notes .exit) ≡ set (now (notes .entry)) r p) ⌝ }
-    ensures { λ _. ⌜ now (rows .exit) ≡ laid (now (rows .entry)) p (packed-row kind x y m ∷ firsts (now (places .entry)) 0 m) ⌝ }
+    ensures { λ _. ⌜ now (rows .exit) ≡ laid (now (rows .entry)) p (packed-row kind x y m ∷ firsts (now
+        (places .entry)) 0 m) ⌝ }
 {
     rows[p] = packed_row(kind, x, y, m as u8);
     lay_places(rows, p + 1, m, places);

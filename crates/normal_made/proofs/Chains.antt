@@ -64,7 +64,8 @@ agrees-back q t a s g h = record {
   notes = λ i l m. a .notes i l (omega arith) ∙ s .notes i m;
 }
 
-pub agrees-from : {Y : State} {F : Plain} {lo hi top : ℕ} (p : ℕ) → RowsAgree Y F lo hi top → lo ≤ p → RowsAgree Y F p hi
+pub agrees-from : {Y : State} {F : Plain} {lo hi top : ℕ} (p : ℕ) → RowsAgree Y F lo hi top → lo ≤ p →
+    RowsAgree Y F p hi
     top
 agrees-from p a h = record {
   rows = λ i l m. a .rows i (omega arith) m;

@@ -84,7 +84,8 @@ module _ (w : List ℕ) (results : ℕ → ℕ) where
     pub same : Same X Y p p
     pub width : ℕ
     pub thin : p + width ≤ r .p
-    pub chains : (F : Plain) → F .operands ≡ w → RowsAgree Y F p (r .p) (r .p) → Chains F p (r .p) width d₀ (λ t. lines e μ n t)
+    pub chains : (F : Plain) → F .operands ≡ w → RowsAgree Y F p (r .p) (r .p) → Chains F p (r .p) width d₀
+        (λ t. lines e μ n t)
     pub depths : (k : Tree) →
         tree-depths results (lines e μ n k) (depth-in (X .depths)) ≡ tree-depths results k (depth-in (Y .depths))
 
@@ -97,7 +98,8 @@ module _ (w : List ℕ) (results : ℕ → ℕ) where
     pub low : (c : ℕ) → Low (X .depths) c → Low (Y .depths) (c + fresh e)
     pub gives : meant (placed w (r .place)) ≡ atom e μ n
     pub same : Same X Y p p
-    pub tree : (F : Plain) → F .operands ≡ w → RowsAgree Y F p (r .p) (p + laid-rows e) → p ≤ note (F .notes) p → (d : ℕ) → d₀ ≤ d →
+    pub tree : (F : Plain) → F .operands ≡ w → RowsAgree Y F p (r .p) (p + laid-rows e) → p ≤ note (F .notes) p →
+        (d : ℕ) → d₀ ≤ d →
         tree-to F (suc d) (p + laid-rows e) ≡ normal e μ n
     pub first : (F : Plain) → F .operands ≡ w → RowsAgree Y F p (r .p) (p + laid-rows e) → p ≤ note (F .notes) p →
         start (F .notes) 4096 (p + laid-rows e) ≡ p

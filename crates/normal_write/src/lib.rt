@@ -37,14 +37,16 @@ fn put_back(ks: &mut [u8; 4097], os: &mut [i64; 4097], w: usize, kind: u8, opera
 // A row whose operand is a natural number.
 pub fn put_row(ks: &mut [u8; 4097], os: &mut [i64; 4097], w: usize, kind: u8, n: u32) -> usize
     requires { ⌜ w ≤ 4097 ⌝ }
-    ensures { λ r. ⌜ Wrote (now (ks .entry)) (now (os .entry)) (now (ks .exit)) (now (os .exit)) w r (row kind n ∷ []) ⌝ }
+    ensures { λ r. ⌜ Wrote (now (ks .entry)) (now (os .entry)) (now (ks .exit)) (now (os .exit)) w r
+        (row kind n ∷ []) ⌝ }
 {
     put_back(ks, os, w, kind, n as i64)
 }
 
 pub fn put_atom(ks: &mut [u8; 4097], os: &mut [i64; 4097], w: usize, a: Atom) -> usize
     requires { ⌜ w ≤ 4097 ⌝ }
-    ensures { λ r. ⌜ Wrote (now (ks .entry)) (now (os .entry)) (now (ks .exit)) (now (os .exit)) w r (atom-row (meant a) ∷ []) ⌝ }
+    ensures { λ r. ⌜ Wrote (now (ks .entry)) (now (os .entry)) (now (ks .exit)) (now (os .exit)) w r (atom-row
+        (meant a) ∷ []) ⌝ }
 {
     match a {
         Atom::Number(z) => put_back(ks, os, w, 2, z),

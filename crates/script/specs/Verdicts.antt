@@ -53,5 +53,5 @@ listed (some p) = p ∷ []
 -- the verdict with the lowest node, by what is read: 6, 7 and 8 each over the whole file
 abbrev pub checked-as : ℕ → ℕ → Outcome ℕ Script → Verdict
 checked-as f n (done fs q) =
-    refused-by 6 (name-faults fs) (refused-by 7 (type-faults fs) (refused-by 8 (listed (too-many-names fs)) (Accepted f n)))
-checked-as f n (stop m p) = Refused m p
+    refused-by 6 (name-faults fs)
+    (refused-by 7 (type-faults fs) (refused-by 8 (listed (too-many-names fs)) (Accepted f n)))

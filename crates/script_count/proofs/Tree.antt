@@ -156,7 +156,8 @@ module _ (k w : List ℕ) where
           body .is (total gs) p 0 ∙ rw (u, v)
 
   -- over the whole file
-  pub count-all : (gs : Script) → ScriptWritten k w gs 0 → length k ≤ total gs → crowd k (length k) 0 0 0 ≡ too-many-names gs
+  pub count-all : (gs : Script) → ScriptWritten k w gs 0 → length k ≤ total gs → crowd k
+      (length k) 0 0 0 ≡ too-many-names gs
   count-all gs h l =
       let e : length k ≡ total gs = omega (arith, script-ends k w gs 0 h (omega arith)) in
       rw e (count-functions gs 0 0 0 h)

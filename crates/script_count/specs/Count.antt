@@ -32,7 +32,8 @@ unfoldable pub crowd : List ℕ → ℕ → ℕ → ℕ → ℕ → Option ℕ
 crowd kinds zero p start count = cond (ltb 256 count) (some start) none
 crowd kinds (suc n) p start count =
     let kind = getD kinds p 0 in
-    cond (crowd-ends kind count) (some start) (crowd kinds n (p + 1) (start-after kind p start) (count-after kind count))
+    cond (crowd-ends kind count) (some start) (crowd kinds n (p + 1) (start-after kind p start)
+    (count-after kind count))
 
 -- document 01's number and node for each case: none, or 8 with the function's node
 abbrev pub counted-outcome : Counted → Outcome ℕ (Unit {0})

@@ -91,7 +91,8 @@ module _ (k w : List ℕ) (F : ℕ) where
     parameter-known {x} {y} {z} s e =
         sym (inv ∙ from-step c (scope t) p h ∙ rw (s .stands, s .same-low, at-scope t y true e))
 
-    pub parameter-new : {x y z : ℕ} → Seen k w at-parameter p x y z → length t ≡ 256 → y < 256 → getD t y false ≡ false →
+    pub parameter-new : {x y z : ℕ} → Seen k w at-parameter p x y z → length t ≡ 256 → y < 256 →
+        getD t y false ≡ false →
         r ≡ names-from k w F (c - 1) (scope (set t y true)) (p + 1)
     parameter-new {x} {y} {z} s l b e =
         inv ∙ from-step c (scope t) p h ∙ ap

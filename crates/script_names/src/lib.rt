@@ -88,7 +88,8 @@ fn name_binding(
 ) -> Read
     requires { ⌜ length (now known) ≡ 256 ⌝ }
     ensures { λ r. ⌜
-        (r ≡ then-bound (names (now (kinds .entry)) (now (operands .entry)) functions levels) (scope (now (known .entry))) x
+        (r ≡ then-bound (names (now (kinds .entry)) (now (operands .entry)) functions levels) (scope (now
+        (known .entry))) x
         (names (now (kinds .entry)) (now (operands .entry)) functions levels (scope (now (known .entry))) at))
         × (now (known .exit) ≡ now (known .entry)) ⌝ }
 {
@@ -117,7 +118,8 @@ fn name_parts(
 ) -> Read
     requires { ⌜ length (now known) ≡ 256 ⌝ }
     ensures { λ r. ⌜
-        (r ≡ repeated count (names (now (kinds .entry)) (now (operands .entry)) functions levels (scope (now (known .entry)))) at)
+        (r ≡ repeated count (names (now (kinds .entry)) (now (operands .entry)) functions levels (scope (now
+        (known .entry)))) at)
         × (now (known .exit) ≡ now (known .entry)) ⌝ }
 {
     let mut p = at;
@@ -200,7 +202,8 @@ fn put(table: &mut [usize], i: usize, node: usize)
 pub fn name_script(kinds: &[u8], operands: &[u8], functions: u8, starts: &mut [usize]) -> Read
     ensures { λ r. ⌜
         (r ≡ repeated functions (names-function (now (kinds .entry)) (now (operands .entry)) functions) 0)
-        × (now (starts .exit) ≡ marked functions (names-function (now (kinds .entry)) (now (operands .entry)) functions) 0 0
+        × (now (starts .exit) ≡ marked functions (names-function (now (kinds .entry)) (now
+        (operands .entry)) functions) 0 0
         (now (starts .entry))) ⌝ }
 {
     let mut p = 0;

@@ -68,7 +68,8 @@ module _ (functions : ℕ) where
         (all-names-below es known (p + 1) b (omega (arith, h)))
         (names-below y (scope-with xs known) (p + 1 + sizes es) b (omega (arith, h)))
 
-    all-names-below : (es : Exprs) (known : Scope) (p b : ℕ) → p + sizes es ≤ b → Below (unknowns functions es known p) b
+    all-names-below : (es : Exprs) (known : Scope) (p b : ℕ) → p + sizes es ≤ b → Below
+        (unknowns functions es known p) b
     all-names-below S.none known p b h = none-below b
     all-names-below (S.more e es) known p b h = append-below _ _ (names-below e known p b (omega (arith, h)))
         (all-names-below es known (p + size e) b (omega (arith, h)))
@@ -120,7 +121,8 @@ node-below p r cs h k = with-below (breaks r (part-depths cs)) p (part-faults cs
 front-below : {b : ℕ} (p : ℕ) (l : List ℕ) → p < b → Below l b → Below (p ∷ l) b
 front-below p l h k = with-below true p l h k
 
-with-last : {b : ℕ} (cs : List Checked) (c : Checked) → AllBelow cs b → Below (c .faults) b → AllBelow (cs ++ (c ∷ [])) b
+with-last : {b : ℕ} (cs : List Checked) (c : Checked) → AllBelow cs b → Below (c .faults) b → AllBelow (cs ++
+    (c ∷ [])) b
 with-last [] c h k = (k, tt)
 with-last (a ∷ cs) c h k = (h .0, with-last cs c (h .1) k)
 

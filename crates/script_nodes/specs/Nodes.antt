@@ -28,7 +28,8 @@ module _ (node n p : ℕ) where
       judged-script node fs (name-faults fs) (type-faults fs) (too-many-names fs) ≡ refused n p → p ≤ 1024
   unfolding name-faults type-faults
   by-script fs small = by (name-faults fs) (unknown-below (length fs) fs 0 1024 (omega (arith, small)))
-      (type-faults fs) (functions-below (signatures-of fs) (main-shape (signatures-of fs 0)) fs 0 1024 (omega (arith, small)))
+      (type-faults fs) (functions-below (signatures-of fs) (main-shape (signatures-of fs 0)) fs 0 1024 (omega
+      (arith, small)))
       (too-many-names fs) refl
     where
       by : (l : List ℕ) → Below l 1024 → (m : List ℕ) → Below m 1024 → (o : Option ℕ) → too-many-names fs ≡ o →

@@ -180,7 +180,8 @@ read-small file = short (ltb (length file) 4)
         Small 1024 (cond t (cond (eqb (length file) (4 + 9 * count)) whole (stop 1 0)) (stop 2 0))
     sized true e =
         let nodes = both-hold (between 1 32 functions) (between 1 1024 count) e .1 in
-        long (eqb (length file) (4 + 9 * count)) (leb-true count 1024 (both-hold (leb 1 count) (leb count 1024) nodes .1))
+        long (eqb (length file) (4 + 9 * count)) (leb-true count 1024 (both-hold (leb 1 count)
+        (leb count 1024) nodes .1))
     sized false e = refuse 1024 2 (omega arith) (omega arith) (omega arith)
 
     short : (t : Bool) → Small 1024 (cond t (stop 1 0) (cond (between 1 32 functions && between 1 1024 count)

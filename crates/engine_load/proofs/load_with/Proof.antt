@@ -77,9 +77,11 @@ returns c =
     let kinds = laid .last .1 .1 .1 .1 .0 in
     let operands = laid .last .1 .1 .1 .1 .1 .0 in
     rw (c .before .before .fill .ensures) (subst
-    (λ r. LoadsWith (a .file .now) (a .kinds .now) (a .operands .now) (a .table .now) (ready (d .result) (laid-outcome r))
+    (λ r. LoadsWith (a .file .now) (a .kinds .now) (a .operands .now) (a .table .now) (ready (d .result)
+    (laid-outcome r))
     kinds operands (table-after functions kinds operands (laid-outcome r) table)) (at-n .n .given .1)
-    (loads-with-laid (laid-outcome (laid .result)) (d .result) table j (d .ensures) (laid .ensures .0) (laid .ensures .1)))
+    (loads-with-laid (laid-outcome (laid .result)) (d .result) table j (d .ensures) (laid .ensures .0)
+    (laid .ensures .1)))
 
 returns-2 : tie.Need-returns-2
 returns-2 c =
@@ -95,9 +97,11 @@ returns-2 c =
     let table = laid .last .1 .1 .1 .0 in
     let kinds = laid .last .1 .1 .1 .1 .0 in
     let operands = laid .last .1 .1 .1 .1 .1 .0 in
-    subst (λ r. LoadsWith (a .file .now) (a .kinds .now) (a .operands .now) (a .table .now) (ready (d .result) (laid-outcome r))
+    subst (λ r. LoadsWith (a .file .now) (a .kinds .now) (a .operands .now) (a .table .now) (ready (d .result)
+    (laid-outcome r))
     kinds operands (table-after functions kinds operands (laid-outcome r) table)) (c .enum-told .given .1)
-    (loads-with-laid (laid-outcome (laid .result)) (d .result) table j (d .ensures) (laid .ensures .0) (laid .ensures .1))
+    (loads-with-laid (laid-outcome (laid .result)) (d .result) table j (d .ensures) (laid .ensures .0)
+    (laid .ensures .1))
 
 returns-3 : tie.Need-returns-3
 returns-3 c =

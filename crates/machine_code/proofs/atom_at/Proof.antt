@@ -18,4 +18,5 @@ returns-2 c = let a = c .before .before .before .before .args in name-here (a .k
 pub atom-at-spec : {M : Type 1} → statement M
 atom-at-spec =
     tie.close
-    (tie.spec (λ c κs. search needs) (λ c κs. search needs) (λ c κs. search needs) (λ c. search needs) returns returns-2)
+    (tie.spec (λ c κs. search needs) (λ c κs. search needs) (λ c κs. search needs)
+    (λ c. search needs) returns returns-2)

@@ -8,4 +8,5 @@ unfolding depth-in
 returns c = c .byte-at .ensures .0
 
 pub depth-in-spec : {M : Type 1} → statement M
-depth-in-spec = tie.close (tie.spec (λ c. search needs) (λ c. search needs) (λ c κs. search needs) (λ c. search needs) returns)
+depth-in-spec = tie.close (tie.spec (λ c. search needs) (λ c. search needs) (λ c κs. search needs)
+    (λ c. search needs) returns)

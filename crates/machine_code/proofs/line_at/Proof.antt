@@ -33,7 +33,8 @@ returns-4 c =
     let a = c .before .before .before .before .before .before .before .args in
     let n = c .before .before .natural-at in
     let atom = c .before .before .before .before .atom-at in
-    line-here (a .kinds .now) (a .operands .now) (a .at) 10 (n .result) (atom .result) (c .atom-at2 .result) (sym (c .before .match .keys3))
+    line-here (a .kinds .now) (a .operands .now) (a .at) 10 (n .result) (atom .result) (c .atom-at2 .result) (sym
+    (c .before .match .keys3))
     (n .ensures) (atom .ensures) (c .atom-at2 .ensures)
 
 returns-5 : tie.Need-returns-5

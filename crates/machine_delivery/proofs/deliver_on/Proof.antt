@@ -23,7 +23,15 @@ deliver-kept-requires c κs =
         c
             .before .before .before .before .if1 .taken,
       ),
-      omega (arith, fit .slots-long, fit .heads-long, few-cells (a .slots .now) (a .heads .now), length-replicate {A = ℕ} 65 0, c .before .before .before .before .if1 .taken),
+      omega (
+        arith,
+        fit .slots-long,
+        fit .heads-long,
+        few-cells (a .slots .now)
+            (a .heads .now),
+        length-replicate {A = ℕ} 65 0,
+        c .before .before .before .before .if1 .taken,
+      ),
     )
 
 deliver-kept-requires-2 : tie.Need-deliver-kept-requires-2
@@ -33,7 +41,14 @@ deliver-kept-requires-2 c κs =
     .pre) in (
       omega (arith, fit .slots-long),
       omega (arith, fit .slots-long, few-cells (a .slots .now) (a .heads .now), length-replicate {A = ℤ} 4097 (pos 0)),
-      omega (arith, fit .slots-long, fit .heads-long, few-cells (a .slots .now) (a .heads .now), length-replicate {A = ℕ} 1025 0),
+      omega (
+        arith,
+        fit .slots-long,
+        fit .heads-long,
+        few-cells (a .slots .now)
+            (a .heads .now),
+        length-replicate {A = ℕ} 1025 0,
+      ),
     )
 
 pub deliver-on-spec : {M : Type 1} → statement M

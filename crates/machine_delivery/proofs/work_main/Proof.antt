@@ -127,7 +127,8 @@ returns-2 c = λ k e.
     (tree .last .1 .1 .1 .0) (tree .last .1 .1 .1 .1 .0) (tree .result .value) (omega (
       arith,
       c .before .before .before .before .before .before .before .before .before .before .before .before .before
-          .before .before .before .before .before .before .before .before .before .before .before .before .before .before
+          .before .before .before .before .before .before .before .before .before .before .before .before .before
+          .before
           .before .before .before .before .before .before .pre,
       tree .kept .1 .1 .1 .0,
     ))))

@@ -45,7 +45,8 @@ loop-again c =
           (c .before .before .before .before .before .before .before .before .before .atom-stands .result)
           (c .before .before .before .before .before .before .before .before .if1 .left))
           (c .before .before .before .before .before .before .before .atom-at .result) (word .result)
-          (c .before .before .before .before .before .before .before .atom-at .ensures) (word .ensures) _ (rw (toZ-ofZ {z
+          (c .before .before .before .before .before .before .before .atom-at .ensures) (word .ensures) _ (rw
+          (toZ-ofZ {z
           = word .result} (record { sfits = word .ok })) at (one .ensures)),
     )
 

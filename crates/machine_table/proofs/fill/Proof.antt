@@ -12,7 +12,8 @@ returns-2 c = let a = c .before .before .before .before .before .before .before 
     in
     filled-long (a .functions) (a .rows) (a .kinds .now) (a .operands .now) (a .table .now) (c .before .before
     .before .before .before .before .before .before .if1 .left)
-    (c .before .before .before .before .before .before .fill-ends .last .1 .1 .0) (c .before .before .fill-starts .last .1 .1 .1 .0)
+    (c .before .before .before .before .before .before .fill-ends .last .1 .1 .0)
+    (c .before .before .fill-starts .last .1 .1 .1 .0)
     (c .before .before .before .before .before .before .fill-ends .ensures) (c .before .before .fill-starts .ensures)
 
 pub fill-spec : {M : Type 1} → statement M

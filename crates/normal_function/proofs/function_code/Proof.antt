@@ -107,23 +107,28 @@ put-parameters-requires c κs = (
     omega (
       arith,
       c .before .before .before .before .before .before .before .before .before .before .before .before
-          .before .before .before .before .before .before .before .before .before .before .before .before .before .before
+          .before .before .before .before .before .before .before .before .before .before .before .before .before
+          .before
           .before .before .before .before .before .before .before .before .pre .0 .nodes,
     ),
     (
       omega (
         arith,
         c .before .before .before .before .before .before .before .before .before .before .before .before
-            .before .before .before .before .before .before .before .before .before .before .before .before .before .before
+            .before .before .before .before .before .before .before .before .before .before .before .before .before
+            .before
             .before .before .before .before .low-at .ensures,
         c .before .before .before .before .before .before .before
-            .before .before .before .before .before .before .before .before .before .before .before .before .before .before
-            .before .before .before .before .before .before .before .before .before .before .before .before .before .pre .0
+            .before .before .before .before .before .before .before .before .before .before .before .before .before
+            .before
+            .before .before .before .before .before .before .before .before .before .before .before .before .before
+            .pre .0
             .few,
       ),
       lower (c .before .before .put-releases .ensures) (lower (c .before .before .before .before .before
           .before .before .before .walk-tree .ensures .wrote) (c .before .before .before .before .before .before .before
-          .before .before .before .before .before .before .before .before .before .before .before .before .before .before
+          .before .before .before .before .before .before .before .before .before .before .before .before .before
+          .before
           .before .before .before .before .before .before .before .before .before .before .before .before .before .pre
           .1)),
     ),

@@ -31,7 +31,8 @@ loop-again c = let a = c .before .before .before .before .before .before .before
       omega arith,
       among-more (a .operands .now) (a .rows .now) (a .at)
           (c .before .before .before .before .loop .i) (a .m) (c .before .before .row-at .result) (set-of (a .s))
-          (set-of (c .before .before .before .before .loop .r)) _ (c .before .atom-of .result) (c .before .before .before
+          (set-of (c .before .before .before .before .loop .r)) _ (c .before .atom-of .result)
+          (c .before .before .before
           .loop-test .taken) (v .0) (v .2) (c .before .before .row-at .ensures) (c .before .atom-of .ensures)
           (c .add .ensures),
     )

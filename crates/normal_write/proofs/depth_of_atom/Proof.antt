@@ -7,4 +7,5 @@ returns-2 c = rw (c .before .before .a .given .1) (c .depth-at .ensures)
 
 pub depth-of-atom-spec : {M : Type 1} → statement M
 depth-of-atom-spec =
-    tie.close (tie.spec (λ c. search needs) (λ c. search needs) (λ c. search needs) (λ c κs. search needs) (λ c. search needs) returns-2)
+    tie.close (tie.spec (λ c. search needs) (λ c. search needs) (λ c. search needs) (λ c κs. search needs)
+    (λ c. search needs) returns-2)

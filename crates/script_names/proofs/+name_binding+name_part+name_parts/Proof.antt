@@ -100,7 +100,8 @@ module _ (t : ℕ) where
       (c .before .before .before .before .before .before .before .before .args .at) (c .before .kind .given .0 .0)
       (c .before .kind .given .0 .1 .0) (c .before .kind .given .0 .1 .1 .0)
   node-seen c =
-      seen _ _ at-part _ (c .before .before .before .node-at .result) (c .before .before .before .node-at .ensures) _ _ _
+      seen _ _ at-part _ (c .before .before .before .node-at .result)
+      (c .before .before .before .node-at .ensures) _ _ _
       (c .before .kind .given .1)
 
   there : (c : KindKnown) →

@@ -34,7 +34,8 @@ returns c = let a = c .before .before .before .before .before .before .before .b
     (c .before .before .before .before .before .before .before .loop .p)
     (c .before .before .before .before .before .before .before .loop .known) (v .2)
     (c .before .before .before .before .before .before .loop-test .taken)
-    (seen (a .kinds .now) (a .operands .now) at-parameter (c .before .before .before .before .before .before .before .loop .p)
+    (seen (a .kinds .now) (a .operands .now) at-parameter (c .before .before .before .before .before .before .before
+    .loop .p)
     (c .before .before .before .before .before .node-at .result)
     (c .before .before .before .before .before .node-at .ensures) _ _ _ (c .before .before .before .low .given .1))
     (c .if1 .taken)

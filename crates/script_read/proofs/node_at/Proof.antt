@@ -28,7 +28,8 @@ returns-3 c = let a = c .before .before .before .before .before .before .before 
     let n = c .before .before .before .operand-at in
     node-says (a .kinds .now) (a .operands .now) (place-of (a .place)) (a .at) _
     (judged (a .kinds .now) (a .operands .now) (place-of (a .place)) (a .at) (k .result) (k .ensures)
-    (sym (c .before .before .before .before .before .before .is-allowed .ensures) ∙ not-false _ (c .before .before .before .before .before .if1 .left))
+    (sym (c .before .before .before .before .before .before .is-allowed .ensures) ∙ not-false _
+    (c .before .before .before .before .before .if1 .left))
     (c .before .before .before .before .if2 .left)
     (n .result) (n .ensures) _ (low-wrong (k .result) (n .result) (omega arith)))
 
@@ -40,7 +41,8 @@ returns-4 c = let a =
     let n = c .before .before .before .before .before .before .operand-at in
     node-says (a .kinds .now) (a .operands .now) (place-of (a .place)) (a .at) _
     (judged (a .kinds .now) (a .operands .now) (place-of (a .place)) (a .at) (k .result) (k .ensures)
-    (sym (c .before .before .before .before .before .before .before .before .before .is-allowed .ensures) ∙ not-false _ (c .before .before .before .before .before .before .before .before .if1 .left))
+    (sym (c .before .before .before .before .before .before .before .before .before .is-allowed .ensures)
+    ∙ not-false _ (c .before .before .before .before .before .before .before .before .if1 .left))
     (c .before .before .before .before .before .before .before .if2 .left)
     (n .result) (n .ensures) _ (high-wrong (k .result) (n .result) (omega arith)))
 
@@ -52,7 +54,8 @@ returns-5 c = let a =
     let n = c .before .before .before .before .before .before .operand-at in
     node-says (a .kinds .now) (a .operands .now) (place-of (a .place)) (a .at) _
     (judged (a .kinds .now) (a .operands .now) (place-of (a .place)) (a .at) (k .result) (k .ensures)
-    (sym (c .before .before .before .before .before .before .before .before .before .is-allowed .ensures) ∙ not-false _ (c .before .before .before .before .before .before .before .before .if1 .left))
+    (sym (c .before .before .before .before .before .before .before .before .before .is-allowed .ensures)
+    ∙ not-false _ (c .before .before .before .before .before .before .before .before .if1 .left))
     (c .before .before .before .before .before .before .before .if2 .left)
     (n .result) (n .ensures) _ (in-range _ _ (omega arith) (omega arith) (omega arith)))
 

@@ -42,7 +42,8 @@ returns-3 c = let a = c .before .before .before .before .before .args in
 
 returns-4 : tie.Need-returns-4
 returns-4 c = let a = c .before .before .before .before .before .args in
-    function-stops (no-operand (a .kinds .now) (a .operands .now) at-function (a .at) (c .before .before .node-at .result)
+    function-stops (no-operand (a .kinds .now) (a .operands .now) at-function (a .at)
+    (c .before .before .node-at .result)
     (c .before .before .node-at .ensures) (c .enum-told2 .given .1))
 
 pub read-function-spec : {M : Type 1} → statement M

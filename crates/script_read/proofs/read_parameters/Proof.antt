@@ -37,7 +37,8 @@ returns c = let a = c .before .before .before .before .before .before .before .a
     (c .before .before .before .before .loop .left) (a .at) (c .before .before .before .before .loop .p) 3
     (c .before .before .before .before .loop .p) _ (c .before .before .before .before .loop .inv .1)
     (c .before .before .before .loop-test .taken) refl
-    (parameter-stops (no-kind (a .kinds .now) (a .operands .now) at-parameter (c .before .before .before .before .loop .p)
+    (parameter-stops (no-kind (a .kinds .now) (a .operands .now) at-parameter
+    (c .before .before .before .before .loop .p)
     (c .before .before .node-at .result) (c .before .before .node-at .ensures) (c .enum-told2 .given .1)))
 
 returns-2 : tie.Need-returns-2 Inv-loop μ-loop
@@ -46,7 +47,8 @@ returns-2 c = let a = c .before .before .before .before .before .before .before 
     (c .before .before .before .before .loop .left) (a .at) (c .before .before .before .before .loop .p) 4
     (c .before .before .before .before .loop .p) _ (c .before .before .before .before .loop .inv .1)
     (c .before .before .before .loop-test .taken) refl
-    (parameter-stops (no-operand (a .kinds .now) (a .operands .now) at-parameter (c .before .before .before .before .loop .p)
+    (parameter-stops (no-operand (a .kinds .now) (a .operands .now) at-parameter
+    (c .before .before .before .before .loop .p)
     (c .before .before .node-at .result) (c .before .before .node-at .ensures) (c .enum-told3 .given .1)))
 
 loop-again : tie.Need-loop-again Inv-loop μ-loop

@@ -53,7 +53,8 @@ loop-again c = (
   parameter-goes _ _ _ _ _
       _ _ (c .before .before .before .before .before .loop .inv .2)
       (c .before .before .before .before .loop-test .taken)
-      (seen _ _ at-parameter _ (c .before .before .before .node-at .result) (c .before .before .before .node-at .ensures) _ _ _
+      (seen _ _ at-parameter _ (c .before .before .before .node-at .result)
+      (c .before .before .before .node-at .ensures) _ _ _
       (c .before .low .given .1)) (c .before .before .before .before .before .loop .inv .1) (omega arith),
 )
 

@@ -39,7 +39,8 @@ pub below-more : (u : Atom) {n m : ℕ} → n ≤ m → AtomBelow u n → AtomBe
 below-more (number z) le below = tt
 below-more (name x) le below = omega arith
 
-pub agree-kept : {μ : Meanings} {δ δ′ ρ : Env} {n m : ℕ} → n ≤ m → NamesAgree μ δ ρ n → EnvKept δ δ′ n → NamesAgree μ δ′ ρ m
+pub agree-kept : {μ : Meanings} {δ δ′ ρ : Env} {n m : ℕ} → n ≤ m → NamesAgree μ δ ρ n → EnvKept δ δ′ n →
+    NamesAgree μ δ′ ρ m
 agree-kept {μ} le g kept = record {
   same = λ x. value-kept (μ x) (g .below x) kept ∙ g .same x;
   below = λ x. below-more (μ x) le (g .below x);
@@ -67,7 +68,8 @@ agree-updated {μ} {δ} {ρ} {n} x u v g below e = record {
     same-by false y = g .same y
 
 -- the atom of an expression is below the names that come after
-pub atom-below : (e : Expr) (μ : Meanings) (n : ℕ) → ((y : ℕ) → AtomBelow (μ y) n) → AtomBelow (atom e μ n) (n + fresh e)
+pub atom-below : (e : Expr) (μ : Meanings) (n : ℕ) → ((y : ℕ) → AtomBelow (μ y) n) → AtomBelow (atom e μ n)
+    (n + fresh e)
 unfolding atom fresh
 atom-below (S.number z) μ n h = tt
 atom-below (S.name x) μ n h = below-more (μ x) (omega arith) (h x)

@@ -256,7 +256,8 @@ release-cast-at-most t c =
       fits = omega (
         arith,
         c .before .before .before .before .before .before
-            .before .before .before .before .slice-known3 .given (2 + 4 * c .before .before .before .before .before .before
+            .before .before .before .before .slice-known3 .given
+            (2 + 4 * c .before .before .before .before .before .before
             .before .before .before .before .before .before .before .before .before .before .before .before
             .before .before .args .c),
       );

@@ -30,4 +30,5 @@ returns-4 c = let a = c .before .before .before .args in stands (a .slots .now) 
 
 pub is-cell-spec : {M : Type 1} → statement M
 is-cell-spec =
-    tie.close (tie.spec returns (λ c. search needs) (λ c. search needs) returns-2 (λ c. search needs) (λ c. search needs) returns-3 returns-4)
+    tie.close (tie.spec returns (λ c. search needs) (λ c. search needs) returns-2 (λ c. search needs)
+    (λ c. search needs) returns-3 returns-4)

@@ -38,4 +38,5 @@ returns-2 c = negative (c .before .args .v) (c .if1 .left) (c .before .fits .v .
 pub signed-of-spec : {M : Type 1} → statement M
 signed-of-spec =
     tie.close
-    (tie.spec (λ c. search needs) (λ c. search needs) (λ c. search needs) (λ c. search needs) sub-result-3 (λ c. search needs) returns-2)
+    (tie.spec (λ c. search needs) (λ c. search needs) (λ c. search needs) (λ c. search needs) sub-result-3
+    (λ c. search needs) returns-2)

@@ -23,4 +23,5 @@ sub-result c = record { sfits = negated (c .before .before .args .size) (omega a
 
 pub with-sign-spec : {M : Type 1} → statement M
 with-sign-spec =
-    tie.close (tie.spec (λ c. search needs) (λ c. search needs) (λ c. search needs) sub-result (λ c. search needs) (λ c. search needs) (λ c. search needs))
+    tie.close (tie.spec (λ c. search needs) (λ c. search needs) (λ c. search needs) sub-result (λ c. search needs)
+    (λ c. search needs) (λ c. search needs))

@@ -22,14 +22,16 @@ module _ (t : ℕ) where
       let n = c .before .kind .given .0 in
       Seen (a .kinds .now) (a .operands .now) at-part (a .at) (n .0) (n .1 .0) (n .1 .1 .0)
   node-seen c =
-      seen _ _ at-part _ (c .before .before .before .node-at .result) (c .before .before .before .node-at .ensures) _ _ _
+      seen _ _ at-part _ (c .before .before .before .node-at .result)
+      (c .before .before .before .node-at .ensures) _ _ _
       (c .before .kind .given .1)
 
   there : (c : KindKnown) →
       c .before .before .before .before .before .before .before .before .before .args .at < length
       (c .before .before .before .before .before .before .before .before .before .args .kinds .now)
   there c =
-      inside _ (c .before .before .before .before .before .before .before .before .before .args .operands .now) at-part _
+      inside _ (c .before .before .before .before .before .before .before .before .before .args .operands .now)
+      at-part _
       _ _ _ (c .before .before .before .node-at .result) (c .before .before .before .node-at .ensures)
       (c .before .kind .given .1)
 
