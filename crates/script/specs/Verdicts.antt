@@ -55,3 +55,4 @@ abbrev pub checked-as : ℕ → ℕ → Outcome ℕ Script → Verdict
 checked-as f n (done fs q) =
     refused-by 6 (name-faults fs)
     (refused-by 7 (type-faults fs) (refused-by 8 (listed (too-many-names fs)) (Accepted f n)))
+checked-as f n (stop m p) = Refused m p
