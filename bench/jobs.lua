@@ -71,7 +71,7 @@ local function level_text()
 end
 jobs.levels_64 = { text = level_text(), totals = 0, reading = 1 }
 
-local rounds, round_seconds = 25, 0.01
+local rounds, round_seconds = tonumber(os.getenv("ROUNDS") or 25), 0.01
 
 -- nanoseconds of one call of `work`: the least of several rounds
 local function nanoseconds(work)
