@@ -156,12 +156,13 @@ check-sanitized: $(patsubst %,build/sanitized/%,c_link_test controller script_to
 
 # The program is built anew each time, whatever LIBRARY and BASE were before. The base's calls get names of their own.
 RENAMED := $(foreach call,translate open check deliver,--redefine-sym engine_$(call)=base_engine_$(call))
+BASE_RENAMED := $(if $(BASE),build/bench_base.a)
 
-build/base.a: $(BASE) anew | build
+build/bench_base.a: $(BASE) anew | build
 	$(OBJCOPY) $(RENAMED) $(BASE) $@
 
-build/bench: $(wildcard bench/*.c bench/*.h) include/engine.h $(LIBRARY) $(if $(BASE),build/base.a) anew | build
-	$(CC) $(CFLAGS) $(if $(BASE),-DWITH_BASE) -Iinclude -pthread -o $@ $(filter %.c %.a,$^)
+build/bench: $(wildcard bench/*.c bench/*.h) include/engine.h $(LIBRARY) $(BASE_RENAMED) anew | build
+	$(CC) $(CFLAGS) $(if $(BASE),-DWITH_BASE) -Iinclude -pthread -o $@ $(filter %.c,$^) $(LIBRARY) $(BASE_RENAMED)
 
 bench: build/bench
 	LUA='$(LUA)' ROUNDS='$(ROUNDS)' BASE='$(notdir $(BASE))' bench/report build/bench > build/PERFORMANCE.md

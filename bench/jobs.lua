@@ -1,4 +1,5 @@
 -- The same jobs in Lua: for each case, the processor time of loading the script's text and of one run, in nanoseconds.
+-- The environment's ROUNDS says of how many rounds each is the least.
 -- As with the engine, a run takes the totals and the readings and gives the new totals.
 
 local jobs = {

@@ -45,6 +45,8 @@ static const struct bench_case cases[] = {
     { "skipped_releases", skipped_release_script, 256, LINES, 16, 1, ENGINE_OUT_OF_STEPS, CALLS },
     { "skipped_body", skipped_body_script, 256, LINES, 16, 1, ENGINE_DONE, CALLS },
     { "many_arrays", many_arrays_script, 256, LINES, 16, 1, ENGINE_OUT_OF_STEPS, CALLS },
+    { "deep_arrays", deep_array_script, 256, LINES, 1, 0, ENGINE_DONE, 0 },
+    { "deep_bodies", deep_body_script, 256, LINES, 1, 0, ENGINE_DONE, 0 },
     { "deep_ifs", deep_if_script, 256, LINES, 1, 0, ENGINE_CALL_TOO_DEEP, 0 },
     { "deep_mixed", deep_mixed_script, 256, LINES, 1, 0, ENGINE_CALL_TOO_DEEP, 0 },
     { "deepest", deepest_script, 256, LINES, 1, 0, ENGINE_CALL_TOO_DEEP, 0 },

@@ -42,6 +42,12 @@ void deep_if_script(struct script *script);
 /* The same with 7 maps and 48 ifs in them. */
 void deep_mixed_script(struct script *script);
 
+/* Maps of the readings within one another, four to each length that is taken of them, and ifs down to level 64. */
+void deep_body_script(struct script *script);
+
+/* 63 maps, each of the next one's result. */
+void deep_array_script(struct script *script);
+
 /* The deepest delivery that there can be: 63 ifs and a call at level 64, at each of the 32 call depths, then a stop. */
 void deepest_script(struct script *script);
 

@@ -34,6 +34,36 @@ void deep_if_script(struct script *script) { deep_script(script, 0, 62); }
 
 void deep_mixed_script(struct script *script) { deep_script(script, 7, 48); }
 
+void deep_body_script(struct script *script)
+{
+    struct writer w = main_of(0);
+    for (int i = 0; i < 12; i++) {
+        length_of(&w);
+        for (int j = 0; j < ENGINE_DEPTH_MAX; j++) {
+            map(&w, 2);
+            name(&w, 1);
+        }
+    }
+    for (int i = 0; i < 3; i++) {
+        if_then_else(&w);
+        number(&w, 0);
+        number(&w, 0);
+    }
+    number(&w, 7);
+    finish(&w, script);
+}
+
+void deep_array_script(struct script *script)
+{
+    struct writer w = main_of(1);
+    for (int i = 1; i < ENGINE_LEVELS_MAX; i++)
+        map(&w, 2);
+    name(&w, 1);
+    for (int i = 1; i < ENGINE_LEVELS_MAX; i++)
+        name(&w, 2);
+    finish(&w, script);
+}
+
 /* 63 ifs, each in the else part of the one before, and at level 64 in the last a call of function 1. */
 static void ifs_to_call(struct writer *w)
 {

@@ -1,6 +1,6 @@
 /* The static library from C: the trials of document 01 on its printed script, the limits of each argument, damaged
- * files and stores, and the test vectors that the arguments name. Every array ends at a page that may not be touched.
- * Exit status 0 where all pass. */
+ * files and stores, the deepest delivery on a small stack, and the test vectors that the arguments name. Every array
+ * ends at a page that may not be touched. Exit status 0 where all pass. */
 #include "deepest.h"
 #include "lent.h"
 #include "vectors.h"
