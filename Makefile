@@ -5,6 +5,8 @@ CXX ?= c++
 CFLAGS ?= -std=c11 -Wall -Wextra -Werror -O2
 RUSTC ?= rustc
 LUA ?= lua5.4
+OBJCOPY ?= objcopy
+ROUNDS ?= 25
 PROVED_LIBRARY := target/staticlib/libengine.a
 LIBRARY ?= $(PROVED_LIBRARY)
 VECTORS ?= $(wildcard $(foreach name,translate check deliver,crates/*/data/$(name).txt))
@@ -36,17 +38,21 @@ TOOLS_check-c := $(TOOLS_all)
 TOOLS_check-rust := $(RT) $(RUSTC)
 TOOLS_check-tool := $(TOOLS_all)
 TOOLS_check-sanitized := $(TOOLS_all)
-TOOLS_bench := $(TOOLS_all) $(LUA)
+TOOLS_bench := $(TOOLS_all) $(LUA) $(if $(BASE),$(OBJCOPY))
 HINT_rt := it proves and compiles the engine; LIBRARY=FILE uses a library that is there
 HINT_$(COMPILER) := a C compiler; CC=NAME names another
 HINT_$(RUSTC) := the Rust compiler; RUSTC=NAME names another
 HINT_$(LUA) := Lua 5.4 (on Debian: apt-get install lua5.4); LUA=NAME names another
+HINT_$(OBJCOPY) := it renames the calls of BASE (on Debian: apt-get install binutils); OBJCOPY=NAME names another
 
 has = $(shell command -v $(1))
 demand = $(if $(call has,$(1)),,$(error $(1) is missing: $(HINT_$(1))))
 $(foreach tool,$(sort $(foreach goal,$(goals),$(TOOLS_$(goal)))),$(call demand,$(tool)))
+missing_base = $(if $(BASE),$(if $(shell test -f '$(BASE)' && echo yes),,$(BASE)))
+$(if $(filter bench,$(goals)),$(if $(missing_base),$(error BASE: there is no file $(missing_base))))
 
-.PHONY: help all run test print-script link-tests check-header check-c check-rust check-tool check-sanitized bench clean
+.PHONY: help all run test print-script link-tests check-header check-c check-rust check-tool check-sanitized bench \
+	clean anew
 
 all: build/controller build/script_tool build/forecourt.script
 
@@ -59,7 +65,8 @@ help:
 	@echo 'make link-tests    test the header, the library from C and Rust, and the host programs; what cannot be'
 	@echo '                   run here is named at the end. Its parts: check-header, check-c, check-rust, check-tool,'
 	@echo '                   check-sanitized'
-	@echo 'make bench         measure beside Lua 5.4, and write docs/PERFORMANCE.md'
+	@echo 'make bench         measure beside Lua 5.4, and write docs/PERFORMANCE.md; with BASE=FILE beside another library'
+	@echo '                   of the engine too, in turns. ROUNDS=NUMBER of each call, 25 where nothing is said'
 	@echo 'make clean         remove build/; what is proved stays in target/'
 	@echo 'LIBRARY=FILE       use this library of the engine, and prove nothing'
 
@@ -114,11 +121,11 @@ check-header:
 	$(CC) -std=c11 $(PEDANTIC) -Iinclude -fsyntax-only tests/c/header.c
 	$(if $(call has,$(firstword $(CXX))),$(CXX) -std=c++11 -x c++ $(PEDANTIC) -Iinclude -fsyntax-only tests/c/header.c)
 
-C_TESTS := $(filter-out tests/c/header.c,$(wildcard tests/c/*.c))
-C_HEADERS := include/engine.h $(wildcard tests/c/*.h)
+C_TESTS := $(filter-out tests/c/header.c,$(wildcard tests/c/*.c)) bench/worst_scripts.c
+C_HEADERS := include/engine.h $(wildcard tests/c/*.h bench/*.h)
 
 build/c_link_test build/sanitized/c_link_test: $(C_TESTS) $(C_HEADERS) $(LIBRARY) | build build/sanitized
-	$(CC) $(CFLAGS) $(EXTRA) -Iinclude -o $@ $(C_TESTS) $(LIBRARY)
+	$(CC) $(CFLAGS) $(EXTRA) -Iinclude -Ibench -pthread -o $@ $(C_TESTS) $(LIBRARY)
 
 check-c: build/c_link_test
 	build/c_link_test $(VECTORS)
@@ -147,11 +154,18 @@ check-sanitized: $(patsubst %,build/sanitized/%,c_link_test controller script_to
 
 # ---- measurements ----
 
-build/bench: $(wildcard bench/*.c bench/*.h) include/engine.h $(LIBRARY) | build
-	$(CC) $(CFLAGS) -Iinclude -pthread -o $@ $(filter %.c,$^) $(LIBRARY)
+# The program is built anew each time, whatever LIBRARY and BASE were before. The base's calls get names of their own.
+RENAMED := $(foreach call,translate open check deliver,--redefine-sym engine_$(call)=base_engine_$(call))
+BASE_RENAMED := $(if $(BASE),build/bench_base.a)
+
+build/bench_base.a: $(BASE) anew | build
+	$(OBJCOPY) $(RENAMED) $(BASE) $@
+
+build/bench: $(wildcard bench/*.c bench/*.h) include/engine.h $(LIBRARY) $(BASE_RENAMED) anew | build
+	$(CC) $(CFLAGS) $(if $(BASE),-DWITH_BASE) -Iinclude -pthread -o $@ $(filter %.c,$^) $(LIBRARY) $(BASE_RENAMED)
 
 bench: build/bench
-	LUA=$(LUA) bench/report build/bench > build/PERFORMANCE.md
+	LUA='$(LUA)' ROUNDS='$(ROUNDS)' BASE='$(notdir $(BASE))' bench/report build/bench > build/PERFORMANCE.md
 	mv build/PERFORMANCE.md docs/PERFORMANCE.md
 
 clean:

@@ -1,4 +1,5 @@
 -- The same jobs in Lua: for each case, the processor time of loading the script's text and of one run, in nanoseconds.
+-- The environment's ROUNDS says of how many rounds each is the least.
 -- As with the engine, a run takes the totals and the readings and gives the new totals.
 
 local jobs = {
@@ -71,7 +72,7 @@ local function level_text()
 end
 jobs.levels_64 = { text = level_text(), totals = 0, reading = 1 }
 
-local rounds, round_seconds = 25, 0.01
+local rounds, round_seconds = tonumber(os.getenv("ROUNDS") or 25), 0.01
 
 -- nanoseconds of one call of `work`: the least of several rounds
 local function nanoseconds(work)

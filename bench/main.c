@@ -1,47 +1,69 @@
 /* Measures the four calls and prints a line for each case: its name and values as KEY=VALUE, for bench/report.
- * Times are of this thread's processor time, in nanoseconds a call: the least of several rounds, many calls each. */
+ * Times are of this thread's processor time, in nanoseconds a call: the least of several rounds, many calls each. Where
+ * there is a base, its rounds and this library's come in turn. The environment's ROUNDS says how many there are. */
 #define _POSIX_C_SOURCE 200809L
+#include "engines.h"
 #include "scripts.h"
 #include "stack.h"
 
 #include <inttypes.h>
+#include <stdbool.h>
 #include <stdio.h>
 #include <stdlib.h>
 #include <time.h>
 
-enum { ROUNDS = 25, ROUND_NANOSECONDS = 10000000 };
+enum { ROUNDS = 25, ROUND_NANOSECONDS = 10000000, CALLS = 4 };
 
 struct bench_case {
     const char *name;
     void (*script)(struct script *);
     size_t cells;
     size_t lines;        /* of the code arrays; 0: just the code's */
-    int64_t reading;
+    size_t readings;
+    int64_t reading;     /* each of them */
     unsigned number;     /* that a delivery must answer */
+    int timed;           /* how many of the calls: translate, open, check, deliver */
 };
+
+enum { LINES = ENGINE_CODE_LINES_MAX };
 
 static const struct bench_case cases[] = {
-    { "printed_2", printed_script, 2, ENGINE_CODE_LINES_MAX, 1, ENGINE_DONE },
-    { "printed_2_short", printed_script, 2, 0, 1, ENGINE_DONE },
-    { "printed_256", printed_script, 256, ENGINE_CODE_LINES_MAX, 1, ENGINE_DONE },
-    { "nodes_1024", large_script, 16, ENGINE_CODE_LINES_MAX, 1, ENGINE_DONE },
-    { "levels_64", level_script, 16, ENGINE_CODE_LINES_MAX, 1, ENGINE_DONE },
-    { "maps", map_script, 16, ENGINE_CODE_LINES_MAX, 1, ENGINE_DONE },
-    { "calls", call_script, 16, ENGINE_CODE_LINES_MAX, 20, ENGINE_DONE },
-    { "deep_ifs", deep_if_script, 256, ENGINE_CODE_LINES_MAX, 0, ENGINE_CALL_TOO_DEEP },
-    { "deep_mixed", deep_mixed_script, 256, ENGINE_CODE_LINES_MAX, 0, ENGINE_CALL_TOO_DEEP },
+    { "printed_2", printed_script, 2, LINES, 1, 1, ENGINE_DONE, CALLS },
+    { "printed_2_short", printed_script, 2, 0, 1, 1, ENGINE_DONE, CALLS },
+    { "printed_256", printed_script, 256, LINES, 1, 1, ENGINE_DONE, CALLS },
+    { "nodes_1024", large_script, 16, LINES, 1, 1, ENGINE_DONE, CALLS },
+    { "levels_64", level_script, 16, LINES, 1, 1, ENGINE_DONE, CALLS },
+    { "functions_32", small_functions_script, 16, LINES, 1, 1, ENGINE_DONE, CALLS },
+    { "balanced_ifs", balanced_if_script, 16, LINES, 1, 1, ENGINE_DONE, CALLS },
+    { "maps", map_script, 16, LINES, 1, 1, ENGINE_DONE, CALLS },
+    { "calls", call_script, 16, LINES, 1, 20, ENGINE_DONE, CALLS },
+    { "size_128", size_128_script, 16, 0, 1, 1, ENGINE_DONE, 1 },
+    { "size_256", size_256_script, 16, 0, 1, 1, ENGINE_DONE, 1 },
+    { "size_512", size_512_script, 16, 0, 1, 1, ENGINE_DONE, 1 },
+    { "size_1024", size_1024_script, 16, 0, 1, 1, ENGINE_DONE, 1 },
+    { "skipped_branch", skipped_branch_script, 256, LINES, 16, 1, ENGINE_OUT_OF_STEPS, CALLS },
+    { "skipped_releases", skipped_release_script, 256, LINES, 16, 1, ENGINE_OUT_OF_STEPS, CALLS },
+    { "skipped_body", skipped_body_script, 256, LINES, 16, 1, ENGINE_DONE, CALLS },
+    { "many_arrays", many_arrays_script, 256, LINES, 16, 1, ENGINE_OUT_OF_STEPS, CALLS },
+    { "deep_arrays", deep_array_script, 256, LINES, 1, 0, ENGINE_DONE, 0 },
+    { "deep_bodies", deep_body_script, 256, LINES, 1, 0, ENGINE_DONE, 0 },
+    { "deep_ifs", deep_if_script, 256, LINES, 1, 0, ENGINE_CALL_TOO_DEEP, 0 },
+    { "deep_mixed", deep_mixed_script, 256, LINES, 1, 0, ENGINE_CALL_TOO_DEEP, 0 },
+    { "deepest", deepest_script, 256, LINES, 1, 0, ENGINE_CALL_TOO_DEEP, 0 },
 };
 
-/* What the calls are lent. */
+/* What the calls are lent; all libraries work on the same arrays. */
 struct bench {
+    const struct engine *engine;
     struct script script;
-    uint8_t kinds[ENGINE_CODE_LINES_MAX];
-    int64_t operands[ENGINE_CODE_LINES_MAX];
+    uint8_t kinds[LINES];
+    int64_t operands[LINES];
     size_t lines;
     int64_t slots[ENGINE_SLOTS_LENGTH(ENGINE_CELLS_MAX)];
     uint32_t heads[ENGINE_HEADS_LENGTH(ENGINE_CELLS_MAX)];
     size_t cells;
-    int64_t reading;
+    int64_t readings[ENGINE_READINGS_MAX];
+    size_t readings_length;
     uint64_t answer;
 };
 
@@ -52,30 +74,40 @@ static struct bench bench;
 static void translate(void *of)
 {
     struct bench *b = of;
-    b->answer = engine_translate(b->script.file, b->script.length, b->kinds, b->lines, b->operands, b->lines);
+    b->answer = b->engine->translate(b->script.file, b->script.length, b->kinds, b->lines, b->operands, b->lines);
 }
 
 static void open_store(void *of)
 {
     struct bench *b = of;
-    b->answer = engine_open(b->script.file, b->script.length, b->kinds, b->lines, b->operands, b->lines, b->slots,
-                            ENGINE_SLOTS_LENGTH(b->cells), b->heads, ENGINE_HEADS_LENGTH(b->cells));
+    b->answer = b->engine->open(b->script.file, b->script.length, b->kinds, b->lines, b->operands, b->lines, b->slots,
+                                ENGINE_SLOTS_LENGTH(b->cells), b->heads, ENGINE_HEADS_LENGTH(b->cells));
 }
 
 static void check_store(void *of)
 {
     struct bench *b = of;
-    b->answer = engine_check(b->script.file, b->script.length, b->kinds, b->lines, b->operands, b->lines, b->slots,
-                             ENGINE_SLOTS_LENGTH(b->cells), b->heads, ENGINE_HEADS_LENGTH(b->cells));
+    b->answer = b->engine->check(b->script.file, b->script.length, b->kinds, b->lines, b->operands, b->lines, b->slots,
+                                 ENGINE_SLOTS_LENGTH(b->cells), b->heads, ENGINE_HEADS_LENGTH(b->cells));
 }
 
 static void deliver(void *of)
 {
     struct bench *b = of;
-    b->answer = engine_deliver(b->script.file, b->script.length, b->kinds, b->lines, b->operands, b->lines, b->slots,
-                               ENGINE_SLOTS_LENGTH(b->cells), b->heads, ENGINE_HEADS_LENGTH(b->cells), &b->reading, 1,
-                               ENGINE_BUDGET_MAX);
+    b->answer = b->engine->deliver(b->script.file, b->script.length, b->kinds, b->lines, b->operands, b->lines,
+                                   b->slots, ENGINE_SLOTS_LENGTH(b->cells), b->heads, ENGINE_HEADS_LENGTH(b->cells),
+                                   b->readings, b->readings_length, ENGINE_BUDGET_MAX);
 }
+
+static const struct call {
+    const char *name;
+    void (*work)(void *);
+} calls[CALLS] = {
+    { "translate", translate },
+    { "open", open_store },
+    { "check", check_store },
+    { "deliver", deliver },
+};
 
 /* ---- Time ---- */
 
@@ -86,81 +118,138 @@ static uint64_t now(void)
     return (uint64_t)time.tv_sec * 1000000000 + (uint64_t)time.tv_nsec;
 }
 
-static uint64_t repeated(void (*work)(void *), uint64_t times)
+/* A call of a library that is timed. */
+struct timed {
+    const struct call *call;
+    const struct engine *engine;
+    uint64_t times;  /* that make a round long enough */
+    uint64_t rounds; /* still to come */
+    uint64_t least;  /* time of a round */
+};
+
+static uint64_t repeated(const struct timed *timed)
 {
+    bench.engine = timed->engine;
     uint64_t start = now();
-    for (uint64_t i = 0; i < times; i++)
-        work(&bench);
+    for (uint64_t i = 0; i < timed->times; i++)
+        timed->call->work(&bench);
     return now() - start;
 }
 
-/* A call that is timed. */
-struct timed {
-    const char *name;
-    void (*work)(void *);
-    uint64_t times; /* that make a round long enough */
-    uint64_t least; /* time of a round */
-};
-
-static void calibrate(struct timed *timed)
+/* Finds how many times make a round; the last try is the first round. Where a round is long there are few, which take
+ * about as long as those of a short one, but two at least. */
+static void calibrate(struct timed *timed, uint64_t rounds)
 {
-    timed->times = 1;
-    while (repeated(timed->work, timed->times) < ROUND_NANOSECONDS)
+    while (timed->least < ROUND_NANOSECONDS) {
         timed->times *= 2;
-    timed->least = UINT64_MAX;
+        timed->least = repeated(timed);
+    }
+    uint64_t few = 2 * rounds * ROUND_NANOSECONDS / timed->least;
+    few = few < 2 ? 2 : few;
+    timed->rounds = (few < rounds ? few : rounds) - 1;
 }
 
 static void time_round(struct timed *timed)
 {
-    uint64_t taken = repeated(timed->work, timed->times);
+    uint64_t taken = repeated(timed);
     timed->least = taken < timed->least ? taken : timed->least;
+    timed->rounds--;
 }
 
 /* ---- Cases ---- */
 
-static void demand(const char *name, const char *call, unsigned number)
+static void demand(const char *name, const struct timed *timed, unsigned number)
 {
     unsigned found = engine_answer_number(bench.answer);
     if (found != number) {
-        fprintf(stderr, "%s: %s answered %u %s, node %u\n", name, call, found, engine_word(found),
-                engine_answer_node(bench.answer));
+        fprintf(stderr, "%s: %s%s answered %u %s, node %u\n", name, timed->engine->mark, timed->call->name, found,
+                engine_word(found), engine_answer_node(bench.answer));
         exit(1);
     }
 }
 
-static void measure(const struct bench_case *c)
+/* Prepares what is lent, and prints the sizes of the script. */
+static void prepare(const struct bench_case *c)
 {
+    const struct timed first = { &calls[0], &engines[0], 1, 0, 0 };
     c->script(&bench.script);
     bench.cells = c->cells;
-    bench.reading = c->reading;
-    bench.lines = ENGINE_CODE_LINES_MAX;
-    translate(&bench);
-    demand(c->name, "translate", ENGINE_DONE);
+    bench.readings_length = c->readings;
+    for (size_t i = 0; i < c->readings; i++)
+        bench.readings[i] = c->reading;
+    bench.lines = LINES;
+    repeated(&first);
+    demand(c->name, &first, ENGINE_DONE);
     uint32_t lines = engine_answer_lines(bench.answer);
     bench.lines = c->lines == 0 ? lines : c->lines;
     printf("%s nodes=%zu lines=%" PRIu32 " cells=%zu", c->name, (bench.script.length - 4) / 9, lines, c->cells);
-    struct timed calls[] = { { "translate", translate, 0, 0 }, { "open", open_store, 0, 0 },
-                             { "check", check_store, 0, 0 }, { "deliver", deliver, 0, 0 } };
-    enum { CALLS = sizeof calls / sizeof *calls };
+}
+
+/* The number that call `i` must answer. */
+static unsigned wanted(const struct bench_case *c, int i)
+{
+    return i == CALLS - 1 ? c->number : ENGINE_DONE;
+}
+
+/* Makes each call of each library, and finds the rounds of those that are timed. The libraries must answer the same. */
+static void call_first(const struct bench_case *c, struct timed timed[CALLS][ENGINES], uint64_t rounds)
+{
+    uint64_t answer = 0;
     for (int i = 0; i < CALLS; i++)
-        calibrate(&calls[i]);
-    demand(c->name, "deliver", c->number);
-    uint32_t steps = engine_answer_steps(bench.answer);
-    for (int round = 0; round < ROUNDS; round++) /* in turn, so that all see the same of the machine */
+        for (int e = 0; e < ENGINES; e++) {
+            struct timed *t = &timed[i][e];
+            *t = (struct timed){ &calls[i], &engines[e], 1, 0, 0 };
+            t->least = repeated(t);
+            if (i < c->timed)
+                calibrate(t, rounds);
+            demand(c->name, t, wanted(c, i));
+            if (e > 0 && bench.answer != answer) {
+                fprintf(stderr, "%s: the libraries differ in what %s answers\n", c->name, calls[i].name);
+                exit(1);
+            }
+            answer = bench.answer;
+        }
+    printf(" steps=%" PRIu32, engine_answer_steps(answer));
+}
+
+/* The other rounds, in turn so that all see the same of the machine. */
+static void time_calls(const struct bench_case *c, struct timed timed[CALLS][ENGINES], uint64_t rounds)
+{
+    for (uint64_t round = 0; round < rounds; round++)
         for (int i = 0; i < CALLS; i++)
-            time_round(&calls[i]);
-    demand(c->name, "deliver", c->number);
+            for (int e = 0; e < ENGINES; e++)
+                if (timed[i][e].rounds > 0) {
+                    time_round(&timed[i][e]);
+                    demand(c->name, &timed[i][e], wanted(c, i));
+                }
+}
+
+static void measure(const struct bench_case *c, uint64_t rounds)
+{
+    struct timed timed[CALLS][ENGINES];
+    prepare(c);
+    call_first(c, timed, rounds);
+    time_calls(c, timed, rounds);
+    for (int i = 0; i < c->timed; i++)
+        for (int e = 0; e < ENGINES; e++)
+            printf(" %s%s=%.0f", engines[e].mark, calls[i].name,
+                   (double)timed[i][e].least / (double)timed[i][e].times);
+    bench.engine = &engines[0];
     for (int i = 0; i < CALLS; i++)
-        printf(" %s=%.0f %s_stack=%zu", calls[i].name, (double)calls[i].least / (double)calls[i].times, calls[i].name,
-               stack_of(calls[i].work, &bench));
-    printf(" steps=%" PRIu32 "\n", steps);
+        printf(" %s_stack=%zu", calls[i].name, stack_of(calls[i].work, &bench));
+    printf("\n");
+    fflush(stdout);
 }
 
 int main(void)
 {
-    for (size_t i = 0; i < sizeof cases / sizeof *cases; i++) {
-        measure(&cases[i]);
-        fflush(stdout);
+    const char *asked = getenv("ROUNDS");
+    uint64_t rounds = asked == NULL ? ROUNDS : strtoull(asked, NULL, 10);
+    if (rounds == 0) {
+        fprintf(stderr, "ROUNDS is 0 or no number\n");
+        return 2;
     }
+    for (size_t i = 0; i < sizeof cases / sizeof *cases; i++)
+        measure(&cases[i], rounds);
     return 0;
 }

@@ -15,6 +15,18 @@ void printed_script(struct script *script);
 /* 1,024 nodes in six functions, all worked by each delivery. */
 void large_script(struct script *script);
 
+/* 128 to 1,024 nodes: functions of 31 sums, the first of 29. */
+void size_128_script(struct script *script);
+void size_256_script(struct script *script);
+void size_512_script(struct script *script);
+void size_1024_script(struct script *script);
+
+/* 32 functions, of which main gives its totals and each other its parameter. */
+void small_functions_script(struct script *script);
+
+/* 255 ifs, the ones in both parts of the others. */
+void balanced_if_script(struct script *script);
+
 /* An if in the else part of an if, down to level 64. */
 void level_script(struct script *script);
 
@@ -29,5 +41,25 @@ void deep_if_script(struct script *script);
 
 /* The same with 7 maps and 48 ifs in them. */
 void deep_mixed_script(struct script *script);
+
+/* Maps of the readings within one another, four to each length that is taken of them, and ifs down to level 64. */
+void deep_body_script(struct script *script);
+
+/* 63 maps, each of the next one's result. */
+void deep_array_script(struct script *script);
+
+/* The deepest delivery that there can be: 63 ifs and a call at level 64, at each of the 32 call depths, then a stop. */
+void deepest_script(struct script *script);
+
+/* Deliveries that are slow where a step's time grows with what it passes over; they want 16 readings. Five maps within
+ * one another, in whose innermost tree an if never takes its long branch; the same with releases at the start of many
+ * branches within the one that is not taken; and four maps, in whose innermost tree a map of the empty array has a long
+ * tree. */
+void skipped_branch_script(struct script *script);
+void skipped_release_script(struct script *script);
+void skipped_body_script(struct script *script);
+
+/* Steps that are long themselves: five maps, in whose innermost tree 56 arrays of 16 arrays are made and released. */
+void many_arrays_script(struct script *script);
 
 #endif

@@ -1,6 +1,7 @@
 /* The static library from C: the trials of document 01 on its printed script, the limits of each argument, damaged
- * files and stores, and the test vectors that the arguments name. Every array ends at a page that may not be touched.
- * Exit status 0 where all pass. */
+ * files and stores, the deepest delivery on a small stack, and the test vectors that the arguments name. Every array
+ * ends at a page that may not be touched. Exit status 0 where all pass. */
+#include "deepest.h"
 #include "lent.h"
 #include "vectors.h"
 
@@ -177,6 +178,12 @@ static void test_call_depth(void)
     expect(engine_answer_number(deliver_one(31, 1000)) == ENGINE_CALL_TOO_DEEP, "call depth 33 gives 22");
 }
 
+/* 63 ifs and a call are 64 steps at each call depth. */
+static void test_deepest(void)
+{
+    expect(deliver_deepest() == answer(22, 0, 64 * ENGINE_CALL_DEPTH_MAX, 0), "the deepest delivery on 1 MiB of stack");
+}
+
 static void test_store_lengths(void)
 {
     lend_printed();
@@ -263,6 +270,7 @@ int main(int count, char **arguments)
     test_trials();
     test_requests();
     test_call_depth();
+    test_deepest();
     test_store_lengths();
     test_damaged_store();
     printf("C link tests: %u passed, %u failed\n", passed, failed);

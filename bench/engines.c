@@ -1,0 +1,17 @@
+/* The tables of the libraries. */
+#include "engines.h"
+
+#ifdef WITH_BASE
+/* The base has the calls of engine.h, under other names. */
+extern __typeof__(engine_translate) base_engine_translate;
+extern __typeof__(engine_open) base_engine_open;
+extern __typeof__(engine_check) base_engine_check;
+extern __typeof__(engine_deliver) base_engine_deliver;
+#endif
+
+const struct engine engines[ENGINES] = {
+    { "", engine_translate, engine_open, engine_check, engine_deliver },
+#ifdef WITH_BASE
+    { "base_", base_engine_translate, base_engine_open, base_engine_check, base_engine_deliver },
+#endif
+};

@@ -1,0 +1,170 @@
+/* The scripts made to be deep, and those made to be slow. */
+#include "writer.h"
+
+/* A function of an array and a number that works `maps` maps of the array within one another (two levels each), `ifs`
+ * ifs in them, and calls itself at the innermost. With an array of one element and 0 it goes down to the call. */
+static void deep_script(struct script *script, int maps, int ifs)
+{
+    struct writer w = main_of(0);
+    call(&w, 1, 2);
+    name(&w, 1);
+    first_reading(&w);
+    function(&w, 2, 0);
+    parameter(&w, 0, 1);
+    parameter(&w, 1, 0);
+    for (int i = 0; i < maps; i++) {
+        index_of(&w);
+        map(&w, 2);
+        name(&w, 0);
+    }
+    for (int i = 0; i < ifs; i++) {
+        if_then_else(&w);
+        name(&w, 1);
+        number(&w, 0);
+    }
+    call(&w, 1, 2);
+    name(&w, 0);
+    name(&w, 1);
+    for (int i = 0; i < maps; i++)
+        number(&w, 0);
+    finish(&w, script);
+}
+
+void deep_if_script(struct script *script) { deep_script(script, 0, 62); }
+
+void deep_mixed_script(struct script *script) { deep_script(script, 7, 48); }
+
+void deep_body_script(struct script *script)
+{
+    struct writer w = main_of(0);
+    for (int i = 0; i < 12; i++) {
+        length_of(&w);
+        for (int j = 0; j < ENGINE_DEPTH_MAX; j++) {
+            map(&w, 2);
+            name(&w, 1);
+        }
+    }
+    for (int i = 0; i < 3; i++) {
+        if_then_else(&w);
+        number(&w, 0);
+        number(&w, 0);
+    }
+    number(&w, 7);
+    finish(&w, script);
+}
+
+void deep_array_script(struct script *script)
+{
+    struct writer w = main_of(1);
+    for (int i = 1; i < ENGINE_LEVELS_MAX; i++)
+        map(&w, 2);
+    name(&w, 1);
+    for (int i = 1; i < ENGINE_LEVELS_MAX; i++)
+        name(&w, 2);
+    finish(&w, script);
+}
+
+/* 63 ifs, each in the else part of the one before, and at level 64 in the last a call of function 1. */
+static void ifs_to_call(struct writer *w)
+{
+    for (int i = 1; i < ENGINE_LEVELS_MAX; i++) {
+        if_then_else(w);
+        number(w, 0);
+        number(w, 0);
+    }
+    call(w, 1, 0);
+}
+
+void deepest_script(struct script *script)
+{
+    struct writer w = main_of(0);
+    ifs_to_call(&w);
+    function(&w, 0, 0);
+    ifs_to_call(&w);
+    finish(&w, script);
+}
+
+/* ---- Deliveries made to be slow ---- */
+
+/* Begins main with maps of the readings within one another, of each of which the length is taken. The innermost body, a
+ * number, is to follow. */
+static struct writer nested_maps(int maps)
+{
+    struct writer w = main_of(0);
+    for (int i = 0; i < maps; i++) {
+        length_of(&w);
+        map(&w, 2);
+        name(&w, 1);
+    }
+    return w;
+}
+
+/* A number: the length of an array of arrays of 56 arrays of 16 times the readings. Each takes a retain. */
+static void many_arrays(struct writer *w)
+{
+    length_of(w);
+    literal(w, 4, 3);
+    for (int i = 0; i < 4 * 14; i++) {
+        if (i % 14 == 0)
+            literal(w, 14, 2);
+        literal(w, 16, 1);
+        for (int j = 0; j < 16; j++)
+            name(w, 1);
+    }
+}
+
+void skipped_branch_script(struct script *script)
+{
+    struct writer w = nested_maps(5);
+    if_then_else(&w);
+    number(&w, 0);
+    many_arrays(&w);
+    number(&w, 7);
+    finish(&w, script);
+}
+
+/* 24 empty arrays, and 25 ifs in the else parts of one another; the innermost else part uses all the arrays, so that
+ * each then part begins with 24 releases. */
+void skipped_release_script(struct script *script)
+{
+    enum { ARRAYS = 24, IFS = 25, FIRST = 3, LITERAL = ARRAYS / 2 };
+    struct writer w = nested_maps(5);
+    if_then_else(&w);
+    number(&w, 0);
+    for (int i = 0; i < ARRAYS; i++) {
+        let(&w, FIRST + i);
+        literal(&w, 0, 0);
+    }
+    for (int i = 0; i < IFS; i++) {
+        if_then_else(&w);
+        number(&w, 0);
+        number(&w, i);
+    }
+    sum(&w);
+    for (int i = 0; i < ARRAYS; i++) {
+        if (i % LITERAL == 0) {
+            length_of(&w);
+            literal(&w, LITERAL, 1);
+        }
+        name(&w, FIRST + i);
+    }
+    number(&w, 7);
+    finish(&w, script);
+}
+
+void skipped_body_script(struct script *script)
+{
+    struct writer w = nested_maps(4);
+    length_of(&w);
+    map(&w, 3);
+    literal(&w, 0, 0);
+    many_arrays(&w);
+    finish(&w, script);
+}
+
+void many_arrays_script(struct script *script)
+{
+    struct writer w = nested_maps(5);
+    many_arrays(&w);
+    finish(&w, script);
+}

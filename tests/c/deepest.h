@@ -1,0 +1,10 @@
+/* The deepest delivery that there can be. */
+#ifndef DEEPEST_H
+#define DEEPEST_H
+
+#include <stdint.h>
+
+/* Works it on a thread whose stack has 1 MiB, and gives its answer. More stack would end the program. */
+uint64_t deliver_deepest(void);
+
+#endif
