@@ -1,6 +1,9 @@
 pub mod Cells
 pub mod Counts
+pub mod Endings
+pub mod Files
 pub mod Lists
+pub mod Numbers
 pub mod Releases
 pub mod Tests
 pub mod Updates

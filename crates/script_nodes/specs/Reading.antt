@@ -1,21 +1,20 @@
 -- The reader never goes past the node after the last: so a refusal, which has a number from 1 to 5, gives a node up to
 -- 1,024, and a script has at most so many nodes.
-use Prim.Native.Nat.{ℕ, zero, suc, _+_, _*_, _<_, _≤_}
+use Prim.Native.Nat.{ℕ, zero, suc, _+_, _<_, _≤_}
 use native.Mathlib.Omega.{arith}
-use mathlib.Core.Bool.{Bool, true, false, cond, _&&_}
+use mathlib.Core.Bool.{Bool, true, false, cond}
 use mathlib.Core.Path.{_≡_, refl}
 use mathlib.Core.List.{List, [], _∷_}
-use lib.ListN.{length, take, drop, length-take}
-use lib.Dec.{ltb, leb, eqb}
-use borrow.Author.Tests.{leb-true}
+use lib.ListN.{length, drop, length-take}
+use lib.Dec.{ltb, eqb}
 use Rattle.semantics.specs.Outcome.{Outcome, done, stop, onward, _>>=_, _>>_, give, halt, times}
 use Rattle.semantics.specs.Number.{bytes-at}
 use Rattle.semantics.specs.Syntax.{Expr, name, let-in, if-else, Script}
 use Rattle.semantics.specs.Syntax as S
 use Rattle.semantics.specs.File.{Head, Node, fits, wrong-kind, wrong-operand, Place, at-function, at-parameter, at-part}
 use Rattle.semantics.specs.File.{Read, next, looked, part-count, Shape, none, leaf-of, loop-of, shape-of, shaped, parts}
-use Rattle.semantics.specs.File.{node-at, look, part, parameter, function, finish, script, between, read-file}
-use Rattle.laws.specs.Tests.{both-hold}
+use Rattle.semantics.specs.File.{node-at, look, part, parameter, function, finish, script, read-file}
+use Rattle.laws.specs.Files.{of-file}
 use Rattle.script_read.proofs.Written as W
 use Rattle.script_read.proofs.Written.{ScriptWritten, total, script-written}
 use Rattle.script_read.proofs.Ends.{node-inside, script-ends}
@@ -158,33 +157,8 @@ module _ (kinds operands : List ℕ) where
 
 -- a file is refused by 1 to 5 at a node up to 1,024, and a script has at most so many nodes
 pub read-small : (file : List ℕ) → Small 1024 (read-file file)
-unfolding read-file
-read-small file = short (ltb (length file) 4)
-  where
-    functions : ℕ
-    functions = bytes-at 2 file 0
-
-    count : ℕ
-    count = bytes-at 2 file 2
-
-    whole : Outcome ℕ Script
-    whole = script (take count (drop 4 file)) (drop (4 + count) file) functions 0
-
-    long : (t : Bool) → count ≤ 1024 → Small 1024 (cond t whole (stop 1 0))
-    long true few =
-        script-small (take count (drop 4 file)) (drop (4 + count) file) functions 1024
-        (omega (arith, length-take count (drop 4 file), few))
-    long false few = refuse 1024 1 (omega arith) (omega arith) (omega arith)
-
-    sized : (t : Bool) → (between 1 32 functions && between 1 1024 count) ≡ t →
-        Small 1024 (cond t (cond (eqb (length file) (4 + 9 * count)) whole (stop 1 0)) (stop 2 0))
-    sized true e =
-        let nodes = both-hold (between 1 32 functions) (between 1 1024 count) e .1 in
-        long (eqb (length file) (4 + 9 * count)) (leb-true count 1024 (both-hold (leb 1 count)
-        (leb count 1024) nodes .1))
-    sized false e = refuse 1024 2 (omega arith) (omega arith) (omega arith)
-
-    short : (t : Bool) → Small 1024 (cond t (stop 1 0) (cond (between 1 32 functions && between 1 1024 count)
-        (cond (eqb (length file) (4 + 9 * count)) whole (stop 1 0)) (stop 2 0)))
-    short true = refuse 1024 1 (omega arith) (omega arith) (omega arith)
-    short false = sized (between 1 32 functions && between 1 1024 count) refl
+read-small file =
+    of-file (Small 1024) file (refuse 1024 1 (omega arith) (omega arith) (omega arith))
+    (refuse 1024 2 (omega arith) (omega arith) (omega arith))
+    (λ sizes. script-small _ (drop (4 + bytes-at 2 file 2) file) (bytes-at 2 file 0) 1024
+    (omega (arith, length-take (bytes-at 2 file 2) (drop 4 file), sizes .nodes)))

@@ -2,14 +2,11 @@
 use mathlib.Core.Path.{_≡_, refl, sym, ap, ap₂, _∙_}
 use mathlib.Core.Bool.{Bool, true, false, _&&_}
 use mathlib.Core.List.{List}
-use Prim.Native.Nat.{ℕ, zero, suc, _+_, _-_, _*_, _^_, _<_, _≤_}
+use Prim.Native.Nat.{ℕ, zero, suc, _+_, _-_, _*_, _<_, _≤_}
 use native.Mathlib.Omega.{arith}
-use lib.IntN.{ℤ, pos, negsuc}
-use lib.Signed.{mag}
+use lib.IntN.{ℤ, pos}
 use lib.Dec.{eqb, leb}
 use lib.ListN.{getD}
-use mir.Syntax.{w64}
-use mir.Val.{ofZ}
 use borrow.Author.Tests.{eq-eqb, ne-eqb, lt-ltb, le-ltb, le-leb, lt-leb}
 use Rattle.semantics.specs.Basics.{all}
 use Rattle.semantics.specs.Number.{is-zero}
@@ -20,16 +17,6 @@ use Rattle.store_words.proofs.CellWords.{cell-is, store-size, count-is, depth-i
 use Rattle.store_check.proofs.Ranges.{from-zero}
 
 -- ---- zeros
-
-pub zero-is : (z : ℤ) → mag z < 2 ^ 63 → ofZ w64 z ≡ 0 → is-zero z ≡ true
-zero-is (pos zero) h e = refl
-zero-is (pos (suc n)) h e = absurd (let g : ⊥ = omega arith in g)
-zero-is (negsuc n) h e = absurd (let g : ⊥ = omega arith in g)
-
-pub zero-not : (z : ℤ) → (ofZ w64 z ≡ 0 → ⊥) → is-zero z ≡ false
-zero-not (pos zero) f = absurd (f refl)
-zero-not (pos (suc n)) f = refl
-zero-not (negsuc n) f = refl
 
 abbrev pub zero-at : List ℤ → ℕ → Bool
 zero-at words i = is-zero (getD words i (pos 0))
@@ -77,6 +64,15 @@ names-are slots heads d c n e = from-zero (names-at slots heads d c) n n refl e
 
 -- ---- a cell by itself
 
+-- the elements of a cell in use name cells in use, by its depth
+abbrev slots-used : List ℤ → List ℕ → ℕ → ℕ → Bool
+slots-used slots heads c d = elements-used (store-of slots heads) d (slots-at slots c) (getD heads (2 + 4 * c) 0)
+
+-- what is left to test of a cell in use whose head is right
+abbrev pub slots-formed : List ℤ → List ℕ → ℕ → Bool
+slots-formed slots heads c = zeros-from (slots-at slots c) (getD heads (2 + 4 * c) 0)
+    && slots-used slots heads c (getD heads (3 + 4 * c) 0)
+
 module _ (slots : List ℤ) (heads : List ℕ) (c : ℕ) (h : c < cells-in slots heads) where
   formed-is : (n : ℕ) → getD heads (1 + 4 * c) 0 ≡ n →
       formed (store-of slots heads) c ≡ formed-as (store-of slots heads) n (cell-at slots heads c)
@@ -103,14 +99,8 @@ module _ (slots : List ℤ) (heads : List ℕ) (c : ℕ) (h : c < cells-in slots
           ∙ rw (eq-eqb (getD heads (2 + 4 * c) 0) 0 s, eq-eqb (getD heads (3 + 4 * c) 0) 0 f) refl)
 
   module _ (e : getD heads (1 + 4 * c) 0 ≡ 0 → ⊥) where
-    abbrev zeros : Bool
-    zeros = zeros-from (slots-at slots c) (getD heads (2 + 4 * c) 0)
-
-    abbrev used : ℕ → Bool
-    used d = elements-used (store-of slots heads) d (slots-at slots c) (getD heads (2 + 4 * c) 0)
-
     used-is : formed (store-of slots heads) c ≡ leb (getD heads (2 + 4 * c) 0) 16 && (leb (getD heads (3 + 4 * c) 0) 3
-        && (eqb (getD heads (4 + 4 * c) 0) 0 && (zeros && used (getD heads (3 + 4 * c) 0))))
+        && (eqb (getD heads (4 + 4 * c) 0) 0 && slots-formed slots heads c))
     unfolding formed-as cell-at
     used-is = formed-is (suc (getD heads (1 + 4 * c) 0 - 1)) (omega (arith, e))
 
@@ -130,28 +120,30 @@ module _ (slots : List ℤ) (heads : List ℕ) (c : ℕ) (h : c < cells-in slots
           ne-eqb (getD heads (4 + 4 * c) 0) 0 f,
         ) refl)
 
-        module _ (x : getD heads (4 + 4 * c) 0 ≡ 0) where
-          rest-is : formed (store-of slots heads) c ≡ zeros && used (getD heads (3 + 4 * c) 0)
-          rest-is = used-is ∙ rw (
-            le-leb (getD heads (2 + 4 * c) 0) 16 s,
-            le-leb (getD heads (3 + 4 * c) 0) 3 p,
-            eq-eqb (getD heads (4 + 4 * c) 0) 0 x,
-          ) refl
+        pub used-rest : getD heads (4 + 4 * c) 0 ≡ 0 → formed (store-of slots heads) c ≡ slots-formed slots heads c
+        used-rest x = used-is ∙ rw (
+          le-leb (getD heads (2 + 4 * c) 0) 16 s,
+          le-leb (getD heads (3 + 4 * c) 0) 3 p,
+          eq-eqb (getD heads (4 + 4 * c) 0) 0 x,
+        ) refl
 
-          pub used-past : {z : Bool} → z ≡ zeros-from (slots-at slots c) (getD heads (2 + 4 * c) 0) → z ≡ false →
-              false ≡ formed (store-of slots heads) c
-          used-past q f = sym (rest-is ∙ rw (sym q ∙ f) refl)
+-- a cell whose slots decide
+module _ (slots : List ℤ) (heads : List ℕ) (c : ℕ)
+    (rest : formed (store-of slots heads) c ≡ slots-formed slots heads c) where
+  pub used-past : zeros-from (slots-at slots c) (getD heads (2 + 4 * c) 0) ≡ false →
+      false ≡ formed (store-of slots heads) c
+  used-past f = sym (rest ∙ rw f refl)
 
-          module _ {z : Bool} (q : z ≡ zeros-from (slots-at slots c) (getD heads (2 + 4 * c) 0)) (t : z ≡ true) where
-            pub used-flat : getD heads (3 + 4 * c) 0 ≡ 0 → true ≡ formed (store-of slots heads) c
-            used-flat d = sym (rest-is ∙ rw (sym q ∙ t, d) refl)
+  module _ (t : zeros-from (slots-at slots c) (getD heads (2 + 4 * c) 0) ≡ true) where
+    pub used-flat : getD heads (3 + 4 * c) 0 ≡ 0 → true ≡ formed (store-of slots heads) c
+    used-flat d = sym (rest ∙ rw (t, d) refl)
 
-            pub used-deep : {r : Bool} → (getD heads (3 + 4 * c) 0 ≡ 0 → ⊥) →
-                r ≡ all-used (store-of slots heads) (getD heads (3 + 4 * c) 0 - 1) (slots-at slots c)
-                (getD heads (2 + 4 * c) 0) →
-                r ≡ formed (store-of slots heads) c
-            used-deep d u = u ∙ sym (rest-is ∙ rw (sym q ∙ t) (ap used
-                (let y : getD heads (3 + 4 * c) 0 ≡ suc (getD heads (3 + 4 * c) 0 - 1) = omega (arith, d) in y)))
+    pub used-deep : {r : Bool} → (getD heads (3 + 4 * c) 0 ≡ 0 → ⊥) →
+        r ≡ all-used (store-of slots heads) (getD heads (3 + 4 * c) 0 - 1) (slots-at slots c)
+        (getD heads (2 + 4 * c) 0) →
+        r ≡ formed (store-of slots heads) c
+    used-deep d u = u ∙ sym (rest ∙ rw t (ap (slots-used slots heads c)
+        (let y : getD heads (3 + 4 * c) 0 ≡ suc (getD heads (3 + 4 * c) 0 - 1) = omega (arith, d) in y)))
 
 -- ---- the totals
 

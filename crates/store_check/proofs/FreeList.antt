@@ -104,11 +104,10 @@ pub due-used : (count met : ℕ) → (count ≡ 0 → ⊥) → eqb met 0 ≡ eqb
 due-used zero met f = absurd (f refl)
 due-used (suc n) met f = refl
 
-pub due-is : (slots : List ℤ) (heads met : List ℕ) (c : ℕ) {r t : Bool} → c < cells-in slots heads →
-    r ≡ eqb (getD met c 0) (due (getD heads (1 + 4 * c) 0)) → r ≡ t → met-as-due (store-of slots heads) met c ≡ t
+pub due-is : (slots : List ℤ) (heads met : List ℕ) (c : ℕ) {t : Bool} → c < cells-in slots heads →
+    eqb (getD met c 0) (due (getD heads (1 + 4 * c) 0)) ≡ t → met-as-due (store-of slots heads) met c ≡ t
 unfolding met-as-due
-due-is slots heads met c h e q =
-    ap (λ (n : ℕ). eqb (getD met c 0) (due n)) (count-is slots heads c h) ∙ sym e ∙ q
+due-is slots heads met c h q = ap (λ (n : ℕ). eqb (getD met c 0) (due n)) (count-is slots heads c h) ∙ q
 
 due-same : (σ : Store) (met free : List ℕ) (c : ℕ) → getD met c 0 ≡ occurrences c free →
     met-as-due σ met c ≡ as-due σ free c

@@ -125,12 +125,12 @@ counted-free count named e = sym (rw (eq-eqb count 0 e) refl)
 pub counted-used : (count named : ℕ) → (count ≡ 0 → ⊥) → eqb count named ≡ eqb count 0 || eqb count named
 counted-used count named f = sym (rw (ne-eqb count 0 f) refl)
 
-pub counted-is : (slots : List ℤ) (heads named : List ℕ) (c : ℕ) {r t : Bool} → c < cells-in slots heads →
-    r ≡ eqb (getD heads (1 + 4 * c) 0) 0 || eqb (getD heads (1 + 4 * c) 0) (getD named c 0) → r ≡ t →
+pub counted-is : (slots : List ℤ) (heads named : List ℕ) (c : ℕ) {t : Bool} → c < cells-in slots heads →
+    eqb (getD heads (1 + 4 * c) 0) 0 || eqb (getD heads (1 + 4 * c) 0) (getD named c 0) ≡ t →
     named-as-counted (store-of slots heads) named c ≡ t
 unfolding named-as-counted
-counted-is slots heads named c h e q =
-    ap (λ (n : ℕ). eqb n 0 || eqb n (getD named c 0)) (count-is slots heads c h) ∙ sym e ∙ q
+counted-is slots heads named c h q =
+    ap (λ (n : ℕ). eqb n 0 || eqb n (getD named c 0)) (count-is slots heads c h) ∙ q
 
 counted-same : (d : ℕ) (σ : Store) (named : List ℕ) (c : ℕ) → getD named c 0 ≡ occurrences c (places d σ) →
     named-as-counted σ named c ≡ counted d σ c

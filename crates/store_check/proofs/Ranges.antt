@@ -47,3 +47,10 @@ module _ {f : ℕ → Bool} {k end i : ℕ} (t : Testing f k end i) where
 -- a range from 0 on, whose end n is known as m too
 pub from-zero : (f : ℕ → Bool) (n m : ℕ) {r : Bool} → n ≡ m → r ≡ all f 0 (n - 0) → r ≡ all f 0 m
 from-zero f n m e h = let q : n - 0 ≡ m = omega arith in rw q at h
+
+module _ {f : ℕ → Bool} {n m i : ℕ} (t : Testing f 0 n i) (e : n ≡ m) where
+  pub one-fails : i < n → f i ≡ false → false ≡ all f 0 m
+  one-fails h q = from-zero f n m e (testing-fails t h q)
+
+  pub all-hold : n ≤ i → true ≡ all f 0 m
+  all-hold h = from-zero f n m e (testing-all t h)

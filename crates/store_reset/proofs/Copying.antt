@@ -7,7 +7,7 @@ use native.Mathlib.Decide.{ℕ-discrete}
 use lib.ListN.{length, getD, set}
 use lib.Seq.{ext-getD, getD-set-same, getD-set-other}
 use Rattle.laws.specs.Lists.{tabulate-length}
-use Rattle.store_words.proofs.Tables.{tabulate-at}
+use Rattle.store_words.proofs.Tables.{table-at}
 use Rattle.store_reset.specs.Resetting.{words-of}
 
 module _ {A : Type 0} (z : A) (n : ℕ) (l : List A) where
@@ -17,7 +17,7 @@ module _ {A : Type 0} (z : A) (n : ℕ) (l : List A) where
 
   pub word-is : (i : ℕ) → i < n → getD (words-of z n l) i z ≡ getD l i z
   unfolding words-of
-  word-is i h = tabulate-at n (λ i. getD l i z) i z h
+  word-is i h = table-at n (λ i. getD l i z) i z h
 
 -- the first i elements of `to` are copied
 pub record Copying {A : Type 0} (z : A) (from to : List A) (i : ℕ) : Type 0 where

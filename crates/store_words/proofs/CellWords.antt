@@ -1,20 +1,19 @@
 -- What a cell of the store that two arrays hold has, word by word.
 use mathlib.Core.Path.{_≡_, refl, sym, ap, ap₂, _∙_}
-use mathlib.Core.Bool.{Bool}
+use mathlib.Core.Bool.{Bool, true, false, not, true≢false, false≢true}
 use mathlib.Core.List.{List, []}
 use Prim.Native.Nat.{ℕ, _+_, _*_, _<_, _≤_, min}
 use native.Mathlib.Omega.{arith}
 use lib.IntN.{ℤ, pos}
 use lib.ListN.{length, getD, take, length-take, List·getD-eq-default}
-use lib.Dec.{ltb}
 use lib.Seq.{set-out, set-getD, getD-take}
-use borrow.Author.Tests.{ltb-true, ltb-false}
+use borrow.Author.Tests.{not-true, not-false}
 use Rattle.semantics.specs.Store.{Cell, Store, cell, cell-count, clear, elements, with-cell}
 use Rattle.semantics.specs.Words.{cells-in, slots-at, cell-at, store-of}
 use Rattle.laws.specs.Cells.{same-store}
 use Rattle.laws.specs.Lists.{tabulate-length}
-use Rattle.store_words.specs.Parts.{CellThere}
-use Rattle.store_words.proofs.Tables.{tabulate-at}
+use Rattle.store_words.specs.Parts.{InCells, CellThere}
+use Rattle.store_words.proofs.Tables.{table-at}
 
 -- a cell put back where it is
 pub with-self : (σ : Store) (c : ℕ) → with-cell σ c (cell σ c) ≡ σ
@@ -36,14 +35,6 @@ module _ (slots : List ℤ) (heads : List ℕ) where
   unfolding cells-in
   to-cells c a b d = omega arith
 
-  -- what a test for a cell that is there says
-  pub stands : (c : ℕ) (r : Bool) → r ≡ ltb c (cells-in slots heads) → CellThere slots heads c r
-  stands c r e = record {
-    there = λ t. let h = ltb-true c (cells-in slots heads) (sym e ∙ t) in
-        (h, in-cells c h .0, in-cells c h .1, in-cells c h .2);
-    gone = λ f. ltb-false c (cells-in slots heads) (sym e ∙ f);
-  }
-
   pub few-cells : cells-in slots heads ≤ 256
   unfolding cells-in
   few-cells = omega arith
@@ -58,7 +49,7 @@ module _ (slots : List ℤ) (heads : List ℕ) where
 
   pub cell-is : (c : ℕ) → c < cells-in slots heads → cell (store-of slots heads) c ≡ cell-at slots heads c
   unfolding store-of cell
-  cell-is c h = tabulate-at (cells-in slots heads) (cell-at slots heads) c (clear 0) h
+  cell-is c h = table-at (cells-in slots heads) (cell-at slots heads) c (clear 0) h
 
   pub cell-out : (c : ℕ) → cells-in slots heads ≤ c → cell (store-of slots heads) c ≡ clear 0
   unfolding cell
@@ -91,6 +82,25 @@ module _ (slots : List ℤ) (heads : List ℕ) where
     unfolding cell-at
     slots-are = ap (λ (x : Cell). x .slots) (cell-is c h)
 
+-- ---- a test whether a cell is there
+
+module _ {slots : List ℤ} {heads : List ℕ} {c : ℕ} where
+  -- what it says
+  pub says-there : c < cells-in slots heads → CellThere slots heads c true
+  says-there h =
+      let q = in-cells slots heads c h in
+      record { there = λ t. (h, q .0, q .1, q .2); gone = λ f. absurd (true≢false f) }
+
+  pub says-gone : cells-in slots heads ≤ c → CellThere slots heads c false
+  says-gone h = record { there = λ t. absurd (false≢true t); gone = λ f. h }
+
+  -- what is known past `if !is_cell(..)`, and inside it
+  pub told-there : {r : Bool} → CellThere slots heads c r → not r ≡ false → InCells slots heads c
+  told-there {r} t e = t .there (not-false r e)
+
+  pub told-gone : {r : Bool} → CellThere slots heads c r → not r ≡ true → cells-in slots heads ≤ c
+  told-gone {r} t e = t .gone (not-true r e)
+
 -- ---- slots and elements
 
 pub slots-length : (slots : List ℤ) (c : ℕ) → length (slots-at slots c) ≡ 16
@@ -100,7 +110,7 @@ slots-length slots c = tabulate-length 16 0 (λ i. getD slots (1 + 16 * c + i) (
 pub slot-is : (slots : List ℤ) (c i : ℕ) → i < 16 → getD (slots-at slots c) i (pos 0)
     ≡ getD slots (1 + 16 * c + i) (pos 0)
 unfolding slots-at
-slot-is slots c i h = tabulate-at 16 (λ k. getD slots (1 + 16 * c + k) (pos 0)) i (pos 0) h
+slot-is slots c i h = table-at 16 (λ k. getD slots (1 + 16 * c + k) (pos 0)) i (pos 0) h
 
 module _ (slots : List ℤ) (heads : List ℕ) (c : ℕ) where
   pub elements-are : c < cells-in slots heads →

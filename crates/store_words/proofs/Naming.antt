@@ -1,33 +1,24 @@
 -- The cell that a word names, and the cells that a cell names.
 use mathlib.Core.Path.{_≡_, refl, sym, ap, _∙_}
-use mathlib.Core.Bool.{true, false}
+use mathlib.Core.Bool.{true, false, true≢false}
 use mathlib.Core.List.{List, [], _∷_, map}
-use Prim.Native.Nat.{ℕ, zero, suc, _+_, _*_, _^_, _<_, min}
+use Prim.Native.Nat.{ℕ, zero, suc, _+_, _*_, _<_, min}
 use native.Mathlib.Omega.{arith}
 use lib.IntN.{ℤ, pos, negsuc, natAbs}
 use lib.ListN.{length, getD, take}
-use lib.Dec.{T}
-use lib.Signed.{mag, ltZ, nonNeg}
-use mir.Syntax.{w64}
-use mir.Val.{Fits}
+use lib.Signed.{ltZ}
 use borrow.Author.Tests.{ltb-true}
+pub use Rattle.laws.specs.Numbers.{not-negative}
 use Rattle.semantics.specs.Store.{Cell, cell, cell-of, named-by, elements, inner}
 use Rattle.semantics.specs.Words.{cells-in, slots-at, store-of}
 use Rattle.store_words.proofs.CellWords.{depth-is, elements-are, slots-length}
 
 -- ---- a word as a cell's number
 
-no-bool : {A : Type 0} → true ≡ false → A
-no-bool e = let z : _≡_ {A = ℕ} 0 1 = cc in absurd (let f : ⊥ = omega arith in f)
-
-pub not-negative : (z : ℤ) → mag z < 2 ^ 63 → ltZ z (pos 0) ≡ false → T (nonNeg z) × Fits w64 (natAbs z)
-not-negative (pos n) h e = (tt, record { fits = omega arith })
-not-negative (negsuc n) h e = no-bool e
-
 pub cell-not-negative : (z : ℤ) → ltZ z (pos 0) ≡ false → natAbs z ≡ cell-of z
 unfolding cell-of
 cell-not-negative (pos n) e = refl
-cell-not-negative (negsuc n) e = no-bool e
+cell-not-negative (negsuc n) e = absurd (true≢false e)
 
 pub cell-negative : (z : ℤ) → ltZ z (pos 0) ≡ true → 256 ≡ cell-of z
 unfolding cell-of

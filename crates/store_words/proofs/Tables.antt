@@ -7,18 +7,12 @@ use native.Mathlib.Omega.{arith}
 use native.Mathlib.Decide.{ℕ-discrete}
 use lib.ListN.{getD, set, length-set}
 use lib.Seq.{ext-getD, getD-set-same, getD-set-other}
-use Rattle.laws.specs.Lists.{tabulate-length}
+use Rattle.laws.specs.Lists.{tabulate-length, tabulate-at}
 use Rattle.semantics.specs.Basics.{tabulate}
 
 module _ {A : Type 0} where
-  getD-tabulate : (i n : ℕ) (f : ℕ → A) (j : ℕ) (d : A) → j < n → getD (tabulate i n f) j d ≡ f (i + j)
-  unfolding tabulate
-  getD-tabulate i zero f j d h = absurd (omega arith)
-  getD-tabulate i (suc n) f zero d h = ap f (omega arith)
-  getD-tabulate i (suc n) f (suc j) d h = getD-tabulate (suc i) n f j d (omega arith) ∙ ap f (omega arith)
-
-  pub tabulate-at : (n : ℕ) (f : ℕ → A) (j : ℕ) (d : A) → j < n → getD (tabulate 0 n f) j d ≡ f j
-  tabulate-at n f j d h = getD-tabulate 0 n f j d h ∙ ap f (omega arith)
+  pub table-at : (n : ℕ) (f : ℕ → A) (j : ℕ) (d : A) → j < n → getD (tabulate 0 n f) j d ≡ f j
+  table-at n f j d h = tabulate-at n 0 f j d h ∙ ap f (omega arith)
 
   -- functions that agree below n have the same table
   pub tabulate-same : (n : ℕ) (f g : ℕ → A) → ((j : ℕ) → j < n → f j ≡ g j) → tabulate 0 n f ≡ tabulate 0 n g
@@ -38,7 +32,7 @@ module _ {A : Type 0} where
       (λ i l. go i (omega (arith, tabulate-length n 0 g)) (ℕ-discrete i j))
     where
       go : (i : ℕ) → i < n → Dec (i ≡ j) → getD (tabulate 0 n g) i v ≡ getD (set (tabulate 0 n f) j v) i v
-      go i l (yes p) = tabulate-at n g i v l ∙ ap g p ∙ e ∙ sym (ap (λ (x : ℕ). getD (set (tabulate 0 n f) j v) x v) p
+      go i l (yes p) = table-at n g i v l ∙ ap g p ∙ e ∙ sym (ap (λ (x : ℕ). getD (set (tabulate 0 n f) j v) x v) p
           ∙ getD-set-same (tabulate 0 n f) j v v (omega (arith, tabulate-length n 0 f)))
-      go i l (no p) = tabulate-at n g i v l ∙ k i l p
-          ∙ sym (getD-set-other (tabulate 0 n f) j i v v p ∙ tabulate-at n f i v l)
+      go i l (no p) = table-at n g i v l ∙ k i l p
+          ∙ sym (getD-set-other (tabulate 0 n f) j i v v p ∙ table-at n f i v l)

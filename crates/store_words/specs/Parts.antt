@@ -15,10 +15,14 @@ pub record Holds (slots : List ℤ) (heads : List ℕ) (n : ℕ) : Type 0 where
   pub in-slots : 16 * n ≤ length slots - 1
   pub most : n ≤ 256
 
+-- cell c is there, with all its words
+abbrev pub InCells : List ℤ → List ℕ → ℕ → Type 0
+InCells slots heads c = (c < cells-in slots heads) × (c < 256) × (4 * c + 4 < length heads)
+    × (16 * c + 16 < length slots)
+
 -- the answer says whether cell c is there
 pub record CellThere (slots : List ℤ) (heads : List ℕ) (c : ℕ) (r : Bool) : Type 0 where
-  pub there : r ≡ true → (c < cells-in slots heads) × (c < 256) × (4 * c + 4 < length heads)
-      × (16 * c + 16 < length slots)
+  pub there : r ≡ true → InCells slots heads c
   pub gone : r ≡ false → cells-in slots heads ≤ c
 
 -- the sixteen slots of cell c are zeros; every other word is as before

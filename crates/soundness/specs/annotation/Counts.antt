@@ -147,12 +147,7 @@ module _ (Γ : NameDepths) where
         behind-other n f =
             let same : held Γ A n - hit n x ≡ held Γ A n =
             elim (hits n x) [ inl h ↦ absurd (f (h .0)) | inr h ↦ omega arith ] in
-            held-behind n ∙ ap (max (min 1 (occurrences n (handed Γ reads)))) (held-rest n ∙ ap (max (held Γ U n)) same)
-            ∙ joined (min 1 (occurrences n (handed Γ reads))) (held Γ U n) (held Γ A n)
-            ∙ ap (λ (m : ℕ). max m (held Γ A n)) (sym (held-among Γ reads U n))
-          where
-            joined : (p u a : ℕ) → max p (max u a) ≡ max (max p u) a
-            joined p u a = omega arith
+            omega (arith, held-behind n, held-rest n, same, held-among Γ reads U n)
 
         handed-none : occurrences x (handed Γ hands) ≡ 0
         handed-none = omega (arith, apart .parts x, apart .unread)

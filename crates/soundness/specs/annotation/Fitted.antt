@@ -28,7 +28,7 @@ use Rattle.soundness.specs.annotation.Tables.{tables-off}
 -- ---- the atoms of the written names
 
 -- they are below n, and have the depths δ in the table Γ
-pub record Standing (μ : Meanings) (δ : ℕ → ℕ) (n : ℕ) (Γ : NameDepths) : Type 0 where
+pub record MeaningsFit (μ : Meanings) (δ : ℕ → ℕ) (n : ℕ) (Γ : NameDepths) : Type 0 where
   pub below : (y : ℕ) → AtomBelow (μ y) n
   pub depth : (y : ℕ) → atom-depth Γ (μ y) ≡ δ y
 
@@ -41,37 +41,38 @@ atom-kept : (u : Atom) (Γ Δ : NameDepths) (n : ℕ) → AtomBelow u n → ((y 
 atom-kept (number z) Γ Δ n below kept = refl
 atom-kept (name x) Γ Δ n below kept = kept x below
 
-pub standing-kept : (μ : Meanings) (δ : ℕ → ℕ) (n m : ℕ) (Γ Δ : NameDepths) → n ≤ m → ((y : ℕ) → y < n → Δ y ≡ Γ y) →
-    Standing μ δ n Γ → Standing μ δ m Δ
-standing-kept μ δ n m Γ Δ le kept s = record {
+pub meanings-kept : (μ : Meanings) (δ : ℕ → ℕ) (n m : ℕ) (Γ Δ : NameDepths) → n ≤ m → ((y : ℕ) → y < n → Δ y ≡ Γ y) →
+    MeaningsFit μ δ n Γ → MeaningsFit μ δ m Δ
+meanings-kept μ δ n m Γ Δ le kept s = record {
   below = λ y. below-more (μ y) le (s .below y);
   depth = λ y. atom-kept (μ y) Γ Δ n (s .below y) kept ∙ s .depth y;
 }
 
-pub standing-up : (μ : Meanings) (δ : ℕ → ℕ) (n m : ℕ) (Γ : NameDepths) → n ≤ m → Standing μ δ n Γ → Standing μ δ m Γ
-standing-up μ δ n m Γ le s = standing-kept μ δ n m Γ Γ le (λ y h. refl) s
+pub meanings-up : (μ : Meanings) (δ : ℕ → ℕ) (n m : ℕ) (Γ : NameDepths) → n ≤ m → MeaningsFit μ δ n Γ →
+    MeaningsFit μ δ m Γ
+meanings-up μ δ n m Γ le s = meanings-kept μ δ n m Γ Γ le (λ y h. refl) s
 
-pub standing-updated : (μ : Meanings) (δ : ℕ → ℕ) (n : ℕ) (Γ : NameDepths) (x : ℕ) (u : Atom) (d : ℕ) →
-    AtomBelow u n → atom-depth Γ u ≡ d → Standing μ δ n Γ → Standing (updated μ x u) (updated δ x d) n Γ
+pub meanings-updated : (μ : Meanings) (δ : ℕ → ℕ) (n : ℕ) (Γ : NameDepths) (x : ℕ) (u : Atom) (d : ℕ) →
+    AtomBelow u n → atom-depth Γ u ≡ d → MeaningsFit μ δ n Γ → MeaningsFit (updated μ x u) (updated δ x d) n Γ
 unfolding updated
-standing-updated μ δ n Γ x u d below e s = record {
+meanings-updated μ δ n Γ x u d below e s = record {
   below = below-updated μ n x u below (s .below);
   depth = λ y. elim (eqb x y) as (λ b. atom-depth Γ (cond b u (μ y)) ≡ cond b d (δ y))
       [ true ↦ e | false ↦ s .depth y ];
 }
 
 -- with the names of a pass, of the depths ds in Γ
-pub standing-with : (xs ds : List ℕ) (μ : Meanings) (δ : ℕ → ℕ) (m : ℕ) (Γ : NameDepths) →
-    map Γ (numbered xs m) ≡ ds → Standing μ δ m Γ →
-    Standing (meaning-names xs m μ) (with-depths xs ds δ) (m + length xs) Γ
-standing-with [] ds μ δ m Γ e s = standing-up μ δ m (m + 0) Γ (omega arith) s
-standing-with (x ∷ xs) ds μ δ m Γ e s =
-    subst (λ es. Standing (meaning-names (x ∷ xs) m μ) (with-depths (x ∷ xs) es δ) (m + suc (length xs)) Γ) e
-    (let inner = standing-with xs (map Γ (numbered xs (suc m))) (updated μ x (name m)) (updated δ x (Γ m))
+pub meanings-with : (xs ds : List ℕ) (μ : Meanings) (δ : ℕ → ℕ) (m : ℕ) (Γ : NameDepths) →
+    map Γ (numbered xs m) ≡ ds → MeaningsFit μ δ m Γ →
+    MeaningsFit (meaning-names xs m μ) (with-depths xs ds δ) (m + length xs) Γ
+meanings-with [] ds μ δ m Γ e s = meanings-up μ δ m (m + 0) Γ (omega arith) s
+meanings-with (x ∷ xs) ds μ δ m Γ e s =
+    subst (λ es. MeaningsFit (meaning-names (x ∷ xs) m μ) (with-depths (x ∷ xs) es δ) (m + suc (length xs)) Γ) e
+    (let inner = meanings-with xs (map Γ (numbered xs (suc m))) (updated μ x (name m)) (updated δ x (Γ m))
     (suc m) Γ refl
-    (standing-updated μ δ (suc m) Γ x (name m) (Γ m) (omega arith) refl
-    (standing-up μ δ m (suc m) Γ (omega arith) s)) in
-    standing-up (meaning-names xs (suc m) (updated μ x (name m)))
+    (meanings-updated μ δ (suc m) Γ x (name m) (Γ m) (omega arith) refl
+    (meanings-up μ δ m (suc m) Γ (omega arith) s)) in
+    meanings-up (meaning-names xs (suc m) (updated μ x (name m)))
     (with-depths xs (map Γ (numbered xs (suc m))) (updated δ x (Γ m))) (suc m + length xs) (m + suc (length xs)) Γ
     (omega arith) inner)
 
@@ -109,27 +110,27 @@ module _ (F : Functions) (Γ : NameDepths) where
         (d : ℕ) × (rest : List ℕ) × (ds ≡ d ∷ rest) × Fitted e δ d n × AllFitted es δ rest (n + fresh e)
 
   -- the atom has the depth of the expression
-  pub atom-fitted : (e : Expr) (μ : Meanings) (δ : ℕ → ℕ) (d n : ℕ) → Fitted e δ d n → Standing μ δ n Γ →
+  pub atom-fitted : (e : Expr) (μ : Meanings) (δ : ℕ → ℕ) (d n : ℕ) → Fitted e δ d n → MeaningsFit μ δ n Γ →
       atom-depth Γ (atom e μ n) ≡ d
   unfolding atom
   atom-fitted (S.number z) μ δ d n f s = sym f
   atom-fitted (S.name x) μ δ d n f s = s .depth x ∙ f
   atom-fitted (S.let-in x a b) μ δ d n f s =
       atom-fitted b (updated μ x (atom a μ n)) (updated δ x (f .0)) d (n + fresh a) (f .2)
-      (standing-updated μ δ (n + fresh a) Γ x (atom a μ n) (f .0) (atom-below a μ n (s .below))
-      (atom-fitted a μ δ (f .0) n (f .1) s) (standing-up μ δ n (n + fresh a) Γ (omega arith) s))
+      (meanings-updated μ δ (n + fresh a) Γ x (atom a μ n) (f .0) (atom-below a μ n (s .below))
+      (atom-fitted a μ δ (f .0) n (f .1) s) (meanings-up μ δ n (n + fresh a) Γ (omega arith) s))
   atom-fitted (S.leaf l es) μ δ d n f s = f .3
   atom-fitted (S.if-else a b c) μ δ d n f s = f .3
   atom-fitted (S.loop k xs es b) μ δ d n f s = f .5
 
   -- the depths of the atoms are those of the expressions
   pub atoms-fitted : (es : Exprs) (μ : Meanings) (δ : ℕ → ℕ) (ds : List ℕ) (n : ℕ) → AllFitted es δ ds n →
-      Standing μ δ n Γ → map (atom-depth Γ) (atoms es μ n) ≡ ds
+      MeaningsFit μ δ n Γ → map (atom-depth Γ) (atoms es μ n) ≡ ds
   unfolding atoms
   atoms-fitted S.none μ δ ds n f s = sym f
   atoms-fitted (S.more e es) μ δ ds n f s =
       let first = atom-fitted e μ δ (f .0) n (f .3) s in
-      let rest = atoms-fitted es μ δ (f .1) (n + fresh e) (f .4) (standing-up μ δ n (n + fresh e) Γ (omega arith) s) in
+      let rest = atoms-fitted es μ δ (f .1) (n + fresh e) (f .4) (meanings-up μ δ n (n + fresh e) Γ (omega arith) s) in
       (λ i. first i ∷ rest i) ∙ sym (f .2)
 
 pub atoms-count : (es : Exprs) (μ : Meanings) (n : ℕ) → length (atoms es μ n) ≡ count es
@@ -163,34 +164,34 @@ module _ (F : Functions) where
   atom-table u Γ b μ i below =
       atom-kept u Γ (table results b μ i Γ) i below (λ y h. table-off results b μ i Γ y (λ p q. omega arith))
 
-  standing-table : (a : Expr) (μ : Meanings) (δ : ℕ → ℕ) (n m : ℕ) (Γ : NameDepths) → n ≤ m →
-      Standing μ δ n Γ → Standing μ δ m (table results a μ n Γ)
-  standing-table a μ δ n m Γ le s =
-      standing-kept μ δ n m Γ (table results a μ n Γ) le (λ y h. table-off results a μ n Γ y (λ p q. omega arith)) s
+  meanings-table : (a : Expr) (μ : Meanings) (δ : ℕ → ℕ) (n m : ℕ) (Γ : NameDepths) → n ≤ m →
+      MeaningsFit μ δ n Γ → MeaningsFit μ δ m (table results a μ n Γ)
+  meanings-table a μ δ n m Γ le s =
+      meanings-kept μ δ n m Γ (table results a μ n Γ) le (λ y h. table-off results a μ n Γ y (λ p q. omega arith)) s
 
-  standing-tables : (es : Exprs) (μ : Meanings) (δ : ℕ → ℕ) (n m : ℕ) (Γ : NameDepths) → n ≤ m →
-      Standing μ δ n Γ → Standing μ δ m (tables results es μ n Γ)
-  standing-tables es μ δ n m Γ le s =
-      standing-kept μ δ n m Γ (tables results es μ n Γ) le (λ y h. tables-off results es μ n Γ y (λ p q. omega arith)) s
+  meanings-tables : (es : Exprs) (μ : Meanings) (δ : ℕ → ℕ) (n m : ℕ) (Γ : NameDepths) → n ≤ m →
+      MeaningsFit μ δ n Γ → MeaningsFit μ δ m (tables results es μ n Γ)
+  meanings-tables es μ δ n m Γ le s =
+      meanings-kept μ δ n m Γ (tables results es μ n Γ) le (λ y h. tables-off results es μ n Γ y (λ p q. omega arith)) s
 
   -- an expression that fits the table of its own lines
-  atom-after : (e : Expr) (μ : Meanings) (δ : ℕ → ℕ) (d n : ℕ) (Γ : NameDepths) → Standing μ δ n Γ →
+  atom-after : (e : Expr) (μ : Meanings) (δ : ℕ → ℕ) (d n : ℕ) (Γ : NameDepths) → MeaningsFit μ δ n Γ →
       Fitted F (table results e μ n Γ) e δ d n → atom-depth (table results e μ n Γ) (atom e μ n) ≡ d
   atom-after e μ δ d n Γ s f =
-      atom-fitted F (table results e μ n Γ) e μ δ d n f (standing-table e μ δ n n Γ (omega arith) s)
+      atom-fitted F (table results e μ n Γ) e μ δ d n f (meanings-table e μ δ n n Γ (omega arith) s)
 
-  atoms-after : (es : Exprs) (μ : Meanings) (δ : ℕ → ℕ) (ds : List ℕ) (n : ℕ) (Γ : NameDepths) → Standing μ δ n Γ →
+  atoms-after : (es : Exprs) (μ : Meanings) (δ : ℕ → ℕ) (ds : List ℕ) (n : ℕ) (Γ : NameDepths) → MeaningsFit μ δ n Γ →
       AllFitted F (tables results es μ n Γ) es δ ds n →
       map (atom-depth (tables results es μ n Γ)) (atoms es μ n) ≡ ds
   atoms-after es μ δ ds n Γ s f =
-      atoms-fitted F (tables results es μ n Γ) es μ δ ds n f (standing-tables es μ δ n n Γ (omega arith) s)
+      atoms-fitted F (tables results es μ n Γ) es μ δ ds n f (meanings-tables es μ δ n n Γ (omega arith) s)
 
   mutual
     unfolding table fresh
 
     -- a typed expression fits a table that agrees with that of its lines on the new names
     pub typed-fitted : (e : Expr) (μ : Meanings) (δ : ℕ → ℕ) (d n : ℕ) (Γ₀ Γ : NameDepths) → Typed F e δ d →
-        Standing μ δ n Γ₀ → DepthsAgree Γ (table results e μ n Γ₀) n (n + fresh e) → Fitted F Γ e δ d n
+        MeaningsFit μ δ n Γ₀ → DepthsAgree Γ (table results e μ n Γ₀) n (n + fresh e) → Fitted F Γ e δ d n
     typed-fitted (S.number z) μ δ d n Γ₀ Γ t s g = t
     typed-fitted (S.name x) μ δ d n Γ₀ Γ t s g = t
     typed-fitted (S.let-in x a b) μ δ d n Γ₀ Γ t s g =
@@ -204,8 +205,8 @@ module _ (F : Functions) where
           j,
           typed-fitted a μ δ j n Γ₀ Γ (t .1) s (agrees-first Γ Γ₁ b μ′ n _ m (omega arith) g),
           typed-fitted b μ′ (updated δ x j) d m Γ₁ Γ (t .2)
-              (standing-updated μ δ m Γ₁ x u j (atom-below a μ n (s .below)) value
-              (standing-table a μ δ n m Γ₀ (omega arith) s))
+              (meanings-updated μ δ m Γ₁ x u j (atom-below a μ n (s .below)) value
+              (meanings-table a μ δ n m Γ₀ (omega arith) s))
               (agrees-part Γ Γ₂ n _ m (m + fresh b) (omega arith) (omega arith) g),
         )
     typed-fitted (S.leaf l es) μ δ d n Γ₀ Γ t s g =
@@ -231,8 +232,8 @@ module _ (F : Functions) where
         let Γ₂ = table results b μ (x + 1) Γ₁ in
         let Γ₃ = table results c μ y Γ₂ in
         let v = atom-depth Γ₃ u in
-        let s₁ = standing-table a μ δ n (x + 1) Γ₀ (omega arith) s in
-        let s₂ = standing-table b μ δ (x + 1) y Γ₁ (omega arith) s₁ in
+        let s₁ = meanings-table a μ δ n (x + 1) Γ₀ (omega arith) s in
+        let s₂ = meanings-table b μ δ (x + 1) y Γ₁ (omega arith) s₁ in
         let upper : DepthsAgree Γ Γ₃ (x + 1) (y + fresh c) =
         agrees-inner Γ Γ₃ x v n _ (x + 1) (y + fresh c) (omega arith) (omega arith) (λ z p q e. omega arith) g in
         let lower : DepthsAgree Γ Γ₃ n x = agrees-inner Γ Γ₃ x v n _ n x (omega arith) (omega arith)
@@ -271,12 +272,12 @@ module _ (F : Functions) where
         ∙ pass-gives k Γ₁ us ∙ ap (element-depths k) depths in
         let kept : (y : ℕ) → y < x + 1 → Γ₂ y ≡ Γ₁ y =
         λ y h. with-off xs (pass-depths k Γ₁ us) (x + 1) Γ₁ y (λ p q. omega arith) in
-        let s₁ : Standing μ δ (x + 1) Γ₂ =
-        standing-kept μ δ (x + 1) (x + 1) Γ₁ Γ₂ (omega arith) kept (standing-tables es μ δ n (x + 1) Γ₀
+        let s₁ : MeaningsFit μ δ (x + 1) Γ₂ =
+        meanings-kept μ δ (x + 1) (x + 1) Γ₁ Γ₂ (omega arith) kept (meanings-tables es μ δ n (x + 1) Γ₀
         (omega arith) s) in
-        let s₂ : Standing μ′ δ′ i Γ₂ =
-        standing-up μ′ δ′ (x + 1 + length xs) i Γ₂ (omega arith)
-        (standing-with xs (element-depths k ds) μ δ (x + 1) Γ₂ elements s₁) in
+        let s₂ : MeaningsFit μ′ δ′ i Γ₂ =
+        meanings-up μ′ δ′ (x + 1 + length xs) i Γ₂ (omega arith)
+        (meanings-with xs (element-depths k ds) μ δ (x + 1) Γ₂ elements s₁) in
         let upper : DepthsAgree Γ Γ₃ (x + 1) (i + fresh b) =
         agrees-inner Γ Γ₃ x v n _ (x + 1) (i + fresh b) (omega arith) (omega arith) (λ y p q e. omega arith) g in
         let lower : DepthsAgree Γ Γ₃ n x = agrees-inner Γ Γ₃ x v n _ n x (omega arith) (omega arith)
@@ -291,7 +292,7 @@ module _ (F : Functions) where
         atom-after b μ′ δ′ r i Γ₂ s₂ (typed-fitted b μ′ δ′ r i Γ₂ Γ₃ (t .4) s₂ (agrees-self Γ₃ i (i + fresh b))) in
         let depths₃ : map (atom-depth Γ₃) us ≡ ds =
         atoms-fitted F Γ₃ es μ δ ds n (all-typed-fitted es μ δ ds n Γ₀ Γ₃ (t .3) s outer)
-        (standing-kept μ δ n n Γ₀ Γ₃ (omega arith) (λ y h. table-off results b μ′ i Γ₂ y (λ p q. omega arith)
+        (meanings-kept μ δ n n Γ₀ Γ₃ (omega arith) (λ y h. table-off results b μ′ i Γ₂ y (λ p q. omega arith)
         ∙ kept y (omega arith) ∙ tables-off results es μ n Γ₀ y (λ p q. omega arith)) s) in
         let rule : loop-rule k (map (atom-depth Γ₃) us ++ (atom-depth Γ₃ w ∷ [])) ≡ some d =
         (λ j. loop-rule k (depths₃ j ++ (body j ∷ []))) ∙ t .2 .rule in (
@@ -308,7 +309,7 @@ module _ (F : Functions) where
         )
 
     pub all-typed-fitted : (es : Exprs) (μ : Meanings) (δ : ℕ → ℕ) (ds : List ℕ) (n : ℕ) (Γ₀ Γ : NameDepths) →
-        AllTyped F es δ ds → Standing μ δ n Γ₀ →
+        AllTyped F es δ ds → MeaningsFit μ δ n Γ₀ →
         DepthsAgree Γ (tables results es μ n Γ₀) n (n + fresh-all es) → AllFitted F Γ es δ ds n
     all-typed-fitted S.none μ δ ds n Γ₀ Γ t s g = t
     all-typed-fitted (S.more e es) μ δ ds n Γ₀ Γ t s g =
@@ -321,6 +322,6 @@ module _ (F : Functions) where
           typed-fitted e μ δ (t .0) n Γ₀ Γ (t .3) s (record {
             same = λ y p q. g .same y p (omega arith) ∙ tables-off results es μ m Γ₁ y (λ u v. omega arith);
           }),
-          all-typed-fitted es μ δ (t .1) m Γ₁ Γ (t .4) (standing-table e μ δ n m Γ₀ (omega arith) s)
+          all-typed-fitted es μ δ (t .1) m Γ₁ Γ (t .4) (meanings-table e μ δ n m Γ₀ (omega arith) s)
               (agrees-part Γ Γ₂ n _ m (m + fresh-all es) (omega arith) (omega arith) g),
         )

@@ -30,7 +30,7 @@ use Rattle.soundness.specs.annotation.Counts.{releasing}
 use Rattle.soundness.specs.annotation.Scopes.{functions-of, Fits, fits-releases, dying-in, annotated-fits}
 use Rattle.soundness.specs.annotation.Annotated.{annotated-sound}
 use Rattle.soundness.specs.annotation.Tables.{Off, table, lines-table, table-off}
-use Rattle.soundness.specs.annotation.Fitted.{Standing, Fitted, atom-fitted, typed-fitted}
+use Rattle.soundness.specs.annotation.Fitted.{MeaningsFit, Fitted, atom-fitted, typed-fitted}
 use Rattle.soundness.specs.annotation.NormalFormed.{InScope, lines-formed}
 use Rattle.soundness.specs.annotation.Parameters.{written, Distinct, written-depth, parameter-depth}
 use Rattle.soundness.specs.annotation.Parameters.{parameter-held}
@@ -116,8 +116,8 @@ module _ (fs : Script) (g : Function) (ok : Accepted fs g) where
   pub given-within : Within given arity
   given-within = record { below = λ y e. ltb-true y arity e }
 
-  standing-first : Standing μ δ arity Γ₀
-  standing-first = record {
+  meanings-first : MeaningsFit μ δ arity Γ₀
+  meanings-first = record {
     below = λ y. below-more (μ y) (omega arith) (parameters-below (g .parameters) 0 y);
     depth = λ y. written-depth (g .parameters) (λ _. false) (λ _. 0) 0 y (ok .distinct) refl refl;
   }
@@ -128,24 +128,24 @@ module _ (fs : Script) (g : Function) (ok : Accepted fs g) where
 
   in-scope : InScope F Γ μ δ arity given
   in-scope = record {
-    standing = record {
-      below = standing-first .below;
-      depth = λ y. atom-parameter (μ y) (standing-first .below y) ∙ standing-first .depth y;
+    meanings = record {
+      below = meanings-first .below;
+      depth = λ y. atom-parameter (μ y) (meanings-first .below y) ∙ meanings-first .depth y;
     };
-    known = λ y. below-known (μ y) arity (standing-first .below y);
+    known = λ y. below-known (μ y) arity (meanings-first .below y);
     within = given-within;
   }
 
   fitted : Fitted F Γ (g .body) δ (g .result) arity
   unfolding program
   fitted =
-      typed-fitted F (g .body) μ δ (g .result) arity Γ₀ Γ (ok .typed) standing-first
+      typed-fitted F (g .body) μ δ (g .result) arity Γ₀ Γ (ok .typed) meanings-first
       (record { same = λ y p q i. depths-table i y })
 
   pub formed : Formed F Γ (normal-body g) given arity (g .result)
   unfolding normal-body normal
   formed =
-      let last = atom-fitted F Γ (g .body) μ δ (g .result) arity fitted (in-scope .standing) in
+      let last = atom-fitted F Γ (g .body) μ δ (g .result) arity fitted (in-scope .meanings) in
       lines-formed F Γ (g .body) μ δ (g .result) arity given (end (atom (g .body) μ arity))
       (g .result) (ok .few) fitted in-scope
       (λ R more within seen. (seen, last))

@@ -20,8 +20,8 @@ use Rattle.soundness.specs.machine.Discipline.{Known, AllKnown}
 use Rattle.soundness.specs.normal.Agree.{AtomBelow, atom-below}
 use Rattle.soundness.specs.annotation.Formed.{Within, within-up, within-bound, Rising, within-pass, Formed}
 use Rattle.soundness.specs.annotation.Typed.{count, element-depths, Functions, LeafType, LoopType}
-use Rattle.soundness.specs.annotation.Tables.{ending-lines}
-use Rattle.soundness.specs.annotation.Fitted.{Standing, standing-up, standing-updated, standing-with, Fitted}
+use Rattle.laws.specs.Endings.{ending-lines}
+use Rattle.soundness.specs.annotation.Fitted.{MeaningsFit, meanings-up, meanings-updated, meanings-with, Fitted}
 use Rattle.soundness.specs.annotation.Fitted.{AllFitted, atom-fitted, atoms-fitted, atoms-count}
 
 -- every name of S is in R
@@ -75,14 +75,14 @@ numbered-count (x ∷ xs) m = ap suc (numbered-count xs (suc m))
 module _ (F : Functions) (Γ : NameDepths) where
   -- the written names where S is in scope and the new names begin at n
   pub record InScope (μ : Meanings) (δ : ℕ → ℕ) (n : ℕ) (S : Set) : Type 0 where
-    pub standing : Standing μ δ n Γ
+    pub meanings : MeaningsFit μ δ n Γ
     pub known : (y : ℕ) → Known (μ y) S
     pub within : Within S n
 
   scope-more : (μ : Meanings) (δ : ℕ → ℕ) (n m : ℕ) (S R : Set) → n ≤ m → Extends S R → Within R m →
       InScope μ δ n S → InScope μ δ m R
   scope-more μ δ n m S R le f w s = record {
-    standing = standing-up μ δ n m Γ le (s .standing);
+    meanings = meanings-up μ δ n m Γ le (s .meanings);
     known = λ y. known-more (μ y) S R f (s .known y);
     within = w;
   }
@@ -90,7 +90,7 @@ module _ (F : Functions) (Γ : NameDepths) where
   scope-updated : (μ : Meanings) (δ : ℕ → ℕ) (n : ℕ) (S : Set) (x : ℕ) (u : Atom) (d : ℕ) → AtomBelow u n → Known u S →
       atom-depth Γ u ≡ d → InScope μ δ n S → InScope (updated μ x u) (updated δ x d) n S
   scope-updated μ δ n S x u d below v e s = record {
-    standing = standing-updated μ δ n Γ x u d below e (s .standing);
+    meanings = meanings-updated μ δ n Γ x u d below e (s .meanings);
     known = known-updated μ S x u v (s .known);
     within = s .within;
   }
@@ -133,15 +133,15 @@ module _ (F : Functions) (Γ : NameDepths) where
         let j = f .0 in
         lines-formed a μ δ j n S _ r (omega arith) (f .1) s λ R more within seen.
         let s₁ = scope-more μ δ n m S R (omega arith) more within s in
-        let s₂ = scope-updated μ δ m R x u j (atom-below a μ n (s .standing .below)) seen
-        (atom-fitted F Γ a μ δ j n (f .1) (s .standing)) s₁ in
+        let s₂ = scope-updated μ δ m R x u j (atom-below a μ n (s .meanings .below)) seen
+        (atom-fitted F Γ a μ δ j n (f .1) (s .meanings)) s₁ in
         lines-formed b (updated μ x u) (updated δ x j) d m R k r (omega arith) (f .2) s₂ λ Q more₁ within₁ seen₁.
         then-here k Q (m + fresh b) (n + (fresh a + fresh b)) (atom b (updated μ x u) m) r (omega arith) seen₁ within₁
         (λ P more₂ within₂ seen₂. next P (extends-trans S Q P (extends-trans S R Q more more₁) more₂) within₂ seen₂)
     lines-formed (E.leaf l es) μ δ d n S k r room f s next =
         let x = n + fresh-all es in
         let us = atoms es μ n in
-        let depths = atoms-fitted F Γ es μ δ (f .0) n (f .2) (s .standing) in
+        let depths = atoms-fitted F Γ es μ δ (f .0) n (f .2) (s .meanings) in
         all-lines-formed es μ δ (f .0) n S (line (leaf x l us) k) r (omega arith) (f .2) s λ R more within seen. (
           n + fresh (E.leaf l es),
           record { above = omega arith; below = omega arith; small = omega arith },
@@ -162,20 +162,20 @@ module _ (F : Functions) (Γ : NameDepths) where
           n + fresh (E.if-else a b c),
           record { above = omega arith; below = omega arith; small = omega arith },
           (
-            record { seen = seen; guard = atom-fitted F Γ a μ δ 0 n (f .0) (s .standing) },
+            record { seen = seen; guard = atom-fitted F Γ a μ δ 0 n (f .0) (s .meanings) },
             (
               x + 1,
               omega arith,
               lines-formed b μ δ d (x + 1) R (end (atom b μ (x + 1))) (Γ x) (omega arith) (f .1) s₁
                   (λ Q more₁ within₁ seen₁.
-                  (seen₁, atom-fitted F Γ b μ δ d (x + 1) (f .1) (s₁ .standing) ∙ sym (f .3))),
+                  (seen₁, atom-fitted F Γ b μ δ d (x + 1) (f .1) (s₁ .meanings) ∙ sym (f .3))),
             ),
             (
               y,
               omega arith,
               lines-formed c μ δ d y R (end (atom c μ y)) (Γ x) (omega arith) (f .2) s₂
                   (λ Q more₁ within₁ seen₁.
-                  (seen₁, atom-fitted F Γ c μ δ d y (f .2) (s₂ .standing) ∙ sym (f .3))),
+                  (seen₁, atom-fitted F Γ c μ δ d y (f .2) (s₂ .meanings) ∙ sym (f .3))),
             ),
           ),
           bound-then k S R x _ r more within (omega arith) next,
@@ -190,22 +190,22 @@ module _ (F : Functions) (Γ : NameDepths) where
         let δ′ = with-depths xs (element-depths j ds) δ in
         let w = atom b μ′ i in
         let t = lines b μ′ i (end w) in
-        let depths = atoms-fitted F Γ es μ δ ds n (f .3) (s .standing) in
+        let depths = atoms-fitted F Γ es μ δ ds n (f .3) (s .meanings) in
         all-lines-formed es μ δ ds n S (line (loop x j ps us t) k) r (omega arith) (f .3) s λ R more within seen.
         let R′ = R ∪ just ps in
         let rising : Rising (suc x) ps i =
         subst (λ c. Rising c ps i) (let q : x + 1 ≡ suc x = omega arith in q)
         (subst (Rising (x + 1) ps) (let q : x + 1 + length xs ≡ i = omega arith in q) (numbered-rising xs (x + 1))) in
         let s₁ : InScope μ′ δ′ i R′ = record {
-          standing = standing-up μ′ δ′ (x + 1 + length xs) i Γ (omega arith)
-              (standing-with xs (element-depths j ds) μ δ (x + 1) Γ (f .6)
-              (standing-up μ δ n (x + 1) Γ (omega arith) (s .standing)));
+          meanings = meanings-up μ′ δ′ (x + 1 + length xs) i Γ (omega arith)
+              (meanings-with xs (element-depths j ds) μ δ (x + 1) Γ (f .6)
+              (meanings-up μ δ n (x + 1) Γ (omega arith) (s .meanings)));
           known = known-pass xs (x + 1) μ R′ (record { more = λ y e. or-right (R y) (just ps y) e })
               (λ y. known-more (μ y) S R′ (extends-or S R (just ps) more) (s .known y));
           within = within-pass R ps x (suc x) i (omega arith) rising within;
         } in
         let depth : atom-depth Γ (ending t) ≡ f .1 =
-        ap (atom-depth Γ) (ending-lines b μ′ i (end w)) ∙ atom-fitted F Γ b μ′ δ′ (f .1) i (f .4) (s₁ .standing) in
+        ap (atom-depth Γ) (ending-lines b μ′ i (end w)) ∙ atom-fitted F Γ b μ′ δ′ (f .1) i (f .4) (s₁ .meanings) in
         let fits : LoopType j (length ps) (length us) (map (atom-depth Γ) us) (atom-depth Γ (ending t)) (Γ x) =
         subst (λ c. LoopType j c (length us) (map (atom-depth Γ) us) (atom-depth Γ (ending t)) (Γ x))
         (sym (numbered-count xs (x + 1)))

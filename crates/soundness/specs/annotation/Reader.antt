@@ -1,12 +1,12 @@
 -- What the reader answers is within its limits (`file-limited`): operands are at most what their kind allows.
-use Prim.Native.Nat.{ℕ, zero, suc, _+_, _*_, _≤_, _/_, _%_}
+use Prim.Native.Nat.{ℕ, zero, suc, _+_, _≤_, _/_, _%_}
 use native.Mathlib.Omega.{arith}
 use mathlib.Core.Path.{_≡_, refl, sym, ap, _∙_, subst}
-use mathlib.Core.Bool.{Bool, true, false, cond, _&&_}
+use mathlib.Core.Bool.{Bool, true, false, cond}
 use mathlib.Core.List.{List, [], _∷_}
 use lib.IntN.{ℤ, pos, negsuc}
 use lib.ListN.{length, getD, take, drop}
-use lib.Dec.{eqb, ltb, leb}
+use lib.Dec.{eqb, leb}
 use borrow.Author.Tests.{leb-true, eqb-true}
 use Rattle.semantics.specs.Outcome.{Outcome, done, stop, _>>=_, _>>_, give, halt, times, onward}
 use Rattle.semantics.specs.Number.{bytes-at}
@@ -15,9 +15,9 @@ use Rattle.semantics.specs.Syntax.{Expr, exprs-of, Function, Script}
 use Rattle.semantics.specs.File.{Head, Node, fits, wrong-kind, wrong-operand, low-limits, high-limits, in-parts, Place}
 use Rattle.semantics.specs.File.{at-function, at-parameter, at-part, allowed, node-of, part-count, Read, next, looked}
 use Rattle.semantics.specs.File.{Shape, none, leaf-of, loop-of, shapes, shape-of, shaped, parts, node-at, look, part}
-use Rattle.semantics.specs.File.{parameter, function, finish, script, between, read-file}
+use Rattle.semantics.specs.File.{parameter, function, finish, script, read-file}
 use Rattle.soundness.specs.machine.Discipline.{LeafLimits, loop-arity}
-use Rattle.laws.specs.Tests.{both-hold}
+use Rattle.laws.specs.Files.{of-file}
 use Rattle.soundness.specs.annotation.Typed.{count, Limited, AllLimited}
 
 -- ---- facts of answers
@@ -265,30 +265,13 @@ abbrev pub ScriptLimits : Script → Type 0
 ScriptLimits fs = (1 ≤ length fs) × AllOf FunctionLimits fs
 
 pub file-limited : (file : List ℕ) → After ScriptLimits (read-file file)
-unfolding read-file
 file-limited file =
-    go (ltb (length file) 4) (between 1 32 count && between 1 1024 nodes) refl (eqb (length file) (4 + 9 * nodes))
+    let kinds = take (bytes-at 2 file 2) (drop 4 file) in
+    let operands = drop (4 + bytes-at 2 file 2) file in
+    of-file (After ScriptLimits) file tt tt (λ sizes. whole (script kinds operands (bytes-at 2 file 0) 0)
+    (sizes .functions .0) (script-limited kinds operands (bytes-at 2 file 0) .after 0))
   where
-    count : ℕ
-    count = bytes-at 2 file 0
-
-    nodes : ℕ
-    nodes = bytes-at 2 file 2
-
-    read : Outcome ℕ Script
-    read = script (take nodes (drop 4 file)) (drop (4 + nodes) file) count 0
-
-    whole : (o : Outcome ℕ Script) → 1 ≤ count → After (λ fs. (length fs ≡ count) × AllOf FunctionLimits fs) o →
-        After ScriptLimits o
+    whole : (o : Outcome ℕ Script) → 1 ≤ bytes-at 2 file 0 →
+        After (λ fs. (length fs ≡ bytes-at 2 file 0) × AllOf FunctionLimits fs) o → After ScriptLimits o
     whole (done fs p) h q = (omega (arith, q .0), q .1)
     whole (stop n p) h q = tt
-
-    go : (s t : Bool) → (between 1 32 count && between 1 1024 nodes) ≡ t → (u : Bool) →
-        After ScriptLimits (cond s (stop 1 0) (cond t (cond u read (stop 1 0)) (stop 2 0)))
-    go true t e u = tt
-    go false true e true =
-        let some-functions = both-hold (between 1 32 count) (between 1 1024 nodes) e .0 in
-        whole read (leb-true 1 count (both-hold (leb 1 count) (leb count 32) some-functions .0))
-        (script-limited (take nodes (drop 4 file)) (drop (4 + nodes) file) count .after 0)
-    go false true e false = tt
-    go false false e u = tt

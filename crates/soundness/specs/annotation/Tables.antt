@@ -4,6 +4,7 @@ use native.Mathlib.Omega.{arith}
 use mathlib.Core.Path.{_≡_, refl, ap, _∙_}
 use mathlib.Core.List.{List, [], _∷_, map}
 use lib.ListN.{length}
+use Rattle.laws.specs.Endings.{ending-lines}
 use Rattle.laws.specs.Updates.{updated-other, updated-same}
 use Rattle.semantics.specs.Basics.{updated}
 use Rattle.semantics.specs.Syntax as S
@@ -12,21 +13,6 @@ use Rattle.semantics.specs.Code.{Tree, end, ending}
 use Rattle.semantics.specs.Normal.{Meanings, fresh, fresh-all, atom, atoms, numbered, meaning-names, lines, all-lines}
 use Rattle.semantics.specs.Annotate.{NameDepths, atom-depth, with-depths, pass-depths, leaf-depth, loop-depth}
 use Rattle.semantics.specs.Annotate.{tree-depths}
-
-mutual
-  unfolding lines ending
-
-  pub ending-lines : (e : Expr) (μ : Meanings) (n : ℕ) (k : Tree) → ending (lines e μ n k) ≡ ending k
-  ending-lines (S.number z) μ n k = refl
-  ending-lines (S.name x) μ n k = refl
-  ending-lines (S.let-in x a b) μ n k = ending-lines a μ n _ ∙ ending-lines b (updated μ x (atom a μ n)) (n + fresh a) k
-  ending-lines (S.leaf l es) μ n k = ending-all-lines es μ n _
-  ending-lines (S.if-else a b c) μ n k = ending-lines a μ n _
-  ending-lines (S.loop j xs es b) μ n k = ending-all-lines es μ n _
-
-  ending-all-lines : (es : Exprs) (μ : Meanings) (n : ℕ) (k : Tree) → ending (all-lines es μ n k) ≡ ending k
-  ending-all-lines S.none μ n k = refl
-  ending-all-lines (S.more e es) μ n k = ending-lines e μ n _ ∙ ending-all-lines es μ (n + fresh e) k
 
 -- no name from n on, k of them
 abbrev pub Off : ℕ → ℕ → ℕ → Type 0

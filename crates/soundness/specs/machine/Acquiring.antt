@@ -20,7 +20,7 @@ use Rattle.semantics.specs.Demands.{value-of, touched, replayed, OutOfCells}
 use Rattle.semantics.specs.Basics.{_∈_}
 use Rattle.laws.specs.Tests.{say-and}
 use Rattle.laws.specs.Lists.{_⊆_}
-use Rattle.soundness.specs.store.Invariant.{Invariant, Stands}
+use Rattle.soundness.specs.store.Invariant.{Invariant, StandsFor}
 use Rattle.soundness.specs.store.Counting.{append-cases, in-append-left, in-append-right}
 use Rattle.soundness.specs.store.Kept.{reached, reached-more, keeps-fewer}
 use Rattle.soundness.specs.store.Acquire.{Acquires, none-left}
@@ -126,7 +126,7 @@ filled-depth d ws = refl
 
 -- a cell with this content stands for an array of this value
 pub cell-stands : {τ : Store} (d : ℕ) (w : ℤ) (v : Value) → value-of τ (suc d) w ≡ v →
-    0 < cell τ (cell-of w) .count → cell τ (cell-of w) .depth ≡ d → Stands τ (suc d) w v
+    0 < cell τ (cell-of w) .count → cell τ (cell-of w) .depth ≡ d → StandsFor τ (suc d) w v
 cell-stands {τ} d w v means used depth = record {
   means = means;
   fits = λ r h.

@@ -3,7 +3,7 @@ use Prim.Native.Nat.{ℕ, zero, suc}
 use native.Mathlib.Omega.{arith}
 use mathlib.Core.Path.{_≡_, refl, sym, ap, ap₂, _∙_, subst}
 use mathlib.Core.Logic.{inl, inr}
-use mathlib.Core.List.{List, [], _∷_, _++_, map}
+use mathlib.Core.List.{List, [], _∷_, _++_, map, map-append}
 use lib.IntN.{ℤ}
 use Rattle.semantics.specs.Basics.{occurrences, _∈_}
 use Rattle.semantics.specs.Value.{Value, num}
@@ -16,10 +16,9 @@ use Rattle.semantics.specs.Demands.{value-of}
 use Rattle.laws.specs.Lists.{_≈_, _⊆_, occurrences-append}
 use Rattle.laws.specs.Tests.{AllEqual}
 use Rattle.soundness.specs.normal.Plain.{value}
-use Rattle.soundness.specs.store.Invariant.{Invariant, Stands}
+use Rattle.soundness.specs.store.Invariant.{Invariant, StandsFor}
 use Rattle.soundness.specs.store.Counting.{append-cases, named-by-none}
 use Rattle.soundness.specs.store.Change.{permute}
-use Rattle.soundness.specs.machine.Images.{map-append}
 use Rattle.soundness.specs.machine.Frames.{hold, named-all, Arguments, none, more, Setting, given}
 use Rattle.soundness.specs.machine.Standing.{none-in, atom-stands, handed-split, handed-named, hold-split}
 
@@ -77,7 +76,7 @@ module _ (C : Setting) where
       permute Z (l ++ (hold ρ H′ ++ F)) v (λ c. refl) (handed-same ρ us H H′ F l spends e)
 
   module _ {σ : Store} {ρ : Frame} {δ : Env} (H : List ℕ) (numbers : (y : ℕ) → C .depths y ≡ 0 → num (ρ y) ≡ δ y)
-      (arrays : (y : ℕ) → y ∈ H → Stands σ (C .depths y) (ρ y) (δ y)) where
+      (arrays : (y : ℕ) → y ∈ H → StandsFor σ (C .depths y) (ρ y) (δ y)) where
     pub atoms-stand : (us : List Atom) → given C us ⊆ H →
         Arguments σ (map (atom-depth (C .depths)) us) (map (word ρ) us) (map (value δ) us)
     atoms-stand [] h = none

@@ -15,7 +15,7 @@ use Rattle.semantics.specs.Machine.{State, Frame}
 use Rattle.semantics.specs.Store.{Store, cell-of, named-by}
 use Rattle.semantics.specs.Sound.{all-inner}
 use Rattle.laws.specs.Lists.{_⊆_}
-use Rattle.soundness.specs.store.Invariant.{Invariant, Keeps, Stands}
+use Rattle.soundness.specs.store.Invariant.{Invariant, Keeps, StandsFor}
 use Rattle.soundness.specs.store.Counting.{in-append-left, in-append-right}
 use Rattle.soundness.specs.store.Change.{held-used}
 use Rattle.soundness.specs.store.Kept.{keeps-fewer, keeps-trans}
@@ -31,7 +31,7 @@ use Rattle.soundness.specs.machine.Standing.{hold-bound, hold-of-other, 
 module _ (C : Setting) where
   -- a name bound to a word that holds nothing: a number, or an array that is named in the store
   pub pending-situation : {σ : Store} {Z F R B H P : List ℕ} {ρ : Frame} {δ : Env} {n x : ℕ} {w : ℤ} {v : Value} →
-      Situation C σ Z F R B H P ρ δ n → occurrences x B ≡ 0 → occurrences x H ≡ 0 → Stands σ (C .depths x) w v →
+      Situation C σ Z F R B H P ρ δ n → occurrences x B ≡ 0 → occurrences x H ≡ 0 → StandsFor σ (C .depths x) w v →
       (0 < C .depths x → cell-of w ∈ all-inner (σ .cells)) →
       Situation C σ Z F R B H (own C x) (updated ρ x w) (updated δ x v) n
   pending-situation {σ} {Z} {F} {R} {B} {H} {P} {ρ} {δ} {n} {x} {w} {v} S apart-lent fresh stands named = record {
@@ -63,7 +63,7 @@ module _ (C : Setting) where
   -- what a call leaves alone stands as before
   pub returned-ended : {d : ℕ} {σ : Store} {Z F Δ : List ℕ} {ρ : Frame} {δ : Env} {n : ℕ} {w : ℤ} {s : State}
       {v : Value} {m : Meter} →
-      ((y : ℕ) → y ∈ Δ → Stands σ (C .depths y) (ρ y) (δ y)) →
+      ((y : ℕ) → y ∈ Δ → StandsFor σ (C .depths y) (ρ y) (δ y)) →
       Room Z (named-by d (w ∷ []) ++ (hold ρ Δ ++ F)) n →
       Returned (C .start) d σ Z (hold ρ Δ ++ F) w s v m → Ended C d σ Z F Δ ρ δ n w s v m
   returned-ended {d} {σ} {Z} {F} {Δ} {ρ} {δ} {n} {w} {s} arrays room r = record {
@@ -109,7 +109,7 @@ module _ (C : Setting) where
       ]
 
       array-at : (y : ℕ) → y ∈ (own C x ++ H) →
-          Stands (s .store) (C .depths y) (updated ρ x w y) (updated δ x v y)
+          StandsFor (s .store) (C .depths y) (updated ρ x w y) (updated δ x v y)
       array-at y h = elim (ℕ-discrete y x) [
         | yes q ↦ rw (q, updated-same ρ x w, updated-same δ x v) (e .answered .stands)
         | no q ↦ rw (updated-there ρ x w y q, updated-there δ x v y q)

@@ -19,7 +19,7 @@ use Rattle.semantics.specs.Store.{Store, cell-of}
 use Rattle.semantics.specs.Sound.{all-inner}
 use Rattle.laws.specs.Lists.{_⊆_}
 use Rattle.soundness.specs.normal.Plain.{value, run, run-line}
-use Rattle.soundness.specs.store.Invariant.{Invariant, Stands}
+use Rattle.soundness.specs.store.Invariant.{Invariant, StandsFor}
 use Rattle.soundness.specs.machine.Discipline.{LeafFits, LineHolding, LineFrugal, less}
 use Rattle.soundness.specs.machine.Growth.{Grows}
 use Rattle.soundness.specs.machine.Agreement.{Together, Agree, after-step}
@@ -53,7 +53,7 @@ module _ (C : Setting) where
   pub data Gave (l : Leaf) (x : ℕ) (σ : Store) (Z F : List ℕ) (w : ℤ) (s : State) (v : Value) (m : Meter) : Type 0 where
     holds : is-pending l ≡ false → Returned (C .start) (C .depths x) σ Z F w s v m → Gave l x σ Z F w s v m
     waits : is-pending l ≡ true → s .store ≡ σ → Together (C .start) s m → Invariant σ Z F →
-        Stands σ (C .depths x) w v → (0 < C .depths x → cell-of w ∈ all-inner (σ .cells)) → Gave l x σ Z F w s v m
+        StandsFor σ (C .depths x) w v → (0 < C .depths x → cell-of w ∈ all-inner (σ .cells)) → Gave l x σ Z F w s v m
 
   -- a result of the depth that the name has
   pub gave : {l : Leaf} {x : ℕ} {σ : Store} {Z F : List ℕ} {w : ℤ} {s : State} {v : Value} {m : Meter} (d : ℕ) →

@@ -18,7 +18,7 @@ use Rattle.semantics.specs.Store.{Store, Cell, cell-of, named-by, has-free, acq
 use Rattle.semantics.specs.Ledger.{wants-cell}
 use Rattle.semantics.specs.Demands.{value-of, touched, replayed, OutOfCells, Does}
 use Rattle.laws.specs.Lists.{occurrences-append}
-use Rattle.soundness.specs.store.Invariant.{Invariant, Stands}
+use Rattle.soundness.specs.store.Invariant.{Invariant, StandsFor}
 use Rattle.soundness.specs.store.Counting.{in-append-left, in-append-right}
 use Rattle.soundness.specs.store.Change.{held-used}
 use Rattle.soundness.specs.store.Rest.{Rests, rests-stands}
@@ -133,14 +133,14 @@ module _ (p : Program) (disciplined : ProgramDisciplined p) (careful : Bool)
         (λ r h. omega (arith, h, one-more r c held))
         (λ k. omega (arith, one-more k c held, named-few k d old))
 
-    totals-stand : Stands (ready .store) d old (value-of σ d old)
+    totals-stand : StandsFor (ready .store) d old (value-of σ d old)
     unfolding starting with-store
     totals-stand = stands-kept (rests-stands rests) (λ r h. (
       alike-trans (acquires .alike r (held-used (rests .holds) r h)) (main-begins .alike r),
       held-used (main-begins .invariant) r (in-append-left r held (c ∷ held) h),
     ))
 
-    readings-stand : Stands (ready .store) 1 (pos c) (numbers readings)
+    readings-stand : StandsFor (ready .store) 1 (pos c) (numbers readings)
     unfolding starting with-store value-of cell-of
     readings-stand = stands-kept
         (cell-stands 0 (pos c) (numbers readings) (acquires .value) (rw (acquires .new) (filled-count 0 readings))

@@ -2,19 +2,18 @@
 use Prim.Native.Nat.{ℕ, zero, suc, _<_}
 use native.Mathlib.Omega.{arith}
 use mathlib.Core.Bool.{true}
-use mathlib.Core.Path.{_≡_, refl, sym, ap, ap₂, _∙_, subst}
+use mathlib.Core.Path.{_≡_, refl, sym, ap, _∙_, subst}
 use mathlib.Core.List.{List, [], _∷_, map}
 use lib.IntN.{ℤ, pos, negsuc, natAbs}
 use lib.ListN.{length, getD, length-map, length-take}
 use borrow.Author.Tests.{ltb-true}
-use Rattle.semantics.specs.Basics.{occurrences, _∈_}
+use Rattle.semantics.specs.Basics.{_∈_}
 use Rattle.semantics.specs.Number.{inside}
 use Rattle.semantics.specs.Value.{Value, list, items}
 use Rattle.semantics.specs.Store.{Store, Cell, cell, cell-of, elements, inner, named-by}
 use Rattle.semantics.specs.Sound.{all-inner}
 use Rattle.semantics.specs.Demands.{value-of}
-use Rattle.laws.specs.Lists.{occurs-first}
-use Rattle.soundness.specs.store.Invariant.{Invariant, Alike, Stands, Tidy}
+use Rattle.soundness.specs.store.Invariant.{Invariant, StandsFor, Tidy}
 use Rattle.soundness.specs.store.Counting.{named-at}
 use Rattle.soundness.specs.store.Cells.{inner-in-all}
 use Rattle.soundness.specs.store.Change.{inner-used}
@@ -28,7 +27,7 @@ items-list (v ∷ l) = ap {B = List Value} (λ r. v ∷ r) (items-list l)
 abbrev pub words-of : Store → ℤ → List ℤ
 words-of σ w = elements (cell σ (cell-of w))
 
-module _ {σ : Store} {d : ℕ} {w : ℤ} {v : Value} (s : Stands σ (suc d) w v) where
+module _ {σ : Store} {d : ℕ} {w : ℤ} {v : Value} (s : StandsFor σ (suc d) w v) where
   pub array-items : items v ≡ map (value-of σ d) (words-of σ w)
   unfolding value-of
   array-items = ap items (sym (s .means)) ∙ items-list (map (value-of σ d) (words-of σ w))
@@ -57,19 +56,8 @@ pub elements-length : (x : Cell) → Tidy x → length (elements x) ≡ x .size
 unfolding elements
 elements-length x t = omega (arith, length-take (x .size) (x .slots), t .whole, t .size)
 
--- words whose cells are alike have the same values
-pub words-alike : {σ τ : Store} (d : ℕ) (ws : List ℤ) →
-    ((r : ℕ) → r ∈ named-by d ws → Alike σ τ r × (d ≡ suc (cell σ r .depth))) →
-    map (value-of τ d) ws ≡ map (value-of σ d) ws
-unfolding occurrences value-of
-words-alike zero ws f = refl
-words-alike (suc d) [] f = refl
-words-alike (suc d) (w ∷ ws) f =
-    let a = f (cell-of w) (occurs-first (cell-of w) (map cell-of ws)) in
-    ap₂ {C = List Value} _∷_ (a .0 .values (suc d) w refl (a .1)) (words-alike (suc d) ws (λ r h. f r (omega arith)))
-
 -- an element, as the word at i
-module _ {σ : Store} {Z R : List ℕ} {d : ℕ} {w : ℤ} {v : Value} (inv : Invariant σ Z R) (s : Stands σ (suc d) w v)
+module _ {σ : Store} {Z R : List ℕ} {d : ℕ} {w : ℤ} {v : Value} (inv : Invariant σ Z R) (s : StandsFor σ (suc d) w v)
     (i : ℕ) (within : i < length (words-of σ w)) where
   abbrev element : ℤ
   element = getD (words-of σ w) i (pos 0)
@@ -91,7 +79,7 @@ module _ {σ : Store} {Z R : List ℕ} {d : ℕ} {w : ℤ} {v : Value} (inv : In
       go zero e g = absurd (omega arith)
       go (suc k) e g = omega (arith, element-inner k e, inner-in-all (cell-of element) σ (cell-of w))
 
-  pub element-stands : (b : Value) → Stands σ d element (getD (items v) i b)
+  pub element-stands : (b : Value) → StandsFor σ d element (getD (items v) i b)
   element-stands b = record { means = element-value b; fits = fits d refl }
     where
       fits : (k : ℕ) → d ≡ k → (r : ℕ) → r ∈ named-by k (element ∷ []) →

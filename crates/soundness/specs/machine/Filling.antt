@@ -5,7 +5,7 @@ use native.Mathlib.Decide.{decLt}
 use mathlib.Core.Bool.{true}
 use mathlib.Core.Path.{_≡_, refl, sym, ap, ap₂, _∙_, subst}
 use mathlib.Core.Logic.{_≢_, inl, inr}
-use mathlib.Core.List.{List, [], _∷_, _++_, map}
+use mathlib.Core.List.{List, [], _∷_, _++_, map, map-append}
 use lib.IntN.{ℤ, pos}
 use lib.ListN.{length, length-append}
 use Rattle.semantics.specs.Basics.{occurrences, _∈_}
@@ -16,18 +16,17 @@ use Rattle.semantics.specs.Machine.{State, Frame, with-store, touching}
 use Rattle.semantics.specs.Store.{Store, Cell, cell, cell-of, elements, inner, named-by, has-free, acquired, appended}
 use Rattle.semantics.specs.Demands.{value-of}
 use Rattle.laws.specs.Lists.{_⊆_, occurrences-append, occurs-first}
-use Rattle.soundness.specs.store.Invariant.{Invariant, Alike, Keeps, Stands}
+use Rattle.soundness.specs.store.Invariant.{Invariant, Alike, Keeps, StandsFor}
 use Rattle.soundness.specs.store.Counting.{in-append-left, in-append-right, named-by-append}
 use Rattle.soundness.specs.store.Change.{permute, commit, held-used}
-use Rattle.soundness.specs.store.Kept.{keeps-trans, keeps-fewer, stands-kept}
+use Rattle.soundness.specs.store.Kept.{keeps-trans, keeps-fewer, stands-kept, words-alike}
 use Rattle.soundness.specs.store.Acquire.{Reserves, reserve, filled-elements}
 use Rattle.soundness.specs.store.Append.{Appends, append}
-use Rattle.soundness.specs.machine.Images.{map-append, without-middle, first-or-later, one-more}
+use Rattle.soundness.specs.machine.Images.{without-middle, first-or-later, one-more}
 use Rattle.soundness.specs.machine.Agreement.{Together}
 use Rattle.soundness.specs.machine.Frames.{hold, Setting, Situation, Lent, Ended, given}
 use Rattle.soundness.specs.machine.Standing.{hold-aside, none-in, named-one, stands-held, lent-kept}
 use Rattle.soundness.specs.machine.Elements.{items-list, array-items, array-length, array-depth, elements-length}
-use Rattle.soundness.specs.machine.Elements.{words-alike}
 use Rattle.soundness.specs.machine.Acquiring.{filled-count, filled-depth, cell-stands}
 use Rattle.soundness.specs.machine.Situations.{touch-together}
 use Rattle.soundness.specs.machine.Spending.{less-in}
@@ -39,7 +38,7 @@ module _ (C : Setting) (d : ℕ) (Z F R L I : List ℕ) (ρ : Frame) (δ : Env) 
   -- between two passes, of which i are done and filled the cell of w; before the first the store was σ
   pub record Passing (σ : Store) (i : ℕ) (w : ℤ) (v : Value) (τ : Store) : Type 0 where
     pub situation : Situation C τ (cell-of w ∷ Z) F R L I [] ρ δ n
-    pub filled : Stands τ (suc d) w v
+    pub filled : StandsFor τ (suc d) w v
     pub size : length (items v) ≤ i
     pub keeps : Keeps σ τ (Z ++ F)
 
@@ -60,7 +59,7 @@ module _ (C : Setting) (d : ℕ) (Z F R L I : List ℕ) (ρ : Frame) (δ : Env) 
     once : cell υ c .count ≡ 1
     once = inv .alone c filling
 
-    pub still-filled : Stands υ (suc d) w x
+    pub still-filled : StandsFor υ (suc d) w x
     still-filled = stands-kept (P .filled) (λ q h.
         let g = named-one (suc d) w q h in (
           subst (λ (k : ℕ). Alike τ υ k) (sym g) (E .keeps .keep c (in-append-left c (c ∷ Z) F filling)),

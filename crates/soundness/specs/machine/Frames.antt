@@ -15,7 +15,7 @@ use Rattle.semantics.specs.Machine as Machine
 use Rattle.semantics.specs.Store.{Store, cell-of, named-by}
 use Rattle.semantics.specs.Sound.{all-inner}
 use Rattle.laws.specs.Lists.{_⊆_}
-use Rattle.soundness.specs.store.Invariant.{Invariant, Keeps, Stands}
+use Rattle.soundness.specs.store.Invariant.{Invariant, Keeps, StandsFor}
 use Rattle.soundness.specs.store.Retain.{most-references}
 use Rattle.soundness.specs.machine.Discipline.{hold-of, handed, holds-after, waits-after}
 use Rattle.soundness.specs.machine.Agreement.{Start, Together}
@@ -40,12 +40,12 @@ pub record Setting : Type 0 where
 
 -- a name that holds nothing yet: its cell is named in the store
 pub record Pending (σ : Store) (d : ℕ) (w : ℤ) (v : Value) : Type 0 where
-  pub stands : Stands σ d w v
+  pub stands : StandsFor σ d w v
   pub named : cell-of w ∈ all-inner (σ .cells)
 
 -- a name that holds nothing, but whose cell is among those of others
 pub record Lent (σ : Store) (F : List ℕ) (d : ℕ) (w : ℤ) (v : Value) : Type 0 where
-  pub stands : Stands σ d w v
+  pub stands : StandsFor σ d w v
   pub kept : cell-of w ∈ F
 
 -- what a name holds, and what some atoms hand over
@@ -61,7 +61,7 @@ given C us = handed (C .depths) us
 pub record Situation (C : Setting) (σ : Store) (Z F R B H P : List ℕ) (ρ : Frame) (δ : Env) (n : ℕ) : Type 0 where
   pub invariant : Invariant σ Z (hold ρ H ++ F)
   pub numbers : (y : ℕ) → C .depths y ≡ 0 → num (ρ y) ≡ δ y
-  pub arrays : (y : ℕ) → y ∈ H → Stands σ (C .depths y) (ρ y) (δ y)
+  pub arrays : (y : ℕ) → y ∈ H → StandsFor σ (C .depths y) (ρ y) (δ y)
   pub pending : (y : ℕ) → y ∈ P → Pending σ (C .depths y) (ρ y) (δ y)
   pub lent : (y : ℕ) → y ∈ B → Lent σ F (C .depths y) (ρ y) (δ y)
   pub room : Room Z (hold ρ H ++ F) n
@@ -71,7 +71,7 @@ pub record Situation (C : Setting) (σ : Store) (Z F R B H P : List ℕ) (ρ : F
 pub record Answered (start : Start) (d : ℕ) (Z F : List ℕ) (w : ℤ) (s : State) (v : Value) (m : Meter) : Type 0 where
   pub together : Together start s m
   pub invariant : Invariant (s .store) Z (named-by d (w ∷ []) ++ F)
-  pub stands : Stands (s .store) d w v
+  pub stands : StandsFor (s .store) d w v
 
 -- after a call, before which the store was σ
 pub record Returned (start : Start) (d : ℕ) (σ : Store) (Z F : List ℕ) (w : ℤ) (s : State) (v : Value)
@@ -88,7 +88,7 @@ named-all (d ∷ ds) (w ∷ ws) = named-by d (w ∷ []) ++ named-all ds ws
 pub data Arguments (σ : Store) : List ℕ → List ℤ → List Value → Type 0 where
   none : Arguments σ [] [] []
   more : {d : ℕ} {w : ℤ} {v : Value} {ds : List ℕ} {ws : List ℤ} {vs : List Value} →
-      Stands σ d w v → Arguments σ ds ws vs → Arguments σ (d ∷ ds) (w ∷ ws) (v ∷ vs)
+      StandsFor σ d w v → Arguments σ ds ws vs → Arguments σ (d ∷ ds) (w ∷ ws) (v ∷ vs)
 
 module _ (C : Setting) where
   -- after a tree that leaves the holds Δ, before which the store was σ
@@ -96,7 +96,7 @@ module _ (C : Setting) where
       (m : Meter) : Type 0 where
     pub answered : Answered (C .start) d Z (hold ρ Δ ++ F) w s v m
     pub room : Room Z (named-by d (w ∷ []) ++ (hold ρ Δ ++ F)) n
-    pub arrays : (y : ℕ) → y ∈ Δ → Stands (s .store) (C .depths y) (ρ y) (δ y)
+    pub arrays : (y : ℕ) → y ∈ Δ → StandsFor (s .store) (C .depths y) (ρ y) (δ y)
     pub keeps : Keeps σ (s .store) (Z ++ F)
 
   -- after a line, with the frame and the environment in which the tree goes on; the names Δ that the tree leaves are as

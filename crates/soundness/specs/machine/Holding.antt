@@ -1,5 +1,5 @@
 -- The lines that retain and release.
-use Prim.Native.Nat.{ℕ, suc, _+_, _<_, _≤_}
+use Prim.Native.Nat.{ℕ, suc, _+_, _<_}
 use native.Mathlib.Omega.{arith}
 use mathlib.Core.Path.{refl, sym, subst}
 use mathlib.Core.Logic.{inl, inr}
@@ -12,7 +12,7 @@ use Rattle.semantics.specs.Machine.{Frame, with-store, release-events, work-lin
 use Rattle.semantics.specs.Store.{Store, cell, cell-of, retained, released, deepest}
 use Rattle.semantics.specs.Sound.{all-inner}
 use Rattle.soundness.specs.normal.Plain.{run-line}
-use Rattle.soundness.specs.store.Invariant.{Invariant, Keeps, Stands}
+use Rattle.soundness.specs.store.Invariant.{Invariant, Keeps, StandsFor}
 use Rattle.soundness.specs.store.Counting.{in-append-left, in-append-right, append-cases}
 use Rattle.soundness.specs.store.Change.{permute, held-used}
 use Rattle.soundness.specs.store.Kept.{keeps-fewer}
@@ -21,12 +21,12 @@ use Rattle.soundness.specs.store.Retain as Store-retain
 use Rattle.soundness.specs.store.Release.{Releases, releases-keep}
 use Rattle.soundness.specs.store.Release as Store-release
 use Rattle.laws.specs.Lists.{_≈_}
-use Rattle.soundness.specs.machine.Images.{image-in, without-middle, first-or-later, one-more}
+use Rattle.soundness.specs.machine.Images.{image-in, without-middle, first-or-later}
 use Rattle.soundness.specs.machine.Agreement.{both, with-store-together}
 use Rattle.soundness.specs.machine.Frames.{hold, Setting, Situation}
 use Rattle.soundness.specs.machine.Standing.{none-in, stands-held, hold-split, lent-kept}
 use Rattle.soundness.specs.machine.Size.{line-adds}
-use Rattle.soundness.specs.machine.Situations.{room-less, room-one, room-fewer, touch-together}
+use Rattle.soundness.specs.machine.Situations.{room-less, room-one, room-spent, touch-together}
 use Rattle.soundness.specs.machine.Claims.{LineClaim}
 use Rattle.soundness.specs.machine.Discipline.{less, holds-after}
 use Rattle.soundness.specs.machine.Spending.{spend-split, spend-one, less-in}
@@ -35,7 +35,7 @@ module _ (C : Setting) where
   -- a name that may be retained: its cell is held or named, and it stands for its value
   record Retainable (σ : Store) (F H : List ℕ) (ρ : Frame) (δ : Env) (x : ℕ) : Type 0 where
     pub named : 0 < occurrences (cell-of (ρ x)) (hold ρ H ++ F) + occurrences (cell-of (ρ x)) (all-inner (σ .cells))
-    pub stands : Stands σ (C .depths x) (ρ x) (δ x)
+    pub stands : StandsFor σ (C .depths x) (ρ x) (δ x)
 
   retainable : {σ : Store} {Z F R B H P : List ℕ} {ρ : Frame} {δ : Env} {n : ℕ} (x : ℕ) →
       Situation C σ Z F R B H P ρ δ n → x ∈ (P ++ (B ++ H)) → Retainable σ F H ρ δ x
@@ -88,9 +88,9 @@ module _ (C : Setting) where
       r : Retains σ (retained c σ) c Z (hold ρ H ++ F)
       r = Store-retain.retain c (S .invariant) (able .named) (omega (arith, S .room .few c))
 
-      stood : (y : ℕ) → y ∈ (x ∷ H) → Stands σ (C .depths y) (ρ y) (δ y)
+      stood : (y : ℕ) → y ∈ (x ∷ H) → StandsFor σ (C .depths y) (ρ y) (δ y)
       stood y h = elim (first-or-later y x H h) [
-        | inl e ↦ subst (λ (k : ℕ). Stands σ (C .depths k) (ρ k) (δ k)) (sym e) (able .stands)
+        | inl e ↦ subst (λ (k : ℕ). StandsFor σ (C .depths k) (ρ k) (δ k)) (sym e) (able .stands)
         | inr g ↦ S .arrays y g
       ]
 
@@ -108,7 +108,7 @@ module _ (C : Setting) where
       pending = λ y h. absurd (none-in y h);
       lent = λ y h. lent-kept Z F kept (λ k g. held-used (r .holds) k (in-append-right k (hold ρ H′) F g))
           (S .lent y h);
-      room = room-fewer (hold ρ H′ ++ F) fewer (room-less n (S .room) (omega arith));
+      room = room-spent ρ (x ∷ []) H F (room-less n (S .room) (omega arith));
       rooted = S .rooted;
     };
     keeps = kept;
@@ -139,6 +139,3 @@ module _ (C : Setting) where
 
       kept : Keeps σ (released deepest c σ) (Z ++ F)
       kept = keeps-fewer (Z ++ (hold ρ H′ ++ F)) (Z ++ F) (without-middle Z (hold ρ H′) F) keeps
-
-      fewer : (k : ℕ) → occurrences k (hold ρ H′ ++ F) ≤ occurrences k (hold ρ H ++ F)
-      fewer k = omega (arith, hold-split ρ H (x ∷ []) H′ F split k, one-more k c (hold ρ H′ ++ F))

@@ -81,10 +81,6 @@ image-fewer f (x ∷ l) m h c =
     let q = take-out f x m (omega (arith, h x, hits-itself x)) in
     omega (arith, q .images c, image-fewer f l (q .rest) (λ n. omega (arith, h n, q .counts n)) c)
 
-pub map-append : {A B : Type 0} (f : A → B) (l m : List A) → map f (l ++ m) ≡ map f l ++ map f m
-map-append f [] m = refl
-map-append {B = B} f (x ∷ l) m = ap {B = List B} (λ r. f x ∷ r) (map-append f l m)
-
 -- two functions that agree on a list
 pub image-alike : (f g : ℕ → ℕ) (l : List ℕ) → ((n : ℕ) → n ∈ l → f n ≡ g n) → map f l ≡ map g l
 unfolding occurrences

@@ -1,12 +1,12 @@
 -- The line of a leaf: what the leaf gave is bound to its name.
-use Prim.Native.Nat.{ℕ, suc, _+_, _≤_}
+use Prim.Native.Nat.{ℕ, suc, _+_}
 use native.Mathlib.Omega.{arith}
 use mathlib.Core.Bool.{Bool, false, cond}
 use mathlib.Core.Path.{_≡_, sym, ap, subst}
 use mathlib.Core.List.{List, [], _++_}
 use lib.IntN.{ℤ}
 use Rattle.laws.specs.Updates.{updated-there}
-use Rattle.semantics.specs.Basics.{occurrences, updated}
+use Rattle.semantics.specs.Basics.{updated}
 use Rattle.semantics.specs.Outcome.{done}
 use Rattle.semantics.specs.Value.{Value}
 use Rattle.semantics.specs.Kinds.{Leaf, leaf-hands, is-pending}
@@ -14,18 +14,18 @@ use Rattle.semantics.specs.Code.{Atom, leaf}
 use Rattle.semantics.specs.Meaning.{Meter, Env}
 use Rattle.semantics.specs.Machine.{State, Frame, work-line}
 use Rattle.semantics.specs.Machine as Machine
-use Rattle.semantics.specs.Store.{Store, cell-of}
-use Rattle.laws.specs.Lists.{_≈_, occurrences-append}
+use Rattle.semantics.specs.Store.{Store}
+use Rattle.laws.specs.Lists.{_≈_}
 use Rattle.soundness.specs.normal.Plain.{run-line}
 use Rattle.soundness.specs.store.Kept.{keeps-self}
 use Rattle.soundness.specs.store.Invariant.{Invariant, Keeps}
 use Rattle.soundness.specs.machine.Discipline.{less, holds-after, leaf-holds, leaf-waits}
 use Rattle.soundness.specs.machine.Spending.{spend-split, less-in, less-counts}
-use Rattle.soundness.specs.machine.Images.{apart, image-fewer}
+use Rattle.soundness.specs.machine.Images.{apart}
 use Rattle.soundness.specs.machine.Growth.{give-grows}
 use Rattle.soundness.specs.machine.Agreement.{both, agree-after, agree-bind}
 use Rattle.soundness.specs.machine.Frames.{hold, Setting, Situation, Going, given, own}
-use Rattle.soundness.specs.machine.Situations.{situation-less, room-given, room-fewer, room-less}
+use Rattle.soundness.specs.machine.Situations.{situation-less, room-given, room-spent, room-less}
 use Rattle.soundness.specs.machine.Standing.{none-in}
 use Rattle.soundness.specs.machine.Binding.{pending-situation, returned-ended, name-bound}
 use Rattle.soundness.specs.machine.Size.{line-adds}
@@ -51,17 +51,9 @@ module _ (C : Setting) where
       arrays = λ y h. S .arrays y (less-in (given C (leaf-hands l us)) H y h);
       pending = λ y h. absurd (none-in y h);
       lent = S .lent;
-      room = room-fewer (hold ρ H′ ++ F) fewer (room-less n (S .room) (omega arith));
+      room = room-spent ρ (given C (leaf-hands l us)) H F (room-less n (S .room) (omega arith));
       rooted = S .rooted;
     }
-      where
-        fewer : (c : ℕ) → occurrences c (hold ρ H′ ++ F) ≤ occurrences c (hold ρ H ++ F)
-        fewer c = omega (
-          arith,
-          occurrences-append c (hold ρ H′) F,
-          occurrences-append c (hold ρ H) F,
-          image-fewer (λ y. cell-of (ρ y)) H′ H (λ k. omega (arith, less-counts (given C (leaf-hands l us)) H k)) c,
-        )
 
     -- a line whose leaf gave a word, in whatever way
     pub leaf-going : {σ : Store} {Z F R : List ℕ} {ρ : Frame} {δ : Env} {n : ℕ} {w : ℤ} {s : State} {v : Value}

@@ -13,7 +13,7 @@ use Rattle.semantics.specs.Value.{Value, num}
 use Rattle.semantics.specs.Machine.{frame-from}
 use Rattle.semantics.specs.Store.{Store, cell-of}
 use Rattle.soundness.specs.normal.Plain.{values-from}
-use Rattle.soundness.specs.store.Invariant.{Stands}
+use Rattle.soundness.specs.store.Invariant.{StandsFor}
 use Rattle.soundness.specs.machine.Discipline.{parameter-holds}
 use Rattle.soundness.specs.machine.Images.{first-or-later}
 use Rattle.soundness.specs.machine.Frames.{hold, named-all, Arguments, none, more}
@@ -34,7 +34,7 @@ depths-at (d ∷ ds) n (suc i) =
     ∙ ap (depths-from ds (suc n)) (omega arith) ∙ depths-at ds (suc n) i
 
 names-stand : {σ : Store} {ds : List ℕ} {ws : List ℤ} {vs : List Value} → Arguments σ ds ws vs → (n y : ℕ) →
-    Stands σ (depths-from ds n y) (frame-from ws n y) (values-from vs n y)
+    StandsFor σ (depths-from ds n y) (frame-from ws n y) (values-from vs n y)
 unfolding depths-from frame-from values-from
 names-stand none n y = number-stands (pos 0) (num (pos 0)) refl
 names-stand (more {d} {w} {v} {ds} {ws} {vs} s rest) n y = elim (ℕ-discrete y n) [
@@ -86,11 +86,11 @@ module _ {σ : Store} {ds : List ℕ} {ws : List ℤ} {vs : List Value} (args : 
   depth-of : (y : ℕ) → depths-from ds 0 y ≡ getD ds y 0
   depth-of y = ap (depths-from ds 0) (omega arith) ∙ depths-at ds 0 y
 
-  below-stand : (y : ℕ) → y < length ds → Stands σ (Γ y) (frame-from ws 0 y) (values-from vs 0 y)
-  below-stand y h = subst (λ (d : ℕ). Stands σ d (frame-from ws 0 y) (values-from vs 0 y))
+  below-stand : (y : ℕ) → y < length ds → StandsFor σ (Γ y) (frame-from ws 0 y) (values-from vs 0 y)
+  below-stand y h = subst (λ (d : ℕ). StandsFor σ d (frame-from ws 0 y) (values-from vs 0 y))
       (depth-of y ∙ sym (depths y h)) (names-stand args 0 y)
 
-  pub parameter-arrays : (y : ℕ) → y ∈ parameter-holds ds 0 → Stands σ (Γ y) (frame-from ws 0 y) (values-from vs 0 y)
+  pub parameter-arrays : (y : ℕ) → y ∈ parameter-holds ds 0 → StandsFor σ (Γ y) (frame-from ws 0 y) (values-from vs 0 y)
   parameter-arrays y h = below-stand y (omega (arith, held-range ds 0 y h))
 
   pub parameter-numbers : (y : ℕ) → Γ y ≡ 0 → num (frame-from ws 0 y) ≡ values-from vs 0 y

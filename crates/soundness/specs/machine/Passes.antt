@@ -22,7 +22,7 @@ use Rattle.semantics.specs.Store.{Store, cell, cell-of}
 use Rattle.semantics.specs.Sound.{all-inner}
 use Rattle.laws.specs.Lists.{_≈_, _⊆_, occurrences-append, hits}
 use Rattle.soundness.specs.normal.Plain.{value}
-use Rattle.soundness.specs.store.Invariant.{Invariant, Stands, Tidy}
+use Rattle.soundness.specs.store.Invariant.{Invariant, StandsFor, Tidy}
 use Rattle.soundness.specs.store.Counting.{append-cases, in-append-left, in-append-right}
 use Rattle.soundness.specs.machine.Discipline.{less, unlent, _⊑_, Covered}
 use Rattle.soundness.specs.machine.Spending.{spend-split, unlent-few, lent-or-not, unlent-not-lent}
@@ -73,11 +73,11 @@ module _ {start : Start} (Carried : ℕ → ℤ → State → Value → Meter �
 pub record Item (σ : Store) (d : ℕ) (w : ℤ) (v : Value) (i : ℕ) : Type 0 where
   pub used : 0 < cell σ (cell-of w) .count
   pub few : i < 16
-  pub stands : Stands σ d (getD (words-of σ w) i (pos 0)) (getD (items v) i (num (pos 0)))
+  pub stands : StandsFor σ d (getD (words-of σ w) i (pos 0)) (getD (items v) i (num (pos 0)))
   pub named : 0 < d → cell-of (getD (words-of σ w) i (pos 0)) ∈ all-inner (σ .cells)
 
 pub element-at-pass : {σ : Store} {Z R : List ℕ} {d : ℕ} {w : ℤ} {v : Value} (i : ℕ) → Invariant σ Z R →
-    Stands σ (suc d) w v → i < length (items v) → Item σ d w v i
+    StandsFor σ (suc d) w v → i < length (items v) → Item σ d w v i
 element-at-pass {σ} {w = w} i inv array h = record {
   used = array-used array;
   few = omega (arith, within, elements-length (cell σ (cell-of w)) tidy, tidy .size);
@@ -145,7 +145,7 @@ module _ (C : Setting) (a : Atom) (B H : List ℕ) where
 
     -- the names lent stand, and their cells are among what others hold
     pub lend : {σ : Store} {F : List ℕ} {ρ : Frame} {δ : Env} →
-        ((y : ℕ) → y ∈ H → Stands σ (C .depths y) (ρ y) (δ y)) →
+        ((y : ℕ) → y ∈ H → StandsFor σ (C .depths y) (ρ y) (δ y)) →
         ((y : ℕ) → y ∈ B → Lent σ F (C .depths y) (ρ y) (δ y)) →
         (y : ℕ) → y ∈ lent-names → Lent σ (hold ρ kept-aside ++ F) (C .depths y) (ρ y) (δ y)
     lend {σ} {F} {ρ} {δ} arrays lent y h = elim (append-cases y (given C (a ∷ [])) B h) [
@@ -169,15 +169,15 @@ module _ (C : Setting) (a : Atom) (B H : List ℕ) where
   pub lent-array : {τ : Store} {F : List ℕ} {ρ : Frame} {δ : Env} {d : ℕ} →
       ((y : ℕ) → C .depths y ≡ 0 → num (ρ y) ≡ δ y) →
       ((y : ℕ) → y ∈ lent-names → Lent τ F (C .depths y) (ρ y) (δ y)) →
-      atom-depth (C .depths) a ≡ d → Stands τ d (word ρ a) (value δ a)
+      atom-depth (C .depths) a ≡ d → StandsFor τ d (word ρ a) (value δ a)
   lent-array numbers lent e = atom-stands C lent-names numbers (λ y h. lent y h .stands) a e
       (λ n h. in-append-left n (given C (a ∷ [])) B h)
 
   -- after the passes the names held before stand: those set aside are lent, the others are held
   pub lend-back : {τ : Store} {F : List ℕ} {ρ : Frame} {δ : Env} → given C (a ∷ []) ⊆ (B ++ H) →
       ((y : ℕ) → y ∈ lent-names → Lent τ F (C .depths y) (ρ y) (δ y)) →
-      ((y : ℕ) → y ∈ outer → Stands τ (C .depths y) (ρ y) (δ y)) →
-      (y : ℕ) → y ∈ H → Stands τ (C .depths y) (ρ y) (δ y)
+      ((y : ℕ) → y ∈ outer → StandsFor τ (C .depths y) (ρ y) (δ y)) →
+      (y : ℕ) → y ∈ H → StandsFor τ (C .depths y) (ρ y) (δ y)
   lend-back reads lent arrays y h = elim (append-cases y kept-aside outer (omega (arith, h, lend-split reads y))) [
     | inl g ↦ lent y (in-append-left y (given C (a ∷ [])) B
         (omega (arith, g, unlent-few B (given C (a ∷ [])) y))) .stands

@@ -5,16 +5,17 @@ use mathlib.Core.Path.{ap, _≡_, refl}
 use mathlib.Core.Option.{some}
 use mathlib.Core.List.{List, [], _∷_, _++_}
 use lib.IntN.{ℤ}
-use Rattle.semantics.specs.Basics.{occurrences}
 use Rattle.semantics.specs.Meaning.{Meter, Env}
 use Rattle.semantics.specs.Machine.{State, Frame, with-store, touching}
-use Rattle.semantics.specs.Store.{Store, cell, cell-count, named-by}
+use Rattle.semantics.specs.Store.{Store, cell, cell-of, cell-count, named-by}
 use Rattle.semantics.specs.Sound.{free-list}
 use Rattle.semantics.specs.Demands.{touched, replayed}
 use Rattle.laws.specs.Lists.{_≈_, occurrences-append}
 use Rattle.soundness.specs.store.Invariant.{Invariant}
 use Rattle.soundness.specs.store.Change.{touch}
-use Rattle.soundness.specs.machine.Images.{one-more}
+use Rattle.soundness.specs.machine.Images.{image-fewer, one-more}
+use Rattle.soundness.specs.machine.Discipline.{less}
+use Rattle.soundness.specs.machine.Spending.{less-counts}
 use Rattle.soundness.specs.machine.Standing.{none-in, named-few, hold-split}
 use Rattle.soundness.specs.machine.Agreement.{Start, Together, with-store-together}
 use Rattle.soundness.specs.machine.Frames.{hold, Room, Setting, Situation}
@@ -51,9 +52,18 @@ settled S = record {
 pub room-one : {Z R : List ℕ} (c n : ℕ) → Room Z R (suc n) → Room Z (c ∷ R) n
 room-one {Z} {R} c n r = record { few = λ k. omega (arith, r .few k, one-more k c R) }
 
-pub room-fewer : {Z R : List ℕ} {n : ℕ} (R′ : List ℕ) → ((c : ℕ) → occurrences c R′ ≤ occurrences c R) → Room Z R n →
-    Room Z R′ n
-room-fewer R′ h r = record { few = λ c. omega (arith, h c, r .few c) }
+-- some holds spent
+pub room-spent : {Z : List ℕ} {n : ℕ} (ρ : Frame) (l H F : List ℕ) → Room Z (hold ρ H ++ F) n →
+    Room Z (hold ρ (less l H) ++ F) n
+room-spent ρ l H F r = record {
+  few = λ c. omega (
+    arith,
+    r .few c,
+    occurrences-append c (hold ρ H) F,
+    occurrences-append c (hold ρ (less l H)) F,
+    image-fewer (λ y. cell-of (ρ y)) (less l H) H (λ k. omega (arith, less-counts l H k)) c,
+  );
+}
 
 -- a result in place of what some names handed over
 pub room-given : {Z : List ℕ} {n : ℕ} (ρ : Frame) (H l H′ F : List ℕ) (d : ℕ) (w : ℤ) → H ≈ l ++ H′ →

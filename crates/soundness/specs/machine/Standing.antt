@@ -4,7 +4,7 @@ use native.Mathlib.Omega.{arith}
 use mathlib.Core.Path.{_≡_, refl, sym, ap, ap₂, _∙_, subst}
 use mathlib.Core.Logic.{_≢_, inl, inr}
 use mathlib.Core.Bool.{Bool, true, false}
-use mathlib.Core.List.{List, [], _∷_, _++_, append-nil}
+use mathlib.Core.List.{List, [], _∷_, _++_, append-nil, map-append}
 use lib.IntN.{ℤ}
 use lib.Dec.{ltb}
 use borrow.Author.Tests.{lt-ltb}
@@ -19,10 +19,10 @@ use Rattle.semantics.specs.Store.{Store, cell, cell-of, named-by}
 use Rattle.semantics.specs.Demands.{value-of}
 use Rattle.laws.specs.Lists.{_≈_, _⊆_, hits, occurrences-append, occurs-first}
 use Rattle.soundness.specs.normal.Plain.{value}
-use Rattle.soundness.specs.store.Invariant.{Alike, Keeps, Stands}
+use Rattle.soundness.specs.store.Invariant.{Alike, Keeps, StandsFor}
 use Rattle.soundness.specs.store.Counting.{append-cases, in-append-right}
 use Rattle.soundness.specs.store.Kept.{stands-kept}
-use Rattle.soundness.specs.machine.Images.{image-in, image-same, map-append, image-alike}
+use Rattle.soundness.specs.machine.Images.{image-in, image-same, image-alike}
 use Rattle.soundness.specs.machine.Images.{apart}
 use Rattle.soundness.specs.machine.Frames.{hold, Setting, Situation, Lent, own, given}
 
@@ -47,12 +47,12 @@ unfolding occurrences
 named-few c zero w = omega arith
 named-few c (suc d) w = elim (hits c (cell-of w)) [ inl g ↦ omega (arith, g .1) | inr g ↦ omega (arith, g .1) ]
 
-pub number-stands : {σ : Store} (w : ℤ) (v : Value) → num w ≡ v → Stands σ 0 w v
+pub number-stands : {σ : Store} (w : ℤ) (v : Value) → num w ≡ v → StandsFor σ 0 w v
 unfolding value-of occurrences
 number-stands w v e = record { means = e; fits = λ r h. absurd (omega arith) }
 
 -- a word that stands for a value whose depth is 0 is that number
-pub stands-number : {σ : Store} {d : ℕ} {w : ℤ} {v : Value} → d ≡ 0 → Stands σ d w v → num w ≡ v
+pub stands-number : {σ : Store} {d : ℕ} {w : ℤ} {v : Value} → d ≡ 0 → StandsFor σ d w v → num w ≡ v
 unfolding value-of
 stands-number {σ} {d} {w} {v} e s = subst (λ (k : ℕ). value-of σ k w ≡ v) e (s .means)
 
@@ -63,8 +63,8 @@ held-in ρ y H d r h g =
     subst (λ (c : ℕ). c ∈ hold ρ H) (sym (named-one d (ρ y) r g)) (image-in (λ z. cell-of (ρ z)) y H h)
 
 -- a change that leaves what is held alone, and in use
-pub stands-held : {σ τ : Store} {d : ℕ} {v : Value} (ρ : Frame) (y : ℕ) (H : List ℕ) → y ∈ H → Stands σ d (ρ y) v →
-    ((r : ℕ) → r ∈ hold ρ H → Alike σ τ r) → ((r : ℕ) → r ∈ hold ρ H → 0 < cell τ r .count) → Stands τ d (ρ y) v
+pub stands-held : {σ τ : Store} {d : ℕ} {v : Value} (ρ : Frame) (y : ℕ) (H : List ℕ) → y ∈ H → StandsFor σ d (ρ y) v →
+    ((r : ℕ) → r ∈ hold ρ H → Alike σ τ r) → ((r : ℕ) → r ∈ hold ρ H → 0 < cell τ r .count) → StandsFor τ d (ρ y) v
 stands-held {d = d} ρ y H h s alike used =
     stands-kept s (λ r g. let i = held-in ρ y H d r h g in (alike r i, used r i))
 
@@ -131,16 +131,16 @@ module _ (C : Setting) where
 
   pub atom-stands : {σ : Store} {ρ : Frame} {δ : Env} {d : ℕ} (H : List ℕ) →
       ((y : ℕ) → C .depths y ≡ 0 → num (ρ y) ≡ δ y) →
-      ((y : ℕ) → y ∈ H → Stands σ (C .depths y) (ρ y) (δ y)) → (a : Atom) → atom-depth (C .depths) a ≡ d →
+      ((y : ℕ) → y ∈ H → StandsFor σ (C .depths y) (ρ y) (δ y)) → (a : Atom) → atom-depth (C .depths) a ≡ d →
       given C (a ∷ []) ⊆ H →
-      Stands σ d (word ρ a) (value δ a)
+      StandsFor σ d (word ρ a) (value δ a)
   atom-stands {σ} H numbers arrays (number z) e h =
-      subst (λ (k : ℕ). Stands σ k z (num z)) e (number-stands z (num z) refl)
+      subst (λ (k : ℕ). StandsFor σ k z (num z)) e (number-stands z (num z) refl)
   atom-stands {σ} {ρ} {δ} {d} H numbers arrays (name x) e h = go d e
     where
-      go : (k : ℕ) → C .depths x ≡ k → Stands σ k (ρ x) (δ x)
+      go : (k : ℕ) → C .depths x ≡ k → StandsFor σ k (ρ x) (δ x)
       go zero f = number-stands (ρ x) (δ x) (numbers x f)
-      go (suc k) f = subst (λ (k : ℕ). Stands σ k (ρ x) (δ x)) f
+      go (suc k) f = subst (λ (k : ℕ). StandsFor σ k (ρ x) (δ x)) f
           (arrays x (h x (rw (hold-of-array x (omega (arith, f))) (occurs-first x []))))
 
   pub atom-number : {σ : Store} {Z F R B H P : List ℕ} {ρ : Frame} {δ : Env} {n : ℕ} →
@@ -159,12 +159,12 @@ module _ (C : Setting) where
 
   -- a name that is lent or held may be read
   pub readable : {σ : Store} {Z F R B H P : List ℕ} {ρ : Frame} {δ : Env} {n : ℕ} → Situation C σ Z F R B H P ρ δ n →
-      (y : ℕ) → y ∈ (B ++ H) → Stands σ (C .depths y) (ρ y) (δ y)
+      (y : ℕ) → y ∈ (B ++ H) → StandsFor σ (C .depths y) (ρ y) (δ y)
   readable {B = B} {H} S y h = elim (append-cases y B H h) [ inl g ↦ S .lent y g .stands | inr g ↦ S .arrays y g ]
 
   -- an atom that is read
   pub atom-read : {σ : Store} {Z F R B H P : List ℕ} {ρ : Frame} {δ : Env} {n d : ℕ} → Situation C σ Z F R B H P ρ δ n →
-      (a : Atom) → atom-depth (C .depths) a ≡ d → given C (a ∷ []) ⊆ (B ++ H) → Stands σ d (word ρ a) (value δ a)
+      (a : Atom) → atom-depth (C .depths) a ≡ d → given C (a ∷ []) ⊆ (B ++ H) → StandsFor σ d (word ρ a) (value δ a)
   atom-read {B = B} {H} S a e h = atom-stands (B ++ H) (S .numbers) (readable S) a e h
 
 -- what is lent stays while its holders keep it

@@ -14,7 +14,7 @@ use Rattle.semantics.specs.Machine.{if-array}
 use Rattle.semantics.specs.Store.{Store, cell-of, named-by, with-totals, retained, released, deepest}
 use Rattle.semantics.specs.Demands.{value-of, touched, replayed}
 use Rattle.laws.specs.Lists.{_⊆_}
-use Rattle.soundness.specs.store.Invariant.{Invariant, Alike, Stands}
+use Rattle.soundness.specs.store.Invariant.{Invariant, Alike, StandsFor}
 use Rattle.soundness.specs.store.Counting.{in-append-left}
 use Rattle.soundness.specs.store.Change.{permute, held-used}
 use Rattle.soundness.specs.store.Kept.{stands-kept, alike-self}
@@ -87,7 +87,7 @@ releases-totals (suc d) w s = refl
 -- the totals hold all references, and stand for the value
 settled : {start : Start} {d : ℕ} {s : State} {v : Value} {m : Meter} (w : ℤ) → s .store .totals ≡ w →
     Together start s m →
-    Invariant (s .store) [] (named-by d (w ∷ [])) → Stands (s .store) d w v → Finished start d s v m
+    Invariant (s .store) [] (named-by d (w ∷ [])) → StandsFor (s .store) d w v → Finished start d s v m
 settled {start} {d} {s} {v} w is tog inv stands = record {
   left = tog .left;
   clean = tog .clean;
@@ -98,8 +98,8 @@ settled {start} {d} {s} {v} w is tog inv stands = record {
   value = now .means;
 }
   where
-    now : Stands (s .store) d (s .store .totals) v
-    now = subst (λ (z : ℤ). Stands (s .store) d z v) (sym is) stands
+    now : StandsFor (s .store) d (s .store .totals) v
+    now = subst (λ (z : ℤ). StandsFor (s .store) d z v) (sym is) stands
 
 swapped : (a b c : ℕ) → occurrences c (a ∷ (b ∷ [])) ≡ occurrences c (b ∷ (a ∷ []))
 unfolding occurrences
@@ -107,7 +107,7 @@ swapped a b c = omega arith
 
 finished : {start : Start} {s : State} {v : Value} {m : Meter} (d : ℕ) (old w : ℤ) → Together start s m →
     Invariant (s .store) [] (named-by d (w ∷ []) ++ named-by d (old ∷ [])) → s .store .totals ≡ w →
-    Stands (s .store) d w v → Finished start d (totals-released d old s) v m
+    StandsFor (s .store) d w v → Finished start d (totals-released d old s) v m
 unfolding with-store
 finished zero old w tog inv totals stands = settled w totals tog inv stands
 finished {start} {s} {v} {m} (suc d) old w tog inv totals stands =

@@ -1,7 +1,7 @@
 -- A cell taken from the free list: with words, or empty for the result of a map.
 use Prim.Native.Nat.{ℕ, zero, suc, _+_, _<_, _≤_}
 use native.Mathlib.Omega.{arith}
-use mathlib.Core.Path.{_≡_, refl, sym, ap, ap₂, _∙_, subst}
+use mathlib.Core.Path.{_≡_, refl, sym, ap, _∙_, subst}
 use mathlib.Core.Logic.{inl, inr}
 use mathlib.Core.Bool.{true, false}
 use mathlib.Core.List.{List, [], _∷_, _++_, map}
@@ -14,7 +14,7 @@ use Rattle.semantics.specs.Store.{Cell, Store, cell, cell-of, cell-count, inner
 use Rattle.semantics.specs.Store.{acquired, with-cell, with-first}
 use Rattle.semantics.specs.Sound.{free-list, free-from, due, all-inner}
 use Rattle.semantics.specs.Demands.{value-of}
-use Rattle.laws.specs.Lists.{occurrences-append, occurs-first}
+use Rattle.laws.specs.Lists.{occurrences-append}
 use Rattle.soundness.specs.store.Invariant.{Tidy, Invariant, Alike, Keeps}
 use Rattle.soundness.specs.store.Counting.{hits-itself, named-by-none}
 use Rattle.soundness.specs.store.Tabulate.{padded-length, padded-at, take-padded}
@@ -22,7 +22,7 @@ use Rattle.soundness.specs.store.Cells.{same-agree, Put, put-size, put-c
 use Rattle.soundness.specs.store.Cells.{with-first-put}
 use Rattle.soundness.specs.store.FreeList.{Links, Listed, listed, listed-taken}
 use Rattle.soundness.specs.store.Change.{set-aside, root-used, free-names, Change, changed, changed-list}
-use Rattle.soundness.specs.store.Kept.{alike-used}
+use Rattle.soundness.specs.store.Kept.{alike-used, words-alike}
 
 -- ---- a filled cell
 
@@ -160,20 +160,11 @@ module _ {σ : Store} {Z : List ℕ} (R : List ℕ) (d : ℕ) (ws : List ℤ) (v
   taken-alike : (r : ℕ) → 0 < cell σ r .count → Alike σ τ r
   taken-alike = alike-used v (λ n h. same-agree (cell τ n) (cell σ n) (taken-kept n h))
 
-  words-kept : (k : ℕ) (us : List ℤ) → ((r : ℕ) → r ∈ named-by k us → Alike σ τ r × (k ≡ suc (cell σ r .depth))) →
-      map (value-of τ k) us ≡ map (value-of σ k) us
-  unfolding occurrences value-of
-  words-kept zero us f = refl
-  words-kept (suc k) [] f = refl
-  words-kept (suc k) (u ∷ us) f =
-      let a = f (cell-of u) (occurs-first (cell-of u) (map cell-of us)) in
-      ap₂ {C = List Value} _∷_ (a .0 .values (suc k) u refl (a .1)) (words-kept (suc k) us (λ r h. f r (omega arith)))
-
   taken-value : value-of τ (suc d) (pos c) ≡ list (map (value-of σ d) ws)
   unfolding value-of cell-of
   taken-value =
       ap (λ (l : List ℤ). list (map (value-of τ d) l)) (ap elements (put-same taken-put) ∙ filled-elements d ws short)
-      ∙ ap (λ (l : List Value). list l) (words-kept d ws (λ r h. (taken-alike r (word-used r h), typed r h)))
+      ∙ ap (λ (l : List Value). list l) (words-alike d ws (λ r h. (taken-alike r (word-used r h), typed r h)))
 
   acquires : Acquires σ τ c d ws Z R
   acquires = record {

@@ -9,10 +9,10 @@ use mathlib.Core.List.{List, [], _∷_, _++_}
 use lib.IntN.{ℤ, pos}
 use lib.ListN.{set, take, length-set}
 use lib.Seq.{take-suc-set, getD-set-other}
-use borrow.Author.Tests.{lt-ltb}
 use Rattle.semantics.specs.Basics.{occurrences, _∈_}
 use Rattle.semantics.specs.Store.{Cell, Store, cell, cell-count, inner, elements, named-by, wider, appended, with-cell}
 use Rattle.semantics.specs.Sound.{free-list, all-inner}
+use Rattle.laws.specs.Cells.{wider-is}
 use Rattle.laws.specs.Lists.{occurrences-append}
 use Rattle.soundness.specs.store.Invariant.{Tidy, Invariant, Alike}
 use Rattle.soundness.specs.store.Counting.{named-by-append}
@@ -23,16 +23,6 @@ use Rattle.soundness.specs.store.Change.{Change, changed, changed-list}
 use Rattle.soundness.specs.store.Kept.{alike-on}
 
 -- ---- the wider cell
-
-pub wider-is : (x : Cell) (w : ℤ) → x .size < 16 → wider x w ≡ record {
-  count = x .count;
-  size = x .size + 1;
-  depth = x .depth;
-  next = x .next;
-  slots = set (x .slots) (x .size) w;
-}
-unfolding wider
-wider-is x w h = rw (lt-ltb (x .size) 16 h) refl
 
 -- what it keeps, and what is new
 pub record Wider (x y : Cell) (w : ℤ) : Type 0 where

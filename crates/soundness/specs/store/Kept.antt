@@ -11,7 +11,7 @@ use Rattle.semantics.specs.Value.{Value, num, list}
 use Rattle.semantics.specs.Store.{Store, cell, cell-of, elements, inner, named-by}
 use Rattle.semantics.specs.Demands.{value-of, Reached, root, slot}
 use Rattle.laws.specs.Lists.{_⊆_, hits, occurs-first, occurrences-append}
-use Rattle.soundness.specs.store.Invariant.{Invariant, Alike, Keeps, Stands}
+use Rattle.soundness.specs.store.Invariant.{Invariant, Alike, Keeps, StandsFor}
 use Rattle.soundness.specs.store.Cells.{CellsAgree, agree-elements, agree-inner, agree-trans, namer}
 use Rattle.soundness.specs.store.Change.{root-used, inner-used, namer-used}
 
@@ -139,8 +139,8 @@ alike-still-used {σ} {τ} v u f r h = alike-on σ τ (λ c. 0 < cell τ c .coun
 -- ---- what a word stands for
 
 -- a word of depth 0 is a number; of a greater depth it names one cell
-pub stands-kept : {σ τ : Store} {d : ℕ} {w : ℤ} {x : Value} → Stands σ d w x →
-    ((r : ℕ) → r ∈ named-by d (w ∷ []) → Alike σ τ r × (0 < cell τ r .count)) → Stands τ d w x
+pub stands-kept : {σ τ : Store} {d : ℕ} {w : ℤ} {x : Value} → StandsFor σ d w x →
+    ((r : ℕ) → r ∈ named-by d (w ∷ []) → Alike σ τ r × (0 < cell τ r .count)) → StandsFor τ d w x
 unfolding value-of
 stands-kept {σ} {τ} {d} {w} s f = record {
   means = same d refl ∙ s .means;
@@ -155,6 +155,17 @@ stands-kept {σ} {τ} {d} {w} s f = record {
       where
         named : cell-of w ∈ named-by d (w ∷ [])
         named = subst (λ (n : ℕ). cell-of w ∈ named-by n (w ∷ [])) (sym e) (occurs-first (cell-of w) [])
+
+-- words whose cells are alike have the same values
+pub words-alike : {σ τ : Store} (d : ℕ) (ws : List ℤ) →
+    ((r : ℕ) → r ∈ named-by d ws → Alike σ τ r × (d ≡ suc (cell σ r .depth))) →
+    map (value-of τ d) ws ≡ map (value-of σ d) ws
+unfolding occurrences value-of
+words-alike zero ws f = refl
+words-alike (suc d) [] f = refl
+words-alike (suc d) (w ∷ ws) f =
+    let a = f (cell-of w) (occurs-first (cell-of w) (map cell-of ws)) in
+    ap₂ {C = List Value} _∷_ (a .0 .values (suc d) w refl (a .1)) (words-alike (suc d) ws (λ r h. f r (omega arith)))
 
 -- ---- in use means reached
 

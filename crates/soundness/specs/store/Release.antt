@@ -20,7 +20,8 @@ use Rattle.soundness.specs.store.Cells.{put-size, put-cases, put-inner, 
 use Rattle.soundness.specs.store.FreeList.{Listed, listed, listed-freed}
 use Rattle.soundness.specs.store.Change.{root-used, held-used, touch, Change, changed, changed-list}
 use Rattle.soundness.specs.store.Kept.{alike-still-used}
-use Rattle.soundness.specs.store.Retain.{new-count, recount-put, recount-agree, recount-change}
+use Rattle.laws.specs.Releases.{count-with}
+use Rattle.soundness.specs.store.Retain.{recount-put, recount-agree, recount-change}
 
 -- ---- logs one after the other
 
@@ -96,7 +97,7 @@ module _ {σ : Store} {Z R : List ℕ} (c : ℕ) (v : Invariant σ Z (c ∷ R)) 
     unfolding occurrences
     lower-change = recount-change v c (suc n) held (omega arith) R
         (λ d. elim (lower-cases d) [
-          | inl g ↦ omega (arith, g .hit, g .new-count, g .old-count, new-count (cell σ c) (suc n), v .counts d)
+          | inl g ↦ omega (arith, g .hit, g .new-count, g .old-count, count-with (cell σ c) (suc n), v .counts d)
           | inr g ↦ omega (arith, g .hit, g .count, v .counts d)
         ])
         (λ d h. elim (lower-cases d) [
@@ -114,7 +115,7 @@ module _ {σ : Store} {Z R : List ℕ} (c : ℕ) (v : Invariant σ Z (c ∷ R)) 
       totals = refl;
       cells = put-size (lower-change .put);
       fewer = λ d. elim (lower-cases d) [
-        | inl g ↦ omega (arith, g .new-count, g .old-count, new-count (cell σ c) (suc n))
+        | inl g ↦ omega (arith, g .new-count, g .old-count, count-with (cell σ c) (suc n))
         | inr g ↦ omega (arith, g .count)
       ];
     }

@@ -17,7 +17,7 @@ use Rattle.semantics.specs.Sound.{totals-used, sound}
 use Rattle.semantics.specs.Demands.{value-of, AtRest}
 use Rattle.laws.specs.Tests.{both-hold, say-and}
 use Rattle.laws.specs.Lists.{occurrences-append}
-use Rattle.soundness.specs.store.Invariant.{Invariant, Stands}
+use Rattle.soundness.specs.store.Invariant.{Invariant, StandsFor}
 use Rattle.soundness.specs.store.Counting.{namer-of, named-at}
 use Rattle.soundness.specs.store.Cells.{in-range, unused-names, namer}
 use Rattle.soundness.specs.store.Change.{inner-used, held-used}
@@ -32,7 +32,7 @@ pub record Rests (d : ℕ) (σ : Store) : Type 0 where
 
 -- ---- its totals and its places
 
-pub rests-stands : {d : ℕ} {σ : Store} → Rests d σ → Stands σ d (σ .totals) (value-of σ d (σ .totals))
+pub rests-stands : {d : ℕ} {σ : Store} → Rests d σ → StandsFor σ d (σ .totals) (value-of σ d (σ .totals))
 rests-stands h = record { means = refl; fits = λ r g. (held-used (h .holds) r g, h .fits r g) }
 
 places-count : (d : ℕ) (σ : Store) (c : ℕ) →

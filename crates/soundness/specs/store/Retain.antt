@@ -10,6 +10,7 @@ use Rattle.semantics.specs.Basics.{occurrences, _∈_}
 use Rattle.semantics.specs.Store.{Cell, Store, cell, cell-count, inner, with-totals, with-cell, with-count, one-more}
 use Rattle.semantics.specs.Store.{retained}
 use Rattle.semantics.specs.Sound.{free-list, all-inner}
+use Rattle.laws.specs.Releases.{count-with}
 use Rattle.soundness.specs.store.Invariant.{Tidy, Invariant, Alike}
 use Rattle.soundness.specs.store.Cells.{in-range, CellsAgree, agree-inner, Put, Here, There, put-size, put-cases}
 use Rattle.soundness.specs.store.Cells.{put-inner, put-agree, with-cell-put}
@@ -27,9 +28,6 @@ most-references = 1000000000
 pub record Rewrites (σ : Store) (w : ℤ) (Z R : List ℕ) : Type 0 where
   pub holds : Invariant (with-totals σ w) Z R
   pub alike : (r : ℕ) → Alike σ (with-totals σ w) r
-  pub back : (r : ℕ) → Alike (with-totals σ w) σ r
-  pub same : (c : ℕ) → cell (with-totals σ w) c ≡ cell σ c
-  pub cells : cell-count (with-totals σ w) ≡ cell-count σ
   pub free : free-list (with-totals σ w) ≡ free-list σ
 
 totals-listed : (σ : Store) (w : ℤ) (l : List ℕ) → Listed σ l → Listed (with-totals σ w) l
@@ -44,9 +42,6 @@ unfolding with-totals cell
 rewrite-totals {σ} {Z} {R} w v = record {
   holds = holds;
   alike = alike-all v (λ c. (refl, refl, refl));
-  back = alike-all holds (λ c. (refl, refl, refl));
-  same = λ c. refl;
-  cells = refl;
   free = listed-is (with-totals σ w) (free-list σ) list .0;
 }
   where
@@ -73,10 +68,6 @@ pub count-agree : (x : Cell) (n : ℕ) → CellsAgree (with-count x n) x
 unfolding with-count
 count-agree x n = (refl, refl, refl)
 
-pub new-count : (x : Cell) (n : ℕ) → with-count x n .count ≡ n
-unfolding with-count
-new-count x n = refl
-
 -- a cell in use gets another count above 0
 module _ {σ : Store} {Z R : List ℕ} (v : Invariant σ Z R) (c n : ℕ) (used : 0 < cell σ c .count) (more : 0 < n) where
   abbrev τ : Store
@@ -96,7 +87,7 @@ module _ {σ : Store} {Z R : List ℕ} (v : Invariant σ Z R) (c n : ℕ) (used 
 
   recount-list : Listed τ (free-list σ)
   unfolding with-cell
-  recount-list = listed-used recount-put (free-list σ) (listed v) refl used (omega (arith, new-count (cell σ c) n))
+  recount-list = listed-used recount-put (free-list σ) (listed v) refl used (omega (arith, count-with (cell σ c) n))
 
   pub recount-change : (R′ : List ℕ) →
       ((d : ℕ) → cell τ d .count ≡ occurrences d R′ + occurrences d Z + occurrences d (all-inner (σ .cells))) →
@@ -109,7 +100,7 @@ module _ {σ : Store} {Z R : List ℕ} (v : Invariant σ Z R) (c n : ℕ) (used 
         ∙ ap suc (sym (recount-agree r .1));
     depth = λ h. count-agree (cell σ c) n .1;
     tidy = λ h. count-tidy (cell σ c) n (v .tidy c used);
-    blank = λ e. absurd (omega (arith, e, new-count (cell σ c) n));
+    blank = λ e. absurd (omega (arith, e, count-with (cell σ c) n));
     list = recount-list;
   }
 
@@ -139,7 +130,7 @@ module _ {σ : Store} {Z R : List ℕ} (c : ℕ) (v : Invariant σ Z R)
   unfolding occurrences
   retain-change = recount-change v c (suc (cell σ c .count)) held (omega arith) (c ∷ R)
       (λ d. elim (retain-cases d) [
-        | inl g ↦ omega (arith, new-count (cell σ c) (suc (cell σ c .count)), v .counts d)
+        | inl g ↦ omega (arith, count-with (cell σ c) (suc (cell σ c .count)), v .counts d)
         | inr g ↦ omega (arith, v .counts d)
       ])
       (λ d h. elim (retain-cases d) [

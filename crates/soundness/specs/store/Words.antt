@@ -18,8 +18,8 @@ use Rattle.semantics.specs.Words.{head-words}
 use Rattle.semantics.specs.Sound.{sound, sound-words}
 use Rattle.laws.specs.Tests.{both-hold, say-and}
 use Rattle.soundness.specs.store.Invariant.{Invariant}
-use Rattle.laws.specs.Lists.{tabulate-length}
-use Rattle.soundness.specs.store.Tabulate.{tabulate-at, tabulate-is, padded-length}
+use Rattle.laws.specs.Lists.{tabulate-length, tabulate-at}
+use Rattle.soundness.specs.store.Tabulate.{tabulate-is, padded-length}
 use Rattle.soundness.specs.store.Rest.{Rests, test-rests, rests-test}
 
 -- ---- lists of blocks

@@ -9,29 +9,24 @@ use Rattle.store.proofs.acquire.Tie as tie
 
 returns : tie.Need-returns
 returns c =
-    let a = c .before .before .before .before .before .before .before .before .before .before .before .before
-    .before .before .before .before .args in
-    let σ = store-of (a .slots .now) (a .heads .now) in
-    let e = ap acquired-outcome (sym (c .before .before .before .before .before .before .before .c .given .1)) ∙
-    c .before .before .before .before .before .before .before .before .before .before .before .before
-    .acquire-empty .ensures .0 in (
+    let told = c .before .before .before .before .before .before .before .c .given in
+    let empty = c .before .before .before .before .before .before .before .before .before .before .before .before in
+    let a = empty .before .before .before .before .args in
+    let e = ap acquired-outcome (sym (told .1)) ∙ empty .acquire-empty .ensures .0 in (
       e,
-      c .before .before .before .append-all .ensures ∙ ap (appended-all
-          (c .before .before .before .before .before .before .before .c .given .0 .0) (a .words .now))
-          (c .before .before .before .before .before .before .before .before .before .before .before .before
-          .acquire-empty .ensures .1) ∙ filled-by-appending (a .depth) σ
-          (c .before .before .before .before .before .before .before .c .given .0 .0) (a .words .now) e,
+      c .before .before .before .append-all .ensures
+          ∙ ap (appended-all (told .0 .0) (a .words .now)) (empty .acquire-empty .ensures .1)
+          ∙ filled-by-appending (a .depth) (store-of (a .slots .now) (a .heads .now)) (told .0 .0) (a .words .now) e,
     )
 
 returns-2 : tie.Need-returns-2
 returns-2 c =
-    let a = c .before .before .before .before .before .before .before .before .before .args in
-    let σ = store-of (a .slots .now) (a .heads .now) in
-    let e = ap acquired-outcome (sym (c .enum-told .given .1))
-    ∙ c .before .before .before .before .before .acquire-empty .ensures .0 in (
+    let empty = c .before .before .before .before .before in
+    let a = empty .before .before .before .before .args in
+    let e = ap acquired-outcome (sym (c .enum-told .given .1)) ∙ empty .acquire-empty .ensures .0 in (
       e,
-      c .before .before .before .before .before .acquire-empty .ensures .1 ∙ none-given (a .depth) σ (a .words .now)
-          e,
+      empty .acquire-empty .ensures .1
+          ∙ none-given (a .depth) (store-of (a .slots .now) (a .heads .now)) (a .words .now) e,
     )
 
 pub acquire-spec : {M : Type 1} → statement M

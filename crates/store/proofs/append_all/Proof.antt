@@ -25,21 +25,19 @@ loop-holds c = (omega arith, refl, refl, refl)
 
 loop-again : tie.Need-loop-again Inv-loop μ-loop
 loop-again c =
-    let a = c .before .before .before .before .before .before .before .before .before .before .args in
-    let i = c .before .before .before .before .before .before .before .before .loop .i in
-    let w = getD (a .words .now) i (pos 0) in (
+    let turn = c .before .before .before .before .before .before .before .before in
+    let a = turn .before .before .args in
+    let i = turn .loop .i in
+    let inv = turn .loop .inv in
+    let w = getD (a .words .now) i (pos 0) in
+    let read = c .before .before .before .before .before .before in
+    let one = c .before .before .before .append in (
       omega arith,
-      c .before .before .before .append .kept .0 ∙ c .before .before .before .before .before .before
-          .before .before .loop .inv .1,
-      c .before .before .before .append .kept .1 .0 ∙
-          c .before .before .before .before .before .before .before .before .loop .inv .2,
-      c .before .before .before .before .before .before .before .before .loop .inv .3 ∙ appended-next (a .c)
-          (a .words .now) i w _ (c .before .before .before .before .before .before .before .loop-test .taken) refl ∙ ap
-          (appended-all (a .c) (drop (i + 1) (a .words .now))) (sym (rw (toZ-ofZ {z = w} (record {
-            sfits =
-                c .before .before .before .before .before .before .w .given;
-          })) at
-          (c .before .before .before .append .ensures))),
+      one .kept .0 ∙ inv .1,
+      one .kept .1 .0 ∙ inv .2,
+      inv .3 ∙ appended-next (a .c) (a .words .now) i w _ (read .before .loop-test .taken) refl
+          ∙ ap (appended-all (a .c) (drop (i + 1) (a .words .now)))
+          (sym (rw (toZ-ofZ {z = w} (record { sfits = read .w .given })) at (one .ensures))),
     )
 
 returns : tie.Need-returns Inv-loop μ-loop

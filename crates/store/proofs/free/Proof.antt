@@ -10,16 +10,16 @@ use Rattle.store.proofs.free.Tie as tie
 
 same-length-2 : tie.Need-same-length-2
 same-length-2 c =
-    c .before .before .before .before .before .write-head .kept .0 ∙ length-set
-    (c .before .before .before .before .before .before .before .before .before .args .heads .now) 0 _
+    let heads = c .before .before .before .before .before .before .before .before .before .args .heads
+    .now in
+    c .before .before .before .before .before .write-head .kept .0 ∙ length-set heads 0 _
 
 returns : tie.Need-returns
 returns c = freed-store
     (record {
       long = c .before .clear-slots .kept .0;
       slots-cleared = c .before .clear-slots .ensures;
-      heads-written =
-          c .before .before .before .before .before .write-head .ensures;
+      heads-written = c .before .before .before .before .before .write-head .ensures;
     })
     (to-cells _ _ _ (omega arith) (omega arith) (omega arith))
 

@@ -21,44 +21,36 @@ cast-c : tie.Need-cast-c Inv-loop μ-loop
 cast-c c = record { fits = omega (arith, c .shared-slice-known2 .given 0) }
 
 loop-holds : tie.Need-loop-holds Inv-loop μ-loop
-loop-holds c = let a = c .before .before .before .before .args in (
-  refl,
-  omega arith,
-  following-none (store-of (a .slots .now) (a .heads .now)) (getD (a .heads .now) 0 0) (c .before .cells .result)
-      (a .met .now),
-)
+loop-holds c = (refl, omega arith, following-none _ _ _ _)
 
 returns : tie.Need-returns Inv-loop μ-loop
-returns c = let a = c .before .before .before .before .before .before .before .args in
-    rw (c .before .before .before .before .cells .ensures .is) at
-    (following-spent (a .slots .now) (a .heads .now) (c .before .before .loop .inv .2) (c .if1 .taken))
+returns c =
+    let turn = c .before .before in
+    rw (turn .before .before .cells .ensures .is) at (following-spent _ _ (turn .loop .inv .2) (c .if1 .taken))
 
 cast-c-2 : tie.Need-cast-c-2 Inv-loop μ-loop
-cast-c-2 c =
-    record {
-      fits = omega (
+cast-c-2 c = record {
+  fits =
+      omega (
         arith,
         c .shared-slice-known3 .given
             (4 + 4 * c .before .before .before .before .before .before .before .loop .c),
       );
-    }
+}
 
 loop-again : tie.Need-loop-again Inv-loop μ-loop
 loop-again c =
-    let a = c .before .before .before .before .before .before .before .before .before .before .before .before
-    .args in (
-      c .before .before .before .count-one .kept .0
-          ∙ c .before .before .before .before .before .before .before .loop .inv .0,
+    let turn = c .before .before .before .before .before .before .before in
+    let one = c .before .before .before .count-one in (
+      one .kept .0 ∙ turn .loop .inv .0,
       omega arith,
-      following-more (a .slots .now) (a .heads .now)
-          (c .before .before .before .before .before .before .before .loop .inv .2) (omega arith)
-          (c .before .before .before .before .before .if1 .left) (c .before .before .before .count-one .ensures),
+      following-more _ _ (turn .loop .inv .2) (omega arith) (c .before .before .before .before .before .if1 .left)
+          (one .ensures),
     )
 
 returns-2 : tie.Need-returns-2 Inv-loop μ-loop
-returns-2 c = let a = c .before .before .before .before .before .before .args in
-    rw (c .before .before .before .cells .ensures .is) at
-    (following-out (a .slots .now) (a .heads .now) (c .before .loop .inv .2) (omega arith))
+returns-2 c =
+    rw (c .before .before .before .cells .ensures .is) at (following-out _ _ (c .before .loop .inv .2) (omega arith))
 
 pub follow-list-spec : {M : Type 1} → statement M
 follow-list-spec =

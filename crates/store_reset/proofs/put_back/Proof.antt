@@ -8,9 +8,9 @@ use Rattle.store_reset.proofs.put_back.Tie as tie
 
 returns : tie.Need-returns
 returns c =
-    c .before .before .before .relink .ensures ∙ ap₂ (λ slots heads. relinked (store-of slots heads)) (c .before
-    .before .before .before .before .before .before .before .before .before .before .copy-slots .ensures) (c
-    .before .before .before .before .before .before .before .before .copy-heads .ensures)
+    let copied = c .before .before .before .before .before .before .before .before in
+    c .before .before .before .relink .ensures ∙ ap₂ (λ slots heads. relinked (store-of slots heads))
+    (copied .before .before .before .copy-slots .ensures) (copied .copy-heads .ensures)
 
 pub put-back-spec : {M : Type 1} → statement M
 put-back-spec =

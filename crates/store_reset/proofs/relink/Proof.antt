@@ -28,34 +28,25 @@ loop-holds c =
 
 loop-again : tie.Need-loop-again Inv-loop μ-loop
 loop-again c =
-    let a = c .before .before .before .before .before .before .before .before .before .before .before .before
-    .args in
-    let l = c .before .before .before .before .before .before .before .loop in
+    let turn = c .before .before .before .before .before .before .before in
+    let l = turn .loop in
     let r = c .before .before .before .relink-cell in (
       omega arith,
       record { slots-long = r .kept .0 ∙ l .inv .1 .slots-long; heads-long = r .kept .1 .0 ∙ l .inv .1 .heads-long },
-      linking-step (a .slots .now) (a .heads .now) (l .slots) (l .heads) (l .c) (l .head) (l .inv .2) (omega arith)
-          (omega (
-            arith,
-            c .before .before .before .before .before .before .before .before .cells .ensures .is,
-            cells-kept
-                (l .inv .1),
-          )) _ (r .result) (r .ensures .0) (r .ensures .1),
+      linking-step _ _ (l .slots) (l .heads) (l .c) (l .head) (l .inv .2) (omega arith)
+          (omega (arith, turn .before .cells .ensures .is, cells-kept (l .inv .1))) _ (r .result) (r .ensures .0)
+          (r .ensures .1),
     )
 
 returns : tie.Need-returns Inv-loop μ-loop
 returns c =
-    let a = c .before .before .before .before .before .before .before .args in
     let l = c .before .before .loop in
-    linking-all (a .slots .now) (a .heads .now) (l .slots) (l .heads) (l .c) (l .head) (l .inv .2) (omega arith)
-    (omega arith)
+    linking-all _ _ (l .slots) (l .heads) (l .c) (l .head) (l .inv .2) (omega arith) (omega arith)
 
 returns-2 : tie.Need-returns-2 Inv-loop μ-loop
 returns-2 c =
-    let a = c .before .before .before .before .before .before .before .args in
     let l = c .before .before .loop in
-    linking-empty (a .slots .now) (a .heads .now) (l .slots) (l .heads) (l .c) (l .head) (l .inv .2) (omega arith)
-    (omega arith)
+    linking-empty _ _ (l .slots) (l .heads) (l .c) (l .head) (l .inv .2) (omega arith) (omega arith)
     (omega (arith, l .inv .1 .heads-long))
 
 pub relink-spec : {M : Type 1} → statement M

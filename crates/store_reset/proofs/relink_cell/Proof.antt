@@ -7,16 +7,14 @@ use Rattle.store_reset.proofs.relink_cell.Statement.{statement}
 use Rattle.store_reset.proofs.relink_cell.Tie as tie
 
 returns : tie.Need-returns
-returns c =
-    let a = c .before .before .before .args in
-    link-used (a .slots .now) (a .heads .now) (a .c) (a .head) (c .if1 .taken)
+returns c = link-used _ _ _ _ (c .if1 .taken)
 
 returns-2 : tie.Need-returns-2
 returns-2 c =
-    let a = c .before .before .before .before .before .before .before .before .before .before .args in
-    link-free (a .slots .now) (a .heads .now) (a .c) (a .head) (to-cells _ _ _ (omega arith) (omega arith) (omega
-    arith)) (c .before .before .before .before .before .before .before .if1 .left) (c .before .clear-slots .kept .0)
-    (c .before .clear-slots .ensures) (c .before .before .before .before .before .write-head .ensures)
+    link-free _ _ _ _ (to-cells _ _ _ (omega arith) (omega arith) (omega arith))
+    (c .before .before .before .before .before .before .before .if1 .left)
+    (c .before .clear-slots .kept .0) (c .before .clear-slots .ensures)
+    (c .before .before .before .before .before .write-head .ensures)
 
 pub relink-cell-spec : {M : Type 1} → statement M
 relink-cell-spec =

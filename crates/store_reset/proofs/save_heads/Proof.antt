@@ -1,6 +1,6 @@
 -- `store_reset::save_heads` meets its contract.
 use mathlib.Core.Path.{_≡_, refl}
-use Prim.Native.Nat.{_-_, _≤_}
+use Prim.Native.Nat.{_-_, _<_, _≤_}
 use native.Mathlib.Omega.{arith}
 use lib.ListN.{length, length-set}
 use borrow.Author.Needs.{needs}
@@ -14,34 +14,22 @@ Inv-loop saved₀ heads i₀ saved i = (i ≤ length heads) × (length saved ≡
 abbrev μ-loop : tie.MeasureT-loop
 μ-loop saved₀ heads i₀ saved i = length heads - i
 
-loop-holds : tie.Need-loop-holds Inv-loop μ-loop
-loop-holds c = let a = c .args in (omega arith, refl, copying-none 0 (a .heads .now) (a .saved .now))
-
-slice-write-saved : tie.Need-slice-write-saved Inv-loop μ-loop
-slice-write-saved c = omega (
-  arith,
-  c .before .loop-test .taken,
-  c .before .before .loop .inv .1,
-  c .before .before
-      .before .pre,
-)
+-- a word that is read has a place in the copy
+room : (c : tie.In-loop Inv-loop μ-loop) → c .before .loop .i < length (c .before .loop .saved)
+room c = omega (arith, c .loop-test .taken, c .before .loop .inv .1, c .before .before .pre)
 
 loop-again : tie.Need-loop-again Inv-loop μ-loop
 loop-again c =
     let inv = c .before .before .loop .inv in (
       omega (arith, c .before .loop-test .taken),
       simp length-set (inv .1),
-      copying-more (inv .2) _ (omega (arith, c .before .loop-test .taken, inv .1, c .before .before .before .pre)) refl,
+      copying-more (inv .2) _ (room (c .before)) refl,
     )
-
-same-length : tie.Need-same-length Inv-loop μ-loop
-same-length c = c .before .loop .inv .1
-
-returns : tie.Need-returns Inv-loop μ-loop
-returns c = copying-back (c .before .loop .inv .2) (omega arith)
 
 pub save-heads-spec : {M : Type 1} → statement M
 save-heads-spec =
     tie.close
-    (tie.spec Inv-loop μ-loop loop-holds (λ c. search needs) (λ c. search needs) (λ c. search needs) slice-write-saved
-    (λ c. search needs) (λ c. search needs) loop-again same-length returns)
+    (tie.spec Inv-loop μ-loop (λ c. (omega arith, refl, copying-none _ _ _)) (λ c. search needs) (λ c. search needs)
+    (λ c. search needs) (λ c. room (c .before))
+    (λ c. search needs) (λ c. search needs) loop-again (λ c. c .before .loop .inv .1)
+    (λ c. copying-back (c .before .loop .inv .2) (omega arith)))

@@ -1,6 +1,6 @@
 -- `store_reset::save_slots` meets its contract.
 use mathlib.Core.Path.{_≡_, refl}
-use Prim.Native.Nat.{_-_, _≤_}
+use Prim.Native.Nat.{_-_, _<_, _≤_}
 use native.Mathlib.Omega.{arith}
 use lib.IntN.{pos}
 use lib.ListN.{getD, length, length-set}
@@ -16,17 +16,9 @@ Inv-loop saved₀ slots i₀ saved i = (i ≤ length slots) × (length saved ≡
 abbrev μ-loop : tie.MeasureT-loop
 μ-loop saved₀ slots i₀ saved i = length slots - i
 
-loop-holds : tie.Need-loop-holds Inv-loop μ-loop
-loop-holds c = let a = c .args in (omega arith, refl, copying-none (pos 0) (a .slots .now) (a .saved .now))
-
-slice-set-from-saved : tie.Need-slice-set-from-saved Inv-loop μ-loop
-slice-set-from-saved c = omega (
-  arith,
-  c .before .loop-test .taken,
-  c .before .before .loop .inv .1,
-  c .before
-      .before .before .pre,
-)
+-- a word that is read has a place in the copy
+room : (c : tie.In-loop Inv-loop μ-loop) → c .before .loop .i < length (c .before .loop .saved)
+room c = omega (arith, c .loop-test .taken, c .before .loop .inv .1, c .before .before .pre)
 
 loop-again : tie.Need-loop-again Inv-loop μ-loop
 loop-again c =
@@ -36,17 +28,13 @@ loop-again c =
       simp length-set (inv .1),
       rw (toZ-ofZ {z = w} (record { sfits = c .saved .given }))
           (copying-more (inv .2) w
-          (omega (arith, c .before .loop-test .taken, inv .1, c .before .before .before .pre)) refl),
+          (room (c .before)) refl),
     )
-
-same-length : tie.Need-same-length Inv-loop μ-loop
-same-length c = c .before .loop .inv .1
-
-returns : tie.Need-returns Inv-loop μ-loop
-returns c = copying-back (c .before .loop .inv .2) (omega arith)
 
 pub save-slots-spec : {M : Type 1} → statement M
 save-slots-spec =
     tie.close
-    (tie.spec Inv-loop μ-loop loop-holds (λ c. search needs) (λ c. search needs) (λ c. search needs)
-    slice-set-from-saved (λ c. search needs) (λ c. search needs) loop-again same-length returns)
+    (tie.spec Inv-loop μ-loop (λ c. (omega arith, refl, copying-none _ _ _)) (λ c. search needs) (λ c. search needs)
+    (λ c. search needs)
+    (λ c. room (c .before)) (λ c. search needs) (λ c. search needs) loop-again (λ c. c .before .loop .inv .1)
+    (λ c. copying-back (c .before .loop .inv .2) (omega arith)))

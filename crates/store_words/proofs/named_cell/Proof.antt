@@ -1,6 +1,7 @@
 -- `store_words::named_cell` meets its contract.
 use mir.Facts.{toZ-ofZ}
-use Rattle.store_words.proofs.Naming.{not-negative, cell-not-negative, cell-negative}
+use Rattle.laws.specs.Numbers.{not-negative}
+use Rattle.store_words.proofs.Naming.{cell-not-negative, cell-negative}
 use Rattle.store_words.proofs.named_cell.Statement.{statement}
 use Rattle.store_words.proofs.named_cell.Tie as tie
 
