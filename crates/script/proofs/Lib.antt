@@ -1,2 +1,3 @@
+pub mod Both
 pub mod Laws
 pub mod Whole

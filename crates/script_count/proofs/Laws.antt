@@ -1,7 +1,7 @@
 -- The pass over the kinds, in the terms of the code.
 use mathlib.Core.Path.{_≡_, refl, ap, _∙_}
 use mathlib.Core.Bool.{Bool, true, false, cond, _&&_}
-use mathlib.Core.List.{List}
+use mathlib.Core.List.{List, [], _∷_}
 use mathlib.Core.Option.{Option, none, some}
 use Prim.Native.Nat.{ℕ, zero, suc, _+_, _-_, _<_, _≤_}
 use native.Mathlib.Omega.{arith}
@@ -11,6 +11,7 @@ use borrow.Author.Tests.{ltb-true, lt-ltb, le-ltb}
 use Rattle.semantics.specs.Outcome.{done, stop}
 use Rattle.script_count.specs.Count.{new-names, crowd-ends, start-after, count-after, counted-on, crowd}
 use Rattle.script_count.specs.Count.{crowd-outcome}
+use Rattle.script_read.proofs.Limits.{NoneOf, each-kind}
 
 -- how far a count is over 256 makes no difference
 over : (k : List ℕ) (n p s c d : ℕ) → 256 < c → 256 < d → crowd k n p s c ≡ crowd k n p s d
@@ -77,3 +78,12 @@ module _ {k : List ℕ} {o : Option ℕ} {p s c : ℕ} (v : Passing k o p s c) w
 
   pub pass-within : length k ≤ p → c ≤ 256 → done tt 0 ≡ crowd-outcome o
   pass-within h l = rw (ended h, le-ltb 256 c l)
+
+-- a kind that takes no new name
+pub no-name : (k : ℕ) → NoneOf (13 ∷ 12 ∷ 11 ∷ 10 ∷ 9 ∷ 8 ∷ 6 ∷ 5 ∷ 4 ∷ 1 ∷ []) k → 0 ≡ getD new-names k 0
+no-name = each-kind (λ k. NoneOf (13 ∷ 12 ∷ 11 ∷ 10 ∷ 9 ∷ 8 ∷ 6 ∷ 5 ∷ 4 ∷ 1 ∷ []) k → 0 ≡ getD new-names k 0)
+    (λ n. refl) (λ n. absurd (n .0 .0 .0 .0 .0 .0 .0 .0 .0 .1 refl)) (λ n. refl) (λ n. refl)
+    (λ n. absurd (n .0 .0 .0 .0 .0 .0 .0 .0 .1 refl)) (λ n. absurd (n .0 .0 .0 .0 .0 .0 .0 .1 refl))
+    (λ n. absurd (n .0 .0 .0 .0 .0 .0 .1 refl)) (λ n. refl) (λ n. absurd (n .0 .0 .0 .0 .0 .1 refl))
+    (λ n. absurd (n .0 .0 .0 .0 .1 refl)) (λ n. absurd (n .0 .0 .0 .1 refl)) (λ n. absurd (n .0 .0 .1 refl))
+    (λ n. absurd (n .0 .1 refl)) (λ n. absurd (n .1 refl)) (λ k n. refl)

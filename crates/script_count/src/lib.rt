@@ -1,4 +1,15 @@
 // Refusal 8: the first function with over 256 new names, in one pass over the kinds.
+use script_read::KIND_CALL;
+use script_read::KIND_DIFFERENCE;
+use script_read::KIND_FUNCTION;
+use script_read::KIND_IF;
+use script_read::KIND_INDEX;
+use script_read::KIND_LENGTH;
+use script_read::KIND_LESS;
+use script_read::KIND_LITERAL;
+use script_read::KIND_MAP;
+use script_read::KIND_PARAMETER;
+use script_read::KIND_SUM;
 ghost use mathlib.Core.Path.{_≡_};
 ghost use Prim.Native.Nat.{_+_, _<_};
 ghost use lib.ListN.{length, getD};
@@ -11,21 +22,30 @@ pub enum Counted {
     Over(usize),
 }
 
-const NEW_NAMES: [u8; 14] = [0, 1, 0, 0, 1, 1, 1, 0, 1, 1, 1, 1, 1, 2];
-
 // How many new names a node of this kind takes.
 fn new_names(kind: u8) -> u8
     ensures { λ r. ⌜ r ≡ getD new-names kind 0 ⌝ }
 {
-    let n = kind as usize;
-    if n < 14 { NEW_NAMES[n] } else { 0 }
+    match kind {
+        KIND_PARAMETER => 1,
+        KIND_SUM => 1,
+        KIND_DIFFERENCE => 1,
+        KIND_LESS => 1,
+        KIND_CALL => 1,
+        KIND_LITERAL => 1,
+        KIND_INDEX => 1,
+        KIND_LENGTH => 1,
+        KIND_IF => 1,
+        KIND_MAP => 2,
+        _ => 0,
+    }
 }
 
 // Whether a function with too many names ends before a node of this kind.
 fn crowd_ends(kind: u8, count: u64) -> bool
     ensures { λ r. ⌜ r ≡ crowd-ends kind count ⌝ }
 {
-    if kind == 0 {
+    if kind == KIND_FUNCTION {
         return 256 < count;
     }
     false
@@ -35,14 +55,14 @@ fn crowd_ends(kind: u8, count: u64) -> bool
 fn start_after(kind: u8, p: usize, start: usize) -> usize
     ensures { λ r. ⌜ r ≡ start-after kind p start ⌝ }
 {
-    if kind == 0 { p } else { start }
+    if kind == KIND_FUNCTION { p } else { start }
 }
 
 // The present function's new names, after a node of this kind; over 256 the count stands still.
 fn count_after(kind: u8, count: u64) -> u64
     ensures { λ r. ⌜ r ≡ counted-on kind count ⌝ }
 {
-    if kind == 0 {
+    if kind == KIND_FUNCTION {
         return 0;
     }
     if 256 < count {

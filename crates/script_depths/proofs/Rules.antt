@@ -3,15 +3,16 @@ use mathlib.Core.Path.{_≡_, refl, sym, ap, _∙_}
 use mathlib.Core.Bool.{Bool, true, false, cond, _&&_}
 use mathlib.Core.Logic.{inl}
 use mathlib.Core.List.{List, [], _∷_}
-use Prim.Native.Nat.{ℕ, zero, suc, _+_, _-_, _<_, _≤_, min}
+use mathlib.Core.Option.{Option}
+use Prim.Native.Nat.{ℕ, zero, suc, _+_, _-_, _<_, _≤_}
 use native.Mathlib.Omega.{arith}
 use native.Mathlib.Numerals.{add-one}
-use lib.Dec.{leb, ltb, eqb}
+use lib.Dec.{leb, eqb}
 use lib.ListN.{length, getD, take, drop, length-take, drop-of-length-le}
 use lib.Seq.{drop-cons, getD-take}
-use borrow.Author.Tests.{eqb-true, eq-eqb, ne-eqb, le-leb, lt-leb, leb-true, ltb-true, ltb-false}
+use borrow.Author.Tests.{eqb-true, eq-eqb, ne-eqb, le-leb, lt-leb, leb-true, lt-ltb, le-ltb}
 use Rattle.semantics.specs.File.{at-function, at-parameter, part-count, part-counts, low-limits, high-limits}
-use Rattle.semantics.specs.Types.{Signature, all-are, same, call-rule, index-rule, length-rule}
+use Rattle.semantics.specs.Types.{Signature, all-are, same, index-rule, length-rule, if-rule}
 use Rattle.script_read.specs.Told.{low-at, high-at}
 use Rattle.script_read.specs.declared.Node.the-variants.{WrongKind}
 use Rattle.laws.specs.Tests.{both-hold}
@@ -20,7 +21,7 @@ use Rattle.script_depths.specs.declared.Typed.{Typed}
 use Rattle.script_depths.specs.declared.Typed.the-variants.{Depth, Fault}
 use Rattle.script_depths.specs.declared.Judged.{Judged}
 use Rattle.script_depths.specs.declared.Judged.the-variants.{Has, Broken}
-use Rattle.script_depths.specs.Walk.{depths-from, signature-at, rule-of, told-rule, wrapped}
+use Rattle.script_depths.specs.Walk.{depths-from, signature-at, there, called, rule-of, told-rule, wrapped}
 
 -- all of the first n depths are d
 module _ (d n : ℕ) (ds : List ℕ) (l : n ≤ length ds) where
@@ -82,15 +83,6 @@ signature-past k w p h =
     let u = unfit k w at-function p WrongKind says (inl refl) in
     rw (← low-none u, ← high-none u)
 
-pub at-the-end : (k w : List ℕ) (p q : ℕ) → q ≡ min p (length k) → signature-at k w q ≡ signature-at k w p
-at-the-end k w p q e = go (ltb p (length k)) refl
-  where
-    go : (t : Bool) → ltb p (length k) ≡ t → signature-at k w q ≡ signature-at k w p
-    go true g = let h = ltb-true p (length k) g in ap (signature-at k w) (omega arith)
-    go false g =
-        let h = ltb-false p (length k) g in
-        signature-past k w q (omega arith) ∙ sym (signature-past k w p h)
-
 -- a call's parts
 and-false : (b : Bool) {c : Bool} → false ≡ c → false ≡ (b && c)
 and-false true e = e
@@ -109,23 +101,29 @@ depths-length k w (suc n) p = ap suc (depths-length k w n (p + 1))
 
 module _ (k w : List ℕ) (p n : ℕ) (ds : List ℕ) where
   abbrev pub Calls : Judged → Type 0
-  Calls r = r ≡ told-rule (call-rule (signature-at k w p) (take n ds))
+  Calls r = r ≡ told-rule (called (there k w p) (take n ds))
 
-  pub other-count : n ≤ length ds → (c : ℕ) → c ≡ low-at k w at-function p → (c ≡ n → ⊥) → Calls Broken
+  pub not-there : length k ≤ p → Calls Broken
+  not-there h = rw (le-ltb p (length k) h)
+
+  pub other-count : p < length k → n ≤ length ds → (c : ℕ) → c ≡ low-at k w at-function p → (c ≡ n → ⊥) → Calls Broken
   unfolding signature-at
-  other-count l c e f =
-      rw (← counts-differ (depths-from k w (low-at k w at-function p) (p + 1)) (take n ds)
-      (λ i. f (omega (arith, i, depths-length k w (low-at k w at-function p) (p + 1), length-take n ds))))
+  other-count in-file l c e f =
+      rw (
+        lt-ltb p (length k) in-file,
+        ← counts-differ (depths-from k w (low-at k w at-function p) (p + 1)) (take n ds)
+            (λ i. f (omega (arith, i, depths-length k w (low-at k w at-function p) (p + 1), length-take n ds))),
+      )
 
-  module _ (c : ℕ) (ce : c ≡ low-at k w at-function p) (e : c ≡ n) (b : Bool)
+  module _ (in-file : p < length k) (c : ℕ) (ce : c ≡ low-at k w at-function p) (e : c ≡ n) (b : Bool)
       (f : b ≡ same (depths-from k w n (p + 1)) (take n ds)) where
     pub call-fits : b ≡ true → (r : ℕ) → r ≡ high-at k w at-function p → Calls (Has r)
     unfolding signature-at
-    call-fits g r i = rw (← ce, e, ← f, g, i)
+    call-fits g r i = rw (lt-ltb p (length k) in-file, ← ce, e, ← f, g, i)
 
     pub call-differs : b ≡ false → Calls Broken
     unfolding signature-at
-    call-differs g = rw (← ce, e, ← f, g)
+    call-differs g = rw (lt-ltb p (length k) in-file, ← ce, e, ← f, g)
 
 -- the first depths
 take-one : (l : List ℕ) → 1 ≤ length l → take 1 l ≡ getD l 0 0 ∷ []
@@ -141,11 +139,11 @@ take-three [] h = absurd (omega arith)
 take-three (x ∷ l) h = ap (λ (m : List ℕ). x ∷ m) (take-two l (omega arith))
 
 -- a node of kind x with the parts y and z of its operand
-module _ (signatures : ℕ → Signature) (x y z : ℕ) (ds : List ℕ) (l : length ds ≡ 16) where
+module _ (signatures : ℕ → Option Signature) (x y z : ℕ) (ds : List ℕ) (l : length ds ≡ 16) where
   abbrev pub Says : Judged → Type 0
   Says r = r ≡ told-rule (rule-of signatures x y z (take (part-count x y z) ds))
 
-  pub call-says : x ≡ 8 → (r : Judged) → r ≡ told-rule (call-rule (signatures y) (take z ds)) → Says r
+  pub call-says : x ≡ 8 → (r : Judged) → r ≡ told-rule (called (signatures y) (take z ds)) → Says r
   unfolding rule-of part-count
   call-says e r f = rw e f
 
@@ -157,25 +155,9 @@ module _ (signatures : ℕ → Signature) (x y z : ℕ) (ds : List ℕ) (l : len
   unfolding rule-of part-count
   literal-bad e b f g = rw (e, ← f, g)
 
-  pub index-number : x ≡ 10 → getD ds 0 0 ≡ 0 → Says Broken
+  pub index-says : x ≡ 10 → (r : Judged) → r ≡ told-rule (index-rule (getD ds 0 0 ∷ getD ds 1 0 ∷ [])) → Says r
   unfolding rule-of part-count
-  index-number e f = rw (e, take-two ds (omega arith), f)
-
-  pub index-good : x ≡ 10 → (getD ds 0 0 ≡ 0 → ⊥) → getD ds 1 0 ≡ 0 → Says (Has (getD ds 0 0 - 1))
-  unfolding rule-of part-count
-  index-good e f g = rw (e, take-two ds (omega arith)) (go (getD ds 0 0) f)
-    where
-      go : (a : ℕ) → (a ≡ 0 → ⊥) → Has (a - 1) ≡ told-rule (index-rule (a ∷ getD ds 1 0 ∷ []))
-      go zero f = absurd (f refl)
-      go (suc a) f = rw g (ap Has (omega arith))
-
-  pub index-bad : x ≡ 10 → (getD ds 0 0 ≡ 0 → ⊥) → (getD ds 1 0 ≡ 0 → ⊥) → Says Broken
-  unfolding rule-of part-count
-  index-bad e f g = rw (e, take-two ds (omega arith)) (go (getD ds 0 0) f)
-    where
-      go : (a : ℕ) → (a ≡ 0 → ⊥) → Broken ≡ told-rule (index-rule (a ∷ getD ds 1 0 ∷ []))
-      go zero f = absurd (f refl)
-      go (suc a) f = rw (ne-eqb (getD ds 1 0) 0 g)
+  index-says e r f = rw (e, take-two ds (omega arith)) f
 
   pub length-number : x ≡ 11 → getD ds 0 0 ≡ 0 → Says Broken
   unfolding rule-of part-count
@@ -189,17 +171,9 @@ module _ (signatures : ℕ → Signature) (x y z : ℕ) (ds : List ℕ) (l : len
       go zero f = absurd (f refl)
       go (suc a) f = refl
 
-  pub if-guard : x ≡ 12 → (getD ds 0 0 ≡ 0 → ⊥) → Says Broken
+  pub if-says : x ≡ 12 → (r : Judged) → r ≡ told-rule (if-rule (getD ds 0 0 ∷ getD ds 1 0 ∷ getD ds 2 0 ∷ [])) → Says r
   unfolding rule-of part-count
-  if-guard e f = rw (e, take-three ds (omega arith), ne-eqb (getD ds 0 0) 0 f)
-
-  pub if-good : x ≡ 12 → getD ds 0 0 ≡ 0 → getD ds 1 0 ≡ getD ds 2 0 → Says (Has (getD ds 1 0))
-  unfolding rule-of part-count
-  if-good e f g = rw (e, take-three ds (omega arith), eq-eqb (getD ds 0 0) 0 f, eq-eqb (getD ds 1 0) (getD ds 2 0) g)
-
-  pub if-bad : x ≡ 12 → getD ds 0 0 ≡ 0 → (getD ds 1 0 ≡ getD ds 2 0 → ⊥) → Says Broken
-  unfolding rule-of part-count
-  if-bad e f g = rw (e, take-three ds (omega arith), eq-eqb (getD ds 0 0) 0 f, ne-eqb (getD ds 1 0) (getD ds 2 0) g)
+  if-says e r f = rw (e, take-three ds (omega arith)) f
 
   module _ (f8 : x ≡ 8 → ⊥) (f9 : x ≡ 9 → ⊥) (f10 : x ≡ 10 → ⊥) (f11 : x ≡ 11 → ⊥) (f12 : x ≡ 12 → ⊥) (n : ℕ)
       (ne : n ≡ part-count x y z) where
@@ -212,6 +186,15 @@ module _ (signatures : ℕ → Signature) (x y z : ℕ) (ds : List ℕ) (l : len
     unfolding rule-of
     numbers-bad b f g =
         rw (ne-eqb x 8 f8, ne-eqb x 9 f9, ne-eqb x 10 f10, ne-eqb x 11 f11, ne-eqb x 12 f12, ← ne, ← f, g)
+
+-- an element's depth
+pub index-good : (a b : ℕ) → (a ≡ 0 → ⊥) → b ≡ 0 → Has (a - 1) ≡ told-rule (index-rule (a ∷ b ∷ []))
+index-good zero b f g = absurd (f refl)
+index-good (suc a) b f g = rw g (ap Has (omega arith))
+
+pub index-bad : (a b : ℕ) → (a ≡ 0 → ⊥) → (b ≡ 0 → ⊥) → Broken ≡ told-rule (index-rule (a ∷ b ∷ []))
+index-bad zero b f g = absurd (f refl)
+index-bad (suc a) b f g = rw (ne-eqb b 0 g)
 
 -- a map's depth
 pub wrap-good : (p e q : ℕ) (r : Typed) → r ≡ Depth e q → e < 4 → Depth (e + 1) q ≡ wrapped p r

@@ -23,7 +23,8 @@ use Rattle.script_read.proofs.Written.{amount, Written, AllWritten}
 use Rattle.script_depths.specs.declared.Typed.{Typed}
 use Rattle.script_depths.specs.declared.Typed.the-variants.{Depth, Fault}
 use Rattle.script_depths.specs.Walk.{signature-of, rule-of, Parts-typed, all, fault, more, and-parts, collect}
-use Rattle.script_depths.specs.Walk.{by-rule, ruled, wrapped, let-typed, map-typed, plain-typed, typed, types}
+use Rattle.script_depths.specs.Walk.{by-rule, ruled, wrapped, let-typed, map-typed, plain-typed, typed}
+use Rattle.script_depths.specs.Walk.{any-name, any-signature, types}
 
 -- what the walk tells of a tree is what the check finds
 pub data Tells (c : Checked) (q : ℕ) : Typed → Type 0 where
@@ -142,7 +143,7 @@ module _ (k w s : List ℕ) where
   -- a leaf and a loop at p by their shapes
   module _ (h : S.Head) (m : (ℕ → ℕ) → ℕ → Typed) (γ : ℕ → ℕ) (p : ℕ) where
     abbrev walked : Typed
-    walked = typed k w s m γ p (h .kind) (h .low) (h .high)
+    walked = typed any-name (any-signature k w s) k w m γ p (h .kind) (h .low) (h .high)
 
     leaf-typed : (l : Leaf) → h .kind ≡ leaf-kind l → shape-of h ≡ leaf-of l →
         walked ≡ ruled p (leaf-rule signatures l) (collect (part-count (h .kind) (h .low) (h .high)) (m γ) (p + 1))

@@ -3,8 +3,8 @@ use mathlib.Core.Bool.{cond}
 use mathlib.Core.List.{List, [], _∷_}
 use mathlib.Core.Option.{Option, none, some}
 use Prim.Native.Nat.{ℕ, zero, suc, _+_}
-use lib.Dec.{leb, eqb}
-use lib.ListN.{getD}
+use lib.Dec.{leb, ltb, eqb}
+use lib.ListN.{length, getD}
 use Rattle.semantics.specs.Basics.{updated}
 use Rattle.semantics.specs.File as S
 use Rattle.semantics.specs.File.{at-function, at-parameter, at-part, node-at, part-count}
@@ -17,9 +17,9 @@ use Rattle.script_depths.specs.declared.Typed.the-variants.{Depth, Fault
 use Rattle.script_depths.specs.declared.Judged.{Judged}
 use Rattle.script_depths.specs.declared.Judged.the-variants.{Has, Broken}
 
--- the depths of the names, as a table says
+-- the depths of the names, as a table says; 255 of a name that is not known
 abbrev pub depths : List ℕ → ℕ → ℕ
-depths t = table 0 t
+depths t = table 255 t
 
 module _ (kinds operands : List ℕ) where
   -- the depths of so many parameters
@@ -38,10 +38,19 @@ module _ (kinds operands : List ℕ) where
   abbrev pub signature-of : List ℕ → ℕ → Signature
   signature-of starts f = signature-at (getD starts f 1024)
 
+  -- the signature of the function at node p, if there is a node
+  abbrev pub there : ℕ → Option Signature
+  there p = cond (ltb p (length kinds)) (some (signature-at p)) none
+
+-- a call by the signature of the function, if it is there
+abbrev pub called : Option Signature → Rule
+called (some s) ds = call-rule s ds
+called none ds = none
+
 -- the rule of a node, by its kind and the parts of its operand
-unfoldable pub rule-of : (ℕ → Signature) → ℕ → ℕ → ℕ → Rule
+unfoldable pub rule-of : (ℕ → Option Signature) → ℕ → ℕ → ℕ → Rule
 rule-of signatures kind low high =
-    cond (eqb kind 8) (call-rule (signatures low))
+    cond (eqb kind 8) (called (signatures low))
     (cond (eqb kind 9) (literal-rule high)
     (cond (eqb kind 10) index-rule
     (cond (eqb kind 11) length-rule
@@ -93,17 +102,17 @@ module _ (m : (ℕ → ℕ) → ℕ → Typed) (γ : ℕ → ℕ) (x : ℕ) wher
   map-typed p (Depth (suc d) q) = wrapped p (m (updated γ x d) q)
   map-typed p (Fault n) = Fault n
 
-module _ (kinds operands starts : List ℕ) where
+-- a walk by what a name's entry tells at its node, and by the signatures of the functions
+module _ (named : ℕ → ℕ → Typed) (signatures : ℕ → Option Signature) (kinds operands : List ℕ) where
   -- a node that binds nothing; f walks over a part
   unfoldable pub plain-typed : (ℕ → Typed) → ℕ → ℕ → ℕ → ℕ → Typed
   plain-typed f p kind low high =
-      ruled p (rule-of (signature-of kinds operands starts) kind low high)
-      (collect (part-count kind low high) f (p + 1))
+      ruled p (rule-of signatures kind low high) (collect (part-count kind low high) f (p + 1))
 
   abbrev pub typed : ((ℕ → ℕ) → ℕ → Typed) → (ℕ → ℕ) → ℕ → ℕ → ℕ → ℕ → Typed
   typed m γ p kind low high =
       cond (eqb kind 2) (Depth 0 (p + 1))
-      (cond (eqb kind 3) (Depth (γ low) (p + 1))
+      (cond (eqb kind 3) (named (γ low) p)
       (cond (eqb kind 7) (let-typed m γ low (m γ (p + 1)))
       (cond (eqb kind 13) (map-typed m γ low p (m γ (p + 1)))
       (plain-typed (m γ) p kind low high))))
@@ -114,6 +123,35 @@ module _ (kinds operands starts : List ℕ) where
   typed-node m γ p S.wrong-operand = Fault p
 
   -- a part, with so many levels left
+  unfoldable pub walk : ℕ → (ℕ → ℕ) → ℕ → Typed
+  walk zero γ p = Fault p
+  walk (suc d) γ p = typed-node (walk d) γ p (node-at kinds operands at-part p)
+
+-- a name whose entry is 255 is not known
+abbrev pub known-name : ℕ → ℕ → Typed
+known-name d p = cond (eqb d 255) (Fault p) (Depth d (p + 1))
+
+-- The walk of the code, which asks names and functions to be known: a node that breaks rule 6 is a fault of it too.
+module _ (kinds operands starts : List ℕ) where
+  abbrev pub known-signature : ℕ → Option Signature
+  known-signature f = there kinds operands (getD starts f 1024)
+
+  unfoldable pub known-types : ℕ → (ℕ → ℕ) → ℕ → Typed
+  unfolding walk
+  known-types d γ p = walk known-name known-signature kinds operands d γ p
+
+  unfoldable pub known-plain : (ℕ → Typed) → ℕ → ℕ → ℕ → ℕ → Typed
+  unfolding plain-typed
+  known-plain f p kind low high = plain-typed known-name known-signature kinds operands f p kind low high
+
+-- The walk for depths alone: every name counts as known and every function as there.
+abbrev pub any-name : ℕ → ℕ → Typed
+any-name d p = Depth d (p + 1)
+
+module _ (kinds operands starts : List ℕ) where
+  abbrev pub any-signature : ℕ → Option Signature
+  any-signature f = some (signature-of kinds operands starts f)
+
   unfoldable pub types : ℕ → (ℕ → ℕ) → ℕ → Typed
-  types zero γ p = Fault p
-  types (suc d) γ p = typed-node (types d) γ p (node-at kinds operands at-part p)
+  unfolding walk
+  types d γ p = walk any-name any-signature kinds operands d γ p

@@ -1,15 +1,36 @@
-// Refusal 7: the depth of each part, or a node that breaks the rule.
-// One table of the depths of the 256 names is changed at a let or a map and put back after it.
+// Refusals 6 and 7 of a part: its depth, or a node that breaks one of the rules.
+// One table of the depths of the 256 names is changed at a let or a map and put back after it; a name that is not
+// known has the entry UNKNOWN, which is no depth.
+use script_read::KIND_CALL;
+use script_read::KIND_IF;
+use script_read::KIND_INDEX;
+use script_read::KIND_LENGTH;
+use script_read::KIND_LET;
+use script_read::KIND_LITERAL;
+use script_read::KIND_MAP;
+use script_read::KIND_NAME;
+use script_read::KIND_NUMBER;
 use script_read::Node;
 use script_read::Place;
 ghost use mathlib.Core.Path.{_≡_};
-ghost use Prim.Native.Nat.{_+_, _<_, _≤_, min};
+ghost use Prim.Native.Nat.{_+_, _<_, _≤_};
 ghost use lib.ListN.{length, getD, take};
 ghost use Rattle.semantics.specs.File.{low-limits, high-limits, part-count};
-ghost use Rattle.semantics.specs.Types.{all-are, same, call-rule};
-ghost use Rattle.script_depths.specs.Walk.{depths, depths-from, signature-at, signature-of};
-ghost use Rattle.script_depths.specs.Walk.{rule-of, told-rule, wrapped, let-typed, map-typed, plain-typed};
-ghost use Rattle.script_depths.specs.Walk.{types};
+ghost use mathlib.Core.List.{[], _∷_};
+ghost use Rattle.semantics.specs.Types.{all-are, same, index-rule, if-rule};
+ghost use Rattle.script_depths.specs.Walk.{depths, depths-from, there, called, known-signature};
+ghost use Rattle.script_depths.specs.Walk.{rule-of, told-rule, wrapped, let-typed, map-typed, known-plain};
+ghost use Rattle.script_depths.specs.Walk.{known-types};
+
+// The entry of a name that is not known.
+pub const UNKNOWN: u8 = 255;
+
+// A node: its kind and the two parts of its operand.
+pub struct Head {
+    pub kind: u8,
+    pub low: u8,
+    pub high: u8,
+}
 
 // A depth and the next node, or a node that breaks the rule.
 pub enum Typed {
@@ -24,8 +45,8 @@ pub enum Judged {
 }
 
 // Whether the first n depths are all d.
-fn all_are(ds: &[u8], n: usize, d: u8) -> bool
-    requires { ⌜ n ≤ length (now ds) ⌝ }
+fn all_are(ds: &[u8; 16], n: usize, d: u8) -> bool
+    requires { ⌜ (n ≤ 16) × (length (now ds) ≡ 16) ⌝ }
     ensures { λ r. ⌜ r ≡ all-are d (take n (now (ds .entry))) ⌝ }
 {
     let mut i: usize = 0;
@@ -39,8 +60,8 @@ fn all_are(ds: &[u8], n: usize, d: u8) -> bool
 }
 
 // Whether the depths of the n parameters from node at on are the first n depths.
-fn parameters_match(kinds: &[u8], operands: &[u8], at: usize, ds: &[u8], n: usize) -> bool
-    requires { ⌜ (n ≤ length (now ds)) × (n ≤ 255) × (at ≤ length (now kinds) + 1) ⌝ }
+fn parameters_match(kinds: &[u8], operands: &[u8], at: usize, ds: &[u8; 16], n: usize) -> bool
+    requires { ⌜ (n ≤ 16) × (length (now ds) ≡ 16) × (at ≤ length (now kinds)) ⌝ }
     ensures { λ r. ⌜
         r ≡ same (depths-from (now (kinds .entry)) (now (operands .entry)) n at) (take n (now (ds .entry))) ⌝ }
 {
@@ -54,13 +75,16 @@ fn parameters_match(kinds: &[u8], operands: &[u8], at: usize, ds: &[u8], n: usiz
     true
 }
 
-// A call's depth: the function's head is at start, the call has n parts.
-fn judge_call(kinds: &[u8], operands: &[u8], start: usize, ds: &[u8], n: u8) -> Judged
-    requires { ⌜ (n ≤ length (now ds)) × (start ≤ length (now kinds)) ⌝ }
+// A call's depth: the function's head is at start, if it is there, and the call has n parts.
+fn judge_call(kinds: &[u8], operands: &[u8], start: usize, ds: &[u8; 16], n: u8) -> Judged
+    requires { ⌜ (n ≤ 16) × (length (now ds) ≡ 16) ⌝ }
     ensures { λ r. ⌜
         r ≡ told-rule
-        (call-rule (signature-at (now (kinds .entry)) (now (operands .entry)) start) (take n (now (ds .entry)))) ⌝ }
+        (called (there (now (kinds .entry)) (now (operands .entry)) start) (take n (now (ds .entry)))) ⌝ }
 {
+    if kinds.len() <= start {
+        return Judged::Broken;
+    }
     if script_read::low_at(kinds, operands, start, Place::Function) != n {
         return Judged::Broken;
     }
@@ -70,45 +94,51 @@ fn judge_call(kinds: &[u8], operands: &[u8], start: usize, ds: &[u8], n: u8) -> 
     Judged::Broken
 }
 
-// The lesser of two numbers.
-fn lesser(a: usize, b: usize) -> usize
-    ensures { λ r. ⌜ r ≡ min a b ⌝ }
+// The depth of an element, by those of the array and of the place.
+fn judge_index(a: u8, b: u8) -> Judged
+    ensures { λ r. ⌜ r ≡ told-rule (index-rule (a ∷ b ∷ [])) ⌝ }
 {
-    if a < b { a } else { b }
+    if a == 0 {
+        return Judged::Broken;
+    }
+    if b == 0 {
+        return Judged::Has(a - 1);
+    }
+    Judged::Broken
 }
 
-// The node of a function, as the table says; the end of the nodes where it is no node.
-fn start_of(kinds: &[u8], starts: &[usize], f: u8) -> usize
-    ensures { λ r. ⌜ r ≡ min (getD (now (starts .entry)) f 1024) (length (now (kinds .entry))) ⌝ }
+// The depth of an if, by those of the guard and of the two branches.
+fn judge_if(a: u8, b: u8, c: u8) -> Judged
+    ensures { λ r. ⌜ r ≡ told-rule (if-rule (a ∷ b ∷ c ∷ [])) ⌝ }
 {
-    let i = f as usize;
-    if i < starts.len() {
-        return lesser(starts[i], kinds.len());
+    if a != 0 {
+        return Judged::Broken;
     }
-    lesser(1024, kinds.len())
+    if b == c {
+        return Judged::Has(b);
+    }
+    Judged::Broken
 }
 
 // The depth of a node by the depths of its parts; not for numbers, names, lets and maps.
-fn judge(
-    kinds: &[u8],
-    operands: &[u8],
-    starts: &[usize],
-    kind: u8,
-    low: u8,
-    high: u8,
-    ds: &[u8],
-) -> Judged
+fn judge(kinds: &[u8], operands: &[u8], starts: &[usize; 32], node: Head, ds: &[u8; 16]) -> Judged
     requires { ⌜
-        (length (now ds) ≡ 16) × (low ≤ getD low-limits kind 0) × (high ≤ getD high-limits kind 0) ⌝ }
+        (length (now ds) ≡ 16) × (node .low ≤ getD low-limits (node .kind) 0)
+        × (node .high ≤ getD high-limits (node .kind) 0) × (length (now starts) ≡ 32) ⌝ }
     ensures { λ r. ⌜
         r ≡ told-rule
-        (rule-of (signature-of (now (kinds .entry)) (now (operands .entry)) (now (starts .entry))) kind low high
-        (take (part-count kind low high) (now (ds .entry)))) ⌝ }
+        (rule-of (known-signature (now (kinds .entry)) (now (operands .entry)) (now (starts .entry)))
+        (node .kind) (node .low) (node .high)
+        (take (part-count (node .kind) (node .low) (node .high)) (now (ds .entry)))) ⌝ }
 {
-    if kind == 8 {
-        return judge_call(kinds, operands, start_of(kinds, starts, low), ds, high);
+    let kind = node.kind;
+    let low = node.low;
+    let high = node.high;
+    if kind == KIND_CALL {
+        let start = starts[low as usize];
+        return judge_call(kinds, operands, start, ds, high);
     }
-    if kind == 9 {
+    if kind == KIND_LITERAL {
         if all_are(ds, low as usize, high) {
             return Judged::Has(high + 1);
         }
@@ -116,29 +146,18 @@ fn judge(
     }
     let a = ds[0];
     let b = ds[1];
-    if kind == 10 {
-        if a == 0 {
-            return Judged::Broken;
-        }
-        if b == 0 {
-            return Judged::Has(a - 1);
-        }
-        return Judged::Broken;
+    if kind == KIND_INDEX {
+        return judge_index(a, b);
     }
-    if kind == 11 {
+    if kind == KIND_LENGTH {
         if a == 0 {
             return Judged::Broken;
         }
         return Judged::Has(0);
     }
-    if kind == 12 {
-        if a != 0 {
-            return Judged::Broken;
-        }
-        if b == ds[2] {
-            return Judged::Has(b);
-        }
-        return Judged::Broken;
+    if kind == KIND_IF {
+        let c = ds[2];
+        return judge_if(a, b, c);
     }
     let n = script_read::parts_of(kind, low, high) as usize;
     if all_are(ds, n, 0) {
@@ -168,14 +187,14 @@ fn wrap(at: usize, body: Typed) -> Typed
 fn type_part(
     kinds: &[u8],
     operands: &[u8],
-    starts: &[usize],
-    table: &mut [u8],
+    starts: &[usize; 32],
+    table: &mut [u8; 256],
     at: usize,
     levels: u64,
 ) -> Typed
-    requires { ⌜ length (now table) ≡ 256 ⌝ }
+    requires { ⌜ (length (now table) ≡ 256) × (length (now starts) ≡ 32) ⌝ }
     ensures { λ r. ⌜
-        (r ≡ types (now (kinds .entry)) (now (operands .entry)) (now (starts .entry)) levels
+        (r ≡ known-types (now (kinds .entry)) (now (operands .entry)) (now (starts .entry)) levels
         (depths (now (table .entry))) at)
         × (now (table .exit) ≡ now (table .entry)) ⌝ }
 {
@@ -184,29 +203,24 @@ fn type_part(
     }
     match script_read::node_at(kinds, operands, at, Place::Part) {
         Node::Fits(kind, low, high) => {
-            if kind == 2 {
+            if kind == KIND_NUMBER {
                 return Typed::Depth(0, at + 1);
             }
-            if kind == 3 {
-                return Typed::Depth(table[low as usize], at + 1);
+            if kind == KIND_NAME {
+                let d = table[low as usize];
+                if d == UNKNOWN {
+                    return Typed::Fault(at);
+                }
+                return Typed::Depth(d, at + 1);
             }
-            if kind == 7 {
+            if kind == KIND_LET {
                 return type_let(kinds, operands, starts, table, at + 1, low, levels - 1);
             }
-            if kind == 13 {
+            if kind == KIND_MAP {
                 return type_map(kinds, operands, starts, table, at, low, levels - 1);
             }
-            type_plain(
-                kinds,
-                operands,
-                starts,
-                table,
-                at,
-                kind,
-                low,
-                high,
-                levels - 1,
-            )
+            let node = Head { kind, low, high };
+            type_plain(kinds, operands, starts, table, at, node, levels - 1)
         }
         Node::WrongKind => Typed::Fault(at),
         Node::WrongOperand => Typed::Fault(at),
@@ -217,17 +231,17 @@ fn type_part(
 fn type_let(
     kinds: &[u8],
     operands: &[u8],
-    starts: &[usize],
-    table: &mut [u8],
+    starts: &[usize; 32],
+    table: &mut [u8; 256],
     at: usize,
     x: u8,
     levels: u64,
 ) -> Typed
-    requires { ⌜ length (now table) ≡ 256 ⌝ }
+    requires { ⌜ (length (now table) ≡ 256) × (length (now starts) ≡ 32) ⌝ }
     ensures { λ r. ⌜
-        (r ≡ let-typed (types (now (kinds .entry)) (now (operands .entry)) (now (starts .entry)) levels)
+        (r ≡ let-typed (known-types (now (kinds .entry)) (now (operands .entry)) (now (starts .entry)) levels)
         (depths (now (table .entry))) x
-        (types (now (kinds .entry)) (now (operands .entry)) (now (starts .entry)) levels
+        (known-types (now (kinds .entry)) (now (operands .entry)) (now (starts .entry)) levels
         (depths (now (table .entry))) at))
         × (now (table .exit) ≡ now (table .entry)) ⌝ }
 {
@@ -248,17 +262,17 @@ fn type_let(
 fn type_map(
     kinds: &[u8],
     operands: &[u8],
-    starts: &[usize],
-    table: &mut [u8],
+    starts: &[usize; 32],
+    table: &mut [u8; 256],
     at: usize,
     x: u8,
     levels: u64,
 ) -> Typed
-    requires { ⌜ (length (now table) ≡ 256) × (at < length (now kinds)) ⌝ }
+    requires { ⌜ (length (now table) ≡ 256) × (length (now starts) ≡ 32) × (at < length (now kinds)) ⌝ }
     ensures { λ r. ⌜
-        (r ≡ map-typed (types (now (kinds .entry)) (now (operands .entry)) (now (starts .entry)) levels)
+        (r ≡ map-typed (known-types (now (kinds .entry)) (now (operands .entry)) (now (starts .entry)) levels)
         (depths (now (table .entry))) x at
-        (types (now (kinds .entry)) (now (operands .entry)) (now (starts .entry)) levels
+        (known-types (now (kinds .entry)) (now (operands .entry)) (now (starts .entry)) levels
         (depths (now (table .entry))) (at + 1)))
         × (now (table .exit) ≡ now (table .entry)) ⌝ }
 {
@@ -282,25 +296,23 @@ fn type_map(
 fn type_plain(
     kinds: &[u8],
     operands: &[u8],
-    starts: &[usize],
-    table: &mut [u8],
+    starts: &[usize; 32],
+    table: &mut [u8; 256],
     at: usize,
-    kind: u8,
-    low: u8,
-    high: u8,
+    node: Head,
     levels: u64,
 ) -> Typed
     requires { ⌜
-        (length (now table) ≡ 256) × (at < length (now kinds))
-        × (low ≤ getD low-limits kind 0) × (high ≤ getD high-limits kind 0) ⌝ }
+        (length (now table) ≡ 256) × (length (now starts) ≡ 32) × (at < length (now kinds))
+        × (node .low ≤ getD low-limits (node .kind) 0) × (node .high ≤ getD high-limits (node .kind) 0) ⌝ }
     ensures { λ r. ⌜
-        (r ≡ plain-typed (now (kinds .entry)) (now (operands .entry)) (now (starts .entry))
-        (types (now (kinds .entry)) (now (operands .entry)) (now (starts .entry)) levels
-        (depths (now (table .entry)))) at kind low high)
+        (r ≡ known-plain (now (kinds .entry)) (now (operands .entry)) (now (starts .entry))
+        (known-types (now (kinds .entry)) (now (operands .entry)) (now (starts .entry)) levels
+        (depths (now (table .entry)))) at (node .kind) (node .low) (node .high))
         × (now (table .exit) ≡ now (table .entry)) ⌝ }
 {
     let mut ds = [0u8; 16];
-    let n = script_read::parts_of(kind, low, high) as usize;
+    let n = script_read::parts_of(node.kind, node.low, node.high) as usize;
     let mut p = at + 1;
     let mut i: usize = 0;
     while i < n {
@@ -315,7 +327,7 @@ fn type_plain(
         }
         i = i + 1;
     }
-    match judge(kinds, operands, starts, kind, low, high, &ds[..]) {
+    match judge(kinds, operands, starts, node, &ds) {
         Judged::Has(d) => Typed::Depth(d, p),
         Judged::Broken => Typed::Fault(at),
     }
@@ -325,13 +337,14 @@ fn type_plain(
 pub fn type_body(
     kinds: &[u8],
     operands: &[u8],
-    starts: &[usize],
-    table: [u8; 256],
+    starts: &[usize; 32],
+    table: &mut [u8; 256],
     at: usize,
 ) -> Typed
+    requires { ⌜ (length (now table) ≡ 256) × (length (now starts) ≡ 32) ⌝ }
     ensures { λ r. ⌜
-        r ≡ types (now (kinds .entry)) (now (operands .entry)) (now (starts .entry)) 64 (depths table) at ⌝ }
+        r ≡ known-types (now (kinds .entry)) (now (operands .entry)) (now (starts .entry)) 64
+        (depths (now (table .entry))) at ⌝ }
 {
-    let mut known = table;
-    type_part(kinds, operands, starts, &mut known[..], at, 64)
+    type_part(kinds, operands, starts, table, at, 64)
 }

@@ -1,12 +1,16 @@
 // Refusal 6: a node that names nothing known, or a parameter name that is repeated.
 // One table of the 256 names is changed at a binding and put back after it.
+use script_read::KIND_CALL;
+use script_read::KIND_LET;
+use script_read::KIND_MAP;
+use script_read::KIND_NAME;
 use script_read::Node;
 use script_read::Place;
 use script_read::Read;
 ghost use mathlib.Core.Path.{_≡_};
 ghost use Prim.Native.Nat.{_+_, _<_};
-ghost use lib.ListN.{length, set};
-ghost use Rattle.script_read.specs.Told.{repeated, marked};
+ghost use lib.ListN.{length};
+ghost use Rattle.script_read.specs.Told.{repeated};
 ghost use Rattle.script_names.specs.Walk.{scope, binds, calls-none, names, then-bound, names-from};
 ghost use Rattle.script_names.specs.Walk.{names-function};
 
@@ -14,17 +18,17 @@ ghost use Rattle.script_names.specs.Walk.{names-function};
 fn is_binding(kind: u8) -> bool
     ensures { λ r. ⌜ r ≡ binds kind ⌝ }
 {
-    if kind == 7 {
+    if kind == KIND_LET {
         return true;
     }
-    kind == 13
+    kind == KIND_MAP
 }
 
 // Whether a node calls a function that is not there.
 fn calls_none(functions: u8, kind: u8, f: u8) -> bool
     ensures { λ r. ⌜ r ≡ calls-none functions kind f ⌝ }
 {
-    if kind == 8 {
+    if kind == KIND_CALL {
         return functions <= f;
     }
     false
@@ -49,7 +53,7 @@ fn name_part(
     }
     match script_read::node_at(kinds, operands, at, Place::Part) {
         Node::Fits(kind, low, high) => {
-            if kind == 3 {
+            if kind == KIND_NAME {
                 if known[low as usize] {
                     return Read::Next(at + 1);
                 }
@@ -189,28 +193,14 @@ fn name_function(kinds: &[u8], operands: &[u8], functions: u8, at: usize) -> Rea
     }
 }
 
-// An entry of a table, written where the table has it.
-fn put(table: &mut [usize], i: usize, node: usize)
-    ensures { λ r. ⌜ now (table .exit) ≡ set (now (table .entry)) i node ⌝ }
-{
-    if i < table.len() {
-        table[i] = node;
-    }
-}
-
-// All functions of a script: refusal 6. The table gets the node of each function.
-pub fn name_script(kinds: &[u8], operands: &[u8], functions: u8, starts: &mut [usize]) -> Read
+// All functions of a script: refusal 6.
+pub fn name_script(kinds: &[u8], operands: &[u8], functions: u8) -> Read
     ensures { λ r. ⌜
-        (r ≡ repeated functions (names-function (now (kinds .entry)) (now (operands .entry)) functions) 0)
-        × (now (starts .exit) ≡ marked functions (names-function (now (kinds .entry)) (now
-        (operands .entry)) functions) 0 0
-        (now (starts .entry))) ⌝ }
+        r ≡ repeated functions (names-function (now (kinds .entry)) (now (operands .entry)) functions) 0 ⌝ }
 {
     let mut p = 0;
-    let mut i: usize = 0;
     let mut left = functions;
     while 0 < left {
-        put(starts, i, p);
         match name_function(kinds, operands, functions, p) {
             Read::Next(q) => {
                 p = q;
@@ -219,7 +209,6 @@ pub fn name_script(kinds: &[u8], operands: &[u8], functions: u8, starts: &mut [u
                 return Read::Refused(n, q);
             }
         }
-        i = i + 1;
         left = left - 1;
     }
     Read::Next(p)

@@ -1,5 +1,6 @@
 pub mod Nodes
 pub mod Sorts
+pub mod Limits
 pub mod Turns
 pub mod Part
 pub mod Whole

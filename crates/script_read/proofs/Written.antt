@@ -220,7 +220,7 @@ module _ (k w : List ℕ) where
       after-bind _ _ (times n (parameter k w) q) (parameters-written n q) λ xs r g.
       ((h .0, subst (λ s. ParametersWritten k w xs s) (h .1) (g .0)), omega (arith, h .1, g .1), ap suc (g .2))
 
-  function-written : (p : ℕ) → After (λ g q. FunctionWritten k w g p × (q ≡ p + function-size g)) (function k w p)
+  pub function-written : (p : ℕ) → After (λ g q. FunctionWritten k w g p × (q ≡ p + function-size g)) (function k w p)
   unfolding function look onward function-size
   function-written p = go (node-at k w at-function p) refl
     where

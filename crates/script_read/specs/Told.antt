@@ -2,6 +2,8 @@
 use mathlib.Core.Path.{_≡_}
 use mathlib.Core.List.{List, [], _∷_}
 use Prim.Native.Nat.{ℕ, zero, suc, _+_, _*_, _≤_}
+use mathlib.Core.Bool.{cond}
+use lib.Dec.{eqb}
 use lib.ListN.{length, set}
 use Rattle.semantics.specs.Outcome.{Outcome, done, stop}
 use Rattle.semantics.specs.File as S
@@ -56,6 +58,10 @@ low-at kinds operands place p = low-of (S.node-at kinds operands place p)
 
 unfoldable pub high-at : List ℕ → List ℕ → S.Place → ℕ → ℕ
 high-at kinds operands place p = high-of (S.node-at kinds operands place p)
+
+-- how many parts a call or a literal says that it has
+abbrev pub said-parts : ℕ → ℕ → ℕ → ℕ
+said-parts kind low high = cond (eqb kind 8) high (cond (eqb kind 9) low 0)
 
 abbrev pub told : {A : Type 0} → Outcome ℕ A → Read
 told (done a q) = Next q

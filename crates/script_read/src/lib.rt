@@ -1,12 +1,13 @@
 // The reader: the nodes of a script file in prefix order, refusals 1 to 5.
 ghost use mathlib.Core.Path.{_≡_};
 ghost use mathlib.Core.Bool.{false, _&&_};
-ghost use Prim.Native.Nat.{_+_, _*_, _<_};
-ghost use lib.ListN.{getD};
-ghost use Rattle.semantics.specs.Number.{bytes-at};
-ghost use Rattle.semantics.specs.File.{low-limits, high-limits, allowed, look, part-count, part};
+ghost use Prim.Native.Nat.{_+_, _/_, _%_, _≤_};
+ghost use lib.ListN.{length, getD};
+ghost use Rattle.semantics.specs.File.{low-limits, high-limits, allowed, look, part-counts, part-count, part};
 ghost use Rattle.semantics.specs.File.{parameter, function, script, read-file, between};
 ghost use Rattle.script_read.specs.Told.{place-of, node-outcome, parted, told, low-at, high-at, repeated};
+ghost use Rattle.script_read.specs.Told.{marked, said-parts};
+ghost use Rattle.script_read.specs.Starts.{Blank, Started-by};
 
 // Where a node stands.
 pub enum Place {
@@ -28,56 +29,68 @@ pub enum Read {
     Refused(u8, usize),
 }
 
-// By kind: whether a part may have it, the greatest low and high part of an operand, and how many parts a node has.
-const PART_KINDS: [bool; 14] = [
-    false,
-    false,
-    true,
-    true,
-    true,
-    true,
-    true,
-    true,
-    true,
-    true,
-    true,
-    true,
-    true,
-    true,
-];
+// The kinds of nodes.
+pub const KIND_FUNCTION: u8 = 0;
 
-const LOW_LIMITS: [u8; 14] = [8, 255, 0, 255, 0, 0, 0, 255, 31, 16, 0, 0, 0, 255];
+pub const KIND_PARAMETER: u8 = 1;
 
-const HIGH_LIMITS: [u8; 14] = [4, 4, 0, 0, 0, 0, 0, 0, 8, 3, 0, 0, 0, 0];
+pub const KIND_NUMBER: u8 = 2;
 
-const PART_COUNTS: [u8; 14] = [0, 0, 0, 0, 2, 2, 2, 2, 0, 0, 2, 1, 3, 2];
+pub const KIND_NAME: u8 = 3;
+
+pub const KIND_SUM: u8 = 4;
+
+pub const KIND_DIFFERENCE: u8 = 5;
+
+pub const KIND_LESS: u8 = 6;
+
+pub const KIND_LET: u8 = 7;
+
+pub const KIND_CALL: u8 = 8;
+
+pub const KIND_LITERAL: u8 = 9;
+
+pub const KIND_INDEX: u8 = 10;
+
+pub const KIND_LENGTH: u8 = 11;
+
+pub const KIND_IF: u8 = 12;
+
+pub const KIND_MAP: u8 = 13;
+
+// The entry of a function that is not there, in a table of the functions' nodes: it is past every file.
+pub const NO_FUNCTION: usize = 1024;
 
 // Whether a node of this kind may stand at a place.
 fn is_allowed(place: Place, kind: u8) -> bool
     ensures { λ r. ⌜ r ≡ allowed (place-of place) kind ⌝ }
 {
-    let n = kind as usize;
     match place {
-        Place::Function => n == 0,
-        Place::Parameter => n == 1,
-        Place::Part => if n < 14 { PART_KINDS[n] } else { false },
+        Place::Function => kind == KIND_FUNCTION,
+        Place::Parameter => kind == KIND_PARAMETER,
+        Place::Part => {
+            if kind < KIND_NUMBER {
+                return false;
+            }
+            kind <= KIND_MAP
+        }
     }
 }
 
-// The greatest low part of an operand.
-fn low_limit(kind: u8) -> u8
-    ensures { λ r. ⌜ r ≡ getD low-limits kind 0 ⌝ }
+// The greatest low part of an operand and 256 times its greatest high part.
+fn operand_limits(kind: u8) -> u64
+    ensures { λ r. ⌜ (r % 256 ≡ getD low-limits kind 0) × (r / 256 ≡ getD high-limits kind 0) ⌝ }
 {
-    let n = kind as usize;
-    if n < 14 { LOW_LIMITS[n] } else { 0 }
-}
-
-// The greatest high part of an operand.
-fn high_limit(kind: u8) -> u8
-    ensures { λ r. ⌜ r ≡ getD high-limits kind 0 ⌝ }
-{
-    let n = kind as usize;
-    if n < 14 { HIGH_LIMITS[n] } else { 0 }
+    match kind {
+        KIND_FUNCTION => 8 + 256 * 4,
+        KIND_PARAMETER => 255 + 256 * 4,
+        KIND_NAME => 255,
+        KIND_LET => 255,
+        KIND_CALL => 31 + 256 * 8,
+        KIND_LITERAL => 16 + 256 * 3,
+        KIND_MAP => 255,
+        _ => 0,
+    }
 }
 
 // The kind of a node; past the end 255.
@@ -85,16 +98,6 @@ fn kind_at(kinds: &[u8], at: usize) -> u8
     ensures { λ r. ⌜ r ≡ getD (now (kinds .entry)) at 255 ⌝ }
 {
     if at < kinds.len() { kinds[at] } else { 255 }
-}
-
-// The operand of a node as an unsigned number; 0 past the end.
-fn operand_at(operands: &[u8], at: usize) -> u64
-    ensures { λ r. ⌜ r ≡ bytes-at 8 (now (operands .entry)) (8 * at) ⌝ }
-{
-    if operands.len() / 8 < at {
-        return 0;
-    }
-    words::word_at(operands, 8 * at)
 }
 
 // The node that stands at a place.
@@ -106,16 +109,17 @@ pub fn node_at(kinds: &[u8], operands: &[u8], at: usize, place: Place) -> Node
     if !is_allowed(place, kind) {
         return Node::WrongKind;
     }
-    if kind == 2 {
-        return Node::Fits(2, 0, 0);
+    if kind == KIND_NUMBER {
+        return Node::Fits(KIND_NUMBER, 0, 0);
     }
-    let n = operand_at(operands, at);
+    let n = words::nth_word(operands, at);
     let low = n % 256;
     let high = n / 256;
-    if words::wide(low_limit(kind)) < low {
+    let most = operand_limits(kind);
+    if most % 256 < low {
         return Node::WrongOperand;
     }
-    if words::wide(high_limit(kind)) < high {
+    if most / 256 < high {
         return Node::WrongOperand;
     }
     Node::Fits(kind, low as u8, high as u8)
@@ -143,18 +147,41 @@ pub fn high_at(kinds: &[u8], operands: &[u8], at: usize, place: Place) -> u8
     }
 }
 
+// How many parts a node of this kind has; a call and a literal say it themselves.
+fn fixed_parts(kind: u8) -> u8
+    ensures { λ r. ⌜ r ≡ getD part-counts kind 0 ⌝ }
+{
+    match kind {
+        KIND_SUM => 2,
+        KIND_DIFFERENCE => 2,
+        KIND_LESS => 2,
+        KIND_LET => 2,
+        KIND_INDEX => 2,
+        KIND_LENGTH => 1,
+        KIND_IF => 3,
+        KIND_MAP => 2,
+        _ => 0,
+    }
+}
+
+// How many parts a call or a literal says that it has.
+fn said_parts(kind: u8, low: u8, high: u8) -> u8
+    ensures { λ r. ⌜ r ≡ said-parts kind low high ⌝ }
+{
+    if kind == KIND_CALL {
+        return high;
+    }
+    if kind == KIND_LITERAL {
+        return low;
+    }
+    0
+}
+
 // How many parts a node has.
 pub fn parts_of(kind: u8, low: u8, high: u8) -> u8
     ensures { λ r. ⌜ r ≡ part-count kind low high ⌝ }
 {
-    if kind == 8 {
-        return high;
-    }
-    if kind == 9 {
-        return low;
-    }
-    let n = kind as usize;
-    if n < 14 { PART_COUNTS[n] } else { 0 }
+    fixed_parts(kind) + said_parts(kind, low, high)
 }
 
 // A part, with so many levels left.
@@ -236,13 +263,30 @@ fn read_function(kinds: &[u8], operands: &[u8], at: usize) -> Read
     }
 }
 
-// The functions of a script, with nothing left over.
-fn read_script(kinds: &[u8], operands: &[u8], functions: usize) -> Read
-    ensures { λ r. ⌜ r ≡ told (script (now (kinds .entry)) (now (operands .entry)) functions 0) ⌝ }
+// A table in which no function has a node.
+fn clear(starts: &mut [usize; 32])
+    requires { ⌜ length (now starts) ≡ 32 ⌝ }
+    ensures { λ _. ⌜ Blank (now (starts .exit)) ⌝ }
+{
+    let mut i: usize = 0;
+    while i < 32 {
+        starts[i] = NO_FUNCTION;
+        i = i + 1;
+    }
+}
+
+// The functions of a script, with nothing left over. The table gets the node of each function.
+fn read_script(kinds: &[u8], operands: &[u8], functions: usize, starts: &mut [usize; 32]) -> Read
+    requires { ⌜ (functions ≤ 32) × (length (now starts) ≡ 32) ⌝ }
+    ensures { λ r. ⌜
+        (r ≡ told (script (now (kinds .entry)) (now (operands .entry)) functions 0))
+        × (now (starts .exit) ≡ marked functions (λ p. told (function (now (kinds .entry)) (now
+        (operands .entry)) p)) 0 0 (now (starts .entry))) ⌝ }
 {
     let mut p = 0;
-    let mut left = functions;
-    while 0 < left {
+    let mut i: usize = 0;
+    while i < functions {
+        starts[i] = p;
         match read_function(kinds, operands, p) {
             Read::Next(q) => {
                 p = q;
@@ -251,7 +295,7 @@ fn read_script(kinds: &[u8], operands: &[u8], functions: usize) -> Read
                 return Read::Refused(n, q);
             }
         }
-        left = left - 1;
+        i = i + 1;
     }
     if p < kinds.len() {
         return Read::Refused(3, p);
@@ -278,9 +322,13 @@ fn sizes_fit(functions: usize, nodes: usize) -> bool
     true
 }
 
-// A file: refusals 1 to 5. Its part from byte 4 and its part from 4 + N go on as separate slices.
-pub fn read_file(bytes: &[u8]) -> Read
-    ensures { λ r. ⌜ r ≡ told (read-file (now (bytes .entry))) ⌝ }
+// A file: refusals 1 to 5. Its part from byte 4 and its part from 4 + N go on as separate slices. The table gets the
+// node of each function of a file that is read to its end.
+pub fn read_file(bytes: &[u8], starts: &mut [usize; 32]) -> Read
+    requires { ⌜ length (now starts) ≡ 32 ⌝ }
+    ensures { λ r. ⌜
+        (r ≡ told (read-file (now (bytes .entry))))
+        × Started-by (read-file (now (bytes .entry))) (now (starts .exit)) ⌝ }
 {
     if bytes.len() < 4 {
         return Read::Refused(1, 0);
@@ -296,5 +344,6 @@ pub fn read_file(bytes: &[u8]) -> Read
     let end = 4 + nodes;
     let kinds = &bytes[4..end];
     let operands = &bytes[end..];
-    read_script(kinds, operands, functions)
+    clear(starts);
+    read_script(kinds, operands, functions, starts)
 }

@@ -6,7 +6,7 @@ use mathlib.Core.Logic.{_⊎_, ⊎-elim}
 use Prim.Native.Nat.{ℕ, _+_, _-_, _<_}
 use native.Mathlib.Omega.{arith}
 use lib.Dec.{eqb}
-use lib.ListN.{length, set, replicate}
+use lib.ListN.{length, getD, set, replicate}
 use borrow.Author.Tests.{eq-eqb, ne-eqb}
 use Rattle.semantics.specs.File as S
 use Rattle.semantics.specs.File.{at-function, at-parameter, look, node-at}
@@ -19,11 +19,13 @@ use Rattle.script_read.specs.declared.Read.the-variants.{Next, Refused}
 use Rattle.script_read.proofs.Nodes.{Seen, unfit}
 use Rattle.script_read.proofs.Turns.{less-one}
 use Rattle.script_read.proofs.Tables.{table-set, table-fresh}
-use Rattle.script_depths.specs.Walk.{depths, depths-from, signature-at, types}
+use Rattle.script_depths.proofs.Laws.{entry}
+use Rattle.script_depths.specs.Walk.{depths, depths-from, signature-at, known-types}
 use Rattle.script_depths.specs.declared.Typed.{Typed}
 use Rattle.script_depths.specs.declared.Typed.the-variants.{Depth, Fault}
 use Rattle.script_depths.proofs.Rules.{counts-differ, depths-length}
-use Rattle.script_types.specs.Functions.{typed-parameter, ended, types-from, types-function, types-script}
+use Rattle.script_types.specs.Functions.{typed-parameter, fresh-name, ended, known-from, known-function}
+use Rattle.script_types.specs.Functions.{known-script}
 
 -- main's shape
 module _ (k w : List ℕ) (c : ℕ) (ce : c ≡ low-at k w at-function 0) where
@@ -50,18 +52,25 @@ module _ (k w : List ℕ) (c : ℕ) (ce : c ≡ low-at k w at-function 0) where
 
 module _ (k w s : List ℕ) where
   from-step : (c : ℕ) (γ : ℕ → ℕ) (p : ℕ) → 0 < c →
-      types-from k w s c γ p ≡ typed-parameter (types-from k w s (c - 1)) γ p (node-at k w at-parameter p)
-  unfolding types-from
-  from-step c γ p h = ap (λ (n : ℕ). types-from k w s n γ p) (less-one c (omega arith))
+      known-from k w s c γ p ≡ typed-parameter fresh-name (known-from k w s (c - 1)) γ p (node-at k w at-parameter p)
+  unfolding known-from
+  from-step c γ p h = ap (λ (n : ℕ). known-from k w s n γ p) (less-one c (omega arith))
 
   -- c parameters are left, from node p on; the whole gives r
-  module _ (r : Typed) (c p : ℕ) (t : List ℕ) (inv : r ≡ types-from k w s c (depths t) p) (h : 0 < c) where
-    pub parameter-goes : {x y z : ℕ} → Seen k w at-parameter p x y z → length t ≡ 256 → y < 256 →
-        r ≡ types-from k w s (c - 1) (depths (set t y z)) (p + 1)
-    parameter-goes {x} {y} {z} n l b =
+  module _ (r : Typed) (c p : ℕ) (t : List ℕ) (inv : r ≡ known-from k w s c (depths t) p) (h : 0 < c) where
+    pub parameter-goes : {x y z : ℕ} → Seen k w at-parameter p x y z → length t ≡ 256 → y < 256 → getD t y 0 ≡ 255 →
+        r ≡ known-from k w s (c - 1) (depths (set t y z)) (p + 1)
+    parameter-goes {x} {y} {z} n l b u =
         inv ∙ from-step c (depths t) p h
-        ∙ ap (λ (v : S.Node). typed-parameter (types-from k w s (c - 1)) (depths t) p v) (n .stands)
-        ∙ rw (n .same-low, n .same-high, table-set 0 t y z (omega arith))
+        ∙ ap (λ (v : S.Node). typed-parameter fresh-name (known-from k w s (c - 1)) (depths t) p v) (n .stands)
+        ∙ rw (n .same-low, n .same-high, entry t y l b, eq-eqb (getD t y 0) 255 u, table-set 255 t y z (omega arith))
+
+    pub parameter-again : {x y z : ℕ} → Seen k w at-parameter p x y z → length t ≡ 256 → y < 256 →
+        (getD t y 0 ≡ 255 → ⊥) → Fault p ≡ r
+    parameter-again {x} {y} {z} n l b u =
+        sym (inv ∙ from-step c (depths t) p h
+        ∙ ap (λ (v : S.Node). typed-parameter fresh-name (known-from k w s (c - 1)) (depths t) p v) (n .stands)
+        ∙ rw (n .same-low, entry t y l b, ne-eqb (getD t y 0) 255 u))
 
     pub parameter-none : (n : Node) → node-outcome n p ≡ parted (look k w at-parameter p) →
         (n ≡ WrongKind) ⊎ (n ≡ WrongOperand) →
@@ -70,43 +79,43 @@ module _ (k w s : List ℕ) where
         sym (inv ∙ from-step c (depths t) p h
         ∙ ⊎-elim (λ g. rw g) (λ g. rw g) (unfit k w at-parameter p n e f .is))
 
-  pub body-next : (r : Typed) (c : ℕ) (γ : ℕ → ℕ) (p : ℕ) → c ≡ 0 → r ≡ types k w s 64 γ p →
-      r ≡ types-from k w s c γ p
-  unfolding types-from
+  pub body-next : (r : Typed) (c : ℕ) (γ : ℕ → ℕ) (p : ℕ) → c ≡ 0 → r ≡ known-types k w s 64 γ p →
+      r ≡ known-from k w s c γ p
+  unfolding known-from
   body-next r c γ p e f = rw e f
 
   -- a function
   module _ {p x y z : ℕ} (n : Seen k w at-function p x y z) (b : Typed)
-      (be : b ≡ types-from k w s y (depths (replicate 256 0)) (p + 1)) where
-    by-body : types-function k w s p ≡ ended p z b
-    unfolding types-function
+      (be : b ≡ known-from k w s y (depths (replicate 256 255)) (p + 1)) where
+    by-body : known-function k w s p ≡ ended p z b
+    unfolding known-function known-from
     by-body =
         rw (n .stands, n .same-low, n .same-high)
-        (ap (λ (γ : ℕ → ℕ). ended p z (types-from k w s y γ (p + 1))) (sym (table-fresh 0 256))
+        (ap (λ (γ : ℕ → ℕ). ended p z (known-from k w s y γ (p + 1))) (sym (table-fresh 255 256))
         ∙ ap (ended p z) (sym be))
 
-    pub result-fits : (d q : ℕ) → b ≡ Depth d q → d ≡ z → Next q ≡ types-function k w s p
+    pub result-fits : (d q : ℕ) → b ≡ Depth d q → d ≡ z → Next q ≡ known-function k w s p
     result-fits d q e f = sym (by-body ∙ rw (e, eq-eqb d z f))
 
-    pub result-differs : (d q : ℕ) → b ≡ Depth d q → (d ≡ z → ⊥) → Refused 7 p ≡ types-function k w s p
+    pub result-differs : (d q : ℕ) → b ≡ Depth d q → (d ≡ z → ⊥) → Refused 7 p ≡ known-function k w s p
     result-differs d q e f = sym (by-body ∙ rw (e, ne-eqb d z f))
 
-    pub body-faulty : (m : ℕ) → b ≡ Fault m → Refused 7 m ≡ types-function k w s p
+    pub body-faulty : (m : ℕ) → b ≡ Fault m → Refused 7 m ≡ known-function k w s p
     body-faulty m e = sym (by-body ∙ rw e)
 
   pub no-function : (p : ℕ) (n : Node) → node-outcome n p ≡ parted (look k w at-function p) →
       (n ≡ WrongKind) ⊎ (n ≡ WrongOperand) →
-      Refused 7 p ≡ types-function k w s p
-  unfolding types-function
+      Refused 7 p ≡ known-function k w s p
+  unfolding known-function
   no-function p n e f = ⊎-elim (λ g. rw g) (λ g. rw g) (unfit k w at-function p n e f .is)
 
   -- a script
   module _ (functions : ℕ) (b : Bool) (be : b ≡ main-shape (signature-at k w 0)) where
-    pub wrong-shape : b ≡ false → Refused 7 0 ≡ types-script k w s functions
-    unfolding types-script
+    pub wrong-shape : b ≡ false → Refused 7 0 ≡ known-script k w s functions
+    unfolding known-script
     wrong-shape e = rw (← be, e)
 
-    pub right-shape : b ≡ true → (r : Read) → r ≡ repeated functions (types-function k w s) 0 →
-        r ≡ types-script k w s functions
-    unfolding types-script
+    pub right-shape : b ≡ true → (r : Read) → r ≡ repeated functions (known-function k w s) 0 →
+        r ≡ known-script k w s functions
+    unfolding known-script
     right-shape e r f = rw (← be, e) f

@@ -16,7 +16,7 @@ use Rattle.script_read.specs.declared.Read.{Read}
 use Rattle.script_read.specs.declared.Read.the-variants.{Next, Refused}
 use Rattle.script_read.proofs.Written.{Written, HeadAt, ParametersWritten, FunctionWritten, ScriptWritten}
 use Rattle.script_read.proofs.Found.{Finds, follow}
-use Rattle.script_read.proofs.Starts.{start-of}
+use Rattle.script_read.specs.Starts.{start-of}
 use Rattle.script_depths.specs.Walk.{depths-from, signature-at, signature-of, all, and-parts, by-rule, ruled}
 use Rattle.script_depths.specs.declared.Typed.{Typed}
 use Rattle.script_depths.specs.declared.Typed.the-variants.{Depth, Fault}
@@ -95,7 +95,7 @@ module _ (k w s : List ℕ) where
 
   types-one : (g : Function) (p : ℕ) → FunctionWritten k w g p →
       Finds 7 (types-function k w s p) (check-function (signature-of k w s) true g p .faults) (p + function-size g)
-  unfolding types-function check-function function-size
+  unfolding types-function types-from check-function function-size
   types-one g p h =
       rw (
         h .head .is,

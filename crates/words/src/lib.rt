@@ -115,6 +115,19 @@ pub fn word_at(bytes: &[u8], i: usize) -> u64
     bytes_from(bytes, i, 8)
 }
 
+// The nth eight bytes, low byte first: one test where all are there.
+pub fn nth_word(bytes: &[u8], n: usize) -> u64
+    ensures { λ r. ⌜ r ≡ bytes-at 8 (now (bytes .entry)) (8 * n) ⌝ }
+{
+    if n < bytes.len() / 8 {
+        return whole_at(bytes, 8 * n);
+    }
+    if bytes.len() / 8 < n {
+        return 0;
+    }
+    bytes_from(bytes, 8 * n, 8)
+}
+
 // The signed number whose bits are v.
 fn signed_of(v: u64) -> i64
     ensures { λ r. ⌜ r ≡ signed v ⌝ }

@@ -1,13 +1,14 @@
--- `script_count::new_names` meets its contract.
-use mathlib.Core.Path.{sym}
-use lib.ListN.{List·getD-eq-default}
-use Rattle.script_count.specs.Count.{new-names}
+-- `script_count::new_names` meets its contract, by a law of `Laws`.
+use Rattle.script_count.proofs.Laws.{no-name}
 use borrow.Author.Needs.{needs}
 use Rattle.script_count.proofs.new_names.Statement.{statement}
 use Rattle.script_count.proofs.new_names.Tie as tie
 
-returns-2 : tie.Need-returns-2
-returns-2 c = sym (List·getD-eq-default new-names 0 (c .if1 .left))
+returns-11 : tie.Need-returns-11
+returns-11 c = no-name _ (c .match .rest)
 
 pub new-names-spec : {M : Type 1} → statement M
-new-names-spec = tie.close (tie.spec (λ c. search needs) (λ c. search needs) returns-2)
+new-names-spec =
+    tie.close
+    (tie.spec (λ c. search needs) (λ c. search needs) (λ c. search needs) (λ c. search needs) (λ c. search needs)
+    (λ c. search needs) (λ c. search needs) (λ c. search needs) (λ c. search needs) (λ c. search needs) returns-11)

@@ -1,30 +1,23 @@
--- `script_read::parts_of` meets its contract, by the laws of `Nodes`.
-use Rattle.script_read.proofs.Nodes.{no-parts, call-parts, literal-parts}
-use Rattle.semantics.specs.File.{part-counts}
-use lib.ListN.{List·getD-eq-default}
-use mathlib.Core.Path.{refl, sym}
+-- `script_read::parts_of` meets its contract, by the laws of `Limits`.
+use native.Mathlib.Omega.{arith}
+use Rattle.script_read.proofs.Limits.{parts-add, parts-small}
 use borrow.Author.Needs.{needs}
 use Rattle.script_read.proofs.parts_of.Statement.{statement}
 use Rattle.script_read.proofs.parts_of.Tie as tie
 
+add-result : tie.Need-add-result
+add-result c =
+    let a = c .before .before .args in
+    omega (
+      arith,
+      parts-add (a .kind) (a .low) (a .high) _ _ (c .before .fixed-parts .ensures) (c .said-parts .ensures),
+      parts-small (a .kind) (a .low) (a .high) (omega arith) (omega arith),
+    )
+
 returns : tie.Need-returns
-returns c = call-parts (c .before .args .kind) (c .before .args .low) (c .before .args .high) (c .if1 .taken)
-
-returns-2 : tie.Need-returns-2
-returns-2 c =
-    literal-parts (c .before .before .args .kind) (c .before .before .args .low) (c .before .before .args .high)
-    (c .if2 .taken)
-
-returns-3 : tie.Need-returns-3
-returns-3 c =
-    no-parts (c .before .before .before .args .kind) (c .before .before .before .args .low)
-    (c .before .before .before .args .high) (c .before .before .if1 .left) (c .before .if2 .left) _ refl
-
-returns-4 : tie.Need-returns-4
-returns-4 c =
-    no-parts (c .before .before .before .args .kind) (c .before .before .before .args .low)
-    (c .before .before .before .args .high) (c .before .before .if1 .left) (c .before .if2 .left) _
-    (sym (List·getD-eq-default part-counts 0 (c .if3 .left)))
+returns c =
+    let a = c .before .before .args in
+    parts-add (a .kind) (a .low) (a .high) _ _ (c .before .fixed-parts .ensures) (c .said-parts .ensures)
 
 pub parts-of-spec : {M : Type 1} → statement M
-parts-of-spec = tie.close (tie.spec returns returns-2 (λ c. search needs) returns-3 returns-4)
+parts-of-spec = tie.close (tie.spec (λ c κs. search needs) (λ c κs. search needs) add-result returns)

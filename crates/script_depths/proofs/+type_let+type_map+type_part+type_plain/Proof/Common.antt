@@ -29,7 +29,7 @@ abbrev pub μ-type-part : Measures 4 type-part-kinds.ps ℕ
 μ-type-part κs a = 2 * a .1 .1 .1 .1 .1 .0
 
 abbrev pub μ-type-plain : Measures 4 type-plain-kinds.ps ℕ
-μ-type-plain κs a = 2 * a .1 .1 .1 .1 .1 .1 .1 .1 .0 + 1
+μ-type-plain κs a = 2 * a .1 .1 .1 .1 .1 .1 .0 + 1
 
 abbrev pub type-let-at : ℕ → In 4 type-let-kinds.ps
 type-let-at t = and 4 type-let-kinds.ps (is 4 type-let-kinds.ps μ-type-let t) type-let.Pre

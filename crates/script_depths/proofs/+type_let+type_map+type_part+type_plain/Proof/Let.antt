@@ -7,67 +7,35 @@ use Rattle.script_read.proofs.Tables.{put-back}
 use Rattle.script_depths.proofs.Laws.{let-bound, let-faulty}
 use Rattle.script_depths.proofs.type_let.Reads as type-let
 use Rattle.script_depths.proofs.+type_let+type_map+type_part+type_plain.Lts-type_let as type-let-lts
-use Rattle.script_depths.proofs.type_part.Reads as type-part
 use Rattle.script_depths.proofs.+type_let+type_map+type_part+type_plain.Proof.Common.{type-let-at}
-use Rattle.script_depths.proofs.+type_let+type_map+type_part+type_plain.Proof.Common.{type-part-below}
 use Rattle.script_depths.proofs.+type_let+type_map+type_part+type_plain.Proof.Common.{type-let-claims}
 
 pub type-let-type-part-requires-2 : (t : ℕ) →
     type-let-lts.Need-type-part-requires-2 (type-let-claims t) (type-let-at t) type-let.Post
 type-let-type-part-requires-2 t c κs = (
   omega arith,
-  simp length-set (ap length
-      (c .before .before .before .before .before .before .before .type-part .ensures .1)
-      ∙ c .before .before .before .before .before .before .before .before .before .before .before .before .before
-      .pre .1),
+  (
+    simp length-set (ap length (c .before .before .before .before .before .type-part .ensures .1) ∙ c .before .before
+        .before .before .before .before .before .before .before .pre .1 .0),
+    c .before .before .before .before .before
+        .before .before .before .before .pre .1 .1,
+  ),
 )
 
-pub type-let-slice-write-table-2 : (t : ℕ) →
-    type-let-lts.Need-slice-write-table-2 (type-let-claims t) (type-let-at t) type-let.Post
-type-let-slice-write-table-2 t c =
-    omega (
-      arith,
-      simp length-set at (ap length (c .before .before .type-part2 .ensures .1)),
-      ap length
-          (c .before .before .before .before .before .before .before .before .before .before .type-part .ensures .1),
-      c .before .before .before .before .before .before .before .before .before .before .before .before .before
-          .before .before .before .pre .1,
-    )
-
-pub type-let-same-length :
-    (t : ℕ) →
-    type-let-lts.Need-same-length
-    (type-part-below t, type-part.Post)
-    (type-let-at t)
-    type-let.Post
-type-let-same-length t c =
-    simp length-set (ap length (c .before .before .type-part2 .ensures .1) ∙ simp length-set
-    (ap length
-    (c .before .before .before .before .before .before .before .before .before .before .type-part .ensures .1)))
-
-pub type-let-returns :
-    (t : ℕ) →
-    type-let-lts.Need-returns (type-part-below t, type-part.Post) (type-let-at t) type-let.Post
+pub type-let-returns : (t : ℕ) → type-let-lts.Need-returns (type-let-claims t) (type-let-at t) type-let.Post
 type-let-returns t c = (
-  let-bound _ _ _ _ _ _
-      (c .before .before .before .before .before .before .before .before .before .before .before .before .before
-      .before .before .before .args .x) _ _ _ _ _ _
-      (c .before .before .before .before .before .before .before .before .before .before .before .before .before
-      .before .before .before .pre .1) (omega arith)
-      (c .before .before .before .before .before .before .before .before .before .before .type-part .ensures .1)
-      (c .before .before .before .before .before .before .before .before .before .before .type-part .ensures .0)
-      (c .before .before .before .before .before .before .d .given .1) (c .before .before .type-part2 .ensures .0)
-      refl,
-  put-back 0 _ _ _ _ _ (c .before .before .before .before .before .before .before .before .before .before .type-part
-      .ensures .1) (c .before .before .type-part2 .ensures .1),
+  let-bound _ _ _ _ _ _ (c .before .before .before .before .before .before .before .before .before .before .args .x) _
+      _ _ _ _ _ (c .before .before .before .before .before .before .before .before .before .before .pre .1 .0) (omega
+      arith) (c .before .before .before .before .before .before .type-part .ensures .1)
+      (c .before .before .before .before .before .before .type-part .ensures .0) (c .before .before .before .before .d
+      .given .1) (c .type-part2 .ensures .0) refl,
+  put-back 0 _ _ _ _ _ (c .before .before .before .before .before .before .type-part .ensures .1) (c .type-part2
+      .ensures .1),
 )
 
-pub type-let-returns-2 :
-    (t : ℕ) →
-    type-let-lts.Need-returns-2 (type-part-below t, type-part.Post) (type-let-at t) type-let.Post
+pub type-let-returns-2 : (t : ℕ) → type-let-lts.Need-returns-2 (type-let-claims t) (type-let-at t) type-let.Post
 type-let-returns-2 t c = (
-  let-faulty _ _ _ _ _
-      (c .before .before .before .before .before .before .before .before .before .before .before .args .x) _ _
-      (c .before .before .before .before .before .type-part .ensures .0) _ (c .before .n .given .1),
-  c .before .before .before .before .before .type-part .ensures .1,
+  let-faulty _ _ _ _ _ (c .before .before .before .before .before .before .before .args .x) _ _ (c .before .before
+      .before .type-part .ensures .0) _ (c .before .n .given .1),
+  c .before .before .before .type-part .ensures .1,
 )

@@ -12,67 +12,41 @@ use Rattle.script_depths.proofs.+type_let+type_map+type_part+type_plain
 
 pub type-map-returns : (t : ℕ) → type-map-lts.Need-returns (type-map-claims t) (type-map-at t) type-map.Post
 type-map-returns t c = (
-  map-number _ _ _ _ _
-      (c .before .before .before .before .before .before .before .before .before .before .before .before .args .x) _ _
-      (c .before .before .before .before .before .before .type-part .ensures .0) _ _ _
-      (c .before .before .d .given .1)
-      (c .if1 .taken),
-  c .before .before .before .before .before .before .type-part .ensures .1,
+  map-number _ _ _ _ _ (c .before .before .before .before .before .before .before .before .args .x) _ _ (c .before
+      .before .before .before .type-part .ensures .0) _ _ _ (c .before .before .d .given .1) (c .if1 .taken),
+  c .before .before .before .before .type-part .ensures .1,
 )
 
 pub type-map-type-part-requires-2 : (t : ℕ) →
     type-map-lts.Need-type-part-requires-2 (type-map-claims t) (type-map-at t) type-map.Post
 type-map-type-part-requires-2 t c κs = (
   omega arith,
-  simp length-set (ap length
-      (c .before .before .before .before .before .before .before .before .type-part .ensures .1)
-      ∙ c .before .before .before .before .before .before .before .before .before .before .before .before .before
-      .before .pre .1 .0),
+  (
+    simp length-set (ap length (c .before .before .before .before .before .before .type-part .ensures .1) ∙ c .before
+        .before .before .before .before .before .before .before .before .before .pre .1 .0),
+    c .before .before .before
+        .before .before .before .before .before .before .before .pre .1 .1,
+  ),
 )
-
-pub type-map-slice-write-table-2 : (t : ℕ) →
-    type-map-lts.Need-slice-write-table-2 (type-map-claims t) (type-map-at t) type-map.Post
-type-map-slice-write-table-2 t c =
-    omega (
-      arith,
-      simp length-set at (ap length (c .before .before .type-part2 .ensures .1)),
-      ap length
-          (c .before .before .before .before .before .before .before .before .before .before .before .type-part
-          .ensures .1),
-      c .before .before .before .before .before .before .before .before .before .before .before .before .before
-          .before .before .before .before .pre .1 .0,
-    )
-
-pub type-map-same-length-2 : (t : ℕ) → type-map-lts.Need-same-length-2 (type-map-claims t) (type-map-at t) type-map.Post
-type-map-same-length-2 t c =
-    simp length-set (ap length (c .before .before .before .type-part2 .ensures .1) ∙ simp length-set
-    (ap length
-    (c .before .before .before .before .before .before .before .before .before .before .before .before .type-part
-    .ensures .1)))
 
 pub type-map-returns-2 : (t : ℕ) → type-map-lts.Need-returns-2 (type-map-claims t) (type-map-at t) type-map.Post
 type-map-returns-2 t c = (
-  map-bound _ _ _ _ _ _
-      (c .before .before .before .before .before .before .before .before .before .before .before .before .before
-      .before .before .before .before .before .args .x) _ _ _ _ _ _
-      (c .before .before .before .before .before .before .before .before .before .before .before .before .before
-      .before .before .before .before .before .pre .1 .0) (omega arith)
-      (c .before .before .before .before .before .before .before .before .before .before .before .before
-      .type-part .ensures .1) (c .before .before .before .before .before .before .before .before .before .before
-      .before .before .type-part .ensures .0)
-      (c .before .before .before .before .before .before .before .before .d .given .1)
-      (c .before .before .before .type-part2 .ensures .0) refl
-      (c .before .before .before .before .before .before .if1 .left) _ _ (c .wrap .ensures),
-  put-back 0 _ _ _ _ _ (c .before .before .before .before .before .before .before .before .before .before .before
-      .before .type-part .ensures .1) (c .before .before .before .type-part2 .ensures .1),
+  map-bound _ _ _ _ _ _ (c .before .before .before .before .before .before .before .before .before .before .before
+      .before .args .x) _ _ _ _ _ _ (c .before .before .before .before .before .before .before .before .before .before
+      .before .before .pre .1 .0) (omega arith) (c .before .before .before .before .before .before .before .before
+      .type-part .ensures .1)
+      (c .before .before .before .before .before .before .before .before .type-part .ensures .0) (c .before .before
+      .before .before .before .before .d .given .1) (c .before .type-part2 .ensures .0) refl (c .before .before
+      .before .before .if1 .left) _ _
+      (c .wrap .ensures),
+  put-back 0 _ _ _ _ _ (c .before .before .before .before .before .before .before .before .type-part .ensures .1) (c
+      .before .type-part2 .ensures .1),
 )
 
 pub type-map-returns-3 : (t : ℕ) → type-map-lts.Need-returns-3 (type-map-claims t) (type-map-at t) type-map.Post
 type-map-returns-3 t c = (
-  map-faulty _ _ _ _ _
-      (c .before .before .before .before .before .before .before .before .before .before .before .args .x) _ _
-      (c .before .before .before .before .before .type-part .ensures .0) _
-      (c .before .before .before .before .before .before .before .before .before .before .before .args .at)
-      (c .before .n .given .1),
-  c .before .before .before .before .before .type-part .ensures .1,
+  map-faulty _ _ _ _ _ (c .before .before .before .before .before .before .before .args .x) _ _ (c .before .before
+      .before .type-part .ensures .0) _ (c .before .before .before .before .before .before .before .args .at) (c
+      .before .n .given .1),
+  c .before .before .before .type-part .ensures .1,
 )

@@ -6,8 +6,8 @@ use mathlib.Core.Path.{refl, sym}
 use mathlib.Core.Logic.{inl, inr}
 use lib.ListN.{length}
 use Rattle.script_read.proofs.Nodes.{Seen, seen, inside}
-use Rattle.script_read.proofs.Tables.{table-at}
-use Rattle.script_depths.proofs.Laws.{no-levels, no-node, a-number, a-name, a-let, a-map, any-other}
+use Rattle.script_depths.proofs.Laws.{entry, no-levels, no-node, a-number, a-name, unknown-name, a-let, a-map}
+use Rattle.script_depths.proofs.Laws.{any-other}
 use Rattle.script_depths.proofs.type_part.Reads as type-part
 use Rattle.script_depths.proofs.+type_let+type_map+type_part+type_plain.Lts-type_part as type-part-lts
 use Rattle.script_depths.proofs.+type_let+type_map+type_part+type_plain.Proof.Common.{type-part-at}
@@ -18,56 +18,67 @@ module _ (t : ℕ) where
   KindKnown = type-part-lts.After-known-told (type-part-claims t) (type-part-at t) type-part.Post
 
   node-seen : (c : KindKnown) →
-      let a = c .before .before .before .before .before .before .before .before .before .args in
+      let a = c .before .before .before .before .before .before .before .args in
       let n = c .before .kind .given .0 in
       Seen (a .kinds .now) (a .operands .now) at-part (a .at) (n .0) (n .1 .0) (n .1 .1 .0)
-  node-seen c =
-      seen _ _ at-part _ (c .before .before .before .node-at .result)
-      (c .before .before .before .node-at .ensures) _ _ _
+  node-seen c = seen _ _ at-part _ (c .before .before .before .node-at .result) (c .before .before .before .node-at
+      .ensures) _ _ _ (c .before .kind .given .1)
+
+  in-file : (c : KindKnown) → c .before .before .before .before .before .before .before .args .at < length (c .before
+      .before .before .before .before .before .before .args .kinds .now)
+  in-file c =
+      inside _ (c .before .before .before .before .before .before .before .args .operands .now) at-part _ _ _ _ (c
+      .before .before .before .node-at .result) (c .before .before .before .node-at .ensures)
       (c .before .kind .given .1)
 
-  there : (c : KindKnown) →
-      c .before .before .before .before .before .before .before .before .before .args .at < length
-      (c .before .before .before .before .before .before .before .before .before .args .kinds .now)
-  there c =
-      inside _ (c .before .before .before .before .before .before .before .before .before .args .operands .now)
-      at-part _
-      _ _ _ (c .before .before .before .node-at .result) (c .before .before .before .node-at .ensures)
-      (c .before .kind .given .1)
-
-pub type-part-returns : (t : ℕ) → type-part-lts.Need-returns (type-part-claims t) (type-part-at t) type-part.Post
+pub type-part-returns : (t : ℕ) →
+    type-part-lts.Need-returns (type-part-claims t) (type-part-at t) type-part.Post
 type-part-returns t c = (no-levels _ _ _ _ _ _ (c .if1 .taken), refl)
 
-pub type-part-add-t15 : (t : ℕ) → type-part-lts.Need-add-t15 (type-part-claims t) (type-part-at t) type-part.Post
-type-part-add-t15 t c = omega (arith, there t (c .before))
+pub type-part-add-t17 : (t : ℕ) →
+    type-part-lts.Need-add-t17 (type-part-claims t) (type-part-at t) type-part.Post
+type-part-add-t17 t c = omega (arith, in-file t (c .before))
 
-pub type-part-returns-2 : (t : ℕ) → type-part-lts.Need-returns-2 (type-part-claims t) (type-part-at t) type-part.Post
+pub type-part-returns-2 : (t : ℕ) →
+    type-part-lts.Need-returns-2 (type-part-claims t) (type-part-at t) type-part.Post
 type-part-returns-2 t c = (
-  a-number (node-seen t (c .before)) _ _ _ (c .before .before .before .before .before .if1 .left) (c .if2 .taken),
+  a-number (node-seen t (c .before)) _ _ _ (c .before .before .before .before .before .if1
+      .left) (c .if2 .taken),
   refl,
 )
 
-pub type-part-add-t19 : (t : ℕ) → type-part-lts.Need-add-t19 (type-part-claims t) (type-part-at t) type-part.Post
-type-part-add-t19 t c = omega (arith, there t (c .before .before .before))
-
-pub type-part-returns-3 : (t : ℕ) → type-part-lts.Need-returns-3 (type-part-claims t) (type-part-at t) type-part.Post
+pub type-part-returns-3 : (t : ℕ) →
+    type-part-lts.Need-returns-3 (type-part-claims t) (type-part-at t) type-part.Post
 type-part-returns-3 t c = (
-  a-name (node-seen t (c .before .before .before)) _ _ _
-      (c .before .before .before .before .before .before .before .if1 .left) (c .before .if3 .taken) _
-      (sym (table-at 0 _ _)),
+  unknown-name (node-seen t (c .before .before .before .before)) _ _ _ (c .before .before .before .before .before
+      .before .before .before .if1 .left) (c .before .before .if3 .taken) _ (sym (entry _ _ (c .before .before .before
+      .before .before .before .before .before .before .before .before .pre .1 .0) (omega arith))) (c .if4 .taken),
+  refl,
+)
+
+pub type-part-add-t18 : (t : ℕ) →
+    type-part-lts.Need-add-t18 (type-part-claims t) (type-part-at t) type-part.Post
+type-part-add-t18 t c = omega (arith, in-file t (c .before .before .before .before))
+
+pub type-part-returns-4 : (t : ℕ) →
+    type-part-lts.Need-returns-4 (type-part-claims t) (type-part-at t) type-part.Post
+type-part-returns-4 t c = (
+  a-name (node-seen t (c .before .before .before .before)) _ _ _ (c .before .before .before .before .before .before
+      .before .before .if1 .left) (c .before .before .if3 .taken) _ (sym (entry _ _ (c .before .before .before .before
+      .before .before .before .before .before .before .before .pre .1 .0) (omega arith))) (c .if4 .left),
   refl,
 )
 
 pub type-part-add-type-let : (t : ℕ) →
     type-part-lts.Need-add-type-let (type-part-claims t) (type-part-at t) type-part.Post
-type-part-add-type-let t c = omega (arith, there t (c .before .before .before .before))
+type-part-add-type-let t c = omega (arith, in-file t (c .before .before .before .before))
 
-pub type-part-returns-4 : (t : ℕ) → type-part-lts.Need-returns-4 (type-part-claims t) (type-part-at t) type-part.Post
-type-part-returns-4 t c = (
-  a-let (node-seen t (c .before .before .before .before .before .before .before)) _ _ _
-      (c .before .before .before .before .before .before .before .before .before .before .before .if1 .left)
-      (c .before .before .before .before .if4 .taken) _ (c .before .before .type-let .ensures .0),
-  c .before .before .type-let .ensures .1,
+pub type-part-returns-5 : (t : ℕ) →
+    type-part-lts.Need-returns-5 (type-part-claims t) (type-part-at t) type-part.Post
+type-part-returns-5 t c = (
+  a-let (node-seen t (c .before .before .before .before .before)) _ _ _ (c .before .before .before .before .before
+      .before .before .before .before .if1 .left) (c .before .before .if5 .taken) _ (c .type-let .ensures .0),
+  c .type-let .ensures .1,
 )
 
 pub type-part-type-map-requires : (t : ℕ) →
@@ -75,54 +86,61 @@ pub type-part-type-map-requires : (t : ℕ) →
 type-part-type-map-requires t c κs = (
   omega arith,
   (
-    c .before .before .before .before .before .before .before .before .before .before .before .before .before .before
-        .pre .1,
-    there t (c .before .before .before .before .before),
+    c .before .before .before .before .before .before .before .before
+        .before .before .before .before .pre .1 .0,
+    c .before .before .before .before .before .before .before .before
+        .before .before .before .before .pre .1 .1,
+    in-file t (c .before .before .before .before .before),
   ),
 )
 
-pub type-part-returns-5 : (t : ℕ) → type-part-lts.Need-returns-5 (type-part-claims t) (type-part-at t) type-part.Post
-type-part-returns-5 t c = (
-  a-map (node-seen t (c .before .before .before .before .before .before .before .before)) _ _ _
-      (c .before .before .before .before .before .before .before .before .before .before .before .before .if1 .left)
-      (c .before .before .before .before .if5 .taken) _ (c .before .before .type-map .ensures .0),
-  c .before .before .type-map .ensures .1,
+pub type-part-returns-6 : (t : ℕ) →
+    type-part-lts.Need-returns-6 (type-part-claims t) (type-part-at t) type-part.Post
+type-part-returns-6 t c = (
+  a-map (node-seen t (c .before .before .before .before .before .before)) _ _ _ (c .before .before .before .before
+      .before .before .before .before .before .before .if1 .left) (c .before .before .if6 .taken) _ (c .type-map
+      .ensures .0),
+  c .type-map .ensures .1,
 )
 
 pub type-part-type-plain-requires : (t : ℕ) →
     type-part-lts.Need-type-plain-requires (type-part-claims t) (type-part-at t) type-part.Post
-type-part-type-plain-requires t c κs = (
-  omega arith,
-  (
-    c .before .before .before .before .before .before .before .before .before .before .before .before .before .before
-        .pre .1,
-    there t (c .before .before .before .before .before),
-    node-seen t (c .before .before .before .before .before) .lowest,
-    node-seen t (c .before .before .before .before .before) .highest,
-  ),
-)
+type-part-type-plain-requires t c κs =
+    let n = node-seen t (c .before .before .before .before .before) in (
+      omega arith,
+      (
+        c .before .before .before .before .before .before .before .before .before .before .before .before
+            .pre .1 .0,
+        c .before .before .before .before .before .before .before .before .before .before .before .before
+            .pre .1 .1,
+        in-file t (c .before .before .before .before .before),
+        n .lowest,
+        n .highest,
+      ),
+    )
 
-pub type-part-returns-6 : (t : ℕ) → type-part-lts.Need-returns-6 (type-part-claims t) (type-part-at t) type-part.Post
-type-part-returns-6 t c = (
-  any-other (node-seen t (c .before .before .before .before .before .before .before .before)) _ _ _
-      (c .before .before .before .before .before .before .before .before .before .before .before .before .if1 .left)
-      (c .before .before .before .before .before .before .before .if2 .left)
-      (c .before .before .before .before .before .before .if3 .left)
-      (c .before .before .before .before .before .if4 .left) (c .before .before .before .before .if5 .left) _
-      (c .before .before .type-plain .ensures .0),
-  c .before .before .type-plain .ensures .1,
-)
-
-pub type-part-returns-7 : (t : ℕ) → type-part-lts.Need-returns-7 (type-part-claims t) (type-part-at t) type-part.Post
+pub type-part-returns-7 : (t : ℕ) →
+    type-part-lts.Need-returns-7 (type-part-claims t) (type-part-at t) type-part.Post
 type-part-returns-7 t c = (
-  no-node _ _ _ _ _ _ (c .before .before .node-at .result) (c .before .before .node-at .ensures)
-      (inl (c .enum-told .given .1)),
+  any-other (node-seen t (c .before .before .before .before .before .before)) _ _ _ (c .before .before .before .before
+      .before .before .before .before .before .before .if1 .left) (c .before .before .before .before .before .if2
+      .left) (c .before .before .before .before .if3 .left) (c .before .before .before .if5 .left)
+      (c .before .before .if6 .left) _ (c .type-plain .ensures .0),
+  c .type-plain .ensures .1,
+)
+
+pub type-part-returns-8 : (t : ℕ) →
+    type-part-lts.Need-returns-8 (type-part-claims t) (type-part-at t) type-part.Post
+type-part-returns-8 t c = (
+  no-node _ _ _ _ _ _ (c .before .before .node-at .result) (c .before .before .node-at .ensures) (inl (c .enum-told
+      .given .1)),
   refl,
 )
 
-pub type-part-returns-8 : (t : ℕ) → type-part-lts.Need-returns-8 (type-part-claims t) (type-part-at t) type-part.Post
-type-part-returns-8 t c = (
-  no-node _ _ _ _ _ _ (c .before .before .node-at .result) (c .before .before .node-at .ensures)
-      (inr (c .enum-told2 .given .1)),
+pub type-part-returns-9 : (t : ℕ) →
+    type-part-lts.Need-returns-9 (type-part-claims t) (type-part-at t) type-part.Post
+type-part-returns-9 t c = (
+  no-node _ _ _ _ _ _ (c .before .before .node-at .result) (c .before .before .node-at .ensures) (inr (c
+      .enum-told2 .given .1)),
   refl,
 )
