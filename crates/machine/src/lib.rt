@@ -1,6 +1,6 @@
 // The machine: workers for a tree, a line and the passes of a map that call each other. What falls is the steps left,
-// and where no step is taken the lines left. `calls` is the call depth left, and f the function that is worked. The
-// code's slices are lent by a reference to each: a frame then has no copy of them.
+// and where no step is taken the lines left. `calls` is the call depth left. The code's slices are lent by a reference
+// to each: a frame then has no copy of them.
 use machine_code::Atom;
 use machine_code::Line;
 use machine_lines::Out;
@@ -22,17 +22,16 @@ pub fn work_tree(
     table: &[u8; 16448],
     slots: &mut [i64],
     heads: &mut [u32],
-    env: &mut [i64; 8192],
+    env: &mut [i64; 8224],
     steps: u64,
     lines: u64,
     calls: usize,
-    f: u8,
     at: usize,
 ) -> Out
-    requires { ⌜ (calls < 32) × (length (now env) ≡ 8192) × Short (now (now kinds)) ⌝ }
+    requires { ⌜ (calls < 32) × (length (now env) ≡ 8224) × Short (now (now kinds)) ⌝ }
     ensures { λ r. ⌜ Ended (tree-on lines
         (call-on calls (code (now (now (kinds .entry))) (now (now (operands .entry))) (now (table .entry))))
-        (code (now (now (kinds .entry))) (now (now (operands .entry))) (now (table .entry))) calls f at steps
+        (code (now (now (kinds .entry))) (now (now (operands .entry))) (now (table .entry))) calls at steps
         (memory (store-of (now (slots .entry)) (now (heads .entry))) (now (env .entry))))
         steps r (now (slots .exit)) (now (heads .exit)) (now (env .exit)) ⌝ }
 {
@@ -40,7 +39,7 @@ pub fn work_tree(
     let mut s = steps;
     let mut left = lines;
     while 0 < left {
-        if kinds.len() <= p {
+        if !machine_code::two_rows(*kinds, *operands, p) {
             return machine_lines::halted(machine_lines::NO_LINE, s);
         }
         let l = machine_code::line_at(*kinds, *operands, p);
@@ -58,7 +57,6 @@ pub fn work_tree(
             s,
             left - 1,
             calls,
-            f,
             p,
             l,
         );
@@ -80,22 +78,21 @@ fn work_line(
     table: &[u8; 16448],
     slots: &mut [i64],
     heads: &mut [u32],
-    env: &mut [i64; 8192],
+    env: &mut [i64; 8224],
     steps: u64,
     lines: u64,
     calls: usize,
-    f: u8,
     at: usize,
     l: Line,
 ) -> Out
-    requires { ⌜ (at < length (now (now kinds))) × (calls < 32) × (length (now env) ≡ 8192)
+    requires { ⌜ (at < length (now (now kinds))) × (calls < 32) × (length (now env) ≡ 8224)
         × Short (now (now kinds)) ⌝ }
     ensures { λ r. ⌜ Ended (line-on
         (tree-on lines
         (call-on calls (code (now (now (kinds .entry))) (now (now (operands .entry))) (now (table .entry))))
-        (code (now (now (kinds .entry))) (now (now (operands .entry))) (now (table .entry))) calls f)
+        (code (now (now (kinds .entry))) (now (now (operands .entry))) (now (table .entry))) calls)
         (call-on calls (code (now (now (kinds .entry))) (now (now (operands .entry))) (now (table .entry))))
-        (code (now (now (kinds .entry))) (now (now (operands .entry))) (now (table .entry))) calls f at steps
+        (code (now (now (kinds .entry))) (now (now (operands .entry))) (now (table .entry))) calls at steps
         (memory (store-of (now (slots .entry)) (now (heads .entry))) (now (env .entry))) l)
         steps r (now (slots .exit)) (now (heads .exit)) (now (env .exit)) ⌝ }
 {
@@ -110,7 +107,6 @@ fn work_line(
             steps,
             lines,
             calls,
-            f,
             at,
             x,
             g,
@@ -138,7 +134,6 @@ fn work_line(
             steps,
             lines,
             calls,
-            f,
             at,
             x,
             p,
@@ -155,21 +150,20 @@ fn work_if(
     table: &[u8; 16448],
     slots: &mut [i64],
     heads: &mut [u32],
-    env: &mut [i64; 8192],
+    env: &mut [i64; 8224],
     steps: u64,
     lines: u64,
     calls: usize,
-    f: u8,
     at: usize,
     x: u8,
     g: Atom,
 ) -> Out
-    requires { ⌜ (at < length (now (now kinds))) × (calls < 32) × (length (now env) ≡ 8192)
+    requires { ⌜ (at < length (now (now kinds))) × (calls < 32) × (length (now env) ≡ 8224)
         × Short (now (now kinds)) ⌝ }
     ensures { λ r. ⌜ Ended (if-line
         (tree-on lines
         (call-on calls (code (now (now (kinds .entry))) (now (now (operands .entry))) (now (table .entry))))
-        (code (now (now (kinds .entry))) (now (now (operands .entry))) (now (table .entry))) calls f)
+        (code (now (now (kinds .entry))) (now (now (operands .entry))) (now (table .entry))) calls)
         (now (table .entry)) calls x g at steps
         (memory (store-of (now (slots .entry)) (now (heads .entry))) (now (env .entry))))
         steps r (now (slots .exit)) (now (heads .exit)) (now (env .exit)) ⌝ }
@@ -189,7 +183,6 @@ fn work_if(
         steps - 1,
         lines,
         calls,
-        f,
         start,
     );
     let stop = r.stop;
@@ -209,14 +202,14 @@ fn work_call(
     table: &[u8; 16448],
     slots: &mut [i64],
     heads: &mut [u32],
-    env: &mut [i64; 8192],
+    env: &mut [i64; 8224],
     steps: u64,
     calls: usize,
     at: usize,
     x: u8,
     g: u8,
 ) -> Out
-    requires { ⌜ (at < length (now (now kinds))) × (calls < 32) × (length (now env) ≡ 8192)
+    requires { ⌜ (at < length (now (now kinds))) × (calls < 32) × (length (now env) ≡ 8224)
         × Short (now (now kinds)) ⌝ }
     ensures { λ r. ⌜ Ended (call-line
         (call-on calls (code (now (now (kinds .entry))) (now (now (operands .entry))) (now (table .entry))))
@@ -232,6 +225,7 @@ fn work_call(
     }
     let below = calls - 1;
     let n = machine_lines::pass_arguments(*kinds, *operands, env, calls, below, at + 1);
+    machine_lines::set_function(env, below, g);
     let start = machine_code::start_in(table, g);
     let r = work_tree(
         kinds,
@@ -243,7 +237,6 @@ fn work_call(
         steps - 1,
         4096,
         below,
-        g,
         start,
     );
     let stop = r.stop;
@@ -262,23 +255,22 @@ fn work_map(
     table: &[u8; 16448],
     slots: &mut [i64],
     heads: &mut [u32],
-    env: &mut [i64; 8192],
+    env: &mut [i64; 8224],
     steps: u64,
     lines: u64,
     calls: usize,
-    f: u8,
     at: usize,
     x: u8,
     p: u8,
     a: Atom,
 ) -> Out
-    requires { ⌜ (at < length (now (now kinds))) × (calls < 32) × (length (now env) ≡ 8192)
+    requires { ⌜ (at < length (now (now kinds))) × (calls < 32) × (length (now env) ≡ 8224)
         × Short (now (now kinds)) ⌝ }
     ensures { λ r. ⌜ Ended (map-line
         (tree-on lines
         (call-on calls (code (now (now (kinds .entry))) (now (now (operands .entry))) (now (table .entry))))
-        (code (now (now (kinds .entry))) (now (now (operands .entry))) (now (table .entry))) calls f)
-        (code (now (now (kinds .entry))) (now (now (operands .entry))) (now (table .entry))) calls f x p a at steps
+        (code (now (now (kinds .entry))) (now (now (operands .entry))) (now (table .entry))) calls)
+        (code (now (now (kinds .entry))) (now (now (operands .entry))) (now (table .entry))) calls x p a at steps
         (memory (store-of (now (slots .entry)) (now (heads .entry))) (now (env .entry))))
         steps r (now (slots .exit)) (now (heads .exit)) (now (env .exit)) ⌝ }
 {
@@ -287,6 +279,7 @@ fn work_map(
     }
     let from = store_words::named_cell(machine_lines::word_of(env, calls, a));
     let count = store_words::read_length(slots, heads, from);
+    let f = machine_lines::function_of(env, calls);
     let depth = machine_code::element_depth(table, f, x);
     match store::acquire_empty(slots, heads, depth) {
         Acquired::Cell(c) => {
@@ -301,7 +294,6 @@ fn work_map(
                 steps - 1,
                 lines,
                 calls,
-                f,
                 at + 2,
                 p,
                 from,
@@ -329,22 +321,21 @@ fn work_pass(
     table: &[u8; 16448],
     slots: &mut [i64],
     heads: &mut [u32],
-    env: &mut [i64; 8192],
+    env: &mut [i64; 8224],
     steps: u64,
     lines: u64,
     calls: usize,
-    f: u8,
     at: usize,
     p: u8,
     from: usize,
     carried: i64,
     count: usize,
 ) -> Out
-    requires { ⌜ (calls < 32) × (length (now env) ≡ 8192) × Short (now (now kinds)) ⌝ }
+    requires { ⌜ (calls < 32) × (length (now env) ≡ 8224) × Short (now (now kinds)) ⌝ }
     ensures { λ r. ⌜ Ended (passes-on (looped mapping
         (tree-on lines
         (call-on calls (code (now (now (kinds .entry))) (now (now (operands .entry))) (now (table .entry))))
-        (code (now (now (kinds .entry))) (now (now (operands .entry))) (now (table .entry))) calls f at)
+        (code (now (now (kinds .entry))) (now (now (operands .entry))) (now (table .entry))) calls at)
         calls (p ∷ []) from) count carried 0 steps
         (memory (store-of (now (slots .entry)) (now (heads .entry))) (now (env .entry))))
         steps r (now (slots .exit)) (now (heads .exit)) (now (env .exit)) ⌝ }
@@ -368,7 +359,6 @@ fn work_pass(
             s - 1,
             lines,
             calls,
-            f,
             at,
         );
         let stop = r.stop;

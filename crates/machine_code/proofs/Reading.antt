@@ -2,16 +2,16 @@
 use mathlib.Core.Path.{_≡_, refl}
 use mathlib.Core.Bool.{true, false}
 use mathlib.Core.List.{List}
-use Prim.Native.Nat.{ℕ, zero, suc, _+_, _-_, _^_, _%_, _<_}
+use Prim.Native.Nat.{ℕ, zero, suc, _+_, _-_, _^_, _%_, _<_, _≤_}
 use native.Mathlib.Omega.{arith}
 use lib.IntN.{ℤ, pos, negsuc, natAbs}
-use lib.Dec.{T}
+use lib.Dec.{T, ltb}
 use lib.Signed.{mag, ltZ, nonNeg}
-use lib.ListN.{getD}
+use lib.ListN.{getD, length}
 use mir.Syntax.{w64}
 use mir.Val.{Fits}
-use borrow.Author.Tests.{ne-eqb, ltb-true}
-use Rattle.machine_code.specs.Reading.{natural, atom-at, line-of, line-at}
+use borrow.Author.Tests.{ne-eqb, ltb-true, lt-ltb, le-ltb}
+use Rattle.machine_code.specs.Reading.{natural, atom-at, two-rows, line-of, line-at}
 use Rattle.machine_code.specs.declared.Atom.{Atom}
 use Rattle.machine_code.specs.declared.Atom.the-variants.{Number, Name}
 use Rattle.machine_code.specs.declared.Line.the-variants.{Operation}
@@ -52,6 +52,17 @@ module _ (kinds : List ℕ) (operands : List ℤ) (at : ℕ) where
       line-of kind n a b ≡ line-at kinds operands at
   unfolding line-at
   line-here kind n a b e f g h = rw (e, f, g, h)
+
+-- two rows are not within the code, or they are if they are within the second array
+pub rows-out : (kinds : List ℕ) (operands : List ℤ) (at : ℕ) → length kinds ≤ at + 1 →
+    false ≡ two-rows kinds operands at
+unfolding two-rows
+rows-out kinds operands at h = rw (le-ltb (at + 1) (length kinds) h) refl
+
+pub rows-in : (kinds : List ℕ) (operands : List ℤ) (at : ℕ) → at + 1 < length kinds →
+    ltb (at + 1) (length operands) ≡ two-rows kinds operands at
+unfolding two-rows
+rows-in kinds operands at h = rw (lt-ltb (at + 1) (length kinds) h) refl
 
 -- a kind that is none of the others
 pub record NotNamed (kind : ℕ) : Type 0 where

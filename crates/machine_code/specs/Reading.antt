@@ -1,10 +1,10 @@
 -- The code read at a position: what stands past the end is 0.
-use mathlib.Core.Bool.{Bool, cond, _||_}
+use mathlib.Core.Bool.{Bool, cond, _||_, _&&_}
 use mathlib.Core.List.{List}
 use Prim.Native.Nat.{ℕ, _+_, _*_, _/_, _%_}
 use lib.IntN.{ℤ, pos, negsuc}
-use lib.Dec.{eqb}
-use lib.ListN.{getD}
+use lib.Dec.{eqb, ltb}
+use lib.ListN.{getD, length}
 use Rattle.machine_code.specs.declared.Atom.{Atom}
 use Rattle.machine_code.specs.declared.Atom.the-variants.{Number, Name}
 use Rattle.machine_code.specs.declared.Line.{Line}
@@ -23,6 +23,10 @@ atom-at kinds operands at =
 
 abbrev pub is-atom : ℕ → Bool
 is-atom kind = eqb kind 2 || eqb kind 3
+
+-- whether two rows are within the code from a position on: every line of a tree has another row behind its first
+unfoldable pub two-rows : List ℕ → List ℤ → ℕ → Bool
+two-rows kinds operands at = ltb (at + 1) (length kinds) && ltb (at + 1) (length operands)
 
 -- which line a kind is, with its operand n and the two atoms after it
 abbrev pub line-of : ℕ → ℕ → Atom → Atom → Line

@@ -4,7 +4,7 @@ ghost use mathlib.Core.Path.{_≡_};
 ghost use Prim.Native.Nat.{_+_, _-_, _*_, _<_};
 ghost use lib.IntN.{pos};
 ghost use lib.ListN.{length, getD};
-ghost use Rattle.machine_code.specs.Reading.{natural, atom-at, line-at, is-atom, depth-in};
+ghost use Rattle.machine_code.specs.Reading.{natural, atom-at, line-at, is-atom, two-rows, depth-in};
 ghost use Rattle.machine_code.specs.Reading.{start-in, end-in};
 
 // An atom: a number or a name.
@@ -69,17 +69,51 @@ pub fn atom_stands(kinds: &[u8], at: usize) -> bool
     if kind == 2 { true } else { kind == 3 }
 }
 
-// The line that begins at a position.
+// The operand at a position within the code as a natural number; a negative one counts as 0.
+fn natural_within(operands: &[i64], at: usize) -> u64
+    requires { ⌜ at < length (now operands) ⌝ }
+    ensures { λ r. ⌜ r ≡ natural (getD (now (operands .entry)) at (pos 0)) ⌝ }
+{
+    let z = operands[at];
+    if z < 0 { 0 } else { z as u64 }
+}
+
+// The atom at a position within the code.
+fn atom_within(kinds: &[u8], operands: &[i64], at: usize) -> Atom
+    requires { ⌜ (at < length (now kinds)) × (at < length (now operands)) ⌝ }
+    ensures { λ r. ⌜ r ≡ atom-at (now (kinds .entry)) (now (operands .entry)) at ⌝ }
+{
+    if kinds[at] == 2 {
+        Atom::Number(operands[at])
+    } else {
+        Atom::Name((natural_within(operands, at) % 256) as u8)
+    }
+}
+
+// Whether two rows are within the code from a position on, as they are where a line of a tree begins.
+pub fn two_rows(kinds: &[u8], operands: &[i64], at: usize) -> bool
+    ensures { λ r. ⌜ r ≡ two-rows (now (kinds .entry)) (now (operands .entry)) at ⌝ }
+{
+    if kinds.len() <= at {
+        return false;
+    }
+    if kinds.len() <= at + 1 {
+        return false;
+    }
+    at + 1 < operands.len()
+}
+
+// The line that begins at a position, where its first two rows are within the code.
 pub fn line_at(kinds: &[u8], operands: &[i64], at: usize) -> Line
-    requires { ⌜ at < length (now kinds) ⌝ }
+    requires { ⌜ (at + 1 < length (now kinds)) × (at + 1 < length (now operands)) ⌝ }
     ensures { λ r. ⌜ r ≡ line-at (now (kinds .entry)) (now (operands .entry)) at ⌝ }
 {
     let kind = kinds[at];
-    let a = atom_at(kinds, operands, at + 1);
+    let a = atom_within(kinds, operands, at + 1);
     if kind == 16 {
         return Line::End(a);
     }
-    let n = natural_at(operands, at);
+    let n = natural_within(operands, at);
     let x = (n % 256) as u8;
     let y = (n / 256 % 256) as u8;
     match kind {

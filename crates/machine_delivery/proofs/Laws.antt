@@ -14,7 +14,7 @@ use Rattle.store.specs.declared.Acquired.{Acquired}
 use Rattle.store.specs.declared.Acquired.the-variants.{Cell, NoneFree}
 use Rattle.machine_code.specs.Reading.{start-in}
 use Rattle.machine_lines.specs.declared.Out.{Out}
-use Rattle.machine_lines.specs.Frames.{place, put-all}
+use Rattle.machine_lines.specs.Frames.{place, function-place, put-all}
 use Rattle.machine_lines.specs.Lines.{memory, ran, out}
 use Rattle.machine_positions.specs.Machine.{Code, tree-on, call-on, Ended}
 use Rattle.machine_positions.specs.Delivery.{tried, retained-totals, released-totals, finished}
@@ -47,20 +47,23 @@ release-none d old σ e = ap (λ (n : ℕ). released-totals n old σ) (sym e)
 -- ---- main
 
 module _ (c : Code) (d : ℕ) (old : ℤ) (k budget : ℕ) (slots : List ℤ) (heads heads₁ : List ℕ)
-    (σe : store-of slots heads₁ ≡ retained-totals d old (store-of slots heads)) (z : ℤ) (ze : z ≡ pos k) (env₁ env₂
-    : List ℤ)
-    (e₁ : env₁ ≡ set (replicate 8192 (pos 0)) (place 31 0) old) (e₂ : env₂ ≡ set env₁ (place 31 1) z) (start : ℕ)
+    (σe : store-of slots heads₁ ≡ retained-totals d old (store-of slots heads)) (z : ℤ) (ze : z ≡ pos k)
+    (env₁ env₂ env₃ : List ℤ)
+    (e₁ : env₁ ≡ set (replicate 8224 (pos 0)) (place 31 0) old) (e₂ : env₂ ≡ set env₁ (place 31 1) z)
+    (e₃ : env₃ ≡ set env₂ (function-place 31) (pos 0)) (start : ℕ)
     (se : start ≡ start-in (c .table) 0) (r : Out) (sl : List ℤ) (he : List ℕ) (en : List ℤ)
-    (done : Ended (tree-on 4096 (call-on 31 c) c 31 0 start budget (memory (store-of slots heads₁) env₂)) budget r
+    (done : Ended (tree-on 4096 (call-on 31 c) c 31 start budget (memory (store-of slots heads₁) env₃)) budget r
     sl he en) where
   main-is : main-on c d old k budget (store-of slots heads) ≡ finished d old (ran r (memory (store-of sl he) en))
   unfolding main-on put-all
   main-is =
-      ap₂ (λ (τ : Store) (l : List ℤ). finished d old (tree-on 4096 (call-on 31 c) c 31 0 (start-in (c .table) 0)
+      ap₂ (λ (τ : Store) (l : List ℤ). finished d old (tree-on 4096 (call-on 31 c) c 31 (start-in (c .table) 0)
       budget (memory τ l)))
-      (sym σe) (sym (e₂ ∙ ap₂ (λ (l : List ℤ) (y : ℤ). set l (place 31 1) y) e₁ ze))
-      ∙ ap (λ (n : ℕ). finished d old (tree-on 4096 (call-on 31 c) c 31 0 n budget (memory (store-of slots heads₁)
-      env₂))) (sym se)
+      (sym σe)
+      (sym (e₃ ∙ ap (λ (l : List ℤ). set l (function-place 31) (pos 0))
+      (e₂ ∙ ap₂ (λ (l : List ℤ) (y : ℤ). set l (place 31 1) y) e₁ ze)))
+      ∙ ap (λ (n : ℕ). finished d old (tree-on 4096 (call-on 31 c) c 31 n budget (memory (store-of slots heads₁)
+      env₃))) (sym se)
       ∙ ap (finished d old) (sym (done .is))
 
   pub main-stops : (r .stop ≡ 0 → ⊥) → Tries (main-on c d old k budget (store-of slots heads)) budget r sl he

@@ -57,9 +57,10 @@ fn work_main(
         budget r (now (slots .exit)) (now (heads .exit))) ⌝ }
 {
     retain_totals(slots, heads, depth, old);
-    let mut env = [0i64; 8192];
+    let mut env = [0i64; 8224];
     machine_lines::bind(&mut env, 31, 0, old);
     machine_lines::bind(&mut env, 31, 1, readings);
+    machine_lines::set_function(&mut env, 31, 0);
     let start = machine_code::start_in(table, 0);
     let r = machine::work_tree(
         &kinds,
@@ -71,7 +72,6 @@ fn work_main(
         budget,
         4096,
         31,
-        0,
         start,
     );
     let stop = r.stop;

@@ -2,7 +2,7 @@
 use mathlib.Core.Path.{_≡_, refl, sym, ap, subst, _∙_}
 use mathlib.Core.Bool.{Bool, cond}
 use mathlib.Core.List.{List, [], _∷_}
-use Prim.Native.Nat.{ℕ, zero, suc, _+_, _-_, _<_, _≤_}
+use Prim.Native.Nat.{ℕ, zero, suc, _+_, _%_, _<_, _≤_}
 use native.Mathlib.Omega.{arith}
 use lib.IntN.{ℤ, pos}
 use lib.Dec.{ltb}
@@ -15,13 +15,13 @@ use Rattle.semantics.specs.Code.{rows}
 use Rattle.semantics.specs.Live.{Set, empty}
 use Rattle.semantics.specs.Machine.{State, Program, routine-of, frame-from, machine}
 use Rattle.soundness.specs.machine.Discipline.{Fitting, Scoped, parameter-names}
-use Rattle.machine_code.specs.Reading.{depth-in, start-in}
-use Rattle.machine_lines.specs.Frames.{place, put-all}
+use Rattle.machine_code.specs.Reading.{natural, depth-in, start-in}
+use Rattle.machine_lines.specs.Frames.{place, function-place, put-all, called}
 use Rattle.machine_lines.specs.Lines.{memory}
 use Rattle.machine_positions.specs.Machine.{Code, call-on, tree-on}
-use Rattle.machine_positions.specs.Lengths.{put-keeps}
+use Rattle.machine_positions.specs.Lengths.{put-keeps, called-keeps}
 use Rattle.machine_laws.specs.Rows.{At, Jumps}
-use Rattle.machine_laws.specs.Frames.{Bounded, FrameAgrees}
+use Rattle.machine_laws.specs.Frames.{Bounded, FrameAgrees, Framed}
 use Rattle.machine_laws.specs.Same.{Rel, TreeDone, CallDone, rel-map}
 use Rattle.machine_laws.specs.Leaves.{CalleeSame}
 use Rattle.machine_laws.specs.Trees.{tree-same}
@@ -34,6 +34,14 @@ unfolding put-all
 put-below [] p env q h = refl
 put-below (w ∷ ws) p env q h =
     put-below ws (p + 1) (set env p w) q (omega arith)
+    ∙ getD-set-other env p q w (pos 0) (λ e. omega (arith, e, h))
+
+put-above : (ws : List ℤ) (p : ℕ) (env : List ℤ) (q : ℕ) → p + length ws ≤ q →
+    getD (put-all ws p env) q (pos 0) ≡ getD env q (pos 0)
+unfolding put-all
+put-above [] p env q h = refl
+put-above (w ∷ ws) p env q h =
+    put-above ws (p + 1) (set env p w) q (omega arith)
     ∙ getD-set-other env p q w (pos 0) (λ e. omega (arith, e, h))
 
 pub put-there : (ws : List ℤ) (p : ℕ) (env : List ℤ) (i : ℕ) → i < length ws → p + length ws ≤ length env →
@@ -66,15 +74,28 @@ parameters n = λ x. ltb x n
 pub bounded-parameters : (n : ℕ) → n ≤ 16 → Bounded (parameters n)
 bounded-parameters n h = record { below = λ x e. omega (arith, h, ltb-true x n e) }
 
-pub arguments-agree : (calls : ℕ) (ws : List ℤ) (env : List ℤ) → length ws ≤ 16 → 8192 ≤ length env →
-    FrameAgrees calls (put-all ws (place calls 0) env) (frame-from ws 0) (parameters (length ws))
-arguments-agree calls ws env few long = record {
+pub arguments-agree : (calls f : ℕ) (ws : List ℤ) (env : List ℤ) → calls ≤ 31 → length ws ≤ 16 → 8224 ≤ length env →
+    FrameAgrees calls (called calls f ws env) (frame-from ws 0) (parameters (length ws))
+arguments-agree calls f ws env small few long = record {
   agree = λ x e.
-      ap (λ (q : ℕ). getD (put-all ws (place calls 0) env) q (pos 0)) (let z : place calls x ≡ place calls 0 + x =
+      getD-set-other (put-all ws (place calls 0) env) (function-place calls) (place calls x) (pos f) (pos 0)
+      (λ q. absurd (omega (arith, q, small, few, ltb-true x (length ws) e)))
+      ∙ ap (λ (q : ℕ). getD (put-all ws (place calls 0) env) q (pos 0)) (let z : place calls x ≡ place calls 0 + x =
       omega arith in z)
-      ∙ put-there ws (place calls 0) env x (ltb-true x (length ws) e) (omega (arith, few, long))
+      ∙ put-there ws (place calls 0) env x (ltb-true x (length ws) e) (omega (arith, small, few, long))
       ∙ sym (ap (frame-from ws 0) (let z : x ≡ 0 + x = omega arith in z) ∙ frame-at ws 0 x (ltb-true x (length ws)
       e));
+}
+
+framed-called : (calls f : ℕ) (ws : List ℤ) (env : List ℤ) → calls ≤ 31 → f < 256 → 8224 ≤ length env →
+    Framed calls f (called calls f ws env)
+framed-called calls f ws env small h long = record {
+  few = small;
+  long = omega (arith, long, called-keeps calls f ws env);
+  function = ap (λ (z : ℤ). natural z % 256)
+      (getD-set-same (put-all ws (place calls 0) env) (function-place calls) (pos f) (pos 0)
+      (omega (arith, small, long, put-keeps ws (place calls 0) env)))
+      ∙ (let z : f % 256 ≡ f = omega (arith, h) in z);
 }
 
 -- ---- the routines of a program in the code
@@ -93,11 +114,10 @@ module _ (p : Program) (enough : length (p .routines) ≤ 32) (c : Code)
   -- a routine's tree, with some call depth left
   pub function-same : (n : ℕ) → n ≤ 31 → CalleeSame p n (call-on n c) (machine p n) → (R : List ℕ) (g : ℕ)
       (ws : List ℤ) (env : List ℤ) (s : State) → g < length (p .routines) →
-      length ws ≡ length (p .signatures g .parameters) → 8192 ≤ length env →
+      length ws ≡ length (p .signatures g .parameters) → 8224 ≤ length env →
       Rel (TreeDone (start-in (c .table) g + length (rows (routine-of p g .tree))) n
-      (put-all ws (place n 0) env) (parameters (length ws)))
-      (tree-on 4096 (call-on n c) c n g (start-in (c .table) g) (s .left) (memory (s .store) (put-all ws (place n 0)
-      env)))
+      (called n g ws env) (parameters (length ws)))
+      (tree-on 4096 (call-on n c) c n (start-in (c .table) g) (s .left) (memory (s .store) (called n g ws env)))
       (machine p (suc n) R g ws s)
   unfolding machine
   function-same n small calling R g ws env s h a long =
@@ -106,9 +126,8 @@ module _ (p : Program) (enough : length (p .routines) ≤ 32) (c : Code)
       (routine-of p g .tree) 4096 (st .short) (omega arith) (parameters (length ws)) (p .signatures g .result)
       (st .fitting) (subst (λ (k : ℕ). Scoped (routine-of p g .tree) (parameters k)) (sym a) (st .scoped))
       (bounded-parameters (length ws) (omega (arith, a, st .few))) (start-in (c .table) g) (st .written) empty R
-      (frame-from ws 0) s
-      (put-all ws (place n 0) env) (arguments-agree n ws env (omega (arith, a, st .few)) long)
-      (omega (arith, put-keeps ws (place n 0) env, long))
+      (frame-from ws 0) s (called n g ws env) (arguments-agree n g ws env small (omega (arith, a, st .few)) long)
+      (framed-called n g ws env small (omega (arith, h, enough)) long)
 
   pub calls-same : (n : ℕ) → n ≤ 31 → CalleeSame p n (call-on n c) (machine p n)
   unfolding call-on machine
@@ -119,19 +138,25 @@ module _ (p : Program) (enough : length (p .routines) ≤ 32) (c : Code)
   calls-same (suc n) small = record {
     few = λ g h. all g h .few;
     same = λ R g ws env s h a long.
-        rel-map (TreeDone (start-in (c .table) g + length (rows (routine-of p g .tree))) n (put-all ws (place n 0) env)
+        let put = put-all ws (place n 0) env in
+        let few : length ws ≤ 16 = omega (arith, a, all g h .few) in
+        rel-map (TreeDone (start-in (c .table) g + length (rows (routine-of p g .tree))) n (called n g ws env)
         (parameters (length ws)))
         (CallDone (suc n) env)
-        (tree-on 4096 (call-on n c) c n g (start-in (c .table) g) (s .left) (memory (s .store) (put-all ws (place n
-        0) env)))
+        (tree-on 4096 (call-on n c) c n (start-in (c .table) g) (s .left) (memory (s .store) (called n g ws env)))
         (machine p (suc n) R g ws s)
         (λ v s′ d. record {
           value = d .word .value;
           steps = d .word .steps;
           store = d .word .store;
-          frames = λ q l. d .word .kept .callers q (omega (arith, l, small)) ∙ put-below ws (place n 0) env q (omega
-              (arith, l, small));
-          long = d .word .kept .long ∙ put-keeps ws (place n 0) env;
+          frames = λ q l m. d .word .kept .callers q (omega (arith, l)) m
+              ∙ getD-set-other put (function-place n) q (pos g) (pos 0) (λ e. absurd (omega (arith, e, m)))
+              ∙ put-above ws (place n 0) env q (omega (arith, l, few));
+          functions = λ k l. d .word .kept .functions k (omega (arith, l))
+              ∙ getD-set-other put (function-place n) (function-place k) (pos g) (pos 0)
+              (λ e. absurd (omega (arith, e, l)))
+              ∙ put-above ws (place n 0) env (function-place k) (omega (arith, small, few));
+          long = d .word .kept .long ∙ called-keeps n g ws env;
         })
         (function-same n (omega arith) (calls-same n (omega arith)) R g ws env s h a long);
   }

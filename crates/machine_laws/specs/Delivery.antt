@@ -53,22 +53,22 @@ module _ (p : Program) (enough : length (p .routines) ≤ 32) (c : Code) (some :
     (jumps : Jumps c) where
   -- main, from a state, and what follows it
   run-same : (d : ℕ) (old : ℤ) (k budget : ℕ) (σ : Store) (R : List ℕ) (s : State) → s .left ≡ budget →
-      settled budget σ (finished d old (tree-on 4096 (call-on 31 c) c 31 0 (start-in (c .table) 0) budget
+      settled budget σ (finished d old (tree-on 4096 (call-on 31 c) c 31 (start-in (c .table) 0) budget
       (memory (s .store) (main-frame old (pos k)))))
       ≡ delivered-by budget σ (onward (λ v s″. onward (λ _. if-array d (release-word old)) (put-totals v s″))
       (machine p 32 R 0 (old ∷ pos k ∷ []) s))
   run-same d old k budget σ R s e =
-      subst (λ (b : ℕ). settled budget σ (finished d old (tree-on 4096 (call-on 31 c) c 31 0 (start-in (c .table) 0) b
+      subst (λ (b : ℕ). settled budget σ (finished d old (tree-on 4096 (call-on 31 c) c 31 (start-in (c .table) 0) b
       (memory (s .store) (main-frame old (pos k)))))
       ≡ delivered-by budget σ (onward (λ v s″. onward (λ _. if-array d (release-word old)) (put-totals v s″))
       (machine p 32 R 0 (old ∷ pos k ∷ []) s))) e
       (finish-same d old budget σ (start-in (c .table) 0 + length (rows (routine-of p 0 .tree))) 31
       (main-frame old (pos k)) (parameters 2)
-      (tree-on 4096 (call-on 31 c) c 31 0 (start-in (c .table) 0) (s .left) (memory (s .store) (main-frame old
+      (tree-on 4096 (call-on 31 c) c 31 (start-in (c .table) 0) (s .left) (memory (s .store) (main-frame old
       (pos k))))
       (machine p 32 R 0 (old ∷ pos k ∷ []) s)
       (function-same p enough c all jumps 31 (omega arith) (calls-same p enough c all jumps 31 (omega arith)) R 0
-      (old ∷ pos k ∷ []) (replicate 8192 (pos 0)) s some two (omega (arith, length-replicate 8192 (pos 0)))))
+      (old ∷ pos k ∷ []) (replicate 8224 (pos 0)) s some two (omega (arith, length-replicate 8224 (pos 0)))))
 
   main-same : (d : ℕ) (old : ℤ) (k budget : ℕ) (σ : Store) (R : List ℕ) (s : State) → s .left ≡ budget →
       settled budget σ (main-on c d old k budget (s .store))

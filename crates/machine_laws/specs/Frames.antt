@@ -3,7 +3,7 @@ use mathlib.Core.Path.{_≡_, refl, sym, ap, subst, _∙_}
 use mathlib.Core.Logic.{_≢_, inl, inr}
 use mathlib.Core.Bool.{Bool, true, false, cond, _||_}
 use mathlib.Core.List.{List, [], _∷_}
-use Prim.Native.Nat.{ℕ, _-_, _*_, _<_, _≤_}
+use Prim.Native.Nat.{ℕ, _+_, _*_, _%_, _<_, _≤_}
 use native.Mathlib.Omega.{arith}
 use native.Mathlib.Decide.{ℕ-discrete}
 use lib.IntN.{ℤ, pos}
@@ -18,8 +18,9 @@ use Rattle.semantics.specs.Live.{Set, _∪_, only, just}
 use Rattle.semantics.specs.Machine.{Frame, word, argument, binding}
 use Rattle.laws.specs.Tests.{or-cases, or-left}
 use Rattle.soundness.specs.machine.Discipline.{Known, AllNew, known-after, LineScoped}
+use Rattle.machine_code.specs.Reading.{natural}
 use Rattle.machine_code.proofs.Reading.{no-bool}
-use Rattle.machine_lines.specs.Frames.{place, word-of}
+use Rattle.machine_lines.specs.Frames.{place, function-place, function-of, word-of}
 use Rattle.machine_positions.specs.Machine.{bound-all}
 use Rattle.machine_laws.specs.Rows.{coded, SmallAtom}
 
@@ -31,11 +32,26 @@ pub record Bounded (S : Set) : Type 0 where
 pub record FrameAgrees (calls : ℕ) (env : List ℤ) (ρ : Frame) (S : Set) : Type 0 where
   pub agree : (x : ℕ) → S x ≡ true → getD env (place calls x) (pos 0) ≡ ρ x
 
--- what work in the frame of a call leaves alone: the known names, and the frames of its callers
+-- what work in the frame of a call leaves alone: the known names, the frames of its callers, and their functions
 pub record FrameKept (calls : ℕ) (env env′ : List ℤ) (S : Set) : Type 0 where
   pub names : (x : ℕ) → S x ≡ true → getD env′ (place calls x) (pos 0) ≡ getD env (place calls x) (pos 0)
-  pub callers : (q : ℕ) → q < 256 * (31 - calls) → getD env′ q (pos 0) ≡ getD env q (pos 0)
+  pub callers : (q : ℕ) → 256 * calls + 256 ≤ q → q < 8192 → getD env′ q (pos 0) ≡ getD env q (pos 0)
+  pub functions : (k : ℕ) → calls ≤ k → getD env′ (function-place k) (pos 0) ≡ getD env (function-place k) (pos 0)
   pub long : length env′ ≡ length env
+
+-- the frame of a call of function f is there
+pub record Framed (calls f : ℕ) (env : List ℤ) : Type 0 where
+  pub few : calls ≤ 31
+  pub long : 8224 ≤ length env
+  pub function : function-of calls env ≡ f
+
+pub framed-kept : {calls f : ℕ} {e₀ e₁ : List ℤ} {S : Set} → FrameKept calls e₀ e₁ S → Framed calls f e₀ →
+    Framed calls f e₁
+framed-kept {calls} k h = record {
+  few = h .few;
+  long = omega (arith, h .long, k .long);
+  function = ap (λ (z : ℤ). natural z % 256) (k .functions calls (omega arith)) ∙ h .function;
+}
 
 pub small-known : (a : C.Atom) (S : Set) → Bounded S → Known a S → SmallAtom a
 small-known (C.number z) S b h = tt
@@ -58,16 +74,17 @@ bounded-more x S h b = record { below = λ y e. go y e (ℕ-discrete x y) }
     go y e (yes p) = omega (arith, p, h)
     go y e (no p) = b .below y (either-true x y S e p)
 
-pub agrees-more : (calls : ℕ) (env : List ℤ) (ρ : Frame) (S : Set) (x : ℕ) (v : ℤ) → x < 256 → 8192 ≤ length env →
-    Bounded S → FrameAgrees calls env ρ S → FrameAgrees calls (set env (place calls x) v) (updated ρ x v) (S ∪ only x)
+pub agrees-more : (calls : ℕ) {f : ℕ} (env : List ℤ) (ρ : Frame) (S : Set) (x : ℕ) (v : ℤ) → x < 256 →
+    Framed calls f env → Bounded S → FrameAgrees calls env ρ S → FrameAgrees calls (set env (place calls x) v)
+    (updated ρ x v) (S ∪ only x)
 unfolding updated
-agrees-more calls env ρ S x v h l b g = record { agree = λ y e. go y e (ℕ-discrete x y) }
+agrees-more calls {f} env ρ S x v h l b g = record { agree = λ y e. go y e (ℕ-discrete x y) }
   where
     go : (y : ℕ) → (S ∪ only x) y ≡ true → Dec (x ≡ y) →
         getD (set env (place calls x) v) (place calls y) (pos 0) ≡ cond (eqb x y) v (ρ y)
     go y e (yes p) =
         ap (λ (k : ℕ). getD (set env (place calls x) v) (place calls k) (pos 0)) (sym p)
-        ∙ getD-set-same env (place calls x) v (pos 0) (omega arith)
+        ∙ getD-set-same env (place calls x) v (pos 0) (omega (arith, l .few, l .long))
         ∙ sym (ap (λ (t : Bool). cond t v (ρ y)) (eq-eqb x y p))
     go y e (no p) =
         getD-set-other env (place calls x) (place calls y) v (pos 0) (λ q. p (omega (arith, q)))
@@ -75,14 +92,16 @@ agrees-more calls env ρ S x v h l b g = record { agree = λ y e. go y e (ℕ-di
         ∙ sym (ap (λ (t : Bool). cond t v (ρ y)) (ne-eqb x y p))
 
 pub kept-none : (calls : ℕ) (env : List ℤ) (S : Set) → FrameKept calls env env S
-kept-none calls env S = record { names = λ x e. refl; callers = λ q h. refl; long = refl }
+kept-none calls env S = record { names = λ x e. refl; callers = λ q h l. refl; functions = λ k h. refl; long = refl }
 
-pub kept-more : (calls : ℕ) (env : List ℤ) (S : Set) (x : ℕ) (v : ℤ) → S x ≡ false →
+pub kept-more : (calls : ℕ) (env : List ℤ) (S : Set) (x : ℕ) (v : ℤ) → calls ≤ 31 → x < 256 → S x ≡ false →
     FrameKept calls env (set env (place calls x) v) S
-kept-more calls env S x v u = record {
+kept-more calls env S x v few small u = record {
   names = λ y e. getD-set-other env (place calls x) (place calls y) v (pos 0)
       (λ q. no-bool (sym e ∙ ap S (let z : y ≡ x = omega (arith, q) in z) ∙ u));
-  callers = λ q h. getD-set-other env (place calls x) q v (pos 0) (λ e. absurd (omega (arith, e, h)));
+  callers = λ q h l. getD-set-other env (place calls x) q v (pos 0) (λ e. absurd (omega (arith, e, h, small)));
+  functions = λ k h. getD-set-other env (place calls x) (function-place k) v (pos 0)
+      (λ e. absurd (omega (arith, e, few, small)));
   long = length-set env (place calls x) v;
 }
 
@@ -90,7 +109,8 @@ pub kept-then : (calls : ℕ) (e₀ e₁ e₂ : List ℤ) (S T : Set) → ((x : 
     FrameKept calls e₀ e₁ S → FrameKept calls e₁ e₂ T → FrameKept calls e₀ e₂ S
 kept-then calls e₀ e₁ e₂ S T i a b = record {
   names = λ x e. b .names x (i x e) ∙ a .names x e;
-  callers = λ q h. b .callers q h ∙ a .callers q h;
+  callers = λ q h l. b .callers q h l ∙ a .callers q h l;
+  functions = λ k h. b .functions k h ∙ a .functions k h;
   long = b .long ∙ a .long;
 }
 
@@ -139,21 +159,22 @@ bounded-all (p ∷ ps) S h b =
     subst Bounded (just-first S p ps) (bounded-all ps (S ∪ only p) (h .1) (bounded-more p S (h .0 .small) b))
 
 module _ (calls : ℕ) where
-  pub agrees-all : (ps : List ℕ) (ws env : List ℤ) (ρ : Frame) (S : Set) → AllNew ps S → 8192 ≤ length env → Bounded S →
-      FrameAgrees calls env ρ S → FrameAgrees calls (bound-all calls ps ws env) (binding ps ws ρ) (S ∪ just ps)
-  agrees-all [] ws env ρ S h long b g = subst (FrameAgrees calls env ρ) (just-none S) g
-  agrees-all (p ∷ ps) ws env ρ S h long b g =
+  pub agrees-all : {f : ℕ} (ps : List ℕ) (ws env : List ℤ) (ρ : Frame) (S : Set) → AllNew ps S → Framed calls f env →
+      Bounded S → FrameAgrees calls env ρ S → FrameAgrees calls (bound-all calls ps ws env) (binding ps ws ρ) (S ∪
+      just ps)
+  agrees-all {f} [] ws env ρ S h framed b g = subst (FrameAgrees calls env ρ) (just-none S) g
+  agrees-all {f} (p ∷ ps) ws env ρ S h framed b g =
       let v = argument ws 0 in
       subst (FrameAgrees calls (bound-all calls (p ∷ ps) ws env) (binding (p ∷ ps) ws ρ)) (just-first S p ps)
       (agrees-all ps (later-parts ws) (set env (place calls p) v) (updated ρ p v) (S ∪ only p) (h .1)
-      (omega (arith, long, length-set env (place calls p) v)) (bounded-more p S (h .0 .small) b)
-      (agrees-more calls env ρ S p v (h .0 .small) long b g))
+      (framed-kept (kept-more calls env S p v (framed .few) (h .0 .small) (h .0 .unknown)) framed)
+      (bounded-more p S (h .0 .small) b) (agrees-more calls env ρ S p v (h .0 .small) framed b g))
 
-  pub kept-all : (ps : List ℕ) (ws env : List ℤ) (S : Set) → AllNew ps S → FrameKept calls env
+  pub kept-all : (ps : List ℕ) (ws env : List ℤ) (S : Set) → calls ≤ 31 → AllNew ps S → FrameKept calls env
       (bound-all calls ps ws env) S
-  kept-all [] ws env S h = kept-none calls env S
-  kept-all (p ∷ ps) ws env S h =
+  kept-all [] ws env S few h = kept-none calls env S
+  kept-all (p ∷ ps) ws env S few h =
       let v = argument ws 0 in
       kept-then calls env (set env (place calls p) v) (bound-all calls (p ∷ ps) ws env) S (S ∪ only p)
-      (λ y e. or-left (S y) (eqb p y) e) (kept-more calls env S p v (h .0 .unknown))
-      (kept-all ps (later-parts ws) (set env (place calls p) v) (S ∪ only p) (h .1))
+      (λ y e. or-left (S y) (eqb p y) e) (kept-more calls env S p v few (h .0 .small) (h .0 .unknown))
+      (kept-all ps (later-parts ws) (set env (place calls p) v) (S ∪ only p) few (h .1))

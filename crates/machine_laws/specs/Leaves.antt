@@ -35,7 +35,7 @@ use Rattle.machine_lines.specs.Lines.{operation-given, array-of, index-given, l
 use Rattle.machine_lines.specs.Lines.{giving, calling, doing, leaf-done}
 use Rattle.machine_positions.specs.Machine.{Code, Work, Callee, binding, call-worked, call-line, line-done}
 use Rattle.machine_laws.specs.Rows.{Here, At, atom-here, atom-kind, line-read}
-use Rattle.machine_laws.specs.Frames.{Bounded, FrameAgrees, small-known, word-same, kept-none}
+use Rattle.machine_laws.specs.Frames.{Bounded, FrameAgrees, Framed, small-known, word-same, kept-none}
 use Rattle.machine_laws.specs.Same.{Rel, LineDone, CallDone, Gives, rel-then, rel-step, call-word, bound-done}
 
 -- ---- the words of the atoms that follow a line
@@ -59,7 +59,8 @@ module _ (kinds : List ℕ) (operands : List ℤ) (calls : ℕ) (env : List ℤ)
       (ap (λ (q : ℕ). is-atom (getD kinds q 0)) (sym z) ∙ e)))
 
   -- the i-th of them
-  pub word-at : (us : List K.Atom) (at i : ℕ) → AllKnown us S → At kinds operands at (map atom-row us) → i < length us →
+  pub word-at : (us : List K.Atom) (at i : ℕ) → AllKnown us S → At kinds operands at (map atom-row us) → i < length
+      us →
       word-of calls env (atom-at kinds operands (at + i)) ≡ argument (map (word ρ) us) i
   word-at [] at i k r h = absurd (omega arith)
   word-at (a ∷ us) at zero k r h =
@@ -67,7 +68,8 @@ module _ (kinds : List ℕ) (operands : List ℤ) (calls : ℕ) (env : List ℤ)
       ∙ ap (word-of calls env) (atom-here kinds operands at a (small-known a S b (k .0)) (r .0))
       ∙ word-same calls env ρ S g a (k .0)
   word-at (a ∷ us) at (suc i) k r h =
-      ap (λ (q : ℕ). word-of calls env (atom-at kinds operands q)) (let z : at + suc i ≡ at + 1 + i = omega arith in z)
+      ap (λ (q : ℕ). word-of calls env (atom-at kinds operands q)) (let z : at + suc i ≡ at + 1 + i = omega arith
+      in z)
       ∙ word-at us (at + 1) i (k .1) (r .1) (omega arith)
 
 -- ---- what a call's atoms fit
@@ -76,7 +78,7 @@ module _ (kinds : List ℕ) (operands : List ℤ) (calls : ℕ) (env : List ℤ)
 pub record CalleeSame (p : Program) (calls : ℕ) (C : Callee) (callee : M.Callee) : Type 0 where
   pub few : (g : ℕ) → g < length (p .routines) → length (p .signatures g .parameters) ≤ 16
   pub same : (R : List ℕ) (g : ℕ) (ws : List ℤ) (env : List ℤ) (s : State) → g < length (p .routines) →
-      length ws ≡ length (p .signatures g .parameters) → 8192 ≤ length env →
+      length ws ≡ length (p .signatures g .parameters) → 8224 ≤ length env →
       Rel (CallDone calls env) (C g ws (s .left) (memory (s .store) env)) (callee R g ws s)
 
 -- as many atoms as parameters
@@ -105,7 +107,7 @@ operation-read less n u v = refl
 module _ (p : Program) (few : length (p .routines) ≤ 32) (callee : M.Callee) (Γ : NameDepths) (c : Code) (calls f : ℕ)
     (C : Callee) (calling-same : CalleeSame p calls C callee) (W : Work) (at : ℕ) (A : Set) (R : List ℕ) (ρ : Frame)
     (s : State) (env : List ℤ) (S : Set) (b : Bounded S) (g : FrameAgrees calls env ρ S)
-    (long : 8192 ≤ length env) where
+    (framed : Framed calls f env) where
   abbrev here : Memory
   here = memory (s .store) env
 
@@ -131,7 +133,7 @@ module _ (p : Program) (few : length (p .routines) ≤ 32) (callee : M.Callee) (
 
     -- the line is worked as the leaf is
     abbrev Claim : Leaf → Type 0
-    Claim l = Rel Done (line-done W C c calls f at (s .left) here found) (work-line callee Γ (K.leaf x l us) A R ρ s)
+    Claim l = Rel Done (line-done W C c calls at (s .left) here found) (work-line callee Γ (K.leaf x l us) A R ρ s)
 
     abbrev LeafStands : Leaf → Type 0
     LeafStands l = Here (c .kinds) (c .operands) at (row (leaf-kind l) (leaf-operand l x (length us)))
@@ -157,7 +159,7 @@ module _ (p : Program) (few : length (p .routines) ≤ 32) (callee : M.Callee) (
         ((n : ℕ) → Gives n σ y (work-leaf callee cell-roots call-roots l ws (with-left s n))) → Claim l
     unfolding line-done leaf-done work-line onward
     gives-same l next σ y d e h =
-        subst (λ (z : Doing). Rel Done (line-done W C c calls f at (s .left) here z)
+        subst (λ (z : Doing). Rel Done (line-done W C c calls at (s .left) here z)
         (work-line callee Γ (K.leaf x l us) A R ρ s)) (sym d)
         (rel-step Done s here (λ n. with-store σ (given calls x next n env y))
         (λ _ s′. onward (λ w. give (updated ρ x w)) (work-leaf callee cell-roots call-roots l ws s′))
@@ -167,7 +169,8 @@ module _ (p : Program) (few : length (p .routines) ≤ 32) (callee : M.Callee) (
             Rel Done (with-store σ (given calls x next n env y)) (onward (λ w. give (updated ρ x w)) o)
         go n (done w u) (done v s′) q = (
           refl,
-          bound-done calls env ρ S b g long x new next (at + suc (length us)) e (ran (out 0 w next n) (memory σ env)) v
+          bound-done calls env ρ S b g framed x new next (at + suc (length us)) e (ran (out 0 w next n) (memory σ
+              env)) v
               s′
               (record { value = q .0; steps = q .1; store = q .2; kept = kept-none calls env S }),
         )
@@ -211,7 +214,8 @@ module _ (p : Program) (few : length (p .routines) ≤ 32) (callee : M.Callee) (
         (λ n. go n (array-of (s .store) (argument ws 0)) (argument ws 1)
         (inside (argument ws 1) (length (array-of (s .store) (argument ws 0)))) refl)
       where
-        go : (n : ℕ) (vs : List ℤ) (w : ℤ) (t : Bool) → inside w (length vs) ≡ t → Gives n (s .store) (index-given vs w)
+        go : (n : ℕ) (vs : List ℤ) (w : ℤ) (t : Bool) → inside w (length vs) ≡ t → Gives n (s .store) (index-given
+            vs w)
             (onward (λ _. give (getD vs (natAbs w) (pos 0))) (require (inside w (length vs)) 23
             (M.with-store (with-left s n) (s .store) (touching (s .store) (cell-of (argument ws 0))))))
         go n vs w true e = rw e (refl, refl, refl)
@@ -222,10 +226,12 @@ module _ (p : Program) (few : length (p .routines) ≤ 32) (callee : M.Callee) (
     literal-same d little shallow r = gives-same (literal d) (at + 1 + length ws) (acquired d ws (s .store))
         (acquired-given (next-cell (s .store)))
         (ap (doing (c .kinds) (c .operands) calls at here)
-        (line-read (c .kinds) (c .operands) at 9 (x + 256 * length us + 65536 * d) _ _ (r .kind) (r .operand) refl refl)
+        (line-read (c .kinds) (c .operands) at 9 (x + 256 * length us + 65536 * d) _ _ (r .kind) (r .operand) refl
+        refl)
         ∙ rw (
           let z : (x + 256 * length us + 65536 * d) % 256 ≡ x = omega (arith, new .small) in z,
-          let z : (x + 256 * length us + 65536 * d) / 65536 % 256 ≡ d = omega (arith, new .small, little, shallow) in z,
+          let z : (x + 256 * length us + 65536 * d) / 65536 % 256 ≡ d = omega (arith, new .small, little, shallow)
+              in z,
           words-same (c .kinds) (c .operands) calls env ρ S b g us 16 (at + 1) little known rs closed,
         ) refl)
         (omega (arith, length-map us (word ρ))) (λ n. go n (has-free (s .store)) refl)
@@ -241,7 +247,7 @@ module _ (p : Program) (few : length (p .routines) ≤ 32) (callee : M.Callee) (
         LeafStands (call h) → Claim (call h)
     unfolding doing line-done call-line work-line work-leaf onward with-left
     call-same h there arity r =
-        subst (λ (z : Doing). Rel Done (line-done W C c calls f at (s .left) here z)
+        subst (λ (z : Doing). Rel Done (line-done W C c calls at (s .left) here z)
         (work-line callee Γ (K.leaf x (call h) us) A R ρ s))
         (sym (ap (doing (c .kinds) (c .operands) calls at here)
         (line-read (c .kinds) (c .operands) at 8 (x + 256 * h) _ _ (r .kind) (r .operand) refl refl)
@@ -254,12 +260,12 @@ module _ (p : Program) (few : length (p .routines) ≤ 32) (callee : M.Callee) (
         (omega (arith, arity, calling-same .few h there)) known rs closed)
         (rel-then (CallDone calls env) Done (C h ws n here) (callee call-roots h ws (with-left s n))
         (λ w. binding calls x (at + 1 + length ws) w) (λ w. give (updated ρ x w))
-        (calling-same .same call-roots h ws env (with-left s n) there (length-map us (word ρ) ∙ arity) long)
+        (calling-same .same call-roots h ws env (with-left s n) there (length-map us (word ρ) ∙ arity) (framed .long))
         (λ v s′ k. (
           refl,
-          bound-done calls env ρ S b g long x new (at + 1 + length ws) (at + suc (length us))
+          bound-done calls env ρ S b g framed x new (at + 1 + length ws) (at + suc (length us))
               (omega (arith, length-map us (word ρ))) (C h ws n here) v s′
-              (call-word calls env S b (C h ws n here) v s′ k),
+              (call-word calls (framed .few) env S b (C h ws n here) v s′ k),
         )))))
 
     -- every leaf
@@ -276,7 +282,7 @@ module _ (p : Program) (few : length (p .routines) ≤ 32) (callee : M.Callee) (
 
   module _ (x : ℕ) (known : S x ≡ true) where
     pub retain-same : Here (c .kinds) (c .operands) at (row 14 x) →
-        Rel (LineDone (at + 1) calls env S S) (line-done W C c calls f at (s .left) here found)
+        Rel (LineDone (at + 1) calls env S S) (line-done W C c calls at (s .left) here found)
         (work-line callee Γ (K.retain x) A R ρ s)
     unfolding doing line-done leaf-done work-line onward retain-word M.with-store
     retain-same r =
@@ -295,7 +301,7 @@ module _ (p : Program) (few : length (p .routines) ≤ 32) (callee : M.Callee) (
         )
 
     pub release-same : Here (c .kinds) (c .operands) at (row 15 x) →
-        Rel (LineDone (at + 1) calls env S S) (line-done W C c calls f at (s .left) here found)
+        Rel (LineDone (at + 1) calls env S S) (line-done W C c calls at (s .left) here found)
         (work-line callee Γ (K.release x) A R ρ s)
     unfolding doing line-done leaf-done work-line onward release-word M.with-store
     release-same r =

@@ -26,11 +26,11 @@ use Rattle.machine_code.specs.declared.Atom.{Atom}
 use Rattle.machine_lines.specs.Frames.{word-of}
 use Rattle.machine_lines.specs.Lines.{Memory, memory, Ran, acquired-given, array-of, looping, doing}
 use Rattle.machine_positions.specs.Machine.{Code, Callee, and-then, binding, Looped, looped, bound-all, gave}
-use Rattle.machine_positions.specs.Machine.{carry-first, carry-on, passes-on, loop-worked, loop-line, tree-on}
-use Rattle.machine_positions.specs.Lengths.{bound-all-keeps}
+use Rattle.machine_positions.specs.Machine.{carry-first, carry-on, passes-on, element-depth, loop-worked, loop-line}
+use Rattle.machine_positions.specs.Machine.{tree-on}
 use Rattle.machine_laws.specs.Rows.{Here, At, Jumps, coded, atom-here, line-read}
 use Rattle.machine_laws.specs.Frames.{Bounded, FrameAgrees, FrameKept, small-known, word-same, kept-none}
-use Rattle.machine_laws.specs.Frames.{kept-then}
+use Rattle.machine_laws.specs.Frames.{Framed, framed-kept, kept-then}
 use Rattle.machine_laws.specs.Frames.{agrees-kept, bounded-all, agrees-all, kept-all}
 use Rattle.machine_laws.specs.Same.{Rel, WordDone, TreeDone, LineDone, rel-then, rel-step, rel-map}
 use Rattle.machine_laws.specs.Same.{onward-onward, word-moved, word-kept, bound-done}
@@ -100,9 +100,9 @@ module _ (p : Program) (callee : M.Callee) (Γ : NameDepths) (c : Code) (calls f
   abbrev pub TreeClaim : K.Tree → Type 0
   TreeClaim t = (n : ℕ) → length (rows t) ≤ n → n ≤ 4096 → (S : Set) (d : ℕ) → Fitting p Γ t d → Scoped t S →
       Bounded S → (at : ℕ) → At (c .kinds) (c .operands) at (rows t) → (L : Set) (R : List ℕ) (ρ : Frame) (s : State)
-      (env : List ℤ) → FrameAgrees calls env ρ S → 8192 ≤ length env →
+      (env : List ℤ) → FrameAgrees calls env ρ S → Framed calls f env →
       Rel (TreeDone (at + length (rows t)) calls env S)
-      (tree-on n C c calls f at (s .left) (memory (s .store) env)) (work callee Γ t L R ρ s)
+      (tree-on n C c calls at (s .left) (memory (s .store) env)) (work callee Γ t L R ρ s)
 
   -- the passes of a loop over the array a, whose tree t is at a position
   module _ (n : ℕ) (few : n ≤ 4096) (S : Set) (b : Bounded S) (ρ : Frame) (k : Loop) (ps : List ℕ) (new : AllNew ps S)
@@ -110,7 +110,7 @@ module _ (p : Program) (callee : M.Callee) (Γ : NameDepths) (c : Code) (calls f
       (scoped : Scoped t (S ∪ just ps)) (at : ℕ) (rs : At (c .kinds) (c .operands) at (rows t)) (B : Set) (R : List ℕ)
       (a : ℤ) where
     abbrev W : ℕ → Memory → Ran
-    W = tree-on n C c calls f at
+    W = tree-on n C c calls at
 
     abbrev l : Looped
     l = looped k W calls ps (cell-of a)
@@ -122,8 +122,8 @@ module _ (p : Program) (callee : M.Callee) (Γ : NameDepths) (c : Code) (calls f
     rest count i v = passes (work-pass k body a) v (tabulate i count (λ j. j))
 
     -- one pass, before the others
-    pass-same : (count i : ℕ) (v : ℤ) (s₀ : State) (e₀ : List ℤ) → FrameAgrees calls e₀ ρ S → 8192 ≤ length e₀ →
-        ((u : ℤ) (s₁ : State) (e₁ : List ℤ) → FrameAgrees calls e₁ ρ S → 8192 ≤ length e₁ → Rel (WordDone calls e₁ S)
+    pass-same : (count i : ℕ) (v : ℤ) (s₀ : State) (e₀ : List ℤ) → FrameAgrees calls e₀ ρ S → Framed calls f e₀ →
+        ((u : ℤ) (s₁ : State) (e₁ : List ℤ) → FrameAgrees calls e₁ ρ S → Framed calls f e₁ → Rel (WordDone calls e₁ S)
         (passes-on l count u (suc i) (s₁ .left) (memory (s₁ .store) e₁)) (rest count (suc i) u s₁)) →
         (m : ℕ) → s₀ .left ≡ m → Rel (WordDone calls e₀ S) (passes-on l (suc count) v i m (memory (s₀ .store) e₀))
         (onward (λ u. rest count (suc i) u) (onward (λ _ s₁. onward (λ ws s₂. onward (λ r. carried-on k v r)
@@ -137,7 +137,7 @@ module _ (p : Program) (callee : M.Callee) (Γ : NameDepths) (c : Code) (calls f
         (W m (memory (s₀ .store) e₁)) (body vs s₁) carry
         (λ r s₂. onward (λ u. rest count (suc i) u) (carried-on k v r s₂))
         (claim n lt few (S ∪ just ps) d fit scoped (bounded-all ps S new b) at rs B R (M.binding ps vs ρ) s₁ e₁
-        (agrees-all calls ps vs e₀ ρ S new l₀ b g₀) (omega (arith, l₀, bound-all-keeps calls ps vs e₀)))
+        (agrees-all calls ps vs e₀ ρ S new l₀ b g₀) (framed-kept (kept-all calls ps vs e₀ S (l₀ .few) new) l₀))
         (λ r s₂ h. after r s₂ h))
       where
         vs : List ℤ
@@ -167,7 +167,7 @@ module _ (p : Program) (callee : M.Callee) (Γ : NameDepths) (c : Code) (calls f
             let kept : FrameKept calls e₀ (x .memory .env) S =
             kept-then calls e₀ (w .memory .env) (x .memory .env) S S (λ y z. z)
             (kept-then calls e₀ e₁ (w .memory .env) S (S ∪ just ps) (λ y z. or-left (S y) (just ps y) z)
-            (kept-all calls ps vs e₀ S new) (h .word .kept)) (q .kept) in
+            (kept-all calls ps vs e₀ S (l₀ .few) new) (h .word .kept)) (q .kept) in
             subst (λ (y : Ran). Rel (WordDone calls e₀ S) y (rest count (suc i) u s₃))
             (sym (word-moved (λ y j μ. passes-on l count y (i + 1) j μ) q
             ∙ ap (λ (j : ℕ). passes-on l count u j (s₃ .left) (memory (s₃ .store) (x .memory .env)))
@@ -176,9 +176,9 @@ module _ (p : Program) (callee : M.Callee) (Γ : NameDepths) (c : Code) (calls f
             (passes-on l count u (suc i) (s₃ .left) (memory (s₃ .store) (x .memory .env))) (rest count (suc i) u s₃)
             (λ y s₄ z. word-kept calls e₀ (x .memory .env) S S (λ o j. j) kept _ y s₄ z)
             (more u s₃ (x .memory .env) (agrees-kept calls e₀ (x .memory .env) ρ S g₀ kept)
-            (omega (arith, l₀, kept .long)))))
+            (framed-kept kept l₀))))
 
-    passes-same : (count i : ℕ) (v : ℤ) (s₀ : State) (e₀ : List ℤ) → FrameAgrees calls e₀ ρ S → 8192 ≤ length e₀ →
+    passes-same : (count i : ℕ) (v : ℤ) (s₀ : State) (e₀ : List ℤ) → FrameAgrees calls e₀ ρ S → Framed calls f e₀ →
         Rel (WordDone calls e₀ S) (passes-on l count v i (s₀ .left) (memory (s₀ .store) e₀)) (rest count i v s₀)
     unfolding passes-on passes tabulate work-pass step
     passes-same zero i v s₀ e₀ g₀ l₀ =
@@ -189,7 +189,7 @@ module _ (p : Program) (callee : M.Callee) (Γ : NameDepths) (c : Code) (calls f
   -- a loop's line
   module _ (depths : (x : ℕ) → x < 256 → depth-in (c .table) f x ≡ Γ x) (jumps : Jumps c) (n : ℕ) (few : n ≤ 4096)
       (S : Set) (b : Bounded S) (at : ℕ) (A : Set) (R : List ℕ) (ρ : Frame) (s : State) (env : List ℤ)
-      (g : FrameAgrees calls env ρ S) (long : 8192 ≤ length env) (x : ℕ) (k : Loop) (ps : List ℕ) (us : List K.Atom)
+      (g : FrameAgrees calls env ρ S) (framed : Framed calls f env) (x : ℕ) (k : Loop) (ps : List ℕ) (us : List K.Atom)
       (t : K.Tree) (new : New x S) (news : AllNew ps S) (known : AllKnown us S) (claim : TreeClaim t)
       (lt : length (rows t) ≤ n) (d : ℕ) (fit : Fitting p Γ t d) (scoped : Scoped t (S ∪ just ps))
       (rs : At (c .kinds) (c .operands) (at + suc (length (map coded us))) (rows t)) (goal : ℕ)
@@ -213,7 +213,7 @@ module _ (p : Program) (callee : M.Callee) (Γ : NameDepths) (c : Code) (calls f
     R′ = R ++ held Γ (among us B) ρ
 
     abbrev whole : Looped
-    whole = looped k (tree-on n C c calls f start) calls ps (cell-of array)
+    whole = looped k (tree-on n C c calls start) calls ps (cell-of array)
 
     abbrev count : ℕ
     count = length (array-of (s .store) array)
@@ -245,10 +245,10 @@ module _ (p : Program) (callee : M.Callee) (Γ : NameDepths) (c : Code) (calls f
         (tabulate 0 count (λ i. i)) s₃) bind (λ w. give (updated ρ x w))
         (passes-same n few S b ρ k ps news t claim lt d fit scoped start rs B (R′ ++ in-progress k v) array count 0 v s₃
         (first .memory .env) (agrees-kept calls env (first .memory .env) ρ S g (q .kept))
-        (omega (arith, long, q .kept .long)))
+        (framed-kept (q .kept) framed))
         (λ w s₄ z. (
           refl,
-          bound-done calls env ρ S b g long x new (end-in (c .table) start) goal (jumps t start rs ∙ ge) _ w s₄
+          bound-done calls env ρ S b g framed x new (end-in (c .table) start) goal (jumps t start rs ∙ ge) _ w s₄
               (word-kept calls env (first .memory .env) S S (λ o j. j) (q .kept) _ w s₄ z),
         ))))
       where
@@ -256,19 +256,20 @@ module _ (p : Program) (callee : M.Callee) (Γ : NameDepths) (c : Code) (calls f
         first = carry-first k (pred (Γ x)) ws m (memory (s .store) env)
 
     pub loop-same : Rel Done
-        (loop-line (tree-on n C c calls f) c calls f x k ps (map coded us) at (s .left) (memory (s .store) env))
+        (loop-line (tree-on n C c calls) c calls x k ps (map coded us) at (s .left) (memory (s .store) env))
         (work-line callee Γ (K.loop x k ps us t) A R ρ s)
     unfolding loop-line work-line onward with-left elements-of M.with-store
     loop-same =
         rel-step Done s (memory (s .store) env)
-        (λ m. loop-worked (tree-on n C c calls f) c calls f x k ps start m (memory (s .store) env)
+        (λ m. loop-worked (tree-on n C c calls) c calls x k ps start m (memory (s .store) env)
         (map (word-of calls env) (map coded us)))
         (λ _ s₁. onward (λ vs s₂. onward (λ v s₃. onward (λ w. give (updated ρ x w))
         (passes (work-pass k (λ vs. work callee Γ t B (R′ ++ in-progress k v) (M.binding ps vs ρ)) array) v
         (tabulate 0 (length vs) (λ i. i)) s₃)) (carried-first k R′ (pred (Γ x)) ws s₂)) (elements-of array s₁))
         (λ m. rw (
           coded-words calls env ρ S g us known,
-          let z : depth-in (c .table) f x - 1 ≡ pred (Γ x) =
-              ap (λ (y : ℕ). y - 1) (depths x (new .small)) ∙ pred-less (Γ x) in z,
+          let z : element-depth c calls x env ≡ pred (Γ x) =
+              ap (λ (h : ℕ). depth-in (c .table) h x - 1) (framed .function)
+              ∙ ap (λ (y : ℕ). y - 1) (depths x (new .small)) ∙ pred-less (Γ x) in z,
         )
         (after-first m (M.with-store (with-left s m) (s .store) (touching (s .store) (cell-of array))) refl refl))

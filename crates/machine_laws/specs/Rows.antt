@@ -1,21 +1,21 @@
 -- Rows that stand in the code arrays from a position on, and what is read there.
 use mathlib.Core.Path.{_≡_, refl, ap, subst, _∙_}
-use mathlib.Core.Bool.{true, false, not}
+use mathlib.Core.Bool.{true, false, not, _&&_}
 use mathlib.Core.Logic.{inl, inr}
 use mathlib.Core.List.{List, [], _∷_, _++_}
 use Prim.Native.Nat.{ℕ, suc, _+_, _%_, _<_, _≤_}
 use native.Mathlib.Omega.{arith}
 use lib.IntN.{ℤ, pos}
-use lib.Dec.{T}
+use lib.Dec.{T, ltb}
 use lib.ListN.{getD, length, length-append}
 use mir.Val.{hasKey}
 use types.Run.{miss}
-use borrow.Author.Tests.{ne-eqb}
+use borrow.Author.Tests.{ne-eqb, lt-ltb}
 use Rattle.semantics.specs.Number.{sum, difference, less}
 use Rattle.semantics.specs.Kinds.{Leaf, operation, call, literal, index, length-of, Loop, mapping, leaf-kind, loop-kind}
 use Rattle.semantics.specs.Code as C
 use Rattle.semantics.specs.Code.{Row, atom-row, rows, line-rows}
-use Rattle.machine_code.specs.Reading.{atom-at, is-atom, line-of, line-at, end-in}
+use Rattle.machine_code.specs.Reading.{atom-at, is-atom, two-rows, line-of, line-at, end-in}
 use Rattle.machine_code.specs.declared.Atom.{Atom}
 use Rattle.machine_code.specs.declared.Atom.the-variants.{Number, Name}
 use Rattle.machine_positions.specs.Machine.{Code}
@@ -25,6 +25,7 @@ pub record Here (kinds : List ℕ) (operands : List ℤ) (at : ℕ) (r : Row) : 
   pub kind : getD kinds at 0 ≡ r .kind
   pub operand : getD operands at (pos 0) ≡ r .operand
   pub within : at < length kinds
+  pub held : at < length operands
 
 -- rows stand from a position on
 abbrev pub At : List ℕ → List ℤ → ℕ → List Row → Type 0
@@ -109,17 +110,6 @@ no-atom kinds operands at (C.line (C.loop x k ps us t) u) h = ap is-atom (h .0 .
 no-atom kinds operands at (C.line (C.retain x) t) h = ap is-atom (h .0 .kind)
 no-atom kinds operands at (C.line (C.release x) t) h = ap is-atom (h .0 .kind)
 
--- a tree stands within the code
-pub tree-within : (kinds : List ℕ) (operands : List ℤ) (at : ℕ) (t : C.Tree) → At kinds operands at (rows t) →
-    at < length kinds
-unfolding rows line-rows
-tree-within kinds operands at (C.end a) h = h .0 .within
-tree-within kinds operands at (C.line (C.leaf x l us) t) h = h .0 .within
-tree-within kinds operands at (C.line (C.if-else x g t e) u) h = h .0 .within
-tree-within kinds operands at (C.line (C.loop x k ps us t) u) h = h .0 .within
-tree-within kinds operands at (C.line (C.retain x) t) h = h .0 .within
-tree-within kinds operands at (C.line (C.release x) t) h = h .0 .within
-
 pub line-some : (l : C.Line) → 1 ≤ length (line-rows l)
 unfolding line-rows
 line-some (C.leaf x l us) = omega arith
@@ -132,3 +122,16 @@ pub rows-some : (t : C.Tree) → 2 ≤ length (rows t)
 unfolding rows
 rows-some (C.end a) = omega arith
 rows-some (C.line l t) = omega (arith, rows-some t, length-append (line-rows l) (rows t))
+
+-- the first two rows of a tree are within the code
+pub tree-within : (kinds : List ℕ) (operands : List ℤ) (at : ℕ) (t : C.Tree) → At kinds operands at (rows t) →
+    two-rows kinds operands at ≡ true
+unfolding two-rows
+tree-within kinds operands at t h = go (rows t) (rows-some t) h
+  where
+    go : (rs : List Row) → 2 ≤ length rs → At kinds operands at rs →
+        (ltb (at + 1) (length kinds) && ltb (at + 1) (length operands)) ≡ true
+    go [] l a = absurd (omega arith)
+    go (r ∷ []) l a = absurd (omega arith)
+    go (r ∷ q ∷ rs) l a =
+        rw (lt-ltb (at + 1) (length kinds) (a .1 .0 .within), lt-ltb (at + 1) (length operands) (a .1 .0 .held)) refl

@@ -3,7 +3,7 @@
 use mathlib.Core.Path.{_≡_, refl, sym, ap, ap₂, subst, _∙_}
 use mathlib.Core.Bool.{true}
 use mathlib.Core.List.{List}
-use Prim.Native.Nat.{ℕ, zero, suc, _+_, _-_, _*_, _<_, _≤_}
+use Prim.Native.Nat.{ℕ, zero, suc, _*_, _<_, _≤_}
 use native.Mathlib.Omega.{arith}
 use lib.IntN.{ℤ, pos}
 use lib.ListN.{getD, set, length}
@@ -14,11 +14,11 @@ use Rattle.semantics.specs.Live.{Set, _∪_, only}
 use Rattle.semantics.specs.Store.{Store}
 use Rattle.semantics.specs.Machine.{State, Frame, step, stepped, with-left}
 use Rattle.soundness.specs.machine.Discipline.{New}
-use Rattle.machine_lines.specs.Frames.{place}
+use Rattle.machine_lines.specs.Frames.{place, function-place}
 use Rattle.machine_lines.specs.Lines.{Memory, memory, Ran, halted, stepping, Given}
 use Rattle.machine_positions.specs.Machine.{and-then, binding}
-use Rattle.machine_laws.specs.Frames.{Bounded, FrameAgrees, FrameKept, agrees-more, agrees-kept, kept-more}
-use Rattle.machine_laws.specs.Frames.{kept-then}
+use Rattle.machine_laws.specs.Frames.{Bounded, FrameAgrees, FrameKept, Framed, framed-kept, agrees-more}
+use Rattle.machine_laws.specs.Frames.{agrees-kept, kept-more, kept-then}
 
 pub record Stopped (w : Ran) (n : ℕ) (s : State) : Type 0 where
   pub stop : w .out .stop ≡ n
@@ -49,12 +49,14 @@ pub record LineDone (goal calls : ℕ) (env : List ℤ) (S T : Set) (w : Ran) (�
   pub agrees : FrameAgrees calls (w .memory .env) ρ T
   pub kept : FrameKept calls env (w .memory .env) S
 
--- a call gave its word, and left all frames up to its caller's
+-- a call gave its word, and left all frames from its caller's on
 pub record CallDone (calls : ℕ) (env : List ℤ) (w : Ran) (v : ℤ) (s : State) : Type 0 where
   pub value : w .out .value ≡ v
   pub steps : w .out .steps ≡ s .left
   pub store : w .memory .store ≡ s .store
-  pub frames : (q : ℕ) → q < 256 * (31 - calls) + 256 → getD (w .memory .env) q (pos 0) ≡ getD env q (pos 0)
+  pub frames : (q : ℕ) → 256 * calls ≤ q → q < 8192 → getD (w .memory .env) q (pos 0) ≡ getD env q (pos 0)
+  pub functions : (k : ℕ) → calls ≤ k →
+      getD (w .memory .env) (function-place k) (pos 0) ≡ getD env (function-place k) (pos 0)
   pub long : length (w .memory .env) ≡ length env
 
 -- a small work, in n steps left and with a store, is that of the machine
@@ -114,32 +116,33 @@ word-kept calls e₀ e₁ S T i k w v s h = record {
 }
 
 -- a call's word
-pub call-word : (calls : ℕ) (env : List ℤ) (S : Set) → Bounded S → (w : Ran) (v : ℤ) (s : State) →
+pub call-word : (calls : ℕ) → calls ≤ 31 → (env : List ℤ) (S : Set) → Bounded S → (w : Ran) (v : ℤ) (s : State) →
     CallDone calls env w v s → WordDone calls env S w v s
-call-word calls env S b w v s k = record {
+call-word calls few env S b w v s k = record {
   value = k .value;
   steps = k .steps;
   store = k .store;
   kept = record {
-    names = λ y p. k .frames (place calls y) (omega (arith, b .below y p));
-    callers = λ q r. k .frames q (omega (arith, r));
+    names = λ y p. k .frames (place calls y) (omega arith) (omega (arith, few, b .below y p));
+    callers = λ q r l. k .frames q (omega (arith, r)) l;
+    functions = k .functions;
     long = k .long;
   };
 }
 
 -- a name bound to a word that work gave
-pub bound-done : (calls : ℕ) (env : List ℤ) (ρ : Frame) (S : Set) → Bounded S → FrameAgrees calls env ρ S →
-    8192 ≤ length env → (x : ℕ) → New x S → (next goal : ℕ) → next ≡ goal → (w : Ran) (v : ℤ) (s : State) →
+pub bound-done : (calls : ℕ) {f : ℕ} (env : List ℤ) (ρ : Frame) (S : Set) → Bounded S → FrameAgrees calls env ρ S →
+    Framed calls f env → (x : ℕ) → New x S → (next goal : ℕ) → next ≡ goal → (w : Ran) (v : ℤ) (s : State) →
     WordDone calls env S w v s →
     LineDone goal calls env S (S ∪ only x) (binding calls x next w) (updated ρ x v) s
-bound-done calls env ρ S b g long x new next goal e w v s h = record {
+bound-done calls env ρ S b g framed x new next goal e w v s h = record {
   next = e;
   steps = h .steps;
   store = h .store;
   agrees = subst (λ (y : ℤ). FrameAgrees calls (set (w .memory .env) (place calls x) y) (updated ρ x v) (S ∪ only x))
       (sym (h .value))
-      (agrees-more calls (w .memory .env) ρ S x v (new .small) (omega (arith, long, h .kept .long)) b
+      (agrees-more calls (w .memory .env) ρ S x v (new .small) (framed-kept (h .kept) framed) b
       (agrees-kept calls env (w .memory .env) ρ S g (h .kept)));
   kept = kept-then calls env (w .memory .env) (set (w .memory .env) (place calls x) (w .out .value)) S S (λ y p. p)
-      (h .kept) (kept-more calls (w .memory .env) S x (w .out .value) (new .unknown));
+      (h .kept) (kept-more calls (w .memory .env) S x (w .out .value) (framed .few) (new .small) (new .unknown));
 }

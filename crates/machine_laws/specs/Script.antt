@@ -61,6 +61,7 @@ front-written (r ∷ rs) ks ps os qs e = (
     operand = ap (λ (n : ℕ). getD (qs ++ (r .operand ∷ (map (λ x. x .operand) rs ++ os))) n (pos 0)) e
         ∙ getD-seam qs (r .operand) (map (λ x. x .operand) rs ++ os) (pos 0);
     within = omega (arith, length-append ps (r .kind ∷ (map (λ x. x .kind) rs ++ ks)));
+    held = omega (arith, e, length-append qs (r .operand ∷ (map (λ x. x .operand) rs ++ os)));
   },
   let z : length (ps ++ (r .kind ∷ [])) ≡ length ps + 1 = omega (arith, length-append ps (r .kind ∷ [])) in
       let y : length (ps ++ (r .kind ∷ [])) ≡ length (qs ++ (r .operand ∷ [])) =

@@ -6,7 +6,6 @@ use Prim.Native.Nat.{ℕ, zero, suc, _+_, _-_, _%_, _<_, _≤_}
 use native.Mathlib.Omega.{arith}
 use lib.IntN.{ℤ}
 use lib.ListN.{getD, length, length-append, length-map}
-use borrow.Author.Tests.{lt-ltb}
 use Rattle.semantics.specs.Basics.{updated}
 use Rattle.semantics.specs.Outcome.{onward, give}
 use Rattle.semantics.specs.Number.{is-zero}
@@ -30,7 +29,7 @@ use Rattle.machine_positions.specs.Machine.{is-end, tree-from, tree-on}
 use Rattle.machine_laws.specs.Rows.{At, Jumps, at-first, at-second, coded, atom-here, line-read}
 use Rattle.machine_laws.specs.Rows.{no-atom, tree-within, line-some, rows-some}
 use Rattle.machine_laws.specs.Frames.{Bounded, FrameAgrees, small-known, word-same, kept-none, known-stays}
-use Rattle.machine_laws.specs.Frames.{bounded-after}
+use Rattle.machine_laws.specs.Frames.{Framed, framed-kept, bounded-after}
 use Rattle.machine_laws.specs.Same.{Rel, TreeDone, LineDone, rel-then, rel-step, rel-map, word-kept, bound-done}
 use Rattle.machine_laws.specs.Leaves.{CalleeSame, operation-read, leaf-same, retain-same, release-same}
 use Rattle.machine_laws.specs.Loops.{TreeClaim, loop-read, loop-same}
@@ -76,9 +75,9 @@ module _ (p : Program) (enough : length (p .routines) ≤ 32) (callee : M.Callee
   LineClaims (K.release x) = Unit {0}
 
   module _ (n : ℕ) (few : n ≤ 4096) (S : Set) (b : Bounded S) (at : ℕ) (A : Set) (R : List ℕ) (ρ : Frame) (s : State)
-      (env : List ℤ) (g : FrameAgrees calls env ρ S) (long : 8192 ≤ length env) where
+      (env : List ℤ) (g : FrameAgrees calls env ρ S) (framed : Framed calls f env) where
     abbrev W : Work
-    W = tree-on n C c calls f
+    W = tree-on n C c calls
 
     abbrev here : Memory
     here = memory (s .store) env
@@ -98,10 +97,10 @@ module _ (p : Program) (enough : length (p .routines) ≤ 32) (callee : M.Callee
         rel-then (TreeDone (q + length (rows t)) calls env S) (LineDone goal calls env S (S ∪ only x))
         (W q m here) (work callee Γ t (after-branch x A) R ρ (with-left s m))
         (λ w. binding calls x (next (w .out .next)) w) (λ w. give (updated ρ x w))
-        (claim n lt few S d fit scoped b q rs (after-branch x A) R ρ (with-left s m) env g long)
+        (claim n lt few S d fit scoped b q rs (after-branch x A) R ρ (with-left s m) env g framed)
         (λ w s′ h. (
           refl,
-          bound-done calls env ρ S b g long x new (next (W q m here .out .next)) goal (ap next (h .next) ∙ e)
+          bound-done calls env ρ S b g framed x new (next (W q m here .out .next)) goal (ap next (h .next) ∙ e)
               (W q m here) w s′ (h .word),
         ))
 
@@ -141,28 +140,31 @@ module _ (p : Program) (enough : length (p .routines) ≤ 32) (callee : M.Callee
     atoms-stop : (us : List K.Atom) (t : K.Tree) → At (c .kinds) (c .operands) (at + 1) (map atom-row us ++ rows t) →
         is-atom (getD (c .kinds) (at + 1 + length us) 0) ≡ false
     atoms-stop us t rs =
-        ap (λ (q : ℕ). is-atom (getD (c .kinds) q 0)) (let z : at + 1 + length us ≡ at + 1 + length (map atom-row us) =
+        ap (λ (q : ℕ). is-atom (getD (c .kinds) q 0)) (let z : at + 1 + length us ≡ at + 1 + length (map atom-row
+        us) =
         omega (arith, length-map us atom-row) in z)
         ∙ no-atom (c .kinds) (c .operands) (at + 1 + length (map atom-row us)) t
         (at-second (c .kinds) (c .operands) (at + 1) (map atom-row us) (rows t) rs)
 
     abbrev LineSame : K.Line → Doing → Type 0
     LineSame l d = Rel (LineDone (at + length (line-rows l)) calls env S (known-after l S))
-        (line-done W C c calls f at (s .left) here d) (work-line callee Γ l A R ρ s)
+        (line-done W C c calls at (s .left) here d) (work-line callee Γ l A R ρ s)
 
     -- any line
     line-same : (l : K.Line) → LineClaims l → length (line-rows l) ≤ n → LineFitting p Γ l → LineScoped l S →
         (t : K.Tree) → At (c .kinds) (c .operands) at (line-rows l ++ rows t) → LineSame l found
     unfolding line-rows line-done doing
     line-same (K.leaf x l us) claims lt fit h t rs =
-        subst (λ (q : ℕ). Rel (LineDone q calls env S (S ∪ only x)) (line-done W C c calls f at (s .left) here found)
+        subst (λ (q : ℕ). Rel (LineDone q calls env S (S ∪ only x)) (line-done W C c calls at (s .left) here found)
         (work-line callee Γ (K.leaf x l us) A R ρ s))
         (ap (λ (q : ℕ). at + suc q) (sym (length-map us atom-row)))
-        (leaf-same p enough callee Γ c calls f C calling W at A R ρ s env S b g long x (h .1) us (h .0)
-        (at-first (c .kinds) (c .operands) (at + 1) (map atom-row us) (rows t) (rs .1)) (atoms-stop us t (rs .1)) l fit
+        (leaf-same p enough callee Γ c calls f C calling W at A R ρ s env S b g framed x (h .1) us (h .0)
+        (at-first (c .kinds) (c .operands) (at + 1) (map atom-row us) (rows t) (rs .1)) (atoms-stop us t (rs .1)) l
+        fit
         (rs .0))
     line-same (K.if-else x u t₁ t₂) claims lt fit h t rs =
-        let e : length (rows t₁ ++ rows t₂) ≡ length (rows t₁) + length (rows t₂) = length-append (rows t₁) (rows t₂) in
+        let e : length (rows t₁ ++ rows t₂) ≡ length (rows t₁) + length (rows t₂) = length-append (rows t₁) (rows
+        t₂) in
         let z : at + 2 + length (rows t₁) + length (rows t₂) ≡ at + suc (suc (length (rows t₁ ++ rows t₂))) =
         omega (arith, e) in
         let y : at + 1 + 1 ≡ at + 2 = omega arith in
@@ -172,8 +174,10 @@ module _ (p : Program) (enough : length (p .routines) ≤ 32) (callee : M.Callee
         (atom-here (c .kinds) (c .operands) (at + 1) u (small-known u S b (h .0)) (rs .1 .0)) refl)
         ∙ ap (λ (q : ℕ). branching q (coded u)) (let o : x % 256 ≡ x = omega (arith, h .1 .small) in o)))
         (subst (λ (q : ℕ). Rel (LineDone q calls env S (S ∪ only x))
-        (if-line W (c .table) calls x (coded u) at (s .left) here) (work-line callee Γ (K.if-else x u t₁ t₂) A R ρ s)) z
-        (if-same x u t₁ t₂ (claims .0) (claims .1) (omega (arith, e, lt)) (omega (arith, e, lt)) (h .0) (h .1) (fit .1)
+        (if-line W (c .table) calls x (coded u) at (s .left) here) (work-line callee Γ (K.if-else x u t₁ t₂) A R ρ
+        s)) z
+        (if-same x u t₁ t₂ (claims .0) (claims .1) (omega (arith, e, lt)) (omega (arith, e, lt)) (h .0) (h .1) (fit
+        .1)
         (fit .2) (h .2) (h .3)
         (subst (λ (q : ℕ). At (c .kinds) (c .operands) q (rows t₁ ++ rows t₂)) y
         (at-first (c .kinds) (c .operands) (at + 1 + 1) (rows t₁ ++ rows t₂) (rows t) (rs .1 .1)))))
@@ -184,7 +188,8 @@ module _ (p : Program) (enough : length (p .routines) ≤ 32) (callee : M.Callee
         subst (LineSame (K.loop x k ps us t₁))
         (sym (loop-read p Γ c calls at here S b x k ps us (atom-depth Γ (ending t₁)) (fit .0) (h .1) (h .2) (h .0)
         (rs .0) (at-first (c .kinds) (c .operands) (at + 1) (map atom-row us) (rows t₁) mine)))
-        (loop-same p callee Γ c calls f C depths jumps n few S b at A R ρ s env g long x k ps us t₁ (h .1) (h .2) (h .0)
+        (loop-same p callee Γ c calls f C depths jumps n few S b at A R ρ s env g framed x k ps us t₁ (h .1) (h .2)
+        (h .0)
         claims (omega (arith, e, lt)) (atom-depth Γ (ending t₁)) (fit .1) (h .3)
         (subst (λ (q : ℕ). At (c .kinds) (c .operands) q (rows t₁))
         (let z : at + 1 + length (map atom-row us) ≡ at + suc (length (map coded us)) =
@@ -192,18 +197,18 @@ module _ (p : Program) (enough : length (p .routines) ≤ 32) (callee : M.Callee
         (at-second (c .kinds) (c .operands) (at + 1) (map atom-row us) (rows t₁) mine)) _
         (omega (arith, e, length-map us coded, length-map us atom-row)))
     line-same (K.retain x) claims lt fit h t rs =
-        retain-same p enough callee Γ c calls f C calling W at A R ρ s env S b g long x h (rs .0)
+        retain-same p enough callee Γ c calls f C calling W at A R ρ s env S b g framed x h (rs .0)
     line-same (K.release x) claims lt fit h t rs =
-        release-same p enough callee Γ c calls f C calling W at A R ρ s env S b g long x h (rs .0)
+        release-same p enough callee Γ c calls f C calling W at A R ρ s env S b g framed x h (rs .0)
 
   -- ---- trees
 
   end-same : (a : K.Atom) → Claim (K.end a)
   unfolding tree-on tree-from work rows
-  end-same a zero lt few S d fit sc b at rs L R ρ s env g long = absurd (omega arith)
-  end-same a (suc n) lt few S d fit sc b at rs L R ρ s env g long =
+  end-same a zero lt few S d fit sc b at rs L R ρ s env g framed = absurd (omega arith)
+  end-same a (suc n) lt few S d fit sc b at rs L R ρ s env g framed =
       rw (
-        lt-ltb at (length (c .kinds)) (rs .0 .within),
+        tree-within (c .kinds) (c .operands) at (K.end a) rs,
         line-read (c .kinds) (c .operands) at 16 0 (coded a) (atom-at (c .kinds) (c .operands) (at + 2)) (rs .0
             .kind) (rs .0 .operand)
             (atom-here (c .kinds) (c .operands) (at + 1) a (small-known a S b sc) (rs .1 .0)) refl,
@@ -222,17 +227,17 @@ module _ (p : Program) (enough : length (p .routines) ≤ 32) (callee : M.Callee
 
   more-same : (l : K.Line) (t : K.Tree) → LineClaims l → Claim t → Claim (K.line l t)
   unfolding tree-on tree-from line-on work rows
-  more-same l t claims claim zero lt few S d fit sc b at rs L R ρ s env g long =
+  more-same l t claims claim zero lt few S d fit sc b at rs L R ρ s env g framed =
       absurd (omega (arith, length-append (line-rows l) (rows t), rows-some t))
-  more-same l t claims claim (suc n) lt few S d fit sc b at rs L R ρ s env g long =
+  more-same l t claims claim (suc n) lt few S d fit sc b at rs L R ρ s env g framed =
       rw (
-        lt-ltb at (length (c .kinds)) (tree-within (c .kinds) (c .operands) at (K.line l t) rs),
+        tree-within (c .kinds) (c .operands) at (K.line l t) rs,
         line-open (c .kinds) (c .operands) at l (at-first (c .kinds) (c .operands) at (line-rows l) (rows t) rs),
       )
       (rel-then (LineDone goal calls env S known) (TreeDone (at + length (line-rows l ++ rows t)) calls env S)
       w (work-line callee Γ l (live t L) R ρ s)
-      (λ y. tree-on n C c calls f (y .out .next) (y .out .steps) (y .memory)) (λ ρ′. work callee Γ t L R ρ′)
-      (line-same n (omega (arith, few)) S b at (live t L) R ρ s env g long l claims
+      (λ y. tree-on n C c calls (y .out .next) (y .out .steps) (y .memory)) (λ ρ′. work callee Γ t L R ρ′)
+      (line-same n (omega (arith, few)) S b at (live t L) R ρ s env g framed l claims
       (omega (arith, len, rows-some t, lt)) (fit .0) (sc .0) t rs)
       (λ ρ′ s′ h. then-tree ρ′ s′ h))
     where
@@ -243,7 +248,7 @@ module _ (p : Program) (enough : length (p .routines) ≤ 32) (callee : M.Callee
       known = known-after l S
 
       w : Ran
-      w = line-done (tree-on n C c calls f) C c calls f at (s .left) (memory (s .store) env)
+      w = line-done (tree-on n C c calls) C c calls at (s .left) (memory (s .store) env)
           (doing (c .kinds) (c .operands) calls at (memory (s .store) env) (line-at (c .kinds) (c .operands) at))
 
       len : length (line-rows l ++ rows t) ≡ length (line-rows l) + length (rows t)
@@ -251,15 +256,15 @@ module _ (p : Program) (enough : length (p .routines) ≤ 32) (callee : M.Callee
 
       then-tree : (ρ′ : Frame) (s′ : State) → LineDone goal calls env S known w ρ′ s′ →
           Rel (TreeDone (at + length (line-rows l ++ rows t)) calls env S)
-          (tree-on n C c calls f (w .out .next) (w .out .steps) (w .memory)) (work callee Γ t L R ρ′ s′)
+          (tree-on n C c calls (w .out .next) (w .out .steps) (w .memory)) (work callee Γ t L R ρ′ s′)
       then-tree ρ′ s′ h =
           subst (λ (y : Ran). Rel (TreeDone (at + length (line-rows l ++ rows t)) calls env S) y
           (work callee Γ t L R ρ′ s′))
-          (sym (moved (tree-on n C c calls f) (w .out .next) goal (w .out .steps) (s′ .left) (w .memory) (s′ .store)
+          (sym (moved (tree-on n C c calls) (w .out .next) goal (w .out .steps) (s′ .left) (w .memory) (s′ .store)
           (h .next) (h .steps) (h .store)))
           (rel-map (TreeDone (goal + length (rows t)) calls (w .memory .env) known)
           (TreeDone (at + length (line-rows l ++ rows t)) calls env S)
-          (tree-on n C c calls f goal (s′ .left) (memory (s′ .store) (w .memory .env))) (work callee Γ t L R ρ′ s′)
+          (tree-on n C c calls goal (s′ .left) (memory (s′ .store) (w .memory .env))) (work callee Γ t L R ρ′ s′)
           (λ v s″ q. record {
             next = q .next ∙ omega (arith, len);
             word = word-kept calls env (w .memory .env) S known (known-stays l S) (h .kept) _ v s″ (q .word);
@@ -267,7 +272,7 @@ module _ (p : Program) (enough : length (p .routines) ≤ 32) (callee : M.Callee
           (claim n (omega (arith, len, line-some l, lt)) (omega (arith, few)) known d (fit .1) (sc .1)
           (bounded-after l S (sc .0) b) goal
           (at-second (c .kinds) (c .operands) at (line-rows l) (rows t) rs) L R ρ′ s′ (w .memory .env) (h .agrees)
-          (omega (arith, long, h .kept .long))))
+          (framed-kept (h .kept) framed)))
 
   mutual
     pub tree-same : (t : K.Tree) → Claim t

@@ -52,9 +52,9 @@ module _ (kinds : List ℕ) (operands : List ℤ) (calls : ℕ) (env : List ℤ)
 
 -- ---- words written to another frame
 
--- the words of a frame are as they were after a write behind it
+-- the words of a frame are as they were after a write before it
 module _ (kinds : List ℕ) (operands : List ℤ) (calls : ℕ) (env : List ℤ) (q : ℕ) (v : ℤ)
-    (h : 256 * (31 - calls) + 256 ≤ q) where
+    (h : q < 256 * calls) where
   word-same : (p : ℕ) → word-of calls (set env q v) (atom-at kinds operands p) ≡ word-of calls env (atom-at kinds
       operands p)
   unfolding atom-at

@@ -1,20 +1,28 @@
--- The frames of all calls in progress in one list of words: 256 for each, main's first.
+-- The frames of all calls in progress in one list of words: 256 for each, main's last, and then one for each with the
+-- number of its function.
 use mathlib.Core.Bool.{cond}
 use mathlib.Core.List.{List, [], _∷_}
-use Prim.Native.Nat.{ℕ, zero, suc, _+_, _-_, _*_, _≤_}
+use Prim.Native.Nat.{ℕ, zero, suc, _+_, _*_, _%_, _≤_}
 use lib.IntN.{ℤ, pos}
 use lib.ListN.{getD, set, length}
 use mathlib.Core.Path.{_≡_}
 use Rattle.semantics.specs.Number.{is-zero}
 use Rattle.semantics.specs.Store.{Store}
 use Rattle.store.specs.Acquiring.{appended-all}
-use Rattle.machine_code.specs.Reading.{atom-at, is-atom, end-in}
+use Rattle.machine_code.specs.Reading.{natural, atom-at, is-atom, end-in}
 use Rattle.machine_code.specs.declared.Atom.{Atom}
 use Rattle.machine_code.specs.declared.Atom.the-variants.{Number, Name}
 
 -- the place of a name's word, in the frame of a call below which so many more can be nested
 abbrev pub place : ℕ → ℕ → ℕ
-place calls x = 256 * (31 - calls) + x
+place calls x = 256 * calls + x
+
+-- the place of the number of the function that is worked in such a frame
+abbrev pub function-place : ℕ → ℕ
+function-place calls = 8192 + calls
+
+abbrev pub function-of : ℕ → List ℤ → ℕ
+function-of calls env = natural (getD env (function-place calls) (pos 0)) % 256
 
 abbrev pub word-of : ℕ → List ℤ → Atom → ℤ
 word-of calls env (Number z) = z
@@ -32,6 +40,10 @@ words-at (suc n) kinds operands calls env at =
 unfoldable pub put-all : List ℤ → ℕ → List ℤ → List ℤ
 put-all [] p env = env
 put-all (w ∷ ws) p env = put-all ws (p + 1) (set env p w)
+
+-- the frame of a call of function f with these arguments
+abbrev pub called : ℕ → ℕ → List ℤ → List ℤ → List ℤ
+called calls f ws env = set (put-all ws (place calls 0) env) (function-place calls) (pos f)
 
 -- the words ws were written as the first ones of the frame of a call
 pub record Passed (ws : List ℤ) (calls n : ℕ) (env env′ : List ℤ) : Type 0 where

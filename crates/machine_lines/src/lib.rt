@@ -1,5 +1,6 @@
 // The lines that work no tree, on a memory of two store arrays and one array of frames: 256 words for each call in
-// progress, main's first. `calls` is the call depth left, 31 in main.
+// progress, main's last, and then a word for each with the number of its function. `calls` is the call depth left, 31
+// in main.
 use machine_code::Atom;
 use machine_code::Line;
 use store::Acquired;
@@ -12,7 +13,7 @@ ghost use Rattle.semantics.specs.Number.{exact};
 ghost use Rattle.semantics.specs.Words.{store-of};
 ghost use Rattle.words.specs.Words.{exact-outcome, checked};
 ghost use Rattle.machine_lines.specs.Frames.{place, word-of, words-at, Passed, Appended};
-ghost use Rattle.machine_lines.specs.Frames.{branch-start, branch-end};
+ghost use Rattle.machine_lines.specs.Frames.{function-place, function-of, branch-start, branch-end};
 ghost use Rattle.machine_lines.specs.Lines.{out, left, memory, operation-of, operation-line, index-line};
 ghost use Rattle.machine_lines.specs.Lines.{length-line, literal-line, leaf, Ends};
 
@@ -65,14 +66,14 @@ pub fn done(value: i64, next: usize, steps: u64) -> Out
 // The place of a name's word among the frames.
 pub fn place(calls: usize, x: u8) -> usize
     requires { ⌜ calls < 32 ⌝ }
-    ensures { λ r. ⌜ (r ≡ place calls x) × (r < 8192) ⌝ }
+    ensures { λ r. ⌜ (r ≡ place calls x) × (r < 8224) ⌝ }
 {
-    256 * (31 - calls) + x as usize
+    256 * calls + x as usize
 }
 
 // The word of an atom.
-pub fn word_of(env: &[i64; 8192], calls: usize, a: Atom) -> i64
-    requires { ⌜ (calls < 32) × (length (now env) ≡ 8192) ⌝ }
+pub fn word_of(env: &[i64; 8224], calls: usize, a: Atom) -> i64
+    requires { ⌜ (calls < 32) × (length (now env) ≡ 8224) ⌝ }
     ensures { λ r. ⌜ r ≡ word-of calls (now (env .entry)) a ⌝ }
 {
     match a {
@@ -82,11 +83,28 @@ pub fn word_of(env: &[i64; 8192], calls: usize, a: Atom) -> i64
 }
 
 // Binds a name.
-pub fn bind(env: &mut [i64; 8192], calls: usize, x: u8, w: i64)
-    requires { ⌜ (calls < 32) × (length (now env) ≡ 8192) ⌝ }
+pub fn bind(env: &mut [i64; 8224], calls: usize, x: u8, w: i64)
+    requires { ⌜ (calls < 32) × (length (now env) ≡ 8224) ⌝ }
     ensures { λ _. ⌜ now (env .exit) ≡ set (now (env .entry)) (place calls x) w ⌝ }
 {
     env[place(calls, x)] = w;
+}
+
+// The number of the function that is worked in a frame.
+pub fn function_of(env: &[i64; 8224], calls: usize) -> u8
+    requires { ⌜ (calls < 32) × (length (now env) ≡ 8224) ⌝ }
+    ensures { λ r. ⌜ r ≡ function-of calls (now (env .entry)) ⌝ }
+{
+    let w = env[8192 + calls];
+    if w < 0 { 0 } else { (w as u64 % 256) as u8 }
+}
+
+// Says which function is worked in a frame.
+pub fn set_function(env: &mut [i64; 8224], calls: usize, f: u8)
+    requires { ⌜ (calls < 32) × (length (now env) ≡ 8224) ⌝ }
+    ensures { λ _. ⌜ now (env .exit) ≡ set (now (env .entry)) (function-place calls) (pos f) ⌝ }
+{
+    env[8192 + calls] = f as i64;
 }
 
 // Copies the words of the atoms that stand from a position on, at most 16, to the first words of the frame of a call
@@ -94,12 +112,12 @@ pub fn bind(env: &mut [i64; 8192], calls: usize, x: u8, w: i64)
 pub fn pass_arguments(
     kinds: &[u8],
     operands: &[i64],
-    env: &mut [i64; 8192],
+    env: &mut [i64; 8224],
     calls: usize,
     below: usize,
     at: usize,
 ) -> usize
-    requires { ⌜ (at ≤ length (now kinds)) × (below < calls) × (calls < 32) × (length (now env) ≡ 8192) ⌝ }
+    requires { ⌜ (at ≤ length (now kinds)) × (below < calls) × (calls < 32) × (length (now env) ≡ 8224) ⌝ }
     ensures { λ r. ⌜ Passed (words-at 16 (now (kinds .entry)) (now (operands .entry)) calls (now (env .entry)) at)
         below r (now (env .entry)) (now (env .exit)) ⌝ }
 {
@@ -162,7 +180,7 @@ pub fn word_from(n: usize) -> i64
 
 // A sum, a difference or a comparison.
 fn work_operation(
-    env: &mut [i64; 8192],
+    env: &mut [i64; 8224],
     calls: usize,
     kind: u8,
     x: u8,
@@ -171,7 +189,7 @@ fn work_operation(
     next: usize,
     steps: u64,
 ) -> Out
-    requires { ⌜ (calls < 32) × (length (now env) ≡ 8192) ⌝ }
+    requires { ⌜ (calls < 32) × (length (now env) ≡ 8224) ⌝ }
     ensures { λ r. ⌜ left r (now (env .exit)) ≡ operation-line calls kind x a b next steps (now (env .entry)) ⌝ }
 {
     if steps == 0 {
@@ -192,7 +210,7 @@ fn work_operation(
 fn work_index(
     slots: &[i64],
     heads: &[u32],
-    env: &mut [i64; 8192],
+    env: &mut [i64; 8224],
     calls: usize,
     x: u8,
     a: Atom,
@@ -200,7 +218,7 @@ fn work_index(
     next: usize,
     steps: u64,
 ) -> Out
-    requires { ⌜ (calls < 32) × (length (now env) ≡ 8192) ⌝ }
+    requires { ⌜ (calls < 32) × (length (now env) ≡ 8224) ⌝ }
     ensures { λ r. ⌜ left r (now (env .exit))
         ≡ index-line (store-of (now (slots .entry)) (now (heads .entry))) calls x a b next steps (now (env .entry)) ⌝ }
 {
@@ -225,14 +243,14 @@ fn work_index(
 fn work_length(
     slots: &[i64],
     heads: &[u32],
-    env: &mut [i64; 8192],
+    env: &mut [i64; 8224],
     calls: usize,
     x: u8,
     a: Atom,
     next: usize,
     steps: u64,
 ) -> Out
-    requires { ⌜ (calls < 32) × (length (now env) ≡ 8192) ⌝ }
+    requires { ⌜ (calls < 32) × (length (now env) ≡ 8224) ⌝ }
     ensures { λ r. ⌜ left r (now (env .exit))
         ≡ length-line (store-of (now (slots .entry)) (now (heads .entry))) calls x a next steps (now (env .entry)) ⌝ }
 {
@@ -251,12 +269,12 @@ fn append_atoms(
     operands: &[i64],
     slots: &mut [i64],
     heads: &mut [u32],
-    env: &[i64; 8192],
+    env: &[i64; 8224],
     calls: usize,
     c: usize,
     at: usize,
 ) -> usize
-    requires { ⌜ (at ≤ length (now kinds)) × (calls < 32) × (length (now env) ≡ 8192) ⌝ }
+    requires { ⌜ (at ≤ length (now kinds)) × (calls < 32) × (length (now env) ≡ 8224) ⌝ }
     ensures { λ r. ⌜ Appended (words-at 16 (now (kinds .entry)) (now (operands .entry)) calls (now (env .entry)) at) c r
         (store-of (now (slots .entry)) (now (heads .entry))) (store-of (now (slots .exit)) (now (heads .exit))) ⌝ }
 {
@@ -279,14 +297,14 @@ fn work_literal(
     operands: &[i64],
     slots: &mut [i64],
     heads: &mut [u32],
-    env: &mut [i64; 8192],
+    env: &mut [i64; 8224],
     calls: usize,
     x: u8,
     depth: u8,
     at: usize,
     steps: u64,
 ) -> Out
-    requires { ⌜ (at < length (now kinds)) × (calls < 32) × (length (now env) ≡ 8192) ⌝ }
+    requires { ⌜ (at < length (now kinds)) × (calls < 32) × (length (now env) ≡ 8224) ⌝ }
     ensures { λ r. ⌜ Ends (literal-line (now (kinds .entry)) (now (operands .entry)) calls x depth at steps
         (memory (store-of (now (slots .entry)) (now (heads .entry))) (now (env .entry))))
         r (now (slots .exit)) (now (heads .exit)) (now (env .exit)) ⌝ }
@@ -311,13 +329,13 @@ pub fn work_leaf(
     operands: &[i64],
     slots: &mut [i64],
     heads: &mut [u32],
-    env: &mut [i64; 8192],
+    env: &mut [i64; 8224],
     l: Line,
     calls: usize,
     at: usize,
     steps: u64,
 ) -> Out
-    requires { ⌜ (at < length (now kinds)) × (calls < 32) × (length (now env) ≡ 8192) ⌝ }
+    requires { ⌜ (at < length (now kinds)) × (calls < 32) × (length (now env) ≡ 8224) ⌝ }
     ensures { λ r. ⌜ Ends (leaf (now (kinds .entry)) (now (operands .entry)) calls at steps
         (memory (store-of (now (slots .entry)) (now (heads .entry))) (now (env .entry))) l)
         r (now (slots .exit)) (now (heads .exit)) (now (env .exit)) ⌝ }

@@ -11,7 +11,7 @@ use Rattle.semantics.specs.Machine.{Delivered}
 use Rattle.store.specs.Acquiring.{next-cell}
 use Rattle.machine_code.specs.Reading.{start-in}
 use Rattle.machine_lines.specs.declared.Out.{Out}
-use Rattle.machine_lines.specs.Frames.{place, put-all}
+use Rattle.machine_lines.specs.Frames.{called}
 use Rattle.machine_lines.specs.Lines.{memory, Ran, out}
 use Rattle.machine_positions.specs.Machine.{Code, tree-on, call-on}
 
@@ -41,12 +41,12 @@ finished d old w =
 
 -- main's frame
 abbrev pub main-frame : ℤ → ℤ → List ℤ
-main-frame old readings = put-all (old ∷ readings ∷ []) (place 31 0) (replicate 8192 (pos 0))
+main-frame old readings = called 31 0 (old ∷ readings ∷ []) (replicate 8224 (pos 0))
 
 -- main worked on the totals and the readings' cell
 unfoldable pub main-on : Code → ℕ → ℤ → ℕ → ℕ → Store → Tried
 main-on c d old k budget σ =
-    finished d old (tree-on 4096 (call-on 31 c) c 31 0 (start-in (c .table) 0) budget
+    finished d old (tree-on 4096 (call-on 31 c) c 31 (start-in (c .table) 0) budget
     (memory (retained-totals d old σ) (main-frame old (pos k))))
 
 abbrev pub attempt-with : Code → ℕ → ℤ → ℕ → Store → Outcome (Unit {0}) ℕ → Tried

@@ -2,25 +2,28 @@
 use mathlib.Core.Path.{_≡_, refl, ap, _∙_}
 use mathlib.Core.Bool.{Bool, true, false, cond}
 use mathlib.Core.List.{List, [], _∷_, map}
-use Prim.Native.Nat.{ℕ, zero, suc, _+_, _-_}
-use lib.IntN.{ℤ}
-use lib.Dec.{eqb, ltb}
+use Prim.Native.Nat.{ℕ, zero, suc, _+_}
+use lib.IntN.{ℤ, pos}
+use lib.Dec.{eqb}
 use lib.ListN.{length, set, length-set}
 use Rattle.semantics.specs.Outcome.{done, stop}
 use Rattle.semantics.specs.Kinds.{Loop, mapping, later-parts}
 use Rattle.semantics.specs.Machine.{argument, looped-over}
 use Rattle.semantics.specs.Store.{Store, cell-of, acquired}
 use Rattle.store.specs.Acquiring.{next-cell}
-use Rattle.machine_code.specs.Reading.{line-at, depth-in, start-in, end-in}
+use Rattle.machine_code.specs.Reading.{line-at, two-rows, start-in, end-in}
 use Rattle.machine_code.specs.declared.Atom.{Atom}
 use Rattle.machine_code.specs.declared.Line.{Line}
 use Rattle.machine_lines.specs.declared.Out.{Out}
-use Rattle.machine_lines.specs.Frames.{place, word-of, words-at, put-all, Passed, branch-start, branch-end}
+use Rattle.machine_lines.specs.Frames.{place, function-place, word-of, words-at, put-all, called, Passed}
+use Rattle.machine_lines.specs.Frames.{branch-start, branch-end}
 use Rattle.machine_lines.specs.Lines.{Memory, memory, Ran, with-store, stepping, Given, given, array-of}
 use Rattle.machine_lines.specs.Lines.{acquired-given, Doing, giving, changing, ending, calling, branching, looping}
 use Rattle.machine_lines.specs.Lines.{doing, leaf-done}
 use Rattle.machine_positions.specs.Machine.{Work, Callee, Code, and-then, binding, if-line, call-line, looped}
-use Rattle.machine_positions.specs.Machine.{bound-all, entered, gave, carry-first, carry-on, passes-on, loop-line}
+use Rattle.machine_positions.specs.Machine.{bound-all, entered, gave, carry-first, carry-on, passes-on}
+use Rattle.machine_positions.specs.Machine.{element-depth}
+use Rattle.machine_positions.specs.Machine.{loop-line}
 use Rattle.machine_positions.specs.Machine.{line-done, line-on, is-end, tree-from, tree-on, call-on, Ended}
 
 -- work that began on a memory left as many words of frames
@@ -31,6 +34,10 @@ pub put-keeps : (ws : List ℤ) (p : ℕ) (env : List ℤ) → length (put-all w
 unfolding put-all
 put-keeps [] p env = refl
 put-keeps (w ∷ ws) p env = put-keeps ws (p + 1) _ ∙ length-set env p w
+
+pub called-keeps : (calls f : ℕ) (ws env : List ℤ) → length (called calls f ws env) ≡ length env
+called-keeps calls f ws env =
+    length-set (put-all ws (place calls 0) env) (function-place calls) (pos f) ∙ put-keeps ws (place calls 0) env
 
 pub passed-long : {ws : List ℤ} {calls n : ℕ} {env env′ : List ℤ} → Passed ws calls n env env′ →
     length env′ ≡ length env
@@ -106,19 +113,19 @@ module _ (W : Work) (w : (at s : ℕ) (m : Memory) → Keeps m (W at s m)) where
       (λ u e. then-keeps m (carry-on k v u) rest (carry-on-keeps k v u ∙ e)
       (λ y g. passes-keeps k at calls ps from n (y .out .value) (i + 1) (y .out .steps) (y .memory) ∙ g))
 
-  loop-keeps : (c : Code) (calls f x : ℕ) (k : Loop) (ps : List ℕ) (us : List Atom) (at s : ℕ) (m : Memory) →
-      Keeps m (loop-line W c calls f x k ps us at s m)
+  loop-keeps : (c : Code) (calls x : ℕ) (k : Loop) (ps : List ℕ) (us : List Atom) (at s : ℕ) (m : Memory) →
+      Keeps m (loop-line W c calls x k ps us at s m)
   unfolding loop-line stepping
-  loop-keeps c calls f x k ps us at zero m = refl
-  loop-keeps c calls f x k ps us at (suc s) m =
+  loop-keeps c calls x k ps us at zero m = refl
+  loop-keeps c calls x k ps us at (suc s) m =
       let ws = map (word-of calls (m .env)) us in
       let here = at + suc (length us) in
       let l = looped k (W here) calls ps (cell-of (looped-over k ws)) in
       let n = length (array-of (m .store) (looped-over k ws)) in
       let bind : Ran → Ran = λ w. binding calls x (end-in (c .table) here) w in
-      then-keeps m (carry-first k (depth-in (c .table) f x - 1) ws s m)
+      then-keeps m (carry-first k (element-depth c calls x (m .env)) ws s m)
       (λ v. and-then (passes-on l n (v .out .value) 0 (v .out .steps) (v .memory)) bind)
-      (carry-first-keeps k (depth-in (c .table) f x - 1) ws s m)
+      (carry-first-keeps k (element-depth c calls x (m .env)) ws s m)
       (λ v e. then-keeps m (passes-on l n (v .out .value) 0 (v .out .steps) (v .memory)) bind
       (passes-keeps k here calls ps (cell-of (looped-over k ws)) n (v .out .value) 0 (v .out .steps) (v .memory) ∙ e)
       (λ y g. length-set (y .memory .env) (place calls x) (y .out .value) ∙ g))
@@ -132,43 +139,43 @@ module _ (W : Work) (w : (at s : ℕ) (m : Memory) → Keeps m (W at s m)) where
         then-keeps m (C f ws s m) (λ v. binding calls x (at + 1 + length ws) v) (h f ws s m)
         (λ v k. length-set (v .memory .env) (place calls x) (v .out .value) ∙ k)
 
-    done-keeps : (calls f at s : ℕ) (m : Memory) (d : Doing) → Keeps m (line-done W C c calls f at s m d)
+    done-keeps : (calls at s : ℕ) (m : Memory) (d : Doing) → Keeps m (line-done W C c calls at s m d)
     unfolding line-done
-    done-keeps calls f at s m (giving x next σ g) = leaf-keeps calls at s m (giving x next σ g)
-    done-keeps calls f at s m (changing σ) = leaf-keeps calls at s m (changing σ)
-    done-keeps calls f at s m (ending a) = leaf-keeps calls at s m (ending a)
-    done-keeps calls f at s m (calling x g) = call-keeps calls x g at s m
-    done-keeps calls f at s m (branching x g) = if-keeps (c .table) calls x g at s m
-    done-keeps calls f at s m (looping x k ps us) = loop-keeps c calls f x k ps us at s m
+    done-keeps calls at s m (giving x next σ g) = leaf-keeps calls at s m (giving x next σ g)
+    done-keeps calls at s m (changing σ) = leaf-keeps calls at s m (changing σ)
+    done-keeps calls at s m (ending a) = leaf-keeps calls at s m (ending a)
+    done-keeps calls at s m (calling x g) = call-keeps calls x g at s m
+    done-keeps calls at s m (branching x g) = if-keeps (c .table) calls x g at s m
+    done-keeps calls at s m (looping x k ps us) = loop-keeps c calls x k ps us at s m
 
-    line-keeps : (calls f at s : ℕ) (m : Memory) (l : Line) → Keeps m (line-on W C c calls f at s m l)
+    line-keeps : (calls at s : ℕ) (m : Memory) (l : Line) → Keeps m (line-on W C c calls at s m l)
     unfolding line-on
-    line-keeps calls f at s m l = done-keeps calls f at s m (doing (c .kinds) (c .operands) calls at m l)
+    line-keeps calls at s m l = done-keeps calls at s m (doing (c .kinds) (c .operands) calls at m l)
 
-    from-keeps : (calls f at s : ℕ) (m : Memory) (l : Line) → Keeps m (tree-from W C c calls f at s m l)
+    from-keeps : (calls at s : ℕ) (m : Memory) (l : Line) → Keeps m (tree-from W C c calls at s m l)
     unfolding tree-from
-    from-keeps calls f at s m l = either m _ _ refl
-        (then-keeps m (line-on W C c calls f at s m l) (λ v. W (v .out .next) (v .out .steps) (v .memory))
-        (line-keeps calls f at s m l)
+    from-keeps calls at s m l = either m _ _ refl
+        (then-keeps m (line-on W C c calls at s m l) (λ v. W (v .out .next) (v .out .steps) (v .memory))
+        (line-keeps calls at s m l)
         (λ v k. w (v .out .next) (v .out .steps) (v .memory) ∙ k)) (is-end l)
 
 -- every call keeps
 abbrev Calling : Callee → Type 0
 Calling C = (f : ℕ) (ws : List ℤ) (s : ℕ) (m : Memory) → Keeps m (C f ws s m)
 
-tree-keeps : (n : ℕ) (C : Callee) → Calling C → (c : Code) (calls f at s : ℕ) (m : Memory) →
-    Keeps m (tree-on n C c calls f at s m)
+tree-keeps : (n : ℕ) (C : Callee) → Calling C → (c : Code) (calls at s : ℕ) (m : Memory) →
+    Keeps m (tree-on n C c calls at s m)
 unfolding tree-on
-tree-keeps zero C h c calls f at s m = refl
-tree-keeps (suc n) C h c calls f at s m = either m _ _
-    (from-keeps (tree-on n C c calls f) (λ at s m. tree-keeps n C h c calls f at s m) C h c calls f at s m
-    (line-at (c .kinds) (c .operands) at)) refl (ltb at (length (c .kinds)))
+tree-keeps zero C h c calls at s m = refl
+tree-keeps (suc n) C h c calls at s m = either m _ _
+    (from-keeps (tree-on n C c calls) (λ at s m. tree-keeps n C h c calls at s m) C h c calls at s m
+    (line-at (c .kinds) (c .operands) at)) refl (two-rows (c .kinds) (c .operands) at)
 
 call-on-keeps : (n : ℕ) (c : Code) → Calling (call-on n c)
 unfolding call-on
 call-on-keeps zero c f ws s m = refl
-call-on-keeps (suc n) c f ws s m = tree-keeps 4096 (call-on n c) (λ f ws s m. call-on-keeps n c f ws s m) c n f
-    (start-in (c .table) f) s (memory (m .store) (put-all ws (place n 0) (m .env))) ∙ put-keeps ws (place n 0) (m .env)
+call-on-keeps (suc n) c f ws s m = tree-keeps 4096 (call-on n c) (λ f ws s m. call-on-keeps n c f ws s m) c n
+    (start-in (c .table) f) s (memory (m .store) (called n f ws (m .env))) ∙ called-keeps n f ws (m .env)
 
 -- ---- what the workers leave
 
@@ -176,20 +183,20 @@ ended-long : {w : Ran} {steps : ℕ} {r : Out} {slots : List ℤ} {heads : List 
     Keeps m w → Ended w steps r slots heads env → length env ≡ length (m .env)
 ended-long m k e = ap (λ (w : Ran). length (w .memory .env)) (e .is) ∙ k
 
-module _ (c : Code) (lines calls f : ℕ) {r : Out} {slots : List ℤ} {heads : List ℕ} {env : List ℤ} where
+module _ (c : Code) (lines calls : ℕ) {r : Out} {slots : List ℤ} {heads : List ℕ} {env : List ℤ} where
   pub tree-long : (at s : ℕ) (m : Memory) {steps : ℕ} →
-      Ended (tree-on lines (call-on calls c) c calls f at s m) steps r slots heads env → length env ≡ length (m .env)
-  tree-long at s m e = ended-long m (tree-keeps lines (call-on calls c) (call-on-keeps calls c) c calls f at s m) e
+      Ended (tree-on lines (call-on calls c) c calls at s m) steps r slots heads env → length env ≡ length (m .env)
+  tree-long at s m e = ended-long m (tree-keeps lines (call-on calls c) (call-on-keeps calls c) c calls at s m) e
 
   pub line-long : (at s : ℕ) (m : Memory) (l : Line) {steps : ℕ} →
-      Ended (line-on (tree-on lines (call-on calls c) c calls f) (call-on calls c) c calls f at s m l) steps r slots
+      Ended (line-on (tree-on lines (call-on calls c) c calls) (call-on calls c) c calls at s m l) steps r slots
       heads env → length env ≡ length (m .env)
-  line-long at s m l e = ended-long m (line-keeps (tree-on lines (call-on calls c) c calls f)
-      (tree-keeps lines (call-on calls c) (call-on-keeps calls c) c calls f) (call-on calls c) (call-on-keeps calls c)
-      c calls f at s m l) e
+  line-long at s m l e = ended-long m (line-keeps (tree-on lines (call-on calls c) c calls)
+      (tree-keeps lines (call-on calls c) (call-on-keeps calls c) c calls) (call-on calls c) (call-on-keeps calls c)
+      c calls at s m l) e
 
   pub passes-long : (k : Loop) (at : ℕ) (ps : List ℕ) (from n : ℕ) (v : ℤ) (i s : ℕ) (m : Memory) {steps : ℕ} →
-      Ended (passes-on (looped k (tree-on lines (call-on calls c) c calls f at) calls ps from) n v i s m) steps r slots
+      Ended (passes-on (looped k (tree-on lines (call-on calls c) c calls at) calls ps from) n v i s m) steps r slots
       heads env → length env ≡ length (m .env)
-  passes-long k at ps from n v i s m e = ended-long m (passes-keeps (tree-on lines (call-on calls c) c calls f)
-      (tree-keeps lines (call-on calls c) (call-on-keeps calls c) c calls f) k at calls ps from n v i s m) e
+  passes-long k at ps from n v i s m e = ended-long m (passes-keeps (tree-on lines (call-on calls c) c calls)
+      (tree-keeps lines (call-on calls c) (call-on-keeps calls c) c calls) k at calls ps from n v i s m) e

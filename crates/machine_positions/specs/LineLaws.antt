@@ -15,14 +15,15 @@ use Rattle.semantics.specs.Words.{store-of}
 use Rattle.store.specs.Acquiring.{acquired-outcome, next-cell}
 use Rattle.store.specs.declared.Acquired.{Acquired}
 use Rattle.store.specs.declared.Acquired.the-variants.{Cell, NoneFree}
-use Rattle.machine_code.specs.Reading.{depth-in, start-in, end-in}
+use Rattle.machine_code.specs.Reading.{start-in, end-in}
 use Rattle.machine_code.specs.declared.Atom.{Atom}
 use Rattle.machine_code.specs.declared.Line.{Line}
 use Rattle.machine_code.specs.declared.Line.the-variants as L
 use Rattle.machine_code.proofs.Line.{the-type}
 use Rattle.machine_code.proofs.Reading.{less-one}
 use Rattle.machine_lines.specs.declared.Out.{Out}
-use Rattle.machine_lines.specs.Frames.{place, word-of, words-at, Passed, branch-start, branch-end}
+use Rattle.machine_lines.specs.Frames.{place, function-place, word-of, words-at, Passed, branch-start}
+use Rattle.machine_lines.specs.Frames.{branch-end}
 use Rattle.machine_lines.specs.Lines.{Memory, memory, Ran, ran, out, stepping, array-of}
 use Rattle.machine_lines.specs.Lines.{acquired-given, Doing, giving, changing, ending, calling, branching, looping}
 use Rattle.machine_lines.specs.Lines.{doing, leaf-done, leaf, Ends}
@@ -30,7 +31,7 @@ use Rattle.machine_lines.proofs.Lines.{Told, told, leaf-fewer}
 use Rattle.machine_positions.specs.Machine.{Work, Callee, Code, and-then, binding, if-worked, if-line}
 use Rattle.machine_positions.specs.Machine.{call-worked, call-line, looped, gave, carry-first, passes-on}
 use Rattle.machine_positions.specs.Machine.{loop-worked, loop-line, map-line, line-done, line-on, tree-on}
-use Rattle.machine_positions.specs.Machine.{call-on, Ended}
+use Rattle.machine_positions.specs.Machine.{element-depth, call-on, Ended}
 use Rattle.machine_positions.specs.Parts.{then-go, part-stops, part-goes}
 
 -- what a line leaves that binds the word of a part
@@ -107,11 +108,11 @@ module _ (c : Code) (calls x g at steps : ℕ) (slots : List ℤ) (heads : List 
     }
 
     module _ (deep : calls ≡ 0 → ⊥) (n : ℕ) (env₁ : List ℤ)
-        (passed : Passed (words-at 16 (c .kinds) (c .operands) calls env (at + 1)) (calls - 1) n env env₁) (start :
-        ℕ)
+        (passed : Passed (words-at 16 (c .kinds) (c .operands) calls env (at + 1)) (calls - 1) n env env₁)
+        (env₂ : List ℤ) (named : env₂ ≡ set env₁ (function-place (calls - 1)) (pos g)) (start : ℕ)
         (se : start ≡ start-in (c .table) g) (r : Out) (sl : List ℤ) (he : List ℕ) (en : List ℤ)
-        (done : Ended (tree-on 4096 (call-on (calls - 1) c) c (calls - 1) g start (steps - 1)
-        (memory (store-of slots heads) env₁)) (steps - 1) r sl he en) where
+        (done : Ended (tree-on 4096 (call-on (calls - 1) c) c (calls - 1) start (steps - 1)
+        (memory (store-of slots heads) env₂)) (steps - 1) r sl he en) where
       call-part : call-line (call-on calls c) c calls x g at steps (memory (store-of slots heads) env)
           ≡ and-then (ran r (memory (store-of sl he) en)) (λ w. binding calls x (at + 1 + n) w)
       unfolding call-on
@@ -119,9 +120,10 @@ module _ (c : Code) (calls x g at steps : ℕ) (slots : List ℤ) (heads : List 
           ∙ ap (λ (k : ℕ). call-worked (call-on k c) calls x g at (steps - 1) (memory (store-of slots heads) env)
           (words-at 16 (c .kinds) (c .operands) calls env (at + 1))) (less-one calls (omega arith))
           ∙ ap₂ (λ (k : ℕ) (l : List ℤ). and-then
-          (tree-on 4096 (call-on (calls - 1) c) c (calls - 1) g k (steps - 1) (memory (store-of slots heads) l))
+          (tree-on 4096 (call-on (calls - 1) c) c (calls - 1) k (steps - 1) (memory (store-of slots heads) l))
           (λ w. binding calls x (at + 1 + length (words-at 16 (c .kinds) (c .operands) calls env (at + 1))) w))
-          (sym se) (sym (passed .frames))
+          (sym se)
+          (sym (named ∙ ap (λ (l : List ℤ). set l (function-place (calls - 1)) (pos g)) (passed .frames)))
           ∙ ap₂ (λ (w : Ran) (k : ℕ). and-then w (λ w. binding calls x (at + 1 + k) w)) (sym (done .is)) (sym
           (passed .count))
 
@@ -141,7 +143,7 @@ module _ (c : Code) (calls x g at steps : ℕ) (slots : List ℤ) (heads : List 
 
 -- ---- a loop
 
-module _ (W : Work) (c : Code) (calls f x : ℕ) (k : Loop) (ps : List ℕ) (us : List Atom) (at steps : ℕ) (slots : List ℤ)
+module _ (W : Work) (c : Code) (calls x : ℕ) (k : Loop) (ps : List ℕ) (us : List Atom) (at steps : ℕ) (slots : List ℤ)
     (heads : List ℕ) (env : List ℤ) where
   abbrev here : Memory
   here = memory (store-of slots heads) env
@@ -153,7 +155,7 @@ module _ (W : Work) (c : Code) (calls f x : ℕ) (k : Loop) (ps : List ℕ) (us 
   bind w = binding calls x (end-in (c .table) tree-at) w
 
   abbrev whole : Ran
-  whole = loop-line W c calls f x k ps us at steps here
+  whole = loop-line W c calls x k ps us at steps here
 
   pub loop-spent : (r : Out) → steps ≡ 0 → r ≡ out 21 (pos 0) 0 steps → Ended whole steps r slots heads env
   unfolding loop-line stepping
@@ -162,7 +164,7 @@ module _ (W : Work) (c : Code) (calls f x : ℕ) (k : Loop) (ps : List ℕ) (us 
   -- ws are the words of the atoms, and o tells how the first carrying ended
   module _ (some : steps ≡ 0 → ⊥) (ws : List ℤ) (we : ws ≡ map (word-of calls env) us) (o : Out) (sl₁ : List ℤ)
       (he₁ : List ℕ)
-      (oe : carry-first k (depth-in (c .table) f x - 1) ws (steps - 1) here ≡ ran o (memory (store-of sl₁ he₁) env))
+      (oe : carry-first k (element-depth c calls x env) ws (steps - 1) here ≡ ran o (memory (store-of sl₁ he₁) env))
       (few : o .steps ≤ steps - 1) where
     abbrev following : ℕ → ℕ → Ran → Ran
     following from n v = and-then
@@ -175,8 +177,8 @@ module _ (W : Work) (c : Code) (calls f x : ℕ) (k : Loop) (ps : List ℕ) (us 
     loop-is : whole ≡ and-then (ran o (memory (store-of sl₁ he₁) env)) follows
     unfolding loop-line stepping
     loop-is =
-        ap (λ (n : ℕ). loop-line W c calls f x k ps us at n here) (less-one steps (omega arith))
-        ∙ ap (loop-worked W c calls f x k ps tree-at (steps - 1) here) (sym we)
+        ap (λ (n : ℕ). loop-line W c calls x k ps us at n here) (less-one steps (omega arith))
+        ∙ ap (loop-worked W c calls x k ps tree-at (steps - 1) here) (sym we)
         ∙ ap (λ (w : Ran). and-then w follows) oe
 
     -- nothing could be carried into the first pass
@@ -224,11 +226,11 @@ module _ (d e : ℕ) (de : d ≡ e) (ws : List ℤ) (s : ℕ) (σ : Store) (env 
 
 -- ---- which line
 
-module _ (W : Work) (C : Callee) (c : Code) (calls f at steps : ℕ) (slots : List ℤ) (heads : List ℕ) (env : List ℤ)
+module _ (W : Work) (C : Callee) (c : Code) (calls at steps : ℕ) (slots : List ℤ) (heads : List ℕ) (env : List ℤ)
     (l : Line)
     (r : Out) (sl : List ℤ) (he : List ℕ) (en : List ℤ) where
   abbrev line-here : Line → Ran
-  line-here k = line-on W C c calls f at steps (memory (store-of slots heads) env) k
+  line-here k = line-on W C c calls at steps (memory (store-of slots heads) env) k
 
   -- a line that is known
   line-is : (k : Line) → l ≡ k → (w : Ran) → w ≡ line-here k → Ended w steps r sl he en →
@@ -248,7 +250,7 @@ module _ (W : Work) (C : Callee) (c : Code) (calls f at steps : ℕ) (slots : Li
   line-call x g e = line-is (L.Call x g) e _ refl
 
   pub line-map : (x p : ℕ) (a : Atom) → l ≡ L.Map x p a →
-      Ended (map-line W c calls f x p a at steps (memory (store-of slots heads) env)) steps r sl he en →
+      Ended (map-line W c calls x p a at steps (memory (store-of slots heads) env)) steps r sl he en →
       Ended (line-here l) steps r sl he en
   unfolding line-on line-done doing
   line-map x p a e = line-is (L.Map x p a) e _ refl
@@ -273,7 +275,7 @@ module _ (W : Work) (C : Callee) (c : Code) (calls f at steps : ℕ) (slots : Li
 
       go : (d : Doing) → Told d (tagOf the-type l) →
           leaf-done calls at steps (memory (store-of slots heads) env) d
-          ≡ line-done W C c calls f at steps (memory (store-of slots heads) env) d
+          ≡ line-done W C c calls at steps (memory (store-of slots heads) env) d
       go (giving x next σ g) t = refl
       go (changing σ) t = refl
       go (ending a) t = refl

@@ -4,7 +4,7 @@ use mathlib.Core.Bool.{Bool, true, false, cond}
 use mathlib.Core.List.{List, [], _∷_, map}
 use Prim.Native.Nat.{ℕ, zero, suc, _+_, _-_, _≤_}
 use lib.IntN.{ℤ, pos}
-use lib.Dec.{ltb, eqb}
+use lib.Dec.{eqb}
 use lib.ListN.{getD, length}
 use Rattle.semantics.specs.Outcome.{done, stop}
 use Rattle.semantics.specs.Kinds.{Loop, mapping, later-parts}
@@ -12,12 +12,12 @@ use Rattle.semantics.specs.Machine.{argument, pass-words, looped-over}
 use Rattle.semantics.specs.Store.{cell, cell-of, elements, acquired, appended}
 use Rattle.semantics.specs.Words.{store-of}
 use Rattle.store.specs.Acquiring.{next-cell}
-use Rattle.machine_code.specs.Reading.{line-at, depth-in, start-in, end-in}
+use Rattle.machine_code.specs.Reading.{line-at, two-rows, depth-in, start-in, end-in}
 use Rattle.machine_code.specs.declared.Atom.{Atom}
 use Rattle.machine_code.specs.declared.Line.{Line}
 use Rattle.machine_code.specs.declared.Line.the-variants as L
 use Rattle.machine_lines.specs.declared.Out.{Out}
-use Rattle.machine_lines.specs.Frames.{place, word-of, words-at, put-all, branch-start, branch-end}
+use Rattle.machine_lines.specs.Frames.{function-of, word-of, words-at, called, branch-start, branch-end}
 use Rattle.machine_lines.specs.Lines.{no-line, Memory, memory, Ran, ran, out, halted, bound, goes-on, stepping}
 use Rattle.machine_lines.specs.Lines.{array-of}
 use Rattle.machine_lines.specs.Lines.{Given, acquired-given, Doing, giving, changing, ending, calling}
@@ -118,32 +118,36 @@ passes-on l (suc n) v i (suc s) m =
     (λ w. and-then (carry-on (l .kind) v w)
     (λ u. passes-on l n (u .out .value) (i + 1) (u .out .steps) (u .memory)))
 
+-- the element depth of an array by its name, in the function that is worked
+abbrev pub element-depth : Code → ℕ → ℕ → List ℤ → ℕ
+element-depth c calls x env = depth-in (c .table) (function-of calls env) x - 1
+
 -- a loop's line, whose tree is at a position, by the words of its atoms
-abbrev pub loop-worked : Work → Code → ℕ → ℕ → ℕ → Loop → List ℕ → ℕ → ℕ → Memory → List ℤ → Ran
-loop-worked W c calls f x k ps at s m ws =
-    and-then (carry-first k (depth-in (c .table) f x - 1) ws s m)
+abbrev pub loop-worked : Work → Code → ℕ → ℕ → Loop → List ℕ → ℕ → ℕ → Memory → List ℤ → Ran
+loop-worked W c calls x k ps at s m ws =
+    and-then (carry-first k (element-depth c calls x (m .env)) ws s m)
     (λ v. and-then (passes-on (looped k (W at) calls ps (cell-of (looped-over k ws)))
     (length (array-of (m .store) (looped-over k ws))) (v .out .value) 0 (v .out .steps) (v .memory))
     (λ w. binding calls x (end-in (c .table) at) w))
 
-unfoldable pub loop-line : Work → Code → ℕ → ℕ → ℕ → Loop → List ℕ → List Atom → ℕ → ℕ → Memory → Ran
-loop-line W c calls f x k ps us at steps m = stepping steps (halted 21 0 m)
-    (λ s. loop-worked W c calls f x k ps (at + suc (length us)) s m (map (word-of calls (m .env)) us))
+unfoldable pub loop-line : Work → Code → ℕ → ℕ → Loop → List ℕ → List Atom → ℕ → ℕ → Memory → Ran
+loop-line W c calls x k ps us at steps m = stepping steps (halted 21 0 m)
+    (λ s. loop-worked W c calls x k ps (at + suc (length us)) s m (map (word-of calls (m .env)) us))
 
-abbrev pub map-line : Work → Code → ℕ → ℕ → ℕ → ℕ → Atom → ℕ → ℕ → Memory → Ran
-map-line W c calls f x p a at steps m = loop-line W c calls f x mapping (p ∷ []) (a ∷ []) at steps m
+abbrev pub map-line : Work → Code → ℕ → ℕ → ℕ → Atom → ℕ → ℕ → Memory → Ran
+map-line W c calls x p a at steps m = loop-line W c calls x mapping (p ∷ []) (a ∷ []) at steps m
 
--- a line that stands at a position, of function f: W works its trees, C its calls
-unfoldable pub line-done : Work → Callee → Code → ℕ → ℕ → ℕ → ℕ → Memory → Doing → Ran
-line-done W C c calls f at s m (giving x next σ g) = leaf-done calls at s m (giving x next σ g)
-line-done W C c calls f at s m (changing σ) = leaf-done calls at s m (changing σ)
-line-done W C c calls f at s m (ending a) = leaf-done calls at s m (ending a)
-line-done W C c calls f at s m (calling x g) = call-line C c calls x g at s m
-line-done W C c calls f at s m (branching x g) = if-line W (c .table) calls x g at s m
-line-done W C c calls f at s m (looping x k ps us) = loop-line W c calls f x k ps us at s m
+-- a line that stands at a position: W works its trees, C its calls
+unfoldable pub line-done : Work → Callee → Code → ℕ → ℕ → ℕ → Memory → Doing → Ran
+line-done W C c calls at s m (giving x next σ g) = leaf-done calls at s m (giving x next σ g)
+line-done W C c calls at s m (changing σ) = leaf-done calls at s m (changing σ)
+line-done W C c calls at s m (ending a) = leaf-done calls at s m (ending a)
+line-done W C c calls at s m (calling x g) = call-line C c calls x g at s m
+line-done W C c calls at s m (branching x g) = if-line W (c .table) calls x g at s m
+line-done W C c calls at s m (looping x k ps us) = loop-line W c calls x k ps us at s m
 
-unfoldable pub line-on : Work → Callee → Code → ℕ → ℕ → ℕ → ℕ → Memory → Line → Ran
-line-on W C c calls f at s m l = line-done W C c calls f at s m (doing (c .kinds) (c .operands) calls at m l)
+unfoldable pub line-on : Work → Callee → Code → ℕ → ℕ → ℕ → Memory → Line → Ran
+line-on W C c calls at s m l = line-done W C c calls at s m (doing (c .kinds) (c .operands) calls at m l)
 
 -- ---- trees and calls
 
@@ -173,24 +177,24 @@ end-word calls env (L.Release x) = pos 0
 end-word calls env (L.End a) = word-of calls env a
 
 -- a line of a tree, and then K works what follows it
-unfoldable pub tree-from : Work → Callee → Code → ℕ → ℕ → ℕ → ℕ → Memory → Line → Ran
-tree-from W C c calls f at s m l =
+unfoldable pub tree-from : Work → Callee → Code → ℕ → ℕ → ℕ → Memory → Line → Ran
+tree-from W C c calls at s m l =
     cond (is-end l) (ran (out 0 (end-word calls (m .env) l) (at + 2) s) m)
-    (and-then (line-on W C c calls f at s m l) (λ w. W (w .out .next) (w .out .steps) (w .memory)))
+    (and-then (line-on W C c calls at s m l) (λ w. W (w .out .next) (w .out .steps) (w .memory)))
 
 -- the tree at a position, with so many lines left
-unfoldable pub tree-on : ℕ → Callee → Code → ℕ → ℕ → Work
-tree-on zero C c calls f at s m = halted no-line s m
-tree-on (suc n) C c calls f at s m =
-    cond (ltb at (length (c .kinds)))
-    (tree-from (tree-on n C c calls f) C c calls f at s m (line-at (c .kinds) (c .operands) at))
+unfoldable pub tree-on : ℕ → Callee → Code → ℕ → Work
+tree-on zero C c calls at s m = halted no-line s m
+tree-on (suc n) C c calls at s m =
+    cond (two-rows (c .kinds) (c .operands) at)
+    (tree-from (tree-on n C c calls) C c calls at s m (line-at (c .kinds) (c .operands) at))
     (halted no-line s m)
 
 -- a call, with some call depth left
 unfoldable pub call-on : ℕ → Code → Callee
 call-on zero c f ws s m = halted 22 s m
 call-on (suc n) c f ws s m =
-    tree-on 4096 (call-on n c) c n f (start-in (c .table) f) s (memory (m .store) (put-all ws (place n 0) (m .env)))
+    tree-on 4096 (call-on n c) c n (start-in (c .table) f) s (memory (m .store) (called n f ws (m .env)))
 
 -- ---- what a worker promises: the answer and every word, and no more steps left than it was given
 

@@ -40,7 +40,13 @@ deliver-kept-requires-2 c κs =
     let fit = shaped-means (a .slots .now) (a .heads .now) (c .before .before .before .before .before .before .before
     .pre) in (
       omega (arith, fit .slots-long),
-      omega (arith, fit .slots-long, few-cells (a .slots .now) (a .heads .now), length-replicate {A = ℤ} 4097 (pos 0)),
+      omega (
+        arith,
+        fit .slots-long,
+        few-cells (a .slots .now) (a .heads .now),
+        length-replicate {A = ℤ} 4097 (pos
+            0),
+      ),
       omega (
         arith,
         fit .slots-long,

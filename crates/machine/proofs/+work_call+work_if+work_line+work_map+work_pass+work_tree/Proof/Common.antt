@@ -24,13 +24,16 @@ use Rattle.machine_code.proofs.end_in.Reads as end-in-reads
 use Rattle.machine_code.proofs.element_depth.Reads as element-depth-reads
 use Rattle.machine_code.proofs.line_at.Reads as line-at-reads
 use Rattle.machine_code.proofs.start_in.Reads as start-in-reads
+use Rattle.machine_code.proofs.two_rows.Reads as two-rows-reads
 use Rattle.store.proofs.acquire_empty.Reads as acquire-empty-reads
 use Rattle.machine_lines.proofs.bind.Reads as bind-reads
 use Rattle.machine_lines.proofs.branch_end.Reads as branch-end-reads
 use Rattle.machine_lines.proofs.branch_start.Reads as branch-start-reads
 use Rattle.machine_lines.proofs.done.Reads as done-reads
+use Rattle.machine_lines.proofs.function_of.Reads as function-of-reads
 use Rattle.machine_lines.proofs.halted.Reads as halted-reads
 use Rattle.machine_lines.proofs.pass_arguments.Reads as pass-arguments-reads
+use Rattle.machine_lines.proofs.set_function.Reads as set-function-reads
 use Rattle.machine_lines.proofs.word_from.Reads as word-from-reads
 use Rattle.machine_lines.proofs.word_of.Reads as word-of-reads
 use Rattle.machine_lines.proofs.work_leaf.Reads as work-leaf-reads
@@ -104,6 +107,8 @@ work-call-claims t = (
   halted-reads.Learnt,
   pass-arguments-reads.Asked,
   pass-arguments-reads.Learnt,
+  set-function-reads.Asked,
+  set-function-reads.Learnt,
   start-in-reads.Asked,
   start-in-reads.Learnt,
   work-tree-below t,
@@ -154,6 +159,8 @@ work-map-claims t = (
   named-cell-reads.Learnt,
   read-length-reads.Asked,
   read-length-reads.Learnt,
+  function-of-reads.Asked,
+  function-of-reads.Learnt,
   element-depth-reads.Asked,
   element-depth-reads.Learnt,
   acquire-empty-reads.Asked,
@@ -190,6 +197,8 @@ work-pass-claims t = (
 
 abbrev pub work-tree-claims : ℕ → work-tree-lts.Claims
 work-tree-claims t = (
+  two-rows-reads.Asked,
+  two-rows-reads.Learnt,
   halted-reads.Asked,
   halted-reads.Learnt,
   line-at-reads.Asked,

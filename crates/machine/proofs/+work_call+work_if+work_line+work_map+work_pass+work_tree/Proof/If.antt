@@ -16,7 +16,7 @@ pub work-if-returns : (t : ℕ) → work-if-lts.Need-returns (work-if-claims t) 
 work-if-returns t c =
     let a = c .before .before .before .args in
     let k = code (a .kinds .now .now) (a .operands .now .now) (a .table .now) in
-    if-spent (tree-on (a .lines) (call-on (a .calls) k) k (a .calls) (a .f)) (a .table .now) (a .calls) (a .x) (a .g)
+    if-spent (tree-on (a .lines) (call-on (a .calls) k) k (a .calls)) (a .table .now) (a .calls) (a .x) (a .g)
     (a .at) (a .steps) (a .slots .now) (a .heads .now) (a .env .now) (c .halted .result) (c .before .if1 .taken)
     (c .halted .ensures)
 
@@ -32,7 +32,7 @@ work-if-returns-2 t c =
     let word = at-word-of .word-of in
     let start = at-branch-start .branch-start in
     let tree = at-work-tree .work-tree in
-    if-stops (tree-on (a .lines) (call-on (a .calls) k) k (a .calls) (a .f)) (a .table .now) (a .calls) (a .x) (a .g)
+    if-stops (tree-on (a .lines) (call-on (a .calls) k) k (a .calls)) (a .table .now) (a .calls) (a .x) (a .g)
     (a .at) (a .steps) (a .slots .now) (a .heads .now) (a .env .now)
     (at-if1 .if1 .left)
     (word .result) (word .ensures) (start .result) (rw (toZ-ofZ {z = word .result} (record { sfits = word .ok })) at
@@ -47,7 +47,7 @@ work-if-bind-requires t c κs =
     let a = start .args in
     let k = code (a .kinds .now .now) (a .operands .now .now) (a .table .now) in (
       start .pre .1 .1,
-      tree-long k (a .lines) (a .calls) (a .f)
+      tree-long k (a .lines) (a .calls)
           (at-branch-start .branch-start
           .result) (a .steps - 1) (memory (store-of (a .slots .now) (a .heads .now)) (a .env .now))
           (at-work-tree .work-tree .ensures) ∙
@@ -71,7 +71,7 @@ work-if-returns-3 t c =
     let start = at-branch-start .branch-start in
     let tree = at-work-tree .work-tree in
     let next = at-branch-end .branch-end in
-    if-goes (tree-on (a .lines) (call-on (a .calls) k) k (a .calls) (a .f)) (a .table .now) (a .calls) (a .x) (a .g)
+    if-goes (tree-on (a .lines) (call-on (a .calls) k) k (a .calls)) (a .table .now) (a .calls) (a .x) (a .g)
     (a .at) (a .steps) (a .slots .now) (a .heads .now) (a .env .now)
     (at-if1 .if1 .left) (word .result) (word .ensures) (start .result) (rw (toZ-ofZ {z =
     word .result} (record { sfits = word .ok })) at (start .ensures)) (tree .result) (tree .last .1 .1 .1 .0)

@@ -16,7 +16,7 @@ work-line-returns t c =
     let k = code (a .kinds .now .now) (a .operands .now .now) (a .table .now) in
     let read = at-l .l in
     let branch = at-work-if .work-if in
-    line-if (tree-on (a .lines) (call-on (a .calls) k) k (a .calls) (a .f)) (call-on (a .calls) k) k (a .calls) (a .f)
+    line-if (tree-on (a .lines) (call-on (a .calls) k) k (a .calls)) (call-on (a .calls) k) k (a .calls)
     (a .at) (a .steps) (a .slots .now) (a .heads .now) (a .env .now) (a .l) (branch .result)
     (branch .last .1 .1 .1 .0) (branch .last .1 .1 .1 .1 .0) (branch .last .1 .1 .1 .1 .1 .0) (read .given .0 .0)
     (read .given .0 .1 .0) (read .given .1) (branch .ensures)
@@ -29,8 +29,7 @@ work-line-returns-2 t c =
     let a = start .args in
     let k = code (a .kinds .now .now) (a .operands .now .now) (a .table .now) in
     let called = at-work-call .work-call in
-    line-call (tree-on (a .lines) (call-on (a .calls) k) k (a .calls) (a .f)) (call-on (a .calls) k) k (a .calls) (a
-    .f)
+    line-call (tree-on (a .lines) (call-on (a .calls) k) k (a .calls)) (call-on (a .calls) k) k (a .calls)
     (a .at) (a .steps) (a .slots .now) (a .heads .now) (a .env .now) (a .l) (called .result)
     (called .last .1 .1 .1 .0) (called .last .1 .1 .1 .1 .0) (called .last .1 .1 .1 .1 .1 .0)
     (at-l2 .l2 .given .0 .0)
@@ -45,8 +44,7 @@ work-line-returns-3 t c =
     let a = start .args in
     let k = code (a .kinds .now .now) (a .operands .now .now) (a .table .now) in
     let mapped = at-work-map .work-map in
-    line-map (tree-on (a .lines) (call-on (a .calls) k) k (a .calls) (a .f)) (call-on (a .calls) k) k (a .calls) (a
-    .f)
+    line-map (tree-on (a .lines) (call-on (a .calls) k) k (a .calls)) (call-on (a .calls) k) k (a .calls)
     (a .at) (a .steps) (a .slots .now) (a .heads .now) (a .env .now) (a .l) (mapped .result)
     (mapped .last .1 .1 .1 .0) (mapped .last .1 .1 .1 .1 .0) (mapped .last .1 .1 .1 .1 .1 .0)
     (at-l3 .l3 .given .0 .0)
@@ -62,7 +60,6 @@ work-line-returns-4 t c =
     let a = start .args in
     let k = code (a .kinds .now .now) (a .operands .now .now) (a .table .now) in
     let leaf = at-work-leaf .work-leaf in
-    line-leaf (tree-on (a .lines) (call-on (a .calls) k) k (a .calls) (a .f)) (call-on (a .calls) k) k (a .calls) (a
-    .f)
+    line-leaf (tree-on (a .lines) (call-on (a .calls) k) k (a .calls)) (call-on (a .calls) k) k (a .calls)
     (a .at) (a .steps) (a .slots .now) (a .heads .now) (a .env .now) (a .l) (leaf .result) (leaf .last .1 .1 .0)
     (leaf .last .1 .1 .1 .0) (leaf .last .1 .1 .1 .1 .0) (at-match .match .keys4) (leaf .ensures)

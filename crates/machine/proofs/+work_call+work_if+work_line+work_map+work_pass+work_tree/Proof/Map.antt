@@ -8,7 +8,7 @@ use Prim.Native.Nat.{_+_, _-_, ℕ}
 use native.Mathlib.Omega.{arith}
 use mir.Facts.{toZ-ofZ}
 use Rattle.machine_lines.proofs.Lines.{next-small}
-use Rattle.machine_positions.specs.Machine.{code, tree-on, call-on}
+use Rattle.machine_positions.specs.Machine.{code, element-depth, tree-on, call-on}
 use Rattle.machine_positions.specs.LineLaws.{loop-spent, loop-none, loop-stops, loop-goes, map-cell, map-none}
 use Rattle.semantics.specs.Words.{store-of}
 use Rattle.machine_lines.specs.Lines.{memory}
@@ -22,7 +22,7 @@ pub work-map-returns : (t : ℕ) → work-map-lts.Need-returns (work-map-claims 
 work-map-returns t c =
     let a = c .before .before .before .args in
     let k = code (a .kinds .now .now) (a .operands .now .now) (a .table .now) in
-    loop-spent (tree-on (a .lines) (call-on (a .calls) k) k (a .calls) (a .f)) k (a .calls) (a .f) (a .x) mapping
+    loop-spent (tree-on (a .lines) (call-on (a .calls) k) k (a .calls)) k (a .calls) (a .x) mapping
     (a .p ∷ []) (a .a ∷ []) (a .at) (a .steps) (a .slots .now) (a .heads .now) (a .env .now)
     (c .halted .result) (c .before .if1 .taken) (c .halted .ensures)
 
@@ -33,7 +33,8 @@ work-map-returns-2 t c =
     let at-c = at-word-from .before .before in
     let at-acquire-empty = at-c .before .before .before .before .before in
     let at-element-depth = at-acquire-empty .before .before .before in
-    let at-read-length = at-element-depth .before .before in
+    let at-function-of = at-element-depth .before .before in
+    let at-read-length = at-function-of .before .before in
     let at-named-cell = at-read-length .before .before .before in
     let at-word-of = at-named-cell .before in
     let at-if1 = at-word-of .before .before in
@@ -43,16 +44,18 @@ work-map-returns-2 t c =
     let word = at-word-of .word-of in
     let cell = at-named-cell .named-cell in
     let size = at-read-length .read-length in
+    let worked = at-function-of .function-of in
     let depth = at-element-depth .element-depth in
     let taken = at-acquire-empty .acquire-empty in
     let chosen = at-c .c in
     let number = at-word-from .word-from in
     let passes = at-work-pass .work-pass in
-    loop-stops (tree-on (a .lines) (call-on (a .calls) k) k (a .calls) (a .f)) k (a .calls) (a .f) (a .x) mapping
+    loop-stops (tree-on (a .lines) (call-on (a .calls) k) k (a .calls)) k (a .calls) (a .x) mapping
     (a .p ∷ []) (a .a ∷ []) (a .at) (a .steps) (a .slots .now) (a .heads .now) (a .env .now)
     (at-if1 .if1 .left) (word .result ∷ []) (ap (λ y. y ∷ []) (word .ensures))
     (out 0 (number .result) 0 (a .steps - 1)) (taken .last .0) (taken .last .1 .0)
-    (map-cell (depth .result) (depth-in (k .table) (a .f) (a .x) - 1) (depth .ensures) (word .result ∷ [])
+    (map-cell (depth .result) (element-depth k (a .calls) (a .x) (a .env .now))
+    (depth .ensures ∙ ap (λ (f : ℕ). depth-in (k .table) f (a .x) - 1) (worked .ensures)) (word .result ∷ [])
     (a .steps - 1) (store-of (a .slots .now) (a .heads .now)) (a .env .now) (taken .result) (taken .ensures .0)
     (store-of (taken .last .0) (taken .last .1 .0)) (taken .ensures .1)
     (chosen .given .0 .0) (chosen .given .1) (number .result) (number .ensures)) (omega arith) refl (cell .result)
@@ -67,7 +70,7 @@ work-map-word-from-requires t c κs =
     let at-c = c .before in
     let at-acquire-empty = at-c .before .before .before .before .before in
     let earlier = at-acquire-empty .before .before .before .before .before .before .before .before .before .before in
-    let start = earlier .before .before .before in
+    let start = earlier .before .before .before .before .before in
     let a = start .args in
     let taken = at-acquire-empty .acquire-empty in
     let chosen = at-c .c in
@@ -83,7 +86,7 @@ work-map-bind-requires t c κs =
     let at-work-pass = c .before .before .before .before .before .before in
     let at-word-from = at-work-pass .before .before .before .before in
     let at-acquire-empty = at-word-from .before .before .before .before .before .before .before in
-    let at-read-length = at-acquire-empty .before .before .before .before .before in
+    let at-read-length = at-acquire-empty .before .before .before .before .before .before .before in
     let at-named-cell = at-read-length .before .before .before in
     let start = at-named-cell .before .before .before .before .before in
     let a = start .args in
@@ -91,7 +94,7 @@ work-map-bind-requires t c κs =
     let taken = at-acquire-empty .acquire-empty in
     let number = at-word-from .word-from in (
       start .pre .1 .1,
-      passes-long k (a .lines) (a .calls) (a .f) mapping (a .at + 2) (a .p ∷ []) (at-named-cell .named-cell .result)
+      passes-long k (a .lines) (a .calls) mapping (a .at + 2) (a .p ∷ []) (at-named-cell .named-cell .result)
           (at-read-length .read-length .result) (number .result) 0 (a .steps - 1)
           (memory (store-of (taken .last .0) (taken .last .1 .0)) (a .env .now))
           (rw (toZ-ofZ {z = number .result} (record { sfits = number .ok })) at (at-work-pass .work-pass .ensures))
@@ -104,7 +107,7 @@ work-map-add-end-in t c =
     let earlier = c .before .before .before .before .before .before .before .before .before .before in
     let earlier′ = earlier .before .before .before .before .before .before .before .before .before .before in
     let earlier′′ = earlier′ .before .before .before .before .before .before .before .before .before .before in
-    let start = earlier′′ .before .before in
+    let start = earlier′′ .before .before .before .before in
     omega (
       arith,
       start .pre,
@@ -137,7 +140,8 @@ work-map-returns-3 t c =
     let at-c = at-word-from .before .before in
     let at-acquire-empty = at-c .before .before .before .before .before in
     let at-element-depth = at-acquire-empty .before .before .before in
-    let at-read-length = at-element-depth .before .before in
+    let at-function-of = at-element-depth .before .before in
+    let at-read-length = at-function-of .before .before in
     let at-named-cell = at-read-length .before .before .before in
     let at-word-of = at-named-cell .before in
     let at-if1 = at-word-of .before .before in
@@ -147,16 +151,18 @@ work-map-returns-3 t c =
     let word = at-word-of .word-of in
     let cell = at-named-cell .named-cell in
     let size = at-read-length .read-length in
+    let worked = at-function-of .function-of in
     let depth = at-element-depth .element-depth in
     let taken = at-acquire-empty .acquire-empty in
     let chosen = at-c .c in
     let number = at-word-from .word-from in
     let passes = at-work-pass .work-pass in
-    loop-goes (tree-on (a .lines) (call-on (a .calls) k) k (a .calls) (a .f)) k (a .calls) (a .f) (a .x) mapping
+    loop-goes (tree-on (a .lines) (call-on (a .calls) k) k (a .calls)) k (a .calls) (a .x) mapping
     (a .p ∷ []) (a .a ∷ []) (a .at) (a .steps) (a .slots .now) (a .heads .now) (a .env .now)
     (at-if1 .if1 .left) (word .result ∷ []) (ap (λ y. y ∷ []) (word .ensures))
     (out 0 (number .result) 0 (a .steps - 1)) (taken .last .0) (taken .last .1 .0)
-    (map-cell (depth .result) (depth-in (k .table) (a .f) (a .x) - 1) (depth .ensures) (word .result ∷ [])
+    (map-cell (depth .result) (element-depth k (a .calls) (a .x) (a .env .now))
+    (depth .ensures ∙ ap (λ (f : ℕ). depth-in (k .table) f (a .x) - 1) (worked .ensures)) (word .result ∷ [])
     (a .steps - 1) (store-of (a .slots .now) (a .heads .now)) (a .env .now) (taken .result) (taken .ensures .0)
     (store-of (taken .last .0) (taken .last .1 .0)) (taken .ensures .1)
     (chosen .given .0 .0) (chosen .given .1) (number .result) (number .ensures)) (omega arith) refl (cell .result)
@@ -174,7 +180,8 @@ work-map-returns-4 t c =
     let at-enum-told = c .before in
     let at-acquire-empty = at-enum-told .before .before .before .before .before in
     let at-element-depth = at-acquire-empty .before .before .before in
-    let at-read-length = at-element-depth .before .before in
+    let at-function-of = at-element-depth .before .before in
+    let at-read-length = at-function-of .before .before in
     let at-named-cell = at-read-length .before .before .before in
     let at-word-of = at-named-cell .before in
     let at-if1 = at-word-of .before .before in
@@ -184,13 +191,15 @@ work-map-returns-4 t c =
     let word = at-word-of .word-of in
     let cell = at-named-cell .named-cell in
     let size = at-read-length .read-length in
+    let worked = at-function-of .function-of in
     let depth = at-element-depth .element-depth in
     let taken = at-acquire-empty .acquire-empty in
-    loop-none (tree-on (a .lines) (call-on (a .calls) k) k (a .calls) (a .f)) k (a .calls) (a .f) (a .x) mapping
+    loop-none (tree-on (a .lines) (call-on (a .calls) k) k (a .calls)) k (a .calls) (a .x) mapping
     (a .p ∷ []) (a .a ∷ []) (a .at) (a .steps) (a .slots .now) (a .heads .now) (a .env .now)
     (at-if1 .if1 .left) (word .result ∷ []) (ap (λ y. y ∷ []) (word .ensures))
     (c .halted2 .result) (taken .last .0) (taken .last .1 .0)
-    (map-none (depth .result) (depth-in (k .table) (a .f) (a .x) - 1) (depth .ensures) (word .result ∷ [])
+    (map-none (depth .result) (element-depth k (a .calls) (a .x) (a .env .now))
+    (depth .ensures ∙ ap (λ (f : ℕ). depth-in (k .table) f (a .x) - 1) (worked .ensures)) (word .result ∷ [])
     (a .steps - 1) (store-of (a .slots .now) (a .heads .now)) (a .env .now) (taken .result) (taken .ensures .0)
     (store-of (taken .last .0) (taken .last .1 .0)) (taken .ensures .1)
     (at-enum-told .enum-told .given .1) (c .halted2 .result) (c .halted2 .ensures))

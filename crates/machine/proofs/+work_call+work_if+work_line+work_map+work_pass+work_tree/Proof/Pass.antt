@@ -23,14 +23,14 @@ use Rattle.machine.proofs.+work_call+work_if+work_line+work_map+work_pa
 use Rattle.machine.proofs.+work_call+work_if+work_line+work_map+work_pass+work_tree.Proof.Common.{work-pass-claims}
 
 abbrev pub work-pass-Inv-loop : work-pass-lts.InvT-loop
-work-pass-Inv-loop kinds operands table slots₀ heads₀ env₀ steps lines calls f at p from carried count into s₀ i₀ slots
+work-pass-Inv-loop kinds operands table slots₀ heads₀ env₀ steps lines calls at p from carried count into s₀ i₀ slots
     heads env s i =
     let k = code (kinds .now) (operands .now) table in
-    Passing (looped mapping (tree-on lines (call-on calls k) k calls f at) calls (p ∷ []) from) count steps
+    Passing (looped mapping (tree-on lines (call-on calls k) k calls at) calls (p ∷ []) from) count steps
     (toZ w64 carried) slots₀ heads₀ env₀ (toZ w64 carried) s i slots heads env
 
 abbrev pub work-pass-μ-loop : work-pass-lts.MeasureT-loop
-work-pass-μ-loop kinds operands table slots₀ heads₀ env₀ steps lines calls f at p from carried count into s₀ i₀ slots
+work-pass-μ-loop kinds operands table slots₀ heads₀ env₀ steps lines calls at p from carried count into s₀ i₀ slots
     heads env s i = count - i
 
 pub work-pass-loop-holds : (t : ℕ) → work-pass-lts.Need-loop-holds (work-pass-claims t) (work-pass-at t)
@@ -40,7 +40,7 @@ work-pass-loop-holds t c =
     let a = c .before .before .args in
     let k = code (a .kinds .now .now) (a .operands .now .now) (a .table .now) in
     rw (toZ-ofZ {z = a .carried} (c .before .before .fits .carried))
-    (passing-starts (looped mapping (tree-on (a .lines) (call-on (a .calls) k) k (a .calls) (a .f) (a .at)) (a .calls)
+    (passing-starts (looped mapping (tree-on (a .lines) (call-on (a .calls) k) k (a .calls) (a .at)) (a .calls)
     (a .p ∷ []) (a .from)) (a .count) (a .steps) (a .carried) (a .slots .now) (a .heads .now) (a .env .now))
 
 pub work-pass-returns : (t : ℕ) → work-pass-lts.Need-returns (work-pass-claims t) (work-pass-at t) work-pass.Post
@@ -145,7 +145,7 @@ work-pass-loop-again t c =
     (record {
       slots-long = put .kept .0 ∙ tree .kept .1 .1 .1 .0;
       heads-long = put .kept .1 .0 ∙ tree .kept .1 .1 .1 .1 .0;
-      env-long = tree-long k (a .lines) (a .calls) (a .f) (a .at) (o .s - 1)
+      env-long = tree-long k (a .lines) (a .calls) (a .at) (o .s - 1)
           (memory (store-of (o .slots) (o .heads)) (bind .last .0)) (tree .ensures)
           ∙ bound-long (o .env) (place (a .calls) (a .p)) (read .result)
           (rw (toZ-ofZ {z = read .result} (record { sfits = read .ok })) at (bind .ensures));
