@@ -1,124 +1,211 @@
-// One store in the engine and its ledger beside it: opened and worked together, and compared after each call.
+// One store in the engine and its ledger beside it: opened and worked together, and compared after each call. The
+// arrays are those of the greatest script and store; the engine is lent as much of them as there is. Its code arrays
+// hold something else before each call.
+use cross_ledger::HEAD_WORDS;
+use cross_ledger::MOST_CELLS;
+use cross_ledger::SLOT_WORDS;
+use cross_values::VALUE_WORDS;
+use cross_values::arena;
+use cross_values::arena::ARENA_WORDS;
+use cross_values::arena::METER_WORDS;
 use cross_values::rows;
+use cross_values::rows::FILE_BYTES;
+use cross_values::rows::ROW_WORDS;
+use cross_values::stops;
+ghost use Prim.Native.Nat.{_≤_};
 
-// Given instead of a number where the engine and the second interpreter differ.
-pub const DIFFERS: u64 = 26;
+// The most lines of code.
+const CODE_LINES: usize = 4096;
+
+// What a delivery is given: so many bytes of the file, cells, readings and steps.
+pub struct Given {
+    pub end: usize,
+    pub cells: usize,
+    pub count: usize,
+    pub budget: u64,
+}
 
 // The readings as numbers, from their bits.
-fn set_numbers(numbers: &mut [i64], readings: &[u64]) {
+fn numbers_of(readings: &[u64; VALUE_WORDS]) -> [i64; VALUE_WORDS] {
+    let mut numbers = [0i64; VALUE_WORDS];
     let mut i: usize = 0;
-    while i < readings.len() && i < numbers.len() {
+    while i < VALUE_WORDS {
         numbers[i] = cross_values::signed(readings[i]);
         i = i + 1;
     }
+    numbers
 }
 
-// The engine's answer to a delivery of the first of these numbers.
-fn answer_of(
-    file: &[u8],
-    kinds: &mut [u8],
-    operands: &mut [i64],
-    slots: &mut [i64],
-    heads: &mut [u32],
-    numbers: &[i64],
-    count: usize,
-    budget: u64,
-) -> u64 {
-    if numbers.len() < count {
-        return 0;
+// The words of a store of some cells.
+fn slot_end(cells: usize) -> usize
+    ensures { λ r. ⌜ r ≤ 4097 ⌝ }
+{
+    1 + 16 * (cells % (MOST_CELLS + 1))
+}
+
+// The words of its heads.
+fn head_end(cells: usize) -> usize
+    ensures { λ r. ⌜ r ≤ 1025 ⌝ }
+{
+    1 + 4 * (cells % (MOST_CELLS + 1))
+}
+
+// The engine's answer to opening a store.
+fn open(file: &[u8], slots: &mut [i64], heads: &mut [u32], end: usize, cells: usize) -> u64 {
+    let mut kinds = [170u8; CODE_LINES];
+    let mut operands = [-170i64; CODE_LINES];
+    let file_end = end;
+    let slots_end = slot_end(cells);
+    let heads_end = head_end(cells);
+    if file.len() < file_end {
+        return stops::BROKEN;
     }
-    engine::engine_deliver(
-        file,
-        kinds,
-        operands,
-        slots,
-        heads,
-        &numbers[..count],
-        budget,
+    if slots.len() < slots_end {
+        return stops::BROKEN;
+    }
+    if heads.len() < heads_end {
+        return stops::BROKEN;
+    }
+    engine::engine_open(
+        &file[..file_end],
+        &mut kinds,
+        &mut operands,
+        &mut slots[..slots_end],
+        &mut heads[..heads_end],
     )
 }
 
-// Whether the store is sound after a delivery, with as many taken cells as its answer says, and with all of them taken
-// where none was free for the readings.
-fn is_sound(
+// The engine's answer to a delivery.
+fn deliver(
     file: &[u8],
-    kinds: &mut [u8],
-    operands: &mut [i64],
-    slots: &[i64],
-    heads: &[u32],
-    answer: u64,
-) -> bool {
-    let checked = engine::engine_check(file, kinds, operands, slots, heads);
-    if cross_ledger::number_of(checked) != 0 {
+    slots: &mut [i64],
+    heads: &mut [u32],
+    numbers: &[i64],
+    given: Given,
+) -> u64 {
+    let mut kinds = [170u8; CODE_LINES];
+    let mut operands = [-170i64; CODE_LINES];
+    let file_end = given.end;
+    let slots_end = slot_end(given.cells);
+    let heads_end = head_end(given.cells);
+    let count = given.count;
+    if file.len() < file_end {
+        return stops::BROKEN;
+    }
+    if slots.len() < slots_end {
+        return stops::BROKEN;
+    }
+    if heads.len() < heads_end {
+        return stops::BROKEN;
+    }
+    if numbers.len() < count {
+        return stops::BROKEN;
+    }
+    engine::engine_deliver(
+        &file[..file_end],
+        &mut kinds,
+        &mut operands,
+        &mut slots[..slots_end],
+        &mut heads[..heads_end],
+        &numbers[..count],
+        given.budget,
+    )
+}
+
+// The engine's answer to checking a store.
+fn check(file: &[u8], slots: &[i64], heads: &[u32], given: Given) -> u64 {
+    let mut kinds = [170u8; CODE_LINES];
+    let mut operands = [-170i64; CODE_LINES];
+    let file_end = given.end;
+    let slots_end = slot_end(given.cells);
+    let heads_end = head_end(given.cells);
+    if file.len() < file_end {
+        return stops::BROKEN;
+    }
+    if slots.len() < slots_end {
+        return stops::BROKEN;
+    }
+    if heads.len() < heads_end {
+        return stops::BROKEN;
+    }
+    engine::engine_check(
+        &file[..file_end],
+        &mut kinds,
+        &mut operands,
+        &slots[..slots_end],
+        &heads[..heads_end],
+    )
+}
+
+// Whether the answer after a delivery to a store of some cells fits the answer to checking the store: it is sound, with
+// as many taken cells as the delivery says, and with all of them taken where none was free for the readings.
+fn is_sound(checked: u64, answer: u64, cells: u64) -> bool {
+    if cross_ledger::number_of(checked) != stops::DONE {
         return false;
     }
     let number = cross_ledger::number_of(answer);
-    if number == 10 {
+    if number == stops::BAD_REQUEST {
         return true;
     }
-    let cells = cross_ledger::cells_of(answer);
-    if number == cross_ledger::DRY && cross_ledger::steps_of(answer) == 0 {
-        if cells != (heads.len() / 4) as u64 {
+    let taken = cross_ledger::cells_of(answer);
+    if number == stops::OUT_OF_CELLS && cross_ledger::steps_of(answer) == 0 {
+        if taken != cells {
             return false;
         }
     }
-    cells == cross_ledger::cells_of(checked)
+    taken == cross_ledger::cells_of(checked)
 }
 
 // Opens a store and its ledger; false where the script is refused or the totals differ.
 pub fn open_both(
-    file: &[u8],
-    kinds: &mut [u8],
-    operands: &mut [i64],
-    slots: &mut [i64],
-    heads: &mut [u32],
-    script: &mut [u64],
-    memory: &mut [u64],
-    book: &mut [u64],
+    file: &[u8; FILE_BYTES],
+    slots: &mut [i64; SLOT_WORDS],
+    heads: &mut [u32; HEAD_WORDS],
+    script: &mut [u64; ROW_WORDS],
+    memory: &mut [u64; ARENA_WORDS],
+    book: &mut [u64; METER_WORDS],
+    end: usize,
+    cells: usize,
 ) -> bool {
     rows::read_script(file, script);
     cross_ledger::open(memory, book);
-    let answer = engine::engine_open(file, kinds, operands, slots, heads);
-    if cross_ledger::number_of(answer) != 0 {
+    let answer = open(file, slots, heads, end, cells);
+    if cross_ledger::number_of(answer) != stops::DONE {
         return false;
     }
     cross_ledger::has_totals(script, slots, heads, memory, book)
 }
 
-// Works a delivery in both; the number of the answer if all agrees. Of the readings there are at most 17.
+// Works a delivery of the first of these readings in both; the number of the answer if all agrees.
 pub fn deliver_both(
-    file: &[u8],
-    kinds: &mut [u8],
-    operands: &mut [i64],
-    slots: &mut [i64],
-    heads: &mut [u32],
-    script: &[u64],
-    memory: &mut [u64],
-    book: &mut [u64],
-    readings: &[u64],
-    budget: u64,
+    file: &[u8; FILE_BYTES],
+    slots: &mut [i64; SLOT_WORDS],
+    heads: &mut [u32; HEAD_WORDS],
+    script: &[u64; ROW_WORDS],
+    memory: &mut [u64; ARENA_WORDS],
+    book: &mut [u64; METER_WORDS],
+    readings: &[u64; VALUE_WORDS],
+    given: Given,
 ) -> u64 {
-    let mut numbers = [0i64; 17];
-    set_numbers(&mut numbers[..], readings);
-    let count = readings.len();
-    let answer = answer_of(
-        file,
-        kinds,
-        operands,
-        slots,
-        heads,
-        &numbers[..],
-        count,
-        budget,
-    );
-    if !cross_ledger::judge(script, memory, book, readings, budget, answer) {
-        return DIFFERS;
+    let numbers = numbers_of(readings);
+    let answer = deliver(file, slots, heads, &numbers, given);
+    if !cross_ledger::judge(
+        script,
+        memory,
+        book,
+        readings,
+        given.count,
+        given.budget,
+        answer,
+    ) {
+        return stops::DIFFERS;
     }
     if !cross_ledger::has_totals(script, slots, heads, memory, book) {
-        return DIFFERS;
+        return stops::DIFFERS;
     }
-    if !is_sound(file, kinds, operands, slots, heads, answer) {
-        return DIFFERS;
+    let checked = check(file, slots, heads, given);
+    if !is_sound(checked, answer, given.cells as u64) {
+        return stops::DIFFERS;
     }
     cross_ledger::number_of(answer)
 }
@@ -126,50 +213,33 @@ pub fn deliver_both(
 // Works a delivery in both, and one that stops with 22 to 25 after some steps once more with a step less: that is 21,
 // which comes before them. The number of the first answer.
 pub fn deliver_twice(
-    file: &[u8],
-    kinds: &mut [u8],
-    operands: &mut [i64],
-    slots: &mut [i64],
-    heads: &mut [u32],
-    script: &[u64],
-    memory: &mut [u64],
-    book: &mut [u64],
-    readings: &[u64],
-    budget: u64,
+    file: &[u8; FILE_BYTES],
+    slots: &mut [i64; SLOT_WORDS],
+    heads: &mut [u32; HEAD_WORDS],
+    script: &[u64; ROW_WORDS],
+    memory: &mut [u64; ARENA_WORDS],
+    book: &mut [u64; METER_WORDS],
+    readings: &[u64; VALUE_WORDS],
+    given: Given,
 ) -> u64 {
-    let number = deliver_both(
-        file,
-        kinds,
-        operands,
-        slots,
-        heads,
-        script,
-        memory,
-        book,
-        readings,
-        budget,
-    );
-    let steps = cross_ledger::answered_steps(book);
-    if number < 22 || cross_ledger::DRY < number {
+    let number = deliver_both(file, slots, heads, script, memory, book, readings, given);
+    let steps = book[arena::ASKED];
+    if number < stops::CALL_TOO_DEEP || stops::OUT_OF_CELLS < number {
         return number;
     }
     if steps == 0 {
         return number;
     }
-    let less = deliver_both(
-        file,
-        kinds,
-        operands,
-        slots,
-        heads,
-        script,
-        memory,
-        book,
-        readings,
-        steps - 1,
-    );
-    if less != 21 {
-        return DIFFERS;
+    let fewer = Given {
+        end: given.end,
+        cells: given.cells,
+        count: given.count,
+        budget: steps - 1,
+    };
+    if deliver_both(file, slots, heads, script, memory, book, readings, fewer)
+        != stops::OUT_OF_STEPS
+    {
+        return stops::DIFFERS;
     }
     number
 }

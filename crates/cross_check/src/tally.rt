@@ -1,5 +1,7 @@
-// What a run counts, in one slice of words, and how it is printed.
-use super::both;
+// What a run counts, in one array of words, and how it is printed.
+use cross_draft::DESK_WORDS;
+use cross_values::kinds;
+use cross_values::stops;
 use libc::STDOUT_FILENO;
 ghost use Prim.Native.Nat.{_≤_};
 
@@ -19,22 +21,28 @@ pub const KINDS: usize = 48;
 pub const TALLY_WORDS: usize = 64;
 
 // Counts one more.
-pub fn count(tally: &mut [u64], i: usize) {
-    let n = cross_draft::word(tally, i);
-    cross_draft::put(tally, i, std::num::wrapping_add_u64(n, 1));
+pub fn count(tally: &mut [u64; TALLY_WORDS], i: usize) {
+    let at = i % TALLY_WORDS;
+    tally[at] = std::num::wrapping_add_u64(tally[at], 1);
+}
+
+// Counts a script that is opened, with totals of this depth.
+pub fn count_opened(tally: &mut [u64; TALLY_WORDS], depth: u64) {
+    count(tally, OPENED);
+    count(tally, DEPTHS + (depth % 8) as usize);
 }
 
 // Counts a draft: its nodes by kind, and whether it comes to the last level.
-pub fn count_draft(draft: &[u64], tally: &mut [u64]) {
+pub fn count_draft(draft: &[u64; DESK_WORDS], tally: &mut [u64; TALLY_WORDS]) {
     count_nodes(draft, tally);
-    if cross_draft::word(draft, cross_draft::LAST_LEVEL) == 1 {
+    if draft[cross_draft::LAST_LEVEL] == 1 {
         count(tally, LAST_LEVEL);
     }
 }
 
 // Counts the nodes of a draft by kind.
-fn count_nodes(draft: &[u64], tally: &mut [u64]) {
-    let nodes = cross_draft::word(draft, cross_draft::NODES) % 1025;
+fn count_nodes(draft: &[u64; DESK_WORDS], tally: &mut [u64; TALLY_WORDS]) {
+    let nodes = draft[cross_draft::NODES] % (cross_draft::MOST_NODES + 1);
     let mut node: u64 = 0;
     while node < nodes {
         let kind = cross_draft::kind_at(draft, node) % 16;
@@ -53,12 +61,12 @@ fn print_line(label: u64, count: u64) {
 }
 
 // Prints so many words of the tally from a place, each with its number.
-fn print_words(tally: &[u64], start: usize, first: u64, past: u64)
+fn print_words(tally: &[u64; TALLY_WORDS], start: usize, first: u64, past: u64)
     requires { ⌜ (start ≤ 64) × (past ≤ 64) ⌝ }
 {
     let mut i = first;
     while i < past {
-        print_line(i, cross_draft::word(tally, start + i as usize));
+        print_line(i, tally[(start + i as usize) % TALLY_WORDS]);
         i = i + 1;
     }
 }
@@ -71,23 +79,17 @@ fn print_count(label: &[u8], count: u64) {
 }
 
 // Prints the tally of a run.
-pub fn print_tally(tally: &[u64]) {
-    print_count(b"scripts opened: ", cross_draft::word(tally, OPENED));
-    print_count(b"scripts refused: ", cross_draft::word(tally, REFUSED));
-    print_count(
-        b"scripts that reach level 64: ",
-        cross_draft::word(tally, LAST_LEVEL),
-    );
+pub fn print_tally(tally: &[u64; TALLY_WORDS]) {
+    print_count(b"scripts opened: ", tally[OPENED]);
+    print_count(b"scripts refused: ", tally[REFUSED]);
+    print_count(b"scripts that reach level 64: ", tally[LAST_LEVEL]);
     io::write_all(STDOUT_FILENO, b"scripts by the depth of the totals\n");
     print_words(tally, DEPTHS, 0, 5);
     io::write_all(STDOUT_FILENO, b"nodes by kind\n");
-    print_words(tally, KINDS, 0, 14);
+    print_words(tally, KINDS, 0, kinds::KINDS);
     io::write_all(STDOUT_FILENO, b"deliveries that agree, by number\n");
-    print_line(0, cross_draft::word(tally, 0));
-    print_line(10, cross_draft::word(tally, 10));
-    print_words(tally, 0, 21, 26);
-    print_count(
-        b"deliveries that differ: ",
-        cross_draft::word(tally, both::DIFFERS as usize),
-    );
+    print_line(stops::DONE, tally[stops::DONE as usize]);
+    print_line(stops::BAD_REQUEST, tally[stops::BAD_REQUEST as usize]);
+    print_words(tally, 0, stops::OUT_OF_STEPS, stops::DIFFERS);
+    print_count(b"deliveries that differ: ", tally[stops::DIFFERS as usize]);
 }

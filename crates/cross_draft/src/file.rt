@@ -1,50 +1,52 @@
 // The draft as a script file.
+use super::DESK_WORDS;
+use cross_values::rows::FILE_BYTES;
 ghost use Prim.Native.Nat.{_≤_};
 
-// Stores a byte; past the end nothing is stored.
-fn put_byte(file: &mut [u8], i: usize, value: u64) {
-    if i < file.len() {
-        file[i] = (value % 256) as u8;
-    }
-}
-
 // Eight bytes, low byte first.
-fn put_bits(file: &mut [u8], i: usize, bits: u64)
-    requires { ⌜ i ≤ 65536 ⌝ }
+fn put_bits(file: &mut [u8; FILE_BYTES], i: usize, bits: u64)
+    requires { ⌜ i ≤ 9212 ⌝ }
 {
     let mut k: usize = 0;
     let mut left = bits;
     while k < 8 {
-        put_byte(file, i + k, left % 256);
+        file[i + k] = (left % 256) as u8;
         left = left / 256;
         k = k + 1;
     }
 }
 
 // Two bytes, low byte first.
-fn put_size(file: &mut [u8], i: usize, size: u64)
+fn put_size(file: &mut [u8; FILE_BYTES], i: usize, size: u64)
     requires { ⌜ i ≤ 2 ⌝ }
 {
-    put_byte(file, i, size % 256);
-    put_byte(file, i + 1, size / 256 % 256);
+    file[i] = (size % 256) as u8;
+    file[i + 1] = (size / 256 % 256) as u8;
+}
+
+// The kind and the operand of a node.
+fn put_node(desk: &[u64; DESK_WORDS], nodes: usize, node: usize, file: &mut [u8; FILE_BYTES])
+    requires { ⌜ (nodes ≤ 1024) × (node ≤ 1023) ⌝ }
+{
+    file[4 + node] = (super::kind_at(desk, node as u64) % 256) as u8;
+    put_bits(
+        file,
+        4 + nodes + 8 * node,
+        super::operand_at(desk, node as u64),
+    )
 }
 
 // The draft as a script file; its length.
-pub fn write_file(desk: &[u64], file: &mut [u8]) -> usize
+pub fn write_file(desk: &[u64; DESK_WORDS], file: &mut [u8; FILE_BYTES]) -> usize
     ensures { λ r. ⌜ r ≤ 9220 ⌝ }
 {
-    let nodes = super::word(desk, super::NODES) % 1025;
-    put_size(file, 0, super::word(desk, super::FUNCTIONS));
-    put_size(file, 2, nodes);
-    let mut node: u64 = 0;
+    let nodes = (desk[super::NODES] % (super::MOST_NODES + 1)) as usize;
+    put_size(file, 0, desk[super::FUNCTIONS]);
+    put_size(file, 2, nodes as u64);
+    let mut node: usize = 0;
     while node < nodes {
-        put_byte(file, 4 + node as usize, super::kind_at(desk, node));
-        put_bits(
-            file,
-            4 + nodes as usize + 8 * node as usize,
-            super::operand_at(desk, node),
-        );
+        put_node(desk, nodes, node, file);
         node = node + 1;
     }
-    4 + 9 * nodes as usize
+    4 + 9 * nodes
 }

@@ -1,16 +1,13 @@
-// The draft of a script that is made from a seed. All of it stands in one slice of words, the desk: the seed, what is
+// The draft of a script that is made from a seed. All of it stands in one array of words, the desk: the seed, what is
 // known of each name, the functions' signatures, an agenda of what is still to be written, and the nodes written so
-// far. A word past the end reads as 0, and storing there does nothing.
+// far.
 pub mod file;
 pub mod requests;
 
-ghost use Prim.Native.Nat.{_<_, _≤_};
+ghost use Prim.Native.Nat.{_<_};
 
 // The words of a desk.
 pub const DESK_WORDS: usize = 4896;
-
-// The bytes of the longest script file.
-pub const FILE_BYTES: usize = 9220;
 
 // Single words: the seed, the nodes written, the items on the agenda, the functions, the function that is written,
 // the nodes after which only leaves are written, and whether a spine came to its last level.
@@ -37,6 +34,17 @@ const AGENDA: usize = 800;
 
 const DRAFT: usize = 2848;
 
+// How much the regions hold: names, functions, a signature's columns, items and nodes.
+const NAMES: u64 = 256;
+
+pub const MOST_FUNCTIONS: u64 = 32;
+
+const COLUMNS: u64 = 16;
+
+const MOST_ITEMS: u64 = 2048;
+
+pub const MOST_NODES: u64 = 1024;
+
 // The columns of a signature: how many parameters, the result's depth, whether the function calls itself, and
 // from the third on the parameters' depths.
 pub const COUNT: u64 = 0;
@@ -47,129 +55,105 @@ pub const RECURSIVE: u64 = 2;
 
 pub const FIRST_DEPTH: u64 = 3;
 
-// What an item of the agenda asks for: a part, another depth of a name, or a node that is fixed.
+// What an item of the agenda asks for: a part, another depth of a name, or a node that is fixed. Where there is no
+// item, nothing is asked for.
 pub const PART: u64 = 0;
 
 pub const BINDING: u64 = 1;
 
 pub const NODE: u64 = 2;
 
-// A word; 0 past the end.
-pub fn word(desk: &[u64], i: usize) -> u64 {
-    if i < desk.len() {
-        return desk[i];
-    }
-    0
-}
+pub const NOTHING: u64 = 3;
 
-// Stores a word; past the end nothing is stored.
-pub fn put(desk: &mut [u64], i: usize, value: u64) {
-    if i < desk.len() {
-        desk[i] = value;
-    }
-}
+// The sequence that a seed starts: each number is the last one times a factor, modulo a prime.
+const PRIME: u64 = 2147483647;
 
-// A word of a region.
-fn region_word(desk: &[u64], region: usize, i: u64) -> u64
-    requires { ⌜ region ≤ 65536 ⌝ }
-{
-    if i < 2048 {
-        return word(desk, region + i as usize);
-    }
-    0
-}
-
-// Stores a word of a region.
-fn put_region(desk: &mut [u64], region: usize, i: u64, value: u64)
-    requires { ⌜ region ≤ 65536 ⌝ }
-{
-    if i < 2048 {
-        put(desk, region + i as usize, value);
-    }
-}
+const FACTOR: u64 = 48271;
 
 // The next number of the sequence, below n.
-pub fn choose(desk: &mut [u64], n: u64) -> u64
+pub fn choose(desk: &mut [u64; DESK_WORDS], n: u64) -> u64
     requires { ⌜ 0 < n ⌝ }
     ensures { λ r. ⌜ r < n ⌝ }
 {
-    let seed = word(desk, SEED) % 2147483647 * 48271 % 2147483647;
-    put(desk, SEED, seed);
+    let seed = desk[SEED] % PRIME * FACTOR % PRIME;
+    desk[SEED] = seed;
     seed / 8 % n
 }
 
-// Notes that a spine came to its last level, where it did.
-pub fn note_spine(desk: &mut [u64], spine: bool) {
-    if spine {
-        put(desk, LAST_LEVEL, 1);
-    }
+// Starts the sequence from a seed; it would stay at 0, so it never starts there.
+pub fn plant(desk: &mut [u64; DESK_WORDS], seed: u64) {
+    desk[SEED] = seed % (PRIME - 1) + 1;
 }
 
-// Starts the sequence from a seed; it would stay at 0, so it never starts there.
-pub fn plant(desk: &mut [u64], seed: u64) {
-    put(desk, SEED, seed % 2147483646 + 1);
+// Notes that a spine came to its last level, where it did.
+pub fn note_spine(desk: &mut [u64; DESK_WORDS], spine: bool) {
+    if spine {
+        desk[LAST_LEVEL] = 1;
+    }
 }
 
 // 0 for a name that is not known, and else its depth + 1.
-pub fn known(desk: &[u64], name: u64) -> u64 {
-    region_word(desk, SCOPE, name % 256)
+pub fn known(desk: &[u64; DESK_WORDS], name: u64) -> u64 {
+    desk[SCOPE + (name % NAMES) as usize]
 }
 
 // Sets what is known of a name.
-pub fn set_known(desk: &mut [u64], name: u64, depth_and_one: u64) {
-    put_region(desk, SCOPE, name % 256, depth_and_one);
+pub fn set_known(desk: &mut [u64; DESK_WORDS], name: u64, depth_and_one: u64) {
+    desk[SCOPE + (name % NAMES) as usize] = depth_and_one;
+}
+
+// Where a column of a function's signature stands.
+fn signature_place(function: u64, column: u64) -> usize
+    ensures { λ r. ⌜ r < 784 ⌝ }
+{
+    SIGNATURES + (function % MOST_FUNCTIONS * COLUMNS + column % COLUMNS) as usize
 }
 
 // A column of a function's signature.
-pub fn signature(desk: &[u64], function: u64, column: u64) -> u64 {
-    region_word(desk, SIGNATURES, function % 32 * 16 + column % 16)
+pub fn signature(desk: &[u64; DESK_WORDS], function: u64, column: u64) -> u64 {
+    desk[signature_place(function, column)]
 }
 
 // Sets a column of a function's signature.
-pub fn set_signature(desk: &mut [u64], function: u64, column: u64, value: u64) {
-    put_region(desk, SIGNATURES, function % 32 * 16 + column % 16, value);
+pub fn set_signature(desk: &mut [u64; DESK_WORDS], function: u64, column: u64, value: u64) {
+    desk[signature_place(function, column)] = value;
 }
 
 // Puts an item on top of the agenda.
-pub fn push(desk: &mut [u64], tag: u64, first: u64, second: u64) {
-    let items = word(desk, ITEMS);
-    if items < 2048 {
-        put_region(
-            desk,
-            AGENDA,
-            items,
-            tag % 4 + 4 * (first % 4096 + 4096 * (second % 65536)),
-        );
-        put(desk, ITEMS, items + 1);
+pub fn push(desk: &mut [u64; DESK_WORDS], tag: u64, first: u64, second: u64) {
+    let items = desk[ITEMS];
+    if items < MOST_ITEMS {
+        desk[AGENDA + items as usize] = tag % 4 + 4 * (first % 4096 + 4096 * (second % 65536));
+        desk[ITEMS] = items + 1;
     }
 }
 
-// Takes the agenda's top item; 3 where there is none.
-pub fn pop(desk: &mut [u64]) -> u64 {
-    let items = word(desk, ITEMS);
+// Takes the agenda's top item.
+pub fn pop(desk: &mut [u64; DESK_WORDS]) -> u64 {
+    let items = desk[ITEMS];
     if items == 0 {
-        return 3;
+        return NOTHING;
     }
-    put(desk, ITEMS, items - 1);
-    region_word(desk, AGENDA, items - 1)
+    desk[ITEMS] = items - 1;
+    desk[AGENDA + ((items - 1) % MOST_ITEMS) as usize]
 }
 
 // Writes a node.
-pub fn write(desk: &mut [u64], kind: u64, operand: u64) {
-    let node = word(desk, NODES);
-    if node < 1024 {
-        put_region(desk, DRAFT, 2 * node, kind);
-        put_region(desk, DRAFT, 2 * node + 1, operand);
-        put(desk, NODES, node + 1);
+pub fn write(desk: &mut [u64; DESK_WORDS], kind: u64, operand: u64) {
+    let node = desk[NODES];
+    if node < MOST_NODES {
+        desk[DRAFT + 2 * node as usize] = kind;
+        desk[DRAFT + 2 * node as usize + 1] = operand;
+        desk[NODES] = node + 1;
     }
 }
 
 // The kind of a node that is written.
-pub fn kind_at(desk: &[u64], node: u64) -> u64 {
-    region_word(desk, DRAFT, node % 1024 * 2)
+pub fn kind_at(desk: &[u64; DESK_WORDS], node: u64) -> u64 {
+    desk[DRAFT + 2 * (node % MOST_NODES) as usize]
 }
 
 // The operand of a node that is written.
-pub fn operand_at(desk: &[u64], node: u64) -> u64 {
-    region_word(desk, DRAFT, node % 1024 * 2 + 1)
+pub fn operand_at(desk: &[u64; DESK_WORDS], node: u64) -> u64 {
+    desk[DRAFT + 2 * (node % MOST_NODES) as usize + 1]
 }

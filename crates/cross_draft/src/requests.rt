@@ -1,5 +1,10 @@
 // Numbers, and what a delivery is given: cells, readings and a budget.
+use super::DESK_WORDS;
+use cross_values::VALUE_WORDS;
 ghost use Prim.Native.Nat.{_<_, _≤_};
+
+// The greatest budget.
+pub const MOST_STEPS: u64 = 1000000;
 
 // The greatest and the least number, as bits.
 const GREATEST: u64 = 9223372036854775807;
@@ -7,7 +12,7 @@ const GREATEST: u64 = 9223372036854775807;
 const LEAST: u64 = 9223372036854775808;
 
 // The bits of a number: small, negative, or at the ends of the range.
-pub fn number(desk: &mut [u64]) -> u64 {
+pub fn number(desk: &mut [u64; DESK_WORDS]) -> u64 {
     match super::choose(desk, 9) {
         0 => 18446744073709551615 - super::choose(desk, 3),
         1 => GREATEST - super::choose(desk, 2),
@@ -17,7 +22,7 @@ pub fn number(desk: &mut [u64]) -> u64 {
 }
 
 // How many cells a store has.
-pub fn choose_cells(desk: &mut [u64]) -> usize
+pub fn choose_cells(desk: &mut [u64; DESK_WORDS]) -> usize
     ensures { λ r. ⌜ (0 < r) × (r ≤ 256) ⌝ }
 {
     match super::choose(desk, 10) {
@@ -34,37 +39,37 @@ pub fn choose_cells(desk: &mut [u64]) -> usize
 }
 
 // How many readings there are; at times one too many.
-fn reading_count(desk: &mut [u64]) -> usize
+fn reading_count(desk: &mut [u64; DESK_WORDS]) -> usize
     ensures { λ r. ⌜ r ≤ 17 ⌝ }
 {
     let choice = super::choose(desk, 120);
     if choice < 5 {
-        return 17;
+        return VALUE_WORDS;
     }
     if choice < 10 {
-        return 16;
+        return cross_values::MOST_ELEMENTS;
     }
     (choice % 5) as usize
 }
 
 // Fills in readings; how many there are.
-pub fn choose_readings(desk: &mut [u64], readings: &mut [u64]) -> usize
+pub fn choose_readings(desk: &mut [u64; DESK_WORDS], readings: &mut [u64; VALUE_WORDS]) -> usize
     ensures { λ r. ⌜ r ≤ 17 ⌝ }
 {
     let count = reading_count(desk);
     let mut i: usize = 0;
-    while i < 17 {
+    while i < VALUE_WORDS {
         let bits = number(desk);
-        super::put(readings, i, bits);
+        readings[i] = bits;
         i = i + 1;
     }
     count
 }
 
 // A budget: mostly ample, at times small, and at times too large.
-pub fn choose_budget(desk: &mut [u64]) -> u64 {
+pub fn choose_budget(desk: &mut [u64; DESK_WORDS]) -> u64 {
     match super::choose(desk, 20) {
-        0 => 1000001,
+        0 => MOST_STEPS + 1,
         1 | 2 => super::choose(desk, 10),
         3 | 4 => super::choose(desk, 100),
         _ => 4000,

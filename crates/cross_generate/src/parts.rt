@@ -1,45 +1,57 @@
 // Parts of a script. A node is written when its item is taken, and items for its parts go on the agenda, the last
 // part first. `levels` is how deep a part may go; on a spine one part goes as deep as it may.
+use cross_draft::DESK_WORDS;
+use cross_draft::MOST_FUNCTIONS;
+use cross_values::kinds;
 ghost use Prim.Native.Nat.{_<_, _≤_};
 
-// One of the eight names that scripts use, from both ends of their range.
+// How many names scripts use.
+pub const NAMES: u64 = 8;
+
+// Past the last name: none.
+const NO_NAME: u64 = 256;
+
+// The greatest depth.
+const MOST_DEPTH: u64 = 4;
+
+// One of the names that scripts use, from both ends of their range.
 pub fn name_of(i: u64) -> u64
     ensures { λ r. ⌜ r < 256 ⌝ }
 {
-    let k = i % 8;
+    let k = i % NAMES;
     if k < 6 {
         return k;
     }
     248 + k
 }
 
-// A name of this depth; 256 where none is known.
-fn find_name(desk: &mut [u64], depth: u64) -> u64
+// A name of this depth; `NO_NAME` where none is known.
+fn find_name(desk: &mut [u64; DESK_WORDS], depth: u64) -> u64
     requires { ⌜ depth ≤ 4 ⌝ }
 {
-    let start = cross_draft::choose(desk, 8);
+    let start = cross_draft::choose(desk, NAMES);
     let mut i: u64 = 0;
-    while i < 8 {
+    while i < NAMES {
         let name = name_of(start + i);
         if cross_draft::known(desk, name) == depth + 1 {
             return name;
         }
         i = i + 1;
     }
-    256
+    NO_NAME
 }
 
 // A name to bind; the falling number of a function that calls itself keeps its name.
-fn binding_name(desk: &mut [u64]) -> u64 {
-    let function = cross_draft::word(desk, cross_draft::FUNCTION);
+fn binding_name(desk: &mut [u64; DESK_WORDS]) -> u64 {
+    let function = desk[cross_draft::FUNCTION];
     if cross_draft::signature(desk, function, cross_draft::RECURSIVE) == 0 {
-        return name_of(cross_draft::choose(desk, 8));
+        return name_of(cross_draft::choose(desk, NAMES));
     }
-    name_of(cross_draft::choose(desk, 7) + 1)
+    name_of(cross_draft::choose(desk, NAMES - 1) + 1)
 }
 
 // Asks for a part of this depth.
-pub fn push_part(desk: &mut [u64], depth: u64, levels: u64, spine: bool) {
+pub fn push_part(desk: &mut [u64; DESK_WORDS], depth: u64, levels: u64, spine: bool) {
     let code = depth % 8 + levels % 128 * 8;
     if spine {
         cross_draft::push(desk, cross_draft::PART, code + 1024, 0);
@@ -49,12 +61,12 @@ pub fn push_part(desk: &mut [u64], depth: u64, levels: u64, spine: bool) {
 }
 
 // Asks for a node that is fixed.
-fn push_node(desk: &mut [u64], kind: u64, operand: u64) {
+fn push_node(desk: &mut [u64; DESK_WORDS], kind: u64, operand: u64) {
     cross_draft::push(desk, cross_draft::NODE, kind, operand);
 }
 
 // Asks for a part of a node that has `levels`. On a spine only the chosen part goes deep.
-fn push_child(desk: &mut [u64], depth: u64, levels: u64, spine: bool, chosen: bool)
+fn push_child(desk: &mut [u64; DESK_WORDS], depth: u64, levels: u64, spine: bool, chosen: bool)
     requires { ⌜ 0 < levels ⌝ }
 {
     if spine {
@@ -73,11 +85,11 @@ fn push_child(desk: &mut [u64], depth: u64, levels: u64, spine: bool, chosen: bo
 }
 
 // A depth; the lower ones more often.
-pub fn some_depth(desk: &mut [u64]) -> u64
+pub fn some_depth(desk: &mut [u64; DESK_WORDS]) -> u64
     ensures { λ r. ⌜ r ≤ 4 ⌝ }
 {
     match cross_draft::choose(desk, 10) {
-        0 => 4,
+        0 => MOST_DEPTH,
         1 => 3,
         2 | 3 => 2,
         4 | 5 | 6 => 1,
@@ -86,30 +98,30 @@ pub fn some_depth(desk: &mut [u64]) -> u64
 }
 
 // Writes a leaf: a name, a number or an empty literal.
-fn make_leaf(desk: &mut [u64], depth: u64)
+fn make_leaf(desk: &mut [u64; DESK_WORDS], depth: u64)
     requires { ⌜ depth ≤ 4 ⌝ }
 {
     let name = find_name(desk, depth);
     let other = cross_draft::choose(desk, 5) == 0;
-    if name < 256 && !other {
-        return cross_draft::write(desk, 3, name);
+    if name < NO_NAME && !other {
+        return cross_draft::write(desk, kinds::NAME, name);
     }
     if depth == 0 {
         let bits = cross_draft::requests::number(desk);
-        return cross_draft::write(desk, 2, bits);
+        return cross_draft::write(desk, kinds::NUMBER, bits);
     }
-    cross_draft::write(desk, 9, 256 * (depth - 1))
+    cross_draft::write(desk, kinds::LITERAL, 256 * (depth - 1))
 }
 
 // Writes a let.
-fn make_let(desk: &mut [u64], depth: u64, levels: u64, spine: bool)
+fn make_let(desk: &mut [u64; DESK_WORDS], depth: u64, levels: u64, spine: bool)
     requires { ⌜ 0 < levels ⌝ }
 {
     let name = binding_name(desk);
     let bound = some_depth(desk);
     let old = cross_draft::known(desk, name);
     let deep_body = cross_draft::choose(desk, 2) == 0;
-    cross_draft::write(desk, 7, name);
+    cross_draft::write(desk, kinds::LET, name);
     cross_draft::push(desk, cross_draft::BINDING, name, old);
     push_child(desk, depth, levels, spine, deep_body);
     cross_draft::push(desk, cross_draft::BINDING, name, bound + 1);
@@ -117,63 +129,63 @@ fn make_let(desk: &mut [u64], depth: u64, levels: u64, spine: bool)
 }
 
 // Writes an if.
-fn make_if(desk: &mut [u64], depth: u64, levels: u64, spine: bool)
+fn make_if(desk: &mut [u64; DESK_WORDS], depth: u64, levels: u64, spine: bool)
     requires { ⌜ 0 < levels ⌝ }
 {
     let chosen = cross_draft::choose(desk, 3);
-    cross_draft::write(desk, 12, 0);
+    cross_draft::write(desk, kinds::IF, 0);
     push_child(desk, depth, levels, spine, chosen == 2);
     push_child(desk, depth, levels, spine, chosen == 1);
     push_child(desk, 0, levels, spine, chosen == 0);
 }
 
 // Asks for a position, mostly a low one.
-fn push_position(desk: &mut [u64], levels: u64, spine: bool)
+fn push_position(desk: &mut [u64; DESK_WORDS], levels: u64, spine: bool)
     requires { ⌜ 0 < levels ⌝ }
 {
     if cross_draft::choose(desk, 5) == 0 {
         return push_child(desk, 0, levels, spine, false);
     }
     let position = cross_draft::choose(desk, 2);
-    push_node(desk, 2, position)
+    push_node(desk, kinds::NUMBER, position)
 }
 
 // Writes an index.
-fn make_index(desk: &mut [u64], depth: u64, levels: u64, spine: bool)
+fn make_index(desk: &mut [u64; DESK_WORDS], depth: u64, levels: u64, spine: bool)
     requires { ⌜ (0 < levels) × (depth < 4) ⌝ }
 {
-    cross_draft::write(desk, 10, 0);
+    cross_draft::write(desk, kinds::INDEX, 0);
     push_position(desk, levels, spine);
     push_child(desk, depth + 1, levels, spine, true)
 }
 
 // Asks whether a position is below the length of a name.
-fn push_test(desk: &mut [u64], name: u64, position: u64) {
-    push_node(desk, 3, name);
-    push_node(desk, 11, 0);
-    push_node(desk, 2, position);
-    push_node(desk, 6, 0)
+fn push_test(desk: &mut [u64; DESK_WORDS], name: u64, position: u64) {
+    push_node(desk, kinds::NAME, name);
+    push_node(desk, kinds::LENGTH, 0);
+    push_node(desk, kinds::NUMBER, position);
+    push_node(desk, kinds::LESS, 0)
 }
 
 // Writes an index of a name under an if that tests its length; a let where no name fits.
-fn make_tested_index(desk: &mut [u64], depth: u64, levels: u64)
+fn make_tested_index(desk: &mut [u64; DESK_WORDS], depth: u64, levels: u64)
     requires { ⌜ (0 < levels) × (depth < 4) ⌝ }
 {
     let name = find_name(desk, depth + 1);
-    if 255 < name {
+    if NO_NAME <= name {
         return make_let(desk, depth, levels, false);
     }
     let position = cross_draft::choose(desk, 3);
-    cross_draft::write(desk, 12, 0);
+    cross_draft::write(desk, kinds::IF, 0);
     push_part(desk, depth, 1, false);
-    push_node(desk, 2, position);
-    push_node(desk, 3, name);
-    push_node(desk, 10, 0);
+    push_node(desk, kinds::NUMBER, position);
+    push_node(desk, kinds::NAME, name);
+    push_node(desk, kinds::INDEX, 0);
     push_test(desk, name, position)
 }
 
 // How many elements a literal has: mostly a few, at times 16, and on a spine at least one.
-fn literal_length(desk: &mut [u64], spine: bool) -> u64
+fn literal_length(desk: &mut [u64; DESK_WORDS], spine: bool) -> u64
     ensures { λ r. ⌜ r ≤ 16 ⌝ }
 {
     let many = cross_draft::choose(desk, 12) == 0;
@@ -187,16 +199,16 @@ fn literal_length(desk: &mut [u64], spine: bool) -> u64
 }
 
 // Writes a literal.
-fn make_literal(desk: &mut [u64], depth: u64, levels: u64, spine: bool)
+fn make_literal(desk: &mut [u64; DESK_WORDS], depth: u64, levels: u64, spine: bool)
     requires { ⌜ (0 < levels) × (0 < depth) × (depth ≤ 4) ⌝ }
 {
     let length = literal_length(desk, spine);
-    cross_draft::write(desk, 9, length + 256 * (depth - 1));
+    cross_draft::write(desk, kinds::LITERAL, length + 256 * (depth - 1));
     push_elements(desk, depth - 1, levels, spine, length)
 }
 
 // Asks for the elements of a literal.
-fn push_elements(desk: &mut [u64], depth: u64, levels: u64, spine: bool, count: u64)
+fn push_elements(desk: &mut [u64; DESK_WORDS], depth: u64, levels: u64, spine: bool, count: u64)
     requires { ⌜ 0 < levels ⌝ }
 {
     let mut left = count;
@@ -207,14 +219,14 @@ fn push_elements(desk: &mut [u64], depth: u64, levels: u64, spine: bool, count: 
 }
 
 // Writes a map.
-fn make_map(desk: &mut [u64], depth: u64, levels: u64, spine: bool)
+fn make_map(desk: &mut [u64; DESK_WORDS], depth: u64, levels: u64, spine: bool)
     requires { ⌜ (0 < levels) × (0 < depth) ⌝ }
 {
     let name = binding_name(desk);
     let element = cross_draft::choose(desk, 4);
     let old = cross_draft::known(desk, name);
     let deep_body = cross_draft::choose(desk, 3) != 0;
-    cross_draft::write(desk, 13, name);
+    cross_draft::write(desk, kinds::MAP, name);
     cross_draft::push(desk, cross_draft::BINDING, name, old);
     push_child(desk, depth - 1, levels, spine, deep_body);
     cross_draft::push(desk, cross_draft::BINDING, name, element + 1);
@@ -222,10 +234,10 @@ fn make_map(desk: &mut [u64], depth: u64, levels: u64, spine: bool)
 }
 
 // Writes a sum, a difference or a comparison.
-fn make_operation(desk: &mut [u64], levels: u64, spine: bool)
+fn make_operation(desk: &mut [u64; DESK_WORDS], levels: u64, spine: bool)
     requires { ⌜ 0 < levels ⌝ }
 {
-    let kind = 4 + cross_draft::choose(desk, 3);
+    let kind = kinds::SUM + cross_draft::choose(desk, 3);
     let deep_first = cross_draft::choose(desk, 2) == 0;
     cross_draft::write(desk, kind, 0);
     push_child(desk, 0, levels, spine, !deep_first);
@@ -233,18 +245,18 @@ fn make_operation(desk: &mut [u64], levels: u64, spine: bool)
 }
 
 // Writes the length of an array.
-fn make_length(desk: &mut [u64], levels: u64, spine: bool)
+fn make_length(desk: &mut [u64; DESK_WORDS], levels: u64, spine: bool)
     requires { ⌜ 0 < levels ⌝ }
 {
     let element = cross_draft::choose(desk, 4);
-    cross_draft::write(desk, 11, 0);
+    cross_draft::write(desk, kinds::LENGTH, 0);
     push_child(desk, element + 1, levels, spine, true);
 }
 
 // Whether the function that is written may call another: one after it, itself if it has a falling number, and at
 // times any.
-fn may_call(desk: &mut [u64], callee: u64) -> bool {
-    let function = cross_draft::word(desk, cross_draft::FUNCTION);
+fn may_call(desk: &mut [u64; DESK_WORDS], callee: u64) -> bool {
+    let function = desk[cross_draft::FUNCTION];
     if function < callee {
         return true;
     }
@@ -257,8 +269,8 @@ fn may_call(desk: &mut [u64], callee: u64) -> bool {
 }
 
 // Whether a function is there, gives this depth and may be called here.
-fn fits_call(desk: &mut [u64], callee: u64, depth: u64) -> bool {
-    if cross_draft::word(desk, cross_draft::FUNCTIONS) <= callee {
+fn fits_call(desk: &mut [u64; DESK_WORDS], callee: u64, depth: u64) -> bool {
+    if desk[cross_draft::FUNCTIONS] <= callee {
         return false;
     }
     if cross_draft::signature(desk, callee, cross_draft::RESULT) != depth {
@@ -267,22 +279,22 @@ fn fits_call(desk: &mut [u64], callee: u64, depth: u64) -> bool {
     may_call(desk, callee)
 }
 
-// A function to call here that gives this depth; 32 where there is none.
-fn find_callee(desk: &mut [u64], depth: u64) -> u64 {
-    let start = cross_draft::choose(desk, 32);
+// A function to call here that gives this depth; `MOST_FUNCTIONS` where there is none.
+fn find_callee(desk: &mut [u64; DESK_WORDS], depth: u64) -> u64 {
+    let start = cross_draft::choose(desk, MOST_FUNCTIONS);
     let mut i: u64 = 0;
-    while i < 32 {
-        let callee = (start + i) % 32;
+    while i < MOST_FUNCTIONS {
+        let callee = (start + i) % MOST_FUNCTIONS;
         if fits_call(desk, callee, depth) {
             return callee;
         }
         i = i + 1;
     }
-    32
+    MOST_FUNCTIONS
 }
 
 // Where the falling number of a function starts: also near the greatest call depth.
-fn falling_start(desk: &mut [u64]) -> u64 {
+fn falling_start(desk: &mut [u64; DESK_WORDS]) -> u64 {
     match cross_draft::choose(desk, 8) {
         0 => 29,
         1 => 30,
@@ -293,18 +305,18 @@ fn falling_start(desk: &mut [u64]) -> u64 {
 }
 
 // Asks for the falling number of a function: within the function it is its own number less 1.
-fn push_falling(desk: &mut [u64], callee: u64) {
-    if callee == cross_draft::word(desk, cross_draft::FUNCTION) {
-        push_node(desk, 2, 1);
-        push_node(desk, 3, name_of(0));
-        return push_node(desk, 5, 0);
+fn push_falling(desk: &mut [u64; DESK_WORDS], callee: u64) {
+    if callee == desk[cross_draft::FUNCTION] {
+        push_node(desk, kinds::NUMBER, 1);
+        push_node(desk, kinds::NAME, name_of(0));
+        return push_node(desk, kinds::DIFFERENCE, 0);
     }
     let start = falling_start(desk);
-    push_node(desk, 2, start)
+    push_node(desk, kinds::NUMBER, start)
 }
 
 // Asks for the arguments of a call.
-fn push_arguments(desk: &mut [u64], callee: u64, count: u64, levels: u64)
+fn push_arguments(desk: &mut [u64; DESK_WORDS], callee: u64, count: u64, levels: u64)
     requires { ⌜ (0 < levels) × (count ≤ 8) ⌝ }
 {
     let mut left = count;
@@ -321,20 +333,20 @@ fn push_arguments(desk: &mut [u64], callee: u64, count: u64, levels: u64)
 }
 
 // Writes a call; an if where no function fits.
-fn make_call(desk: &mut [u64], depth: u64, levels: u64)
+fn make_call(desk: &mut [u64; DESK_WORDS], depth: u64, levels: u64)
     requires { ⌜ 0 < levels ⌝ }
 {
     let callee = find_callee(desk, depth);
-    if 31 < callee {
+    if MOST_FUNCTIONS <= callee {
         return make_if(desk, depth, levels, false);
     }
     let count = cross_draft::signature(desk, callee, cross_draft::COUNT) % 9;
-    cross_draft::write(desk, 8, callee + 256 * count);
+    cross_draft::write(desk, kinds::CALL, callee + 256 * count);
     push_arguments(desk, callee, count, levels)
 }
 
 // Writes a node of depth 0 that only numbers have.
-fn make_number(desk: &mut [u64], levels: u64, spine: bool)
+fn make_number(desk: &mut [u64; DESK_WORDS], levels: u64, spine: bool)
     requires { ⌜ 0 < levels ⌝ }
 {
     if cross_draft::choose(desk, 4) == 0 {
@@ -344,7 +356,7 @@ fn make_number(desk: &mut [u64], levels: u64, spine: bool)
 }
 
 // Writes a node that only arrays have.
-fn make_array(desk: &mut [u64], depth: u64, levels: u64, spine: bool)
+fn make_array(desk: &mut [u64; DESK_WORDS], depth: u64, levels: u64, spine: bool)
     requires { ⌜ (0 < levels) × (0 < depth) × (depth ≤ 4) ⌝ }
 {
     if cross_draft::choose(desk, 5) < 2 {
@@ -354,7 +366,7 @@ fn make_array(desk: &mut [u64], depth: u64, levels: u64, spine: bool)
 }
 
 // Writes a node that has parts.
-fn make_compound(desk: &mut [u64], depth: u64, levels: u64, spine: bool)
+fn make_compound(desk: &mut [u64; DESK_WORDS], depth: u64, levels: u64, spine: bool)
     requires { ⌜ (0 < levels) × (depth ≤ 4) ⌝ }
 {
     let choice = cross_draft::choose(desk, 14);
@@ -364,7 +376,7 @@ fn make_compound(desk: &mut [u64], depth: u64, levels: u64, spine: bool)
     if choice == 2 {
         return make_if(desk, depth, levels, spine);
     }
-    if depth < 4 {
+    if depth < MOST_DEPTH {
         if choice == 3 {
             return make_index(desk, depth, levels, spine);
         }
@@ -382,7 +394,7 @@ fn make_compound(desk: &mut [u64], depth: u64, levels: u64, spine: bool)
 }
 
 // Writes a part: a leaf at the last level, past the limit, and at times elsewhere but on a spine.
-pub fn make_part(desk: &mut [u64], depth: u64, levels: u64, spine: bool)
+pub fn make_part(desk: &mut [u64; DESK_WORDS], depth: u64, levels: u64, spine: bool)
     requires { ⌜ depth ≤ 4 ⌝ }
 {
     let leaf = cross_draft::choose(desk, 8) == 0;
@@ -390,7 +402,7 @@ pub fn make_part(desk: &mut [u64], depth: u64, levels: u64, spine: bool)
         cross_draft::note_spine(desk, spine);
         return make_leaf(desk, depth);
     }
-    if cross_draft::word(desk, cross_draft::LIMIT) < cross_draft::word(desk, cross_draft::NODES) {
+    if desk[cross_draft::LIMIT] < desk[cross_draft::NODES] {
         return make_leaf(desk, depth);
     }
     if leaf && !spine {

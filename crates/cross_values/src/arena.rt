@@ -1,11 +1,19 @@
 // The arena, the meter and the nodes that need no more than the values of their parts.
+use super::MOST_ELEMENTS;
 use super::SIGN;
+use super::VALUE_WORDS;
 use super::Worked;
-ghost use Prim.Native.Nat.{_+_, _<_, _≤_};
-ghost use lib.ListN.{length};
+use super::kinds;
+use super::stops;
+ghost use Prim.Native.Nat.{_≤_};
+
+// The words of the arena, and the last place at which an array has room for its elements.
+pub const ARENA_WORDS: usize = 131072;
+
+const LAST_PLACE: usize = 131054;
 
 // The meter's words: the steps left; the steps taken; a step that is asked about; whether that step was taken by a
-// node that wants a cell; and the words of the arena in use.
+// node that takes a cell; the words of the arena in use; and the totals' value, which stays between deliveries.
 pub const LEFT: usize = 0;
 
 pub const TAKEN: usize = 1;
@@ -16,64 +24,76 @@ pub const WANTED: usize = 3;
 
 pub const USED: usize = 4;
 
-// Takes one step, of a node that wants a cell or not; false where none is left.
-pub fn step(meter: &mut [u64], wants: bool) -> bool {
-    let left = super::word(meter, LEFT);
+pub const TOTALS: usize = 5;
+
+pub const METER_WORDS: usize = 6;
+
+// Takes one step, of a node that takes a cell or not; false where none is left.
+pub fn step(meter: &mut [u64; METER_WORDS], takes_cell: bool) -> bool {
+    let left = meter[LEFT];
     if left == 0 {
         return false;
     }
-    let taken = std::num::wrapping_add_u64(super::word(meter, TAKEN), 1);
-    super::put(meter, LEFT, left - 1);
-    super::put(meter, TAKEN, taken);
-    if wants {
-        if taken == super::word(meter, ASKED) {
-            super::put(meter, WANTED, 1);
+    let taken = std::num::wrapping_add_u64(meter[TAKEN], 1);
+    meter[LEFT] = left - 1;
+    meter[TAKEN] = taken;
+    if takes_cell {
+        if taken == meter[ASKED] {
+            meter[WANTED] = 1;
         }
     }
     true
 }
 
 // The length of an array.
-pub fn length_at(arena: &[u64], array: u64) -> u64 {
-    super::word(arena, array as usize)
+pub fn length_at(arena: &[u64; ARENA_WORDS], array: u64) -> u64 {
+    let place = array as usize;
+    if place < ARENA_WORDS {
+        return arena[place];
+    }
+    0
 }
 
 // An element of an array.
-pub fn element_at(arena: &[u64], array: u64, i: u64) -> u64 {
+pub fn element_at(arena: &[u64; ARENA_WORDS], array: u64, i: u64) -> u64 {
     let place = array as usize;
-    if place < arena.len() {
-        if i < 16 {
-            return super::word(arena, place + 1 + i as usize);
+    let position = i as usize;
+    if place <= LAST_PLACE {
+        if position < MOST_ELEMENTS {
+            return arena[place + 1 + position];
         }
     }
     0
 }
 
-// Copies so many values behind each other to a place of the arena.
-fn copy_in(values: &[u64], count: usize, arena: &mut [u64], place: usize)
-    requires { ⌜ place + count ≤ length (now arena) ⌝ }
+// Copies the values to a place of the arena.
+fn copy_in(values: &[u64; VALUE_WORDS], arena: &mut [u64; ARENA_WORDS], place: usize)
+    requires { ⌜ place ≤ 131055 ⌝ }
 {
     let mut i: usize = 0;
-    while i < count {
-        super::put(arena, place + i, super::word(values, i));
+    while i < VALUE_WORDS {
+        arena[place + i] = values[i];
         i = i + 1;
     }
 }
 
-// A new array of the first of these values.
-pub fn new_array(arena: &mut [u64], meter: &mut [u64], values: &[u64], count: u64) -> Worked {
-    let place = super::word(meter, USED) as usize;
-    let room = arena.len();
-    if room <= place {
-        return Worked::Stop(super::FULL);
+// An array that is made of the first of these values.
+pub fn make_array(
+    arena: &mut [u64; ARENA_WORDS],
+    meter: &mut [u64; METER_WORDS],
+    values: &[u64; VALUE_WORDS],
+    count: u64,
+) -> Worked {
+    let place = meter[USED] as usize;
+    if LAST_PLACE < place {
+        return Worked::Stop(stops::FULL);
     }
-    if room - place <= count as usize {
-        return Worked::Stop(super::FULL);
+    if MOST_ELEMENTS < count as usize {
+        return Worked::Stop(stops::BROKEN);
     }
-    let end = place + 1 + count as usize;
-    super::put(arena, place, count);
-    copy_in(values, count as usize, arena, place + 1);
-    super::put(meter, USED, end as u64);
+    arena[place] = count;
+    copy_in(values, arena, place + 1);
+    meter[USED] = place as u64 + 1 + count;
     Worked::Value(place as u64)
 }
 
@@ -87,7 +107,7 @@ fn sum(a: u64, b: u64) -> Worked {
     let r = std::num::wrapping_add_u64(a, b);
     if is_negative(a) == is_negative(b) {
         if is_negative(a) != is_negative(r) {
-            return Worked::Stop(24);
+            return Worked::Stop(stops::OVERFLOW);
         }
     }
     Worked::Value(r)
@@ -98,7 +118,7 @@ fn difference(a: u64, b: u64) -> Worked {
     let r = std::num::wrapping_sub_u64(a, b);
     if is_negative(a) != is_negative(b) {
         if is_negative(a) != is_negative(r) {
-            return Worked::Stop(24);
+            return Worked::Stop(stops::OVERFLOW);
         }
     }
     Worked::Value(r)
@@ -113,33 +133,34 @@ fn less(a: u64, b: u64) -> u64 {
 }
 
 // An element by its position; the bits of a negative position are not below any length.
-fn index(arena: &[u64], array: u64, position: u64) -> Worked {
+fn index(arena: &[u64; ARENA_WORDS], array: u64, position: u64) -> Worked {
     if position < length_at(arena, array) {
         return Worked::Value(element_at(arena, array, position));
     }
-    Worked::Stop(23)
+    Worked::Stop(stops::INDEX_OUT_OF_RANGE)
 }
 
 // A node whose parts are all worked, but a call: its step, then its result.
 pub fn work_values(
     kind: u64,
     operand: u64,
-    values: &[u64],
-    arena: &mut [u64],
-    meter: &mut [u64],
+    values: &[u64; VALUE_WORDS],
+    arena: &mut [u64; ARENA_WORDS],
+    meter: &mut [u64; METER_WORDS],
 ) -> Worked {
-    if !step(meter, kind == 9) {
-        return Worked::Stop(21);
+    let row = kinds::row_of(kind, operand);
+    if !step(meter, row.takes_cell) {
+        return Worked::Stop(stops::OUT_OF_STEPS);
     }
-    let a = super::word(values, 0);
-    let b = super::word(values, 1);
+    let a = values[0];
+    let b = values[1];
     match kind {
-        4 => sum(a, b),
-        5 => difference(a, b),
-        6 => Worked::Value(less(a, b)),
-        9 => new_array(arena, meter, values, operand % 256),
-        10 => index(arena, a, b),
-        11 => Worked::Value(length_at(arena, a)),
-        _ => Worked::Stop(super::BROKEN),
+        kinds::SUM => sum(a, b),
+        kinds::DIFFERENCE => difference(a, b),
+        kinds::LESS => Worked::Value(less(a, b)),
+        kinds::LITERAL => make_array(arena, meter, values, row.parts),
+        kinds::INDEX => index(arena, a, b),
+        kinds::LENGTH => Worked::Value(length_at(arena, a)),
+        _ => Worked::Stop(stops::BROKEN),
     }
 }

@@ -5,9 +5,9 @@ use Rattle.cross_draft.proofs.choose.Statement.{statement}
 use Rattle.cross_draft.proofs.choose.Tie as tie
 
 returns : tie.Need-returns
-returns c = mod-lt _ (c .before .before .before .before .before .before .before .pre)
+returns c = mod-lt _ (search needs)
 
 pub choose-spec : {M : Type 1} → statement M
 choose-spec =
-    tie.close (tie.spec (λ c κs. search needs) (λ c. search needs) (λ c κs. search needs) (λ c. search needs)
-    (λ c. search needs) returns)
+    tie.close
+    (tie.spec (λ c. search needs) (λ c. search needs) (λ c. search needs) (λ c. search needs) returns)

@@ -9,9 +9,9 @@ use Rattle.cross_ledger.proofs.+same_value.Lts-same_value as same-value
 use Rattle.cross_ledger.proofs.cell_of.Reads as cell-of-reads
 use Rattle.cross_ledger.proofs.element_in.Reads as element-in-reads
 use Rattle.cross_ledger.proofs.has_head.Reads as has-head-reads
-use Rattle.cross_values.proofs.signed.Reads as signed-reads
 use Rattle.cross_values.proofs.arena.element_at.Reads as element-at-reads
 use Rattle.cross_values.proofs.arena.length_at.Reads as length-at-reads
+use Rattle.cross_values.proofs.signed.Reads as signed-reads
 use Rattle.cross_ledger.proofs.+same_value.{statement}
 use Rattle.cross_ledger.proofs.+same_value.Tie.{close}
 
@@ -32,8 +32,8 @@ same-value-Inv-loop slots heads memory held value depth cell count i₀ i = Unit
 abbrev same-value-μ-loop : same-value-lts.MeasureT-loop
 same-value-μ-loop slots heads memory held value depth cell count i₀ i = count - i
 
-abbrev same-value-claims : ℕ → same-value-lts.Claims
-same-value-claims t = (
+pub +same-value-spec : {M : Type 1} → statement M
++same-value-spec = close μ-same-value λ t. same-value-lts.spec (
   signed-reads.Asked,
   signed-reads.Learnt,
   cell-of-reads.Asked,
@@ -49,9 +49,6 @@ same-value-claims t = (
   same-value-below t,
   same-value.Post,
 )
-
-pub +same-value-spec : {M : Type 1} → statement M
-+same-value-spec = close μ-same-value λ t. same-value-lts.spec (same-value-claims t)
     (same-value-at t)
     same-value.Post
     same-value-Inv-loop

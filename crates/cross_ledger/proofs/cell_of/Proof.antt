@@ -1,7 +1,7 @@
--- `cross_ledger::cell_of` gives at most 256: a word that is neither negative nor above 255 is a number to 255.
+-- `cross_ledger::cell_of` is safe: a word that is neither negative nor above 255 is a number to 255.
 use mathlib.Core.Path.{_≡_}
 use mathlib.Core.Bool.{true, false}
-use Prim.Native.Nat.{ℕ, _≤_}
+use Prim.Native.Nat.{ℕ}
 use native.Mathlib.Omega.{arith}
 use lib.Dec.{T}
 use lib.IntN.{ℤ, pos, negsuc, natAbs}
@@ -18,21 +18,15 @@ no-bool : {A : Type 0} → true ≡ false → A
 no-bool e = let z : _≡_ {A = ℕ} 0 1 = cc in absurd (let f : ⊥ = omega arith in f)
 
 small : (z : ℤ) → ltZ z (pos 0) ≡ false → ltZ (pos 255) z ≡ false →
-    (T (nonNeg z) × Fits w64 (natAbs z)) × (natAbs z ≤ 256)
-small (pos n) e f = let h = ltb-false 255 n f in ((tt, record { fits = omega arith }), omega arith)
+    T (nonNeg z) × Fits w64 (natAbs z)
+small (pos n) e f = let h = ltb-false 255 n f in (tt, record { fits = omega arith })
 small (negsuc n) e f = no-bool e
 
 cast-result : tie.Need-cast-result
 cast-result c =
     let z = c .before .before .args .held in
     let e = toZ-ofZ {z = z} (c .before .before .fits .held) in
-    rw e (small z (rw e at (c .before .if1 .left)) (rw e at (c .if2 .left)) .0)
-
-returns-3 : tie.Need-returns-3
-returns-3 c =
-    let z = c .before .before .args .held in
-    let e = toZ-ofZ {z = z} (c .before .before .fits .held) in
-    rw e (small z (rw e at (c .before .if1 .left)) (rw e at (c .if2 .left)) .1)
+    rw e (small z (rw e at (c .before .if1 .left)) (rw e at (c .if2 .left)))
 
 pub cell-of-spec : {M : Type 1} → statement M
-cell-of-spec = tie.close (tie.spec (λ c. search needs) (λ c. search needs) cast-result returns-3)
+cell-of-spec = tie.close (tie.spec (λ c. search needs) (λ c. search needs) cast-result (λ c. search needs))

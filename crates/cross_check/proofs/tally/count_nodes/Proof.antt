@@ -1,13 +1,11 @@
--- `cross_check::tally::count_nodes` ends: the nodes left fall. The invariant: the tally keeps its length.
-use mathlib.Core.Path.{_≡_}
+-- `cross_check::tally::count_nodes` ends: the nodes left fall.
 use Prim.Native.Nat.{_≤_, _-_}
-use lib.ListN.{length}
 use borrow.Author.Needs.{needs}
 use Rattle.cross_check.proofs.tally.count_nodes.Statement.{statement}
 use Rattle.cross_check.proofs.tally.count_nodes.Tie as tie
 
 abbrev Inv-loop : tie.InvT-loop
-Inv-loop draft tally₀ nodes node₀ tally node = (node ≤ nodes) × (length tally ≡ length tally₀)
+Inv-loop draft tally₀ nodes node₀ tally node = node ≤ nodes
 
 abbrev μ-loop : tie.MeasureT-loop
 μ-loop draft tally₀ nodes node₀ tally node = nodes - node
@@ -16,5 +14,6 @@ pub count-nodes-spec : {M : Type 1} → statement M
 count-nodes-spec =
     tie.close
     (tie.spec Inv-loop μ-loop
-    (λ c κs. search needs) (λ c. search needs) (λ c κs. search needs) (λ c. search needs) (λ c κs. search needs)
-    (λ c. search needs) (λ c. search needs) (λ c. search needs) (λ c. search needs) (λ c. search needs))
+    (λ c. search needs) (λ c. search needs) (λ c. search needs) (λ c. search needs) (λ c κs. search needs)
+    (λ c. search needs) (λ c κs. search needs) (λ c. search needs) (λ c. search needs) (λ c. search needs)
+    (λ c. search needs))

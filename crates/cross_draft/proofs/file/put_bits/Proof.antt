@@ -1,13 +1,11 @@
--- `cross_draft::file::put_bits` ends: the bytes left fall. The invariant: the file keeps its length.
-use mathlib.Core.Path.{_≡_}
+-- `cross_draft::file::put_bits` ends: the bytes left fall.
 use Prim.Native.Nat.{_≤_, _-_}
-use lib.ListN.{length}
 use borrow.Author.Needs.{needs}
 use Rattle.cross_draft.proofs.file.put_bits.Statement.{statement}
 use Rattle.cross_draft.proofs.file.put_bits.Tie as tie
 
 abbrev Inv-loop : tie.InvT-loop
-Inv-loop file₀ i bits k₀ left₀ file k left = (k ≤ 8) × (length file ≡ length file₀)
+Inv-loop file₀ i bits k₀ left₀ file k left = k ≤ 8
 
 abbrev μ-loop : tie.MeasureT-loop
 μ-loop file₀ i bits k₀ left₀ file k left = 8 - k
@@ -16,5 +14,5 @@ pub put-bits-spec : {M : Type 1} → statement M
 put-bits-spec =
     tie.close
     (tie.spec Inv-loop μ-loop
-    (λ c. search needs) (λ c. search needs) (λ c κs. search needs) (λ c. search needs) (λ c. search needs)
+    (λ c. search needs) (λ c. search needs) (λ c. search needs) (λ c. search needs) (λ c. search needs)
     (λ c. search needs) (λ c. search needs) (λ c. search needs))

@@ -1,13 +1,11 @@
--- `cross_draft::file::write_file` ends: the nodes left fall. The invariant: the file keeps its length.
-use mathlib.Core.Path.{_≡_}
+-- `cross_draft::file::write_file` ends: the nodes left fall.
 use Prim.Native.Nat.{_≤_, _-_}
-use lib.ListN.{length}
 use borrow.Author.Needs.{needs}
 use Rattle.cross_draft.proofs.file.write_file.Statement.{statement}
 use Rattle.cross_draft.proofs.file.write_file.Tie as tie
 
 abbrev Inv-loop : tie.InvT-loop
-Inv-loop desk file₀ nodes node₀ file node = (node ≤ nodes) × (nodes ≤ 1024) × (length file ≡ length file₀)
+Inv-loop desk file₀ nodes node₀ file node = (node ≤ nodes) × (nodes ≤ 1024)
 
 abbrev μ-loop : tie.MeasureT-loop
 μ-loop desk file₀ nodes node₀ file node = nodes - node
@@ -16,8 +14,6 @@ pub write-file-spec : {M : Type 1} → statement M
 write-file-spec =
     tie.close
     (tie.spec Inv-loop μ-loop
-    (λ c κs. search needs) (λ c κs. search needs) (λ c κs. search needs) (λ c κs. search needs)
-    (λ c. search needs) (λ c. search needs) (λ c κs. search needs) (λ c κs. search needs) (λ c. search needs)
-    (λ c. search needs) (λ c. search needs) (λ c κs. search needs) (λ c κs. search needs) (λ c. search needs)
-    (λ c. search needs) (λ c. search needs) (λ c. search needs) (λ c. search needs) (λ c. search needs)
-    (λ c. search needs))
+    (λ c. search needs) (λ c. search needs) (λ c. search needs) (λ c. search needs) (λ c κs. search needs)
+    (λ c κs. search needs) (λ c. search needs) (λ c κs. search needs) (λ c. search needs) (λ c. search needs)
+    (λ c. search needs) (λ c. search needs) (λ c. search needs) (λ c. search needs))

@@ -1,13 +1,11 @@
--- `cross_generate::parts::find_callee` ends: the functions left fall. The invariant: the desk keeps its length.
-use mathlib.Core.Path.{_≡_}
+-- `cross_generate::parts::find_callee` ends: the functions left fall.
 use Prim.Native.Nat.{_≤_, _<_, _-_}
-use lib.ListN.{length}
 use borrow.Author.Needs.{needs}
 use Rattle.cross_generate.proofs.parts.find_callee.Statement.{statement}
 use Rattle.cross_generate.proofs.parts.find_callee.Tie as tie
 
 abbrev Inv-loop : tie.InvT-loop
-Inv-loop desk₀ depth start i₀ desk i = (i ≤ 32) × (start < 32) × (length desk ≡ length desk₀)
+Inv-loop desk₀ depth start i₀ desk i = (i ≤ 32) × (start < 32)
 
 abbrev μ-loop : tie.MeasureT-loop
 μ-loop desk₀ depth start i₀ desk i = 32 - i
@@ -17,5 +15,4 @@ find-callee-spec =
     tie.close
     (tie.spec Inv-loop μ-loop
     (λ c κs. search needs) (λ c. search needs) (λ c. search needs) (λ c κs. search needs) (λ c. search needs)
-    (λ c. search needs) (λ c. search needs) (λ c. search needs) (λ c. search needs) (λ c. search needs)
-    (λ c. search needs))
+    (λ c. search needs) (λ c. search needs) (λ c. search needs) (λ c. search needs))

@@ -1,13 +1,11 @@
--- `cross_generate::parts::push_arguments` ends: the arguments left fall. The invariant: the desk keeps its length.
-use mathlib.Core.Path.{_≡_}
+-- `cross_generate::parts::push_arguments` ends: the arguments left fall.
 use Prim.Native.Nat.{_≤_}
-use lib.ListN.{length}
 use borrow.Author.Needs.{needs}
 use Rattle.cross_generate.proofs.parts.push_arguments.Statement.{statement}
 use Rattle.cross_generate.proofs.parts.push_arguments.Tie as tie
 
 abbrev Inv-loop : tie.InvT-loop
-Inv-loop desk₀ callee count levels left₀ desk left = (left ≤ count) × (length desk ≡ length desk₀)
+Inv-loop desk₀ callee count levels left₀ desk left = left ≤ count
 
 abbrev μ-loop : tie.MeasureT-loop
 μ-loop desk₀ callee count levels left₀ desk left = left
@@ -17,5 +15,5 @@ push-arguments-spec =
     tie.close
     (tie.spec Inv-loop μ-loop
     (λ c. search needs) (λ c. search needs) (λ c. search needs) (λ c κs. search needs) (λ c κs. search needs)
-    (λ c κs. search needs) (λ c. search needs) (λ c. search needs) (λ c κs. search needs) (λ c. search needs)
-    (λ c. search needs) (λ c. search needs) (λ c. search needs))
+    (λ c κs. search needs) (λ c. search needs) (λ c κs. search needs) (λ c. search needs) (λ c. search needs)
+    (λ c. search needs))

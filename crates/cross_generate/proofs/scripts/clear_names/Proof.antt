@@ -1,13 +1,11 @@
--- `cross_generate::scripts::clear_names` ends: the names left fall. The invariant: the desk keeps its length.
-use mathlib.Core.Path.{_≡_}
+-- `cross_generate::scripts::clear_names` ends: the names left fall.
 use Prim.Native.Nat.{_≤_, _-_}
-use lib.ListN.{length}
 use borrow.Author.Needs.{needs}
 use Rattle.cross_generate.proofs.scripts.clear_names.Statement.{statement}
 use Rattle.cross_generate.proofs.scripts.clear_names.Tie as tie
 
 abbrev Inv-loop : tie.InvT-loop
-Inv-loop desk₀ i₀ desk i = (i ≤ 8) × (length desk ≡ length desk₀)
+Inv-loop desk₀ i₀ desk i = i ≤ 8
 
 abbrev μ-loop : tie.MeasureT-loop
 μ-loop desk₀ i₀ desk i = 8 - i
@@ -17,4 +15,4 @@ clear-names-spec =
     tie.close
     (tie.spec Inv-loop μ-loop
     (λ c. search needs) (λ c κs. search needs) (λ c κs. search needs) (λ c. search needs) (λ c. search needs)
-    (λ c. search needs) (λ c. search needs) (λ c. search needs))
+    (λ c. search needs) (λ c. search needs))

@@ -1,14 +1,11 @@
--- `cross_generate::scripts::make_script` ends: the functions left fall. The invariant: the desk keeps its length.
-use mathlib.Core.Path.{_≡_}
+-- `cross_generate::scripts::make_script` ends: the functions left fall.
 use Prim.Native.Nat.{_≤_, _-_}
-use lib.ListN.{length}
 use borrow.Author.Needs.{needs}
 use Rattle.cross_generate.proofs.scripts.make_script.Statement.{statement}
 use Rattle.cross_generate.proofs.scripts.make_script.Tie as tie
 
 abbrev Inv-loop : tie.InvT-loop
-Inv-loop desk₀ seed functions function₀ desk function = (function ≤ functions) × (functions ≤ 5) × (length desk
-    ≡ length desk₀)
+Inv-loop desk₀ seed functions function₀ desk function = (function ≤ functions) × (functions ≤ 5)
 
 abbrev μ-loop : tie.MeasureT-loop
 μ-loop desk₀ seed functions function₀ desk function = functions - function
@@ -16,6 +13,7 @@ abbrev μ-loop : tie.MeasureT-loop
 pub make-script-spec : {M : Type 1} → statement M
 make-script-spec =
     tie.close
-    (tie.spec Inv-loop μ-loop (λ c κs. search needs) (λ c κs. search needs) (λ c κs. search needs) (λ c. search needs)
+    (tie.spec Inv-loop μ-loop
+    (λ c κs. search needs) (λ c. search needs) (λ c κs. search needs) (λ c. search needs)
     (λ c κs. search needs) (λ c. search needs) (λ c κs. search needs) (λ c. search needs) (λ c. search needs)
-    (λ c. search needs) (λ c. search needs) (λ c. search needs))
+    (λ c. search needs) (λ c. search needs))

@@ -1,12 +1,10 @@
--- `cross_generate::scripts::take_items` ends: the turns left fall. The invariant: the desk keeps its length.
-use mathlib.Core.Path.{_≡_}
-use lib.ListN.{length}
+-- `cross_generate::scripts::take_items` ends: the turns left fall.
 use borrow.Author.Needs.{needs}
 use Rattle.cross_generate.proofs.scripts.take_items.Statement.{statement}
 use Rattle.cross_generate.proofs.scripts.take_items.Tie as tie
 
 abbrev Inv-loop : tie.InvT-loop
-Inv-loop desk₀ turns₀ desk turns = length desk ≡ length desk₀
+Inv-loop desk₀ turns₀ desk turns = Unit {0}
 
 abbrev μ-loop : tie.MeasureT-loop
 μ-loop desk₀ turns₀ desk turns = turns
@@ -16,4 +14,4 @@ take-items-spec =
     tie.close
     (tie.spec Inv-loop μ-loop
     (λ c. search needs) (λ c κs. search needs) (λ c. search needs) (λ c. search needs) (λ c. search needs)
-    (λ c. search needs) (λ c. search needs) (λ c. search needs) (λ c. search needs))
+    (λ c. search needs) (λ c. search needs))

@@ -1,14 +1,11 @@
--- `cross_generate::scripts::write_parameters` ends: the parameters left fall. The invariant: the desk keeps its
--- length.
-use mathlib.Core.Path.{_≡_}
+-- `cross_generate::scripts::write_parameters` ends: the parameters left fall.
 use Prim.Native.Nat.{_≤_, _-_}
-use lib.ListN.{length}
 use borrow.Author.Needs.{needs}
 use Rattle.cross_generate.proofs.scripts.write_parameters.Statement.{statement}
 use Rattle.cross_generate.proofs.scripts.write_parameters.Tie as tie
 
 abbrev Inv-loop : tie.InvT-loop
-Inv-loop desk₀ function count i₀ desk i = (i ≤ count) × (length desk ≡ length desk₀)
+Inv-loop desk₀ function count i₀ desk i = i ≤ count
 
 abbrev μ-loop : tie.MeasureT-loop
 μ-loop desk₀ function count i₀ desk i = count - i
@@ -19,4 +16,4 @@ write-parameters-spec =
     (tie.spec Inv-loop μ-loop
     (λ c. search needs) (λ c. search needs) (λ c κs. search needs) (λ c κs. search needs) (λ c. search needs)
     (λ c. search needs) (λ c κs. search needs) (λ c. search needs) (λ c κs. search needs) (λ c. search needs)
-    (λ c. search needs) (λ c. search needs) (λ c. search needs) (λ c. search needs))
+    (λ c. search needs) (λ c. search needs) (λ c. search needs))

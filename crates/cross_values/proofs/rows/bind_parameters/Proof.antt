@@ -1,20 +1,20 @@
--- `cross_values::rows::bind_parameters` ends: the parameters left fall. The invariant: the table keeps its length.
-use mathlib.Core.Path.{_≡_}
-use Prim.Native.Nat.{_-_}
-use lib.ListN.{length}
+-- `cross_values::rows::bind_parameters` ends: the parameters left fall.
+use Prim.Native.Nat.{_≤_, _-_}
 use borrow.Author.Needs.{needs}
 use Rattle.cross_values.proofs.rows.bind_parameters.Statement.{statement}
 use Rattle.cross_values.proofs.rows.bind_parameters.Tie as tie
 
 abbrev Inv-loop : tie.InvT-loop
-Inv-loop rows function values names₀ count i₀ names i = length names ≡ length names₀
+Inv-loop rows function values names₀ count parameter₀ i₀ names parameter i = i ≤ count
 
 abbrev μ-loop : tie.MeasureT-loop
-μ-loop rows function values names₀ count i₀ names i = count - i
+μ-loop rows function values names₀ count parameter₀ i₀ names parameter i = count - i
 
 pub bind-parameters-spec : {M : Type 1} → statement M
 bind-parameters-spec =
     tie.close
-    (tie.spec Inv-loop μ-loop (λ c κs. search needs) (λ c. search needs) (λ c κs. search needs) (λ c κs. search needs)
-    (λ c κs. search needs) (λ c κs. search needs) (λ c. search needs) (λ c. search needs) (λ c. search needs)
-    (λ c κs. search needs) (λ c. search needs) (λ c. search needs))
+    (tie.spec Inv-loop μ-loop
+    (λ c κs. search needs) (λ c κs. search needs) (λ c κs. search needs) (λ c. search needs)
+    (λ c. search needs) (λ c. search needs) (λ c κs. search needs) (λ c κs. search needs) (λ c. search needs)
+    (λ c. search needs) (λ c κs. search needs) (λ c. search needs) (λ c. search needs) (λ c. search needs)
+    (λ c. search needs))

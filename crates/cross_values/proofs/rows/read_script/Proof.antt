@@ -1,13 +1,11 @@
--- `cross_values::rows::read_script` ends: the nodes left fall. The invariant: the rows keep their length.
-use mathlib.Core.Path.{_≡_}
+-- `cross_values::rows::read_script` ends: the nodes left fall.
 use Prim.Native.Nat.{_≤_}
-use lib.ListN.{length}
 use borrow.Author.Needs.{needs}
 use Rattle.cross_values.proofs.rows.read_script.Statement.{statement}
 use Rattle.cross_values.proofs.rows.read_script.Tie as tie
 
 abbrev Inv-loop : tie.InvT-loop
-Inv-loop file rows₀ nodes node₀ rows node = (node ≤ nodes) × (length rows ≡ length rows₀)
+Inv-loop file rows₀ nodes node₀ rows node = node ≤ nodes
 
 abbrev μ-loop : tie.MeasureT-loop
 μ-loop file rows₀ nodes node₀ rows node = node
@@ -17,4 +15,4 @@ read-script-spec =
     tie.close
     (tie.spec Inv-loop μ-loop
     (λ c κs. search needs) (λ c. search needs) (λ c. search needs) (λ c κs. search needs) (λ c. search needs)
-    (λ c. search needs) (λ c. search needs) (λ c. search needs))
+    (λ c. search needs) (λ c. search needs))

@@ -1,0 +1,22 @@
+-- `cross_check::run_store` ends: the deliveries left fall.
+use Prim.Native.Nat.{_≤_, _-_}
+use borrow.Author.Needs.{needs}
+use Rattle.cross_check.proofs.run_store.Statement.{statement}
+use Rattle.cross_check.proofs.run_store.Tie as tie
+
+abbrev Inv-loop : tie.InvT-loop
+Inv-loop file end cells desk₀ counts₀ slots₀ heads₀ script memory₀ book₀ readings₀ delivery₀ desk counts slots heads
+    memory book readings delivery = delivery ≤ 6
+
+abbrev μ-loop : tie.MeasureT-loop
+μ-loop file end cells desk₀ counts₀ slots₀ heads₀ script memory₀ book₀ readings₀ delivery₀ desk counts slots heads
+    memory book readings delivery = 6 - delivery
+
+pub run-store-spec : {M : Type 1} → statement M
+run-store-spec =
+    tie.close
+    (tie.spec Inv-loop μ-loop
+    (λ c κs. search needs) (λ c κs. search needs) (λ c. search needs) (λ c κs. search needs)
+    (λ c κs. search needs) (λ c. search needs) (λ c κs. search needs) (λ c κs. search needs)
+    (λ c κs. search needs) (λ c. search needs) (λ c. search needs) (λ c. search needs) (λ c. search needs)
+    (λ c. search needs))
