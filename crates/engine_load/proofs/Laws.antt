@@ -17,6 +17,7 @@ use Rattle.semantics.specs.Normal.{too-many-names}
 use Rattle.semantics.specs.Calls as C
 use Rattle.semantics.specs.Calls.{packed, judged, judged-read, judged-script, admitted, room, code-fits}
 use Rattle.script_read.specs.Told.{high-at}
+use Rattle.script_read.specs.Starts.{Started-by}
 use Rattle.script_read.proofs.Written.{ScriptWritten, script-written}
 use Rattle.script.specs.declared.Verdict.the-variants.{Accepted, Refused}
 use Rattle.script.specs.Verdicts.{told-verdict, Judges}
@@ -80,14 +81,16 @@ module _ {file : List ℕ} {f n : ℕ} (a : AcceptedFile file f n) where
   pub script-reads : script (kinds-of file n) (operands-of file n) f 0 ≡ done (a .tree) (a .last)
   script-reads = file-taken .same ∙ a .reads
 
-  pub translatable : Translatable (kinds-of file n) (operands-of file n) f
-  translatable = record {
+  pub translatable : {starts : List ℕ} → Started-by (read-file file) starts →
+      Translatable (kinds-of file n) (operands-of file n) f starts
+  translatable h = record {
     parts = file-taken .readable .parts;
     few = file-taken .readable .few;
     tree = a .tree;
     last = a .last;
     reads = script-reads;
     names = a .names;
+    started = rw (a .reads) at h;
   }
 
   -- the node of main has the depth of its result

@@ -16,7 +16,8 @@ pub fn load_with(file: &[u8], kinds: &mut [u8], operands: &mut [i64], table: &mu
     ensures { λ r. ⌜ LoadsWith (now (file .entry)) (now (kinds .entry)) (now (operands .entry)) (now (table .entry)) r
         (now (kinds .exit)) (now (operands .exit)) (now (table .exit)) ⌝ }
 {
-    match script::judge(file) {
+    let mut starts = [1024usize; 32];
+    match script::judge(file, &mut starts) {
         Verdict::Accepted(functions, nodes) => {
             let end = 4 + nodes;
             let file_kinds = &file[4..end];
@@ -25,6 +26,7 @@ pub fn load_with(file: &[u8], kinds: &mut [u8], operands: &mut [i64], table: &mu
             match normal::translate_accepted(
                 file_kinds,
                 file_operands,
+                &starts,
                 functions,
                 table,
                 kinds,

@@ -34,7 +34,12 @@ cleared kinds operands = record {
 unfoldable pub left-of : Script → List ℕ → List ℤ → CodeLeft
 left-of fs kinds operands =
     cond (code-fits fs (room kinds operands))
-    (record { answer = done (length (code fs)) tt; kinds = code-kinds fs kinds; operands = code-operands fs operands })
+    (record {
+      answer = done (length (code fs)) tt;
+      kinds = code-kinds fs kinds;
+      operands = code-operands fs
+          operands;
+    })
     (cleared kinds operands)
 
 abbrev pub Leaves : Outcome ℕ Script → List ℕ → List ℤ → CodeLeft → Type 0

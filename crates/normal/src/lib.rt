@@ -1,16 +1,13 @@
 // The translation of an accepted script: its code at the front of two lent arrays, and zeros past it.
 ghost use mathlib.Core.Path.{_≡_};
 ghost use mathlib.Core.List.{_++_};
-ghost use Prim.Native.Nat.{_+_, _-_, _<_, _≤_};
+ghost use Prim.Native.Nat.{_+_, _-_, _≤_, min};
 ghost use lib.IntN.{pos};
-ghost use lib.ListN.{length, getD, drop, replicate};
-ghost use Rattle.semantics.specs.Syntax.{Script};
+ghost use lib.ListN.{length, take, drop, replicate};
 ghost use Rattle.semantics.specs.File.{script};
-ghost use Rattle.semantics.specs.Annotate.{code};
-ghost use Rattle.normal_write.specs.Wrote.{Wrote};
 ghost use Rattle.normal_script.specs.Script.{Translatable};
 ghost use Rattle.normal_script.specs.Depths.{Depths-by};
-ghost use Rattle.normal.specs.Left.{laid-outcome, left-of, Leaves};
+ghost use Rattle.normal.specs.Left.{laid-outcome, Leaves};
 
 // How many lines the code has, or that they do not fit.
 pub enum Laid {
@@ -18,46 +15,54 @@ pub enum Laid {
     TooLong,
 }
 
-// The i-th of `from` from `at` on, or 0.
-fn later_kinds(from: &[u8], at: usize, i: usize) -> u8
-    requires { ⌜ at ≤ length (now from) ⌝ }
-    ensures { λ r. ⌜ r ≡ getD (drop at (now (from .entry))) i 0 ⌝ }
-{
-    if i < from.len() - at { from[at + i] } else { 0 }
-}
-
-// The part of `from` from `at` on, and zeros after it.
-fn move_kinds(to: &mut [u8], from: &[u8], at: usize)
-    requires { ⌜ (at ≤ length (now from)) × (length (now from) - at ≤ length (now to)) ⌝ }
-    ensures { λ _. ⌜ now (to .exit) ≡ drop at (now (from .entry))
-        ++ replicate (length (now (to .entry)) - (length (now (from .entry)) - at)) 0 ⌝ }
+// Moves the n numbers from `at` on to the front.
+fn move_kinds(ks: &mut [u8], at: usize, n: usize)
+    requires { ⌜ at + n ≤ length (now ks) ⌝ }
+    ensures { λ _. ⌜ now (ks .exit) ≡ take n (drop at (now (ks .entry))) ++ drop n (now (ks .entry)) ⌝ }
 {
     let mut i: usize = 0;
-    while i < to.len() {
-        let v = later_kinds(from, at, i);
-        to[i] = v;
+    while i < n {
+        let v = ks[at + i];
+        ks[i] = v;
         i = i + 1;
     }
 }
 
-// The i-th of `from` from `at` on, or 0.
-fn later_ops(from: &[i64], at: usize, i: usize) -> i64
-    requires { ⌜ at ≤ length (now from) ⌝ }
-    ensures { λ r. ⌜ r ≡ getD (drop at (now (from .entry))) i (pos 0) ⌝ }
-{
-    if i < from.len() - at { from[at + i] } else { 0 }
-}
-
-// The part of `from` from `at` on, and zeros after it.
-fn move_ops(to: &mut [i64], from: &[i64], at: usize)
-    requires { ⌜ (at ≤ length (now from)) × (length (now from) - at ≤ length (now to)) ⌝ }
-    ensures { λ _. ⌜ now (to .exit) ≡ drop at (now (from .entry))
-        ++ replicate (length (now (to .entry)) - (length (now (from .entry)) - at)) (pos 0) ⌝ }
+// The same.
+fn move_operands(os: &mut [i64], at: usize, n: usize)
+    requires { ⌜ at + n ≤ length (now os) ⌝ }
+    ensures { λ _. ⌜ now (os .exit) ≡ take n (drop at (now (os .entry))) ++ drop n (now (os .entry)) ⌝ }
 {
     let mut i: usize = 0;
-    while i < to.len() {
-        let v = later_ops(from, at, i);
-        to[i] = v;
+    while i < n {
+        let v = os[at + i];
+        os[i] = v;
+        i = i + 1;
+    }
+}
+
+// Zeros from a place on.
+fn clear_kinds(ks: &mut [u8], from: usize)
+    requires { ⌜ from ≤ length (now ks) ⌝ }
+    ensures { λ _. ⌜ now (ks .exit)
+        ≡ take from (now (ks .entry)) ++ replicate (length (now (ks .entry)) - from) 0 ⌝ }
+{
+    let mut i = from;
+    while i < ks.len() {
+        ks[i] = 0;
+        i = i + 1;
+    }
+}
+
+// The same.
+fn clear_operands(os: &mut [i64], from: usize)
+    requires { ⌜ from ≤ length (now os) ⌝ }
+    ensures { λ _. ⌜ now (os .exit)
+        ≡ take from (now (os .entry)) ++ replicate (length (now (os .entry)) - from) (pos 0) ⌝ }
+{
+    let mut i = from;
+    while i < os.len() {
+        os[i] = 0;
         i = i + 1;
     }
 }
@@ -67,59 +72,59 @@ pub fn refuse(ks: &mut [u8], os: &mut [i64])
     ensures { λ _. ⌜ (now (ks .exit) ≡ replicate (length (now (ks .entry))) 0)
         × (now (os .exit) ≡ replicate (length (now (os .entry))) (pos 0)) ⌝ }
 {
-    let zk = [0u8; 1];
-    let zo = [0i64; 1];
-    move_kinds(ks, &zk, 1);
-    move_ops(os, &zo, 1);
+    clear_kinds(ks, 0);
+    clear_operands(os, 0);
 }
 
-// Moves the code whose kinds and operands stand from `at` to the end of two arrays to the front of the lent ones, if it
-// has room there.
-fn lay_code(written: &[u8], numbers: &[i64], at: usize, ks: &mut [u8], os: &mut [i64]) -> Laid
-    requires { ⌜ (at ≤ 4097) × (length (now written) ≡ 4097) × (length (now numbers) ≡ 4097) ⌝ }
-    ensures { λ r. ⌜ ((fs : Script) →
-        Wrote (replicate 4097 0) (replicate 4097 (pos 0)) (now (written .entry)) (now (numbers .entry)) 4097 at
-        (code fs) →
-        record { answer = laid-outcome r; kinds = now (ks .exit); operands = now (os .exit) }
-        ≡ left-of fs (now (ks .entry)) (now (os .entry))) ⌝ }
+// Brings the n lines that stand from `at` on to the front of both arrays, and clears what is behind them.
+fn settle(ks: &mut [u8], os: &mut [i64], at: usize, n: usize)
+    requires { ⌜ (at + n ≤ length (now ks)) × (at + n ≤ length (now os)) ⌝ }
+    ensures { λ _. ⌜ now (ks .exit)
+        ≡ take n (drop at (now (ks .entry))) ++ replicate (length (now (ks .entry)) - n) 0 ⌝ }
+    ensures { λ _. ⌜ now (os .exit)
+        ≡ take n (drop at (now (os .entry))) ++ replicate (length (now (os .entry)) - n) (pos 0) ⌝ }
 {
-    if at == 0 {
-        refuse(ks, os);
-        return Laid::TooLong;
-    }
-    let n = 4097 - at;
-    if ks.len() < n {
-        refuse(ks, os);
-        return Laid::TooLong;
-    }
-    if os.len() < n {
-        refuse(ks, os);
-        return Laid::TooLong;
-    }
-    move_kinds(ks, written, at);
-    move_ops(os, numbers, at);
-    Laid::Lines(n)
+    move_kinds(ks, at, n);
+    move_operands(os, at, n);
+    clear_kinds(ks, n);
+    clear_operands(os, n);
 }
 
-// Translates an accepted script: the file's kinds, its operands and how many functions it has. The table gets the
-// depths of the names.
+// The lesser of two numbers.
+fn lesser(a: usize, b: usize) -> usize
+    ensures { λ r. ⌜ r ≡ min a b ⌝ }
+{
+    if a < b { a } else { b }
+}
+
+// Translates an accepted script: the file's kinds, its operands, where its functions stand and how many they are. The
+// table gets the depths of the names. The rows are written before the end of the part that both arrays have, and then
+// brought to the front.
 pub fn translate_accepted(
     kinds: &[u8],
     operands: &[u8],
+    starts: &[usize; 32],
     functions: usize,
     table: &mut [u8],
     ks: &mut [u8],
     os: &mut [i64],
 ) -> Laid
-    requires { ⌜ Translatable (now kinds) (now operands) functions ⌝ }
+    requires { ⌜ Translatable (now kinds) (now operands) functions (now starts) ⌝ }
     ensures { λ r. ⌜ Leaves (script (now (kinds .entry)) (now (operands .entry)) functions 0)
         (now (ks .entry)) (now (os .entry))
         (record { answer = laid-outcome r; kinds = now (ks .exit); operands = now (os .exit) }) ⌝ }
     ensures { λ _. ⌜ Depths-by (script (now (kinds .entry)) (now (operands .entry)) functions 0)
         (now (table .entry)) (now (table .exit)) ⌝ }
 {
-    let mut bk = [0u8; 4097];
-    let mut bo = [0i64; 4097];
-    let at = normal_script::script_code(kinds, operands, functions, table, &mut bk, &mut bo);
-    lay_code(&bk, &bo, at, ks, os)
+    let both = lesser(ks.len(), os.len());
+    let most = lesser(4096, both);
+    let w = normal_script::script_code(kinds, operands, starts, functions, table, ks, os, most + 1);
+    if w == 0 {
+        refuse(ks, os);
+        return Laid::TooLong;
+    }
+    let at = w - 1;
+    let n = most - at;
+    settle(ks, os, at, n);
+    Laid::Lines(n)
 }

@@ -59,7 +59,8 @@ module _ (F : Plain) where
         × Stands d t (p + line-extent l) (line-marks l p M)
 
     pub StandsLine : ℕ → C.Line → ℕ → Marks → Type 0
-    StandsLine d (C.leaf x l us) p M = LineAt p (end (C.name 0)) (end (C.name 0)) (C.leaf x l us) × LinkedAll us (p + 1) M
+    StandsLine d (C.leaf x l us) p M =
+        LineAt p (end (C.name 0)) (end (C.name 0)) (C.leaf x l us) × LinkedAll us (p + 1) M
     StandsLine d (C.if-else x g t e) p M =
         LineAt p t e (C.if-else x g t e) × Linked g (p + 1) M × (0 < d)
         × ((note (F .notes) (p + 2) ≡ p + 2 + extent t) × Begins (p + 2 + extent t))

@@ -9,7 +9,7 @@ use Rattle.semantics.specs.Kinds.{Leaf, operation, call, literal, index, length
 use Rattle.semantics.specs.Kinds.{loop-kind, loop-hands, loop-reads, element-name, packed-names}
 use Rattle.semantics.specs.Code as C
 use Rattle.semantics.specs.Code.{Row, row, atom-row}
-use Rattle.semantics.specs.Live.{Set, is, only, just, among, _∪_, _∖_}
+use Rattle.semantics.specs.Live.{Set, only, just, among, _∪_, _∖_}
 use Rattle.semantics.specs.Annotate.{NameDepths, arrays, dying, handed-again}
 use Rattle.normal_code.specs.Plain.{Plain, meant, placed, atoms-at, line-at, note, operation-of}
 use Rattle.normal_code.specs.Parts.{retain-rows, release-rows, leaf-part, ending}

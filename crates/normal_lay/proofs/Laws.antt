@@ -1,4 +1,4 @@
--- Laws of laying rows.
+-- Laws of laying rows and noting uses, one for each way of the code, and of what stands where after it.
 use mathlib.Core.Path.{_≡_, refl, ap, _∙_}
 use mathlib.Core.List.{List, [], _∷_}
 use Prim.Native.Nat.{ℕ, zero, suc, pred, _+_, _-_, _<_, _≤_}
@@ -6,36 +6,67 @@ use native.Mathlib.Omega.{arith}
 use lib.ListN.{length, getD, set, length-set}
 use lib.Seq.{getD-set-same, getD-set-other}
 use borrow.Author.Tests.{lt-ltb, le-ltb, ne-eqb}
-use Rattle.normal_lay.specs.Laid.{laid, firsts, place-depth, line-depth}
+use Rattle.normal_lay.specs.Laid.{laid, used-once, noted-once, used, noted, UsesLaid, LineLaid, firsts}
+use Rattle.normal_lay.specs.Laid.{place-depth, line-depth}
 
--- ---- places laid one after the other
+-- ---- the use of an atom
 
-module _ (ws : List ℕ) (p : ℕ) where
-  pub places-begin : (l : List ℕ) (m : ℕ) → laid l p (firsts ws 0 m) ≡ laid l (p + 0) (firsts ws 0 (m - 0))
-  places-begin l m =
+module _ (k n l : List ℕ) (r v : ℕ) where
+  pub use-name : v < 256 → UsesLaid k n l (set k r v) (set n r (getD l v 0)) (set l v r) r (v ∷ [])
+  unfolding laid noted used noted-once used-once
+  use-name h = record { rows = refl; notes = rw (lt-ltb v 256 h); last = rw (lt-ltb v 256 h) }
+
+  pub use-number : 256 ≤ v → UsesLaid k n l (set k r v) n l r (v ∷ [])
+  unfolding laid noted used noted-once used-once
+  use-number h = record { rows = refl; notes = rw (le-ltb v 256 h); last = rw (le-ltb v 256 h) }
+
+-- a line's row, and then its atoms
+pub line-laid : {k k₁ n n₁ l l₁ : List ℕ} (p row : ℕ) (vs : List ℕ) → UsesLaid (set k p row) n l k₁ n₁ l₁ (p + 1) vs →
+    LineLaid k n l k₁ n₁ l₁ p row vs
+unfolding laid
+line-laid p row vs u = record { rows = u .rows; notes = u .notes; last = u .last }
+
+-- the same, over notes of which the last is yet to come
+pub line-opened : {k k₁ n n₁ l l₁ : List ℕ} (p row : ℕ) (vs : List ℕ) →
+    UsesLaid (set k p row) n l k₁ n₁ l₁ (p + 1) vs → LineLaid k n l k₁ (noted n l (p + 1) vs) l₁ p row vs
+unfolding laid
+line-opened p row vs u = record { rows = u .rows; notes = refl; last = u .last }
+
+-- ---- atoms laid one after the other
+
+-- i of the first m places of ws are laid from row p on
+pub record Placing (ws : List ℕ) (p m : ℕ) (k₀ n₀ l₀ k n l : List ℕ) (i : ℕ) : Type 0 where
+  pub within : i ≤ m
+  pub rows : laid k₀ p (firsts ws 0 m) ≡ laid k (p + i) (firsts ws i (m - i))
+  pub notes : noted n₀ l₀ p (firsts ws 0 m) ≡ noted n l (p + i) (firsts ws i (m - i))
+  pub last : used l₀ p (firsts ws 0 m) ≡ used l (p + i) (firsts ws i (m - i))
+
+module _ (ws : List ℕ) (p m : ℕ) where
+  pub placing-begins : (k n l : List ℕ) → Placing ws p m k n l k n l 0
+  placing-begins k n l =
       let e : p + 0 ≡ p = omega arith in
       let f : m - 0 ≡ m = omega arith in
-      rw (e, f)
+      record { within = omega arith; rows = rw (e, f); notes = rw (e, f); last = rw (e, f) }
 
-  pub places-go : (l : List ℕ) (i m v : ℕ) → i < m → v ≡ getD ws i 0 →
-      laid l (p + i) (firsts ws i (m - i)) ≡ laid (set l (p + i) v) (p + (i + 1)) (firsts ws (i + 1) (m - (i + 1)))
-  unfolding laid firsts
-  places-go l i m v h e =
-      ap (λ (j : ℕ). laid l (p + i) (firsts ws i j)) (let f : m - i ≡ suc (m - (i + 1)) = omega arith in f)
-      ∙ rw (← e) (ap (λ (j : ℕ). laid (set l (p + i) v) j (firsts ws (i + 1) (m - (i + 1)))) (let f : p + i + 1 ≡ p
-      + (i + 1) = omega arith in f))
+  module _ {k₀ n₀ l₀ k n l : List ℕ} {i : ℕ} (P : Placing ws p m k₀ n₀ l₀ k n l i) where
+    pub placing-goes : {k₁ n₁ l₁ : List ℕ} → i < m → UsesLaid k n l k₁ n₁ l₁ (p + i) (getD ws i 0 ∷ []) →
+        Placing ws p m k₀ n₀ l₀ k₁ n₁ l₁ (i + 1)
+    unfolding laid noted used firsts
+    placing-goes h u =
+        let e : m - i ≡ suc (m - (i + 1)) = omega arith in
+        let f : p + (i + 1) ≡ p + i + 1 = omega arith in
+        record {
+          within = omega arith;
+          rows = P .rows ∙ rw (e, f, u .rows);
+          notes = P .notes ∙ rw (e, f, u .notes, u .last);
+          last = P .last ∙ rw (e, f, u .last);
+        }
 
-  pub places-end : (l : List ℕ) (i m : ℕ) → m ≤ i → laid l (p + i) (firsts ws i (m - i)) ≡ l
-  unfolding laid firsts
-  places-end l i m h = ap (λ (j : ℕ). laid l (p + i) (firsts ws i j)) (let f : m - i ≡ 0 = omega arith in f)
-
-pub laid-two : (l : List ℕ) (p u v : ℕ) → set (set l p u) (p + 1) v ≡ laid l p (u ∷ (v ∷ []))
-unfolding laid
-laid-two l p u v = refl
-
-pub laid-then : (l l₁ : List ℕ) (p u : ℕ) (vs : List ℕ) → l₁ ≡ laid (set l p u) (p + 1) vs → l₁ ≡ laid l p (u ∷ vs)
-unfolding laid
-laid-then l l₁ p u vs e = e
+    pub placing-ends : m ≤ i → UsesLaid k₀ n₀ l₀ k n l p (firsts ws 0 m)
+    unfolding laid noted used firsts
+    placing-ends h =
+        let e : m - i ≡ 0 = omega arith in
+        record { rows = rw (P .rows, e); notes = rw (P .notes, e); last = rw (P .last, e) }
 
 -- ---- what stands where
 
@@ -83,8 +114,8 @@ pub depth-number : (ds : List ℕ) (v : ℕ) → 256 ≤ v → 0 ≡ place-depth
 depth-number ds v h = rw (le-ltb v 256 h)
 
 module _ (rs ds : List ℕ) (y v : ℕ) where
-  pub depth-call : (kind d : ℕ) → kind ≡ 8 → d ≡ getD rs y 0 → d ≡ line-depth rs ds kind y v
-  depth-call kind d k e = rw k e
+  pub depth-call : (kind : ℕ) → kind ≡ 8 → getD rs y 0 ≡ line-depth rs ds kind y v
+  depth-call kind k = rw k
 
   pub depth-literal : (kind : ℕ) → (kind ≡ 8 → ⊥) → kind ≡ 9 → y + 1 ≡ line-depth rs ds kind y v
   depth-literal kind n k = rw k (let e : y + 1 ≡ suc y = omega arith in e)

@@ -19,7 +19,16 @@ module _ {f : ℕ} {depths table : List ℕ} where
     after = λ i h. refl;
   }
 
-  -- the next name's depth, at a place of the table
+  -- a table that is too short for all functions
+  pub noted-short : length table < 8192 → Noted f depths table table
+  noted-short h = record {
+    long = refl;
+    there = λ x k l. absurd (omega arith);
+    before = λ i k. refl;
+    after = λ i k. refl;
+  }
+
+  -- the next name's depth, at its place of the table
   pub noted-one : {n : ℕ} {table′ : List ℕ} → NotedTo n f depths table table′ → 256 * f + n < length table′ →
       NotedTo (n + 1) f depths table (set table′ (256 * f + n) (getD depths n 0))
   noted-one {n} {table′} h l = record {
@@ -30,22 +39,12 @@ module _ {f : ℕ} {depths table : List ℕ} where
         (omega arith);
   }
     where
-      one : (x : ℕ) → x < n + 1 → 256 * f + x < length table → Dec (x ≡ n) →
+      one : (x : ℕ) → x < n + 1 → 8192 ≤ length table → Dec (x ≡ n) →
           getD (set table′ (256 * f + n) (getD depths n 0)) (256 * f + x) 0 ≡ getD depths x 0
       one x k m (yes e) = rw e (getD-set-same table′ (256 * f + n) (getD depths n 0) 0 l)
       one x k m (no e) =
           getD-set-other table′ (256 * f + n) (256 * f + x) (getD depths n 0) 0 (λ z. e (omega arith))
           ∙ h .there x (omega (arith, e)) m
-
-  -- the next name, whose place is past the end of the table
-  pub noted-past : {n : ℕ} {table′ : List ℕ} → NotedTo n f depths table table′ → length table′ ≤ 256 * f + n →
-      NotedTo (n + 1) f depths table table′
-  noted-past {n} h l = record {
-    long = h .long;
-    there = λ x k m. h .there x (omega (arith, h .long)) m;
-    before = h .before;
-    after = λ i k. h .after i (omega arith);
-  }
 
 -- ---- functions, from the last to the first
 
@@ -70,7 +69,7 @@ module _ {fs : Script} {table : List ℕ} where
     after = λ i m. k .after i (omega arith) ∙ h .after i m;
   }
     where
-      one : (g x : ℕ) → n ≤ g → g < length fs → x < 256 → 256 * g + x < length table → Dec (g ≡ n) →
+      one : (g x : ℕ) → n ≤ g → g < length fs → x < 256 → 8192 ≤ length table → Dec (g ≡ n) →
           getD table″ (256 * g + x) 0 ≡ depths-of fs (function-at fs g) x
       one g x a b m o (yes z) = rw z (k .there x m (omega (arith, h .long)) ∙ ap (λ (d : ℕ → ℕ). d x) e)
       one g x a b m o (no z) =

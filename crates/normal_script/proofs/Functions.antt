@@ -13,29 +13,27 @@ use lib.Seq.{getD-set-same, getD-set-other, drop-cons}
 use borrow.Author.Tests.{ltb-false}
 use Rattle.semantics.specs.Syntax.{Function, Script, function-at, no-function, function-size}
 use Rattle.semantics.specs.Code.{Row}
-use Rattle.semantics.specs.File.{at-function, part}
+use Rattle.semantics.specs.File.{at-function}
 use Rattle.semantics.specs.Normal.{fresh, too-many-names-from}
 use Rattle.semantics.specs.Annotate.{result-of, depths-of, annotated-body, function-rows, functions-rows, code}
-use Rattle.script_read.specs.Told.{low-at, high-at, told}
+use Rattle.script_read.specs.Told.{high-at}
 use Rattle.script_read.proofs.Written.{FunctionWritten, ScriptWritten, total, script-written}
-use Rattle.script_read.proofs.Starts.{start-of}
+use Rattle.script_read.specs.Starts.{start-of}
+use Rattle.script_read.proofs.Starts.{started-within}
 use Rattle.script_read.proofs.Ends.{script-ends}
 use Rattle.script_read.proofs.Tables.{none-set}
 use Rattle.normal_write.specs.Wrote.{Wrote}
 use Rattle.normal_write.proofs.Rows.{wrote-none, wrote-then, wrote-as}
-use Rattle.normal_after.specs.After.{node-of}
-use Rattle.normal_after.proofs.Taken.{reads}
-use Rattle.normal_function.specs.Read.{read-function, rows-by, depths-by, Fitting}
-use Rattle.normal_function.proofs.Parameters.{result-most}
-use Rattle.normal_function.proofs.Accepted.{function-is, fitting, low-there, high-there}
-use Rattle.normal_script.specs.Script.{Translatable, Headed}
-use Rattle.normal_script.specs.declared.Heads.{Heads}
+use Rattle.normal_script.specs.Read.{read-function, head-rows, rows-by, depths-by, Fitting}
+use Rattle.normal_script.proofs.Parameters.{result-most}
+use Rattle.normal_script.proofs.Accepted.{function-is, fitting, high-there}
+use Rattle.normal_script.specs.Script.{Translatable, Resulting}
 
 -- ---- the script that was read
 
-pub known : {k w : List ℕ} {n : ℕ} (t : Translatable k w n) → ScriptWritten k w (t .tree) 0 ×
+pub known : {k w : List ℕ} {n : ℕ} {ss : List ℕ} (t : Translatable k w n ss) → ScriptWritten k w (t .tree) 0 ×
     ((length (t .tree) ≡ n) × (total (t .tree) ≤ 1024))
-known {k} {w} {n} t = go (rw (t .reads) at (script-written k w n 0))
+known {k} {w} {n} {ss} t = go (rw (t .reads) at (script-written k w n 0))
   where
     go : ScriptWritten k w (t .tree) 0 × (length (t .tree) ≡ n) × (length k ≤ 0 + total (t .tree)) →
         ScriptWritten k w (t .tree) 0 × ((length (t .tree) ≡ n) × (total (t .tree) ≤ 1024))
@@ -70,16 +68,6 @@ module _ (k w : List ℕ) where
       go false f zero h e later = ltb-false 256 (length (g .parameters) + fresh (g .body)) f
       go false f (suc j) h e later = later j (omega arith) e
 
-  next-there : (g : Function) (p : ℕ) → FunctionWritten k w g p → node-of
-      (told (part k w 64 (p + 1 + low-at k w at-function p))) ≡ p + function-size g
-  unfolding function-size
-  next-there g p h =
-      rw (
-        low-there k w (h .head),
-        reads k w (g .body) 64 (p + 1 + length (g .parameters)) (p + 1 + length
-            (g .parameters)) refl (h .body),
-      ) (omega arith)
-
 -- ---- where the functions stand
 
 function-past : (gs : Script) (j : ℕ) → length gs ≤ j → function-at gs j ≡ no-function
@@ -87,89 +75,58 @@ function-past [] j h = refl
 function-past (g ∷ gs) zero h = absurd (let f : ⊥ = omega arith in f)
 function-past (g ∷ gs) (suc j) h = function-past gs j (omega arith)
 
--- the functions before i are found, and those of gs are to come from node p on
-pub record Scanning (k w : List ℕ) (fs : Script) (i p : ℕ) (starts results : List ℕ) : Type 0 where
-  pub rest : Script
-  pub written : ScriptWritten k w rest p
-  pub count : i + length rest ≡ length fs
-  pub room : p + total rest ≤ 1024
-  pub same : (j : ℕ) → function-at fs (i + j) ≡ function-at rest j
-  pub place : (j : ℕ) → start-of fs 0 (i + j) ≡ start-of rest p j
-  pub starts-long : length starts ≡ 32
-  pub results-long : length results ≡ 32
-  pub starts-done : (j : ℕ) → j < i → getD starts j 0 ≡ start-of fs 0 j
-  pub results-done : (j : ℕ) → j < i → getD results j 0 ≡ result-of fs j
+-- ---- the table of the results' depths
+
+-- those of the functions before i are there
+pub record Results (fs : Script) (i : ℕ) (results : List ℕ) : Type 0 where
+  pub long : length results ≡ 32
+  pub there : (j : ℕ) → j < i → getD results j 0 ≡ result-of fs j
   pub blank : (j : ℕ) → i ≤ j → getD results j 0 ≡ 0
 
-pub scan-begins : (k w : List ℕ) (n : ℕ) (t : Translatable k w n) → Scanning k w (t .tree) 0 0 (replicate 32 0)
-    (replicate 32 0)
-scan-begins k w n t = record {
-  rest = t .tree;
-  written = known t .0;
-  count = omega arith;
-  room = omega (arith, known t .1 .1);
-  same = λ j. ap (function-at (t .tree)) (let e : 0 + j ≡ j = omega arith in e);
-  place = λ j. ap (start-of (t .tree) 0) (let e : 0 + j ≡ j = omega arith in e);
-  starts-long = refl;
-  results-long = refl;
-  starts-done = λ j h. absurd (let f : ⊥ = omega arith in f);
-  results-done = λ j h. absurd (let f : ⊥ = omega arith in f);
+pub results-none : (fs : Script) → Results fs 0 (replicate 32 0)
+results-none fs = record {
+  long = refl;
+  there = λ j h. absurd (let f : ⊥ = omega arith in f);
   blank = λ j h. none-set {A = ℕ} 0 32 j;
 }
 
-module _ {k w : List ℕ} {fs : Script} {i p : ℕ} {ss rs : List ℕ} (s : Scanning k w fs i p ss rs) where
-  pub scan-goes : (d q : ℕ) → i < length fs → length fs ≤ 32 → d ≡ high-at k w at-function p → q ≡ node-of
-      (told (part k w 64 (p + 1 + low-at k w at-function p))) →
-      Scanning k w fs (i + 1) q (set ss i p) (set rs i d)
-  scan-goes d q h few e f = go (s .rest) (s .written) (s .count) (s .room) (s .same) (s .place)
-    where
-      go : (gs : Script) → ScriptWritten k w gs p → i + length gs ≡ length fs → p + total gs ≤ 1024 →
-          ((j : ℕ) → function-at fs (i + j) ≡ function-at gs j) →
-          ((j : ℕ) → start-of fs 0 (i + j) ≡ start-of gs p j) → Scanning k w fs (i + 1) q (set ss i p) (set rs i d)
-      go [] x c r m l = absurd (let z : ⊥ = omega arith in z)
-      go (g ∷ gs) x c r m l =
-          rw (f ∙ next-there k w g p (x .0)) (record {
-            rest = gs;
-            written = x .1;
-            count = omega arith;
-            room = omega arith;
-            same = λ j. ap (function-at fs) (let z : i + 1 + j ≡ i + suc j = omega arith in z) ∙ m (suc j);
-            place = λ j. ap (start-of fs 0) (let z : i + 1 + j ≡ i + suc j = omega arith in z) ∙ l (suc j);
-            starts-long = length-set ss i p ∙ s .starts-long;
-            results-long = length-set rs i d ∙ s .results-long;
-            starts-done = λ j h. first j h (ℕ-discrete j i);
-            results-done = λ j h. second j h (ℕ-discrete j i);
-            blank = λ j h. getD-set-other rs i j d 0 (λ z. omega arith) ∙ s .blank j (omega arith);
-          })
-        where
-          here : i + 0 ≡ i
-          here = omega arith
-
-          first : (j : ℕ) → j < i + 1 → Dec (j ≡ i) → getD (set ss i p) j 0 ≡ start-of fs 0 j
-          first j h (yes z) = rw z (getD-set-same ss i p 0 (omega (arith, s .starts-long)) ∙ sym (rw here at (l 0)))
-          first j h (no z) = getD-set-other ss i j p 0 z ∙ s .starts-done j (omega (arith, z))
-
-          second : (j : ℕ) → j < i + 1 → Dec (j ≡ i) → getD (set rs i d) j 0 ≡ result-of fs j
-          second j h (yes z) =
-              rw z (getD-set-same rs i d 0 (omega (arith, s .results-long)) ∙ e ∙ high-there k w (x .0 .head) ∙ sym
-              (ap (λ (y : Function). y .result) (rw here at (m 0))))
-          second j h (no z) = getD-set-other rs i j d 0 z ∙ s .results-done j (omega (arith, z))
-
-  pub scan-ends : length fs ≤ i → Headed fs (record { starts = ss; results = rs })
-  scan-ends h = record {
-    starts = λ j l. s .starts-done j (omega arith);
-    results = λ f. go f (decLt f i);
+module _ {fs : Script} {i : ℕ} {rs : List ℕ} (r : Results fs i rs) where
+  pub results-more : (d : ℕ) → i < 32 → d ≡ result-of fs i → Results fs (i + 1) (set rs i d)
+  results-more d h e = record {
+    long = length-set rs i d ∙ r .long;
+    there = λ j l. go j l (ℕ-discrete j i);
+    blank = λ j l. getD-set-other rs i j d 0 (λ z. omega arith) ∙ r .blank j (omega arith);
   }
     where
+      go : (j : ℕ) → j < i + 1 → Dec (j ≡ i) → getD (set rs i d) j 0 ≡ result-of fs j
+      go j l (yes z) = rw z (getD-set-same rs i d 0 (omega (arith, r .long)) ∙ e)
+      go j l (no z) = getD-set-other rs i j d 0 z ∙ r .there j (omega (arith, z))
+
+  pub results-all : length fs ≤ i → Resulting fs rs
+  results-all h = record { at = λ f. go f (decLt f i) }
+    where
       go : (f : ℕ) → Dec (f < i) → getD rs f 0 ≡ result-of fs f
-      go f (yes l) = s .results-done f l
-      go f (no l) = s .blank f (omega (arith, l)) ∙ sym (ap (λ (y : Function). y .result) (function-past fs f
-          (omega (arith, l))))
+      go f (yes l) = r .there f l
+      go f (no l) =
+          r .blank f (omega (arith, l))
+          ∙ sym (ap (λ (y : Function). y .result) (function-past fs f (omega (arith, l))))
+
+-- ---- where a function stands
+
+module _ {k w : List ℕ} {n : ℕ} {ss : List ℕ} (t : Translatable k w n ss) where
+  pub start-is : (i : ℕ) → i < n → getD ss i 0 ≡ start-of (t .tree) 0 i
+  start-is i h = started-within (t .started) (omega (arith, known t .1 .0, t .few)) i (omega (arith, known t .1 .0))
+
+  pub result-there : (i at : ℕ) → i < n → at ≡ getD ss i 0 →
+      high-at k w at-function at ≡ result-of (t .tree) i
+  result-there i at h e =
+      ap (high-at k w at-function) (e ∙ start-is i h)
+      ∙ high-there k w (written-at k w (t .tree) 0 i (omega (arith, known t .1 .0)) (known t .0) .head)
 
 -- ---- the code of the functions from i on
 
 rows-same : (fs : Script) (g : Function) → rows-by (result-of fs) g ≡ function-rows fs g
-unfolding rows-by depths-by function-rows annotated-body depths-of
+unfolding rows-by depths-by function-rows annotated-body depths-of head-rows
 rows-same fs g = refl
 
 depths-same : (fs : Script) (g : Function) → depths-by (result-of fs) g ≡ depths-of fs g
@@ -179,41 +136,41 @@ depths-same fs g = refl
 drop-at : (gs : Script) (i : ℕ) → i < length gs → drop i gs ≡ function-at gs i ∷ drop (suc i) gs
 drop-at gs i h = drop-cons gs i no-function h
 
-module _ {k w : List ℕ} {n : ℕ} (t : Translatable k w n) {r : Heads} (hd : Headed (t .tree) r) where
-  low-results : (f : ℕ) → getD (r .results) f 0 ≤ 4
+module _ {k w : List ℕ} {n : ℕ} {ss rs : List ℕ} (t : Translatable k w n ss) (hd : Resulting (t .tree) rs) where
+  low-results : (f : ℕ) → getD rs f 0 ≤ 4
   low-results f = go (decLt f (length (t .tree)))
     where
-      go : Dec (f < length (t .tree)) → getD (r .results) f 0 ≤ 4
+      go : Dec (f < length (t .tree)) → getD rs f 0 ≤ 4
       go (yes h) =
           omega (
             arith,
-            hd .results f,
+            hd .at f,
             high-there k w (written-at k w (t .tree) 0 f h (known t .0) .head),
             result-most k w (start-of (t .tree) 0 f),
           )
       go (no h) = omega (
         arith,
-        hd .results f,
+        hd .at f,
         ap (λ (y : Function). y .result) (function-past (t .tree) f
             (omega (arith, h))),
       )
 
-  pub fits-at : (i at : ℕ) → i < n → at ≡ getD (r .starts) i 0 → Fitting k w (r .results) at
+  pub fits-at : (i at : ℕ) → i < n → at ≡ getD ss i 0 → Fitting k w rs at
   fits-at i at h e =
       let l : i < length (t .tree) = omega (arith, known t .1 .0) in
-      rw (e ∙ hd .starts i l)
-      (fitting k w (r .results) (function-at (t .tree) i) (start-of (t .tree) 0 i) (written-at k w (t .tree) 0 i l
+      rw (e ∙ start-is t i h)
+      (fitting k w rs (function-at (t .tree) i) (start-of (t .tree) 0 i) (written-at k w (t .tree) 0 i l
       (known t .0)) (t .parts) low-results
       (omega (arith, ends-at k w (t .tree) 0 i l, known t .1 .1)) (few-names k w (t .tree) 0 i l (t .names)))
 
-  function-there : (i at : ℕ) → i - 1 < length (t .tree) → at ≡ getD (r .starts) (i - 1) 0 →
+  function-there : (i at : ℕ) → i - 1 < length (t .tree) → at ≡ getD ss (i - 1) 0 →
       read-function k w at ≡ function-at (t .tree) (i - 1)
   function-there i at l e =
-      ap (read-function k w) (e ∙ hd .starts (i - 1) l)
+      ap (read-function k w) (e ∙ start-is t (i - 1) (omega (arith, known t .1 .0)))
       ∙ function-is k w (function-at (t .tree) (i - 1)) (start-of (t .tree) 0 (i - 1))
       (written-at k w (t .tree) 0 (i - 1) l (known t .0))
 
-  pub code-begins : {ks : List ℕ} {os : List ℤ} → Wrote ks os ks os 4097 4097 (functions-rows (t .tree)
+  pub code-begins : {ks : List ℕ} {os : List ℤ} {v : ℕ} → Wrote ks os ks os v v (functions-rows (t .tree)
       (drop n (t .tree)))
   unfolding functions-rows
   code-begins = wrote-as (sym (ap (functions-rows (t .tree)) (none-left (t .tree) n
@@ -225,13 +182,13 @@ module _ {k w : List ℕ} {n : ℕ} (t : Translatable k w n) {r : Heads} (hd : H
       none-left (g ∷ gs) zero h = absurd (let f : ⊥ = omega arith in f)
       none-left (g ∷ gs) (suc i) h = none-left gs i (omega arith)
 
-  pub code-goes : (i at : ℕ) {ks ks₁ ks₂ : List ℕ} {os os₁ os₂ : List ℤ} {v v₂ : ℕ} → 0 < i → i ≤ n → at ≡ getD
-      (r .starts) (i - 1) 0 →
-      Wrote ks os ks₁ os₁ 4097 v (functions-rows (t .tree) (drop i (t .tree))) →
-      Wrote ks₁ os₁ ks₂ os₂ v v₂ (rows-by (λ f. getD (r .results) f 0) (read-function k w at)) →
-      Wrote ks os ks₂ os₂ 4097 v₂ (functions-rows (t .tree) (drop (i - 1) (t .tree)))
+  pub code-goes : (i at : ℕ) {ks ks₁ ks₂ : List ℕ} {os os₁ os₂ : List ℤ} {v₀ v v₂ : ℕ} → 0 < i → i ≤ n → at ≡ getD
+      ss (i - 1) 0 →
+      Wrote ks os ks₁ os₁ v₀ v (functions-rows (t .tree) (drop i (t .tree))) →
+      Wrote ks₁ os₁ ks₂ os₂ v v₂ (rows-by (λ f. getD rs f 0) (read-function k w at)) →
+      Wrote ks os ks₂ os₂ v₀ v₂ (functions-rows (t .tree) (drop (i - 1) (t .tree)))
   unfolding functions-rows
-  code-goes i at {ks} {ks₁} {ks₂} {os} {os₁} {os₂} {v} {v₂} g h e x y =
+  code-goes i at {ks} {ks₁} {ks₂} {os} {os₁} {os₂} {v₀} {v} {v₂} g h e x y =
       wrote-as
       (ap (λ (l : List Row). l ++ functions-rows (t .tree) (drop i (t .tree))) rows-there
       ∙ sym (ap (functions-rows (t .tree)) (drop-at (t .tree) (i - 1) l ∙ ap (λ (j : ℕ). function-at (t .tree)
@@ -241,23 +198,23 @@ module _ {k w : List ℕ} {n : ℕ} (t : Translatable k w n) {r : Heads} (hd : H
       l : i - 1 < length (t .tree)
       l = omega (arith, known t .1 .0)
 
-      rows-there : rows-by (λ f. getD (r .results) f 0) (read-function k w at) ≡ function-rows (t .tree)
+      rows-there : rows-by (λ f. getD rs f 0) (read-function k w at) ≡ function-rows (t .tree)
           (function-at (t .tree) (i - 1))
-      rows-there = ap (λ (q : ℕ → ℕ). rows-by q (read-function k w at)) (fun-ext (λ f. hd .results f))
+      rows-there = ap (λ (q : ℕ → ℕ). rows-by q (read-function k w at)) (fun-ext (λ f. hd .at f))
           ∙ ap (rows-by (result-of (t .tree))) (function-there i at l e)
           ∙ rows-same (t .tree) (function-at (t .tree) (i - 1))
 
   -- the depths of the names of the function that is written
-  pub depths-there : (i at : ℕ) → 0 < i → i ≤ n → at ≡ getD (r .starts) (i - 1) 0 →
-      depths-by (λ f. getD (r .results) f 0) (read-function k w at)
+  pub depths-there : (i at : ℕ) → 0 < i → i ≤ n → at ≡ getD ss (i - 1) 0 →
+      depths-by (λ f. getD rs f 0) (read-function k w at)
       ≡ depths-of (t .tree) (function-at (t .tree) (i - 1))
   depths-there i at g h e =
-      ap (λ (q : ℕ → ℕ). depths-by q (read-function k w at)) (fun-ext (λ f. hd .results f))
+      ap (λ (q : ℕ → ℕ). depths-by q (read-function k w at)) (fun-ext (λ f. hd .at f))
       ∙ ap (depths-by (result-of (t .tree))) (function-there i at (omega (arith, known t .1 .0)) e)
       ∙ depths-same (t .tree) (function-at (t .tree) (i - 1))
 
-  pub code-ends : (i : ℕ) {ks ks₁ : List ℕ} {os os₁ : List ℤ} {v : ℕ} → i ≤ 0 → Wrote ks os ks₁ os₁ 4097 v
+  pub code-ends : (i : ℕ) {ks ks₁ : List ℕ} {os os₁ : List ℤ} {v₀ v : ℕ} → i ≤ 0 → Wrote ks os ks₁ os₁ v₀ v
       (functions-rows (t .tree) (drop i (t .tree))) →
-      Wrote ks os ks₁ os₁ 4097 v (code (t .tree))
+      Wrote ks os ks₁ os₁ v₀ v (code (t .tree))
   unfolding code
   code-ends i h x = let e : i ≡ 0 = omega arith in rw e at x

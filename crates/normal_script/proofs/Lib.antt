@@ -1,2 +1,5 @@
-pub mod Functions
+pub mod Whole
 pub mod Depths
+pub mod Parameters
+pub mod Accepted
+pub mod Functions

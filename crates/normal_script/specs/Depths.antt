@@ -7,10 +7,10 @@ use Rattle.semantics.specs.Outcome.{Outcome, done, stop}
 use Rattle.semantics.specs.Syntax.{Script, function-at}
 use Rattle.semantics.specs.Annotate.{depths-of}
 
--- the depths of the first n names of function f are noted, as far as the table goes, and nothing else
+-- the depths of the first n names of function f are noted, where the table has room for all functions, and nothing else
 pub record NotedTo (n f : ℕ) (depths table table′ : List ℕ) : Type 0 where
   pub long : length table′ ≡ length table
-  pub there : (x : ℕ) → x < n → 256 * f + x < length table → getD table′ (256 * f + x) 0 ≡ getD depths x 0
+  pub there : (x : ℕ) → x < n → 8192 ≤ length table → getD table′ (256 * f + x) 0 ≡ getD depths x 0
   pub before : (i : ℕ) → i < 256 * f → getD table′ i 0 ≡ getD table i 0
   pub after : (i : ℕ) → 256 * f + n ≤ i → getD table′ i 0 ≡ getD table i 0
 
@@ -20,7 +20,7 @@ Noted = NotedTo 256
 -- those of all functions of a script from number n on
 pub record DepthsFrom (n : ℕ) (fs : Script) (table table′ : List ℕ) : Type 0 where
   pub long : length table′ ≡ length table
-  pub there : (g x : ℕ) → n ≤ g → g < length fs → x < 256 → 256 * g + x < length table →
+  pub there : (g x : ℕ) → n ≤ g → g < length fs → x < 256 → 8192 ≤ length table →
       getD table′ (256 * g + x) 0 ≡ depths-of fs (function-at fs g) x
   pub before : (i : ℕ) → i < 256 * n → getD table′ i 0 ≡ getD table i 0
   pub after : (i : ℕ) → 256 * length fs ≤ i → getD table′ i 0 ≡ getD table i 0

@@ -1,4 +1,3 @@
-pub mod Trees
 pub mod Lines
-pub mod Annotated
-pub mod Right
+pub mod Branches
+pub mod Trees

@@ -1,125 +1,173 @@
--- Laws of the walk of a tree.
-use mathlib.Core.Path.{_≡_, sym, ap, _∙_, subst}
-use mathlib.Core.Bool.{Bool}
-use mathlib.Core.List.{List, _++_}
-use Prim.Native.Nat.{ℕ, _+_, _-_, _<_, _≤_}
+-- Laws of the walk of a tree: its end line, and its lines from the last to the first.
+use mathlib.Core.Path.{_≡_, refl, sym, ap, _∙_}
+use mathlib.Core.Bool.{Bool, true}
+use mathlib.Core.List.{List, [], _∷_, _++_, append-assoc}
+use mathlib.Core.Logic.{⊎-elim}
+use Prim.Native.Nat.{ℕ, zero, suc, _+_, _-_, _<_, _≤_}
 use native.Mathlib.Omega.{arith}
 use lib.IntN.{ℤ}
-use lib.ListN.{getD}
-use Rattle.semantics.specs.Code as C
-use Rattle.semantics.specs.Code.{Tree, end, line}
-use Rattle.semantics.specs.Live.{Set, is, _∪_}
-use Rattle.semantics.specs.Annotate.{NameDepths, dying}
-use Rattle.normal_code.specs.Plain.{Plain, set-of, meant, placed, line-at, note, as-line, back, end-at, tree-to}
+use lib.ListN.{length, getD}
+use denote.Enum.Declared.{tagOf}
+use types.Run.{OneOf}
+use borrow.Author.Tests.{lt-ltb, le-ltb}
+use Rattle.semantics.specs.Code.{Row}
+use Rattle.semantics.specs.Live.{is, among, _∪_}
+use Rattle.semantics.specs.Annotate.{NameDepths}
+use Rattle.normal_code.specs.Plain.{Plain, set-of, meant, placed, line-at, note}
+use Rattle.normal_code.specs.Parts.{ending}
+use Rattle.normal_code.specs.Marks.{marks-of}
+use Rattle.normal_code.specs.Walk.{Point, point, unmarked, unmarked-all, line-walk, back-walk, end-walk, tree-walk}
 use Rattle.normal_code.specs.declared.Atom.{Atom}
 use Rattle.normal_code.specs.declared.Line.{Line}
-use Rattle.normal_code.proofs.Trees.{tree-none, tree-some, back-goes, back-stops, back-none}
-use Rattle.normal_uses.specs.Table.{Sets}
-use Rattle.normal_uses.proofs.Walks.{ended}
-use Rattle.normal_write.specs.Wrote.{Wrote}
-use Rattle.normal_write.specs.Parts.{release-rows, ending}
-use Rattle.normal_write.proofs.Rows.{wrote-then, wrote-as}
-use Rattle.normal_walk.specs.Walk.{lives, before, walked, part, Done}
-use Rattle.normal_walk.specs.declared.Walked.{Walked}
+use Rattle.normal_code.specs.declared.Line.the-variants as L
+use Rattle.normal_code.proofs.Line.{the-type}
+use Rattle.normal_code.proofs.Atoms.{pred-suc}
+use Rattle.normal_write.specs.Wrote.{Wrote, Room}
+use Rattle.normal_write.specs.Took.{Took}
+use Rattle.normal_write.proofs.Rows.{wrote-none, wrote-then, lower}
+use Rattle.normal_walk.specs.Walks.{Walks, is-leaf}
+use Rattle.normal_walk.proofs.Lines.{same-point}
 
-abbrev pub done-at : List Bool → ℕ → Walked
-done-at s v = record { names = s; at = v }
+-- a line of another case than operation, if and map
+pub leaf-is : (l : Line) → OneOf (1 ∷ 2 ∷ 3 ∷ 4 ∷ []) (tagOf the-type l) → is-leaf l ≡ true
+unfolding is-leaf
+leaf-is (L.Operation x kind a b) h = refl
+leaf-is (L.Call x f m) h = refl
+leaf-is (L.Literal x d m) h = refl
+leaf-is (L.Index x a b) h = refl
+leaf-is (L.Length x a) h = refl
+leaf-is (L.If x g) h = absurd (⊎-elim (λ z. omega arith) (⊎-elim (λ z. omega arith) (⊎-elim (λ z. omega arith)
+    (λ z. omega arith))) h)
+leaf-is (L.Map x y a) h = absurd (⊎-elim (λ z. omega arith) (⊎-elim (λ z. omega arith) (⊎-elim (λ z. omega arith)
+    (λ z. omega arith))) h)
 
--- a tree t was walked, after which L is live
-abbrev pub Finished : Sets → NameDepths → Tree → Set → List ℕ → List ℤ → List ℕ → List ℤ → ℕ → Walked → Type 0
-Finished U Γ t L k o k′ o′ w r = Done (lives U t L) (walked U Γ t L) k o k′ o′ w r
-
-end-is : (U : Sets) (Γ : NameDepths) (a : C.Atom) (L : Set) {k k₁ : List ℕ} {o o₁ : List ℤ} {w v : ℕ}
-    {s : List Bool} →
-    set-of s ≡ is a ∪ L → Wrote k o k₁ o₁ w v (ending Γ a L) → Finished U Γ (end a) L k o k₁ o₁ w (done-at s v)
-unfolding lives walked
-end-is U Γ a L x y = record { seen = x; wrote = y }
-
-module _ (F : Plain) (U : Sets) (Γ : NameDepths) (e : ℕ) where
-  -- the end line is written
-  pub end-done : (a : Atom) (v : ℕ) (L : Set) → v ≡ getD (F .rows) (e + 1) 0 → a ≡ placed (F .operands) v →
-      {k k₁ : List ℕ} {o o₁ : List ℤ} {w v₁ : ℕ} {s : List Bool} → set-of s ≡ is (meant a) ∪ L →
-      Wrote k o k₁ o₁ w v₁ (ending Γ (meant a) L) → Finished U Γ (end-at F e) L k o k₁ o₁ w (done-at s v₁)
-  end-done a v L h g {k} {k₁} {o} {o₁} {w} {v₁} {s} x y =
-      subst (λ (t : Tree). Finished U Γ t L k o k₁ o₁ w (done-at s v₁))
-      (sym (ended F e a (record { place = v; at = h; is-atom = g }))) (end-is U Γ (meant a) L x y)
-
-  -- a tree with no level left
-  pub none-done : (d : ℕ) (L : Set) → d ≡ 0 → {k k₁ : List ℕ} {o o₁ : List ℤ} {w : ℕ} {r : Walked} →
-      Finished U Γ (end-at F e) L k o k₁ o₁ w r → Finished U Γ (tree-to F d e) L k o k₁ o₁ w r
-  none-done d L h x = rw (tree-none F d e h) x
-
--- the walk of the tree whose end line is at e has come back to row q: `tree` stands from q on
-pub record Annotating (F : Plain) (U : Sets) (Γ : NameDepths) (d e : ℕ) (k₀ : List ℕ) (o₀ : List ℤ) (s₀ : List Bool)
-    (v₀ : ℕ)
-    (left q : ℕ) (k : List ℕ) (o : List ℤ) (s : List Bool) (v : ℕ) : Type 0 where
-  pub tree : Tree
-  pub whole : tree-to F d e ≡ back F (tree-to F (d - 1)) left q tree
-  pub grows : (L : Set) (K : List ℕ) (O : List ℤ) (w : ℕ) → Finished U Γ (end-at F e) L K O k₀ o₀ w (done-at s₀ v₀) →
-      Finished U Γ tree L K O k o w (done-at s v)
-  pub some : 0 < d
-  pub near : q ≤ 4096
-  pub few : left ≤ 4096
-  pub place : v ≤ 4097
-
-module _ {F : Plain} {U : Sets} {Γ : NameDepths} {d e : ℕ} {k₀ : List ℕ} {o₀ : List ℤ} {s₀ : List Bool} {v₀ : ℕ} where
-  unfoldable pub walk-begins : (d ≡ 0 → ⊥) → e ≤ 4096 → v₀ ≤ 4097 → Annotating F U Γ d e k₀ o₀ s₀ v₀ 4096 e k₀ o₀ s₀
-      v₀
-  walk-begins h g i = record {
-    tree = end-at F e;
-    whole = tree-some F d e (omega (arith, h));
-    grows = λ L K O w x. x;
-    some = omega (arith, h);
-    near = g;
-    few = omega arith;
-    place = i;
+module _ (F : Plain) (Γ : NameDepths) where
+  pub end-done : (e : ℕ) (a : Atom) (v : ℕ) → v ≡ getD (F .rows) (e + 1) 0 → a ≡ placed (F .operands) v →
+      {s₀ : List Bool} {c c₁ k k₁ : List ℕ} {o o₁ : List ℤ} {w v₁ : ℕ} {s : List Bool} →
+      Wrote k o k₁ o₁ w v₁ (ending Γ (meant a) (set-of s₀)) →
+      Took (is (meant a) ∪ set-of s₀) (unmarked (F .notes) (e + 1) (meant a) (marks-of c)) s c₁ →
+      Walks (end-walk F Γ e) s₀ c k o w s c₁ k₁ o₁ v₁
+  unfolding end-walk among unmarked-all
+  end-done e a v h g {s₀} {c} y t = record {
+    added = ending Γ (meant a) (set-of s₀);
+    is = λ rs. rw (← h, ← g) (same-point (sym (t .names)) (sym (t .marks)) refl);
+    wrote = y;
+    long = t .long;
   }
 
-  module _ {left q : ℕ} {k : List ℕ} {o : List ℤ} {s : List Bool} {v : ℕ} (a : Annotating F U Γ d e k₀ o₀ s₀ v₀ left
-      q k o s v) where
-    pub walk-goes : (p : ℕ) (l : Line) (r : Walked) (k₁ : List ℕ) (o₁ : List ℤ) → 0 < left → p ≡ note (F .notes) q →
-        p < q →
-        l ≡ line-at (F .operands) (F .rows) p →
-        Done (before U (as-line F (tree-to F (d - 1)) p q l) (set-of s)) (part U Γ (as-line F (tree-to F (d - 1)) p
-        q l) (set-of s)) k o k₁ o₁ v r →
-        Annotating F U Γ d e k₀ o₀ s₀ v₀ (left - 1) p k₁ o₁ (r .names) (r .at)
-    unfolding lives walked
-    walk-goes p l r k₁ o₁ g f h m x = record {
-      tree = line (as-line F (tree-to F (d - 1)) p q (line-at (F .operands) (F .rows) p)) (a .tree);
-      whole = a .whole ∙ back-goes F (tree-to F (d - 1)) left q p (a .tree) g f h;
-      grows = λ L K O w y. rw (← m) (record {
-        seen = x .seen ∙ ap (before U (as-line F (tree-to F (d - 1)) p q l)) (a .grows L K O w y .seen);
-        wrote = wrote-as
-            (ap (λ (S : Set). part U Γ (as-line F (tree-to F (d - 1)) p q l) S ++ walked U Γ (a .tree) L)
-            (a .grows L K O w y .seen))
-            (wrote-then (a .grows L K O w y .wrote) (x .wrote));
-      });
-      some = a .some;
-      near = omega (arith, a .near);
-      few = omega (arith, a .few);
-      place = omega (arith, a .place, x .wrote .at);
+  -- a tree with no level left
+  pub none-done : (d e : ℕ) → d ≡ 0 → {s₀ : List Bool} {c c₁ k k₁ : List ℕ} {o o₁ : List ℤ} {w v : ℕ} {s : List
+      Bool} →
+      Walks (end-walk F Γ e) s₀ c k o w s c₁ k₁ o₁ v → Walks (tree-walk F Γ d e) s₀ c k o w s c₁ k₁ o₁ v
+  unfolding tree-walk
+  none-done d e h x = rw h x
+
+  tree-some : (d e : ℕ) (P : Point) → (d ≡ 0 → ⊥) →
+      tree-walk F Γ d e P ≡ back-walk F Γ (tree-walk F Γ (d - 1)) 4096 e (end-walk F Γ e P)
+  unfolding tree-walk
+  tree-some d e P h = ap (λ (m : ℕ). tree-walk F Γ m e P) (pred-suc d (omega (arith, h))) ∙ go (d - 1)
+    where
+      go : (m : ℕ) → tree-walk F Γ (suc m) e P ≡ back-walk F Γ (tree-walk F Γ m) 4096 e (end-walk F Γ e P)
+      go m = refl
+
+  module _ (W : ℕ → Point → Point) where
+    back-stops : (n q p : ℕ) (P : Point) → p ≡ note (F .notes) q → q ≤ p → back-walk F Γ W n q P ≡ P
+    unfolding back-walk
+    back-stops zero q p P e h = refl
+    back-stops (suc n) q p P e h = rw (← e, le-ltb p q h)
+
+    back-none : (n q : ℕ) (P : Point) → n ≤ 0 → back-walk F Γ W n q P ≡ P
+    unfolding back-walk
+    back-none zero q P h = refl
+    back-none (suc n) q P h = absurd (let f : ⊥ = omega arith in f)
+
+    back-goes : (n q p : ℕ) (P : Point) → 0 < n → p ≡ note (F .notes) q → p < q →
+        back-walk F Γ W n q P ≡ back-walk F Γ W (n - 1) p (line-walk F Γ W p q (line-at (F .operands) (F .rows) p) P)
+    unfolding back-walk
+    back-goes n q p P g e h = ap (λ (m : ℕ). back-walk F Γ W m q P) (pred-suc n g) ∙ go (n - 1)
+      where
+        go : (m : ℕ) → back-walk F Γ W (suc m) q P
+            ≡ back-walk F Γ W m p (line-walk F Γ W p q (line-at (F .operands) (F .rows) p) P)
+        go m = rw (← e, lt-ltb p q h)
+
+    -- the walk has come from row q₀ back to row q
+    pub record Going (s₀ : List Bool) (c₀ k₀ : List ℕ) (o₀ : List ℤ) (v₀ left₀ q₀ : ℕ)
+        (s : List Bool) (c k : List ℕ) (o : List ℤ) (v left q : ℕ) : Type 0 where
+      pub added : List Row
+      pub rest : (rs : List Row) → back-walk F Γ W left₀ q₀ (point (set-of s₀) (marks-of c₀) rs)
+          ≡ back-walk F Γ W left q (point (set-of s) (marks-of c) (added ++ rs))
+      pub wrote : Wrote k₀ o₀ k o v₀ v added
+      pub long : length c ≡ 256
+      pub room : Room k o v
+      pub near : q ≤ 4096
+      pub few : left ≤ 4096
+
+    pub going-none : {s : List Bool} {c k : List ℕ} {o : List ℤ} {v left q : ℕ} → length c ≡ 256 → Room k o v →
+        q ≤ 4096 → left ≤ 4096 → Going s c k o v left q s c k o v left q
+    going-none l m h i = record {
+      added = [];
+      rest = λ rs. refl;
+      wrote = wrote-none;
+      long = l;
+      room = m;
+      near = h;
+      few = i;
     }
 
-    pub walk-stops : (p : ℕ) (L : Set) → p ≡ note (F .notes) q → q ≤ p → {K : List ℕ} {O : List ℤ} {w : ℕ} →
-        Finished U Γ (end-at F e) L K O k₀ o₀ w (done-at s₀ v₀) → Finished U Γ (tree-to F d e) L K O k o w
-        (done-at s v)
-    walk-stops p L f h {K} {O} {w} x =
-        rw (a .whole ∙ back-stops F (tree-to F (d - 1)) left q p (a .tree) f h) (a .grows L K O w x)
+    module _ {s₀ : List Bool} {c₀ k₀ : List ℕ} {o₀ : List ℤ} {v₀ left₀ q₀ : ℕ}
+        {s : List Bool} {c k : List ℕ} {o : List ℤ} {v left q : ℕ}
+        (a : Going s₀ c₀ k₀ o₀ v₀ left₀ q₀ s c k o v left q) where
+      pub going-more : (p : ℕ) (l : Line) {s₁ : List Bool} {c₁ k₁ : List ℕ} {o₁ : List ℤ} {v₁ : ℕ} → 0 < left →
+          p ≡ note (F .notes) q → p < q → l ≡ line-at (F .operands) (F .rows) p →
+          Walks (line-walk F Γ W p q l) s c k o v s₁ c₁ k₁ o₁ v₁ →
+          Going s₀ c₀ k₀ o₀ v₀ left₀ q₀ s₁ c₁ k₁ o₁ v₁ (left - 1) p
+      going-more p l {s₁} {c₁} g f h m d = record {
+        added = d .added ++ a .added;
+        rest = λ rs.
+            a .rest rs
+            ∙ back-goes left q p (point (set-of s) (marks-of c) (a .added ++ rs)) g f h
+            ∙ ap (λ (n : Line). back-walk F Γ W (left - 1) p (line-walk F Γ W p q n
+            (point (set-of s) (marks-of c) (a .added ++ rs)))) (sym m)
+            ∙ ap (back-walk F Γ W (left - 1) p) (d .is (a .added ++ rs))
+            ∙ ap (λ (qs : List Row). back-walk F Γ W (left - 1) p (point (set-of s₁) (marks-of c₁) qs))
+            (sym (append-assoc (d .added) (a .added) rs));
+        wrote = wrote-then (a .wrote) (d .wrote);
+        long = d .long;
+        room = lower (d .wrote) (a .room);
+        near = omega (arith, a .near);
+        few = omega (arith, a .few);
+      }
 
-    pub walk-ends : (L : Set) → left ≤ 0 → {K : List ℕ} {O : List ℤ} {w : ℕ} →
-        Finished U Γ (end-at F e) L K O k₀ o₀ w (done-at s₀ v₀) → Finished U Γ (tree-to F d e) L K O k o w
-        (done-at s v)
-    walk-ends L h {K} {O} {w} x =
-        rw (a .whole ∙ back-none F (tree-to F (d - 1)) left q (a .tree) h) (a .grows L K O w x)
+      -- the walk from q₀ on is at its end
+      finished : ((P : Point) → back-walk F Γ W left q P ≡ P) → (rs : List Row) →
+          back-walk F Γ W left₀ q₀ (point (set-of s₀) (marks-of c₀) rs)
+          ≡ point (set-of s) (marks-of c) (a .added ++ rs)
+      finished h rs = a .rest rs ∙ h (point (set-of s) (marks-of c) (a .added ++ rs))
 
--- a tree, and the releases that open it
-pub branch-done : (U : Sets) (Γ : NameDepths) (t : Tree) (B used : Set) (r : Walked) (n : ℕ)
-    {k k₁ k₂ : List ℕ} {o o₁ o₂ : List ℤ} {w : ℕ} → Finished U Γ t B k o k₁ o₁ w r →
-    Wrote k₁ o₁ k₂ o₂ (r .at) n (release-rows (dying Γ used (set-of (r .names)))) →
-    Done (lives U t B) (release-rows (dying Γ used (lives U t B)) ++ walked U Γ t B) k o k₂ o₂ w (done-at (r .names)
-    n)
-branch-done U Γ t B used r n x y = record {
-  seen = x .seen;
-  wrote = wrote-as (ap (λ (S : Set). release-rows (dying Γ used S) ++ walked U Γ t B) (x .seen))
-      (wrote-then (x .wrote) y);
-}
+      pub going-stops : (p : ℕ) → p ≡ note (F .notes) q → q ≤ p → (rs : List Row) →
+          back-walk F Γ W left₀ q₀ (point (set-of s₀) (marks-of c₀) rs) ≡ point (set-of s) (marks-of c) (a .added
+          ++ rs)
+      going-stops p f h rs = finished (λ P. back-stops left q p P f h) rs
+
+      pub going-ends : left ≤ 0 → (rs : List Row) →
+          back-walk F Γ W left₀ q₀ (point (set-of s₀) (marks-of c₀) rs) ≡ point (set-of s) (marks-of c) (a .added
+          ++ rs)
+      going-ends h rs = finished (λ P. back-none left q P h) rs
+
+  -- a tree: its end line, then its lines
+  pub tree-done : (d e : ℕ) → (d ≡ 0 → ⊥) → {s s₀ s₁ : List Bool} {c c₀ c₁ k k₀ k₁ : List ℕ} {o o₀ o₁ : List ℤ}
+      {w v₀ v left q : ℕ} → Walks (end-walk F Γ e) s c k o w s₀ c₀ k₀ o₀ v₀ →
+      (a : Going (tree-walk F Γ (d - 1)) s₀ c₀ k₀ o₀ v₀ 4096 e s₁ c₁ k₁ o₁ v left q) →
+      ((rs : List Row) → back-walk F Γ (tree-walk F Γ (d - 1)) 4096 e (point (set-of s₀) (marks-of c₀) rs)
+      ≡ point (set-of s₁) (marks-of c₁) (a .added ++ rs)) →
+      Walks (tree-walk F Γ d e) s c k o w s₁ c₁ k₁ o₁ v
+  tree-done d e h {s} {s₀} {s₁} {c} {c₀} {c₁} x a f = record {
+    added = a .added ++ x .added;
+    is = λ rs.
+        tree-some d e (point (set-of s) (marks-of c) rs) h
+        ∙ ap (back-walk F Γ (tree-walk F Γ (d - 1)) 4096 e) (x .is rs)
+        ∙ f (x .added ++ rs)
+        ∙ ap (point (set-of s₁) (marks-of c₁)) (sym (append-assoc (a .added) (x .added) rs));
+    wrote = wrote-then (x .wrote) (a .wrote);
+    long = a .long;
+  }

@@ -1,2 +1,5 @@
 pub mod Rows
 pub mod Names
+pub mod Atoms
+pub mod Laws
+pub mod Leaves

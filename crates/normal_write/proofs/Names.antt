@@ -1,28 +1,24 @@
 -- Laws of the names that are released and retained.
 use mathlib.Core.Path.{_≡_, refl, sym, ap, _∙_, fun-ext}
 use mathlib.Core.Bool.{Bool, true, false, not, _&&_, _||_}
-use mathlib.Core.Logic.{_⊎_, inl, inr}
 use mathlib.Core.List.{List, [], _∷_, _++_, map}
-use Prim.Native.Nat.{ℕ, zero, suc, _+_, _-_, _*_, _<_, _≤_}
+use Prim.Native.Nat.{ℕ, zero, suc, _+_, _-_, _<_, _≤_}
 use native.Mathlib.Omega.{arith}
 use native.Mathlib.Decide.{ℕ-discrete}
 use lib.IntN.{ℤ}
 use lib.Dec.{ltb, eqb}
-use lib.ListN.{length, getD}
+use lib.ListN.{getD}
 use borrow.Author.Tests.{lt-ltb, le-ltb, eq-eqb, ne-eqb}
 use Rattle.semantics.specs.Basics.{with-if}
-use Rattle.semantics.specs.Number.{Operation}
-use Rattle.semantics.specs.Kinds.{Leaf, operation, call, literal, index, length-of, operation-kind, leaf-kind}
-use Rattle.semantics.specs.Kinds.{leaf-operand, leaf-hands, leaf-reads, is-pending}
 use Rattle.semantics.specs.Code.{Atom, number, name, Row, row, atom-row}
-use Rattle.semantics.specs.Live.{Set, empty, is, only, among, _∪_, members-from, members}
-use Rattle.semantics.specs.Annotate.{NameDepths, atom-depth, is-array, dying, handed-again}
+use Rattle.semantics.specs.Live.{Set, empty, only, among, _∪_, members-from, members}
+use Rattle.semantics.specs.Annotate.{NameDepths, is-array, dying, handed-again}
 use Rattle.normal_code.specs.Plain.{meant, placed, atoms-at}
 use Rattle.normal_code.specs.declared.Atom as P
-use Rattle.normal_code.proofs.Trees.{atoms-more, atoms-none, atoms-all}
-use Rattle.normal_uses.proofs.Effects.{among-split}
+use Rattle.normal_code.proofs.Atoms.{atoms-more, atoms-none, atoms-all}
 use Rattle.normal_write.specs.Wrote.{Wrote}
-use Rattle.normal_write.specs.Parts.{retain-rows, release-rows, handed-one, leaf-part, handing}
+use Rattle.normal_code.specs.Parts.{retain-rows, release-rows, handed-one}
+use Rattle.normal_code.specs.Walk.{below}
 use Rattle.normal_write.proofs.Rows.{map-append, wrote-none, wrote-then, wrote-as}
 
 and-false : (b : Bool) → b && false ≡ false
@@ -43,11 +39,19 @@ with-if-append : (b : Bool) (x : ℕ) (l : List ℕ) → with-if b x l ≡ with-
 with-if-append true x l = refl
 with-if-append false x l = refl
 
-module _ (Γ : NameDepths) (used A : Set) where
-  pub release-none : {k : List ℕ} {o : List ℤ} {w : ℕ} → Wrote k o k o w w (releases-from Γ used A 256)
-  unfolding members-from
-  release-none = wrote-none
+none-from : (k i n : ℕ) (U P : Set) → n ≤ i → members-from k i (λ y. (ltb y n && U y) && P y) ≡ []
+unfolding members-from
+none-from zero i n U P h = refl
+none-from (suc k) i n U P h = rw (le-ltb i n h) (none-from k (suc i) n U P (omega arith))
 
+pub release-none : (Γ : NameDepths) (used A : Set) (n : ℕ) {k : List ℕ} {o : List ℤ} {w : ℕ} →
+    Wrote k o k o w w (releases-from Γ (below n used) A n)
+release-none Γ used A n =
+    wrote-as (sym (ap (λ (l : List ℕ). release-rows l) (none-from (256 - n) n n used (λ y. is-array Γ y && not (A y))
+    (omega arith))))
+    wrote-none
+
+module _ (Γ : NameDepths) (used A : Set) where
   pub release-more : (i : ℕ) → 0 < i → i ≤ 256 →
       release-rows (with-if (dies Γ used A (i - 1)) (i - 1) []) ++ releases-from Γ used A i ≡ releases-from Γ used A
       (i - 1)
@@ -67,6 +71,22 @@ module _ (Γ : NameDepths) (used A : Set) where
   unfolding dying members
   release-all {i = i} h r = let e : i ≡ 0 = omega arith in rw e at r
 
+-- one more of the names below n
+pub release-below : (Γ : NameDepths) (used A : Set) (n i : ℕ) → 0 < i → i ≤ n → n ≤ 256 →
+    release-rows (with-if (dies Γ used A (i - 1)) (i - 1) []) ++ releases-from Γ (below n used) A i
+    ≡ releases-from Γ (below n used) A (i - 1)
+release-below Γ used A n i g h j =
+    ap (λ (b : Bool). release-rows (with-if (b && (is-array Γ (i - 1) && not (A (i - 1)))) (i - 1) [])
+    ++ releases-from Γ (below n used) A i)
+    (sym (ap (λ (b : Bool). b && used (i - 1)) (lt-ltb (i - 1) n (omega arith))))
+    ∙ release-more Γ (below n used) A i g (omega arith)
+
+pub release-used : (Γ : NameDepths) (used A : Set) (n i : ℕ) {u : Bool} → u ≡ used (i - 1) → 0 < i → i ≤ n → n ≤ 256 →
+    release-rows (with-if (u && (is-array Γ (i - 1) && not (A (i - 1)))) (i - 1) []) ++ releases-from Γ (below n
+    used) A i
+    ≡ releases-from Γ (below n used) A (i - 1)
+release-used Γ used A n i e g h j = rw e (release-below Γ used A n i g h j)
+
 -- one name
 no-member : (n i x : ℕ) (P : Set) → x < i → members-from n i (λ y. eqb x y && P y) ≡ []
 unfolding members-from
@@ -83,6 +103,39 @@ one-member (suc n) i x P h g = go (ℕ-discrete x i) (λ f. one-member n (suc i)
     go (yes e) later = rw (← e, eq-eqb x x refl, no-member n (suc x) x P (omega arith))
     go (no f) later = rw (ne-eqb x i f) (later f)
 
+-- two names, the lower first
+later-member : (n i x y : ℕ) (P : Set) → x < i →
+    members-from n i (λ z. (eqb x z || eqb y z) && P z) ≡ members-from n i (λ z. eqb y z && P z)
+unfolding members-from
+later-member zero i x y P h = refl
+later-member (suc n) i x y P h =
+    rw (ne-eqb x i (λ e. omega arith))
+    (ap (with-if (eqb y i && P i) i) (later-member n (suc i) x y P (omega arith)))
+
+two-members : (n i x y : ℕ) (P : Set) → i ≤ x → x < y →
+    members-from n i (λ z. (eqb x z || eqb y z) && P z)
+    ≡ members-from n i (λ z. eqb x z && P z) ++ members-from n i (λ z. eqb y z && P z)
+unfolding members-from
+two-members zero i x y P h g = refl
+two-members (suc n) i x y P h g = go (ℕ-discrete x i) (λ f. two-members n (suc i) x y P (omega (arith, f)) g)
+  where
+    go : Dec (x ≡ i) →
+        ((x ≡ i → ⊥) → members-from n (suc i) (λ z. (eqb x z || eqb y z) && P z)
+        ≡ members-from n (suc i) (λ z. eqb x z && P z) ++ members-from n (suc i) (λ z. eqb y z && P z)) →
+        with-if ((eqb x i || eqb y i) && P i) i (members-from n (suc i) (λ z. (eqb x z || eqb y z) && P z))
+        ≡ with-if (eqb x i && P i) i (members-from n (suc i) (λ z. eqb x z && P z))
+        ++ with-if (eqb y i && P i) i (members-from n (suc i) (λ z. eqb y z && P z))
+    go (yes e) later =
+        rw (
+          ← e,
+          eq-eqb x x refl,
+          ne-eqb y x (λ f. omega arith),
+          no-member n (suc x) x P (omega arith),
+          later-member n (suc x) x y P (omega arith),
+        )
+        (with-if-append (P x) x (members-from n (suc x) (λ z. eqb y z && P z)))
+    go (no f) later = rw (ne-eqb x i f, ne-eqb y i (λ e. omega arith)) (later f)
+
 nothing-from : (n i : ℕ) → members-from n i empty ≡ []
 unfolding members-from
 nothing-from zero i = refl
@@ -92,6 +145,31 @@ module _ (Γ : NameDepths) where
   pub dying-one : (x : ℕ) (A : Set) → x < 256 → with-if (is-array Γ x && not (A x)) x [] ≡ dying Γ (only x) A
   unfolding dying members
   dying-one x A h = sym (one-member 256 0 x (λ y. is-array Γ y && not (A y)) (omega arith) (omega arith))
+
+  pub dying-two : (x y : ℕ) (A : Set) → x < y → release-rows (dying Γ (only x) A) ++ release-rows (dying Γ (only y) A)
+      ≡ release-rows (dying Γ (only x ∪ only y) A)
+  unfolding dying members
+  dying-two x y A h =
+      sym (ap (λ (l : List ℕ). release-rows l) (two-members 256 0 x y (λ z. is-array Γ z && not (A z)) (omega
+      arith) h)
+      ∙ map-append _ (dying Γ (only x) A) (dying Γ (only y) A))
+
+  pub dying-turned : (U W A : Set) → release-rows (dying Γ (U ∪ W) A) ≡ release-rows (dying Γ (W ∪ U) A)
+  dying-turned U W A = ap (λ (S : Set). release-rows (dying Γ S A)) (fun-ext (λ z. go (U z) (W z)))
+    where
+      go : (a b : Bool) → a || b ≡ b || a
+      go true true = refl
+      go true false = refl
+      go false true = refl
+      go false false = refl
+
+  pub dying-twice : (x y : ℕ) (A : Set) → x ≡ y → release-rows (dying Γ (only x) A) ≡ release-rows (dying Γ (only y
+      ∪ only x) A)
+  dying-twice x y A e = rw (← e) (ap (λ (S : Set). release-rows (dying Γ S A)) (fun-ext (λ z. go (eqb x z))))
+    where
+      go : (a : Bool) → a ≡ a || a
+      go true = refl
+      go false = refl
 
   pub dying-none : (A : Set) → [] ≡ dying Γ empty A
   unfolding dying members
@@ -200,90 +278,3 @@ module _ (w rows : List ℕ) (at : ℕ) where
     retains-end i m h x =
         wrote-as (ap (λ (us : List Atom). retain-rows (handed-again Γ us A)) (atoms-all w rows at i m
         (omega arith))) x
-
--- ---- the names that a line reads and binds
-
-or-none : (b : Bool) → b || false ≡ b
-or-none true = refl
-or-none false = refl
-
-pub only-one : (x : ℕ) (N O : Set) → N ≡ empty → O ≡ only x ∪ N → O ≡ only x
-only-one x N O e f = f ∙ rw e (fun-ext (λ y. or-none (eqb x y)))
-
-module _ (Γ : NameDepths) where
-  -- only arrays are released
-  dying-arrays : (U W A : Set) → ((y : ℕ) → (is-array Γ y ≡ false) ⊎ (U y ≡ W y)) → dying Γ U A ≡ dying Γ W A
-  unfolding dying
-  dying-arrays U W A h = ap members (fun-ext (λ y. go y (h y)))
-    where
-      go : (y : ℕ) → (is-array Γ y ≡ false) ⊎ (U y ≡ W y) → dies Γ U A y ≡ dies Γ W A y
-      go y (inl e) = rw (e, and-false (U y), and-false (W y))
-      go y (inr e) = rw e
-
-  -- where the second atom and the name that is bound are numbers, the first atom's name alone may be released
-  pub first-alone : (x : ℕ) (a b : Atom) (d e : ℕ) (A : Set) → d ≡ Γ x → d ≡ 0 → e ≡ atom-depth Γ b → e ≡ 0 →
-      dying Γ (is a) A ≡ dying Γ (is a ∪ is b ∪ only x) A
-  first-alone x a b d e A f g h i =
-      dying-arrays (is a) (is a ∪ is b ∪ only x) A (λ y. go b (sym h ∙ i) y (ℕ-discrete x y))
-    where
-      flat : (z y : ℕ) → Γ z ≡ 0 → z ≡ y → is-array Γ y ≡ false
-      flat z y f g = rw (← g, f)
-
-      named : (z y : ℕ) → Γ z ≡ 0 → eqb x y ≡ false → Dec (z ≡ y) →
-          (is-array Γ y ≡ false) ⊎ (is a y ≡ is a y || (eqb z y || eqb x y))
-      named z y f g (yes h) = inl (flat z y f h)
-      named z y f g (no h) = inr (rw (g, ne-eqb z y h) (sym (or-none (is a y))))
-
-      go : (b : Atom) → atom-depth Γ b ≡ 0 → (y : ℕ) → Dec (x ≡ y) →
-          (is-array Γ y ≡ false) ⊎ (is a y ≡ (is a ∪ is b ∪ only x) y)
-      go b h y (yes k) = inl (flat x y (sym f ∙ g) k)
-      go (number z) h y (no k) = inr (rw (ne-eqb x y k) (sym (or-none (is a y))))
-      go (name z) h y (no k) = named z y h (ne-eqb x y k) (ℕ-discrete z y)
-
-  pub all-read : (x : ℕ) (a b : Atom) (A N O T U : Set) → N ≡ empty → O ≡ only x ∪ N → T ≡ is b ∪ O → U ≡ is a ∪ T →
-      dying Γ U A ≡ dying Γ (is a ∪ is b ∪ only x) A
-  all-read x a b A N O T U n o t u = rw (u, t, only-one x N O n o)
-
--- ---- the lines of leaves
-
-module _ (Γ : NameDepths) (x : ℕ) (A : Set) where
-  -- a leaf's part with its sets joined
-  abbrev joined-part : Leaf → List Atom → List Row
-  joined-part l us =
-      retain-rows (handed-again Γ (leaf-hands l us) (among (leaf-reads l us) A))
-      ++ ((row (leaf-kind l) (leaf-operand l x (length us)) ∷ map atom-row us)
-      ++ (retain-rows (with-if (is-pending l && is-array Γ x) x [])
-      ++ release-rows (dying Γ (among (leaf-reads l us) (only x)) A)))
-
-  joined : (us : List Atom) (B : Set) → among us B ≡ among us empty ∪ B
-  joined us B = fun-ext (λ y. among-split us B y)
-
-  leaf-rows : (l : Leaf) (us : List Atom) → joined-part l us ≡ leaf-part Γ x l us A
-  leaf-rows l us = rw (joined (leaf-reads l us) A, joined (leaf-reads l us) (only x))
-
-  pub operation-rows : (o : Operation) (a b : Atom) →
-      row (operation-kind o) x ∷ (atom-row a ∷ (atom-row b ∷ release-rows (dying Γ (is a ∪ is b ∪ only x) A)))
-      ≡ leaf-part Γ x (operation o) (a ∷ (b ∷ [])) A
-  unfolding handed-again among
-  operation-rows o a b = leaf-rows (operation o) (a ∷ (b ∷ []))
-
-  pub index-rows : (a b : Atom) →
-      row 10 x ∷ (atom-row a ∷ (atom-row b
-      ∷ (retain-rows (with-if (is-array Γ x) x []) ++ release-rows (dying Γ (is a ∪ is b ∪ only x) A))))
-      ≡ leaf-part Γ x index (a ∷ (b ∷ [])) A
-  unfolding handed-again among
-  index-rows a b = leaf-rows index (a ∷ (b ∷ []))
-
-  pub length-rows : (a : Atom) → row 11 x ∷ (atom-row a ∷ release-rows (dying Γ (is a ∪ only x) A)) ≡ leaf-part Γ x
-      length-of (a ∷ []) A
-  unfolding handed-again among
-  length-rows a = leaf-rows length-of (a ∷ [])
-
-  pub call-rows : (f : ℕ) (us : List Atom) → handing Γ x (row 8 (x + 256 * f)) us A ≡ leaf-part Γ x (call f) us A
-  unfolding among
-  call-rows f us = leaf-rows (call f) us
-
-  pub literal-rows : (d : ℕ) (us : List Atom) →
-      handing Γ x (row 9 (x + 256 * length us + 65536 * d)) us A ≡ leaf-part Γ x (literal d) us A
-  unfolding among
-  literal-rows d us = leaf-rows (literal d) us

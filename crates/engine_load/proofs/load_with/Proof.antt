@@ -2,7 +2,6 @@
 use native.Mathlib.Omega.{arith}
 use mathlib.Core.Path.{subst, ap, _∙_}
 use borrow.Author.Needs.{needs}
-use Rattle.script.specs.declared.Verdict.the-variants.{Accepted, Refused}
 use Rattle.script.specs.Verdicts.{Judges}
 use Rattle.normal.specs.Left.{laid-outcome}
 use Rattle.words.proofs.Packing.{packed-small}
@@ -12,91 +11,103 @@ use Rattle.engine_load.proofs.Tables.{table-after, laid-within, loads-w
 use Rattle.engine_load.proofs.load_with.Statement.{statement}
 use Rattle.engine_load.proofs.load_with.Tie as tie
 
--- the verdict, once it is known to accept
-verdict : (c : tie.After-known-told) →
-    Judges (c .before .before .before .before .before .before .before .args .file .now)
-    (Accepted (c .before .functions .given .0 .0) (c .before .functions .given .0 .1 .0))
-verdict c = subst (Judges (c .before .before .before .before .before .before .before .args .file .now))
-    (c .before .functions .given .1)
-    (c .before .before .before .judge .ensures)
-
--- the verdict, once it is known to refuse
-refusal : (c : tie.After-known-told3) →
-    Judges (c .before .before .before .before .before .before .before .args .file .now)
-    (Refused (c .before .number .given .0 .0) (c .before .number .given .0 .1 .0))
-refusal c = subst (Judges (c .before .before .before .before .before .before .before .args .file .now))
-    (c .before .number .given .1)
-    (c .before .before .before .judge .ensures)
-
 add-end : tie.Need-add-end
 add-end c =
-    let t = file-taken (accepted-file _ _ _ (verdict c)) in
+    let j = subst (Judges (c .before .before .before .before .before .before .before .before .args .file .now)) (c
+    .before .functions .given .1) (c .before .before .before .judge .ensures .0) in
+    let t = file-taken (accepted-file _ _ _ j) in
     record { fits = omega (arith, t .sized, t .readable .parts .few) }
 
 part-file-kinds-end : tie.Need-part-file-kinds-end
-part-file-kinds-end c = omega (arith, file-taken (accepted-file _ _ _ (verdict c)) .long)
+part-file-kinds-end c =
+    let j = subst (Judges (c .before .before .before .before .before .before .before .before .args .file .now)) (c
+    .before .functions .given .1) (c .before .before .before .judge .ensures .0) in
+    omega (arith, file-taken (accepted-file _ _ _ j) .long)
 
 sub-file-operands : tie.Need-sub-file-operands
-sub-file-operands c = omega (arith, file-taken (accepted-file _ _ _ (verdict (c .before))) .long)
+sub-file-operands c =
+    let j = subst (Judges (c .before .before .before .before .before .before .before .before .before .args .file
+    .now)) (c .before .before .functions .given .1) (c .before .before .before .before .judge .ensures .0) in
+    omega (arith, file-taken (accepted-file _ _ _ j) .long)
 
 part-file-operands-start : tie.Need-part-file-operands-start
-part-file-operands-start c = omega (arith, file-taken (accepted-file _ _ _ (verdict (c .before))) .long)
+part-file-operands-start c =
+    let j = subst (Judges (c .before .before .before .before .before .before .before .before .before .args .file
+    .now)) (c .before .before .functions .given .1) (c .before .before .before .before .judge .ensures .0) in
+    omega (arith, file-taken (accepted-file _ _ _ j) .long)
 
 translate-accepted-requires : tie.Need-translate-accepted-requires
-translate-accepted-requires c κs = translatable
-    (accepted-file _ _ _ (verdict (c .before .before .before .before .before .before)))
+translate-accepted-requires c κs =
+    let j = subst (Judges (c .before .before .before .before .before .before .before .before .before .before
+    .before .before .before .before .before .args .file .now)) (c .before .before .before .before .before
+    .before .before .before .functions .given .1) (c .before .before .before .before .before .before .before
+    .before .before .before .judge .ensures .0) in
+    translatable (accepted-file _ _ _ j) (c .before .before .before .before .before .before .before .before .before
+    .before .judge .ensures .1)
 
 fill-requires : tie.Need-fill-requires
 fill-requires c κs =
-    let at-n = c .before .before .before .before in
-    let laid = at-n .before .before .before .before .before .before .before .translate-accepted in
-    let at-accepted = c .before .before .before .before .before .before .before .before .before .before .before
-    .before .before .before .before .before .before .before in
-    let a = at-accepted .before .before .before .before .before .before .before .args in
-    let accepted = accepted-file _ _ _ (verdict at-accepted) in (
+    let a = c .before .before .before .before .before .before .before .before .before .before .before .before
+    .before .before .before .before .before .before .before .before .before .before .before .before .before
+    .before .before .args in
+    let laid = c .before .before .before .before .before .before .before .before .before .before .before
+    .translate-accepted in
+    let j = subst (Judges (a .file .now)) (c .before .before .before .before .before .before .before .before
+    .before .before .before .before .before .before .before .before .before .before .before .before .functions
+    .given .1) (c .before .before .before .before .before .before .before .before .before .before .before
+    .before .before .before .before .before .before .before .before .before .before .before .judge .ensures .0) in
+    let accepted = accepted-file _ _ _ j in (
       file-taken accepted .readable .few,
-      laid-within accepted (a .kinds .now) (laid .last .1 .1 .1 .1 .0) (a .operands .now) (laid .last .1 .1 .1 .1 .1
-          .0)
-          (laid-outcome (laid .result)) (at-n .n .given .0 .0) (ap laid-outcome (at-n .n .given .1))
-          (laid .ensures .0),
+      laid-within accepted (a .kinds .now) (laid .last .1 .1 .1 .1 .1 .0) (a .operands .now)
+          (laid .last .1 .1 .1 .1 .1 .1 .0) (laid-outcome (laid .result)) (c .before .before .before .before .n
+          .given .0 .0)
+          (ap laid-outcome (c .before .before .before .before .n .given .1)) (laid .ensures .0),
     )
 
 returns : tie.Need-returns
 returns c =
-    let at-n = c .before .before .before .before .before .before .before in
-    let at-translate-accepted = at-n .before .before .before .before .before .before .before in
-    let at-high-at = at-translate-accepted .before .before .before .before in
-    let accepted = at-high-at .before .before .before in
-    let at-functions = accepted .before in
-    let a = at-functions .before .before .before .before .before .before .args in
-    let laid = at-translate-accepted .translate-accepted in
-    let d = at-high-at .high-at in
-    let j = verdict accepted in
-    let functions = at-functions .functions .given .0 .0 in
-    let table = laid .last .1 .1 .1 .0 in
-    let kinds = laid .last .1 .1 .1 .1 .0 in
-    let operands = laid .last .1 .1 .1 .1 .1 .0 in
+    let a = c .before .before .before .before .before .before .before .before .before .before .before .before
+    .before .before .before .before .before .before .before .before .before .before .before .before .before
+    .before .before .before .before .before .args in
+    let laid = c .before .before .before .before .before .before .before .before .before .before .before .before
+    .before .before .translate-accepted in
+    let d = c .before .before .before .before .before .before .before .before .before .before .before .before
+    .before .before .before .before .before .before .before .high-at in
+    let j = subst (Judges (a .file .now)) (c .before .before .before .before .before .before .before .before
+    .before .before .before .before .before .before .before .before .before .before .before .before .before
+    .before .before .functions .given .1) (c .before .before .before .before .before .before .before .before
+    .before .before .before .before .before .before .before .before .before .before .before .before .before
+    .before .before .before .before .judge .ensures .0) in
+    let functions = c .before .before .before .before .before .before .before .before .before .before .before
+    .before .before .before .before .before .before .before .before .before .before .before .before .functions
+    .given .0 .0 in
+    let table = laid .last .1 .1 .1 .1 .0 in
+    let kinds = laid .last .1 .1 .1 .1 .1 .0 in
+    let operands = laid .last .1 .1 .1 .1 .1 .1 .0 in
     rw (c .before .before .fill .ensures) (subst
     (λ r. LoadsWith (a .file .now) (a .kinds .now) (a .operands .now) (a .table .now) (ready (d .result)
     (laid-outcome r))
-    kinds operands (table-after functions kinds operands (laid-outcome r) table)) (at-n .n .given .1)
+    kinds operands (table-after functions kinds operands (laid-outcome r) table)) (c .before .before .before
+    .before .before .before .before .n .given .1)
     (loads-with-laid (laid-outcome (laid .result)) (d .result) table j (d .ensures) (laid .ensures .0)
     (laid .ensures .1)))
 
 returns-2 : tie.Need-returns-2
 returns-2 c =
-    let at-translate-accepted = c .before .before .before .before .before .before .before in
-    let at-high-at = at-translate-accepted .before .before .before .before in
-    let accepted = at-high-at .before .before .before in
-    let at-functions = accepted .before in
-    let a = at-functions .before .before .before .before .before .before .args in
-    let laid = at-translate-accepted .translate-accepted in
-    let d = at-high-at .high-at in
-    let j = verdict accepted in
-    let functions = at-functions .functions .given .0 .0 in
-    let table = laid .last .1 .1 .1 .0 in
-    let kinds = laid .last .1 .1 .1 .1 .0 in
-    let operands = laid .last .1 .1 .1 .1 .1 .0 in
+    let a = c .before .before .before .before .before .before .before .before .before .before .before .before
+    .before .before .before .before .before .before .before .before .before .before .before .args in
+    let laid = c .before .before .before .before .before .before .before .translate-accepted in
+    let d = c .before .before .before .before .before .before .before .before .before .before .before .before
+    .high-at in
+    let j = subst (Judges (a .file .now)) (c .before .before .before .before .before .before .before .before
+    .before .before .before .before .before .before .before .before .functions .given .1) (c .before .before
+    .before .before .before .before .before .before .before .before .before .before .before .before .before
+    .before .before .before .judge .ensures .0) in
+    let functions = c .before .before .before .before .before .before .before .before .before .before .before
+    .before .before .before .before .before .functions .given .0 .0 in
+    let table = laid .last .1 .1 .1 .1 .0 in
+    let kinds = laid .last .1 .1 .1 .1 .1 .0 in
+    let operands = laid .last .1 .1 .1 .1 .1 .1 .0 in
     subst (λ r. LoadsWith (a .file .now) (a .kinds .now) (a .operands .now) (a .table .now) (ready (d .result)
     (laid-outcome r))
     kinds operands (table-after functions kinds operands (laid-outcome r) table)) (c .enum-told .given .1)
@@ -108,7 +119,10 @@ returns-3 c =
     let told = c .before .before .before .before .before .before .before .known-told3 in
     let parts = c .before .before .before .before .before .before .before .before .number .given .0 in
     let cleared = c .before .before .before .before .refuse in
-    let refused = refusal (c .before .before .before .before .before .before .before) in
+    let refused = subst (Judges (c .before .before .before .before .before .before .before .before .before .before
+    .before .before .before .before .before .args .file .now)) (c .before .before .before .before .before
+    .before .before .before .number .given .1) (c .before .before .before .before .before .before .before
+    .before .before .before .judge .ensures .0) in
     let small = packed-small {number = parts .0} {node = parts .1 .0} {count = 0} {cells = 0}
     (omega (arith, told .given .0 .1)) (omega (arith, node-fits refused)) (omega arith) (omega arith) in
     loads-with-refusal refused (c .pack .ensures ∙ small) (cleared .ensures .0) (cleared .ensures .1)

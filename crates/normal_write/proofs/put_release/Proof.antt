@@ -1,18 +1,23 @@
+use mathlib.Core.Path.{ap}
+use mathlib.Core.List.{List}
+use Prim.Native.Nat.{ℕ}
 use Rattle.normal_code.specs.Plain.{set-of}
-use Rattle.normal_write.specs.Parts.{depth-in, release-rows}
+use Rattle.normal_code.specs.Parts.{depth-in, release-rows}
 use Rattle.normal_write.proofs.Rows.{wrote-as}
 use Rattle.normal_write.proofs.Names.{dying-one}
-use mathlib.Core.List.{List}
-use mathlib.Core.Path.{ap}
-use Prim.Native.Nat.{ℕ, _-_}
 use borrow.Author.Needs.{needs}
 use Rattle.normal_write.proofs.put_release.Statement.{statement}
 use Rattle.normal_write.proofs.put_release.Tie as tie
 
 returns : tie.Need-returns
-returns c = wrote-as (ap (λ (l : List ℕ). release-rows l) (dying-one (depth-in (c .before .before .before .before
-    .args .depths .now)) (c .before .before .before .before .args .x) (set-of (c .before .before .before .before
-    .args .t5)) (search needs))) (c .release-one .ensures)
+returns c =
+    wrote-as (ap (λ (l : List ℕ). release-rows l) (dying-one (depth-in (c .before .before .before .before .before
+    .before .before .before .args .depths .now)) (c .before .before .before .before .before .before .before
+    .before .args .x) (set-of (c .before .before .before .before .before .before .before .before .args .live
+    .now)) (search needs)))
+    (c .before .before .before .release-one .ensures)
 
 pub put-release-spec : {M : Type 1} → statement M
-put-release-spec = tie.close (tie.spec (λ c. search needs) (λ c κs. search needs) returns)
+put-release-spec =
+    tie.close
+    (tie.spec (λ c. search needs) (λ c κs. search needs) (λ c. search needs) (λ c. search needs) returns)

@@ -1,46 +1,57 @@
-use Rattle.normal_code.specs.Plain.{set-of}
-use Rattle.normal_write.specs.Wrote.{Wrote}
-use Rattle.normal_write.specs.Parts.{depth-in}
-use Rattle.normal_write.proofs.Rows.{wrote-then, wrote-as, lower}
-use Rattle.normal_write.proofs.Names.{releases-from, release-none, release-more, release-all}
+use Prim.Native.Nat.{_≤_}
 use native.Mathlib.Omega.{arith}
-use Prim.Native.Nat.{_-_, _≤_}
+use Rattle.normal_code.specs.Plain.{set-of}
+use Rattle.normal_code.specs.Parts.{depth-in}
+use Rattle.normal_code.specs.Walk.{below}
+use Rattle.normal_write.specs.Wrote.{Wrote, Room}
+use Rattle.normal_write.proofs.Rows.{wrote-then, wrote-as, lower}
+use Rattle.normal_write.proofs.Names.{releases-from, release-none, release-below, release-all}
 use borrow.Author.Needs.{needs}
 use Rattle.normal_write.proofs.put_releases.Statement.{statement}
 use Rattle.normal_write.proofs.put_releases.Tie as tie
 
 abbrev Inv-loop : tie.InvT-loop
-Inv-loop ks₀ os₀ depths w used live at₀ i₀ ks os at i =
-    (i ≤ 256) × (at ≤ 4097) × Wrote ks₀ os₀ ks os w at (releases-from (depth-in depths) (set-of used) (set-of live) i)
+Inv-loop ks₀ os₀ depths n used live w at₀ i₀ ks os at i =
+    (i ≤ n) × (n ≤ 256) × Room ks os at
+    × Wrote ks₀ os₀ ks os w at (releases-from (depth-in depths) (below n (set-of used)) (set-of live) i)
 
 abbrev μ-loop : tie.MeasureT-loop
-μ-loop ks₀ os₀ depths w used live at₀ i₀ ks os at i = i
+μ-loop ks₀ os₀ depths n used live w at₀ i₀ ks os at i = i
 
 loop-holds : tie.Need-loop-holds Inv-loop μ-loop
 loop-holds c = (
   omega arith,
   omega arith,
-  release-none (depth-in (c .before .args .depths .now))
-      (set-of (c .before .args .t4)) (set-of (c .before .args .t5)),
+  search needs,
+  release-none (depth-in (c .before .args .depths .now)) (set-of (c
+      .before .args .used .now)) (set-of (c .before .args .live .now)) (c .before .args .n),
 )
 
 loop-again : tie.Need-loop-again Inv-loop μ-loop
-loop-again c = let v = c .before .before .before .before .loop .inv in (
-  omega arith,
-  lower (c .release-one .ensures)
-      (v .1),
-  wrote-as (release-more (depth-in (c .before .before .before .before .before .before .args .depths .now))
-      (set-of (c .before .before .before .before .before .before .args .t4)) (set-of (c .before .before .before
-      .before .before .before .args .t5)) (c .before .before .before .before .loop .i) (c .before .before .before
-      .loop-test .taken) (v .0)) (wrote-then (v .2) (c .release-one .ensures)),
-)
+loop-again c =
+    let v = c .before .before .before .before .before .before .before .before .before .loop .inv in (
+      omega arith,
+      v .1,
+      lower (c .before .before .before .release-one .ensures) (v .2),
+      wrote-as
+          (release-below (depth-in (c .before .before .before .before .before .before .before .before .before
+          .before .before .args .depths .now)) (set-of (c .before .before .before .before .before .before
+          .before .before .before .before .before .args .used .now)) (set-of (c .before .before .before .before
+          .before .before .before .before .before .before .before .args .live .now)) (c .before .before .before
+          .before .before .before .before .before .before .before .before .args .n) (c .before .before .before
+          .before .before .before .before .before .before .loop .i) (c .before .before .before .before .before
+          .before .before .before .loop-test .taken) (v .0) (v .1))
+          (wrote-then (v .3) (c .before .before .before .release-one .ensures)),
+    )
 
 returns : tie.Need-returns Inv-loop μ-loop
-returns c = release-all (depth-in (c .before .before .before .args .depths .now)) (set-of (c .before .before .before
-    .args .t4)) (set-of (c .before .before .before .args .t5)) (c .loop-test .left) (c .before .loop .inv .2)
+returns c =
+    release-all (depth-in (c .before .before .before .args .depths .now)) (below (c .before .before .before .args
+    .n) (set-of (c .before .before .before .args .used .now))) (set-of (c .before .before .before .args .live
+    .now)) (c .loop-test .left) (c .before .loop .inv .3)
 
 pub put-releases-spec : {M : Type 1} → statement M
 put-releases-spec =
     tie.close
     (tie.spec Inv-loop μ-loop loop-holds (λ c. search needs) (λ c. search needs) (λ c. search needs)
-    (λ c κs. search needs) (λ c. search needs) loop-again returns)
+    (λ c κs. search needs) (λ c. search needs) loop-again (λ c. search needs) (λ c. search needs) returns)

@@ -5,14 +5,29 @@ use borrow.Author.Needs.{needs}
 use Rattle.normal_write.proofs.put_retain.Statement.{statement}
 use Rattle.normal_write.proofs.put_retain.Tie as tie
 
+depth-at-requires : tie.Need-depth-at-requires
+depth-at-requires c κs = search needs
+
+put-row-requires : tie.Need-put-row-requires
+put-row-requires c κs = search needs
+
+same-length : tie.Need-same-length
+same-length c = search needs
+
+same-length-2 : tie.Need-same-length-2
+same-length-2 c = search needs
+
 returns : tie.Need-returns
-returns c = wrote-as (retain-on (c .before .before .before .before .before .before .args .x) (c .before .before
-    .before .before .depth-at .result) _ (c .before .before .before .before .depth-at .ensures) (c .before .before
-    .before .if1 .taken)) (c .put-row .ensures)
+returns c = wrote-as (retain-on (c .before .before .before .before .before .before .before .before .before .args
+    .x) (c .before .before .before .before .before .before .before .depth-at .result) _ (c .before .before .before
+    .before .before .before .before .depth-at .ensures) (c .before .before .before .before .before .before .if1
+    .taken)) (c .before .before .before .put-row .ensures)
 
 returns-2 : tie.Need-returns-2
 returns-2 c = wrote-as (retain-off (c .before .before .before .args .x) (c .before .depth-at .result) _
     (c .before .depth-at .ensures) (c .if1 .left)) wrote-none
 
 pub put-retain-spec : {M : Type 1} → statement M
-put-retain-spec = tie.close (tie.spec (λ c κs. search needs) (λ c κs. search needs) returns returns-2)
+put-retain-spec =
+    tie.close
+    (tie.spec depth-at-requires put-row-requires same-length same-length-2 returns returns-2)

@@ -1,0 +1,246 @@
+-- What `lay_if` has to show.
+use mathlib.Core.Path.{_∙_}
+use native.Mathlib.Omega.{arith}
+use lib.ListN.{getD}
+use Rattle.normal_lay.specs.Source.{tree-at}
+use Rattle.normal_lay.proofs.Members.{given-same, if-first, if-place, if-own, if-middle, if-other, if-end, if-laid}
+use Prim.Native.Nat.{ℕ}
+use Rattle.normal_form.proofs.lay_if.Reads as lay-if
+use Rattle.normal_form.proofs.+lay_if+lay_leaf+lay_let+lay_map+lay_nested+lay_node+lay_part+lay_tree.Lts-lay_if as lay-if-lts
+use Rattle.normal_form.proofs.+lay_if+lay_leaf+lay_let+lay_map+lay_nested+lay_node+lay_part+lay_tree.Proof.Common.{lay-if-at, lay-if-claims}
+
+pub lay-if-lay-part-requires : (t : ℕ) → lay-if-lts.Need-lay-part-requires (lay-if-claims t) (lay-if-at t) lay-if.Post
+lay-if-lay-part-requires t c κs =
+    let a = c .before .before .before .before .before .before .before .args in
+    let asked = c .before .before .before .before .before .before .before .pre in (
+      omega (arith, asked .0),
+      (
+        asked .1 .0,
+        if-first (a .operands .now) (λ f. getD (a .results .now) f 0) (tree-at (a .kinds .now) (a
+            .operands .now) (a .levels)) (asked .1 .1),
+      ),
+    )
+
+pub lay-if-open-if-requires : (t : ℕ) → lay-if-lts.Need-open-if-requires (lay-if-claims t) (lay-if-at t) lay-if.Post
+lay-if-open-if-requires t c κs =
+    let a = c .before .before .before .before .before .before .before .before .before .before .before .args in
+    let place = if-place (a .operands .now) (λ f. getD (a .results .now) f 0) (tree-at (a .kinds .now) (a .operands
+    .now) (a .levels)) (c .before .before .before .before .before .before .before .before .before .before .before
+    .pre .1 .1) (c .before .before .before .lay-part .ensures .0) in
+    (place .0, omega (arith, place .1))
+
+pub lay-if-add-spot-at : (t : ℕ) → lay-if-lts.Need-add-spot-at (lay-if-claims t) (lay-if-at t) lay-if.Post
+lay-if-add-spot-at t c =
+    let a = c .before .before .before .before .before .before .before .before .before .before .before .before .before
+    .args in
+    omega (
+      arith,
+      (if-place (a .operands .now) (λ f. getD (a .results .now) f 0) (tree-at (a .kinds .now) (a .operands
+          .now) (a .levels)) (c .before .before .before .before .before .before .before .before .before .before
+          .before
+          .before .before .pre .1 .1) (c .before .before .before .before .before .lay-part .ensures .0)) .0,
+    )
+
+pub lay-if-add-spot-at-2 : (t : ℕ) → lay-if-lts.Need-add-spot-at-2 (lay-if-claims t) (lay-if-at t) lay-if.Post
+lay-if-add-spot-at-2 t c =
+    let a = c .before .before .before .before .before .before .before .before .before .before .before .before .before
+    .before .args in
+    omega (
+      arith,
+      (if-place (a .operands .now) (λ f. getD (a .results .now) f 0) (tree-at (a .kinds .now) (a .operands
+          .now) (a .levels)) (c .before .before .before .before .before .before .before .before .before .before
+          .before
+          .before .before .before .pre .1 .1) (c .before .before .before .before .before .before .lay-part .ensures
+          .0))
+          .1,
+    )
+
+pub lay-if-lay-tree-requires : (t : ℕ) → lay-if-lts.Need-lay-tree-requires (lay-if-claims t) (lay-if-at t) lay-if.Post
+lay-if-lay-tree-requires t c κs =
+    let a = c .before .before .before .before .before .before .before .before .before .before .before .before .before
+    .before .before .before .before .before .before .before .args in
+    let asked = c .before .before .before .before .before .before .before .before .before .before .before .before
+    .before .before .before .before .before .before .before .before .pre in
+    rw (c .before .before .before .before .before .spot-at .ensures) (
+      omega (arith, asked .0),
+      (
+        given-same _ (asked .1 .0) (c .before .before .before .before .before .before .before .before .before .before
+            .before .before .lay-part .ensures .1),
+        if-own (a .operands .now) (λ f. getD (a .results .now) f 0) (tree-at (a .kinds .now) (a .operands .now) (a
+            .levels)) (asked .1 .1) (c .before .before .before .before .before .before .before .before .before .before
+            .before .before .lay-part .ensures .0) (c .before .before .before .before .before .before .before .before
+            .open-if .ensures),
+      ),
+    )
+
+pub lay-if-add-put-middle : (t : ℕ) → lay-if-lts.Need-add-put-middle (lay-if-claims t) (lay-if-at t) lay-if.Post
+lay-if-add-put-middle t c =
+    let a = c .before .before .before .before .before .before .before .before .before .before .before .before .before
+    .before .before .before .before .before .before .before .before .before .before .args in
+    omega (
+      arith,
+      (if-place (a .operands .now) (λ f. getD (a .results .now) f 0) (tree-at (a .kinds .now) (a .operands
+          .now) (a .levels)) (c .before .before .before .before .before .before .before .before .before .before
+          .before
+          .before .before .before .before .before .before .before .before .before .before .before .before .pre .1
+          .1) (c
+          .before .before .before .before .before .before .before .before .before .before .before .before .before
+          .before .before .lay-part .ensures .0)) .1,
+    )
+
+pub lay-if-put-middle-requires : (t : ℕ) → lay-if-lts.Need-put-middle-requires (lay-if-claims t) (lay-if-at t)
+    lay-if.Post
+lay-if-put-middle-requires t c κs =
+    let a = c .before .before .before .before .before .before .before .before .before .before .before .before .before
+    .before .before .before .before .before .before .before .before .before .before .args in
+    let own = rw (
+      c .before .before .before .before .before .before .before .before .spot-at .ensures,
+      c .before
+          .before .before .before .before .before .before .before .before .before .before .before .before .before
+          .before .lay-part .ensures .1,
+    ) at (c .before .before .lay-tree .ensures .0) in (
+      omega (
+        arith,
+        (if-place (a .operands .now) (λ f. getD (a .results .now) f 0) (tree-at (a .kinds .now) (a
+            .operands .now) (a .levels)) (c .before .before .before .before .before .before .before .before .before
+            .before .before .before .before .before .before .before .before .before .before .before .before .before
+            .before .pre .1 .1) (c .before .before .before .before .before .before .before .before .before .before
+            .before .before .before .before .before .lay-part .ensures .0)) .1,
+      ),
+      omega (
+        arith,
+        if-middle (a .operands .now) (λ f. getD (a .results .now) f 0) (tree-at (a .kinds .now) (a
+            .operands .now) (a .levels)) (c .before .before .before .before .before .before .before .before .before
+            .before .before .before .before .before .before .before .before .before .before .before .before .before
+            .before .pre .1 .1) (c .before .before .before .before .before .before .before .before .before .before
+            .before .before .before .before .before .lay-part .ensures .0) (c .before .before .before .before .before
+            .before .before .before .before .before .before .open-if .ensures) own,
+      ),
+    )
+
+pub lay-if-lay-tree-requires-2 : (t : ℕ) → lay-if-lts.Need-lay-tree-requires-2 (lay-if-claims t) (lay-if-at t)
+    lay-if.Post
+lay-if-lay-tree-requires-2 t c κs =
+    let a = c .before .before .before .before .before .before .before .before .before .before .before .before .before
+    .before .before .before .before .before .before .before .before .before .before .before .before .before
+    .before .before .before .before .args in
+    let asked = c .before .before .before .before .before .before .before .before .before .before .before .before
+    .before .before .before .before .before .before .before .before .before .before .before .before .before
+    .before .before .before .before .before .pre in
+    let own = rw (
+      c .before .before .before .before .before .before .before .before .before .before .before .before
+          .before .before .before .spot-at .ensures,
+      c .before .before .before .before .before .before .before .before
+          .before .before .before .before .before .before .before .before .before .before .before .before .before
+          .before .lay-part .ensures .1,
+    ) at (c .before .before .before .before .before .before .before .before .before
+    .lay-tree .ensures .0) in
+    rw (c .before .before .before .before .before .spot-at2 .ensures) (
+      omega (arith, asked .0),
+      (
+        given-same _ (asked .1 .0) (c .before .before .before .before .before .before .before .before .before
+            .lay-tree .ensures .1 ∙ c .before .before .before .before .before .before .before .before .before .before
+            .before .before .before .before .before .before .before .before .before .before .before .before .lay-part
+            .ensures .1),
+        if-other (a .operands .now) (λ f. getD (a .results .now) f 0) (tree-at (a .kinds .now) (a .operands .now) (a
+            .levels)) (asked .1 .1) (c .before .before .before .before .before .before .before .before .before .before
+            .before .before .before .before .before .before .before .before .before .before .before .before .lay-part
+            .ensures .0) (c .before .before .before .before .before .before .before .before .before .before .before
+            .before .before .before .before .before .before .before .open-if .ensures) own (c .before .before .before
+            .before .before .before .put-middle .ensures),
+      ),
+    )
+
+pub lay-if-close-line-requires : (t : ℕ) → lay-if-lts.Need-close-line-requires (lay-if-claims t) (lay-if-at t)
+    lay-if.Post
+lay-if-close-line-requires t c κs =
+    let a = c .before .before .before .before .before .before .before .before .before .before .before .before .before
+    .before .before .before .before .before .before .before .before .before .before .before .before .before
+    .before .before .before .before .before .before .before .before .before .args in
+    let own = rw (
+      c .before .before .before .before .before .before .before .before .before .before .before .before
+          .before .before .before .before .before .before .before .before .spot-at .ensures,
+      c .before .before .before
+          .before .before .before .before .before .before .before .before .before .before .before .before .before
+          .before .before .before .before .before .before .before .before .before .before .before .lay-part
+          .ensures .1,
+    )
+    at (c .before .before .before .before .before .before .before .before .before .before .before .before .before
+    .before .lay-tree .ensures .0) in
+    let other = rw (
+      c .before .before .before .before .before .before .before .before .before .before .spot-at2
+          .ensures,
+      c .before .before .before .before .before .before .before .before .before .before .before .before
+          .before .before .lay-tree .ensures .1 ∙ c .before .before .before .before .before .before .before .before
+          .before .before .before .before .before .before .before .before .before .before .before .before .before
+          .before .before .before .before .before .before .lay-part .ensures .1,
+    ) at (c .before .before .before .before
+    .lay-tree2 .ensures .0) in
+    let place = if-place (a .operands .now) (λ f. getD (a .results .now) f 0) (tree-at (a .kinds .now) (a .operands
+    .now) (a .levels)) (c .before .before .before .before .before .before .before .before .before .before .before
+    .before .before .before .before .before .before .before .before .before .before .before .before .before
+    .before .before .before .before .before .before .before .before .before .before .before .pre .1 .1) (c .before
+    .before .before .before .before .before .before .before .before .before .before .before .before .before
+    .before .before .before .before .before .before .before .before .before .before .before .before .before
+    .lay-part .ensures .0) in (
+      place .0,
+      (
+        omega (arith, place .1),
+        omega (
+          arith,
+          if-end (a .operands .now) (λ f. getD (a .results .now) f 0) (tree-at (a .kinds .now) (a
+              .operands .now) (a .levels)) (c .before .before .before .before .before .before .before .before .before
+              .before .before .before .before .before .before .before .before .before .before .before .before .before
+              .before .before .before .before .before .before .before .before .before .before .before .before .before
+              .pre .1 .1) (c .before .before .before .before .before .before .before .before .before .before .before
+              .before .before .before .before .before .before .before .before .before .before .before .before .before
+              .before .before .before .lay-part .ensures .0) (c .before .before .before .before .before .before
+              .before
+              .before .before .before .before .before .before .before .before .before .before .before .before .before
+              .before .before .before .open-if .ensures) own (c .before .before .before .before .before .before
+              .before
+              .before .before .before .before .put-middle .ensures) other,
+        ),
+      ),
+    )
+
+pub lay-if-returns : (t : ℕ) → lay-if-lts.Need-returns (lay-if-claims t) (lay-if-at t) lay-if.Post
+lay-if-returns t c =
+    let a = c .before .before .before .before .before .before .before .before .before .before .before .before .before
+    .before .before .before .before .before .before .before .before .before .before .before .before .before
+    .before .before .before .before .before .before .before .before .before .before .args in
+    let own = rw (
+      c .before .before .before .before .before .before .before .before .before .before .before .before
+          .before .before .before .before .before .before .before .before .before .spot-at .ensures,
+      c .before .before
+          .before .before .before .before .before .before .before .before .before .before .before .before .before
+          .before .before .before .before .before .before .before .before .before .before .before .before .before
+          .lay-part .ensures .1,
+    ) at (c .before .before .before .before .before .before .before .before .before .before
+    .before .before .before .before .before .lay-tree .ensures .0) in
+    let other = rw (
+      c .before .before .before .before .before .before .before .before .before .before .before
+          .spot-at2 .ensures,
+      c .before .before .before .before .before .before .before .before .before .before .before
+          .before .before .before .before .lay-tree .ensures .1 ∙ c .before .before .before .before .before .before
+          .before .before .before .before .before .before .before .before .before .before .before .before .before
+          .before .before .before .before .before .before .before .before .before .lay-part .ensures .1,
+    ) at (c .before
+    .before .before .before .before .lay-tree2 .ensures .0) in (
+      rw (c .close-line .ensures .0) (if-laid (a .operands .now) (λ f. getD (a .results .now) f 0) (tree-at (a .kinds
+          .now) (a .operands .now) (a .levels)) (c .before .before .before .before .before .before .before .before
+          .before .before .before .before .before .before .before .before .before .before .before .before .before
+          .before .before .before .before .before .before .before .before .before .before .before .before .before
+          .before .before .pre .1 .1) (c .before .before .before .before .before .before .before .before .before
+          .before .before .before .before .before .before .before .before .before .before .before .before .before
+          .before .before .before .before .before .before .lay-part .ensures .0) (c .before .before .before .before
+          .before .before .before .before .before .before .before .before .before .before .before .before .before
+          .before .before .before .before .before .before .before .open-if .ensures) own (c .before .before .before
+          .before .before .before .before .before .before .before .before .before .put-middle .ensures) other _ (c
+          .before .before .before .depth-of .ensures) (c .close-line .ensures .1 .0) (c .close-line .ensures .1 .1)),
+      c .before .before .before .before .before .lay-tree2 .ensures .1 ∙ c .before .before .before .before .before
+          .before .before .before .before .before .before .before .before .before .before .lay-tree .ensures .1 ∙ c
+          .before .before .before .before .before .before .before .before .before .before .before .before .before
+          .before .before .before .before .before .before .before .before .before .before .before .before .before
+          .before .before .lay-part .ensures .1,
+    )

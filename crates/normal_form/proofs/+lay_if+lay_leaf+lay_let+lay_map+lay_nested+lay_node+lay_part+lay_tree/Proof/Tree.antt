@@ -1,0 +1,49 @@
+-- What `lay_tree` has to show.
+use native.Mathlib.Omega.{arith}
+use lib.ListN.{getD}
+use Rattle.normal_lay.specs.Source.{tree-at}
+use Rattle.normal_lay.proofs.Members.{tree-laid}
+use Prim.Native.Nat.{ℕ}
+use Rattle.normal_form.proofs.lay_tree.Reads as lay-tree
+use Rattle.normal_form.proofs.+lay_if+lay_leaf+lay_let+lay_map+lay_nested+lay_node+lay_part+lay_tree.Lts-lay_tree as lay-tree-lts
+use Rattle.normal_form.proofs.+lay_if+lay_leaf+lay_let+lay_map+lay_nested+lay_node+lay_part+lay_tree.Proof.Common.{lay-tree-at, lay-tree-claims}
+
+pub lay-tree-lay-part-requires : (t : ℕ) → lay-tree-lts.Need-lay-part-requires (lay-tree-claims t) (lay-tree-at t)
+    lay-tree.Post
+lay-tree-lay-part-requires t c κs =
+    let asked = c .before .before .before .before .before .before .before .pre in
+    (omega (arith, asked .0), asked .1)
+
+pub lay-tree-lay-head-requires : (t : ℕ) → lay-tree-lts.Need-lay-head-requires (lay-tree-claims t) (lay-tree-at t)
+    lay-tree.Post
+lay-tree-lay-head-requires t c κs = omega (
+  arith,
+  c .before .before .before .lay-part .ensures .0 .reach,
+  c .before
+      .before .before .before .before .before .before .before .before .before .before .pre .1 .1 .rows,
+)
+
+pub lay-tree-add-t22 : (t : ℕ) → lay-tree-lts.Need-add-t22 (lay-tree-claims t) (lay-tree-at t) lay-tree.Post
+lay-tree-add-t22 t c = omega (
+  arith,
+  c .before .before .before .before .before .lay-part .ensures .0 .reach,
+  c .before
+      .before .before .before .before .before .before .before .before .before .before .before .before .pre .1 .1
+      .rows,
+)
+
+pub lay-tree-returns : (t : ℕ) → lay-tree-lts.Need-returns (lay-tree-claims t) (lay-tree-at t) lay-tree.Post
+lay-tree-returns t c =
+    let a = c .before .before .before .before .before .before .before .before .before .before .before .before .before
+    .args in (
+      tree-laid (a .operands .now) (λ f. getD (a .results .now) f 0) (tree-at (a .kinds .now) (a .operands .now) (a
+          .levels)) (c .before .before .before .before .before .lay-part .ensures .0) (c .before .lay-head .ensures)
+          (omega (
+            arith,
+            c .before .before .before .before .before .lay-part .ensures .0 .reach,
+            c .before .before
+                .before .before .before .before .before .before .before .before .before .before .before .pre .1 .1
+                .rows,
+          )),
+      c .before .before .before .before .before .lay-part .ensures .1,
+    )

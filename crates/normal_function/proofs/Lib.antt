@@ -1,4 +1,0 @@
-pub mod Size
-pub mod Parameters
-pub mod Whole
-pub mod Accepted

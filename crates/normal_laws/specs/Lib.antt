@@ -1,0 +1,9 @@
+pub mod Uses
+pub mod Marks
+pub mod Members
+pub mod Outer
+pub mod Numbered
+pub mod Rows
+pub mod Right
+pub mod Whole
+pub mod Trial

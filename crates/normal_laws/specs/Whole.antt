@@ -1,0 +1,219 @@
+-- Where a tree stands in plain code, the walk comes to what is live before it, to the last uses before it, and to the
+-- rows of the annotated tree.
+use mathlib.Core.Path.{_≡_, refl, ap, _∙_}
+use mathlib.Core.List.{List, [], _∷_, _++_, map}
+use Prim.Native.Nat.{ℕ, suc, _+_, _-_, _*_, _≤_}
+use native.Mathlib.Omega.{arith}
+use lib.ListN.{length}
+use borrow.Author.Tests.{lt-ltb}
+use Rattle.semantics.specs.Kinds.{Loop, loop-kind, loop-hands, loop-reads, element-name, packed-names}
+use Rattle.semantics.specs.Code as C
+use Rattle.semantics.specs.Code.{Tree, end, line, Row, row, atom-row, rows}
+use Rattle.semantics.specs.Code.{retain-all, release-all}
+use Rattle.semantics.specs.Syntax.{Function}
+use Rattle.semantics.specs.Normal.{normal-body}
+use Rattle.semantics.specs.Live.{Set, empty, only, just, among, _∪_, _∖_, _∖∖_, live, uses, after-pass}
+use Rattle.semantics.specs.Annotate.{NameDepths, arrays, dying, handed-again, annotate, annotate-line}
+use Rattle.normal_code.specs.Plain.{Plain, note}
+use Rattle.normal_code.specs.Parts.{retain-rows, release-rows}
+use Rattle.normal_code.specs.Marks.{Marks, marked, marked-all, extent, line-extent, marks, line-marks}
+use Rattle.normal_code.specs.Stands.{LineAt, Begins, Linked, LinkedAll, Stands, StandsLine}
+use Rattle.normal_code.specs.Walk.{below, since, then-end, unmarked-all, Point, point, else-walk, then-walk, if-head}
+use Rattle.normal_code.specs.Walk.{if-walk, pass-walk, loop-head, loop-walk, back-walk, end-walk, tree-walk}
+use Rattle.normal_laws.specs.Uses.{binds}
+use Rattle.normal_laws.specs.Marks.{Low, low-atom, low-atoms, low-line, low-tree}
+use Rattle.normal_laws.specs.Outer.{Inner, Nested, NestedLine, branch-releases, branch-uses, pass-uses}
+use Rattle.normal_laws.specs.Outer.{reads-below, loop-releases}
+use Rattle.normal_laws.specs.Numbered.{body-nested}
+use Rattle.normal_laws.specs.Rows.{if-shape, loop-shape}
+use Rattle.normal_laws.specs.Right.{same-point, back-all, spine, line-some, TreeRight, BackRight, LineRight}
+use Rattle.normal_laws.specs.Right.{back-goes, tree-from, at-level, end-right, walk-over, at-line, leaf-right}
+
+module _ (F : Plain) (Γ : NameDepths) where
+  -- ---- an if
+
+  module _ (d x : ℕ) (g : C.Atom) (t e : Tree) (p : ℕ) (M : Marks) (h : LineAt F p t e (C.if-else x g t e))
+      (n : Linked F g (p + 1) M) (second : note (F .notes) (p + 2) ≡ p + 2 + extent t)
+      (i : Inner x (uses t) (binds t)) (j : Inner x (uses e) (binds e)) (low : Low M p)
+      (room : p + 2 + extent t ≤ 4096)
+      (rt : TreeRight F Γ d t (p + 2) (marked g (p + 1) M))
+      (re : TreeRight F Γ d e (p + 2 + extent t) (marks t (p + 2) (marked g (p + 1) M))) where
+    -- the note at the first tree's first row says where that tree ends
+    then-end-is : then-end (F .notes) p ≡ p + 2 + extent t - 2
+    unfolding then-end
+    then-end-is = rw (second, lt-ltb (p + 2 + extent t) 4098 (omega arith))
+
+    -- the second tree, after which the if's own name is released
+    else-right : (A : Set) (rs : List Row) →
+        else-walk F Γ (tree-walk F Γ d) (p + (2 + extent t + extent e)) x
+        (point A (marks e (p + 2 + extent t) (marks t (p + 2) (marked g (p + 1) M))) rs)
+        ≡ point (live e (A ∖ x)) (marks t (p + 2) (marked g (p + 1) M))
+        (rows (annotate Γ e (A ∖ x)) ++ (release-rows (dying Γ (only x) A) ++ rs))
+    unfolding else-walk
+    else-right A rs =
+        re (p + (2 + extent t + extent e) - 2) (omega arith) (A ∖ x) (release-rows (dying Γ (only x) A) ++ rs)
+
+    -- the first tree, and the releases that open the second
+    then-right : (B : Set) (rs : List Row) →
+        then-walk F Γ (tree-walk F Γ d) p x B (point (live e B) (marks t (p + 2) (marked g (p + 1) M)) rs)
+        ≡ point (live t B) (marked g (p + 1) M)
+        (rows (annotate Γ t B) ++ (release-rows (dying Γ (uses t) (live e B)) ++ rs))
+    unfolding then-walk
+    then-right B rs =
+        ap (λ (U : Set). tree-walk F Γ d (then-end (F .notes) p) (point B (marks t (p + 2) (marked g (p + 1) M))
+        (release-rows (dying Γ U (live e B)) ++ rs)))
+        (branch-uses x t (p + 2) (low-atom g p low) i)
+        ∙ rt (then-end (F .notes) p) then-end-is B (release-rows (dying Γ (uses t) (live e B)) ++ rs)
+
+    -- the releases that open the first tree, and the if's own rows
+    if-rows : (A : Set) (k : Tree) (rs : List Row) →
+        (row 12 x ∷ (atom-row g ∷ []))
+        ++ (release-rows (dying Γ (below x (live e (A ∖ x))) (live t (A ∖ x)))
+        ++ (rows (annotate Γ t (A ∖ x)) ++ (release-rows (dying Γ (uses t) (live e (A ∖ x)))
+        ++ (rows (annotate Γ e (A ∖ x)) ++ (release-rows (dying Γ (only x) A) ++ (rows k ++ rs))))))
+        ≡ rows (annotate-line Γ (C.if-else x g t e) A k) ++ rs
+    unfolding annotate
+    if-rows A k rs =
+        let B = A ∖ x in
+        if-shape x g (dying Γ (below x (live e B)) (live t B)) (dying Γ (uses t) (live e B)) (dying Γ (only x) A)
+        (annotate Γ t B) (annotate Γ e B) k rs
+        ∙ ap (λ (ts : List ℕ). rows (line (C.if-else x g (release-all ts (annotate Γ t B))
+        (release-all (dying Γ (uses t) (live e B)) (annotate Γ e B))) (release-all (dying Γ (only x) A) k)) ++ rs)
+        (branch-releases Γ x t e B i j)
+
+    pub if-right : LineRight F Γ d (C.if-else x g t e) p M
+    unfolding walk-over if-walk marks extent live among marked-all
+    if-right A k rs =
+        at-line F Γ (tree-walk F Γ d) p _ t e (C.if-else x g t e) _ h
+        ∙ ap (λ (E : Point). if-head F Γ (tree-walk F Γ d) p x g E
+        (then-walk F Γ (tree-walk F Γ d) p x (A ∖ x) E)) (else-right A (rows k ++ rs))
+        ∙ ap (if-head F Γ (tree-walk F Γ d) p x g (point (live e (A ∖ x)) (marks t (p + 2) (marked g (p + 1) M))
+        (rows (annotate Γ e (A ∖ x)) ++ (release-rows (dying Γ (only x) A) ++ (rows k ++ rs)))))
+        (then-right (A ∖ x) (rows (annotate Γ e (A ∖ x)) ++ (release-rows (dying Γ (only x) A) ++ (rows k ++ rs))))
+        ∙ same-point refl (back-all F (g ∷ []) (p + 1) M (n, tt)) (if-rows A k rs)
+
+  -- ---- a loop
+
+  module _ (d x : ℕ) (j : Loop) (ps : List ℕ) (us : List C.Atom) (t : Tree) (p : ℕ) (M : Marks)
+      (h : LineAt F p t t (C.loop x j ps us t)) (n : LinkedAll F us (p + 1) M)
+      (i : Inner x (among us empty ∪ uses t ∖∖ ps) (just ps ∪ binds t)) (low : Low M p)
+      (rt : TreeRight F Γ d t (p + 1 + length us) (marked-all us (p + 1) M)) where
+    -- the rows of last uses tell the outer names that the tree uses
+    outer-is : below x (since (p + 1 + length us) (marks t (p + 1 + length us) (marked-all us (p + 1) M)))
+        ≡ uses t ∖∖ ps
+    outer-is = pass-uses x ps us t (p + 1 + length us) (low-atoms us p low) i
+
+    -- the releases after the loop, in the walk's order
+    abbrev releases-after : Set → List Row → List Row
+    releases-after A rs =
+        release-rows (dying Γ (below x (among (loop-reads j us) (uses t ∖∖ ps))) A)
+        ++ (release-rows (dying Γ (only x) A) ++ rs)
+
+    -- the tree, and the releases after the loop
+    pass-right : (A : Set) (rs : List Row) →
+        pass-walk F Γ (tree-walk F Γ d) p (p + (1 + length us + extent t)) x j us
+        (point A (marks t (p + 1 + length us) (marked-all us (p + 1) M)) rs)
+        ≡ point (live t (after-pass x ps t A)) (marked-all us (p + 1) M)
+        (rows (annotate Γ t (after-pass x ps t A)) ++ releases-after A rs)
+    unfolding pass-walk
+    pass-right A rs =
+        ap (λ (O : Set). tree-walk F Γ d (p + (1 + length us + extent t) - 2)
+        (point (O ∪ A ∖ x) (marks t (p + 1 + length us) (marked-all us (p + 1) M))
+        (release-rows (dying Γ (below x (among (loop-reads j us) O)) A)
+        ++ (release-rows (dying Γ (only x) A) ++ rs)))) outer-is
+        ∙ rt (p + (1 + length us + extent t) - 2) (omega arith) (after-pass x ps t A) (releases-after A rs)
+
+    -- the loop's own rows and its tree's, before some others; O are the outer names that the tree uses
+    abbrev loop-rows : Set → Set → List Row → List Row
+    loop-rows A O rs =
+        retain-rows (handed-again Γ (loop-hands j us) (among (loop-reads j us) O ∪ A))
+        ++ ((row (loop-kind j) (x + 256 * packed-names ps) ∷ map atom-row us)
+        ++ (retain-rows (arrays Γ (element-name j ps))
+        ++ (release-rows (dying Γ (just ps) (live t (after-pass x ps t A)))
+        ++ (rows (annotate Γ t (after-pass x ps t A)) ++ rs))))
+
+    loop-rows-are : (A : Set) (k : Tree) (rs : List Row) →
+        loop-rows A (uses t ∖∖ ps) (releases-after A (rows k ++ rs))
+        ≡ rows (annotate-line Γ (C.loop x j ps us t) A k) ++ rs
+    unfolding annotate
+    loop-rows-are A k rs =
+        let B = after-pass x ps t A in
+        let R = among (loop-reads j us) (uses t ∖∖ ps) in
+        let hs = handed-again Γ (loop-hands j us) (R ∪ A) in
+        let ds = dying Γ (just ps) (live t B) in
+        loop-shape x j ps us hs (arrays Γ (element-name j ps)) ds (dying Γ (below x R) A) (dying Γ (only x) A)
+        (annotate Γ t B) k rs
+        ∙ ap (λ (os : List ℕ). rows (retain-all hs (line (C.loop x j ps us
+        (retain-all (arrays Γ (element-name j ps)) (release-all ds (annotate Γ t B)))) (release-all os k))) ++ rs)
+        (loop-releases Γ x R A (reads-below x j ps us t i))
+
+    pub loop-right : LineRight F Γ d (C.loop x j ps us t) p M
+    unfolding walk-over loop-walk marks extent live
+    loop-right A k rs =
+        at-line F Γ (tree-walk F Γ d) p _ t t (C.loop x j ps us t) _ h
+        ∙ ap (loop-head F Γ (tree-walk F Γ d) p x j ps us
+        (point A (marks t (p + 1 + length us) (marked-all us (p + 1) M)) (rows k ++ rs))) (pass-right A (rows k ++
+        rs))
+        ∙ ap (λ (O : Set). point (among us (O ∪ A ∖ x))
+        (unmarked-all (F .notes) (p + 1) us (marked-all us (p + 1) M))
+        (loop-rows A O (releases-after A (rows k ++ rs)))) outer-is
+        ∙ same-point refl (back-all F us (p + 1) M n) (loop-rows-are A k rs)
+
+  -- ---- the theorem
+
+  mutual
+    unfolding spine extent marks live annotate
+
+    -- the lines of a tree that stands from row p on
+    back-right : (t : Tree) (d p : ℕ) (M : Marks) → Stands F d t p M → Nested t → Low M p → p + extent t ≤ 4096 →
+        BackRight F Γ d t p M
+    back-right (end a) d p M s n low h = end-right F Γ d a p M s
+    back-right (line l t) d p M s n low h = λ e f q L rs.
+        ap (λ (m : ℕ). back-walk F Γ (tree-walk F Γ d) m e (end-walk F Γ e
+        (point L (marks t (p + line-extent l) (line-marks l p M)) rs)))
+        (let i : f + suc (spine t) ≡ suc f + spine t = omega arith in i)
+        ∙ back-right t d (p + line-extent l) (line-marks l p M) (s .2) (n .1) (low-line l p low) (omega arith)
+        e (suc f) (omega arith) L rs
+        ∙ back-goes F Γ (tree-walk F Γ d) f (p + line-extent l) p _ (s .1) (omega (arith, line-some l))
+        ∙ ap (back-walk F Γ (tree-walk F Γ d) f p)
+        (line-right l d p M (s .0) (n .0) low (omega arith) (live t L) (annotate Γ t L) rs)
+
+    -- a line that stands from row p on
+    line-right : (l : C.Line) (d p : ℕ) (M : Marks) → StandsLine F d l p M → NestedLine l → Low M p →
+        p + line-extent l ≤ 4096 → LineRight F Γ d l p M
+    line-right (C.leaf x l us) d p M s n low h = leaf-right F Γ d x l us p M s
+    line-right (C.if-else x g t e) d p M s n low h =
+        if-right d x g t e p M (s .0) (s .1) (s .3 .0) (n .0 .0) (n .1 .0) low (omega arith)
+        (at-level F Γ d t (p + 2) (marked g (p + 1) M) (s .2)
+        (tree-from F Γ (d - 1) t (p + 2) (marked g (p + 1) M) (omega (arith, s .3 .0)) (omega arith)
+        (back-right t (d - 1) (p + 2) (marked g (p + 1) M) (s .4) (n .0 .1) (low-atom g p low) (omega arith))))
+        (at-level F Γ d e (p + 2 + extent t) (marks t (p + 2) (marked g (p + 1) M)) (s .2)
+        (tree-from F Γ (d - 1) e (p + 2 + extent t) (marks t (p + 2) (marked g (p + 1) M)) (s .3 .1) (omega arith)
+        (back-right e (d - 1) (p + 2 + extent t) (marks t (p + 2) (marked g (p + 1) M)) (s .5) (n .1 .1)
+        (low-tree t (p + 2) (low-atom g p low)) (omega arith))))
+    line-right (C.loop x k ps us t) d p M s n low h =
+        loop-right d x k ps us t p M (s .0) (s .1) (n .0) low
+        (at-level F Γ d t (p + 1 + length us) (marked-all us (p + 1) M) (s .2)
+        (tree-from F Γ (d - 1) t (p + 1 + length us) (marked-all us (p + 1) M) (s .3) (omega arith)
+        (back-right t (d - 1) (p + 1 + length us) (marked-all us (p + 1) M) (s .4) (n .1) (low-atoms us p low)
+        (omega arith))))
+    line-right (C.retain x) d p M s n low h = absurd s
+    line-right (C.release x) d p M s n low h = absurd s
+
+  -- The walk of a tree that stands from row p on, M being the last uses before it and L live after it.
+  pub walk-right : (t : Tree) (d p : ℕ) (M : Marks) → Stands F d t p M → Nested t → Low M p → p + extent t ≤ 4096 →
+      Begins F p → (L : Set) (rs : List Row) →
+      tree-walk F Γ (suc d) (p + extent t - 2) (point L (marks t p M) rs)
+      ≡ point (live t L) M (rows (annotate Γ t L) ++ rs)
+  walk-right t d p M s n low h g L rs =
+      tree-from F Γ d t p M g (omega arith) (back-right t d p M s n low h) (p + extent t - 2) refl L rs
+
+  -- The walk of a function's body that stands from row 0 on: no name was used before it.
+  pub body-walk : (g : Function) (d : ℕ) → Stands F d (normal-body g) 0 (λ _. 0) → extent (normal-body g) ≤ 4096 →
+      (L : Set) (rs : List Row) →
+      tree-walk F Γ (suc d) (extent (normal-body g) - 2) (point L (marks (normal-body g) 0 (λ _. 0)) rs)
+      ≡ point (live (normal-body g) L) (λ _. 0) (rows (annotate Γ (normal-body g) L) ++ rs)
+  body-walk g d s h L rs =
+      tree-from F Γ d (normal-body g) 0 (λ _. 0) (omega arith) h
+      (back-right (normal-body g) d 0 (λ _. 0) s (body-nested g) (record { at = λ y. omega arith }) (omega arith))
+      (extent (normal-body g) - 2) (omega arith) L rs

@@ -1,0 +1,77 @@
+-- `normal_script::put_head` meets its contract.
+use native.Mathlib.Omega.{arith}
+use borrow.Author.Needs.{needs}
+use Rattle.normal_write.proofs.Rows.{lower}
+use Rattle.normal_script.proofs.Parameters.{count-most, result-most, head-wrote}
+use Rattle.normal_script.proofs.put_head.Statement.{statement}
+use Rattle.normal_script.proofs.put_head.Tie as tie
+
+put-parameters-requires : tie.Need-put-parameters-requires
+put-parameters-requires c κs =
+    let a = c .before .before .before .before .before .before .before .args in (
+      c .before .before .before .before .before .before .before .pre .0,
+      (
+        omega (
+          arith,
+          c .before .before .before
+              .before .before .before .before .pre .1 .0,
+        ),
+        (
+          omega (
+            arith,
+            c .before .before .before .low-at .ensures,
+            count-most (a .kinds .now)
+                (a .operands .now) (a .at),
+          ),
+          c .before .before .before .before .before .before .before .pre .1 .1,
+        ),
+      ),
+    )
+
+mul-put-row : tie.Need-mul-put-row
+mul-put-row c =
+    let a = c .before .before .before .before .before .before .before .before .before .before .before .before
+    .before .args in
+    omega (
+      arith,
+      c .before .before .before .before .before .before .before .before .high-at .ensures,
+      result-most
+          (a .kinds .now) (a .operands .now) (a .at),
+    )
+
+add-put-row : tie.Need-add-put-row
+add-put-row c =
+    let a = c .before .before .before .before .before .before .before .before .before .before .before .before
+    .before .args in
+    omega (
+      arith,
+      c .before .before .before .before .before .before .before .before .before .low-at .ensures,
+      c
+          .before .before .before .before .before .before .before .before .high-at .ensures,
+      count-most (a .kinds
+          .now) (a .operands .now) (a .at),
+      result-most (a .kinds .now) (a .operands .now) (a .at),
+    )
+
+put-row-requires : tie.Need-put-row-requires
+put-row-requires c κs = lower (c .before .before .before .before .before .put-parameters .ensures) (c .before
+    .before .before .before .before .before .before .before .before .before .before .before .before .pre .1 .1)
+
+returns : tie.Need-returns
+returns c =
+    let a = c .before .before .before .before .before .before .before .before .before .before .before .before
+    .before .before .before .before .before .args in
+    head-wrote (a .kinds .now) (a .operands .now) (a .at) (c .before .before .before .before .before .before
+    .before .before .before .before .before .before .before .low-at .result) (c .before .before .before .before
+    .before .before .before .before .before .before .before .before .high-at .result) (c .before .before
+    .before .before .before .before .before .before .before .before .before .before .before .low-at .ensures)
+    (c .before .before .before .before .before .before .before .before .before .before .before .before .high-at
+    .ensures) (c .before .before .before .before .before .before .before .before .before .put-parameters
+    .ensures) (c .before .before .before .put-row .ensures)
+
+pub put-head-spec : {M : Type 1} → statement M
+put-head-spec =
+    tie.close
+    (tie.spec (λ c κs. search needs) (λ c κs. search needs) (λ c. search needs) put-parameters-requires
+    (λ c. search needs) (λ c. search needs) mul-put-row add-put-row put-row-requires (λ c. search needs)
+    (λ c. search needs) returns)

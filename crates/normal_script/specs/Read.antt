@@ -1,0 +1,69 @@
+-- The function that stands at a node of an accepted file, and the code of one function.
+use mathlib.Core.Path.{_≡_}
+use mathlib.Core.List.{List, [], _∷_, _++_}
+use Prim.Native.Nat.{ℕ, zero, suc, _+_, _*_, _≤_}
+use lib.Dec.{ltb}
+use lib.ListN.{length, getD, replicate}
+use Rattle.semantics.specs.Syntax.{Parameter, Function, size}
+use Rattle.semantics.specs.File.{at-function, at-parameter}
+use Rattle.semantics.specs.Code.{Row, row, rows, release-all}
+use Rattle.semantics.specs.Normal.{fresh, parameter-names, normal-body}
+use Rattle.semantics.specs.Live.{empty, uses}
+use Rattle.semantics.specs.Annotate.{NameDepths, parameter-depths-from, parameter-rows, tree-depths, dying, annotate}
+use Rattle.script_read.specs.Told.{Parts, low-at, high-at}
+use Rattle.normal_code.specs.Parts.{depth-in}
+use Rattle.normal_lay.specs.Laid.{meanings}
+use Rattle.normal_lay.specs.Source.{tree-at}
+use Rattle.normal_lay.specs.Made.{Low}
+
+module _ (kinds operands : List ℕ) where
+  -- n parameters from node p on
+  unfoldable pub parameters-at : ℕ → ℕ → List Parameter
+  parameters-at p zero = []
+  parameters-at p (suc n) =
+      record { id = low-at kinds operands at-parameter p; depth = high-at kinds operands at-parameter p }
+      ∷ parameters-at (p + 1) n
+
+  -- the function at node p
+  unfoldable pub read-function : ℕ → Function
+  read-function p = record {
+    parameters = parameters-at (p + 1) (low-at kinds operands at-function p);
+    result = high-at kinds operands at-function p;
+    body = tree-at kinds operands 64 (p + 1 + low-at kinds operands at-function p);
+  }
+
+-- the depths of a function's names, over the results of the script's functions
+unfoldable pub depths-by : (ℕ → ℕ) → Function → NameDepths
+depths-by results g = tree-depths results (normal-body g) (parameter-depths-from (g .parameters) 0)
+
+-- the rows of a function before those of its tree
+unfoldable pub head-rows : Function → List Row
+head-rows g = row 0 (length (g .parameters) + 256 * g .result) ∷ parameter-rows (g .parameters) 0
+
+-- the rows of a function
+unfoldable pub rows-by : (ℕ → ℕ) → Function → List Row
+rows-by results g =
+    head-rows g
+    ++ rows (release-all
+    (dying (depths-by results g) (λ x. ltb x (length (g .parameters))) (uses (normal-body g)))
+    (annotate (depths-by results g) (normal-body g) empty))
+
+-- what binding the parameters makes: the place of each name, and the depth of each new name
+pub record Binds (operands : List ℕ) (xs : List Parameter) (i : ℕ) (places depths : List ℕ) : Type 0 where
+  pub means : meanings operands places ≡ parameter-names xs i
+  pub deep : depth-in depths ≡ parameter-depths-from xs i
+  pub low : Low depths 0
+  pub long : (length places ≡ 256) × (length depths ≡ 256)
+
+-- a table of 256 places and one of 256 depths, before any name is bound
+pub record Unbound (places depths : List ℕ) : Type 0 where
+  pub places-are : places ≡ replicate 256 65535
+  pub depths-are : depths ≡ replicate 256 0
+
+-- there is room for the function at node p
+pub record Fitting (kinds operands results : List ℕ) (p : ℕ) : Type 0 where
+  pub parts : Parts kinds operands
+  pub low : (f : ℕ) → getD results f 0 ≤ 4
+  pub few : low-at kinds operands at-function p ≤ 8
+  pub names : low-at kinds operands at-function p + fresh (read-function kinds operands p .body) ≤ 256
+  pub nodes : p + 1 + low-at kinds operands at-function p + size (read-function kinds operands p .body) ≤ 1024

@@ -1,4 +1,0 @@
-pub mod Atoms
-pub mod Bits
-pub mod Effects
-pub mod Walks

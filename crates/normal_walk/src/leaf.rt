@@ -1,0 +1,72 @@
+// A line without trees, walked backwards.
+use normal_code::Atom;
+use normal_code::Line;
+use normal_write::lines::put_handing;
+use normal_write::lines::put_index;
+use normal_write::lines::put_length;
+use normal_write::lines::put_operation;
+use normal_write::marks::take_handed;
+use normal_write::marks::take_two;
+ghost use mathlib.Core.Path.{_≡_};
+ghost use mathlib.Core.Bool.{true};
+ghost use Prim.Native.Nat.{_+_, _*_, _<_};
+ghost use lib.ListN.{length};
+ghost use Rattle.normal_code.specs.Plain.{plain};
+ghost use Rattle.normal_code.specs.Parts.{depth-in};
+ghost use Rattle.normal_code.specs.Walk.{line-walk};
+ghost use Rattle.normal_write.specs.Wrote.{Room};
+ghost use Rattle.normal_walk.specs.Walks.{Walks, is-leaf, no-tree};
+
+// The line at row p: its rows, and the names live before it.
+pub fn walk_leaf(
+    ks: &mut [u8],
+    os: &mut [i64],
+    operands: &[u8],
+    rows: &[u32; 2048],
+    notes: &[u16; 2048],
+    cur: &mut [u16; 256],
+    depths: &[u8; 256],
+    l: Line,
+    p: usize,
+    at: &mut usize,
+    after: [bool; 256],
+) -> [bool; 256]
+    requires { ⌜ (is-leaf l ≡ true) × (p < 4096) × (length (now cur) ≡ 256) × Room (now ks) (now os) (now at) ⌝ }
+    ensures { λ r. ⌜ Walks
+        (line-walk (plain (now (operands .entry)) (now (rows .entry)) (now (notes .entry)))
+        (depth-in (now (depths .entry))) no-tree p 0 l)
+        after (now (cur .entry)) (now (ks .entry)) (now (os .entry)) (now (at .entry))
+        r (now (cur .exit)) (now (ks .exit)) (now (os .exit)) (now (at .exit)) ⌝ }
+{
+    let w = *at;
+    match l {
+        Line::Operation(x, kind, a, b) => {
+            let v = put_operation(ks, os, depths, x, kind, a, b, &after, w);
+            *at = v;
+            take_two(notes, cur, p, x, a, b, after)
+        }
+        Line::Call(x, f, m) => {
+            let n = x as u32 + 256 * (f as u32);
+            let v = put_handing(ks, os, depths, operands, rows, p + 1, x, m, 8, n, &after, w);
+            *at = v;
+            take_handed(operands, rows, notes, cur, p, x, m, after)
+        }
+        Line::Literal(x, d, m) => {
+            let n = x as u32 + 256 * (m as u32) + 65536 * (d as u32);
+            let v = put_handing(ks, os, depths, operands, rows, p + 1, x, m, 9, n, &after, w);
+            *at = v;
+            take_handed(operands, rows, notes, cur, p, x, m, after)
+        }
+        Line::Index(x, a, b) => {
+            let v = put_index(ks, os, depths, x, a, b, &after, w);
+            *at = v;
+            take_two(notes, cur, p, x, a, b, after)
+        }
+        Line::Length(x, a) => {
+            let v = put_length(ks, os, depths, x, a, &after, w);
+            *at = v;
+            take_two(notes, cur, p, x, a, Atom::Number(0), after)
+        }
+        _ => after,
+    }
+}

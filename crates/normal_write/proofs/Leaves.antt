@@ -1,0 +1,126 @@
+-- The rows of leaf lines: what they release, and what they write all in all.
+use mathlib.Core.Path.{_≡_, refl, sym, ap, _∙_, fun-ext}
+use mathlib.Core.Bool.{Bool, true, false, _&&_, _||_}
+use mathlib.Core.Logic.{_⊎_, inl, inr}
+use mathlib.Core.List.{List, [], _∷_, _++_, map}
+use Prim.Native.Nat.{ℕ, zero, suc, _+_, _*_, _<_}
+use native.Mathlib.Omega.{arith}
+use native.Mathlib.Decide.{ℕ-discrete}
+use lib.Dec.{eqb}
+use lib.ListN.{length}
+use borrow.Author.Tests.{lt-ltb, ne-eqb}
+use Rattle.semantics.specs.Basics.{with-if}
+use Rattle.semantics.specs.Number.{Operation}
+use Rattle.semantics.specs.Kinds.{Leaf, operation, call, literal, index, length-of, operation-kind, leaf-kind}
+use Rattle.semantics.specs.Kinds.{leaf-operand, leaf-hands, leaf-reads, is-pending}
+use Rattle.semantics.specs.Code.{Atom, number, name, Row, row, atom-row}
+use Rattle.semantics.specs.Live.{Set, empty, is, only, among, _∪_, members-from, members}
+use Rattle.semantics.specs.Annotate.{NameDepths, atom-depth, is-array, dying, handed-again}
+use Rattle.normal_code.specs.Parts.{retain-rows, release-rows, leaf-part, handing}
+use Rattle.normal_code.specs.Walk.{below}
+use Rattle.normal_write.proofs.Names.{dies}
+
+and-false : (b : Bool) → b && false ≡ false
+and-false true = refl
+and-false false = refl
+
+or-none : (b : Bool) → b || false ≡ b
+or-none true = refl
+or-none false = refl
+
+among-split : (us : List Atom) (A : Set) (y : ℕ) → among us A y ≡ among us empty y || A y
+unfolding among
+among-split [] A y = refl
+among-split (a ∷ us) A y = rw (among-split us A y) (go (is a y) (among us empty y) (A y))
+  where
+    go : (i m a : Bool) → i || (m || a) ≡ (i || m) || a
+    go true m a = refl
+    go false m a = refl
+
+-- ---- the names that a line reads and binds
+
+-- only names below 256 are tried
+near : (n i : ℕ) (P Q : Set) → ((y : ℕ) → y < i + n → P y ≡ Q y) → members-from n i P ≡ members-from n i Q
+unfolding members-from
+near zero i P Q h = refl
+near (suc n) i P Q h =
+    rw (h i (omega arith)) (ap (with-if (Q i) i) (near n (suc i) P Q (λ y l. h y (omega arith))))
+
+module _ (Γ : NameDepths) where
+  pub dying-near : (U A : Set) → dying Γ (below 256 U) A ≡ dying Γ U A
+  unfolding dying members
+  dying-near U A = near 256 0 (dies Γ (below 256 U) A) (dies Γ U A) (λ y l. rw (lt-ltb y 256 (omega arith)))
+
+  -- only arrays are released
+  dying-arrays : (U W A : Set) → ((y : ℕ) → (is-array Γ y ≡ false) ⊎ (U y ≡ W y)) → dying Γ U A ≡ dying Γ W A
+  unfolding dying
+  dying-arrays U W A h = ap members (fun-ext (λ y. go y (h y)))
+    where
+      go : (y : ℕ) → (is-array Γ y ≡ false) ⊎ (U y ≡ W y) → dies Γ U A y ≡ dies Γ W A y
+      go y (inl e) = rw (e, and-false (U y), and-false (W y))
+      go y (inr e) = rw e
+
+  -- where the second atom is a number it is not released
+  pub second-flat : (x : ℕ) (a b : Atom) (e : ℕ) (A : Set) → e ≡ atom-depth Γ b → e ≡ 0 →
+      dying Γ (is a ∪ only x) A ≡ dying Γ (is a ∪ is b ∪ only x) A
+  second-flat x a b e A h i = dying-arrays (is a ∪ only x) (is a ∪ is b ∪ only x) A (λ y. go b (sym h ∙ i) y)
+    where
+      named : (z y : ℕ) → Γ z ≡ 0 → Dec (z ≡ y) →
+          (is-array Γ y ≡ false) ⊎ (is a y || eqb x y ≡ is a y || (eqb z y || eqb x y))
+      named z y f (yes h) = inl (rw (← h, f))
+      named z y f (no h) = inr (rw (ne-eqb z y h))
+
+      go : (b : Atom) → atom-depth Γ b ≡ 0 → (y : ℕ) →
+          (is-array Γ y ≡ false) ⊎ ((is a ∪ only x) y ≡ (is a ∪ is b ∪ only x) y)
+      go (number z) h y = inr refl
+      go (name z) h y = named z y h (ℕ-discrete z y)
+
+  pub all-read : (x : ℕ) (a b : Atom) (A N O T U : Set) → N ≡ empty → O ≡ only x ∪ N → T ≡ is b ∪ O → U ≡ is a ∪ T →
+      dying Γ (below 256 U) A ≡ dying Γ (is a ∪ is b ∪ only x) A
+  all-read x a b A N O T U n o t u =
+      dying-near U A ∙ rw (u, t, o, n) (ap (λ (S : Set). dying Γ (is a ∪ is b ∪ S) A) (fun-ext (λ y. or-none (eqb x
+      y))))
+
+-- ---- the lines of leaves
+
+module _ (Γ : NameDepths) (x : ℕ) (A : Set) where
+  -- a leaf's part with its sets joined
+  abbrev joined-part : Leaf → List Atom → List Row
+  joined-part l us =
+      retain-rows (handed-again Γ (leaf-hands l us) (among (leaf-reads l us) A))
+      ++ ((row (leaf-kind l) (leaf-operand l x (length us)) ∷ map atom-row us)
+      ++ (retain-rows (with-if (is-pending l && is-array Γ x) x [])
+      ++ release-rows (dying Γ (among (leaf-reads l us) (only x)) A)))
+
+  joined : (us : List Atom) (B : Set) → among us B ≡ among us empty ∪ B
+  joined us B = fun-ext (λ y. among-split us B y)
+
+  leaf-rows : (l : Leaf) (us : List Atom) → joined-part l us ≡ leaf-part Γ x l us A
+  leaf-rows l us = rw (joined (leaf-reads l us) A, joined (leaf-reads l us) (only x))
+
+  pub operation-rows : (o : Operation) (a b : Atom) →
+      row (operation-kind o) x ∷ (atom-row a ∷ (atom-row b ∷ release-rows (dying Γ (is a ∪ is b ∪ only x) A)))
+      ≡ leaf-part Γ x (operation o) (a ∷ (b ∷ [])) A
+  unfolding handed-again among
+  operation-rows o a b = leaf-rows (operation o) (a ∷ (b ∷ []))
+
+  pub index-rows : (a b : Atom) →
+      row 10 x ∷ (atom-row a ∷ (atom-row b
+      ∷ (retain-rows (with-if (is-array Γ x) x []) ++ release-rows (dying Γ (is a ∪ is b ∪ only x) A))))
+      ≡ leaf-part Γ x index (a ∷ (b ∷ [])) A
+  unfolding handed-again among
+  index-rows a b = leaf-rows index (a ∷ (b ∷ []))
+
+  pub length-rows : (a : Atom) → row 11 x ∷ (atom-row a ∷ release-rows (dying Γ (is a ∪ only x) A)) ≡ leaf-part Γ x
+      length-of (a ∷ []) A
+  unfolding handed-again among
+  length-rows a = leaf-rows length-of (a ∷ [])
+
+  pub call-rows : (f : ℕ) (us : List Atom) → handing Γ x (row 8 (x + 256 * f)) us A ≡ leaf-part Γ x (call f) us A
+  unfolding among
+  call-rows f us = leaf-rows (call f) us
+
+  pub literal-rows : (d : ℕ) (us : List Atom) →
+      handing Γ x (row 9 (x + 256 * length us + 65536 * d)) us A ≡ leaf-part Γ x (literal d) us A
+  unfolding among
+  literal-rows d us = leaf-rows (literal d) us

@@ -1,0 +1,59 @@
+use mathlib.Core.List.{map}
+use Prim.Native.Nat.{_+_, _-_, _<_, _≤_}
+use native.Mathlib.Omega.{arith}
+use Rattle.semantics.specs.Code.{atom-row}
+use Rattle.normal_code.specs.Plain.{atoms-at}
+use Rattle.normal_write.specs.Wrote.{Wrote, Room}
+use Rattle.normal_write.proofs.Rows.{lower}
+use Rattle.normal_write.proofs.Names.{atoms-begin, atoms-go, atoms-end}
+use borrow.Author.Needs.{needs}
+use Rattle.normal_write.proofs.lines.put_atoms.Statement.{statement}
+use Rattle.normal_write.proofs.lines.put_atoms.Tie as tie
+
+abbrev Inv-loop : tie.InvT-loop
+Inv-loop ks₀ os₀ operands rows at m w v₀ i₀ ks os v i =
+    (i ≤ m) × (m < 256) × Room ks os v
+    × Wrote ks₀ os₀ ks os w v (map atom-row (atoms-at operands rows (at + i) (m - i)))
+
+abbrev μ-loop : tie.MeasureT-loop
+μ-loop ks₀ os₀ operands rows at m w v₀ i₀ ks os v i = i
+
+loop-holds : tie.Need-loop-holds Inv-loop μ-loop
+loop-holds c = (
+  omega arith,
+  omega arith,
+  search needs,
+  atoms-begin (c .before .before .args .operands .now) (c .before
+      .before .args .rows .now) (c .before .before .args .at) (c .before .before .args .m),
+)
+
+loop-again : tie.Need-loop-again Inv-loop μ-loop
+loop-again c =
+    let v = c .before .before .before .before .before .before .before .before .before .loop .inv in (
+      omega arith,
+      v .1,
+      lower (c .before .before .before .put-atom .ensures) (v .2),
+      atoms-go (c .before .before .before .before .before .before .before .before .before .before .before .before
+          .args .operands .now) (c .before .before .before .before .before .before .before .before .before .before
+          .before .before .args .rows .now) (c .before .before .before .before .before .before .before .before
+          .before .before .before .before .args .at) (c .before .before .before .before .before .before .before
+          .before .before .loop .i) (c .before .before .before .before .before .before .before .before .before
+          .before .before .before .args .m) (c .before .before .before .before .before .before .before .row-at
+          .result) (c .before .before .before .before .before .before .atom-of .result) (c .before .before .before
+          .before .before .before .before .before .loop-test .taken) (v .0)
+          (c .before .before .before .before .before .before .before .row-at .ensures) (c .before .before .before
+          .before .before .before .atom-of .ensures) (v .3) (c .before .before .before .put-atom .ensures),
+    )
+
+returns : tie.Need-returns Inv-loop μ-loop
+returns c =
+    atoms-end (c .before .before .before .before .args .operands .now) (c .before .before .before .before .args
+    .rows .now) (c .before .before .before .before .args .at) (c .before .loop .i) (c .before .before .before
+    .before .args .m) (c .loop-test .left) (c .before .loop .inv .3)
+
+pub put-atoms-spec : {M : Type 1} → statement M
+put-atoms-spec =
+    tie.close
+    (tie.spec Inv-loop μ-loop loop-holds (λ c. search needs) (λ c. search needs) (λ c κs. search needs)
+    (λ c κs. search needs) (λ c κs. search needs) (λ c. search needs) loop-again (λ c. search needs)
+    (λ c. search needs) returns)

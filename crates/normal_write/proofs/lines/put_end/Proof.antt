@@ -1,0 +1,25 @@
+use Rattle.normal_write.proofs.Rows.{wrote-then, lower}
+use borrow.Author.Needs.{needs}
+use Rattle.normal_write.proofs.lines.put_end.Statement.{statement}
+use Rattle.normal_write.proofs.lines.put_end.Tie as tie
+
+put-row-requires : tie.Need-put-row-requires
+put-row-requires c κs =
+    lower (c .before .before .before .before .before .put-atom .ensures) (search needs)
+
+retain-atom-requires : tie.Need-retain-atom-requires
+retain-atom-requires c κs =
+    lower (c .before .before .before .before .before .put-row .ensures) (lower (c .before .before .before .before
+    .before .before .before .before .before .before .before .put-atom .ensures) (search needs))
+
+returns : tie.Need-returns
+returns c =
+    wrote-then (wrote-then (c .before .before .before .before .before .before .before .before .before .before
+    .before .before .before .before .before .put-atom .ensures) (c .before .before .before .before .before
+    .before .before .before .before .put-row .ensures)) (c .before .before .before .retain-atom .ensures)
+
+pub put-end-spec : {M : Type 1} → statement M
+put-end-spec =
+    tie.close
+    (tie.spec (λ c κs. search needs) put-row-requires retain-atom-requires (λ c. search needs)
+    (λ c. search needs) returns)

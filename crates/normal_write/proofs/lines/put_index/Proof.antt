@@ -1,0 +1,63 @@
+use Rattle.normal_code.specs.Plain.{set-of, meant}
+use Rattle.normal_write.proofs.Rows.{wrote-then, wrote-as, lower}
+use Rattle.normal_code.specs.Parts.{depth-in}
+use Rattle.normal_write.proofs.Leaves.{index-rows}
+use borrow.Author.Needs.{needs}
+use Rattle.normal_write.proofs.lines.put_index.Statement.{statement}
+use Rattle.normal_write.proofs.lines.put_index.Tie as tie
+
+put-retain-requires : tie.Need-put-retain-requires
+put-retain-requires c κs =
+    lower (c .before .before .before .before .before .put-reads .ensures) (search needs)
+
+put-atom-requires : tie.Need-put-atom-requires
+put-atom-requires c κs =
+    lower (c .before .before .before .before .before .put-retain .ensures) (lower (c .before .before .before
+    .before .before .before .before .before .before .before .before .put-reads .ensures) (search needs))
+
+put-atom-requires-2 : tie.Need-put-atom-requires-2
+put-atom-requires-2 c κs =
+    lower (c .before .before .before .before .before .put-atom .ensures) (lower (c .before .before .before .before
+    .before .before .before .before .before .before .before .put-retain .ensures) (lower (c .before .before
+    .before .before .before .before .before .before .before .before .before .before .before .before .before
+    .before .before .put-reads .ensures) (search needs)))
+
+put-row-requires : tie.Need-put-row-requires
+put-row-requires c κs =
+    lower (c .before .before .before .before .before .put-atom2 .ensures) (lower (c .before .before .before .before
+    .before .before .before .before .before .before .before .put-atom .ensures) (lower (c .before .before
+    .before .before .before .before .before .before .before .before .before .before .before .before .before
+    .before .before .put-retain .ensures) (lower (c .before .before .before .before .before .before .before
+    .before .before .before .before .before .before .before .before .before .before .before .before .before
+    .before .before .before .put-reads .ensures) (search needs))))
+
+returns : tie.Need-returns
+returns c =
+    wrote-as (index-rows (depth-in (c .before .before .before .before .before .before .before .before .before
+    .before .before .before .before .before .before .before .before .before .before .before .before .before
+    .before .before .before .before .before .before .before .before .before .args .depths .now)) (c .before
+    .before .before .before .before .before .before .before .before .before .before .before .before .before
+    .before .before .before .before .before .before .before .before .before .before .before .before .before
+    .before .before .before .before .args .x) (set-of (c .before .before .before .before .before .before
+    .before .before .before .before .before .before .before .before .before .before .before .before .before
+    .before .before .before .before .before .before .before .before .before .before .before .before .args
+    .after .now)) (meant (c .before .before .before .before .before .before .before .before .before .before
+    .before .before .before .before .before .before .before .before .before .before .before .before .before
+    .before .before .before .before .before .before .before .before .args .a)) (meant (c .before .before
+    .before .before .before .before .before .before .before .before .before .before .before .before .before
+    .before .before .before .before .before .before .before .before .before .before .before .before .before
+    .before .before .before .args .b)))
+    (wrote-then (wrote-then (wrote-then (wrote-then (c .before .before .before .before .before .before .before
+    .before .before .before .before .before .before .before .before .before .before .before .before .before
+    .before .before .before .before .before .before .before .put-reads .ensures) (c .before .before .before
+    .before .before .before .before .before .before .before .before .before .before .before .before .before
+    .before .before .before .before .before .put-retain .ensures))
+    (c .before .before .before .before .before .before .before .before .before .before .before .before .before
+    .before .before .put-atom .ensures)) (c .before .before .before .before .before .before .before .before
+    .before .put-atom2 .ensures)) (c .before .before .before .put-row .ensures))
+
+pub put-index-spec : {M : Type 1} → statement M
+put-index-spec =
+    tie.close
+    (tie.spec (λ c κs. search needs) put-retain-requires put-atom-requires put-atom-requires-2
+    put-row-requires (λ c. search needs) (λ c. search needs) returns)
