@@ -32,6 +32,7 @@ static const struct bench_case cases[] = {
     { "printed_2_short", printed_script, 2, 0, 1, 1, ENGINE_DONE, CALLS },
     { "printed_256", printed_script, 256, LINES, 1, 1, ENGINE_DONE, CALLS },
     { "nodes_1024", large_script, 16, LINES, 1, 1, ENGINE_DONE, CALLS },
+    { "mixed_1024", mixed_script, 16, LINES, 1, 1, ENGINE_DONE, CALLS },
     { "levels_64", level_script, 16, LINES, 1, 1, ENGINE_DONE, CALLS },
     { "functions_32", small_functions_script, 16, LINES, 1, 1, ENGINE_DONE, CALLS },
     { "balanced_ifs", balanced_if_script, 16, LINES, 1, 1, ENGINE_DONE, CALLS },

@@ -83,6 +83,70 @@ void large_script(struct script *script)
     finish(&w, script);
 }
 
+/* f(a, x): `units` times a map of the array a with an if in its tree, and an if whose branches index arrays; then the
+ * function `next` of what they gave, if it is not 0. */
+static void mixed_function(struct writer *w, int units, int next)
+{
+    function(w, 2, 0);
+    parameter(w, 0, 1);
+    parameter(w, 1, 0);
+    for (int i = 0; i < units; i++) {
+        let(w, 0);
+        map(w, 2);
+        name(w, 0);
+        if_then_else(w);
+        less(w);
+        name(w, 2);
+        name(w, 1);
+        sum(w);
+        name(w, 2);
+        name(w, 1);
+        difference(w);
+        name(w, 2);
+        number(w, 1);
+        let(w, 1);
+        if_then_else(w);
+        less(w);
+        length_of(w);
+        name(w, 0);
+        name(w, 1);
+        index_of(w);
+        name(w, 0);
+        number(w, 0);
+        index_of(w);
+        literal(w, 2, 0);
+        name(w, 1);
+        number(w, 3);
+        number(w, 1);
+    }
+    if (next != 0) {
+        call(w, next, 2);
+        name(w, 0);
+    } else {
+        sum(w);
+        length_of(w);
+        name(w, 0);
+    }
+    name(w, 1);
+}
+
+void mixed_script(struct script *script)
+{
+    struct writer w = main_of(1);
+    literal(&w, 1, 0);
+    for (int i = 0; i < 4; i++) {
+        sum(&w);
+        number(&w, i);
+    }
+    call(&w, 1, 2);
+    name(&w, 1);
+    number(&w, 5);
+    for (int f = 1; f <= 6; f++)
+        mixed_function(&w, 6, f < 6 ? f + 1 : 0);
+    assert(w.nodes == ENGINE_NODES_MAX);
+    finish(&w, script);
+}
+
 /* Main adds to its totals what `functions` functions make of the first reading, each from the next one's result. */
 static void sized_script(struct script *script, int functions)
 {

@@ -12,8 +12,11 @@ struct script {
 /* Document 01's printed script: totals {t} and readings {r} give {t + r}. */
 void printed_script(struct script *script);
 
-/* 1,024 nodes in six functions, all worked by each delivery. */
+/* 1,024 nodes in six functions, all worked by each delivery: sums, and lets within one another. */
 void large_script(struct script *script);
+
+/* 1,024 nodes in seven functions, of all kinds: 36 maps, 72 ifs, arrays and calls. */
+void mixed_script(struct script *script);
 
 /* 128 to 1,024 nodes: functions of 31 sums, the first of 29. */
 void size_128_script(struct script *script);
@@ -42,7 +45,7 @@ void deep_if_script(struct script *script);
 /* The same with 7 maps and 48 ifs in them. */
 void deep_mixed_script(struct script *script);
 
-/* Maps of the readings within one another, four to each length that is taken of them, and ifs down to level 64. */
+/* 51 maps of the readings within one another, down to level 64: a length is taken of each four, as depths allow. */
 void deep_body_script(struct script *script);
 
 /* 63 maps, each of the next one's result. */

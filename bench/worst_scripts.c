@@ -36,20 +36,14 @@ void deep_mixed_script(struct script *script) { deep_script(script, 7, 48); }
 
 void deep_body_script(struct script *script)
 {
-    struct writer w = main_of(0);
-    for (int i = 0; i < 12; i++) {
-        length_of(&w);
-        for (int j = 0; j < ENGINE_DEPTH_MAX; j++) {
-            map(&w, 2);
-            name(&w, 1);
-        }
+    struct writer w = main_of(ENGINE_DEPTH_MAX);
+    for (int i = 0; i < 51; i++) {
+        if (i > 0 && i % ENGINE_DEPTH_MAX == 0)
+            length_of(&w);
+        map(&w, 2);
+        name(&w, 1);
     }
-    for (int i = 0; i < 3; i++) {
-        if_then_else(&w);
-        number(&w, 0);
-        number(&w, 0);
-    }
-    number(&w, 7);
+    number(&w, 0);
     finish(&w, script);
 }
 
