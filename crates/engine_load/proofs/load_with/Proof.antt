@@ -13,119 +13,121 @@ use Rattle.engine_load.proofs.load_with.Tie as tie
 
 add-end : tie.Need-add-end
 add-end c =
-    let j = subst (Judges (c .before .before .before .before .before .before .before .before .args .file .now)) (c
-    .before .functions .given .1) (c .before .before .before .judge .ensures .0) in
-    let t = file-taken (accepted-file _ _ _ j) in
-    record { fits = omega (arith, t .sized, t .readable .parts .few) }
+    let a = c .before .before .before .before .before .before .before .before .args in
+    let j = subst (Judges (a .file .now)) (c .before .functions .given .1) (c .before .before .before .judge
+    .ensures .0) in let t = file-taken (accepted-file _ _ _ j) in record {
+      fits = omega (
+        arith,
+        t .sized,
+        t
+            .readable .parts .few,
+      );
+    }
 
 part-file-kinds-end : tie.Need-part-file-kinds-end
 part-file-kinds-end c =
-    let j = subst (Judges (c .before .before .before .before .before .before .before .before .args .file .now)) (c
-    .before .functions .given .1) (c .before .before .before .judge .ensures .0) in
-    omega (arith, file-taken (accepted-file _ _ _ j) .long)
+    let a = c .before .before .before .before .before .before .before .before .args in
+    let j = subst (Judges (a .file .now)) (c .before .functions .given .1) (c .before .before .before .judge
+    .ensures .0) in omega (arith, file-taken (accepted-file _ _ _ j) .long)
 
 sub-file-operands : tie.Need-sub-file-operands
 sub-file-operands c =
-    let j = subst (Judges (c .before .before .before .before .before .before .before .before .before .args .file
-    .now)) (c .before .before .functions .given .1) (c .before .before .before .before .judge .ensures .0) in
-    omega (arith, file-taken (accepted-file _ _ _ j) .long)
+    let a = c .before .before .before .before .before .before .before .before .before .args in
+    let j = subst (Judges (a .file .now)) (c .before .before .functions .given .1) (c .before .before .before
+    .before .judge .ensures .0) in omega (arith, file-taken (accepted-file _ _ _ j) .long)
 
 part-file-operands-start : tie.Need-part-file-operands-start
 part-file-operands-start c =
-    let j = subst (Judges (c .before .before .before .before .before .before .before .before .before .args .file
-    .now)) (c .before .before .functions .given .1) (c .before .before .before .before .judge .ensures .0) in
-    omega (arith, file-taken (accepted-file _ _ _ j) .long)
+    let a = c .before .before .before .before .before .before .before .before .before .args in
+    let j = subst (Judges (a .file .now)) (c .before .before .functions .given .1) (c .before .before .before
+    .before .judge .ensures .0) in omega (arith, file-taken (accepted-file _ _ _ j) .long)
 
 translate-accepted-requires : tie.Need-translate-accepted-requires
 translate-accepted-requires c κs =
-    let j = subst (Judges (c .before .before .before .before .before .before .before .before .before .before
-    .before .before .before .before .before .args .file .now)) (c .before .before .before .before .before
-    .before .before .before .functions .given .1) (c .before .before .before .before .before .before .before
-    .before .before .before .judge .ensures .0) in
-    translatable (accepted-file _ _ _ j) (c .before .before .before .before .before .before .before .before .before
-    .before .judge .ensures .1)
+    let at-functions = c .before .before .before .before .before .before .before .before .functions in
+    let at-judge = c .before .before .before .before .before .before .before .before .before .before .judge in
+    let a = c .before .before .before .before .before .before .before .before .before .before .before .before
+    .before .before .before .args in
+    let j = subst (Judges (a .file .now)) (at-functions .given .1) (at-judge .ensures .0) in translatable
+    (accepted-file _ _ _ j) (at-judge .ensures .1)
 
 fill-requires : tie.Need-fill-requires
 fill-requires c κs =
+    let at-n = c .before .before .before .before .n in
+    let at-translate-accepted = c .before .before .before .before .before .before .before .before .before .before
+    .before .translate-accepted in
+    let at-functions = c .before .before .before .before .before .before .before .before .before .before .before
+    .before .before .before .before .before .before .before .before .before .functions in
+    let at-judge = c .before .before .before .before .before .before .before .before .before .before .before
+    .before .before .before .before .before .before .before .before .before .before .before .judge in
     let a = c .before .before .before .before .before .before .before .before .before .before .before .before
     .before .before .before .before .before .before .before .before .before .before .before .before .before
-    .before .before .args in
-    let laid = c .before .before .before .before .before .before .before .before .before .before .before
-    .translate-accepted in
-    let j = subst (Judges (a .file .now)) (c .before .before .before .before .before .before .before .before
-    .before .before .before .before .before .before .before .before .before .before .before .before .functions
-    .given .1) (c .before .before .before .before .before .before .before .before .before .before .before
-    .before .before .before .before .before .before .before .before .before .before .before .judge .ensures .0) in
-    let accepted = accepted-file _ _ _ j in (
-      file-taken accepted .readable .few,
-      laid-within accepted (a .kinds .now) (laid .last .1 .1 .1 .1 .1 .0) (a .operands .now)
-          (laid .last .1 .1 .1 .1 .1 .1 .0) (laid-outcome (laid .result)) (c .before .before .before .before .n
-          .given .0 .0)
-          (ap laid-outcome (c .before .before .before .before .n .given .1)) (laid .ensures .0),
+    .before .before .args in let laid = at-translate-accepted in let j = subst (Judges (a .file .now))
+    (at-functions .given .1) (at-judge .ensures .0) in let accepted = accepted-file _ _ _ j in (
+      file-taken
+          accepted .readable .few,
+      laid-within accepted (a .kinds .now) (laid .last .1 .1 .1 .1 .1 .0) (a .operands
+          .now) (laid .last .1 .1 .1 .1 .1 .1 .0) (laid-outcome (laid .result)) (at-n .given .0 .0) (ap laid-outcome
+          (at-n .given .1)) (laid .ensures .0),
     )
 
 returns : tie.Need-returns
 returns c =
+    let at-n = c .before .before .before .before .before .before .before .n in
+    let at-translate-accepted = c .before .before .before .before .before .before .before .before .before .before
+    .before .before .before .before .translate-accepted in
+    let at-high-at = c .before .before .before .before .before .before .before .before .before .before .before
+    .before .before .before .before .before .before .before .before .high-at in
+    let at-functions = c .before .before .before .before .before .before .before .before .before .before .before
+    .before .before .before .before .before .before .before .before .before .before .before .before .functions in
+    let at-judge = c .before .before .before .before .before .before .before .before .before .before .before
+    .before .before .before .before .before .before .before .before .before .before .before .before .before
+    .before .judge in
     let a = c .before .before .before .before .before .before .before .before .before .before .before .before
     .before .before .before .before .before .before .before .before .before .before .before .before .before
-    .before .before .before .before .before .args in
-    let laid = c .before .before .before .before .before .before .before .before .before .before .before .before
-    .before .before .translate-accepted in
-    let d = c .before .before .before .before .before .before .before .before .before .before .before .before
-    .before .before .before .before .before .before .before .high-at in
-    let j = subst (Judges (a .file .now)) (c .before .before .before .before .before .before .before .before
-    .before .before .before .before .before .before .before .before .before .before .before .before .before
-    .before .before .functions .given .1) (c .before .before .before .before .before .before .before .before
-    .before .before .before .before .before .before .before .before .before .before .before .before .before
-    .before .before .before .before .judge .ensures .0) in
-    let functions = c .before .before .before .before .before .before .before .before .before .before .before
-    .before .before .before .before .before .before .before .before .before .before .before .before .functions
-    .given .0 .0 in
-    let table = laid .last .1 .1 .1 .1 .0 in
-    let kinds = laid .last .1 .1 .1 .1 .1 .0 in
-    let operands = laid .last .1 .1 .1 .1 .1 .1 .0 in
-    rw (c .before .before .fill .ensures) (subst
-    (λ r. LoadsWith (a .file .now) (a .kinds .now) (a .operands .now) (a .table .now) (ready (d .result)
-    (laid-outcome r))
-    kinds operands (table-after functions kinds operands (laid-outcome r) table)) (c .before .before .before
-    .before .before .before .before .n .given .1)
-    (loads-with-laid (laid-outcome (laid .result)) (d .result) table j (d .ensures) (laid .ensures .0)
-    (laid .ensures .1)))
+    .before .before .before .before .before .args in let laid = at-translate-accepted in let d = at-high-at in
+    let j = subst (Judges (a .file .now)) (at-functions .given .1) (at-judge .ensures .0) in let functions =
+    at-functions .given .0 .0 in let table = laid .last .1 .1 .1 .1 .0 in let kinds = laid .last .1 .1 .1 .1 .1
+    .0 in let operands = laid .last .1 .1 .1 .1 .1 .1 .0 in rw (c .before .before .fill .ensures) (subst (λ r.
+    LoadsWith (a .file .now) (a .kinds .now) (a .operands .now) (a .table .now) (ready (d .result)
+    (laid-outcome r)) kinds operands (table-after functions kinds operands (laid-outcome r) table)) (at-n
+    .given .1) (loads-with-laid (laid-outcome (laid .result)) (d .result) table j (d .ensures) (laid .ensures
+    .0) (laid .ensures .1)))
 
 returns-2 : tie.Need-returns-2
 returns-2 c =
+    let at-translate-accepted = c .before .before .before .before .before .before .before .translate-accepted in
+    let at-high-at = c .before .before .before .before .before .before .before .before .before .before .before
+    .before .high-at in
+    let at-functions = c .before .before .before .before .before .before .before .before .before .before .before
+    .before .before .before .before .before .functions in
+    let at-judge = c .before .before .before .before .before .before .before .before .before .before .before
+    .before .before .before .before .before .before .before .judge in
     let a = c .before .before .before .before .before .before .before .before .before .before .before .before
-    .before .before .before .before .before .before .before .before .before .before .before .args in
-    let laid = c .before .before .before .before .before .before .before .translate-accepted in
-    let d = c .before .before .before .before .before .before .before .before .before .before .before .before
-    .high-at in
-    let j = subst (Judges (a .file .now)) (c .before .before .before .before .before .before .before .before
-    .before .before .before .before .before .before .before .before .functions .given .1) (c .before .before
-    .before .before .before .before .before .before .before .before .before .before .before .before .before
-    .before .before .before .judge .ensures .0) in
-    let functions = c .before .before .before .before .before .before .before .before .before .before .before
-    .before .before .before .before .before .functions .given .0 .0 in
-    let table = laid .last .1 .1 .1 .1 .0 in
-    let kinds = laid .last .1 .1 .1 .1 .1 .0 in
-    let operands = laid .last .1 .1 .1 .1 .1 .1 .0 in
+    .before .before .before .before .before .before .before .before .before .before .before .args in let laid =
+    at-translate-accepted in let d = at-high-at in let j = subst (Judges (a .file .now)) (at-functions .given
+    .1) (at-judge .ensures .0) in let functions = at-functions .given .0 .0 in let table = laid .last .1 .1 .1
+    .1 .0 in let kinds = laid .last .1 .1 .1 .1 .1 .0 in let operands = laid .last .1 .1 .1 .1 .1 .1 .0 in
     subst (λ r. LoadsWith (a .file .now) (a .kinds .now) (a .operands .now) (a .table .now) (ready (d .result)
-    (laid-outcome r))
-    kinds operands (table-after functions kinds operands (laid-outcome r) table)) (c .enum-told .given .1)
-    (loads-with-laid (laid-outcome (laid .result)) (d .result) table j (d .ensures) (laid .ensures .0)
-    (laid .ensures .1))
+    (laid-outcome r)) kinds operands (table-after functions kinds operands (laid-outcome r) table)) (c
+    .enum-told .given .1) (loads-with-laid (laid-outcome (laid .result)) (d .result) table j (d .ensures) (laid
+    .ensures .0) (laid .ensures .1))
 
 returns-3 : tie.Need-returns-3
 returns-3 c =
-    let told = c .before .before .before .before .before .before .before .known-told3 in
-    let parts = c .before .before .before .before .before .before .before .before .number .given .0 in
-    let cleared = c .before .before .before .before .refuse in
-    let refused = subst (Judges (c .before .before .before .before .before .before .before .before .before .before
-    .before .before .before .before .before .args .file .now)) (c .before .before .before .before .before
-    .before .before .before .number .given .1) (c .before .before .before .before .before .before .before
-    .before .before .before .judge .ensures .0) in
-    let small = packed-small {number = parts .0} {node = parts .1 .0} {count = 0} {cells = 0}
-    (omega (arith, told .given .0 .1)) (omega (arith, node-fits refused)) (omega arith) (omega arith) in
-    loads-with-refusal refused (c .pack .ensures ∙ small) (cleared .ensures .0) (cleared .ensures .1)
+    let at-number = c .before .before .before .before .before .before .before .before .number in
+    let at-judge = c .before .before .before .before .before .before .before .before .before .before .judge in
+    let a = c .before .before .before .before .before .before .before .before .before .before .before .before
+    .before .before .before .args in
+    let told = c .before .before .before .before .before .before .before .known-told3 in let parts = at-number
+    .given .0 in let cleared = c .before .before .before .before .refuse in let refused = subst (Judges (a
+    .file .now)) (at-number .given .1) (at-judge .ensures .0) in let small = packed-small {number = parts .0}
+    {node = parts .1 .0} {count = 0} {cells = 0} (omega (arith, told .given .0 .1)) (omega (
+      arith,
+      node-fits
+          refused,
+    )) (omega arith) (omega arith) in loads-with-refusal refused (c .pack .ensures ∙ small) (cleared
+    .ensures .0) (cleared .ensures .1)
 
 pub load-with-spec : {M : Type 1} → statement M
 load-with-spec =

@@ -7,12 +7,12 @@ use Rattle.normal.proofs.refuse.Statement.{statement}
 use Rattle.normal.proofs.refuse.Tie as tie
 
 returns : tie.Need-returns
-returns c = (
-  c .before .before .before .before .before .clear-kinds .ensures ∙ cleared-whole (c .before .before .before
-      .before .before .before .before .before .args .ks .now) 0,
-  c .before .clear-operands .ensures ∙ cleared-whole (c .before .before .before .before .before .before .before
-      .before .args .os .now) (pos 0),
-)
+returns c =
+    let a = c .before .before .before .before .before .before .before .before .args in (
+      c .before .before .before .before .before .clear-kinds .ensures ∙ cleared-whole (a .ks .now) 0,
+      c .before
+          .clear-operands .ensures ∙ cleared-whole (a .os .now) (pos 0),
+    )
 
 pub refuse-spec : {M : Type 1} → statement M
 refuse-spec =

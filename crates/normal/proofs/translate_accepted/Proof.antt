@@ -12,80 +12,80 @@ use Rattle.normal.proofs.translate_accepted.Tie as tie
 
 returns : tie.Need-returns
 returns c =
-    let a = c .before .before .before .before .before .before .before .before .before .before .before .before
-    .before .before .before .before .before .before .before .before .before .before .args in
-    let t = c .before .before .before .before .before .before .before .before .before .before .before .before
+    let at-refuse = c .before .before .before .refuse in
+    let at-if1 = c .before .before .before .before .before .before .if1 in
+    let at-script-code = c .before .before .before .before .before .before .before .before .before .before .before
+    .before .script-code in
+    let at-lesser2 = c .before .before .before .before .before .before .before .before .before .before .before
+    .before .before .before .before .before .lesser2 in
+    let at-lesser = c .before .before .before .before .before .before .before .before .before .before .before
+    .before .before .before .before .before .before .lesser in
+    let at-pre = c .before .before .before .before .before .before .before .before .before .before .before .before
     .before .before .before .before .before .before .before .before .before .before .pre in
-    let e : c .before .before .before .before .before .before .before .before .before .before .before .before
-    .before .before .before .before .lesser2 .result ≡ room (a .ks .now) (a .os .now) =
-    c .before .before .before .before .before .before .before .before .before .before .before .before .before
-    .before .before .before .lesser2 .ensures ∙ ap (min 4096) (c .before .before .before .before .before
-    .before .before .before .before .before .before .before .before .before .before .before .before .lesser
-    .ensures) in
-    let coded = c .before .before .before .before .before .before .before .before .before .before .before .before
-    .script-code .ensures in
-    let wrote = rw (t .reads) at (coded .0) in
+    let a = c .before .before .before .before .before .before .before .before .before .before .before .before
+    .before .before .before .before .before .before .before .before .before .before .args in let t = at-pre in
+    let e : at-lesser2 .result ≡ room (a .ks .now) (a .os .now) = at-lesser2 .ensures ∙ ap (min 4096)
+    (at-lesser .ensures) in let coded = at-script-code .ensures in let wrote = rw (t .reads) at (coded .0) in
     rw (t .reads) (
-      refused-is (t .tree) (a .ks .now) (a .os .now) _ _ e wrote (c .before .before .before .before .before .before
-          .if1 .taken) _ _
-          (c .before .before .before .refuse .ensures .0 ∙ ap (λ n. replicate n 0) (wrote .long-kinds))
-          (c .before .before .before .refuse .ensures .1 ∙ ap (λ n. replicate n (pos 0)) (wrote .long-operands)),
+      refused-is (t .tree) (a .ks .now) (a .os .now) _ _ e wrote (at-if1 .taken) _ _ (at-refuse
+          .ensures .0 ∙ ap (λ n. replicate n 0) (wrote .long-kinds)) (at-refuse .ensures .1 ∙ ap (λ n. replicate n
+          (pos 0)) (wrote .long-operands)),
       rw (t .reads) at (coded .1),
     )
 
 sub-n : tie.Need-sub-n
 sub-n c =
-    let wrote = rw (c .before .before .before .before .before .before .before .before .before .before .before
-    .before .before .before .before .before .pre .reads) at (c .before .before .before .before .before .before
-    .script-code .ensures .0) in
-    omega (arith, wrote .at)
+    let at-script-code = c .before .before .before .before .before .before .script-code in
+    let at-pre = c .before .before .before .before .before .before .before .before .before .before .before .before
+    .before .before .before .before .pre in
+    let wrote = rw (at-pre .reads) at (at-script-code .ensures .0) in omega (arith, wrote .at)
 
 settle-requires : tie.Need-settle-requires
 settle-requires c κs =
-    let wrote = rw (c .before .before .before .before .before .before .before .before .before .before .before
-    .before .before .before .before .before .before .before .pre .reads) at (c .before .before .before .before
-    .before .before .before .before .script-code .ensures .0) in (
+    let at-script-code = c .before .before .before .before .before .before .before .before .script-code in
+    let at-lesser2 = c .before .before .before .before .before .before .before .before .before .before .before
+    .before .lesser2 in
+    let at-lesser = c .before .before .before .before .before .before .before .before .before .before .before
+    .before .before .lesser in
+    let at-pre = c .before .before .before .before .before .before .before .before .before .before .before .before
+    .before .before .before .before .before .before .pre in
+    let wrote = rw (at-pre .reads) at (at-script-code .ensures .0) in (
       omega (
         arith,
         wrote .at,
-        wrote .long-kinds,
-        c .before .before .before .before .before .before .before .before
-            .before .before .before .before .before .lesser .ensures,
-        c .before .before .before .before .before
-            .before .before .before .before .before .before .before .lesser2 .ensures,
+        wrote
+            .long-kinds,
+        at-lesser .ensures,
+        at-lesser2 .ensures,
       ),
       omega (
         arith,
         wrote .at,
         wrote .long-operands,
-        c .before .before .before .before .before .before .before
-            .before .before .before .before .before .before .lesser .ensures,
-        c .before .before .before .before
-            .before .before .before .before .before .before .before .before .lesser2 .ensures,
+        at-lesser .ensures,
+        at-lesser2 .ensures,
       ),
     )
 
 returns-2 : tie.Need-returns-2
 returns-2 c =
-    let a = c .before .before .before .before .before .before .before .before .before .before .before .before
-    .before .before .before .before .before .before .before .before .before .before .args in
-    let t = c .before .before .before .before .before .before .before .before .before .before .before .before
+    let at-settle = c .before .before .before .settle in
+    let at-if1 = c .before .before .before .before .before .before .if1 in
+    let at-script-code = c .before .before .before .before .before .before .before .before .before .before .before
+    .before .script-code in
+    let at-lesser2 = c .before .before .before .before .before .before .before .before .before .before .before
+    .before .before .before .before .before .lesser2 in
+    let at-lesser = c .before .before .before .before .before .before .before .before .before .before .before
+    .before .before .before .before .before .before .lesser in
+    let at-pre = c .before .before .before .before .before .before .before .before .before .before .before .before
     .before .before .before .before .before .before .before .before .before .before .pre in
-    let e : c .before .before .before .before .before .before .before .before .before .before .before .before
-    .before .before .before .before .lesser2 .result ≡ room (a .ks .now) (a .os .now) =
-    c .before .before .before .before .before .before .before .before .before .before .before .before .before
-    .before .before .before .lesser2 .ensures ∙ ap (min 4096) (c .before .before .before .before .before
-    .before .before .before .before .before .before .before .before .before .before .before .before .lesser
-    .ensures) in
-    let coded = c .before .before .before .before .before .before .before .before .before .before .before .before
-    .script-code .ensures in
-    rw (t .reads) (
-      accepted-is (t .tree) (a .ks .now) (a .os .now) _ _ e (rw (t .reads) at (coded .0)) (omega (
-        arith,
-        c .before
-            .before .before .before .before .before .if1 .left,
-      )) _ _
-          (c .before .before .before .settle .ensures .0) (c .before .before .before .settle .ensures .1),
+    let a = c .before .before .before .before .before .before .before .before .before .before .before .before
+    .before .before .before .before .before .before .before .before .before .before .args in let t = at-pre in
+    let e : at-lesser2 .result ≡ room (a .ks .now) (a .os .now) = at-lesser2 .ensures ∙ ap (min 4096)
+    (at-lesser .ensures) in let coded = at-script-code .ensures in rw (t .reads) (
+      accepted-is (t .tree) (a .ks
+          .now) (a .os .now) _ _ e (rw (t .reads) at (coded .0)) (omega (arith, at-if1 .left)) _ _ (at-settle
+          .ensures .0) (at-settle .ensures .1),
       rw (t .reads) at (coded .1),
     )
 

@@ -16,13 +16,14 @@ loop-holds c = placing-begins (c .args .places .now) (c .args .p) (c .args .m) _
 
 loop-again : tie.Need-loop-again Inv-loop μ-loop
 loop-again c =
-    let a = c .before .before .before .before .before .before .before .args in
-    placing-goes (a .places .now) (a .p) (a .m) (c .before .before .before .before .before .before .loop .inv)
-    (c .before .before .before .before .before .loop-test .taken) (c .put-use .ensures)
+    let at-loop = c .before .before .before .before .before .before .loop in
+    let a = c .before .before .before .before .before .before .before .args in placing-goes (a .places .now) (a .p)
+    (a .m) (at-loop .inv) (c .before .before .before .before .before .loop-test .taken) (c .put-use .ensures)
 
 returns : tie.Need-returns Inv-loop μ-loop
-returns c = placing-ends (c .before .before .args .places .now) (c .before .before .args .p) (c .before .before .args
-    .m) (c .before .loop .inv) (c .loop-test .left)
+returns c =
+    let a = c .before .before .args in
+    placing-ends (a .places .now) (a .p) (a .m) (c .before .loop .inv) (c .loop-test .left)
 
 pub lay-places-spec : {M : Type 1} → statement M
 lay-places-spec =

@@ -16,12 +16,11 @@ abbrev μ-loop : tie.MeasureT-loop
 
 loop-holds : tie.Need-loop-holds Inv-loop μ-loop
 loop-holds c =
+    let at-pre = c .before .before .pre in
     let a = c .before .before .args in (
       omega arith,
-      bind-begin (a .kinds .now) (a .operands .now) (a .at) (a .count)
-          (omega (arith, c .before .before .pre .0 .0 .few, c .before .before .pre .0 .0 .whole)) (c .before
-          .before .pre
-          .1),
+      bind-begin (a .kinds .now) (a .operands .now) (a .at) (a
+          .count) (omega (arith, at-pre .0 .0 .few, at-pre .0 .0 .whole)) (at-pre .1),
     )
 
 add-low-at : tie.Need-add-low-at Inv-loop μ-loop
@@ -37,31 +36,28 @@ element-write-places : tie.Need-element-write-places Inv-loop μ-loop
 element-write-places c = omega (arith, c .before .before .before .loop .inv .1 .long .0, c .before .low-at .ok)
 
 element-write-depths : tie.Need-element-write-depths Inv-loop μ-loop
-element-write-depths c = omega (
-  arith,
-  c .before .before .before .loop .inv .0,
-  c .before .before .before .loop
-      .inv .1 .long .1,
-  c .before .before .before .before .before .before .pre .0 .1 .1,
-)
+element-write-depths c =
+    let at-loop = c .before .before .before .loop in
+    let at-pre = c .before .before .before .before .before .before .pre in
+    omega (arith, at-loop .inv .0, at-loop .inv .1 .long .1, at-pre .0 .1 .1)
 
 loop-again : tie.Need-loop-again Inv-loop μ-loop
 loop-again c =
-    let a = c .before .before .before .before .before .before .args in
-    let v = c .before .before .before .loop .inv in (
+    let at-low-at = c .before .low-at in
+    let at-loop = c .before .before .before .loop in
+    let at-pre = c .before .before .before .before .before .before .pre in
+    let a = c .before .before .before .before .before .before .args in let v = at-loop .inv in (
       omega arith,
-      bind-go (a .kinds .now) (a .operands .now) (a .at) (c .before .before .before .loop .i) (a .count) (c .before
-          .low-at .result) (c .high-at .result)
-          (c .before .before .loop-test .taken) (v .0) (c .before .before .before .before .before .before .pre .0
-          .1 .1) (omega (arith, c .before .low-at .ok)) (c .before .low-at .ensures)
-          (c .high-at .ensures) (v .1),
+      bind-go (a .kinds .now) (a .operands .now) (a .at) (at-loop .i) (a .count) (at-low-at .result) (c .high-at
+          .result) (c .before .before .loop-test .taken) (v .0) (at-pre .0 .1 .1) (omega (arith, at-low-at .ok))
+          (at-low-at .ensures) (c .high-at .ensures) (v .1),
     )
 
 returns : tie.Need-returns Inv-loop μ-loop
 returns c =
-    let a = c .before .before .before .before .args in
-    bind-end (a .kinds .now) (a .operands .now) (a .at) (c .before .loop .i) (a .count) (c .loop-test .left) (c
-    .before .loop .inv .1)
+    let at-loop = c .before .loop in
+    let a = c .before .before .before .before .args in bind-end (a .kinds .now) (a .operands .now) (a .at) (at-loop
+    .i) (a .count) (c .loop-test .left) (at-loop .inv .1)
 
 pub bind-parameters-spec : {M : Type 1} → statement M
 bind-parameters-spec =

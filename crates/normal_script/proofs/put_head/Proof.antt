@@ -8,65 +8,64 @@ use Rattle.normal_script.proofs.put_head.Tie as tie
 
 put-parameters-requires : tie.Need-put-parameters-requires
 put-parameters-requires c κs =
+    let at-pre = c .before .before .before .before .before .before .before .pre in
     let a = c .before .before .before .before .before .before .before .args in (
-      c .before .before .before .before .before .before .before .pre .0,
+      at-pre .0,
       (
         omega (
           arith,
-          c .before .before .before
-              .before .before .before .before .pre .1 .0,
+          at-pre
+              .1 .0,
         ),
         (
           omega (
             arith,
             c .before .before .before .low-at .ensures,
-            count-most (a .kinds .now)
-                (a .operands .now) (a .at),
+            count-most (a .kinds .now) (a
+                .operands .now) (a .at),
           ),
-          c .before .before .before .before .before .before .before .pre .1 .1,
+          at-pre .1 .1,
         ),
       ),
     )
 
 mul-put-row : tie.Need-mul-put-row
 mul-put-row c =
+    let at-high-at = c .before .before .before .before .before .before .before .before .high-at in
     let a = c .before .before .before .before .before .before .before .before .before .before .before .before
-    .before .args in
-    omega (
-      arith,
-      c .before .before .before .before .before .before .before .before .high-at .ensures,
-      result-most
-          (a .kinds .now) (a .operands .now) (a .at),
-    )
+    .before .args in omega (arith, at-high-at .ensures, result-most (a .kinds .now) (a .operands .now) (a .at))
 
 add-put-row : tie.Need-add-put-row
 add-put-row c =
+    let at-high-at = c .before .before .before .before .before .before .before .before .high-at in
+    let at-low-at = c .before .before .before .before .before .before .before .before .before .low-at in
     let a = c .before .before .before .before .before .before .before .before .before .before .before .before
-    .before .args in
-    omega (
+    .before .args in omega (
       arith,
-      c .before .before .before .before .before .before .before .before .before .low-at .ensures,
-      c
-          .before .before .before .before .before .before .before .before .high-at .ensures,
-      count-most (a .kinds
-          .now) (a .operands .now) (a .at),
+      at-low-at .ensures,
+      at-high-at .ensures,
+      count-most (a .kinds .now) (a
+          .operands .now) (a .at),
       result-most (a .kinds .now) (a .operands .now) (a .at),
     )
 
 put-row-requires : tie.Need-put-row-requires
-put-row-requires c κs = lower (c .before .before .before .before .before .put-parameters .ensures) (c .before
-    .before .before .before .before .before .before .before .before .before .before .before .before .pre .1 .1)
+put-row-requires c κs =
+    let at-pre = c .before .before .before .before .before .before .before .before .before .before .before .before
+    .before .pre in
+    lower (c .before .before .before .before .before .put-parameters .ensures) (at-pre .1 .1)
 
 returns : tie.Need-returns
 returns c =
+    let at-put-parameters = c .before .before .before .before .before .before .before .before .before
+    .put-parameters in
+    let at-high-at = c .before .before .before .before .before .before .before .before .before .before .before
+    .before .high-at in
+    let at-low-at = c .before .before .before .before .before .before .before .before .before .before .before
+    .before .before .low-at in
     let a = c .before .before .before .before .before .before .before .before .before .before .before .before
-    .before .before .before .before .before .args in
-    head-wrote (a .kinds .now) (a .operands .now) (a .at) (c .before .before .before .before .before .before
-    .before .before .before .before .before .before .before .low-at .result) (c .before .before .before .before
-    .before .before .before .before .before .before .before .before .high-at .result) (c .before .before
-    .before .before .before .before .before .before .before .before .before .before .before .low-at .ensures)
-    (c .before .before .before .before .before .before .before .before .before .before .before .before .high-at
-    .ensures) (c .before .before .before .before .before .before .before .before .before .put-parameters
+    .before .before .before .before .before .args in head-wrote (a .kinds .now) (a .operands .now) (a .at)
+    (at-low-at .result) (at-high-at .result) (at-low-at .ensures) (at-high-at .ensures) (at-put-parameters
     .ensures) (c .before .before .before .put-row .ensures)
 
 pub put-head-spec : {M : Type 1} → statement M

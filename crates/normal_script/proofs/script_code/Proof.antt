@@ -28,12 +28,12 @@ results-of-requires c κs = c .before .before .before .before .pre .0
 
 loop-holds : tie.Need-loop-holds Inv-loop μ-loop
 loop-holds c =
-    let t = c .before .before .before .before .before .pre .0 in
-    let resulting = rw (t .reads) at (c .results-of .ensures) in (
+    let at-pre = c .before .before .before .before .before .pre in
+    let t = at-pre .0 in let resulting = rw (t .reads) at (c .results-of .ensures) in (
       t,
       resulting,
       omega arith,
-      c .before .before .before .before .before .pre .1,
+      at-pre .1,
       code-begins t resulting,
       depths-none _ (omega (arith, known t .1 .0)),
       refl,
@@ -41,55 +41,50 @@ loop-holds c =
     )
 
 mul-at : tie.Need-mul-at Inv-loop μ-loop
-mul-at c = omega (arith, c .before .loop .inv .2, c .before .loop .inv .0 .few)
+mul-at c =
+    let at-loop = c .before .loop in
+    omega (arith, at-loop .inv .2, at-loop .inv .0 .few)
 
 element-copy-out-at : tie.Need-element-copy-out-at Inv-loop μ-loop
-element-copy-out-at c = omega (arith, c .before .loop .inv .2, c .before .loop .inv .0 .few, c .loop-test .taken)
+element-copy-out-at c =
+    let at-loop = c .before .loop in
+    omega (arith, at-loop .inv .2, at-loop .inv .0 .few, c .loop-test .taken)
 
 function-code-requires : tie.Need-function-code-requires Inv-loop μ-loop
 function-code-requires c κs =
-    let v = c .before .before .before .before .before .before .before .before .loop .inv in (
+    let at-loop-test = c .before .before .before .before .before .before .before .loop-test in
+    let at-loop = c .before .before .before .before .before .before .before .before .loop in
+    let v = at-loop .inv in (
       (
-        fits-at (v .0) (v .1) (c .before .before .before .before .before .before .before .before .loop .i - 1) _
-            (omega (arith, v .2, c .before .before .before .before .before .before .before .loop-test .taken)) refl,
+        fits-at (v .0) (v .1) (at-loop .i - 1) _ (omega (arith, v .2, at-loop-test .taken))
+            refl,
         v .3,
       ),
       (v .6, (v .7, refl)),
     )
 
 note-depths-requires : tie.Need-note-depths-requires Inv-loop μ-loop
-note-depths-requires c κs = let v = c .before .before .before .before .before .before .before .before .before
-    .before .before .before .before .before .loop .inv in omega (
-      arith,
-      v .0 .few,
-      v .2,
-      c .before .before .before
-          .before .before .before .before .before .before .before .before .before .before .loop-test .taken,
-    )
+note-depths-requires c κs =
+    let at-loop-test = c .before .before .before .before .before .before .before .before .before .before .before
+    .before .before .loop-test in
+    let v = c .before .before .before .before .before .before .before .before .before .before .before .before
+    .before .before .loop .inv in omega (arith, v .0 .few, v .2, at-loop-test .taken)
 
 loop-again : tie.Need-loop-again Inv-loop μ-loop
 loop-again c =
+    let at-function-code = c .before .before .before .before .before .before .before .before .function-code in
+    let at-loop = c .before .before .before .before .before .before .before .before .before .before .before .before
+    .before .before .before .before .before .loop in
     let turn = c .before .before .before .before .before .before .before .before .before .before .before .before
-    .before .before .before .before .loop-test .taken in
-    let coded = c .before .before .before .before .before .before .before .before .function-code .ensures in
-    let v = c .before .before .before .before .before .before .before .before .before .before .before .before
-    .before .before .before .before .before .loop .inv in
-    let next : c .before .before .before .before .before .before .before .before .before .before .before .before
-    .before .before .before .before .before .loop .i ≡ c .before .before .before .before .before .before
-    .before .before .before .before .before .before .before .before .before .before .before .loop .i - 1 + 1 =
-    omega arith in (
+    .before .before .before .before .loop-test .taken in let coded = at-function-code .ensures in let v =
+    at-loop .inv in let next : at-loop .i ≡ at-loop .i - 1 + 1 = omega arith in (
       v .0,
       v .1,
       omega arith,
       lower (coded .0) (v .3),
-      code-goes (v .0) (v .1) (c .before .before .before .before .before .before .before .before .before .before
-          .before .before .before .before .before .before .before .loop .i) _ turn (v .2) refl (v .4) (coded .0),
-      depths-one (v .5) next
-          (omega (arith, known (v .0) .1 .0, v .2))
-          (coded .1 .0 ∙ depths-there (v .0) (v .1) (c .before .before .before .before .before .before .before
-          .before .before .before .before .before .before .before .before .before .before .loop .i) _ turn (v
-          .2) refl)
-          (c .before .before .note-depths .ensures),
+      code-goes (v .0) (v .1) (at-loop .i) _ turn (v .2) refl (v .4) (coded .0),
+      depths-one (v .5) next (omega (arith, known (v .0) .1 .0, v .2)) (coded .1 .0 ∙ depths-there (v .0) (v .1)
+          (at-loop .i) _ turn (v .2) refl) (c .before .before .note-depths .ensures),
       coded .1 .1 .0,
       coded .1 .1 .1,
     )
@@ -105,10 +100,9 @@ same-length-3 c = c .before .loop .inv .4 .long-operands
 
 returns : tie.Need-returns Inv-loop μ-loop
 returns c =
-    let v = c .before .loop .inv in
-    let first : c .before .loop .i ≡ 0 = omega (arith, c .loop-test .left) in
-    rw (v .0 .reads) (
-      code-ends (v .0) (v .1) (c .before .loop .i) (c .loop-test .left) (v .4),
+    let at-loop = c .before .loop in
+    let v = at-loop .inv in let first : at-loop .i ≡ 0 = omega (arith, c .loop-test .left) in rw (v .0 .reads) (
+      code-ends (v .0) (v .1) (at-loop .i) (c .loop-test .left) (v .4),
       rw first at (v .5),
     )
 

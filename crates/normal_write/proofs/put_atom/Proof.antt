@@ -26,11 +26,10 @@ same-length-2 : tie.Need-same-length-2
 same-length-2 c = search needs
 
 returns : tie.Need-returns
-returns c = rw (c .before .before .before .before .before .before .before .a .given .1) (rw (toZ-ofZ {z = c .before
-    .before .before .before .before .before .before .a .given .0 .0} (record {
-      sfits = c .before .before .before
-          .before .before .before .known-told .given .0 .1;
-    })) at
+returns c =
+    let at-known-told = c .before .before .before .before .before .before .known-told in
+    let at-a = c .before .before .before .before .before .before .before .a in
+    rw (at-a .given .1) (rw (toZ-ofZ {z = at-a .given .0 .0} (record { sfits = at-known-told .given .0 .1 })) at
     (c .before .before .before .put-back .ensures))
 
 same-length-3 : tie.Need-same-length-3
@@ -40,8 +39,9 @@ same-length-4 : tie.Need-same-length-4
 same-length-4 c = search needs
 
 returns-2 : tie.Need-returns-2
-returns-2 c = rw (c .before .before .before .before .before .before .before .a2 .given .1) (c .before .before
-    .before .put-row .ensures)
+returns-2 c =
+    let at-a2 = c .before .before .before .before .before .before .before .a2 in
+    rw (at-a2 .given .1) (c .before .before .before .put-row .ensures)
 
 pub put-atom-spec : {M : Type 1} → statement M
 put-atom-spec =

@@ -11,31 +11,24 @@ use Rattle.normal_write.proofs.put_reads.Tie as tie
 
 returns : tie.Need-returns
 returns c =
-    wrote-as (ap (λ (l : List ℕ). release-rows l)
-    (second-flat (depth-in (c .before .before .before .before .before .before .before .before .before .args .depths
-    .now)) (c .before .before .before .before .before .before .before .before .before .args .x) (meant (c
-    .before .before .before .before .before .before .before .before .before .args .a)) (meant (c .before
-    .before .before .before .before .before .before .before .before .args .b)) _ (set-of (c .before .before
-    .before .before .before .before .before .before .before .args .live .now)) (c .before .before .before
-    .before .before .before .before .depth-of-atom .ensures) (c .before .before .before .before .before .before
-    .if1 .taken)))
-    (c .before .before .before .release-both .ensures)
+    let at-if1 = c .before .before .before .before .before .before .if1 in
+    let at-depth-of-atom = c .before .before .before .before .before .before .before .depth-of-atom in
+    let a = c .before .before .before .before .before .before .before .before .before .args in
+    wrote-as (ap (λ (l : List ℕ). release-rows l) (second-flat (depth-in (a .depths .now)) (a .x) (meant (a .a))
+    (meant (a .b)) _ (set-of (a .live .now)) (at-depth-of-atom .ensures) (at-if1 .taken))) (c .before .before
+    .before .release-both .ensures)
 
 returns-2 : tie.Need-returns-2
 returns-2 c =
-    wrote-as (ap (λ (l : List ℕ). release-rows l)
-    (all-read (depth-in (c .before .before .before .before .before .before .before .before .before .before .before
-    .before .before .before .args .depths .now)) (c .before .before .before .before .before .before .before
-    .before .before .before .before .before .before .before .args .x) (meant (c .before .before .before .before
-    .before .before .before .before .before .before .before .before .before .before .args .a)) (meant (c
-    .before .before .before .before .before .before .before .before .before .before .before .before .before
-    .before .args .b)) (set-of (c .before .before .before .before .before .before .before .before .before
-    .before .before .before .before .before .args .live .now)) _ _ _ _ (c .before .before .before .before
-    .before .before .before .before .before .before .none .ensures) (c .before .before .before .before .before
-    .before .before .before .before .with .ensures)
-    (c .before .before .before .before .before .before .before .before .add .ensures) (c .before .before .before
-    .before .before .before .before .add2 .ensures)))
-    (c .before .before .before .put-releases .ensures)
+    let at-add2 = c .before .before .before .before .before .before .before .add2 in
+    let at-add = c .before .before .before .before .before .before .before .before .add in
+    let at-with = c .before .before .before .before .before .before .before .before .before .with in
+    let at-none = c .before .before .before .before .before .before .before .before .before .before .none in
+    let a = c .before .before .before .before .before .before .before .before .before .before .before .before
+    .before .before .args in
+    wrote-as (ap (λ (l : List ℕ). release-rows l) (all-read (depth-in (a .depths .now)) (a .x) (meant (a .a))
+    (meant (a .b)) (set-of (a .live .now)) _ _ _ _ (at-none .ensures) (at-with .ensures) (at-add .ensures)
+    (at-add2 .ensures))) (c .before .before .before .put-releases .ensures)
 
 pub put-reads-spec : {M : Type 1} → statement M
 put-reads-spec =

@@ -11,11 +11,9 @@ use Rattle.normal_write.proofs.put_release.Tie as tie
 
 returns : tie.Need-returns
 returns c =
-    wrote-as (ap (λ (l : List ℕ). release-rows l) (dying-one (depth-in (c .before .before .before .before .before
-    .before .before .before .args .depths .now)) (c .before .before .before .before .before .before .before
-    .before .args .x) (set-of (c .before .before .before .before .before .before .before .before .args .live
-    .now)) (search needs)))
-    (c .before .before .before .release-one .ensures)
+    let a = c .before .before .before .before .before .before .before .before .args in
+    wrote-as (ap (λ (l : List ℕ). release-rows l) (dying-one (depth-in (a .depths .now)) (a .x) (set-of (a .live
+    .now)) (search needs))) (c .before .before .before .release-one .ensures)
 
 pub put-release-spec : {M : Type 1} → statement M
 put-release-spec =

@@ -19,36 +19,35 @@ abbrev μ-loop : tie.MeasureT-loop
 μ-loop ks₀ os₀ depths n used live w at₀ i₀ ks os at i = i
 
 loop-holds : tie.Need-loop-holds Inv-loop μ-loop
-loop-holds c = (
-  omega arith,
-  omega arith,
-  search needs,
-  release-none (depth-in (c .before .args .depths .now)) (set-of (c
-      .before .args .used .now)) (set-of (c .before .args .live .now)) (c .before .args .n),
-)
+loop-holds c =
+    let a = c .before .args in (
+      omega arith,
+      omega arith,
+      search needs,
+      release-none (depth-in (a .depths .now)) (set-of (a .used .now))
+          (set-of (a .live .now)) (a .n),
+    )
 
 loop-again : tie.Need-loop-again Inv-loop μ-loop
 loop-again c =
-    let v = c .before .before .before .before .before .before .before .before .before .loop .inv in (
+    let at-release-one = c .before .before .before .release-one in
+    let at-loop-test = c .before .before .before .before .before .before .before .before .loop-test in
+    let at-loop = c .before .before .before .before .before .before .before .before .before .loop in
+    let a = c .before .before .before .before .before .before .before .before .before .before .before .args in
+    let v = at-loop .inv in (
       omega arith,
       v .1,
-      lower (c .before .before .before .release-one .ensures) (v .2),
-      wrote-as
-          (release-below (depth-in (c .before .before .before .before .before .before .before .before .before
-          .before .before .args .depths .now)) (set-of (c .before .before .before .before .before .before
-          .before .before .before .before .before .args .used .now)) (set-of (c .before .before .before .before
-          .before .before .before .before .before .before .before .args .live .now)) (c .before .before .before
-          .before .before .before .before .before .before .before .before .args .n) (c .before .before .before
-          .before .before .before .before .before .before .loop .i) (c .before .before .before .before .before
-          .before .before .before .loop-test .taken) (v .0) (v .1))
-          (wrote-then (v .3) (c .before .before .before .release-one .ensures)),
+      lower (at-release-one .ensures) (v .2),
+      wrote-as (release-below
+          (depth-in (a .depths .now)) (set-of (a .used .now)) (set-of (a .live .now)) (a .n) (at-loop .i)
+          (at-loop-test .taken) (v .0) (v .1)) (wrote-then (v .3) (at-release-one .ensures)),
     )
 
 returns : tie.Need-returns Inv-loop μ-loop
 returns c =
-    release-all (depth-in (c .before .before .before .args .depths .now)) (below (c .before .before .before .args
-    .n) (set-of (c .before .before .before .args .used .now))) (set-of (c .before .before .before .args .live
-    .now)) (c .loop-test .left) (c .before .loop .inv .3)
+    let a = c .before .before .before .args in
+    release-all (depth-in (a .depths .now)) (below (a .n) (set-of (a .used .now))) (set-of (a .live .now)) (c
+    .loop-test .left) (c .before .loop .inv .3)
 
 pub put-releases-spec : {M : Type 1} → statement M
 put-releases-spec =

@@ -18,14 +18,18 @@ same-length-2 : tie.Need-same-length-2
 same-length-2 c = search needs
 
 returns : tie.Need-returns
-returns c = wrote-as (retain-on (c .before .before .before .before .before .before .before .before .before .args
-    .x) (c .before .before .before .before .before .before .before .depth-at .result) _ (c .before .before .before
-    .before .before .before .before .depth-at .ensures) (c .before .before .before .before .before .before .if1
-    .taken)) (c .before .before .before .put-row .ensures)
+returns c =
+    let at-if1 = c .before .before .before .before .before .before .if1 in
+    let at-depth-at = c .before .before .before .before .before .before .before .depth-at in
+    let a = c .before .before .before .before .before .before .before .before .before .args in
+    wrote-as (retain-on (a .x) (at-depth-at .result) _ (at-depth-at .ensures) (at-if1 .taken)) (c .before .before
+    .before .put-row .ensures)
 
 returns-2 : tie.Need-returns-2
-returns-2 c = wrote-as (retain-off (c .before .before .before .args .x) (c .before .depth-at .result) _
-    (c .before .depth-at .ensures) (c .if1 .left)) wrote-none
+returns-2 c =
+    let at-depth-at = c .before .depth-at in
+    wrote-as (retain-off (c .before .before .before .args .x) (at-depth-at .result) _ (at-depth-at .ensures) (c
+    .if1 .left)) wrote-none
 
 pub put-retain-spec : {M : Type 1} → statement M
 put-retain-spec =

@@ -20,9 +20,10 @@ same-length-2 : tie.Need-same-length-2
 same-length-2 c = search needs
 
 returns : tie.Need-returns
-returns c = rw (toZ-ofZ {w = w64} {z = pos (c .before .before .before .before .before .before .before .args .n)}
-    (record { sfits = omega arith }))
-    at (c .before .before .before .put-back .ensures)
+returns c =
+    let a = c .before .before .before .before .before .before .before .args in
+    rw (toZ-ofZ {w = w64} {z = pos (a .n)} (record { sfits = omega arith })) at (c .before .before .before
+    .put-back .ensures)
 
 pub put-row-spec : {M : Type 1} → statement M
 put-row-spec =

@@ -21,8 +21,9 @@ same-length-2 : tie.Need-same-length-2
 same-length-2 c = search needs
 
 returns : tie.Need-returns
-returns c = rw (c .before .before .before .before .before .before .enum-told .given .1) (c .before .before .before
-    .put-release .ensures)
+returns c =
+    let at-enum-told = c .before .before .before .before .before .before .enum-told in
+    rw (at-enum-told .given .1) (c .before .before .before .put-release .ensures)
 
 same-length-3 : tie.Need-same-length-3
 same-length-3 c = search needs
@@ -31,8 +32,9 @@ same-length-4 : tie.Need-same-length-4
 same-length-4 c = search needs
 
 returns-2 : tie.Need-returns-2
-returns-2 c = rw (c .before .before .before .before .before .before .before .a .given .1) (c .before .before
-    .before .release-pair .ensures)
+returns-2 c =
+    let at-a = c .before .before .before .before .before .before .before .a in
+    rw (at-a .given .1) (c .before .before .before .release-pair .ensures)
 
 pub release-both-spec : {M : Type 1} → statement M
 release-both-spec =

@@ -23,15 +23,13 @@ same-length-2 c = search needs
 
 returns : tie.Need-returns
 returns c =
-    wrote-as (dying-two (depth-in (c .before .before .before .before .before .before .before .before .before
-    .before .before .before .before .before .args .depths .now)) (c .before .before .before .before .before
-    .before .before .before .before .before .before .before .before .before .args .y) (c .before .before
-    .before .before .before .before .before .before .before .before .before .before .before .before .args .x)
-    (set-of (c .before .before .before .before .before .before .before .before .before .before .before .before
-    .before .before .args .live .now)) (c .before .before .before .before .before .before .before .before
-    .before .before .before .before .if1 .taken))
-    (wrote-then (c .before .before .before .before .before .before .before .before .before .put-release .ensures)
-    (c .before .before .before .put-release2 .ensures))
+    let at-put-release = c .before .before .before .before .before .before .before .before .before .put-release in
+    let at-if1 = c .before .before .before .before .before .before .before .before .before .before .before .before
+    .if1 in
+    let a = c .before .before .before .before .before .before .before .before .before .before .before .before
+    .before .before .args in
+    wrote-as (dying-two (depth-in (a .depths .now)) (a .y) (a .x) (set-of (a .live .now)) (at-if1 .taken))
+    (wrote-then (at-put-release .ensures) (c .before .before .before .put-release2 .ensures))
 
 put-release-requires-3 : tie.Need-put-release-requires-3
 put-release-requires-3 c κs = search needs
@@ -47,21 +45,14 @@ same-length-4 c = search needs
 
 returns-2 : tie.Need-returns-2
 returns-2 c =
-    wrote-as (dying-two (depth-in (c .before .before .before .before .before .before .before .before .before
-    .before .before .before .before .before .before .args .depths .now)) (c .before .before .before .before
-    .before .before .before .before .before .before .before .before .before .before .before .args .x) (c
-    .before .before .before .before .before .before .before .before .before .before .before .before .before
-    .before .before .args .y) (set-of (c .before .before .before .before .before .before .before .before
-    .before .before .before .before .before .before .before .args .live .now)) (c .before .before .before
-    .before .before .before .before .before .before .before .before .before .if2 .taken)
-    ∙ dying-turned (depth-in (c .before .before .before .before .before .before .before .before .before .before
-    .before .before .before .before .before .args .depths .now)) (only (c .before .before .before .before
-    .before .before .before .before .before .before .before .before .before .before .before .args .x)) (only (c
-    .before .before .before .before .before .before .before .before .before .before .before .before .before
-    .before .before .args .y)) (set-of (c .before .before .before .before .before .before .before .before
-    .before .before .before .before .before .before .before .args .live .now)))
-    (wrote-then (c .before .before .before .before .before .before .before .before .before .put-release3 .ensures)
-    (c .before .before .before .put-release4 .ensures))
+    let at-put-release3 = c .before .before .before .before .before .before .before .before .before .put-release3 in
+    let at-if2 = c .before .before .before .before .before .before .before .before .before .before .before .before
+    .if2 in
+    let a = c .before .before .before .before .before .before .before .before .before .before .before .before
+    .before .before .before .args in
+    wrote-as (dying-two (depth-in (a .depths .now)) (a .x) (a .y) (set-of (a .live .now)) (at-if2 .taken) ∙
+    dying-turned (depth-in (a .depths .now)) (only (a .x)) (only (a .y)) (set-of (a .live .now))) (wrote-then
+    (at-put-release3 .ensures) (c .before .before .before .put-release4 .ensures))
 
 put-release-requires-5 : tie.Need-put-release-requires-5
 put-release-requires-5 c κs = search needs
@@ -73,11 +64,10 @@ same-length-6 : tie.Need-same-length-6
 same-length-6 c = search needs
 
 returns-3 : tie.Need-returns-3
-returns-3 c = wrote-as (dying-twice (depth-in (c .before .before .before .before .before .before .before .before
-    .before .args .depths .now)) (c .before .before .before .before .before .before .before .before .before .args
-    .x) (c .before .before .before .before .before .before .before .before .before .args .y) (set-of (c .before
-    .before .before .before .before .before .before .before .before .args .live .now)) (omega arith)) (c .before
-    .before .before .put-release5 .ensures)
+returns-3 c =
+    let a = c .before .before .before .before .before .before .before .before .before .args in
+    wrote-as (dying-twice (depth-in (a .depths .now)) (a .x) (a .y) (set-of (a .live .now)) (omega arith)) (c
+    .before .before .before .put-release5 .ensures)
 
 pub release-pair-spec : {M : Type 1} → statement M
 release-pair-spec =

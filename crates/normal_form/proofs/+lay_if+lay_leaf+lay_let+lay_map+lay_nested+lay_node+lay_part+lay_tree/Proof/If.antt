@@ -11,236 +11,214 @@ use Rattle.normal_form.proofs.+lay_if+lay_leaf+lay_let+lay_map+lay_nest
 
 pub lay-if-lay-part-requires : (t : ℕ) → lay-if-lts.Need-lay-part-requires (lay-if-claims t) (lay-if-at t) lay-if.Post
 lay-if-lay-part-requires t c κs =
-    let a = c .before .before .before .before .before .before .before .args in
-    let asked = c .before .before .before .before .before .before .before .pre in (
-      omega (arith, asked .0),
+    let at-pre = c .before .before .before .before .before .before .before .pre in
+    let a = c .before .before .before .before .before .before .before .args in let asked = at-pre in (
+      omega
+          (arith, asked .0),
       (
         asked .1 .0,
-        if-first (a .operands .now) (λ f. getD (a .results .now) f 0) (tree-at (a .kinds .now) (a
-            .operands .now) (a .levels)) (asked .1 .1),
+        if-first (a .operands .now) (λ f. getD (a .results .now) f 0) (tree-at (a
+            .kinds .now) (a .operands .now) (a .levels)) (asked .1 .1),
       ),
     )
 
 pub lay-if-open-if-requires : (t : ℕ) → lay-if-lts.Need-open-if-requires (lay-if-claims t) (lay-if-at t) lay-if.Post
 lay-if-open-if-requires t c κs =
-    let a = c .before .before .before .before .before .before .before .before .before .before .before .args in
-    let place = if-place (a .operands .now) (λ f. getD (a .results .now) f 0) (tree-at (a .kinds .now) (a .operands
-    .now) (a .levels)) (c .before .before .before .before .before .before .before .before .before .before .before
-    .pre .1 .1) (c .before .before .before .lay-part .ensures .0) in
-    (place .0, omega (arith, place .1))
+    let at-pre = c .before .before .before .before .before .before .before .before .before .before .before .pre in
+    let a = c .before .before .before .before .before .before .before .before .before .before .before .args in let
+    place = if-place (a .operands .now) (λ f. getD (a .results .now) f 0) (tree-at (a .kinds .now) (a .operands
+    .now) (a .levels)) (at-pre .1 .1) (c .before .before .before .lay-part .ensures .0) in (
+      place .0,
+      omega
+          (arith, place .1),
+    )
 
 pub lay-if-add-spot-at : (t : ℕ) → lay-if-lts.Need-add-spot-at (lay-if-claims t) (lay-if-at t) lay-if.Post
 lay-if-add-spot-at t c =
-    let a = c .before .before .before .before .before .before .before .before .before .before .before .before .before
-    .args in
-    omega (
+    let at-pre = c .before .before .before .before .before .before .before .before .before .before .before .before
+    .before .pre in
+    let a = c .before .before .before .before .before .before .before .before .before .before .before .before
+    .before .args in omega (
       arith,
-      (if-place (a .operands .now) (λ f. getD (a .results .now) f 0) (tree-at (a .kinds .now) (a .operands
-          .now) (a .levels)) (c .before .before .before .before .before .before .before .before .before .before
-          .before
-          .before .before .pre .1 .1) (c .before .before .before .before .before .lay-part .ensures .0)) .0,
+      (if-place (a .operands .now) (λ f. getD (a .results .now) f 0) (tree-at (a
+          .kinds .now) (a .operands .now) (a .levels)) (at-pre .1 .1) (c .before .before .before .before .before
+          .lay-part .ensures .0)) .0,
     )
 
 pub lay-if-add-spot-at-2 : (t : ℕ) → lay-if-lts.Need-add-spot-at-2 (lay-if-claims t) (lay-if-at t) lay-if.Post
 lay-if-add-spot-at-2 t c =
-    let a = c .before .before .before .before .before .before .before .before .before .before .before .before .before
-    .before .args in
-    omega (
+    let at-lay-part = c .before .before .before .before .before .before .lay-part in
+    let at-pre = c .before .before .before .before .before .before .before .before .before .before .before .before
+    .before .before .pre in
+    let a = c .before .before .before .before .before .before .before .before .before .before .before .before
+    .before .before .args in omega (
       arith,
-      (if-place (a .operands .now) (λ f. getD (a .results .now) f 0) (tree-at (a .kinds .now) (a .operands
-          .now) (a .levels)) (c .before .before .before .before .before .before .before .before .before .before
-          .before
-          .before .before .before .pre .1 .1) (c .before .before .before .before .before .before .lay-part .ensures
-          .0))
-          .1,
+      (if-place (a .operands .now) (λ f. getD (a .results .now) f 0)
+          (tree-at (a .kinds .now) (a .operands .now) (a .levels)) (at-pre .1 .1) (at-lay-part .ensures .0)) .1,
     )
 
 pub lay-if-lay-tree-requires : (t : ℕ) → lay-if-lts.Need-lay-tree-requires (lay-if-claims t) (lay-if-at t) lay-if.Post
 lay-if-lay-tree-requires t c κs =
-    let a = c .before .before .before .before .before .before .before .before .before .before .before .before .before
-    .before .before .before .before .before .before .before .args in
-    let asked = c .before .before .before .before .before .before .before .before .before .before .before .before
+    let at-open-if = c .before .before .before .before .before .before .before .before .open-if in
+    let at-lay-part = c .before .before .before .before .before .before .before .before .before .before .before
+    .before .lay-part in
+    let at-pre = c .before .before .before .before .before .before .before .before .before .before .before .before
     .before .before .before .before .before .before .before .before .pre in
-    rw (c .before .before .before .before .before .spot-at .ensures) (
+    let a = c .before .before .before .before .before .before .before .before .before .before .before .before
+    .before .before .before .before .before .before .before .before .args in let asked = at-pre in rw (c
+    .before .before .before .before .before .spot-at .ensures) (
       omega (arith, asked .0),
       (
-        given-same _ (asked .1 .0) (c .before .before .before .before .before .before .before .before .before .before
-            .before .before .lay-part .ensures .1),
-        if-own (a .operands .now) (λ f. getD (a .results .now) f 0) (tree-at (a .kinds .now) (a .operands .now) (a
-            .levels)) (asked .1 .1) (c .before .before .before .before .before .before .before .before .before .before
-            .before .before .lay-part .ensures .0) (c .before .before .before .before .before .before .before .before
-            .open-if .ensures),
+        given-same _ (asked
+            .1 .0) (at-lay-part .ensures .1),
+        if-own (a .operands .now) (λ f. getD (a .results .now) f 0) (tree-at (a
+            .kinds .now) (a .operands .now) (a .levels)) (asked .1 .1) (at-lay-part .ensures .0) (at-open-if
+            .ensures),
       ),
     )
 
 pub lay-if-add-put-middle : (t : ℕ) → lay-if-lts.Need-add-put-middle (lay-if-claims t) (lay-if-at t) lay-if.Post
 lay-if-add-put-middle t c =
-    let a = c .before .before .before .before .before .before .before .before .before .before .before .before .before
-    .before .before .before .before .before .before .before .before .before .before .args in
-    omega (
+    let at-lay-part = c .before .before .before .before .before .before .before .before .before .before .before
+    .before .before .before .before .lay-part in
+    let at-pre = c .before .before .before .before .before .before .before .before .before .before .before .before
+    .before .before .before .before .before .before .before .before .before .before .before .pre in
+    let a = c .before .before .before .before .before .before .before .before .before .before .before .before
+    .before .before .before .before .before .before .before .before .before .before .before .args in omega (
       arith,
       (if-place (a .operands .now) (λ f. getD (a .results .now) f 0) (tree-at (a .kinds .now) (a .operands
-          .now) (a .levels)) (c .before .before .before .before .before .before .before .before .before .before
-          .before
-          .before .before .before .before .before .before .before .before .before .before .before .before .pre .1
-          .1) (c
-          .before .before .before .before .before .before .before .before .before .before .before .before .before
-          .before .before .lay-part .ensures .0)) .1,
+          .now) (a .levels)) (at-pre .1 .1) (at-lay-part .ensures .0)) .1,
     )
 
 pub lay-if-put-middle-requires : (t : ℕ) → lay-if-lts.Need-put-middle-requires (lay-if-claims t) (lay-if-at t)
     lay-if.Post
 lay-if-put-middle-requires t c κs =
-    let a = c .before .before .before .before .before .before .before .before .before .before .before .before .before
-    .before .before .before .before .before .before .before .before .before .before .args in
-    let own = rw (
-      c .before .before .before .before .before .before .before .before .spot-at .ensures,
-      c .before
-          .before .before .before .before .before .before .before .before .before .before .before .before .before
-          .before .lay-part .ensures .1,
-    ) at (c .before .before .lay-tree .ensures .0) in (
+    let at-spot-at = c .before .before .before .before .before .before .before .before .spot-at in
+    let at-open-if = c .before .before .before .before .before .before .before .before .before .before .before
+    .open-if in
+    let at-lay-part = c .before .before .before .before .before .before .before .before .before .before .before
+    .before .before .before .before .lay-part in
+    let at-pre = c .before .before .before .before .before .before .before .before .before .before .before .before
+    .before .before .before .before .before .before .before .before .before .before .before .pre in
+    let a = c .before .before .before .before .before .before .before .before .before .before .before .before
+    .before .before .before .before .before .before .before .before .before .before .before .args in let own =
+    rw (at-spot-at .ensures, at-lay-part .ensures .1) at (c .before .before .lay-tree .ensures .0) in (
       omega (
         arith,
         (if-place (a .operands .now) (λ f. getD (a .results .now) f 0) (tree-at (a .kinds .now) (a
-            .operands .now) (a .levels)) (c .before .before .before .before .before .before .before .before .before
-            .before .before .before .before .before .before .before .before .before .before .before .before .before
-            .before .pre .1 .1) (c .before .before .before .before .before .before .before .before .before .before
-            .before .before .before .before .before .lay-part .ensures .0)) .1,
+            .operands .now) (a .levels)) (at-pre .1 .1) (at-lay-part .ensures .0)) .1,
       ),
       omega (
         arith,
-        if-middle (a .operands .now) (λ f. getD (a .results .now) f 0) (tree-at (a .kinds .now) (a
-            .operands .now) (a .levels)) (c .before .before .before .before .before .before .before .before .before
-            .before .before .before .before .before .before .before .before .before .before .before .before .before
-            .before .pre .1 .1) (c .before .before .before .before .before .before .before .before .before .before
-            .before .before .before .before .before .lay-part .ensures .0) (c .before .before .before .before .before
-            .before .before .before .before .before .before .open-if .ensures) own,
+        if-middle (a
+            .operands .now) (λ f. getD (a .results .now) f 0) (tree-at (a .kinds .now) (a .operands .now) (a .levels))
+            (at-pre .1 .1) (at-lay-part .ensures .0) (at-open-if .ensures) own,
       ),
     )
 
 pub lay-if-lay-tree-requires-2 : (t : ℕ) → lay-if-lts.Need-lay-tree-requires-2 (lay-if-claims t) (lay-if-at t)
     lay-if.Post
 lay-if-lay-tree-requires-2 t c κs =
-    let a = c .before .before .before .before .before .before .before .before .before .before .before .before .before
-    .before .before .before .before .before .before .before .before .before .before .before .before .before
-    .before .before .before .before .args in
-    let asked = c .before .before .before .before .before .before .before .before .before .before .before .before
+    let at-put-middle = c .before .before .before .before .before .before .put-middle in
+    let at-lay-tree = c .before .before .before .before .before .before .before .before .before .lay-tree in
+    let at-spot-at = c .before .before .before .before .before .before .before .before .before .before .before
+    .before .before .before .before .spot-at in
+    let at-open-if = c .before .before .before .before .before .before .before .before .before .before .before
+    .before .before .before .before .before .before .before .open-if in
+    let at-lay-part = c .before .before .before .before .before .before .before .before .before .before .before
+    .before .before .before .before .before .before .before .before .before .before .before .lay-part in
+    let at-pre = c .before .before .before .before .before .before .before .before .before .before .before .before
     .before .before .before .before .before .before .before .before .before .before .before .before .before
     .before .before .before .before .before .pre in
-    let own = rw (
-      c .before .before .before .before .before .before .before .before .before .before .before .before
-          .before .before .before .spot-at .ensures,
-      c .before .before .before .before .before .before .before .before
-          .before .before .before .before .before .before .before .before .before .before .before .before .before
-          .before .lay-part .ensures .1,
-    ) at (c .before .before .before .before .before .before .before .before .before
-    .lay-tree .ensures .0) in
-    rw (c .before .before .before .before .before .spot-at2 .ensures) (
+    let a = c .before .before .before .before .before .before .before .before .before .before .before .before
+    .before .before .before .before .before .before .before .before .before .before .before .before .before
+    .before .before .before .before .before .args in let asked = at-pre in let own = rw (
+      at-spot-at .ensures,
+      at-lay-part .ensures .1,
+    ) at (at-lay-tree .ensures .0) in rw (c .before .before .before .before .before
+    .spot-at2 .ensures) (
       omega (arith, asked .0),
       (
-        given-same _ (asked .1 .0) (c .before .before .before .before .before .before .before .before .before
-            .lay-tree .ensures .1 ∙ c .before .before .before .before .before .before .before .before .before .before
-            .before .before .before .before .before .before .before .before .before .before .before .before .lay-part
-            .ensures .1),
-        if-other (a .operands .now) (λ f. getD (a .results .now) f 0) (tree-at (a .kinds .now) (a .operands .now) (a
-            .levels)) (asked .1 .1) (c .before .before .before .before .before .before .before .before .before .before
-            .before .before .before .before .before .before .before .before .before .before .before .before .lay-part
-            .ensures .0) (c .before .before .before .before .before .before .before .before .before .before .before
-            .before .before .before .before .before .before .before .open-if .ensures) own (c .before .before .before
-            .before .before .before .put-middle .ensures),
+        given-same _ (asked .1 .0) (at-lay-tree .ensures .1 ∙
+            at-lay-part .ensures .1),
+        if-other (a .operands .now) (λ f. getD (a .results .now) f 0) (tree-at (a .kinds
+            .now) (a .operands .now) (a .levels)) (asked .1 .1) (at-lay-part .ensures .0) (at-open-if .ensures) own
+            (at-put-middle .ensures),
       ),
     )
 
 pub lay-if-close-line-requires : (t : ℕ) → lay-if-lts.Need-close-line-requires (lay-if-claims t) (lay-if-at t)
     lay-if.Post
 lay-if-close-line-requires t c κs =
-    let a = c .before .before .before .before .before .before .before .before .before .before .before .before .before
+    let at-spot-at2 = c .before .before .before .before .before .before .before .before .before .before .spot-at2 in
+    let at-put-middle = c .before .before .before .before .before .before .before .before .before .before .before
+    .put-middle in
+    let at-lay-tree = c .before .before .before .before .before .before .before .before .before .before .before
+    .before .before .before .lay-tree in
+    let at-spot-at = c .before .before .before .before .before .before .before .before .before .before .before
+    .before .before .before .before .before .before .before .before .before .spot-at in
+    let at-open-if = c .before .before .before .before .before .before .before .before .before .before .before
+    .before .before .before .before .before .before .before .before .before .before .before .before .open-if in
+    let at-lay-part = c .before .before .before .before .before .before .before .before .before .before .before
     .before .before .before .before .before .before .before .before .before .before .before .before .before
-    .before .before .before .before .before .before .before .before .before .args in
-    let own = rw (
-      c .before .before .before .before .before .before .before .before .before .before .before .before
-          .before .before .before .before .before .before .before .before .spot-at .ensures,
-      c .before .before .before
-          .before .before .before .before .before .before .before .before .before .before .before .before .before
-          .before .before .before .before .before .before .before .before .before .before .before .lay-part
-          .ensures .1,
-    )
-    at (c .before .before .before .before .before .before .before .before .before .before .before .before .before
-    .before .lay-tree .ensures .0) in
-    let other = rw (
-      c .before .before .before .before .before .before .before .before .before .before .spot-at2
-          .ensures,
-      c .before .before .before .before .before .before .before .before .before .before .before .before
-          .before .before .lay-tree .ensures .1 ∙ c .before .before .before .before .before .before .before .before
-          .before .before .before .before .before .before .before .before .before .before .before .before .before
-          .before .before .before .before .before .before .lay-part .ensures .1,
-    ) at (c .before .before .before .before
-    .lay-tree2 .ensures .0) in
-    let place = if-place (a .operands .now) (λ f. getD (a .results .now) f 0) (tree-at (a .kinds .now) (a .operands
-    .now) (a .levels)) (c .before .before .before .before .before .before .before .before .before .before .before
+    .before .before .before .lay-part in
+    let at-pre = c .before .before .before .before .before .before .before .before .before .before .before .before
     .before .before .before .before .before .before .before .before .before .before .before .before .before
-    .before .before .before .before .before .before .before .before .before .before .before .pre .1 .1) (c .before
+    .before .before .before .before .before .before .before .before .before .before .pre in
+    let a = c .before .before .before .before .before .before .before .before .before .before .before .before
     .before .before .before .before .before .before .before .before .before .before .before .before .before
-    .before .before .before .before .before .before .before .before .before .before .before .before .before
-    .lay-part .ensures .0) in (
+    .before .before .before .before .before .before .before .before .before .before .args in let own = rw (
+      at-spot-at .ensures,
+      at-lay-part .ensures .1,
+    ) at (at-lay-tree .ensures .0) in let other = rw (
+      at-spot-at2 .ensures,
+      at-lay-tree .ensures .1 ∙ at-lay-part .ensures .1,
+    ) at (c .before .before .before
+    .before .lay-tree2 .ensures .0) in let place = if-place (a .operands .now) (λ f. getD (a .results .now) f
+    0) (tree-at (a .kinds .now) (a .operands .now) (a .levels)) (at-pre .1 .1) (at-lay-part .ensures .0) in (
       place .0,
       (
         omega (arith, place .1),
         omega (
           arith,
-          if-end (a .operands .now) (λ f. getD (a .results .now) f 0) (tree-at (a .kinds .now) (a
-              .operands .now) (a .levels)) (c .before .before .before .before .before .before .before .before .before
-              .before .before .before .before .before .before .before .before .before .before .before .before .before
-              .before .before .before .before .before .before .before .before .before .before .before .before .before
-              .pre .1 .1) (c .before .before .before .before .before .before .before .before .before .before .before
-              .before .before .before .before .before .before .before .before .before .before .before .before .before
-              .before .before .before .lay-part .ensures .0) (c .before .before .before .before .before .before
-              .before
-              .before .before .before .before .before .before .before .before .before .before .before .before .before
-              .before .before .before .open-if .ensures) own (c .before .before .before .before .before .before
-              .before
-              .before .before .before .before .put-middle .ensures) other,
+          if-end (a .operands .now) (λ f. getD (a .results .now)
+              f 0) (tree-at (a .kinds .now) (a .operands .now) (a .levels)) (at-pre .1 .1) (at-lay-part .ensures .0)
+              (at-open-if .ensures) own (at-put-middle .ensures) other,
         ),
       ),
     )
 
 pub lay-if-returns : (t : ℕ) → lay-if-lts.Need-returns (lay-if-claims t) (lay-if-at t) lay-if.Post
 lay-if-returns t c =
-    let a = c .before .before .before .before .before .before .before .before .before .before .before .before .before
+    let at-lay-tree2 = c .before .before .before .before .before .lay-tree2 in
+    let at-spot-at2 = c .before .before .before .before .before .before .before .before .before .before .before
+    .spot-at2 in
+    let at-put-middle = c .before .before .before .before .before .before .before .before .before .before .before
+    .before .put-middle in
+    let at-lay-tree = c .before .before .before .before .before .before .before .before .before .before .before
+    .before .before .before .before .lay-tree in
+    let at-spot-at = c .before .before .before .before .before .before .before .before .before .before .before
+    .before .before .before .before .before .before .before .before .before .before .spot-at in
+    let at-open-if = c .before .before .before .before .before .before .before .before .before .before .before
     .before .before .before .before .before .before .before .before .before .before .before .before .before
-    .before .before .before .before .before .before .before .before .before .before .args in
-    let own = rw (
-      c .before .before .before .before .before .before .before .before .before .before .before .before
-          .before .before .before .before .before .before .before .before .before .spot-at .ensures,
-      c .before .before
-          .before .before .before .before .before .before .before .before .before .before .before .before .before
-          .before .before .before .before .before .before .before .before .before .before .before .before .before
-          .lay-part .ensures .1,
-    ) at (c .before .before .before .before .before .before .before .before .before .before
-    .before .before .before .before .before .lay-tree .ensures .0) in
-    let other = rw (
-      c .before .before .before .before .before .before .before .before .before .before .before
-          .spot-at2 .ensures,
-      c .before .before .before .before .before .before .before .before .before .before .before
-          .before .before .before .before .lay-tree .ensures .1 ∙ c .before .before .before .before .before .before
-          .before .before .before .before .before .before .before .before .before .before .before .before .before
-          .before .before .before .before .before .before .before .before .before .lay-part .ensures .1,
-    ) at (c .before
-    .before .before .before .before .lay-tree2 .ensures .0) in (
-      rw (c .close-line .ensures .0) (if-laid (a .operands .now) (λ f. getD (a .results .now) f 0) (tree-at (a .kinds
-          .now) (a .operands .now) (a .levels)) (c .before .before .before .before .before .before .before .before
-          .before .before .before .before .before .before .before .before .before .before .before .before .before
-          .before .before .before .before .before .before .before .before .before .before .before .before .before
-          .before .before .pre .1 .1) (c .before .before .before .before .before .before .before .before .before
-          .before .before .before .before .before .before .before .before .before .before .before .before .before
-          .before .before .before .before .before .before .lay-part .ensures .0) (c .before .before .before .before
-          .before .before .before .before .before .before .before .before .before .before .before .before .before
-          .before .before .before .before .before .before .before .open-if .ensures) own (c .before .before .before
-          .before .before .before .before .before .before .before .before .before .put-middle .ensures) other _ (c
-          .before .before .before .depth-of .ensures) (c .close-line .ensures .1 .0) (c .close-line .ensures .1 .1)),
-      c .before .before .before .before .before .lay-tree2 .ensures .1 ∙ c .before .before .before .before .before
-          .before .before .before .before .before .before .before .before .before .before .lay-tree .ensures .1 ∙ c
-          .before .before .before .before .before .before .before .before .before .before .before .before .before
-          .before .before .before .before .before .before .before .before .before .before .before .before .before
-          .before .before .lay-part .ensures .1,
+    .open-if in
+    let at-lay-part = c .before .before .before .before .before .before .before .before .before .before .before
+    .before .before .before .before .before .before .before .before .before .before .before .before .before
+    .before .before .before .before .lay-part in
+    let at-pre = c .before .before .before .before .before .before .before .before .before .before .before .before
+    .before .before .before .before .before .before .before .before .before .before .before .before .before
+    .before .before .before .before .before .before .before .before .before .before .before .pre in
+    let a = c .before .before .before .before .before .before .before .before .before .before .before .before
+    .before .before .before .before .before .before .before .before .before .before .before .before .before
+    .before .before .before .before .before .before .before .before .before .before .before .args in let own =
+    rw (at-spot-at .ensures, at-lay-part .ensures .1) at (at-lay-tree .ensures .0) in let other = rw (
+      at-spot-at2 .ensures,
+      at-lay-tree .ensures .1 ∙ at-lay-part .ensures .1,
+    ) at (at-lay-tree2 .ensures .0) in (
+      rw (c .close-line .ensures .0) (if-laid (a .operands .now) (λ f. getD (a .results .now) f 0) (tree-at (a
+          .kinds .now) (a .operands .now) (a .levels)) (at-pre .1 .1) (at-lay-part .ensures .0) (at-open-if .ensures)
+          own (at-put-middle .ensures) other _ (c .before .before .before .depth-of .ensures) (c .close-line .ensures
+          .1 .0) (c .close-line .ensures .1 .1)),
+      at-lay-tree2 .ensures .1 ∙ at-lay-tree .ensures .1 ∙ at-lay-part
+          .ensures .1,
     )

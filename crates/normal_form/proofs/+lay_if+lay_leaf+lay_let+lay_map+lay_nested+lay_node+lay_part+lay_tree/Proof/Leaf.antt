@@ -42,79 +42,80 @@ lay-leaf-loop-holds t c = (
 pub lay-leaf-lay-part-requires : (t : ℕ) → lay-leaf-lts.Need-lay-part-requires (lay-leaf-claims t) (lay-leaf-at t)
     lay-leaf.Post lay-leaf-Inv-loop lay-leaf-μ-loop
 lay-leaf-lay-part-requires t c κs =
-    let a = c .before .before .before .before .before .before .before .before .before .before .args in
-    let asked = c .before .before .before .before .before .before .before .before .before .before .pre in (
+    let at-loop = c .before .before .before .before .before .before .loop in
+    let at-pre = c .before .before .before .before .before .before .before .before .before .before .pre in
+    let a = c .before .before .before .before .before .before .before .before .before .before .args in let asked =
+    at-pre in (
       omega (arith, asked .0),
       (
-        given-same _ (asked .1 .1 .0) (c .before .before .before .before .before .before .loop .inv .1 .1),
-        part-ready (a .operands .now) (a .results .now) (tree-at (a .kinds .now) (a .operands .now) (a .levels)) (a
-            .spot .node) (a .levels) (a .places .now) (asked .1 .0) (asked .1 .1 .1) (c .before .before .before
-            .before .before .before .loop .inv .0) (c .before .before .before .before .before .loop-test .taken),
+        given-same _ (asked .1 .1 .0) (at-loop .inv .1 .1),
+        part-ready (a
+            .operands .now) (a .results .now) (tree-at (a .kinds .now) (a .operands .now) (a .levels)) (a .spot .node)
+            (a .levels) (a .places .now) (asked .1 .0) (asked .1 .1 .1) (at-loop .inv .0) (c .before .before .before
+            .before .before .loop-test .taken),
       ),
     )
 
 pub lay-leaf-array-write-atoms : (t : ℕ) → lay-leaf-lts.Need-array-write-atoms (lay-leaf-claims t) (lay-leaf-at t)
     lay-leaf.Post lay-leaf-Inv-loop lay-leaf-μ-loop
-lay-leaf-array-write-atoms t c = omega (
-  arith,
-  c .before .before .before .before .before .before .loop-test .taken,
-  c
-      .before .before .before .before .before .before .before .before .before .before .before .pre .1 .0 .parts,
-)
+lay-leaf-array-write-atoms t c =
+    let at-loop-test = c .before .before .before .before .before .before .loop-test in
+    let at-pre = c .before .before .before .before .before .before .before .before .before .before .before .pre in
+    omega (arith, at-loop-test .taken, at-pre .1 .0 .parts)
 
 pub lay-leaf-loop-again : (t : ℕ) → lay-leaf-lts.Need-loop-again (lay-leaf-claims t) (lay-leaf-at t) lay-leaf.Post
     lay-leaf-Inv-loop lay-leaf-μ-loop
-lay-leaf-loop-again t c = (
-  listing-goes (c .before .before .before .before .before .before .before .loop .inv .0) (c .before .before .before
-      .before .before .before .loop-test .taken) (rw (c .before .before .before .before .before .before .before .loop
-      .inv .1 .1) at (c .lay-part .ensures .0)) (c .before .before .before .before .before .before .before .before
-      .before .before .before .pre .1 .0 .parts),
-  (
-    search needs,
-    c .lay-part .ensures .1 ∙ c .before .before .before .before .before .before .before .loop .inv .1
-        .1,
-  ),
-)
+lay-leaf-loop-again t c =
+    let at-loop-test = c .before .before .before .before .before .before .loop-test in
+    let at-loop = c .before .before .before .before .before .before .before .loop in
+    let at-pre = c .before .before .before .before .before .before .before .before .before .before .before .pre in (
+      listing-goes (at-loop .inv .0) (at-loop-test .taken) (rw (at-loop .inv .1 .1) at (c .lay-part .ensures .0))
+          (at-pre .1 .0 .parts),
+      (search needs, c .lay-part .ensures .1 ∙ at-loop .inv .1 .1),
+    )
 
 pub lay-leaf-depth-of-line-requires : (t : ℕ) → lay-leaf-lts.Need-depth-of-line-requires (lay-leaf-claims t)
     (lay-leaf-at t) lay-leaf.Post lay-leaf-Inv-loop lay-leaf-μ-loop
-lay-leaf-depth-of-line-requires t c κs = c .before .before .before .before .before .before .pre .1 .0 .second
+lay-leaf-depth-of-line-requires t c κs =
+    let at-pre = c .before .before .before .before .before .before .pre in
+    at-pre .1 .0 .second
 
 pub lay-leaf-element-write-depths : (t : ℕ) → lay-leaf-lts.Need-element-write-depths (lay-leaf-claims t) (lay-leaf-at
     t) lay-leaf.Post lay-leaf-Inv-loop lay-leaf-μ-loop
 lay-leaf-element-write-depths t c =
-    let a = c .before .before .before .before .before .before .before .args in
-    let asked = c .before .before .before .before .before .before .before .pre in
-    omega (
+    let at-pre = c .before .before .before .before .before .before .before .pre in
+    let a = c .before .before .before .before .before .before .before .args in let asked = at-pre in omega (
       arith,
-      (end-ready (a .operands .now) (a .results .now) (tree-at (a .kinds .now) (a .operands .now) (a
-          .levels)) (a .spot .node) (a .levels) (a .places .now) (asked .1 .0) (asked .1 .1 .1) (c .before .before
-          .before .loop .inv .0) (c .before .before .loop-test .left)) .0,
+      (end-ready (a .operands .now) (a .results .now) (tree-at (a .kinds .now) (a .operands .now) (a .levels)) (a
+          .spot .node) (a .levels) (a .places .now) (asked .1 .0) (asked .1 .1 .1) (c .before .before .before .loop
+          .inv .0) (c .before .before .loop-test .left)) .0,
     )
 
 pub lay-leaf-cast-name : (t : ℕ) → lay-leaf-lts.Need-cast-name (lay-leaf-claims t) (lay-leaf-at t) lay-leaf.Post
     lay-leaf-Inv-loop lay-leaf-μ-loop
 lay-leaf-cast-name t c =
-    let a = c .before .before .before .before .before .before .before .args in
-    let asked = c .before .before .before .before .before .before .before .pre in
-    omega (
+    let at-pre = c .before .before .before .before .before .before .before .pre in
+    let a = c .before .before .before .before .before .before .before .args in let asked = at-pre in omega (
       arith,
-      (end-ready (a .operands .now) (a .results .now) (tree-at (a .kinds .now) (a .operands .now) (a
-          .levels)) (a .spot .node) (a .levels) (a .places .now) (asked .1 .0) (asked .1 .1 .1) (c .before .before
-          .before .loop .inv .0) (c .before .before .loop-test .left)) .0,
+      (end-ready (a .operands .now) (a .results .now) (tree-at (a .kinds .now) (a .operands .now) (a .levels)) (a
+          .spot .node) (a .levels) (a .places .now) (asked .1 .0) (asked .1 .1 .1) (c .before .before .before .loop
+          .inv .0) (c .before .before .loop-test .left)) .0,
     )
 
 pub lay-leaf-lay-line-requires : (t : ℕ) → lay-leaf-lts.Need-lay-line-requires (lay-leaf-claims t) (lay-leaf-at t)
     lay-leaf.Post lay-leaf-Inv-loop lay-leaf-μ-loop
 lay-leaf-lay-line-requires t c κs =
-    let a = c .before .before .before .before .before .before .before .before .before .before .before .args in
-    let asked = c .before .before .before .before .before .before .before .before .before .before .before .pre in (
+    let at-loop-test = c .before .before .before .before .before .before .loop-test in
+    let at-loop = c .before .before .before .before .before .before .before .loop in
+    let at-pre = c .before .before .before .before .before .before .before .before .before .before .before .pre in
+    let a = c .before .before .before .before .before .before .before .before .before .before .before .args in let
+    asked = at-pre in (
       omega (
         arith,
-        (end-ready (a .operands .now) (a .results .now) (tree-at (a .kinds .now) (a .operands .now) (a
-            .levels)) (a .spot .node) (a .levels) (a .places .now) (asked .1 .0) (asked .1 .1 .1) (c .before .before
-            .before .before .before .before .before .loop .inv .0) (c .before .before .before .before .before .before
-            .loop-test .left)) .1,
+        (end-ready (a .operands .now) (a .results .now) (tree-at (a .kinds .now)
+            (a .operands .now) (a .levels)) (a .spot .node) (a .levels) (a .places .now) (asked .1 .0) (asked .1 .1
+            .1)
+            (at-loop .inv .0) (at-loop-test .left)) .1,
       ),
       asked .1 .0 .parts,
     )
@@ -122,41 +123,45 @@ lay-leaf-lay-line-requires t c κs =
 pub lay-leaf-cast-t38 : (t : ℕ) → lay-leaf-lts.Need-cast-t38 (lay-leaf-claims t) (lay-leaf-at t) lay-leaf.Post
     lay-leaf-Inv-loop lay-leaf-μ-loop
 lay-leaf-cast-t38 t c =
-    let a = c .before .before .before .before .before .before .before .before .before .before .before .before .args in
-    let asked = c .before .before .before .before .before .before .before .before .before .before .before .before .pre
-    in
-    omega (
+    let at-loop-test = c .before .before .before .before .before .before .before .loop-test in
+    let at-loop = c .before .before .before .before .before .before .before .before .loop in
+    let at-pre = c .before .before .before .before .before .before .before .before .before .before .before .before
+    .pre in
+    let a = c .before .before .before .before .before .before .before .before .before .before .before .before .args
+    in let asked = at-pre in omega (
       arith,
-      (end-ready (a .operands .now) (a .results .now) (tree-at (a .kinds .now) (a .operands .now) (a
-          .levels)) (a .spot .node) (a .levels) (a .places .now) (asked .1 .0) (asked .1 .1 .1) (c .before .before
-          .before .before .before .before .before .before .loop .inv .0) (c .before .before .before .before .before
-          .before .before .loop-test .left)) .0,
+      (end-ready (a .operands .now) (a .results .now) (tree-at (a .kinds
+          .now) (a .operands .now) (a .levels)) (a .spot .node) (a .levels) (a .places .now) (asked .1 .0) (asked .1
+          .1 .1) (at-loop .inv .0) (at-loop-test .left)) .0,
     )
 
 pub lay-leaf-add-t45 : (t : ℕ) → lay-leaf-lts.Need-add-t45 (lay-leaf-claims t) (lay-leaf-at t) lay-leaf.Post
     lay-leaf-Inv-loop lay-leaf-μ-loop
 lay-leaf-add-t45 t c =
-    let a = c .before .before .before .before .before .before .before .before .before .before .before .before .args in
-    let asked = c .before .before .before .before .before .before .before .before .before .before .before .before .pre
-    in
-    omega (
+    let at-loop-test = c .before .before .before .before .before .before .before .loop-test in
+    let at-loop = c .before .before .before .before .before .before .before .before .loop in
+    let at-pre = c .before .before .before .before .before .before .before .before .before .before .before .before
+    .pre in
+    let a = c .before .before .before .before .before .before .before .before .before .before .before .before .args
+    in let asked = at-pre in omega (
       arith,
-      (end-ready (a .operands .now) (a .results .now) (tree-at (a .kinds .now) (a .operands .now) (a
-          .levels)) (a .spot .node) (a .levels) (a .places .now) (asked .1 .0) (asked .1 .1 .1) (c .before .before
-          .before .before .before .before .before .before .loop .inv .0) (c .before .before .before .before .before
-          .before .before .loop-test .left)) .0,
+      (end-ready (a .operands .now) (a .results .now) (tree-at (a .kinds
+          .now) (a .operands .now) (a .levels)) (a .spot .node) (a .levels) (a .places .now) (asked .1 .0) (asked .1
+          .1 .1) (at-loop .inv .0) (at-loop-test .left)) .0,
     )
 
 pub lay-leaf-returns : (t : ℕ) → lay-leaf-lts.Need-returns (lay-leaf-claims t) (lay-leaf-at t) lay-leaf.Post
     lay-leaf-Inv-loop lay-leaf-μ-loop
 lay-leaf-returns t c =
-    let a = c .before .before .before .before .before .before .before .before .before .before .before .before .args in
-    let asked = c .before .before .before .before .before .before .before .before .before .before .before .before .pre
-    in (
-      compound-laid (a .operands .now) (a .results .now) (tree-at (a .kinds .now) (a .operands .now) (a .levels)) (a
-          .spot .node) (a .levels) (a .places .now) (asked .1 .0) (asked .1 .1 .1) (c .before .before .before .before
-          .before .before .before .before .loop .inv .0) (c .before .before .before .before .before .before .before
-          .loop-test .left) (c .lay-line .ensures .0) (c .lay-line .ensures .1) (c .before .before .before .before
-          .before .depth-of-line .ensures) refl (asked .1 .1 .0 .low),
-      c .before .before .before .before .before .before .before .before .loop .inv .1 .1,
+    let at-loop-test = c .before .before .before .before .before .before .before .loop-test in
+    let at-loop = c .before .before .before .before .before .before .before .before .loop in
+    let at-pre = c .before .before .before .before .before .before .before .before .before .before .before .before
+    .pre in
+    let a = c .before .before .before .before .before .before .before .before .before .before .before .before .args
+    in let asked = at-pre in (
+      compound-laid (a .operands .now) (a .results .now) (tree-at (a .kinds .now) (a
+          .operands .now) (a .levels)) (a .spot .node) (a .levels) (a .places .now) (asked .1 .0) (asked .1 .1 .1)
+          (at-loop .inv .0) (at-loop-test .left) (c .lay-line .ensures .0) (c .lay-line .ensures .1) (c .before
+          .before .before .before .before .depth-of-line .ensures) refl (asked .1 .1 .0 .low),
+      at-loop .inv .1 .1,
     )

@@ -13,64 +13,62 @@ use Rattle.normal_form.proofs.+lay_if+lay_leaf+lay_let+lay_map+lay_nest
 pub lay-let-lay-part-requires : (t : ℕ) → lay-let-lts.Need-lay-part-requires (lay-let-claims t) (lay-let-at t)
     lay-let.Post
 lay-let-lay-part-requires t c κs =
-    let a = c .before .before .before .before .before .before .before .args in
-    let asked = c .before .before .before .before .before .before .before .pre in (
-      omega (arith, asked .0),
+    let at-pre = c .before .before .before .before .before .before .before .pre in
+    let a = c .before .before .before .before .before .before .before .args in let asked = at-pre in (
+      omega
+          (arith, asked .0),
       (
         asked .1 .0,
-        let-first (a .operands .now) (λ f. getD (a .results .now) f 0) (tree-at (a .kinds .now) (a
-            .operands .now) (a .levels)) (asked .1 .1),
+        let-first (a .operands .now) (λ f. getD (a .results .now) f 0) (tree-at
+            (a .kinds .now) (a .operands .now) (a .levels)) (asked .1 .1),
       ),
     )
 
 pub lay-let-lay-part-requires-2 : (t : ℕ) → lay-let-lts.Need-lay-part-requires-2 (lay-let-claims t) (lay-let-at t)
     lay-let.Post
 lay-let-lay-part-requires-2 t c κs =
-    let a = c .before .before .before .before .before .before .before .before .before .before .before .before .before
-    .before .before .args in
-    let asked = c .before .before .before .before .before .before .before .before .before .before .before .before
+    let at-lay-part = c .before .before .before .before .before .before .before .lay-part in
+    let at-pre = c .before .before .before .before .before .before .before .before .before .before .before .before
     .before .before .before .pre in
-    rw (c .before .before .before .before .before .spot-at .ensures) (
+    let a = c .before .before .before .before .before .before .before .before .before .before .before .before
+    .before .before .before .args in let asked = at-pre in rw (c .before .before .before .before .before
+    .spot-at .ensures) (
       omega (arith, asked .0),
       (
-        given-bound _ (a .x) _ (given-same _ (asked .1 .0) (c .before .before .before .before .before .before .before
-            .lay-part .ensures .1)) refl,
-        let-second (a .operands .now) (λ f. getD (a .results .now) f 0) (tree-at (a .kinds .now) (a .operands .now) (a
-            .levels)) (asked .1 .1) (c .before .before .before .before .before .before .before .lay-part .ensures .0),
+        given-bound _ (a .x) _ (given-same _ (asked .1 .0)
+            (at-lay-part .ensures .1)) refl,
+        let-second (a .operands .now) (λ f. getD (a .results .now) f 0) (tree-at
+            (a .kinds .now) (a .operands .now) (a .levels)) (asked .1 .1) (at-lay-part .ensures .0),
       ),
     )
 
 pub lay-let-returns : (t : ℕ) → lay-let-lts.Need-returns (lay-let-claims t) (lay-let-at t) lay-let.Post
 lay-let-returns t c =
-    let a = c .before .before .before .before .before .before .before .before .before .before .before .before .before
-    .before .before .before .args in
-    let asked = c .before .before .before .before .before .before .before .before .before .before .before .before
-    .before .before .before .before .pre in (
-      let-laid (a .operands .now) (λ f. getD (a .results .now) f 0) (tree-at (a .kinds .now) (a .operands .now) (a
-          .levels)) (a .x) (a .places .now) _ (asked .1 .0 .long) (omega (
-            arith,
-            c .before .before .before .before
-                .before .before .before .before .before .before .before .before .before .before .before .before
-                .fits .x,
-          ))
-          (c .before .before .before .before .before .before .before .before .lay-part .ensures .1) (c .before .before
-          .before .before .before .before .before .before .lay-part .ensures .0) (rw (c .before .before .before
-          .before .before .before .spot-at .ensures) at (c .lay-part2 .ensures .0)),
-      put-back 0 _ _ _ _ _ (c .before .before .before .before .before .before .before .before .lay-part .ensures .1)
-          (c .lay-part2 .ensures .1),
+    let at-spot-at = c .before .before .before .before .before .before .spot-at in
+    let at-lay-part = c .before .before .before .before .before .before .before .before .lay-part in
+    let at-fits = c .before .before .before .before .before .before .before .before .before .before .before .before
+    .before .before .before .before .fits in
+    let at-pre = c .before .before .before .before .before .before .before .before .before .before .before .before
+    .before .before .before .before .pre in
+    let a = c .before .before .before .before .before .before .before .before .before .before .before .before
+    .before .before .before .before .args in let asked = at-pre in (
+      let-laid (a .operands .now) (λ f. getD (a
+          .results .now) f 0) (tree-at (a .kinds .now) (a .operands .now) (a .levels)) (a .x) (a .places .now) _
+          (asked .1 .0 .long) (omega (arith, at-fits .x)) (at-lay-part .ensures .1) (at-lay-part .ensures .0) (rw
+          (at-spot-at .ensures) at (c .lay-part2 .ensures .0)),
+      put-back 0 _ _ _ _ _ (at-lay-part .ensures .1) (c
+          .lay-part2 .ensures .1),
     )
 
 pub lay-let-mul-places-2 : (t : ℕ) → lay-let-lts.Need-mul-places-2 (lay-let-claims t) (lay-let-at t) lay-let.Post
-lay-let-mul-places-2 t c = omega (
-  arith,
-  c .before .before .before .before .before .before .before .before .before
-      .before .before .before .before .before .before .before .fits .x,
-)
+lay-let-mul-places-2 t c =
+    let at-fits = c .before .before .before .before .before .before .before .before .before .before .before .before
+    .before .before .before .before .fits in
+    omega (arith, at-fits .x)
 
 pub lay-let-element-write-places-2 : (t : ℕ) → lay-let-lts.Need-element-write-places-2 (lay-let-claims t) (lay-let-at
     t) lay-let.Post
-lay-let-element-write-places-2 t c = omega (
-  arith,
-  c .before .before .before .before .before .before .before .before
-      .before .before .before .before .before .before .before .before .fits .x,
-)
+lay-let-element-write-places-2 t c =
+    let at-fits = c .before .before .before .before .before .before .before .before .before .before .before .before
+    .before .before .before .before .fits in
+    omega (arith, at-fits .x)

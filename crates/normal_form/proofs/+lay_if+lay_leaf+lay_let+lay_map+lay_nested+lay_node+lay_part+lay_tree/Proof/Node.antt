@@ -35,15 +35,15 @@ lay-node-atom-out-requires t c κs =
 
 pub lay-node-returns : (t : ℕ) → lay-node-lts.Need-returns (lay-node-claims t) (lay-node-at t) lay-node.Post
 lay-node-returns t c =
-    let a = c .before .before .before .before .before .args in
-    let asked = c .before .before .before .before .before .pre in
-    let node = fits-seen (asked .1 .0) in (
-      rw (c .atom-out .ensures) (number-laid (a .operands .now) (λ f. getD (a .results .now) f 0) (a .levels) (a .spot
-          .node) _ _ (number-is (a .kinds .now) (a .operands .now) (a .levels) (a .spot .node) (asked .1 .0 .deep)
-          node (c .before .before .match .keys1)) (number-placed (a .kinds .now) (a .operands .now) (a .spot .node)
-          (node .node) (asked .1 .1 .0 .parts) (node-inside (a .kinds .now) (a .operands .now) at-part (a .spot .node)
-          (node .node) (node .stands)) (node .stands) (node .same-kind ∙ c .before .before .match .keys1)) (asked .1
-          .1 .1 .sized)),
+    let at-match = c .before .before .match in
+    let a = c .before .before .before .before .before .args in let asked = c .before .before .before .before
+    .before .pre in let node = fits-seen (asked .1 .0) in (
+      rw (c .atom-out .ensures) (number-laid (a .operands
+          .now) (λ f. getD (a .results .now) f 0) (a .levels) (a .spot .node) _ _ (number-is (a .kinds .now) (a
+          .operands .now) (a .levels) (a .spot .node) (asked .1 .0 .deep) node (at-match .keys1)) (number-placed (a
+          .kinds .now) (a .operands .now) (a .spot .node) (node .node) (asked .1 .1 .0 .parts) (node-inside (a .kinds
+          .now) (a .operands .now) at-part (a .spot .node) (node .node) (node .stands)) (node .stands) (node
+          .same-kind ∙ at-match .keys1)) (asked .1 .1 .1 .sized)),
       refl,
     )
 
@@ -88,70 +88,62 @@ pub lay-node-returns-4 : (t : ℕ) → lay-node-lts.Need-returns-4 (lay-node-cla
 lay-node-returns-4 t c = c .lay-nested .ensures
 
 pub lay-node-add-spot-at : (t : ℕ) → lay-node-lts.Need-add-spot-at (lay-node-claims t) (lay-node-at t) lay-node.Post
-lay-node-add-spot-at t c = omega (
-  arith,
-  c .before .before .before .before .before .before .before .pre .1 .1 .1
-      .nodes,
-)
+lay-node-add-spot-at t c =
+    let at-pre = c .before .before .before .before .before .before .before .pre in
+    omega (arith, at-pre .1 .1 .1 .nodes)
 
 pub lay-node-sub-lay-leaf : (t : ℕ) → lay-node-lts.Need-sub-lay-leaf (lay-node-claims t) (lay-node-at t) lay-node.Post
-lay-node-sub-lay-leaf t c = omega (
-  arith,
-  c .before .before .before .before .before .before .before .before .before
-      .before .before .before .before .pre .1 .0 .deep,
-)
+lay-node-sub-lay-leaf t c =
+    let at-pre = c .before .before .before .before .before .before .before .before .before .before .before .before
+    .before .pre in
+    omega (arith, at-pre .1 .0 .deep)
 
 pub lay-node-lay-leaf-requires : (t : ℕ) → lay-node-lts.Need-lay-leaf-requires (lay-node-claims t) (lay-node-at t)
     lay-node.Post
 lay-node-lay-leaf-requires t c κs =
-    let a = c .before .before .before .before .before .before .before .before .before .before .before .before .before
-    .args in
-    let asked = c .before .before .before .before .before .before .before .before .before .before .before .before
+    let at-parts-of = c .before .before .before .before .before .before .before .parts-of in
+    let at-second-part = c .before .before .before .before .before .before .before .before .second-part in
+    let at-if1 = c .before .before .before .before .before .before .before .before .before .if1 in
+    let at-match = c .before .before .before .before .before .before .before .before .before .before .match in
+    let at-pre = c .before .before .before .before .before .before .before .before .before .before .before .before
     .before .pre in
-    let node = fits-seen (asked .1 .0) in
-    let l = leaf-as node (c .before .before .before .before .before .before .before .before .second-part .result) (c
-    .before .before .before .before .before .before .before .parts-of .result) (c .before .before .before .before
-    .before .before .before .before .second-part .ensures) (c .before .before .before .before .before .before
-    .before .parts-of .ensures) (c .before .before .before .before .before .before .before .before .before .before
-    .match .rest .0 .0 .1) (c .before .before .before .before .before .before .before .before .before .before
-    .match .rest .0 .1) (c .before .before .before .before .before .before .before .before .before .before .match
-    .rest .1) (λ e. ⊎-elim (λ w. omega arith) (λ w. omega arith) (c .before .before .before .before .before
-    .before .before .before .before .if1 .came)) (λ e. ⊎-elim (λ w. omega arith) (λ w. omega arith) (c .before
-    .before .before .before .before .before .before .before .before .if1 .came)) in
-    rw (c .before .before .before .before .before .spot-at .ensures) (
+    let a = c .before .before .before .before .before .before .before .before .before .before .before .before
+    .before .args in let asked = at-pre in let node = fits-seen (asked .1 .0) in let l = leaf-as node
+    (at-second-part .result) (at-parts-of .result) (at-second-part .ensures) (at-parts-of .ensures) (at-match
+    .rest .0 .0 .1) (at-match .rest .0 .1) (at-match .rest .1) (λ e. ⊎-elim (λ w. omega arith) (λ w. omega
+    arith) (at-if1 .came)) (λ e. ⊎-elim (λ w. omega arith) (λ w. omega arith) (at-if1 .came)) in rw (c .before
+    .before .before .before .before .spot-at .ensures) (
       omega (arith, asked .0, asked .1 .0 .deep),
       (
-        l .counted,
+        l
+            .counted,
         (
           asked .1 .1 .0,
-          ready-as _ (a .spot .node) _ (asked .1 .1 .1) (leaf-is (a .kinds .now) (a .operands .now) (a .levels) (a
-              .spot .node) (asked .1 .0 .deep) node _ (c .before .before .before .before .before .before .before
-              .parts-of .ensures) l) (leaf-after _ (a .spot .node) _),
+          ready-as _ (a .spot .node) _ (asked .1 .1 .1) (leaf-is (a .kinds .now) (a
+              .operands .now) (a .levels) (a .spot .node) (asked .1 .0 .deep) node _ (at-parts-of .ensures) l)
+              (leaf-after _ (a .spot .node) _),
         ),
       ),
     )
 
 pub lay-node-returns-3 : (t : ℕ) → lay-node-lts.Need-returns-3 (lay-node-claims t) (lay-node-at t) lay-node.Post
 lay-node-returns-3 t c =
-    let a = c .before .before .before .before .before .before .before .before .before .before .before .before .before
-    .before .args in
-    let asked = c .before .before .before .before .before .before .before .before .before .before .before .before
+    let at-spot-at = c .before .before .before .before .before .before .spot-at in
+    let at-parts-of = c .before .before .before .before .before .before .before .before .parts-of in
+    let at-second-part = c .before .before .before .before .before .before .before .before .before .second-part in
+    let at-if1 = c .before .before .before .before .before .before .before .before .before .before .if1 in
+    let at-match = c .before .before .before .before .before .before .before .before .before .before .before .match in
+    let at-pre = c .before .before .before .before .before .before .before .before .before .before .before .before
     .before .before .pre in
-    let node = fits-seen (asked .1 .0) in
-    let l = leaf-as node (c .before .before .before .before .before .before .before .before .before .second-part
-    .result) (c .before .before .before .before .before .before .before .before .parts-of .result) (c .before
-    .before .before .before .before .before .before .before .before .second-part .ensures) (c .before .before
-    .before .before .before .before .before .before .parts-of .ensures) (c .before .before .before .before .before
-    .before .before .before .before .before .before .match .rest .0 .0 .1) (c .before .before .before .before
-    .before .before .before .before .before .before .before .match .rest .0 .1) (c .before .before .before .before
-    .before .before .before .before .before .before .before .match .rest .1) (λ e. ⊎-elim (λ w. omega arith) (λ w.
-    omega arith) (c .before .before .before .before .before .before .before .before .before .before .if1 .came))
-    (λ e. ⊎-elim (λ w. omega arith) (λ w. omega arith) (c .before .before .before .before .before .before .before
-    .before .before .before .if1 .came)) in (
-      ready-made (a .operands .now) (λ f. getD (a .results .now) f 0) (a .levels) (a .spot .node) (leaf-is (a .kinds
-          .now) (a .operands .now) (a .levels) (a .spot .node) (asked .1 .0 .deep) node _ (c .before .before .before
-          .before .before .before .before .before .parts-of .ensures) l) (omega (arith, asked .1 .0 .deep))
-          (leaf-after _ (a .spot .node) _) (rw (c .before .before .before .before .before .before .spot-at .ensures)
-          at (c .lay-leaf .ensures .0)),
+    let a = c .before .before .before .before .before .before .before .before .before .before .before .before
+    .before .before .args in let asked = at-pre in let node = fits-seen (asked .1 .0) in let l = leaf-as node
+    (at-second-part .result) (at-parts-of .result) (at-second-part .ensures) (at-parts-of .ensures) (at-match
+    .rest .0 .0 .1) (at-match .rest .0 .1) (at-match .rest .1) (λ e. ⊎-elim (λ w. omega arith) (λ w. omega
+    arith) (at-if1 .came)) (λ e. ⊎-elim (λ w. omega arith) (λ w. omega arith) (at-if1 .came)) in (
+      ready-made
+          (a .operands .now) (λ f. getD (a .results .now) f 0) (a .levels) (a .spot .node) (leaf-is (a .kinds .now)
+          (a .operands .now) (a .levels) (a .spot .node) (asked .1 .0 .deep) node _ (at-parts-of .ensures) l) (omega
+          (arith, asked .1 .0 .deep)) (leaf-after _ (a .spot .node) _) (rw (at-spot-at .ensures) at (c .lay-leaf
+          .ensures .0)),
       c .lay-leaf .ensures .1,
     )

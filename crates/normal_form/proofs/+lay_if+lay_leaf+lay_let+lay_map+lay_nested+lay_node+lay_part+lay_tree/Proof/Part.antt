@@ -41,15 +41,17 @@ lay-part-returns t c =
 pub lay-part-lay-node-requires : (t : ℕ) → lay-part-lts.Need-lay-node-requires (lay-part-claims t) (lay-part-at t)
     lay-part.Post
 lay-part-lay-node-requires t c κs =
-    let asked = c .before .before .before .before .before .before .before .before .before .before .before .before .pre
-    in (
+    let at-kind = c .before .before .before .before .before .before .kind in
+    let at-node-at = c .before .before .before .before .before .before .before .before .node-at in
+    let at-if1 = c .before .before .before .before .before .before .before .before .before .if1 in
+    let asked = c .before .before .before .before .before .before .before .before .before .before .before .before
+    .pre in (
       omega (arith, asked .0),
       (
         record {
-          deep = c .before .before .before .before .before .before .before .before
-              .before .if1 .left;
-          stands = rw (c .before .before .before .before .before .before .kind .given .1) at (c
-              .before .before .before .before .before .before .before .before .node-at .ensures);
+          deep = at-if1 .left;
+          stands = rw (at-kind .given .1) at
+              (at-node-at .ensures);
         },
         asked .1,
       ),
@@ -58,23 +60,23 @@ lay-part-lay-node-requires t c κs =
 pub lay-part-atom-out-requires-2 : (t : ℕ) → lay-part-lts.Need-atom-out-requires-2 (lay-part-claims t) (lay-part-at t)
     lay-part.Post
 lay-part-atom-out-requires-2 t c κs =
-    let a = c .before .before .before .before .before .before .args in
-    omega (
+    let at-pre = c .before .before .before .before .before .before .pre in
+    let a = c .before .before .before .before .before .before .args in omega (
       arith,
-      c .before .before .before .before .before .before .pre .1 .1 .nodes,
-      one-node (tree-at (a .kinds
-          .now) (a .operands .now) (a .levels) (a .spot .node)),
+      at-pre .1 .1 .nodes,
+      one-node
+          (tree-at (a .kinds .now) (a .operands .now) (a .levels) (a .spot .node)),
     )
 
 pub lay-part-atom-out-requires-3 : (t : ℕ) → lay-part-lts.Need-atom-out-requires-3 (lay-part-claims t) (lay-part-at t)
     lay-part.Post
 lay-part-atom-out-requires-3 t c κs =
-    let a = c .before .before .before .before .before .before .args in
-    omega (
+    let at-pre = c .before .before .before .before .before .before .pre in
+    let a = c .before .before .before .before .before .before .args in omega (
       arith,
-      c .before .before .before .before .before .before .pre .1 .1 .nodes,
-      one-node (tree-at (a .kinds
-          .now) (a .operands .now) (a .levels) (a .spot .node)),
+      at-pre .1 .1 .nodes,
+      one-node
+          (tree-at (a .kinds .now) (a .operands .now) (a .levels) (a .spot .node)),
     )
 
 pub lay-part-returns-2 : (t : ℕ) → lay-part-lts.Need-returns-2 (lay-part-claims t) (lay-part-at t) lay-part.Post
@@ -82,24 +84,36 @@ lay-part-returns-2 t c = c .lay-node .ensures
 
 pub lay-part-returns-3 : (t : ℕ) → lay-part-lts.Need-returns-3 (lay-part-claims t) (lay-part-at t) lay-part.Post
 lay-part-returns-3 t c =
-    let a = c .before .before .before .before .before .before .before .args in
-    let asked = c .before .before .before .before .before .before .before .pre in (
-      rw (c .atom-out2 .ensures) (number-laid (a .operands .now) (λ f. getD (a .results .now) f 0) (a .levels) (a
-          .spot .node) 65535 (pos 0) (wrong-tree (a .kinds .now) (a .operands .now) (a .levels) (a .spot .node) (c
-          .before .before .before .before .if1 .left) (c .before .before .before .node-at .result) (c .before .before
-          .before .node-at .ensures) (inl (c .before .enum-told .given .1))) (nowhere-placed (a .operands .now) (omega
-          (arith, asked .1 .0 .parts .few, asked .1 .0 .parts .whole))) (asked .1 .1 .sized)),
+    let at-node-at = c .before .before .before .node-at in
+    let at-pre = c .before .before .before .before .before .before .before .pre in
+    let a = c .before .before .before .before .before .before .before .args in let asked = at-pre in (
+      rw (c
+          .atom-out2 .ensures) (number-laid (a .operands .now) (λ f. getD (a .results .now) f 0) (a .levels) (a .spot
+          .node) 65535 (pos 0) (wrong-tree (a .kinds .now) (a .operands .now) (a .levels) (a .spot .node) (c .before
+          .before .before .before .if1 .left) (at-node-at .result) (at-node-at .ensures) (inl (c .before .enum-told
+          .given .1))) (nowhere-placed (a .operands .now) (omega (
+            arith,
+            asked .1 .0 .parts .few,
+            asked .1 .0 .parts
+                .whole,
+          ))) (asked .1 .1 .sized)),
       refl,
     )
 
 pub lay-part-returns-4 : (t : ℕ) → lay-part-lts.Need-returns-4 (lay-part-claims t) (lay-part-at t) lay-part.Post
 lay-part-returns-4 t c =
-    let a = c .before .before .before .before .before .before .before .args in
-    let asked = c .before .before .before .before .before .before .before .pre in (
-      rw (c .atom-out3 .ensures) (number-laid (a .operands .now) (λ f. getD (a .results .now) f 0) (a .levels) (a
-          .spot .node) 65535 (pos 0) (wrong-tree (a .kinds .now) (a .operands .now) (a .levels) (a .spot .node) (c
-          .before .before .before .before .if1 .left) (c .before .before .before .node-at .result) (c .before .before
-          .before .node-at .ensures) (inr (c .before .enum-told2 .given .1))) (nowhere-placed (a .operands .now)
-          (omega (arith, asked .1 .0 .parts .few, asked .1 .0 .parts .whole))) (asked .1 .1 .sized)),
+    let at-node-at = c .before .before .before .node-at in
+    let at-pre = c .before .before .before .before .before .before .before .pre in
+    let a = c .before .before .before .before .before .before .before .args in let asked = at-pre in (
+      rw (c
+          .atom-out3 .ensures) (number-laid (a .operands .now) (λ f. getD (a .results .now) f 0) (a .levels) (a .spot
+          .node) 65535 (pos 0) (wrong-tree (a .kinds .now) (a .operands .now) (a .levels) (a .spot .node) (c .before
+          .before .before .before .if1 .left) (at-node-at .result) (at-node-at .ensures) (inr (c .before .enum-told2
+          .given .1))) (nowhere-placed (a .operands .now) (omega (
+            arith,
+            asked .1 .0 .parts .few,
+            asked .1 .0 .parts
+                .whole,
+          ))) (asked .1 .1 .sized)),
       refl,
     )

@@ -16,34 +16,28 @@ lay-tree-lay-part-requires t c κs =
 
 pub lay-tree-lay-head-requires : (t : ℕ) → lay-tree-lts.Need-lay-head-requires (lay-tree-claims t) (lay-tree-at t)
     lay-tree.Post
-lay-tree-lay-head-requires t c κs = omega (
-  arith,
-  c .before .before .before .lay-part .ensures .0 .reach,
-  c .before
-      .before .before .before .before .before .before .before .before .before .before .pre .1 .1 .rows,
-)
+lay-tree-lay-head-requires t c κs =
+    let at-pre = c .before .before .before .before .before .before .before .before .before .before .before .pre in
+    omega (arith, c .before .before .before .lay-part .ensures .0 .reach, at-pre .1 .1 .rows)
 
 pub lay-tree-add-t22 : (t : ℕ) → lay-tree-lts.Need-add-t22 (lay-tree-claims t) (lay-tree-at t) lay-tree.Post
-lay-tree-add-t22 t c = omega (
-  arith,
-  c .before .before .before .before .before .lay-part .ensures .0 .reach,
-  c .before
-      .before .before .before .before .before .before .before .before .before .before .before .before .pre .1 .1
-      .rows,
-)
+lay-tree-add-t22 t c =
+    let at-pre = c .before .before .before .before .before .before .before .before .before .before .before .before
+    .before .pre in
+    omega (arith, c .before .before .before .before .before .lay-part .ensures .0 .reach, at-pre .1 .1 .rows)
 
 pub lay-tree-returns : (t : ℕ) → lay-tree-lts.Need-returns (lay-tree-claims t) (lay-tree-at t) lay-tree.Post
 lay-tree-returns t c =
-    let a = c .before .before .before .before .before .before .before .before .before .before .before .before .before
-    .args in (
-      tree-laid (a .operands .now) (λ f. getD (a .results .now) f 0) (tree-at (a .kinds .now) (a .operands .now) (a
-          .levels)) (c .before .before .before .before .before .lay-part .ensures .0) (c .before .lay-head .ensures)
-          (omega (
+    let at-lay-part = c .before .before .before .before .before .lay-part in
+    let at-pre = c .before .before .before .before .before .before .before .before .before .before .before .before
+    .before .pre in
+    let a = c .before .before .before .before .before .before .before .before .before .before .before .before
+    .before .args in (
+      tree-laid (a .operands .now) (λ f. getD (a .results .now) f 0) (tree-at (a .kinds .now)
+          (a .operands .now) (a .levels)) (at-lay-part .ensures .0) (c .before .lay-head .ensures) (omega (
             arith,
-            c .before .before .before .before .before .lay-part .ensures .0 .reach,
-            c .before .before
-                .before .before .before .before .before .before .before .before .before .before .before .pre .1 .1
-                .rows,
+            at-lay-part .ensures .0 .reach,
+            at-pre .1 .1 .rows,
           )),
-      c .before .before .before .before .before .lay-part .ensures .1,
+      at-lay-part .ensures .1,
     )

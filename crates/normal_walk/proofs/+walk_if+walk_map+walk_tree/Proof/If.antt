@@ -15,346 +15,274 @@ use Rattle.normal_walk.proofs.+walk_if+walk_map+walk_tree.Proof.Common.
 pub walk-if-put-release-requires : (t : ℕ) →
     walk-if-lts.Need-put-release-requires (walk-if-claims t) (walk-if-at t) walk-if.Post
 walk-if-put-release-requires t c κs =
-    c .before .before .before .before .before .before .pre .1 .3
+    let at-pre = c .before .before .before .before .before .before .pre in
+    at-pre .1 .3
 
 pub walk-if-walk-tree-requires : (t : ℕ) →
     walk-if-lts.Need-walk-tree-requires (walk-if-claims t) (walk-if-at t) walk-if.Post
-walk-if-walk-tree-requires t c κs = (
-  omega (
-    arith,
-    c .before .before .before .before .before .before .before .before .before .before .before
-        .before .before .before .before .before .pre .0,
-  ),
-  (
-    omega (
-      arith,
-      c .before .before .before .before
-          .less-two .ensures,
-      c .before .before .before .before .before .before .before .before .before .before
-          .before .before .before .before .before .before .pre .1 .1,
-    ),
-    c .before .before .before .before .before
-        .before .before .before .before .before .before .before .before .before .before .before .pre .1 .2,
-    lower
-        (c .before .before .before .before .before .before .before .before .before .put-release .ensures) (c
-        .before .before .before .before .before .before .before .before .before .before .before .before .before
-        .before .before .before .pre .1 .3),
-  ),
-)
+walk-if-walk-tree-requires t c κs =
+    let at-put-release = c .before .before .before .before .before .before .before .before .before .put-release in
+    let at-pre = c .before .before .before .before .before .before .before .before .before .before .before .before
+    .before .before .before .before .pre in (
+      omega (arith, at-pre .0),
+      (
+        omega (
+          arith,
+          c .before .before .before .before .less-two .ensures,
+          at-pre .1
+              .1,
+        ),
+        at-pre .1 .2,
+        lower (at-put-release .ensures) (at-pre .1 .3),
+      ),
+    )
 
 pub walk-if-add-put-used : (t : ℕ) →
     walk-if-lts.Need-add-put-used (walk-if-claims t) (walk-if-at t) walk-if.Post
 walk-if-add-put-used t c =
-    omega (
-      arith,
-      c .before .before .before .before .before .before .before .before .before .before .before .before
-          .before .before .before .before .before .before .before .before .before .before .before .pre .1 .0,
-    )
+    let at-pre = c .before .before .before .before .before .before .before .before .before .before .before .before
+    .before .before .before .before .before .before .before .before .before .before .before .pre in
+    omega (arith, at-pre .1 .0)
 
 pub walk-if-put-used-requires : (t : ℕ) →
     walk-if-lts.Need-put-used-requires (walk-if-claims t) (walk-if-at t) walk-if.Post
-walk-if-put-used-requires t c κs = (
-  omega (
-    arith,
-    c .before .before .before .before .before .before .before .before .before .before .before
-        .before .before .before .before .before .before .before .before .before .before .before .before .before
-        .fits .x,
-  ),
-  lower (c .before .before .before .before .before .before .before .walk-tree .ensures .wrote)
-      (lower (c .before .before .before .before .before .before .before .before .before .before .before .before
-      .before .before .before .before .before .put-release .ensures) (c .before .before .before .before .before
-      .before .before .before .before .before .before .before .before .before .before .before .before .before
-      .before .before .before .before .before .before .pre .1 .3)),
-)
+walk-if-put-used-requires t c κs =
+    let at-walk-tree = c .before .before .before .before .before .before .before .walk-tree in
+    let at-put-release = c .before .before .before .before .before .before .before .before .before .before .before
+    .before .before .before .before .before .before .put-release in
+    let at-fits = c .before .before .before .before .before .before .before .before .before .before .before .before
+    .before .before .before .before .before .before .before .before .before .before .before .before .fits in
+    let at-pre = c .before .before .before .before .before .before .before .before .before .before .before .before
+    .before .before .before .before .before .before .before .before .before .before .before .before .pre in (
+      omega (arith, at-fits .x),
+      lower (at-walk-tree .ensures .wrote) (lower (at-put-release .ensures) (at-pre
+          .1 .3)),
+    )
 
 pub walk-if-then-end-at-requires : (t : ℕ) →
     walk-if-lts.Need-then-end-at-requires (walk-if-claims t) (walk-if-at t) walk-if.Post
 walk-if-then-end-at-requires t c κs =
-    omega (
-      arith,
-      c .before .before .before .before .before .before .before .before .before .before .before .before
-          .before .before .before .before .before .before .before .before .before .before .before .before .before
-          .before .before .before .pre .1 .0,
-    )
+    let at-pre = c .before .before .before .before .before .before .before .before .before .before .before .before
+    .before .before .before .before .before .before .before .before .before .before .before .before .before
+    .before .before .before .pre in
+    omega (arith, at-pre .1 .0)
 
 pub walk-if-walk-tree-requires-2 : (t : ℕ) →
     walk-if-lts.Need-walk-tree-requires-2 (walk-if-claims t) (walk-if-at t) walk-if.Post
-walk-if-walk-tree-requires-2 t c κs = (
-  omega (
-    arith,
-    c .before .before .before .before .before .before .before .before .before .before .before .before
-        .before .before .before .before .before .before .before .before .before .before .before .before .before
-        .before .before .before .before .before .before .before .before .pre .0,
-  ),
-  (
-    c .before .before .before .before .then-end-at .ensures .1,
-    c .before .before .before .before .before .before .before .before .before .before .before .before .before
-        .before .before .before .walk-tree .ensures .long,
-    lower (c .before .before .before .before .before .before .before .before .put-used .ensures) (lower (c .before
-        .before .before .before .before .before .before .before .before .before .before .before .before .before
-        .before .before .walk-tree .ensures .wrote) (lower (c .before .before .before .before .before .before
-        .before .before .before .before .before .before .before .before .before .before .before .before .before
-        .before .before .before .before .before .before .before .put-release .ensures) (c .before .before .before
-        .before .before .before .before .before .before .before .before .before .before .before .before .before
-        .before .before .before .before .before .before .before .before .before .before .before .before .before
-        .before .before .before .before .pre .1 .3))),
-  ),
-)
+walk-if-walk-tree-requires-2 t c κs =
+    let at-put-used = c .before .before .before .before .before .before .before .before .put-used in
+    let at-walk-tree = c .before .before .before .before .before .before .before .before .before .before .before
+    .before .before .before .before .before .walk-tree in
+    let at-put-release = c .before .before .before .before .before .before .before .before .before .before .before
+    .before .before .before .before .before .before .before .before .before .before .before .before .before
+    .before .before .put-release in
+    let at-pre = c .before .before .before .before .before .before .before .before .before .before .before .before
+    .before .before .before .before .before .before .before .before .before .before .before .before .before
+    .before .before .before .before .before .before .before .before .pre in (
+      omega (arith, at-pre .0),
+      (
+        c .before .before .before .before .then-end-at .ensures .1,
+        at-walk-tree
+            .ensures .long,
+        lower (at-put-used .ensures) (lower (at-walk-tree .ensures .wrote) (lower (at-put-release
+            .ensures) (at-pre .1 .3))),
+      ),
+    )
 
 pub walk-if-put-releases-requires : (t : ℕ) →
     walk-if-lts.Need-put-releases-requires (walk-if-claims t) (walk-if-at t) walk-if.Post
-walk-if-put-releases-requires t c κs = (
-  omega (
-    arith,
-    c .before .before .before .before .before .before .before .before .before .before .before
-        .before .before .before .before .before .before .before .before .before .before .before .before .before
-        .before .before .before .before .before .before .before .before .before .before .before .before .before
-        .before .before .before .before .fits .x,
-  ),
-  lower (c .before .before .before .before .before .before .before
-      .walk-tree2 .ensures .wrote) (lower (c .before .before .before .before .before .before .before .before
-      .before .before .before .before .before .before .before .before .put-used .ensures) (lower (c .before
-      .before .before .before .before .before .before .before .before .before .before .before .before .before
-      .before .before .before .before .before .before .before .before .before .before .walk-tree .ensures .wrote)
-      (lower (c .before .before .before .before .before .before .before .before .before .before .before .before
-      .before .before .before .before .before .before .before .before .before .before .before .before .before
-      .before .before .before .before .before .before .before .before .before .put-release .ensures) (c .before
-      .before .before .before .before .before .before .before .before .before .before .before .before .before
-      .before .before .before .before .before .before .before .before .before .before .before .before .before
-      .before .before .before .before .before .before .before .before .before .before .before .before .before
-      .before .pre .1 .3)))),
-)
+walk-if-put-releases-requires t c κs =
+    let at-walk-tree2 = c .before .before .before .before .before .before .before .walk-tree2 in
+    let at-put-used = c .before .before .before .before .before .before .before .before .before .before .before
+    .before .before .before .before .before .put-used in
+    let at-walk-tree = c .before .before .before .before .before .before .before .before .before .before .before
+    .before .before .before .before .before .before .before .before .before .before .before .before .before
+    .walk-tree in
+    let at-put-release = c .before .before .before .before .before .before .before .before .before .before .before
+    .before .before .before .before .before .before .before .before .before .before .before .before .before
+    .before .before .before .before .before .before .before .before .before .before .put-release in
+    let at-fits = c .before .before .before .before .before .before .before .before .before .before .before .before
+    .before .before .before .before .before .before .before .before .before .before .before .before .before
+    .before .before .before .before .before .before .before .before .before .before .before .before .before
+    .before .before .before .fits in
+    let at-pre = c .before .before .before .before .before .before .before .before .before .before .before .before
+    .before .before .before .before .before .before .before .before .before .before .before .before .before
+    .before .before .before .before .before .before .before .before .before .before .before .before .before
+    .before .before .before .pre in (
+      omega (arith, at-fits .x),
+      lower (at-walk-tree2 .ensures .wrote) (lower (at-put-used .ensures) (lower
+          (at-walk-tree .ensures .wrote) (lower (at-put-release .ensures) (at-pre .1 .3)))),
+    )
 
 pub walk-if-put-atom-requires : (t : ℕ) →
     walk-if-lts.Need-put-atom-requires (walk-if-claims t) (walk-if-at t) walk-if.Post
 walk-if-put-atom-requires t c κs =
-    lower (c .before .before .before .before .before .put-releases .ensures) (lower (c .before .before .before
-    .before .before .before .before .before .before .before .before .before .before .walk-tree2 .ensures
-    .wrote) (lower (c .before .before .before .before .before .before .before .before .before .before .before
-    .before .before .before .before .before .before .before .before .before .before .before .put-used .ensures)
-    (lower (c .before .before .before .before .before .before .before .before .before .before .before .before
+    let at-walk-tree2 = c .before .before .before .before .before .before .before .before .before .before .before
+    .before .before .walk-tree2 in
+    let at-put-used = c .before .before .before .before .before .before .before .before .before .before .before
+    .before .before .before .before .before .before .before .before .before .before .before .put-used in
+    let at-walk-tree = c .before .before .before .before .before .before .before .before .before .before .before
     .before .before .before .before .before .before .before .before .before .before .before .before .before
-    .before .before .before .before .before .walk-tree .ensures .wrote) (lower (c .before .before .before
-    .before .before .before .before .before .before .before .before .before .before .before .before .before
-    .before .before .before .before .before .before .before .before .before .before .before .before .before
-    .before .before .before .before .before .before .before .before .before .before .before .put-release
-    .ensures) (c .before .before .before .before .before .before .before .before .before .before .before
+    .before .before .before .before .before .before .walk-tree in
+    let at-put-release = c .before .before .before .before .before .before .before .before .before .before .before
     .before .before .before .before .before .before .before .before .before .before .before .before .before
     .before .before .before .before .before .before .before .before .before .before .before .before .before
-    .before .before .before .before .before .before .before .before .before .before .pre .1 .3)))))
+    .before .before .before .put-release in
+    let at-pre = c .before .before .before .before .before .before .before .before .before .before .before .before
+    .before .before .before .before .before .before .before .before .before .before .before .before .before
+    .before .before .before .before .before .before .before .before .before .before .before .before .before
+    .before .before .before .before .before .before .before .before .before .pre in
+    lower (c .before .before .before .before .before .put-releases .ensures) (lower (at-walk-tree2 .ensures .wrote)
+    (lower (at-put-used .ensures) (lower (at-walk-tree .ensures .wrote) (lower (at-put-release .ensures)
+    (at-pre .1 .3)))))
 
 pub walk-if-put-row-requires : (t : ℕ) →
     walk-if-lts.Need-put-row-requires (walk-if-claims t) (walk-if-at t) walk-if.Post
 walk-if-put-row-requires t c κs =
-    lower (c .before .before .before .before .before .put-atom .ensures) (lower (c .before .before .before .before
-    .before .before .before .before .before .before .before .put-releases .ensures) (lower (c .before .before
+    let at-put-releases = c .before .before .before .before .before .before .before .before .before .before .before
+    .put-releases in
+    let at-walk-tree2 = c .before .before .before .before .before .before .before .before .before .before .before
+    .before .before .before .before .before .before .before .before .walk-tree2 in
+    let at-put-used = c .before .before .before .before .before .before .before .before .before .before .before
     .before .before .before .before .before .before .before .before .before .before .before .before .before
-    .before .before .before .before .walk-tree2 .ensures .wrote) (lower (c .before .before .before .before
+    .before .before .before .before .put-used in
+    let at-walk-tree = c .before .before .before .before .before .before .before .before .before .before .before
     .before .before .before .before .before .before .before .before .before .before .before .before .before
-    .before .before .before .before .before .before .before .before .before .before .before .put-used .ensures)
-    (lower (c .before .before .before .before .before .before .before .before .before .before .before .before
-    .before .before .before .before .before .before .before .before .before .before .before .before .before
-    .before .before .before .before .before .before .before .before .before .before .before .walk-tree .ensures
-    .wrote) (lower (c .before .before .before .before .before .before .before .before .before .before .before
-    .before .before .before .before .before .before .before .before .before .before .before .before .before
-    .before .before .before .before .before .before .before .before .before .before .before .before .before
-    .before .before .before .before .before .before .before .before .before .put-release .ensures) (c .before
+    .before .before .before .before .before .before .before .before .before .before .before .before .walk-tree in
+    let at-put-release = c .before .before .before .before .before .before .before .before .before .before .before
     .before .before .before .before .before .before .before .before .before .before .before .before .before
     .before .before .before .before .before .before .before .before .before .before .before .before .before
+    .before .before .before .before .before .before .before .before .before .put-release in
+    let at-pre = c .before .before .before .before .before .before .before .before .before .before .before .before
     .before .before .before .before .before .before .before .before .before .before .before .before .before
     .before .before .before .before .before .before .before .before .before .before .before .before .before
-    .pre .1 .3))))))
+    .before .before .before .before .before .before .before .before .before .before .before .before .before
+    .before .before .pre in
+    lower (c .before .before .before .before .before .put-atom .ensures) (lower (at-put-releases .ensures) (lower
+    (at-walk-tree2 .ensures .wrote) (lower (at-put-used .ensures) (lower (at-walk-tree .ensures .wrote) (lower
+    (at-put-release .ensures) (at-pre .1 .3))))))
 
 pub walk-if-add-take-back : (t : ℕ) →
     walk-if-lts.Need-add-take-back (walk-if-claims t) (walk-if-at t) walk-if.Post
 walk-if-add-take-back t c =
-    omega (
-      arith,
-      c .before .before .before .before .before .before .before .before .before .before .before .before
-          .before .before .before .before .before .before .before .before .before .before .before .before .before
-          .before .before .before .before .before .before .before .before .before .before .before .before .before
-          .before .before .before .before .before .before .before .before .before .before .before .before .before
-          .before .before .before .before .before .before .before .before .pre .1 .0,
-    )
+    let at-pre = c .before .before .before .before .before .before .before .before .before .before .before .before
+    .before .before .before .before .before .before .before .before .before .before .before .before .before
+    .before .before .before .before .before .before .before .before .before .before .before .before .before
+    .before .before .before .before .before .before .before .before .before .before .before .before .before
+    .before .before .before .before .before .before .before .before .pre in
+    omega (arith, at-pre .1 .0)
 
 pub walk-if-take-back-requires : (t : ℕ) →
     walk-if-lts.Need-take-back-requires (walk-if-claims t) (walk-if-at t) walk-if.Post
-walk-if-take-back-requires t c κs = (
-  omega (
-    arith,
-    c .before .before .before .before .before .before .before .before .before .before .before
-        .before .before .before .before .before .before .before .before .before .before .before .before .before
-        .before .before .before .before .before .before .before .before .before .before .before .before .before
-        .before .before .before .before .before .before .before .before .before .before .before .before .before
-        .before .before .before .before .before .before .before .before .before .pre .1 .0,
-  ),
-  c .before .before
-      .before .before .before .before .before .before .before .before .before .before .before .before .before
-      .before .before .before .before .before .before .before .before .before .before .walk-tree2 .ensures .long,
-)
+walk-if-take-back-requires t c κs =
+    let at-walk-tree2 = c .before .before .before .before .before .before .before .before .before .before .before
+    .before .before .before .before .before .before .before .before .before .before .before .before .before
+    .before .walk-tree2 in
+    let at-pre = c .before .before .before .before .before .before .before .before .before .before .before .before
+    .before .before .before .before .before .before .before .before .before .before .before .before .before
+    .before .before .before .before .before .before .before .before .before .before .before .before .before
+    .before .before .before .before .before .before .before .before .before .before .before .before .before
+    .before .before .before .before .before .before .before .before .pre in
+    (omega (arith, at-pre .1 .0), at-walk-tree2 .ensures .long)
 
 pub walk-if-same-length : (t : ℕ) →
     walk-if-lts.Need-same-length (walk-if-claims t) (walk-if-at t) walk-if.Post
 walk-if-same-length t c =
-    c .before .before .before .before .before .before .put-row .ensures .long-kinds
-    ∙ c .before .before .before .before .before .before .before .before .before .before .before .before .put-atom
-    .ensures .long-kinds
-    ∙ c .before .before .before .before .before .before .before .before .before .before .before .before .before
-    .before .before .before .before .before .put-releases .ensures .long-kinds
-    ∙ c .before .before .before .before .before .before .before .before .before .before .before .before .before
+    let at-put-row = c .before .before .before .before .before .before .put-row in
+    let at-put-atom = c .before .before .before .before .before .before .before .before .before .before .before
+    .before .put-atom in
+    let at-put-releases = c .before .before .before .before .before .before .before .before .before .before .before
+    .before .before .before .before .before .before .before .put-releases in
+    let at-walk-tree2 = c .before .before .before .before .before .before .before .before .before .before .before
     .before .before .before .before .before .before .before .before .before .before .before .before .before
-    .walk-tree2 .ensures .wrote .long-kinds
-    ∙ c .before .before .before .before .before .before .before .before .before .before .before .before .before
+    .before .before .walk-tree2 in
+    let at-put-used = c .before .before .before .before .before .before .before .before .before .before .before
     .before .before .before .before .before .before .before .before .before .before .before .before .before
-    .before .before .before .before .before .before .before .before .before .put-used .ensures .long-kinds
-    ∙ c .before .before .before .before .before .before .before .before .before .before .before .before .before
-    .before .before .before .before .before .before .before .before .before .before .before .before .before
-    .before .before .before .before .before .before .before .before .before .before .before .before .before
-    .before .before .before .before .walk-tree .ensures .wrote .long-kinds
-    ∙ c .before .before .before .before .before .before .before .before .before .before .before .before .before
+    .before .before .before .before .before .before .before .before .before .before .before .put-used in
+    let at-walk-tree = c .before .before .before .before .before .before .before .before .before .before .before
     .before .before .before .before .before .before .before .before .before .before .before .before .before
     .before .before .before .before .before .before .before .before .before .before .before .before .before
+    .before .before .before .before .before .before .walk-tree in
+    let at-put-release = c .before .before .before .before .before .before .before .before .before .before .before
     .before .before .before .before .before .before .before .before .before .before .before .before .before
-    .before .put-release .ensures .long-kinds
+    .before .before .before .before .before .before .before .before .before .before .before .before .before
+    .before .before .before .before .before .before .before .before .before .before .before .before .before
+    .before .before .before .put-release in
+    at-put-row .ensures .long-kinds ∙ at-put-atom .ensures .long-kinds ∙ at-put-releases .ensures .long-kinds ∙
+    at-walk-tree2 .ensures .wrote .long-kinds ∙ at-put-used .ensures .long-kinds ∙ at-walk-tree .ensures .wrote
+    .long-kinds ∙ at-put-release .ensures .long-kinds
 
 pub walk-if-same-length-2 : (t : ℕ) →
     walk-if-lts.Need-same-length-2 (walk-if-claims t) (walk-if-at t) walk-if.Post
 walk-if-same-length-2 t c =
-    c .before .before .before .before .before .before .put-row .ensures .long-operands
-    ∙ c .before .before .before .before .before .before .before .before .before .before .before .before .put-atom
-    .ensures .long-operands
-    ∙ c .before .before .before .before .before .before .before .before .before .before .before .before .before
-    .before .before .before .before .before .put-releases .ensures .long-operands
-    ∙ c .before .before .before .before .before .before .before .before .before .before .before .before .before
+    let at-put-row = c .before .before .before .before .before .before .put-row in
+    let at-put-atom = c .before .before .before .before .before .before .before .before .before .before .before
+    .before .put-atom in
+    let at-put-releases = c .before .before .before .before .before .before .before .before .before .before .before
+    .before .before .before .before .before .before .before .put-releases in
+    let at-walk-tree2 = c .before .before .before .before .before .before .before .before .before .before .before
     .before .before .before .before .before .before .before .before .before .before .before .before .before
-    .walk-tree2 .ensures .wrote .long-operands
-    ∙ c .before .before .before .before .before .before .before .before .before .before .before .before .before
+    .before .before .walk-tree2 in
+    let at-put-used = c .before .before .before .before .before .before .before .before .before .before .before
     .before .before .before .before .before .before .before .before .before .before .before .before .before
-    .before .before .before .before .before .before .before .before .before .put-used .ensures .long-operands
-    ∙ c .before .before .before .before .before .before .before .before .before .before .before .before .before
-    .before .before .before .before .before .before .before .before .before .before .before .before .before
-    .before .before .before .before .before .before .before .before .before .before .before .before .before
-    .before .before .before .before .walk-tree .ensures .wrote .long-operands
-    ∙ c .before .before .before .before .before .before .before .before .before .before .before .before .before
+    .before .before .before .before .before .before .before .before .before .before .before .put-used in
+    let at-walk-tree = c .before .before .before .before .before .before .before .before .before .before .before
     .before .before .before .before .before .before .before .before .before .before .before .before .before
     .before .before .before .before .before .before .before .before .before .before .before .before .before
+    .before .before .before .before .before .before .walk-tree in
+    let at-put-release = c .before .before .before .before .before .before .before .before .before .before .before
     .before .before .before .before .before .before .before .before .before .before .before .before .before
-    .before .put-release .ensures .long-operands
+    .before .before .before .before .before .before .before .before .before .before .before .before .before
+    .before .before .before .before .before .before .before .before .before .before .before .before .before
+    .before .before .before .put-release in
+    at-put-row .ensures .long-operands ∙ at-put-atom .ensures .long-operands ∙ at-put-releases .ensures
+    .long-operands ∙ at-walk-tree2 .ensures .wrote .long-operands ∙ at-put-used .ensures .long-operands ∙
+    at-walk-tree .ensures .wrote .long-operands ∙ at-put-release .ensures .long-operands
 
 pub walk-if-returns : (t : ℕ) →
     walk-if-lts.Need-returns (walk-if-claims t) (walk-if-at t) walk-if.Post
 walk-if-returns t c =
-    if-done (plain (c .before .before .before .before .before .before .before .before .before .before .before
+    let at-joined = c .before .before .joined in
+    let at-put-row = c .before .before .before .before .before .before .put-row in
+    let at-put-atom = c .before .before .before .before .before .before .before .before .before .before .before
+    .before .put-atom in
+    let at-put-releases = c .before .before .before .before .before .before .before .before .before .before .before
+    .before .before .before .before .before .before .before .put-releases in
+    let at-walk-tree2 = c .before .before .before .before .before .before .before .before .before .before .before
     .before .before .before .before .before .before .before .before .before .before .before .before .before
+    .before .before .walk-tree2 in
+    let at-then-end-at = c .before .before .before .before .before .before .before .before .before .before .before
     .before .before .before .before .before .before .before .before .before .before .before .before .before
+    .before .before .before .before .before .before .before .then-end-at in
+    let at-put-used = c .before .before .before .before .before .before .before .before .before .before .before
     .before .before .before .before .before .before .before .before .before .before .before .before .before
-    .before .before .before .before .before .before .before .before .before .before .args .operands .now) (c
+    .before .before .before .before .before .before .before .before .before .before .before .put-used in
+    let at-walk-tree = c .before .before .before .before .before .before .before .before .before .before .before
     .before .before .before .before .before .before .before .before .before .before .before .before .before
     .before .before .before .before .before .before .before .before .before .before .before .before .before
+    .before .before .before .before .before .before .walk-tree in
+    let at-less-two = c .before .before .before .before .before .before .before .before .before .before .before
     .before .before .before .before .before .before .before .before .before .before .before .before .before
     .before .before .before .before .before .before .before .before .before .before .before .before .before
-    .before .before .before .before .before .before .before .before .args .rows .now) (c .before .before
+    .before .before .before .before .before .before .before .before .before .before .before .less-two in
+    let at-without = c .before .before .before .before .before .before .before .before .before .before .before
     .before .before .before .before .before .before .before .before .before .before .before .before .before
     .before .before .before .before .before .before .before .before .before .before .before .before .before
+    .before .before .before .before .before .before .before .before .before .before .before .before .without in
+    let at-put-release = c .before .before .before .before .before .before .before .before .before .before .before
     .before .before .before .before .before .before .before .before .before .before .before .before .before
     .before .before .before .before .before .before .before .before .before .before .before .before .before
-    .before .before .before .before .before .before .args .notes .now)) (depth-in (c .before .before .before
     .before .before .before .before .before .before .before .before .before .before .before .before .before
+    .before .before .before .put-release in
+    let a = c .before .before .before .before .before .before .before .before .before .before .before .before
     .before .before .before .before .before .before .before .before .before .before .before .before .before
     .before .before .before .before .before .before .before .before .before .before .before .before .before
     .before .before .before .before .before .before .before .before .before .before .before .before .before
-    .before .before .before .before .before .args .depths .now)) (tree-walk (plain (c .before .before .before
-    .before .before .before .before .before .before .before .before .before .before .before .before .before
-    .before .before .before .before .before .before .before .before .before .before .before .before .before
-    .before .before .before .before .before .before .before .before .before .before .before .before .before
-    .before .before .before .before .before .before .before .before .before .before .before .before .before
-    .before .before .before .before .before .args .operands .now) (c .before .before .before .before .before
-    .before .before .before .before .before .before .before .before .before .before .before .before .before
-    .before .before .before .before .before .before .before .before .before .before .before .before .before
-    .before .before .before .before .before .before .before .before .before .before .before .before .before
-    .before .before .before .before .before .before .before .before .before .before .before .before .before
-    .before .before .before .args .rows .now) (c .before .before .before .before .before .before .before
-    .before .before .before .before .before .before .before .before .before .before .before .before .before
-    .before .before .before .before .before .before .before .before .before .before .before .before .before
-    .before .before .before .before .before .before .before .before .before .before .before .before .before
-    .before .before .before .before .before .before .before .before .before .before .before .before .before
-    .before .args .notes .now)) (depth-in (c .before .before .before .before .before .before .before .before
-    .before .before .before .before .before .before .before .before .before .before .before .before .before
-    .before .before .before .before .before .before .before .before .before .before .before .before .before
-    .before .before .before .before .before .before .before .before .before .before .before .before .before
-    .before .before .before .before .before .before .before .before .before .before .before .before .before
-    .args .depths .now)) (c .before .before .before .before .before .before .before .before .before .before
-    .before .before .before .before .before .before .before .before .before .before .before .before .before
-    .before .before .before .before .before .before .before .before .before .before .before .before .before
-    .before .before .before .before .before .before .before .before .before .before .before .before .before
-    .before .before .before .before .before .before .before .before .before .before .before .args .here
-    .levels)) (c .before .before .before .before .before .before .before .before .before .before .before
-    .before .before .before .before .before .before .before .before .before .before .before .before .before
-    .before .before .before .before .before .before .before .before .before .before .before .before .before
-    .before .before .before .before .before .before .before .before .before .before .before .before .before
-    .before .before .before .before .before .before .before .before .before .before .args .here .p) (c .before
-    .before .before .before .before .before .before .before .before .before .before .before .before .before
-    .before .before .before .before .before .before .before .before .before .before .before .before .before
-    .before .before .before .before .before .before .before .before .before .before .before .before .before
-    .before .before .before .before .before .before .before .before .before .before .before .before .before
-    .before .before .before .before .before .before .before .args .here .q) (c .before .before .before .before
-    .before .before .before .before .before .before .before .before .before .before .before .before .before
-    .before .before .before .before .before .before .before .before .before .before .before .before .before
-    .before .before .before .before .before .before .before .before .before .before .before .before .before
-    .before .before .before .before .before .before .before .before .before .before .before .before .before
-    .before .before .before .before .args .x) (meant (c .before .before .before .before .before .before .before
-    .before .before .before .before .before .before .before .before .before .before .before .before .before
-    .before .before .before .before .before .before .before .before .before .before .before .before .before
-    .before .before .before .before .before .before .before .before .before .before .before .before .before
-    .before .before .before .before .before .before .before .before .before .before .before .before .before
-    .before .args .g)) (c .before .before .before .before .before .before .before .before .before .before
-    .before .before .before .before .before .before .before .before .before .before .before .before .before
-    .before .before .before .before .before .before .before .before .before .before .before .before .before
-    .before .before .before .before .before .before .before .before .before .before .before .before .before
-    .before .before .before .before .before .before .before .before .before .before .before .args .t12) (c
-    .before .before .before .before .before .before .before .before .before .before .before .before .before
-    .before .before .before .before .before .before .before .before .before .before .before .before .before
-    .before .before .before .before .before .before .before .before .before .before .before .before .before
-    .before .before .before .before .before .before .before .before .before .before .without .result)
-    (c .before .before .before .before .before .before .before .before .before .before .before .before .before
-    .before .before .before .before .before .before .before .before .before .before .before .before .before
-    .before .before .before .before .before .before .before .before .before .before .before .before .before
-    .before .before .before .before .walk-tree .result) (c .before .before .before .before .before .before
-    .before .before .before .before .before .before .before .before .before .before .before .before .before
-    .before .before .before .before .before .before .before .walk-tree2 .result) (c .before .before .joined
-    .result) (c .take-back .result) (c .before .before .before .before .before .before .before .before .before
-    .before .before .before .before .before .before .before .before .before .before .before .before .before
-    .before .before .before .before .before .before .before .before .before .before .before .before .before
-    .before .before .before .before .before .before .before .before .before .before .before .before .before
-    .less-two .result)
-    (c .before .before .before .before .before .before .before .before .before .before .before .before .before
-    .before .before .before .before .before .before .before .before .before .before .before .before .before
-    .before .before .before .before .before .then-end-at .result) (c .before .before .before .before .before
-    .before .before .before .before .before .before .before .before .before .before .before .before .before
-    .before .before .before .before .before .before .before .before .before .before .before .before .before
-    .before .before .before .before .before .before .before .before .before .before .before .before .before
-    .before .before .before .before .before .without .ensures) (c .before .before .before .before .before
-    .before .before .before .before .before .before .before .before .before .before .before .before .before
-    .before .before .before .before .before .before .before .before .before .before .before .before .before
-    .before .before .before .before .before .before .before .before .before .before .before .before .before
-    .before .before .before .before .less-two .ensures) (c .before .before .before .before .before .before
-    .before .before .before .before .before .before .before .before .before .before .before .before .before
-    .before .before .before .before .before .before .before .before .before .before .before .before
-    .then-end-at .ensures .0)
-    (c .before .before .before .before .before .before .before .before .before .before .before .before .before
-    .before .before .before .before .before .before .before .before .before .before .before .before .before
-    .before .before .before .before .before .before .before .before .before .before .before .before .before
-    .before .before .before .before .before .before .before .before .before .before .before .before .before
-    .before .put-release .ensures) (c .before .before .before .before .before .before .before .before .before
-    .before .before .before .before .before .before .before .before .before .before .before .before .before
-    .before .before .before .before .before .before .before .before .before .before .before .before .before
-    .before .before .before .before .before .before .before .before .walk-tree .ensures) (c .before .before
-    .before .before .before .before .before .before .before .before .before .before .before .before .before
-    .before .before .before .before .before .before .before .before .before .before .before .before .before
-    .before .before .before .before .before .before .before .put-used .ensures) (c .before .before .before
-    .before .before .before .before .before .before .before .before .before .before .before .before .before
-    .before .before .before .before .before .before .before .before .before .before .walk-tree2 .ensures)
-    (c .before .before .before .before .before .before .before .before .before .before .before .before .before
-    .before .before .before .before .before .put-releases .ensures) (c .before .before .before .before .before
-    .before .before .before .before .before .before .before .put-atom .ensures) (c .before .before .before
-    .before .before .before .put-row .ensures) (c .before .before .joined .ensures) (c .take-back .ensures)
+    .before .before .before .before .before .before .before .before .before .args in
+    if-done (plain (a .operands .now) (a .rows .now) (a .notes .now)) (depth-in (a .depths .now)) (tree-walk (plain
+    (a .operands .now) (a .rows .now) (a .notes .now)) (depth-in (a .depths .now)) (a .here .levels)) (a .here
+    .p) (a .here .q) (a .x) (meant (a .g)) (a .t12) (at-without .result) (at-walk-tree .result) (at-walk-tree2
+    .result) (at-joined .result) (c .take-back .result) (at-less-two .result) (at-then-end-at .result)
+    (at-without .ensures) (at-less-two .ensures) (at-then-end-at .ensures .0) (at-put-release .ensures)
+    (at-walk-tree .ensures) (at-put-used .ensures) (at-walk-tree2 .ensures) (at-put-releases .ensures)
+    (at-put-atom .ensures) (at-put-row .ensures) (at-joined .ensures) (c .take-back .ensures)

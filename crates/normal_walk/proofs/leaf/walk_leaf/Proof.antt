@@ -8,63 +8,47 @@ use Rattle.normal_walk.proofs.leaf.walk_leaf.Tie as tie
 
 returns : tie.Need-returns
 returns c =
-    rw (c .before .before .before .before .before .before .before .before .before .before .l .given .1)
-    (operation-done (plain (c .before .before .before .before .before .before .before .before .before .before
-    .before .before .before .before .before .args .operands .now) (c .before .before .before .before .before
-    .before .before .before .before .before .before .before .before .before .before .args .rows .now) (c
-    .before .before .before .before .before .before .before .before .before .before .before .before .before
-    .before .before .args .notes .now)) (depth-in (c .before .before .before .before .before .before .before
-    .before .before .before .before .before .before .before .before .args .depths .now)) (c .before .before
-    .before .before .before .before .before .before .before .before .before .before .before .before .before
-    .args .p) _ _ _ _ (c .before .before .before .before .before .put-operation .ensures) (c .take-two .ensures))
+    let at-l = c .before .before .before .before .before .before .before .before .before .before .l in
+    let a = c .before .before .before .before .before .before .before .before .before .before .before .before
+    .before .before .before .args in
+    rw (at-l .given .1) (operation-done (plain (a .operands .now) (a .rows .now) (a .notes .now)) (depth-in (a
+    .depths .now)) (a .p) _ _ _ _ (c .before .before .before .before .before .put-operation .ensures) (c
+    .take-two .ensures))
 
 returns-2 : tie.Need-returns-2
 returns-2 c =
-    rw (c .before .before .before .before .before .before .before .before .before .before .l2 .given .1) (call-done
-    (plain (c .before .before .before .before .before .before .before .before .before .before .before .before
-    .before .before .before .args .operands .now) (c .before .before .before .before .before .before .before
-    .before .before .before .before .before .before .before .before .args .rows .now) (c .before .before
-    .before .before .before .before .before .before .before .before .before .before .before .before .before
-    .args .notes .now)) (depth-in (c .before .before .before .before .before .before .before .before .before
-    .before .before .before .before .before .before .args .depths .now)) (c .before .before .before .before
-    .before .before .before .before .before .before .before .before .before .before .before .args .p) _ _ _ (c
-    .before .before .before .before .before .put-handing .ensures) (c .take-handed .ensures))
+    let at-l2 = c .before .before .before .before .before .before .before .before .before .before .l2 in
+    let a = c .before .before .before .before .before .before .before .before .before .before .before .before
+    .before .before .before .args in
+    rw (at-l2 .given .1) (call-done (plain (a .operands .now) (a .rows .now) (a .notes .now)) (depth-in (a .depths
+    .now)) (a .p) _ _ _ (c .before .before .before .before .before .put-handing .ensures) (c .take-handed
+    .ensures))
 
 returns-3 : tie.Need-returns-3
 returns-3 c =
-    rw (c .before .before .before .before .before .before .before .before .before .before .l3 .given .1)
-    (literal-done (plain (c .before .before .before .before .before .before .before .before .before .before
-    .before .before .before .before .before .args .operands .now) (c .before .before .before .before .before
-    .before .before .before .before .before .before .before .before .before .before .args .rows .now) (c
-    .before .before .before .before .before .before .before .before .before .before .before .before .before
-    .before .before .args .notes .now)) (depth-in (c .before .before .before .before .before .before .before
-    .before .before .before .before .before .before .before .before .args .depths .now)) (c .before .before
-    .before .before .before .before .before .before .before .before .before .before .before .before .before
-    .args .p) _ _ _ (c .before .before .before .before .before .put-handing2 .ensures) (c .take-handed2 .ensures))
+    let at-l3 = c .before .before .before .before .before .before .before .before .before .before .l3 in
+    let a = c .before .before .before .before .before .before .before .before .before .before .before .before
+    .before .before .before .args in
+    rw (at-l3 .given .1) (literal-done (plain (a .operands .now) (a .rows .now) (a .notes .now)) (depth-in (a
+    .depths .now)) (a .p) _ _ _ (c .before .before .before .before .before .put-handing2 .ensures) (c
+    .take-handed2 .ensures))
 
 returns-4 : tie.Need-returns-4
 returns-4 c =
-    rw (c .before .before .before .before .before .before .before .before .before .before .l4 .given .1)
-    (index-done (plain (c .before .before .before .before .before .before .before .before .before .before
-    .before .before .before .before .before .args .operands .now) (c .before .before .before .before .before
-    .before .before .before .before .before .before .before .before .before .before .args .rows .now) (c
-    .before .before .before .before .before .before .before .before .before .before .before .before .before
-    .before .before .args .notes .now)) (depth-in (c .before .before .before .before .before .before .before
-    .before .before .before .before .before .before .before .before .args .depths .now)) (c .before .before
-    .before .before .before .before .before .before .before .before .before .before .before .before .before
-    .args .p) _ _ _ (c .before .before .before .before .before .put-index .ensures) (c .take-two2 .ensures))
+    let at-l4 = c .before .before .before .before .before .before .before .before .before .before .l4 in
+    let a = c .before .before .before .before .before .before .before .before .before .before .before .before
+    .before .before .before .args in
+    rw (at-l4 .given .1) (index-done (plain (a .operands .now) (a .rows .now) (a .notes .now)) (depth-in (a .depths
+    .now)) (a .p) _ _ _ (c .before .before .before .before .before .put-index .ensures) (c .take-two2 .ensures))
 
 returns-5 : tie.Need-returns-5
 returns-5 c =
-    rw (c .before .before .before .before .before .before .before .before .before .before .l5 .given .1)
-    (length-done (plain (c .before .before .before .before .before .before .before .before .before .before
-    .before .before .before .before .before .args .operands .now) (c .before .before .before .before .before
-    .before .before .before .before .before .before .before .before .before .before .args .rows .now) (c
-    .before .before .before .before .before .before .before .before .before .before .before .before .before
-    .before .before .args .notes .now)) (depth-in (c .before .before .before .before .before .before .before
-    .before .before .before .before .before .before .before .before .args .depths .now)) (c .before .before
-    .before .before .before .before .before .before .before .before .before .before .before .before .before
-    .args .p) _ _ _ (c .before .before .before .before .before .put-length .ensures) (c .take-two3 .ensures))
+    let at-l5 = c .before .before .before .before .before .before .before .before .before .before .l5 in
+    let a = c .before .before .before .before .before .before .before .before .before .before .before .before
+    .before .before .before .args in
+    rw (at-l5 .given .1) (length-done (plain (a .operands .now) (a .rows .now) (a .notes .now)) (depth-in (a
+    .depths .now)) (a .p) _ _ _ (c .before .before .before .before .before .put-length .ensures) (c .take-two3
+    .ensures))
 
 returns-6 : tie.Need-returns-6
 returns-6 c =

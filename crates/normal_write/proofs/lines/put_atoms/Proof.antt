@@ -19,37 +19,32 @@ abbrev μ-loop : tie.MeasureT-loop
 μ-loop ks₀ os₀ operands rows at m w v₀ i₀ ks os v i = i
 
 loop-holds : tie.Need-loop-holds Inv-loop μ-loop
-loop-holds c = (
-  omega arith,
-  omega arith,
-  search needs,
-  atoms-begin (c .before .before .args .operands .now) (c .before
-      .before .args .rows .now) (c .before .before .args .at) (c .before .before .args .m),
-)
+loop-holds c =
+    let a = c .before .before .args in
+    (omega arith, omega arith, search needs, atoms-begin (a .operands .now) (a .rows .now) (a .at) (a .m))
 
 loop-again : tie.Need-loop-again Inv-loop μ-loop
 loop-again c =
-    let v = c .before .before .before .before .before .before .before .before .before .loop .inv in (
+    let at-put-atom = c .before .before .before .put-atom in
+    let at-atom-of = c .before .before .before .before .before .before .atom-of in
+    let at-row-at = c .before .before .before .before .before .before .before .row-at in
+    let at-loop-test = c .before .before .before .before .before .before .before .before .loop-test in
+    let at-loop = c .before .before .before .before .before .before .before .before .before .loop in
+    let a = c .before .before .before .before .before .before .before .before .before .before .before .before .args in
+    let v = at-loop .inv in (
       omega arith,
       v .1,
-      lower (c .before .before .before .put-atom .ensures) (v .2),
-      atoms-go (c .before .before .before .before .before .before .before .before .before .before .before .before
-          .args .operands .now) (c .before .before .before .before .before .before .before .before .before .before
-          .before .before .args .rows .now) (c .before .before .before .before .before .before .before .before
-          .before .before .before .before .args .at) (c .before .before .before .before .before .before .before
-          .before .before .loop .i) (c .before .before .before .before .before .before .before .before .before
-          .before .before .before .args .m) (c .before .before .before .before .before .before .before .row-at
-          .result) (c .before .before .before .before .before .before .atom-of .result) (c .before .before .before
-          .before .before .before .before .before .loop-test .taken) (v .0)
-          (c .before .before .before .before .before .before .before .row-at .ensures) (c .before .before .before
-          .before .before .before .atom-of .ensures) (v .3) (c .before .before .before .put-atom .ensures),
+      lower (at-put-atom .ensures) (v .2),
+      atoms-go (a .operands .now)
+          (a .rows .now) (a .at) (at-loop .i) (a .m) (at-row-at .result) (at-atom-of .result) (at-loop-test .taken)
+          (v .0) (at-row-at .ensures) (at-atom-of .ensures) (v .3) (at-put-atom .ensures),
     )
 
 returns : tie.Need-returns Inv-loop μ-loop
 returns c =
-    atoms-end (c .before .before .before .before .args .operands .now) (c .before .before .before .before .args
-    .rows .now) (c .before .before .before .before .args .at) (c .before .loop .i) (c .before .before .before
-    .before .args .m) (c .loop-test .left) (c .before .loop .inv .3)
+    let at-loop = c .before .loop in
+    let a = c .before .before .before .before .args in
+    atoms-end (a .operands .now) (a .rows .now) (a .at) (at-loop .i) (a .m) (c .loop-test .left) (at-loop .inv .3)
 
 pub put-atoms-spec : {M : Type 1} → statement M
 put-atoms-spec =

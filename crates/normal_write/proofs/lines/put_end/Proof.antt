@@ -9,14 +9,17 @@ put-row-requires c κs =
 
 retain-atom-requires : tie.Need-retain-atom-requires
 retain-atom-requires c κs =
-    lower (c .before .before .before .before .before .put-row .ensures) (lower (c .before .before .before .before
-    .before .before .before .before .before .before .before .put-atom .ensures) (search needs))
+    let at-put-atom = c .before .before .before .before .before .before .before .before .before .before .before
+    .put-atom in
+    lower (c .before .before .before .before .before .put-row .ensures) (lower (at-put-atom .ensures) (search needs))
 
 returns : tie.Need-returns
 returns c =
-    wrote-then (wrote-then (c .before .before .before .before .before .before .before .before .before .before
-    .before .before .before .before .before .put-atom .ensures) (c .before .before .before .before .before
-    .before .before .before .before .put-row .ensures)) (c .before .before .before .retain-atom .ensures)
+    let at-put-row = c .before .before .before .before .before .before .before .before .before .put-row in
+    let at-put-atom = c .before .before .before .before .before .before .before .before .before .before .before
+    .before .before .before .before .put-atom in
+    wrote-then (wrote-then (at-put-atom .ensures) (at-put-row .ensures)) (c .before .before .before .retain-atom
+    .ensures)
 
 pub put-end-spec : {M : Type 1} → statement M
 put-end-spec =

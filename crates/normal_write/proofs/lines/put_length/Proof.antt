@@ -12,21 +12,20 @@ put-atom-requires c κs =
 
 put-row-requires : tie.Need-put-row-requires
 put-row-requires c κs =
-    lower (c .before .before .before .before .before .put-atom .ensures) (lower (c .before .before .before .before
-    .before .before .before .before .before .before .before .release-both .ensures) (search needs))
+    let at-release-both = c .before .before .before .before .before .before .before .before .before .before .before
+    .release-both in
+    lower (c .before .before .before .before .before .put-atom .ensures) (lower (at-release-both .ensures) (search
+    needs))
 
 returns : tie.Need-returns
 returns c =
-    wrote-as (length-rows (depth-in (c .before .before .before .before .before .before .before .before .before
-    .before .before .before .before .before .before .before .before .before .before .args .depths .now)) (c
-    .before .before .before .before .before .before .before .before .before .before .before .before .before
-    .before .before .before .before .before .before .args .x) (set-of (c .before .before .before .before
-    .before .before .before .before .before .before .before .before .before .before .before .before .before
-    .before .before .args .after .now)) (meant (c .before .before .before .before .before .before .before
-    .before .before .before .before .before .before .before .before .before .before .before .before .args .a)))
-    (wrote-then (wrote-then (c .before .before .before .before .before .before .before .before .before .before
-    .before .before .before .before .before .release-both .ensures) (c .before .before .before .before .before
-    .before .before .before .before .put-atom .ensures)) (c .before .before .before .put-row .ensures))
+    let at-put-atom = c .before .before .before .before .before .before .before .before .before .put-atom in
+    let at-release-both = c .before .before .before .before .before .before .before .before .before .before .before
+    .before .before .before .before .release-both in
+    let a = c .before .before .before .before .before .before .before .before .before .before .before .before
+    .before .before .before .before .before .before .before .args in
+    wrote-as (length-rows (depth-in (a .depths .now)) (a .x) (set-of (a .after .now)) (meant (a .a))) (wrote-then
+    (wrote-then (at-release-both .ensures) (at-put-atom .ensures)) (c .before .before .before .put-row .ensures))
 
 pub put-length-spec : {M : Type 1} → statement M
 put-length-spec =

@@ -12,38 +12,35 @@ put-atom-requires c κs =
 
 put-atom-requires-2 : tie.Need-put-atom-requires-2
 put-atom-requires-2 c κs =
-    lower (c .before .before .before .before .before .put-atom .ensures) (lower (c .before .before .before .before
-    .before .before .before .before .before .before .before .put-reads .ensures) (search needs))
+    let at-put-reads = c .before .before .before .before .before .before .before .before .before .before .before
+    .put-reads in
+    lower (c .before .before .before .before .before .put-atom .ensures) (lower (at-put-reads .ensures) (search
+    needs))
 
 put-row-requires : tie.Need-put-row-requires
 put-row-requires c κs =
-    lower (c .before .before .before .before .before .before .put-atom2 .ensures) (lower (c .before .before .before
-    .before .before .before .before .before .before .before .before .before .put-atom .ensures) (lower (c
-    .before .before .before .before .before .before .before .before .before .before .before .before .before
-    .before .before .before .before .before .put-reads .ensures) (search needs)))
+    let at-put-atom2 = c .before .before .before .before .before .before .put-atom2 in
+    let at-put-atom = c .before .before .before .before .before .before .before .before .before .before .before
+    .before .put-atom in
+    let at-put-reads = c .before .before .before .before .before .before .before .before .before .before .before
+    .before .before .before .before .before .before .before .put-reads in
+    lower (at-put-atom2 .ensures) (lower (at-put-atom .ensures) (lower (at-put-reads .ensures) (search needs)))
 
 returns : tie.Need-returns
 returns c =
-    wrote-as (operation-rows (depth-in (c .before .before .before .before .before .before .before .before .before
+    let at-operation-kind = c .before .before .before .before .before .before .operation-kind in
+    let at-put-atom2 = c .before .before .before .before .before .before .before .before .before .before .put-atom2 in
+    let at-put-atom = c .before .before .before .before .before .before .before .before .before .before .before
+    .before .before .before .before .before .put-atom in
+    let at-put-reads = c .before .before .before .before .before .before .before .before .before .before .before
+    .before .before .before .before .before .before .before .before .before .before .before .put-reads in
+    let a = c .before .before .before .before .before .before .before .before .before .before .before .before
     .before .before .before .before .before .before .before .before .before .before .before .before .before
-    .before .before .before .before .args .depths .now)) (c .before .before .before .before .before .before
-    .before .before .before .before .before .before .before .before .before .before .before .before .before
-    .before .before .before .before .before .before .before .args .x) (set-of (c .before .before .before
-    .before .before .before .before .before .before .before .before .before .before .before .before .before
-    .before .before .before .before .before .before .before .before .before .before .args .after .now))
-    (operation-of (c .before .before .before .before .before .before .before .before .before .before .before
-    .before .before .before .before .before .before .before .before .before .before .before .before .before
-    .before .before .args .kind)) (meant (c .before .before .before .before .before .before .before .before
-    .before .before .before .before .before .before .before .before .before .before .before .before .before
-    .before .before .before .before .before .args .a)) (meant (c .before .before .before .before .before
-    .before .before .before .before .before .before .before .before .before .before .before .before .before
-    .before .before .before .before .before .before .before .before .args .b)))
-    (rw (c .before .before .before .before .before .before .operation-kind .ensures) at (wrote-then (wrote-then
-    (wrote-then (c .before .before .before .before .before .before .before .before .before .before .before
-    .before .before .before .before .before .before .before .before .before .before .before .put-reads .ensures)
-    (c .before .before .before .before .before .before .before .before .before .before .before .before .before
-    .before .before .before .put-atom .ensures)) (c .before .before .before .before .before .before .before
-    .before .before .before .put-atom2 .ensures)) (c .before .before .before .put-row .ensures)))
+    .before .args in
+    wrote-as (operation-rows (depth-in (a .depths .now)) (a .x) (set-of (a .after .now)) (operation-of (a .kind))
+    (meant (a .a)) (meant (a .b))) (rw (at-operation-kind .ensures) at (wrote-then (wrote-then (wrote-then
+    (at-put-reads .ensures) (at-put-atom .ensures)) (at-put-atom2 .ensures)) (c .before .before .before
+    .put-row .ensures)))
 
 pub put-operation-spec : {M : Type 1} → statement M
 put-operation-spec =

@@ -22,62 +22,45 @@ abbrev μ-loop : tie.MeasureT-loop
 μ-loop ks₀ os₀ depths operands rows at m w later₀ v₀ i₀ ks os later v i = i
 
 loop-holds : tie.Need-loop-holds Inv-loop μ-loop
-loop-holds c = (
-  omega arith,
-  omega arith,
-  search needs,
-  retains-begin (c .before .before .args .operands .now) (c .before
-      .before .args .rows .now) (c .before .before .args .at) (depth-in (c .before .before .args .depths .now))
-      (set-of (c .before .before .args .live)) (c .before .before .args .m),
-  among-none (c .before .before .args
-      .operands .now) (c .before .before .args .rows .now) (c .before .before .args .at) (c .before .before .args
-      .m) (set-of (c .before .before .args .live)),
-)
+loop-holds c =
+    let a = c .before .before .args in (
+      omega arith,
+      omega arith,
+      search needs,
+      retains-begin (a .operands .now) (a .rows .now) (a .at) (depth-in (a
+          .depths .now)) (set-of (a .live)) (a .m),
+      among-none (a .operands .now) (a .rows .now) (a .at) (a .m)
+          (set-of (a .live)),
+    )
 
 loop-again : tie.Need-loop-again Inv-loop μ-loop
 loop-again c =
-    let v = c .before .before .before .before .before .before .before .before .before .before .before .loop .inv in (
+    let at-retain-atom = c .before .before .before .before .retain-atom in
+    let at-atom-of = c .before .before .before .before .before .before .before .before .atom-of in
+    let at-row-at = c .before .before .before .before .before .before .before .before .before .row-at in
+    let at-loop-test = c .before .before .before .before .before .before .before .before .before .before .loop-test in
+    let at-loop = c .before .before .before .before .before .before .before .before .before .before .before .loop in
+    let a = c .before .before .before .before .before .before .before .before .before .before .before .before
+    .before .before .args in
+    let v = at-loop .inv in (
       omega arith,
       v .1,
-      lower (c .before .before .before .before .retain-atom .ensures) (v .2),
-      retains-go (c .before .before .before .before .before .before .before .before .before .before .before .before
-          .before .before .args .operands .now) (c .before .before .before .before .before .before .before .before
-          .before .before .before .before .before .before .args .rows .now) (c .before .before .before .before
-          .before .before .before .before .before .before .before .before .before .before .args .at) (depth-in (c
-          .before .before .before .before .before .before .before .before .before .before .before .before .before
-          .before .args .depths .now)) (set-of (c .before .before .before .before .before .before .before .before
-          .before .before .before .before .before .before .args .live)) (c .before .before .before .before .before
-          .before .before .before .before .before .before .loop .i) (c .before .before .before .before .before
-          .before .before .before .before .before .before .before .before .before .args .m) (c .before .before
-          .before .before .before .before .before .before .before .row-at .result) (c .before .before .before
-          .before .before .before .before .before .atom-of .result) _
-          (c .before .before .before .before .before .before .before .before .before .before .loop-test .taken) (v
-          .0) (c .before .before .before .before .before .before .before .before .before .row-at .ensures) (c
-          .before .before .before .before .before .before .before .before .atom-of .ensures) (v .4) (v .3) (c
-          .before .before .before .before .retain-atom .ensures),
-      among-more (c .before .before .before .before .before .before .before .before .before .before .before .before
-          .before .before .args .operands .now) (c .before .before .before .before .before .before .before .before
-          .before .before .before .before .before .before .args .rows .now) (c .before .before .before .before
-          .before .before .before .before .before .before .before .before .before .before .args .at) (c .before
-          .before .before .before .before .before .before .before .before .before .before .loop .i) (c .before
-          .before .before .before .before .before .before .before .before .before .before .before .before .before
-          .args .m) (c .before .before .before .before .before .before .before .before .before .row-at .result)
-          (set-of (c .before .before .before .before .before .before .before .before .before .before .before
-          .before .before .before .args .live)) (set-of (c .before .before .before .before .before .before .before
-          .before .before .before .before .loop .later)) _ (c .before .before .before .before .before .before
-          .before .before .atom-of .result)
-          (c .before .before .before .before .before .before .before .before .before .before .loop-test .taken) (v
-          .0) (v .4) (c .before .before .before .before .before .before .before .before .before .row-at
-          .ensures) (c .before .before .before .before .before .before .before .before .atom-of .ensures) (c
-          .add .ensures),
+      lower (at-retain-atom .ensures) (v .2),
+      retains-go (a .operands
+          .now) (a .rows .now) (a .at) (depth-in (a .depths .now)) (set-of (a .live)) (at-loop .i) (a .m) (at-row-at
+          .result) (at-atom-of .result) _ (at-loop-test .taken) (v .0) (at-row-at .ensures) (at-atom-of .ensures) (v
+          .4) (v .3) (at-retain-atom .ensures),
+      among-more (a .operands .now) (a .rows .now) (a .at) (at-loop .i) (a
+          .m) (at-row-at .result) (set-of (a .live)) (set-of (at-loop .later)) _ (at-atom-of .result) (at-loop-test
+          .taken) (v .0) (v .4) (at-row-at .ensures) (at-atom-of .ensures) (c .add .ensures),
     )
 
 returns : tie.Need-returns Inv-loop μ-loop
 returns c =
-    retains-end (c .before .before .before .before .args .operands .now) (c .before .before .before .before .args
-    .rows .now) (c .before .before .before .before .args .at) (depth-in (c .before .before .before .before
-    .args .depths .now)) (set-of (c .before .before .before .before .args .live)) (c .before .loop .i) (c
-    .before .before .before .before .args .m) (c .loop-test .left) (c .before .loop .inv .3)
+    let at-loop = c .before .loop in
+    let a = c .before .before .before .before .args in
+    retains-end (a .operands .now) (a .rows .now) (a .at) (depth-in (a .depths .now)) (set-of (a .live)) (at-loop
+    .i) (a .m) (c .loop-test .left) (at-loop .inv .3)
 
 pub put-retains-spec : {M : Type 1} → statement M
 put-retains-spec =

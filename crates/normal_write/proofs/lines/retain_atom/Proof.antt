@@ -11,24 +11,23 @@ use Rattle.normal_write.proofs.lines.retain_atom.Tie as tie
 
 returns : tie.Need-returns
 returns c =
-    rw (c .before .before .before .before .before .before .before .before .before .a .given .1) (wrote-as (ap (λ (l
-    : List ℕ). retain-rows l)
-    (handed-on (depth-in (c .before .before .before .before .before .before .before .before .before .before .before
-    .before .args .depths .now)) _ (set-of (c .before .before .before .before .before .before .before .before
-    .before .before .before .before .args .later .now)) (c .before .before .before .before .before .before .if1
-    .taken))) (c .before .before .before .put-retain .ensures))
+    let at-if1 = c .before .before .before .before .before .before .if1 in
+    let at-a = c .before .before .before .before .before .before .before .before .before .a in
+    let a = c .before .before .before .before .before .before .before .before .before .before .before .before .args in
+    rw (at-a .given .1) (wrote-as (ap (λ (l : List ℕ). retain-rows l) (handed-on (depth-in (a .depths .now)) _
+    (set-of (a .later .now)) (at-if1 .taken))) (c .before .before .before .put-retain .ensures))
 
 returns-2 : tie.Need-returns-2
 returns-2 c =
-    rw (c .enum-told .given .1) (wrote-as (ap (λ (l : List ℕ). retain-rows l)
-    (handed-number (depth-in (c .before .before .before .args .depths .now)) _ (set-of (c .before .before .before
-    .args .later .now)))) wrote-none)
+    let a = c .before .before .before .args in
+    rw (c .enum-told .given .1) (wrote-as (ap (λ (l : List ℕ). retain-rows l) (handed-number (depth-in (a .depths
+    .now)) _ (set-of (a .later .now)))) wrote-none)
 
 returns-3 : tie.Need-returns-3
 returns-3 c =
-    rw (c .before .before .before .a .given .1) (wrote-as (ap (λ (l : List ℕ). retain-rows l)
-    (handed-off (depth-in (c .before .before .before .before .before .before .args .depths .now)) _ (set-of (c
-    .before .before .before .before .before .before .args .later .now)) (c .if1 .left))) wrote-none)
+    let a = c .before .before .before .before .before .before .args in
+    rw (c .before .before .before .a .given .1) (wrote-as (ap (λ (l : List ℕ). retain-rows l) (handed-off (depth-in
+    (a .depths .now)) _ (set-of (a .later .now)) (c .if1 .left))) wrote-none)
 
 pub retain-atom-spec : {M : Type 1} → statement M
 retain-atom-spec =

@@ -22,49 +22,44 @@ abbrev μ-loop : tie.MeasureT-loop
 μ-loop operands rows notes cur₀ at m names₀ i₀ cur names i = i
 
 loop-holds : tie.Need-loop-holds Inv-loop μ-loop
-loop-holds c = (
-  omega arith,
-  omega arith,
-  search needs,
-  among-none (c .before .args .operands .now) (c .before .args .rows
-      .now) (c .before .args .at) (c .before .args .m) _,
-  unmarked-none (c .before .args .operands .now) (c
-      .before .args .rows .now) (c .before .args .notes .now) (c .before .args .at) (c .before .args .m) _,
-)
+loop-holds c =
+    let a = c .before .args in (
+      omega arith,
+      omega arith,
+      search needs,
+      among-none (a .operands .now) (a .rows .now) (a .at) (a .m) _,
+      unmarked-none (a .operands .now) (a .rows .now) (a .notes .now) (a .at) (a .m) _,
+    )
 
 loop-again : tie.Need-loop-again Inv-loop μ-loop
 loop-again c =
-    let v = c .before .before .before .before .before .loop .inv in (
+    let at-atom-of = c .before .before .atom-of in
+    let at-row-at = c .before .before .before .row-at in
+    let at-loop-test = c .before .before .before .before .loop-test in
+    let at-loop = c .before .before .before .before .before .loop in
+    let a = c .before .before .before .before .before .before .before .args in
+    let v = at-loop .inv in (
       omega arith,
       v .1,
       c .take-back .ensures .long,
-      among-more (c .before .before .before .before .before .before .before .args .operands .now) (c .before
-          .before .before .before .before .before .before .args .rows .now) (c .before .before .before .before
-          .before .before .before .args .at) (c .before .before .before .before .before .loop .i) (c .before
-          .before .before .before .before .before .before .args .m) (c .before .before .before .row-at .result) _ _
-          _ (c .before .before .atom-of .result) (c .before .before .before .before .loop-test .taken) (v .0)
-          (v .3) (c .before .before .before .row-at .ensures) (c .before .before .atom-of .ensures) (c .take-back
-          .ensures .names),
-      unmarked-more (c .before .before .before .before .before .before .before .args .operands .now) (c .before
-          .before .before .before .before .before .before .args .rows .now) (c .before .before .before .before
-          .before .before .before .args .notes .now) (c .before .before .before .before .before .before .before
-          .args .at) (c .before .before .before .before .before .loop .i) (c .before .before .before .before
-          .before .before .before .args .m) (c .before .before .before .row-at .result) _ _ _ (c .before .before
-          .atom-of .result) (c .before .before .before .before .loop-test .taken) (v .0)
-          (v .4) (c .before .before .before .row-at .ensures) (c .before .before .atom-of .ensures) (c .take-back
-          .ensures .marks),
+      among-more (a .operands .now) (a
+          .rows .now) (a .at) (at-loop .i) (a .m) (at-row-at .result) _ _ _ (at-atom-of .result) (at-loop-test
+          .taken) (v .0) (v .3) (at-row-at .ensures) (at-atom-of .ensures) (c .take-back .ensures .names),
+      unmarked-more (a .operands .now) (a .rows .now) (a .notes .now) (a .at) (at-loop .i) (a .m) (at-row-at
+          .result) _ _ _ (at-atom-of .result) (at-loop-test .taken) (v .0) (v .4) (at-row-at .ensures) (at-atom-of
+          .ensures) (c .take-back .ensures .marks),
     )
 
 returns : tie.Need-returns Inv-loop μ-loop
 returns c =
+    let at-loop = c .before .loop in
+    let a = c .before .before .before .args in
     record {
-      names = among-all (c .before .before .before .args .operands .now) (c .before .before .before .args .rows
-          .now) (c .before .before .before .args .at) (c .before .loop .i) (c .before .before .before .args .m) _ _
-          (c .loop-test .left) (c .before .loop .inv .3);
-      marks = unmarked-end (c .before .before .before .args .operands .now) (c .before .before .before .args .rows
-          .now) (c .before .before .before .args .notes .now) (c .before .before .before .args .at) (c .before
-          .loop .i) (c .before .before .before .args .m) _ _ (c .loop-test .left) (c .before .loop .inv .4);
-      long = c .before .loop .inv .2;
+      names = among-all (a .operands .now) (a .rows .now) (a .at) (at-loop .i) (a .m) _ _ (c .loop-test
+          .left) (at-loop .inv .3);
+      marks = unmarked-end (a .operands .now) (a .rows .now) (a .notes .now) (a .at)
+          (at-loop .i) (a .m) _ _ (c .loop-test .left) (at-loop .inv .4);
+      long = at-loop .inv .2;
     }
 
 pub take-atoms-spec : {M : Type 1} → statement M

@@ -23,44 +23,40 @@ abbrev μ-loop : tie.MeasureT-loop
 μ-loop ks₀ os₀ depths cur row n a live w at₀ i₀ ks os at i = i
 
 loop-holds : tie.Need-loop-holds Inv-loop μ-loop
-loop-holds c = (
-  omega arith,
-  omega arith,
-  search needs,
-  release-none (depth-in (c .before .args .depths .now)) (is (meant (c
-      .before .args .a)) ∪ since (c .before .args .row) (marks-of (c .before .args .cur .now))) (set-of (c
-      .before .args .live .now)) (c .before .args .n),
-)
+loop-holds c =
+    let a = c .before .args in (
+      omega arith,
+      omega arith,
+      search needs,
+      release-none (depth-in (a .depths .now)) (is (meant (a .a)) ∪ since
+          (a .row) (marks-of (a .cur .now))) (set-of (a .live .now)) (a .n),
+    )
 
 loop-again : tie.Need-loop-again Inv-loop μ-loop
 loop-again c =
-    let v = c .before .before .before .before .before .before .before .before .before .before .before .loop .inv in (
+    let at-release-one = c .before .before .before .release-one in
+    let at-either = c .before .before .before .before .before .before .before .either in
+    let at-is-name = c .before .before .before .before .before .before .before .before .is-name in
+    let at-is-since = c .before .before .before .before .before .before .before .before .before .is-since in
+    let at-loop-test = c .before .before .before .before .before .before .before .before .before .before .loop-test in
+    let at-loop = c .before .before .before .before .before .before .before .before .before .before .before .loop in
+    let a = c .before .before .before .before .before .before .before .before .before .before .before .before
+    .before .args in
+    let v = at-loop .inv in (
       omega arith,
       v .1,
-      lower (c .before .before .before .release-one .ensures) (v .2),
-      wrote-as
-          (release-used (depth-in (c .before .before .before .before .before .before .before .before .before
-          .before .before .before .before .args .depths .now)) (is (meant (c .before .before .before .before
-          .before .before .before .before .before .before .before .before .before .args .a)) ∪ since (c .before
-          .before .before .before .before .before .before .before .before .before .before .before .before .args
-          .row) (marks-of (c .before .before .before .before .before .before .before .before .before .before
-          .before .before .before .args .cur .now))) (set-of (c .before .before .before .before .before .before
-          .before .before .before .before .before .before .before .args .live .now)) (c .before .before .before
-          .before .before .before .before .before .before .before .before .before .before .args .n) (c .before
-          .before .before .before .before .before .before .before .before .before .before .loop .i)
-          (used-is (c .before .before .before .before .before .before .before .either .ensures) (c .before .before
-          .before .before .before .before .before .before .is-name .ensures) (c .before .before .before .before
-          .before .before .before .before .before .is-since .ensures)) (c .before .before .before .before
-          .before .before .before .before .before .before .loop-test .taken) (v .0) (v .1))
-          (wrote-then (v .3) (c .before .before .before .release-one .ensures)),
+      lower (at-release-one .ensures) (v .2),
+      wrote-as (release-used
+          (depth-in (a .depths .now)) (is (meant (a .a)) ∪ since (a .row) (marks-of (a .cur .now))) (set-of (a .live
+          .now)) (a .n) (at-loop .i) (used-is (at-either .ensures) (at-is-name .ensures) (at-is-since .ensures))
+          (at-loop-test .taken) (v .0) (v .1)) (wrote-then (v .3) (at-release-one .ensures)),
     )
 
 returns : tie.Need-returns Inv-loop μ-loop
 returns c =
-    release-all (depth-in (c .before .before .before .args .depths .now)) (below (c .before .before .before .args
-    .n) (is (meant (c .before .before .before .args .a)) ∪ since (c .before .before .before .args .row)
-    (marks-of (c .before .before .before .args .cur .now)))) (set-of (c .before .before .before .args .live
-    .now)) (c .loop-test .left) (c .before .loop .inv .3)
+    let a = c .before .before .before .args in
+    release-all (depth-in (a .depths .now)) (below (a .n) (is (meant (a .a)) ∪ since (a .row) (marks-of (a .cur
+    .now)))) (set-of (a .live .now)) (c .loop-test .left) (c .before .loop .inv .3)
 
 pub put-used-spec : {M : Type 1} → statement M
 put-used-spec =
