@@ -1,5 +1,5 @@
--- A tree stands in plain code from a row on: its lines and atoms are there, each line is linked to the one before it, and
--- each name's row to the row of the use before it.
+-- A tree stands in plain code from a row on: its lines and atoms are there, each line is linked to the one before it,
+-- and each name's row to the row of the use before it.
 use mathlib.Core.Path.{_≡_}
 use mathlib.Core.List.{List, [], _∷_}
 use Prim.Native.Nat.{ℕ, _+_, _-_, _<_, _≤_}
