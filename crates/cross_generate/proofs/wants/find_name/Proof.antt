@@ -1,8 +1,8 @@
--- `cross_generate::parts::find_name` ends: the names left fall.
+-- `cross_generate::wants::find_name` ends: the names left fall.
 use Prim.Native.Nat.{_≤_, _<_, _-_}
 use borrow.Author.Needs.{needs}
-use Rattle.cross_generate.proofs.parts.find_name.Statement.{statement}
-use Rattle.cross_generate.proofs.parts.find_name.Tie as tie
+use Rattle.cross_generate.proofs.wants.find_name.Statement.{statement}
+use Rattle.cross_generate.proofs.wants.find_name.Tie as tie
 
 abbrev Inv-loop : tie.InvT-loop
 Inv-loop desk depth start i₀ i = (i ≤ 8) × (start < 8)

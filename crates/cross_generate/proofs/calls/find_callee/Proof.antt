@@ -1,8 +1,8 @@
--- `cross_generate::parts::find_callee` ends: the functions left fall.
+-- `cross_generate::calls::find_callee` ends: the functions left fall.
 use Prim.Native.Nat.{_≤_, _<_, _-_}
 use borrow.Author.Needs.{needs}
-use Rattle.cross_generate.proofs.parts.find_callee.Statement.{statement}
-use Rattle.cross_generate.proofs.parts.find_callee.Tie as tie
+use Rattle.cross_generate.proofs.calls.find_callee.Statement.{statement}
+use Rattle.cross_generate.proofs.calls.find_callee.Tie as tie
 
 abbrev Inv-loop : tie.InvT-loop
 Inv-loop desk₀ depth start i₀ desk i = (i ≤ 32) × (start < 32)

@@ -1,14 +1,14 @@
--- `cross_generate::parts::push_arguments` ends: the arguments left fall.
+-- `cross_generate::calls::push_arguments` ends: the arguments left fall.
 use Prim.Native.Nat.{_≤_}
 use borrow.Author.Needs.{needs}
-use Rattle.cross_generate.proofs.parts.push_arguments.Statement.{statement}
-use Rattle.cross_generate.proofs.parts.push_arguments.Tie as tie
+use Rattle.cross_generate.proofs.calls.push_arguments.Statement.{statement}
+use Rattle.cross_generate.proofs.calls.push_arguments.Tie as tie
 
 abbrev Inv-loop : tie.InvT-loop
-Inv-loop desk₀ callee count levels left₀ desk left = left ≤ count
+Inv-loop desk₀ callee count room left₀ desk left = left ≤ count
 
 abbrev μ-loop : tie.MeasureT-loop
-μ-loop desk₀ callee count levels left₀ desk left = left
+μ-loop desk₀ callee count room left₀ desk left = left
 
 pub push-arguments-spec : {M : Type 1} → statement M
 push-arguments-spec =
