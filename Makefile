@@ -9,7 +9,7 @@ OBJCOPY ?= objcopy
 ROUNDS ?= 25
 PROVED_LIBRARY := target/staticlib/libengine.a
 LIBRARY ?= $(PROVED_LIBRARY)
-VECTORS ?= $(wildcard $(foreach name,translate check deliver,crates/*/data/$(name).txt))
+VECTORS ?= $(wildcard $(foreach name,translate check deliver,crates/*/data/$(name)*.txt))
 SANITIZERS := -O1 -g -fsanitize=address,undefined -fno-sanitize-recover=all
 PEDANTIC := -Wall -Wextra -Wpedantic -Wconversion -Wsign-conversion -Werror
 SCRIPT ?= build/forecourt.script
@@ -143,7 +143,7 @@ build/store_bits: tests/host/store_bits.c host/store_file.c host/text.c host/mes
 	$(CC) $(CFLAGS) -Iinclude -o $@ $(filter %.c,$^)
 
 STRIKERS := build/fault build/store_bits
-HOST_TESTS := controller_test store_test fault_test script_test manual_test
+HOST_TESTS := controller_test store_test fault_test script_test refusal_test manual_test
 
 check-tool: all $(STRIKERS)
 	$(foreach test,$(HOST_TESTS),CC='$(CC)' LIBRARY='$(LIBRARY)' tests/host/$(test) build &&) :

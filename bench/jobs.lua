@@ -35,6 +35,48 @@ local jobs = {
     ]],
     totals = {}, reading = 1,
   },
+  filters = {
+    text = [[
+      local function filter(array, guard)
+        local kept = {}
+        for i = 1, #array do
+          if guard(array[i]) ~= 0 then kept[#kept + 1] = array[i] end
+        end
+        return kept
+      end
+      return function(totals, readings)
+        local all = { 0, 1, 2, 3, 4, 5, 6, 7, 8, 9, 10, 11, 12, 13, 14, 15 }
+        return filter({ 0, 1, 2, 3, 4, 5, 6, 7, 8, 9, 10 }, function(x)
+          return #filter(all, function(a)
+            return #filter(all, function(b)
+              return #filter(all, function(c) return x + c end)
+            end)
+          end)
+        end)
+      end
+    ]],
+    totals = {}, reading = 1,
+  },
+  reduces = {
+    text = [[
+      local function reduce(start, array, body)
+        local so_far = start
+        for i = 1, #array do so_far = body(so_far, array[i]) end
+        return so_far
+      end
+      return function(totals, readings)
+        local all = { 0, 1, 2, 3, 4, 5, 6, 7, 8, 9, 10, 11, 12, 13, 14, 15 }
+        return reduce(0, { 0, 1, 2, 3, 4, 5, 6, 7, 8, 9, 10 }, function(s, x)
+          return s + reduce(0, all, function(s, a)
+            return s + reduce(0, all, function(s, b)
+              return s + reduce(0, all, function(s, c) return s + c end)
+            end)
+          end)
+        end)
+      end
+    ]],
+    totals = 0, reading = 1,
+  },
   calls = {
     text = [[
       local function fibonacci(n)

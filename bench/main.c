@@ -1,6 +1,7 @@
 /* Measures the four calls and prints a line for each case: its name and values as KEY=VALUE, for bench/report.
  * Times are of this thread's processor time, in nanoseconds a call: the least of several rounds, many calls each. Where
- * there is a base, its rounds and this library's come in turn. The environment's ROUNDS says how many there are. */
+ * there is a base that knows the script's kinds, its rounds and this library's come in turn. The environment's ROUNDS
+ * says how many there are. */
 #define _POSIX_C_SOURCE 200809L
 #include "engines.h"
 #include "scripts.h"
@@ -33,10 +34,13 @@ static const struct bench_case cases[] = {
     { "printed_256", printed_script, 256, LINES, 1, 1, ENGINE_DONE, CALLS },
     { "nodes_1024", large_script, 16, LINES, 1, 1, ENGINE_DONE, CALLS },
     { "mixed_1024", mixed_script, 16, LINES, 1, 1, ENGINE_DONE, CALLS },
+    { "second_1024", second_script, 16, LINES, 1, 1, ENGINE_DONE, CALLS },
     { "levels_64", level_script, 16, LINES, 1, 1, ENGINE_DONE, CALLS },
     { "functions_32", small_functions_script, 16, LINES, 1, 1, ENGINE_DONE, CALLS },
     { "balanced_ifs", balanced_if_script, 16, LINES, 1, 1, ENGINE_DONE, CALLS },
     { "maps", map_script, 16, LINES, 1, 1, ENGINE_DONE, CALLS },
+    { "filters", filter_script, 16, LINES, 1, 1, ENGINE_DONE, CALLS },
+    { "reduces", reduce_script, 16, LINES, 1, 1, ENGINE_DONE, CALLS },
     { "calls", call_script, 16, LINES, 1, 20, ENGINE_DONE, CALLS },
     { "size_128", size_128_script, 16, 0, 1, 1, ENGINE_DONE, 1 },
     { "size_256", size_256_script, 16, 0, 1, 1, ENGINE_DONE, 1 },
@@ -46,11 +50,14 @@ static const struct bench_case cases[] = {
     { "skipped_releases", skipped_release_script, 256, LINES, 16, 1, ENGINE_OUT_OF_STEPS, CALLS },
     { "skipped_body", skipped_body_script, 256, LINES, 16, 1, ENGINE_DONE, CALLS },
     { "many_arrays", many_arrays_script, 256, LINES, 16, 1, ENGINE_OUT_OF_STEPS, CALLS },
+    { "many_replicates", many_replicates_script, 256, LINES, 16, 1, ENGINE_OUT_OF_STEPS, CALLS },
     { "deep_arrays", deep_array_script, 256, LINES, 1, 0, ENGINE_DONE, 0 },
     { "deep_bodies", deep_body_script, 256, LINES, 1, 0, ENGINE_DONE, 0 },
+    { "deep_reduces", deep_reduce_script, 256, LINES, 1, 0, ENGINE_DONE, 0 },
     { "deep_ifs", deep_if_script, 256, LINES, 1, 0, ENGINE_CALL_TOO_DEEP, 0 },
     { "deep_mixed", deep_mixed_script, 256, LINES, 1, 0, ENGINE_CALL_TOO_DEEP, 0 },
-    { "deepest", deepest_script, 256, LINES, 1, 0, ENGINE_CALL_TOO_DEEP, 0 },
+    { "deepest_ifs", deepest_if_script, 256, LINES, 1, 0, ENGINE_CALL_TOO_DEEP, 0 },
+    { "deepest_reduces", deepest_reduce_script, 256, LINES, 1, 0, ENGINE_CALL_TOO_DEEP, 0 },
 };
 
 /* What the calls are lent; all libraries work on the same arrays. */
@@ -66,6 +73,7 @@ struct bench {
     int64_t readings[ENGINE_READINGS_MAX];
     size_t readings_length;
     uint64_t answer;
+    int knowing; /* how many of the libraries, the first ones, know the script's kinds */
 };
 
 static struct bench bench;
@@ -169,6 +177,17 @@ static void demand(const char *name, const struct timed *timed, unsigned number)
     }
 }
 
+/* Finds how many of the libraries know the script's kinds: a base of the first edition refuses those of the second. */
+static void find_knowing(void)
+{
+    for (bench.knowing = 1; bench.knowing < ENGINES; bench.knowing++) {
+        bench.engine = &engines[bench.knowing];
+        translate(&bench);
+        if (engine_answer_number(bench.answer) == ENGINE_MALFORMED)
+            return;
+    }
+}
+
 /* Prepares what is lent, and prints the sizes of the script. */
 static void prepare(const struct bench_case *c)
 {
@@ -183,6 +202,7 @@ static void prepare(const struct bench_case *c)
     demand(c->name, &first, ENGINE_DONE);
     uint32_t lines = engine_answer_lines(bench.answer);
     bench.lines = c->lines == 0 ? lines : c->lines;
+    find_knowing();
     printf("%s nodes=%zu lines=%" PRIu32 " cells=%zu", c->name, (bench.script.length - 4) / 9, lines, c->cells);
 }
 
@@ -192,12 +212,13 @@ static unsigned wanted(const struct bench_case *c, int i)
     return i == CALLS - 1 ? c->number : ENGINE_DONE;
 }
 
-/* Makes each call of each library, and finds the rounds of those that are timed. The libraries must answer the same. */
+/* Makes each call of each library that knows the script, and finds the rounds of those that are timed. The libraries
+ * must answer the same. */
 static void call_first(const struct bench_case *c, struct timed timed[CALLS][ENGINES], uint64_t rounds)
 {
     uint64_t answer = 0;
     for (int i = 0; i < CALLS; i++)
-        for (int e = 0; e < ENGINES; e++) {
+        for (int e = 0; e < bench.knowing; e++) {
             struct timed *t = &timed[i][e];
             *t = (struct timed){ &calls[i], &engines[e], 1, 0, 0 };
             t->least = repeated(t);
@@ -218,7 +239,7 @@ static void time_calls(const struct bench_case *c, struct timed timed[CALLS][ENG
 {
     for (uint64_t round = 0; round < rounds; round++)
         for (int i = 0; i < CALLS; i++)
-            for (int e = 0; e < ENGINES; e++)
+            for (int e = 0; e < bench.knowing; e++)
                 if (timed[i][e].rounds > 0) {
                     time_round(&timed[i][e]);
                     demand(c->name, &timed[i][e], wanted(c, i));
@@ -232,7 +253,7 @@ static void measure(const struct bench_case *c, uint64_t rounds)
     call_first(c, timed, rounds);
     time_calls(c, timed, rounds);
     for (int i = 0; i < c->timed; i++)
-        for (int e = 0; e < ENGINES; e++)
+        for (int e = 0; e < bench.knowing; e++)
             printf(" %s%s=%.0f", engines[e].mark, calls[i].name,
                    (double)timed[i][e].least / (double)timed[i][e].times);
     bench.engine = &engines[0];

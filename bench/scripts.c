@@ -147,6 +147,68 @@ void mixed_script(struct script *script)
     finish(&w, script);
 }
 
+/* f(a, x): `units` times a filter of the array a, a reduce of it from x, a map of an iota of its length, and a
+ * replicate of x; then the function `next` of what they gave, if it is not 0. */
+static void second_function(struct writer *w, int units, int next)
+{
+    function(w, 2, 0);
+    parameter(w, 0, 1);
+    parameter(w, 1, 0);
+    for (int i = 0; i < units; i++) {
+        let(w, 0);
+        filter(w, 2);
+        name(w, 0);
+        sum(w);
+        name(w, 2);
+        name(w, 1);
+        let(w, 1);
+        reduce(w, 3, 2);
+        name(w, 1);
+        name(w, 0);
+        difference(w);
+        name(w, 3);
+        name(w, 2);
+        let(w, 4);
+        map(w, 2);
+        iota(w);
+        length_of(w);
+        name(w, 0);
+        sum(w);
+        name(w, 2);
+        name(w, 1);
+        let(w, 0);
+        replicate(w);
+        number(w, 2);
+        name(w, 1);
+    }
+    if (next != 0) {
+        call(w, next, 2);
+        name(w, 0);
+    } else {
+        sum(w);
+        length_of(w);
+        name(w, 0);
+    }
+    name(w, 1);
+}
+
+void second_script(struct script *script)
+{
+    struct writer w = main_of(1);
+    literal(&w, 1, 0);
+    for (int i = 0; i < 15; i++) {
+        sum(&w);
+        number(&w, i);
+    }
+    call(&w, 1, 2);
+    name(&w, 1);
+    number(&w, 5);
+    for (int f = 1; f <= 6; f++)
+        second_function(&w, f <= 2 ? 7 : 6, f < 6 ? f + 1 : 0);
+    assert(w.nodes == ENGINE_NODES_MAX);
+    finish(&w, script);
+}
+
 /* Main adds to its totals what `functions` functions make of the first reading, each from the next one's result. */
 static void sized_script(struct script *script, int functions)
 {
@@ -218,6 +280,43 @@ void map_script(struct script *script)
     name(&w, 6);
     for (int i = 0; i < 3; i++)
         number(&w, 15);
+    finish(&w, script);
+}
+
+void filter_script(struct script *script)
+{
+    struct writer w = main_of(1);
+    let(&w, 2);
+    counting_literal(&w, 16);
+    filter(&w, 3);
+    counting_literal(&w, 11);
+    for (int i = 4; i < 7; i++) { /* names 4, 5 and 6 */
+        length_of(&w);
+        filter(&w, i);
+        name(&w, 2);
+    }
+    sum(&w);
+    name(&w, 3);
+    name(&w, 6);
+    finish(&w, script);
+}
+
+void reduce_script(struct script *script)
+{
+    struct writer w = main_of(0);
+    let(&w, 2);
+    counting_literal(&w, 16);
+    for (int i = 3; i < 7; i++) { /* names 3 to 6, beside 7 for each running value */
+        reduce(&w, 7, i);
+        number(&w, 0);
+        if (i == 3)
+            counting_literal(&w, 11);
+        else
+            name(&w, 2);
+        sum(&w);
+        name(&w, 7);
+    }
+    name(&w, 6);
     finish(&w, script);
 }
 

@@ -15,8 +15,11 @@ void printed_script(struct script *script);
 /* 1,024 nodes in six functions, all worked by each delivery: sums, and lets within one another. */
 void large_script(struct script *script);
 
-/* 1,024 nodes in seven functions, of all kinds: 36 maps, 72 ifs, arrays and calls. */
+/* 1,024 nodes in seven functions, of all kinds of the first edition: 36 maps, 72 ifs, arrays and calls. */
 void mixed_script(struct script *script);
+
+/* 1,024 nodes in seven functions, of the second edition: 38 filters, reduces, replicates, and maps of iotas. */
+void second_script(struct script *script);
 
 /* 128 to 1,024 nodes: functions of 31 sums, the first of 29. */
 void size_128_script(struct script *script);
@@ -36,6 +39,10 @@ void level_script(struct script *script);
 /* Four maps within one another, over 11, 16, 16 and 16 elements. */
 void map_script(struct script *script);
 
+/* The same with filters, each keeping all elements but one at most, and with reduces. All three take as many steps. */
+void filter_script(struct script *script);
+void reduce_script(struct script *script);
+
 /* Fibonacci's numbers by two calls each, for the first reading. */
 void call_script(struct script *script);
 
@@ -51,8 +58,13 @@ void deep_body_script(struct script *script);
 /* 63 maps, each of the next one's result. */
 void deep_array_script(struct script *script);
 
-/* The deepest delivery that there can be: 63 ifs and a call at level 64, at each of the 32 call depths, then a stop. */
-void deepest_script(struct script *script);
+/* 63 reduces of the readings within one another, down to level 64. */
+void deep_reduce_script(struct script *script);
+
+/* The deepest deliveries that there can be: 63 ifs, or reduces of one element, and a call at level 64, at each of the
+ * 32 call depths, then a stop. A map or filter cannot stand at each level: its body's depth is another than its own. */
+void deepest_if_script(struct script *script);
+void deepest_reduce_script(struct script *script);
 
 /* Deliveries that are slow where a step's time grows with what it passes over; they want 16 readings. Five maps within
  * one another, in whose innermost tree an if never takes its long branch; the same with releases at the start of many
@@ -62,7 +74,9 @@ void skipped_branch_script(struct script *script);
 void skipped_release_script(struct script *script);
 void skipped_body_script(struct script *script);
 
-/* Steps that are long themselves: five maps, in whose innermost tree 56 arrays of 16 arrays are made and released. */
+/* Steps that are long themselves: five maps, in whose innermost tree 56 arrays of 16 arrays are made and released, by
+ * literals or by replicates. */
 void many_arrays_script(struct script *script);
+void many_replicates_script(struct script *script);
 
 #endif

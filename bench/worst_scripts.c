@@ -58,6 +58,24 @@ void deep_array_script(struct script *script)
     finish(&w, script);
 }
 
+/* `count` reduces of an array, each in the body of the one before; the innermost body, a number, is to follow. */
+static void nested_reduces(struct writer *w, int count, int array)
+{
+    for (int i = 0; i < count; i++) {
+        reduce(w, 2, 3);
+        number(w, 0);
+        name(w, array);
+    }
+}
+
+void deep_reduce_script(struct script *script)
+{
+    struct writer w = main_of(0);
+    nested_reduces(&w, ENGINE_LEVELS_MAX - 1, 1);
+    name(&w, 2);
+    finish(&w, script);
+}
+
 /* 63 ifs, each in the else part of the one before, and at level 64 in the last a call of function 1. */
 static void ifs_to_call(struct writer *w)
 {
@@ -69,12 +87,34 @@ static void ifs_to_call(struct writer *w)
     call(w, 1, 0);
 }
 
-void deepest_script(struct script *script)
+void deepest_if_script(struct script *script)
 {
     struct writer w = main_of(0);
     ifs_to_call(&w);
     function(&w, 0, 0);
     ifs_to_call(&w);
+    finish(&w, script);
+}
+
+/* A reduce of {{0}}, 62 reduces of its element within one another, and at level 64 in the last a call of function 1. An
+ * argument of the call would be at level 65. */
+static void reduces_to_call(struct writer *w)
+{
+    reduce(w, 2, 4);
+    number(w, 0);
+    literal(w, 1, 1);
+    literal(w, 1, 0);
+    number(w, 0);
+    nested_reduces(w, ENGINE_LEVELS_MAX - 2, 4);
+    call(w, 1, 0);
+}
+
+void deepest_reduce_script(struct script *script)
+{
+    struct writer w = main_of(0);
+    reduces_to_call(&w);
+    function(&w, 0, 0);
+    reduces_to_call(&w);
     finish(&w, script);
 }
 
@@ -93,17 +133,30 @@ static struct writer nested_maps(int maps)
     return w;
 }
 
-/* A number: the length of an array of arrays of 56 arrays of 16 times the readings. Each takes a retain. */
-static void many_arrays(struct writer *w)
+/* 16 times the readings: each takes a retain. */
+static void sixteen_by_literal(struct writer *w)
+{
+    literal(w, 16, 1);
+    for (int i = 0; i < 16; i++)
+        name(w, 1);
+}
+
+static void sixteen_by_replicate(struct writer *w)
+{
+    replicate(w);
+    number(w, 16);
+    name(w, 1);
+}
+
+/* A number: the length of an array of arrays of 56 arrays of 16 times the readings. */
+static void many_arrays(struct writer *w, void (*sixteen)(struct writer *))
 {
     length_of(w);
     literal(w, 4, 3);
     for (int i = 0; i < 4 * 14; i++) {
         if (i % 14 == 0)
             literal(w, 14, 2);
-        literal(w, 16, 1);
-        for (int j = 0; j < 16; j++)
-            name(w, 1);
+        sixteen(w);
     }
 }
 
@@ -112,7 +165,7 @@ void skipped_branch_script(struct script *script)
     struct writer w = nested_maps(5);
     if_then_else(&w);
     number(&w, 0);
-    many_arrays(&w);
+    many_arrays(&w, sixteen_by_literal);
     number(&w, 7);
     finish(&w, script);
 }
@@ -152,13 +205,20 @@ void skipped_body_script(struct script *script)
     length_of(&w);
     map(&w, 3);
     literal(&w, 0, 0);
-    many_arrays(&w);
+    many_arrays(&w, sixteen_by_literal);
     finish(&w, script);
 }
 
 void many_arrays_script(struct script *script)
 {
     struct writer w = nested_maps(5);
-    many_arrays(&w);
+    many_arrays(&w, sixteen_by_literal);
+    finish(&w, script);
+}
+
+void many_replicates_script(struct script *script)
+{
+    struct writer w = nested_maps(5);
+    many_arrays(&w, sixteen_by_replicate);
     finish(&w, script);
 }

@@ -50,6 +50,13 @@ static inline void index_of(struct writer *w) { node(w, ENGINE_KIND_INDEX, 0); }
 static inline void length_of(struct writer *w) { node(w, ENGINE_KIND_LENGTH, 0); }
 static inline void if_then_else(struct writer *w) { node(w, ENGINE_KIND_IF, 0); }
 static inline void map(struct writer *w, int which) { node(w, ENGINE_KIND_MAP, which); }
+static inline void iota(struct writer *w) { node(w, ENGINE_KIND_IOTA, 0); }
+static inline void replicate(struct writer *w) { node(w, ENGINE_KIND_REPLICATE, 0); }
+static inline void filter(struct writer *w, int which) { node(w, ENGINE_KIND_FILTER, which); }
+static inline void reduce(struct writer *w, int first, int second)
+{
+    node(w, ENGINE_KIND_REDUCE, first + 256 * second);
+}
 
 /* The first reading, in main with parameters 0 and 1. */
 static inline void first_reading(struct writer *w)

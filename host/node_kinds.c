@@ -8,7 +8,7 @@
 #define ONE_NAME { "name", 255 }, { NULL, 0 }
 #define TWO_PARTS { "first part", "second part" }
 
-const struct node_kind node_kinds[ENGINE_NODE_KINDS] = {
+const struct node_kind node_kinds[ENGINE_KINDS] = {
     [ENGINE_KIND_FUNCTION] = { "function", OPERAND_PAIR, { "parameters", 8 }, { "depth of the result", 4 }, 1,
                                { "body" } },
     [ENGINE_KIND_PARAMETER] = { "parameter", OPERAND_PAIR, { "name", 255 }, { "depth", 4 }, 0, { NULL } },
@@ -24,6 +24,11 @@ const struct node_kind node_kinds[ENGINE_NODE_KINDS] = {
     [ENGINE_KIND_LENGTH] = { "length", OPERAND_NONE, NO_PARTS, 1, { "array" } },
     [ENGINE_KIND_IF] = { "if", OPERAND_NONE, NO_PARTS, 3, { "guard", "then part", "else part" } },
     [ENGINE_KIND_MAP] = { "map", OPERAND_NAME, ONE_NAME, 2, { "array", "body" } },
+    [ENGINE_KIND_IOTA] = { "iota", OPERAND_NONE, NO_PARTS, 1, { "count" } },
+    [ENGINE_KIND_REPLICATE] = { "replicate", OPERAND_NONE, NO_PARTS, 2, { "count", "value" } },
+    [ENGINE_KIND_FILTER] = { "filter", OPERAND_NAME, ONE_NAME, 2, { "array", "guard" } },
+    [ENGINE_KIND_REDUCE] = { "reduce", OPERAND_PAIR, { "first name", 255 }, { "second name", 255 }, 3,
+                             { "start", "array", "body" } },
 };
 
 /* The children that an operand asks for. */
@@ -41,7 +46,7 @@ static unsigned counted_children(uint8_t kind, int64_t operand)
 
 unsigned children_of(uint8_t kind, int64_t operand)
 {
-    if (kind >= ENGINE_NODE_KINDS)
+    if (!engine_is_node_kind(kind))
         return 0;
     return counted_children(kind, operand) + (unsigned)node_kinds[kind].children;
 }
@@ -60,5 +65,20 @@ struct role role_of(uint8_t kind, int64_t operand, unsigned child)
 
 bool is_compound(uint8_t kind)
 {
-    return kind >= ENGINE_KIND_SUM && kind <= ENGINE_KIND_MAP && kind != ENGINE_KIND_LET;
+    return engine_is_node_kind(kind) && kind >= ENGINE_KIND_SUM && kind != ENGINE_KIND_LET;
+}
+
+unsigned pass_names_of(uint8_t kind)
+{
+    switch (kind) {
+    case ENGINE_KIND_MAP:
+    case ENGINE_KIND_FILTER: return 1;
+    case ENGINE_KIND_REDUCE: return 2;
+    default: return 0;
+    }
+}
+
+unsigned trees_of(uint8_t kind)
+{
+    return kind == ENGINE_KIND_IF ? 2 : pass_names_of(kind) > 0 ? 1 : 0;
 }

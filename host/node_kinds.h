@@ -28,8 +28,8 @@ struct node_kind {
     const char *roles[3];          /* of these children */
 };
 
-/* By kind. */
-extern const struct node_kind node_kinds[ENGINE_NODE_KINDS];
+/* By kind; kinds that are of lines alone have no word. */
+extern const struct node_kind node_kinds[ENGINE_KINDS];
 
 /* How many nodes stand below a node of this kind and operand. */
 unsigned children_of(uint8_t kind, int64_t operand);
@@ -42,5 +42,12 @@ struct role role_of(uint8_t kind, int64_t operand, unsigned child);
 
 /* Whether a node or line of this kind is a compound one: it takes a step and a new name. */
 bool is_compound(uint8_t kind);
+
+/* How many names a pass over the tree of such a node binds: a map's or filter's element, a reduce's running value and
+ * element. */
+unsigned pass_names_of(uint8_t kind);
+
+/* How many of such a node's children, the last ones, become trees of its line. */
+unsigned trees_of(uint8_t kind);
 
 #endif

@@ -17,6 +17,7 @@ struct node {
     unsigned line;        /* of the text; 0 where it comes from a file */
     unsigned indentation;
     struct word word;     /* that the text has for the first part of the operand; empty where it is a number */
+    struct word second;   /* and for the second part */
 };
 
 struct definition {

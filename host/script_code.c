@@ -35,8 +35,7 @@ static int name_part(struct naming *n)
 {
     const struct node *node = &n->script->nodes[n->at++];
     const struct word no_word = { NULL, 0 };
-    unsigned children = children_of(node->kind, node->operand);
-    bool has_trees = node->kind == ENGINE_KIND_IF || node->kind == ENGINE_KIND_MAP;
+    unsigned children = children_of(node->kind, node->operand), before = children - trees_of(node->kind);
     if (node->kind == ENGINE_KIND_CALL && functions[node->operand % 256].length == 0)
         functions[node->operand % 256] = node->word;
     if (node->kind == ENGINE_KIND_LET) {
@@ -47,12 +46,12 @@ static int name_part(struct naming *n)
     }
     if (!is_compound(node->kind))
         return NO_NAME;
-    for (unsigned i = 0; i < (has_trees ? 1 : children); i++) /* of these two, only the guard or array comes before */
+    for (unsigned i = 0; i < before; i++)
         name_part(n);
     int name = new_name(n, no_word);
-    if (node->kind == ENGINE_KIND_MAP)
-        new_name(n, node->word);
-    for (unsigned i = 1; has_trees && i < children; i++)
+    for (unsigned i = 0; i < pass_names_of(node->kind); i++)
+        new_name(n, i == 0 ? node->word : node->second);
+    for (unsigned i = before; i < children; i++) /* trees */
         name_part(n);
     return name;
 }
@@ -153,25 +152,20 @@ static void print_atoms(struct printing *p, uint8_t kind, int64_t operand, unsig
     p->indentation -= 2;
 }
 
-/* How many atoms follow a line, and the node operand that has as many children. */
-static unsigned atoms_of(uint8_t kind, int64_t operand, int64_t *node_operand)
+/* An operand with which a node of a line's kind has as many children as the line's has. */
+static int64_t node_operand_of(uint8_t kind, int64_t operand)
 {
-    *node_operand = 0;
     switch (kind) {
-    case ENGINE_KIND_CALL:
-        *node_operand = 256 * (int64_t)parameters[operand / 256];
-        return parameters[operand / 256];
-    case ENGINE_KIND_LITERAL:
-        *node_operand = operand / 256 % 256;
-        return (unsigned)*node_operand;
-    case ENGINE_KIND_IF:
-    case ENGINE_KIND_MAP:
-    case ENGINE_KIND_LENGTH:
-    case ENGINE_KIND_END: return 1;
-    case ENGINE_KIND_RETAIN:
-    case ENGINE_KIND_RELEASE: return 0;
-    default: return 2;
+    case ENGINE_KIND_CALL: return 256 * (int64_t)parameters[operand / 256];
+    case ENGINE_KIND_LITERAL: return operand / 256 % 256;
+    default: return 0;
     }
+}
+
+/* How many atoms follow a line; a retain and a release have none. */
+static unsigned atoms_of(uint8_t kind, int64_t node_operand)
+{
+    return kind == ENGINE_KIND_END ? 1 : children_of(kind, node_operand) - trees_of(kind);
 }
 
 /* Atoms in a row, between commas. */
@@ -186,6 +180,7 @@ static void print_meaning(const struct printing *p, uint8_t kind, int64_t operan
 {
     uint32_t first = p->at;
     struct phrase one = atom_phrase(p, first), two = atom_phrase(p, atoms > 1 ? first + 1 : first);
+    struct phrase first_name = name_phrase(p, operand / 256 % 256); /* of a pass */
     if (is_compound(kind))
         printf("%s = ", name_phrase(p, operand % 256).text);
     switch (kind) {
@@ -205,8 +200,17 @@ static void print_meaning(const struct printing *p, uint8_t kind, int64_t operan
     case ENGINE_KIND_INDEX: printf("%s[%s]", one.text, two.text); break;
     case ENGINE_KIND_LENGTH: printf("length of %s", one.text); break;
     case ENGINE_KIND_IF: printf("one of two trees: the first if %s is not 0", one.text); break;
+    case ENGINE_KIND_IOTA: printf("{0, 1, ..} of length %s in a new cell", one.text); break;
+    case ENGINE_KIND_REPLICATE: printf("{%s, %s, ..} of length %s in a new cell", two.text, two.text, one.text); break;
     case ENGINE_KIND_MAP:
-        printf("for each %s of %s the tree's result, in a new cell", name_phrase(p, operand / 256).text, one.text);
+        printf("for each %s of %s the tree's result, in a new cell", first_name.text, one.text);
+        break;
+    case ENGINE_KIND_FILTER:
+        printf("each %s of %s for which the tree's result is not 0, in a new cell", first_name.text, one.text);
+        break;
+    case ENGINE_KIND_REDUCE:
+        printf("the last %s: first %s, then for each %s of %s the tree's result", first_name.text, one.text,
+               name_phrase(p, operand / 65536).text, two.text);
         break;
     case ENGINE_KIND_RETAIN: printf("retain %s", name_phrase(p, operand).text); break;
     case ENGINE_KIND_RELEASE: printf("release %s", name_phrase(p, operand).text); break;
@@ -221,15 +225,13 @@ static void print_tree(struct printing *p)
     uint8_t kind;
     do {
         kind = p->kinds[p->at];
-        int64_t operand = p->operands[p->at], node_operand;
-        unsigned atoms = atoms_of(kind, operand, &node_operand);
+        int64_t operand = p->operands[p->at], node_operand = node_operand_of(kind, operand);
+        unsigned atoms = atoms_of(kind, node_operand);
         begin_line(p);
         print_meaning(p, kind, operand, atoms);
         print_atoms(p, kind, node_operand, atoms);
         p->indentation++;
-        if (kind == ENGINE_KIND_IF || kind == ENGINE_KIND_MAP)
-            print_tree(p);
-        if (kind == ENGINE_KIND_IF)
+        for (unsigned i = 0; i < trees_of(kind); i++)
             print_tree(p);
         p->indentation--;
     } while (kind != ENGINE_KIND_END);

@@ -68,25 +68,42 @@ static struct phrase name_phrase(const struct node *node)
 
 static int part_depth(struct descent *d);
 
-/* The depth of the next part of a node, which must be this one; NO_DEPTH where it is another. */
-static int wanted_part(struct descent *d, size_t node, unsigned child, int wanted)
+/* Takes the next parts of a node, all of them, and says whether each has a depth: a node is judged only then. */
+static bool take_parts(struct descent *d, int *depths, unsigned count)
 {
-    const struct node *n = &d->script->nodes[node];
-    int depth = part_depth(d);
-    if (depth == NO_DEPTH || depth == wanted)
-        return depth;
-    breach(d, ENGINE_TYPE_MISMATCH, node, "its %s is %s, and %s is wanted", role_of(n->kind, n->operand, child).text,
-           depth_phrase(depth).text, depth_phrase(wanted).text);
-    return NO_DEPTH;
+    bool have_depths = true;
+    for (unsigned i = 0; i < count; i++) {
+        depths[i] = part_depth(d);
+        have_depths &= depths[i] != NO_DEPTH;
+    }
+    return have_depths;
 }
 
-/* The same for a part that must be an array. */
-static int array_part(struct descent *d, size_t node)
+/* Whether a node's part is of the depth that is wanted. */
+static bool fits(struct descent *d, size_t node, unsigned child, int depth, int wanted)
 {
-    int depth = part_depth(d);
-    if (depth != 0)
-        return depth;
-    breach(d, ENGINE_TYPE_MISMATCH, node, "its array is a number");
+    const struct node *n = &d->script->nodes[node];
+    if (depth != wanted)
+        breach(d, ENGINE_TYPE_MISMATCH, node, "its %s is %s, and %s is wanted",
+               role_of(n->kind, n->operand, child).text, depth_phrase(depth).text, depth_phrase(wanted).text);
+    return depth == wanted;
+}
+
+/* Whether a node's array is one. */
+static bool is_array(struct descent *d, size_t node, int depth)
+{
+    if (depth == 0)
+        breach(d, ENGINE_TYPE_MISMATCH, node, "its array is a number");
+    return depth > 0;
+}
+
+/* The depth of an array whose elements have this one. */
+static int depth_over(struct descent *d, size_t node, int element)
+{
+    if (element < ENGINE_DEPTH_MAX)
+        return element + 1;
+    breach(d, ENGINE_TYPE_MISMATCH, node, "its result would have depth %d, and %d is the greatest", element + 1,
+           ENGINE_DEPTH_MAX);
     return NO_DEPTH;
 }
 
@@ -101,15 +118,17 @@ static int name_depth(struct descent *d, size_t node)
 
 static int arithmetic_depth(struct descent *d, size_t node)
 {
-    int first = wanted_part(d, node, 0, 0);
-    int second = wanted_part(d, node, 1, 0);
-    return first == 0 && second == 0 ? 0 : NO_DEPTH;
+    int parts[2];
+    if (!take_parts(d, parts, 2))
+        return NO_DEPTH;
+    bool first = fits(d, node, 0, parts[0], 0), second = fits(d, node, 1, parts[1], 0);
+    return first && second ? 0 : NO_DEPTH;
 }
 
-/* The body of a let or map, in which a name is bound. */
-static int body_depth(struct descent *d, size_t node, int bound)
+/* A part in which a name is bound. */
+static int body_depth(struct descent *d, int64_t name, int bound)
 {
-    struct binding *binding = &d->names[d->script->nodes[node].operand];
+    struct binding *binding = &d->names[name];
     struct binding outer = *binding;
     *binding = (struct binding){ true, bound };
     int depth = part_depth(d);
@@ -120,21 +139,8 @@ static int body_depth(struct descent *d, size_t node, int bound)
 static int let_depth(struct descent *d, size_t node)
 {
     int bound = part_depth(d);
-    int body = body_depth(d, node, bound);
+    int body = body_depth(d, d->script->nodes[node].operand, bound);
     return bound == NO_DEPTH ? NO_DEPTH : body;
-}
-
-static int map_depth(struct descent *d, size_t node)
-{
-    int array = array_part(d, node);
-    int body = body_depth(d, node, array == NO_DEPTH ? NO_DEPTH : array - 1);
-    if (array == NO_DEPTH || body == NO_DEPTH)
-        return NO_DEPTH;
-    if (body < ENGINE_DEPTH_MAX)
-        return body + 1;
-    breach(d, ENGINE_TYPE_MISMATCH, node, "its result would have depth %d, and %d is the greatest", body + 1,
-           ENGINE_DEPTH_MAX);
-    return NO_DEPTH;
 }
 
 static int call_depth(struct descent *d, size_t node)
@@ -143,51 +149,126 @@ static int call_depth(struct descent *d, size_t node)
     const struct node *n = &s->nodes[node];
     unsigned given = children_of(n->kind, n->operand);
     size_t called = (size_t)(n->operand % 256);
-    bool is_there = called < s->functions, has_depths = true;
-    const struct node *function = is_there ? &s->nodes[d->functions[called]] : NULL;
-    unsigned wanted = is_there ? (unsigned)(function->operand % 256) : 0;
-    for (unsigned i = 0; i < given; i++) {
-        if (given == wanted)
-            has_depths &= wanted_part(d, node, i, (int)(function[1 + i].operand / 256)) != NO_DEPTH;
-        else
-            part_depth(d);
-    }
-    if (!is_there)
+    int parts[ENGINE_PARAMETERS_MAX];
+    bool fit = take_parts(d, parts, given);
+    if (called >= s->functions)
         breach(d, ENGINE_UNKNOWN_NAME, node, "there is no function %s: the script has %zu, counted from 0",
                name_phrase(n).text, s->functions);
-    else if (given != wanted)
+    if (!fit || called >= s->functions)
+        return NO_DEPTH;
+    const struct node *function = &s->nodes[d->functions[called]];
+    unsigned wanted = (unsigned)(function->operand % 256);
+    if (given != wanted) {
         breach(d, ENGINE_TYPE_MISMATCH, node, "%u argument%s, and function %s of line %u takes %u", given,
                given == 1 ? "" : "s", name_phrase(n).text, function->line, wanted);
-    return is_there && given == wanted && has_depths ? (int)(function->operand / 256) : NO_DEPTH;
+        return NO_DEPTH;
+    }
+    for (unsigned i = 0; i < given; i++)
+        fit &= fits(d, node, i, parts[i], (int)(function[1 + i].operand / 256));
+    return fit ? (int)(function->operand / 256) : NO_DEPTH;
 }
 
 static int literal_depth(struct descent *d, size_t node)
 {
     int64_t operand = d->script->nodes[node].operand;
-    bool has_depths = true;
-    for (unsigned i = 0; i < (unsigned)(operand % 256); i++)
-        has_depths &= wanted_part(d, node, i, (int)(operand / 256)) != NO_DEPTH;
-    return has_depths ? (int)(operand / 256) + 1 : NO_DEPTH;
+    unsigned count = (unsigned)(operand % 256);
+    int parts[ENGINE_CELL_SLOTS], element = (int)(operand / 256);
+    if (!take_parts(d, parts, count))
+        return NO_DEPTH;
+    bool fit = true;
+    for (unsigned i = 0; i < count; i++)
+        fit &= fits(d, node, i, parts[i], element);
+    return fit ? element + 1 : NO_DEPTH;
 }
 
 static int index_depth(struct descent *d, size_t node)
 {
-    int array = array_part(d, node);
-    int position = wanted_part(d, node, 1, 0);
-    return array == NO_DEPTH || position == NO_DEPTH ? NO_DEPTH : array - 1;
+    int parts[2];
+    if (!take_parts(d, parts, 2))
+        return NO_DEPTH;
+    bool has_array = is_array(d, node, parts[0]), has_position = fits(d, node, 1, parts[1], 0);
+    return has_array && has_position ? parts[0] - 1 : NO_DEPTH;
+}
+
+static int length_depth(struct descent *d, size_t node)
+{
+    int array = part_depth(d);
+    return array != NO_DEPTH && is_array(d, node, array) ? 0 : NO_DEPTH;
+}
+
+static int iota_depth(struct descent *d, size_t node)
+{
+    int count = part_depth(d);
+    return count != NO_DEPTH && fits(d, node, 0, count, 0) ? 1 : NO_DEPTH;
+}
+
+static int replicate_depth(struct descent *d, size_t node)
+{
+    int parts[2];
+    if (!take_parts(d, parts, 2))
+        return NO_DEPTH;
+    bool has_count = fits(d, node, 0, parts[0], 0);
+    int depth = depth_over(d, node, parts[1]);
+    return has_count ? depth : NO_DEPTH;
 }
 
 static int if_depth(struct descent *d, size_t node)
 {
-    int guard = wanted_part(d, node, 0, 0);
-    int then_part = part_depth(d), else_part = part_depth(d);
-    if (guard == NO_DEPTH || then_part == NO_DEPTH || else_part == NO_DEPTH)
+    int parts[3];
+    if (!take_parts(d, parts, 3))
         return NO_DEPTH;
-    if (then_part == else_part)
-        return then_part;
-    breach(d, ENGINE_TYPE_MISMATCH, node, "its then part is %s, and its else part %s", depth_phrase(then_part).text,
-           depth_phrase(else_part).text);
-    return NO_DEPTH;
+    bool has_guard = fits(d, node, 0, parts[0], 0);
+    if (parts[1] != parts[2])
+        breach(d, ENGINE_TYPE_MISMATCH, node, "its then part is %s, and its else part %s",
+               depth_phrase(parts[1]).text, depth_phrase(parts[2]).text);
+    return has_guard && parts[1] == parts[2] ? parts[1] : NO_DEPTH;
+}
+
+/* ---- Loops ---- */
+
+/* The depth of an array's element, where there is one. */
+static int element_depth(int array)
+{
+    return array > 0 ? array - 1 : NO_DEPTH;
+}
+
+/* A map or filter; over a number it breaks the rule whatever its body. */
+static int over_array_depth(struct descent *d, size_t node)
+{
+    const struct node *n = &d->script->nodes[node];
+    int array = part_depth(d);
+    int body = body_depth(d, n->operand, element_depth(array));
+    if (array == NO_DEPTH || !is_array(d, node, array) || body == NO_DEPTH)
+        return NO_DEPTH;
+    if (n->kind == ENGINE_KIND_MAP)
+        return depth_over(d, node, body);
+    return fits(d, node, 1, body, 0) ? array : NO_DEPTH;
+}
+
+/* The body of a reduce: its second name hides an equal first one. */
+static int reduce_body_depth(struct descent *d, int64_t operand, int start, int array)
+{
+    struct binding *first = &d->names[operand % 256];
+    struct binding outer = *first;
+    *first = (struct binding){ true, start };
+    int depth = body_depth(d, operand / 256, element_depth(array));
+    *first = outer;
+    return depth;
+}
+
+/* A reduce; over a number it breaks the rule whatever its body, if its start has a depth. */
+static int reduce_depth(struct descent *d, size_t node)
+{
+    int parts[2];
+    bool have_depths = take_parts(d, parts, 2);
+    int start = parts[0], array = parts[1];
+    int body = reduce_body_depth(d, d->script->nodes[node].operand, start, array);
+    if (!have_depths || !is_array(d, node, array) || body == NO_DEPTH)
+        return NO_DEPTH;
+    if (body != start)
+        breach(d, ENGINE_TYPE_MISMATCH, node, "its start is %s, and its body %s", depth_phrase(start).text,
+               depth_phrase(body).text);
+    return body == start ? start : NO_DEPTH;
 }
 
 /* As deep as the script's levels. */
@@ -203,9 +284,13 @@ static int part_depth(struct descent *d)
     case ENGINE_KIND_CALL: return call_depth(d, node);
     case ENGINE_KIND_LITERAL: return literal_depth(d, node);
     case ENGINE_KIND_INDEX: return index_depth(d, node);
-    case ENGINE_KIND_LENGTH: return array_part(d, node) == NO_DEPTH ? NO_DEPTH : 0;
+    case ENGINE_KIND_LENGTH: return length_depth(d, node);
     case ENGINE_KIND_IF: return if_depth(d, node);
-    case ENGINE_KIND_MAP: return map_depth(d, node);
+    case ENGINE_KIND_MAP:
+    case ENGINE_KIND_FILTER: return over_array_depth(d, node);
+    case ENGINE_KIND_IOTA: return iota_depth(d, node);
+    case ENGINE_KIND_REPLICATE: return replicate_depth(d, node);
+    case ENGINE_KIND_REDUCE: return reduce_depth(d, node);
     default: return 0; /* a number */
     }
 }

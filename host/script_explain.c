@@ -5,6 +5,7 @@
 
 #include <inttypes.h>
 #include <stdio.h>
+#include <string.h>
 
 static struct parentage parentage[SCRIPT_NODES_MAX + 1];
 
@@ -83,10 +84,11 @@ static void explain_misfit(const struct script *s, size_t node)
     else if (parentage[node].parent == NO_PARENT && node > 0)
         say_refusal(s, number, line, "it is left over: the function before it has its parameters and its body, and %s",
                     wanted);
+    else if (engine_is_node_kind(kind))
+        say_refusal(s, number, line, "%s, and this is %s %s", wanted,
+                    strchr("aeiou", node_kinds[kind].word[0]) == NULL ? "a" : "an", node_kinds[kind].word);
     else
-        say_refusal(s, number, line, "%s, and this is %s%s", wanted,
-                    kind < ENGINE_NODE_KINDS ? "a " : "no kind of node that there is",
-                    kind < ENGINE_NODE_KINDS ? node_kinds[kind].word : "");
+        say_refusal(s, number, line, "%s, and this is no kind of node that there is", wanted);
 }
 
 static void explain_part(const struct script *s, const struct node *node, struct operand_part part, int64_t value)
@@ -118,11 +120,12 @@ static void explain_crowding(const struct script *s)
         size_t function = i++;
         unsigned names = (unsigned)(s->nodes[function].operand % 256);
         for (; i < s->count && s->nodes[i].kind != ENGINE_KIND_FUNCTION; i++)
-            names += s->nodes[i].kind == ENGINE_KIND_MAP ? 2 : is_compound(s->nodes[i].kind) ? 1 : 0;
+            names += is_compound(s->nodes[i].kind) + pass_names_of(s->nodes[i].kind);
         if (names > ENGINE_NEW_NAMES_MAX)
             say_refusal(s, ENGINE_TOO_MANY_NAMES, s->nodes[function].line,
                         "this function needs %u names (its parameters, one for each node that costs a step, one more"
-                        " for each map), and %d are the most", names, ENGINE_NEW_NAMES_MAX);
+                        " for each map or filter, two more for each reduce), and %d are the most", names,
+                        ENGINE_NEW_NAMES_MAX);
     }
 }
 

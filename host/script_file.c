@@ -68,7 +68,7 @@ void read_nodes(struct script *script, const char *path, uint8_t *bytes, size_t 
 /* Whether the word and parts of its kind can say a node. */
 static bool is_plain(struct node node)
 {
-    if (node.kind >= ENGINE_NODE_KINDS)
+    if (!engine_is_node_kind(node.kind))
         return false;
     switch (node_kinds[node.kind].parts) {
     case OPERAND_VALUE: return true;

@@ -83,19 +83,27 @@ static void define(struct reader *r)
         s->definitions[s->defined++] = definition;
 }
 
-static int64_t operand_in(struct reader *r, enum operand_parts parts, struct word *used)
+/* Reads a node's operand, by its kind. */
+static void take_operand(struct reader *r, struct node *node)
 {
-    struct word unused;
-    switch (parts) {
-    case OPERAND_VALUE: return number_in(r, INT64_MIN, INT64_MAX, used);
-    case OPERAND_NAME: return number_in(r, 0, 255, used);
-    case OPERAND_PAIR: {
-        int64_t low = number_in(r, 0, 255, used);
-        return low + 256 * number_in(r, 0, INT64_MAX / 256, &unused);
-    }
+    switch (node_kinds[node->kind].parts) {
+    case OPERAND_VALUE: node->operand = number_in(r, INT64_MIN, INT64_MAX, &node->word); break;
+    case OPERAND_NAME: node->operand = number_in(r, 0, 255, &node->word); break;
+    case OPERAND_PAIR:
+        node->operand = number_in(r, 0, 255, &node->word);
+        node->operand += 256 * number_in(r, 0, INT64_MAX / 256, &node->second);
+        break;
     case OPERAND_NONE: break;
     }
-    return 0;
+}
+
+/* The kind that a word stands for; ENGINE_KINDS where it stands for none. */
+static uint8_t kind_of(struct word word)
+{
+    uint8_t kind = 0;
+    while (kind < ENGINE_KINDS && !(engine_is_node_kind(kind) && word_is(word, node_kinds[kind].word)))
+        kind++;
+    return kind;
 }
 
 /* The node of a line that begins with this word. */
@@ -108,12 +116,11 @@ static struct node node_in(struct reader *r, struct word word)
         node.operand = number_in(r, INT64_MIN, INT64_MAX, &unused);
         return node;
     }
-    while (node.kind < ENGINE_NODE_KINDS && !word_is(word, node_kinds[node.kind].word))
-        node.kind++;
-    if (node.kind == ENGINE_NODE_KINDS)
+    node.kind = kind_of(word);
+    if (node.kind == ENGINE_KINDS)
         fault(r, "%s is no kind of node", quote_word(word).text);
     else
-        node.operand = operand_in(r, node_kinds[node.kind].parts, &node.word);
+        take_operand(r, &node);
     return node;
 }
 

@@ -21,8 +21,8 @@ extern "C" {
 /* ---- Version ---- */
 
 /* Of this interface: the first number rises when a host must change, the second when something is added. */
-#define ENGINE_VERSION_MAJOR 1
-#define ENGINE_VERSION_MINOR 1
+#define ENGINE_VERSION_MAJOR 2
+#define ENGINE_VERSION_MINOR 0
 #define ENGINE_VERSION (1000 * ENGINE_VERSION_MAJOR + ENGINE_VERSION_MINOR)
 
 /* ---- Sizes ---- */
@@ -57,8 +57,8 @@ extern "C" {
 
 /* ---- Kinds ---- */
 
-/* The kind of a node of a script file and of a line of code. Nodes have those up to ENGINE_KIND_MAP; let is the only
- * one of these that no line has. */
+/* The kind of a node of a script file and of a line of code. Three are of lines alone; let is the only kind of a node
+ * that no line has. */
 enum engine_kind {
     ENGINE_KIND_FUNCTION = 0,
     ENGINE_KIND_PARAMETER = 1,
@@ -76,10 +76,19 @@ enum engine_kind {
     ENGINE_KIND_MAP = 13,
     ENGINE_KIND_RETAIN = 14,  /* in code alone, as the next two; document 01: raise */
     ENGINE_KIND_RELEASE = 15, /* document 01: drop */
-    ENGINE_KIND_END = 16
+    ENGINE_KIND_END = 16,
+    ENGINE_KIND_IOTA = 17,    /* the second edition's, as the next three */
+    ENGINE_KIND_REPLICATE = 18,
+    ENGINE_KIND_FILTER = 19,
+    ENGINE_KIND_REDUCE = 20
 };
-#define ENGINE_NODE_KINDS 14 /* kinds below it are those of nodes */
-#define ENGINE_LINE_KINDS 17
+#define ENGINE_KINDS 21 /* every kind is below it */
+
+/* Whether a kind is one of nodes. */
+static inline int engine_is_node_kind(unsigned kind)
+{
+    return kind <= ENGINE_KIND_MAP || (kind >= ENGINE_KIND_IOTA && kind <= ENGINE_KIND_REDUCE);
+}
 
 /* ---- Numbers ---- */
 
@@ -105,7 +114,8 @@ enum engine_number {
     ENGINE_CALL_TOO_DEEP = 22,       /* nested: a 33rd call depth */
     ENGINE_INDEX_OUT_OF_RANGE = 23,  /* off the end */
     ENGINE_OVERFLOW = 24,            /* overrun: a sum or difference does not fit 64 bits */
-    ENGINE_OUT_OF_CELLS = 25         /* tank dry: a cell was wanted and none was free */
+    ENGINE_OUT_OF_CELLS = 25,        /* tank dry: a cell was wanted and none was free */
+    ENGINE_BAD_COUNT = 26            /* bad count: an iota's or replicate's count outside 0 to 16 */
 };
 
 /* Whether a number is a refusal: nothing was done. */
@@ -117,7 +127,7 @@ static inline int engine_is_refusal(unsigned number)
 /* Whether a number is a stop: the delivery was begun and undone. */
 static inline int engine_is_stop(unsigned number)
 {
-    return number >= ENGINE_OUT_OF_STEPS && number <= ENGINE_OUT_OF_CELLS;
+    return number >= ENGINE_OUT_OF_STEPS && number <= ENGINE_BAD_COUNT;
 }
 
 /* What the service display shows for a number: the one table of these words. */
@@ -141,6 +151,7 @@ static inline const char *engine_word(unsigned number)
     case ENGINE_INDEX_OUT_OF_RANGE: return "off the end";
     case ENGINE_OVERFLOW: return "overrun";
     case ENGINE_OUT_OF_CELLS: return "tank dry";
+    case ENGINE_BAD_COUNT: return "bad count";
     default: return "unknown number";
     }
 }
@@ -186,7 +197,8 @@ static inline unsigned engine_answer_cells(uint64_t answer)
  *              Both are written over their whole lengths whatever they held: the code and then zeros, or, after a
  *              refusal, zeros alone. The code may take as many lines as the shorter has, and never more than 4,096.
  *   slots      first store array, of ENGINE_SLOTS_LENGTH(S) words for a store of S cells: word 0 the totals (a number,
- *              or the number of a cell where main's depth is 1 or more), words 1 + 16 c to 16 + 16 c the slots of cell c
+ *              or the number of a cell where main's depth is 1 or more), words 1 + 16 c to 16 + 16 c the slots of
+ *              cell c
  *   heads      second store array, of ENGINE_HEADS_LENGTH(S) words: word 0 the first free cell (S where none is), words
  *              1 + 4 c to 4 + 4 c the count, length, element depth and next free cell of cell c
  *   readings   the readings of one delivery, at most ENGINE_READINGS_MAX; read only
@@ -206,7 +218,7 @@ uint64_t engine_open(const uint8_t *file, size_t file_length,
                      int64_t *slots, size_t slots_length,
                      uint32_t *heads, size_t heads_length);
 
-/* Works one delivery: main on the totals and the readings gives the new totals. All numbers; after 0 and 21 to 25 the
+/* Works one delivery: main on the totals and the readings gives the new totals. All numbers; after 0 and 21 to 26 the
  * answer has the steps and the cells taken. */
 uint64_t engine_deliver(const uint8_t *file, size_t file_length,
                         uint8_t *kinds, size_t kinds_length,

@@ -1,8 +1,7 @@
-/* The deepest delivery on a small stack. */
+/* The deepest deliveries on a small stack. */
 #define _POSIX_C_SOURCE 200809L
 #include "deepest.h"
 #include "lent.h"
-#include "scripts.h"
 
 #include <pthread.h>
 #include <stdio.h>
@@ -20,15 +19,15 @@ static void *deliver_here(void *of)
 
 static _Noreturn void give_up(const char *what)
 {
-    fprintf(stderr, "the deepest delivery: %s\n", what);
+    fprintf(stderr, "a deepest delivery: %s\n", what);
     exit(2);
 }
 
 /* Everything that is lent lies outside the thread's stack. */
-static void lend_deepest(void)
+static void lend_deepest(void (*write)(struct script *))
 {
     static struct script script;
-    deepest_script(&script);
+    write(&script);
     lend_file(script.length);
     memcpy(lent.file, script.file, script.length);
     lend_code(ENGINE_CODE_LINES_MAX, ENGINE_CODE_LINES_MAX);
@@ -36,12 +35,12 @@ static void lend_deepest(void)
     lend_readings(0);
 }
 
-uint64_t deliver_deepest(void)
+uint64_t deliver_deepest(void (*script)(struct script *))
 {
     uint64_t answer = 0;
     pthread_attr_t attributes;
     pthread_t thread;
-    lend_deepest();
+    lend_deepest(script);
     if (engine_answer_number(open_store()) != ENGINE_DONE)
         give_up("its store does not open");
     if (pthread_attr_init(&attributes) != 0 || pthread_attr_setstacksize(&attributes, STACK_BYTES) != 0

@@ -1,10 +1,11 @@
-/* The deepest delivery that there can be. */
+/* The deepest deliveries that there can be. */
 #ifndef DEEPEST_H
 #define DEEPEST_H
 
-#include <stdint.h>
+#include "scripts.h"
 
-/* Works it on a thread whose stack has 1 MiB, and gives its answer. More stack would end the program. */
-uint64_t deliver_deepest(void);
+/* Works a script without readings on a thread whose stack has 1 MiB, and gives its answer. More stack would end the
+ * program. */
+uint64_t deliver_deepest(void (*script)(struct script *));
 
 #endif

@@ -1,7 +1,7 @@
 /* The header on its own, as C and as C++: it is compiled with every warning, and each of its parts is used once. */
 #include "engine.h"
 
-#if ENGINE_VERSION_MAJOR != 1 || ENGINE_VERSION != 1000 * ENGINE_VERSION_MAJOR + ENGINE_VERSION_MINOR
+#if ENGINE_VERSION_MAJOR != 2 || ENGINE_VERSION != 1000 * ENGINE_VERSION_MAJOR + ENGINE_VERSION_MINOR
 #error "the version's parts do not fit each other"
 #endif
 
@@ -29,5 +29,5 @@ int main(void)
     return (int)(engine_answer_node(answer) + engine_answer_lines(answer) + engine_answer_steps(answer)
                  + engine_answer_cells(answer) + (unsigned)engine_is_refusal(engine_answer_number(answer))
                  + (unsigned)engine_is_stop(engine_answer_number(answer)) + (unsigned)*engine_word(ENGINE_DONE)
-                 + (unsigned)ENGINE_KIND_END + ENGINE_NODE_KINDS + ENGINE_LINE_KINDS);
+                 + (unsigned)engine_is_node_kind(ENGINE_KIND_END) + ENGINE_KINDS);
 }

@@ -1,5 +1,5 @@
 /* The static library from C: the trials of document 01 on its printed script, the limits of each argument, damaged
- * files and stores, the deepest delivery on a small stack, and the test vectors that the arguments name. Every array
+ * files and stores, the deepest deliveries on a small stack, and the test vectors that the arguments name. Every array
  * ends at a page that may not be touched. Exit status 0 where all pass. */
 #include "deepest.h"
 #include "lent.h"
@@ -178,10 +178,37 @@ static void test_call_depth(void)
     expect(engine_answer_number(deliver_one(31, 1000)) == ENGINE_CALL_TOO_DEEP, "call depth 33 gives 22");
 }
 
-/* 63 ifs and a call are 64 steps at each call depth. */
+/* The length of {0, 1, 2} replicated as often as the first reading says, which takes 2 cells: a count is judged after
+ * the step and before the cell. */
+static void test_counts(void)
+{
+    static const struct row rows[] = {
+        { 0, 2 }, { 1, 0 }, { 1, 257 }, { 11, 0 }, { 18, 0 }, { 10, 0 }, { 3, 1 }, { 2, 0 }, { 17, 0 }, { 2, 3 },
+    };
+    lend_script(1, rows, COUNT(rows));
+    lend_code(100, 100);
+    for (unsigned cells = 1; cells <= 2; cells++) {
+        lend_store(ENGINE_SLOTS_LENGTH(cells), ENGINE_HEADS_LENGTH(cells));
+        expect(open_store() == answer(0, 0, 0, 0), "opens without an array");
+        bool has_room = cells == 2;
+        for (int64_t count = 0; count <= 16; count++) {
+            uint64_t wanted = has_room ? answer(0, 0, 4, 0) : answer(25, 0, 3, 0);
+            expect(deliver_one(count, 1000) == wanted && (!has_room || lent.slots[0] == count), "counts from 0 to 16");
+        }
+        expect(deliver_one(17, 1000) == answer(26, 0, 3, 0), "a count of 17 gives 26, before a cell is wanted");
+        expect(deliver_one(-1, 1000) == answer(26, 0, 3, 0), "a count of -1 too");
+        expect(deliver_one(INT64_MIN, 1000) == answer(26, 0, 3, 0), "and the least number");
+        expect(deliver_one(17, 2) == answer(21, 0, 2, 0), "its step comes first");
+    }
+}
+
+/* At each call depth 63 ifs and a call take 64 steps; two literals, 63 reduces of one pass each and a call take 129. */
 static void test_deepest(void)
 {
-    expect(deliver_deepest() == answer(22, 0, 64 * ENGINE_CALL_DEPTH_MAX, 0), "the deepest delivery on 1 MiB of stack");
+    const uint64_t ifs = answer(22, 0, 64 * ENGINE_CALL_DEPTH_MAX, 0);
+    const uint64_t reduces = answer(22, 0, 129 * ENGINE_CALL_DEPTH_MAX, 0);
+    expect(deliver_deepest(deepest_if_script) == ifs, "the deepest delivery of ifs on 1 MiB of stack");
+    expect(deliver_deepest(deepest_reduce_script) == reduces, "the deepest delivery of reduces on 1 MiB of stack");
 }
 
 static void test_store_lengths(void)
@@ -230,13 +257,17 @@ static void test_header(void)
     expect(engine_answer_steps(parts) == 1000000 && engine_answer_lines(parts) == 1000000, "steps and lines");
     expect(engine_answer_cells(parts) == 256, "cells");
     expect(strcmp(engine_word(ENGINE_UNKNOWN_NAME), "no such nozzle") == 0, "a word");
+    expect(strcmp(engine_word(ENGINE_BAD_COUNT), "bad count") == 0, "the word of 26");
     expect(strcmp(engine_word(12), "unknown number") == 0, "no word");
     for (unsigned number = 0; number < 256; number++) {
-        bool is_refusal = number >= 1 && number <= 11, is_stop = number >= 21 && number <= 25;
+        bool is_refusal = number >= 1 && number <= 11, is_stop = number >= 21 && number <= 26;
         expect(engine_is_refusal(number) == is_refusal && engine_is_stop(number) == is_stop, "refusals and stops");
         bool has_word = strcmp(engine_word(number), "unknown number") != 0;
         expect(has_word == (number == 0 || is_refusal || is_stop), "a word for each number");
     }
+    for (unsigned kind = 0; kind < 256; kind++)
+        expect(engine_is_node_kind(kind) == (kind <= 13 || (kind >= 17 && kind <= 20)), "kinds of nodes");
+    expect(ENGINE_KINDS == ENGINE_KIND_REDUCE + 1, "all kinds");
     expect(ENGINE_FILE_LENGTH_MAX == 9220, "the longest file");
     expect(ENGINE_SLOTS_LENGTH(256) == 4097 && ENGINE_HEADS_LENGTH(256) == 1025, "the largest store");
 }
@@ -270,6 +301,7 @@ int main(int count, char **arguments)
     test_trials();
     test_requests();
     test_call_depth();
+    test_counts();
     test_deepest();
     test_store_lengths();
     test_damaged_store();

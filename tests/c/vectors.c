@@ -1,7 +1,7 @@
 /* Reads a file of test vectors and runs each case as it is read. A case is lines of a key and its values from `case` to
  * `end`: `file` has a script's bytes, `arrays` the lengths of the code arrays, `answer` the packed answer and `nodes`
- * the nodes that may stand in it, `rows` the code; `open` and `deliver` are calls to make, `slots` and `heads` a store's
- * words: before a check, after the deliveries. */
+ * the nodes that may stand in it, `rows` the code; `open` and `deliver` are calls to make, `slots` and `heads` a
+ * store's words: before a check, after the deliveries. */
 #include "vectors.h"
 #include "lent.h"
 

@@ -8,6 +8,10 @@ folder=$(mktemp -d)
 trap 'rm -rf "$folder"' EXIT
 passed=0
 failed=0
+# the first lines of a script whose totals are a number
+main="function 2 0
+  parameter 0 0
+  parameter 1 1"
 
 pass() {
     passed=$((passed + 1))

@@ -12,7 +12,7 @@ pub struct Shape {
     pub spine: bool,
     /// the level from which on there are leaves only; above 64 the script may be refused
     pub levels: usize,
-    /// some maps have elements of depth 4, which no array may have
+    /// some maps and replicates have elements of depth 4, which no array may have
     pub faulty: bool,
 }
 
@@ -127,17 +127,17 @@ impl Generator<'_> {
             return self.leaf(depth, scope);
         }
         let next = level + 1;
-        match self.random.below(9) {
+        match self.random.below(10) {
             0 | 1 => self.bind(depth, next, scope),
             2 => self.call(depth, next, scope),
             3 | 4 => self.choose(depth, next, scope),
             5 if depth < 4 => self.index(depth, next, scope),
-            _ if depth > 0 && self.random.once_in(2) => self.map(depth, next, scope),
-            _ if depth > 0 => self.literal(depth, next, scope),
-            6 => {
+            6 => self.reduce(depth, next, scope),
+            _ if depth > 0 => self.array(depth, next, scope),
+            7 => {
                 self.put(11, 0);
                 if self.shape.faulty && self.random.once_in(4) {
-                    return self.map(5, next + 1, scope);
+                    return self.too_deep(next + 1, scope);
                 }
                 let of = 1 + low_depth(self.random).min(3);
                 self.part(of, next, scope);
@@ -197,6 +197,50 @@ impl Generator<'_> {
         }
     }
 
+    /// A node that makes an array.
+    fn array(&mut self, depth: usize, level: usize, scope: &Scope) {
+        match self.random.below(8) {
+            0 if depth == 1 => {
+                self.put(17, 0);
+                self.count(level, scope);
+            }
+            0 | 1 => self.replicate(depth, level, scope),
+            2 | 3 => self.filter(depth, level, scope),
+            4 | 5 => self.map(depth, level, scope),
+            _ => self.literal(depth, level, scope),
+        }
+    }
+
+    /// An array of depth 5, which breaks the rule.
+    fn too_deep(&mut self, level: usize, scope: &Scope) {
+        if self.random.once_in(2) {
+            self.map(5, level, scope);
+        } else {
+            self.replicate(5, level, scope);
+        }
+    }
+
+    /// A count: mostly one that an array can have.
+    fn count(&mut self, level: usize, scope: &Scope) {
+        match self.random.below(8) {
+            0 => self.side(0, level, scope),
+            1 => {
+                let count = 15 + self.random.below(3);
+                self.put(2, count);
+            }
+            _ => {
+                let count = self.random.below(5);
+                self.put(2, count);
+            }
+        }
+    }
+
+    fn replicate(&mut self, depth: usize, level: usize, scope: &Scope) {
+        self.put(18, 0);
+        self.count(level, scope);
+        self.part(depth - 1, level, scope);
+    }
+
     fn map(&mut self, depth: usize, level: usize, scope: &Scope) {
         let name = self.name();
         self.put(13, name);
@@ -205,6 +249,28 @@ impl Generator<'_> {
         let mut inner = scope.clone();
         inner.push((name, element));
         self.part(depth - 1, level, &inner);
+    }
+
+    fn filter(&mut self, depth: usize, level: usize, scope: &Scope) {
+        let name = self.name();
+        self.put(19, name);
+        self.side(depth, level, scope);
+        let mut inner = scope.clone();
+        inner.push((name, depth - 1));
+        self.part(0, level, &inner);
+    }
+
+    /// A reduce; at times its two names are equal, and the second hides the first.
+    fn reduce(&mut self, depth: usize, level: usize, scope: &Scope) {
+        let first = self.name();
+        let second = if self.random.once_in(5) { first } else { self.name() };
+        self.put(20, first + 256 * second);
+        self.side(depth, level, scope);
+        let element = low_depth(self.random).min(3);
+        self.side(element + 1, level, scope);
+        let mut inner = scope.clone();
+        inner.extend([(first, depth), (second, element)]);
+        self.part(depth, level, &inner);
     }
 
     fn literal(&mut self, depth: usize, level: usize, scope: &Scope) {
@@ -222,7 +288,8 @@ impl Generator<'_> {
 
 /// Changes the low or high part of an operand that has parts, mostly within its range: names, counts and depths.
 fn damage_parts(random: &mut Random, file: &mut [u8], nodes: usize) {
-    let with_parts: Vec<usize> = (0..nodes).filter(|node| [0, 1, 3, 7, 8, 9, 13].contains(&file[4 + node])).collect();
+    let with_parts: Vec<usize> =
+        (0..nodes).filter(|node| [0, 1, 3, 7, 8, 9, 13, 19, 20].contains(&file[4 + node])).collect();
     if with_parts.is_empty() {
         return;
     }
@@ -251,7 +318,7 @@ pub fn damage(random: &mut Random, file: &mut Vec<u8>) {
                 let byte = random.below(4);
                 file[byte] = file[byte].wrapping_add(1 + random.below(3) as u8);
             }
-            3 => file[4 + node] = random.below(18) as u8,
+            3 => file[4 + node] = random.below(23) as u8,
             4 => file.swap(4 + node, 4 + random.below(nodes)),
             5 => file[4 + nodes + 8 * node + random.below(8)] = random.next() as u8,
             6 => {

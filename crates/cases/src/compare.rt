@@ -2,7 +2,7 @@
 use crate::answer::is_refusal;
 use crate::answer::number_of;
 use crate::tally;
-use crate::tally::TALLY_WORDS;
+use crate::tally::Tally;
 ghost use mathlib.Core.Path.{_≡_};
 ghost use mathlib.Core.Bool.{true};
 ghost use lib.ListN.{length, take};
@@ -101,32 +101,24 @@ pub fn has_right_code(
 }
 
 // Counts a call's code arrays where they are right, with their words.
-pub fn count_code(
-    tally: &mut [u64; TALLY_WORDS],
-    part: usize,
-    number: usize,
-    right: bool,
-    words: u64,
-) {
+pub fn count_code(tally: &mut Tally, right: bool, words: u64) {
     if right {
-        tally::count(tally, part, number, tally::CODES, 1);
-        tally::count(tally, part, number, tally::CODE_WORDS, words);
+        tally::count(tally, tally::CODES, 1);
+        tally::count(tally, tally::CODE_WORDS, words);
     }
 }
 
 // Counts the store that a call leaves where it is right.
 pub fn compare_store(
-    tally: &mut [u64; TALLY_WORDS],
-    part: usize,
-    number: usize,
+    tally: &mut Tally,
     slots: &[i64],
     heads: &[u32],
     wanted_slots: &[i64],
     wanted_heads: &[u32],
 ) {
     if same_store(slots, heads, wanted_slots, wanted_heads) {
-        tally::count(tally, part, number, tally::STORES, 1);
-        tally::count(tally, part, number, tally::STORE_WORDS, slots.len() as u64);
-        tally::count(tally, part, number, tally::STORE_WORDS, heads.len() as u64);
+        tally::count(tally, tally::STORES, 1);
+        tally::count(tally, tally::STORE_WORDS, slots.len() as u64);
+        tally::count(tally, tally::STORE_WORDS, heads.len() as u64);
     }
 }

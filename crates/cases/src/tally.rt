@@ -12,7 +12,7 @@ pub const CHECK: usize = 2;
 
 pub const DELIVER: usize = 3;
 
-pub const LAST: usize = 4;
+const LAST: usize = 4;
 
 // The columns of a part. The words are those of the code arrays and stores that are right.
 const CALLS: usize = 0;
@@ -29,67 +29,80 @@ pub const STORE_WORDS: usize = 5;
 
 const COLUMNS: usize = 6;
 
-// A row of 8 words for each of 32 numbers, in each part.
-pub const TALLY_WORDS: usize = 1280;
+// A row of 8 words for each of 32 numbers, in each part; then the row that is counted in.
+const ROW: usize = 1280;
 
-// Where a count stands.
-fn place(part: usize, number: usize, column: usize) -> usize
+pub const TALLY_WORDS: usize = 1281;
+
+pub type Tally = [u64; TALLY_WORDS];
+
+// The row of a part and a number.
+fn row_of(part: usize, number: usize) -> usize
+    ensures { λ r. ⌜ r < 160 ⌝ }
+{
+    32 * (part % 5) + number % 32
+}
+
+// Where a count of a row stands.
+fn place(row: usize, column: usize) -> usize
     ensures { λ r. ⌜ r < 1280 ⌝ }
 {
-    256 * (part % 5) + 8 * (number % 32) + column % 8
+    8 * (row % 160) + column % 8
+}
+
+// Turns to the row of a part and a number: what comes next is counted in it.
+pub fn turn_to(tally: &mut Tally, part: usize, number: usize) {
+    tally[ROW] = row_of(part, number) as u64;
 }
 
 // Adds to a count.
-pub fn count(tally: &mut [u64; TALLY_WORDS], part: usize, number: usize, column: usize, more: u64) {
-    let at = place(part, number, column);
+pub fn count(tally: &mut Tally, column: usize, more: u64) {
+    let at = place(tally[ROW] as usize, column);
     tally[at] = std::num::wrapping_add_u64(tally[at], more);
 }
 
 // Counts a call, and whether its answer is right.
-pub fn count_call(tally: &mut [u64; TALLY_WORDS], part: usize, number: usize, right: bool) {
-    count(tally, part, number, CALLS, 1);
+pub fn count_call(tally: &mut Tally, right: bool) {
+    count(tally, CALLS, 1);
     if right {
-        count(tally, part, number, ANSWERS, 1);
+        count(tally, ANSWERS, 1);
     }
 }
 
-// Counts a history of deliveries, whose last store is compared.
-pub fn count_last(tally: &mut [u64; TALLY_WORDS]) {
-    count(tally, LAST, 0, CALLS, 1);
+// Turns to the stores that histories of deliveries end with, and counts one more.
+pub fn count_last(tally: &mut Tally) {
+    turn_to(tally, LAST, 0);
+    count(tally, CALLS, 1);
 }
 
-// Prints a row: the number and its counts.
-fn print_row(tally: &[u64; TALLY_WORDS], part: usize, number: usize) {
-    io::print_decimal(STDOUT_FILENO, number as u64);
+// Prints a row that anything is counted in: the number and its counts.
+fn print_row(tally: &Tally, row: usize) {
+    if tally[place(row, CALLS)] == 0 {
+        return;
+    }
+    io::print_decimal(STDOUT_FILENO, (row % 32) as u64);
     let mut column = 0;
     while column < COLUMNS {
         io::write_all(STDOUT_FILENO, b" ");
-        io::print_decimal(STDOUT_FILENO, tally[place(part, number, column)]);
+        io::print_decimal(STDOUT_FILENO, tally[place(row, column)]);
         column = column + 1;
     }
     io::write_all(STDOUT_FILENO, b"\n");
 }
 
-// Whether anything is counted in a row.
-fn is_used(tally: &[u64; TALLY_WORDS], part: usize, number: usize) -> bool {
-    0 < tally[place(part, number, CALLS)]
-}
-
 // Prints a part: a row for each number that occurs.
-fn print_part(tally: &[u64; TALLY_WORDS], part: usize, name: &[u8]) {
+fn print_part(tally: &Tally, part: usize, name: &[u8]) {
     io::write_all(STDOUT_FILENO, name);
     io::write_all(STDOUT_FILENO, b"\n");
     let mut number = 0;
     while number < 32 {
-        if is_used(tally, part, number) {
-            print_row(tally, part, number);
-        }
+        print_row(tally, row_of(part, number));
         number = number + 1;
     }
 }
 
 // Prints a tally.
-pub fn print_tally(tally: &[u64; TALLY_WORDS]) {
+pub fn print_tally(tally: &Tally) {
     io::write_all(
         STDOUT_FILENO,
         b"number, calls, and what is right: answers, codes, their words, stores, their words\n",

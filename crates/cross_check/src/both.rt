@@ -5,12 +5,10 @@ use cross_ledger::HEAD_WORDS;
 use cross_ledger::MOST_CELLS;
 use cross_ledger::SLOT_WORDS;
 use cross_values::VALUE_WORDS;
-use cross_values::arena;
-use cross_values::arena::ARENA_WORDS;
-use cross_values::arena::METER_WORDS;
+use cross_values::memory;
+use cross_values::memory::Memory;
 use cross_values::rows;
 use cross_values::rows::FILE_BYTES;
-use cross_values::rows::ROW_WORDS;
 use cross_values::stops;
 ghost use Prim.Native.Nat.{_≤_};
 
@@ -161,19 +159,17 @@ pub fn open_both(
     file: &[u8; FILE_BYTES],
     slots: &mut [i64; SLOT_WORDS],
     heads: &mut [u32; HEAD_WORDS],
-    script: &mut [u64; ROW_WORDS],
-    memory: &mut [u64; ARENA_WORDS],
-    book: &mut [u64; METER_WORDS],
+    ledger: &mut Memory,
     end: usize,
     cells: usize,
 ) -> bool {
-    rows::read_script(file, script);
-    cross_ledger::open(memory, book);
+    rows::read_script(file, ledger);
+    cross_ledger::open(ledger);
     let answer = open(file, slots, heads, end, cells);
     if cross_ledger::number_of(answer) != stops::DONE {
         return false;
     }
-    cross_ledger::has_totals(script, slots, heads, memory, book)
+    cross_ledger::has_totals(slots, heads, ledger)
 }
 
 // Works a delivery of the first of these readings in both; the number of the answer if all agrees.
@@ -181,26 +177,16 @@ pub fn deliver_both(
     file: &[u8; FILE_BYTES],
     slots: &mut [i64; SLOT_WORDS],
     heads: &mut [u32; HEAD_WORDS],
-    script: &[u64; ROW_WORDS],
-    memory: &mut [u64; ARENA_WORDS],
-    book: &mut [u64; METER_WORDS],
+    ledger: &mut Memory,
     readings: &[u64; VALUE_WORDS],
     given: Given,
 ) -> u64 {
     let numbers = numbers_of(readings);
     let answer = deliver(file, slots, heads, &numbers, given);
-    if !cross_ledger::judge(
-        script,
-        memory,
-        book,
-        readings,
-        given.count,
-        given.budget,
-        answer,
-    ) {
+    if !cross_ledger::judge(ledger, readings, given.count, given.budget, answer) {
         return stops::DIFFERS;
     }
-    if !cross_ledger::has_totals(script, slots, heads, memory, book) {
+    if !cross_ledger::has_totals(slots, heads, ledger) {
         return stops::DIFFERS;
     }
     let checked = check(file, slots, heads, given);
@@ -210,21 +196,19 @@ pub fn deliver_both(
     cross_ledger::number_of(answer)
 }
 
-// Works a delivery in both, and one that stops with 22 to 25 after some steps once more with a step less: that is 21,
+// Works a delivery in both, and one that stops with 22 to 26 after some steps once more with a step less: that is 21,
 // which comes before them. The number of the first answer.
 pub fn deliver_twice(
     file: &[u8; FILE_BYTES],
     slots: &mut [i64; SLOT_WORDS],
     heads: &mut [u32; HEAD_WORDS],
-    script: &[u64; ROW_WORDS],
-    memory: &mut [u64; ARENA_WORDS],
-    book: &mut [u64; METER_WORDS],
+    ledger: &mut Memory,
     readings: &[u64; VALUE_WORDS],
     given: Given,
 ) -> u64 {
-    let number = deliver_both(file, slots, heads, script, memory, book, readings, given);
-    let steps = book[arena::ASKED];
-    if number < stops::CALL_TOO_DEEP || stops::OUT_OF_CELLS < number {
+    let number = deliver_both(file, slots, heads, ledger, readings, given);
+    let steps = ledger[memory::ASKED];
+    if number < stops::CALL_TOO_DEEP || stops::BAD_COUNT < number {
         return number;
     }
     if steps == 0 {
@@ -236,9 +220,7 @@ pub fn deliver_twice(
         count: given.count,
         budget: steps - 1,
     };
-    if deliver_both(file, slots, heads, script, memory, book, readings, fewer)
-        != stops::OUT_OF_STEPS
-    {
+    if deliver_both(file, slots, heads, ledger, readings, fewer) != stops::OUT_OF_STEPS {
         return stops::DIFFERS;
     }
     number

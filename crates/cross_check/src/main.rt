@@ -6,15 +6,14 @@ mod trials;
 
 use both::Given;
 use cross_draft::DESK_WORDS;
+use cross_draft::Desk;
 use cross_draft::requests;
 use cross_generate::scripts;
 use cross_ledger::HEAD_WORDS;
 use cross_ledger::SLOT_WORDS;
 use cross_values::VALUE_WORDS;
-use cross_values::arena::ARENA_WORDS;
-use cross_values::arena::METER_WORDS;
+use cross_values::memory::MEMORY_WORDS;
 use cross_values::rows::FILE_BYTES;
-use cross_values::rows::ROW_WORDS;
 use cross_values::stops;
 use libc::STDOUT_FILENO;
 use tally::TALLY_WORDS;
@@ -35,7 +34,7 @@ fn print_difference(seed: u64, delivery: u64) {
 
 // What the next delivery is given; its readings are filled in.
 fn choose_given(
-    desk: &mut [u64; DESK_WORDS],
+    desk: &mut Desk,
     readings: &mut [u64; VALUE_WORDS],
     end: usize,
     cells: usize,
@@ -55,29 +54,18 @@ fn run_store(
     file: &[u8; FILE_BYTES],
     end: usize,
     cells: usize,
-    desk: &mut [u64; DESK_WORDS],
+    desk: &mut Desk,
     counts: &mut [u64; TALLY_WORDS],
 ) -> u64 {
     let mut slots = [0i64; SLOT_WORDS];
     let mut heads = [0u32; HEAD_WORDS];
-    let mut script = [0u64; ROW_WORDS];
-    let mut memory = [0u64; ARENA_WORDS];
-    let mut book = [0u64; METER_WORDS];
+    let mut ledger = [0u64; MEMORY_WORDS];
     let mut readings = [0u64; VALUE_WORDS];
-    if !both::open_both(
-        file,
-        &mut slots,
-        &mut heads,
-        &mut script,
-        &mut memory,
-        &mut book,
-        end,
-        cells,
-    ) {
+    if !both::open_both(file, &mut slots, &mut heads, &mut ledger, end, cells) {
         tally::count(counts, tally::REFUSED);
         return DELIVERIES;
     }
-    tally::count_opened(counts, cross_ledger::totals_depth(&script));
+    tally::count_opened(counts, cross_ledger::totals_depth(&ledger));
     let mut delivery: u64 = 0;
     while delivery < DELIVERIES {
         let given = choose_given(desk, &mut readings, end, cells);
@@ -85,9 +73,7 @@ fn run_store(
             file,
             &mut slots,
             &mut heads,
-            &script,
-            &mut memory,
-            &mut book,
+            &mut ledger,
             &readings,
             given,
         );

@@ -1,24 +1,25 @@
 // What a run counts, in one array of words, and how it is printed.
-use cross_draft::DESK_WORDS;
+use cross_draft::Desk;
 use cross_values::kinds;
 use cross_values::stops;
 use libc::STDOUT_FILENO;
 ghost use Prim.Native.Nat.{_≤_};
 
-// The deliveries stand at their numbers. Then come the scripts that were opened, those refused and those that come to
-// level 64; and two regions: the scripts by the depth of their totals, and the nodes by kind.
-pub const OPENED: usize = 32;
+// The deliveries stand at their numbers, and those that differ after them. Then come the scripts that were opened, those
+// refused and those that come to level 64; and two regions: the scripts by the depth of their totals, and the nodes by
+// kind.
+const OPENED: usize = 33;
 
-pub const REFUSED: usize = 33;
+pub const REFUSED: usize = 34;
 
-pub const LAST_LEVEL: usize = 34;
+const LAST_LEVEL: usize = 35;
 
-pub const DEPTHS: usize = 40;
+const DEPTHS: usize = 40;
 
-pub const KINDS: usize = 48;
+const KINDS: usize = 48;
 
 // The words of a tally.
-pub const TALLY_WORDS: usize = 64;
+pub const TALLY_WORDS: usize = 80;
 
 // Counts one more.
 pub fn count(tally: &mut [u64; TALLY_WORDS], i: usize) {
@@ -33,7 +34,7 @@ pub fn count_opened(tally: &mut [u64; TALLY_WORDS], depth: u64) {
 }
 
 // Counts a draft: its nodes by kind, and whether it comes to the last level.
-pub fn count_draft(draft: &[u64; DESK_WORDS], tally: &mut [u64; TALLY_WORDS]) {
+pub fn count_draft(draft: &Desk, tally: &mut [u64; TALLY_WORDS]) {
     count_nodes(draft, tally);
     if draft[cross_draft::LAST_LEVEL] == 1 {
         count(tally, LAST_LEVEL);
@@ -41,11 +42,11 @@ pub fn count_draft(draft: &[u64; DESK_WORDS], tally: &mut [u64; TALLY_WORDS]) {
 }
 
 // Counts the nodes of a draft by kind.
-fn count_nodes(draft: &[u64; DESK_WORDS], tally: &mut [u64; TALLY_WORDS]) {
+fn count_nodes(draft: &Desk, tally: &mut [u64; TALLY_WORDS]) {
     let nodes = draft[cross_draft::NODES] % (cross_draft::MOST_NODES + 1);
     let mut node: u64 = 0;
     while node < nodes {
-        let kind = cross_draft::kind_at(draft, node) % 16;
+        let kind = cross_draft::kind_at(draft, node) % 32;
         count(tally, KINDS + kind as usize);
         node = node + 1;
     }
@@ -62,7 +63,7 @@ fn print_line(label: u64, count: u64) {
 
 // Prints so many words of the tally from a place, each with its number.
 fn print_words(tally: &[u64; TALLY_WORDS], start: usize, first: u64, past: u64)
-    requires { ⌜ (start ≤ 64) × (past ≤ 64) ⌝ }
+    requires { ⌜ (start ≤ 80) × (past ≤ 80) ⌝ }
 {
     let mut i = first;
     while i < past {
@@ -86,10 +87,11 @@ pub fn print_tally(tally: &[u64; TALLY_WORDS]) {
     io::write_all(STDOUT_FILENO, b"scripts by the depth of the totals\n");
     print_words(tally, DEPTHS, 0, 5);
     io::write_all(STDOUT_FILENO, b"nodes by kind\n");
-    print_words(tally, KINDS, 0, kinds::KINDS);
+    print_words(tally, KINDS, 0, kinds::MAP + 1);
+    print_words(tally, KINDS, kinds::IOTA, kinds::REDUCE + 1);
     io::write_all(STDOUT_FILENO, b"deliveries that agree, by number\n");
     print_line(stops::DONE, tally[stops::DONE as usize]);
     print_line(stops::BAD_REQUEST, tally[stops::BAD_REQUEST as usize]);
-    print_words(tally, 0, stops::OUT_OF_STEPS, stops::DIFFERS);
+    print_words(tally, 0, stops::OUT_OF_STEPS, stops::BAD_COUNT + 1);
     print_count(b"deliveries that differ: ", tally[stops::DIFFERS as usize]);
 }

@@ -3,15 +3,14 @@
 use super::both;
 use super::both::Given;
 use cross_draft::DESK_WORDS;
+use cross_draft::Desk;
 use cross_draft::write;
 use cross_ledger::HEAD_WORDS;
 use cross_ledger::SLOT_WORDS;
 use cross_values::VALUE_WORDS;
-use cross_values::arena::ARENA_WORDS;
-use cross_values::arena::METER_WORDS;
 use cross_values::kinds;
+use cross_values::memory::MEMORY_WORDS;
 use cross_values::rows::FILE_BYTES;
-use cross_values::rows::ROW_WORDS;
 use cross_values::stops;
 use libc::STDOUT_FILENO;
 
@@ -19,7 +18,7 @@ use libc::STDOUT_FILENO;
 const CELLS: usize = 2;
 
 // The printed script: the first totals are the first reading, and later readings are added.
-fn write_printed(desk: &mut [u64; DESK_WORDS]) {
+fn write_printed(desk: &mut Desk) {
     desk[cross_draft::FUNCTIONS] = 1;
     write(desk, kinds::FUNCTION, 0x102);
     write(desk, kinds::PARAMETER, 0x100);
@@ -38,14 +37,14 @@ fn write_printed(desk: &mut [u64; DESK_WORDS]) {
 }
 
 // The first reading.
-fn write_first(desk: &mut [u64; DESK_WORDS]) {
+fn write_first(desk: &mut Desk) {
     write(desk, kinds::INDEX, 0);
     write(desk, kinds::NAME, 1);
     write(desk, kinds::NUMBER, 0);
 }
 
 // Main calls a function with the first reading n, which calls itself n times: f(n) = if n then f(n - 1) else 0.
-fn write_nested(desk: &mut [u64; DESK_WORDS]) {
+fn write_nested(desk: &mut Desk) {
     desk[cross_draft::FUNCTIONS] = 2;
     write(desk, kinds::FUNCTION, 2);
     write(desk, kinds::PARAMETER, 0);
@@ -72,19 +71,8 @@ fn number_of(
 ) -> u64 {
     let mut slots = [0i64; SLOT_WORDS];
     let mut heads = [0u32; HEAD_WORDS];
-    let mut script = [0u64; ROW_WORDS];
-    let mut memory = [0u64; ARENA_WORDS];
-    let mut book = [0u64; METER_WORDS];
-    if !both::open_both(
-        file,
-        &mut slots,
-        &mut heads,
-        &mut script,
-        &mut memory,
-        &mut book,
-        end,
-        CELLS,
-    ) {
+    let mut ledger = [0u64; MEMORY_WORDS];
+    if !both::open_both(file, &mut slots, &mut heads, &mut ledger, end, CELLS) {
         return stops::DIFFERS;
     }
     let given = Given {
@@ -93,20 +81,11 @@ fn number_of(
         count: count,
         budget: cross_ledger::MOST_STEPS,
     };
-    both::deliver_both(
-        file,
-        &mut slots,
-        &mut heads,
-        &script,
-        &mut memory,
-        &mut book,
-        readings,
-        given,
-    )
+    both::deliver_both(file, &mut slots, &mut heads, &mut ledger, readings, given)
 }
 
 // Prints what a trial is, and its number in both.
-fn run_trial(label: &[u8], desk: &[u64; DESK_WORDS], readings: &[u64; VALUE_WORDS], count: usize) {
+fn run_trial(label: &[u8], desk: &Desk, readings: &[u64; VALUE_WORDS], count: usize) {
     let mut file = [0u8; FILE_BYTES];
     let end = cross_draft::file::write_file(desk, &mut file);
     io::write_all(STDOUT_FILENO, label);

@@ -1,5 +1,5 @@
 // The draft as a script file.
-use super::DESK_WORDS;
+use super::Desk;
 use cross_values::rows::FILE_BYTES;
 ghost use Prim.Native.Nat.{_≤_};
 
@@ -25,7 +25,7 @@ fn put_size(file: &mut [u8; FILE_BYTES], i: usize, size: u64)
 }
 
 // The kind and the operand of a node.
-fn put_node(desk: &[u64; DESK_WORDS], nodes: usize, node: usize, file: &mut [u8; FILE_BYTES])
+fn put_node(desk: &Desk, nodes: usize, node: usize, file: &mut [u8; FILE_BYTES])
     requires { ⌜ (nodes ≤ 1024) × (node ≤ 1023) ⌝ }
 {
     file[4 + node] = (super::kind_at(desk, node as u64) % 256) as u8;
@@ -37,7 +37,7 @@ fn put_node(desk: &[u64; DESK_WORDS], nodes: usize, node: usize, file: &mut [u8;
 }
 
 // The draft as a script file; its length.
-pub fn write_file(desk: &[u64; DESK_WORDS], file: &mut [u8; FILE_BYTES]) -> usize
+pub fn write_file(desk: &Desk, file: &mut [u8; FILE_BYTES]) -> usize
     ensures { λ r. ⌜ r ≤ 9220 ⌝ }
 {
     let nodes = (desk[super::NODES] % (super::MOST_NODES + 1)) as usize;

@@ -9,6 +9,8 @@ ghost use Prim.Native.Nat.{_<_};
 // The words of a desk.
 pub const DESK_WORDS: usize = 4896;
 
+pub type Desk = [u64; DESK_WORDS];
+
 // Single words: the seed, the nodes written, the items on the agenda, the functions, the function that is written,
 // the nodes after which only leaves are written, and whether a spine came to its last level.
 const SEED: usize = 0;
@@ -71,7 +73,7 @@ const PRIME: u64 = 2147483647;
 const FACTOR: u64 = 48271;
 
 // The next number of the sequence, below n.
-pub fn choose(desk: &mut [u64; DESK_WORDS], n: u64) -> u64
+pub fn choose(desk: &mut Desk, n: u64) -> u64
     requires { ⌜ 0 < n ⌝ }
     ensures { λ r. ⌜ r < n ⌝ }
 {
@@ -81,24 +83,24 @@ pub fn choose(desk: &mut [u64; DESK_WORDS], n: u64) -> u64
 }
 
 // Starts the sequence from a seed; it would stay at 0, so it never starts there.
-pub fn plant(desk: &mut [u64; DESK_WORDS], seed: u64) {
+pub fn plant(desk: &mut Desk, seed: u64) {
     desk[SEED] = seed % (PRIME - 1) + 1;
 }
 
 // Notes that a spine came to its last level, where it did.
-pub fn note_spine(desk: &mut [u64; DESK_WORDS], spine: bool) {
+pub fn note_spine(desk: &mut Desk, spine: bool) {
     if spine {
         desk[LAST_LEVEL] = 1;
     }
 }
 
 // 0 for a name that is not known, and else its depth + 1.
-pub fn known(desk: &[u64; DESK_WORDS], name: u64) -> u64 {
+pub fn known(desk: &Desk, name: u64) -> u64 {
     desk[SCOPE + (name % NAMES) as usize]
 }
 
 // Sets what is known of a name.
-pub fn set_known(desk: &mut [u64; DESK_WORDS], name: u64, depth_and_one: u64) {
+pub fn set_known(desk: &mut Desk, name: u64, depth_and_one: u64) {
     desk[SCOPE + (name % NAMES) as usize] = depth_and_one;
 }
 
@@ -110,17 +112,17 @@ fn signature_place(function: u64, column: u64) -> usize
 }
 
 // A column of a function's signature.
-pub fn signature(desk: &[u64; DESK_WORDS], function: u64, column: u64) -> u64 {
+pub fn signature(desk: &Desk, function: u64, column: u64) -> u64 {
     desk[signature_place(function, column)]
 }
 
 // Sets a column of a function's signature.
-pub fn set_signature(desk: &mut [u64; DESK_WORDS], function: u64, column: u64, value: u64) {
+pub fn set_signature(desk: &mut Desk, function: u64, column: u64, value: u64) {
     desk[signature_place(function, column)] = value;
 }
 
 // Puts an item on top of the agenda.
-pub fn push(desk: &mut [u64; DESK_WORDS], tag: u64, first: u64, second: u64) {
+pub fn push(desk: &mut Desk, tag: u64, first: u64, second: u64) {
     let items = desk[ITEMS];
     if items < MOST_ITEMS {
         desk[AGENDA + items as usize] = tag % 4 + 4 * (first % 4096 + 4096 * (second % 65536));
@@ -129,7 +131,7 @@ pub fn push(desk: &mut [u64; DESK_WORDS], tag: u64, first: u64, second: u64) {
 }
 
 // Takes the agenda's top item.
-pub fn pop(desk: &mut [u64; DESK_WORDS]) -> u64 {
+pub fn pop(desk: &mut Desk) -> u64 {
     let items = desk[ITEMS];
     if items == 0 {
         return NOTHING;
@@ -139,7 +141,7 @@ pub fn pop(desk: &mut [u64; DESK_WORDS]) -> u64 {
 }
 
 // Writes a node.
-pub fn write(desk: &mut [u64; DESK_WORDS], kind: u64, operand: u64) {
+pub fn write(desk: &mut Desk, kind: u64, operand: u64) {
     let node = desk[NODES];
     if node < MOST_NODES {
         desk[DRAFT + 2 * node as usize] = kind;
@@ -149,11 +151,11 @@ pub fn write(desk: &mut [u64; DESK_WORDS], kind: u64, operand: u64) {
 }
 
 // The kind of a node that is written.
-pub fn kind_at(desk: &[u64; DESK_WORDS], node: u64) -> u64 {
+pub fn kind_at(desk: &Desk, node: u64) -> u64 {
     desk[DRAFT + 2 * (node % MOST_NODES) as usize]
 }
 
 // The operand of a node that is written.
-pub fn operand_at(desk: &[u64; DESK_WORDS], node: u64) -> u64 {
+pub fn operand_at(desk: &Desk, node: u64) -> u64 {
     desk[DRAFT + 2 * (node % MOST_NODES) as usize + 1]
 }

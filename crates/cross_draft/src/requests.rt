@@ -1,5 +1,5 @@
 // Numbers, and what a delivery is given: cells, readings and a budget.
-use super::DESK_WORDS;
+use super::Desk;
 use cross_values::VALUE_WORDS;
 ghost use Prim.Native.Nat.{_<_, _≤_};
 
@@ -12,7 +12,7 @@ const GREATEST: u64 = 9223372036854775807;
 const LEAST: u64 = 9223372036854775808;
 
 // The bits of a number: small, negative, or at the ends of the range.
-pub fn number(desk: &mut [u64; DESK_WORDS]) -> u64 {
+pub fn number(desk: &mut Desk) -> u64 {
     match super::choose(desk, 9) {
         0 => 18446744073709551615 - super::choose(desk, 3),
         1 => GREATEST - super::choose(desk, 2),
@@ -22,7 +22,7 @@ pub fn number(desk: &mut [u64; DESK_WORDS]) -> u64 {
 }
 
 // How many cells a store has.
-pub fn choose_cells(desk: &mut [u64; DESK_WORDS]) -> usize
+pub fn choose_cells(desk: &mut Desk) -> usize
     ensures { λ r. ⌜ (0 < r) × (r ≤ 256) ⌝ }
 {
     match super::choose(desk, 10) {
@@ -39,7 +39,7 @@ pub fn choose_cells(desk: &mut [u64; DESK_WORDS]) -> usize
 }
 
 // How many readings there are; at times one too many.
-fn reading_count(desk: &mut [u64; DESK_WORDS]) -> usize
+fn reading_count(desk: &mut Desk) -> usize
     ensures { λ r. ⌜ r ≤ 17 ⌝ }
 {
     let choice = super::choose(desk, 120);
@@ -53,7 +53,7 @@ fn reading_count(desk: &mut [u64; DESK_WORDS]) -> usize
 }
 
 // Fills in readings; how many there are.
-pub fn choose_readings(desk: &mut [u64; DESK_WORDS], readings: &mut [u64; VALUE_WORDS]) -> usize
+pub fn choose_readings(desk: &mut Desk, readings: &mut [u64; VALUE_WORDS]) -> usize
     ensures { λ r. ⌜ r ≤ 17 ⌝ }
 {
     let count = reading_count(desk);
@@ -67,7 +67,7 @@ pub fn choose_readings(desk: &mut [u64; DESK_WORDS], readings: &mut [u64; VALUE_
 }
 
 // A budget: mostly ample, at times small, and at times too large.
-pub fn choose_budget(desk: &mut [u64; DESK_WORDS]) -> u64 {
+pub fn choose_budget(desk: &mut Desk) -> u64 {
     match super::choose(desk, 20) {
         0 => MOST_STEPS + 1,
         1 | 2 => super::choose(desk, 10),

@@ -1,4 +1,7 @@
 // Scripts made from a seed, for comparing two interpreters: every node kind, depths to 4, levels to 64, shared and
-// shadowed names, and functions that call themselves.
-pub mod parts;
+// shadowed names, counts in range and out of it, and functions that call themselves.
+mod arrays;
+mod calls;
+mod parts;
 pub mod scripts;
+mod wants;

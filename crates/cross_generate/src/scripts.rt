@@ -1,11 +1,13 @@
 // Whole scripts: signatures, then each function by the agenda.
 use super::parts;
-use cross_draft::DESK_WORDS;
+use super::wants;
+use super::wants::Room;
+use cross_draft::Desk;
 use cross_values::kinds;
 ghost use Prim.Native.Nat.{_<_, _≤_};
 
 // Main takes the totals, whose depth is also the result's, and the readings.
-fn set_main(desk: &mut [u64; DESK_WORDS], depth: u64) {
+fn set_main(desk: &mut Desk, depth: u64) {
     cross_draft::set_signature(desk, 0, cross_draft::COUNT, 2);
     cross_draft::set_signature(desk, 0, cross_draft::RESULT, depth);
     cross_draft::set_signature(desk, 0, cross_draft::RECURSIVE, 0);
@@ -14,14 +16,14 @@ fn set_main(desk: &mut [u64; DESK_WORDS], depth: u64) {
 }
 
 // A function that calls itself takes a falling number first.
-fn set_recursive(desk: &mut [u64; DESK_WORDS], function: u64, count: u64) {
+fn set_recursive(desk: &mut Desk, function: u64, count: u64) {
     cross_draft::set_signature(desk, function, cross_draft::COUNT, count);
     cross_draft::set_signature(desk, function, cross_draft::RECURSIVE, 1);
     cross_draft::set_signature(desk, function, cross_draft::FIRST_DEPTH, 0)
 }
 
 // How many parameters a function has that does not call itself: mostly a few, at times 8.
-fn choose_count(desk: &mut [u64; DESK_WORDS]) -> u64 {
+fn choose_count(desk: &mut Desk) -> u64 {
     if cross_draft::choose(desk, 8) == 0 {
         return 8;
     }
@@ -29,8 +31,8 @@ fn choose_count(desk: &mut [u64; DESK_WORDS]) -> u64 {
 }
 
 // Chooses the signature of a function.
-fn choose_signature(desk: &mut [u64; DESK_WORDS], function: u64) {
-    let result = parts::some_depth(desk);
+fn choose_signature(desk: &mut Desk, function: u64) {
+    let result = wants::some_depth(desk);
     if function == 0 {
         return set_main(desk, result);
     }
@@ -45,17 +47,17 @@ fn choose_signature(desk: &mut [u64; DESK_WORDS], function: u64) {
 }
 
 // Chooses the depths of a function's parameters.
-fn choose_depths(desk: &mut [u64; DESK_WORDS], function: u64) {
+fn choose_depths(desk: &mut Desk, function: u64) {
     let mut i: u64 = 0;
     while i < 8 {
-        let depth = parts::some_depth(desk);
+        let depth = wants::some_depth(desk);
         cross_draft::set_signature(desk, function, cross_draft::FIRST_DEPTH + i, depth);
         i = i + 1;
     }
 }
 
 // Chooses the signatures of all functions.
-fn choose_signatures(desk: &mut [u64; DESK_WORDS], functions: u64)
+fn choose_signatures(desk: &mut Desk, functions: u64)
     requires { ⌜ functions ≤ 32 ⌝ }
 {
     desk[cross_draft::FUNCTIONS] = functions;
@@ -67,22 +69,22 @@ fn choose_signatures(desk: &mut [u64; DESK_WORDS], functions: u64)
 }
 
 // Forgets all names.
-fn clear_names(desk: &mut [u64; DESK_WORDS]) {
+fn clear_names(desk: &mut Desk) {
     let mut i: u64 = 0;
-    while i < parts::NAMES {
-        cross_draft::set_known(desk, parts::name_of(i), 0);
+    while i < wants::NAMES {
+        cross_draft::set_known(desk, wants::name_of(i), 0);
         i = i + 1;
     }
 }
 
 // Writes the parameters of a function, and knows them from now on.
-fn write_parameters(desk: &mut [u64; DESK_WORDS], function: u64, count: u64)
+fn write_parameters(desk: &mut Desk, function: u64, count: u64)
     requires { ⌜ count ≤ 8 ⌝ }
 {
     let mut i: u64 = 0;
     while i < count {
         let depth = cross_draft::signature(desk, function, cross_draft::FIRST_DEPTH + i) % 5;
-        let name = parts::name_of(i);
+        let name = wants::name_of(i);
         cross_draft::write(desk, kinds::PARAMETER, name + 256 * depth);
         cross_draft::set_known(desk, name, depth + 1);
         i = i + 1;
@@ -90,13 +92,17 @@ fn write_parameters(desk: &mut [u64; DESK_WORDS], function: u64, count: u64)
 }
 
 // Does what one item of the agenda asks for; false where there is none.
-fn take_item(desk: &mut [u64; DESK_WORDS]) -> bool {
+fn take_item(desk: &mut Desk) -> bool {
     let item = cross_draft::pop(desk);
     let first = item / 4 % 4096;
     let second = item / 16384;
     match item % 4 {
         cross_draft::PART => {
-            parts::make_part(desk, first % 8 % 5, first / 8 % 128, 1023 < first);
+            let room = Room {
+                levels: first / 8 % 128,
+                spine: 1023 < first,
+            };
+            parts::make_part(desk, first % 8 % 5, room);
             true
         }
         cross_draft::BINDING => {
@@ -112,7 +118,7 @@ fn take_item(desk: &mut [u64; DESK_WORDS]) -> bool {
 }
 
 // Works the agenda off.
-fn take_items(desk: &mut [u64; DESK_WORDS]) {
+fn take_items(desk: &mut Desk) {
     let mut turns: u64 = 8192;
     while 0 < turns {
         if !take_item(desk) {
@@ -123,33 +129,33 @@ fn take_items(desk: &mut [u64; DESK_WORDS]) {
 }
 
 // Asks for the body of a function that calls itself: mostly only while its number is above 0.
-fn push_recursive(desk: &mut [u64; DESK_WORDS], result: u64) {
+fn push_recursive(desk: &mut Desk, result: u64) {
     if cross_draft::choose(desk, 6) == 0 {
-        return parts::push_part(desk, result, 7, false);
+        return wants::push_part(desk, result, 7, false);
     }
-    parts::push_part(desk, result, 2, false);
-    parts::push_part(desk, result, 7, false);
-    cross_draft::push(desk, cross_draft::NODE, kinds::NAME, parts::name_of(0));
+    wants::push_part(desk, result, 2, false);
+    wants::push_part(desk, result, 7, false);
+    cross_draft::push(desk, cross_draft::NODE, kinds::NAME, wants::name_of(0));
     cross_draft::push(desk, cross_draft::NODE, kinds::NUMBER, 0);
     cross_draft::push(desk, cross_draft::NODE, kinds::LESS, 0);
     cross_draft::push(desk, cross_draft::NODE, kinds::IF, 0);
 }
 
 // Asks for the body of a function; at times it is a spine to the last level.
-fn push_body(desk: &mut [u64; DESK_WORDS], function: u64, result: u64) {
+fn push_body(desk: &mut Desk, function: u64, result: u64) {
     if cross_draft::signature(desk, function, cross_draft::RECURSIVE) == 1 {
         return push_recursive(desk, result);
     }
     if cross_draft::choose(desk, 10) == 0 {
         desk[cross_draft::LIMIT] = 1000;
-        return parts::push_part(desk, result, 64, true);
+        return wants::push_part(desk, result, 64, true);
     }
     let levels = 4 + cross_draft::choose(desk, 8);
-    parts::push_part(desk, result, levels, false)
+    wants::push_part(desk, result, levels, false)
 }
 
 // Turns to a function: no name is known, and its nodes are limited.
-fn start_function(desk: &mut [u64; DESK_WORDS], function: u64) {
+fn start_function(desk: &mut Desk, function: u64) {
     let limit = desk[cross_draft::NODES] % cross_draft::MOST_NODES
         + 15
         + cross_draft::choose(desk, 90);
@@ -159,7 +165,7 @@ fn start_function(desk: &mut [u64; DESK_WORDS], function: u64) {
 }
 
 // Writes a function.
-fn write_function(desk: &mut [u64; DESK_WORDS], function: u64) {
+fn write_function(desk: &mut Desk, function: u64) {
     start_function(desk, function);
     let count = cross_draft::signature(desk, function, cross_draft::COUNT) % 9;
     let result = cross_draft::signature(desk, function, cross_draft::RESULT) % 5;
@@ -170,7 +176,7 @@ fn write_function(desk: &mut [u64; DESK_WORDS], function: u64) {
 }
 
 // Makes a script from a seed.
-pub fn make_script(desk: &mut [u64; DESK_WORDS], seed: u64) {
+pub fn make_script(desk: &mut Desk, seed: u64) {
     cross_draft::plant(desk, seed);
     desk[cross_draft::NODES] = 0;
     let functions = 1 + cross_draft::choose(desk, 5);

@@ -1,16 +1,15 @@
-// The ledger of a store: the meter of the second interpreter, with the totals' value. It judges each answer of the
+// The ledger of a store: the memory of the second interpreter, with the totals' value. It judges each answer of the
 // engine, and says whether the totals of a store have its value.
 use cross_values::MOST_ELEMENTS;
 use cross_values::VALUE_WORDS;
 use cross_values::Worked;
-use cross_values::arena;
-use cross_values::arena::ARENA_WORDS;
-use cross_values::arena::METER_WORDS;
+use cross_values::arrays;
+use cross_values::memory;
+use cross_values::memory::Memory;
 use cross_values::rows;
-use cross_values::rows::ROW_WORDS;
 use cross_values::stops;
 use cross_values::work;
-ghost use Prim.Native.Nat.{_<_, _≤_};
+ghost use Prim.Native.Nat.{_<_};
 
 // The cells of the greatest store, and the words of its arrays.
 pub const MOST_CELLS: usize = 256;
@@ -40,78 +39,78 @@ pub fn cells_of(answer: u64) -> u64 {
 }
 
 // The depth of the totals.
-pub fn totals_depth(script: &[u64; ROW_WORDS]) -> u64
+pub fn totals_depth(ledger: &Memory) -> u64
     ensures { λ r. ⌜ r < 8 ⌝ }
 {
-    rows::operand_at(script, 0) / 256 % 8
+    rows::operand_at(ledger, 0) / 256 % 8
 }
 
-// Opens the ledger: the totals are 0 or, in the same words, the array at the arena's start, which is empty.
-pub fn open(memory: &mut [u64; ARENA_WORDS], ledger: &mut [u64; METER_WORDS]) {
-    memory[0] = 0;
-    ledger[arena::USED] = 1;
-    ledger[arena::TOTALS] = 0;
+// Opens the ledger of a script that is read: the totals are 0 or, in the same word, the array at the arena's start,
+// which is empty.
+pub fn open(ledger: &mut Memory) {
+    ledger[memory::ARENA] = 0;
+    ledger[memory::USED] = 1;
+    ledger[memory::TOTALS] = 0;
 }
 
 // Sets the meter for a delivery in which a step is asked about.
-fn start(ledger: &mut [u64; METER_WORDS], budget: u64, asked: u64) {
-    ledger[arena::LEFT] = budget;
-    ledger[arena::TAKEN] = 0;
-    ledger[arena::ASKED] = asked;
-    ledger[arena::WANTED] = 0;
+fn start(ledger: &mut Memory, budget: u64, asked: u64) {
+    ledger[memory::LEFT] = budget;
+    ledger[memory::TAKEN] = 0;
+    ledger[memory::ASKED] = asked;
+    ledger[memory::WANTED] = 0;
 }
 
 // Whether a cell was wanted after the step that was asked about: for the readings, or by the node that took it.
-fn is_wanted(ledger: &[u64; METER_WORDS]) -> bool {
-    if ledger[arena::ASKED] == 0 {
+fn is_wanted(ledger: &Memory) -> bool {
+    if ledger[memory::ASKED] == 0 {
         return true;
     }
-    ledger[arena::WANTED] == 1
+    ledger[memory::WANTED] == 1
 }
 
-// Whether a number that the meaning ends with is that of an answer, with the same steps.
-fn is_same(ledger: &[u64; METER_WORDS], number: u64, answer: u64) -> bool {
+// Whether an answer fits a meaning that ends with this number. Of the answer the ledger uses only a want of cells with
+// its steps: a cell was wanted there. Any other has the same number and steps.
+fn fits(ledger: &Memory, number: u64, answer: u64) -> bool {
+    if number_of(answer) == stops::OUT_OF_CELLS {
+        return is_wanted(ledger);
+    }
     if number != number_of(answer) {
         return false;
     }
-    ledger[arena::TAKEN] == steps_of(answer)
+    ledger[memory::TAKEN] == steps_of(answer)
 }
 
-// Whether the answer to a delivery agrees with the meaning; a result replaces the totals. Of the answer the ledger
-// uses only a want of cells with its steps: that leaves the totals, and a cell was wanted there.
+// Ends a delivery with a result: it replaces the totals, unless the answer is a want of cells.
+fn end(ledger: &mut Memory, used: u64, result: u64, answer: u64) {
+    if number_of(answer) == stops::OUT_OF_CELLS {
+        ledger[memory::USED] = used;
+    } else {
+        ledger[memory::TOTALS] = result;
+    }
+}
+
+// Whether the answer to a delivery agrees with the meaning. A result replaces the totals, and a stop leaves them.
 pub fn judge(
-    script: &[u64; ROW_WORDS],
-    memory: &mut [u64; ARENA_WORDS],
-    ledger: &mut [u64; METER_WORDS],
+    ledger: &mut Memory,
     readings: &[u64; VALUE_WORDS],
     count: usize,
     budget: u64,
     answer: u64,
 ) -> bool {
-    if MOST_ELEMENTS < count {
+    if MOST_ELEMENTS < count || MOST_STEPS < budget {
         return answer == stops::BAD_REQUEST;
     }
-    if MOST_STEPS < budget {
-        return answer == stops::BAD_REQUEST;
-    }
-    let used = ledger[arena::USED];
-    let dry = number_of(answer) == stops::OUT_OF_CELLS;
+    let used = ledger[memory::USED];
     start(ledger, budget, steps_of(answer));
-    match work::work_main(script, memory, ledger, readings, count as u64) {
+    match work::work_main(ledger, readings, count as u64) {
         Worked::Value(v) => {
-            if dry {
-                ledger[arena::USED] = used;
-                return is_wanted(ledger);
-            }
-            ledger[arena::TOTALS] = v;
-            is_same(ledger, stops::DONE, answer)
+            end(ledger, used, v, answer);
+            fits(ledger, stops::DONE, answer)
         }
         Worked::Stop(n) => {
-            ledger[arena::USED] = used;
-            if dry {
-                return is_wanted(ledger);
-            }
-            is_same(ledger, n, answer)
+            ledger[memory::USED] = used;
+            fits(ledger, n, answer)
         }
     }
 }
@@ -153,11 +152,11 @@ fn has_head(heads: &[u32; HEAD_WORDS], cell: usize, length: u64, element_depth: 
     wide(heads[4 * cell + 3]) == element_depth
 }
 
-// Whether a word of the store and a value of the arena are the same value of some depth.
+// Whether a word of the store and a value of the ledger are the same value of some depth.
 fn same_value(
     slots: &[i64; SLOT_WORDS],
     heads: &[u32; HEAD_WORDS],
-    memory: &[u64; ARENA_WORDS],
+    ledger: &Memory,
     held: i64,
     value: u64,
     depth: u64,
@@ -166,15 +165,15 @@ fn same_value(
         return held == cross_values::signed(value);
     }
     let cell = cell_of(held);
-    let count = arena::length_at(memory, value);
+    let count = arrays::length_at(ledger, value);
     if !has_head(heads, cell, count, depth - 1) {
         return false;
     }
     let mut i: u64 = 0;
     while i < count {
         let element = element_in(slots, cell, i as usize);
-        let meant = arena::element_at(memory, value, i);
-        if !same_value(slots, heads, memory, element, meant, depth - 1) {
+        let meant = arrays::element_at(ledger, value, i);
+        if !same_value(slots, heads, ledger, element, meant, depth - 1) {
             return false;
         }
         i = i + 1;
@@ -183,13 +182,14 @@ fn same_value(
 }
 
 // Whether the totals of a store have the ledger's value.
-pub fn has_totals(
-    script: &[u64; ROW_WORDS],
-    slots: &[i64; SLOT_WORDS],
-    heads: &[u32; HEAD_WORDS],
-    memory: &[u64; ARENA_WORDS],
-    ledger: &[u64; METER_WORDS],
-) -> bool {
-    let depth = totals_depth(script);
-    same_value(slots, heads, memory, slots[0], ledger[arena::TOTALS], depth)
+pub fn has_totals(slots: &[i64; SLOT_WORDS], heads: &[u32; HEAD_WORDS], ledger: &Memory) -> bool {
+    let depth = totals_depth(ledger);
+    same_value(
+        slots,
+        heads,
+        ledger,
+        slots[0],
+        ledger[memory::TOTALS],
+        depth,
+    )
 }

@@ -2,8 +2,12 @@
 // A value is one word: a number is its 64 bits, and an array is its place in the arena, where its length and then
 // its elements stand. Scripts are taken as accepted: what no accepted script has stops the work with `BROKEN`, or is
 // worked as something else.
-pub mod arena;
+pub mod arrays;
 pub mod kinds;
+mod leaves;
+mod loops;
+pub mod memory;
+mod numbers;
 pub mod rows;
 pub mod stops;
 pub mod work;

@@ -1,18 +1,16 @@
 // A script file as rows of three words, one for each node: its kind, its operand and the node after its part.
 use super::VALUE_WORDS;
 use super::kinds;
+use super::kinds::Kind;
+use super::memory;
+use super::memory::Memory;
+use super::memory::ROWS;
 ghost use Prim.Native.Nat.{_<_, _≤_, _^_};
 
 // The bytes of the longest script file, and the most nodes that it has.
 pub const FILE_BYTES: usize = 9220;
 
 pub const MOST_NODES: usize = 1024;
-
-// The words of its rows.
-pub const ROW_WORDS: usize = 3072;
-
-// The names that a function may use.
-pub const NAMES: usize = 256;
 
 // A byte as a wider number.
 fn wide(byte: u8) -> u64
@@ -51,81 +49,107 @@ fn node_count(file: &[u8; FILE_BYTES]) -> usize
 }
 
 // The kind of a node.
-pub fn kind_at(rows: &[u64; ROW_WORDS], node: usize) -> u64 {
-    rows[3 * (node % MOST_NODES)]
+pub fn kind_at(memory: &Memory, node: usize) -> u64 {
+    memory[ROWS + 3 * (node % MOST_NODES)]
 }
 
 // The operand of a node, as its bits.
-pub fn operand_at(rows: &[u64; ROW_WORDS], node: usize) -> u64 {
-    rows[3 * (node % MOST_NODES) + 1]
+pub fn operand_at(memory: &Memory, node: usize) -> u64 {
+    memory[ROWS + 1 + 3 * (node % MOST_NODES)]
+}
+
+// What a node's kind says of it.
+pub fn row_at(memory: &Memory, node: usize) -> Kind {
+    kinds::row_of(kind_at(memory, node), operand_at(memory, node))
 }
 
 // The node after the part that begins at a node.
-pub fn end_at(rows: &[u64; ROW_WORDS], node: usize) -> usize {
-    rows[3 * (node % MOST_NODES) + 2] as usize
+pub fn end_at(memory: &Memory, node: usize) -> usize {
+    memory[ROWS + 2 + 3 * (node % MOST_NODES)] as usize
 }
 
 // The node after so many parts.
-pub fn end_after(rows: &[u64; ROW_WORDS], node: usize, parts: u64) -> usize {
+fn end_after(memory: &Memory, node: usize, parts: u64) -> usize {
     let mut p = node;
     let mut left = parts;
     while 0 < left {
-        p = end_at(rows, p);
+        p = end_at(memory, p);
         left = left - 1;
     }
     p
 }
 
 // A part of a node, counted from 0.
-pub fn part_at(rows: &[u64; ROW_WORDS], node: usize, part: u64) -> usize {
-    end_after(rows, node % MOST_NODES + 1, part)
+pub fn part_at(memory: &Memory, node: usize, part: u64) -> usize {
+    end_after(memory, node % MOST_NODES + 1, part)
+}
+
+// The body of a let or a loop.
+pub fn body_at(memory: &Memory, node: usize) -> usize {
+    let row = row_at(memory, node);
+    part_at(memory, node, row.first)
+}
+
+// The name that a let or a loop binds; of a reduce's two names the second, which is the element's.
+pub fn bound_name(memory: &Memory, node: usize) -> u64 {
+    let operand = operand_at(memory, node);
+    if kind_at(memory, node) == kinds::REDUCE {
+        return kinds::high(operand);
+    }
+    kinds::low(operand)
 }
 
 // The part of an if that its guard takes.
-pub fn branch_at(rows: &[u64; ROW_WORDS], node: usize, guard: u64) -> usize {
+pub fn branch_at(memory: &Memory, node: usize, guard: u64) -> usize {
     if guard == 0 {
-        return part_at(rows, node, 2);
+        return part_at(memory, node, 2);
     }
-    part_at(rows, node, 1)
+    part_at(memory, node, 1)
 }
 
-// Binds the parameters of the function at a node to values; the node of its body.
+// The function that a node calls.
+pub fn callee_at(memory: &Memory, node: usize) -> usize {
+    end_after(memory, 0, kinds::low(operand_at(memory, node)))
+}
+
+// Binds the parameters of the function at a node to values, in a call; the node of its body.
 pub fn bind_parameters(
-    rows: &[u64; ROW_WORDS],
+    memory: &mut Memory,
     function: usize,
+    call: u64,
     values: &[u64; VALUE_WORDS],
-    names: &mut [u64; NAMES],
 ) -> usize {
-    let count = kinds::low(operand_at(rows, function)) as usize;
-    let mut parameter = part_at(rows, function, 0);
+    let count = kinds::low(operand_at(memory, function)) as usize;
+    let mut parameter = part_at(memory, function, 0);
     let mut i: usize = 0;
     while i < count {
-        names[kinds::low(operand_at(rows, parameter)) as usize] = values[i % VALUE_WORDS];
-        parameter = end_at(rows, parameter);
+        let name = kinds::low(operand_at(memory, parameter));
+        memory::set_name(memory, call, name, values[i % VALUE_WORDS]);
+        parameter = end_at(memory, parameter);
         i = i + 1;
     }
     parameter
 }
 
 // Fills in the row of a node; those of later nodes are there.
-fn read_row(file: &[u8; FILE_BYTES], nodes: usize, node: usize, rows: &mut [u64; ROW_WORDS])
+fn read_row(file: &[u8; FILE_BYTES], nodes: usize, node: usize, memory: &mut Memory)
     requires { ⌜ (nodes ≤ 1024) × (node < 1024) ⌝ }
 {
     let kind = wide(file[4 + node]);
     let operand = bits_at(file, 4 + nodes + 8 * node);
     let row = kinds::row_of(kind, operand);
-    let end = end_after(rows, node + 1, row.parts);
-    rows[3 * node] = kind;
-    rows[3 * node + 1] = operand;
-    rows[3 * node + 2] = end as u64;
+    let end = end_after(memory, node + 1, row.parts);
+    memory[ROWS + 3 * node] = kind;
+    memory[ROWS + 1 + 3 * node] = operand;
+    memory[ROWS + 2 + 3 * node] = end as u64;
 }
 
 // The rows of a script file; from the last node back, since a part ends where its own last part ends.
-pub fn read_script(file: &[u8; FILE_BYTES], rows: &mut [u64; ROW_WORDS]) {
+pub fn read_script(file: &[u8; FILE_BYTES], memory: &mut Memory) {
     let nodes = node_count(file);
     let mut node = nodes;
     while 0 < node {
         node = node - 1;
-        read_row(file, nodes, node, rows);
+        read_row(file, nodes, node, memory);
     }
 }

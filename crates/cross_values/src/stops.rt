@@ -13,8 +13,11 @@ pub const OVERFLOW: u64 = 24;
 
 pub const OUT_OF_CELLS: u64 = 25;
 
-// Given instead of a number where the engine and the second interpreter differ.
-pub const DIFFERS: u64 = 26;
+pub const BAD_COUNT: u64 = 26;
+
+// Given instead of a number where the engine and the second interpreter differ. No answer of the engine has this
+// number.
+pub const DIFFERS: u64 = 32;
 
 // The arena is full. No answer of the engine has this number.
 pub const FULL: u64 = 98;

@@ -1,161 +1,30 @@
-// The four calls. Each is lent code arrays that hold something else before it, of the lengths that a line gives as its
-// words 1 and 2, and both are compared after it.
+// The calls that have a store, each named by its part of the tally. A call is lent code arrays that hold something else
+// before it, of the lengths that a line gives as its words 1 and 2. After it both are compared with the code as
+// `engine_translate` gives it.
+use cases::MOST_HEADS;
 use cases::MOST_LINES;
-use cases::TALLY_WORDS;
+use cases::MOST_SLOTS;
+use cases::Tally;
 
 // What is seen of a call: its answer, and whether both code arrays are right.
-struct Seen {
-    answer: u64,
-    right_code: bool,
+pub struct Seen {
+    pub answer: u64,
+    pub right_code: bool,
 }
 
-// Translates a file into these code arrays.
-fn translate_with(
-    file: &[u8],
-    kinds: &mut [u8],
-    operands: &mut [i64],
-    code_kinds: &[u8],
-    code_operands: &[i64],
-) -> Seen {
-    let answer = engine::engine_translate(file, kinds, operands);
-    Seen {
-        answer: answer,
-        right_code: cases::has_right_code(answer, kinds, operands, code_kinds, code_operands),
-    }
-}
-
-// Translates a file.
-pub fn translate(
-    line: &[u8],
-    file: &[u8],
-    code_kinds: &[u8],
-    code_operands: &[i64],
-    number: usize,
-    tally: &mut [u64; TALLY_WORDS],
-) -> u64 {
-    let kinds_length = cases::length_of(line, 1, MOST_LINES);
-    let operands_length = cases::length_of(line, 2, MOST_LINES);
-    let mut kinds = [170u8; MOST_LINES];
-    let mut operands = [-170i64; MOST_LINES];
-    let seen = translate_with(
-        file,
-        &mut kinds[0..kinds_length],
-        &mut operands[0..operands_length],
-        code_kinds,
-        code_operands,
-    );
-    let words = (kinds_length + operands_length) as u64;
-    cases::count_code(tally, cases::TRANSLATE, number, seen.right_code, words);
-    seen.answer
-}
-
-// Opens a store with these code arrays.
-fn open_with(
-    file: &[u8],
-    kinds: &mut [u8],
-    operands: &mut [i64],
-    slots: &mut [i64],
-    heads: &mut [u32],
-    code_kinds: &[u8],
-    code_operands: &[i64],
-) -> Seen {
-    let answer = engine::engine_open(file, kinds, operands, slots, heads);
-    Seen {
-        answer: answer,
-        right_code: cases::has_right_code(answer, kinds, operands, code_kinds, code_operands),
-    }
-}
-
-// Opens a store.
-pub fn open(
-    line: &[u8],
-    file: &[u8],
-    slots: &mut [i64],
-    heads: &mut [u32],
-    code_kinds: &[u8],
-    code_operands: &[i64],
-    number: usize,
-    tally: &mut [u64; TALLY_WORDS],
-) -> u64 {
-    let kinds_length = cases::length_of(line, 1, MOST_LINES);
-    let operands_length = cases::length_of(line, 2, MOST_LINES);
-    let mut kinds = [170u8; MOST_LINES];
-    let mut operands = [-170i64; MOST_LINES];
-    let seen = open_with(
-        file,
-        &mut kinds[0..kinds_length],
-        &mut operands[0..operands_length],
-        slots,
-        heads,
-        code_kinds,
-        code_operands,
-    );
-    let words = (kinds_length + operands_length) as u64;
-    cases::count_code(tally, cases::OPEN, number, seen.right_code, words);
-    seen.answer
-}
-
-// Checks a store with these code arrays. It is lent as `&`, so no word of it can change.
-fn check_with(
-    file: &[u8],
-    kinds: &mut [u8],
-    operands: &mut [i64],
-    slots: &[i64],
-    heads: &[u32],
-    code_kinds: &[u8],
-    code_operands: &[i64],
-) -> Seen {
-    let answer = engine::engine_check(file, kinds, operands, slots, heads);
-    Seen {
-        answer: answer,
-        right_code: cases::has_right_code(answer, kinds, operands, code_kinds, code_operands),
-    }
-}
-
-// Checks a store.
-pub fn check(
-    line: &[u8],
-    file: &[u8],
-    slots: &[i64],
-    heads: &[u32],
-    code_kinds: &[u8],
-    code_operands: &[i64],
-    number: usize,
-    tally: &mut [u64; TALLY_WORDS],
-) -> u64 {
-    let kinds_length = cases::length_of(line, 1, MOST_LINES);
-    let operands_length = cases::length_of(line, 2, MOST_LINES);
-    let mut kinds = [170u8; MOST_LINES];
-    let mut operands = [-170i64; MOST_LINES];
-    let seen = check_with(
-        file,
-        &mut kinds[0..kinds_length],
-        &mut operands[0..operands_length],
-        slots,
-        heads,
-        code_kinds,
-        code_operands,
-    );
-    let words = (kinds_length + operands_length) as u64;
-    cases::count_code(tally, cases::CHECK, number, seen.right_code, words);
-    seen.answer
-}
-
-// Makes the delivery of a line with these code arrays.
-fn deliver_with(
+// Makes the delivery of a line with these code arrays; one that gives no more than lengths has budget 0 and no readings.
+fn deliver(
     line: &[u8],
     file: &[u8],
     kinds: &mut [u8],
     operands: &mut [i64],
     slots: &mut [i64],
     heads: &mut [u32],
-    code_kinds: &[u8],
-    code_operands: &[i64],
-) -> Seen {
+) -> u64 {
     let mut readings = [0i64; 32];
     let count = cases::readings_of(line, &mut readings);
     let budget = cases::natural(line, 3);
-    let answer = engine::engine_deliver(
+    engine::engine_deliver(
         file,
         kinds,
         operands,
@@ -163,39 +32,98 @@ fn deliver_with(
         heads,
         &readings[0..count],
         budget,
-    );
-    Seen {
-        answer: answer,
-        right_code: cases::has_right_code(answer, kinds, operands, code_kinds, code_operands),
+    )
+}
+
+// Makes a call with these code arrays. A check is lent the store as `&`, so no word of it can change.
+fn make(
+    call: usize,
+    line: &[u8],
+    file: &[u8],
+    kinds: &mut [u8],
+    operands: &mut [i64],
+    slots: &mut [i64],
+    heads: &mut [u32],
+) -> u64 {
+    match call {
+        cases::OPEN => engine::engine_open(file, kinds, operands, slots, heads),
+        cases::CHECK => engine::engine_check(file, kinds, operands, slots, heads),
+        _ => deliver(line, file, kinds, operands, slots, heads),
     }
 }
 
-// Makes the delivery of a line; one that gives no more than lengths has budget 0 and no readings.
-pub fn deliver(
+// Whether the code arrays are as a call on this file with this answer leaves them.
+fn has_right_code(answer: u64, file: &[u8], kinds: &[u8], operands: &[i64]) -> bool {
+    let mut code_kinds = [0u8; MOST_LINES];
+    let mut code_operands = [0i64; MOST_LINES];
+    engine::engine_translate(file, &mut code_kinds, &mut code_operands);
+    cases::has_right_code(answer, kinds, operands, &code_kinds, &code_operands)
+}
+
+// Makes a call with these code arrays, and compares them.
+fn make_with(
+    call: usize,
+    line: &[u8],
+    file: &[u8],
+    kinds: &mut [u8],
+    operands: &mut [i64],
+    slots: &mut [i64],
+    heads: &mut [u32],
+) -> Seen {
+    let answer = make(call, line, file, kinds, operands, slots, heads);
+    Seen {
+        answer: answer,
+        right_code: has_right_code(answer, file, kinds, operands),
+    }
+}
+
+// Makes a call; its answer. The code arrays are counted where they are right.
+fn lend(
+    call: usize,
     line: &[u8],
     file: &[u8],
     slots: &mut [i64],
     heads: &mut [u32],
-    code_kinds: &[u8],
-    code_operands: &[i64],
-    number: usize,
-    tally: &mut [u64; TALLY_WORDS],
+    tally: &mut Tally,
 ) -> u64 {
     let kinds_length = cases::length_of(line, 1, MOST_LINES);
     let operands_length = cases::length_of(line, 2, MOST_LINES);
     let mut kinds = [170u8; MOST_LINES];
     let mut operands = [-170i64; MOST_LINES];
-    let seen = deliver_with(
+    let seen = make_with(
+        call,
         line,
         file,
         &mut kinds[0..kinds_length],
         &mut operands[0..operands_length],
         slots,
         heads,
-        code_kinds,
-        code_operands,
     );
     let words = (kinds_length + operands_length) as u64;
-    cases::count_code(tally, cases::DELIVER, number, seen.right_code, words);
+    cases::count_code(tally, seen.right_code, words);
     seen.answer
+}
+
+// Makes a call of which this number is wanted; its answer. After a refusal or a stop the store is compared with the
+// words before the call, but not after a check.
+pub fn run(
+    call: usize,
+    line: &[u8],
+    file: &[u8],
+    slots: &mut [i64],
+    heads: &mut [u32],
+    number: usize,
+    tally: &mut Tally,
+) -> u64 {
+    let mut kept_slots = [0i64; MOST_SLOTS];
+    let mut kept_heads = [0u32; MOST_HEADS];
+    cases::copy_slots(slots, &mut kept_slots);
+    cases::copy_heads(heads, &mut kept_heads);
+    cases::turn_to(tally, call, number);
+    let answer = lend(call, line, file, slots, heads, tally);
+    if call != cases::CHECK && number != 0 {
+        cases::end_heads(number, &mut kept_heads, heads.len());
+        cases::compare_store(tally, slots, heads, &kept_slots, &kept_heads);
+    }
+    answer
 }

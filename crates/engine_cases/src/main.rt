@@ -1,5 +1,5 @@
-// Runs the cases of data/ on the four calls, and prints how many calls they make and how much of what each leaves is
-// right. Then it prints the refusal of a file for each number from 1 to 9.
+// Runs the cases of data/, the base's and order 1's, on the four calls, and prints how many calls they make and how
+// much of what each leaves is right. Then it prints the refusal of a file for each number from 1 to 9.
 mod calls;
 mod checks;
 mod deliveries;
@@ -7,6 +7,7 @@ mod refusals;
 mod translations;
 
 use cases::TALLY_WORDS;
+use cases::Tally;
 
 // What the cases of a text are about.
 enum Family {
@@ -16,7 +17,7 @@ enum Family {
 }
 
 // Runs a case.
-fn run_case(family: Family, case: &[u8], tally: &mut [u64; TALLY_WORDS]) {
+fn run_case(family: Family, case: &[u8], tally: &mut Tally) {
     match family {
         Family::Translate => translations::run_case(case, tally),
         Family::Check => checks::run_case(case, tally),
@@ -25,7 +26,7 @@ fn run_case(family: Family, case: &[u8], tally: &mut [u64; TALLY_WORDS]) {
 }
 
 // Runs each case of a text.
-fn run_text(family: Family, text: &[u8], tally: &mut [u64; TALLY_WORDS]) {
+fn run_text(family: Family, text: &[u8], tally: &mut Tally) {
     let mut at = 0;
     while at < text.len() {
         let end = cases::case_end(text, at);
@@ -35,7 +36,7 @@ fn run_text(family: Family, text: &[u8], tally: &mut [u64; TALLY_WORDS]) {
 }
 
 // Runs each case of a file.
-fn run_file(family: Family, name: &[u8], tally: &mut [u64; TALLY_WORDS]) {
+fn run_file(family: Family, name: &[u8], tally: &mut Tally) {
     let mut text = [0u8; 200000];
     let count = cases::read_text(name, &mut text);
     run_text(family, &text[0..count], tally);
@@ -44,8 +45,11 @@ fn run_file(family: Family, name: &[u8], tally: &mut [u64; TALLY_WORDS]) {
 fn main() {
     let mut tally = [0u64; TALLY_WORDS];
     run_file(Family::Translate, b"translate.txt", &mut tally);
+    run_file(Family::Translate, b"translate_1.txt", &mut tally);
     run_file(Family::Check, b"check.txt", &mut tally);
+    run_file(Family::Check, b"check_1.txt", &mut tally);
     run_file(Family::Deliver, b"deliver.txt", &mut tally);
+    run_file(Family::Deliver, b"deliver_1.txt", &mut tally);
     cases::print_tally(&tally);
     refusals::print_refusals();
 }

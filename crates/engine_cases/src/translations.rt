@@ -1,96 +1,63 @@
 // The cases of translate.txt: the answer, and the code line by line. A file that is refused is lent to the other three
 // calls too: they refuse it alike, and leave every word of the store as it was.
 use super::calls;
+use super::calls::Seen;
 use cases::MOST_LINES;
-use cases::TALLY_WORDS;
+use cases::Tally;
 
-// Lends a refused file to the calls that have a store.
-fn refuse(case: &[u8], line: &[u8], file: &[u8], number: usize, tally: &mut [u64; TALLY_WORDS]) {
-    let no_kinds = [0u8; 1];
-    let no_operands = [0i64; 1];
+// Translates the file of a case into these code arrays, and compares them with its lines.
+fn translate_with(case: &[u8], file: &[u8], kinds: &mut [u8], operands: &mut [i64]) -> Seen {
+    let mut code_kinds = [0u8; MOST_LINES];
+    let mut code_operands = [0i64; MOST_LINES];
+    cases::fill_lines(case, &mut code_kinds, &mut code_operands);
+    let answer = engine::engine_translate(file, kinds, operands);
+    Seen {
+        answer: answer,
+        right_code: cases::has_right_code(answer, kinds, operands, &code_kinds, &code_operands),
+    }
+}
+
+// Translates the file of a case.
+fn translate(case: &[u8], file: &[u8], tally: &mut Tally) {
+    let line = cases::line_of(case, b"arrays");
+    let kinds_length = cases::length_of(line, 1, MOST_LINES);
+    let operands_length = cases::length_of(line, 2, MOST_LINES);
+    let mut kinds = [170u8; MOST_LINES];
+    let mut operands = [-170i64; MOST_LINES];
+    let seen = translate_with(
+        case,
+        file,
+        &mut kinds[0..kinds_length],
+        &mut operands[0..operands_length],
+    );
+    let words = (kinds_length + operands_length) as u64;
+    cases::count_code(tally, seen.right_code, words);
+    cases::count_call(tally, cases::is_right(case, seen.answer));
+}
+
+// Lends a refused file to a call that has a store.
+fn refuse(call: usize, case: &[u8], file: &[u8], number: usize, tally: &mut Tally) {
     let mut slots = [-170i64; 33];
     let mut heads = [170u32; 9];
-    let kept_slots = [-170i64; 33];
-    let kept_heads = [170u32; 9];
-    let opened = calls::open(
-        line,
-        file,
-        &mut slots,
-        &mut heads,
-        &no_kinds,
-        &no_operands,
-        number,
-        tally,
-    );
-    cases::count_call(tally, cases::OPEN, number, cases::is_right(case, opened));
-    cases::compare_store(
-        tally,
-        cases::OPEN,
-        number,
-        &slots,
-        &heads,
-        &kept_slots,
-        &kept_heads,
-    );
-    let checked = calls::check(
-        line,
-        file,
-        &slots,
-        &heads,
-        &no_kinds,
-        &no_operands,
-        number,
-        tally,
-    );
-    cases::count_call(tally, cases::CHECK, number, cases::is_right(case, checked));
-    let delivered = calls::deliver(
-        line,
-        file,
-        &mut slots,
-        &mut heads,
-        &no_kinds,
-        &no_operands,
-        number,
-        tally,
-    );
-    cases::count_call(
-        tally,
-        cases::DELIVER,
-        number,
-        cases::is_right(case, delivered),
-    );
-    cases::compare_store(
-        tally,
-        cases::DELIVER,
-        number,
-        &slots,
-        &heads,
-        &kept_slots,
-        &kept_heads,
-    );
+    let line = cases::line_of(case, b"arrays");
+    let answer = calls::run(call, line, file, &mut slots, &mut heads, number, tally);
+    cases::count_call(tally, cases::is_right(case, answer));
 }
 
 // Runs a case on its file.
-fn run_file(case: &[u8], file: &[u8], tally: &mut [u64; TALLY_WORDS]) {
-    let mut kinds = [0u8; MOST_LINES];
-    let mut operands = [0i64; MOST_LINES];
-    cases::fill_lines(case, &mut kinds, &mut operands);
-    let line = cases::line_of(case, b"arrays");
+fn run_file(case: &[u8], file: &[u8], tally: &mut Tally) {
     let number = cases::number_of(cases::answer_of(case));
-    let answer = calls::translate(line, file, &kinds, &operands, number, tally);
-    cases::count_call(
-        tally,
-        cases::TRANSLATE,
-        number,
-        cases::is_right(case, answer),
-    );
+    cases::turn_to(tally, cases::TRANSLATE, number);
+    translate(case, file, tally);
     if cases::is_refusal(number) {
-        refuse(case, line, file, number, tally);
+        refuse(cases::OPEN, case, file, number, tally);
+        refuse(cases::CHECK, case, file, number, tally);
+        refuse(cases::DELIVER, case, file, number, tally);
     }
 }
 
 // Runs a case.
-pub fn run_case(case: &[u8], tally: &mut [u64; TALLY_WORDS]) {
+pub fn run_case(case: &[u8], tally: &mut Tally) {
     let mut file = [0u8; 9220];
     let count = cases::file_of(case, &mut file);
     run_file(case, &file[0..count], tally);

@@ -23,6 +23,7 @@ use Rattle.script.specs.declared.Verdict.the-variants.{Accepted, Refused}
 use Rattle.script.specs.Verdicts.{told-verdict, Judges}
 use Rattle.script.proofs.Whole.{kinds-of, operands-of, FileTaken, taken}
 use Rattle.script_nodes.specs.Nodes.{refused-node}
+use Rattle.soundness.specs.annotation.Accepting.{judged-clean}
 use Rattle.normal_script.specs.Script.{Translatable}
 use Rattle.normal.specs.Left.{CodeLeft, left-of, Leaves}
 use Rattle.engine_load.specs.declared.Loaded.{Loaded}
@@ -39,7 +40,6 @@ pub record AcceptedFile (file : List ℕ) (f n : ℕ) : Type 0 where
   pub last : ℕ
   pub judged-so : (node : ℕ) → judged node file ≡ C.accepted tree
   pub reads : read-file file ≡ done tree last
-  pub names : too-many-names tree ≡ none
   pub functions : f ≡ bytes-at 2 file 0
   pub nodes : n ≡ bytes-at 2 file 2
 
@@ -59,7 +59,6 @@ accepted-file file f n h = go (read-file file) refl (h .is)
       last = q;
       judged-so = λ node. by-node node fs q r a b c;
       reads = r;
-      names = c;
       functions = let z : f ≡ bytes-at 2 file 0 = cc in z;
       nodes = let z : n ≡ bytes-at 2 file 2 = cc in z;
     }
@@ -89,7 +88,7 @@ module _ {file : List ℕ} {f n : ℕ} (a : AcceptedFile file f n) where
     tree = a .tree;
     last = a .last;
     reads = script-reads;
-    names = a .names;
+    clean = judged-clean 0 file (a .tree) (a .judged-so 0);
     started = rw (a .reads) at h;
   }
 

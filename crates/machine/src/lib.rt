@@ -1,18 +1,19 @@
-// The machine: workers for a tree, a line and the passes of a map that call each other. What falls is the steps left,
+// The machine: workers for a tree, a line and the passes of a loop that call each other. What falls is the steps left,
 // and where no step is taken the lines left. `calls` is the call depth left. The code's slices are lent by a reference
 // to each: a frame then has no copy of them.
 use machine_code::Atom;
 use machine_code::Line;
+use machine_code::Loop;
 use machine_lines::Out;
-use store::Acquired;
+use machine_loops::Begun;
+use machine_loops::Passes;
 ghost use mathlib.Core.Path.{_≡_};
-ghost use mathlib.Core.List.{[], _∷_};
 ghost use Prim.Native.Nat.{_<_};
 ghost use lib.ListN.{length};
-ghost use Rattle.semantics.specs.Kinds.{mapping};
 ghost use Rattle.semantics.specs.Words.{store-of};
-ghost use Rattle.machine_lines.specs.Lines.{memory};
-ghost use Rattle.machine_positions.specs.Machine.{code, Ended, if-line, call-line, map-line, looped, passes-on};
+ghost use Rattle.machine_lines.specs.Lines.{memory, kind-of, first-name, second-name, atoms-of};
+ghost use Rattle.machine_loops.specs.Loops.{Usable};
+ghost use Rattle.machine_positions.specs.Machine.{code, Ended, if-line, call-line, loop-line, looped, passes-on};
 ghost use Rattle.machine_positions.specs.Machine.{line-on, tree-on, call-on, Short};
 
 // Works the tree at a position.
@@ -124,7 +125,7 @@ fn work_line(
             x,
             g,
         ),
-        Line::Map(x, p, a) => work_map(
+        Line::Loop(x, l) => work_loop(
             kinds,
             operands,
             table,
@@ -136,10 +137,20 @@ fn work_line(
             calls,
             at,
             x,
-            p,
-            a,
+            l,
         ),
-        _ => machine_lines::work_leaf(*kinds, *operands, slots, heads, env, l, calls, at, steps),
+        _ => machine_lines::work_leaf(
+            *kinds,
+            *operands,
+            table,
+            slots,
+            heads,
+            env,
+            l,
+            calls,
+            at,
+            steps,
+        ),
     }
 }
 
@@ -248,8 +259,8 @@ fn work_call(
     machine_lines::done(w, at + 1 + n, r.steps)
 }
 
-// Works a map: its result's cell first, then its passes.
-fn work_map(
+// Works a loop: what it begins with, and then its passes.
+fn work_loop(
     kinds: &&[u8],
     operands: &&[i64],
     table: &[u8; 16448],
@@ -261,29 +272,25 @@ fn work_map(
     calls: usize,
     at: usize,
     x: u8,
-    p: u8,
-    a: Atom,
+    l: Loop,
 ) -> Out
     requires { ⌜ (at < length (now (now kinds))) × (calls < 32) × (length (now env) ≡ 8224)
         × Short (now (now kinds)) ⌝ }
-    ensures { λ r. ⌜ Ended (map-line
+    ensures { λ r. ⌜ Ended (loop-line
         (tree-on lines
         (call-on calls (code (now (now (kinds .entry))) (now (now (operands .entry))) (now (table .entry))))
         (code (now (now (kinds .entry))) (now (now (operands .entry))) (now (table .entry))) calls)
-        (code (now (now (kinds .entry))) (now (now (operands .entry))) (now (table .entry))) calls x p a at steps
+        (code (now (now (kinds .entry))) (now (now (operands .entry))) (now (table .entry))) calls x (kind-of l)
+        (first-name l) (second-name l) (atoms-of l) at steps
         (memory (store-of (now (slots .entry)) (now (heads .entry))) (now (env .entry))))
         steps r (now (slots .exit)) (now (heads .exit)) (now (env .exit)) ⌝ }
 {
     if steps == 0 {
         return machine_lines::halted(machine_lines::OUT_OF_STEPS, steps);
     }
-    let from = store_words::named_cell(machine_lines::word_of(env, calls, a));
-    let count = store_words::read_length(slots, heads, from);
-    let f = machine_lines::function_of(env, calls);
-    let depth = machine_code::element_depth(table, f, x);
-    match store::acquire_empty(slots, heads, depth) {
-        Acquired::Cell(c) => {
-            let carried = machine_lines::word_from(c);
+    match machine_loops::begin_loop(table, slots, heads, env, calls, x, l) {
+        Begun::Ready(passes) => {
+            let start = at + machine_loops::rows_before(l);
             let r = work_pass(
                 kinds,
                 operands,
@@ -294,27 +301,17 @@ fn work_map(
                 steps - 1,
                 lines,
                 calls,
-                at + 2,
-                p,
-                from,
-                carried,
-                count,
+                start,
+                passes,
             );
-            let stop = r.stop;
-            if stop != 0 {
-                return r;
-            }
-            let w = r.value;
-            machine_lines::bind(env, calls, x, w);
-            let next = machine_code::end_in(table, at + 2);
-            machine_lines::done(w, next, r.steps)
+            let next = machine_code::end_in(table, start);
+            machine_lines::bind_result(env, calls, x, r, next)
         }
-        Acquired::NoneFree => machine_lines::halted(machine_lines::OUT_OF_CELLS, steps - 1),
+        Begun::NoneFree => machine_lines::halted(machine_lines::OUT_OF_CELLS, steps - 1),
     }
 }
 
-// Works a map's tree, at a position, once for each element of the cell `from`. What is carried from pass to pass is the
-// word of the result's cell, to which each pass appends.
+// Works a loop's tree, at a position, once for each element. What a pass carries on is carried into the next.
 fn work_pass(
     kinds: &&[u8],
     operands: &&[i64],
@@ -326,29 +323,27 @@ fn work_pass(
     lines: u64,
     calls: usize,
     at: usize,
-    p: u8,
-    from: usize,
-    carried: i64,
-    count: usize,
+    l: Passes,
 ) -> Out
-    requires { ⌜ (calls < 32) × (length (now env) ≡ 8224) × Short (now (now kinds)) ⌝ }
-    ensures { λ r. ⌜ Ended (passes-on (looped mapping
+    requires { ⌜ (calls < 32) × (length (now env) ≡ 8224) × Short (now (now kinds))
+        × Usable (now slots) (now heads) l ⌝ }
+    ensures { λ r. ⌜ Ended (passes-on (looped (l .way)
         (tree-on lines
         (call-on calls (code (now (now (kinds .entry))) (now (now (operands .entry))) (now (table .entry))))
         (code (now (now (kinds .entry))) (now (now (operands .entry))) (now (table .entry))) calls at)
-        calls (p ∷ []) from) count carried 0 steps
+        calls (l .first) (l .second) (l .from)) (l .count) (l .carried) 0 steps
         (memory (store-of (now (slots .entry)) (now (heads .entry))) (now (env .entry))))
         steps r (now (slots .exit)) (now (heads .exit)) (now (env .exit)) ⌝ }
 {
-    let into = store_words::named_cell(carried);
+    let count = l.count;
+    let mut v = l.carried;
     let mut s = steps;
     let mut i: usize = 0;
     while i < count {
         if s == 0 {
             return machine_lines::halted(machine_lines::OUT_OF_STEPS, s);
         }
-        let w = store_words::read_slot(slots, heads, from, i);
-        machine_lines::bind(env, calls, p, w);
+        machine_loops::begin_pass(slots, heads, env, calls, l, v, i);
         let r = work_tree(
             kinds,
             operands,
@@ -365,11 +360,11 @@ fn work_pass(
         if stop != 0 {
             return r;
         }
-        let v = r.value;
-        store::append(slots, heads, into, v);
+        let u = machine_loops::end_pass(slots, heads, env, calls, l, v, r.value);
+        v = u;
         let rest = r.steps;
         s = rest;
         i = i + 1;
     }
-    machine_lines::done(carried, 0, s)
+    machine_lines::done(v, 0, s)
 }

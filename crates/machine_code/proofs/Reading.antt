@@ -2,36 +2,42 @@
 use mathlib.Core.Path.{_≡_, refl}
 use mathlib.Core.Bool.{true, false}
 use mathlib.Core.List.{List}
-use Prim.Native.Nat.{ℕ, zero, suc, _+_, _-_, _^_, _%_, _<_, _≤_}
+use Prim.Native.Nat.{ℕ, zero, suc, _+_, _-_, _%_, _<_, _≤_}
 use native.Mathlib.Omega.{arith}
 use lib.IntN.{ℤ, pos, negsuc, natAbs}
+use lib.Bits.{bitAnd, and-mask}
 use lib.Dec.{T, ltb}
-use lib.Signed.{mag, ltZ, nonNeg}
+use lib.Signed.{nonNeg}
 use lib.ListN.{getD, length}
 use mir.Syntax.{w64}
-use mir.Val.{Fits}
-use borrow.Author.Tests.{ne-eqb, ltb-true, lt-ltb, le-ltb}
-use Rattle.machine_code.specs.Reading.{natural, atom-at, two-rows, line-of, line-at}
+use mir.Val.{Fits, ofZ, toZ}
+use borrow.Author.Tests.{ne-eqb, lt-ltb, le-ltb}
+use Rattle.machine_code.specs.Reading.{low-bits, atom-at, two-rows, line-of, line-at}
 use Rattle.machine_code.specs.declared.Atom.{Atom}
 use Rattle.machine_code.specs.declared.Atom.the-variants.{Number, Name}
 use Rattle.machine_code.specs.declared.Line.the-variants.{Operation}
 
--- ---- a natural number
+-- ---- the low bits of a word
 
 pub no-bool : {A : Type 0} → true ≡ false → A
 no-bool e = let z : _≡_ {A = ℕ} 0 1 = cc in absurd (let f : ⊥ = omega arith in f)
 
-pub not-negative : (z : ℤ) → mag z < 2 ^ 63 → ltZ z (pos 0) ≡ false → T (nonNeg z) × Fits w64 (natAbs z)
-not-negative (pos n) h e = (tt, record { fits = omega arith })
-not-negative (negsuc n) h e = no-bool e
+pub masked : (n : ℕ) → bitAnd n 16777215 ≡ n % 16777216
+masked n = and-mask n 24
 
-pub natural-same : (z : ℤ) → ltZ z (pos 0) ≡ false → natAbs z ≡ natural z
-natural-same (pos n) e = refl
-natural-same (negsuc n) e = no-bool e
+-- the bits of a word that a mask leaves, read as a number
+pub small-bits : (n : ℕ) → n < 16777216 → toZ w64 n ≡ pos n
+small-bits n h = rw (lt-ltb n 9223372036854775808 (omega (arith, h))) refl
 
-pub natural-negative : (z : ℤ) → ltZ z (pos 0) ≡ true → natural z ≡ 0
-natural-negative (pos n) e = let f = ltb-true n 0 e in omega arith
-natural-negative (negsuc n) e = refl
+pub low-fits : (n : ℕ) → T (nonNeg (toZ w64 (bitAnd n 16777215))) × Fits w64 (natAbs (toZ w64 (bitAnd n 16777215)))
+low-fits n = rw (masked n, small-bits (n % 16777216) (omega arith)) (tt, record { fits = omega arith })
+
+pub low-is : (z : ℤ) → natAbs (toZ w64 (bitAnd (ofZ w64 z) 16777215)) ≡ low-bits z
+low-is z = rw (masked (ofZ w64 z), small-bits (ofZ w64 z % 16777216) (omega arith)) (go z)
+  where
+    go : (z : ℤ) → ofZ w64 z % 16777216 ≡ low-bits z
+    go (pos n) = refl
+    go (negsuc n) = refl
 
 -- ---- atoms and lines
 
@@ -41,13 +47,13 @@ module _ (kinds : List ℕ) (operands : List ℤ) (at : ℕ) where
   unfolding atom-at
   number-here kind z e f g = rw (← e, f, g)
 
-  pub name-here : (kind x : ℕ) → kind ≡ getD kinds at 0 → (kind ≡ 2 → ⊥) → x ≡ natural (getD operands at (pos 0)) →
+  pub name-here : (kind x : ℕ) → kind ≡ getD kinds at 0 → (kind ≡ 2 → ⊥) → x ≡ low-bits (getD operands at (pos 0)) →
       Name (x % 256) ≡ atom-at kinds operands at
   unfolding atom-at
   name-here kind x e f g = rw (← e, ne-eqb kind 2 f, g)
 
   -- the line of a kind, an operand and two atoms
-  pub line-here : (kind n : ℕ) (a b : Atom) → kind ≡ getD kinds at 0 → n ≡ natural (getD operands at (pos 0)) →
+  pub line-here : (kind n : ℕ) (a b : Atom) → kind ≡ getD kinds at 0 → n ≡ low-bits (getD operands at (pos 0)) →
       a ≡ atom-at kinds operands (at + 1) → b ≡ atom-at kinds operands (at + 2) →
       line-of kind n a b ≡ line-at kinds operands at
   unfolding line-at
@@ -75,6 +81,10 @@ pub record NotNamed (kind : ℕ) : Type 0 where
   pub k14 : kind ≡ 14 → ⊥
   pub k15 : kind ≡ 15 → ⊥
   pub k16 : kind ≡ 16 → ⊥
+  pub k17 : kind ≡ 17 → ⊥
+  pub k18 : kind ≡ 18 → ⊥
+  pub k19 : kind ≡ 19 → ⊥
+  pub k20 : kind ≡ 20 → ⊥
 
 pub operation-of-kind : (kind n : ℕ) (a b : Atom) → NotNamed kind → Operation kind (n % 256) a b ≡ line-of kind n a
     b
@@ -89,6 +99,10 @@ operation-of-kind kind n a b h =
       ne-eqb kind 14 (h .k14),
       ne-eqb kind 15 (h .k15),
       ne-eqb kind 16 (h .k16),
+      ne-eqb kind 17 (h .k17),
+      ne-eqb kind 18 (h .k18),
+      ne-eqb kind 19 (h .k19),
+      ne-eqb kind 20 (h .k20),
     )
 
 pub less-one : (n : ℕ) → 0 < n → n ≡ suc (n - 1)

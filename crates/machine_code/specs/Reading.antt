@@ -1,25 +1,26 @@
 -- The code read at a position: what stands past the end is 0.
 use mathlib.Core.Bool.{Bool, cond, _||_, _&&_}
 use mathlib.Core.List.{List}
-use Prim.Native.Nat.{ℕ, _+_, _*_, _/_, _%_}
+use Prim.Native.Nat.{ℕ, suc, _+_, _-_, _*_, _/_, _%_}
 use lib.IntN.{ℤ, pos, negsuc}
 use lib.Dec.{eqb, ltb}
 use lib.ListN.{getD, length}
 use Rattle.machine_code.specs.declared.Atom.{Atom}
 use Rattle.machine_code.specs.declared.Atom.the-variants.{Number, Name}
+use Rattle.machine_code.specs.declared.Loop.the-variants as P
 use Rattle.machine_code.specs.declared.Line.{Line}
-use Rattle.machine_code.specs.declared.Line.the-variants.{Operation, Call, Literal, Index, Length, If, Map}
-use Rattle.machine_code.specs.declared.Line.the-variants.{Retain, Release, End}
+use Rattle.machine_code.specs.declared.Line.the-variants.{Operation, Call, Literal, Index, Length}
+use Rattle.machine_code.specs.declared.Line.the-variants.{Iota, Replicate, If, Loop, Retain, Release, End}
 
--- an operand that is a natural number; a negative one counts as 0
-abbrev pub natural : ℤ → ℕ
-natural (pos n) = n
-natural (negsuc n) = 0
+-- the low 24 bits of a word, which are up to three bytes of an operand
+abbrev pub low-bits : ℤ → ℕ
+low-bits (pos n) = n % 16777216
+low-bits (negsuc n) = (18446744073709551616 - suc n) % 16777216
 
 unfoldable pub atom-at : List ℕ → List ℤ → ℕ → Atom
 atom-at kinds operands at =
-    cond (eqb (getD kinds at 0) 2) (Number (getD operands at (pos 0))) (Name (natural (getD operands at (pos 0)) %
-    256))
+    cond (eqb (getD kinds at 0) 2) (Number (getD operands at (pos 0)))
+    (Name (low-bits (getD operands at (pos 0)) % 256))
 
 abbrev pub is-atom : ℕ → Bool
 is-atom kind = eqb kind 2 || eqb kind 3
@@ -36,15 +37,19 @@ line-of kind n a b =
     (cond (eqb kind 10) (Index (n % 256) a b)
     (cond (eqb kind 11) (Length (n % 256) a)
     (cond (eqb kind 12) (If (n % 256) a)
-    (cond (eqb kind 13) (Map (n % 256) (n / 256 % 256) a)
+    (cond (eqb kind 13) (Loop (n % 256) (P.Map (n / 256 % 256) a))
     (cond (eqb kind 14) (Retain (n % 256))
     (cond (eqb kind 15) (Release (n % 256))
     (cond (eqb kind 16) (End a)
-    (Operation kind (n % 256) a b)))))))))
+    (cond (eqb kind 17) (Iota (n % 256) a)
+    (cond (eqb kind 18) (Replicate (n % 256) a b)
+    (cond (eqb kind 19) (Loop (n % 256) (P.Filter (n / 256 % 256) a))
+    (cond (eqb kind 20) (Loop (n % 256) (P.Reduce (n / 256 % 256) (n / 65536 % 256) a b))
+    (Operation kind (n % 256) a b)))))))))))))
 
 unfoldable pub line-at : List ℕ → List ℤ → ℕ → Line
 line-at kinds operands at =
-    line-of (getD kinds at 0) (natural (getD operands at (pos 0)))
+    line-of (getD kinds at 0) (low-bits (getD operands at (pos 0)))
     (atom-at kinds operands (at + 1)) (atom-at kinds operands (at + 2))
 
 -- ---- the table of a script's functions: 256 depths of names for each of 32 functions, then the positions of their

@@ -4,13 +4,21 @@ ghost use mathlib.Core.Path.{_≡_};
 ghost use Prim.Native.Nat.{_+_, _-_, _*_, _<_};
 ghost use lib.IntN.{pos};
 ghost use lib.ListN.{length, getD};
-ghost use Rattle.machine_code.specs.Reading.{natural, atom-at, line-at, is-atom, two-rows, depth-in};
+ghost use Rattle.machine_code.specs.Reading.{low-bits, atom-at, line-at, is-atom, two-rows, depth-in};
 ghost use Rattle.machine_code.specs.Reading.{start-in, end-in};
 
 // An atom: a number or a name.
 pub enum Atom {
     Number(i64),
     Name(u8),
+}
+
+// A loop without its tree: the names of a pass, and the atoms. A reduce has the name of its running value before the
+// element's, and its start before its array.
+pub enum Loop {
+    Map(u8, Atom),
+    Filter(u8, Atom),
+    Reduce(u8, u8, Atom, Atom),
 }
 
 // A line without its trees; it begins with the name that it binds, an operation's with its kind.
@@ -21,8 +29,10 @@ pub enum Line {
     Literal(u8, u8),
     Index(u8, Atom, Atom),
     Length(u8, Atom),
+    Iota(u8, Atom),
+    Replicate(u8, Atom, Atom),
     If(u8, Atom),
-    Map(u8, u8, Atom),
+    Loop(u8, Loop),
     Retain(u8),
     Release(u8),
     End(Atom),
@@ -42,12 +52,11 @@ pub fn operand_at(operands: &[i64], at: usize) -> i64
     if at < operands.len() { operands[at] } else { 0 }
 }
 
-// The operand at a position as a natural number; a negative one counts as 0.
-pub fn natural_at(operands: &[i64], at: usize) -> u64
-    ensures { λ r. ⌜ r ≡ natural (getD (now (operands .entry)) at (pos 0)) ⌝ }
+// The low 24 bits of a word: up to three bytes that an operand has.
+pub fn low_bits(w: i64) -> u64
+    ensures { λ r. ⌜ r ≡ low-bits w ⌝ }
 {
-    let z = operand_at(operands, at);
-    if z < 0 { 0 } else { z as u64 }
+    (w & 16777215) as u64
 }
 
 // The atom at a position.
@@ -57,7 +66,7 @@ pub fn atom_at(kinds: &[u8], operands: &[i64], at: usize) -> Atom
     if kind_at(kinds, at) == 2 {
         Atom::Number(operand_at(operands, at))
     } else {
-        Atom::Name((natural_at(operands, at) % 256) as u8)
+        Atom::Name((low_bits(operand_at(operands, at)) % 256) as u8)
     }
 }
 
@@ -69,15 +78,6 @@ pub fn atom_stands(kinds: &[u8], at: usize) -> bool
     if kind == 2 { true } else { kind == 3 }
 }
 
-// The operand at a position within the code as a natural number; a negative one counts as 0.
-fn natural_within(operands: &[i64], at: usize) -> u64
-    requires { ⌜ at < length (now operands) ⌝ }
-    ensures { λ r. ⌜ r ≡ natural (getD (now (operands .entry)) at (pos 0)) ⌝ }
-{
-    let z = operands[at];
-    if z < 0 { 0 } else { z as u64 }
-}
-
 // The atom at a position within the code.
 fn atom_within(kinds: &[u8], operands: &[i64], at: usize) -> Atom
     requires { ⌜ (at < length (now kinds)) × (at < length (now operands)) ⌝ }
@@ -86,7 +86,7 @@ fn atom_within(kinds: &[u8], operands: &[i64], at: usize) -> Atom
     if kinds[at] == 2 {
         Atom::Number(operands[at])
     } else {
-        Atom::Name((natural_within(operands, at) % 256) as u8)
+        Atom::Name((low_bits(operands[at]) % 256) as u8)
     }
 }
 
@@ -113,7 +113,7 @@ pub fn line_at(kinds: &[u8], operands: &[i64], at: usize) -> Line
     if kind == 16 {
         return Line::End(a);
     }
-    let n = natural_within(operands, at);
+    let n = low_bits(operands[at]);
     let x = (n % 256) as u8;
     let y = (n / 256 % 256) as u8;
     match kind {
@@ -122,9 +122,21 @@ pub fn line_at(kinds: &[u8], operands: &[i64], at: usize) -> Line
         10 => Line::Index(x, a, atom_at(kinds, operands, at + 2)),
         11 => Line::Length(x, a),
         12 => Line::If(x, a),
-        13 => Line::Map(x, y, a),
+        13 => Line::Loop(x, Loop::Map(y, a)),
         14 => Line::Retain(x),
         15 => Line::Release(x),
+        17 => Line::Iota(x, a),
+        18 => Line::Replicate(x, a, atom_at(kinds, operands, at + 2)),
+        19 => Line::Loop(x, Loop::Filter(y, a)),
+        20 => Line::Loop(
+            x,
+            Loop::Reduce(
+                y,
+                (n / 65536 % 256) as u8,
+                a,
+                atom_at(kinds, operands, at + 2),
+            ),
+        ),
         _ => Line::Operation(kind, x, a, atom_at(kinds, operands, at + 2)),
     }
 }

@@ -15,15 +15,14 @@ use Rattle.semantics.specs.Code.{rows}
 use Rattle.semantics.specs.Live.{Set, empty}
 use Rattle.semantics.specs.Machine.{State, Program, routine-of, frame-from, machine}
 use Rattle.soundness.specs.machine.Discipline.{Fitting, Scoped, parameter-names}
-use Rattle.machine_code.specs.Reading.{natural, depth-in, start-in}
+use Rattle.machine_code.specs.Reading.{low-bits, depth-in, start-in}
 use Rattle.machine_lines.specs.Frames.{place, function-place, put-all, called}
 use Rattle.machine_lines.specs.Lines.{memory}
 use Rattle.machine_positions.specs.Machine.{Code, call-on, tree-on}
 use Rattle.machine_positions.specs.Lengths.{put-keeps, called-keeps}
 use Rattle.machine_laws.specs.Rows.{At, Jumps}
 use Rattle.machine_laws.specs.Frames.{Bounded, FrameAgrees, Framed}
-use Rattle.machine_laws.specs.Same.{Rel, TreeDone, CallDone, rel-map}
-use Rattle.machine_laws.specs.Leaves.{CalleeSame}
+use Rattle.machine_laws.specs.Same.{CalleeSame, Rel, TreeDone, CallDone, rel-map}
 use Rattle.machine_laws.specs.Trees.{tree-same}
 
 -- ---- the words of the arguments
@@ -92,10 +91,10 @@ framed-called : (calls f : ℕ) (ws : List ℤ) (env : List ℤ) → calls ≤ 3
 framed-called calls f ws env small h long = record {
   few = small;
   long = omega (arith, long, called-keeps calls f ws env);
-  function = ap (λ (z : ℤ). natural z % 256)
+  function = ap (λ (z : ℤ). low-bits z % 256)
       (getD-set-same (put-all ws (place calls 0) env) (function-place calls) (pos f) (pos 0)
       (omega (arith, small, long, put-keeps ws (place calls 0) env)))
-      ∙ (let z : f % 256 ≡ f = omega (arith, h) in z);
+      ∙ (let z : f % 16777216 % 256 ≡ f = omega (arith, h) in z);
 }
 
 -- ---- the routines of a program in the code

@@ -11,11 +11,11 @@ use lib.ListN.{getD, set, length, length-append, length-set}
 use lib.Seq.{getD-set-same, getD-set-other}
 use types.Run.{OneOf, miss}
 use borrow.Author.Tests.{ne-eqb, ltb-true, ltb-false}
-use Rattle.semantics.specs.Kinds.{Leaf, Loop, mapping, leaf-kind, loop-kind, packed-names}
+use Rattle.semantics.specs.Kinds.{Leaf, Loop, mapping, filtering, reducing, leaf-kind, loop-kind, packed-names}
 use Rattle.semantics.specs.Code as C
 use Rattle.semantics.specs.Code.{Row, row, atom-row, rows, line-rows}
 use Rattle.machine_code.specs.Reading.{end-in}
-use Rattle.machine_table.specs.Positions.{with-position, with-end, end-of, ends-from}
+use Rattle.machine_table.specs.Positions.{with-position, with-end, trees-of, end-of, ends-from}
 use Rattle.machine_table.proofs.Filling.{length-position}
 use Rattle.machine_laws.specs.Rows.{Here, At, at-first, at-second, not-leaves, leaf-apart}
 
@@ -138,15 +138,14 @@ module _ (kinds : List ℕ) (operands : List ℤ) (n : ℕ) (few : n ≤ 4096) (
   -- a row that begins no tree and ends none
   record Plain (r : Row) : Type 0 where
     pub some : r .kind ≡ 0 → ⊥
-    pub no-if : r .kind ≡ 12 → ⊥
-    pub no-map : r .kind ≡ 13 → ⊥
+    pub no-trees : trees-of (r .kind) ≡ 0
     pub no-end : r .kind ≡ 16 → ⊥
 
   plain-row : (q v : ℕ) (r : Row) → Here kinds operands q r → Plain r → E (q + 1) ≡ v → v < 65536 → E q ≡ v
   plain-row q v r h p e small =
       let f = found-at q r h (p .some) in
       let g : end-of (getD kinds q 0) (f .before) q ≡ v =
-      rw (h .kind, ne-eqb (r .kind) 16 (p .no-end), ne-eqb (r .kind) 13 (p .no-map), ne-eqb (r .kind) 12 (p .no-if))
+      rw (h .kind, ne-eqb (r .kind) 16 (p .no-end), p .no-trees)
       (sym (f .behind (q + 1) (omega arith)) ∙ e) in
       f .is (omega (arith, g, small)) ∙ g
 
@@ -156,11 +155,13 @@ module _ (kinds : List ℕ) (operands : List ℤ) (n : ℕ) (few : n ≤ 4096) (
       let g : end-of (getD kinds q 0) (f .before) q ≡ q + 2 = rw (h .kind) refl in
       f .is (omega (arith, g, few, row-within q (row 16 a) h (λ z. omega arith))) ∙ g
 
-  map-row : (q a e v : ℕ) → Here kinds operands q (row 13 a) → E (q + 1) ≡ e → q < e → E e ≡ v → v < 65536 → E q ≡ v
-  map-row q a e v h next above rest small =
-      let f = found-at q (row 13 a) h (λ z. omega arith) in
+  -- a row of a kind with one tree behind its atoms
+  tree-row : (k q a e v : ℕ) → (k ≡ 0 → ⊥) → (k ≡ 16 → ⊥) → trees-of k ≡ 1 → Here kinds operands q (row k a) →
+      E (q + 1) ≡ e → q < e → E e ≡ v → v < 65536 → E q ≡ v
+  tree-row k q a e v some no-end one h next above rest small =
+      let f = found-at q (row k a) h some in
       let g : end-of (getD kinds q 0) (f .before) q ≡ v =
-      rw (h .kind) (ap (end-in (f .before)) (sym (f .behind (q + 1) (omega arith)) ∙ next)
+      rw (h .kind, ne-eqb k 16 no-end, one) (ap (end-in (f .before)) (sym (f .behind (q + 1) (omega arith)) ∙ next)
       ∙ sym (f .behind e above) ∙ rest) in
       f .is (omega (arith, g, small)) ∙ g
 
@@ -175,18 +176,8 @@ module _ (kinds : List ℕ) (operands : List ℤ) (n : ℕ) (few : n ≤ 4096) (
       f .is (omega (arith, g, small)) ∙ g
 
   atom-plain : (a : C.Atom) → Plain (atom-row a)
-  atom-plain (C.number z) = record {
-    some = λ e. omega arith;
-    no-if = λ e. omega arith;
-    no-map = λ e. omega arith;
-    no-end = λ e. omega arith;
-  }
-  atom-plain (C.name x) = record {
-    some = λ e. omega arith;
-    no-if = λ e. omega arith;
-    no-map = λ e. omega arith;
-    no-end = λ e. omega arith;
-  }
+  atom-plain (C.number z) = record { some = λ e. omega arith; no-trees = refl; no-end = λ e. omega arith }
+  atom-plain (C.name x) = record { some = λ e. omega arith; no-trees = refl; no-end = λ e. omega arith }
 
   AllPlain : List Row → Type 0
   AllPlain [] = Unit {0}
@@ -211,19 +202,26 @@ module _ (kinds : List ℕ) (operands : List ℤ) (n : ℕ) (few : n ≤ 4096) (
   unfolding AllPlain
   plain-line k a us p v f h e small = plain-rows (row k a ∷ map atom-row us) p v h (f, atoms-plain us) e small
 
-  plain-kind : (k a : ℕ) → (k ≡ 0 → ⊥) → (k ≡ 12 → ⊥) → (k ≡ 13 → ⊥) → (k ≡ 16 → ⊥) → Plain (row k a)
-  plain-kind k a f g h e = record { some = f; no-if = g; no-map = h; no-end = e }
-
   leaf-plain : (l : Leaf) (a : ℕ) → Plain (row (leaf-kind l) a)
-  leaf-plain l a = plain-kind (leaf-kind l) a (λ e. other (inl e)) (λ e. other (inr (inr (inr (inl e)))))
-      (λ e. other (inr (inr (inr (inr (inl e)))))) (λ e. other (inr (inr (inr (inr (inr e))))))
+  leaf-plain l a = record {
+    some = λ e. other (inl e);
+    no-trees = rw (
+      ne-eqb (leaf-kind l) 12 (λ e. other (inr (inr (inr (inl e))))),
+      ne-eqb (leaf-kind l) 13 (λ e. other (inr (inr (inr (inr (inl e)))))),
+      ne-eqb (leaf-kind l) 19 (λ e. other (inr (inr (inr (inr (inr (inr (inl e)))))))),
+      ne-eqb (leaf-kind l) 20 (λ e. other (inr (inr (inr (inr (inr (inr (inr e)))))))),
+    ) refl;
+    no-end = λ e. other (inr (inr (inr (inr (inr (inl e))))));
+  }
     where
       other : OneOf not-leaves (leaf-kind l) → ⊥
       other = miss not-leaves (leaf-kind l) (leaf-apart l)
 
   loop-row : (k : Loop) (q a e v : ℕ) → Here kinds operands q (row (loop-kind k) a) → E (q + 1) ≡ e → q < e → E e ≡ v →
       v < 65536 → E q ≡ v
-  loop-row mapping = map-row
+  loop-row mapping q a e v = tree-row 13 q a e v (λ z. omega arith) (λ z. omega arith) refl
+  loop-row filtering q a e v = tree-row 19 q a e v (λ z. omega arith) (λ z. omega arith) refl
+  loop-row reducing q a e v = tree-row 20 q a e v (λ z. omega arith) (λ z. omega arith) refl
 
   -- a tree's rows are among the n
   tree-short : (t : C.Tree) (p : ℕ) → At kinds operands p (rows t) → p + length (rows t) ≤ n
@@ -271,6 +269,6 @@ module _ (kinds : List ℕ) (operands : List ℤ) (n : ℕ) (few : n ≤ 4096) (
         (plain-rows us-rows (p + 1) end (at-first kinds operands (p + 1) us-rows (rows t) (h .1)) (atoms-plain us)
         (tree-ends t (p + 1 + length us-rows) in-t) small-t) (omega arith) (ap E place ∙ e) small
     line-ends (C.retain x) p v h e small = plain-line 14 x [] p v
-        (plain-kind 14 x (λ z. omega arith) (λ z. omega arith) (λ z. omega arith) (λ z. omega arith)) h e small
+        (record { some = λ z. omega arith; no-trees = refl; no-end = λ z. omega arith }) h e small
     line-ends (C.release x) p v h e small = plain-line 15 x [] p v
-        (plain-kind 15 x (λ z. omega arith) (λ z. omega arith) (λ z. omega arith) (λ z. omega arith)) h e small
+        (record { some = λ z. omega arith; no-trees = refl; no-end = λ z. omega arith }) h e small

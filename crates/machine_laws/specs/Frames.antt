@@ -18,10 +18,10 @@ use Rattle.semantics.specs.Live.{Set, _∪_, only, just}
 use Rattle.semantics.specs.Machine.{Frame, word, argument, binding}
 use Rattle.laws.specs.Tests.{or-cases, or-left}
 use Rattle.soundness.specs.machine.Discipline.{Known, AllNew, known-after, LineScoped}
-use Rattle.machine_code.specs.Reading.{natural}
+use Rattle.machine_code.specs.Reading.{low-bits}
 use Rattle.machine_code.proofs.Reading.{no-bool}
 use Rattle.machine_lines.specs.Frames.{place, function-place, function-of, word-of}
-use Rattle.machine_positions.specs.Machine.{bound-all}
+use Rattle.machine_lines.specs.Lines.{bound}
 use Rattle.machine_laws.specs.Rows.{coded, SmallAtom}
 
 -- every known name fits a byte
@@ -50,7 +50,7 @@ pub framed-kept : {calls f : ℕ} {e₀ e₁ : List ℤ} {S : Set} → FrameKept
 framed-kept {calls} k h = record {
   few = h .few;
   long = omega (arith, h .long, k .long);
-  function = ap (λ (z : ℤ). natural z % 256) (k .functions calls (omega arith)) ∙ h .function;
+  function = ap (λ (z : ℤ). low-bits z % 256) (k .functions calls (omega arith)) ∙ h .function;
 }
 
 pub small-known : (a : C.Atom) (S : Set) → Bounded S → Known a S → SmallAtom a
@@ -157,6 +157,11 @@ pub bounded-all : (ps : List ℕ) (S : Set) → AllNew ps S → Bounded S → Bo
 bounded-all [] S h b = subst Bounded (just-none S) b
 bounded-all (p ∷ ps) S h b =
     subst Bounded (just-first S p ps) (bounded-all ps (S ∪ only p) (h .1) (bounded-more p S (h .0 .small) b))
+
+-- names bound to words in turn
+abbrev pub bound-all : ℕ → List ℕ → List ℤ → List ℤ → List ℤ
+bound-all calls [] ws env = env
+bound-all calls (x ∷ xs) ws env = bound-all calls xs (later-parts ws) (bound calls x (argument ws 0) env)
 
 module _ (calls : ℕ) where
   pub agrees-all : {f : ℕ} (ps : List ℕ) (ws env : List ℤ) (ρ : Frame) (S : Set) → AllNew ps S → Framed calls f env →

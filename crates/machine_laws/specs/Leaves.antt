@@ -6,80 +6,48 @@ use mathlib.Core.List.{List, [], _∷_, _++_, map}
 use Prim.Native.Nat.{ℕ, zero, suc, _+_, _-_, _*_, _/_, _%_, _<_, _≤_}
 use native.Mathlib.Omega.{arith}
 use lib.IntN.{ℤ, pos, natAbs}
+use lib.ListN as List
 use lib.ListN.{getD, length, length-map}
 use borrow.Author.Tests.{leb-false}
-use Rattle.semantics.specs.Basics.{updated}
-use Rattle.semantics.specs.Outcome.{Outcome, done, stop, onward, give, require}
+use Rattle.semantics.specs.Basics.{updated, tabulate}
+use Rattle.semantics.specs.Outcome.{Outcome, done, stop, onward, _>>=_, _>>_, give, require}
 use Rattle.semantics.specs.Number.{Operation, sum, difference, less, exact, fits, inside}
-use Rattle.semantics.specs.Kinds.{Leaf, operation, call, literal, index, length-of, operation-kind, leaf-kind}
-use Rattle.semantics.specs.Kinds.{leaf-operand}
-use Rattle.semantics.specs.Types.{Signature, same, call-rule}
+use Rattle.semantics.specs.Kinds.{Leaf, operation, call, literal, index, length-of, iota, replicate, operation-kind}
+use Rattle.semantics.specs.Kinds.{leaf-kind, leaf-operand}
+use Rattle.semantics.specs.Types.{Signature, same, call-rule, replicate-rule}
 use Rattle.semantics.specs.Store.{Store, cell-of, has-free, acquired, retained, released, deepest}
 use Rattle.semantics.specs.Code as K
 use Rattle.semantics.specs.Code.{row, atom-row}
 use Rattle.semantics.specs.Live.{Set, _∪_, _∖_, only, among}
-use Rattle.semantics.specs.Annotate.{NameDepths, atom-depth}
+use Rattle.semantics.specs.Annotate.{NameDepths, atom-depth, depth-of}
 use Rattle.semantics.specs.Machine as M
 use Rattle.semantics.specs.Machine.{State, Frame, Program, word, with-left, work-leaf, work-line, acquire, acquire-if}
-use Rattle.semantics.specs.Machine.{elements-of, retain-word, release-word, held, argument, touching}
+use Rattle.semantics.specs.Machine.{elements-of, retain-word, release-word, held, argument, touching, is-count}
+use Rattle.semantics.specs.Machine.{if-array, retain-times, acquires}
+use Rattle.soundness.specs.machine.Fits.{replicate-fits}
 use Rattle.laws.specs.Tests.{some-if-holds, same-lists}
 use Rattle.soundness.specs.machine.Discipline.{AllKnown, New, LeafFits}
 use Rattle.words.specs.Words.{checked}
 use Rattle.store.specs.Acquiring.{next-cell}
-use Rattle.machine_code.specs.Reading.{atom-at, is-atom, line-of, line-at}
+use Rattle.machine_code.specs.Reading.{atom-at, is-atom, line-of, line-at, depth-in}
 use Rattle.machine_code.specs.declared.Atom.{Atom}
+use Rattle.machine_code.specs.declared.Atom.the-variants.{Name}
+use Rattle.machine_code.specs.declared.Line.{Line}
 use Rattle.machine_code.specs.declared.Line.the-variants as L
-use Rattle.machine_lines.specs.Frames.{word-of, words-at}
+use Rattle.machine_lines.specs.Frames.{word-of, words-at, element-depth}
 use Rattle.machine_lines.specs.Lines.{Memory, memory, Ran, ran, out, with-store, Given, given, operation-of}
 use Rattle.machine_lines.specs.Lines.{operation-given, array-of, index-given, length-given, acquired-given, Doing}
-use Rattle.machine_lines.specs.Lines.{giving, calling, doing, leaf-done}
+use Rattle.machine_lines.specs.Lines.{elements-by, retained-times, made-store, array-store, array-given, giving}
+use Rattle.machine_lines.specs.Lines.{calling, changing, doing, giving-line, leaf-done}
+use Rattle.machine_lines.proofs.Counts.{counted-bad}
 use Rattle.machine_positions.specs.Machine.{Code, Work, Callee, binding, call-worked, call-line, line-done}
-use Rattle.machine_laws.specs.Rows.{Here, At, atom-here, atom-kind, line-read}
-use Rattle.machine_laws.specs.Frames.{Bounded, FrameAgrees, Framed, small-known, word-same, kept-none}
-use Rattle.machine_laws.specs.Same.{Rel, LineDone, CallDone, Gives, rel-then, rel-step, call-word, bound-done}
-
--- ---- the words of the atoms that follow a line
-
-module _ (kinds : List ℕ) (operands : List ℤ) (calls : ℕ) (env : List ℤ) (ρ : Frame) (S : Set) (b : Bounded S)
-    (g : FrameAgrees calls env ρ S) where
-  pub words-same : (us : List K.Atom) (n at : ℕ) → length us ≤ n → AllKnown us S →
-      At kinds operands at (map atom-row us) → is-atom (getD kinds (at + length us) 0) ≡ false →
-      words-at n kinds operands calls env at ≡ map (word ρ) us
-  unfolding words-at
-  words-same [] zero at h k r e = refl
-  words-same [] (suc n) at h k r e =
-      let z : at + 0 ≡ at = omega arith in rw (rw z at e) refl
-  words-same (a ∷ us) zero at h k r e = absurd (omega arith)
-  words-same (a ∷ us) (suc n) at h k r e =
-      let z : at + suc (length us) ≡ at + 1 + length us = omega arith in
-      rw (atom-kind kinds operands at a (r .0)) (ap₂ {C = List ℤ} _∷_
-      (ap (word-of calls env) (atom-here kinds operands at a (small-known a S b (k .0)) (r .0))
-      ∙ word-same calls env ρ S g a (k .0))
-      (words-same us n (at + 1) (omega arith) (k .1) (r .1)
-      (ap (λ (q : ℕ). is-atom (getD kinds q 0)) (sym z) ∙ e)))
-
-  -- the i-th of them
-  pub word-at : (us : List K.Atom) (at i : ℕ) → AllKnown us S → At kinds operands at (map atom-row us) → i < length
-      us →
-      word-of calls env (atom-at kinds operands (at + i)) ≡ argument (map (word ρ) us) i
-  word-at [] at i k r h = absurd (omega arith)
-  word-at (a ∷ us) at zero k r h =
-      ap (λ (q : ℕ). word-of calls env (atom-at kinds operands q)) (let z : at + 0 ≡ at = omega arith in z)
-      ∙ ap (word-of calls env) (atom-here kinds operands at a (small-known a S b (k .0)) (r .0))
-      ∙ word-same calls env ρ S g a (k .0)
-  word-at (a ∷ us) at (suc i) k r h =
-      ap (λ (q : ℕ). word-of calls env (atom-at kinds operands q)) (let z : at + suc i ≡ at + 1 + i = omega arith
-      in z)
-      ∙ word-at us (at + 1) i (k .1) (r .1) (omega arith)
+use Rattle.machine_laws.specs.Rows.{Here, At, line-read}
+use Rattle.machine_laws.specs.Frames.{Bounded, FrameAgrees, Framed, kept-none}
+use Rattle.machine_laws.specs.Atoms.{words-same, word-at}
+use Rattle.machine_laws.specs.Same.{Rel, LineDone, CallDone, CalleeSame, Gives, rel-then, rel-step, call-word}
+use Rattle.machine_laws.specs.Same.{bound-done}
 
 -- ---- what a call's atoms fit
-
--- the callee over positions is that of the machine
-pub record CalleeSame (p : Program) (calls : ℕ) (C : Callee) (callee : M.Callee) : Type 0 where
-  pub few : (g : ℕ) → g < length (p .routines) → length (p .signatures g .parameters) ≤ 16
-  pub same : (R : List ℕ) (g : ℕ) (ws : List ℤ) (env : List ℤ) (s : State) → g < length (p .routines) →
-      length ws ≡ length (p .signatures g .parameters) → 8224 ≤ length env →
-      Rel (CallDone calls env) (C g ws (s .left) (memory (s .store) env)) (callee R g ws s)
 
 -- as many atoms as parameters
 call-long : (Γ : NameDepths) (us : List K.Atom) (s : Signature) (d : ℕ) →
@@ -103,6 +71,26 @@ operation-read sum n u v = refl
 operation-read difference n u v = refl
 operation-read less n u v = refl
 
+-- so many retains leave the steps, and the store with so many references more
+record Retains (k : ℕ) (w : ℤ) (s : State) : Type 0 where
+  pub after : State
+  pub does : retain-times k w s ≡ done tt after
+  pub left : after .left ≡ s .left
+  pub store : after .store ≡ retained-times k (cell-of w) (s .store)
+
+retains : (k : ℕ) (w : ℤ) (s : State) → Retains k w s
+unfolding retain-times retain-word retained-times onward M.with-store
+retains zero w s = record { after = s; does = refl; left = refl; store = refl }
+retains (suc k) w s =
+    let t = retains k w (M.with-store s (retained (cell-of w) (s .store)) (touching (s .store) (cell-of w))) in
+    record { after = t .after; does = t .does; left = t .left; store = t .store }
+
+-- numbers are no references
+made-plain : (counting : Bool) (w : ℤ) (n : ℕ) (σ : Store) (o : Outcome (Unit {0}) ℕ) →
+    made-store counting w 0 n σ o ≡ acquired 0 (elements-by counting w n) σ
+made-plain counting w n σ (done c u) = refl
+made-plain counting w n σ (stop k u) = refl
+
 -- a line at a position, which binds x and has the atoms us
 module _ (p : Program) (few : length (p .routines) ≤ 32) (callee : M.Callee) (Γ : NameDepths) (c : Code) (calls f : ℕ)
     (C : Callee) (calling-same : CalleeSame p calls C callee) (W : Work) (at : ℕ) (A : Set) (R : List ℕ) (ρ : Frame)
@@ -113,7 +101,7 @@ module _ (p : Program) (few : length (p .routines) ≤ 32) (callee : M.Callee) (
 
   -- how the line at the position is worked
   abbrev found : Doing
-  found = doing (c .kinds) (c .operands) calls at here (line-at (c .kinds) (c .operands) at)
+  found = doing (c .kinds) (c .operands) (c .table) calls at here (line-at (c .kinds) (c .operands) at)
 
   module _ (x : ℕ) (new : New x S) (us : List K.Atom) (known : AllKnown us S)
       (rs : At (c .kinds) (c .operands) (at + 1) (map atom-row us))
@@ -141,6 +129,9 @@ module _ (p : Program) (few : length (p .routines) ≤ 32) (callee : M.Callee) (
     byte : x % 256 ≡ x
     byte = omega (arith, new .small)
 
+    little : x < 16777216
+    little = omega (arith, new .small)
+
     first-word : 0 < length us → word-of calls env (atom-at (c .kinds) (c .operands) (at + 1)) ≡ argument ws 0
     first-word h =
         ap (λ (q : ℕ). word-of calls env (atom-at (c .kinds) (c .operands) q))
@@ -156,14 +147,15 @@ module _ (p : Program) (few : length (p .routines) ≤ 32) (callee : M.Callee) (
     -- a leaf that is a small work
     gives-same : (l : Leaf) (next : ℕ) (σ : Store) (y : Given) → found ≡ giving x next σ y →
         next ≡ at + suc (length us) →
-        ((n : ℕ) → Gives n σ y (work-leaf callee cell-roots call-roots l ws (with-left s n))) → Claim l
-    unfolding line-done leaf-done work-line onward
+        ((n : ℕ) → Gives n σ y (work-leaf callee cell-roots call-roots (depth-of Γ us 1) l ws (with-left s n))) →
+        Claim l
+    unfolding line-done leaf-done giving-line work-line onward
     gives-same l next σ y d e h =
         subst (λ (z : Doing). Rel Done (line-done W C c calls at (s .left) here z)
         (work-line callee Γ (K.leaf x l us) A R ρ s)) (sym d)
         (rel-step Done s here (λ n. with-store σ (given calls x next n env y))
-        (λ _ s′. onward (λ w. give (updated ρ x w)) (work-leaf callee cell-roots call-roots l ws s′))
-        (λ n. go n y (work-leaf callee cell-roots call-roots l ws (with-left s n)) (h n)))
+        (λ _ s′. onward (λ w. give (updated ρ x w)) (work-leaf callee cell-roots call-roots (depth-of Γ us 1) l ws s′))
+        (λ n. go n y (work-leaf callee cell-roots call-roots (depth-of Γ us 1) l ws (with-left s n)) (h n)))
       where
         go : (n : ℕ) (y : Given) (o : Outcome State ℤ) → Gives n σ y o →
             Rel Done (with-store σ (given calls x next n env y)) (onward (λ w. give (updated ρ x w)) o)
@@ -182,8 +174,8 @@ module _ (p : Program) (few : length (p .routines) ≤ 32) (callee : M.Callee) (
     unfolding doing work-leaf onward require checked with-left
     operation-same o two r = gives-same (operation o) (at + 3) (s .store)
         (operation-given (operation-kind o) (argument ws 0) (argument ws 1))
-        (ap (doing (c .kinds) (c .operands) calls at here)
-        (line-read (c .kinds) (c .operands) at (operation-kind o) x _ _ (r .kind) (r .operand) refl refl
+        (ap (doing (c .kinds) (c .operands) (c .table) calls at here)
+        (line-read (c .kinds) (c .operands) at (operation-kind o) x _ _ little (r .kind) (r .operand) refl refl
         ∙ operation-read o x _ _)
         ∙ rw (byte, first-word (omega (arith, two)), second-word (omega (arith, two))) refl)
         (omega (arith, two))
@@ -198,8 +190,8 @@ module _ (p : Program) (few : length (p .routines) ≤ 32) (callee : M.Callee) (
     length-same : length us ≡ 1 → LeafStands length-of → Claim length-of
     unfolding doing work-leaf onward elements-of M.with-store with-left
     length-same one r = gives-same length-of (at + 2) (s .store) (length-given (array-of (s .store) (argument ws 0)))
-        (ap (doing (c .kinds) (c .operands) calls at here)
-        (line-read (c .kinds) (c .operands) at 11 x _ _ (r .kind) (r .operand) refl refl)
+        (ap (doing (c .kinds) (c .operands) (c .table) calls at here)
+        (line-read (c .kinds) (c .operands) at 11 x _ _ little (r .kind) (r .operand) refl refl)
         ∙ rw (byte, first-word (omega (arith, one))) refl)
         (omega (arith, one)) (λ n. (refl, refl, refl))
 
@@ -207,8 +199,8 @@ module _ (p : Program) (few : length (p .routines) ≤ 32) (callee : M.Callee) (
     unfolding doing work-leaf onward require elements-of M.with-store with-left
     index-same two r = gives-same index (at + 3) (s .store)
         (index-given (array-of (s .store) (argument ws 0)) (argument ws 1))
-        (ap (doing (c .kinds) (c .operands) calls at here)
-        (line-read (c .kinds) (c .operands) at 10 x _ _ (r .kind) (r .operand) refl refl)
+        (ap (doing (c .kinds) (c .operands) (c .table) calls at here)
+        (line-read (c .kinds) (c .operands) at 10 x _ _ little (r .kind) (r .operand) refl refl)
         ∙ rw (byte, first-word (omega (arith, two)), second-word (omega (arith, two))) refl)
         (omega (arith, two))
         (λ n. go n (array-of (s .store) (argument ws 0)) (argument ws 1)
@@ -221,27 +213,101 @@ module _ (p : Program) (few : length (p .routines) ≤ 32) (callee : M.Callee) (
         go n vs w true e = rw e (refl, refl, refl)
         go n vs w false e = rw e (refl, λ q. omega arith, refl)
 
-    literal-same : (d : ℕ) → length us ≤ 16 → d ≤ 3 → LeafStands (literal d) → Claim (literal d)
-    unfolding doing work-leaf acquire acquire-if M.with-store M.with-roots with-left next-cell
-    literal-same d little shallow r = gives-same (literal d) (at + 1 + length ws) (acquired d ws (s .store))
+    -- a cell acquired with some words
+    acquire-same : (d : ℕ) (vs : List ℤ) (n : ℕ) → Gives n (acquired d vs (s .store))
+        (acquired-given (next-cell (s .store))) (acquire cell-roots d vs (with-left s n))
+    unfolding acquire acquire-if M.with-store M.with-roots with-left next-cell
+    acquire-same d vs n = go (has-free (s .store)) refl
+      where
+        go : (t : Bool) → has-free (s .store) ≡ t →
+            Gives n (acquired d vs (s .store)) (acquired-given
+            (cond (has-free (s .store)) (done (s .store .first) tt) (stop 25 tt)))
+            (acquire-if (has-free (s .store)) cell-roots d vs (with-left s n))
+        go true e = rw e (refl, refl, refl)
+        go false e = rw e (refl, λ q. omega arith, refl)
+
+    -- and then the references that copies of a word are
+    copies-same : (d : ℕ) (w : ℤ) (k n : ℕ) → Gives n (made-store false w d k (s .store) (next-cell (s .store)))
         (acquired-given (next-cell (s .store)))
-        (ap (doing (c .kinds) (c .operands) calls at here)
-        (line-read (c .kinds) (c .operands) at 9 (x + 256 * length us + 65536 * d) _ _ (r .kind) (r .operand) refl
-        refl)
+        (onward (λ v. if-array d (retain-times k w) >> give v)
+        (acquire cell-roots d (List.replicate k w) (with-left s n)))
+    unfolding onward acquire acquire-if M.with-store M.with-roots with-left next-cell
+    copies-same d w k n = go d (has-free (s .store)) refl
+      where
+        go : (d : ℕ) (t : Bool) → has-free (s .store) ≡ t →
+            Gives n (made-store false w d k (s .store)
+            (cond (has-free (s .store)) (done (s .store .first) tt) (stop 25 tt)))
+            (acquired-given (cond (has-free (s .store)) (done (s .store .first) tt) (stop 25 tt)))
+            (onward (λ v. if-array d (retain-times k w) >> give v)
+            (acquire-if (has-free (s .store)) cell-roots d (List.replicate k w) (with-left s n)))
+        go zero true e = rw e (refl, refl, refl)
+        go (suc d) true e =
+            let s₁ = M.with-store (with-left s n) (acquired (suc d) (List.replicate k w) (s .store))
+            (acquires (s .store .first) ∷ []) in
+            let t = retains k w s₁ in
+            rw (e, t .does) (refl, sym (t .left), sym (t .store))
+        go d false e = rw e (refl, λ q. omega arith, refl)
+
+    literal-same : (d : ℕ) → length us ≤ 16 → d ≤ 3 → LeafStands (literal d) → Claim (literal d)
+    unfolding doing work-leaf
+    literal-same d few-atoms shallow r = gives-same (literal d) (at + 1 + length ws) (acquired d ws (s .store))
+        (acquired-given (next-cell (s .store)))
+        (ap (doing (c .kinds) (c .operands) (c .table) calls at here)
+        (line-read (c .kinds) (c .operands) at 9 (x + 256 * length us + 65536 * d) _ _
+        (omega (arith, new .small, few-atoms, shallow)) (r .kind) (r .operand) refl refl)
         ∙ rw (
           let z : (x + 256 * length us + 65536 * d) % 256 ≡ x = omega (arith, new .small) in z,
-          let z : (x + 256 * length us + 65536 * d) / 65536 % 256 ≡ d = omega (arith, new .small, little, shallow)
+          let z : (x + 256 * length us + 65536 * d) / 65536 % 256 ≡ d = omega (arith, new .small, few-atoms, shallow)
               in z,
-          words-same (c .kinds) (c .operands) calls env ρ S b g us 16 (at + 1) little known rs closed,
+          words-same (c .kinds) (c .operands) calls env ρ S b g us 16 (at + 1) few-atoms known rs closed,
         ) refl)
-        (omega (arith, length-map us (word ρ))) (λ n. go n (has-free (s .store)) refl)
+        (omega (arith, length-map us (word ρ))) (acquire-same d ws)
+
+    -- an array of a count of elements: 26 comes before the cell
+    iota-same : length us ≡ 1 → LeafStands iota → Claim iota
+    unfolding doing work-leaf onward require with-left
+    iota-same one r = gives-same iota (at + 2) (array-store true (pos 0) 0 N (s .store)) (array-given N (s .store))
+        (ap (doing (c .kinds) (c .operands) (c .table) calls at here)
+        (line-read (c .kinds) (c .operands) at 17 x _ _ little (r .kind) (r .operand) refl refl)
+        ∙ rw (byte, first-word (omega (arith, one))) refl)
+        (omega (arith, one)) (λ n. go n (is-count N) refl)
       where
-        go : (n : ℕ) (t : Bool) → has-free (s .store) ≡ t →
-            Gives n (acquired d ws (s .store)) (acquired-given
-            (cond (has-free (s .store)) (done (s .store .first) tt) (stop 25 tt)))
-            (acquire-if (has-free (s .store)) cell-roots d ws (with-left s n))
-        go n true e = rw e (refl, refl, refl)
-        go n false e = rw e (refl, λ q. omega arith, refl)
+        N : ℤ
+        N = argument ws 0
+
+        go : (n : ℕ) (t : Bool) → is-count N ≡ t → Gives n (array-store true (pos 0) 0 N (s .store))
+            (array-given N (s .store)) (onward (λ _. acquire cell-roots 0 (tabulate 0 (natAbs N) (λ i. pos i)))
+            (require (is-count N) 26 (with-left s n)))
+        go n true e = rw (e, made-plain true (pos 0) (natAbs N) (s .store) (next-cell (s .store)))
+            (acquire-same 0 (tabulate 0 (natAbs N) (λ i. pos i)) n)
+        go n false e = rw (e, counted-bad (next-cell (s .store))) (refl, λ q. omega arith, refl)
+
+    replicate-same : length us ≡ 2 → element-depth (c .table) calls x env ≡ depth-of Γ us 1 → LeafStands replicate →
+        Claim replicate
+    unfolding doing work-leaf onward require with-left
+    replicate-same two de r = gives-same replicate (at + 3) (array-store false w d N (s .store))
+        (array-given N (s .store))
+        (ap (doing (c .kinds) (c .operands) (c .table) calls at here)
+        (line-read (c .kinds) (c .operands) at 18 x _ _ little (r .kind) (r .operand) refl refl)
+        ∙ rw (byte, first-word (omega (arith, two)), second-word (omega (arith, two)), de) refl)
+        (omega (arith, two)) (λ n. go n (is-count N) refl)
+      where
+        N : ℤ
+        N = argument ws 0
+
+        w : ℤ
+        w = argument ws 1
+
+        d : ℕ
+        d = depth-of Γ us 1
+
+        made : ℕ → M.Work ℤ
+        made k = acquire cell-roots d (List.replicate k w) >>= λ v. if-array d (retain-times k w) >> give v
+
+        go : (n : ℕ) (t : Bool) → is-count N ≡ t → Gives n (array-store false w d N (s .store))
+            (array-given N (s .store)) (onward (λ _. made (natAbs N)) (require (is-count N) 26 (with-left s n)))
+        go n true e = rw e (copies-same d w (natAbs N) n)
+        go n false e = rw (e, counted-bad (next-cell (s .store))) (refl, λ q. omega arith, refl)
 
     call-same : (h : ℕ) → h < length (p .routines) → length us ≡ length (p .signatures h .parameters) →
         LeafStands (call h) → Claim (call h)
@@ -249,8 +315,9 @@ module _ (p : Program) (few : length (p .routines) ≤ 32) (callee : M.Callee) (
     call-same h there arity r =
         subst (λ (z : Doing). Rel Done (line-done W C c calls at (s .left) here z)
         (work-line callee Γ (K.leaf x (call h) us) A R ρ s))
-        (sym (ap (doing (c .kinds) (c .operands) calls at here)
-        (line-read (c .kinds) (c .operands) at 8 (x + 256 * h) _ _ (r .kind) (r .operand) refl refl)
+        (sym (ap (doing (c .kinds) (c .operands) (c .table) calls at here)
+        (line-read (c .kinds) (c .operands) at 8 (x + 256 * h) _ _ (omega (arith, new .small, there, few)) (r .kind)
+        (r .operand) refl refl)
         ∙ ap₂ calling (let z : (x + 256 * h) % 256 ≡ x = omega (arith, new .small) in z)
         (let z : (x + 256 * h) / 256 % 256 ≡ h = omega (arith, new .small, there, few) in z)))
         (rel-step Done s here
@@ -269,52 +336,64 @@ module _ (p : Program) (few : length (p .routines) ≤ 32) (callee : M.Callee) (
         )))))
 
     -- every leaf
-    pub leaf-same : (l : Leaf) → LeafFits p Γ x l us → LeafStands l → Claim l
-    leaf-same (operation o) h r = operation-same o (h .limits) r
-    leaf-same (call k) h r =
+    pub leaf-same : ((y : ℕ) → y < 256 → depth-in (c .table) f y ≡ Γ y) → (l : Leaf) → LeafFits p Γ x l us →
+        LeafStands l → Claim l
+    leaf-same depths (operation o) h r = operation-same o (h .limits) r
+    leaf-same depths (call k) h r =
         call-same k (leb-false (length (p .routines)) k (h .calls)) (call-long Γ us (p .signatures k) (Γ x)
         (h .gives)) r
-    leaf-same (literal d) h r = literal-same d (h .limits .0) (h .limits .1) r
-    leaf-same index h r = index-same (h .limits) r
-    leaf-same length-of h r = length-same (h .limits) r
+    leaf-same depths (literal d) h r = literal-same d (h .limits .0) (h .limits .1) r
+    leaf-same depths index h r = index-same (h .limits) r
+    leaf-same depths length-of h r = length-same (h .limits) r
+    leaf-same depths iota h r = iota-same (h .limits) r
+    leaf-same depths replicate h r = replicate-same (h .limits) (copied us (h .limits) (h .gives)) r
+      where
+        copied : (vs : List K.Atom) → length vs ≡ 2 → replicate-rule (map (atom-depth Γ) vs) ≡ some (Γ x) →
+            element-depth (c .table) calls x env ≡ depth-of Γ vs 1
+        copied [] two e = absurd (omega (arith, two))
+        copied (u ∷ []) two e = absurd (omega (arith, two))
+        copied (u ∷ v ∷ []) two e =
+            ap (λ (k : ℕ). depth-in (c .table) k x - 1) (framed .function)
+            ∙ ap (λ (y : ℕ). y - 1) (depths x (new .small))
+            ∙ omega (arith, replicate-fits (atom-depth Γ u) (atom-depth Γ v) (Γ x) e .2)
+        copied (u ∷ v ∷ o ∷ vs) two e = absurd (omega (arith, two))
 
   -- ---- retains and releases
 
   module _ (x : ℕ) (known : S x ≡ true) where
-    pub retain-same : Here (c .kinds) (c .operands) at (row 14 x) →
-        Rel (LineDone (at + 1) calls env S S) (line-done W C c calls at (s .left) here found)
-        (work-line callee Γ (K.retain x) A R ρ s)
-    unfolding doing line-done leaf-done work-line onward retain-word M.with-store
-    retain-same r =
+    -- a line that changes the store as it changes the cell of x
+    changes-same : (change : ℕ → Store → Store) (n : ℕ) (l : ℕ → Line) → Here (c .kinds) (c .operands) at (row n x) →
+        line-of n x (atom-at (c .kinds) (c .operands) (at + 1)) (atom-at (c .kinds) (c .operands) (at + 2))
+        ≡ l (x % 256) →
+        doing (c .kinds) (c .operands) (c .table) calls at here (l x)
+        ≡ changing (change (cell-of (word-of calls env (Name x))) (s .store)) →
+        (s′ : State) → s .left ≡ s′ .left → change (cell-of (ρ x)) (s .store) ≡ s′ .store →
+        Rel (LineDone (at + 1) calls env S S) (line-done W C c calls at (s .left) here found) (done ρ s′)
+    unfolding line-done leaf-done
+    changes-same change n l r e d s′ left store =
         rw (
-          line-read (c .kinds) (c .operands) at 14 x _ _ (r .kind) (r .operand) refl refl,
-          let z : x % 256 ≡ x = omega (arith, b .below x known) in z,
+          line-read (c .kinds) (c .operands) at n x _ _ (omega (arith, b .below x known)) (r .kind) (r .operand) refl
+              refl ∙ e ∙ ap l (let z : x % 256 ≡ x = omega (arith, b .below x known) in z),
+          d,
         ) (
           refl,
           record {
             next = refl;
-            steps = refl;
-            store = ap (λ (w : ℤ). retained (cell-of w) (s .store)) (g .agree x known);
+            steps = left;
+            store = ap (λ (w : ℤ). change (cell-of w) (s .store)) (g .agree x known) ∙ store;
             agrees = g;
             kept = kept-none calls env S;
           },
         )
 
+    pub retain-same : Here (c .kinds) (c .operands) at (row 14 x) →
+        Rel (LineDone (at + 1) calls env S S) (line-done W C c calls at (s .left) here found)
+        (work-line callee Γ (K.retain x) A R ρ s)
+    unfolding doing work-line onward retain-word M.with-store
+    retain-same r = changes-same retained 14 L.Retain r refl refl _ refl refl
+
     pub release-same : Here (c .kinds) (c .operands) at (row 15 x) →
         Rel (LineDone (at + 1) calls env S S) (line-done W C c calls at (s .left) here found)
         (work-line callee Γ (K.release x) A R ρ s)
-    unfolding doing line-done leaf-done work-line onward release-word M.with-store
-    release-same r =
-        rw (
-          line-read (c .kinds) (c .operands) at 15 x _ _ (r .kind) (r .operand) refl refl,
-          let z : x % 256 ≡ x = omega (arith, b .below x known) in z,
-        ) (
-          refl,
-          record {
-            next = refl;
-            steps = refl;
-            store = ap (λ (w : ℤ). released deepest (cell-of w) (s .store)) (g .agree x known);
-            agrees = g;
-            kept = kept-none calls env S;
-          },
-        )
+    unfolding doing work-line onward release-word M.with-store
+    release-same r = changes-same (released deepest) 15 L.Release r refl refl _ refl refl

@@ -1,7 +1,9 @@
 pub mod Rows
 pub mod Frames
 pub mod Same
+pub mod Atoms
 pub mod Leaves
+pub mod Passes
 pub mod Loops
 pub mod Trees
 pub mod Calls

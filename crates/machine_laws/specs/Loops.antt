@@ -1,87 +1,129 @@
--- The passes of a loop over positions are those of the machine, by what a pass carries; map is the first instance.
+-- The passes of a loop over positions are those of the machine, by what a pass carries.
 use mathlib.Core.Path.{_≡_, refl, sym, ap, ap₂, subst, _∙_}
-use mathlib.Core.Bool.{Bool, true, false, cond}
 use mathlib.Core.List.{List, [], _∷_, _++_, map}
 use Prim.Native.Nat.{ℕ, zero, suc, _+_, _-_, _*_, _/_, _%_, _<_, _≤_, pred}
 use native.Mathlib.Omega.{arith}
 use lib.IntN.{ℤ, pos}
 use lib.ListN.{getD, length}
 use Rattle.semantics.specs.Basics.{tabulate, updated}
-use Rattle.semantics.specs.Outcome.{Outcome, done, stop, onward, give, passes}
-use Rattle.semantics.specs.Kinds.{Loop, mapping, loop-kind, packed-names}
-use Rattle.semantics.specs.Store.{Store, cell, cell-of, elements, has-free, acquired, appended}
+use Rattle.semantics.specs.Outcome.{Outcome, stop, onward, give, passes}
+use Rattle.semantics.specs.Kinds.{Loop, mapping, filtering, reducing, loop-kind, packed-names}
+use Rattle.semantics.specs.Store.{Store, cell, cell-of, elements}
 use Rattle.semantics.specs.Code as K
 use Rattle.semantics.specs.Code.{row, atom-row, rows}
 use Rattle.semantics.specs.Live.{Set, _∪_, only, just, among, after-pass}
 use Rattle.semantics.specs.Annotate.{NameDepths}
 use Rattle.semantics.specs.Machine as M
 use Rattle.semantics.specs.Machine.{State, Frame, Program, word, step, stepped, with-left, work, work-line, work-pass}
-use Rattle.semantics.specs.Machine.{acquire, acquire-if, elements-of, append-word, held, touching, looped-over}
+use Rattle.semantics.specs.Machine.{elements-of, held, touching, looped-over}
 use Rattle.semantics.specs.Machine.{carried-first, pass-words, carried-on, in-progress}
 use Rattle.laws.specs.Tests.{or-left}
 use Rattle.soundness.specs.machine.Discipline.{AllKnown, New, AllNew, LoopFits, Fitting, Scoped}
-use Rattle.store.specs.Acquiring.{next-cell}
-use Rattle.machine_code.specs.Reading.{line-at, depth-in, end-in}
+use Rattle.machine_code.specs.Reading.{atom-at, line-of, line-at, depth-in, end-in}
 use Rattle.machine_code.specs.declared.Atom.{Atom}
-use Rattle.machine_lines.specs.Frames.{word-of}
-use Rattle.machine_lines.specs.Lines.{Memory, memory, Ran, acquired-given, array-of, looping, doing}
-use Rattle.machine_positions.specs.Machine.{Code, Callee, and-then, binding, Looped, looped, bound-all, gave}
-use Rattle.machine_positions.specs.Machine.{carry-first, carry-on, passes-on, element-depth, loop-worked, loop-line}
-use Rattle.machine_positions.specs.Machine.{tree-on}
+use Rattle.machine_code.specs.declared.Line.{Line}
+use Rattle.machine_lines.specs.Frames.{word-of, element-depth}
+use Rattle.machine_lines.specs.Lines.{Memory, memory, Ran, out, bound, array-of, Doing, looping}
+use Rattle.machine_lines.specs.Lines.{doing}
+use Rattle.machine_loops.specs.Loops.{way-of, carry-first}
+use Rattle.machine_positions.specs.Machine.{Code, Callee, and-then, binding, Looped, looped, carry-by, carry-on}
+use Rattle.machine_positions.specs.Machine.{passes-on, loop-worked, loop-line, tree-on}
 use Rattle.machine_laws.specs.Rows.{Here, At, Jumps, coded, atom-here, line-read}
 use Rattle.machine_laws.specs.Frames.{Bounded, FrameAgrees, FrameKept, small-known, word-same, kept-none}
 use Rattle.machine_laws.specs.Frames.{Framed, framed-kept, kept-then}
-use Rattle.machine_laws.specs.Frames.{agrees-kept, bounded-all, agrees-all, kept-all}
+use Rattle.machine_laws.specs.Frames.{agrees-kept, bounded-all}
+use Rattle.machine_laws.specs.Passes.{PassNames, maps, filters, reduces, entered-agrees, entered-kept}
+use Rattle.machine_laws.specs.Passes.{element-known, element-word, carry-first-same, carry-by-same}
 use Rattle.machine_laws.specs.Same.{Rel, WordDone, TreeDone, LineDone, rel-then, rel-step, rel-map}
 use Rattle.machine_laws.specs.Same.{onward-onward, word-moved, word-kept, bound-done}
 
--- ---- what a loop carries, and how it stands in the code: a clause for each kind of loop
+-- ---- how a loop stands in the code: a clause for each kind
 
-carry-first-same : (k : Loop) (R : List ℕ) (d : ℕ) (ws : List ℤ) (calls : ℕ) (S : Set) (env : List ℤ) (n : ℕ)
-    (s : State) → n ≡ s .left →
-    Rel (WordDone calls env S) (carry-first k d ws n (memory (s .store) env)) (carried-first k R d ws s)
-unfolding acquire acquire-if M.with-store M.with-roots next-cell
-carry-first-same mapping R d ws calls S env n s e = go (has-free (s .store)) refl
-  where
-    go : (t : Bool) → has-free (s .store) ≡ t → Rel (WordDone calls env S)
-        (gave n (memory (acquired d [] (s .store)) env)
-        (acquired-given (cond (has-free (s .store)) (done (s .store .first) tt) (stop 25 tt))))
-        (acquire-if (has-free (s .store)) R d [] s)
-    go true q = rw q (refl, record { value = refl; steps = e; store = refl; kept = kept-none calls env S })
-    go false q = rw q (record { stop = refl; real = λ z. omega arith; steps = e })
-
-carry-on-same : (k : Loop) (v : ℤ) (calls : ℕ) (S : Set) (w : Ran) (r : ℤ) (s : State) → w .out .value ≡ r →
-    w .out .steps ≡ s .left → w .memory .store ≡ s .store →
-    Rel (WordDone calls (w .memory .env) S) (carry-on k v w) (carried-on k v r s)
-unfolding append-word onward M.with-store
-carry-on-same mapping v calls S w r s e f h = (
-  refl,
-  record {
-    value = refl;
-    steps = f;
-    store = ap₂ (appended (cell-of v)) e h;
-    kept = kept-none calls (w .memory .env) S;
-  },
-)
+pub record LoopRead (c : Code) (calls at : ℕ) (m : Memory) (x : ℕ) (k : Loop) (ps : List ℕ) (us : List K.Atom)
+    : Type 0 where
+  pub first : ℕ
+  pub second : ℕ
+  pub names : PassNames k ps first second
+  pub is : doing (c .kinds) (c .operands) (c .table) calls at m (line-at (c .kinds) (c .operands) at)
+      ≡ looping x k first second (map coded us)
 
 module _ (p : Program) (Γ : NameDepths) (c : Code) (calls at : ℕ) (m : Memory) (S : Set) (b : Bounded S) where
+  abbrev done-by : Line → Doing
+  done-by l = doing (c .kinds) (c .operands) (c .table) calls at m l
+
+  -- a loop of one atom and one name, by what its kind is
+  one-read : (kind : ℕ) (k : Loop) → ((n : ℕ) (a o : Atom) →
+      done-by (line-of kind n a o) ≡ looping (n % 256) k (n / 256 % 256) (n / 256 % 256) (a ∷ [])) →
+      (x q : ℕ) (u : K.Atom) → New x S → AllNew (q ∷ []) S → AllKnown (u ∷ []) S →
+      Here (c .kinds) (c .operands) at (row kind (x + 256 * packed-names (q ∷ []))) →
+      At (c .kinds) (c .operands) (at + 1) (map atom-row (u ∷ [])) →
+      done-by (line-at (c .kinds) (c .operands) at) ≡ looping x k q q (coded u ∷ [])
+  one-read kind k told x q u new news known r rs =
+      let n = x + 256 * (q + 256 * 0) in
+      ap done-by (line-read (c .kinds) (c .operands) at kind n (coded u) _
+      (omega (arith, new .small, news .0 .small)) (r .kind) (r .operand)
+      (atom-here (c .kinds) (c .operands) (at + 1) u (small-known u S b (known .0)) (rs .0)) refl)
+      ∙ told n (coded u) _
+      ∙ ap₂ (λ (y : ℕ) (z : ℕ). looping y k z z (coded u ∷ []))
+      (let z : n % 256 ≡ x = omega (arith, new .small) in z)
+      (let z : n / 256 % 256 ≡ q = omega (arith, new .small, news .0 .small) in z)
+
+  two-read : (x q o : ℕ) (u v : K.Atom) → New x S → AllNew (q ∷ (o ∷ [])) S → AllKnown (u ∷ (v ∷ [])) S →
+      Here (c .kinds) (c .operands) at (row 20 (x + 256 * packed-names (q ∷ (o ∷ [])))) →
+      At (c .kinds) (c .operands) (at + 1) (map atom-row (u ∷ (v ∷ []))) →
+      done-by (line-at (c .kinds) (c .operands) at) ≡ looping x reducing q o (coded u ∷ (coded v ∷ []))
+  unfolding doing
+  two-read x q o u v new news known r rs =
+      let n = x + 256 * (q + 256 * (o + 256 * 0)) in
+      let small : n < 16777216 = omega (arith, new .small, news .0 .small, news .1 .0 .small) in
+      let second : at + 2 ≡ at + 1 + 1 = omega arith in
+      ap done-by (line-read (c .kinds) (c .operands) at 20 n (coded u) (coded v) small (r .kind) (r .operand)
+      (atom-here (c .kinds) (c .operands) (at + 1) u (small-known u S b (known .0)) (rs .0))
+      (ap (atom-at (c .kinds) (c .operands)) second
+      ∙ atom-here (c .kinds) (c .operands) (at + 1 + 1) v (small-known v S b (known .1 .0)) (rs .1 .0)))
+      ∙ ap₂ (λ (y : ℕ) (z : ℕ). looping y reducing z (n / 65536 % 256) (coded u ∷ (coded v ∷ [])))
+      (let z : n % 256 ≡ x = omega (arith, new .small) in z)
+      (let z : n / 256 % 256 ≡ q = omega (arith, new .small, news .0 .small) in z)
+      ∙ ap (λ (z : ℕ). looping x reducing q z (coded u ∷ (coded v ∷ [])))
+      (let z : n / 65536 % 256 ≡ o = omega (arith, new .small, news .0 .small, news .1 .0 .small) in z)
+
   pub loop-read : (x : ℕ) (k : Loop) (ps : List ℕ) (us : List K.Atom) (d : ℕ) → LoopFits p Γ x k ps us d → New x S →
       AllNew ps S → AllKnown us S →
       Here (c .kinds) (c .operands) at (row (loop-kind k) (x + 256 * packed-names ps)) →
-      At (c .kinds) (c .operands) (at + 1) (map atom-row us) →
-      doing (c .kinds) (c .operands) calls at m (line-at (c .kinds) (c .operands) at) ≡ looping x k ps (map coded us)
+      At (c .kinds) (c .operands) (at + 1) (map atom-row us) → LoopRead c calls at m x k ps us
   unfolding doing
-  loop-read x mapping (q ∷ []) (u ∷ []) d fits new news known r rs =
-      ap (doing (c .kinds) (c .operands) calls at m)
-      (line-read (c .kinds) (c .operands) at 13 (x + 256 * (q + 256 * 0)) (coded u) _ (r .kind) (r .operand)
-      (atom-here (c .kinds) (c .operands) (at + 1) u (small-known u S b (known .0)) (rs .0)) refl)
-      ∙ ap₂ (λ (y : ℕ) (z : ℕ). looping y mapping (z ∷ []) (coded u ∷ []))
-      (let z : (x + 256 * (q + 256 * 0)) % 256 ≡ x = omega (arith, new .small) in z)
-      (let z : (x + 256 * (q + 256 * 0)) / 256 % 256 ≡ q = omega (arith, new .small, news .0 .small) in z)
+  loop-read x mapping (q ∷ []) (u ∷ []) d fits new news known r rs = record {
+    first = q;
+    second = q;
+    names = maps q;
+    is = one-read 13 mapping (λ n a o. refl) x q u new news known r rs;
+  }
   loop-read x mapping [] us d fits new news known r rs = absurd (omega (arith, ap length (fits .names)))
   loop-read x mapping (q ∷ o ∷ ps) us d fits new news known r rs = absurd (omega (arith, ap length (fits .names)))
   loop-read x mapping (q ∷ []) [] d fits new news known r rs = absurd (omega (arith, fits .limits))
   loop-read x mapping (q ∷ []) (u ∷ v ∷ us) d fits new news known r rs = absurd (omega (arith, fits .limits))
+  loop-read x filtering (q ∷ []) (u ∷ []) d fits new news known r rs = record {
+    first = q;
+    second = q;
+    names = filters q;
+    is = one-read 19 filtering (λ n a o. refl) x q u new news known r rs;
+  }
+  loop-read x filtering [] us d fits new news known r rs = absurd (omega (arith, ap length (fits .names)))
+  loop-read x filtering (q ∷ o ∷ ps) us d fits new news known r rs = absurd (omega (arith, ap length (fits .names)))
+  loop-read x filtering (q ∷ []) [] d fits new news known r rs = absurd (omega (arith, fits .limits))
+  loop-read x filtering (q ∷ []) (u ∷ v ∷ us) d fits new news known r rs = absurd (omega (arith, fits .limits))
+  loop-read x reducing (q ∷ o ∷ []) (u ∷ v ∷ []) d fits new news known r rs = record {
+    first = q;
+    second = o;
+    names = reduces q o;
+    is = two-read x q o u v new news known r rs;
+  }
+  loop-read x reducing [] us d fits new news known r rs = absurd (omega (arith, ap length (fits .names)))
+  loop-read x reducing (q ∷ []) us d fits new news known r rs = absurd (omega (arith, ap length (fits .names)))
+  loop-read x reducing (q ∷ o ∷ h ∷ ps) us d fits new news known r rs = absurd (omega (arith, ap length (fits .names)))
+  loop-read x reducing (q ∷ o ∷ []) [] d fits new news known r rs = absurd (omega (arith, fits .limits))
+  loop-read x reducing (q ∷ o ∷ []) (u ∷ []) d fits new news known r rs = absurd (omega (arith, fits .limits))
+  loop-read x reducing (q ∷ o ∷ []) (u ∷ v ∷ w ∷ us) d fits new news known r rs = absurd (omega (arith, fits .limits))
 
 -- ---- all loops
 
@@ -105,69 +147,82 @@ module _ (p : Program) (callee : M.Callee) (Γ : NameDepths) (c : Code) (calls f
       (tree-on n C c calls at (s .left) (memory (s .store) env)) (work callee Γ t L R ρ s)
 
   -- the passes of a loop over the array a, whose tree t is at a position
-  module _ (n : ℕ) (few : n ≤ 4096) (S : Set) (b : Bounded S) (ρ : Frame) (k : Loop) (ps : List ℕ) (new : AllNew ps S)
-      (t : K.Tree) (claim : TreeClaim t) (lt : length (rows t) ≤ n) (d : ℕ) (fit : Fitting p Γ t d)
+  module _ (n : ℕ) (few : n ≤ 4096) (S : Set) (b : Bounded S) (ρ : Frame) (k : Loop) (ps : List ℕ) (y z : ℕ)
+      (names : PassNames k ps y z) (new : AllNew ps S) (e : ℕ) (t : K.Tree) (claim : TreeClaim t)
+      (lt : length (rows t) ≤ n) (d : ℕ) (fit : Fitting p Γ t d)
       (scoped : Scoped t (S ∪ just ps)) (at : ℕ) (rs : At (c .kinds) (c .operands) at (rows t)) (B : Set) (R : List ℕ)
       (a : ℤ) where
     abbrev W : ℕ → Memory → Ran
     W = tree-on n C c calls at
 
     abbrev l : Looped
-    l = looped k W calls ps (cell-of a)
+    l = looped (way-of k e) W calls y z (cell-of a)
 
     abbrev body : List ℤ → M.Work ℤ
     body = λ vs. work callee Γ t B R (M.binding ps vs ρ)
 
     abbrev rest : ℕ → ℕ → ℤ → M.Work ℤ
-    rest count i v = passes (work-pass k body a) v (tabulate i count (λ j. j))
+    rest count i v = passes (work-pass k e body a) v (tabulate i count (λ j. j))
 
     -- one pass, before the others
     pass-same : (count i : ℕ) (v : ℤ) (s₀ : State) (e₀ : List ℤ) → FrameAgrees calls e₀ ρ S → Framed calls f e₀ →
         ((u : ℤ) (s₁ : State) (e₁ : List ℤ) → FrameAgrees calls e₁ ρ S → Framed calls f e₁ → Rel (WordDone calls e₁ S)
         (passes-on l count u (suc i) (s₁ .left) (memory (s₁ .store) e₁)) (rest count (suc i) u s₁)) →
         (m : ℕ) → s₀ .left ≡ m → Rel (WordDone calls e₀ S) (passes-on l (suc count) v i m (memory (s₀ .store) e₀))
-        (onward (λ u. rest count (suc i) u) (onward (λ _ s₁. onward (λ ws s₂. onward (λ r. carried-on k v r)
-        (body (pass-words k v (getD ws i (pos 0))) s₂)) (elements-of a s₁)) (stepped m s₀)))
+        (onward (λ u. rest count (suc i) u) (onward (λ _ s₁. onward (λ ws s₂. onward
+        (λ r. carried-on k e v (getD ws i (pos 0)) r) (body (pass-words k v (getD ws i (pos 0))) s₂))
+        (elements-of a s₁)) (stepped m s₀)))
     unfolding passes-on onward stepped with-left elements-of M.with-store
-    pass-same count i v s₀ e₀ g₀ l₀ more zero e = record { stop = refl; real = λ z. omega arith; steps = sym e }
-    pass-same count i v s₀ e₀ g₀ l₀ more (suc m) e =
+    pass-same count i v s₀ e₀ g₀ l₀ more zero q = record { stop = refl; real = λ z. omega arith; steps = sym q }
+    pass-same count i v s₀ e₀ g₀ l₀ more (suc m) q =
         subst (λ (o : Outcome State ℤ). Rel (WordDone calls e₀ S) (and-then (W m (memory (s₀ .store) e₁)) carry) o)
-        (sym (onward-onward (λ u. rest count (suc i) u) (λ r. carried-on k v r) (body vs s₁)))
+        (sym (onward-onward (λ u. rest count (suc i) u) (λ r. carried-on k e v item r) (body vs s₁)))
         (rel-then (TreeDone (at + length (rows t)) calls e₁ (S ∪ just ps)) (WordDone calls e₀ S)
         (W m (memory (s₀ .store) e₁)) (body vs s₁) carry
-        (λ r s₂. onward (λ u. rest count (suc i) u) (carried-on k v r s₂))
+        (λ r s₂. onward (λ u. rest count (suc i) u) (carried-on k e v item r s₂))
         (claim n lt few (S ∪ just ps) d fit scoped (bounded-all ps S new b) at rs B R (M.binding ps vs ρ) s₁ e₁
-        (agrees-all calls ps vs e₀ ρ S new l₀ b g₀) (framed-kept (kept-all calls ps vs e₀ S (l₀ .few) new) l₀))
+        (entered-agrees calls e₀ ρ S b l₀ v item names new g₀) (framed-kept kept₁ l₀))
         (λ r s₂ h. after r s₂ h))
       where
+        item : ℤ
+        item = getD (elements (cell (s₀ .store) (cell-of a))) i (pos 0)
+
         vs : List ℤ
-        vs = pass-words k v (getD (elements (cell (s₀ .store) (cell-of a))) i (pos 0))
+        vs = pass-words k v item
 
         e₁ : List ℤ
-        e₁ = bound-all calls ps vs e₀
+        e₁ = bound calls z item (bound calls y v e₀)
+
+        kept₁ : FrameKept calls e₀ e₁ S
+        kept₁ = entered-kept calls e₀ ρ S b l₀ v item names new
 
         s₁ : State
         s₁ = M.with-store (with-left s₀ m) (s₀ .store) (touching (s₀ .store) (cell-of a))
 
         carry : Ran → Ran
-        carry = λ w. and-then (carry-on k v w)
+        carry = λ w. and-then (carry-on l v w)
             (λ u. passes-on l count (u .out .value) (i + 1) (u .out .steps) (u .memory))
 
         after : (r : ℤ) (s₂ : State) →
             TreeDone (at + length (rows t)) calls e₁ (S ∪ just ps) (W m (memory (s₀ .store) e₁)) r s₂ →
             Rel (WordDone calls e₀ S) (carry (W m (memory (s₀ .store) e₁)))
-            (onward (λ u. rest count (suc i) u) (carried-on k v r s₂))
+            (onward (λ u. rest count (suc i) u) (carried-on k e v item r s₂))
         after r s₂ h =
             let w : Ran = W m (memory (s₀ .store) e₁) in
-            let x : Ran = carry-on k v w in
-            rel-then (WordDone calls (w .memory .env) S) (WordDone calls e₀ S) x (carried-on k v r s₂)
+            let x : Ran = carry-on l v w in
+            rel-then (WordDone calls (w .memory .env) S) (WordDone calls e₀ S) x (carried-on k e v item r s₂)
             (λ u. passes-on l count (u .out .value) (i + 1) (u .out .steps) (u .memory)) (λ u. rest count (suc i) u)
-            (carry-on-same k v calls S w r s₂ (h .word .value) (h .word .steps) (h .word .store))
+            (subst (λ (o : ℤ).
+            Rel (WordDone calls (w .memory .env) S) (carry-by (way-of k e) v o w) (carried-on k e v item r s₂))
+            (sym (h .word .kept .names z (element-known calls e₀ ρ S b l₀ v item names)
+            ∙ element-word calls e₀ ρ S b l₀ v item y z (bounded-all ps S new b .below z
+            (element-known calls e₀ ρ S b l₀ v item names))))
+            (carry-by-same k e v item calls S w r s₂ (h .word .value) (h .word .steps) (h .word .store)))
             (λ u s₃ q.
             let kept : FrameKept calls e₀ (x .memory .env) S =
             kept-then calls e₀ (w .memory .env) (x .memory .env) S S (λ y z. z)
             (kept-then calls e₀ e₁ (w .memory .env) S (S ∪ just ps) (λ y z. or-left (S y) (just ps y) z)
-            (kept-all calls ps vs e₀ S (l₀ .few) new) (h .word .kept)) (q .kept) in
+            kept₁ (h .word .kept)) (q .kept) in
             subst (λ (y : Ran). Rel (WordDone calls e₀ S) y (rest count (suc i) u s₃))
             (sym (word-moved (λ y j μ. passes-on l count y (i + 1) j μ) q
             ∙ ap (λ (j : ℕ). passes-on l count u j (s₃ .left) (memory (s₃ .store) (x .memory .env)))
@@ -190,7 +245,8 @@ module _ (p : Program) (callee : M.Callee) (Γ : NameDepths) (c : Code) (calls f
   module _ (depths : (x : ℕ) → x < 256 → depth-in (c .table) f x ≡ Γ x) (jumps : Jumps c) (n : ℕ) (few : n ≤ 4096)
       (S : Set) (b : Bounded S) (at : ℕ) (A : Set) (R : List ℕ) (ρ : Frame) (s : State) (env : List ℤ)
       (g : FrameAgrees calls env ρ S) (framed : Framed calls f env) (x : ℕ) (k : Loop) (ps : List ℕ) (us : List K.Atom)
-      (t : K.Tree) (new : New x S) (news : AllNew ps S) (known : AllKnown us S) (claim : TreeClaim t)
+      (t : K.Tree) (y z : ℕ) (names : PassNames k ps y z) (new : New x S) (news : AllNew ps S)
+      (known : AllKnown us S) (claim : TreeClaim t)
       (lt : length (rows t) ≤ n) (d : ℕ) (fit : Fitting p Γ t d) (scoped : Scoped t (S ∪ just ps))
       (rs : At (c .kinds) (c .operands) (at + suc (length (map coded us))) (rows t)) (goal : ℕ)
       (ge : at + suc (length (map coded us)) + length (rows t) ≡ goal) where
@@ -213,7 +269,7 @@ module _ (p : Program) (callee : M.Callee) (Γ : NameDepths) (c : Code) (calls f
     R′ = R ++ held Γ (among us B) ρ
 
     abbrev whole : Looped
-    whole = looped k (tree-on n C c calls start) calls ps (cell-of array)
+    whole = looped (way-of k (pred (Γ x))) (tree-on n C c calls start) calls y z (cell-of array)
 
     abbrev count : ℕ
     count = length (array-of (s .store) array)
@@ -223,7 +279,7 @@ module _ (p : Program) (callee : M.Callee) (Γ : NameDepths) (c : Code) (calls f
 
     abbrev then-passes : ℤ → M.Work Frame
     then-passes v s₃ = onward (λ w. give (updated ρ x w))
-        (passes (work-pass k (λ vs. work callee Γ t B (R′ ++ in-progress k v) (M.binding ps vs ρ)) array) v
+        (passes (work-pass k (pred (Γ x)) (λ vs. work callee Γ t B (R′ ++ in-progress k v) (M.binding ps vs ρ)) array) v
         (tabulate 0 count (λ i. i)) s₃)
 
     after-first : (m : ℕ) (s₂ : State) → m ≡ s₂ .left → s .store ≡ s₂ .store →
@@ -241,10 +297,11 @@ module _ (p : Program) (callee : M.Callee) (Γ : NameDepths) (c : Code) (calls f
         (sym (word-moved (λ y j μ. passes-on whole count y 0 j μ) q))
         (rel-then (WordDone calls (first .memory .env) S) Done
         (passes-on whole count v 0 (s₃ .left) (memory (s₃ .store) (first .memory .env)))
-        (passes (work-pass k (λ vs. work callee Γ t B (R′ ++ in-progress k v) (M.binding ps vs ρ)) array) v
+        (passes (work-pass k (pred (Γ x)) (λ vs. work callee Γ t B (R′ ++ in-progress k v) (M.binding ps vs ρ)) array) v
         (tabulate 0 count (λ i. i)) s₃) bind (λ w. give (updated ρ x w))
-        (passes-same n few S b ρ k ps news t claim lt d fit scoped start rs B (R′ ++ in-progress k v) array count 0 v s₃
-        (first .memory .env) (agrees-kept calls env (first .memory .env) ρ S g (q .kept))
+        (passes-same n few S b ρ k ps y z names news (pred (Γ x)) t claim lt d fit scoped start rs B
+        (R′ ++ in-progress k v) array count 0 v s₃ (first .memory .env)
+        (agrees-kept calls env (first .memory .env) ρ S g (q .kept))
         (framed-kept (q .kept) framed))
         (λ w s₄ z. (
           refl,
@@ -256,19 +313,19 @@ module _ (p : Program) (callee : M.Callee) (Γ : NameDepths) (c : Code) (calls f
         first = carry-first k (pred (Γ x)) ws m (memory (s .store) env)
 
     pub loop-same : Rel Done
-        (loop-line (tree-on n C c calls) c calls x k ps (map coded us) at (s .left) (memory (s .store) env))
+        (loop-line (tree-on n C c calls) c calls x k y z (map coded us) at (s .left) (memory (s .store) env))
         (work-line callee Γ (K.loop x k ps us t) A R ρ s)
     unfolding loop-line work-line onward with-left elements-of M.with-store
     loop-same =
         rel-step Done s (memory (s .store) env)
-        (λ m. loop-worked (tree-on n C c calls) c calls x k ps start m (memory (s .store) env)
+        (λ m. loop-worked (tree-on n C c calls) c calls x k y z start m (memory (s .store) env)
         (map (word-of calls env) (map coded us)))
         (λ _ s₁. onward (λ vs s₂. onward (λ v s₃. onward (λ w. give (updated ρ x w))
-        (passes (work-pass k (λ vs. work callee Γ t B (R′ ++ in-progress k v) (M.binding ps vs ρ)) array) v
+        (passes (work-pass k (pred (Γ x)) (λ vs. work callee Γ t B (R′ ++ in-progress k v) (M.binding ps vs ρ)) array) v
         (tabulate 0 (length vs) (λ i. i)) s₃)) (carried-first k R′ (pred (Γ x)) ws s₂)) (elements-of array s₁))
         (λ m. rw (
           coded-words calls env ρ S g us known,
-          let z : element-depth c calls x env ≡ pred (Γ x) =
+          let z : element-depth (c .table) calls x env ≡ pred (Γ x) =
               ap (λ (h : ℕ). depth-in (c .table) h x - 1) (framed .function)
               ∙ ap (λ (y : ℕ). y - 1) (depths x (new .small)) ∙ pred-less (Γ x) in z,
         )

@@ -12,7 +12,8 @@ use mir.Val.{hasKey}
 use types.Run.{miss}
 use borrow.Author.Tests.{ne-eqb, lt-ltb}
 use Rattle.semantics.specs.Number.{sum, difference, less}
-use Rattle.semantics.specs.Kinds.{Leaf, operation, call, literal, index, length-of, Loop, mapping, leaf-kind, loop-kind}
+use Rattle.semantics.specs.Kinds.{Leaf, operation, call, literal, index, length-of, iota, replicate, leaf-kind}
+use Rattle.semantics.specs.Kinds.{Loop, mapping, filtering, reducing, loop-kind}
 use Rattle.semantics.specs.Code as C
 use Rattle.semantics.specs.Code.{Row, atom-row, rows, line-rows}
 use Rattle.machine_code.specs.Reading.{atom-at, is-atom, two-rows, line-of, line-at, end-in}
@@ -62,24 +63,25 @@ module _ (kinds : List ℕ) (operands : List ℤ) (at : ℕ) where
   pub atom-here : (a : C.Atom) → SmallAtom a → Here kinds operands at (atom-row a) → atom-at kinds operands at ≡ coded a
   unfolding atom-at
   atom-here (C.number z) h e = rw (e .kind, e .operand) refl
-  atom-here (C.name x) h e = rw (e .kind, e .operand) (ap Name (let z : x % 256 ≡ x = omega arith in z))
+  atom-here (C.name x) h e = rw (e .kind, e .operand) (ap Name (let z : x % 16777216 % 256 ≡ x = omega arith in z))
 
   pub atom-kind : (a : C.Atom) → Here kinds operands at (atom-row a) → is-atom (getD kinds at 0) ≡ true
   atom-kind (C.number z) e = rw (e .kind) refl
   atom-kind (C.name x) e = rw (e .kind) refl
 
-  -- the line of a kind and an operand
-  pub line-read : (k n : ℕ) (a b : Atom) → getD kinds at 0 ≡ k → getD operands at (pos 0) ≡ pos n →
+  -- the line of a kind and an operand of three bytes
+  pub line-read : (k n : ℕ) (a b : Atom) → n < 16777216 → getD kinds at 0 ≡ k → getD operands at (pos 0) ≡ pos n →
       atom-at kinds operands (at + 1) ≡ a → atom-at kinds operands (at + 2) ≡ b →
       line-at kinds operands at ≡ line-of k n a b
   unfolding line-at
-  line-read k n a b e f g h = rw (e, f, g, h) refl
+  line-read k n a b small e f g h = rw (e, f, g, h) (ap (λ (m : ℕ). line-of k m a b)
+      (let z : n % 16777216 ≡ n = omega arith in z))
 
 -- ---- kinds
 
 -- the kinds that are no leaf's: of functions, atoms, ifs, loops and ends
 abbrev pub not-leaves : List ℕ
-not-leaves = 0 ∷ 2 ∷ 3 ∷ 12 ∷ 13 ∷ 16 ∷ []
+not-leaves = 0 ∷ 2 ∷ 3 ∷ 12 ∷ 13 ∷ 16 ∷ 19 ∷ 20 ∷ []
 
 pub leaf-apart : (l : Leaf) → T (not (hasKey not-leaves (leaf-kind l)))
 leaf-apart (operation sum) = tt
@@ -89,6 +91,8 @@ leaf-apart (call f) = tt
 leaf-apart (literal d) = tt
 leaf-apart index = tt
 leaf-apart length-of = tt
+leaf-apart iota = tt
+leaf-apart replicate = tt
 
 leaf-no-atom : (l : Leaf) → is-atom (leaf-kind l) ≡ false
 leaf-no-atom l = rw (
@@ -98,6 +102,8 @@ leaf-no-atom l = rw (
 
 loop-no-atom : (k : Loop) → is-atom (loop-kind k) ≡ false
 loop-no-atom mapping = refl
+loop-no-atom filtering = refl
+loop-no-atom reducing = refl
 
 -- the rows of a tree begin with no atom
 pub no-atom : (kinds : List ℕ) (operands : List ℤ) (at : ℕ) (t : C.Tree) → At kinds operands at (rows t) →

@@ -12,11 +12,12 @@ use Rattle.semantics.specs.Basics.{updated}
 use Rattle.semantics.specs.Outcome.{Outcome, done, stop, Run, onward}
 use Rattle.semantics.specs.Live.{Set, _∪_, only}
 use Rattle.semantics.specs.Store.{Store}
-use Rattle.semantics.specs.Machine.{State, Frame, step, stepped, with-left}
+use Rattle.semantics.specs.Machine as M
+use Rattle.semantics.specs.Machine.{State, Frame, Program, step, stepped, with-left}
 use Rattle.soundness.specs.machine.Discipline.{New}
 use Rattle.machine_lines.specs.Frames.{place, function-place}
 use Rattle.machine_lines.specs.Lines.{Memory, memory, Ran, halted, stepping, Given}
-use Rattle.machine_positions.specs.Machine.{and-then, binding}
+use Rattle.machine_positions.specs.Machine.{Callee, and-then, binding}
 use Rattle.machine_laws.specs.Frames.{Bounded, FrameAgrees, FrameKept, Framed, framed-kept, agrees-more}
 use Rattle.machine_laws.specs.Frames.{agrees-kept, kept-more, kept-then}
 
@@ -58,6 +59,13 @@ pub record CallDone (calls : ℕ) (env : List ℤ) (w : Ran) (v : ℤ) (s : Stat
   pub functions : (k : ℕ) → calls ≤ k →
       getD (w .memory .env) (function-place k) (pos 0) ≡ getD env (function-place k) (pos 0)
   pub long : length (w .memory .env) ≡ length env
+
+-- the callee over positions is that of the machine
+pub record CalleeSame (p : Program) (calls : ℕ) (C : Callee) (callee : M.Callee) : Type 0 where
+  pub few : (g : ℕ) → g < length (p .routines) → length (p .signatures g .parameters) ≤ 16
+  pub same : (R : List ℕ) (g : ℕ) (ws : List ℤ) (env : List ℤ) (s : State) → g < length (p .routines) →
+      length ws ≡ length (p .signatures g .parameters) → 8224 ≤ length env →
+      Rel (CallDone calls env) (C g ws (s .left) (memory (s .store) env)) (callee R g ws s)
 
 -- a small work, in n steps left and with a store, is that of the machine
 abbrev pub Gives : ℕ → Store → Given → Outcome State ℤ → Type 0

@@ -9,8 +9,8 @@ use lib.ListN.{getD, length, length-append, length-map}
 use Rattle.semantics.specs.Basics.{updated}
 use Rattle.semantics.specs.Outcome.{onward, give}
 use Rattle.semantics.specs.Number.{is-zero}
-use Rattle.semantics.specs.Kinds.{Leaf, operation, call, literal, index, length-of, Loop, mapping, leaf-kind}
-use Rattle.semantics.specs.Kinds.{loop-kind}
+use Rattle.semantics.specs.Kinds.{Leaf, operation, call, literal, index, length-of, iota, replicate, leaf-kind}
+use Rattle.semantics.specs.Kinds.{Loop, mapping, filtering, reducing, loop-kind}
 use Rattle.semantics.specs.Store.{Store}
 use Rattle.semantics.specs.Code as K
 use Rattle.semantics.specs.Code.{atom-row, rows, line-rows, ending}
@@ -30,8 +30,9 @@ use Rattle.machine_laws.specs.Rows.{At, Jumps, at-first, at-second, code
 use Rattle.machine_laws.specs.Rows.{no-atom, tree-within, line-some, rows-some}
 use Rattle.machine_laws.specs.Frames.{Bounded, FrameAgrees, small-known, word-same, kept-none, known-stays}
 use Rattle.machine_laws.specs.Frames.{Framed, framed-kept, bounded-after}
-use Rattle.machine_laws.specs.Same.{Rel, TreeDone, LineDone, rel-then, rel-step, rel-map, word-kept, bound-done}
-use Rattle.machine_laws.specs.Leaves.{CalleeSame, operation-read, leaf-same, retain-same, release-same}
+use Rattle.machine_laws.specs.Same.{CalleeSame, Rel, TreeDone, LineDone, rel-then, rel-step, rel-map, word-kept}
+use Rattle.machine_laws.specs.Same.{bound-done}
+use Rattle.machine_laws.specs.Leaves.{operation-read, leaf-same, retain-same, release-same}
 use Rattle.machine_laws.specs.Loops.{TreeClaim, loop-read, loop-same}
 
 -- the same work from the same place
@@ -47,9 +48,13 @@ leaf-open (call f) n a b = refl
 leaf-open (literal d) n a b = refl
 leaf-open index n a b = refl
 leaf-open length-of n a b = refl
+leaf-open iota n a b = refl
+leaf-open replicate n a b = refl
 
 loop-open : (k : Loop) (n : ℕ) (a b : Atom) → is-end (line-of (loop-kind k) n a b) ≡ false
 loop-open mapping n a b = refl
+loop-open filtering n a b = refl
+loop-open reducing n a b = refl
 
 line-open : (kinds : List ℕ) (operands : List ℤ) (at : ℕ) (l : K.Line) → At kinds operands at (line-rows l) →
     is-end (line-at kinds operands at) ≡ false
@@ -83,7 +88,7 @@ module _ (p : Program) (enough : length (p .routines) ≤ 32) (callee : M.Callee
     here = memory (s .store) env
 
     abbrev found : Doing
-    found = doing (c .kinds) (c .operands) calls at here (line-at (c .kinds) (c .operands) at)
+    found = doing (c .kinds) (c .operands) (c .table) calls at here (line-at (c .kinds) (c .operands) at)
 
     -- one tree of an if, after which the code goes on at a position
     branch-same : (x : ℕ) → New x S → (t : K.Tree) → Claim t → length (rows t) ≤ n → (d : ℕ) → Fitting p Γ t d →
@@ -159,9 +164,8 @@ module _ (p : Program) (enough : length (p .routines) ≤ 32) (callee : M.Callee
         (work-line callee Γ (K.leaf x l us) A R ρ s))
         (ap (λ (q : ℕ). at + suc q) (sym (length-map us atom-row)))
         (leaf-same p enough callee Γ c calls f C calling W at A R ρ s env S b g framed x (h .1) us (h .0)
-        (at-first (c .kinds) (c .operands) (at + 1) (map atom-row us) (rows t) (rs .1)) (atoms-stop us t (rs .1)) l
-        fit
-        (rs .0))
+        (at-first (c .kinds) (c .operands) (at + 1) (map atom-row us) (rows t) (rs .1)) (atoms-stop us t (rs .1))
+        depths l fit (rs .0))
     line-same (K.if-else x u t₁ t₂) claims lt fit h t rs =
         let e : length (rows t₁ ++ rows t₂) ≡ length (rows t₁) + length (rows t₂) = length-append (rows t₁) (rows
         t₂) in
@@ -169,8 +173,9 @@ module _ (p : Program) (enough : length (p .routines) ≤ 32) (callee : M.Callee
         omega (arith, e) in
         let y : at + 1 + 1 ≡ at + 2 = omega arith in
         subst (LineSame (K.if-else x u t₁ t₂))
-        (sym (ap (doing (c .kinds) (c .operands) calls at here)
-        (line-read (c .kinds) (c .operands) at 12 x (coded u) _ (rs .0 .kind) (rs .0 .operand)
+        (sym (ap (doing (c .kinds) (c .operands) (c .table) calls at here)
+        (line-read (c .kinds) (c .operands) at 12 x (coded u) _ (omega (arith, h .1 .small)) (rs .0 .kind)
+        (rs .0 .operand)
         (atom-here (c .kinds) (c .operands) (at + 1) u (small-known u S b (h .0)) (rs .1 .0)) refl)
         ∙ ap (λ (q : ℕ). branching q (coded u)) (let o : x % 256 ≡ x = omega (arith, h .1 .small) in o)))
         (subst (λ (q : ℕ). Rel (LineDone q calls env S (S ∪ only x))
@@ -185,11 +190,11 @@ module _ (p : Program) (enough : length (p .routines) ≤ 32) (callee : M.Callee
         let mine = at-first (c .kinds) (c .operands) (at + 1) (map atom-row us ++ rows t₁) (rows t) (rs .1) in
         let e : length (map atom-row us ++ rows t₁) ≡ length (map atom-row us) + length (rows t₁) =
         length-append (map atom-row us) (rows t₁) in
-        subst (LineSame (K.loop x k ps us t₁))
-        (sym (loop-read p Γ c calls at here S b x k ps us (atom-depth Γ (ending t₁)) (fit .0) (h .1) (h .2) (h .0)
-        (rs .0) (at-first (c .kinds) (c .operands) (at + 1) (map atom-row us) (rows t₁) mine)))
-        (loop-same p callee Γ c calls f C depths jumps n few S b at A R ρ s env g framed x k ps us t₁ (h .1) (h .2)
-        (h .0)
+        let read = loop-read p Γ c calls at here S b x k ps us (atom-depth Γ (ending t₁)) (fit .0) (h .1) (h .2) (h .0)
+        (rs .0) (at-first (c .kinds) (c .operands) (at + 1) (map atom-row us) (rows t₁) mine) in
+        subst (LineSame (K.loop x k ps us t₁)) (sym (read .is))
+        (loop-same p callee Γ c calls f C depths jumps n few S b at A R ρ s env g framed x k ps us t₁ (read .first)
+        (read .second) (read .names) (h .1) (h .2) (h .0)
         claims (omega (arith, e, lt)) (atom-depth Γ (ending t₁)) (fit .1) (h .3)
         (subst (λ (q : ℕ). At (c .kinds) (c .operands) q (rows t₁))
         (let z : at + 1 + length (map atom-row us) ≡ at + suc (length (map coded us)) =
@@ -209,8 +214,8 @@ module _ (p : Program) (enough : length (p .routines) ≤ 32) (callee : M.Callee
   end-same a (suc n) lt few S d fit sc b at rs L R ρ s env g framed =
       rw (
         tree-within (c .kinds) (c .operands) at (K.end a) rs,
-        line-read (c .kinds) (c .operands) at 16 0 (coded a) (atom-at (c .kinds) (c .operands) (at + 2)) (rs .0
-            .kind) (rs .0 .operand)
+        line-read (c .kinds) (c .operands) at 16 0 (coded a) (atom-at (c .kinds) (c .operands) (at + 2)) (omega arith)
+            (rs .0 .kind) (rs .0 .operand)
             (atom-here (c .kinds) (c .operands) (at + 1) a (small-known a S b sc) (rs .1 .0)) refl,
       ) (
         refl,
@@ -249,7 +254,8 @@ module _ (p : Program) (enough : length (p .routines) ≤ 32) (callee : M.Callee
 
       w : Ran
       w = line-done (tree-on n C c calls) C c calls at (s .left) (memory (s .store) env)
-          (doing (c .kinds) (c .operands) calls at (memory (s .store) env) (line-at (c .kinds) (c .operands) at))
+          (doing (c .kinds) (c .operands) (c .table) calls at (memory (s .store) env)
+          (line-at (c .kinds) (c .operands) at))
 
       len : length (line-rows l ++ rows t) ≡ length (line-rows l) + length (rows t)
       len = length-append (line-rows l) (rows t)

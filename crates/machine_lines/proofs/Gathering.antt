@@ -14,7 +14,7 @@ use lib.Seq.{getD-set-other}
 use Rattle.semantics.specs.Number.{is-zero}
 use Rattle.semantics.specs.Store.{Store, appended}
 use Rattle.store.specs.Acquiring.{appended-all}
-use Rattle.machine_code.specs.Reading.{natural, is-atom, atom-at}
+use Rattle.machine_code.specs.Reading.{low-bits, is-atom, atom-at}
 use Rattle.machine_code.specs.declared.Atom.{Atom}
 use Rattle.machine_code.specs.declared.Atom.the-variants.{Number, Name}
 use Rattle.machine_lines.specs.Frames.{place, word-of, words-at, put-all, Passed, Appended}
@@ -61,11 +61,11 @@ module _ (kinds : List ℕ) (operands : List ℤ) (calls : ℕ) (env : List ℤ)
   word-same p = go (eqb (getD kinds p 0) 2)
     where
       go : (t : Bool) → word-of calls (set env q v)
-          (cond t (Number (getD operands p (pos 0))) (Name (natural (getD operands p (pos 0)) % 256)))
+          (cond t (Number (getD operands p (pos 0))) (Name (low-bits (getD operands p (pos 0)) % 256)))
           ≡ word-of calls env
-          (cond t (Number (getD operands p (pos 0))) (Name (natural (getD operands p (pos 0)) % 256)))
+          (cond t (Number (getD operands p (pos 0))) (Name (low-bits (getD operands p (pos 0)) % 256)))
       go true = refl
-      go false = getD-set-other env q (place calls (natural (getD operands p (pos 0)) % 256)) v (pos 0)
+      go false = getD-set-other env q (place calls (low-bits (getD operands p (pos 0)) % 256)) v (pos 0)
           (λ e. omega arith)
 
   pub words-same : (n p : ℕ) → words-at n kinds operands calls (set env q v) p ≡ words-at n kinds operands calls env p

@@ -32,13 +32,13 @@ use Rattle.machine_code.specs.declared.Line.{Line}
 use Rattle.machine_code.specs.declared.Line.the-variants as L
 use Rattle.machine_code.proofs.Reading.{no-bool, less-one}
 use Rattle.machine_lines.specs.declared.Out.{Out}
-use Rattle.machine_lines.specs.Frames.{place, word-of, words-at}
+use Rattle.machine_lines.specs.Frames.{place, word-of, words-at, element-depth}
 use Rattle.machine_lines.specs.Lines.{no-line, Memory, memory, Ran, ran, left, out, with-store, halted, stepping}
 use Rattle.machine_lines.specs.Lines.{Given, given, worked, operation-of, operation-given}
 use Rattle.machine_lines.specs.Lines.{array-of, index-given, length-given, acquired-given, operation-line}
 use Rattle.machine_lines.specs.Lines.{index-line, length-line, Doing, giving, changing, ending, calling}
-use Rattle.machine_lines.specs.Lines.{branching, looping}
-use Rattle.machine_lines.specs.Lines.{doing, leaf-done, literal-line, leaf}
+use Rattle.machine_lines.specs.Lines.{branching, looping, array-doing}
+use Rattle.machine_lines.specs.Lines.{doing, giving-line, leaf-done, literal-line, array-line, leaf}
 
 -- ---- operations
 
@@ -96,7 +96,7 @@ module _ (calls kind x : ℕ) (a b : Atom) (next steps : ℕ) (env : List ℤ) w
 
 -- ---- index and length
 
-inside-negative : (w : ℤ) (n : ℕ) → ltZ w (pos 0) ≡ true → inside w n ≡ false
+pub inside-negative : (w : ℤ) (n : ℕ) → ltZ w (pos 0) ≡ true → inside w n ≡ false
 inside-negative (pos i) n e = let f = ltb-true i 0 e in absurd (omega arith)
 inside-negative (negsuc i) n e = refl
 
@@ -184,7 +184,7 @@ next-small slots heads q c e h = let e′ = ap acquired-outcome (sym h) ∙ e in
 module _ (kinds : List ℕ) (operands : List ℤ) (calls x d at steps : ℕ) (m : Memory) where
   pub literal-spent : (r : Out) → steps ≡ 0 → r ≡ out 21 (pos 0) 0 steps →
       ran r m ≡ literal-line kinds operands calls x d at steps m
-  unfolding leaf-done stepping
+  unfolding leaf-done giving-line stepping
   literal-spent r z e = rw (e, z)
 
   module _ (some : steps ≡ 0 → ⊥) (ws : List ℤ) (we : ws ≡ words-at 16 kinds operands calls (m .env) (at + 1))
@@ -192,7 +192,7 @@ module _ (kinds : List ℕ) (operands : List ℤ) (calls x d at steps : ℕ) (m 
       (σe : σ ≡ acquired d ws (m .store)) where
     literal-is : literal-line kinds operands calls x d at steps m
         ≡ with-store σ (given calls x (at + 1 + length ws) (steps - 1) (m .env) (acquired-given (acquired-outcome q)))
-    unfolding leaf-done stepping
+    unfolding leaf-done giving-line stepping
     literal-is = ap (λ (n : ℕ). literal-line kinds operands calls x d at n m) (less-one steps (omega arith))
         ∙ rw (← we, ← qe, ← σe) refl
 
@@ -217,86 +217,111 @@ module _ (kinds : List ℕ) (operands : List ℤ) (calls x d at steps : ℕ) (m 
 -- a small work that leaves the store alone is a leaf
 worked-leaf : (calls at x next s : ℕ) (m : Memory) (g : Given) →
     with-store (m .store) (worked calls x next s (m .env) g) ≡ leaf-done calls at s m (giving x next (m .store) g)
-unfolding worked leaf-done stepping
+unfolding worked leaf-done giving-line stepping
 worked-leaf calls at x next zero m g = refl
 worked-leaf calls at x next (suc s) m g = refl
 
-module _ (kinds : List ℕ) (operands : List ℤ) (calls at steps : ℕ) (m : Memory) (l : Line) where
+module _ (kinds : List ℕ) (operands : List ℤ) (table : List ℕ) (calls at steps : ℕ) (m : Memory) (l : Line) where
   left-leaf : (k : Line) → l ≡ k → (x next : ℕ) (g : Given) →
-      doing kinds operands calls at m k ≡ giving x next (m .store) g →
+      doing kinds operands table calls at m k ≡ giving x next (m .store) g →
       (r : Out) (env′ : List ℤ) → left r env′ ≡ worked calls x next steps (m .env) g →
-      ran r (memory (m .store) env′) ≡ leaf kinds operands calls at steps m l
+      ran r (memory (m .store) env′) ≡ leaf kinds operands table calls at steps m l
   left-leaf k e x next g d r env′ h = ap (with-store (m .store)) h ∙ worked-leaf calls at x next steps m g
-      ∙ ap (leaf-done calls at steps m) (sym (ap (doing kinds operands calls at m) e ∙ d))
+      ∙ ap (leaf-done calls at steps m) (sym (ap (doing kinds operands table calls at m) e ∙ d))
 
   pub leaf-operation : (kind x : ℕ) (a b : Atom) → l ≡ L.Operation kind x a b → (r : Out) (env′ : List ℤ) →
       left r env′ ≡ operation-line calls kind x a b (at + 3) steps (m .env) →
-      ran r (memory (m .store) env′) ≡ leaf kinds operands calls at steps m l
+      ran r (memory (m .store) env′) ≡ leaf kinds operands table calls at steps m l
   unfolding doing
   leaf-operation kind x a b e = left-leaf (L.Operation kind x a b) e x (at + 3) _ refl
 
   pub leaf-index : (x : ℕ) (a b : Atom) → l ≡ L.Index x a b → (r : Out) (env′ : List ℤ) →
       left r env′ ≡ index-line (m .store) calls x a b (at + 3) steps (m .env) →
-      ran r (memory (m .store) env′) ≡ leaf kinds operands calls at steps m l
+      ran r (memory (m .store) env′) ≡ leaf kinds operands table calls at steps m l
   unfolding doing
   leaf-index x a b e = left-leaf (L.Index x a b) e x (at + 3) _ refl
 
   pub leaf-length : (x : ℕ) (a : Atom) → l ≡ L.Length x a → (r : Out) (env′ : List ℤ) →
       left r env′ ≡ length-line (m .store) calls x a (at + 2) steps (m .env) →
-      ran r (memory (m .store) env′) ≡ leaf kinds operands calls at steps m l
+      ran r (memory (m .store) env′) ≡ leaf kinds operands table calls at steps m l
   unfolding doing
   leaf-length x a e = left-leaf (L.Length x a) e x (at + 2) _ refl
 
   pub leaf-literal : (x d : ℕ) → l ≡ L.Literal x d → (w : Ran) → w ≡ literal-line kinds operands calls x d at steps
       m →
-      w ≡ leaf kinds operands calls at steps m l
+      w ≡ leaf kinds operands table calls at steps m l
   unfolding doing
-  leaf-literal x d e w h = h ∙ ap (leaf kinds operands calls at steps m) (sym e)
+  leaf-literal x d e w h = h ∙ ap (leaf kinds operands table calls at steps m) (sym e)
+
+  -- an iota or a replicate
+  pub leaf-array : (k : Line) → l ≡ k → (x next : ℕ) (counting : Bool) (w : ℤ) (d : ℕ) (n : ℤ) →
+      doing kinds operands table calls at m k ≡ array-doing x next counting w d n (m .store) → (r : Ran) →
+      r ≡ array-line calls x next counting w d n steps m → r ≡ leaf kinds operands table calls at steps m l
+  unfolding leaf-done
+  leaf-array k e x next counting w d n h r q =
+      q ∙ ap (leaf-done calls at steps m) (sym (ap (doing kinds operands table calls at m) e ∙ h))
+
+  pub leaf-iota : (x : ℕ) (a : Atom) → l ≡ L.Iota x a → (r : Ran) →
+      r ≡ array-line calls x (at + 2) true (pos 0) 0 (word-of calls (m .env) a) steps m →
+      r ≡ leaf kinds operands table calls at steps m l
+  unfolding doing
+  leaf-iota x a e = leaf-array (L.Iota x a) e x (at + 2) true (pos 0) 0 (word-of calls (m .env) a) refl
+
+  pub leaf-replicate : (x : ℕ) (a b : Atom) → l ≡ L.Replicate x a b → (r : Ran) →
+      r ≡ array-line calls x (at + 3) false (word-of calls (m .env) b) (element-depth table calls x (m .env))
+      (word-of calls (m .env) a) steps m →
+      r ≡ leaf kinds operands table calls at steps m l
+  unfolding doing
+  leaf-replicate x a b e = leaf-array (L.Replicate x a b) e x (at + 3) false (word-of calls (m .env) b)
+      (element-depth table calls x (m .env)) (word-of calls (m .env) a) refl
 
   module _ (x : ℕ) (v : ℤ) (ve : v ≡ word-of calls (m .env) (Name x)) (c : ℕ) (ce : c ≡ cell-of v) (σ : Store)
       (r : Out) (re : r ≡ out 0 (pos 0) (at + 1) steps) where
     -- a line that changes the store as it changes a cell
     changed-leaf : (k : Line) → l ≡ k → (change : ℕ → Store → Store) →
-        doing kinds operands calls at m k ≡ changing (change (cell-of (word-of calls (m .env) (Name x))) (m .store)) →
-        σ ≡ change c (m .store) → ran r (memory σ (m .env)) ≡ leaf kinds operands calls at steps m l
+        doing kinds operands table calls at m k
+        ≡ changing (change (cell-of (word-of calls (m .env) (Name x))) (m .store)) →
+        σ ≡ change c (m .store) → ran r (memory σ (m .env)) ≡ leaf kinds operands table calls at steps m l
     unfolding leaf-done
     changed-leaf k e change d h = ap₂ (λ (y : Out) (τ : Store). ran y (memory τ (m .env))) re
         (h ∙ ap (λ (k : ℕ). change k (m .store)) (ce ∙ ap cell-of ve))
-        ∙ ap (leaf-done calls at steps m) (sym (ap (doing kinds operands calls at m) e ∙ d))
+        ∙ ap (leaf-done calls at steps m) (sym (ap (doing kinds operands table calls at m) e ∙ d))
 
     pub leaf-retain : l ≡ L.Retain x → σ ≡ retained c (m .store) →
-        ran r (memory σ (m .env)) ≡ leaf kinds operands calls at steps m l
+        ran r (memory σ (m .env)) ≡ leaf kinds operands table calls at steps m l
     unfolding doing
     leaf-retain e = changed-leaf (L.Retain x) e retained refl
 
     pub leaf-release : l ≡ L.Release x → σ ≡ released deepest c (m .store) →
-        ran r (memory σ (m .env)) ≡ leaf kinds operands calls at steps m l
+        ran r (memory σ (m .env)) ≡ leaf kinds operands table calls at steps m l
     unfolding doing
     leaf-release e = changed-leaf (L.Release x) e (released deepest) refl
 
 -- the variants of the lines that work or end a tree
 abbrev pub bigger : List ℕ
-bigger = 1 ∷ 5 ∷ 6 ∷ 9 ∷ []
+bigger = 1 ∷ 7 ∷ 8 ∷ 11 ∷ []
 
 -- which variants are worked so
 abbrev pub Told : Doing → ℕ → Type 0
 Told (giving x next σ g) n = T (not (hasKey bigger n))
 Told (changing σ) n = T (not (hasKey bigger n))
-Told (ending a) n = n ≡ 9
+Told (ending a) n = n ≡ 11
 Told (calling x f) n = n ≡ 1
-Told (branching x g) n = n ≡ 5
-Told (looping x j ps us) n = n ≡ 6
+Told (branching x g) n = n ≡ 7
+Told (looping x k p q us) n = n ≡ 8
 
-module _ (kinds : List ℕ) (operands : List ℤ) (calls at : ℕ) (m : Memory) where
-  pub told : (l : Line) → Told (doing kinds operands calls at m l) (tagOf the-type l)
+module _ (kinds : List ℕ) (operands : List ℤ) (table : List ℕ) (calls at : ℕ) (m : Memory) where
+  pub told : (l : Line) → Told (doing kinds operands table calls at m l) (tagOf the-type l)
   unfolding doing
   told (L.Operation kind x a b) = tt
   told (L.Call x f) = refl
   told (L.Literal x d) = tt
   told (L.Index x a b) = tt
   told (L.Length x a) = tt
+  told (L.Iota x a) = tt
+  told (L.Replicate x a b) = tt
   told (L.If x g) = refl
-  told (L.Map x p a) = refl
+  told (L.Loop x l) = refl
   told (L.Retain x) = tt
   told (L.Release x) = tt
   told (L.End a) = refl
@@ -304,9 +329,9 @@ module _ (kinds : List ℕ) (operands : List ℤ) (calls at : ℕ) (m : Memory) 
   -- a line that works or ends a tree
   pub leaf-other : (steps : ℕ) (l : Line) → OneOf bigger (tagOf the-type l) → (r : Out) → r ≡ out no-line
       (pos 0) 0 steps →
-      ran r m ≡ leaf kinds operands calls at steps m l
+      ran r m ≡ leaf kinds operands table calls at steps m l
   unfolding leaf-done
-  leaf-other steps l h r e = ap (λ (y : Out). ran y m) e ∙ go (doing kinds operands calls at m l) (told l)
+  leaf-other steps l h r e = ap (λ (y : Out). ran y m) e ∙ go (doing kinds operands table calls at m l) (told l)
     where
       go : (d : Doing) → Told d (tagOf the-type l) → halted no-line steps m ≡ leaf-done calls at steps m d
       go (giving x next σ g) t = absurd (miss bigger (tagOf the-type l) t h)
@@ -314,7 +339,7 @@ module _ (kinds : List ℕ) (operands : List ℤ) (calls at : ℕ) (m : Memory) 
       go (ending a) t = refl
       go (calling x f) t = refl
       go (branching x g) t = refl
-      go (looping x j ps us) t = refl
+      go (looping x k p q us) t = refl
 
 -- ---- the steps left
 
@@ -323,11 +348,11 @@ given-fewer calls x next s env (done z u) = omega arith
 given-fewer calls x next s env (stop n u) = omega arith
 
 pub leaf-fewer : (calls at s : ℕ) (m : Memory) (d : Doing) → leaf-done calls at s m d .out .steps ≤ s
-unfolding leaf-done stepping
+unfolding leaf-done giving-line stepping
 leaf-fewer calls at zero m (giving x next σ g) = omega arith
 leaf-fewer calls at (suc s) m (giving x next σ g) = given-fewer calls x next s (m .env) g
 leaf-fewer calls at s m (changing σ) = omega arith
 leaf-fewer calls at s m (ending a) = omega arith
 leaf-fewer calls at s m (calling x f) = omega arith
 leaf-fewer calls at s m (branching x g) = omega arith
-leaf-fewer calls at s m (looping x j ps us) = omega arith
+leaf-fewer calls at s m (looping x k p q us) = omega arith

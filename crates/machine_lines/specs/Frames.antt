@@ -2,14 +2,14 @@
 -- number of its function.
 use mathlib.Core.Bool.{cond}
 use mathlib.Core.List.{List, [], _∷_}
-use Prim.Native.Nat.{ℕ, zero, suc, _+_, _*_, _%_, _≤_}
+use Prim.Native.Nat.{ℕ, zero, suc, _+_, _-_, _*_, _%_, _≤_}
 use lib.IntN.{ℤ, pos}
 use lib.ListN.{getD, set, length}
 use mathlib.Core.Path.{_≡_}
 use Rattle.semantics.specs.Number.{is-zero}
 use Rattle.semantics.specs.Store.{Store}
 use Rattle.store.specs.Acquiring.{appended-all}
-use Rattle.machine_code.specs.Reading.{natural, atom-at, is-atom, end-in}
+use Rattle.machine_code.specs.Reading.{low-bits, atom-at, is-atom, depth-in, end-in}
 use Rattle.machine_code.specs.declared.Atom.{Atom}
 use Rattle.machine_code.specs.declared.Atom.the-variants.{Number, Name}
 
@@ -22,7 +22,11 @@ abbrev pub function-place : ℕ → ℕ
 function-place calls = 8192 + calls
 
 abbrev pub function-of : ℕ → List ℤ → ℕ
-function-of calls env = natural (getD env (function-place calls) (pos 0)) % 256
+function-of calls env = low-bits (getD env (function-place calls) (pos 0)) % 256
+
+-- the element depth of an array by its name, in the function that is worked
+abbrev pub element-depth : List ℕ → ℕ → ℕ → List ℤ → ℕ
+element-depth table calls x env = depth-in table (function-of calls env) x - 1
 
 abbrev pub word-of : ℕ → List ℤ → Atom → ℤ
 word-of calls env (Number z) = z

@@ -1,9 +1,10 @@
 // The lines that work no tree, on a memory of two store arrays and one array of frames: 256 words for each call in
 // progress, main's last, and then a word for each with the number of its function. `calls` is the call depth left, 31
 // in main.
+mod arrays;
+
 use machine_code::Atom;
 use machine_code::Line;
-use store::Acquired;
 use words::Exact;
 ghost use mathlib.Core.Path.{_≡_};
 ghost use Prim.Native.Nat.{_+_, _≤_, _<_};
@@ -12,10 +13,11 @@ ghost use lib.ListN.{length, set};
 ghost use Rattle.semantics.specs.Number.{exact};
 ghost use Rattle.semantics.specs.Words.{store-of};
 ghost use Rattle.words.specs.Words.{exact-outcome, checked};
-ghost use Rattle.machine_lines.specs.Frames.{place, word-of, words-at, Passed, Appended};
-ghost use Rattle.machine_lines.specs.Frames.{function-place, function-of, branch-start, branch-end};
+ghost use Rattle.machine_lines.specs.Frames.{place, word-of, words-at, Passed};
+ghost use Rattle.machine_lines.specs.Frames.{function-place, function-of, element-depth, branch-start};
+ghost use Rattle.machine_lines.specs.Frames.{branch-end};
 ghost use Rattle.machine_lines.specs.Lines.{out, left, memory, operation-of, operation-line, index-line};
-ghost use Rattle.machine_lines.specs.Lines.{length-line, literal-line, leaf, Ends};
+ghost use Rattle.machine_lines.specs.Lines.{length-line, bound-result, leaf, Ends};
 
 // How work ends: the number of its stop or 0, its value, the position where the code goes on, the steps left.
 pub struct Out {
@@ -25,7 +27,7 @@ pub struct Out {
     pub steps: u64,
 }
 
-// The stops, by document 01's numbers.
+// The stops, by the numbers of documents 01 and 02.
 pub const OUT_OF_STEPS: u8 = 21;
 
 pub const CALL_TOO_DEEP: u8 = 22;
@@ -35,6 +37,8 @@ pub const INDEX_OUT_OF_RANGE: u8 = 23;
 pub const OVERFLOW: u8 = 24;
 
 pub const OUT_OF_CELLS: u8 = 25;
+
+pub const BAD_COUNT: u8 = 26;
 
 // The stop of work that comes to no line that it can do: the code of an accepted script never does.
 pub const NO_LINE: u8 = 99;
@@ -90,13 +94,34 @@ pub fn bind(env: &mut [i64; 8224], calls: usize, x: u8, w: i64)
     env[place(calls, x)] = w;
 }
 
+// Binds the word of work that was not stopped to a name, with the code going on at a position.
+pub fn bind_result(env: &mut [i64; 8224], calls: usize, x: u8, r: Out, next: usize) -> Out
+    requires { ⌜ (calls < 32) × (length (now env) ≡ 8224) ⌝ }
+    ensures { λ q. ⌜ left q (now (env .exit)) ≡ bound-result calls x next r (now (env .entry)) ⌝ }
+{
+    let stop = r.stop;
+    if stop != 0 {
+        return r;
+    }
+    let w = r.value;
+    bind(env, calls, x, w);
+    done(w, next, r.steps)
+}
+
 // The number of the function that is worked in a frame.
 pub fn function_of(env: &[i64; 8224], calls: usize) -> u8
     requires { ⌜ (calls < 32) × (length (now env) ≡ 8224) ⌝ }
     ensures { λ r. ⌜ r ≡ function-of calls (now (env .entry)) ⌝ }
 {
-    let w = env[8192 + calls];
-    if w < 0 { 0 } else { (w as u64 % 256) as u8 }
+    (machine_code::low_bits(env[8192 + calls]) % 256) as u8
+}
+
+// The element depth of an array by its name, in the function that is worked.
+pub fn element_depth(table: &[u8], env: &[i64; 8224], calls: usize, x: u8) -> u32
+    requires { ⌜ (calls < 32) × (length (now env) ≡ 8224) ⌝ }
+    ensures { λ r. ⌜ r ≡ element-depth (now (table .entry)) calls x (now (env .entry)) ⌝ }
+{
+    machine_code::element_depth(table, function_of(env, calls), x)
 }
 
 // Says which function is worked in a frame.
@@ -263,70 +288,11 @@ fn work_length(
     done(n, next, steps - 1)
 }
 
-// Appends the words of the atoms that stand from a position on, at most 16, to a cell; how many they are.
-fn append_atoms(
-    kinds: &[u8],
-    operands: &[i64],
-    slots: &mut [i64],
-    heads: &mut [u32],
-    env: &[i64; 8224],
-    calls: usize,
-    c: usize,
-    at: usize,
-) -> usize
-    requires { ⌜ (at ≤ length (now kinds)) × (calls < 32) × (length (now env) ≡ 8224) ⌝ }
-    ensures { λ r. ⌜ Appended (words-at 16 (now (kinds .entry)) (now (operands .entry)) calls (now (env .entry)) at) c r
-        (store-of (now (slots .entry)) (now (heads .entry))) (store-of (now (slots .exit)) (now (heads .exit))) ⌝ }
-{
-    let mut n: usize = 0;
-    while n < 16 {
-        if !machine_code::atom_stands(kinds, at + n) {
-            return n;
-        }
-        let a = machine_code::atom_at(kinds, operands, at + n);
-        let w = word_of(env, calls, a);
-        store::append(slots, heads, c, w);
-        n = n + 1;
-    }
-    n
-}
-
-// A new array of the atoms that follow the line.
-fn work_literal(
-    kinds: &[u8],
-    operands: &[i64],
-    slots: &mut [i64],
-    heads: &mut [u32],
-    env: &mut [i64; 8224],
-    calls: usize,
-    x: u8,
-    depth: u8,
-    at: usize,
-    steps: u64,
-) -> Out
-    requires { ⌜ (at < length (now kinds)) × (calls < 32) × (length (now env) ≡ 8224) ⌝ }
-    ensures { λ r. ⌜ Ends (literal-line (now (kinds .entry)) (now (operands .entry)) calls x depth at steps
-        (memory (store-of (now (slots .entry)) (now (heads .entry))) (now (env .entry))))
-        r (now (slots .exit)) (now (heads .exit)) (now (env .exit)) ⌝ }
-{
-    if steps == 0 {
-        return halted(OUT_OF_STEPS, steps);
-    }
-    match store::acquire_empty(slots, heads, depth as u32) {
-        Acquired::Cell(c) => {
-            let n = append_atoms(kinds, operands, slots, heads, env, calls, c, at + 1);
-            let w = word_from(c);
-            bind(env, calls, x, w);
-            done(w, at + 1 + n, steps - 1)
-        }
-        Acquired::NoneFree => halted(OUT_OF_CELLS, steps - 1),
-    }
-}
-
 // A line that works no tree.
 pub fn work_leaf(
     kinds: &[u8],
     operands: &[i64],
+    table: &[u8],
     slots: &mut [i64],
     heads: &mut [u32],
     env: &mut [i64; 8224],
@@ -336,13 +302,13 @@ pub fn work_leaf(
     steps: u64,
 ) -> Out
     requires { ⌜ (at < length (now kinds)) × (calls < 32) × (length (now env) ≡ 8224) ⌝ }
-    ensures { λ r. ⌜ Ends (leaf (now (kinds .entry)) (now (operands .entry)) calls at steps
+    ensures { λ r. ⌜ Ends (leaf (now (kinds .entry)) (now (operands .entry)) (now (table .entry)) calls at steps
         (memory (store-of (now (slots .entry)) (now (heads .entry))) (now (env .entry))) l)
         r (now (slots .exit)) (now (heads .exit)) (now (env .exit)) ⌝ }
 {
     match l {
         Line::Operation(kind, x, a, b) => work_operation(env, calls, kind, x, a, b, at + 3, steps),
-        Line::Literal(x, d) => work_literal(
+        Line::Literal(x, d) => arrays::work_literal(
             kinds,
             operands,
             slots,
@@ -356,6 +322,19 @@ pub fn work_leaf(
         ),
         Line::Index(x, a, b) => work_index(slots, heads, env, calls, x, a, b, at + 3, steps),
         Line::Length(x, a) => work_length(slots, heads, env, calls, x, a, at + 2, steps),
+        Line::Iota(x, a) => arrays::work_iota(slots, heads, env, calls, x, a, at + 2, steps),
+        Line::Replicate(x, a, b) => arrays::work_replicate(
+            table,
+            slots,
+            heads,
+            env,
+            calls,
+            x,
+            a,
+            b,
+            at + 3,
+            steps,
+        ),
         Line::Retain(x) => {
             let cell = store_words::named_cell(word_of(env, calls, Atom::Name(x)));
             store::retain(slots, heads, cell);

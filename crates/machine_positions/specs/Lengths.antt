@@ -7,8 +7,8 @@ use lib.IntN.{ℤ, pos}
 use lib.Dec.{eqb}
 use lib.ListN.{length, set, length-set}
 use Rattle.semantics.specs.Outcome.{done, stop}
-use Rattle.semantics.specs.Kinds.{Loop, mapping, later-parts}
-use Rattle.semantics.specs.Machine.{argument, looped-over}
+use Rattle.semantics.specs.Kinds.{Loop, mapping, filtering, reducing}
+use Rattle.semantics.specs.Machine.{looped-over}
 use Rattle.semantics.specs.Store.{Store, cell-of, acquired}
 use Rattle.store.specs.Acquiring.{next-cell}
 use Rattle.machine_code.specs.Reading.{line-at, two-rows, start-in, end-in}
@@ -16,13 +16,14 @@ use Rattle.machine_code.specs.declared.Atom.{Atom}
 use Rattle.machine_code.specs.declared.Line.{Line}
 use Rattle.machine_lines.specs.declared.Out.{Out}
 use Rattle.machine_lines.specs.Frames.{place, function-place, word-of, words-at, put-all, called, Passed}
-use Rattle.machine_lines.specs.Frames.{branch-start, branch-end}
-use Rattle.machine_lines.specs.Lines.{Memory, memory, Ran, with-store, stepping, Given, given, array-of}
+use Rattle.machine_lines.specs.Frames.{element-depth, branch-start, branch-end}
+use Rattle.machine_lines.specs.Lines.{Memory, memory, Ran, bound, with-store, stepping, Given, given, array-of}
 use Rattle.machine_lines.specs.Lines.{acquired-given, Doing, giving, changing, ending, calling, branching, looping}
-use Rattle.machine_lines.specs.Lines.{doing, leaf-done}
+use Rattle.machine_lines.specs.Lines.{doing, giving-line, leaf-done}
+use Rattle.machine_loops.specs.declared.Way.{Way}
+use Rattle.machine_loops.specs.Loops.{way-of, gave, carry-first}
 use Rattle.machine_positions.specs.Machine.{Work, Callee, Code, and-then, binding, if-line, call-line, looped}
-use Rattle.machine_positions.specs.Machine.{bound-all, entered, gave, carry-first, carry-on, passes-on}
-use Rattle.machine_positions.specs.Machine.{element-depth}
+use Rattle.machine_positions.specs.Machine.{entered, carry-on, passes-on}
 use Rattle.machine_positions.specs.Machine.{loop-line}
 use Rattle.machine_positions.specs.Machine.{line-done, line-on, is-end, tree-from, tree-on, call-on, Ended}
 
@@ -62,21 +63,21 @@ given-keeps calls x next s σ m (done w u) = length-set (m .env) (place calls x)
 given-keeps calls x next s σ m (stop n u) = refl
 
 leaf-keeps : (calls at s : ℕ) (m : Memory) (d : Doing) → Keeps m (leaf-done calls at s m d)
-unfolding leaf-done stepping
+unfolding leaf-done giving-line stepping
 leaf-keeps calls at zero m (giving x next σ g) = refl
 leaf-keeps calls at (suc s) m (giving x next σ g) = given-keeps calls x next s σ m g
 leaf-keeps calls at s m (changing σ) = refl
 leaf-keeps calls at s m (ending a) = refl
 leaf-keeps calls at s m (calling x f) = refl
 leaf-keeps calls at s m (branching x g) = refl
-leaf-keeps calls at s m (looping x k ps us) = refl
+leaf-keeps calls at s m (looping x k p q us) = refl
 
 -- ---- trees and calls
 
-pub bound-all-keeps : (calls : ℕ) (ps : List ℕ) (ws env : List ℤ) → length (bound-all calls ps ws env) ≡ length env
-bound-all-keeps calls [] ws env = refl
-bound-all-keeps calls (p ∷ ps) ws env =
-    bound-all-keeps calls ps (later-parts ws) _ ∙ length-set env (place calls p) (argument ws 0)
+pub entered-keeps : (calls p q : ℕ) (v w : ℤ) (env : List ℤ) →
+    length (bound calls q w (bound calls p v env)) ≡ length env
+entered-keeps calls p q v w env =
+    length-set (bound calls p v env) (place calls q) w ∙ length-set env (place calls p) v
 
 gave-keeps : (s : ℕ) (m : Memory) (g : Given) → Keeps m (gave s m g)
 gave-keeps s m (done w u) = refl
@@ -85,9 +86,9 @@ gave-keeps s m (stop n u) = refl
 carry-first-keeps : (k : Loop) (d : ℕ) (ws : List ℤ) (s : ℕ) (m : Memory) → Keeps m (carry-first k d ws s m)
 carry-first-keeps mapping d ws s m =
     gave-keeps s (memory (acquired d [] (m .store)) (m .env)) (acquired-given (next-cell (m .store)))
-
-carry-on-keeps : (k : Loop) (v : ℤ) (w : Ran) → Keeps (w .memory) (carry-on k v w)
-carry-on-keeps mapping v w = refl
+carry-first-keeps filtering d ws s m =
+    gave-keeps s (memory (acquired d [] (m .store)) (m .env)) (acquired-given (next-cell (m .store)))
+carry-first-keeps reducing d ws s m = refl
 
 module _ (W : Work) (w : (at s : ℕ) (m : Memory) → Keeps m (W at s m)) where
   if-keeps : (table : List ℕ) (calls x : ℕ) (g : Atom) (at s : ℕ) (m : Memory) →
@@ -99,35 +100,37 @@ module _ (W : Work) (w : (at s : ℕ) (m : Memory) → Keeps m (W at s m)) where
       then-keeps m (W start s m) (λ v. binding calls x (branch-end table guard (v .out .next)) v) (w start s m)
       (λ v k. length-set (v .memory .env) (place calls x) (v .out .value) ∙ k)
 
-  passes-keeps : (k : Loop) (at calls : ℕ) (ps : List ℕ) (from n : ℕ) (v : ℤ) (i s : ℕ) (m : Memory) →
-      Keeps m (passes-on (looped k (W at) calls ps from) n v i s m)
+  passes-keeps : (way : Way) (at calls p q from n : ℕ) (v : ℤ) (i s : ℕ) (m : Memory) →
+      Keeps m (passes-on (looped way (W at) calls p q from) n v i s m)
   unfolding passes-on
-  passes-keeps k at calls ps from zero v i s m = refl
-  passes-keeps k at calls ps from (suc n) v i zero m = refl
-  passes-keeps k at calls ps from (suc n) v i (suc s) m =
-      let l = looped k (W at) calls ps from in
+  passes-keeps way at calls p q from zero v i s m = refl
+  passes-keeps way at calls p q from (suc n) v i zero m = refl
+  passes-keeps way at calls p q from (suc n) v i (suc s) m =
+      let l = looped way (W at) calls p q from in
       let m₁ = memory (m .store) (entered l v i m) in
       let rest : Ran → Ran = λ u. passes-on l n (u .out .value) (i + 1) (u .out .steps) (u .memory) in
-      then-keeps m (W at s m₁) (λ w. and-then (carry-on k v w) rest)
-      (w at s m₁ ∙ bound-all-keeps calls ps _ (m .env))
-      (λ u e. then-keeps m (carry-on k v u) rest (carry-on-keeps k v u ∙ e)
-      (λ y g. passes-keeps k at calls ps from n (y .out .value) (i + 1) (y .out .steps) (y .memory) ∙ g))
+      then-keeps m (W at s m₁) (λ w. and-then (carry-on l v w) rest)
+      (w at s m₁ ∙ entered-keeps calls p q v _ (m .env))
+      (λ u e. then-keeps m (carry-on l v u) rest e
+      (λ y g. passes-keeps way at calls p q from n (y .out .value) (i + 1) (y .out .steps) (y .memory) ∙ g))
 
-  loop-keeps : (c : Code) (calls x : ℕ) (k : Loop) (ps : List ℕ) (us : List Atom) (at s : ℕ) (m : Memory) →
-      Keeps m (loop-line W c calls x k ps us at s m)
+  loop-keeps : (c : Code) (calls x : ℕ) (k : Loop) (p q : ℕ) (us : List Atom) (at s : ℕ) (m : Memory) →
+      Keeps m (loop-line W c calls x k p q us at s m)
   unfolding loop-line stepping
-  loop-keeps c calls x k ps us at zero m = refl
-  loop-keeps c calls x k ps us at (suc s) m =
+  loop-keeps c calls x k p q us at zero m = refl
+  loop-keeps c calls x k p q us at (suc s) m =
+      let d = element-depth (c .table) calls x (m .env) in
       let ws = map (word-of calls (m .env)) us in
       let here = at + suc (length us) in
-      let l = looped k (W here) calls ps (cell-of (looped-over k ws)) in
+      let l = looped (way-of k d) (W here) calls p q (cell-of (looped-over k ws)) in
       let n = length (array-of (m .store) (looped-over k ws)) in
       let bind : Ran → Ran = λ w. binding calls x (end-in (c .table) here) w in
-      then-keeps m (carry-first k (element-depth c calls x (m .env)) ws s m)
+      then-keeps m (carry-first k d ws s m)
       (λ v. and-then (passes-on l n (v .out .value) 0 (v .out .steps) (v .memory)) bind)
-      (carry-first-keeps k (element-depth c calls x (m .env)) ws s m)
+      (carry-first-keeps k d ws s m)
       (λ v e. then-keeps m (passes-on l n (v .out .value) 0 (v .out .steps) (v .memory)) bind
-      (passes-keeps k here calls ps (cell-of (looped-over k ws)) n (v .out .value) 0 (v .out .steps) (v .memory) ∙ e)
+      (passes-keeps (way-of k d) here calls p q (cell-of (looped-over k ws)) n (v .out .value) 0 (v .out .steps)
+      (v .memory) ∙ e)
       (λ y g. length-set (y .memory .env) (place calls x) (y .out .value) ∙ g))
 
   module _ (C : Callee) (h : (f : ℕ) (ws : List ℤ) (s : ℕ) (m : Memory) → Keeps m (C f ws s m)) (c : Code) where
@@ -146,11 +149,11 @@ module _ (W : Work) (w : (at s : ℕ) (m : Memory) → Keeps m (W at s m)) where
     done-keeps calls at s m (ending a) = leaf-keeps calls at s m (ending a)
     done-keeps calls at s m (calling x g) = call-keeps calls x g at s m
     done-keeps calls at s m (branching x g) = if-keeps (c .table) calls x g at s m
-    done-keeps calls at s m (looping x k ps us) = loop-keeps c calls x k ps us at s m
+    done-keeps calls at s m (looping x k p q us) = loop-keeps c calls x k p q us at s m
 
     line-keeps : (calls at s : ℕ) (m : Memory) (l : Line) → Keeps m (line-on W C c calls at s m l)
     unfolding line-on
-    line-keeps calls at s m l = done-keeps calls at s m (doing (c .kinds) (c .operands) calls at m l)
+    line-keeps calls at s m l = done-keeps calls at s m (doing (c .kinds) (c .operands) (c .table) calls at m l)
 
     from-keeps : (calls at s : ℕ) (m : Memory) (l : Line) → Keeps m (tree-from W C c calls at s m l)
     unfolding tree-from
@@ -195,8 +198,8 @@ module _ (c : Code) (lines calls : ℕ) {r : Out} {slots : List ℤ} {heads : Li
       (tree-keeps lines (call-on calls c) (call-on-keeps calls c) c calls) (call-on calls c) (call-on-keeps calls c)
       c calls at s m l) e
 
-  pub passes-long : (k : Loop) (at : ℕ) (ps : List ℕ) (from n : ℕ) (v : ℤ) (i s : ℕ) (m : Memory) {steps : ℕ} →
-      Ended (passes-on (looped k (tree-on lines (call-on calls c) c calls at) calls ps from) n v i s m) steps r slots
-      heads env → length env ≡ length (m .env)
-  passes-long k at ps from n v i s m e = ended-long m (passes-keeps (tree-on lines (call-on calls c) c calls)
-      (tree-keeps lines (call-on calls c) (call-on-keeps calls c) c calls) k at calls ps from n v i s m) e
+  pub passes-long : (way : Way) (at p q from n : ℕ) (v : ℤ) (i s : ℕ) (m : Memory) {steps : ℕ} →
+      Ended (passes-on (looped way (tree-on lines (call-on calls c) c calls at) calls p q from) n v i s m) steps r
+      slots heads env → length env ≡ length (m .env)
+  passes-long way at p q from n v i s m e = ended-long m (passes-keeps (tree-on lines (call-on calls c) c calls)
+      (tree-keeps lines (call-on calls c) (call-on-keeps calls c) c calls) way at calls p q from n v i s m) e

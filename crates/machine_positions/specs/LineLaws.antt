@@ -1,45 +1,45 @@
 -- Laws of the lines that work a tree: one for each way out of the code.
 use mathlib.Core.Path.{_≡_, refl, sym, ap, ap₂, subst, _∙_}
 use mathlib.Core.List.{List, [], _∷_, map}
-use Prim.Native.Nat.{ℕ, suc, _+_, _-_, _≤_}
+use Prim.Native.Nat.{ℕ, suc, _+_, _-_}
 use native.Mathlib.Omega.{arith}
 use lib.IntN.{ℤ, pos}
 use lib.ListN.{set, length}
 use denote.Enum.Declared.{tagOf}
 use types.Run.{OneOf, miss}
-use Rattle.semantics.specs.Outcome.{Outcome}
-use Rattle.semantics.specs.Kinds.{Loop, mapping}
+use Rattle.semantics.specs.Kinds.{Loop}
 use Rattle.semantics.specs.Machine.{looped-over}
-use Rattle.semantics.specs.Store.{Store, cell, cell-of, elements, acquired}
+use Rattle.semantics.specs.Store.{cell-of}
 use Rattle.semantics.specs.Words.{store-of}
-use Rattle.store.specs.Acquiring.{acquired-outcome, next-cell}
-use Rattle.store.specs.declared.Acquired.{Acquired}
-use Rattle.store.specs.declared.Acquired.the-variants.{Cell, NoneFree}
 use Rattle.machine_code.specs.Reading.{start-in, end-in}
 use Rattle.machine_code.specs.declared.Atom.{Atom}
+use Rattle.machine_code.specs.declared.Loop as P
 use Rattle.machine_code.specs.declared.Line.{Line}
 use Rattle.machine_code.specs.declared.Line.the-variants as L
 use Rattle.machine_code.proofs.Line.{the-type}
 use Rattle.machine_code.proofs.Reading.{less-one}
 use Rattle.machine_lines.specs.declared.Out.{Out}
 use Rattle.machine_lines.specs.Frames.{place, function-place, word-of, words-at, Passed, branch-start}
-use Rattle.machine_lines.specs.Frames.{branch-end}
-use Rattle.machine_lines.specs.Lines.{Memory, memory, Ran, ran, out, stepping, array-of}
-use Rattle.machine_lines.specs.Lines.{acquired-given, Doing, giving, changing, ending, calling, branching, looping}
-use Rattle.machine_lines.specs.Lines.{doing, leaf-done, leaf, Ends}
+use Rattle.machine_lines.specs.Frames.{branch-end, element-depth}
+use Rattle.machine_lines.specs.Lines.{Memory, memory, Ran, ran, left, out, bound-result, stepping, array-of}
+use Rattle.machine_lines.specs.Lines.{Doing, giving, changing, ending, calling, branching, looping}
+use Rattle.machine_lines.specs.Lines.{kind-of, first-name, second-name, atoms-of, doing, leaf-done, leaf, Ends}
 use Rattle.machine_lines.proofs.Lines.{Told, told, leaf-fewer}
+use Rattle.machine_loops.specs.declared.Passes.{Passes}
+use Rattle.machine_loops.specs.declared.Begun.the-variants.{NoneFree}
+use Rattle.machine_loops.specs.Loops.{way-of, carry-first, Readied, Begins}
 use Rattle.machine_positions.specs.Machine.{Work, Callee, Code, and-then, binding, if-worked, if-line}
-use Rattle.machine_positions.specs.Machine.{call-worked, call-line, looped, gave, carry-first, passes-on}
-use Rattle.machine_positions.specs.Machine.{loop-worked, loop-line, map-line, line-done, line-on, tree-on}
-use Rattle.machine_positions.specs.Machine.{element-depth, call-on, Ended}
-use Rattle.machine_positions.specs.Parts.{then-go, part-stops, part-goes}
+use Rattle.machine_positions.specs.Machine.{call-worked, call-line, looped, passes-on}
+use Rattle.machine_positions.specs.Machine.{loop-line, line-done, line-on, tree-on}
+use Rattle.machine_positions.specs.Machine.{call-on, Ended}
+use Rattle.machine_positions.specs.Parts.{part-stops, part-goes, part-bound}
 
 -- what a line leaves that binds the word of a part
-bound-result : (r : Out) (calls x next next′ : ℕ) (sl : List ℤ) (he : List ℕ) (en en′ : List ℤ) (q : Out) → next′ ≡
+bound-left : (r : Out) (calls x next next′ : ℕ) (sl : List ℤ) (he : List ℕ) (en en′ : List ℤ) (q : Out) → next′ ≡
     next →
     en′ ≡ set en (place calls x) (r .value) → q ≡ out 0 (r .value) next′ (r .steps) →
     binding calls x next (ran r (memory (store-of sl he) en)) ≡ ran q (memory (store-of sl he) en′)
-bound-result r calls x next next′ sl he en en′ q ne ee qe =
+bound-left r calls x next next′ sl he en en′ q ne ee qe =
     ap₂ (λ (n : ℕ) (l : List ℤ). ran (out 0 (r .value) n (r .steps)) (memory (store-of sl he) l)) (sym ne) (sym ee)
     ∙ ap (λ (y : Out). ran y (memory (store-of sl he) en′)) (sym qe)
 
@@ -75,7 +75,7 @@ module _ (W : Work) (table : List ℕ) (calls x : ℕ) (g : Atom) (at steps : �
         Ended (if-line W table calls x g at steps (memory (store-of slots heads) env)) steps q sl he en′
     if-goes h next ne en′ ee q qe =
         part-goes _ steps r sl he en (λ w. binding calls x (branch-end table v (w .out .next)) w) if-part
-        (omega (arith, done .fewer)) h q en′ (bound-result r calls x _ next sl he en en′ q ne ee qe)
+        (omega (arith, done .fewer)) h q en′ (bound-left r calls x _ next sl he en en′ q ne ee qe)
         (ap (λ (y : Out). y .steps) qe)
 
 -- ---- a call
@@ -138,13 +138,16 @@ module _ (c : Code) (calls x g at steps : ℕ) (slots : List ℤ) (heads : List 
           Ended (call-line (call-on calls c) c calls x g at steps (memory (store-of slots heads) env)) steps q sl he
           en′
       call-goes h en′ ee q qe = part-goes _ steps r sl he en (λ w. binding calls x (at + 1 + n) w) call-part
-          (omega (arith, done .fewer)) h q en′ (bound-result r calls x _ (at + 1 + n) sl he en en′ q refl ee qe)
+          (omega (arith, done .fewer)) h q en′ (bound-left r calls x _ (at + 1 + n) sl he en en′ q refl ee qe)
           (ap (λ (y : Out). y .steps) qe)
 
 -- ---- a loop
 
-module _ (W : Work) (c : Code) (calls x : ℕ) (k : Loop) (ps : List ℕ) (us : List Atom) (at steps : ℕ) (slots : List ℤ)
+module _ (W : Work) (c : Code) (calls x : ℕ) (k : Loop) (p q : ℕ) (us : List Atom) (at steps : ℕ) (slots : List ℤ)
     (heads : List ℕ) (env : List ℤ) where
+  abbrev depth : ℕ
+  depth = element-depth (c .table) calls x env
+
   abbrev here : Memory
   here = memory (store-of slots heads) env
 
@@ -155,74 +158,57 @@ module _ (W : Work) (c : Code) (calls x : ℕ) (k : Loop) (ps : List ℕ) (us : 
   bind w = binding calls x (end-in (c .table) tree-at) w
 
   abbrev whole : Ran
-  whole = loop-line W c calls x k ps us at steps here
+  whole = loop-line W c calls x k p q us at steps here
 
   pub loop-spent : (r : Out) → steps ≡ 0 → r ≡ out 21 (pos 0) 0 steps → Ended whole steps r slots heads env
   unfolding loop-line stepping
   loop-spent r z e = record { is = rw (e, z); fewer = rw e (omega arith) }
 
-  -- ws are the words of the atoms, and o tells how the first carrying ended
-  module _ (some : steps ≡ 0 → ⊥) (ws : List ℤ) (we : ws ≡ map (word-of calls env) us) (o : Out) (sl₁ : List ℤ)
-      (he₁ : List ℕ)
-      (oe : carry-first k (element-depth c calls x env) ws (steps - 1) here ≡ ran o (memory (store-of sl₁ he₁) env))
-      (few : o .steps ≤ steps - 1) where
-    abbrev following : ℕ → ℕ → Ran → Ran
-    following from n v = and-then
-        (passes-on (looped k (W tree-at) calls ps from) n (v .out .value) 0 (v .out .steps) (v .memory))
-        bind
+  abbrev words : List ℤ
+  words = map (word-of calls env) us
 
-    abbrev follows : Ran → Ran
-    follows = following (cell-of (looped-over k ws)) (length (array-of (store-of slots heads) (looped-over k ws)))
+  abbrev follows : Ran → Ran
+  follows v = and-then
+      (passes-on (looped (way-of k depth) (W tree-at) calls p q (cell-of (looped-over k words)))
+      (length (array-of (store-of slots heads) (looped-over k words))) (v .out .value) 0 (v .out .steps) (v .memory))
+      bind
 
-    loop-is : whole ≡ and-then (ran o (memory (store-of sl₁ he₁) env)) follows
+  module _ (some : steps ≡ 0 → ⊥) (sl₁ : List ℤ) (he₁ : List ℕ) where
+    loop-is : whole ≡ and-then (carry-first k depth words (steps - 1) here) follows
     unfolding loop-line stepping
-    loop-is =
-        ap (λ (n : ℕ). loop-line W c calls x k ps us at n here) (less-one steps (omega arith))
-        ∙ ap (loop-worked W c calls x k ps tree-at (steps - 1) here) (sym we)
-        ∙ ap (λ (w : Ran). and-then w follows) oe
+    loop-is = ap (λ (n : ℕ). loop-line W c calls x k p q us at n here) (less-one steps (omega arith))
 
-    -- nothing could be carried into the first pass
-    pub loop-none : (o .stop ≡ 0 → ⊥) → Ended whole steps o sl₁ he₁ env
-    loop-none h = part-stops _ steps o sl₁ he₁ env follows loop-is (omega (arith, few)) h
+    -- there is no cell for the result
+    pub loop-dry : Begins k p q depth words (store-of slots heads) sl₁ he₁ NoneFree → (r : Out) →
+        r ≡ out 25 (pos 0) 0 (steps - 1) → Ended whole steps r sl₁ he₁ env
+    loop-dry dry r e = part-stops _ steps r sl₁ he₁ env follows
+        (loop-is ∙ ap (λ (w : Ran). and-then w follows) (dry (steps - 1) env
+        ∙ ap (λ (y : Out). ran y (memory (store-of sl₁ he₁) env)) (sym e)))
+        (omega (arith, ap (λ (y : Out). y .steps) e)) (λ z. omega (arith, z, ap (λ (y : Out). y .stop) e))
 
-    module _ (go : o .stop ≡ 0) (from : ℕ) (fe : from ≡ cell-of (looped-over k ws)) (n : ℕ)
-        (ne : n ≡ length (elements (cell (store-of slots heads) from))) (r : Out) (sl : List ℤ) (he : List ℕ)
-        (en : List ℤ)
-        (done : Ended (passes-on (looped k (W tree-at) calls ps from) n (o .value) 0 (o .steps)
-        (memory (store-of sl₁ he₁) env)) (o .steps) r sl he en) where
-      loop-part : whole ≡ and-then (ran r (memory (store-of sl he) en)) bind
-      loop-part = loop-is ∙ then-go (ran o (memory (store-of sl₁ he₁) env)) follows go
-          ∙ ap (λ (g : ℕ). following g (length (elements (cell (store-of slots heads) g)))
-          (ran o (memory (store-of sl₁ he₁) env))) (sym fe)
-          ∙ ap (λ (g : ℕ). following from g (ran o (memory (store-of sl₁ he₁) env))) (sym ne)
-          ∙ ap (λ (w : Ran). and-then w bind) (sym (done .is))
+    module _ (l : Passes) (ready : Readied k p q depth words (store-of slots heads) sl₁ he₁ l) (start : ℕ)
+        (se : start ≡ tree-at) (r : Out) (sl : List ℤ) (he : List ℕ) (en : List ℤ)
+        (done : Ended (passes-on (looped (l .way) (W start) calls (l .first) (l .second) (l .from)) (l .count)
+        (l .carried) 0 (steps - 1) (memory (store-of sl₁ he₁) env)) (steps - 1) r sl he en) where
+      -- the passes as the line has them
+      same-passes : passes-on (looped (way-of k depth) (W tree-at) calls p q (cell-of (looped-over k words)))
+          (length (array-of (store-of slots heads) (looped-over k words))) (l .carried) 0 (steps - 1)
+          (memory (store-of sl₁ he₁) env)
+          ≡ passes-on (looped (l .way) (W start) calls (l .first) (l .second) (l .from)) (l .count) (l .carried) 0
+          (steps - 1) (memory (store-of sl₁ he₁) env)
+      same-passes = λ i. passes-on (looped (sym (ready .way) i) (W (sym se i)) calls (sym (ready .first) i)
+          (sym (ready .second) i) (sym (ready .from) i)) (sym (ready .count) i) (l .carried) 0 (steps - 1)
+          (memory (store-of sl₁ he₁) env)
 
-      pub loop-stops : (r .stop ≡ 0 → ⊥) → Ended whole steps r sl he en
-      loop-stops g = part-stops _ steps r sl he en bind loop-part (omega (arith, done .fewer, few)) g
-
-      pub loop-goes : r .stop ≡ 0 → (next : ℕ) → next ≡ end-in (c .table) tree-at → (en′ : List ℤ) →
-          en′ ≡ set en (place calls x) (r .value) → (q : Out) → q ≡ out 0 (r .value) next (r .steps) →
-          Ended whole steps q sl he en′
-      loop-goes g next ne en′ ee q qe = part-goes _ steps r sl he en
-          bind loop-part (omega (arith, done .fewer, few)) g q en′
-          (bound-result r calls x _ next sl he en en′ q ne ee qe) (ap (λ (y : Out). y .steps) qe)
-
--- a map carries a new cell into its first pass
-module _ (d e : ℕ) (de : d ≡ e) (ws : List ℤ) (s : ℕ) (σ : Store) (env : List ℤ) (q : Acquired)
-    (qe : acquired-outcome q ≡ next-cell σ) (τ : Store) (τe : τ ≡ acquired d [] σ) where
-  map-first : carry-first mapping e ws s (memory σ env) ≡ gave s (memory τ env) (acquired-given (acquired-outcome q))
-  map-first = ap₂ (λ (y : Store) (z : Outcome (Unit {0}) ℕ). gave s (memory y env) (acquired-given z))
-      (sym (τe ∙ ap (λ (n : ℕ). acquired n [] σ) de)) (sym qe)
-
-  pub map-cell : (k : ℕ) → q ≡ Cell k → (z : ℤ) → z ≡ pos k →
-      carry-first mapping e ws s (memory σ env) ≡ ran (out 0 z 0 s) (memory τ env)
-  map-cell k h z ze = map-first ∙ ap (λ (y : Acquired). gave s (memory τ env) (acquired-given (acquired-outcome y))) h
-      ∙ ap (λ (y : ℤ). ran (out 0 y 0 s) (memory τ env)) (sym ze)
-
-  pub map-none : q ≡ NoneFree → (r : Out) → r ≡ out 25 (pos 0) 0 s →
-      carry-first mapping e ws s (memory σ env) ≡ ran r (memory τ env)
-  map-none h r re = map-first ∙ ap (λ (y : Acquired). gave s (memory τ env) (acquired-given (acquired-outcome y))) h
-      ∙ ap (λ (y : Out). ran y (memory τ env)) (sym re)
+      -- what the passes gave is bound
+      pub loop-bound : (next : ℕ) → next ≡ end-in (c .table) start → (y : Out) (en′ : List ℤ) →
+          left y en′ ≡ bound-result calls x next r en → Ended whole steps y sl he en′
+      loop-bound next ne y en′ e = part-bound calls x next r en whole steps sl he
+          (loop-is ∙ ap (λ (w : Ran). and-then w follows) (ready .carried (steps - 1) env)
+          ∙ ap (λ (w : Ran). and-then w bind) (same-passes ∙ sym (done .is))
+          ∙ ap (λ (m : ℕ). and-then (ran r (memory (store-of sl he) en)) (λ w. binding calls x m w))
+          (sym (ne ∙ ap (end-in (c .table)) se)))
+          (omega (arith, done .fewer)) y en′ e
 
 -- ---- which line
 
@@ -249,25 +235,27 @@ module _ (W : Work) (C : Callee) (c : Code) (calls at steps : ℕ) (slots : List
   unfolding line-on line-done doing
   line-call x g e = line-is (L.Call x g) e _ refl
 
-  pub line-map : (x p : ℕ) (a : Atom) → l ≡ L.Map x p a →
-      Ended (map-line W c calls x p a at steps (memory (store-of slots heads) env)) steps r sl he en →
+  pub line-loop : (x : ℕ) (k : P.Loop) → l ≡ L.Loop x k →
+      Ended (loop-line W c calls x (kind-of k) (first-name k) (second-name k) (atoms-of k) at steps
+      (memory (store-of slots heads) env)) steps r sl he en →
       Ended (line-here l) steps r sl he en
   unfolding line-on line-done doing
-  line-map x p a e = line-is (L.Map x p a) e _ refl
+  line-loop x k e = line-is (L.Loop x k) e _ refl
 
   -- the variants that the leaf's worker takes
   abbrev leaves : List ℕ
-  leaves = 0 ∷ 2 ∷ 3 ∷ 4 ∷ 7 ∷ 8 ∷ 9 ∷ []
+  leaves = 0 ∷ 2 ∷ 3 ∷ 4 ∷ 5 ∷ 6 ∷ 9 ∷ 10 ∷ 11 ∷ []
 
   pub line-leaf : OneOf leaves (tagOf the-type l) →
-      Ends (leaf (c .kinds) (c .operands) calls at steps (memory (store-of slots heads) env) l) r sl he en →
+      Ends (leaf (c .kinds) (c .operands) (c .table) calls at steps (memory (store-of slots heads) env) l) r sl he en →
       Ended (line-here l) steps r sl he en
   unfolding line-on line-done
   line-leaf h e = record {
-    is = e ∙ go (doing (c .kinds) (c .operands) calls at m l) (told (c .kinds) (c .operands) calls at m l);
-    fewer = let q : r .steps ≡ leaf (c .kinds) (c .operands) calls at steps m l .out .steps
+    is = e ∙ go (doing (c .kinds) (c .operands) (c .table) calls at m l)
+        (told (c .kinds) (c .operands) (c .table) calls at m l);
+    fewer = let q : r .steps ≡ leaf (c .kinds) (c .operands) (c .table) calls at steps m l .out .steps
         = ap (λ (w : Ran). w .out .steps) e in
-        rw q (leaf-fewer calls at steps m (doing (c .kinds) (c .operands) calls at m l));
+        rw q (leaf-fewer calls at steps m (doing (c .kinds) (c .operands) (c .table) calls at m l));
   }
     where
       m : Memory
@@ -280,5 +268,5 @@ module _ (W : Work) (C : Callee) (c : Code) (calls at steps : ℕ) (slots : List
       go (changing σ) t = refl
       go (ending a) t = refl
       go (calling x g) t = absurd (miss leaves 1 tt (subst (OneOf leaves) t h))
-      go (branching x g) t = absurd (miss leaves 5 tt (subst (OneOf leaves) t h))
-      go (looping x k ps us) t = absurd (miss leaves 6 tt (subst (OneOf leaves) t h))
+      go (branching x g) t = absurd (miss leaves 7 tt (subst (OneOf leaves) t h))
+      go (looping x k p q us) t = absurd (miss leaves 8 tt (subst (OneOf leaves) t h))

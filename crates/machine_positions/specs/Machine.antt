@@ -1,27 +1,25 @@
 -- The machine over positions of the code: structural on the lines left, the call depth left and the passes.
 use mathlib.Core.Path.{_≡_}
 use mathlib.Core.Bool.{Bool, true, false, cond}
-use mathlib.Core.List.{List, [], _∷_, map}
-use Prim.Native.Nat.{ℕ, zero, suc, _+_, _-_, _≤_}
+use mathlib.Core.List.{List, map}
+use Prim.Native.Nat.{ℕ, zero, suc, _+_, _≤_}
 use lib.IntN.{ℤ, pos}
 use lib.Dec.{eqb}
 use lib.ListN.{getD, length}
-use Rattle.semantics.specs.Outcome.{done, stop}
-use Rattle.semantics.specs.Kinds.{Loop, mapping, later-parts}
-use Rattle.semantics.specs.Machine.{argument, pass-words, looped-over}
-use Rattle.semantics.specs.Store.{cell, cell-of, elements, acquired, appended}
+use Rattle.semantics.specs.Kinds.{Loop}
+use Rattle.semantics.specs.Machine.{looped-over}
+use Rattle.semantics.specs.Store.{cell, cell-of, elements}
 use Rattle.semantics.specs.Words.{store-of}
-use Rattle.store.specs.Acquiring.{next-cell}
-use Rattle.machine_code.specs.Reading.{line-at, two-rows, depth-in, start-in, end-in}
+use Rattle.machine_code.specs.Reading.{line-at, two-rows, start-in, end-in}
 use Rattle.machine_code.specs.declared.Atom.{Atom}
 use Rattle.machine_code.specs.declared.Line.{Line}
 use Rattle.machine_code.specs.declared.Line.the-variants as L
 use Rattle.machine_lines.specs.declared.Out.{Out}
-use Rattle.machine_lines.specs.Frames.{function-of, word-of, words-at, called, branch-start, branch-end}
-use Rattle.machine_lines.specs.Lines.{no-line, Memory, memory, Ran, ran, out, halted, bound, goes-on, stepping}
-use Rattle.machine_lines.specs.Lines.{array-of}
-use Rattle.machine_lines.specs.Lines.{Given, acquired-given, Doing, giving, changing, ending, calling}
-use Rattle.machine_lines.specs.Lines.{branching, looping, doing, leaf-done}
+use Rattle.machine_lines.specs.Frames.{place, word-of, words-at, called, element-depth, branch-start, branch-end}
+use Rattle.machine_lines.specs.Lines.{no-line, Memory, memory, Ran, ran, out, halted, goes-on, stepping, array-of}
+use Rattle.machine_lines.specs.Lines.{Doing, giving, changing, ending, calling, branching, looping, doing, leaf-done}
+use Rattle.machine_loops.specs.declared.Way.{Way}
+use Rattle.machine_loops.specs.Loops.{way-of, carry-first, begun-frames, carried-word, carried-store}
 
 -- the two code arrays, and the table of the functions and of the positions after trees
 pub record Code : Type 0 where
@@ -72,42 +70,34 @@ call-line C c calls x f at steps m = stepping steps (halted 21 0 m)
 
 -- ---- passes: what is carried from one to the next is a word
 
--- what stays the same in all passes of a loop: its kind, its tree, the call's depth left, the names of a pass, and the
--- cell that it goes over
+-- What stays the same in all passes of a loop: what a pass does with the word that its tree gives, the tree, the call's
+-- depth left, the names of the running value and of the element, and the cell that it goes over. A loop without a
+-- running value has the element's name twice.
 pub record Looped : Type 0 where
-  pub kind : Loop
+  pub way : Way
   pub body : ℕ → Memory → Ran
   pub calls : ℕ
-  pub names : List ℕ
+  pub first : ℕ
+  pub second : ℕ
   pub from : ℕ
 
-abbrev pub looped : Loop → (ℕ → Memory → Ran) → ℕ → List ℕ → ℕ → Looped
-looped k W calls ps from = record { kind = k; body = W; calls = calls; names = ps; from = from }
-
--- names bound to words in turn
-abbrev pub bound-all : ℕ → List ℕ → List ℤ → List ℤ → List ℤ
-bound-all calls [] ws env = env
-bound-all calls (x ∷ xs) ws env = bound-all calls xs (later-parts ws) (bound calls x (argument ws 0) env)
+abbrev pub looped : Way → (ℕ → Memory → Ran) → ℕ → ℕ → ℕ → ℕ → Looped
+looped way W calls p q from =
+    record { way = way; body = W; calls = calls; first = p; second = q; from = from }
 
 -- the frames at the beginning of pass i, into which v is carried
 abbrev pub entered : Looped → ℤ → ℕ → Memory → List ℤ
-entered l v i m = bound-all (l .calls) (l .names)
-    (pass-words (l .kind) v (getD (elements (cell (m .store) (l .from))) i (pos 0))) (m .env)
+entered l v i m = begun-frames (l .calls) (l .first) (l .second) v
+    (getD (elements (cell (m .store) (l .from))) i (pos 0)) (m .env)
 
--- a small work whose word is not bound
-abbrev pub gave : ℕ → Memory → Given → Ran
-gave s m (done w u) = ran (out 0 w 0 s) m
-gave s m (stop n u) = halted n s m
+-- what a pass over e carries on, by what was carried into it and how its tree ended
+abbrev pub carry-by : Way → ℤ → ℤ → Ran → Ran
+carry-by way v e w = ran (out 0 (carried-word way v (w .out .value)) 0 (w .out .steps))
+    (memory (carried-store way (cell-of v) e (w .out .value) (w .memory .store)) (w .memory .env))
 
--- what is carried into the first pass: a new cell of element depth d for the result
-abbrev pub carry-first : Loop → ℕ → List ℤ → ℕ → Memory → Ran
-carry-first mapping d ws s m =
-    gave s (memory (acquired d [] (m .store)) (m .env)) (acquired-given (next-cell (m .store)))
-
--- what a pass carries on, by what was carried into it and how its tree ended
-abbrev pub carry-on : Loop → ℤ → Ran → Ran
-carry-on mapping v w = ran (out 0 v 0 (w .out .steps))
-    (memory (appended (cell-of v) (w .out .value) (w .memory .store)) (w .memory .env))
+-- the element is that of the pass's name
+abbrev pub carry-on : Looped → ℤ → Ran → Ran
+carry-on l v w = carry-by (l .way) v (getD (w .memory .env) (place (l .calls) (l .second)) (pos 0)) w
 
 -- n passes from the i-th on
 unfoldable pub passes-on : Looped → ℕ → ℤ → ℕ → ℕ → Memory → Ran
@@ -115,27 +105,21 @@ passes-on l zero v i s m = ran (out 0 v 0 s) m
 passes-on l (suc n) v i zero m = halted 21 0 m
 passes-on l (suc n) v i (suc s) m =
     and-then (l .body s (memory (m .store) (entered l v i m)))
-    (λ w. and-then (carry-on (l .kind) v w)
+    (λ w. and-then (carry-on l v w)
     (λ u. passes-on l n (u .out .value) (i + 1) (u .out .steps) (u .memory)))
 
--- the element depth of an array by its name, in the function that is worked
-abbrev pub element-depth : Code → ℕ → ℕ → List ℤ → ℕ
-element-depth c calls x env = depth-in (c .table) (function-of calls env) x - 1
-
 -- a loop's line, whose tree is at a position, by the words of its atoms
-abbrev pub loop-worked : Work → Code → ℕ → ℕ → Loop → List ℕ → ℕ → ℕ → Memory → List ℤ → Ran
-loop-worked W c calls x k ps at s m ws =
-    and-then (carry-first k (element-depth c calls x (m .env)) ws s m)
-    (λ v. and-then (passes-on (looped k (W at) calls ps (cell-of (looped-over k ws)))
+abbrev pub loop-worked : Work → Code → ℕ → ℕ → Loop → ℕ → ℕ → ℕ → ℕ → Memory → List ℤ → Ran
+loop-worked W c calls x k p q at s m ws =
+    let d = element-depth (c .table) calls x (m .env) in
+    and-then (carry-first k d ws s m)
+    (λ v. and-then (passes-on (looped (way-of k d) (W at) calls p q (cell-of (looped-over k ws)))
     (length (array-of (m .store) (looped-over k ws))) (v .out .value) 0 (v .out .steps) (v .memory))
     (λ w. binding calls x (end-in (c .table) at) w))
 
-unfoldable pub loop-line : Work → Code → ℕ → ℕ → Loop → List ℕ → List Atom → ℕ → ℕ → Memory → Ran
-loop-line W c calls x k ps us at steps m = stepping steps (halted 21 0 m)
-    (λ s. loop-worked W c calls x k ps (at + suc (length us)) s m (map (word-of calls (m .env)) us))
-
-abbrev pub map-line : Work → Code → ℕ → ℕ → ℕ → Atom → ℕ → ℕ → Memory → Ran
-map-line W c calls x p a at steps m = loop-line W c calls x mapping (p ∷ []) (a ∷ []) at steps m
+unfoldable pub loop-line : Work → Code → ℕ → ℕ → Loop → ℕ → ℕ → List Atom → ℕ → ℕ → Memory → Ran
+loop-line W c calls x k p q us at steps m = stepping steps (halted 21 0 m)
+    (λ s. loop-worked W c calls x k p q (at + suc (length us)) s m (map (word-of calls (m .env)) us))
 
 -- a line that stands at a position: W works its trees, C its calls
 unfoldable pub line-done : Work → Callee → Code → ℕ → ℕ → ℕ → Memory → Doing → Ran
@@ -144,10 +128,11 @@ line-done W C c calls at s m (changing σ) = leaf-done calls at s m (changing σ
 line-done W C c calls at s m (ending a) = leaf-done calls at s m (ending a)
 line-done W C c calls at s m (calling x g) = call-line C c calls x g at s m
 line-done W C c calls at s m (branching x g) = if-line W (c .table) calls x g at s m
-line-done W C c calls at s m (looping x k ps us) = loop-line W c calls x k ps us at s m
+line-done W C c calls at s m (looping x k p q us) = loop-line W c calls x k p q us at s m
 
 unfoldable pub line-on : Work → Callee → Code → ℕ → ℕ → ℕ → Memory → Line → Ran
-line-on W C c calls at s m l = line-done W C c calls at s m (doing (c .kinds) (c .operands) calls at m l)
+line-on W C c calls at s m l =
+    line-done W C c calls at s m (doing (c .kinds) (c .operands) (c .table) calls at m l)
 
 -- ---- trees and calls
 
@@ -158,7 +143,9 @@ is-end (L.Literal x d) = false
 is-end (L.Index x a b) = false
 is-end (L.Length x a) = false
 is-end (L.If x g) = false
-is-end (L.Map x p a) = false
+is-end (L.Iota x a) = false
+is-end (L.Replicate x a b) = false
+is-end (L.Loop x k) = false
 is-end (L.Retain x) = false
 is-end (L.Release x) = false
 is-end (L.End a) = true
@@ -171,7 +158,9 @@ end-word calls env (L.Literal x d) = pos 0
 end-word calls env (L.Index x a b) = pos 0
 end-word calls env (L.Length x a) = pos 0
 end-word calls env (L.If x g) = pos 0
-end-word calls env (L.Map x p a) = pos 0
+end-word calls env (L.Iota x a) = pos 0
+end-word calls env (L.Replicate x a b) = pos 0
+end-word calls env (L.Loop x k) = pos 0
 end-word calls env (L.Retain x) = pos 0
 end-word calls env (L.Release x) = pos 0
 end-word calls env (L.End a) = word-of calls env a

@@ -2,14 +2,14 @@
 use mathlib.Core.Path.{_≡_, refl, sym, ap, _∙_}
 use mathlib.Core.Bool.{Bool, true, false, _&&_}
 use mathlib.Core.List.{List, [], _∷_}
-use mathlib.Core.Logic.{_⊎_, inl, inr, ⊎-elim}
+use mathlib.Core.Logic.{_⊎_, inl, inr}
 use Prim.Native.Nat.{ℕ, zero, suc, _+_, _-_, _<_, _≤_}
 use native.Mathlib.Omega.{arith}
 use lib.IntN.{ℤ, pos}
 use lib.Dec.{ltb}
 use lib.ListN.{length}
 use denote.Enum.Declared.{tagOf}
-use types.Run.{OneOf}
+use types.Run.{OneOf, miss}
 use Rattle.machine_code.proofs.Line.{the-type}
 use borrow.Author.Tests.{ltb-true}
 use Rattle.semantics.specs.Words.{store-of}
@@ -26,19 +26,19 @@ use Rattle.machine_positions.specs.Machine.{tree-from, tree-on, Ended}
 use Rattle.machine_positions.specs.Parts.{then-go, Sized, part-stops}
 
 -- a line of another case is no end
-pub not-end : (l : Line) → OneOf (0 ∷ 1 ∷ 2 ∷ 3 ∷ 4 ∷ 5 ∷ 6 ∷ 7 ∷ 8 ∷ []) (tagOf the-type l) → is-end l ≡ false
+pub not-end : (l : Line) → OneOf (0 ∷ 1 ∷ 2 ∷ 3 ∷ 4 ∷ 5 ∷ 6 ∷ 7 ∷ 8 ∷ 9 ∷ 10 ∷ []) (tagOf the-type l) → is-end l ≡ false
 not-end (L.Operation kind x a b) h = refl
 not-end (L.Call x g) h = refl
 not-end (L.Literal x d) h = refl
 not-end (L.Index x a b) h = refl
 not-end (L.Length x a) h = refl
 not-end (L.If x g) h = refl
-not-end (L.Map x p a) h = refl
+not-end (L.Iota x a) h = refl
+not-end (L.Replicate x a b) h = refl
+not-end (L.Loop x k) h = refl
 not-end (L.Retain x) h = refl
 not-end (L.Release x) h = refl
-not-end (L.End a) h = absurd (⊎-elim (λ z. omega arith) (⊎-elim (λ z. omega arith) (⊎-elim (λ z. omega arith)
-    (⊎-elim (λ z. omega arith) (⊎-elim (λ z. omega arith) (⊎-elim (λ z. omega arith) (⊎-elim (λ z. omega arith)
-    (⊎-elim (λ z. omega arith) (λ z. omega arith)))))))) h)
+not-end (L.End a) h = absurd (miss (0 ∷ 1 ∷ 2 ∷ 3 ∷ 4 ∷ 5 ∷ 6 ∷ 7 ∷ 8 ∷ 9 ∷ 10 ∷ []) 11 tt h)
 
 tree-none : (n : ℕ) (C : Callee) (c : Code) (calls at s : ℕ) (m : Memory) → n ≡ 0 → tree-on n C c calls at s m ≡
     halted no-line s m

@@ -1,15 +1,17 @@
 -- The loops over the rows and over the functions.
 use mathlib.Core.Path.{_≡_, refl, sym, ap, _∙_}
+use mathlib.Core.Bool.{Bool, true, false, cond}
 use mathlib.Core.List.{List}
 use Prim.Native.Nat.{ℕ, zero, suc, _+_, _-_, _*_, _/_, _%_, _<_, _≤_}
 use native.Mathlib.Omega.{arith}
 use lib.IntN.{ℤ, pos}
+use lib.Dec.{eqb}
 use lib.ListN.{getD, set, length, length-set}
 use borrow.Author.Tests.{lt-ltb, le-ltb, ne-eqb}
-use Rattle.machine_code.specs.Reading.{natural, end-in}
+use Rattle.machine_code.specs.Reading.{low-bits, end-in}
 use Rattle.machine_code.proofs.Reading.{less-one}
-use Rattle.machine_table.specs.Positions.{with-position, with-end, end-of, ends-from, with-start, tree-start}
-use Rattle.machine_table.specs.Positions.{starts-from, filled}
+use Rattle.machine_table.specs.Positions.{with-position, trees-of, past-trees, with-end, end-of, ends-from}
+use Rattle.machine_table.specs.Positions.{with-start, tree-start, starts-from, filled}
 
 pub length-position : (table : List ℕ) (place position : ℕ) → length (with-position table place position) ≡ length table
 length-position table place position =
@@ -22,17 +24,20 @@ module _ (kind : ℕ) (table : List ℕ) (at : ℕ) where
   pub end-here : kind ≡ 16 → at + 2 ≡ end-of kind table at
   end-here e = rw e
 
-  pub end-map : (next r : ℕ) → (kind ≡ 16 → ⊥) → kind ≡ 13 → next ≡ end-in table (at + 1) → r ≡ end-in table next →
-      r ≡ end-of kind table at
-  end-map next r f e n h = h ∙ ap (end-in table) n ∙ rw e
+  pub end-other : (n : ℕ) → (kind ≡ 16 → ⊥) → n ≡ trees-of kind → past-trees n table (at + 1) ≡ end-of kind table at
+  end-other n f e = rw (ne-eqb kind 16 f, e) refl
 
-  pub end-if : (next last r : ℕ) → (kind ≡ 16 → ⊥) → (kind ≡ 13 → ⊥) → kind ≡ 12 → next ≡ end-in table (at + 1) →
-      last ≡ end-in table next → r ≡ end-in table last → r ≡ end-of kind table at
-  end-if next last r f g e n l h = h ∙ ap (end-in table) (l ∙ ap (end-in table) n) ∙ rw e
-
-  pub end-other : (r : ℕ) → (kind ≡ 16 → ⊥) → (kind ≡ 13 → ⊥) → (kind ≡ 12 → ⊥) → r ≡ end-in table (at + 1) →
-      r ≡ end-of kind table at
-  end-other r f g e h = h ∙ rw (ne-eqb kind 16 f, ne-eqb kind 13 g, ne-eqb kind 12 e)
+-- a line that has trees, and not one, has two
+pub trees-two : (kind n : ℕ) → n ≡ trees-of kind → (n ≡ 0 → ⊥) → (n ≡ 1 → ⊥) → _≡_ {A = ℕ} 2 (trees-of kind)
+trees-two kind n e f g = go (eqb kind 12) (eqb kind 13) (eqb kind 19) (eqb kind 20) e
+  where
+    go : (a b c d : Bool) → n ≡ cond a 2 (cond b 1 (cond c 1 (cond d 1 0))) →
+        _≡_ {A = ℕ} 2 (cond a 2 (cond b 1 (cond c 1 (cond d 1 0))))
+    go true b c d h = refl
+    go false true c d h = absurd (g h)
+    go false false true d h = absurd (g h)
+    go false false false true h = absurd (g h)
+    go false false false false h = absurd (f h)
 
 -- ---- the loop over the rows: what is left gives what the whole gives
 
@@ -103,7 +108,7 @@ module _ {kinds : List ℕ} {operands : List ℤ} {functions : ℕ} {table₀ ta
   pub filled-past : length kinds ≤ p → table ≡ starts-from functions kinds operands 0 0 table₀
   filled-past h = sym (inv .same ∙ from-past (functions - f) kinds operands f p table h)
 
-  pub fill-more : f < functions → p < length kinds → (count : ℕ) → count ≡ natural (getD operands p (pos 0)) →
+  pub fill-more : f < functions → p < length kinds → (count : ℕ) → count ≡ low-bits (getD operands p (pos 0)) →
       (t : List ℕ) (q : ℕ) → t ≡ with-start table f (p + 1 + count % 256) → q ≡ end-in t (p + 1 + count % 256) →
       Filling kinds operands functions table₀ t (f + 1) q
   fill-more h l count ce t q te qe = record {

@@ -5,7 +5,7 @@ use Prim.Native.Nat.{ℕ, zero, suc, _+_, _*_, _/_, _%_}
 use lib.IntN.{ℤ, pos}
 use lib.Dec.{ltb, eqb}
 use lib.ListN.{getD, set, length}
-use Rattle.machine_code.specs.Reading.{natural, end-in}
+use Rattle.machine_code.specs.Reading.{low-bits, end-in}
 
 -- a position at a place, low byte first
 abbrev pub with-position : List ℕ → ℕ → ℕ → List ℕ
@@ -16,13 +16,19 @@ with-position table place position = set (set table place (position % 256)) (pla
 abbrev pub with-end : List ℕ → ℕ → ℕ → List ℕ
 with-end table at end = with-position table (8256 + 2 * at) end
 
--- by the row's kind and what the table has for the rows behind it: a map's tree, and an if's two, come before the rest
+-- how many trees a line of a kind has behind its atoms: an if two, a loop one
+abbrev pub trees-of : ℕ → ℕ
+trees-of kind =
+    cond (eqb kind 12) 2 (cond (eqb kind 13) 1 (cond (eqb kind 19) 1 (cond (eqb kind 20) 1 0)))
+
+-- the end of what follows a row, behind so many trees
+abbrev pub past-trees : ℕ → List ℕ → ℕ → ℕ
+past-trees zero table p = end-in table p
+past-trees (suc n) table p = past-trees n table (end-in table p)
+
+-- by the row's kind and what the table has for the rows behind it
 abbrev pub end-of : ℕ → List ℕ → ℕ → ℕ
-end-of kind table at =
-    cond (eqb kind 16) (at + 2)
-    (cond (eqb kind 13) (end-in table (end-in table (at + 1)))
-    (cond (eqb kind 12) (end-in table (end-in table (end-in table (at + 1))))
-    (end-in table (at + 1))))
+end-of kind table at = cond (eqb kind 16) (at + 2) (past-trees (trees-of kind) table (at + 1))
 
 -- the first n rows, the last of them first
 unfoldable pub ends-from : ℕ → List ℕ → List ℕ → List ℕ
@@ -36,7 +42,7 @@ with-start table f start = with-position table (8192 + 2 * f) start
 
 -- the tree of a function that begins at p: behind its own line and those of its parameters
 abbrev pub tree-start : List ℤ → ℕ → ℕ
-tree-start operands p = p + 1 + natural (getD operands p (pos 0)) % 256
+tree-start operands p = p + 1 + low-bits (getD operands p (pos 0)) % 256
 
 -- n functions from number f on, the first of which begins at p
 unfoldable pub starts-from : ℕ → List ℕ → List ℤ → ℕ → ℕ → List ℕ → List ℕ

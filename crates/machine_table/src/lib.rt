@@ -2,7 +2,7 @@
 ghost use mathlib.Core.Path.{_≡_};
 ghost use Prim.Native.Nat.{_+_, _≤_, _<_};
 ghost use lib.ListN.{length, set};
-ghost use Rattle.machine_table.specs.Positions.{with-position, ends-from, end-of, starts-from, filled};
+ghost use Rattle.machine_table.specs.Positions.{with-position, trees-of, ends-from, end-of, starts-from, filled};
 
 // Writes a byte where there is such a place.
 fn put(table: &mut [u8], i: usize, byte: u8)
@@ -22,6 +22,19 @@ fn put_position(table: &mut [u8], place: usize, position: usize)
     put(table, place + 1, (position / 256 % 256) as u8);
 }
 
+// How many trees a line of a kind has behind its atoms.
+fn trees_of(kind: u8) -> u8
+    ensures { λ r. ⌜ r ≡ trees-of kind ⌝ }
+{
+    match kind {
+        12 => 2,
+        13 => 1,
+        19 => 1,
+        20 => 1,
+        _ => 0,
+    }
+}
+
 // The position after the tree that begins at a row, by the row's kind and the positions after the trees behind it.
 fn end_of(kind: u8, table: &[u8], at: usize) -> usize
     requires { ⌜ at < 4096 ⌝ }
@@ -31,14 +44,15 @@ fn end_of(kind: u8, table: &[u8], at: usize) -> usize
         return at + 2;
     }
     let next = machine_code::end_in(table, at + 1);
-    if kind == 13 {
-        return machine_code::end_in(table, next);
+    let trees = trees_of(kind);
+    if trees == 0 {
+        return next;
     }
-    if kind == 12 {
-        let last = machine_code::end_in(table, next);
-        return machine_code::end_in(table, last);
+    let last = machine_code::end_in(table, next);
+    if trees == 1 {
+        return last;
     }
-    next
+    machine_code::end_in(table, last)
 }
 
 // Writes the position after the tree that begins at each of the first rows, from the last of them to the first.
@@ -66,7 +80,7 @@ fn fill_starts(kinds: &[u8], operands: &[i64], functions: usize, table: &mut [u8
         if kinds.len() <= p {
             return;
         }
-        let count = machine_code::natural_at(operands, p) % 256;
+        let count = machine_code::low_bits(machine_code::operand_at(operands, p)) % 256;
         let start = p + 1 + count as usize;
         put_position(table, 8192 + 2 * f, start);
         p = machine_code::end_in(table, start);

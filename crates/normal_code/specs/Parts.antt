@@ -1,13 +1,19 @@
--- The rows of an annotated line without trees, and of a tree's end.
+-- The rows of annotated lines: of a leaf, of a loop without its tree, and of a tree's end.
 use mathlib.Core.Bool.{_&&_}
 use mathlib.Core.List.{List, [], _∷_, _++_, map}
-use Prim.Native.Nat.{ℕ}
+use Prim.Native.Nat.{ℕ, _+_, _*_}
+use lib.Dec.{ltb}
 use lib.ListN.{getD, length}
 use Rattle.semantics.specs.Basics.{with-if}
 use Rattle.semantics.specs.Kinds.{Leaf, leaf-kind, leaf-operand, leaf-hands, leaf-reads, is-pending}
+use Rattle.semantics.specs.Kinds.{Loop, loop-kind, loop-reads, element-name, packed-names}
 use Rattle.semantics.specs.Code.{Atom, number, name, Row, row, atom-row}
-use Rattle.semantics.specs.Live.{Set, empty, only, among, _∪_}
-use Rattle.semantics.specs.Annotate.{NameDepths, is-array, dying, handed-again}
+use Rattle.semantics.specs.Live.{Set, empty, only, just, among, _∪_}
+use Rattle.semantics.specs.Annotate.{NameDepths, is-array, arrays, dying, handed-again}
+
+-- the names of a set below x
+abbrev pub below : ℕ → Set → Set
+below x A = λ y. ltb y x && A y
 
 -- the depths of a table
 abbrev pub depth-in : List ℕ → NameDepths
@@ -18,6 +24,10 @@ retain-rows xs = map (λ (x : ℕ). row 14 x) xs
 
 abbrev pub release-rows : List ℕ → List Row
 release-rows xs = map (λ (x : ℕ). row 15 x) xs
+
+-- a loop's own row and its atoms' after it
+abbrev pub loop-own : ℕ → Loop → List ℕ → List Atom → List Row
+loop-own x k ps us = row (loop-kind k) (x + 256 * packed-names ps) ∷ map atom-row us
 
 module _ (Γ : NameDepths) where
   -- the name of an atom that is handed over, if it is to be retained: S is what is live after it or comes again later
@@ -36,6 +46,15 @@ module _ (Γ : NameDepths) where
   -- a line whose atoms are all handed over, after its first row
   abbrev pub handing : ℕ → Row → List Atom → Set → List Row
   handing x r us A = retain-rows (handed-again Γ us A) ++ ((r ∷ map atom-row us) ++ release-rows (dying Γ (only x) A))
+
+  -- the opening of a loop's tree, at whose start T is live: the element is retained, then what is not used is released
+  abbrev pub pass-opening : Loop → List ℕ → Set → List Row
+  pass-opening k ps T = retain-rows (arrays Γ (element-name k ps)) ++ release-rows (dying Γ (just ps) T)
+
+  -- the releases after a loop that binds x: O are the outer names that its tree uses, A is live after it
+  abbrev pub loop-closing : ℕ → Loop → List Atom → Set → Set → List Row
+  loop-closing x k us O A =
+      release-rows (dying Γ (below x (among (loop-reads k us) O)) A) ++ release-rows (dying Γ (only x) A)
 
   -- a tree's end, after which L is live
   abbrev pub ending : Atom → Set → List Row

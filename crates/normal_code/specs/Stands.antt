@@ -4,25 +4,26 @@ use mathlib.Core.Path.{_≡_}
 use mathlib.Core.List.{List, [], _∷_}
 use Prim.Native.Nat.{ℕ, _+_, _-_, _<_, _≤_}
 use lib.ListN.{getD, length}
-use Rattle.semantics.specs.Kinds.{operation, call, literal, index, length-of, mapping}
+use Rattle.semantics.specs.Kinds.{call, literal}
 use Rattle.semantics.specs.Code as C
 use Rattle.semantics.specs.Code.{Tree, end, line}
-use Rattle.normal_code.specs.Plain.{Plain, meant, placed, atoms-at, line-at, note, operation-of}
+use Rattle.normal_code.specs.Plain.{Plain, meant, placed, atoms-at, line-at, note}
+use Rattle.normal_code.specs.Plain.{unary-of, binary-of, loop-of, of-loop}
 use Rattle.normal_code.specs.Marks.{Marks, marked, marked-all, extent, line-extent, marks, line-marks}
 use Rattle.normal_code.specs.declared.Line.{Line}
-use Rattle.normal_code.specs.declared.Line.the-variants.{Operation as Operated, Call, Literal, Index, Length}
-use Rattle.normal_code.specs.declared.Line.the-variants.{If, Map}
+use Rattle.normal_code.specs.declared.Line.the-variants as L
 
 module _ (F : Plain) where
   -- the line l that begins at row p, with the trees t and e
   unfoldable pub line-with : ℕ → Tree → Tree → Line → C.Line
-  line-with p t e (Operated x kind a b) = C.leaf x (operation (operation-of kind)) (meant a ∷ (meant b ∷ []))
-  line-with p t e (Call x f m) = C.leaf x (call f) (atoms-at (F .operands) (F .rows) (p + 1) m)
-  line-with p t e (Literal x d m) = C.leaf x (literal d) (atoms-at (F .operands) (F .rows) (p + 1) m)
-  line-with p t e (Index x a b) = C.leaf x index (meant a ∷ (meant b ∷ []))
-  line-with p t e (Length x a) = C.leaf x length-of (meant a ∷ [])
-  line-with p t e (If x g) = C.if-else x (meant g) t e
-  line-with p t e (Map x y a) = C.loop x mapping (y ∷ []) (meant a ∷ []) t
+  line-with p t e (L.Unary x kind a) = C.leaf x (unary-of kind) (meant a ∷ [])
+  line-with p t e (L.Binary x kind a b) = C.leaf x (binary-of kind) (meant a ∷ (meant b ∷ []))
+  line-with p t e (L.Call x f m) = C.leaf x (call f) (atoms-at (F .operands) (F .rows) (p + 1) m)
+  line-with p t e (L.Literal x d m) = C.leaf x (literal d) (atoms-at (F .operands) (F .rows) (p + 1) m)
+  line-with p t e (L.If x g) = C.if-else x (meant g) t e
+  line-with p t e (L.Loop x kind y z a b) =
+      let k = loop-of kind in
+      C.loop x k (of-loop k y z) (of-loop k (meant a) (meant b)) t
 
   -- the rows from p on are those of a line whose trees are t and e
   abbrev pub LineAt : ℕ → Tree → Tree → C.Line → Type 0

@@ -1,28 +1,25 @@
 -- The walk of plain code backwards, as a function of positions: at each the live names, the rows of last uses and the
 -- annotated rows from there on. What a tree uses is read from the rows of last uses; no tree is walked twice.
-use mathlib.Core.Bool.{cond, _&&_}
-use mathlib.Core.List.{List, [], _∷_, _++_, map}
-use Prim.Native.Nat.{ℕ, zero, suc, _+_, _-_, _*_}
+use mathlib.Core.Bool.{cond}
+use mathlib.Core.List.{List, [], _∷_, _++_}
+use Prim.Native.Nat.{ℕ, zero, suc, _+_, _-_}
 use lib.Dec.{ltb}
 use lib.ListN.{getD, length}
-use Rattle.semantics.specs.Kinds.{Leaf, operation, call, literal, index, length-of, Loop, mapping}
-use Rattle.semantics.specs.Kinds.{loop-kind, loop-hands, loop-reads, element-name, packed-names}
+use Rattle.semantics.specs.Kinds.{Leaf, call, literal, Loop}
+use Rattle.semantics.specs.Kinds.{loop-hands, loop-reads}
 use Rattle.semantics.specs.Code as C
 use Rattle.semantics.specs.Code.{Row, row, atom-row}
-use Rattle.semantics.specs.Live.{Set, only, just, among, _∪_, _∖_}
-use Rattle.semantics.specs.Annotate.{NameDepths, arrays, dying, handed-again}
-use Rattle.normal_code.specs.Plain.{Plain, meant, placed, atoms-at, line-at, note, operation-of}
-use Rattle.normal_code.specs.Parts.{retain-rows, release-rows, leaf-part, ending}
+use Rattle.semantics.specs.Live.{Set, only, among, _∪_, _∖_}
+use Rattle.semantics.specs.Annotate.{NameDepths, dying, handed-again}
+use Rattle.normal_code.specs.Plain.{Plain, meant, placed, atoms-at, line-at, note}
+use Rattle.normal_code.specs.Plain.{unary-of, binary-of, loop-of, of-loop}
+use Rattle.normal_code.specs.Parts.{below, retain-rows, release-rows, leaf-part, loop-own, pass-opening}
+use Rattle.normal_code.specs.Parts.{loop-closing, ending}
 use Rattle.normal_code.specs.Marks.{Marks, marked}
 use Rattle.normal_code.specs.declared.Line.{Line}
-use Rattle.normal_code.specs.declared.Line.the-variants.{Operation as Operated, Call, Literal, Index, Length}
-use Rattle.normal_code.specs.declared.Line.the-variants.{If, Map}
+use Rattle.normal_code.specs.declared.Line.the-variants as L
 
 -- ---- names and rows of last uses
-
--- the names of a set below x
-abbrev pub below : ℕ → Set → Set
-below x A = λ y. ltb y x && A y
 
 -- the names whose last use lies past a row
 abbrev pub since : ℕ → Marks → Set
@@ -75,10 +72,7 @@ module _ (F : Plain) (Γ : NameDepths) where
 
   -- over the walk W of the tree whose end line is at a row
   module _ (W : ℕ → Point → Point) where
-    -- an if that stands from p to before q: its second tree, its first, and its own rows
-    unfoldable pub else-walk : ℕ → ℕ → Point → Point
-    else-walk q x P = W (q - 2) (with-names (P .names ∖ x) (put (release-rows (dying Γ (only x) (P .names))) P))
-
+    -- the first tree of an if at p, after which B is live; E is the point before its second
     unfoldable pub then-walk : ℕ → ℕ → Set → Point → Point
     then-walk p x B E =
         W (then-end (F .notes) p)
@@ -89,43 +83,47 @@ module _ (F : Plain) (Γ : NameDepths) where
         taken (p + 1) (g ∷ []) (with-names (T .names ∪ E .names)
         (put (row 12 x ∷ (atom-row g ∷ [])) (put (release-rows (dying Γ (below x (E .names)) (T .names))) T)))
 
+    -- the trees of an if that stands from p to before q, its second and its first, and its own rows
+    unfoldable pub if-trees : ℕ → ℕ → ℕ → C.Atom → Point → Point
+    if-trees p q x g P = if-head p x g (W (q - 2) P) (then-walk p x (P .names) (W (q - 2) P))
+
     unfoldable pub if-walk : ℕ → ℕ → ℕ → C.Atom → Point → Point
     if-walk p q x g P =
-        if-head p x g (else-walk q x P) (then-walk p x (P .names ∖ x) (else-walk q x P))
+        if-trees p q x g (with-names (P .names ∖ x) (put (release-rows (dying Γ (only x) (P .names))) P))
 
-    -- a loop of m atoms that stands from p to before q: the outer names that its tree uses, its tree, its own rows
+    -- a loop of m atoms at p: the outer names that its tree uses, and what is live after its tree
     abbrev pub outer-names : ℕ → ℕ → ℕ → Point → Set
     outer-names p x m P = used-since x (p + 1 + m) P
 
-    unfoldable pub pass-walk : ℕ → ℕ → ℕ → Loop → List C.Atom → Point → Point
-    pass-walk p q x k us P =
-        let O = outer-names p x (length us) P in
-        W (q - 2) (with-names (O ∪ P .names ∖ x)
-        (put (release-rows (dying Γ (below x (among (loop-reads k us) O)) (P .names)))
-        (put (release-rows (dying Γ (only x) (P .names))) P)))
+    abbrev pub pass-names : ℕ → ℕ → ℕ → Point → Set
+    pass-names p x m P = outer-names p x m P ∪ P .names ∖ x
 
-    abbrev pub loop-head : ℕ → ℕ → Loop → List ℕ → List C.Atom → Point → Point → Point
-    loop-head p x k ps us P T =
-        let O = outer-names p x (length us) P in
-        taken (p + 1) us (with-names (O ∪ P .names ∖ x)
-        (put (retain-rows (handed-again Γ (loop-hands k us) (among (loop-reads k us) O ∪ P .names)))
-        (put (row (loop-kind k) (x + 256 * packed-names ps) ∷ map atom-row us)
-        (put (retain-rows (arrays Γ (element-name k ps)))
-        (put (release-rows (dying Γ (just ps) (T .names))) T)))))
+    abbrev pub loop-head : ℕ → ℕ → Loop → List ℕ → List C.Atom → Set → Point → Point
+    loop-head p x k ps us B T =
+        taken (p + 1) us (with-names B
+        (put (retain-rows (handed-again Γ (loop-hands k us) (among (loop-reads k us) B)))
+        (put (loop-own x k ps us) (put (pass-opening Γ k ps (T .names)) T))))
+
+    -- the tree of a loop that stands from p to before q, and its own rows
+    unfoldable pub loop-tree : ℕ → ℕ → ℕ → Loop → List ℕ → List C.Atom → Point → Point
+    loop-tree p q x k ps us P =
+        let B = pass-names p x (length us) P in
+        loop-head p x k ps us B (W (q - 2) (with-names B P))
 
     unfoldable pub loop-walk : ℕ → ℕ → ℕ → Loop → List ℕ → List C.Atom → Point → Point
-    loop-walk p q x k ps us P = loop-head p x k ps us P (pass-walk p q x k us P)
+    loop-walk p q x k ps us P =
+        loop-tree p q x k ps us (put (loop-closing Γ x k us (outer-names p x (length us) P) (P .names)) P)
 
     -- a line that stands from p to before q
     unfoldable pub line-walk : ℕ → ℕ → Line → Point → Point
-    line-walk p q (Operated x kind a b) P =
-        leaf-walk p x (operation (operation-of kind)) (meant a ∷ (meant b ∷ [])) P
-    line-walk p q (Call x f m) P = leaf-walk p x (call f) (atoms-at (F .operands) (F .rows) (p + 1) m) P
-    line-walk p q (Literal x d m) P = leaf-walk p x (literal d) (atoms-at (F .operands) (F .rows) (p + 1) m) P
-    line-walk p q (Index x a b) P = leaf-walk p x index (meant a ∷ (meant b ∷ [])) P
-    line-walk p q (Length x a) P = leaf-walk p x length-of (meant a ∷ []) P
-    line-walk p q (If x g) P = if-walk p q x (meant g) P
-    line-walk p q (Map x y a) P = loop-walk p q x mapping (y ∷ []) (meant a ∷ []) P
+    line-walk p q (L.Unary x kind a) P = leaf-walk p x (unary-of kind) (meant a ∷ []) P
+    line-walk p q (L.Binary x kind a b) P = leaf-walk p x (binary-of kind) (meant a ∷ (meant b ∷ [])) P
+    line-walk p q (L.Call x f m) P = leaf-walk p x (call f) (atoms-at (F .operands) (F .rows) (p + 1) m) P
+    line-walk p q (L.Literal x d m) P = leaf-walk p x (literal d) (atoms-at (F .operands) (F .rows) (p + 1) m) P
+    line-walk p q (L.If x g) P = if-walk p q x (meant g) P
+    line-walk p q (L.Loop x kind y z a b) P =
+        let k = loop-of kind in
+        loop-walk p q x k (of-loop k y z) (of-loop k (meant a) (meant b)) P
 
     -- the lines of a tree that stand before q, n at most
     unfoldable pub back-walk : ℕ → ℕ → Point → Point

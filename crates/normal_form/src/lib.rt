@@ -1,31 +1,30 @@
 // The A-normal form: a descent over the nodes that lays plain rows, notes and the depths of new names.
-// The table of places is changed at a let and a map, and put back after it.
+// The table of places is changed at a let and a loop, and put back after it.
 use normal_lay::Head;
 use normal_lay::Out;
 use normal_lay::Spot;
 use script_read::Node;
 use script_read::Place;
 ghost use mathlib.Core.Path.{_≡_};
-ghost use Prim.Native.Nat.{_+_, _<_};
-ghost use lib.ListN.{getD};
-ghost use Rattle.semantics.specs.Syntax.{size, sizes};
-ghost use Rattle.normal_lay.specs.Laid.{meanings};
-ghost use Rattle.normal_lay.specs.Source.{tree-at, several, compound, second-part, let-from, if-from, map-from};
-ghost use Rattle.normal_lay.specs.Source.{two-after, three-after, NodeFits};
-ghost use Rattle.normal_lay.specs.Made.{state, out, Given, Ready, Counted, Made, TreeMade};
+ghost use mathlib.Core.Bool.{true};
+ghost use Prim.Native.Nat.{_+_, _<_, _≤_};
+ghost use lib.ListN.{getD, set};
+ghost use Rattle.semantics.specs.Syntax.{size};
+ghost use Rattle.semantics.specs.File.{part-count};
+ghost use Rattle.semantics.specs.Code.{line};
+ghost use Rattle.semantics.specs.Normal.{fresh};
+ghost use Rattle.normal_code.specs.Plain.{packed-row, is-looping, loop-of, loop-size};
+ghost use Rattle.normal_lay.specs.Laid.{meanings, noted, LineLaid, firsts, placed-all, place-depth, line-depth};
+ghost use Rattle.normal_lay.specs.Source.{tree-at, parts-before, compound, second-part, let-from, if-from, two-after};
+ghost use Rattle.normal_lay.specs.Source.{three-after, laid-rows, NodeFits};
+ghost use Rattle.normal_lay.specs.Made.{state, out, Given, Ready, PassReady, Compounded, loop-line, Adds, Made};
+ghost use Rattle.normal_lay.specs.Made.{TreeMade};
 
 // A node that fits: its kind and the two parts of its operand.
 struct Shape {
     kind: u8,
     low: u8,
     high: u8,
-}
-
-// A line without trees: its kind, its second number, and how many parts it has.
-struct Leaf {
-    kind: u8,
-    second: u8,
-    parts: u8,
 }
 
 // The second number of a line: a call's function, a literal's element depth.
@@ -36,6 +35,16 @@ fn second_part(kind: u8, low: u8, high: u8) -> u8
         return low;
     }
     if kind == 9 { high } else { 0 }
+}
+
+// How many parts a node has before its tree, if it is a loop's, or all in all.
+fn parts_before(kind: u8, low: u8, high: u8) -> usize
+    ensures { λ r. ⌜ r ≡ parts-before kind low high ⌝ }
+{
+    if script_read::is_loop(kind) {
+        return normal_code::loop_size(kind);
+    }
+    script_read::parts_of(kind, low, high) as usize
 }
 
 // An atom that is one node and has no lines.
@@ -64,8 +73,9 @@ pub fn lay_part(
     spot: Spot,
     levels: u64,
 ) -> Out
-    requires { ⌜ (Given (now kinds) (now operands) (now results) (now places))
-        × (Ready (state (now rows) (now notes) (now depths) (now last))
+    requires { ⌜ (Given (now kinds) (now operands) (now places))
+        × (Ready (λ f. getD (now results) f 0) (meanings (now operands) (now places))
+        (state (now rows) (now notes) (now depths) (now last))
         ((tree-at (now kinds) (now operands) levels) (spot .node))
         (spot .node + size ((tree-at (now kinds) (now operands) levels) (spot .node))) (spot .n) (spot .p)) ⌝ }
     ensures { λ r. ⌜ Made (now (operands .entry)) (λ f. getD (now (results .entry)) f 0)
@@ -102,7 +112,7 @@ pub fn lay_part(
     }
 }
 
-// The tree at a node that fits: an atom, a line without trees, or one that binds a name or has trees.
+// The tree at a node that fits: an atom, a let, an if, or what has a line of its own after its parts.
 fn lay_node(
     kinds: &[u8],
     operands: &[u8],
@@ -117,8 +127,9 @@ fn lay_node(
     levels: u64,
 ) -> Out
     requires { ⌜ NodeFits (now kinds) (now operands) levels (spot .node) (shape .kind) (shape .low) (shape .high) ⌝ }
-    requires { ⌜ (Given (now kinds) (now operands) (now results) (now places))
-        × (Ready (state (now rows) (now notes) (now depths) (now last))
+    requires { ⌜ (Given (now kinds) (now operands) (now places))
+        × (Ready (λ f. getD (now results) f 0) (meanings (now operands) (now places))
+        (state (now rows) (now notes) (now depths) (now last))
         ((tree-at (now kinds) (now operands) levels) (spot .node))
         (spot .node + size ((tree-at (now kinds) (now operands) levels) (spot .node))) (spot .n) (spot .p)) ⌝ }
     ensures { λ r. ⌜ Made (now (operands .entry)) (λ f. getD (now (results .entry)) f 0)
@@ -135,7 +146,32 @@ fn lay_node(
     match kind {
         2 => atom_out((256 + spot.node) as u16, spot),
         3 => atom_out(places[low as usize], spot),
-        7 | 12 | 13 => lay_nested(
+        7 => lay_let(
+            kinds,
+            operands,
+            results,
+            places,
+            last,
+            rows,
+            notes,
+            depths,
+            shape.low,
+            normal_lay::spot_at(spot.node + 1, spot.n, spot.p),
+            levels - 1,
+        ),
+        12 => lay_if(
+            kinds,
+            operands,
+            results,
+            places,
+            last,
+            rows,
+            notes,
+            depths,
+            normal_lay::spot_at(spot.node + 1, spot.n, spot.p),
+            levels - 1,
+        ),
+        _ => lay_compound(
             kinds,
             operands,
             results,
@@ -146,36 +182,13 @@ fn lay_node(
             depths,
             shape,
             spot,
-            levels,
+            levels - 1,
         ),
-        _ => {
-            let second = second_part(kind, low, shape.high);
-            let parts = script_read::parts_of(kind, low, shape.high);
-            let leaf = Leaf {
-                kind,
-                second,
-                parts,
-            };
-            let first = normal_lay::spot_at(spot.node + 1, spot.n, spot.p);
-            lay_leaf(
-                kinds,
-                operands,
-                results,
-                places,
-                last,
-                rows,
-                notes,
-                depths,
-                leaf,
-                first,
-                levels - 1,
-            )
-        }
     }
 }
 
-// The tree of a let, a map or an if.
-fn lay_nested(
+// A leaf or a loop, at whose node it stands: its parts, and then its line.
+fn lay_compound(
     kinds: &[u8],
     operands: &[u8],
     results: &[u8; 32],
@@ -188,102 +201,28 @@ fn lay_nested(
     spot: Spot,
     levels: u64,
 ) -> Out
-    requires { ⌜ NodeFits (now kinds) (now operands) levels (spot .node) (shape .kind) (shape .low) (shape .high)
-        × ((shape .kind ≡ 7 → ⊥) → (shape .kind ≡ 13 → ⊥) → shape .kind ≡ 12) ⌝ }
-    requires { ⌜ (Given (now kinds) (now operands) (now results) (now places))
-        × (Ready (state (now rows) (now notes) (now depths) (now last))
-        ((tree-at (now kinds) (now operands) levels) (spot .node))
-        (spot .node + size ((tree-at (now kinds) (now operands) levels) (spot .node))) (spot .n) (spot .p)) ⌝ }
+    requires { ⌜ Compounded (shape .kind) (shape .low) (shape .high) ⌝ }
+    requires { ⌜ (Given (now kinds) (now operands) (now places))
+        × (Ready (λ f. getD (now results) f 0) (meanings (now operands) (now places))
+        (state (now rows) (now notes) (now depths) (now last))
+        (compound (tree-at (now kinds) (now operands) levels) (shape .kind) (shape .low) (shape .high) (spot .node + 1))
+        (spot .node + size (compound (tree-at (now kinds) (now operands) levels) (shape .kind) (shape .low)
+        (shape .high) (spot .node + 1))) (spot .n) (spot .p)) ⌝ }
     ensures { λ r. ⌜ Made (now (operands .entry)) (λ f. getD (now (results .entry)) f 0)
-        ((tree-at (now (kinds .entry)) (now (operands .entry)) levels) (spot .node))
-        (meanings (now (operands .entry)) (now (places .entry)))
-        (state (now (rows .entry)) (now (notes .entry)) (now (depths .entry)) (now (last .entry)))
-        (state (now (rows .exit)) (now (notes .exit)) (now (depths .exit)) (now (last .exit)))
-        (spot .n) (spot .p) levels
-        (spot .node + size ((tree-at (now (kinds .entry)) (now (operands .entry)) levels) (spot .node))) r ⌝ }
-    ensures { λ _. ⌜ now (places .exit) ≡ now (places .entry) ⌝ }
-{
-    let kind = shape.kind;
-    let first = normal_lay::spot_at(spot.node + 1, spot.n, spot.p);
-    let below = levels - 1;
-    match kind {
-        7 => lay_let(
-            kinds,
-            operands,
-            results,
-            places,
-            last,
-            rows,
-            notes,
-            depths,
-            shape.low,
-            first,
-            below,
-        ),
-        13 => lay_map(
-            kinds,
-            operands,
-            results,
-            places,
-            last,
-            rows,
-            notes,
-            depths,
-            shape.low,
-            first,
-            below,
-        ),
-        _ => lay_if(
-            kinds,
-            operands,
-            results,
-            places,
-            last,
-            rows,
-            notes,
-            depths,
-            first,
-            below,
-        ),
-    }
-}
-
-// A line without trees, after its parts.
-fn lay_leaf(
-    kinds: &[u8],
-    operands: &[u8],
-    results: &[u8; 32],
-    places: &mut [u16; 256],
-    last: &mut [u16; 256],
-    rows: &mut [u32; 2048],
-    notes: &mut [u16; 2048],
-    depths: &mut [u8; 256],
-    leaf: Leaf,
-    spot: Spot,
-    levels: u64,
-) -> Out
-    requires { ⌜ Counted (leaf .kind) (leaf .second) (leaf .parts) ⌝ }
-    requires { ⌜ (Given (now kinds) (now operands) (now results) (now places))
-        × (Ready (state (now rows) (now notes) (now depths) (now last))
-        (compound (leaf .kind) (leaf .second)
-        (several (tree-at (now kinds) (now operands) levels) (leaf .parts) (spot .node)))
-        (spot .node + sizes (several (tree-at (now kinds) (now operands) levels) (leaf .parts) (spot .node)))
-        (spot .n) (spot .p)) ⌝ }
-    ensures { λ r. ⌜ Made (now (operands .entry)) (λ f. getD (now (results .entry)) f 0)
-        (compound (leaf .kind) (leaf .second)
-        (several (tree-at (now (kinds .entry)) (now (operands .entry)) levels) (leaf .parts) (spot .node)))
+        (compound (tree-at (now (kinds .entry)) (now (operands .entry)) levels) (shape .kind) (shape .low) (shape .high)
+        (spot .node + 1))
         (meanings (now (operands .entry)) (now (places .entry)))
         (state (now (rows .entry)) (now (notes .entry)) (now (depths .entry)) (now (last .entry)))
         (state (now (rows .exit)) (now (notes .exit)) (now (depths .exit)) (now (last .exit)))
         (spot .n) (spot .p) (levels + 1)
-        (spot .node + sizes (several (tree-at (now (kinds .entry)) (now (operands .entry)) levels)
-        (leaf .parts) (spot .node))) r ⌝ }
+        (spot .node + size (compound (tree-at (now (kinds .entry)) (now (operands .entry)) levels) (shape .kind)
+        (shape .low) (shape .high) (spot .node + 1))) r ⌝ }
     ensures { λ _. ⌜ now (places .exit) ≡ now (places .entry) ⌝ }
 {
-    let count = leaf.parts as usize;
+    let count = parts_before(shape.kind, shape.low, shape.high);
     let mut atoms = [0u16; 16];
     let mut i: usize = 0;
-    let mut node = spot.node;
+    let mut node = spot.node + 1;
     let mut n = spot.n;
     let mut p = spot.p;
     while i < count {
@@ -306,18 +245,134 @@ fn lay_leaf(
         p = r.p;
         i = i + 1;
     }
-    let kind = leaf.kind;
-    let second = leaf.second;
-    depths[n] = normal_lay::depth_of_line(results, depths, kind, second, atoms[0]);
-    let name = n as u8;
-    let head = Head { kind, name, second };
-    let end = normal_lay::lay_line(rows, notes, last, p, head, count, &atoms);
+    let after = Spot { node, n, p };
+    if script_read::is_loop(shape.kind) {
+        return lay_pass(
+            kinds,
+            operands,
+            results,
+            places,
+            last,
+            rows,
+            notes,
+            depths,
+            shape,
+            after,
+            &atoms,
+            levels,
+        );
+    }
+    lay_leaf(results, last, rows, notes, depths, shape, after, &atoms)
+}
+
+// A leaf's line after its parts, whose places stand in a table.
+fn lay_leaf(
+    results: &[u8; 32],
+    last: &mut [u16; 256],
+    rows: &mut [u32; 2048],
+    notes: &mut [u16; 2048],
+    depths: &mut [u8; 256],
+    shape: Shape,
+    spot: Spot,
+    atoms: &[u16; 16],
+) -> Out
+    requires { ⌜ ((spot .n < 256) × (spot .p + 1 + part-count (shape .kind) (shape .low) (shape .high) < 2048))
+        × ((part-count (shape .kind) (shape .low) (shape .high) ≤ 16)
+        × ((second-part (shape .kind) (shape .low) (shape .high) < 32)
+        × (shape .kind ≡ 18 → place-depth (now depths) (getD (now atoms) 1 0) ≤ 3))) ⌝ }
+    ensures { λ r. ⌜ (r ≡ out (spot .n) (spot .node) (spot .n + 1)
+        (spot .p + 1 + part-count (shape .kind) (shape .low) (shape .high)))
+        × (now (notes .exit) ≡ set (noted (now (notes .entry)) (now (last .entry)) (spot .p + 1)
+        (firsts (now (atoms .entry)) 0 (part-count (shape .kind) (shape .low) (shape .high)))) (r .p) (spot .p)) ⌝ }
+    ensures { λ _. ⌜ LineLaid (now (rows .entry)) (now (notes .entry)) (now (last .entry)) (now (rows .exit))
+        (noted (now (notes .entry)) (now (last .entry)) (spot .p + 1)
+        (firsts (now (atoms .entry)) 0 (part-count (shape .kind) (shape .low) (shape .high)))) (now (last .exit))
+        (spot .p) (packed-row (shape .kind) (spot .n) (second-part (shape .kind) (shape .low) (shape .high))
+        (part-count (shape .kind) (shape .low) (shape .high)))
+        (firsts (now (atoms .entry)) 0 (part-count (shape .kind) (shape .low) (shape .high))) ⌝ }
+    ensures { λ _. ⌜ now (depths .exit) ≡ set (now (depths .entry)) (spot .n)
+        (line-depth (now (results .entry)) (now (depths .entry)) (shape .kind)
+        (second-part (shape .kind) (shape .low) (shape .high)) (getD (now (atoms .entry)) 0 0)
+        (getD (now (atoms .entry)) 1 0)) ⌝ }
+{
+    let kind = shape.kind;
+    let n = spot.n;
+    let second = second_part(kind, shape.low, shape.high);
+    let third = script_read::parts_of(kind, shape.low, shape.high);
+    depths[n] = normal_lay::depth_of_line(results, depths, kind, second, atoms);
+    let head = Head {
+        kind,
+        name: n as u8,
+        second,
+        third,
+    };
+    let end = normal_lay::lay_line(rows, notes, last, spot.p, head, third as usize, atoms);
     Out {
         place: n as u16,
-        next: node,
+        next: spot.node,
         n: n + 1,
         p: end,
     }
+}
+
+// A loop's line after its parts, whose places stand in a table: its row, and its tree, in which the written names of a
+// pass mean its new names.
+fn lay_pass(
+    kinds: &[u8],
+    operands: &[u8],
+    results: &[u8; 32],
+    places: &mut [u16; 256],
+    last: &mut [u16; 256],
+    rows: &mut [u32; 2048],
+    notes: &mut [u16; 2048],
+    depths: &mut [u8; 256],
+    shape: Shape,
+    spot: Spot,
+    atoms: &[u16; 16],
+    levels: u64,
+) -> Out
+    requires { ⌜ is-looping (shape .kind) ≡ true ⌝ }
+    requires { ⌜ (Given (now kinds) (now operands) (now places))
+        × (PassReady (λ f. getD (now results) f 0) (meanings (now operands) (now places))
+        (state (now rows) (now notes) (now depths) (now last)) (loop-of (shape .kind)) (shape .low) (shape .high)
+        (placed-all (now operands) (firsts (now atoms) 0 (loop-size (loop-of (shape .kind)))))
+        (tree-at (now kinds) (now operands) levels (spot .node))
+        (spot .node + size (tree-at (now kinds) (now operands) levels (spot .node))) (spot .n) (spot .p)) ⌝ }
+    ensures { λ r. ⌜ r ≡ out (spot .n)
+        (spot .node + size (tree-at (now (kinds .entry)) (now (operands .entry)) levels (spot .node)))
+        (spot .n + 1 + loop-size (loop-of (shape .kind))
+        + fresh (tree-at (now (kinds .entry)) (now (operands .entry)) levels (spot .node)))
+        (spot .p + 1 + loop-size (loop-of (shape .kind))
+        + laid-rows (tree-at (now (kinds .entry)) (now (operands .entry)) levels (spot .node)) + 2) ⌝ }
+    ensures { λ _. ⌜ Adds (now (operands .entry)) (λ f. getD (now (results .entry)) f 0)
+        (line (loop-line (loop-of (shape .kind)) (shape .low) (shape .high)
+        (meanings (now (operands .entry)) (now (places .entry))) (spot .n)
+        (placed-all (now (operands .entry)) (firsts (now (atoms .entry)) 0 (loop-size (loop-of (shape .kind)))))
+        (tree-at (now (kinds .entry)) (now (operands .entry)) levels (spot .node))))
+        (state (now (rows .entry)) (now (notes .entry)) (now (depths .entry)) (now (last .entry)))
+        (state (now (rows .exit)) (now (notes .exit)) (now (depths .exit)) (now (last .exit)))
+        (spot .p) (spot .p + 1 + loop-size (loop-of (shape .kind))
+        + laid-rows (tree-at (now (kinds .entry)) (now (operands .entry)) levels (spot .node)) + 2) (levels + 1) ⌝ }
+    ensures { λ _. ⌜ now (places .exit) ≡ now (places .entry) ⌝ }
+{
+    let kind = shape.kind;
+    let inner = normal_lay::open_loop(rows, notes, last, depths, kind, spot, atoms);
+    let old = normal_lay::bind_pass(places, kind, shape.low, shape.high, spot.n);
+    let tree = lay_tree(
+        kinds,
+        operands,
+        results,
+        places,
+        last,
+        rows,
+        notes,
+        depths,
+        inner,
+        levels,
+    );
+    normal_lay::unbind_pass(places, kind, shape.low, shape.high, old);
+    let depth = normal_lay::depth_of_loop(depths, kind, atoms[0], tree.place);
+    normal_lay::close_line(notes, depths, spot.n, spot.p, tree, depth)
 }
 
 // A let: its first part is laid once, and its name then means that part's atom.
@@ -334,8 +389,9 @@ fn lay_let(
     spot: Spot,
     levels: u64,
 ) -> Out
-    requires { ⌜ (Given (now kinds) (now operands) (now results) (now places))
-        × (Ready (state (now rows) (now notes) (now depths) (now last))
+    requires { ⌜ (Given (now kinds) (now operands) (now places))
+        × (Ready (λ f. getD (now results) f 0) (meanings (now operands) (now places))
+        (state (now rows) (now notes) (now depths) (now last))
         (let-from (tree-at (now kinds) (now operands) levels) x (spot .node))
         (two-after (tree-at (now kinds) (now operands) levels) (spot .node)) (spot .n) (spot .p)) ⌝ }
     ensures { λ r. ⌜ Made (now (operands .entry)) (λ f. getD (now (results .entry)) f 0)
@@ -392,8 +448,9 @@ pub fn lay_tree(
     spot: Spot,
     levels: u64,
 ) -> Out
-    requires { ⌜ (Given (now kinds) (now operands) (now results) (now places))
-        × (Ready (state (now rows) (now notes) (now depths) (now last))
+    requires { ⌜ (Given (now kinds) (now operands) (now places))
+        × (Ready (λ f. getD (now results) f 0) (meanings (now operands) (now places))
+        (state (now rows) (now notes) (now depths) (now last))
         ((tree-at (now kinds) (now operands) levels) (spot .node))
         (spot .node + size ((tree-at (now kinds) (now operands) levels) (spot .node))) (spot .n) (spot .p)) ⌝ }
     ensures { λ r. ⌜ TreeMade (now (operands .entry)) (λ f. getD (now (results .entry)) f 0)
@@ -421,6 +478,7 @@ pub fn lay_tree(
         kind: 16,
         name: 0,
         second: 0,
+        third: 0,
     };
     normal_lay::lay_head(rows, notes, last, r.p, head, r.place);
     Out {
@@ -444,8 +502,9 @@ fn lay_if(
     spot: Spot,
     levels: u64,
 ) -> Out
-    requires { ⌜ (Given (now kinds) (now operands) (now results) (now places))
-        × (Ready (state (now rows) (now notes) (now depths) (now last))
+    requires { ⌜ (Given (now kinds) (now operands) (now places))
+        × (Ready (λ f. getD (now results) f 0) (meanings (now operands) (now places))
+        (state (now rows) (now notes) (now depths) (now last))
         (if-from (tree-at (now kinds) (now operands) levels) (spot .node))
         (three-after (tree-at (now kinds) (now operands) levels) (spot .node)) (spot .n) (spot .p)) ⌝ }
     ensures { λ r. ⌜ Made (now (operands .entry)) (λ f. getD (now (results .entry)) f 0)
@@ -498,66 +557,5 @@ fn lay_if(
         levels,
     );
     let depth = normal_lay::depth_of(depths, own.place);
-    normal_lay::close_line(notes, depths, guard, other, depth)
-}
-
-// A map: its array, its head, and its tree, in which the bound name means the element.
-fn lay_map(
-    kinds: &[u8],
-    operands: &[u8],
-    results: &[u8; 32],
-    places: &mut [u16; 256],
-    last: &mut [u16; 256],
-    rows: &mut [u32; 2048],
-    notes: &mut [u16; 2048],
-    depths: &mut [u8; 256],
-    y: u8,
-    spot: Spot,
-    levels: u64,
-) -> Out
-    requires { ⌜ (Given (now kinds) (now operands) (now results) (now places))
-        × (Ready (state (now rows) (now notes) (now depths) (now last))
-        (map-from (tree-at (now kinds) (now operands) levels) y (spot .node))
-        (two-after (tree-at (now kinds) (now operands) levels) (spot .node)) (spot .n) (spot .p)) ⌝ }
-    ensures { λ r. ⌜ Made (now (operands .entry)) (λ f. getD (now (results .entry)) f 0)
-        (map-from (tree-at (now (kinds .entry)) (now (operands .entry)) levels) y (spot .node))
-        (meanings (now (operands .entry)) (now (places .entry)))
-        (state (now (rows .entry)) (now (notes .entry)) (now (depths .entry)) (now (last .entry)))
-        (state (now (rows .exit)) (now (notes .exit)) (now (depths .exit)) (now (last .exit)))
-        (spot .n) (spot .p) (levels + 1)
-        (two-after (tree-at (now (kinds .entry)) (now (operands .entry)) levels) (spot .node)) r ⌝ }
-    ensures { λ _. ⌜ now (places .exit) ≡ now (places .entry) ⌝ }
-{
-    let array = lay_part(
-        kinds,
-        operands,
-        results,
-        places,
-        last,
-        rows,
-        notes,
-        depths,
-        spot,
-        levels,
-    );
-    normal_lay::open_map(rows, notes, last, depths, array);
-    let i = y as usize;
-    let old = places[i];
-    places[i] = (array.n + 1) as u16;
-    let inner = normal_lay::spot_at(array.next, array.n + 2, array.p + 2);
-    let tree = lay_tree(
-        kinds,
-        operands,
-        results,
-        places,
-        last,
-        rows,
-        notes,
-        depths,
-        inner,
-        levels,
-    );
-    places[i] = old;
-    let depth = normal_lay::depth_of(depths, tree.place);
-    normal_lay::close_line(notes, depths, array, tree, depth + 1)
+    normal_lay::close_line(notes, depths, guard.n, guard.p, other, depth)
 }

@@ -1,19 +1,22 @@
 -- Trees whose inner names are numbered past the names that they use from outside: what an if and a loop release.
 use mathlib.Core.Path.{_≡_, refl, sym, ap, _∙_, fun-ext}
-use mathlib.Core.Bool.{Bool, true, false, not, _&&_, _||_, and-false}
-use mathlib.Core.List.{List, _++_}
+use mathlib.Core.Bool.{Bool, true, false, not, _&&_, _||_, and-false, or-true, or-assoc, true≢false}
+use mathlib.Core.List.{List, [], _∷_, _++_}
 use Prim.Native.Nat.{ℕ, _<_, _≤_}
 use native.Mathlib.Omega.{arith}
 use native.Mathlib.Decide.{decLt}
-use lib.Dec.{ltb}
-use borrow.Author.Tests.{lt-ltb, le-ltb}
-use Rattle.semantics.specs.Kinds.{Loop, mapping, loop-reads}
-use Rattle.semantics.specs.Code.{Atom, Line, leaf, if-else, loop, retain, release, Tree, end, line}
-use Rattle.semantics.specs.Live.{Set, empty, _∪_, _∖∖_, only, just, among, live, uses, members}
-use Rattle.semantics.specs.Annotate.{NameDepths, is-array, dying}
+use lib.Dec.{eqb, ltb}
+use borrow.Author.Tests.{lt-ltb, le-ltb, eq-eqb, ne-eqb}
+use Rattle.semantics.specs.Kinds.{Loop, mapping, filtering, reducing, loop-hands, loop-reads}
+use Rattle.semantics.specs.Basics.{with-if}
+use Rattle.semantics.specs.Code.{Atom, number, name, Line, leaf, if-else, loop, retain, release, Tree, end, line}
+use Rattle.semantics.specs.Live.{Set, empty, _∪_, _∖_, _∖∖_, only, just, is, among, live, uses, members}
+use Rattle.semantics.specs.Annotate.{NameDepths, is-array, dying, handed-again}
 use Rattle.normal_code.specs.Marks.{Marks, marks}
-use Rattle.normal_code.specs.Walk.{below, since}
-use Rattle.normal_laws.specs.Uses.{occurs, binds, or-no, not-among, less-others, live-splits, uses-occurs}
+use Rattle.normal_code.specs.Parts.{below}
+use Rattle.normal_code.specs.Walk.{since}
+use Rattle.normal_laws.specs.Uses.{occurs, binds, neither, or-no, not-among, among-splits, less-others}
+use Rattle.normal_laws.specs.Uses.{live-splits, uses-occurs}
 use Rattle.normal_laws.specs.Members.{members-last}
 use Rattle.normal_laws.specs.Marks.{Low, since-occurs}
 
@@ -99,9 +102,20 @@ pass-uses x ps us t p h i =
         let k = or-no (just ps y) (binds t y) h in
         sym (less-others ps (uses t) y (k .0) ∙ uses-occurs t y (k .1))
 
--- a loop reads atoms of its own
+-- a loop reads and hands over atoms of its own
 reads-own : (k : Loop) (us : List Atom) (y : ℕ) → among us empty y ≡ false → among (loop-reads k us) empty y ≡ false
+unfolding among
 reads-own mapping us y h = h
+reads-own filtering us y h = h
+reads-own reducing [] y h = h
+reads-own reducing (a ∷ us) y h = or-no (is a y) (among us empty y) h .1
+
+hands-own : (k : Loop) (us : List Atom) (y : ℕ) → among us empty y ≡ false → among (loop-hands k us) empty y ≡ false
+unfolding among
+hands-own mapping us y h = refl
+hands-own filtering us y h = refl
+hands-own reducing [] y h = refl
+hands-own reducing (a ∷ us) y h = neither (is a y) false (or-no (is a y) (among us empty y) h .0) refl
 
 -- what a loop reads is below its name
 pub reads-below : (x : ℕ) (k : Loop) (ps : List ℕ) (us : List Atom) (t : Tree) {B : Set} →
@@ -110,7 +124,39 @@ reads-below x k ps us t i y h =
     let j = or-no (among us empty y) ((uses t ∖∖ ps) y) (i .outer y h) in
     not-among (loop-reads k us) (uses t ∖∖ ps) y (reads-own k us y (j .0)) (j .1)
 
--- what a loop releases: the names below its own, and then its own
+-- ---- what is retained before a loop
+
+-- it depends on the names that are handed over only
+handed-as : (Γ : NameDepths) (us : List Atom) (S T : Set) → ((y : ℕ) → among us empty y ≡ true → S y ≡ T y) →
+    handed-again Γ us S ≡ handed-again Γ us T
+unfolding handed-again among
+handed-as Γ [] S T h = refl
+handed-as Γ (number z ∷ us) S T h = handed-as Γ us S T h
+handed-as Γ (name x ∷ us) S T h =
+    rw (among-splits us S x, among-splits us T x, h x (rw (eq-eqb x x refl)))
+    (ap (with-if (is-array Γ x && (among us empty x || T x)) x) (handed-as Γ us S T later))
+  where
+    later : (y : ℕ) → among us empty y ≡ true → S y ≡ T y
+    later y g = h y (rw g (or-true (eqb x y)))
+
+-- the loop's own name is not handed over, whether or not it is live after the loop
+pub hands-live : (Γ : NameDepths) (x : ℕ) (k : Loop) (us : List Atom) (U A B : Set) →
+    Inner x (among us empty ∪ U) B →
+    handed-again Γ (loop-hands k us) (among (loop-reads k us) (U ∪ A ∖ x))
+    ≡ handed-again Γ (loop-hands k us) (among (loop-reads k us) U ∪ A)
+hands-live Γ x k us U A B i = handed-as Γ (loop-hands k us) _ _ (λ y h. go y h (decLt y x))
+  where
+    go : (y : ℕ) → among (loop-hands k us) empty y ≡ true → Dec (y < x) →
+        among (loop-reads k us) (U ∪ A ∖ x) y ≡ among (loop-reads k us) U y || A y
+    go y h (yes l) =
+        among-splits (loop-reads k us) (U ∪ A ∖ x) y
+        ∙ rw (among-splits (loop-reads k us) U y, ne-eqb x y (λ e. omega arith))
+        (sym (or-assoc (among (loop-reads k us) empty y) (U y) (A y)))
+    go y h (no f) =
+        absurd (true≢false (sym h ∙ hands-own k us y (or-no (among us empty y) (U y) (i .outer y (omega (arith, f)))
+        .0)))
+
+-- ---- what a loop releases: the names below its own, and then its own
 pub loop-releases : (Γ : NameDepths) (x : ℕ) (R A : Set) → ((y : ℕ) → x ≤ y → R y ≡ false) →
     dying Γ (below x R) A ++ dying Γ (only x) A ≡ dying Γ (R ∪ only x) A
 unfolding dying members

@@ -18,7 +18,7 @@ use Rattle.normal_code.specs.Stands.{line-with, LineAt, Begins, Linked, LinkedA
 use Rattle.normal_code.specs.Walk.{unmarked, unmarked-all, Point, point, leaf-walk, if-walk, loop-walk, line-walk}
 use Rattle.normal_code.specs.Walk.{back-walk, end-walk, tree-walk}
 use Rattle.normal_code.specs.declared.Line.{Line}
-use Rattle.normal_code.specs.declared.Line.the-variants.{Operation as Operated, Call, Literal, Index, Length, If, Map}
+use Rattle.normal_code.specs.declared.Line.the-variants as L
 use Rattle.normal_laws.specs.Rows.{leaf-rows, end-rows}
 
 pub same-point : {A B : Set} {M N : Marks} {rs qs : List Row} → A ≡ B → M ≡ N → rs ≡ qs → point A M rs ≡ point B N qs
@@ -135,13 +135,12 @@ module _ (F : Plain) (Γ : NameDepths) where
     walks-over : (p q : ℕ) (t e : Tree) (l : Line) (P : Point) →
         line-walk F Γ W p q l P ≡ walk-over p q (line-with F p t e l) P
     unfolding line-walk line-with walk-over
-    walks-over p q t e (Operated x kind a b) P = refl
-    walks-over p q t e (Call x f m) P = refl
-    walks-over p q t e (Literal x d m) P = refl
-    walks-over p q t e (Index x a b) P = refl
-    walks-over p q t e (Length x a) P = refl
-    walks-over p q t e (If x g) P = refl
-    walks-over p q t e (Map x y a) P = refl
+    walks-over p q t e (L.Unary x kind a) P = refl
+    walks-over p q t e (L.Binary x kind a b) P = refl
+    walks-over p q t e (L.Call x f m) P = refl
+    walks-over p q t e (L.Literal x d m) P = refl
+    walks-over p q t e (L.If x g) P = refl
+    walks-over p q t e (L.Loop x kind y z a b) P = refl
 
     -- where the rows from p on are those of a line, the walk there is that line's
     pub at-line : (p q : ℕ) (t e : Tree) (l : C.Line) (P : Point) → LineAt F p t e l →

@@ -1,15 +1,15 @@
 -- The rows of annotated lines, in the order in which the walk puts them before the rows that follow.
 use mathlib.Core.Path.{_≡_, refl, sym, ap, _∙_}
 use mathlib.Core.Bool.{_&&_}
-use mathlib.Core.List.{List, [], _∷_, _++_, map, append-assoc, map-append}
-use Prim.Native.Nat.{ℕ, _+_, _*_}
+use mathlib.Core.List.{List, [], _∷_, _++_, append-assoc, map-append}
+use Prim.Native.Nat.{ℕ, _+_}
 use Rattle.semantics.specs.Basics.{with-if}
-use Rattle.semantics.specs.Kinds.{Leaf, leaf-hands, leaf-reads, is-pending, Loop, loop-kind, packed-names}
+use Rattle.semantics.specs.Kinds.{Leaf, leaf-hands, leaf-reads, is-pending, Loop}
 use Rattle.semantics.specs.Code.{Atom, number, name, Line, leaf, if-else, loop, Tree, end, line}
 use Rattle.semantics.specs.Code.{retain-all, release-all, Row, row, atom-row, rows, line-rows}
 use Rattle.semantics.specs.Live.{Set, empty, only, among, _∪_}
 use Rattle.semantics.specs.Annotate.{NameDepths, is-array, dying, handed-again, annotate, annotate-line}
-use Rattle.normal_code.specs.Parts.{retain-rows, release-rows, handed-one, leaf-part, ending}
+use Rattle.normal_code.specs.Parts.{retain-rows, release-rows, handed-one, leaf-part, loop-own, ending}
 
 -- ---- retains and releases before a tree
 
@@ -44,7 +44,7 @@ join-if : (v a b c d e k rs tb eb ke : List Row) → tb ≡ a ++ b → eb ≡ c 
 join-if v a b c d e k rs tb eb ke f g h = rw (f, g, h) (simp append-assoc)
 
 join-loop : (h v q r b o w k rs tb ow : List Row) → tb ≡ q ++ (r ++ b) → ow ≡ o ++ w →
-    h ++ (v ++ (q ++ (r ++ (b ++ (o ++ (w ++ (k ++ rs))))))) ≡ ((h ++ ((v ++ tb) ++ ow)) ++ k) ++ rs
+    h ++ (v ++ ((q ++ r) ++ (b ++ ((o ++ w) ++ (k ++ rs))))) ≡ ((h ++ ((v ++ tb) ++ ow)) ++ k) ++ rs
 join-loop h v q r b o w k rs tb ow f g = rw (f, g) (simp append-assoc)
 
 -- an if whose trees are opened by releases
@@ -60,12 +60,12 @@ if-shape x g ts es ds t e k rs =
 -- a loop whose tree is opened by retains and releases, and which releases in two parts
 pub loop-shape : (x : ℕ) (j : Loop) (ps : List ℕ) (us : List Atom) (hs ns ds os ws : List ℕ) (t k : Tree)
     (rs : List Row) →
-    retain-rows hs ++ ((row (loop-kind j) (x + 256 * packed-names ps) ∷ map atom-row us)
-    ++ (retain-rows ns ++ (release-rows ds ++ (rows t ++ (release-rows os ++ (release-rows ws ++ (rows k ++ rs)))))))
+    retain-rows hs ++ (loop-own x j ps us
+    ++ ((retain-rows ns ++ release-rows ds) ++ (rows t ++ ((release-rows os ++ release-rows ws) ++ (rows k ++ rs)))))
     ≡ rows (retain-all hs (line (loop x j ps us (retain-all ns (release-all ds t))) (release-all (os ++ ws) k))) ++ rs
 unfolding rows
 loop-shape x j ps us hs ns ds os ws t k rs =
-    join-loop (retain-rows hs) (row (loop-kind j) (x + 256 * packed-names ps) ∷ map atom-row us) (retain-rows ns)
+    join-loop (retain-rows hs) (loop-own x j ps us) (retain-rows ns)
     (release-rows ds) (rows t) (release-rows os) (release-rows ws) (rows k) rs _ _ (opened ns ds t)
     (map-append _ os ws)
     ∙ ap (λ (l : List Row). l ++ rs) (around hs [] (os ++ ws) (loop x j ps us (retain-all ns (release-all ds t))) k)

@@ -1,10 +1,10 @@
--- A function of two parameters, an if and a map in it, whose tree stands in plain code: the walk's law is not empty.
+-- Two functions whose trees stand in plain code, an if with a map in it and a reduce: the walk's law is not empty.
 use mathlib.Core.Path.{_≡_, refl}
 use mathlib.Core.List.{[], _∷_, _++_}
 use native.Mathlib.Omega.{arith}
 use Rattle.semantics.specs.Basics.{updated}
 use Rattle.semantics.specs.Syntax.{Function, name, if-else, loop, none, more}
-use Rattle.semantics.specs.Kinds.{mapping}
+use Rattle.semantics.specs.Kinds.{mapping, reducing}
 use Rattle.semantics.specs.Code.{rows}
 use Rattle.semantics.specs.Live.{empty, uses}
 use Rattle.semantics.specs.Normal.{normal, normal-body, parameter-names, lines, atom, fresh}
@@ -52,3 +52,29 @@ pub sample-walk : (Γ : NameDepths) →
     ≡ point (uses (normal-body sample)) (λ _. 0) (rows (annotate Γ (normal-body sample) empty) ++ [])
 unfolding sample normal-body normal lines atom fresh extent
 sample-walk Γ = body-walk sample-code Γ sample 2 sample-stands (omega arith) empty []
+
+-- a reduce from the first parameter over the second that gives each element
+unfoldable pub reduced : Function
+reduced = record {
+  parameters = record { id = 7; depth = 0 } ∷ (record { id = 8; depth = 1 } ∷ []);
+  result = 0;
+  body = loop reducing (9 ∷ (10 ∷ [])) (more (name 7) (more (name 8) none)) (name 10);
+}
+
+-- rows: the reduce at 0, its names 2, 3 and 4, its atoms at 1 and 2, its tree at 3; ends at 3 and 5
+unfoldable pub reduced-code : Plain
+reduced-code =
+    plain []
+    (67306004 ∷ (0 ∷ (1 ∷ (16 ∷ (4 ∷ (16 ∷ (2 ∷ [])))))))
+    (0 ∷ (0 ∷ (0 ∷ (3 ∷ (0 ∷ (0 ∷ (0 ∷ [])))))))
+
+reduced-stands : Stands reduced-code 1 (normal-body reduced) 0 (λ _. 0)
+unfolding reduced reduced-code normal-body normal lines atom fresh parameter-names line-at placed line-with marked
+    marked-all updated extent marks
+reduced-stands = ((refl, (refl, (refl, tt)), omega arith, omega arith, (refl, refl)), refl, (refl, refl))
+
+pub reduced-walk : (Γ : NameDepths) →
+    tree-walk reduced-code Γ 2 5 (point empty (marks (normal-body reduced) 0 (λ _. 0)) [])
+    ≡ point (uses (normal-body reduced)) (λ _. 0) (rows (annotate Γ (normal-body reduced) empty) ++ [])
+unfolding reduced normal-body normal lines atom fresh extent
+reduced-walk Γ = body-walk reduced-code Γ reduced 1 reduced-stands (omega arith) empty []

@@ -1,12 +1,12 @@
 -- Where a tree stands in plain code, the walk comes to what is live before it, to the last uses before it, and to the
 -- rows of the annotated tree.
 use mathlib.Core.Path.{_≡_, refl, ap, _∙_}
-use mathlib.Core.List.{List, [], _∷_, _++_, map}
-use Prim.Native.Nat.{ℕ, suc, _+_, _-_, _*_, _≤_}
+use mathlib.Core.List.{List, [], _∷_, _++_}
+use Prim.Native.Nat.{ℕ, suc, _+_, _-_, _≤_}
 use native.Mathlib.Omega.{arith}
 use lib.ListN.{length}
 use borrow.Author.Tests.{lt-ltb}
-use Rattle.semantics.specs.Kinds.{Loop, loop-kind, loop-hands, loop-reads, element-name, packed-names}
+use Rattle.semantics.specs.Kinds.{Loop, loop-hands, loop-reads, element-name}
 use Rattle.semantics.specs.Code as C
 use Rattle.semantics.specs.Code.{Tree, end, line, Row, row, atom-row, rows}
 use Rattle.semantics.specs.Code.{retain-all, release-all}
@@ -15,15 +15,15 @@ use Rattle.semantics.specs.Normal.{normal-body}
 use Rattle.semantics.specs.Live.{Set, empty, only, just, among, _∪_, _∖_, _∖∖_, live, uses, after-pass}
 use Rattle.semantics.specs.Annotate.{NameDepths, arrays, dying, handed-again, annotate, annotate-line}
 use Rattle.normal_code.specs.Plain.{Plain, note}
-use Rattle.normal_code.specs.Parts.{retain-rows, release-rows}
+use Rattle.normal_code.specs.Parts.{below, retain-rows, release-rows, loop-own, pass-opening, loop-closing}
 use Rattle.normal_code.specs.Marks.{Marks, marked, marked-all, extent, line-extent, marks, line-marks}
 use Rattle.normal_code.specs.Stands.{LineAt, Begins, Linked, LinkedAll, Stands, StandsLine}
-use Rattle.normal_code.specs.Walk.{below, since, then-end, unmarked-all, Point, point, else-walk, then-walk, if-head}
-use Rattle.normal_code.specs.Walk.{if-walk, pass-walk, loop-head, loop-walk, back-walk, end-walk, tree-walk}
+use Rattle.normal_code.specs.Walk.{since, then-end, Point, point, then-walk, if-head, if-trees}
+use Rattle.normal_code.specs.Walk.{if-walk, loop-head, loop-tree, loop-walk, back-walk, end-walk, tree-walk}
 use Rattle.normal_laws.specs.Uses.{binds}
 use Rattle.normal_laws.specs.Marks.{Low, low-atom, low-atoms, low-line, low-tree}
 use Rattle.normal_laws.specs.Outer.{Inner, Nested, NestedLine, branch-releases, branch-uses, pass-uses}
-use Rattle.normal_laws.specs.Outer.{reads-below, loop-releases}
+use Rattle.normal_laws.specs.Outer.{hands-live, reads-below, loop-releases}
 use Rattle.normal_laws.specs.Numbered.{body-nested}
 use Rattle.normal_laws.specs.Rows.{if-shape, loop-shape}
 use Rattle.normal_laws.specs.Right.{same-point, back-all, spine, line-some, TreeRight, BackRight, LineRight}
@@ -42,16 +42,6 @@ module _ (F : Plain) (Γ : NameDepths) where
     then-end-is : then-end (F .notes) p ≡ p + 2 + extent t - 2
     unfolding then-end
     then-end-is = rw (second, lt-ltb (p + 2 + extent t) 4098 (omega arith))
-
-    -- the second tree, after which the if's own name is released
-    else-right : (A : Set) (rs : List Row) →
-        else-walk F Γ (tree-walk F Γ d) (p + (2 + extent t + extent e)) x
-        (point A (marks e (p + 2 + extent t) (marks t (p + 2) (marked g (p + 1) M))) rs)
-        ≡ point (live e (A ∖ x)) (marks t (p + 2) (marked g (p + 1) M))
-        (rows (annotate Γ e (A ∖ x)) ++ (release-rows (dying Γ (only x) A) ++ rs))
-    unfolding else-walk
-    else-right A rs =
-        re (p + (2 + extent t + extent e) - 2) (omega arith) (A ∖ x) (release-rows (dying Γ (only x) A) ++ rs)
 
     -- the first tree, and the releases that open the second
     then-right : (B : Set) (rs : List Row) →
@@ -82,81 +72,60 @@ module _ (F : Plain) (Γ : NameDepths) where
         (branch-releases Γ x t e B i j)
 
     pub if-right : LineRight F Γ d (C.if-else x g t e) p M
-    unfolding walk-over if-walk marks extent live among marked-all
+    unfolding walk-over if-walk if-trees marks extent live among marked-all
     if-right A k rs =
-        at-line F Γ (tree-walk F Γ d) p _ t e (C.if-else x g t e) _ h
-        ∙ ap (λ (E : Point). if-head F Γ (tree-walk F Γ d) p x g E
-        (then-walk F Γ (tree-walk F Γ d) p x (A ∖ x) E)) (else-right A (rows k ++ rs))
-        ∙ ap (if-head F Γ (tree-walk F Γ d) p x g (point (live e (A ∖ x)) (marks t (p + 2) (marked g (p + 1) M))
-        (rows (annotate Γ e (A ∖ x)) ++ (release-rows (dying Γ (only x) A) ++ (rows k ++ rs)))))
-        (then-right (A ∖ x) (rows (annotate Γ e (A ∖ x)) ++ (release-rows (dying Γ (only x) A) ++ (rows k ++ rs))))
+        let W = tree-walk F Γ d in
+        let after = rows (annotate Γ e (A ∖ x)) ++ (release-rows (dying Γ (only x) A) ++ (rows k ++ rs)) in
+        at-line F Γ W p _ t e (C.if-else x g t e) _ h
+        ∙ ap (λ (E : Point). if-head F Γ W p x g E (then-walk F Γ W p x (A ∖ x) E))
+        (re (p + (2 + extent t + extent e) - 2) (omega arith) (A ∖ x) (release-rows (dying Γ (only x) A) ++ (rows k
+        ++ rs)))
+        ∙ ap (if-head F Γ W p x g (point (live e (A ∖ x)) (marks t (p + 2) (marked g (p + 1) M)) after))
+        (then-right (A ∖ x) after)
         ∙ same-point refl (back-all F (g ∷ []) (p + 1) M (n, tt)) (if-rows A k rs)
 
   -- ---- a loop
 
   module _ (d x : ℕ) (j : Loop) (ps : List ℕ) (us : List C.Atom) (t : Tree) (p : ℕ) (M : Marks)
       (h : LineAt F p t t (C.loop x j ps us t)) (n : LinkedAll F us (p + 1) M)
-      (i : Inner x (among us empty ∪ uses t ∖∖ ps) (just ps ∪ binds t)) (low : Low M p)
+      (inner : Inner x (among us empty ∪ uses t ∖∖ ps) (just ps ∪ binds t)) (low : Low M p)
       (rt : TreeRight F Γ d t (p + 1 + length us) (marked-all us (p + 1) M)) where
     -- the rows of last uses tell the outer names that the tree uses
     outer-is : below x (since (p + 1 + length us) (marks t (p + 1 + length us) (marked-all us (p + 1) M)))
         ≡ uses t ∖∖ ps
-    outer-is = pass-uses x ps us t (p + 1 + length us) (low-atoms us p low) i
+    outer-is = pass-uses x ps us t (p + 1 + length us) (low-atoms us p low) inner
 
-    -- the releases after the loop, in the walk's order
-    abbrev releases-after : Set → List Row → List Row
-    releases-after A rs =
-        release-rows (dying Γ (below x (among (loop-reads j us) (uses t ∖∖ ps))) A)
-        ++ (release-rows (dying Γ (only x) A) ++ rs)
-
-    -- the tree, and the releases after the loop
-    pass-right : (A : Set) (rs : List Row) →
-        pass-walk F Γ (tree-walk F Γ d) p (p + (1 + length us + extent t)) x j us
-        (point A (marks t (p + 1 + length us) (marked-all us (p + 1) M)) rs)
-        ≡ point (live t (after-pass x ps t A)) (marked-all us (p + 1) M)
-        (rows (annotate Γ t (after-pass x ps t A)) ++ releases-after A rs)
-    unfolding pass-walk
-    pass-right A rs =
-        ap (λ (O : Set). tree-walk F Γ d (p + (1 + length us + extent t) - 2)
-        (point (O ∪ A ∖ x) (marks t (p + 1 + length us) (marked-all us (p + 1) M))
-        (release-rows (dying Γ (below x (among (loop-reads j us) O)) A)
-        ++ (release-rows (dying Γ (only x) A) ++ rs)))) outer-is
-        ∙ rt (p + (1 + length us + extent t) - 2) (omega arith) (after-pass x ps t A) (releases-after A rs)
-
-    -- the loop's own rows and its tree's, before some others; O are the outer names that the tree uses
-    abbrev loop-rows : Set → Set → List Row → List Row
-    loop-rows A O rs =
-        retain-rows (handed-again Γ (loop-hands j us) (among (loop-reads j us) O ∪ A))
-        ++ ((row (loop-kind j) (x + 256 * packed-names ps) ∷ map atom-row us)
-        ++ (retain-rows (arrays Γ (element-name j ps))
-        ++ (release-rows (dying Γ (just ps) (live t (after-pass x ps t A)))
-        ++ (rows (annotate Γ t (after-pass x ps t A)) ++ rs))))
-
+    -- the loop's own rows and its tree's, before some others
     loop-rows-are : (A : Set) (k : Tree) (rs : List Row) →
-        loop-rows A (uses t ∖∖ ps) (releases-after A (rows k ++ rs))
+        let B = after-pass x ps t A in
+        retain-rows (handed-again Γ (loop-hands j us) (among (loop-reads j us) B))
+        ++ (loop-own x j ps us ++ (pass-opening Γ j ps (live t B)
+        ++ (rows (annotate Γ t B) ++ (loop-closing Γ x j us (uses t ∖∖ ps) A ++ (rows k ++ rs)))))
         ≡ rows (annotate-line Γ (C.loop x j ps us t) A k) ++ rs
     unfolding annotate
     loop-rows-are A k rs =
         let B = after-pass x ps t A in
         let R = among (loop-reads j us) (uses t ∖∖ ps) in
-        let hs = handed-again Γ (loop-hands j us) (R ∪ A) in
+        let hs = handed-again Γ (loop-hands j us) (among (loop-reads j us) B) in
         let ds = dying Γ (just ps) (live t B) in
         loop-shape x j ps us hs (arrays Γ (element-name j ps)) ds (dying Γ (below x R) A) (dying Γ (only x) A)
         (annotate Γ t B) k rs
-        ∙ ap (λ (os : List ℕ). rows (retain-all hs (line (C.loop x j ps us
-        (retain-all (arrays Γ (element-name j ps)) (release-all ds (annotate Γ t B)))) (release-all os k))) ++ rs)
-        (loop-releases Γ x R A (reads-below x j ps us t i))
+        ∙ (λ i. rows (retain-all (hands-live Γ x j us (uses t ∖∖ ps) A _ inner i) (line (C.loop x j ps us
+        (retain-all (arrays Γ (element-name j ps)) (release-all ds (annotate Γ t B))))
+        (release-all (loop-releases Γ x R A (reads-below x j ps us t inner) i) k))) ++ rs)
 
     pub loop-right : LineRight F Γ d (C.loop x j ps us t) p M
-    unfolding walk-over loop-walk marks extent live
+    unfolding walk-over loop-walk loop-tree marks extent live
     loop-right A k rs =
-        at-line F Γ (tree-walk F Γ d) p _ t t (C.loop x j ps us t) _ h
-        ∙ ap (loop-head F Γ (tree-walk F Γ d) p x j ps us
-        (point A (marks t (p + 1 + length us) (marked-all us (p + 1) M)) (rows k ++ rs))) (pass-right A (rows k ++
-        rs))
-        ∙ ap (λ (O : Set). point (among us (O ∪ A ∖ x))
-        (unmarked-all (F .notes) (p + 1) us (marked-all us (p + 1) M))
-        (loop-rows A O (releases-after A (rows k ++ rs)))) outer-is
+        let W = tree-walk F Γ d in
+        let q = p + (1 + length us + extent t) in
+        let B = after-pass x ps t A in
+        at-line F Γ W p _ t t (C.loop x j ps us t) _ h
+        ∙ ap (λ (O : Set). loop-head F Γ W p x j ps us (O ∪ A ∖ x) (W (q - 2) (point (O ∪ A ∖ x)
+        (marks t (p + 1 + length us) (marked-all us (p + 1) M)) (loop-closing Γ x j us O A ++ (rows k ++
+        rs))))) outer-is
+        ∙ ap (loop-head F Γ W p x j ps us B) (rt (q - 2) (omega arith) B
+        (loop-closing Γ x j us (uses t ∖∖ ps) A ++ (rows k ++ rs)))
         ∙ same-point refl (back-all F us (p + 1) M n) (loop-rows-are A k rs)
 
   -- ---- the theorem

@@ -22,9 +22,8 @@ use Rattle.normal_lay.proofs.Stays.{same-less, same-then, same-lays, sa
 use Rattle.normal_lay.proofs.Stays.{split-first, split-second, note-there, agrees-back, agrees-from}
 use Rattle.normal_lay.proofs.Stays.{agrees-split}
 use Rattle.normal_lay.proofs.Stays.{line-back, sized-sets}
-use Rattle.normal_lay.proofs.Stays.{low-as, low-set, low-place}
-use Rattle.normal_lay.proofs.Trees.{place-atom, name-placed, normal-ending, stands-as, LineMade}
-use Rattle.normal_lay.proofs.Trees.{line-marked, line-stands}
+use Rattle.normal_lay.proofs.Trees.{place-atom, name-placed, normal-ending}
+use Rattle.normal_lay.proofs.Adds.{stands-as, LineMade, adds-to, adds-then, adds-line}
 use Rattle.normal_lay.proofs.Heads.{head-marks, head-linked, head-row, head-atom, head-means}
 
 same-if : {x y : ℕ} {a b : C.Atom} {t u e f : Tree} → x ≡ y → a ≡ b → t ≡ u → e ≡ f → C.if-else x a t e ≡ C.if-else
@@ -160,11 +159,13 @@ module _ (w : List ℕ) (res : ℕ → ℕ) where
     if-made : LineMade w res if-line X₁ Y (d₀ + 1) (rg .p) (re .p)
     unfolding if-line own other extent marks
     if-made = record {
+      some = omega (arith, end-is, A .reach);
       end-is = omega (arith, B-is .wide, C-is .wide, B-is .reach, C-is .reach);
+      sized = sized-sets (C-is .sized) s;
+      keeps = keep₁;
       marks-are = sym (ap marks-of (s .last) ∙ C-is .marks
           ∙ ap (λ (i : ℕ). marks other i (marks-of (X₄ .last))) middle-is
           ∙ ap (marks other (rg .p + 2 + extent own)) marks₄);
-      keeps = keep₁;
       back = note-there (X₅ .notes) (Y .notes) (re .p) (rg .p) (s .notes)
           (omega (arith, C-is .sized .notes, end-is, short));
       stands-line = if-there;
@@ -172,26 +173,11 @@ module _ (w : List ℕ) (res : ℕ → ℕ) where
     }
 
     pub made-if : Made w res (S.if-else g b c) μ X Y n p (d₀ + 1) l₃ (out (rg .n) (re .next) (re .n) (re .p))
-    unfolding fresh atom lines laid-rows normal if-line own other tree-depths
+    unfolding fresh atom lines laid-rows normal if-line own other
     made-if = record {
       next = C-is .next;
       count = omega (arith, C-is .count);
       reach = omega (arith, end-is);
-      sized = sized-sets (C-is .sized) s;
-      low = λ j h.
-          let t = C-is .low (j + fresh g + fresh b) (low-as (X₄ .depths)
-          (B-is .low (j + fresh g) (low-as (X₂ .depths) (A .low j h) (l .depths))) (m .depths)) in
-          low-set (j + (fresh g + 1 + fresh b + fresh c)) (rg .n) v t (s .depths)
-          (omega (arith, C-is .sized .depths, A .count, few)) (omega arith)
-          (omega (arith, ve, low-place t (rt .place)));
       gives = name-placed w (rg .n) (omega (arith, A .count, few)) ∙ ap C.name (A .count);
-      same = same-then (A .same)
-          (same-less p (p + 1) keep₁ (omega (arith, A .reach)) (omega (arith, A .reach)));
-      marks = λ k. A .marks _ ∙ line-marked if-made k;
-      stands = λ F u a d h k t.
-          A .stands F u (agrees-back (rg .p) (rg .p + 1) a keep₁ (omega (arith, A .reach, end-is))
-          (omega (arith, A .reach, end-is))) d (omega arith) _
-          (line-stands if-made F u (agrees-from (rg .p) a (omega (arith, A .reach))) (omega (arith, A .reach, end-is))
-          d h k t);
-      depths = λ k. A .depths _ ∙ ap (tree-depths res k) if-depths;
+      adds = adds-then (adds-to (rg .p) (d₀ + 1) (A .adds) refl (omega arith)) (adds-line if-made);
     }

@@ -6,8 +6,12 @@ use native.Mathlib.Omega.{arith}
 use lib.ListN.{length, getD, set, length-set}
 use lib.Seq.{getD-set-same, getD-set-other}
 use borrow.Author.Tests.{lt-ltb, le-ltb, ne-eqb}
+use Rattle.semantics.specs.Kinds.{Loop, mapping, filtering, reducing}
+use Rattle.script_read.proofs.Limits.{NoneOf}
+use Rattle.normal_code.specs.Plain.{loop-of, loop-size}
+use Rattle.normal_code.proofs.Rows.{no-reduce}
 use Rattle.normal_lay.specs.Laid.{laid, used-once, noted-once, used, noted, UsesLaid, LineLaid, firsts}
-use Rattle.normal_lay.specs.Laid.{place-depth, line-depth}
+use Rattle.normal_lay.specs.Laid.{place-depth, line-depth, pass-places, loop-place}
 
 -- ---- the use of an atom
 
@@ -113,16 +117,56 @@ depth-name ds v h = rw (lt-ltb v 256 h)
 pub depth-number : (ds : List ℕ) (v : ℕ) → 256 ≤ v → 0 ≡ place-depth ds v
 depth-number ds v h = rw (le-ltb v 256 h)
 
-module _ (rs ds : List ℕ) (y v : ℕ) where
-  pub depth-call : (kind : ℕ) → kind ≡ 8 → getD rs y 0 ≡ line-depth rs ds kind y v
-  depth-call kind k = rw k
+module _ (rs ds : List ℕ) (y v u : ℕ) where
+  abbrev By : ℕ → ℕ
+  By kind = line-depth rs ds kind y v u
 
-  pub depth-literal : (kind : ℕ) → (kind ≡ 8 → ⊥) → kind ≡ 9 → y + 1 ≡ line-depth rs ds kind y v
-  depth-literal kind n k = rw k (let e : y + 1 ≡ suc y = omega arith in e)
+  -- a kind that is known
+  pub depth-is : {kind : ℕ} {d : ℕ} (k : ℕ) → kind ≡ k → d ≡ By k → d ≡ By kind
+  depth-is k e f = rw e f
 
-  pub depth-index : (kind d : ℕ) → (kind ≡ 8 → ⊥) → (kind ≡ 9 → ⊥) → kind ≡ 10 → d ≡ pred (place-depth ds v) → d ≡
-      line-depth rs ds kind y v
-  depth-index kind d n₈ n₉ k e = rw k e
+  pub depth-other : (kind : ℕ) → NoneOf (18 ∷ 17 ∷ 10 ∷ 9 ∷ 8 ∷ []) kind → 0 ≡ By kind
+  depth-other kind n =
+      rw (
+        ne-eqb kind 8 (n .0 .0 .0 .0 .1),
+        ne-eqb kind 9 (n .0 .0 .0 .1),
+        ne-eqb kind 10 (n .0 .0 .1),
+        ne-eqb kind 17 (n .0 .1),
+        ne-eqb kind 18 (n .1),
+      )
 
-  pub depth-other : (kind : ℕ) → (kind ≡ 8 → ⊥) → (kind ≡ 9 → ⊥) → (kind ≡ 10 → ⊥) → 0 ≡ line-depth rs ds kind y v
-  depth-other kind n₈ n₉ n₁₀ = rw (ne-eqb kind 8 n₈, ne-eqb kind 9 n₉, ne-eqb kind 10 n₁₀)
+-- ---- loops
+
+module _ (kind : ℕ) where
+  pub reduce-size : kind ≡ 20 → loop-size (loop-of kind) ≡ 2
+  reduce-size e = rw e
+
+  pub some-size : 1 ≤ loop-size (loop-of kind)
+  some-size = by (loop-of kind)
+    where
+      by : (k : Loop) → 1 ≤ loop-size k
+      by mapping = omega arith
+      by filtering = omega arith
+      by reducing = omega arith
+
+  module _ (ds : List ℕ) (n v u : ℕ) where
+    -- the depths of the names of a pass, laid
+    pub pass-reduce : (a b : ℕ) → kind ≡ 20 → a ≡ place-depth ds v → b ≡ pred (place-depth ds u) →
+        set (set ds (n + 1) a) (n + 2) b ≡ laid ds (n + 1) (pass-places (loop-of kind) ds v u)
+    unfolding laid
+    pass-reduce a b e f g =
+        let h : n + 2 ≡ n + 1 + 1 = omega arith in
+        rw (e, f, g, h)
+
+    pub pass-other : (b : ℕ) → (kind ≡ 20 → ⊥) → b ≡ pred (place-depth ds v) →
+        set ds (n + 1) b ≡ laid ds (n + 1) (pass-places (loop-of kind) ds v u)
+    unfolding laid
+    pass-other b e f =
+        no-reduce (λ k. set ds (n + 1) b ≡ laid ds (n + 1) (pass-places k ds v u)) kind e
+        (ap (set ds (n + 1)) f) (ap (set ds (n + 1)) f)
+
+  -- the depth of the name that a loop binds
+  pub loop-map : (ds : List ℕ) (v t d : ℕ) → (kind ≡ 19 → ⊥) → (kind ≡ 20 → ⊥) → d ≡ place-depth ds t →
+      d + 1 ≡ loop-place (loop-of kind) ds v t
+  loop-map ds v t d m r e =
+      rw (ne-eqb kind 20 r, ne-eqb kind 19 m) (let f : d + 1 ≡ suc (place-depth ds t) = omega (arith, e) in f)

@@ -1,5 +1,6 @@
 -- Laws of the tree at a node: one for each kind of node that the code tells apart.
 use mathlib.Core.Path.{_≡_, refl, sym, ap, _∙_}
+use mathlib.Core.Bool.{false, false≢true}
 use mathlib.Core.Logic.{_⊎_, inl, inr, ⊎-elim}
 use mathlib.Core.List.{List, [], _∷_}
 use Prim.Native.Nat.{ℕ, zero, suc, _+_, _-_, _*_, _<_, _≤_}
@@ -8,7 +9,8 @@ use lib.IntN.{ℤ, pos}
 use lib.ListN.{length, getD}
 use borrow.Author.Tests.{le-ltb, le-leb, lt-leb}
 use Rattle.semantics.specs.Number.{Operation, sum, difference, less, signed, bytes-at}
-use Rattle.semantics.specs.Kinds.{Leaf, operation, call, literal, index, length-of, leaf-kind, mapping}
+use Rattle.semantics.specs.Kinds.{Leaf, operation, call, literal, index, length-of, iota, replicate, leaf-kind}
+use Rattle.semantics.specs.Kinds.{Loop, mapping, filtering, reducing, loop-kind}
 use Rattle.semantics.specs.Syntax.{Expr, number, name, let-in, leaf, if-else, loop, Exprs, none, more, size, sizes}
 use Rattle.semantics.specs.Code as C
 use Rattle.semantics.specs.File as S
@@ -17,103 +19,147 @@ use Rattle.semantics.specs.File.{shape-of}
 use Rattle.script_read.specs.Told.{Parts, node-outcome, parted}
 use Rattle.script_read.specs.declared.Node.{Node}
 use Rattle.script_read.specs.declared.Node.the-variants.{Fits, WrongKind, WrongOperand}
+use Rattle.script_read.proofs.Limits.{NoneOf}
 use Rattle.script_read.proofs.Nodes.{Seen, seen, HeadFits, head-fits, unfit}
 use Rattle.script_read.proofs.Sorts as K
 use Rattle.script_read.proofs.Sorts.{Sort, sort-of, kind-of-leaf, kind-of-loop}
 use Rattle.script_read.proofs.Written.{Written, AllWritten, amount}
-use Rattle.normal_code.specs.Plain.{meant, placed, number-at}
+use Rattle.normal_code.specs.Plain.{meant, placed, number-at, is-looping}
 use Rattle.normal_code.proofs.Atoms.{pred-suc}
-use Rattle.normal_lay.specs.Source.{several, second-part, leaf-by, compound, map-of, let-from, if-from}
-use Rattle.normal_lay.specs.Source.{map-from, tree-of, node-tree, tree-at, NodeFits}
-use Rattle.normal_lay.specs.Made.{Counted}
+use Rattle.normal_lay.specs.Source.{several, second-part, leaf-by, compound, let-from, if-from, tree-of, node-tree}
+use Rattle.normal_lay.specs.Source.{tree-at, NodeFits}
+use Rattle.normal_lay.specs.Made.{PartsFit, Counted, Compounded}
 
--- ---- leaves
+-- ---- leaves and loops
 
--- a node that is a leaf: its shape and its parts, by what its line has of it
-pub record LeafNode (h : S.Head) (kind y m : ℕ) : Type 0 where
-  pub shape : shape-of h ≡ leaf-of (leaf-by kind y)
-  pub counted : Counted kind y m
+-- a node that is a leaf or a loop: its tree, and a leaf's parts
+pub record CompoundNode (h : S.Head) (kind low high : ℕ) : Type 0 where
+  pub tree : (R : ℕ → Expr) (p : ℕ) → tree-of R p h (shape-of h) ≡ compound R kind low high (p + 1)
+  pub counted : Compounded kind low high
+
+-- a leaf with a fixed count of parts
+fixed : (i m : ℕ) → (i ≡ 9 → ⊥) → m ≤ 2 → PartsFit i m → Counted i 0 m
+fixed i m n f g = record {
+  plain = g;
+  parts = omega arith;
+  second = omega arith;
+  depth = λ e. absurd (n e);
+}
+
+operates : (i : ℕ) → 4 ≤ i → i ≤ 6 → Counted i 0 2
+operates i f g = fixed i 2 (λ e. omega arith) (omega arith) (inr (inr (inr (inr (inr (inr (g, (f, refl))))))))
 
 module _ (h : S.Head) {kind low high : ℕ} (same-kind : h .kind ≡ kind) (same-low : h .low ≡ low)
     (same-high : h .high ≡ high) (lowest : low ≤ getD low-limits kind 0) (highest : high ≤ getD high-limits kind 0)
   where
-    abbrev Noted : Type 0
-    Noted = LeafNode h kind (second-part kind low high) (part-count kind low high)
+    -- the shape of a leaf and its parts, by what its line has of them
+    record LeafNode : Type 0 where
+      shape : shape-of h ≡ leaf-of (leaf-by kind (second-part kind low high))
+      plain : is-looping kind ≡ false
+      parts : Counted kind (second-part kind low high) (part-count kind low high)
 
-    operates : (kind : ℕ) → 4 ≤ kind → kind ≤ 6 → Counted kind 0 2
-    operates kind f g = record {
-      plain = inr (inr (inr (inr (g, (f, refl)))));
-      parts = omega arith;
-      second = omega arith;
-      depth = λ e. omega arith;
+    operation-node : (o : Operation) → kind ≡ leaf-kind (operation o) → LeafNode
+    unfolding part-count
+    operation-node sum e = record {
+      shape = rw (same-kind ∙ e, e);
+      plain = rw e;
+      parts = rw e (operates 4 (omega arith) (omega arith));
+    }
+    operation-node difference e = record {
+      shape = rw (same-kind ∙ e, e);
+      plain = rw e;
+      parts = rw e (operates 5 (omega arith) (omega arith));
+    }
+    operation-node less e = record {
+      shape = rw (same-kind ∙ e, e);
+      plain = rw e;
+      parts = rw e (operates 6 (omega arith) (omega arith));
     }
 
-    operation-node : (o : Operation) → kind ≡ leaf-kind (operation o) → Noted
-    unfolding part-count
-    operation-node sum e =
-        rw e (record { shape = rw (same-kind ∙ e); counted = operates 4 (omega arith) (omega arith) })
-    operation-node difference e =
-        rw e (record { shape = rw (same-kind ∙ e); counted = operates 5 (omega arith) (omega arith) })
-    operation-node less e =
-        rw e (record { shape = rw (same-kind ∙ e); counted = operates 6 (omega arith) (omega arith) })
-
-    leaf-node : (l : Leaf) → kind ≡ leaf-kind l → Noted
+    leaf-node : (l : Leaf) → kind ≡ leaf-kind l → LeafNode
     unfolding part-count
     leaf-node (operation o) e = operation-node o e
-    leaf-node (call f) e = rw e (record {
-      shape = rw (same-kind ∙ e, same-low);
-      counted = record {
+    leaf-node (call f) e = record {
+      shape = rw (same-kind ∙ e, e, same-low);
+      plain = rw e;
+      parts = rw e (record {
         plain = inl refl;
         parts = omega (arith, rw e at highest);
         second = omega (arith, rw e at lowest);
         depth = λ i. absurd (let f : ⊥ = omega arith in f);
-      };
-    })
-    leaf-node (literal d) e = rw e (record {
-      shape = rw (same-kind ∙ e, same-high);
-      counted = record {
+      });
+    }
+    leaf-node (literal d) e = record {
+      shape = rw (same-kind ∙ e, e, same-high);
+      plain = rw e;
+      parts = rw e (record {
         plain = inr (inl refl);
         parts = omega (arith, rw e at lowest);
         second = omega (arith, rw e at highest);
         depth = λ i. omega (arith, rw e at highest);
-      };
-    })
-    leaf-node index e = rw e (record {
-      shape = rw (same-kind ∙ e);
-      counted = record {
-        plain = inr (inr (inr (inl (refl, refl))));
-        parts = omega arith;
-        second = omega arith;
-        depth = λ i. omega arith;
-      };
-    })
-    leaf-node length-of e = rw e (record {
-      shape = rw (same-kind ∙ e);
-      counted = record {
-        plain = inr (inr (inl (refl, refl)));
-        parts = omega arith;
-        second = omega arith;
-        depth = λ i. omega arith;
-      };
-    })
+      });
+    }
+    leaf-node length-of e = record {
+      shape = rw (same-kind ∙ e, e);
+      plain = rw e;
+      parts = rw e (fixed 11 1 (λ i. omega arith) (omega arith) (inr (inr (inl (refl, refl)))));
+    }
+    leaf-node iota e = record {
+      shape = rw (same-kind ∙ e, e);
+      plain = rw e;
+      parts = rw e (fixed 17 1 (λ i. omega arith) (omega arith) (inr (inr (inr (inl (refl, refl))))));
+    }
+    leaf-node index e = record {
+      shape = rw (same-kind ∙ e, e);
+      plain = rw e;
+      parts = rw e (fixed 10 2 (λ i. omega arith) (omega arith) (inr (inr (inr (inr (inl (refl, refl)))))));
+    }
+    leaf-node replicate e = record {
+      shape = rw (same-kind ∙ e, e);
+      plain = rw e;
+      parts = rw e (fixed 18 2 (λ i. omega arith) (omega arith) (inr (inr (inr (inr (inr (inl (refl, refl))))))));
+    }
 
--- a node whose kind is none of the others is a leaf, with y and m as the code finds them
-pub leaf-as : {k w : List ℕ} {p kind low high : ℕ} (s : Seen k w at-part p kind low high) (y m : ℕ) →
-    y ≡ second-part kind low high → m ≡ part-count kind low high → (kind ≡ 2 → ⊥) → (kind ≡ 3 → ⊥) → (kind ≡ 7 → ⊥) →
-    (kind ≡ 12 → ⊥) → (kind ≡ 13 → ⊥) → LeafNode (s .node) kind y m
-leaf-as {k} {w} {p} {kind} {low} {high} s y m e f n₂ n₃ n₇ n₁₂ n₁₃ = rw (e, f) (go (sort-of (s .node) (fit .stands)))
+    leaf-compound : LeafNode → CompoundNode h kind low high
+    leaf-compound l = record {
+      tree = λ R p. ap (tree-of R p h) (l .shape) ∙ rw (l .plain, same-kind, same-low, same-high);
+      counted = record { leaf = λ f. l .parts };
+    }
+
+    loop-compound : (k : Loop) → kind ≡ loop-kind k → CompoundNode h kind low high
+    loop-compound mapping e = record {
+      tree = λ R p. rw (same-kind ∙ e, e, same-low);
+      counted = record { leaf = λ f. absurd (false≢true (sym (rw e at f))) };
+    }
+    loop-compound filtering e = record {
+      tree = λ R p. rw (same-kind ∙ e, e, same-low);
+      counted = record { leaf = λ f. absurd (false≢true (sym (rw e at f))) };
+    }
+    loop-compound reducing e = record {
+      tree = λ R p. rw (same-kind ∙ e, e, same-low, same-high);
+      counted = record { leaf = λ f. absurd (false≢true (sym (rw e at f))) };
+    }
+
+-- a node whose kind is none of the others is a leaf or a loop
+pub compound-as : {k w : List ℕ} {p kind low high : ℕ} (s : Seen k w at-part p kind low high) →
+    NoneOf (12 ∷ 7 ∷ 3 ∷ 2 ∷ []) kind → CompoundNode (s .node) kind low high
+compound-as {k} {w} {p} {kind} {low} {high} s n = go (sort-of (s .node) (fit .stands))
   where
     fit : HeadFits at-part (getD k p 255) (s .node)
     fit = head-fits k w at-part p (s .node) (s .stands)
 
-    go : Sort (s .node) → LeafNode (s .node) kind (second-part kind low high) (part-count kind low high)
-    go (K.number e) = absurd (n₂ (sym (s .same-kind) ∙ e))
-    go (K.name e) = absurd (n₃ (sym (s .same-kind) ∙ e))
-    go (K.let-in e) = absurd (n₇ (sym (s .same-kind) ∙ e))
-    go (K.if-else e) = absurd (n₁₂ (sym (s .same-kind) ∙ e))
-    go (K.leaf l e) = leaf-node (s .node) (s .same-kind) (s .same-low) (s .same-high) (s .lowest) (s .highest) l
-        (sym (s .same-kind) ∙ kind-of-leaf (s .node) l e)
-    go (K.loop mapping xs c e) = absurd (n₁₃ (sym (s .same-kind) ∙ kind-of-loop (s .node) mapping xs c e))
+    go : Sort (s .node) → CompoundNode (s .node) kind low high
+    go (K.number e) = absurd (n .0 .0 .0 .1 (sym (s .same-kind) ∙ e))
+    go (K.name e) = absurd (n .0 .0 .1 (sym (s .same-kind) ∙ e))
+    go (K.let-in e) = absurd (n .0 .1 (sym (s .same-kind) ∙ e))
+    go (K.if-else e) = absurd (n .1 (sym (s .same-kind) ∙ e))
+    go (K.leaf l e) =
+        leaf-compound (s .node) (s .same-kind) (s .same-low) (s .same-high) (s .lowest) (s .highest)
+        (leaf-node (s .node) (s .same-kind) (s .same-low) (s .same-high) (s .lowest) (s .highest) l
+        (sym (s .same-kind) ∙ kind-of-leaf (s .node) l e))
+    go (K.loop j xs c e) =
+        loop-compound (s .node) (s .same-kind) (s .same-low) (s .same-high) (s .lowest) (s .highest) j
+        (sym (s .same-kind) ∙ kind-of-loop (s .node) j xs c e)
 
 -- what stands at a node that fits
 pub fits-seen : {k w : List ℕ} {d p kind low high : ℕ} → NodeFits k w d p kind low high →
@@ -147,18 +193,9 @@ module _ (k w : List ℕ) (d p : ℕ) (some : d ≡ 0 → ⊥) where
     pub if-is : kind ≡ 12 → tree-at k w d p ≡ if-from (tree-at k w (d - 1)) (p + 1)
     if-is e = tree-is ∙ rw (s .same-kind, e)
 
-    pub map-is : kind ≡ 13 → tree-at k w d p ≡ map-from (tree-at k w (d - 1)) low (p + 1)
-    unfolding several size
-    map-is e = tree-is ∙ rw (s .same-kind, e, s .same-low) (ap
-        (λ (i : ℕ). map-of low (tree-at k w (d - 1) (p + 1)) (tree-at k w (d - 1) i))
-        (let f : p + 1 + (size (tree-at k w (d - 1) (p + 1)) + 0) ≡ p + 1 + size (tree-at k w (d - 1) (p + 1)) =
-        omega arith in f))
-
-    pub leaf-is : {y : ℕ} (m : ℕ) → m ≡ part-count kind low high → LeafNode (s .node) kind y m →
-        tree-at k w d p ≡ compound kind y (several (tree-at k w (d - 1)) m (p + 1))
-    leaf-is m e l =
-        tree-is ∙ ap (tree-of (tree-at k w (d - 1)) p (s .node)) (l .shape)
-        ∙ rw (e, s .same-kind, s .same-low, s .same-high)
+    pub compound-is : CompoundNode (s .node) kind low high →
+        tree-at k w d p ≡ compound (tree-at k w (d - 1)) kind low high (p + 1)
+    compound-is c = tree-is ∙ c .tree (tree-at k w (d - 1)) p
 
   -- where no node fits stands the number 0
   pub wrong-tree : (n : Node) → node-outcome n p ≡ parted (look k w at-part p) → (n ≡ WrongKind) ⊎ (n ≡
@@ -248,14 +285,6 @@ let-after x at a b = omega arith
 pub if-after : (at : ℕ) (a b c : Expr) → at + 1 + size a + size b + size c ≡ at + size (if-else a b c)
 unfolding size
 if-after at a b c = omega arith
-
-pub map-after : (x at : ℕ) (a b : Expr) → at + 1 + size a + size b ≡ at + size (map-of x a b)
-unfolding size
-map-after x at a b = omega arith
-
-pub leaf-after : (l : Leaf) (at : ℕ) (es : Exprs) → at + 1 + sizes es ≡ at + size (leaf l es)
-unfolding size
-leaf-after l at es = omega arith
 
 pub any-default : (l : List ℕ) (x : ℕ) → length l ≡ 256 → x < 256 → getD l x 0 ≡ getD l x 65535
 any-default l x h g = same l x (omega arith)

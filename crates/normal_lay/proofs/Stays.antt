@@ -1,19 +1,17 @@
--- Laws of rows and notes that stay, of what was laid and is read back, and of sizes and depths.
+-- Laws of rows and notes that stay, of what was laid and is read back, and of sizes.
 use mathlib.Core.Path.{_≡_, refl, ap, _∙_}
 use mathlib.Core.List.{List, _∷_}
-use Prim.Native.Nat.{ℕ, pred, zero, suc, _+_, _*_, _/_, _%_, _<_, _≤_}
+use Prim.Native.Nat.{ℕ, suc, _+_, _/_, _%_, _<_, _≤_}
 use native.Mathlib.Omega.{arith}
-use native.Mathlib.Decide.{ℕ-discrete, decLt}
-use borrow.Author.Tests.{lt-ltb, le-ltb}
 use lib.ListN.{length, getD, set, length-set}
 use lib.Seq.{getD-set-same, getD-set-other}
 use Rattle.normal_code.specs.Plain.{Plain, placed, packed-row, line-of, line-at, note}
 use Rattle.normal_code.specs.Marks.{marks-of, marked-all}
 use Rattle.normal_code.specs.Stands.{LinkedAll}
-use Rattle.normal_lay.specs.Laid.{place-depth}
-use Rattle.normal_lay.specs.Made.{State, Lays, Sets, Splits, Sized, Low, Agree, Same}
+use Rattle.normal_lay.specs.Laid.{placed-all}
+use Rattle.normal_lay.specs.Made.{State, Lays, Sets, Opens, Splits, Sized, Agree, Same}
 use Rattle.normal_lay.proofs.Laws.{laid-below, laid-at, length-laid}
-use Rattle.normal_lay.proofs.Uses.{placed-all, noted-long, used-long, noted-below, used-marks, linked-all}
+use Rattle.normal_lay.proofs.Uses.{noted-long, used-long, noted-below, used-marks, linked-all}
 
 -- ---- rows and notes that stay
 
@@ -43,6 +41,12 @@ pub same-sets : {X Y : State} {z q x v : ℕ} (p : ℕ) → Sets X Y z q x v →
 same-sets {X} {Y} {z} {q} p s = record {
   rows = λ i h. ap (λ (x : List ℕ). getD x i 0) (s .rows);
   notes = λ i h. note-other (X .notes) (Y .notes) z q i (s .notes) (λ e. omega arith);
+}
+
+pub same-opens : {X Y : State} {z x : ℕ} {ds : List ℕ} (p : ℕ) → Opens X Y z x ds → Same X Y p z
+same-opens {X} {Y} {z} p s = record {
+  rows = λ i h. ap (λ (x : List ℕ). getD x i 0) (s .rows);
+  notes = λ i h. note-other (X .notes) (Y .notes) z z i (s .notes) (λ e. omega arith);
 }
 
 split-other : {X Y : State} {a m : ℕ} → Splits X Y a m → (i : ℕ) → (i ≡ a → ⊥) → (i ≡ m → ⊥) →
@@ -140,6 +144,14 @@ sized-sets {X} {Y} {z} {q} {x} {v} s e = record {
   last = ap length (e .last) ∙ s .last;
 }
 
+pub sized-opens : {X Y : State} {z x : ℕ} {ds : List ℕ} → Sized X → Opens X Y z x ds → Sized Y
+sized-opens {X} {Y} {z} {x} {ds} s e = record {
+  rows = ap length (e .rows) ∙ s .rows;
+  notes = ap length (e .notes) ∙ length-set (X .notes) z z ∙ s .notes;
+  depths = ap length (e .depths) ∙ length-laid (X .depths) x ds ∙ s .depths;
+  last = ap length (e .last) ∙ s .last;
+}
+
 pub sized-splits : {X Y : State} {a m : ℕ} → Sized X → Splits X Y a m → Sized Y
 sized-splits {X} {Y} {a} {m} s e = record {
   rows = ap length (e .rows) ∙ s .rows;
@@ -147,30 +159,3 @@ sized-splits {X} {Y} {a} {m} s e = record {
   depths = ap length (e .depths) ∙ s .depths;
   last = ap length (e .last) ∙ s .last;
 }
-
--- ---- depths
-
-pub low-more : {d : List ℕ} {c : ℕ} (m : ℕ) → Low d c → c ≤ m → Low d m
-low-more m s h = record { at = λ i. omega (arith, s .at i) }
-
-pub low-as : {d : List ℕ} {c : ℕ} (d₁ : List ℕ) → Low d c → d₁ ≡ d → Low d₁ c
-low-as {d} {c} d₁ s e = rw e s
-
-pub low-set : {d d₁ : List ℕ} {c : ℕ} (m x v : ℕ) → Low d c → d₁ ≡ set d x v → x < length d → c ≤ m → 2 * v ≤ 8 + m →
-    Low d₁ m
-low-set {d} {d₁} {c} m x v s e g h i = record { at = λ j. rw e (go j (ℕ-discrete j x)) }
-  where
-    go : (j : ℕ) → Dec (j ≡ x) → 2 * getD (set d x v) j 0 ≤ 8 + m
-    go j (yes p) = omega (arith, ap (λ (y : ℕ). getD (set d x v) y 0) p ∙ getD-set-same d x v 0 g)
-    go j (no f) = omega (arith, getD-set-other d x j v 0 f, s .at j)
-
-pub low-place : {d : List ℕ} {c : ℕ} → Low d c → (v : ℕ) → 2 * place-depth d v ≤ 8 + c
-low-place {d} {c} s v = go (decLt v 256)
-  where
-    go : Dec (v < 256) → 2 * place-depth d v ≤ 8 + c
-    go (yes h) = rw (lt-ltb v 256 h) (s .at v)
-    go (no f) = rw (le-ltb v 256 (omega (arith, f))) (omega arith)
-
-pub pred-le : (n : ℕ) → pred n ≤ n
-pred-le zero = omega arith
-pred-le (suc n) = omega arith

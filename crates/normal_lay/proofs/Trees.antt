@@ -1,4 +1,4 @@
--- Laws of laying trees: numbers, names, lets, a line after what is laid before it, and trees of their own.
+-- Laws of laying trees: numbers, names, lets and trees of their own.
 use mathlib.Core.Path.{_≡_, refl, sym, ap, subst, _∙_}
 use mathlib.Core.List.{List, [], _∷_}
 use Prim.Native.Nat.{ℕ, _+_, _<_, _≤_}
@@ -10,20 +10,21 @@ use Rattle.semantics.specs.Basics.{updated}
 use Rattle.semantics.specs.Syntax as S
 use Rattle.semantics.specs.Syntax.{Expr, Exprs}
 use Rattle.semantics.specs.Code as C
-use Rattle.semantics.specs.Code.{Tree, end, line, ending}
+use Rattle.semantics.specs.Code.{Tree, end, ending}
 use Rattle.semantics.specs.Normal.{Meanings, fresh, atom, lines, all-lines, normal}
-use Rattle.semantics.specs.Annotate.{atom-depth, tree-depths, line-depths}
-use Rattle.normal_code.specs.Plain.{Plain, meant, placed, packed-row, note}
+use Rattle.semantics.specs.Annotate.{atom-depth, tree-depths}
+use Rattle.normal_code.specs.Plain.{Plain, meant, placed, packed-row}
 use Rattle.normal_code.specs.Parts.{depth-in}
-use Rattle.normal_code.specs.Marks.{Marks, marks-of, marks, marked, marked-all, line-marks, line-extent}
-use Rattle.normal_code.specs.Stands.{Stands, StandsLine, Linked}
+use Rattle.normal_code.specs.Marks.{marks-of, marks, marked, marked-all}
+use Rattle.normal_code.specs.Stands.{Stands, Linked}
 use Rattle.normal_lay.specs.Laid.{place-depth}
 use Rattle.normal_lay.specs.Source.{laid-rows}
-use Rattle.normal_lay.specs.Made.{State, Lays, Sized, RowsAgree, LinesAgree, Same, Made, TreeMade, out}
+use Rattle.normal_lay.specs.Made.{State, Lays, Sized, RowsAgree, Made, TreeMade, out}
 use Rattle.normal_lay.specs.declared.Out.{Out}
 use Rattle.normal_lay.proofs.Widths.{normal-extent}
-use Rattle.normal_lay.proofs.Stays.{same-all, same-less, same-then, same-lays, agrees-back, agrees-from}
-use Rattle.normal_lay.proofs.Stays.{marks-laid, row-laid, linked-laid, sized-lays, low-more, low-as}
+use Rattle.normal_lay.proofs.Stays.{same-less, same-then, same-lays, agrees-back}
+use Rattle.normal_lay.proofs.Stays.{marks-laid, row-laid, linked-laid, sized-lays}
+use Rattle.normal_lay.proofs.Adds.{adds-to, adds-none, adds-then}
 
 -- ---- depths and atoms
 
@@ -60,37 +61,6 @@ pub normal-ending : (e : Expr) (μ : Meanings) (n : ℕ) → ending (normal e μ
 unfolding normal ending
 normal-ending e μ n = lines-ending e μ n (end (atom e μ n))
 
--- ---- a line, and what follows it
-
--- a tree stands at another name of its row, with other names of its marks
-pub stands-as : (F : Plain) (d : ℕ) (t : Tree) {p q : ℕ} {M N : Marks} → Stands F d t p M → p ≡ q → M ≡ N →
-    Stands F d t q N
-stands-as F d t {p} {q} {M} {N} s e f =
-    subst (λ (K : Marks). Stands F d t q K) f (subst (λ (i : ℕ). Stands F d t i M) e s)
-
--- the line L is laid from row q to before z
-pub record LineMade (w : List ℕ) (res : ℕ → ℕ) (L : C.Line) (X Y : State) (d₀ q z : ℕ) : Type 0 where
-  pub end-is : q + line-extent L ≡ z
-  pub marks-are : line-marks L q (marks-of (X .last)) ≡ marks-of (Y .last)
-  pub keeps : Same X Y q (q + 1)
-  pub back : note (Y .notes) z ≡ q
-  pub stands-line : (F : Plain) → F .operands ≡ w → LinesAgree Y F q z → (d : ℕ) → d₀ ≤ d →
-      StandsLine F d L q (marks-of (X .last))
-  pub depths-are : line-depths res L (depth-in (X .depths)) ≡ depth-in (Y .depths)
-
-module _ {w : List ℕ} {res : ℕ → ℕ} {L : C.Line} {X Y : State} {d₀ q z : ℕ} (l : LineMade w res L X Y d₀ q z) where
-  pub line-marked : (k : Tree) → marks (line L k) q (marks-of (X .last)) ≡ marks k z (marks-of (Y .last))
-  unfolding marks
-  line-marked k = rw (l .end-is, l .marks-are)
-
-  pub line-stands : (F : Plain) → F .operands ≡ w → LinesAgree Y F q z → q < z → (d : ℕ) → d₀ ≤ d → (k : Tree) →
-      Stands F d k z (marks-of (Y .last)) → Stands F d (line L k) q (marks-of (X .last))
-  line-stands F u a g d h k s = (
-    l .stands-line F u a d h,
-    rw (l .end-is) (a .notes z g (omega arith) ∙ l .back),
-    stands-as F d k s (sym (l .end-is)) (sym (l .marks-are)),
-  )
-
 -- over the file's operands and the results of the functions
 module _ (w : List ℕ) (res : ℕ → ℕ) where
   -- a tree without lines
@@ -101,13 +71,8 @@ module _ (w : List ℕ) (res : ℕ → ℕ) where
     next = refl;
     count = omega (arith, f);
     reach = omega (arith, g);
-    sized = s;
-    low = λ c j. low-more (c + fresh e) j (omega arith);
     gives = i;
-    same = same-all X p (p + 1);
-    marks = λ k. ap (λ (t : Tree). marks t p (marks-of (X .last))) (h k);
-    stands = λ F u a d j k b. subst (λ (t : Tree). Stands F d t p (marks-of (X .last))) (sym (h k)) b;
-    depths = λ k. ap (λ (t : Tree). tree-depths res t (depth-in (X .depths))) (h k);
+    adds = adds-none p d₀ s (λ k. sym (h k));
   }
 
   pub made-number : (z : ℤ) (μ : Meanings) (X : State) (n p d₀ last v : ℕ) → Sized X →
@@ -136,17 +101,8 @@ module _ (w : List ℕ) (res : ℕ → ℕ) where
         next = B .next;
         count = omega (arith, A .count, B .count);
         reach = omega (arith, A .reach, B .reach);
-        sized = B .sized;
-        low = λ c h. low-more (c + (fresh a + fresh b)) (B .low (c + fresh a) (A .low c h)) (omega arith);
         gives = B .gives;
-        same = same-then (A .same)
-            (same-less p (p + 1) (B .same) (omega (arith, A .reach)) (omega (arith, A .reach)));
-        marks = λ k. A .marks _ ∙ B .marks k;
-        stands = λ F u g d h k s.
-            A .stands F u (agrees-back (ra .p) (ra .p + 1) g (B .same) (omega (arith, B .reach))
-            (omega (arith, B .reach))) d (omega arith) _
-            (B .stands F u (agrees-from (ra .p) g (omega (arith, A .reach))) d (omega arith) k s);
-        depths = λ k. A .depths _ ∙ B .depths k;
+        adds = adds-to (rb .p) (d₀ + 1) (adds-then (A .adds) (B .adds)) refl (omega arith);
       }
 
   -- ---- a tree of its own
@@ -157,10 +113,10 @@ module _ (w : List ℕ) (res : ℕ → ℕ) where
         Stands F d (end (atom e μ n)) (r .p) (marks-of (Y .last))
     end-there F u a d = (
       ap (λ (v : ℕ). meant (placed (F .operands) v))
-          (row-laid l (A .sized) F here (omega (arith, A .reach)) (omega arith) 1 (r .p + 1) refl (omega arith))
+          (row-laid l (A .adds .sized) F here (omega (arith, A .reach)) (omega arith) 1 (r .p + 1) refl (omega arith))
           ∙ ap (λ (o : List ℕ). meant (placed o (r .place))) u ∙ A .gives,
       subst (λ (b : C.Atom). Linked F b (r .p + 1) (marks-of (Y .last))) (A .gives)
-          (linked-laid l (A .sized) F here (omega (arith, A .reach)) (omega arith) w .0),
+          (linked-laid l (A .adds .sized) F here (omega (arith, A .reach)) (omega arith) w .0),
     )
       where
         here : RowsAgree Z F p (r .p + 1 + 1)
@@ -172,16 +128,16 @@ module _ (w : List ℕ) (res : ℕ → ℕ) where
       next = A .next;
       count = A .count;
       reach = omega (arith, A .reach);
-      sized = sized-lays (A .sized) l;
-      low = λ c h. low-as (Z .depths) (A .low c h) (l .depths);
+      sized = sized-lays (A .adds .sized) l;
       gives = A .gives;
-      same = same-then (A .same)
+      same = same-then (A .adds .same)
           (same-less p (p + 1) (same-lays l) (omega (arith, A .reach)) (omega (arith, A .reach)));
-      marks = marks-laid l (A .sized) w ∙ ap (λ (b : C.Atom). marked b (r .p + 1) (marks-of (Y .last))) (A .gives)
-          ∙ sym (A .marks (end (atom e μ n)));
+      marks = marks-laid l (A .adds .sized) w
+          ∙ ap (λ (b : C.Atom). marked b (r .p + 1) (marks-of (Y .last))) (A .gives)
+          ∙ sym (A .adds .marks (end (atom e μ n)));
       wide = normal-extent e μ n;
       stands = λ F u a d h.
-          A .stands F u (agrees-back (r .p) (r .p + 1) a (same-lays l) (omega arith) (omega arith)) d h
+          A .adds .stands F u (agrees-back (r .p) (r .p + 1) a (same-lays l) (omega arith) (omega arith)) d h
           (end (atom e μ n)) (end-there F u a d);
-      depths = A .depths (end (atom e μ n)) ∙ ap depth-in (sym (l .depths));
+      depths = A .adds .depths (end (atom e μ n)) ∙ ap depth-in (sym (l .depths));
     }

@@ -10,16 +10,10 @@ use lib.ListN.{length, getD, set, length-set}
 use lib.Seq.{getD-set-same, getD-set-other}
 use borrow.Author.Tests.{lt-ltb, le-ltb, eq-eqb, ne-eqb}
 use Rattle.semantics.specs.Basics.{updated}
-use Rattle.semantics.specs.Code as C
 use Rattle.normal_code.specs.Plain.{Plain, meant, placed, note}
 use Rattle.normal_code.specs.Marks.{marks-of, marked, marked-all}
 use Rattle.normal_code.specs.Stands.{Linked, LinkedAll}
-use Rattle.normal_lay.specs.Laid.{used-once, noted-once, used, noted}
-
--- the atoms of some places
-abbrev pub placed-all : List ℕ → List ℕ → List C.Atom
-placed-all w [] = []
-placed-all w (v ∷ vs) = meant (placed w v) ∷ placed-all w vs
+use Rattle.normal_lay.specs.Laid.{used-once, noted-once, used, noted, placed-all}
 
 -- a table changed at one place is its function changed there
 pub table-set : (d : List ℕ) (z x v : ℕ) → x < length d → (λ y. getD (set d x v) y z) ≡ updated (λ y. getD d y z) x v

@@ -6,6 +6,8 @@ use mathlib.Core.List.{List, [], _∷_}
 use Prim.Native.Nat.{ℕ, zero, suc, pred, _+_}
 use lib.Dec.{ltb, eqb}
 use lib.ListN.{getD, set}
+use Rattle.semantics.specs.Kinds.{Loop, mapping, filtering, reducing}
+use Rattle.semantics.specs.Code as C
 use Rattle.semantics.specs.Normal.{Meanings}
 use Rattle.normal_code.specs.Plain.{meant, placed}
 
@@ -55,16 +57,41 @@ nowhere = 65535
 abbrev pub meanings : List ℕ → List ℕ → Meanings
 meanings operands places = λ y. meant (placed operands (getD places y nowhere))
 
+-- the atoms of some places
+abbrev pub placed-all : List ℕ → List ℕ → List C.Atom
+placed-all operands [] = []
+placed-all operands (v ∷ vs) = meant (placed operands v) ∷ placed-all operands vs
+
 -- the depth of an atom by its place
 abbrev pub place-depth : List ℕ → ℕ → ℕ
 place-depth depths v = cond (ltb v 256) (getD depths v 0) 0
 
--- the depth of the name that a line without trees binds: y is its second number, v the place of its first atom
-abbrev pub line-depth : List ℕ → List ℕ → ℕ → ℕ → ℕ → ℕ
-line-depth results depths kind y v =
+-- the depth of the name that a leaf binds: y is its second number, v and u are the places of its first two atoms
+abbrev pub line-depth : List ℕ → List ℕ → ℕ → ℕ → ℕ → ℕ → ℕ
+line-depth results depths kind y v u =
     cond (eqb kind 8) (getD results y 0)
     (cond (eqb kind 9) (suc y)
-    (cond (eqb kind 10) (pred (place-depth depths v)) 0))
+    (cond (eqb kind 10) (pred (place-depth depths v))
+    (cond (eqb kind 17) 1
+    (cond (eqb kind 18) (suc (place-depth depths u)) 0))))
+
+-- the depths of the names of a loop's pass, by the places v and u of its atoms
+abbrev pub pass-places : Loop → List ℕ → ℕ → ℕ → List ℕ
+pass-places mapping depths v u = pred (place-depth depths v) ∷ []
+pass-places filtering depths v u = pred (place-depth depths v) ∷ []
+pass-places reducing depths v u = place-depth depths v ∷ (pred (place-depth depths u) ∷ [])
+
+-- the depth of the name that a loop binds: v is the place of its first atom, t that of the atom that its tree gives
+abbrev pub loop-place : Loop → List ℕ → ℕ → ℕ → ℕ
+loop-place mapping depths v t = suc (place-depth depths t)
+loop-place filtering depths v t = place-depth depths v
+loop-place reducing depths v t = place-depth depths v
+
+-- the third number of a loop's row, whose name is n: a reduce's second name of a pass
+abbrev pub third-of : Loop → ℕ → ℕ
+third-of mapping n = 0
+third-of filtering n = 0
+third-of reducing n = n + 2
 
 -- the first m of a list
 unfoldable pub firsts : List ℕ → ℕ → ℕ → List ℕ

@@ -2,19 +2,24 @@
 use mathlib.Core.Path.{_≡_}
 use mathlib.Core.Logic.{_⊎_}
 use mathlib.Core.List.{List}
-use Prim.Native.Nat.{ℕ, _+_, _*_, _<_, _≤_}
+use mathlib.Core.Bool.{false}
+use Prim.Native.Nat.{ℕ, _+_, _<_, _≤_}
 use lib.ListN.{length, getD, set}
 use Rattle.semantics.specs.Syntax.{Expr}
-use Rattle.semantics.specs.Code.{Tree}
-use Rattle.semantics.specs.Normal.{Meanings, fresh, atom, lines, normal}
+use Rattle.semantics.specs.Kinds.{Loop}
+use Rattle.semantics.specs.File.{part-count}
+use Rattle.semantics.specs.Code as C
+use Rattle.semantics.specs.Code.{Atom, Tree}
+use Rattle.semantics.specs.Normal.{Meanings, fresh, atom, numbered, meaning-names, lines, normal}
 use Rattle.semantics.specs.Annotate.{tree-depths}
 use Rattle.script_read.specs.Told.{Parts}
-use Rattle.normal_code.specs.Plain.{Plain, meant, placed, note}
+use Rattle.normal_code.specs.Plain.{Plain, meant, placed, is-looping, loop-size, of-loop, note}
 use Rattle.normal_code.specs.Parts.{depth-in}
 use Rattle.normal_code.specs.Marks.{marks-of, marks, extent}
 use Rattle.normal_code.specs.Stands.{Stands}
-use Rattle.normal_lay.specs.Source.{laid-rows}
-use Rattle.normal_lay.specs.Laid.{LineLaid}
+use Rattle.normal_lay.specs.Source.{second-part, laid-rows}
+use Rattle.normal_lay.specs.Shallow.{Shallow, ShallowLine}
+use Rattle.normal_lay.specs.Laid.{laid, LineLaid}
 use Rattle.normal_lay.specs.declared.Out.{Out}
 use Rattle.normal_lay.specs.declared.Spot.{Spot}
 
@@ -46,6 +51,13 @@ pub record Sets (X Y : State) (z q x v : ℕ) : Type 0 where
   pub last : Y .last ≡ X .last
   pub depths : Y .depths ≡ set (X .depths) x v
 
+-- Y is X with the note z at row z, and the depths ds of the names from x on
+pub record Opens (X Y : State) (z x : ℕ) (ds : List ℕ) : Type 0 where
+  pub rows : Y .rows ≡ X .rows
+  pub notes : Y .notes ≡ set (X .notes) z z
+  pub last : Y .last ≡ X .last
+  pub depths : Y .depths ≡ laid (X .depths) x ds
+
 -- Y is X with the note m at row a, and at row m itself
 pub record Splits (X Y : State) (a m : ℕ) : Type 0 where
   pub rows : Y .rows ≡ X .rows
@@ -59,10 +71,6 @@ pub record Sized (X : State) : Type 0 where
   pub notes : length (X .notes) ≡ 2048
   pub depths : length (X .depths) ≡ 256
   pub last : length (X .last) ≡ 256
-
--- a bound of the depths, by the names that were taken: a map takes two and adds one
-pub record Low (depths : List ℕ) (c : ℕ) : Type 0 where
-  pub at : (i : ℕ) → 2 * getD depths i 0 ≤ 8 + c
 
 -- F has X's rows from lo to before hi, and X's notes after lo and before top
 pub record Agree (X : State) (F : Plain) (lo hi top : ℕ) : Type 0 where
@@ -82,46 +90,76 @@ pub record Same (X Y : State) (p top : ℕ) : Type 0 where
   pub rows : (i : ℕ) → i < p → getD (Y .rows) i 0 ≡ getD (X .rows) i 0
   pub notes : (i : ℕ) → i < top → note (Y .notes) i ≡ note (X .notes) i
 
--- what stays the same in a descent: the file, the functions' results and the meanings of names
-pub record Given (kinds operands results places : List ℕ) : Type 0 where
+-- what stays the same in a descent: the file and the meanings of names
+pub record Given (kinds operands places : List ℕ) : Type 0 where
   pub parts : Parts kinds operands
-  pub low : (f : ℕ) → getD results f 0 ≤ 4
   pub long : length places ≡ 256
 
--- a line without trees: at most 16 parts, and a second number in range
+-- how many parts a leaf of a kind may have
+abbrev pub PartsFit : ℕ → ℕ → Type 0
+PartsFit kind m =
+    (kind ≡ 8) ⊎ ((kind ≡ 9) ⊎ (((kind ≡ 11) × (m ≡ 1)) ⊎ (((kind ≡ 17) × (m ≡ 1))
+    ⊎ (((kind ≡ 10) × (m ≡ 2)) ⊎ (((kind ≡ 18) × (m ≡ 2)) ⊎ ((kind ≤ 6) × ((4 ≤ kind) × (m ≡ 2))))))))
+
+-- a leaf's line: how many parts it has, and a second number in range
 pub record Counted (kind y m : ℕ) : Type 0 where
-  pub plain : (kind ≡ 8) ⊎ ((kind ≡ 9) ⊎ (((kind ≡ 11) × (m ≡ 1))
-      ⊎ (((kind ≡ 10) × (m ≡ 2)) ⊎ ((kind ≤ 6) × ((4 ≤ kind) × (m ≡ 2))))))
+  pub plain : PartsFit kind m
   pub parts : m ≤ 16
   pub second : y < 32
   pub depth : kind ≡ 9 → y ≤ 3
 
--- there is room for the lines of a tree that ends before node `last`
-pub record Ready (X : State) (e : Expr) (last n p : ℕ) : Type 0 where
-  pub sized : Sized X
-  pub credit : ℕ
-  pub low : Low (X .depths) credit
-  pub below : credit ≤ n
-  pub nodes : last ≤ 1024
-  pub names : n + fresh e ≤ 256
-  pub rows : p + laid-rows e ≤ 2040
+-- a node that is a leaf or a loop
+pub record Compounded (kind low high : ℕ) : Type 0 where
+  pub leaf : is-looping kind ≡ false → Counted kind (second-part kind low high) (part-count kind low high)
+
+-- the line of a loop that binds n: its written names low and high mean the new names after n, its body is b
+abbrev pub loop-line : Loop → ℕ → ℕ → Meanings → ℕ → List Atom → Expr → C.Line
+loop-line k low high μ n us b =
+    let xs = of-loop k low high in
+    C.loop n k (numbered xs (n + 1)) us (normal b (meaning-names xs (n + 1) μ) (n + (1 + length xs)))
+
+-- over the results of the functions and the meanings of the written names
+module _ (results : ℕ → ℕ) (μ : Meanings) where
+  -- there is room for the lines of a tree that ends before node `last`, and they are shallow before some tree
+  pub record Ready (X : State) (e : Expr) (last n p : ℕ) : Type 0 where
+    pub sized : Sized X
+    pub nodes : last ≤ 1024
+    pub names : n + fresh e ≤ 256
+    pub rows : p + laid-rows e ≤ 2040
+    pub after : Tree
+    pub shallow : Shallow results (lines e μ n after) (depth-in (X .depths))
+
+  -- there is room for a loop's row and its tree, of the body b, after its m atoms us
+  pub record PassReady (X : State) (k : Loop) (low high : ℕ) (us : List Atom) (b : Expr) (last n p : ℕ) : Type 0 where
+    pub sized : Sized X
+    pub nodes : last ≤ 1024
+    pub names : n + 1 + loop-size k + fresh b ≤ 256
+    pub rows : p + 1 + loop-size k + laid-rows b + 2 ≤ 2040
+    pub shallow : ShallowLine results (loop-line k low high μ n us b) (depth-in (X .depths))
 
 -- over the file's operands w and the results of the functions
 module _ (w : List ℕ) (results : ℕ → ℕ) where
-  -- the lines of a tree from row p on; its trees are of d₀ levels at most
+  -- from X to Y the rows from p to before q are laid: those of what f puts before a tree, whose trees are of d₀ levels at
+  -- most
+  pub record Adds (f : Tree → Tree) (X Y : State) (p q d₀ : ℕ) : Type 0 where
+    pub on : p ≤ q
+    pub sized : Sized Y
+    pub same : Same X Y p (p + 1)
+    pub marks : (k : Tree) → marks (f k) p (marks-of (X .last)) ≡ marks k q (marks-of (Y .last))
+    pub stands : (F : Plain) → F .operands ≡ w → LinesAgree Y F p q → (d : ℕ) → d₀ ≤ d → (k : Tree) →
+        Stands F d k q (marks-of (Y .last)) → Stands F d (f k) p (marks-of (X .last))
+    pub depths : (k : Tree) →
+        tree-depths results (f k) (depth-in (X .depths)) ≡ tree-depths results k (depth-in (Y .depths))
+    pub shallow : (k : Tree) →
+        Shallow results (f k) (depth-in (X .depths)) → Shallow results k (depth-in (Y .depths))
+
+  -- the lines of a tree from row p on
   pub record Made (e : Expr) (μ : Meanings) (X Y : State) (n p d₀ last : ℕ) (r : Out) : Type 0 where
     pub next : r .next ≡ last
     pub count : r .n ≡ n + fresh e
     pub reach : r .p ≡ p + laid-rows e
-    pub sized : Sized Y
-    pub low : (c : ℕ) → Low (X .depths) c → Low (Y .depths) (c + fresh e)
     pub gives : meant (placed w (r .place)) ≡ atom e μ n
-    pub same : Same X Y p (p + 1)
-    pub marks : (k : Tree) → marks (lines e μ n k) p (marks-of (X .last)) ≡ marks k (r .p) (marks-of (Y .last))
-    pub stands : (F : Plain) → F .operands ≡ w → LinesAgree Y F p (r .p) → (d : ℕ) → d₀ ≤ d → (k : Tree) →
-        Stands F d k (r .p) (marks-of (Y .last)) → Stands F d (lines e μ n k) p (marks-of (X .last))
-    pub depths : (k : Tree) →
-        tree-depths results (lines e μ n k) (depth-in (X .depths)) ≡ tree-depths results k (depth-in (Y .depths))
+    pub adds : Adds (lines e μ n) X Y p (r .p) d₀
 
   -- a tree from row p on, closed by its end line
   pub record TreeMade (e : Expr) (μ : Meanings) (X Y : State) (n p d₀ last : ℕ) (r : Out) : Type 0 where
@@ -129,7 +167,6 @@ module _ (w : List ℕ) (results : ℕ → ℕ) where
     pub count : r .n ≡ n + fresh e
     pub reach : r .p ≡ p + laid-rows e + 2
     pub sized : Sized Y
-    pub low : (c : ℕ) → Low (X .depths) c → Low (Y .depths) (c + fresh e)
     pub gives : meant (placed w (r .place)) ≡ atom e μ n
     pub same : Same X Y p (p + 1)
     pub marks : marks-of (Y .last) ≡ marks (normal e μ n) p (marks-of (X .last))

@@ -1,17 +1,17 @@
 -- The tree that stands at a node of an accepted file, and how many rows its lines take.
 use mathlib.Core.Path.{_≡_}
 use mathlib.Core.Bool.{cond}
-use mathlib.Core.List.{List, [], _∷_}
+use mathlib.Core.List.{List}
 use Prim.Native.Nat.{ℕ, zero, suc, _+_}
 use lib.IntN.{pos}
 use lib.Dec.{eqb}
-use Rattle.semantics.specs.Kinds.{Leaf, operation, call, literal, index, length-of, mapping}
+use Rattle.semantics.specs.Kinds.{Leaf, call, literal, Loop}
 use Rattle.semantics.specs.Syntax.{Expr, number, name, let-in, leaf, if-else, loop, Exprs, none, more, size, sizes}
 use Rattle.semantics.specs.File as S
-use Rattle.semantics.specs.File.{at-part, look, node-at, part-count, Shape, leaf-of, loop-of, shape-of}
+use Rattle.semantics.specs.File.{at-part, look, node-at, part-count, Shape, leaf-of, shape-of}
 use Rattle.script_read.specs.Told.{node-outcome, parted}
 use Rattle.script_read.specs.declared.Node.the-variants.{Fits}
-use Rattle.normal_code.specs.Plain.{operation-of}
+use Rattle.normal_code.specs.Plain.{is-unary, is-looping, unary-of, binary-of, loop-of, loop-size, of-loop}
 
 -- m trees, one after the other
 unfoldable pub several : (ℕ → Expr) → ℕ → ℕ → Exprs
@@ -25,28 +25,29 @@ second-part kind low high = cond (eqb kind 8) low (cond (eqb kind 9) high 0)
 -- the leaf of a line by its kind and its second number
 abbrev pub leaf-by : ℕ → ℕ → Leaf
 leaf-by kind y =
-    cond (eqb kind 8) (call y)
-    (cond (eqb kind 9) (literal y)
-    (cond (eqb kind 10) index
-    (cond (eqb kind 11) length-of (operation (operation-of kind)))))
+    cond (eqb kind 8) (call y) (cond (eqb kind 9) (literal y) (cond (is-unary kind) (unary-of kind) (binary-of kind)))
 
--- the tree of a node whose line has no trees
-abbrev pub compound : ℕ → ℕ → Exprs → Expr
-compound kind y es = leaf (leaf-by kind y) es
+-- how many parts a node has before its tree, if it is a loop's, or all in all
+abbrev pub parts-before : ℕ → ℕ → ℕ → ℕ
+parts-before kind low high = cond (is-looping kind) (loop-size (loop-of kind)) (part-count kind low high)
 
--- a map: one part before its body, and one name of a pass
-abbrev pub map-of : ℕ → Expr → Expr → Expr
-map-of x a b = loop mapping (x ∷ []) (more a none) b
+-- the tree of a leaf's or a loop's node whose parts are read by R from p on
+abbrev pub loop-from : (ℕ → Expr) → Loop → ℕ → ℕ → ℕ → Expr
+loop-from R k low high p =
+    let es = several R (loop-size k) p in
+    loop k (of-loop k low high) es (R (p + sizes es))
 
--- the trees of a let, an if and a map whose first part is at p
+abbrev pub compound : (ℕ → Expr) → ℕ → ℕ → ℕ → ℕ → Expr
+compound R kind low high p =
+    cond (is-looping kind) (loop-from R (loop-of kind) low high p)
+    (leaf (leaf-by kind (second-part kind low high)) (several R (part-count kind low high) p))
+
+-- the trees of a let and an if whose first part is at p
 abbrev pub let-from : (ℕ → Expr) → ℕ → ℕ → Expr
 let-from R x p = let-in x (R p) (R (p + size (R p)))
 
 abbrev pub if-from : (ℕ → Expr) → ℕ → Expr
 if-from R p = if-else (R p) (R (p + size (R p))) (R (p + size (R p) + size (R (p + size (R p)))))
-
-abbrev pub map-from : (ℕ → Expr) → ℕ → ℕ → Expr
-map-from R x p = map-of x (R p) (R (p + size (R p)))
 
 -- the nodes after two and three parts from p on
 abbrev pub two-after : (ℕ → Expr) → ℕ → ℕ
@@ -62,7 +63,7 @@ tree-of R p h S.none =
     (cond (eqb (h .kind) 3) (name (h .low))
     (cond (eqb (h .kind) 7) (let-from R (h .low) (p + 1)) (if-from R (p + 1))))
 tree-of R p h (leaf-of l) = leaf l (several R (part-count (h .kind) (h .low) (h .high)) (p + 1))
-tree-of R p h (loop-of k xs c) =
+tree-of R p h (S.loop-of k xs c) =
     loop k xs (several R c (p + 1)) (R (p + 1 + sizes (several R c (p + 1))))
 
 abbrev pub node-tree : (ℕ → Expr) → ℕ → S.Node → Expr

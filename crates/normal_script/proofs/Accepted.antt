@@ -6,9 +6,11 @@ use native.Mathlib.Omega.{arith}
 use lib.ListN.{length, getD}
 use Rattle.semantics.specs.Syntax.{Parameter, Function, function-size}
 use Rattle.semantics.specs.File.{Place}
-use Rattle.semantics.specs.Normal.{fresh}
+use Rattle.semantics.specs.Normal.{fresh, normal-body}
+use Rattle.semantics.specs.Annotate.{parameter-depths-from}
 use Rattle.script_read.specs.Told.{Parts, low-at, high-at}
 use Rattle.script_read.proofs.Written.{HeadAt, ParametersWritten, FunctionWritten}
+use Rattle.normal_lay.specs.Shallow.{Shallow}
 use Rattle.normal_lay.proofs.Nodes.{written-tree}
 use Rattle.normal_script.specs.Read.{parameters-at, read-function, Fitting}
 use Rattle.normal_script.proofs.Parameters.{count-most}
@@ -37,13 +39,13 @@ module _ (k w : List ℕ) where
         written-tree k w (g .body) 64 (p + 1 + length (g .parameters)) (h .body),
       )
 
-  pub fitting : (results : List ℕ) (g : Function) (p : ℕ) → FunctionWritten k w g p → Parts k w → ((f : ℕ) → getD
-      results f 0 ≤ 4) →
+  pub fitting : (results : List ℕ) (g : Function) (p : ℕ) → FunctionWritten k w g p → Parts k w →
+      Shallow (λ f. getD results f 0) (normal-body g) (parameter-depths-from (g .parameters) 0) →
       p + function-size g ≤ 1024 → length (g .parameters) + fresh (g .body) ≤ 256 → Fitting k w results p
   unfolding function-size
   fitting results g p h s l n m = record {
     parts = s;
-    low = l;
+    shallow = rw (function-is g p h) l;
     few = count-most k w p;
     names = rw (low-there (h .head), function-is g p h) m;
     nodes = rw (low-there (h .head), function-is g p h) (omega arith);

@@ -1,5 +1,5 @@
 -- Laws of the functions of an accepted script.
-use mathlib.Core.Path.{_≡_, refl, sym, ap, _∙_, fun-ext}
+use mathlib.Core.Path.{_≡_, refl, sym, ap, subst, _∙_, fun-ext}
 use mathlib.Core.Bool.{Bool, true, false, cond}
 use mathlib.Core.List.{List, [], _∷_, _++_}
 use mathlib.Core.Option.{none, some}
@@ -14,8 +14,8 @@ use borrow.Author.Tests.{ltb-false}
 use Rattle.semantics.specs.Syntax.{Function, Script, function-at, no-function, function-size}
 use Rattle.semantics.specs.Code.{Row}
 use Rattle.semantics.specs.File.{at-function}
-use Rattle.semantics.specs.Normal.{fresh, too-many-names-from}
-use Rattle.semantics.specs.Annotate.{result-of, depths-of, annotated-body, function-rows, functions-rows, code}
+use Rattle.semantics.specs.Normal.{fresh, too-many-names-from, normal-body}
+use Rattle.semantics.specs.Annotate.{parameter-depths-from, result-of, depths-of, annotated-body, function-rows, functions-rows, code}
 use Rattle.script_read.specs.Told.{high-at}
 use Rattle.script_read.proofs.Written.{FunctionWritten, ScriptWritten, total, script-written}
 use Rattle.script_read.specs.Starts.{start-of}
@@ -24,8 +24,9 @@ use Rattle.script_read.proofs.Ends.{script-ends}
 use Rattle.script_read.proofs.Tables.{none-set}
 use Rattle.normal_write.specs.Wrote.{Wrote}
 use Rattle.normal_write.proofs.Rows.{wrote-none, wrote-then, wrote-as}
+use Rattle.normal_lay.specs.Shallow.{Shallow}
 use Rattle.normal_script.specs.Read.{read-function, head-rows, rows-by, depths-by, Fitting}
-use Rattle.normal_script.proofs.Parameters.{result-most}
+use Rattle.normal_script.proofs.Typed.{body-shallow, clean-accepted}
 use Rattle.normal_script.proofs.Accepted.{function-is, fitting, high-there}
 use Rattle.normal_script.specs.Script.{Translatable, Resulting}
 
@@ -137,31 +138,20 @@ drop-at : (gs : Script) (i : ℕ) → i < length gs → drop i gs ≡ function-a
 drop-at gs i h = drop-cons gs i no-function h
 
 module _ {k w : List ℕ} {n : ℕ} {ss rs : List ℕ} (t : Translatable k w n ss) (hd : Resulting (t .tree) rs) where
-  low-results : (f : ℕ) → getD rs f 0 ≤ 4
-  low-results f = go (decLt f (length (t .tree)))
-    where
-      go : Dec (f < length (t .tree)) → getD rs f 0 ≤ 4
-      go (yes h) =
-          omega (
-            arith,
-            hd .at f,
-            high-there k w (written-at k w (t .tree) 0 f h (known t .0) .head),
-            result-most k w (start-of (t .tree) 0 f),
-          )
-      go (no h) = omega (
-        arith,
-        hd .at f,
-        ap (λ (y : Function). y .result) (function-past (t .tree) f
-            (omega (arith, h))),
-      )
+  shallow-at : (i : ℕ) → let g = function-at (t .tree) i in
+      Shallow (λ f. getD rs f 0) (normal-body g) (parameter-depths-from (g .parameters) 0)
+  shallow-at i =
+      let g = function-at (t .tree) i in
+      subst (λ (q : ℕ → ℕ). Shallow q (normal-body g) (parameter-depths-from (g .parameters) 0))
+      (fun-ext (λ f. sym (hd .at f))) (body-shallow (t .tree) g (clean-accepted (t .tree) (t .clean) i))
 
   pub fits-at : (i at : ℕ) → i < n → at ≡ getD ss i 0 → Fitting k w rs at
   fits-at i at h e =
       let l : i < length (t .tree) = omega (arith, known t .1 .0) in
       rw (e ∙ start-is t i h)
       (fitting k w rs (function-at (t .tree) i) (start-of (t .tree) 0 i) (written-at k w (t .tree) 0 i l
-      (known t .0)) (t .parts) low-results
-      (omega (arith, ends-at k w (t .tree) 0 i l, known t .1 .1)) (few-names k w (t .tree) 0 i l (t .names)))
+      (known t .0)) (t .parts) (shallow-at i)
+      (omega (arith, ends-at k w (t .tree) 0 i l, known t .1 .1)) (few-names k w (t .tree) 0 i l (t .clean .roomy)))
 
   function-there : (i at : ℕ) → i - 1 < length (t .tree) → at ≡ getD ss (i - 1) 0 →
       read-function k w at ≡ function-at (t .tree) (i - 1)

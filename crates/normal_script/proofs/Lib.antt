@@ -1,3 +1,4 @@
+pub mod Typed
 pub mod Whole
 pub mod Depths
 pub mod Parameters

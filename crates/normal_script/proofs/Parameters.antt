@@ -21,7 +21,6 @@ use Rattle.script_read.proofs.Tables.{none-set}
 use Rattle.normal_code.specs.Plain.{meant, placed}
 use Rattle.normal_write.specs.Wrote.{Wrote}
 use Rattle.normal_write.proofs.Rows.{wrote-none, wrote-then, wrote-as}
-use Rattle.normal_lay.proofs.Stays.{low-set}
 use Rattle.normal_lay.proofs.Trees.{name-placed}
 use Rattle.normal_lay.proofs.Uses.{table-set}
 use Rattle.normal_lay.proofs.Nodes.{nowhere-placed}
@@ -93,7 +92,6 @@ module _ (k w : List ℕ) (at : ℕ) where
   bind-begin m h u = rw (rest-none m, u .places-are, u .depths-are) (record {
     means = fun-ext (λ y. ap (λ (v : ℕ). meant (placed w v)) (none-set {A = ℕ} 65535 256 y) ∙ nowhere-placed w h);
     deep = fun-ext (λ y. none-set {A = ℕ} 0 256 y);
-    low = record { at = λ i. omega (arith, none-set {A = ℕ} 0 256 i) };
     long = (refl, refl);
   })
 
@@ -111,8 +109,6 @@ module _ (k w : List ℕ) (at : ℕ) where
             (ap (λ (j : ℕ). updated (parameter-names (Rest i m) j) x (C.name (i - 1))) z);
         deep = table-set ds 0 (i - 1) d (omega (arith, B .long .1))
             ∙ rw (B .deep, ← f) (ap (λ (j : ℕ). updated (parameter-depths-from (Rest i m) j) (i - 1) d) z);
-        low = low-set 0 (i - 1) d (B .low) refl (omega (arith, B .long .1)) (omega arith)
-            (omega (arith, f, depth-most k w (at + (i - 1))));
         long = (length-set ps x (i - 1) ∙ B .long .0, length-set ds (i - 1) d ∙ B .long .1);
       })
 

@@ -14,7 +14,7 @@ use Rattle.script_read.specs.Told.{Parts, low-at, high-at}
 use Rattle.normal_code.specs.Parts.{depth-in}
 use Rattle.normal_lay.specs.Laid.{meanings}
 use Rattle.normal_lay.specs.Source.{tree-at}
-use Rattle.normal_lay.specs.Made.{Low}
+use Rattle.normal_lay.specs.Shallow.{Shallow}
 
 module _ (kinds operands : List ℕ) where
   -- n parameters from node p on
@@ -52,7 +52,6 @@ rows-by results g =
 pub record Binds (operands : List ℕ) (xs : List Parameter) (i : ℕ) (places depths : List ℕ) : Type 0 where
   pub means : meanings operands places ≡ parameter-names xs i
   pub deep : depth-in depths ≡ parameter-depths-from xs i
-  pub low : Low depths 0
   pub long : (length places ≡ 256) × (length depths ≡ 256)
 
 -- a table of 256 places and one of 256 depths, before any name is bound
@@ -60,10 +59,11 @@ pub record Unbound (places depths : List ℕ) : Type 0 where
   pub places-are : places ≡ replicate 256 65535
   pub depths-are : depths ≡ replicate 256 0
 
--- there is room for the function at node p
+-- there is room for the function at node p, and its tree is shallow
 pub record Fitting (kinds operands results : List ℕ) (p : ℕ) : Type 0 where
   pub parts : Parts kinds operands
-  pub low : (f : ℕ) → getD results f 0 ≤ 4
+  pub shallow : Shallow (λ f. getD results f 0) (normal-body (read-function kinds operands p))
+      (parameter-depths-from (read-function kinds operands p .parameters) 0)
   pub few : low-at kinds operands at-function p ≤ 8
   pub names : low-at kinds operands at-function p + fresh (read-function kinds operands p .body) ≤ 256
   pub nodes : p + 1 + low-at kinds operands at-function p + size (read-function kinds operands p .body) ≤ 1024

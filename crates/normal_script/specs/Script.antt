@@ -1,27 +1,26 @@
 -- What is known of an accepted script, and its code.
 use mathlib.Core.Path.{_≡_}
 use mathlib.Core.List.{List}
-use mathlib.Core.Option.{none}
 use Prim.Native.Nat.{ℕ, _≤_}
 use lib.IntN.{ℤ}
 use lib.ListN.{getD}
 use Rattle.semantics.specs.Outcome.{Outcome, done, stop}
 use Rattle.semantics.specs.Syntax.{Script}
 use Rattle.semantics.specs.File.{script}
-use Rattle.semantics.specs.Normal.{too-many-names}
 use Rattle.semantics.specs.Annotate.{code, result-of}
+use Rattle.soundness.specs.annotation.Accepting.{Clean}
 use Rattle.script_read.specs.Told.{Parts}
 use Rattle.script_read.specs.Starts.{Started}
 use Rattle.normal_write.specs.Wrote.{Wrote}
 
--- the nodes are those of a script whose functions have at most 256 names each, and the table has where each stands
+-- the nodes are those of a script within limits and without fault, and the table has where each function stands
 pub record Translatable (kinds operands : List ℕ) (functions : ℕ) (starts : List ℕ) : Type 0 where
   pub parts : Parts kinds operands
   pub few : functions ≤ 32
   pub tree : Script
   pub last : ℕ
   pub reads : script kinds operands functions 0 ≡ done tree last
-  pub names : too-many-names tree ≡ none
+  pub clean : Clean tree
   pub started : Started tree starts
 
 -- a table of the depths of the functions' results

@@ -1,33 +1,37 @@
 -- Laws of the walk of a line: what was written and taken back is what the walk says.
 use mathlib.Core.Path.{_≡_, refl, sym, ap, _∙_}
 use mathlib.Core.Bool.{Bool, true, false}
-use mathlib.Core.List.{List, [], _∷_}
+use mathlib.Core.List.{List, [], _∷_, _++_, append-assoc}
 use mathlib.Core.Logic.{⊎-elim}
-use Prim.Native.Nat.{ℕ, _+_, _-_, _*_}
+use Prim.Native.Nat.{ℕ, _+_, _-_, _*_, _<_}
 use native.Mathlib.Omega.{arith}
 use lib.IntN.{ℤ}
+use lib.ListN.{length, set}
 use denote.Enum.Declared.{tagOf}
 use types.Run.{OneOf}
-use Rattle.semantics.specs.Kinds.{Leaf, operation, call, literal, index, length-of, mapping}
+use Rattle.semantics.specs.Kinds.{Leaf, call, literal, Loop}
 use Rattle.semantics.specs.Code as C
 use Rattle.semantics.specs.Code.{Row, row}
-use Rattle.semantics.specs.Live.{Set, is, among, _∪_, _∖_}
-use Rattle.semantics.specs.Annotate.{NameDepths}
-use Rattle.normal_code.specs.Plain.{Plain, set-of, meant, atoms-at, operation-of}
-use Rattle.normal_code.specs.Parts.{leaf-part, handing}
+use Rattle.semantics.specs.Live.{Set, is, only, among, _∪_, _∖_}
+use Rattle.semantics.specs.Annotate.{NameDepths, dying}
+use Rattle.normal_code.specs.Plain.{Plain, set-of, meant, atoms-at, unary-of, binary-of, loop-of, loop-size, of-loop}
+use Rattle.normal_code.specs.Parts.{below, release-rows, leaf-part, handing, loop-closing}
 use Rattle.normal_code.specs.Marks.{Marks, marked, marks-of}
-use Rattle.normal_code.specs.Walk.{Point, point, unmarked, unmarked-all}
-use Rattle.normal_code.specs.Walk.{if-walk, loop-walk, leaf-walk, line-walk}
+use Rattle.normal_code.specs.Walk.{since, Point, point, unmarked, unmarked-all}
+use Rattle.normal_code.specs.Walk.{if-trees, if-walk, loop-tree, loop-walk, leaf-walk, line-walk}
 use Rattle.normal_code.specs.declared.Atom.{Atom}
 use Rattle.normal_code.specs.declared.Line.{Line}
-use Rattle.normal_code.specs.declared.Line.the-variants.{Operation, Call, Literal, Index, Length, If, Map}
+use Rattle.normal_code.specs.declared.Line.the-variants as L
 use Rattle.normal_write.specs.Wrote.{Wrote}
 use Rattle.normal_write.specs.Took.{Took}
+use Rattle.normal_write.specs.Loops.{closing-of}
 use Rattle.normal_code.proofs.Line.{the-type}
 use Rattle.normal_code.proofs.Atoms.{length-atoms}
-use Rattle.normal_write.proofs.Rows.{wrote-as}
+use Rattle.normal_code.proofs.Rows.{of-size}
+use Rattle.normal_code.proofs.Sets.{without-in}
+use Rattle.normal_write.proofs.Rows.{wrote-as, wrote-then}
 use Rattle.normal_write.proofs.Leaves.{call-rows, literal-rows}
-use Rattle.normal_walk.specs.Walks.{Walks, is-leaf, no-tree}
+use Rattle.normal_walk.specs.Walks.{Walks, is-leaf, is-loop, no-tree, loop-tree-of}
 
 pub same-point : {A B : Set} {M N : Marks} {rs qs : List Row} → A ≡ B → M ≡ N → rs ≡ qs → point A M rs ≡ point B N qs
 same-point e f g = λ i. point (e i) (f i) (g i)
@@ -39,16 +43,35 @@ bit false = 0
 false-true : false ≡ true → ⊥
 false-true e = omega (arith, ap bit e)
 
--- an if and a map are no leaves
-pub not-leaf : (l : Line) → OneOf (5 ∷ 6 ∷ []) (tagOf the-type l) → is-leaf l ≡ true → ⊥
+-- lines with trees are no leaves
+pub not-leaf : (l : Line) → OneOf (4 ∷ 5 ∷ []) (tagOf the-type l) → is-leaf l ≡ true → ⊥
 unfolding is-leaf
-not-leaf (Operation x kind a b) h e = ⊎-elim (λ z. omega arith) (λ z. omega arith) h
-not-leaf (Call x f m) h e = ⊎-elim (λ z. omega arith) (λ z. omega arith) h
-not-leaf (Literal x d m) h e = ⊎-elim (λ z. omega arith) (λ z. omega arith) h
-not-leaf (Index x a b) h e = ⊎-elim (λ z. omega arith) (λ z. omega arith) h
-not-leaf (Length x a) h e = ⊎-elim (λ z. omega arith) (λ z. omega arith) h
-not-leaf (If x g) h e = false-true e
-not-leaf (Map x y a) h e = false-true e
+not-leaf (L.Unary x kind a) h e = ⊎-elim (λ z. omega arith) (λ z. omega arith) h
+not-leaf (L.Binary x kind a b) h e = ⊎-elim (λ z. omega arith) (λ z. omega arith) h
+not-leaf (L.Call x f m) h e = ⊎-elim (λ z. omega arith) (λ z. omega arith) h
+not-leaf (L.Literal x d m) h e = ⊎-elim (λ z. omega arith) (λ z. omega arith) h
+not-leaf (L.If x g) h e = false-true e
+not-leaf (L.Loop x kind y z a b) h e = false-true e
+
+pub loop-is : (l : Line) → OneOf (5 ∷ []) (tagOf the-type l) → is-loop l ≡ true
+unfolding is-loop
+loop-is (L.Unary x kind a) h = absurd (omega arith)
+loop-is (L.Binary x kind a b) h = absurd (omega arith)
+loop-is (L.Call x f m) h = absurd (omega arith)
+loop-is (L.Literal x d m) h = absurd (omega arith)
+loop-is (L.If x g) h = absurd (omega arith)
+loop-is (L.Loop x kind y z a b) h = refl
+
+pub not-loop : (l : Line) → OneOf (0 ∷ 1 ∷ 2 ∷ 3 ∷ 4 ∷ []) (tagOf the-type l) → is-loop l ≡ true → ⊥
+unfolding is-loop
+not-loop (L.Unary x kind a) h e = false-true e
+not-loop (L.Binary x kind a b) h e = false-true e
+not-loop (L.Call x f m) h e = false-true e
+not-loop (L.Literal x d m) h e = false-true e
+not-loop (L.If x g) h e = false-true e
+not-loop (L.Loop x kind y z a b) h e =
+    ⊎-elim (λ q. omega arith) (⊎-elim (λ q. omega arith) (⊎-elim (λ q. omega arith)
+    (⊎-elim (λ q. omega arith) (λ q. omega arith)))) h
 
 -- ---- lines without trees
 
@@ -85,40 +108,31 @@ module _ (F : Plain) (Γ : NameDepths) (p : ℕ) {s₀ : List Bool} {c c₁ k k�
     long = t .long;
   }
 
-  pub operation-done : (x kind : ℕ) (a b : Atom) →
-      Wrote k o k₁ o₁ w v (leaf-part Γ x (operation (operation-of kind)) (meant a ∷ (meant b ∷ [])) (set-of s₀)) →
+  pub binary-done : (x kind : ℕ) (a b : Atom) →
+      Wrote k o k₁ o₁ w v (leaf-part Γ x (binary-of kind) (meant a ∷ (meant b ∷ [])) (set-of s₀)) →
       Took (is (meant a) ∪ is (meant b) ∪ set-of s₀ ∖ x)
       (unmarked (F .notes) (p + 1) (meant a) (unmarked (F .notes) (p + 2) (meant b) (marks-of c))) s c₁ →
-      Walks (line-walk F Γ no-tree p 0 (Operation x kind a b)) s₀ c k o w s c₁ k₁ o₁ v
+      Walks (line-walk F Γ no-tree p 0 (L.Binary x kind a b)) s₀ c k o w s c₁ k₁ o₁ v
   unfolding line-walk
-  operation-done x kind a b y t =
-      leaf-done x (operation (operation-of kind)) (meant a ∷ (meant b ∷ [])) y
+  binary-done x kind a b y t =
+      leaf-done x (binary-of kind) (meant a ∷ (meant b ∷ [])) y
       (both (F .notes) p (meant a) (meant b) (set-of s₀ ∖ x) (marks-of c) t)
 
-  pub index-done : (x : ℕ) (a b : Atom) →
-      Wrote k o k₁ o₁ w v (leaf-part Γ x index (meant a ∷ (meant b ∷ [])) (set-of s₀)) →
-      Took (is (meant a) ∪ is (meant b) ∪ set-of s₀ ∖ x)
-      (unmarked (F .notes) (p + 1) (meant a) (unmarked (F .notes) (p + 2) (meant b) (marks-of c))) s c₁ →
-      Walks (line-walk F Γ no-tree p 0 (Index x a b)) s₀ c k o w s c₁ k₁ o₁ v
-  unfolding line-walk
-  index-done x a b y t = leaf-done x index (meant a ∷ (meant b ∷ [])) y
-      (both (F .notes) p (meant a) (meant b) (set-of s₀ ∖ x) (marks-of c) t)
-
-  pub length-done : (x : ℕ) (a : Atom) (z : ℤ) → Wrote k o k₁ o₁ w v (leaf-part Γ x length-of (meant a ∷ [])
-      (set-of s₀)) →
+  pub unary-done : (x kind : ℕ) (a : Atom) (z : ℤ) →
+      Wrote k o k₁ o₁ w v (leaf-part Γ x (unary-of kind) (meant a ∷ []) (set-of s₀)) →
       Took (is (meant a) ∪ is (C.number z) ∪ set-of s₀ ∖ x)
       (unmarked (F .notes) (p + 1) (meant a) (unmarked (F .notes) (p + 2) (C.number z) (marks-of c))) s c₁ →
-      Walks (line-walk F Γ no-tree p 0 (Length x a)) s₀ c k o w s c₁ k₁ o₁ v
+      Walks (line-walk F Γ no-tree p 0 (L.Unary x kind a)) s₀ c k o w s c₁ k₁ o₁ v
   unfolding line-walk
-  length-done x a z y t = leaf-done x length-of (meant a ∷ []) y
-      (one (F .notes) p (meant a) z (set-of s₀ ∖ x) (marks-of c) t)
+  unary-done x kind a z y t =
+      leaf-done x (unary-of kind) (meant a ∷ []) y (one (F .notes) p (meant a) z (set-of s₀ ∖ x) (marks-of c) t)
 
   pub call-done : (x f m : ℕ) →
       Wrote k o k₁ o₁ w v
       (handing Γ x (row 8 (x + 256 * f)) (atoms-at (F .operands) (F .rows) (p + 1) m) (set-of s₀)) →
       Took (among (atoms-at (F .operands) (F .rows) (p + 1) m) (set-of s₀ ∖ x))
       (unmarked-all (F .notes) (p + 1) (atoms-at (F .operands) (F .rows) (p + 1) m) (marks-of c)) s c₁ →
-      Walks (line-walk F Γ no-tree p 0 (Call x f m)) s₀ c k o w s c₁ k₁ o₁ v
+      Walks (line-walk F Γ no-tree p 0 (L.Call x f m)) s₀ c k o w s c₁ k₁ o₁ v
   unfolding line-walk
   call-done x f m y t =
       let us = atoms-at (F .operands) (F .rows) (p + 1) m in
@@ -129,7 +143,7 @@ module _ (F : Plain) (Γ : NameDepths) (p : ℕ) {s₀ : List Bool} {c c₁ k k�
       (handing Γ x (row 9 (x + 256 * m + 65536 * d)) (atoms-at (F .operands) (F .rows) (p + 1) m) (set-of s₀)) →
       Took (among (atoms-at (F .operands) (F .rows) (p + 1) m) (set-of s₀ ∖ x))
       (unmarked-all (F .notes) (p + 1) (atoms-at (F .operands) (F .rows) (p + 1) m) (marks-of c)) s c₁ →
-      Walks (line-walk F Γ no-tree p 0 (Literal x d m)) s₀ c k o w s c₁ k₁ o₁ v
+      Walks (line-walk F Γ no-tree p 0 (L.Literal x d m)) s₀ c k o w s c₁ k₁ o₁ v
   unfolding line-walk
   literal-done x d m y t =
       let us = atoms-at (F .operands) (F .rows) (p + 1) m in
@@ -137,35 +151,69 @@ module _ (F : Plain) (Γ : NameDepths) (p : ℕ) {s₀ : List Bool} {c c₁ k k�
       (wrote-as (ap (λ (n : ℕ). handing Γ x (row 9 (x + 256 * n + 65536 * d)) us (set-of s₀))
       (sym (length-atoms (F .operands) (F .rows) (p + 1) m)) ∙ literal-rows Γ x (set-of s₀) d us) y) t
 
--- the lines of a tree, whatever walks the trees in them
+-- ---- the lines of a tree, whatever walks the trees in them
+
 module _ (F : Plain) (Γ : NameDepths) (W : ℕ → Point → Point) (p q : ℕ) {s s₁ : List Bool} {c c₁ k k₁ : List ℕ}
     {o o₁ : List ℤ} {w w₁ : ℕ} where
   pub leaf-line : (l : Line) → is-leaf l ≡ true → Walks (line-walk F Γ no-tree p 0 l) s c k o w s₁ c₁ k₁ o₁ w₁ →
       Walks (line-walk F Γ W p q l) s c k o w s₁ c₁ k₁ o₁ w₁
   unfolding is-leaf line-walk
-  leaf-line (Operation x kind a b) e d = record { added = d .added; is = d .is; wrote = d .wrote; long = d .long }
-  leaf-line (Call x f m) e d = record { added = d .added; is = d .is; wrote = d .wrote; long = d .long }
-  leaf-line (Literal x f m) e d = record { added = d .added; is = d .is; wrote = d .wrote; long = d .long }
-  leaf-line (Index x a b) e d = record { added = d .added; is = d .is; wrote = d .wrote; long = d .long }
-  leaf-line (Length x a) e d = record { added = d .added; is = d .is; wrote = d .wrote; long = d .long }
-  leaf-line (If x g) e d = absurd (false-true e)
-  leaf-line (Map x y a) e d = absurd (false-true e)
+  leaf-line (L.Unary x kind a) e d = record { added = d .added; is = d .is; wrote = d .wrote; long = d .long }
+  leaf-line (L.Binary x kind a b) e d = record { added = d .added; is = d .is; wrote = d .wrote; long = d .long }
+  leaf-line (L.Call x f m) e d = record { added = d .added; is = d .is; wrote = d .wrote; long = d .long }
+  leaf-line (L.Literal x f m) e d = record { added = d .added; is = d .is; wrote = d .wrote; long = d .long }
+  leaf-line (L.If x g) e d = absurd (false-true e)
+  leaf-line (L.Loop x kind y z a b) e d = absurd (false-true e)
 
-  pub operation-line : (x kind : ℕ) (a b : Atom) →
-      Wrote k o k₁ o₁ w w₁ (leaf-part Γ x (operation (operation-of kind)) (meant a ∷ (meant b ∷ [])) (set-of s)) →
+  pub binary-line : (x kind : ℕ) (a b : Atom) →
+      Wrote k o k₁ o₁ w w₁ (leaf-part Γ x (binary-of kind) (meant a ∷ (meant b ∷ [])) (set-of s)) →
       Took (is (meant a) ∪ is (meant b) ∪ set-of s ∖ x)
       (unmarked (F .notes) (p + 1) (meant a) (unmarked (F .notes) (p + 2) (meant b) (marks-of c))) s₁ c₁ →
-      Walks (line-walk F Γ W p q (Operation x kind a b)) s c k o w s₁ c₁ k₁ o₁ w₁
+      Walks (line-walk F Γ W p q (L.Binary x kind a b)) s c k o w s₁ c₁ k₁ o₁ w₁
   unfolding is-leaf
-  operation-line x kind a b y t = leaf-line (Operation x kind a b) refl (operation-done F Γ p x kind a b y t)
+  binary-line x kind a b y t = leaf-line (L.Binary x kind a b) refl (binary-done F Γ p x kind a b y t)
 
-  pub if-line : (x : ℕ) (g : Atom) → Walks (if-walk F Γ W p q x (meant g)) s c k o w s₁ c₁ k₁ o₁ w₁ →
-      Walks (line-walk F Γ W p q (If x g)) s c k o w s₁ c₁ k₁ o₁ w₁
-  unfolding line-walk
-  if-line x g d = record { added = d .added; is = d .is; wrote = d .wrote; long = d .long }
+  module _ {k₂ : List ℕ} {o₂ : List ℤ} {w₂ : ℕ} where
+    -- what follows an if, and its trees
+    pub if-line : (x : ℕ) (g : Atom) → x < length s → Wrote k o k₁ o₁ w w₁ (release-rows (dying Γ (only x) (set-of
+        s))) →
+        Walks (if-trees F Γ W p q x (meant g)) (set s x false) c k₁ o₁ w₁ s₁ c₁ k₂ o₂ w₂ →
+        Walks (line-walk F Γ W p q (L.If x g)) s c k o w s₁ c₁ k₂ o₂ w₂
+    unfolding line-walk if-walk
+    if-line x g h y d = record {
+      added = d .added ++ release-rows (dying Γ (only x) (set-of s));
+      is = λ rs.
+          ap (λ (A : Set). if-trees F Γ W p q x (meant g) (point A (marks-of c)
+          (release-rows (dying Γ (only x) (set-of s)) ++ rs))) (sym (without-in s x h))
+          ∙ d .is (release-rows (dying Γ (only x) (set-of s)) ++ rs)
+          ∙ ap (point (set-of s₁) (marks-of c₁)) (sym (append-assoc (d .added) _ rs));
+      wrote = wrote-then y (d .wrote);
+      long = d .long;
+    }
 
-  pub map-line : (x y : ℕ) (a : Atom) →
-      Walks (loop-walk F Γ W p q x mapping (y ∷ []) (meant a ∷ [])) s c k o w s₁ c₁ k₁ o₁ w₁ →
-      Walks (line-walk F Γ W p q (Map x y a)) s c k o w s₁ c₁ k₁ o₁ w₁
-  unfolding line-walk
-  map-line x y a d = record { added = d .added; is = d .is; wrote = d .wrote; long = d .long }
+    -- what follows a loop, and its tree
+    pub loop-line : (l : Line) → is-loop l ≡ true →
+        Wrote k o k₁ o₁ w w₁ (closing-of Γ p (marks-of c) (set-of s) l) →
+        Walks (loop-tree-of F Γ W p q l) s c k₁ o₁ w₁ s₁ c₁ k₂ o₂ w₂ →
+        Walks (line-walk F Γ W p q l) s c k o w s₁ c₁ k₂ o₂ w₂
+    unfolding is-loop line-walk loop-walk loop-tree-of closing-of
+    loop-line (L.Loop x kind y z a b) e v d =
+        let j = loop-of kind in
+        let us = of-loop j (meant a) (meant b) in
+        let closing : ℕ → List Row =
+        λ n. loop-closing Γ x j us (below x (since (p + 1 + n) (marks-of c))) (set-of s) in
+        record {
+          added = d .added ++ closing (loop-size j);
+          is = λ rs.
+              ap (λ (n : ℕ). loop-tree F Γ W p q x j (of-loop j y z) us (point (set-of s) (marks-of c)
+              (closing n ++ rs))) (of-size j (meant a) (meant b))
+              ∙ d .is (closing (loop-size j) ++ rs)
+              ∙ ap (point (set-of s₁) (marks-of c₁)) (sym (append-assoc (d .added) _ rs));
+          wrote = wrote-then v (d .wrote);
+          long = d .long;
+        }
+    loop-line (L.Unary x kind a) e v d = absurd (false-true e)
+    loop-line (L.Binary x kind a b) e v d = absurd (false-true e)
+    loop-line (L.Call x f m) e v d = absurd (false-true e)
+    loop-line (L.Literal x f m) e v d = absurd (false-true e)
+    loop-line (L.If x g) e v d = absurd (false-true e)

@@ -28,18 +28,16 @@ use Rattle.normal_write.proofs.Rows.{wrote-none, wrote-then, lower}
 use Rattle.normal_walk.specs.Walks.{Walks, is-leaf}
 use Rattle.normal_walk.proofs.Lines.{same-point}
 
--- a line of another case than operation, if and map
-pub leaf-is : (l : Line) → OneOf (1 ∷ 2 ∷ 3 ∷ 4 ∷ []) (tagOf the-type l) → is-leaf l ≡ true
+-- a line of another case than binary, if and loop
+pub leaf-is : (l : Line) → OneOf (0 ∷ 2 ∷ 3 ∷ []) (tagOf the-type l) → is-leaf l ≡ true
 unfolding is-leaf
-leaf-is (L.Operation x kind a b) h = refl
+leaf-is (L.Unary x kind a) h = refl
+leaf-is (L.Binary x kind a b) h = refl
 leaf-is (L.Call x f m) h = refl
 leaf-is (L.Literal x d m) h = refl
-leaf-is (L.Index x a b) h = refl
-leaf-is (L.Length x a) h = refl
-leaf-is (L.If x g) h = absurd (⊎-elim (λ z. omega arith) (⊎-elim (λ z. omega arith) (⊎-elim (λ z. omega arith)
-    (λ z. omega arith))) h)
-leaf-is (L.Map x y a) h = absurd (⊎-elim (λ z. omega arith) (⊎-elim (λ z. omega arith) (⊎-elim (λ z. omega arith)
-    (λ z. omega arith))) h)
+leaf-is (L.If x g) h = absurd (⊎-elim (λ z. omega arith) (⊎-elim (λ z. omega arith) (λ z. omega arith)) h)
+leaf-is (L.Loop x kind y z a b) h =
+    absurd (⊎-elim (λ z. omega arith) (⊎-elim (λ z. omega arith) (λ z. omega arith)) h)
 
 module _ (F : Plain) (Γ : NameDepths) where
   pub end-done : (e : ℕ) (a : Atom) (v : ℕ) → v ≡ getD (F .rows) (e + 1) 0 → a ≡ placed (F .operands) v →

@@ -6,11 +6,12 @@ use Prim.Native.Nat.{ℕ}
 use lib.IntN.{ℤ}
 use lib.ListN.{length}
 use Rattle.semantics.specs.Code.{Row}
-use Rattle.normal_code.specs.Plain.{set-of}
+use Rattle.semantics.specs.Annotate.{NameDepths}
+use Rattle.normal_code.specs.Plain.{Plain, set-of, meant, loop-of, of-loop}
 use Rattle.normal_code.specs.Marks.{marks-of}
-use Rattle.normal_code.specs.Walk.{Point, point}
+use Rattle.normal_code.specs.Walk.{Point, point, loop-tree}
 use Rattle.normal_code.specs.declared.Line.{Line}
-use Rattle.normal_code.specs.declared.Line.the-variants.{Operation, Call, Literal, Index, Length, If, Map}
+use Rattle.normal_code.specs.declared.Line.the-variants as L
 use Rattle.normal_write.specs.Wrote.{Wrote}
 
 -- f takes the names s and the marks c, wherever the rows stand, to the names s′ and the marks c′ with some rows added,
@@ -23,16 +24,34 @@ pub record Walks (f : Point → Point) (s : List Bool) (c k : List ℕ) (o : Lis
   pub wrote : Wrote k o k′ o′ w w′ added
   pub long : length c′ ≡ 256
 
--- a line without trees
+-- a line without trees, and a loop
 unfoldable pub is-leaf : Line → Bool
-is-leaf (Operation x kind a b) = true
-is-leaf (Call x f m) = true
-is-leaf (Literal x d m) = true
-is-leaf (Index x a b) = true
-is-leaf (Length x a) = true
-is-leaf (If x g) = false
-is-leaf (Map x y a) = false
+is-leaf (L.Unary x kind a) = true
+is-leaf (L.Binary x kind a b) = true
+is-leaf (L.Call x f m) = true
+is-leaf (L.Literal x d m) = true
+is-leaf (L.If x g) = false
+is-leaf (L.Loop x kind y z a b) = false
+
+unfoldable pub is-loop : Line → Bool
+is-loop (L.Unary x kind a) = false
+is-loop (L.Binary x kind a b) = false
+is-loop (L.Call x f m) = false
+is-loop (L.Literal x d m) = false
+is-loop (L.If x g) = false
+is-loop (L.Loop x kind y z a b) = true
 
 -- the walk of no tree
 abbrev pub no-tree : ℕ → Point → Point
 no-tree e P = P
+
+-- the walk of a loop's tree, over the walk W of trees, where the line l stands from p to before q
+unfoldable pub loop-tree-of : Plain → NameDepths → (ℕ → Point → Point) → ℕ → ℕ → Line → Point → Point
+loop-tree-of F Γ W p q (L.Unary x kind a) P = P
+loop-tree-of F Γ W p q (L.Binary x kind a b) P = P
+loop-tree-of F Γ W p q (L.Call x f m) P = P
+loop-tree-of F Γ W p q (L.Literal x d m) P = P
+loop-tree-of F Γ W p q (L.If x g) P = P
+loop-tree-of F Γ W p q (L.Loop x kind y z a b) P =
+    let k = loop-of kind in
+    loop-tree F Γ W p q x k (of-loop k y z) (of-loop k (meant a) (meant b)) P

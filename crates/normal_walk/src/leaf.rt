@@ -1,10 +1,9 @@
 // A line without trees, walked backwards.
 use normal_code::Atom;
 use normal_code::Line;
+use normal_write::lines::put_binary;
 use normal_write::lines::put_handing;
-use normal_write::lines::put_index;
-use normal_write::lines::put_length;
-use normal_write::lines::put_operation;
+use normal_write::lines::put_unary;
 use normal_write::marks::take_handed;
 use normal_write::marks::take_two;
 ghost use mathlib.Core.Path.{_≡_};
@@ -40,8 +39,13 @@ pub fn walk_leaf(
 {
     let w = *at;
     match l {
-        Line::Operation(x, kind, a, b) => {
-            let v = put_operation(ks, os, depths, x, kind, a, b, &after, w);
+        Line::Unary(x, kind, a) => {
+            let v = put_unary(ks, os, depths, x, kind, a, &after, w);
+            *at = v;
+            take_two(notes, cur, p, x, a, Atom::Number(0), after)
+        }
+        Line::Binary(x, kind, a, b) => {
+            let v = put_binary(ks, os, depths, x, kind, a, b, &after, w);
             *at = v;
             take_two(notes, cur, p, x, a, b, after)
         }
@@ -56,16 +60,6 @@ pub fn walk_leaf(
             let v = put_handing(ks, os, depths, operands, rows, p + 1, x, m, 9, n, &after, w);
             *at = v;
             take_handed(operands, rows, notes, cur, p, x, m, after)
-        }
-        Line::Index(x, a, b) => {
-            let v = put_index(ks, os, depths, x, a, b, &after, w);
-            *at = v;
-            take_two(notes, cur, p, x, a, b, after)
-        }
-        Line::Length(x, a) => {
-            let v = put_length(ks, os, depths, x, a, &after, w);
-            *at = v;
-            take_two(notes, cur, p, x, a, Atom::Number(0), after)
         }
         _ => after,
     }

@@ -3,29 +3,31 @@
 use leaf::walk_leaf;
 use normal_code::Atom;
 use normal_code::Line;
+use normal_write::lines::put_binary;
 use normal_write::lines::put_end;
-use normal_write::lines::put_operation;
+use normal_write::loops::close_loop;
+use normal_write::loops::open_loop;
+use normal_write::loops::retain_start;
+use normal_write::loops::second_of;
 use normal_write::marks::less_two;
-use normal_write::marks::take_back;
 use normal_write::marks::take_pair;
+use normal_write::marks::take_use;
 use normal_write::marks::then_end_at;
 use normal_write::put_atom;
 use normal_write::put_release;
 use normal_write::put_releases;
-use normal_write::put_retain;
 use normal_write::put_row;
 use normal_write::uses::pass_names;
 use normal_write::uses::put_used;
 ghost use mathlib.Core.Path.{_≡_};
-ghost use mathlib.Core.List.{[], _∷_};
-ghost use Prim.Native.Nat.{_+_, _-_, _*_, _<_, _≤_};
+ghost use mathlib.Core.Bool.{true};
+ghost use Prim.Native.Nat.{_+_, _-_, _<_, _≤_};
 ghost use lib.ListN.{length};
-ghost use Rattle.semantics.specs.Kinds.{mapping};
 ghost use Rattle.normal_code.specs.Plain.{plain, meant};
 ghost use Rattle.normal_code.specs.Parts.{depth-in};
-ghost use Rattle.normal_code.specs.Walk.{tree-walk, if-walk, loop-walk};
+ghost use Rattle.normal_code.specs.Walk.{tree-walk, if-trees};
 ghost use Rattle.normal_write.specs.Wrote.{Room};
-ghost use Rattle.normal_walk.specs.Walks.{Walks};
+ghost use Rattle.normal_walk.specs.Walks.{Walks, is-loop, loop-tree-of};
 
 mod leaf;
 
@@ -60,9 +62,11 @@ pub fn walk_tree(
     let place = normal_code::row_at(rows, e + 1);
     let a = normal_code::atom_of(operands, place);
     let w = *at;
-    let v = put_end(ks, os, depths, a, &after, w);
+    let mut s = after;
+    let v = put_end(ks, os, depths, a, &s, w);
     *at = v;
-    let mut s = take_back(notes, cur, e + 1, a, after);
+    let u = take_use(notes, cur, e + 1, a, &s);
+    s[u.name as usize] = u.live;
     if levels == 0 {
         return s;
     }
@@ -81,6 +85,10 @@ pub fn walk_tree(
         };
         match l {
             Line::If(x, g) => {
+                let w = *at;
+                let v = put_release(ks, os, depths, x, &s, w);
+                *at = v;
+                s[x as usize] = false;
                 let t = walk_if(
                     ks,
                     os,
@@ -100,30 +108,19 @@ pub fn walk_tree(
                 left = left - 1;
                 continue;
             }
-            Line::Map(x, y, g) => {
-                let t = walk_map(
-                    ks,
-                    os,
-                    operands,
-                    rows,
-                    notes,
-                    cur,
-                    depths,
-                    x,
-                    y,
-                    g,
-                    here,
-                    at,
-                    s,
-                );
+            Line::Loop(_, _, _, _, _, _) => {
+                let w = *at;
+                let v = close_loop(ks, os, depths, cur, l, p, &s, w);
+                *at = v;
+                let t = walk_loop(ks, os, operands, rows, notes, cur, depths, l, here, at, s);
                 s = t;
                 q = p;
                 left = left - 1;
                 continue;
             }
-            Line::Operation(x, kind, b, c) => {
+            Line::Binary(x, kind, b, c) => {
                 let w = *at;
-                let v = put_operation(ks, os, depths, x, kind, b, c, &s, w);
+                let v = put_binary(ks, os, depths, x, kind, b, c, &s, w);
                 *at = v;
                 let r = take_pair(notes, cur, p, x, b, c);
                 s[x as usize] = false;
@@ -143,7 +140,7 @@ pub fn walk_tree(
     s
 }
 
-// An if: its second tree, its first, and its own rows. A branch opens by releasing what only the other one uses.
+// An if's trees, its second and its first, and its own rows. A branch opens by releasing what only the other one uses.
 fn walk_if(
     ks: &mut [u8],
     os: &mut [i64],
@@ -160,7 +157,7 @@ fn walk_if(
 ) -> [bool; 256]
     requires { ⌜ (here .p < 4096) × (here .q ≤ 4096) × (length (now cur) ≡ 256) × Room (now ks) (now os) (now at) ⌝ }
     ensures { λ r. ⌜ Walks
-        (if-walk (plain (now (operands .entry)) (now (rows .entry)) (now (notes .entry)))
+        (if-trees (plain (now (operands .entry)) (now (rows .entry)) (now (notes .entry)))
         (depth-in (now (depths .entry)))
         (tree-walk (plain (now (operands .entry)) (now (rows .entry)) (now (notes .entry)))
         (depth-in (now (depths .entry))) (here .levels)) (here .p) (here .q) x (meant g))
@@ -169,10 +166,6 @@ fn walk_if(
 {
     let p = here.p;
     let n = x as usize;
-    let w = *at;
-    let w1 = put_release(ks, os, depths, x, &after, w);
-    *at = w1;
-    let u = normal_code::without(after, x);
     let e = less_two(here.q);
     let s1 = walk_tree(
         ks,
@@ -185,7 +178,7 @@ fn walk_if(
         e,
         here.levels,
         at,
-        u,
+        after,
     );
     let u1 = *at;
     let v1 = put_used(ks, os, depths, cur, p + 2, n, Atom::Number(0), &s1, u1);
@@ -202,19 +195,21 @@ fn walk_if(
         t,
         here.levels,
         at,
-        u,
+        after,
     );
     let u2 = *at;
     let v2 = put_releases(ks, os, depths, n, &s1, &s2, u2);
     let w2 = put_atom(ks, os, v2, g);
     let w3 = put_row(ks, os, w2, 12, x as u32);
     *at = w3;
-    let j = normal_code::joined(s2, s1);
-    take_back(notes, cur, p + 1, g, j)
+    let mut j = normal_code::joined(s2, s1);
+    let u = take_use(notes, cur, p + 1, g, &j);
+    j[u.name as usize] = u.live;
+    j
 }
 
-// A map: another pass may come, so that what its tree uses from outside is live after the tree.
-fn walk_map(
+// A loop's tree and its own rows. Another pass may come, so what the tree uses from outside is live after it.
+fn walk_loop(
     ks: &mut [u8],
     os: &mut [i64],
     operands: &[u8],
@@ -222,48 +217,52 @@ fn walk_map(
     notes: &[u16; 2048],
     cur: &mut [u16; 256],
     depths: &[u8; 256],
-    x: u8,
-    y: u8,
-    a: Atom,
+    l: Line,
     here: Span,
     at: &mut usize,
     after: [bool; 256],
 ) -> [bool; 256]
-    requires { ⌜ (here .p < 4096) × (here .q ≤ 4096) × (length (now cur) ≡ 256) × Room (now ks) (now os) (now at) ⌝ }
+    requires { ⌜ (is-loop l ≡ true) × (here .p < 4096) × (here .q ≤ 4096) × (length (now cur) ≡ 256)
+        × Room (now ks) (now os) (now at) ⌝ }
     ensures { λ r. ⌜ Walks
-        (loop-walk (plain (now (operands .entry)) (now (rows .entry)) (now (notes .entry)))
+        (loop-tree-of (plain (now (operands .entry)) (now (rows .entry)) (now (notes .entry)))
         (depth-in (now (depths .entry)))
         (tree-walk (plain (now (operands .entry)) (now (rows .entry)) (now (notes .entry)))
-        (depth-in (now (depths .entry))) (here .levels)) (here .p) (here .q) x mapping (y ∷ []) (meant a ∷ []))
+        (depth-in (now (depths .entry))) (here .levels)) (here .p) (here .q) l)
         after (now (cur .entry)) (now (ks .entry)) (now (os .entry)) (now (at .entry))
         r (now (cur .exit)) (now (ks .exit)) (now (os .exit)) (now (at .exit)) ⌝ }
 {
-    let p = here.p;
-    let n = x as usize;
-    let w = *at;
-    let w1 = put_release(ks, os, depths, x, &after, w);
-    let w2 = put_used(ks, os, depths, cur, p + 2, n, a, &after, w1);
-    *at = w2;
-    let b = pass_names(cur, p + 2, x, after);
-    let e = less_two(here.q);
-    let t = walk_tree(
-        ks,
-        os,
-        operands,
-        rows,
-        notes,
-        cur,
-        depths,
-        e,
-        here.levels,
-        at,
-        b,
-    );
-    let u = *at;
-    let w3 = put_release(ks, os, depths, y, &t, u);
-    let w4 = put_retain(ks, os, depths, y, w3);
-    let w5 = put_atom(ks, os, w4, a);
-    let w6 = put_row(ks, os, w5, 13, x as u32 + 256 * (y as u32));
-    *at = w6;
-    take_back(notes, cur, p + 1, a, b)
+    match l {
+        Line::Loop(x, kind, _, _, a, b) => {
+            let p = here.p;
+            let row = p + 1 + normal_code::loop_size(kind);
+            let inner = pass_names(cur, row, x, after);
+            let e = less_two(here.q);
+            let t = walk_tree(
+                ks,
+                os,
+                operands,
+                rows,
+                notes,
+                cur,
+                depths,
+                e,
+                here.levels,
+                at,
+                inner,
+            );
+            let w = *at;
+            let v = open_loop(ks, os, depths, l, &t, w);
+            let second = second_of(kind, b);
+            let mut s = inner;
+            let u = take_use(notes, cur, p + 2, second, &s);
+            s[u.name as usize] = u.live;
+            let v1 = retain_start(ks, os, depths, kind, a, &s, v);
+            *at = v1;
+            let u1 = take_use(notes, cur, p + 1, a, &s);
+            s[u1.name as usize] = u1.live;
+            s
+        }
+        _ => after,
+    }
 }

@@ -1,8 +1,8 @@
 -- Laws of the rows of last uses in an array, and of sets that are read from them.
 use mathlib.Core.Path.{_≡_, refl, sym, ap, _∙_, fun-ext}
 use mathlib.Core.Bool.{Bool, true, false, cond, _&&_, _||_}
-use mathlib.Core.List.{List, _∷_}
-use Prim.Native.Nat.{ℕ, _+_, _-_, _<_, _≤_}
+use mathlib.Core.List.{List, [], _∷_}
+use Prim.Native.Nat.{ℕ, zero, suc, _+_, _-_, _<_, _≤_}
 use native.Mathlib.Omega.{arith}
 use native.Mathlib.Decide.{ℕ-discrete, decLt}
 use lib.Dec.{eqb, ltb}
@@ -18,7 +18,8 @@ use Rattle.normal_code.specs.declared.Atom.{Atom}
 use Rattle.normal_code.proofs.Atoms.{atoms-more, atoms-none, atoms-all}
 use Rattle.normal_code.proofs.Sets.{Making, making-none, making-set, with-in, without-in}
 use Rattle.normal_code.specs.Marks.{Marks, marked, marks-of}
-use Rattle.normal_code.specs.Walk.{below, since, then-end, unmarked, unmarked-all}
+use Rattle.normal_code.specs.Parts.{below}
+use Rattle.normal_code.specs.Walk.{since, then-end, unmarked, unmarked-all}
 use Rattle.normal_write.specs.Took.{Took}
 
 pub marks-set : (c : List ℕ) (x v u : ℕ) → x < length c → v ≡ u → marks-of (set c x v) ≡ marked (C.name x) u
@@ -37,6 +38,16 @@ number-none z v M = refl
 pub took-none : (z : _) (notes : List ℕ) (r : ℕ) (s : List Bool) (c : List ℕ) → length c ≡ 256 →
     Took (is (C.number z) ∪ set-of s) (unmarked notes r (C.number z) (marks-of c)) s c
 took-none z notes r s c l = record { names = refl; marks = sym (number-none z (note notes r) (marks-of c)); long = l }
+
+-- a name written as it is
+set-same : (s : List Bool) (i : ℕ) → set s i (getD s i false) ≡ s
+set-same [] i = refl
+set-same (b ∷ s) zero = refl
+set-same (b ∷ s) (suc i) = ap (λ (t : List Bool). b ∷ t) (set-same s i)
+
+pub took-same : {A : Set} {N : Marks} {c : List ℕ} (s : List Bool) (i : ℕ) → Took A N s c →
+    Took A N (set s i (getD s i false)) c
+took-same s i t = rw (set-same s i) t
 
 -- ---- atoms, from the last to the first
 

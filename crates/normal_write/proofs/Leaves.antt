@@ -1,6 +1,6 @@
 -- The rows of leaf lines: what they release, and what they write all in all.
 use mathlib.Core.Path.{_≡_, refl, sym, ap, _∙_, fun-ext}
-use mathlib.Core.Bool.{Bool, true, false, _&&_, _||_}
+use mathlib.Core.Bool.{Bool, true, false, cond, _&&_, _||_}
 use mathlib.Core.Logic.{_⊎_, inl, inr}
 use mathlib.Core.List.{List, [], _∷_, _++_, map}
 use Prim.Native.Nat.{ℕ, zero, suc, _+_, _*_, _<_}
@@ -10,14 +10,14 @@ use lib.Dec.{eqb}
 use lib.ListN.{length}
 use borrow.Author.Tests.{lt-ltb, ne-eqb}
 use Rattle.semantics.specs.Basics.{with-if}
-use Rattle.semantics.specs.Number.{Operation}
-use Rattle.semantics.specs.Kinds.{Leaf, operation, call, literal, index, length-of, operation-kind, leaf-kind}
+use Rattle.semantics.specs.Kinds.{Leaf, operation, call, literal, index, length-of, iota, replicate, leaf-kind}
 use Rattle.semantics.specs.Kinds.{leaf-operand, leaf-hands, leaf-reads, is-pending}
 use Rattle.semantics.specs.Code.{Atom, number, name, Row, row, atom-row}
 use Rattle.semantics.specs.Live.{Set, empty, is, only, among, _∪_, members-from, members}
 use Rattle.semantics.specs.Annotate.{NameDepths, atom-depth, is-array, dying, handed-again}
+use Rattle.normal_code.specs.Plain.{operation-of, unary-of, binary-of}
 use Rattle.normal_code.specs.Parts.{retain-rows, release-rows, leaf-part, handing}
-use Rattle.normal_code.specs.Walk.{below}
+use Rattle.normal_code.specs.Parts.{below}
 use Rattle.normal_write.proofs.Names.{dies}
 
 and-false : (b : Bool) → b && false ≡ false
@@ -83,6 +83,27 @@ module _ (Γ : NameDepths) where
 
 -- ---- the lines of leaves
 
+-- it hands nothing over, and its operand is its name
+record Reads (l : Leaf) : Type 0 where
+  hands : (us : List Atom) → leaf-hands l us ≡ []
+  reads : (us : List Atom) → leaf-reads l us ≡ us
+  operand : (x n : ℕ) → leaf-operand l x n ≡ x
+
+unary-reads : (kind : ℕ) → Reads (unary-of kind)
+unary-reads kind = go (eqb kind 17)
+  where
+    go : (b : Bool) → Reads (cond b iota length-of)
+    go true = record { hands = λ us. refl; reads = λ us. refl; operand = λ x n. refl }
+    go false = record { hands = λ us. refl; reads = λ us. refl; operand = λ x n. refl }
+
+binary-reads : (kind : ℕ) → Reads (binary-of kind)
+binary-reads kind = go (eqb kind 10) (eqb kind 18)
+  where
+    go : (b c : Bool) → Reads (cond b index (cond c replicate (operation (operation-of kind))))
+    go true c = record { hands = λ us. refl; reads = λ us. refl; operand = λ x n. refl }
+    go false true = record { hands = λ us. refl; reads = λ us. refl; operand = λ x n. refl }
+    go false false = record { hands = λ us. refl; reads = λ us. refl; operand = λ x n. refl }
+
 module _ (Γ : NameDepths) (x : ℕ) (A : Set) where
   -- a leaf's part with its sets joined
   abbrev joined-part : Leaf → List Atom → List Row
@@ -98,23 +119,32 @@ module _ (Γ : NameDepths) (x : ℕ) (A : Set) where
   leaf-rows : (l : Leaf) (us : List Atom) → joined-part l us ≡ leaf-part Γ x l us A
   leaf-rows l us = rw (joined (leaf-reads l us) A, joined (leaf-reads l us) (only x))
 
-  pub operation-rows : (o : Operation) (a b : Atom) →
-      row (operation-kind o) x ∷ (atom-row a ∷ (atom-row b ∷ release-rows (dying Γ (is a ∪ is b ∪ only x) A)))
-      ≡ leaf-part Γ x (operation o) (a ∷ (b ∷ [])) A
-  unfolding handed-again among
-  operation-rows o a b = leaf-rows (operation o) (a ∷ (b ∷ []))
+  -- a leaf that reads all its atoms
+  reads-rows : (l : Leaf) (us : List Atom) → Reads l →
+      row (leaf-kind l) x ∷ (map atom-row us ++ (retain-rows (with-if (is-pending l && is-array Γ x) x [])
+      ++ release-rows (dying Γ (among us (only x)) A)))
+      ≡ leaf-part Γ x l us A
+  unfolding handed-again
+  reads-rows l us r = rw (r .hands us, r .reads us, r .operand x (length us), joined us (only x))
 
-  pub index-rows : (a b : Atom) →
-      row 10 x ∷ (atom-row a ∷ (atom-row b
-      ∷ (retain-rows (with-if (is-array Γ x) x []) ++ release-rows (dying Γ (is a ∪ is b ∪ only x) A))))
-      ≡ leaf-part Γ x index (a ∷ (b ∷ [])) A
-  unfolding handed-again among
-  index-rows a b = leaf-rows index (a ∷ (b ∷ []))
+  pub binary-rows : (kind : ℕ) {k : ℕ} (a b : Atom) → k ≡ leaf-kind (binary-of kind) →
+      row k x ∷ (atom-row a ∷ (atom-row b ∷ (retain-rows (with-if (is-pending (binary-of kind) && is-array Γ x) x [])
+      ++ release-rows (dying Γ (is a ∪ is b ∪ only x) A))))
+      ≡ leaf-part Γ x (binary-of kind) (a ∷ (b ∷ [])) A
+  unfolding among
+  binary-rows kind a b e = rw e (reads-rows (binary-of kind) (a ∷ (b ∷ [])) (binary-reads kind))
 
-  pub length-rows : (a : Atom) → row 11 x ∷ (atom-row a ∷ release-rows (dying Γ (is a ∪ only x) A)) ≡ leaf-part Γ x
-      length-of (a ∷ []) A
-  unfolding handed-again among
-  length-rows a = leaf-rows length-of (a ∷ [])
+  pub unary-rows : (kind : ℕ) {k : ℕ} (a : Atom) → k ≡ leaf-kind (unary-of kind) →
+      row k x ∷ (atom-row a ∷ release-rows (dying Γ (is a ∪ only x) A)) ≡ leaf-part Γ x (unary-of kind) (a ∷ []) A
+  unfolding among
+  unary-rows kind a e =
+      rw e (ap (λ (b : Bool). row (leaf-kind (unary-of kind)) x ∷ (atom-row a
+      ∷ (retain-rows (with-if (b && is-array Γ x) x []) ++ release-rows (dying Γ (is a ∪ only x) A)))) (none (eqb kind
+      17)) ∙ reads-rows (unary-of kind) (a ∷ []) (unary-reads kind))
+    where
+      none : (b : Bool) → false ≡ is-pending (cond b iota length-of)
+      none true = refl
+      none false = refl
 
   pub call-rows : (f : ℕ) (us : List Atom) → handing Γ x (row 8 (x + 256 * f)) us A ≡ leaf-part Γ x (call f) us A
   unfolding among
@@ -124,3 +154,14 @@ module _ (Γ : NameDepths) (x : ℕ) (A : Set) where
       handing Γ x (row 9 (x + 256 * length us + 65536 * d)) us A ≡ leaf-part Γ x (literal d) us A
   unfolding among
   literal-rows d us = leaf-rows (literal d) us
+
+-- what gives no index is not retained
+pub no-pending : (Γ : NameDepths) (kind x : ℕ) → (kind ≡ 10 → ⊥) →
+    [] ≡ retain-rows (with-if (is-pending (binary-of kind) && is-array Γ x) x [])
+no-pending Γ kind x n = rw (ne-eqb kind 10 n) (go (eqb kind 18))
+  where
+    go : (c : Bool) →
+        [] ≡ retain-rows (with-if (is-pending (cond c replicate (operation (operation-of kind))) && is-array Γ x) x
+        [])
+    go true = refl
+    go false = refl

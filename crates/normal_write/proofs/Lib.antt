@@ -3,3 +3,4 @@ pub mod Names
 pub mod Atoms
 pub mod Laws
 pub mod Leaves
+pub mod LoopRows

@@ -18,7 +18,7 @@ use Rattle.normal_code.specs.declared.Atom as P
 use Rattle.normal_code.proofs.Atoms.{atoms-more, atoms-none, atoms-all}
 use Rattle.normal_write.specs.Wrote.{Wrote}
 use Rattle.normal_code.specs.Parts.{retain-rows, release-rows, handed-one}
-use Rattle.normal_code.specs.Walk.{below}
+use Rattle.normal_code.specs.Parts.{below}
 use Rattle.normal_write.proofs.Rows.{map-append, wrote-none, wrote-then, wrote-as}
 
 and-false : (b : Bool) → b && false ≡ false

@@ -11,11 +11,11 @@ ghost use Rattle.semantics.specs.Code.{row, atom-row};
 ghost use Rattle.semantics.specs.Live.{only, is, _∪_};
 ghost use Rattle.semantics.specs.Annotate.{atom-depth, dying};
 ghost use Rattle.normal_code.specs.Plain.{set-of, meant};
-ghost use Rattle.normal_code.specs.Parts.{depth-in, retain-rows, release-rows};
-ghost use Rattle.normal_code.specs.Walk.{below};
+ghost use Rattle.normal_code.specs.Parts.{below, depth-in, retain-rows, release-rows};
 ghost use Rattle.normal_write.specs.Wrote.{Wrote, Room};
 
 pub mod lines;
+pub mod loops;
 pub mod marks;
 pub mod uses;
 

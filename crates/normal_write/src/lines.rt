@@ -7,17 +7,20 @@ use crate::put_row;
 use crate::release_both;
 use normal_code::Atom;
 ghost use mathlib.Core.Path.{_≡_};
+ghost use mathlib.Core.Bool.{_&&_};
 ghost use mathlib.Core.List.{[], _∷_, map};
 ghost use Prim.Native.Nat.{_+_, _-_, _≤_};
-ghost use Rattle.semantics.specs.Kinds.{operation, index, length-of, operation-kind};
+ghost use lib.Dec.{ltb};
+ghost use Rattle.semantics.specs.Basics.{with-if};
+ghost use Rattle.semantics.specs.Kinds.{leaf-kind, is-pending};
 ghost use Rattle.semantics.specs.Code.{row, atom-row};
 ghost use Rattle.semantics.specs.Annotate.{handed-again};
-ghost use Rattle.normal_code.specs.Plain.{set-of, meant, atoms-at, operation-of};
+ghost use Rattle.normal_code.specs.Plain.{set-of, meant, atoms-at, unary-of, binary-of};
 ghost use Rattle.normal_code.specs.Parts.{depth-in, retain-rows, handed-one, leaf-part, handing, ending};
 ghost use Rattle.normal_write.specs.Wrote.{Wrote, Room};
 
 // A retain of an atom that is handed over, if it is an array that is used later.
-fn retain_atom(
+pub fn retain_atom(
     ks: &mut [u8],
     os: &mut [i64],
     depths: &[u8; 256],
@@ -98,18 +101,40 @@ fn put_atoms(
     v
 }
 
-// The kind of a sum, a difference or a less.
-fn operation_kind(kind: u8) -> u8
-    ensures { λ r. ⌜ r ≡ operation-kind (operation-of kind) ⌝ }
+// The kind of a line that reads two atoms.
+fn binary_kind(kind: u8) -> u8
+    ensures { λ r. ⌜ r ≡ leaf-kind (binary-of kind) ⌝ }
 {
-    if kind == 4 {
-        return 4;
+    match kind {
+        4 => 4,
+        5 => 5,
+        10 => 10,
+        18 => 18,
+        _ => 6,
     }
-    if kind == 5 { 5 } else { 6 }
 }
 
-// A sum, a difference or a less.
-pub fn put_operation(
+// A retain of what an index gives, if it is an array.
+fn retain_indexed(
+    ks: &mut [u8],
+    os: &mut [i64],
+    depths: &[u8; 256],
+    x: u8,
+    kind: u8,
+    w: usize,
+) -> usize
+    requires { ⌜ Room (now ks) (now os) w ⌝ }
+    ensures { λ r. ⌜ Wrote (now (ks .entry)) (now (os .entry)) (now (ks .exit)) (now (os .exit)) w r
+        (retain-rows (with-if (is-pending (binary-of kind) && ltb 0 (depth-in (now (depths .entry)) x)) x [])) ⌝ }
+{
+    if kind == 10 {
+        return put_retain(ks, os, depths, x, w);
+    }
+    w
+}
+
+// A line that reads two atoms.
+pub fn put_binary(
     ks: &mut [u8],
     os: &mut [i64],
     depths: &[u8; 256],
@@ -122,56 +147,43 @@ pub fn put_operation(
 ) -> usize
     requires { ⌜ Room (now ks) (now os) w ⌝ }
     ensures { λ r. ⌜ Wrote (now (ks .entry)) (now (os .entry)) (now (ks .exit)) (now (os .exit)) w r
-        (leaf-part (depth-in (now (depths .entry))) x (operation (operation-of kind)) (meant a ∷ (meant b ∷ []))
-        (set-of (now (after .entry)))) ⌝ }
-{
-    let t = put_reads(ks, os, depths, x, a, b, after, w);
-    let u = put_atom(ks, os, t, b);
-    let v = put_atom(ks, os, u, a);
-    let k = operation_kind(kind);
-    put_row(ks, os, v, k, x as u32)
-}
-
-// An index.
-pub fn put_index(
-    ks: &mut [u8],
-    os: &mut [i64],
-    depths: &[u8; 256],
-    x: u8,
-    a: Atom,
-    b: Atom,
-    after: &[bool; 256],
-    w: usize,
-) -> usize
-    requires { ⌜ Room (now ks) (now os) w ⌝ }
-    ensures { λ r. ⌜ Wrote (now (ks .entry)) (now (os .entry)) (now (ks .exit)) (now (os .exit)) w r
-        (leaf-part (depth-in (now (depths .entry))) x index (meant a ∷ (meant b ∷ []))
+        (leaf-part (depth-in (now (depths .entry))) x (binary-of kind) (meant a ∷ (meant b ∷ []))
         (set-of (now (after .entry)))) ⌝ }
 {
     let s = put_reads(ks, os, depths, x, a, b, after, w);
-    let t = put_retain(ks, os, depths, x, s);
+    let t = retain_indexed(ks, os, depths, x, kind, s);
     let u = put_atom(ks, os, t, b);
     let v = put_atom(ks, os, u, a);
-    put_row(ks, os, v, 10, x as u32)
+    let k = binary_kind(kind);
+    put_row(ks, os, v, k, x as u32)
 }
 
-// A length.
-pub fn put_length(
+// The kind of a line that reads one atom.
+fn unary_kind(kind: u8) -> u8
+    ensures { λ r. ⌜ r ≡ leaf-kind (unary-of kind) ⌝ }
+{
+    if kind == 17 { 17 } else { 11 }
+}
+
+// A line that reads one atom.
+pub fn put_unary(
     ks: &mut [u8],
     os: &mut [i64],
     depths: &[u8; 256],
     x: u8,
+    kind: u8,
     a: Atom,
     after: &[bool; 256],
     w: usize,
 ) -> usize
     requires { ⌜ Room (now ks) (now os) w ⌝ }
     ensures { λ r. ⌜ Wrote (now (ks .entry)) (now (os .entry)) (now (ks .exit)) (now (os .exit)) w r
-        (leaf-part (depth-in (now (depths .entry))) x length-of (meant a ∷ []) (set-of (now (after .entry)))) ⌝ }
+        (leaf-part (depth-in (now (depths .entry))) x (unary-of kind) (meant a ∷ []) (set-of (now (after .entry)))) ⌝ }
 {
     let u = release_both(ks, os, depths, x, a, after, w);
     let v = put_atom(ks, os, u, a);
-    put_row(ks, os, v, 11, x as u32)
+    let k = unary_kind(kind);
+    put_row(ks, os, v, k, x as u32)
 }
 
 // A call or a literal: a row of the kind and the number n, and the m atoms from a row on.

@@ -52,6 +52,41 @@ pub fn take_back(
     }
 }
 
+// A name, and whether it is live.
+pub struct Use {
+    pub name: u8,
+    pub live: bool,
+}
+
+// The use of an atom's name at row r is taken back; the answer says what becomes of the live set.
+pub fn take_use(
+    notes: &[u16; 2048],
+    cur: &mut [u16; 256],
+    r: usize,
+    a: Atom,
+    live: &[bool; 256],
+) -> Use
+    requires { ⌜ (r < 65536) × ((length (now cur) ≡ 256) × (length (now live) ≡ 256)) ⌝ }
+    ensures { λ u. ⌜ Took (is (meant a) ∪ set-of (now (live .entry)))
+        (unmarked (now (notes .entry)) r (meant a) (marks-of (now (cur .entry))))
+        (set (now (live .entry)) (u .name) (u .live)) (now (cur .exit)) ⌝ }
+{
+    match a {
+        Atom::Number(_) => Use {
+            name: 0,
+            live: live[0],
+        },
+        Atom::Name(x) => {
+            let v = normal_code::mark_at(notes, r);
+            cur[x as usize] = v;
+            Use {
+                name: x,
+                live: true,
+            }
+        }
+    }
+}
+
 // The uses of the m atoms from row `at` on are taken back.
 fn take_atoms(
     operands: &[u8],

@@ -7,9 +7,9 @@ ghost use Prim.Native.Nat.{_<_, _≤_};
 ghost use Rattle.semantics.specs.Live.{_∪_, _∖_, is};
 ghost use Rattle.semantics.specs.Annotate.{dying};
 ghost use Rattle.normal_code.specs.Plain.{meant, set-of};
-ghost use Rattle.normal_code.specs.Parts.{depth-in, release-rows};
+ghost use Rattle.normal_code.specs.Parts.{below, depth-in, release-rows};
 ghost use Rattle.normal_code.specs.Marks.{marks-of};
-ghost use Rattle.normal_code.specs.Walk.{below, since};
+ghost use Rattle.normal_code.specs.Walk.{since};
 ghost use Rattle.normal_write.specs.Wrote.{Wrote, Room};
 
 // A row of the rows of last uses as a position.
@@ -76,7 +76,7 @@ pub fn put_used(
     at
 }
 
-// The names live after a map's tree: those below x used past a row, joined with those live after the map less x.
+// The names live after a loop's tree: those below x used past a row, joined with those live after the loop less x.
 pub fn pass_names(cur: &[u16; 256], row: usize, x: u8, after: [bool; 256]) -> [bool; 256]
     ensures { λ r. ⌜ set-of r ≡ below x (since row (marks-of (now (cur .entry)))) ∪ set-of after ∖ x ⌝ }
 {

@@ -1,201 +1,43 @@
 -- The walk that asks for names and depths at once, beside the walks that ask for each: where it finds no fault the
 -- names are known and the depths match; where it finds one and the names are known, it is the fault of the depths.
-use Prim.Native.Nat.{ℕ, zero, suc, _+_, _<_, _≤_}
+use Prim.Native.Nat.{ℕ, zero, suc, _+_, _-_, _<_, _≤_}
 use native.Mathlib.Omega.{arith}
 use mathlib.Core.Bool.{Bool, true, false, cond, not, _&&_}
 use mathlib.Core.List.{List, [], _∷_}
 use mathlib.Core.Logic.{_⊎_, inl, inr}
-use mathlib.Core.Option.{Option, none, some}
+use mathlib.Core.Option.{none}
 use mathlib.Core.Path.{_≡_, refl}
 use lib.Dec.{eqb, leb, ltb}
 use lib.ListN.{length, getD}
-use borrow.Author.Tests.{eqb-true, ne-eqb, leb-true, le-leb, lt-leb, lt-ltb, le-ltb}
+use borrow.Author.Tests.{eqb-true, le-leb, lt-leb, lt-ltb, le-ltb}
 use Rattle.laws.specs.Tests.{both-hold}
 use Rattle.semantics.specs.Basics.{updated}
 use Rattle.semantics.specs.Syntax.{Script, function-size}
 use Rattle.semantics.specs.File as S
 use Rattle.semantics.specs.File.{at-function, at-parameter, at-part, node-at, part-count, high-limits}
-use Rattle.semantics.specs.Types.{Rule, main-shape, some-if, same, all-are, literal-rule, index-rule, length-rule}
-use Rattle.semantics.specs.Types.{if-rule, number-rule}
+use Rattle.semantics.specs.Types.{main-shape}
 use Rattle.semantics.specs.Names.{Scope}
-use Rattle.script_read.specs.Told.{and-next, repeated, high-of, high-at}
+use Rattle.script_read.specs.Told.{and-next, repeated, loops, second-name}
 use Rattle.script_read.specs.Starts.{start-of}
 use Rattle.script_read.specs.declared.Read.{Read}
 use Rattle.script_read.specs.declared.Read.the-variants as R
-use Rattle.script_read.proofs.Nodes.{NodeFits, node-fits, head-fits}
+use Rattle.script_read.proofs.Nodes.{head-fits}
+use Rattle.script_read.proofs.Tables.{updated-twice}
+use Rattle.script_read.proofs.Turns.{and-none}
 use Rattle.script_read.proofs.Written.{ScriptWritten}
 use Rattle.script_read.proofs.Ends.{node-inside}
 use Rattle.script_names.specs.Walk.{named, named-node, named-parameter, named-head, calls-none, names, names-from}
 use Rattle.script_names.specs.Walk.{names-function}
-use Rattle.script_depths.specs.Walk.{Parts-typed, all, fault, more, and-parts, collect, by-rule, ruled, wrapped}
-use Rattle.script_depths.specs.Walk.{signature-at, called, rule-of, let-typed, map-typed, plain-typed, typed}
+use Rattle.script_depths.specs.Walk.{Parts-typed, all, fault, ruled, signature-at, called, rule-of, plain-typed, typed}
 use Rattle.script_depths.specs.Walk.{typed-node, known-name, known-signature, known-types, any-name, any-signature}
 use Rattle.script_depths.specs.Walk.{types}
 use Rattle.script_depths.specs.declared.Typed.{Typed}
-use Rattle.script_depths.specs.declared.Typed.the-variants.{Depth, Fault}
 use Rattle.script_types.specs.Functions as F
 use Rattle.script_types.specs.Functions.{ended, typed-parameter, known-from, known-function, known-script, types-from}
 use Rattle.script_types.specs.Functions.{types-function, types-script}
-
--- ---- a part: what the walks for names, for depths and for both tell of it
-
-pub data Joint (n : Read) (t : Typed) : Typed → Type 0 where
-  fine : (d q : ℕ) → n ≡ R.Next q → t ≡ Depth d q → d ≤ 4 → Joint n t (Depth d q)
-  unknown : (i m j : ℕ) → n ≡ R.Refused m j → Joint n t (Fault i)
-  broken : (i : ℕ) → t ≡ Fault i → Joint n t (Fault i)
-
--- depths of at most 4
-abbrev pub Shallow : List ℕ → Type 0
-Shallow [] = Unit {0}
-Shallow (d ∷ l) = (d ≤ 4) × Shallow l
-
-pub data JointParts (n : Read) (t : Parts-typed) : Parts-typed → Type 0 where
-  all-fine : (l : List ℕ) (q : ℕ) → n ≡ R.Next q → t ≡ all l q → Shallow l → JointParts n t (all l q)
-  one-unknown : (i m j : ℕ) → n ≡ R.Refused m j → JointParts n t (fault i)
-  one-broken : (i : ℕ) → t ≡ fault i → JointParts n t (fault i)
-
--- parts one after the other
-one-more : {n : Read} {t u : Parts-typed} (d : ℕ) → d ≤ 4 → JointParts n t u → JointParts n (more d t) (more d u)
-one-more d l (all-fine m q e f s) = all-fine (d ∷ m) q e (rw f) (l, s)
-one-more d l (one-unknown i m j e) = one-unknown i m j e
-one-more d l (one-broken i f) = one-broken i (rw f)
-
-after-part : {n : Read} {t u : Typed} (f : ℕ → Read) (g h : ℕ → Parts-typed) → Joint n t u →
-    ((q : ℕ) → JointParts (f q) (g q) (h q)) → JointParts (and-next n f) (and-parts t g) (and-parts u h)
-after-part f g h (fine d q e i l) k = rw (e, i) (one-more d l (k q))
-after-part f g h (unknown i m j e) k = rw e (one-unknown i m j refl)
-after-part f g h (broken i e) k = rw e (one-broken i refl)
-
-joint-parts : (c : ℕ) (f : ℕ → Read) (g h : ℕ → Typed) → ((p : ℕ) → Joint (f p) (g p) (h p)) → (p : ℕ) →
-    JointParts (repeated c f p) (collect c g p) (collect c h p)
-unfolding repeated collect
-joint-parts zero f g h j p = all-fine [] p refl refl tt
-joint-parts (suc c) f g h j p =
-    after-part (repeated c f) (collect c g) (collect c h) (j p) λ q. joint-parts c f g h j q
-
--- ---- rules give depths of at most 4
-
-abbrev Bounded : Option ℕ → Type 0
-Bounded none = Unit {0}
-Bounded (some d) = d ≤ 4
-
-by-test : (b : Bool) (d : ℕ) → d ≤ 4 → Bounded (some-if b d)
-by-test true d l = l
-by-test false d l = tt
-
-index-bounded : (l : List ℕ) → Shallow l → Bounded (index-rule l)
-index-bounded [] s = tt
-index-bounded (zero ∷ l) s = tt
-index-bounded (suc d ∷ []) s = tt
-index-bounded (suc d ∷ e ∷ l) s = by-test (eqb e 0) d (omega (arith, s .0))
-
-length-bounded : (l : List ℕ) → Bounded (length-rule l)
-length-bounded [] = tt
-length-bounded (zero ∷ l) = tt
-length-bounded (suc d ∷ l) = omega arith
-
-if-bounded : (l : List ℕ) → Shallow l → Bounded (if-rule l)
-if-bounded [] s = tt
-if-bounded (d ∷ []) s = tt
-if-bounded (d ∷ e ∷ []) s = tt
-if-bounded (d ∷ e ∷ f ∷ l) s = by-test (eqb d 0 && eqb e f) e (s .1 .0)
-
--- the result of a function, wherever it stands
-result-bounded : (k w : List ℕ) (p : ℕ) → high-at k w at-function p ≤ 4
-unfolding high-at
-result-bounded k w p = go (node-at k w at-function p) (node-fits k w at-function p)
-  where
-    go : (v : S.Node) → NodeFits at-function (getD k p 255) v →
-        high-of v ≤ 4
-    go (S.fits h) f = rw (eqb-true (h .kind) 0 (f .stands)) at (f .high)
-    go S.wrong-kind f = omega arith
-    go S.wrong-operand f = omega arith
-
-module _ (k w s : List ℕ) (x y z : ℕ) (hz : z ≤ getD high-limits x 0) (l : List ℕ) (sh : Shallow l) where
-  rule-bounded : Bounded (rule-of (any-signature k w s) x y z l)
-  unfolding rule-of signature-at
-  rule-bounded =
-      go (eqb x 8) (eqb x 9) refl (eqb x 10) (eqb x 11) (eqb x 12)
-    where
-      go : (a b : Bool) → eqb x 9 ≡ b → (c d e : Bool) →
-          Bounded (cond a (called (any-signature k w s y)) (cond b (literal-rule z)
-          (cond c index-rule (cond d length-rule (cond e if-rule number-rule)))) l)
-      go true b i c d e = by-test (same (signature-at k w (getD s y 1024) .parameters) l) _
-          (result-bounded k w (getD s y 1024))
-      go false true i c d e =
-          let h : z ≤ 3 = rw (eqb-true x 9 i) at hz in by-test (all-are z l) (suc z) (omega arith)
-      go false false i true d e = index-bounded l sh
-      go false false i false true e = length-bounded l
-      go false false i false false true = if-bounded l sh
-      go false false i false false false = by-test (all-are 0 l) 0 (omega arith)
-
--- a node by a rule whose depths are at most 4
-by-rule-joint : {n : Read} {t u : Parts-typed} (p : ℕ) (r : Rule) → ((l : List ℕ) → Shallow l → Bounded (r l)) →
-    JointParts n t u → Joint n (ruled p r t) (ruled p r u)
-by-rule-joint {n} {t} {u} p r b (all-fine l q e f s) = rw f (go (r l) (b l s))
-  where
-    go : (o : Option ℕ) → Bounded o → Joint n (by-rule p q o) (by-rule p q o)
-    go (some d) h = fine d q e refl h
-    go none h = broken p refl
-by-rule-joint p r b (one-unknown i m j e) = unknown i m j e
-by-rule-joint p r b (one-broken i f) = rw f (broken i refl)
-
--- ---- names
-
--- the entry of a name: known with a depth, or not known
-pub data Entry : Bool → ℕ → ℕ → Type 0 where
-  is-known : (d : ℕ) → d ≤ 4 → Entry true d d
-  not-known : (d : ℕ) → Entry false d 255
-
-pub record Alike (known : Scope) (γ δ : ℕ → ℕ) : Type 0 where
-  pub at : (x : ℕ) → Entry (known x) (γ x) (δ x)
-
-bound-too : {known : Scope} {γ δ : ℕ → ℕ} → Alike known γ δ → (x d : ℕ) → d ≤ 4 →
-    Alike (updated known x true) (updated γ x d) (updated δ x d)
-unfolding updated
-bound-too {known} {γ} {δ} a x d l = record { at = λ y. go (eqb x y) (a .at y) }
-  where
-    go : {b : Bool} {e f : ℕ} (t : Bool) → Entry b e f → Entry (cond t true b) (cond t d e) (cond t d f)
-    go true i = is-known d l
-    go false i = i
-
-no-depth : (d : ℕ) → d ≤ 4 → eqb d 255 ≡ false
-no-depth d l = ne-eqb d 255 (λ e. absurd (let f : ⊥ = omega arith in f))
-
-a-name : {b : Bool} {d e : ℕ} (p : ℕ) → Entry b d e →
-    Joint (cond b (R.Next (p + 1)) (R.Refused 6 p)) (any-name d p) (known-name e p)
-a-name p (is-known d l) = rw (no-depth d l) (fine d (p + 1) refl refl l)
-a-name p (not-known d) = unknown p 6 p refl
-
--- a let and a map, by what is told of the first part
-module _ {n : Read} {t u : Typed} (N : ℕ → Read) (f g : (ℕ → ℕ) → ℕ → Typed) (γ δ : ℕ → ℕ) (x : ℕ) (j : Joint n t u)
-    (k : (d q : ℕ) → d ≤ 4 → Joint (N q) (f (updated γ x d) q) (g (updated δ x d) q)) where
-  a-let : Joint (and-next n N) (let-typed f γ x t) (let-typed g δ x u)
-  a-let = go j
-    where
-      go : {n : Read} {t u : Typed} → Joint n t u → Joint (and-next n N) (let-typed f γ x t) (let-typed g δ x u)
-      go (fine d q e i l) = rw (e, i) (k d q l)
-      go (unknown i m j e) = rw e (unknown i m j refl)
-      go (broken i e) = rw e (broken i refl)
-
-  wrapped-joint : {n : Read} {t u : Typed} (p : ℕ) → Joint n t u → Joint n (wrapped p t) (wrapped p u)
-  wrapped-joint {n} p (fine d q e i l) = rw i (go (leb (suc d) 4) refl)
-    where
-      go : (b : Bool) → leb (suc d) 4 ≡ b →
-          Joint n (cond b (Depth (suc d) q) (Fault p)) (cond b (Depth (suc d) q) (Fault p))
-      go true h = fine (suc d) q e refl (leb-true (suc d) 4 h)
-      go false h = broken p refl
-  wrapped-joint p (unknown i m j e) = unknown i m j e
-  wrapped-joint p (broken i e) = rw e (broken i refl)
-
-  a-map : (p : ℕ) → Joint (and-next n N) (map-typed f γ x p t) (map-typed g δ x p u)
-  a-map p = go j
-    where
-      go : {n : Read} {t u : Typed} → Joint n t u → Joint (and-next n N) (map-typed f γ x p t) (map-typed g δ x p u)
-      go (fine zero q e i l) = rw (e, i) (broken p refl)
-      go (fine (suc d) q e i l) = rw (e, i) (wrapped-joint p (k d q (omega arith)))
-      go (unknown i m j e) = rw e (unknown i m j refl)
-      go (broken i e) = rw e (broken i refl)
+use Rattle.script.proofs.Bounds.{rule-bounded}
+use Rattle.script.proofs.Joint.{Joint, fine, unknown, broken, JointParts, joint-parts, by-rule-joint, Entry}
+use Rattle.script.proofs.Joint.{is-known, not-known, Alike, bound-too, no-depth, a-name, a-let, a-loop}
 
 -- ---- the walks
 
@@ -249,22 +91,25 @@ module _ (k w s : List ℕ) (functions : ℕ) (placed : Placed k s functions) wh
         (typed any-name (any-signature k w s) k w f γ p x y z)
         (typed known-name (known-signature k w s) k w g δ p x y z)
     unfolding plain-typed part-count repeated
-    node-joint x y z hz = go (eqb x 2) refl (eqb x 3) refl (eqb x 7) refl (eqb x 13) refl
+    node-joint x y z hz = go (eqb x 2) refl (eqb x 3) refl (eqb x 7) refl (loops x) refl
       where
         go : (b₂ : Bool) → eqb x 2 ≡ b₂ → (b₃ : Bool) → eqb x 3 ≡ b₃ → (b₇ : Bool) → eqb x 7 ≡ b₇ →
-            (b₁₃ : Bool) → eqb x 13 ≡ b₁₃ → Joint (named functions N known p x y z)
+            (bₗ : Bool) → loops x ≡ bₗ → Joint (named functions N known p x y z)
             (typed any-name (any-signature k w s) k w f γ p x y z)
             (typed known-name (known-signature k w s) k w g δ p x y z)
-        go true e₂ b₃ e₃ b₇ e₇ b₁₃ e₁₃ = rw (eqb-true x 2 e₂) (fine 0 (p + 1) refl refl (omega arith))
-        go false e₂ true e₃ b₇ e₇ b₁₃ e₁₃ = rw (eqb-true x 3 e₃) (a-name p (a .at y))
-        go false e₂ false e₃ true e₇ b₁₃ e₁₃ =
-            rw (eqb-true x 7 e₇) (a-let (N (updated known y true)) f g γ δ y (inner known γ δ a (p + 1))
+        go true e₂ b₃ e₃ b₇ e₇ bₗ eₗ = rw (eqb-true x 2 e₂) (fine 0 (p + 1) refl refl (omega arith))
+        go false e₂ true e₃ b₇ e₇ bₗ eₗ = rw (eqb-true x 3 e₃) (a-name p (a .at y))
+        go false e₂ false e₃ true e₇ bₗ eₗ =
+            rw (eqb-true x 7 e₇, and-none (N known (p + 1)), updated-twice known y true true)
+            (a-let (N (updated known y true)) f g γ δ y (inner known γ δ a (p + 1))
             λ d q l. inner _ _ _ (bound-too a y d l) q)
-        go false e₂ false e₃ false e₇ true e₁₃ =
-            rw (eqb-true x 13 e₁₃) (a-map (N (updated known y true)) f g γ δ y (inner known γ δ a (p + 1))
-            (λ d q l. inner _ _ _ (bound-too a y d l) q) p)
-        go false e₂ false e₃ false e₇ false e₁₃ =
-            rw (e₂, e₃, e₇, e₁₃)
+        go false e₂ false e₃ false e₇ true eₗ =
+            rw (e₂, e₃, e₇, eₗ)
+            (a-loop (N known) _ f g γ δ p x y z
+            (λ v d q hv hd. inner _ _ _ (bound-too (bound-too a y v hv) (second-name x y z) d hd) q)
+            (λ q. inner known γ δ a q) eₗ)
+        go false e₂ false e₃ false e₇ false eₗ =
+            rw (e₂, e₃, e₇, eₗ)
             (plain-joint x y z p hz
             (joint-parts (part-count x y z) (N known) (f γ) (g δ) (λ q. inner known γ δ a q) (p + 1)))
 

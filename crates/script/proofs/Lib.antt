@@ -1,3 +1,5 @@
+pub mod Bounds
+pub mod Joint
 pub mod Both
 pub mod Laws
 pub mod Whole

@@ -11,7 +11,7 @@ use borrow.Author.Tests.{ltb-true, lt-ltb, le-ltb}
 use Rattle.semantics.specs.Outcome.{done, stop}
 use Rattle.script_count.specs.Count.{new-names, crowd-ends, start-after, count-after, counted-on, crowd}
 use Rattle.script_count.specs.Count.{crowd-outcome}
-use Rattle.script_read.proofs.Limits.{NoneOf, each-kind}
+use Rattle.script_read.proofs.Limits.{NoneOf, others-zero}
 
 -- how far a count is over 256 makes no difference
 over : (k : List ℕ) (n p s c d : ℕ) → 256 < c → 256 < d → crowd k n p s c ≡ crowd k n p s d
@@ -79,11 +79,9 @@ module _ {k : List ℕ} {o : Option ℕ} {p s c : ℕ} (v : Passing k o p s c) w
   pub pass-within : length k ≤ p → c ≤ 256 → done tt 0 ≡ crowd-outcome o
   pass-within h l = rw (ended h, le-ltb 256 c l)
 
--- a kind that takes no new name
-pub no-name : (k : ℕ) → NoneOf (13 ∷ 12 ∷ 11 ∷ 10 ∷ 9 ∷ 8 ∷ 6 ∷ 5 ∷ 4 ∷ 1 ∷ []) k → 0 ≡ getD new-names k 0
-no-name = each-kind (λ k. NoneOf (13 ∷ 12 ∷ 11 ∷ 10 ∷ 9 ∷ 8 ∷ 6 ∷ 5 ∷ 4 ∷ 1 ∷ []) k → 0 ≡ getD new-names k 0)
-    (λ n. refl) (λ n. absurd (n .0 .0 .0 .0 .0 .0 .0 .0 .0 .1 refl)) (λ n. refl) (λ n. refl)
-    (λ n. absurd (n .0 .0 .0 .0 .0 .0 .0 .0 .1 refl)) (λ n. absurd (n .0 .0 .0 .0 .0 .0 .0 .1 refl))
-    (λ n. absurd (n .0 .0 .0 .0 .0 .0 .1 refl)) (λ n. refl) (λ n. absurd (n .0 .0 .0 .0 .0 .1 refl))
-    (λ n. absurd (n .0 .0 .0 .0 .1 refl)) (λ n. absurd (n .0 .0 .0 .1 refl)) (λ n. absurd (n .0 .0 .1 refl))
-    (λ n. absurd (n .0 .1 refl)) (λ n. absurd (n .1 refl)) (λ k n. refl)
+-- the kinds that take new names
+abbrev with-names : List ℕ
+with-names = 20 ∷ 19 ∷ 18 ∷ 17 ∷ 13 ∷ 12 ∷ 11 ∷ 10 ∷ 9 ∷ 8 ∷ 6 ∷ 5 ∷ 4 ∷ 1 ∷ []
+
+pub no-name : (k : ℕ) → NoneOf with-names k → 0 ≡ getD new-names k 0
+no-name k n = others-zero with-names new-names refl k n

@@ -9,9 +9,9 @@ use Rattle.semantics.specs.Outcome.{Outcome, done, stop}
 use Rattle.script_count.specs.declared.Counted.{Counted}
 use Rattle.script_count.specs.declared.Counted.the-variants.{Within, Over}
 
--- new names by kind: a parameter and a compound node take one, a map one more
+-- new names by kind: a parameter and a compound node take one, a loop one more for each name of a pass
 abbrev pub new-names : List ℕ
-new-names = 0 ∷ 1 ∷ 0 ∷ 0 ∷ 1 ∷ 1 ∷ 1 ∷ 0 ∷ 1 ∷ 1 ∷ 1 ∷ 1 ∷ 1 ∷ 2 ∷ []
+new-names = 0 ∷ 1 ∷ 0 ∷ 0 ∷ 1 ∷ 1 ∷ 1 ∷ 0 ∷ 1 ∷ 1 ∷ 1 ∷ 1 ∷ 1 ∷ 2 ∷ 0 ∷ 0 ∷ 0 ∷ 1 ∷ 1 ∷ 2 ∷ 3 ∷ []
 
 -- a function node ends the function before it
 abbrev pub crowd-ends : ℕ → ℕ → Bool

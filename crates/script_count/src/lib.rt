@@ -1,14 +1,18 @@
 // Refusal 8: the first function with over 256 new names, in one pass over the kinds.
 use script_read::KIND_CALL;
 use script_read::KIND_DIFFERENCE;
+use script_read::KIND_FILTER;
 use script_read::KIND_FUNCTION;
 use script_read::KIND_IF;
 use script_read::KIND_INDEX;
+use script_read::KIND_IOTA;
 use script_read::KIND_LENGTH;
 use script_read::KIND_LESS;
 use script_read::KIND_LITERAL;
 use script_read::KIND_MAP;
 use script_read::KIND_PARAMETER;
+use script_read::KIND_REDUCE;
+use script_read::KIND_REPLICATE;
 use script_read::KIND_SUM;
 ghost use mathlib.Core.Path.{_≡_};
 ghost use Prim.Native.Nat.{_+_, _<_};
@@ -37,6 +41,10 @@ fn new_names(kind: u8) -> u8
         KIND_LENGTH => 1,
         KIND_IF => 1,
         KIND_MAP => 2,
+        KIND_IOTA => 1,
+        KIND_REPLICATE => 1,
+        KIND_FILTER => 2,
+        KIND_REDUCE => 3,
         _ => 0,
     }
 }

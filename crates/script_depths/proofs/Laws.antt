@@ -1,7 +1,8 @@
 -- The ways out of a part, in the terms of the code.
 use mathlib.Core.Path.{_≡_, refl, sym, ap, _∙_}
 use mathlib.Core.List.{List, [], _∷_, _++_, append-assoc, append-nil}
-use mathlib.Core.Option.{Option, none, some}
+use mathlib.Core.Bool.{true, false}
+use mathlib.Core.Option.{Option}
 use mathlib.Core.Logic.{_⊎_, ⊎-elim}
 use Prim.Native.Nat.{ℕ, zero, suc, _+_, _-_, _<_, _≤_}
 use native.Mathlib.Omega.{arith}
@@ -11,19 +12,20 @@ use lib.Seq.{take-suc-set}
 use borrow.Author.Tests.{eq-eqb, ne-eqb}
 use Rattle.semantics.specs.Basics.{updated}
 use Rattle.semantics.specs.File.{at-part, look, part-count}
-use Rattle.script_read.specs.Told.{node-outcome, parted}
+use Rattle.script_read.specs.Told.{node-outcome, parted, loops, second-name}
 use Rattle.script_read.specs.declared.Node.{Node}
 use Rattle.script_read.specs.declared.Node.the-variants.{WrongKind, WrongOperand}
 use Rattle.script_read.proofs.Nodes.{Seen, unfit, getD-any}
 use Rattle.script_read.proofs.Turns.{less-one}
-use Rattle.script_read.proofs.Tables.{table-set, table-at}
+use Rattle.script_read.proofs.Tables.{table-set, table-set-two, table-at}
+use Rattle.script_depths.proofs.Rules.{ruled-good, ruled-bad}
 use Rattle.script_depths.specs.declared.Typed.{Typed}
 use Rattle.script_depths.specs.declared.Typed.the-variants.{Depth, Fault}
 use Rattle.script_depths.specs.declared.Judged.{Judged}
 use Rattle.script_depths.specs.declared.Judged.the-variants.{Has, Broken}
 use Rattle.script_depths.specs.Walk.{depths, known-name, known-signature, rule-of, told-rule, Parts-typed, all}
-use Rattle.script_depths.specs.Walk.{fault, more, and-parts, collect, by-rule, wrapped, let-typed, map-typed}
-use Rattle.script_depths.specs.Walk.{typed, known-plain, known-types}
+use Rattle.script_depths.specs.Walk.{fault, more, and-parts, collect, by-rule, let-typed, start-typed, loop-ended}
+use Rattle.script_depths.specs.Walk.{array-typed, loop-typed, typed, known-plain, known-types}
 
 -- the entry of a name
 pub entry : (t : List ℕ) (x : ℕ) → length t ≡ 256 → x < 256 → depths t x ≡ getD t x 0
@@ -68,49 +70,77 @@ module _ {k w : List ℕ} {p x y z : ℕ} (n : Seen k w at-part p x y z) (s : Li
         r ≡ let-typed (known-types k w s (d - 1)) γ y (known-types k w s (d - 1) γ (p + 1)) → Gives r
     a-let e r g = g ∙ sym (by-kind ∙ rw e)
 
-    pub a-map : x ≡ 13 → (r : Typed) →
-        r ≡ map-typed (known-types k w s (d - 1)) γ y p (known-types k w s (d - 1) γ (p + 1)) → Gives r
-    a-map e r g = g ∙ sym (by-kind ∙ rw e)
+    module _ (f2 : x ≡ 2 → ⊥) (f3 : x ≡ 3 → ⊥) (f7 : x ≡ 7 → ⊥) where
+      pub a-loop : loops x ≡ true → (r : Typed) →
+          r ≡ loop-typed (known-types k w s (d - 1)) γ p x y z (start-typed x (known-types k w s (d - 1) γ) (p + 1)) →
+          Gives r
+      a-loop l r g = g ∙ sym (by-kind ∙ rw (ne-eqb x 2 f2, ne-eqb x 3 f3, ne-eqb x 7 f7, l))
 
-    pub any-other : (x ≡ 2 → ⊥) → (x ≡ 3 → ⊥) → (x ≡ 7 → ⊥) → (x ≡ 13 → ⊥) →
-        (r : Typed) → r ≡ known-plain k w s (known-types k w s (d - 1) γ) p x y z → Gives r
-    unfolding known-plain
-    any-other f2 f3 f7 f13 r g = g ∙ sym (by-kind ∙ rw (ne-eqb x 2 f2, ne-eqb x 3 f3, ne-eqb x 7 f7, ne-eqb x 13 f13))
+      pub any-other : loops x ≡ false → (r : Typed) →
+          r ≡ known-plain k w s (known-types k w s (d - 1) γ) p x y z → Gives r
+      unfolding known-plain
+      any-other l r g = g ∙ sym (by-kind ∙ rw (ne-eqb x 2 f2, ne-eqb x 3 f3, ne-eqb x 7 f7, l))
 
--- a name bound to the depth u, after a first part of depth v
-module _ (k w s : List ℕ) (d : ℕ) (t t₁ : List ℕ) (x p q v u : ℕ) (r₁ r₂ : Typed) (l : length t ≡ 256) (h : x < 256)
-    (e : t₁ ≡ t)
-    (g : r₁ ≡ known-types k w s d (depths t) p) (i : r₁ ≡ Depth v q)
-    (j : r₂ ≡ known-types k w s d (depths (set t₁ x u)) q) where
-  beneath : r₂ ≡ known-types k w s d (updated (depths t) x u) q
-  beneath =
-      j ∙ ap (λ (a : List ℕ). known-types k w s d (depths (set a x u)) q) e
-      ∙ ap (λ (γ : ℕ → ℕ). known-types k w s d γ q) (table-set 255 t x u (omega arith))
+-- the parts of a let and of a loop, where a part is typed by m
+module _ (k w s : List ℕ) (d : ℕ) (t : List ℕ) where
+  abbrev m : (ℕ → ℕ) → ℕ → Typed
+  m γ p = known-types k w s d γ p
 
-  pub let-bound : u ≡ v → r₂ ≡ let-typed (known-types k w s d) (depths t) x (known-types k w s d (depths t) p)
-  let-bound f = rw (← g, i) (beneath ∙ ap (λ (a : ℕ). known-types k w s d (updated (depths t) x a) q) f)
+  -- a let by its first part
+  module _ (x p : ℕ) (r₁ : Typed) (g : r₁ ≡ m (depths t) p) where
+    abbrev pub Lets : Typed → Type 0
+    Lets r = r ≡ let-typed (known-types k w s d) (depths t) x (known-types k w s d (depths t) p)
 
-  pub map-bound : u ≡ v - 1 → (v ≡ 0 → ⊥) → (at : ℕ) (r₃ : Typed) → r₃ ≡ wrapped at r₂ →
-      r₃ ≡ map-typed (known-types k w s d) (depths t) x at (known-types k w s d (depths t) p)
-  map-bound f pos at r₃ o = rw (← g, i) (o ∙ ap (λ (a : Typed). wrapped at a) beneath ∙ go v pos f)
-    where
-      go : (v : ℕ) → (v ≡ 0 → ⊥) → u ≡ v - 1 →
-          wrapped at (known-types k w s d (updated (depths t) x u) q) ≡ map-typed (known-types k w s d) (depths t)
-          x at (Depth v q)
-      go zero f w = absurd (f refl)
-      go (suc v) f w = let n : u ≡ v = omega arith in rw n
+    pub let-faulty : (n : ℕ) → r₁ ≡ Fault n → Lets (Fault n)
+    let-faulty n f = rw (← g, f)
 
--- a first part with a fault, and a map over a number
-module _ (k w s : List ℕ) (d : ℕ) (γ : ℕ → ℕ) (x p : ℕ) (r : Typed) (e : r ≡ known-types k w s d γ p) where
-  pub let-faulty : (n : ℕ) → r ≡ Fault n → Fault n ≡ let-typed (known-types k w s d) γ x (known-types k w s d γ p)
-  let-faulty n f = rw (← e, f)
+    pub let-bound : (t₁ : List ℕ) (q v : ℕ) (r₂ : Typed) → length t ≡ 256 → x < 256 → t₁ ≡ t → r₁ ≡ Depth v q →
+        r₂ ≡ m (depths (set t₁ x v)) q → Lets r₂
+    let-bound t₁ q v r₂ l h e i j =
+        rw (← g, i)
+        (j ∙ ap (λ (a : List ℕ). m (depths (set a x v)) q) e
+        ∙ ap (λ (γ : ℕ → ℕ). m γ q) (table-set 255 t x v (omega arith)))
 
-  pub map-faulty : (n at : ℕ) → r ≡ Fault n → Fault n ≡ map-typed (known-types k w s d) γ x at (known-types k w s d γ p)
-  map-faulty n at f = rw (← e, f)
+  -- a loop by its start
+  module _ (at x y z : ℕ) (r₀ : Typed) (g₀ : r₀ ≡ start-typed x (m (depths t)) (at + 1)) where
+    abbrev pub Loops : Typed → Type 0
+    Loops r = r ≡ loop-typed (known-types k w s d) (depths t) at x y z
+        (start-typed x (known-types k w s d (depths t)) (at + 1))
 
-  pub map-number : (v q at : ℕ) → r ≡ Depth v q → v ≡ 0 →
-      Fault at ≡ map-typed (known-types k w s d) γ x at (known-types k w s d γ p)
-  map-number v q at f g = rw (← e, f, g)
+    pub start-faulty : (n : ℕ) → r₀ ≡ Fault n → Loops (Fault n)
+    start-faulty n f = rw (← g₀, f)
+
+    -- by its array
+    module _ (t₁ : List ℕ) (u p : ℕ) (i₀ : r₀ ≡ Depth u p) (e₁ : t₁ ≡ t) (r₁ : Typed) (g₁ : r₁ ≡ m (depths t₁) p) where
+      by-array : array-typed (known-types k w s d) (depths t) at x y z u r₁ ≡
+          loop-typed (known-types k w s d) (depths t) at x y z
+          (start-typed x (known-types k w s d (depths t)) (at + 1))
+      by-array = rw (← g₀, i₀, g₁, e₁)
+
+      pub array-faulty : (n : ℕ) → r₁ ≡ Fault n → Loops (Fault n)
+      array-faulty n f = rw f at by-array
+
+      pub array-number : (v q : ℕ) → r₁ ≡ Depth v q → v ≡ 0 → Loops (Fault at)
+      array-number v q f h = rw (f, h) at by-array
+
+      pub loop-bound : (t₂ : List ℕ) (v q o : ℕ) (r₂ r₃ : Typed) → length t ≡ 256 → y < 256 → o < 256 → t₂ ≡ t₁ →
+          r₁ ≡ Depth v q → (v ≡ 0 → ⊥) → o ≡ second-name x y z →
+          r₂ ≡ m (depths (set (set t₂ y u) o (v - 1))) q → r₃ ≡ loop-ended at x u v r₂ → Loops r₃
+      loop-bound t₂ v q o r₂ r₃ l hy ho e₂ f pos oe j f₃ =
+          f₃ ∙ ap (λ (a : Typed). loop-ended at x u v a) beneath ∙ go v pos f
+        where
+          beneath : r₂ ≡ m (updated (updated (depths t) y u) (second-name x y z) (v - 1)) q
+          beneath =
+              j ∙ ap (λ (a : List ℕ). m (depths (set (set a y u) o (v - 1))) q) (e₂ ∙ e₁)
+              ∙ ap (λ (γ : ℕ → ℕ). m γ q) (table-set-two 255 t y o u (v - 1) (omega arith) (omega arith))
+              ∙ ap (λ (b : ℕ). m (updated (updated (depths t) y u) b (v - 1)) q) oe
+
+          go : (v : ℕ) → (v ≡ 0 → ⊥) → r₁ ≡ Depth v q →
+              loop-ended at x u v (m (updated (updated (depths t) y u) (second-name x y z) (v - 1)) q) ≡
+              loop-typed (known-types k w s d) (depths t) at x y z
+              (start-typed x (known-types k w s d (depths t)) (at + 1))
+          go zero h i = absurd (h refl)
+          go (suc v) h i = let n : suc v - 1 ≡ v = omega arith in rw n (rw i at by-array)
 
 -- depths before those of further parts
 abbrev prepend : List ℕ → Parts-typed → Parts-typed
@@ -178,23 +208,16 @@ module _ (k w s : List ℕ) {f : ℕ → Typed} (at x y z n : ℕ) (ne : n ≡ p
   unfolding known-plain
   part-faulty h r e m j = rw (← ne, stopped g h r e m j)
 
-  module _ (h : n ≤ i) (j : Judged)
-      (je : j ≡ told-rule (rule-of (known-signature k w s) x y z (take (part-count x y z) ds))) where
-    same-option : (a b : Option ℕ) → told-rule a ≡ told-rule b → by-rule at p a ≡ by-rule at p b
-    same-option (some a) (some b) i = let h : a ≡ b = cc in rw h
-    same-option (some a) none i = let z : _≡_ {A = ℕ} 0 1 = cc in absurd (omega arith)
-    same-option none (some b) i = let z : _≡_ {A = ℕ} 0 1 = cc in absurd (omega arith)
-    same-option none none i = refl
+  abbrev by-its-kind : Option ℕ
+  by-its-kind = rule-of (known-signature k w s) x y z (take (part-count x y z) ds)
 
-    judged : (o : Option ℕ) → j ≡ told-rule o → known-plain k w s f at x y z ≡ by-rule at p o
+  module _ (h : n ≤ i) (j : Judged) (je : j ≡ told-rule by-its-kind) where
+    plain-ends : by-rule at p by-its-kind ≡ known-plain k w s f at x y z
     unfolding known-plain
-    judged o oe =
-        rw (← ne, ended g h)
-        (same-option (rule-of (known-signature k w s) x y z (take n ds)) o
-        (ap (λ (m : ℕ). told-rule (rule-of (known-signature k w s) x y z (take m ds))) ne ∙ sym je ∙ oe))
+    plain-ends = rw (← ne, ended g h)
 
     pub judged-good : (t : ℕ) → j ≡ Has t → Depth t p ≡ known-plain k w s f at x y z
-    judged-good t e = sym (judged (some t) e)
+    judged-good t e = ruled-good by-its-kind j je at p t e ∙ plain-ends
 
     pub judged-bad : j ≡ Broken → Fault at ≡ known-plain k w s f at x y z
-    judged-bad e = sym (judged none e)
+    judged-bad e = ruled-bad by-its-kind j je at p e ∙ plain-ends

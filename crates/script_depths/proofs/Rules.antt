@@ -3,25 +3,25 @@ use mathlib.Core.Path.{_≡_, refl, sym, ap, _∙_}
 use mathlib.Core.Bool.{Bool, true, false, cond, _&&_}
 use mathlib.Core.Logic.{inl}
 use mathlib.Core.List.{List, [], _∷_}
-use mathlib.Core.Option.{Option}
+use mathlib.Core.Option.{Option, none, some}
 use Prim.Native.Nat.{ℕ, zero, suc, _+_, _-_, _<_, _≤_}
 use native.Mathlib.Omega.{arith}
 use native.Mathlib.Numerals.{add-one}
-use lib.Dec.{leb, eqb}
+use lib.Dec.{eqb}
 use lib.ListN.{length, getD, take, drop, length-take, drop-of-length-le}
 use lib.Seq.{drop-cons, getD-take}
-use borrow.Author.Tests.{eqb-true, eq-eqb, ne-eqb, le-leb, lt-leb, leb-true, lt-ltb, le-ltb}
+use borrow.Author.Tests.{eqb-true, eq-eqb, ne-eqb, le-leb, lt-leb, lt-ltb, le-ltb}
 use Rattle.semantics.specs.File.{at-function, at-parameter, part-count, part-counts, low-limits, high-limits}
-use Rattle.semantics.specs.Types.{Signature, all-are, same, index-rule, length-rule, if-rule}
+use Rattle.semantics.specs.Types.{Signature, all-are, same, some-if, index-rule, length-rule, replicate-rule, if-rule}
 use Rattle.script_read.specs.Told.{low-at, high-at}
 use Rattle.script_read.specs.declared.Node.the-variants.{WrongKind}
-use Rattle.laws.specs.Tests.{both-hold}
+use Rattle.script_read.proofs.Limits.{NoneOf, few}
 use Rattle.script_read.proofs.Nodes.{node-says, past, unfit, low-none, high-none}
-use Rattle.script_depths.specs.declared.Typed.{Typed}
 use Rattle.script_depths.specs.declared.Typed.the-variants.{Depth, Fault}
 use Rattle.script_depths.specs.declared.Judged.{Judged}
 use Rattle.script_depths.specs.declared.Judged.the-variants.{Has, Broken}
-use Rattle.script_depths.specs.Walk.{depths-from, signature-at, there, called, rule-of, told-rule, wrapped}
+use Rattle.script_depths.specs.Walk.{depths-from, signature-at, there, called, rule-of, array-rule, told-rule}
+use Rattle.script_depths.specs.Walk.{by-rule}
 
 -- all of the first n depths are d
 module _ (d n : ℕ) (ds : List ℕ) (l : n ≤ length ds) where
@@ -147,45 +147,44 @@ module _ (signatures : ℕ → Option Signature) (x y z : ℕ) (ds : List ℕ) (
   unfolding rule-of part-count
   call-says e r f = rw e f
 
-  pub literal-good : x ≡ 9 → (b : Bool) → b ≡ all-are z (take y ds) → b ≡ true → Says (Has (z + 1))
+  pub literal-says : x ≡ 9 → (r : Judged) → r ≡ told-rule (some-if (all-are z (take y ds)) (z + 1)) → Says r
   unfolding rule-of part-count
-  literal-good e b f g = rw (e, ← f, g, add-one)
-
-  pub literal-bad : x ≡ 9 → (b : Bool) → b ≡ all-are z (take y ds) → b ≡ false → Says Broken
-  unfolding rule-of part-count
-  literal-bad e b f g = rw (e, ← f, g)
+  literal-says e r f = rw (e, ← add-one z) f
 
   pub index-says : x ≡ 10 → (r : Judged) → r ≡ told-rule (index-rule (getD ds 0 0 ∷ getD ds 1 0 ∷ [])) → Says r
   unfolding rule-of part-count
   index-says e r f = rw (e, take-two ds (omega arith)) f
 
-  pub length-number : x ≡ 11 → getD ds 0 0 ≡ 0 → Says Broken
+  pub length-says : x ≡ 11 → (r : Judged) → r ≡ told-rule (length-rule (getD ds 0 0 ∷ [])) → Says r
   unfolding rule-of part-count
-  length-number e f = rw (e, take-one ds (omega arith), f)
-
-  pub length-good : x ≡ 11 → (getD ds 0 0 ≡ 0 → ⊥) → Says (Has 0)
-  unfolding rule-of part-count
-  length-good e f = rw (e, take-one ds (omega arith)) (go (getD ds 0 0) f)
-    where
-      go : (a : ℕ) → (a ≡ 0 → ⊥) → Has 0 ≡ told-rule (length-rule (a ∷ []))
-      go zero f = absurd (f refl)
-      go (suc a) f = refl
+  length-says e r f = rw (e, take-one ds (omega arith)) f
 
   pub if-says : x ≡ 12 → (r : Judged) → r ≡ told-rule (if-rule (getD ds 0 0 ∷ getD ds 1 0 ∷ getD ds 2 0 ∷ [])) → Says r
   unfolding rule-of part-count
   if-says e r f = rw (e, take-three ds (omega arith)) f
 
-  module _ (f8 : x ≡ 8 → ⊥) (f9 : x ≡ 9 → ⊥) (f10 : x ≡ 10 → ⊥) (f11 : x ≡ 11 → ⊥) (f12 : x ≡ 12 → ⊥) (n : ℕ)
-      (ne : n ≡ part-count x y z) where
-    pub numbers-good : (b : Bool) → b ≡ all-are 0 (take n ds) → b ≡ true → Says (Has 0)
-    unfolding rule-of
-    numbers-good b f g =
-        rw (ne-eqb x 8 f8, ne-eqb x 9 f9, ne-eqb x 10 f10, ne-eqb x 11 f11, ne-eqb x 12 f12, ← ne, ← f, g)
+  pub iota-says : x ≡ 17 → (r : Judged) → r ≡ told-rule (some-if (all-are 0 (take 1 ds)) 1) → Says r
+  unfolding rule-of part-count
+  iota-says e r f = rw e f
 
-    pub numbers-bad : (b : Bool) → b ≡ all-are 0 (take n ds) → b ≡ false → Says Broken
-    unfolding rule-of
-    numbers-bad b f g =
-        rw (ne-eqb x 8 f8, ne-eqb x 9 f9, ne-eqb x 10 f10, ne-eqb x 11 f11, ne-eqb x 12 f12, ← ne, ← f, g)
+  pub replicate-says : x ≡ 18 → (r : Judged) → r ≡ told-rule (replicate-rule (getD ds 0 0 ∷ getD ds 1 0 ∷ [])) → Says r
+  unfolding rule-of part-count
+  replicate-says e r f = rw (e, take-two ds (omega arith)) f
+
+  pub numbers-say : NoneOf (18 ∷ 17 ∷ 12 ∷ 11 ∷ 10 ∷ 9 ∷ 8 ∷ []) x → (n : ℕ) → n ≡ part-count x y z → (r : Judged) →
+      r ≡ told-rule (some-if (all-are 0 (take n ds)) 0) → Says r
+  unfolding rule-of
+  numbers-say f n e r g =
+      rw (
+        ne-eqb x 8 (f .0 .0 .0 .0 .0 .0 .1),
+        ne-eqb x 9 (f .0 .0 .0 .0 .0 .1),
+        ne-eqb x 10 (f .0 .0 .0 .0 .1),
+        ne-eqb x 11 (f .0 .0 .0 .1),
+        ne-eqb x 12 (f .0 .0 .1),
+        ne-eqb x 17 (f .0 .1),
+        ne-eqb x 18 (f .1),
+        ← e,
+      ) g
 
 -- an element's depth
 pub index-good : (a b : ℕ) → (a ≡ 0 → ⊥) → b ≡ 0 → Has (a - 1) ≡ told-rule (index-rule (a ∷ b ∷ []))
@@ -196,23 +195,39 @@ pub index-bad : (a b : ℕ) → (a ≡ 0 → ⊥) → (b ≡ 0 → ⊥) → Brok
 index-bad zero b f g = absurd (f refl)
 index-bad (suc a) b f g = rw (ne-eqb b 0 g)
 
--- a map's depth
-pub wrap-good : (p e q : ℕ) (r : Typed) → r ≡ Depth e q → e < 4 → Depth (e + 1) q ≡ wrapped p r
-wrap-good p e q r f h = rw (f, le-leb (suc e) 4 (omega arith), add-one)
+-- a length's depth
+pub length-good : (a : ℕ) → (a ≡ 0 → ⊥) → Has 0 ≡ told-rule (length-rule (a ∷ []))
+length-good zero f = absurd (f refl)
+length-good (suc a) f = refl
 
-pub wrap-deep : (p e q : ℕ) (r : Typed) → r ≡ Depth e q → 4 ≤ e → Fault p ≡ wrapped p r
-wrap-deep p e q r f h = rw (f, lt-leb (suc e) 4 (omega arith))
+-- an array's depth by its elements'
+pub array-good : (d : ℕ) → d < 4 → Has (d + 1) ≡ told-rule (array-rule d)
+array-good d h = rw (le-leb (suc d) 4 (omega arith), add-one)
+
+pub array-deep : (d : ℕ) → 4 ≤ d → Broken ≡ told-rule (array-rule d)
+array-deep d h = rw (lt-leb (suc d) 4 (omega arith))
+
+pub replicate-bad : (a b : ℕ) → (a ≡ 0 → ⊥) → Broken ≡ told-rule (replicate-rule (a ∷ b ∷ []))
+replicate-bad zero b f = absurd (f refl)
+replicate-bad (suc a) b f = refl
+
+-- a judgement says what the rule gives
+module _ (o : Option ℕ) (j : Judged) (e : j ≡ told-rule o) (p q : ℕ) where
+  pub ruled-good : (t : ℕ) → j ≡ Has t → Depth t q ≡ by-rule p q o
+  ruled-good t f = go o (sym f ∙ e)
+    where
+      go : (o : Option ℕ) → Has t ≡ told-rule o → Depth t q ≡ by-rule p q o
+      go (some u) g = let h : t ≡ u = cc in rw h
+      go none g = let z : _≡_ {A = ℕ} 0 1 = cc in absurd (omega arith)
+
+  pub ruled-bad : j ≡ Broken → Fault p ≡ by-rule p q o
+  ruled-bad f = go o (sym f ∙ e)
+    where
+      go : (o : Option ℕ) → Broken ≡ told-rule o → Fault p ≡ by-rule p q o
+      go (some u) g = let z : _≡_ {A = ℕ} 0 1 = cc in absurd (omega arith)
+      go none g = refl
 
 -- at most 16 parts
-abbrev under : ℕ → List ℕ → Bool
-under b [] = true
-under b (a ∷ l) = leb a b && under b l
-
-under-at : (b : ℕ) (l : List ℕ) (i : ℕ) → under b l ≡ true → getD l i 0 ≤ b
-under-at b [] i h = omega arith
-under-at b (a ∷ l) zero h = leb-true a b (both-hold (leb a b) (under b l) h .0)
-under-at b (a ∷ l) (suc i) h = under-at b l i (both-hold (leb a b) (under b l) h .1)
-
 pub few-parts : (x y z : ℕ) → y ≤ getD low-limits x 0 → z ≤ getD high-limits x 0 → part-count x y z ≤ 16
 unfolding part-count
 few-parts x y z h g = go (eqb x 8) refl (eqb x 9) refl
@@ -220,4 +235,4 @@ few-parts x y z h g = go (eqb x 8) refl (eqb x 9) refl
     go : (s : Bool) → eqb x 8 ≡ s → (t : Bool) → eqb x 9 ≡ t → cond s z (cond t y (getD part-counts x 0)) ≤ 16
     go true e t f = let i : z ≤ 8 = rw (eqb-true x 8 e) at g in omega arith
     go false e true f = rw (eqb-true x 9 f) at h
-    go false e false f = omega (arith, under-at 3 part-counts x refl)
+    go false e false f = omega (arith, few x)

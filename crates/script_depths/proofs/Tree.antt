@@ -4,27 +4,33 @@ use native.Mathlib.Omega.{arith}
 use mathlib.Core.Bool.{Bool, true, false, cond}
 use mathlib.Core.List.{List, [], _∷_, _++_, map}
 use mathlib.Core.Option.{Option, none, some}
-use mathlib.Core.Path.{_≡_, refl, ap, subst, fun-ext}
-use lib.Dec.{eqb, leb}
+use mathlib.Core.Path.{_≡_, refl, sym, ap, _∙_, subst, fun-ext}
+use lib.Dec.{eqb}
 use lib.ListN.{length}
+use borrow.Author.Tests.{eq-eqb, ne-eqb, eqb-true, eqb-false}
 use Rattle.semantics.specs.Basics.{updated}
 use Rattle.semantics.specs.Number.{sum, difference, less}
-use Rattle.semantics.specs.Kinds.{Leaf, operation, call, literal, index, length-of, leaf-kind, Loop, mapping}
+use Rattle.semantics.specs.Kinds.{Leaf, operation, call, literal, index, length-of, iota, replicate, leaf-kind, Loop}
+use Rattle.semantics.specs.Kinds.{mapping, filtering, reducing, loop-kind}
 use Rattle.semantics.specs.Syntax as T
 use Rattle.semantics.specs.Syntax.{Expr, number, name, let-in, leaf, if-else, loop, Exprs, size, sizes}
 use Rattle.semantics.specs.File as S
 use Rattle.semantics.specs.File.{part-count, leaf-of, loop-of, shape-of}
 use Rattle.semantics.specs.Types.{Checked, Depths, part-depths, part-faults, Rule, Signature, node, some-if, let-rule}
-use Rattle.semantics.specs.Types.{is-number, if-rule, leaf-rule, loop-rule, loop-node, pass-depths, depths-with}
-use Rattle.semantics.specs.Types.{check, checks}
+use Rattle.semantics.specs.Types.{element, is-number, if-rule, leaf-rule, loop-rule, array-depth, loop-node}
+use Rattle.semantics.specs.Types.{pass-depths, depths-with, check, checks}
 use Rattle.semantics.specs.Annotate.{with-depths}
-use Rattle.script_read.proofs.Sorts.{kind-of-leaf, kind-of-loop}
+use Rattle.script_read.proofs.Sorts.{kind-of-leaf, kind-of-loop, is-a-loop, pass-names, names-of-loop}
+use Rattle.script_read.proofs.Sorts.{parts-before, count-of-loop, other-kind, loop-some}
+use Rattle.script_read.specs.Told.{second-name}
+use Rattle.script_read.proofs.Tables.{updated-twice}
 use Rattle.script_read.proofs.Written.{amount, Written, AllWritten}
 use Rattle.script_depths.specs.declared.Typed.{Typed}
 use Rattle.script_depths.specs.declared.Typed.the-variants.{Depth, Fault}
-use Rattle.script_depths.specs.Walk.{signature-of, rule-of, Parts-typed, all, fault, more, and-parts, collect}
-use Rattle.script_depths.specs.Walk.{by-rule, ruled, wrapped, let-typed, map-typed, plain-typed, typed}
-use Rattle.script_depths.specs.Walk.{any-name, any-signature, types}
+use Rattle.script_depths.specs.Walk.{signature-of, rule-of, loop-ruled, Parts-typed, all, fault, more}
+use Rattle.script_depths.specs.Walk.{and-parts, collect, by-rule, ruled, let-typed, start-typed, loop-ended}
+use Rattle.script_depths.specs.Walk.{array-typed, loop-typed, plain-typed, typed, any-name, any-signature}
+use Rattle.script_depths.specs.Walk.{types}
 
 -- what the walk tells of a tree is what the check finds
 pub data Tells (c : Checked) (q : ℕ) : Typed → Type 0 where
@@ -85,38 +91,71 @@ a-let {a} {q} {s} b p m γ x (good t e f) h =
 a-let {a} {q} {s} b p m γ x (bad n l e f) h =
     by-its-rule p let-rule (one-bad n (l ++ (b .faults ++ [])) (rw e) (rw f))
 
--- a map
-abbrev map-rule : Rule
-map-rule = loop-rule mapping
+-- a loop at p over an array, and over a number
+module _ (p : ℕ) (c : Loop) (cs : List Checked) (b : Checked) where
+  over-array : {r : ℕ} {t : Parts-typed} → is-number (array-depth c cs) ≡ false → TellsAll (cs ++ (b ∷ [])) r t →
+      Tells (loop-node p c cs b) r (ruled p (loop-rule c) t)
+  unfolding loop-node
+  over-array e h = rw e (by-its-rule p (loop-rule c) h)
 
-map-says : (p t : ℕ) (r : Typed) → ruled p map-rule (more t (and-parts r (λ s. all [] s))) ≡ wrapped p r
-map-says p t (Depth u s) = go (leb (suc u) 4)
+  over-number : {r : ℕ} → is-number (array-depth c cs) ≡ true → Tells (loop-node p c cs b) r (Fault p)
+  unfolding loop-node
+  over-number e = rw e (bad p (part-faults cs ++ b .faults) refl refl)
+
+equal-turned : (a b : ℕ) → eqb a b ≡ eqb b a
+equal-turned a b = go (eqb a b) refl
   where
-    go : (b : Bool) → by-rule p s (some-if b (suc u)) ≡ cond b (Depth (suc u) s) (Fault p)
-    go true = refl
-    go false = refl
-map-says p t (Fault n) = refl
+    go : (t : Bool) → eqb a b ≡ t → t ≡ eqb b a
+    go true e = sym (eq-eqb b a (sym (eqb-true a b e)))
+    go false e = sym (ne-eqb b a λ f. eqb-false a b e (sym f))
 
-over-array : (p : ℕ) (a b : Checked) → is-number (a .depth) ≡ false →
-    loop-node p mapping (a ∷ []) b ≡ node p map-rule (a ∷ b ∷ [])
-unfolding loop-node
-over-array p a b e = rw e
+-- a body that is told, as the last part
+abbrev body-after : Typed → Parts-typed
+body-after r = and-parts r (λ q. all [] q)
 
-over-number : (p : ℕ) (a b : Checked) → is-number (a .depth) ≡ true →
-    loop-node p mapping (a ∷ []) b ≡ record { depth = none; faults = p ∷ (part-faults (a ∷ []) ++ b .faults) }
-unfolding loop-node
-over-number p a b e = rw e
+module _ (m : (ℕ → ℕ) → ℕ → Typed) (γ : ℕ → ℕ) (p low high : ℕ) where
+  -- a loop with one part before its body, its array
+  module _ (kind : ℕ) (c : Loop) (over : (a : Checked) → array-depth c (a ∷ []) ≡ a .depth)
+      (rule : (d e : ℕ) → loop-rule c (d ∷ e ∷ []) ≡ loop-ruled kind 0 d e) where
+    one-ends : (d : ℕ) (r : Typed) → ruled p (loop-rule c) (more d (body-after r)) ≡ loop-ended p kind 0 d r
+    one-ends d (Depth e q) = ap (by-rule p q) (rule d e)
+    one-ends d (Fault n) = refl
 
-a-map : {a : Checked} {q s : ℕ} {r : Typed} (b : Checked) (p : ℕ) (m : (ℕ → ℕ) → ℕ → Typed) (γ : ℕ → ℕ) (x : ℕ) →
-    Tells a q r → ((t : ℕ) → a .depth ≡ some (suc t) → Tells b s (m (updated γ x t) q)) →
-    Tells (loop-node p mapping (a ∷ []) b) s (map-typed m γ x p r)
-a-map {a} b p m γ x (good zero e f) h =
-    rw (over-number p a b (rw e)) (bad p (part-faults (a ∷ []) ++ b .faults) refl refl)
-a-map {a} {q} b p m γ x (good (suc t) e f) h =
-    rw (over-array p a b (rw e), ← map-says p (suc t) (m (updated γ x t) q))
-    (by-its-rule p map-rule (after-good e f (next-part (λ z. all [] z) (h t e) no-parts)))
-a-map {a} b p m γ x (bad n l e f) h =
-    rw (over-array p a b (rw e)) (by-its-rule p map-rule (one-bad n (l ++ (b .faults ++ [])) (rw e) (rw f)))
+    one-tells : {a : Checked} {q s : ℕ} {r : Typed} (b : Checked) → Tells a q r →
+        ((d : ℕ) → a .depth ≡ some (suc d) →
+        Tells b s (m (updated (updated γ low 0) (second-name kind low high) d) q)) →
+        Tells (loop-node p c (a ∷ []) b) s (array-typed m γ p kind low high 0 r)
+    one-tells {a} b (good zero e f) h = over-number p c (a ∷ []) b (rw (over a, e))
+    one-tells {a} b (good (suc d) e f) h =
+        rw (← one-ends (suc d) _)
+        (over-array p c (a ∷ []) b (rw (over a, e)) (after-good e f (next-part (λ z. all [] z) (h d e) no-parts)))
+    one-tells {a} b (bad n l e f) h =
+        over-array p c (a ∷ []) b (rw (over a, e)) (one-bad n (l ++ (b .faults ++ [])) (rw e) (rw f))
+
+  -- a reduce: its start, and its array
+  two-ends : (u d : ℕ) (r : Typed) →
+      ruled p (loop-rule reducing) (more u (more d (body-after r))) ≡ loop-ended p 20 u d r
+  two-ends u d (Depth e q) = ap (λ (b : Bool). by-rule p q (some-if b u)) (equal-turned u e)
+  two-ends u d (Fault n) = refl
+
+  two-tells : {a a′ : Checked} {q q′ s : ℕ} {r : Typed} (b : Checked) → Tells a q r → Tells a′ q′ (m γ q) →
+      ((u d : ℕ) → a .depth ≡ some u → a′ .depth ≡ some (suc d) → Tells b s (m (updated (updated γ low u) high d) q′)) →
+      Tells (loop-node p reducing (a ∷ a′ ∷ []) b) s (loop-typed m γ p 20 low high r)
+  two-tells {a} {a′} {q} {q′} {s} b (good u e f) t h = go t
+    where
+      go : {r : Typed} → Tells a′ q′ r →
+          Tells (loop-node p reducing (a ∷ a′ ∷ []) b) s (array-typed m γ p 20 low high u r)
+      go (good zero e′ f′) = over-number p reducing (a ∷ a′ ∷ []) b (rw (e, e′))
+      go (good (suc d) e′ f′) =
+          rw (← two-ends u (suc d) _)
+          (over-array p reducing (a ∷ a′ ∷ []) b (rw (e, e′))
+          (after-good e f (after-good e′ f′ (next-part (λ z. all [] z) (h u d e e′) no-parts))))
+      go (bad n l e′ f′) =
+          over-array p reducing (a ∷ a′ ∷ []) b (rw (e, e′))
+          (one-bad n (l ++ (b .faults ++ [])) (rw (e, e′)) (rw (f, f′)))
+  two-tells {a} {a′} b (bad n l e f) t h =
+      over-array p reducing (a ∷ a′ ∷ []) b (rw e)
+      (one-bad n (l ++ (a′ .faults ++ (b .faults ++ []))) (rw e) (rw f))
 
 -- the depths of the names that a table gives: each name has one
 abbrev pub known : (ℕ → ℕ) → Depths
@@ -155,26 +194,59 @@ module _ (k w s : List ℕ) where
     leaf-typed (literal t) i e = let g = rw i at e in let t-is : h .high ≡ t = cc in rw (i, t-is)
     leaf-typed index i e = rw i
     leaf-typed length-of i e = rw i
+    leaf-typed iota i e = rw i
+    leaf-typed replicate i e = rw i
+
+    -- what is known of a loop's body, by the depths of the parts before it
+    abbrev BodyTold : Loop → List ℕ → List Checked → Checked → ℕ → ℕ → Type 0
+    BodyTold c xs cs b q r =
+        (ts : List ℕ) → pass-depths c cs ≡ map (λ t. some t) ts → Tells b r (m (with-depths xs ts γ) q)
+
+    abbrev looped : Typed
+    looped = loop-typed m γ p (h .kind) (h .low) (h .high) (start-typed (h .kind) (m γ) (p + 1))
+
+    abbrev LoopTold : Loop → List ℕ → List Checked → Type 0
+    LoopTold c xs cs = (b : Checked) (q r : ℕ) → Chain cs (m γ) (p + 1) q → BodyTold c xs cs b q r →
+        Tells (loop-node p c cs b) r looped
+
+    one-name : (c : Loop) → eqb (h .kind) 20 ≡ false → ((a : Checked) → array-depth c (a ∷ []) ≡ a .depth) →
+        ((a : Checked) → pass-depths c (a ∷ []) ≡ element (a .depth) ∷ []) →
+        ((d e : ℕ) → loop-rule c (d ∷ e ∷ []) ≡ loop-ruled (h .kind) 0 d e) →
+        (cs : List Checked) → length cs ≡ parts-before (h .kind) →
+        LoopTold c (pass-names (h .kind) (h .low) (h .high)) cs
+    one-name c i over pass rule [] l b q r t body = absurd (omega (arith, rw i at l))
+    one-name c i over pass rule (a ∷ []) l b q r t body =
+        rw i
+        (one-tells m γ p (h .low) (h .high) (h .kind) c over rule b
+        (subst (λ z. Tells a z (m γ (p + 1))) (t .2) (t .1))
+        λ d f. rw (i, updated-twice γ (h .low) 0 d) (rw i at (body (d ∷ []) (rw (pass a, f)))))
+    one-name c i over pass rule (a ∷ a′ ∷ cs) l b q r t body = absurd (omega (arith, rw i at l))
+
+    two-names : h .kind ≡ 20 → (cs : List Checked) → length cs ≡ parts-before (h .kind) →
+        LoopTold reducing (pass-names (h .kind) (h .low) (h .high)) cs
+    two-names i [] l b q r t body = absurd (omega (arith, rw i at l))
+    two-names i (a ∷ []) l b q r t body = absurd (omega (arith, rw i at l))
+    two-names i (a ∷ a′ ∷ []) l b q r t body =
+        rw i
+        (two-tells m γ p (h .low) (h .high) b (t .1)
+        (subst (λ z. Tells a′ z (m γ (t .0))) (t .2 .2) (t .2 .1))
+        λ u d f g. rw i at (body (u ∷ d ∷ []) (rw (f, g))))
+    two-names i (a ∷ a′ ∷ a″ ∷ cs) l b q r t body = absurd (omega (arith, rw i at l))
+
+    by-loop : (c : Loop) → h .kind ≡ loop-kind c → (cs : List Checked) → length cs ≡ parts-before (h .kind) →
+        LoopTold c (pass-names (h .kind) (h .low) (h .high)) cs
+    by-loop mapping i = one-name mapping (rw i) (λ a. refl) (λ a. refl) (λ d e. rw i)
+    by-loop filtering i = one-name filtering (rw i) (λ a. refl) (λ a. refl) (λ d e. rw i)
+    by-loop reducing i = two-names i
 
     loop-tells : (c : Loop) (xs : List ℕ) (n : ℕ) → shape-of h ≡ loop-of c xs n →
         (cs : List Checked) (b : Checked) (q r : ℕ) → length cs ≡ n → Chain cs (m γ) (p + 1) q →
-        ((ts : List ℕ) → pass-depths c cs ≡ map (λ t. some t) ts → Tells b r (m (with-depths xs ts γ) q)) →
-        Tells (loop-node p c cs b) r walked
-    loop-tells mapping xs n e cs b q r l t body =
-        let i : h .kind ≡ 13 = kind-of-loop h mapping xs n e in
-        let g = rw i at e in
-        let names : h .low ∷ [] ≡ xs = cc in
-        let count : 1 ≡ n = cc in
-        rw i (over-one cs (omega (arith, l, count)) t λ ts f. rw (← names) at (body ts f))
-      where
-        over-one : (cs : List Checked) → length cs ≡ 1 → Chain cs (m γ) (p + 1) q →
-            ((ts : List ℕ) → pass-depths mapping cs ≡ map (λ t. some t) ts →
-            Tells b r (m (with-depths (h .low ∷ []) ts γ) q)) →
-            Tells (loop-node p mapping cs b) r (map-typed m γ (h .low) p (m γ (p + 1)))
-        over-one [] l t body = absurd (omega arith)
-        over-one (a ∷ []) l t body =
-            a-map b p m γ (h .low) (subst (λ z. Tells a z (m γ (p + 1))) (t .2) (t .1)) λ u f. body (u ∷ []) (rw f)
-        over-one (a ∷ a′ ∷ cs) l t body = absurd (omega arith)
+        BodyTold c xs cs b q r → Tells (loop-node p c cs b) r walked
+    loop-tells c xs n e cs b q r l t body =
+        let other : shape-of h ≡ S.none → ⊥ = λ i. loop-some (sym e ∙ i) in
+        rw (other-kind h 2 other, other-kind h 3 other, other-kind h 7 other, is-a-loop h c xs n e)
+        (by-loop c (kind-of-loop h c xs n e) cs (l ∙ count-of-loop h c xs n e) b q r t
+        (rw (names-of-loop h c xs n e) at body))
 
   checks-length : (es : Exprs) (Γ : Depths) (p : ℕ) → length (checks signatures es Γ p) ≡ amount es
   unfolding check

@@ -8,9 +8,9 @@ use lib.ListN.{length, getD}
 use Rattle.semantics.specs.Basics.{updated}
 use Rattle.semantics.specs.File as S
 use Rattle.semantics.specs.File.{at-function, at-parameter, at-part, node-at, part-count}
-use Rattle.semantics.specs.Types.{Rule, Signature, number-rule, literal-rule, call-rule, index-rule, length-rule}
-use Rattle.semantics.specs.Types.{if-rule}
-use Rattle.script_read.specs.Told.{low-at, high-at}
+use Rattle.semantics.specs.Types.{Rule, Signature, some-if, number-rule, literal-rule, call-rule, index-rule}
+use Rattle.semantics.specs.Types.{length-rule, iota-rule, replicate-rule, if-rule}
+use Rattle.script_read.specs.Told.{low-at, high-at, loops, second-name}
 use Rattle.script_read.specs.Table.{table}
 use Rattle.script_depths.specs.declared.Typed.{Typed}
 use Rattle.script_depths.specs.declared.Typed.the-variants.{Depth, Fault}
@@ -54,7 +54,18 @@ rule-of signatures kind low high =
     (cond (eqb kind 9) (literal-rule high)
     (cond (eqb kind 10) index-rule
     (cond (eqb kind 11) length-rule
-    (cond (eqb kind 12) if-rule number-rule))))
+    (cond (eqb kind 12) if-rule
+    (cond (eqb kind 17) iota-rule
+    (cond (eqb kind 18) replicate-rule number-rule))))))
+
+-- an array whose elements have the depth d
+abbrev pub array-rule : ℕ → Option ℕ
+array-rule d = some-if (leb (suc d) 4) (suc d)
+
+-- the rule of a loop by its kind, and by the depths of its start, its array and its body; a filter's start is told as
+-- a number, which its body has to be
+abbrev pub loop-ruled : ℕ → ℕ → ℕ → ℕ → Option ℕ
+loop-ruled kind s d e = cond (eqb kind 13) (array-rule e) (some-if (eqb e s) (cond (eqb kind 19) d s))
 
 abbrev pub told-rule : Option ℕ → Judged
 told-rule (some d) = Has d
@@ -86,21 +97,33 @@ abbrev pub ruled : ℕ → Rule → Parts-typed → Typed
 ruled p r (all l q) = by-rule p q (r l)
 ruled p r (fault n) = Fault n
 
--- a map at p by its body
-abbrev pub wrapped : ℕ → Typed → Typed
-wrapped p (Depth d q) = cond (leb (suc d) 4) (Depth (suc d) q) (Fault p)
-wrapped p (Fault n) = Fault n
+-- the second part of a let, after the first; m walks over a part
+abbrev pub let-typed : ((ℕ → ℕ) → ℕ → Typed) → (ℕ → ℕ) → ℕ → Typed → Typed
+let-typed m γ x (Depth d q) = m (updated γ x d) q
+let-typed m γ x (Fault n) = Fault n
 
--- the second part of a let or a map, after the first; m walks over a part
-module _ (m : (ℕ → ℕ) → ℕ → Typed) (γ : ℕ → ℕ) (x : ℕ) where
-  abbrev pub let-typed : Typed → Typed
-  let-typed (Depth d q) = m (updated γ x d) q
-  let-typed (Fault n) = Fault n
+-- a reduce's start at p, which f walks over; a map and a filter have none: it counts as a number, and the array is there
+abbrev pub start-typed : ℕ → (ℕ → Typed) → ℕ → Typed
+start-typed kind f p = cond (eqb kind 20) (f p) (Depth 0 p)
 
-  abbrev pub map-typed : ℕ → Typed → Typed
-  map-typed p (Depth zero q) = Fault p
-  map-typed p (Depth (suc d) q) = wrapped p (m (updated γ x d) q)
-  map-typed p (Fault n) = Fault n
+-- a loop at p by the depths of its start and its array, and by its body
+abbrev pub loop-ended : ℕ → ℕ → ℕ → ℕ → Typed → Typed
+loop-ended p kind s d (Depth e q) = by-rule p q (loop-ruled kind s d e)
+loop-ended p kind s d (Fault n) = Fault n
+
+-- a loop at p; m walks over a part
+module _ (m : (ℕ → ℕ) → ℕ → Typed) (γ : ℕ → ℕ) (p kind low high : ℕ) where
+  -- by the depth of its start, and by its array: the names of a pass have the depths of the start and of an element
+  abbrev pub array-typed : ℕ → Typed → Typed
+  array-typed s (Depth zero q) = Fault p
+  array-typed s (Depth (suc d) q) =
+      loop-ended p kind s (suc d) (m (updated (updated γ low s) (second-name kind low high) d) q)
+  array-typed s (Fault n) = Fault n
+
+  -- by its start
+  abbrev pub loop-typed : Typed → Typed
+  loop-typed (Depth s q) = array-typed s (m γ q)
+  loop-typed (Fault n) = Fault n
 
 -- a walk by what a name's entry tells at its node, and by the signatures of the functions
 module _ (named : ℕ → ℕ → Typed) (signatures : ℕ → Option Signature) (kinds operands : List ℕ) where
@@ -114,7 +137,7 @@ module _ (named : ℕ → ℕ → Typed) (signatures : ℕ → Option Signature)
       cond (eqb kind 2) (Depth 0 (p + 1))
       (cond (eqb kind 3) (named (γ low) p)
       (cond (eqb kind 7) (let-typed m γ low (m γ (p + 1)))
-      (cond (eqb kind 13) (map-typed m γ low p (m γ (p + 1)))
+      (cond (loops kind) (loop-typed m γ p kind low high (start-typed kind (m γ) (p + 1)))
       (plain-typed (m γ) p kind low high))))
 
   abbrev pub typed-node : ((ℕ → ℕ) → ℕ → Typed) → (ℕ → ℕ) → ℕ → S.Node → Typed

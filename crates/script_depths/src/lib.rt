@@ -1,26 +1,20 @@
 // Refusals 6 and 7 of a part: its depth, or a node that breaks one of the rules.
-// One table of the depths of the 256 names is changed at a let or a map and put back after it; a name that is not
+// One table of the depths of the 256 names is changed at a let or a loop and put back after it; a name that is not
 // known has the entry UNKNOWN, which is no depth.
-use script_read::KIND_CALL;
-use script_read::KIND_IF;
-use script_read::KIND_INDEX;
-use script_read::KIND_LENGTH;
 use script_read::KIND_LET;
-use script_read::KIND_LITERAL;
-use script_read::KIND_MAP;
 use script_read::KIND_NAME;
 use script_read::KIND_NUMBER;
+use script_read::KIND_REDUCE;
 use script_read::Node;
 use script_read::Place;
 ghost use mathlib.Core.Path.{_≡_};
 ghost use Prim.Native.Nat.{_+_, _<_, _≤_};
-ghost use lib.ListN.{length, getD, take};
-ghost use Rattle.semantics.specs.File.{low-limits, high-limits, part-count};
-ghost use mathlib.Core.List.{[], _∷_};
-ghost use Rattle.semantics.specs.Types.{all-are, same, index-rule, if-rule};
-ghost use Rattle.script_depths.specs.Walk.{depths, depths-from, there, called, known-signature};
-ghost use Rattle.script_depths.specs.Walk.{rule-of, told-rule, wrapped, let-typed, map-typed, known-plain};
+ghost use lib.ListN.{length, getD};
+ghost use Rattle.semantics.specs.File.{low-limits, high-limits};
+ghost use Rattle.script_depths.specs.Walk.{depths, let-typed, start-typed, loop-ended, loop-typed, known-plain};
 ghost use Rattle.script_depths.specs.Walk.{known-types};
+
+mod judging;
 
 // The entry of a name that is not known.
 pub const UNKNOWN: u8 = 255;
@@ -44,141 +38,15 @@ pub enum Judged {
     Broken,
 }
 
-// Whether the first n depths are all d.
-fn all_are(ds: &[u8; 16], n: usize, d: u8) -> bool
-    requires { ⌜ (n ≤ 16) × (length (now ds) ≡ 16) ⌝ }
-    ensures { λ r. ⌜ r ≡ all-are d (take n (now (ds .entry))) ⌝ }
-{
-    let mut i: usize = 0;
-    while i < n {
-        if ds[i] != d {
-            return false;
-        }
-        i = i + 1;
-    }
-    true
-}
-
-// Whether the depths of the n parameters from node at on are the first n depths.
-fn parameters_match(kinds: &[u8], operands: &[u8], at: usize, ds: &[u8; 16], n: usize) -> bool
-    requires { ⌜ (n ≤ 16) × (length (now ds) ≡ 16) × (at ≤ length (now kinds)) ⌝ }
-    ensures { λ r. ⌜
-        r ≡ same (depths-from (now (kinds .entry)) (now (operands .entry)) n at) (take n (now (ds .entry))) ⌝ }
-{
-    let mut i: usize = 0;
-    while i < n {
-        if script_read::high_at(kinds, operands, at + i, Place::Parameter) != ds[i] {
-            return false;
-        }
-        i = i + 1;
-    }
-    true
-}
-
-// A call's depth: the function's head is at start, if it is there, and the call has n parts.
-fn judge_call(kinds: &[u8], operands: &[u8], start: usize, ds: &[u8; 16], n: u8) -> Judged
-    requires { ⌜ (n ≤ 16) × (length (now ds) ≡ 16) ⌝ }
-    ensures { λ r. ⌜
-        r ≡ told-rule
-        (called (there (now (kinds .entry)) (now (operands .entry)) start) (take n (now (ds .entry)))) ⌝ }
-{
-    if kinds.len() <= start {
-        return Judged::Broken;
-    }
-    if script_read::low_at(kinds, operands, start, Place::Function) != n {
-        return Judged::Broken;
-    }
-    if parameters_match(kinds, operands, start + 1, ds, n as usize) {
-        return Judged::Has(script_read::high_at(kinds, operands, start, Place::Function));
-    }
-    Judged::Broken
-}
-
-// The depth of an element, by those of the array and of the place.
-fn judge_index(a: u8, b: u8) -> Judged
-    ensures { λ r. ⌜ r ≡ told-rule (index-rule (a ∷ b ∷ [])) ⌝ }
-{
-    if a == 0 {
-        return Judged::Broken;
-    }
-    if b == 0 {
-        return Judged::Has(a - 1);
-    }
-    Judged::Broken
-}
-
-// The depth of an if, by those of the guard and of the two branches.
-fn judge_if(a: u8, b: u8, c: u8) -> Judged
-    ensures { λ r. ⌜ r ≡ told-rule (if-rule (a ∷ b ∷ c ∷ [])) ⌝ }
-{
-    if a != 0 {
-        return Judged::Broken;
-    }
-    if b == c {
-        return Judged::Has(b);
-    }
-    Judged::Broken
-}
-
-// The depth of a node by the depths of its parts; not for numbers, names, lets and maps.
-fn judge(kinds: &[u8], operands: &[u8], starts: &[usize; 32], node: Head, ds: &[u8; 16]) -> Judged
-    requires { ⌜
-        (length (now ds) ≡ 16) × (node .low ≤ getD low-limits (node .kind) 0)
-        × (node .high ≤ getD high-limits (node .kind) 0) × (length (now starts) ≡ 32) ⌝ }
-    ensures { λ r. ⌜
-        r ≡ told-rule
-        (rule-of (known-signature (now (kinds .entry)) (now (operands .entry)) (now (starts .entry)))
-        (node .kind) (node .low) (node .high)
-        (take (part-count (node .kind) (node .low) (node .high)) (now (ds .entry)))) ⌝ }
-{
-    let kind = node.kind;
-    let low = node.low;
-    let high = node.high;
-    if kind == KIND_CALL {
-        let start = starts[low as usize];
-        return judge_call(kinds, operands, start, ds, high);
-    }
-    if kind == KIND_LITERAL {
-        if all_are(ds, low as usize, high) {
-            return Judged::Has(high + 1);
-        }
-        return Judged::Broken;
-    }
-    let a = ds[0];
-    let b = ds[1];
-    if kind == KIND_INDEX {
-        return judge_index(a, b);
-    }
-    if kind == KIND_LENGTH {
-        if a == 0 {
-            return Judged::Broken;
-        }
-        return Judged::Has(0);
-    }
-    if kind == KIND_IF {
-        let c = ds[2];
-        return judge_if(a, b, c);
-    }
-    let n = script_read::parts_of(kind, low, high) as usize;
-    if all_are(ds, n, 0) {
-        Judged::Has(0)
-    } else {
-        Judged::Broken
-    }
-}
-
-// A map's depth by its body's.
-fn wrap(at: usize, body: Typed) -> Typed
-    ensures { λ r. ⌜ r ≡ wrapped at body ⌝ }
+// A loop at node at, by the depths of its start and its array and by what its body gives.
+fn end_loop(at: usize, kind: u8, start: u8, array: u8, body: Typed) -> Typed
+    ensures { λ r. ⌜ r ≡ loop-ended at kind start array body ⌝ }
 {
     match body {
-        Typed::Depth(d, q) => {
-            if d < 4 {
-                Typed::Depth(d + 1, q)
-            } else {
-                Typed::Fault(at)
-            }
-        }
+        Typed::Depth(d, q) => match judging::judge_loop(kind, start, array, d) {
+            Judged::Has(e) => Typed::Depth(e, q),
+            Judged::Broken => Typed::Fault(at),
+        },
         Typed::Fault(n) => Typed::Fault(n),
     }
 }
@@ -216,10 +84,10 @@ fn type_part(
             if kind == KIND_LET {
                 return type_let(kinds, operands, starts, table, at + 1, low, levels - 1);
             }
-            if kind == KIND_MAP {
-                return type_map(kinds, operands, starts, table, at, low, levels - 1);
-            }
             let node = Head { kind, low, high };
+            if script_read::is_loop(kind) {
+                return type_loop(kinds, operands, starts, table, at, node, levels - 1);
+            }
             type_plain(kinds, operands, starts, table, at, node, levels - 1)
         }
         Node::WrongKind => Typed::Fault(at),
@@ -258,36 +126,66 @@ fn type_let(
     }
 }
 
-// A map at node at.
-fn type_map(
+// The start of a reduce at node at; a map and a filter have none: it counts as a number, and the array is there.
+fn type_start(
     kinds: &[u8],
     operands: &[u8],
     starts: &[usize; 32],
     table: &mut [u8; 256],
     at: usize,
-    x: u8,
+    kind: u8,
+    levels: u64,
+) -> Typed
+    requires { ⌜ (length (now table) ≡ 256) × (length (now starts) ≡ 32) ⌝ }
+    ensures { λ r. ⌜
+        (r ≡ start-typed kind (known-types (now (kinds .entry)) (now (operands .entry)) (now (starts .entry)) levels
+        (depths (now (table .entry)))) at)
+        × (now (table .exit) ≡ now (table .entry)) ⌝ }
+{
+    if kind == KIND_REDUCE {
+        return type_part(kinds, operands, starts, table, at, levels);
+    }
+    Typed::Depth(0, at)
+}
+
+// A loop at node at: its start, its array, and its body under the names of a pass. The name changed last is put back
+// first: the two may be one.
+fn type_loop(
+    kinds: &[u8],
+    operands: &[u8],
+    starts: &[usize; 32],
+    table: &mut [u8; 256],
+    at: usize,
+    node: Head,
     levels: u64,
 ) -> Typed
     requires { ⌜ (length (now table) ≡ 256) × (length (now starts) ≡ 32) × (at < length (now kinds)) ⌝ }
     ensures { λ r. ⌜
-        (r ≡ map-typed (known-types (now (kinds .entry)) (now (operands .entry)) (now (starts .entry)) levels)
-        (depths (now (table .entry))) x at
-        (known-types (now (kinds .entry)) (now (operands .entry)) (now (starts .entry)) levels
-        (depths (now (table .entry))) (at + 1)))
+        (r ≡ loop-typed (known-types (now (kinds .entry)) (now (operands .entry)) (now (starts .entry)) levels)
+        (depths (now (table .entry))) at (node .kind) (node .low) (node .high)
+        (start-typed (node .kind) (known-types (now (kinds .entry)) (now (operands .entry)) (now (starts .entry))
+        levels (depths (now (table .entry)))) (at + 1)))
         × (now (table .exit) ≡ now (table .entry)) ⌝ }
 {
-    match type_part(kinds, operands, starts, table, at + 1, levels) {
-        Typed::Depth(d, q) => {
-            if d == 0 {
-                return Typed::Fault(at);
+    match type_start(kinds, operands, starts, table, at + 1, node.kind, levels) {
+        Typed::Depth(start, p) => match type_part(kinds, operands, starts, table, p, levels) {
+            Typed::Depth(array, q) => {
+                if array == 0 {
+                    return Typed::Fault(at);
+                }
+                let i = node.low as usize;
+                let j = script_read::second_name(node.kind, node.low, node.high) as usize;
+                let old = table[i];
+                table[i] = start;
+                let hidden = table[j];
+                table[j] = array - 1;
+                let body = type_part(kinds, operands, starts, table, q, levels);
+                table[j] = hidden;
+                table[i] = old;
+                end_loop(at, node.kind, start, array, body)
             }
-            let i = x as usize;
-            let old = table[i];
-            table[i] = d - 1;
-            let r = type_part(kinds, operands, starts, table, q, levels);
-            table[i] = old;
-            wrap(at, r)
-        }
+            Typed::Fault(n) => Typed::Fault(n),
+        },
         Typed::Fault(n) => Typed::Fault(n),
     }
 }
@@ -327,7 +225,7 @@ fn type_plain(
         }
         i = i + 1;
     }
-    match judge(kinds, operands, starts, node, &ds) {
+    match judging::judge(kinds, operands, starts, node, &ds) {
         Judged::Has(d) => Typed::Depth(d, p),
         Judged::Broken => Typed::Fault(at),
     }

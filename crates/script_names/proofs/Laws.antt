@@ -1,23 +1,25 @@
 -- Laws of the walk for names, in the terms of the code.
 use mathlib.Core.Path.{_≡_, refl, sym, ap, _∙_}
-use mathlib.Core.Bool.{Bool, true, false}
+use mathlib.Core.Bool.{Bool, true, false, _||_}
 use mathlib.Core.List.{List}
-use Prim.Native.Nat.{ℕ, zero, suc, _+_, _-_, _<_}
+use Prim.Native.Nat.{ℕ, zero, suc, _+_, _-_, _<_, _≤_}
 use native.Mathlib.Omega.{arith}
+use lib.Dec.{eqb}
 use lib.ListN.{length, getD, set, replicate}
-use borrow.Author.Tests.{eq-eqb, ne-eqb}
+use borrow.Author.Tests.{eq-eqb, ne-eqb, eqb-true}
 use mathlib.Core.Logic.{_⊎_, ⊎-elim}
 use Rattle.semantics.specs.File as S
 use Rattle.semantics.specs.File.{at-function, at-parameter, at-part, look, node-at, part-count}
 use Rattle.semantics.specs.Names.{Scope}
-use Rattle.script_read.specs.Told.{node-outcome, parted, repeated}
+use Rattle.script_read.specs.Told.{node-outcome, parted, loops, second-name, repeated}
 use Rattle.script_read.specs.declared.Node.{Node}
 use Rattle.script_read.specs.declared.Node.the-variants.{WrongKind, WrongOperand}
 use Rattle.script_read.specs.declared.Read.{Read}
 use Rattle.script_read.specs.declared.Read.the-variants.{Next, Refused}
 use Rattle.script_read.proofs.Nodes.{Seen, unfit}
+use Rattle.script_read.proofs.Sorts.{loop-parts}
 use Rattle.script_read.proofs.Turns.{less-one}
-use Rattle.script_read.proofs.Tables.{table-at, table-set, put-back, table-fresh}
+use Rattle.script_read.proofs.Tables.{table-at, table-set, table-set-two, put-back-two, table-fresh}
 use Rattle.script_names.specs.Walk.{scope, binds, calls-none, then-bound, named, names, named-parameter}
 use Rattle.script_names.specs.Walk.{named-head, names-from, names-function}
 
@@ -40,9 +42,10 @@ module _ {k w : List ℕ} {p x y z : ℕ} (s : Seen k w at-part p x y z) (F d : 
   unknown-name e f = sym (case ∙ rw (eq-eqb x 3 e, f))
 
   module _ (e : x ≡ 3 → ⊥) where
-    pub binding : binds x ≡ true → (r : Read) →
-        r ≡ then-bound (names k w F (d - 1)) ρ y (names k w F (d - 1) ρ (p + 1)) → r ≡ names k w F d ρ p
-    binding f r g = g ∙ sym (case ∙ rw (ne-eqb x 3 e, f))
+    pub binding : binds x ≡ true → (n u : ℕ) → n ≡ part-count x y z → u ≡ second-name x y z → (r : Read) →
+        r ≡ then-bound (names k w F (d - 1)) ρ y u (repeated (n - 1) (names k w F (d - 1) ρ) (p + 1)) →
+        r ≡ names k w F d ρ p
+    binding f n u i j r g = g ∙ sym (case ∙ rw (ne-eqb x 3 e, f, ← i, ← j))
 
     module _ (f : binds x ≡ false) where
       pub no-callee : calls-none F x y ≡ true → Refused 6 p ≡ names k w F d ρ p
@@ -62,22 +65,32 @@ no-node k w F (suc d) ρ p n e f = ⊎-elim (λ g. rw g) (λ g. rw g) (unfit k w
 pub at-scope : (t : List Bool) (y : ℕ) (b : Bool) → getD t y false ≡ b → scope t y ≡ b
 at-scope t y b e = table-at false t y ∙ e
 
--- changed and put back
-pub rebound : (m : Scope → ℕ → Read) (t t₁ t₂ : List Bool) (x p q : ℕ) (r₁ r₂ : Read) →
-    length t ≡ 256 → x < 256 → t₁ ≡ t → t₂ ≡ set t₁ x true →
-    r₁ ≡ m (scope t) p → r₁ ≡ Next q → r₂ ≡ m (scope (set t₁ x true)) q →
-    (r₂ ≡ then-bound m (scope t) x (m (scope t) p)) × (set t₂ x (getD t₁ x false) ≡ t)
-rebound m t t₁ t₂ x p q r₁ r₂ l h e f g i j =
-    let b : x < length t = omega arith in (
-      rw (← g, i)
-          (j ∙ ap (λ (u : List Bool). m (scope (set u x true)) q) e
-          ∙ ap (λ (ρ : Scope). m ρ q) (table-set false t x true b)),
-      put-back false t t₁ t₂ x true e f,
-    )
+-- a node that binds has a part
+pub last-part : (x y z n : ℕ) → binds x ≡ true → n ≡ part-count x y z → 1 ≤ n
+unfolding part-count
+last-part x y z n b e = go (eqb x 7) refl b
+  where
+    go : (t : Bool) → eqb x 7 ≡ t → (t || loops x) ≡ true → 1 ≤ n
+    go true h l = rw (e, eqb-true x 7 h) (omega arith)
+    go false h l = omega (arith, e, loop-parts x y z l)
 
-pub unbound : (m : Scope → ℕ → Read) (ρ : Scope) (x p n q : ℕ) (r : Read) → r ≡ m ρ p → r ≡ Refused n q →
-    Refused n q ≡ then-bound m ρ x (m ρ p)
-unbound m ρ x p n q r e f = rw (← e, f)
+-- a binding by the parts before the last: two names changed and put back
+module _ (m : Scope → ℕ → Read) (t : List Bool) (x y c p : ℕ) (r₁ : Read) (g : r₁ ≡ repeated c (m (scope t)) p) where
+  abbrev Binds : Read → Type 0
+  Binds r = r ≡ then-bound m (scope t) x y (repeated c (m (scope t)) p)
+
+  pub rebound : (t₁ t₂ : List Bool) (q : ℕ) (r₂ : Read) → length t ≡ 256 → x < 256 → y < 256 → t₁ ≡ t →
+      t₂ ≡ set (set t₁ x true) y true → r₁ ≡ Next q → r₂ ≡ m (scope (set (set t₁ x true) y true)) q →
+      Binds r₂ × (set (set t₂ y (getD (set t₁ x true) y false)) x (getD t₁ x false) ≡ t)
+  rebound t₁ t₂ q r₂ l h i e f j k = (
+    rw (← g, j)
+        (k ∙ ap (λ (u : List Bool). m (scope (set (set u x true) y true)) q) e
+        ∙ ap (λ (ρ : Scope). m ρ q) (table-set-two false t x y true true (omega arith) (omega arith))),
+    put-back-two false t t₁ t₂ x y true true e f,
+  )
+
+  pub unbound : (n q : ℕ) → r₁ ≡ Refused n q → Binds (Refused n q)
+  unbound n q f = rw (← g, f)
 
 -- parameters
 module _ (k w : List ℕ) (F : ℕ) where

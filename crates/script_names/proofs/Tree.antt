@@ -1,25 +1,27 @@
 -- The walk for names finds the first of the nodes that break the rule.
-use Prim.Native.Nat.{ℕ, suc, _+_}
+use Prim.Native.Nat.{ℕ, suc, _+_, _-_}
 use native.Mathlib.Omega.{arith}
 use mathlib.Core.Bool.{Bool, true, false, cond, not}
 use mathlib.Core.List.{List, [], _∷_}
-use mathlib.Core.Path.{_≡_, refl, ap}
+use mathlib.Core.Path.{_≡_, refl, sym, ap, _∙_}
+use lib.Dec.{eqb}
 use lib.ListN.{length}
 use Rattle.semantics.specs.Basics.{with-if, updated}
 use Rattle.semantics.specs.Number.{sum, difference, less}
-use Rattle.semantics.specs.Kinds.{Leaf, operation, call, literal, index, length-of, leaf-kind, Loop, mapping}
+use Rattle.semantics.specs.Kinds.{Leaf, operation, call, literal, index, length-of, iota, replicate, leaf-kind, Loop}
 use Rattle.semantics.specs.Syntax.{Expr, number, name, let-in, leaf, if-else, loop, Exprs, none, more, size, sizes}
 use Rattle.semantics.specs.Syntax.{Parameter, Function, Script, function-size}
 use Rattle.semantics.specs.File as S
 use Rattle.semantics.specs.File.{part-count, leaf-of, loop-of, shape-of}
 use Rattle.semantics.specs.Names.{Scope, scope-with, calls-none, unknown, unknowns, unknown-from, unknown-in}
-use Rattle.script_read.specs.Told.{and-next, repeated}
+use Rattle.laws.specs.Tests.{or-right}
+use Rattle.script_read.specs.Told.{loops, and-next, repeated}
 use Rattle.script_read.specs.declared.Read.{Read}
 use Rattle.script_read.specs.declared.Read.the-variants.{Next, Refused}
-use Rattle.script_read.proofs.Sorts.{kind-of-leaf, kind-of-loop}
-use Rattle.script_read.proofs.Turns.{and-none}
+use Rattle.script_read.proofs.Sorts.{kind-of-leaf, is-a-loop, names-of-loop, parts-of-loop, other-kind, loop-some}
+use Rattle.script_read.proofs.Tables.{updated-twice}
 use Rattle.script_read.proofs.Written.{amount, Written, AllWritten, ParametersWritten, FunctionWritten, ScriptWritten}
-use Rattle.script_read.proofs.Found.{Finds, follow, three, found-if}
+use Rattle.script_read.proofs.Found.{Finds, follow, one, three, found-if}
 use Rattle.script_names.specs.Walk.{names, named, names-from, names-function}
 
 name-found : (b : Bool) (p q : ℕ) → p + 1 ≡ q → Finds 6 (cond b (Next (p + 1)) (Refused 6 p)) (with-if (not b) p []) q
@@ -41,16 +43,21 @@ module _ (F : ℕ) (m : Scope → ℕ → Read) (known : Scope) (p : ℕ) (h : S
   leaf-named (literal d) k e = rw k
   leaf-named index k e = rw k
   leaf-named length-of k e = rw k
+  leaf-named iota k e = rw k
+  leaf-named replicate k e = rw k
 
   loop-named : (c : Loop) (xs : List ℕ) (n : ℕ) → shape-of h ≡ loop-of c xs n →
       Named (and-next (repeated n (m known) (p + 1)) (m (scope-with xs known)))
-  unfolding repeated
-  loop-named mapping xs n e =
-      let k = kind-of-loop h mapping xs n e in
-      let g = rw k at e in
-      let names : h .low ∷ [] ≡ xs = cc in
-      let count : 1 ≡ n = cc in
-      rw (k, ← names, ← count, and-none (m known (p + 1)))
+  loop-named c xs n e =
+      let no-name = other-kind h 3 λ i. loop-some (sym e ∙ i) in
+      let binds-so = or-right (eqb (h .kind) 7) (loops (h .kind)) (is-a-loop h c xs n e) in
+      let before : suc n - 1 ≡ n = omega arith in
+      rw (no-name, binds-so, parts-of-loop h c xs n e, before, names-of-loop h c xs n e, both-known (eqb (h .kind) 20))
+    where
+      both-known : (b : Bool) → updated (updated known (h .low) true) (cond b (h .high) (h .low)) true ≡
+          scope-with (cond b (h .low ∷ h .high ∷ []) (h .low ∷ [])) known
+      both-known true = refl
+      both-known false = updated-twice known (h .low) true true
 
 module _ (k w : List ℕ) (F : ℕ) where
   mutual
@@ -62,9 +69,9 @@ module _ (k w : List ℕ) (F : ℕ) where
     names-tree (name x) d known p q h g = rw (h .0 .is, h .1 .is) (name-found (known x) p q (omega arith))
     names-tree (let-in x a b) d known p q h g =
         let i = h .0 .below in
-        rw (h .0 .is, h .1 .is)
+        rw (h .0 .is, h .1 .is, updated-twice known x true true)
         (follow (names k w F i (updated known x true))
-        (names-tree a i known (p + 1) (p + 1 + size a) (h .2) refl)
+        (one (names k w F i known) (p + 1) (names-tree a i known (p + 1) (p + 1 + size a) (h .2) refl))
         (names-tree b i (updated known x true) (p + 1 + size a) q (h .3) (omega arith)))
     names-tree (leaf l es) d known p q h g =
         let i = h .0 .below in

@@ -1,13 +1,13 @@
 -- Refusal 6, found by going over the nodes: the same walk as the code's, with the known names as a function.
 use mathlib.Core.Bool.{Bool, true, false, cond, _&&_, _||_}
 use mathlib.Core.List.{List}
-use Prim.Native.Nat.{ℕ, zero, suc, _+_}
+use Prim.Native.Nat.{ℕ, zero, suc, _+_, _-_}
 use lib.Dec.{leb, eqb}
 use Rattle.semantics.specs.Basics.{updated}
 use Rattle.semantics.specs.File as S
 use Rattle.semantics.specs.File.{at-function, at-parameter, at-part, node-at, part-count}
 use Rattle.semantics.specs.Names.{Scope}
-use Rattle.script_read.specs.Told.{and-next, repeated}
+use Rattle.script_read.specs.Told.{loops, second-name, and-next, repeated}
 use Rattle.script_read.specs.Table.{table}
 use Rattle.script_read.specs.declared.Read.{Read}
 use Rattle.script_read.specs.declared.Read.the-variants.{Next, Refused}
@@ -16,23 +16,24 @@ use Rattle.script_read.specs.declared.Read.the-variants.{Next, Refused}
 abbrev pub scope : List Bool → Scope
 scope t = table false t
 
--- let and map
+-- lets and loops
 abbrev pub binds : ℕ → Bool
-binds kind = eqb kind 7 || eqb kind 13
+binds kind = eqb kind 7 || loops kind
 
 -- a call of a function that is not there
 abbrev pub calls-none : ℕ → ℕ → ℕ → Bool
 calls-none functions kind f = eqb kind 8 && leb functions f
 
--- the second part of a binding, after the first
-abbrev pub then-bound : (Scope → ℕ → Read) → Scope → ℕ → Read → Read
-then-bound m known x r = and-next r (m (updated known x true))
+-- the last part of a binding, under its two names, after the others
+abbrev pub then-bound : (Scope → ℕ → Read) → Scope → ℕ → ℕ → Read → Read
+then-bound m known x y r = and-next r (m (updated (updated known x true) y true))
 
 -- node p by its kind and the parts of its operand; m walks over a part
 abbrev pub named : ℕ → (Scope → ℕ → Read) → Scope → ℕ → ℕ → ℕ → ℕ → Read
 named functions m known p kind low high =
     cond (eqb kind 3) (cond (known low) (Next (p + 1)) (Refused 6 p))
-    (cond (binds kind) (then-bound m known low (m known (p + 1)))
+    (cond (binds kind)
+    (then-bound m known low (second-name kind low high) (repeated (part-count kind low high - 1) (m known) (p + 1)))
     (cond (calls-none functions kind low) (Refused 6 p)
     (repeated (part-count kind low high) (m known) (p + 1))))
 

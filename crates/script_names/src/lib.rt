@@ -2,7 +2,6 @@
 // One table of the 256 names is changed at a binding and put back after it.
 use script_read::KIND_CALL;
 use script_read::KIND_LET;
-use script_read::KIND_MAP;
 use script_read::KIND_NAME;
 use script_read::Node;
 use script_read::Place;
@@ -14,14 +13,21 @@ ghost use Rattle.script_read.specs.Told.{repeated};
 ghost use Rattle.script_names.specs.Walk.{scope, binds, calls-none, names, then-bound, names-from};
 ghost use Rattle.script_names.specs.Walk.{names-function};
 
-// Whether a node of this kind binds a name in its second part.
+// What a node binds in its last part: how many parts come before it, and two names, which are one where it binds one.
+struct Binding {
+    before: u8,
+    first: u8,
+    second: u8,
+}
+
+// Whether a node of this kind binds names in its last part.
 fn is_binding(kind: u8) -> bool
     ensures { λ r. ⌜ r ≡ binds kind ⌝ }
 {
     if kind == KIND_LET {
         return true;
     }
-    kind == KIND_MAP
+    script_read::is_loop(kind)
 }
 
 // Whether a node calls a function that is not there.
@@ -59,50 +65,55 @@ fn name_part(
                 }
                 return Read::Refused(6, at);
             }
+            let count = script_read::parts_of(kind, low, high);
             if is_binding(kind) {
-                return name_binding(kinds, operands, functions, known, at + 1, low, levels - 1);
+                let second = script_read::second_name(kind, low, high);
+                let bound = Binding {
+                    before: count - 1,
+                    first: low,
+                    second,
+                };
+                return name_binding(kinds, operands, functions, known, at + 1, bound, levels - 1);
             }
             if calls_none(functions, kind, low) {
                 return Read::Refused(6, at);
             }
-            name_parts(
-                kinds,
-                operands,
-                functions,
-                known,
-                at + 1,
-                script_read::parts_of(kind, low, high),
-                levels - 1,
-            )
+            name_parts(kinds, operands, functions, known, at + 1, count, levels - 1)
         }
         Node::WrongKind => Read::Refused(6, at),
         Node::WrongOperand => Read::Refused(6, at),
     }
 }
 
-// Two parts, of which the second knows one name more.
+// The parts of a binding node, of which the last knows its names too. The name changed last is put back first: the two
+// may be one.
 fn name_binding(
     kinds: &[u8],
     operands: &[u8],
     functions: u8,
     known: &mut [bool],
     at: usize,
-    x: u8,
+    bound: Binding,
     levels: u64,
 ) -> Read
     requires { ⌜ length (now known) ≡ 256 ⌝ }
     ensures { λ r. ⌜
         (r ≡ then-bound (names (now (kinds .entry)) (now (operands .entry)) functions levels) (scope (now
-        (known .entry))) x
-        (names (now (kinds .entry)) (now (operands .entry)) functions levels (scope (now (known .entry))) at))
+        (known .entry))) (bound .first) (bound .second)
+        (repeated (bound .before) (names (now (kinds .entry)) (now (operands .entry)) functions levels (scope (now
+        (known .entry)))) at))
         × (now (known .exit) ≡ now (known .entry)) ⌝ }
 {
-    match name_part(kinds, operands, functions, known, at, levels) {
+    match name_parts(kinds, operands, functions, known, at, bound.before, levels) {
         Read::Next(q) => {
-            let i = x as usize;
+            let i = bound.first as usize;
+            let j = bound.second as usize;
             let old = known[i];
             known[i] = true;
+            let hidden = known[j];
+            known[j] = true;
             let r = name_part(kinds, operands, functions, known, q, levels);
+            known[j] = hidden;
             known[i] = old;
             r
         }

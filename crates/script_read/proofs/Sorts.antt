@@ -1,18 +1,19 @@
 -- The kinds of parts: by the tables each is a number, a name, a let, an if, a leaf or a loop.
 use Prim.Native.Nat.{ℕ, zero, suc, _+_}
 use native.Mathlib.Omega.{arith}
-use mathlib.Core.Bool.{Bool, true, false, not, _&&_, _||_, false≢true}
+use mathlib.Core.Bool.{Bool, true, false, cond, not, _&&_, _||_, false≢true}
 use mathlib.Core.List.{List, [], _∷_}
-use mathlib.Core.Path.{_≡_, refl, ap}
+use mathlib.Core.Path.{_≡_, refl, ap, _∙_}
 use lib.Dec.{eqb}
 use lib.ListN.{getD}
 use borrow.Author.Tests.{eqb-true, ne-eqb}
 use Rattle.laws.specs.Tests.{both-hold}
-use Rattle.semantics.specs.Kinds.{Leaf, leaf-kind, Loop, loop-kind}
+use Rattle.semantics.specs.Kinds.{Leaf, leaf-kind, Loop, mapping, filtering, reducing, loop-kind}
 use Rattle.semantics.specs.Syntax.{Expr}
 use Rattle.semantics.specs.File as S
 use Rattle.semantics.specs.File.{Shape, none, leaf-of, loop-of, shapes, shape-of, shaped, parts, part-kinds, part-count}
 use Rattle.semantics.specs.File.{allowed, at-part}
+use Rattle.script_read.specs.Told.{loops}
 
 -- a table by kind and the shapes: a test that holds of both entries for each kind
 module _ {A : Type 0} (test : ℕ → A → Shape → Bool) (a : A) where
@@ -38,6 +39,36 @@ module _ {A : Type 0} (test : ℕ → A → Shape → Bool) (a : A) where
         test (h .kind) (getD m (h .kind) a) (shape-of h) ≡ true
     fit h m f = fit-at 0 (h .kind) (h .kind) m (shapes h) (omega arith) f
 
+-- the names of a pass, by kind
+abbrev pub pass-names : ℕ → ℕ → ℕ → List ℕ
+pass-names kind low high = cond (eqb kind 20) (low ∷ high ∷ []) (low ∷ [])
+
+loop-kinds : (k : Loop) → loops (loop-kind k) ≡ true
+loop-kinds mapping = refl
+loop-kinds filtering = refl
+loop-kinds reducing = refl
+
+-- and how many parts come before the body: the array, and a reduce's start
+abbrev pub parts-before : ℕ → ℕ
+parts-before kind = suc (cond (eqb kind 20) 1 0)
+
+pub loop-parts : (kind low high : ℕ) → loops kind ≡ true → part-count kind low high ≡ suc (parts-before kind)
+unfolding part-count
+loop-parts kind low high = go (eqb kind 13) refl (eqb kind 19) refl (eqb kind 20) refl
+  where
+    go : (a : Bool) → eqb kind 13 ≡ a → (b : Bool) → eqb kind 19 ≡ b → (c : Bool) → eqb kind 20 ≡ c →
+        (a || (b || c)) ≡ true → part-count kind low high ≡ suc (parts-before kind)
+    go true e b f c g l = rw (eqb-true kind 13 e)
+    go false e true f c g l = rw (eqb-true kind 19 f)
+    go false e false f true g l = rw (eqb-true kind 20 g)
+    go false e false f false g l = absurd (false≢true l)
+
+pass-by-kind : (h : S.Head) (k : Loop) (xs : List ℕ) (c : ℕ) → h .kind ≡ loop-kind k → shape-of h ≡ loop-of k xs c →
+    (xs ≡ pass-names (h .kind) (h .low) (h .high)) × (c ≡ parts-before (h .kind))
+pass-by-kind h mapping xs c i e = let f = rw i at e in rw i (cc, cc)
+pass-by-kind h filtering xs c i e = let f = rw i at e in rw i (cc, cc)
+pass-by-kind h reducing xs c i e = let f = rw i at e in rw i (cc, cc)
+
 module _ (h : S.Head) where
   -- the shape for kind i, which a part may have or not
   abbrev fits-kind : ℕ → Bool → Shape → Bool
@@ -59,12 +90,21 @@ module _ (h : S.Head) where
     pub kind-of-loop : h .kind ≡ loop-kind k
     kind-of-loop = eqb-true (h .kind) (loop-kind k) (of-loop .0)
 
+    pub is-a-loop : loops (h .kind) ≡ true
+    is-a-loop = ap loops kind-of-loop ∙ loop-kinds k
+
+    pub names-of-loop : xs ≡ pass-names (h .kind) (h .low) (h .high)
+    names-of-loop = pass-by-kind h k xs c kind-of-loop e .0
+
+    pub count-of-loop : c ≡ parts-before (h .kind)
+    count-of-loop = pass-by-kind h k xs c kind-of-loop e .1
+
     -- a loop has its body beside its other parts
     pub parts-of-loop : part-count (h .kind) (h .low) (h .high) ≡ suc c
     parts-of-loop = eqb-true (part-count (h .kind) (h .low) (h .high)) (suc c) (of-loop .1)
 
   -- a kind whose shape is another is not the node's
-  other-kind : (i : ℕ) → (shape-of h ≡ getD (shapes h) i none → ⊥) → eqb (h .kind) i ≡ false
+  pub other-kind : (i : ℕ) → (shape-of h ≡ getD (shapes h) i none → ⊥) → eqb (h .kind) i ≡ false
   other-kind i f = ne-eqb (h .kind) i λ e. f (ap (λ (j : ℕ). getD (shapes h) j none) e)
 
   pub shaped-parts : (m : S.Read Expr) → (shape-of h ≡ none → ⊥) →

@@ -1,14 +1,23 @@
--- A table that is changed at one name and put back.
+-- A table that is changed at one name or two and put back.
 use Prim.Native.Nat.{ℕ, zero, suc, _<_}
 use mathlib.Core.Bool.{Bool, true, false, cond}
 use mathlib.Core.List.{List}
-use mathlib.Core.Path.{_≡_, refl, sym, _∙_, fun-ext}
+use mathlib.Core.Path.{_≡_, refl, sym, ap, _∙_, fun-ext}
 use lib.Dec.{eqb}
 use lib.ListN.{length, getD, set, replicate}
-use lib.Seq.{getD-set-same, getD-set-other, set-set, set-getD}
+use lib.Seq.{getD-set-same, getD-set-other, set-set, set-getD, lt-length-set}
 use borrow.Author.Tests.{eqb-true, eqb-false}
 use Rattle.semantics.specs.Basics.{updated}
 use Rattle.script_read.specs.Table.{table}
+
+-- a name that is changed twice
+pub updated-twice : {A : Type 0} (f : ℕ → A) (x : ℕ) (a b : A) → updated (updated f x a) x b ≡ updated f x b
+unfolding updated
+updated-twice f x a b = fun-ext λ y. go y (eqb x y)
+  where
+    go : (y : ℕ) (t : Bool) → cond t b (cond t a (f y)) ≡ cond t b (f y)
+    go y true = refl
+    go y false = refl
 
 module _ {A : Type 0} (d : A) where
   pub table-at : (t : List A) (x : ℕ) → table d t x ≡ getD t x d
@@ -29,6 +38,18 @@ module _ {A : Type 0} (d : A) where
   -- the old entry, put back
   pub put-back : (t t₁ t₂ : List A) (x : ℕ) (v : A) → t₁ ≡ t → t₂ ≡ set t₁ x v → set t₂ x (getD t₁ x d) ≡ t
   put-back t t₁ t₂ x v e f = rw (f, e) (set-set t x v (getD t x d) ∙ set-getD t x d)
+
+  -- two names: the second is changed last and put back first, so that an equal first one is right
+  pub table-set-two : (t : List A) (x y : ℕ) (u v : A) → x < length t → y < length t →
+      table d (set (set t x u) y v) ≡ updated (updated (table d t) x u) y v
+  table-set-two t x y u v h g =
+      table-set (set t x u) y v (lt-length-set t x u g)
+      ∙ ap (λ (f : ℕ → A). updated f y v) (table-set t x u h)
+
+  pub put-back-two : (t t₁ t₂ : List A) (x y : ℕ) (u v : A) → t₁ ≡ t → t₂ ≡ set (set t₁ x u) y v →
+      set (set t₂ y (getD (set t₁ x u) y d)) x (getD t₁ x d) ≡ t
+  put-back-two t t₁ t₂ x y u v e f =
+      put-back t t₁ _ x u e (put-back (set t₁ x u) (set t₁ x u) t₂ y v refl f)
 
   pub none-set : (n y : ℕ) → getD (replicate n d) y d ≡ d
   none-set zero y = refl

@@ -2,9 +2,9 @@
 use mathlib.Core.Path.{_≡_}
 use mathlib.Core.List.{List, [], _∷_}
 use Prim.Native.Nat.{ℕ, zero, suc, _+_, _*_, _≤_}
-use mathlib.Core.Bool.{cond}
+use mathlib.Core.Bool.{Bool, cond, _||_}
 use lib.Dec.{eqb}
-use lib.ListN.{length, set}
+use lib.ListN.{length, getD, set}
 use Rattle.semantics.specs.Outcome.{Outcome, done, stop}
 use Rattle.semantics.specs.File as S
 use Rattle.script_read.specs.declared.Place.{Place}
@@ -23,6 +23,11 @@ abbrev pub place-of : Place → S.Place
 place-of Function = S.at-function
 place-of Parameter = S.at-parameter
 place-of Part = S.at-part
+
+-- the greatest low part of an operand and 256 times its greatest high part; 65,536 for a kind that may not stand there
+abbrev pub limits-at : S.Place → ℕ → ℕ
+limits-at place kind =
+    cond (S.allowed place kind) (getD S.low-limits kind 0 + 256 * getD S.high-limits kind 0) 65536
 
 -- the kind of a node and the two parts of its operand
 pub record Parted : Type 0 where
@@ -62,6 +67,14 @@ high-at kinds operands place p = high-of (S.node-at kinds operands place p)
 -- how many parts a call or a literal says that it has
 abbrev pub said-parts : ℕ → ℕ → ℕ → ℕ
 said-parts kind low high = cond (eqb kind 8) high (cond (eqb kind 9) low 0)
+
+-- map, filter and reduce
+abbrev pub loops : ℕ → Bool
+loops kind = eqb kind 13 || (eqb kind 19 || eqb kind 20)
+
+-- the second name that a node binds; the first again where there is one
+abbrev pub second-name : ℕ → ℕ → ℕ → ℕ
+second-name kind low high = cond (eqb kind 20) high low
 
 abbrev pub told : {A : Type 0} → Outcome ℕ A → Read
 told (done a q) = Next q

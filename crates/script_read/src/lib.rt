@@ -3,10 +3,10 @@ ghost use mathlib.Core.Path.{_≡_};
 ghost use mathlib.Core.Bool.{false, _&&_};
 ghost use Prim.Native.Nat.{_+_, _/_, _%_, _≤_};
 ghost use lib.ListN.{length, getD};
-ghost use Rattle.semantics.specs.File.{low-limits, high-limits, allowed, look, part-counts, part-count, part};
-ghost use Rattle.semantics.specs.File.{parameter, function, script, read-file, between};
-ghost use Rattle.script_read.specs.Told.{place-of, node-outcome, parted, told, low-at, high-at, repeated};
-ghost use Rattle.script_read.specs.Told.{marked, said-parts};
+ghost use Rattle.semantics.specs.File.{at-part, look, part-counts, part-count, part, parameter, function, script};
+ghost use Rattle.semantics.specs.File.{read-file, between};
+ghost use Rattle.script_read.specs.Told.{place-of, limits-at, node-outcome, parted, told, low-at, high-at};
+ghost use Rattle.script_read.specs.Told.{repeated, marked, said-parts, loops, second-name};
 ghost use Rattle.script_read.specs.Starts.{Blank, Started-by};
 
 // Where a node stands.
@@ -58,38 +58,63 @@ pub const KIND_IF: u8 = 12;
 
 pub const KIND_MAP: u8 = 13;
 
+pub const KIND_IOTA: u8 = 17;
+
+pub const KIND_REPLICATE: u8 = 18;
+
+pub const KIND_FILTER: u8 = 19;
+
+pub const KIND_REDUCE: u8 = 20;
+
 // The entry of a function that is not there, in a table of the functions' nodes: it is past every file.
 pub const NO_FUNCTION: usize = 1024;
 
-// Whether a node of this kind may stand at a place.
-fn is_allowed(place: Place, kind: u8) -> bool
-    ensures { λ r. ⌜ r ≡ allowed (place-of place) kind ⌝ }
-{
-    match place {
-        Place::Function => kind == KIND_FUNCTION,
-        Place::Parameter => kind == KIND_PARAMETER,
-        Place::Part => {
-            if kind < KIND_NUMBER {
-                return false;
-            }
-            kind <= KIND_MAP
-        }
-    }
-}
+// The limits of a kind that may not stand at a place: greater than all others.
+const NOT_ALLOWED: u64 = 65536;
 
-// The greatest low part of an operand and 256 times its greatest high part.
-fn operand_limits(kind: u8) -> u64
-    ensures { λ r. ⌜ (r % 256 ≡ getD low-limits kind 0) × (r / 256 ≡ getD high-limits kind 0) ⌝ }
+// The greatest low part of a part's operand and 256 times its greatest high part, or NOT_ALLOWED.
+fn part_limits(kind: u8) -> u64
+    ensures { λ r. ⌜ r ≡ limits-at at-part kind ⌝ }
 {
     match kind {
-        KIND_FUNCTION => 8 + 256 * 4,
-        KIND_PARAMETER => 255 + 256 * 4,
+        KIND_NUMBER => 0,
         KIND_NAME => 255,
+        KIND_SUM => 0,
+        KIND_DIFFERENCE => 0,
+        KIND_LESS => 0,
         KIND_LET => 255,
         KIND_CALL => 31 + 256 * 8,
         KIND_LITERAL => 16 + 256 * 3,
+        KIND_INDEX => 0,
+        KIND_LENGTH => 0,
+        KIND_IF => 0,
         KIND_MAP => 255,
-        _ => 0,
+        KIND_IOTA => 0,
+        KIND_REPLICATE => 0,
+        KIND_FILTER => 255,
+        KIND_REDUCE => 255 + 256 * 255,
+        _ => NOT_ALLOWED,
+    }
+}
+
+// The same of a node that stands at a place. Kind and limits are one test: a node is looked at in few instructions.
+fn limits_at(place: Place, kind: u8) -> u64
+    ensures { λ r. ⌜ r ≡ limits-at (place-of place) kind ⌝ }
+{
+    match place {
+        Place::Function => {
+            if kind == KIND_FUNCTION {
+                return 8 + 256 * 4;
+            }
+            NOT_ALLOWED
+        }
+        Place::Parameter => {
+            if kind == KIND_PARAMETER {
+                return 255 + 256 * 4;
+            }
+            NOT_ALLOWED
+        }
+        Place::Part => part_limits(kind),
     }
 }
 
@@ -106,7 +131,8 @@ pub fn node_at(kinds: &[u8], operands: &[u8], at: usize, place: Place) -> Node
         ≡ parted (look (now (kinds .entry)) (now (operands .entry)) (place-of place) at) ⌝ }
 {
     let kind = kind_at(kinds, at);
-    if !is_allowed(place, kind) {
+    let most = limits_at(place, kind);
+    if most == NOT_ALLOWED {
         return Node::WrongKind;
     }
     if kind == KIND_NUMBER {
@@ -115,7 +141,6 @@ pub fn node_at(kinds: &[u8], operands: &[u8], at: usize, place: Place) -> Node
     let n = words::nth_word(operands, at);
     let low = n % 256;
     let high = n / 256;
-    let most = operand_limits(kind);
     if most % 256 < low {
         return Node::WrongOperand;
     }
@@ -160,6 +185,10 @@ fn fixed_parts(kind: u8) -> u8
         KIND_LENGTH => 1,
         KIND_IF => 3,
         KIND_MAP => 2,
+        KIND_IOTA => 1,
+        KIND_REPLICATE => 2,
+        KIND_FILTER => 2,
+        KIND_REDUCE => 3,
         _ => 0,
     }
 }
@@ -182,6 +211,25 @@ pub fn parts_of(kind: u8, low: u8, high: u8) -> u8
     ensures { λ r. ⌜ r ≡ part-count kind low high ⌝ }
 {
     fixed_parts(kind) + said_parts(kind, low, high)
+}
+
+// Whether a node of this kind is a loop: its last part is its body, worked once a pass.
+pub fn is_loop(kind: u8) -> bool
+    ensures { λ r. ⌜ r ≡ loops kind ⌝ }
+{
+    match kind {
+        KIND_MAP => true,
+        KIND_FILTER => true,
+        KIND_REDUCE => true,
+        _ => false,
+    }
+}
+
+// The second name that a node binds in its last part, which hides an equal first; the first again where there is one.
+pub fn second_name(kind: u8, low: u8, high: u8) -> u8
+    ensures { λ r. ⌜ r ≡ second-name kind low high ⌝ }
+{
+    if kind == KIND_REDUCE { high } else { low }
 }
 
 // A part, with so many levels left.

@@ -6,7 +6,8 @@ use lib.ListN.{length}
 use lib.Dec.{ltb}
 use Rattle.semantics.specs.Basics.{with-if, updated}
 use Rattle.semantics.specs.Syntax.{Parameter, Function, Script, function-at}
-use Rattle.semantics.specs.Kinds.{Leaf, operation, call, literal, index, length-of, Loop, mapping}
+use Rattle.semantics.specs.Kinds.{Leaf, operation, call, literal, index, length-of, iota, replicate, Loop}
+use Rattle.semantics.specs.Kinds.{mapping, filtering, reducing}
 use Rattle.semantics.specs.Kinds.{leaf-hands, leaf-reads, loop-hands, loop-reads, element-name, is-pending}
 use Rattle.semantics.specs.Code.{Atom, number, name, Line, leaf, if-else, loop, retain, release, Tree, end, line}
 use Rattle.semantics.specs.Code.{ending, retain-all, release-all}
@@ -35,6 +36,8 @@ depth-of Γ (a ∷ us) (suc i) = depth-of Γ us i
 -- the depths of the names of a pass
 abbrev pub pass-depths : Loop → NameDepths → List Atom → List ℕ
 pass-depths mapping Γ us = pred (depth-of Γ us 0) ∷ []
+pass-depths filtering Γ us = pred (depth-of Γ us 0) ∷ []
+pass-depths reducing Γ us = depth-of Γ us 0 ∷ pred (depth-of Γ us 1) ∷ []
 
 abbrev pub with-depths : List ℕ → List ℕ → NameDepths → NameDepths
 with-depths [] ds Γ = Γ
@@ -44,6 +47,8 @@ with-depths (x ∷ xs) (d ∷ ds) Γ = with-depths xs ds (updated Γ x d)
 -- the depth of what a loop gives, by its atoms and the atom that its tree gives
 abbrev pub loop-depth : Loop → NameDepths → List Atom → Atom → ℕ
 loop-depth mapping Γ us a = suc (atom-depth Γ a)
+loop-depth filtering Γ us a = depth-of Γ us 0
+loop-depth reducing Γ us a = depth-of Γ us 0
 
 -- over the result depths of the script's functions
 module _ (results : ℕ → ℕ) where
@@ -53,6 +58,8 @@ module _ (results : ℕ → ℕ) where
   leaf-depth (literal d) Γ us = suc d
   leaf-depth index Γ us = pred (depth-of Γ us 0)
   leaf-depth length-of Γ us = 0
+  leaf-depth iota Γ us = 1
+  leaf-depth replicate Γ us = suc (depth-of Γ us 1)
 
   unfoldable mutual
     -- with the depths of all names that a tree binds, in the trees of its lines too

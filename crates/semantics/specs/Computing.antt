@@ -23,11 +23,12 @@ use Rattle.semantics.specs.Sound.{free-from, end-from, free-list, as-due
 use Rattle.semantics.specs.Sound.{all-used, formed-as, formed, places, counted, sound, sound-words}
 use Rattle.semantics.specs.Machine.{touching, each-events, lower-events, release-events, with-store, with-left}
 use Rattle.semantics.specs.Machine.{with-roots, stepped, step, acquire-if, acquire, elements-of, retain-word}
-use Rattle.semantics.specs.Machine.{release-word, append-word, held, work-pass, work-leaf, work}
+use Rattle.semantics.specs.Machine.{release-word, append-word, held, retain-times, work-pass, work-leaf, work}
 use Rattle.semantics.specs.Machine.{routine, program, frame-from}
 use Rattle.semantics.specs.Machine.{machine, delivery, starting, delivered}
 use Rattle.semantics.specs.Meaning.{step as meaning-step, stepped as meaning-stepped, do-operation, do-call}
-use Rattle.semantics.specs.Meaning.{do-literal, do-index, do-length, do-if, do-pass, do-loop, do-leaf}
+use Rattle.semantics.specs.Meaning.{do-literal, do-index, do-length, do-iota, do-replicate, do-if, do-pass}
+use Rattle.semantics.specs.Meaning.{do-loop, do-leaf}
 use Rattle.semantics.specs.Meaning.{eval, bound}
 use Rattle.semantics.specs.Meaning.{meaning, main-meaning, step-wants}
 use Rattle.semantics.specs.Calls.{packed, judged, code-fits, admitted, translated, engine-translate}
@@ -48,11 +49,11 @@ unfolding tabulate all occurrences each updated onward require times passes byte
     cell-at store-of shaped slot-words head-words free-from end-from free-list as-due list-sound zeros-from
     names-used all-used formed-as formed places counted sound sound-words touching each-events lower-events
     release-events with-store with-left with-roots stepped step acquire-if acquire elements-of retain-word
-    release-word append-word held work-pass work-leaf work routine program frame-from machine delivery
+    release-word append-word held retain-times work-pass work-leaf work routine program frame-from machine delivery
     starting delivered packed
     judged code-fits admitted translated engine-translate request-fits refusing answering open-for check-for
     deliver-for engine-open engine-check engine-deliver meaning-step meaning-stepped do-operation do-call
-    do-literal do-index do-length do-if do-pass do-loop do-leaf eval bound meaning main-meaning
+    do-literal do-index do-length do-iota do-replicate do-if do-pass do-loop do-leaf eval bound meaning main-meaning
     step-wants entry value-of
     touched
 computing = tt

@@ -9,7 +9,8 @@ use lib.ListN.{length, getD, take, drop}
 use lib.Dec.{eqb, ltb, leb}
 use Rattle.semantics.specs.Outcome.{Outcome, done, stop, Run, _>>=_, _>>_, give, halt, times}
 use Rattle.semantics.specs.Number.{sum, difference, less, bytes-at, signed}
-use Rattle.semantics.specs.Kinds.{operation, call, literal, index, length-of, Leaf, mapping, Loop}
+use Rattle.semantics.specs.Kinds.{operation, call, literal, index, length-of, iota, replicate, Leaf}
+use Rattle.semantics.specs.Kinds.{mapping, filtering, reducing, Loop}
 use Rattle.semantics.specs.Syntax.{Expr, number, name, let-in, leaf, if-else, loop, exprs-of, Parameter, Function}
 use Rattle.semantics.specs.Syntax.{Script}
 
@@ -26,10 +27,10 @@ pub data Node : Type 0 where
 
 -- the greatest low and high part of an operand, by kind
 abbrev pub low-limits : List ℕ
-low-limits = 8 ∷ 255 ∷ 0 ∷ 255 ∷ 0 ∷ 0 ∷ 0 ∷ 255 ∷ 31 ∷ 16 ∷ 0 ∷ 0 ∷ 0 ∷ 255 ∷ []
+low-limits = 8 ∷ 255 ∷ 0 ∷ 255 ∷ 0 ∷ 0 ∷ 0 ∷ 255 ∷ 31 ∷ 16 ∷ 0 ∷ 0 ∷ 0 ∷ 255 ∷ 0 ∷ 0 ∷ 0 ∷ 0 ∷ 0 ∷ 255 ∷ 255 ∷ []
 
 abbrev pub high-limits : List ℕ
-high-limits = 4 ∷ 4 ∷ 0 ∷ 0 ∷ 0 ∷ 0 ∷ 0 ∷ 0 ∷ 8 ∷ 3 ∷ 0 ∷ 0 ∷ 0 ∷ 0 ∷ []
+high-limits = 4 ∷ 4 ∷ 0 ∷ 0 ∷ 0 ∷ 0 ∷ 0 ∷ 0 ∷ 8 ∷ 3 ∷ 0 ∷ 0 ∷ 0 ∷ 0 ∷ 0 ∷ 0 ∷ 0 ∷ 0 ∷ 0 ∷ 0 ∷ 255 ∷ []
 
 abbrev pub in-parts : ℕ → ℤ → Node
 in-parts k (pos n) =
@@ -44,10 +45,11 @@ in-parts k (negsuc n) = wrong-operand
 pub data Place : Type 0 where
   at-function at-parameter at-part : Place
 
--- the kinds of parts: 2 to 13
+-- the kinds of parts: 2 to 13, and 17 to 20
 abbrev pub part-kinds : List Bool
 part-kinds =
-    false ∷ false ∷ true ∷ true ∷ true ∷ true ∷ true ∷ true ∷ true ∷ true ∷ true ∷ true ∷ true ∷ true ∷ []
+    false ∷ false ∷ true ∷ true ∷ true ∷ true ∷ true ∷ true ∷ true ∷ true ∷ true ∷ true ∷ true ∷ true ∷
+    false ∷ false ∷ false ∷ true ∷ true ∷ true ∷ true ∷ []
 
 abbrev pub allowed : Place → ℕ → Bool
 allowed at-function k = eqb k 0
@@ -63,7 +65,7 @@ node-of place k z =
 
 -- how many parts a node has; a call and a literal say it themselves
 abbrev pub part-counts : List ℕ
-part-counts = 0 ∷ 0 ∷ 0 ∷ 0 ∷ 2 ∷ 2 ∷ 2 ∷ 2 ∷ 0 ∷ 0 ∷ 2 ∷ 1 ∷ 3 ∷ 2 ∷ []
+part-counts = 0 ∷ 0 ∷ 0 ∷ 0 ∷ 2 ∷ 2 ∷ 2 ∷ 2 ∷ 0 ∷ 0 ∷ 2 ∷ 1 ∷ 3 ∷ 2 ∷ 0 ∷ 0 ∷ 0 ∷ 1 ∷ 2 ∷ 2 ∷ 3 ∷ []
 
 unfoldable pub part-count : ℕ → ℕ → ℕ → ℕ
 part-count k low high = cond (eqb k 8) high (cond (eqb k 9) low (getD part-counts k 0))
@@ -90,7 +92,8 @@ shapes h =
     none ∷ none ∷ none ∷ none ∷
     leaf-of (operation sum) ∷ leaf-of (operation difference) ∷ leaf-of (operation less) ∷ none ∷
     leaf-of (call (h .low)) ∷ leaf-of (literal (h .high)) ∷ leaf-of index ∷ leaf-of length-of ∷ none ∷
-    loop-of mapping (h .low ∷ []) 1 ∷ []
+    loop-of mapping (h .low ∷ []) 1 ∷ none ∷ none ∷ none ∷ leaf-of iota ∷ leaf-of replicate ∷
+    loop-of filtering (h .low ∷ []) 1 ∷ loop-of reducing (h .low ∷ h .high ∷ []) 2 ∷ []
 
 abbrev pub shape-of : Head → Shape
 shape-of h = getD (shapes h) (h .kind) none

@@ -9,10 +9,10 @@ pub data Leaf : Type 0 where
   operation : Operation → Leaf
   call : ℕ → Leaf
   literal : ℕ → Leaf
-  index length-of : Leaf
+  index length-of iota replicate : Leaf
 
 pub data Loop : Type 0 where
-  mapping : Loop
+  mapping filtering reducing : Loop
 
 abbrev pub operation-kind : Operation → ℕ
 operation-kind sum = 4
@@ -25,9 +25,13 @@ leaf-kind (call f) = 8
 leaf-kind (literal d) = 9
 leaf-kind index = 10
 leaf-kind length-of = 11
+leaf-kind iota = 17
+leaf-kind replicate = 18
 
 abbrev pub loop-kind : Loop → ℕ
 loop-kind mapping = 13
+loop-kind filtering = 19
+loop-kind reducing = 20
 
 -- the operand of a leaf's line that binds x and has n atoms
 abbrev pub leaf-operand : Leaf → ℕ → ℕ → ℕ
@@ -36,6 +40,8 @@ leaf-operand (call f) x n = x + 256 * f
 leaf-operand (literal d) x n = x + 256 * n + 65536 * d
 leaf-operand index x n = x
 leaf-operand length-of x n = x
+leaf-operand iota x n = x
+leaf-operand replicate x n = x
 
 -- names packed in an operand, the first lowest
 abbrev pub packed-names : List ℕ → ℕ
@@ -43,6 +49,10 @@ packed-names [] = 0
 packed-names (x ∷ xs) = x + 256 * packed-names xs
 
 module _ {A : Type 0} where
+  abbrev pub first-part : List A → List A
+  first-part [] = []
+  first-part (a ∷ l) = a ∷ []
+
   abbrev pub later-parts : List A → List A
   later-parts [] = []
   later-parts (a ∷ l) = l
@@ -54,6 +64,8 @@ module _ {A : Type 0} where
   leaf-hands (literal d) us = us
   leaf-hands index us = []
   leaf-hands length-of us = []
+  leaf-hands iota us = []
+  leaf-hands replicate us = []
 
   abbrev pub leaf-reads : Leaf → List A → List A
   leaf-reads (operation o) us = us
@@ -61,21 +73,31 @@ module _ {A : Type 0} where
   leaf-reads (literal d) us = []
   leaf-reads index us = us
   leaf-reads length-of us = us
+  leaf-reads iota us = us
+  leaf-reads replicate us = us
 
-  -- of a loop's parts before its body those that are handed over; it reads the others, its array among them
+  -- of a loop's parts before its body those that are handed over, a reduce's start; it reads the others, its array
   abbrev pub loop-hands : Loop → List A → List A
   loop-hands mapping us = []
+  loop-hands filtering us = []
+  loop-hands reducing us = first-part us
 
   abbrev pub loop-reads : Loop → List A → List A
   loop-reads mapping us = us
+  loop-reads filtering us = us
+  loop-reads reducing us = later-parts us
 
-  -- the element's name among the names of a pass
+  -- the element's name among the names of a pass; a reduce's first is the running value's
   abbrev pub element-name : Loop → List A → List A
   element-name mapping ps = ps
+  element-name filtering ps = ps
+  element-name reducing ps = later-parts ps
 
 -- a loop that takes a cell for its result before its passes
 abbrev pub takes-cell : Loop → Bool
 takes-cell mapping = true
+takes-cell filtering = true
+takes-cell reducing = false
 
 -- an index gives a word that holds nothing yet
 abbrev pub is-pending : Leaf → Bool
@@ -84,3 +106,5 @@ is-pending (call f) = false
 is-pending (literal d) = false
 is-pending index = true
 is-pending length-of = false
+is-pending iota = false
+is-pending replicate = false

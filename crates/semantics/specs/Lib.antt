@@ -22,4 +22,5 @@ pub mod Demands
 pub mod Computing
 pub mod Trials
 pub mod Slips
+pub mod Second
 pub mod Watched

@@ -5,6 +5,7 @@ use Prim.Native.Nat.{ℕ, zero, suc, _+_, _-_, pred}
 use mathlib.Core.Bool.{Bool, true, false, cond, _&&_}
 use mathlib.Core.List.{List, [], _∷_, _++_, map}
 use lib.IntN.{ℤ, pos, natAbs}
+use lib.ListN as List
 use lib.ListN.{length, getD}
 use lib.Dec.{ltb}
 use Rattle.semantics.specs.Basics.{tabulate, with-if, occurrences, updated}
@@ -12,11 +13,11 @@ use Rattle.semantics.specs.Outcome.{Outcome, done, stop, Run, _>>=_, _>>
 use Rattle.semantics.specs.Number.{exact, fits, inside, is-zero}
 use Rattle.semantics.specs.Syntax.{Function, Script, main-depth}
 use Rattle.semantics.specs.Types.{Signature, signatures-of}
-use Rattle.semantics.specs.Kinds.{Leaf, operation, call, literal, index, length-of, Loop, mapping}
-use Rattle.semantics.specs.Kinds.{later-parts}
+use Rattle.semantics.specs.Kinds.{Leaf, operation, call, literal, index, length-of, iota, replicate, Loop}
+use Rattle.semantics.specs.Kinds.{mapping, filtering, reducing, later-parts}
 use Rattle.semantics.specs.Code.{Atom, number, name, Line, leaf, if-else, loop, retain, release, Tree, end, line}
 use Rattle.semantics.specs.Live.{Set, empty, _∖_, among, members, live, after-branch, after-pass}
-use Rattle.semantics.specs.Annotate.{NameDepths, is-array, depths-of, annotated-body}
+use Rattle.semantics.specs.Annotate.{NameDepths, depth-of, is-array, depths-of, annotated-body}
 use Rattle.semantics.specs.Store.{Store, cell, cell-of, elements, inner, named-by, with-totals, has-free}
 use Rattle.semantics.specs.Store.{acquired, retained, released, freed, appended, relinked, deepest}
 use Rattle.semantics.specs.Sound.{free-list}
@@ -120,49 +121,85 @@ held Γ A ρ = map (λ x. cell-of (ρ x)) (members (λ x. A x && is-array Γ x))
 abbrev pub argument : List ℤ → ℕ → ℤ
 argument ws i = getD ws i (pos 0)
 
--- a leaf's work on the words ws of its atoms, after its step: S are the roots while a cell is wanted, C those of a call
-unfoldable pub work-leaf : Callee → List ℕ → List ℕ → Leaf → List ℤ → Work ℤ
-work-leaf callee S C (operation o) ws = do
+-- something to do with words that stand for arrays, by their depth
+abbrev pub if-array : ℕ → Work (Unit {0}) → Work (Unit {0})
+if-array zero m = give tt
+if-array (suc d) m = m
+
+-- so many references more to the cell that a word names
+unfoldable pub retain-times : ℕ → ℤ → Work (Unit {0})
+retain-times zero w = give tt
+retain-times (suc n) w = do retain-word w; retain-times n w
+
+-- a count that an array can have
+abbrev pub is-count : ℤ → Bool
+is-count n = inside n 17
+
+-- A leaf's work on the words ws of its atoms, after its step: S are the roots while a cell is wanted, C those of a call,
+-- and d is the depth of its second atom, which a replicate retains once for each element.
+unfoldable pub work-leaf : Callee → List ℕ → List ℕ → ℕ → Leaf → List ℤ → Work ℤ
+work-leaf callee S C d (operation o) ws = do
   let r = exact o (argument ws 0) (argument ws 1)
   require (fits r) 24
   give r
-work-leaf callee S C (call f) ws = callee C f ws
-work-leaf callee S C (literal e) ws = acquire S e ws
-work-leaf callee S C index ws = do
+work-leaf callee S C d (call f) ws = callee C f ws
+work-leaf callee S C d (literal e) ws = acquire S e ws
+work-leaf callee S C d index ws = do
   vs ← elements-of (argument ws 0)
   require (inside (argument ws 1) (length vs)) 23
   give (getD vs (natAbs (argument ws 1)) (pos 0))
-work-leaf callee S C length-of ws = do
+work-leaf callee S C d length-of ws = do
   vs ← elements-of (argument ws 0)
   give (pos (length vs))
+work-leaf callee S C d iota ws = do
+  require (is-count (argument ws 0)) 26
+  acquire S 0 (tabulate 0 (natAbs (argument ws 0)) (λ i. pos i))
+work-leaf callee S C d replicate ws = do
+  require (is-count (argument ws 0)) 26
+  c ← acquire S d (List.replicate (natAbs (argument ws 0)) (argument ws 1))
+  if-array d (retain-times (natAbs (argument ws 0)) (argument ws 1))
+  give c
 
 -- ---- passes: what is carried from one to the next is a word
 
 abbrev pub looped-over : Loop → List ℤ → ℤ
 looped-over mapping ws = argument ws 0
+looped-over filtering ws = argument ws 0
+looped-over reducing ws = argument ws 1
 
--- what is carried into the first pass: a new cell for the result
+-- what is carried into the first pass: a new cell for the result, or a reduce's start
 abbrev pub carried-first : Loop → List ℕ → ℕ → List ℤ → Work ℤ
 carried-first mapping R d ws = acquire R d []
+carried-first filtering R d ws = acquire R d []
+carried-first reducing R d ws = give (argument ws 0)
 
 abbrev pub pass-words : Loop → ℤ → ℤ → List ℤ
 pass-words mapping c w = w ∷ []
+pass-words filtering c w = w ∷ []
+pass-words reducing c w = c ∷ w ∷ []
 
--- what a pass carries on, by what its tree gave
-abbrev pub carried-on : Loop → ℤ → ℤ → Work ℤ
-carried-on mapping c r = do append-word c r; give c
+-- What a pass over w carries on, by what its tree gave; d is the depth of the elements of the loop's result. A filter
+-- retains each element that it keeps.
+abbrev pub carried-on : Loop → ℕ → ℤ → ℤ → ℤ → Work ℤ
+carried-on mapping d c w r = do append-word c r; give c
+carried-on filtering d c w r =
+    cond (is-zero r) (give c) (do if-array d (retain-word w); append-word c w; give c)
+carried-on reducing d c w r = give r
 
 -- one pass over element i of the array a
-unfoldable pub work-pass : Loop → (List ℤ → Work ℤ) → ℤ → ℤ → ℕ → Work ℤ
-work-pass k body a c i = do
+unfoldable pub work-pass : Loop → ℕ → (List ℤ → Work ℤ) → ℤ → ℤ → ℕ → Work ℤ
+work-pass k d body a c i = do
   step
   ws ← elements-of a
-  r ← body (pass-words k c (getD ws i (pos 0)))
-  carried-on k c r
+  let w = getD ws i (pos 0)
+  r ← body (pass-words k c w)
+  carried-on k d c w r
 
--- the result of a loop in progress
+-- the result of a loop in progress; a reduce's running value is the first name of its pass
 abbrev pub in-progress : Loop → ℤ → List ℕ
 in-progress mapping c = cell-of c ∷ []
+in-progress filtering c = cell-of c ∷ []
+in-progress reducing c = []
 
 -- names bound to values in turn
 abbrev pub binding : List ℕ → List ℤ → Frame → Frame
@@ -186,7 +223,8 @@ module _ (callee : Callee) (Γ : NameDepths) where
     pub work-line : Line → Set → List ℕ → Frame → Work Frame
     work-line (leaf x l us) A R ρ = do
       step
-      w ← work-leaf callee (R ++ held Γ (among us (A ∖ x)) ρ) (R ++ held Γ (A ∖ x) ρ) l (map (word ρ) us)
+      w ← work-leaf callee (R ++ held Γ (among us (A ∖ x)) ρ) (R ++ held Γ (A ∖ x) ρ) (depth-of Γ us 1) l
+          (map (word ρ) us)
       give (updated ρ x w)
     work-line (if-else x g t e) A R ρ = do
       step
@@ -200,7 +238,7 @@ module _ (callee : Callee) (Γ : NameDepths) where
       let a = looped-over k (map (word ρ) us)
       ws ← elements-of a
       c ← carried-first k R′ (element-depth Γ x) (map (word ρ) us)
-      w ← passes (work-pass k (λ vs. work t B (R′ ++ in-progress k c) (binding ps vs ρ)) a)
+      w ← passes (work-pass k (element-depth Γ x) (λ vs. work t B (R′ ++ in-progress k c) (binding ps vs ρ)) a)
           c (tabulate 0 (length ws) (λ i. i))
       give (updated ρ x w)
     work-line (retain x) A R ρ = do
@@ -247,11 +285,6 @@ machine p zero R f ws = halt 22
 machine p (suc n) R f ws =
     let r = routine-of p f in
     work (machine p n) (r .depths) (r .tree) empty R (frame-from ws 0)
-
--- something to do with the totals where they are an array
-abbrev pub if-array : ℕ → Work (Unit {0}) → Work (Unit {0})
-if-array zero m = give tt
-if-array (suc d) m = m
 
 -- The readings' cell, the totals retained, main, the result in the totals' place, the old totals released
 unfoldable pub delivery : Program → List ℤ → Work (Unit {0})

@@ -4,15 +4,16 @@ use Prim.Native.Nat.{ℕ, zero, suc, _+_}
 use mathlib.Core.Bool.{Bool, true, false, cond}
 use mathlib.Core.List.{List, [], _∷_, _++_}
 use lib.IntN.{pos, natAbs}
+use lib.ListN as List
 use lib.ListN.{length, getD}
 use lib.Dec.{eqb}
-use Rattle.semantics.specs.Basics.{updated}
+use Rattle.semantics.specs.Basics.{updated, tabulate}
 use Rattle.semantics.specs.Outcome.{Outcome, done, stop, Run, _>>=_, _>>_, give, halt, require, passes}
 use Rattle.semantics.specs.Number.{Operation, exact, fits, inside, is-zero}
 use Rattle.semantics.specs.Value.{Value, num, items, number-in, list}
 use Rattle.semantics.specs.Syntax as S
-use Rattle.semantics.specs.Kinds.{Leaf, operation, call, literal, index, length-of, Loop, mapping}
-use Rattle.semantics.specs.Kinds.{takes-cell, later-parts}
+use Rattle.semantics.specs.Kinds.{Leaf, operation, call, literal, index, length-of, iota, replicate, Loop}
+use Rattle.semantics.specs.Kinds.{mapping, filtering, reducing, takes-cell, later-parts}
 use Rattle.semantics.specs.Syntax.{Expr, number, name, let-in, leaf, if-else, loop, Exprs, Parameter, Script}
 use Rattle.semantics.specs.Syntax.{function-at}
 
@@ -60,6 +61,23 @@ do-index v i = do
 unfoldable pub do-length : Value → Work Value
 do-length v = do step false; give (num (pos (length (items v))))
 
+-- a count that an array can have
+abbrev pub is-count : Value → Bool
+is-count n = inside (number-in n) 17
+
+-- a new array wants a cell only if its count is in range: 26 comes before the cell
+unfoldable pub do-iota : Value → Work Value
+do-iota n = do
+  step (is-count n)
+  require (is-count n) 26
+  give (list (tabulate 0 (natAbs (number-in n)) (λ i. num (pos i))))
+
+unfoldable pub do-replicate : Value → Value → Work Value
+do-replicate n v = do
+  step (is-count n)
+  require (is-count n) 26
+  give (list (List.replicate (natAbs (number-in n)) v))
+
 -- a guard other than 0 takes the then part
 unfoldable pub do-if : Value → Work Value → Work Value → Work Value
 do-if g t e = do step false; cond (is-zero (number-in g)) e t
@@ -73,6 +91,8 @@ do-leaf callee (call f) vs = do-call callee f vs
 do-leaf callee (literal d) vs = do-literal vs
 do-leaf callee index vs = do-index (argument vs 0) (argument vs 1)
 do-leaf callee length-of vs = do-length (argument vs 0)
+do-leaf callee iota vs = do-iota (argument vs 0)
+do-leaf callee replicate vs = do-replicate (argument vs 0) (argument vs 1)
 
 -- ---- passes: what is carried from one to the next is a value
 
@@ -82,17 +102,25 @@ with-item c v = list (items c ++ (v ∷ []))
 -- what is carried into the first pass, and the array that the passes go over
 abbrev pub carried-first : Loop → List Value → Value
 carried-first mapping vs = list []
+carried-first filtering vs = list []
+carried-first reducing vs = argument vs 0
 
 abbrev pub looped-over : Loop → List Value → Value
 looped-over mapping vs = argument vs 0
+looped-over filtering vs = argument vs 0
+looped-over reducing vs = argument vs 1
 
 -- the values of the names of a pass
 abbrev pub pass-values : Loop → Value → Value → List Value
 pass-values mapping c v = v ∷ []
+pass-values filtering c v = v ∷ []
+pass-values reducing c v = c ∷ v ∷ []
 
--- what a pass carries on, by what its body gave
+-- what a pass over v carries on, by what its body gave; any guard but 0 keeps the element
 abbrev pub carried-on : Loop → Value → Value → Value → Value
 carried-on mapping c v r = with-item c r
+carried-on filtering c v r = cond (is-zero (number-in r)) c (with-item c v)
+carried-on reducing c v r = r
 
 -- one pass: its step, then the body
 unfoldable pub do-pass : Loop → (List Value → Work Value) → Value → Value → Work Value

@@ -5,7 +5,7 @@ use mathlib.Core.List.{List, [], _∷_, _++_}
 use lib.ListN.{length}
 use lib.Dec.{leb}
 use Rattle.semantics.specs.Basics.{with-if, updated}
-use Rattle.semantics.specs.Kinds.{Leaf, operation, call, literal, index, length-of}
+use Rattle.semantics.specs.Kinds.{Leaf, operation, call, literal, index, length-of, iota, replicate}
 use Rattle.semantics.specs.Syntax.{Expr, number, name, let-in, leaf, if-else, loop, Exprs, none, more, size}
 use Rattle.semantics.specs.Syntax.{sizes, Parameter, Script}
 use Rattle.semantics.specs.Syntax.{function-size}
@@ -25,6 +25,8 @@ calls-none functions (call f) = leb functions f
 calls-none functions (literal d) = false
 calls-none functions index = false
 calls-none functions length-of = false
+calls-none functions iota = false
+calls-none functions replicate = false
 
 -- the faulty nodes of a tree at node p, in a script of so many functions
 module _ (functions : ℕ) where

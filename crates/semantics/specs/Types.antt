@@ -7,7 +7,8 @@ use lib.ListN.{length}
 use lib.Dec.{eqb, leb}
 use Rattle.semantics.specs.Basics.{with-if, updated}
 use Rattle.semantics.specs.Syntax as S
-use Rattle.semantics.specs.Kinds.{Leaf, operation, call, literal, index, length-of, Loop, mapping}
+use Rattle.semantics.specs.Kinds.{Leaf, operation, call, literal, index, length-of, iota, replicate, Loop}
+use Rattle.semantics.specs.Kinds.{mapping, filtering, reducing}
 use Rattle.semantics.specs.Syntax.{Expr, number, name, let-in, leaf, if-else, loop, Exprs, size, sizes, Parameter}
 use Rattle.semantics.specs.Syntax.{Function, Script, function-at}
 use Rattle.semantics.specs.Syntax.{function-size}
@@ -105,6 +106,16 @@ length-rule (suc d ∷ ds) = some 0
 length-rule (zero ∷ ds) = none
 length-rule [] = none
 
+-- an iota gives an array of numbers, a replicate one of its value
+abbrev pub iota-rule : Rule
+iota-rule ds = some-if (all-are 0 ds) 1
+
+abbrev pub replicate-rule : Rule
+replicate-rule (zero ∷ d ∷ ds) = some-if (leb (suc d) 4) (suc d)
+replicate-rule (suc c ∷ ds) = none
+replicate-rule (zero ∷ []) = none
+replicate-rule [] = none
+
 abbrev pub if-rule : Rule
 if-rule (d ∷ e ∷ f ∷ ds) = some-if (eqb d 0 && eqb e f) e
 if-rule (d ∷ e ∷ []) = none
@@ -117,14 +128,23 @@ leaf-rule signatures (call f) = call-rule (signatures f)
 leaf-rule signatures (literal d) = literal-rule d
 leaf-rule signatures index = index-rule
 leaf-rule signatures length-of = length-rule
+leaf-rule signatures iota = iota-rule
+leaf-rule signatures replicate = replicate-rule
 
 -- by the depths of a loop's parts and its body's; the array's is looked at before
 abbrev pub loop-rule : Loop → Rule
 loop-rule mapping (d ∷ e ∷ ds) = some-if (leb (suc e) 4) (suc e)
 loop-rule mapping (d ∷ []) = none
 loop-rule mapping [] = none
+loop-rule filtering (d ∷ e ∷ ds) = some-if (eqb e 0) d
+loop-rule filtering (d ∷ []) = none
+loop-rule filtering [] = none
+loop-rule reducing (s ∷ d ∷ e ∷ ds) = some-if (eqb s e) s
+loop-rule reducing (s ∷ d ∷ []) = none
+loop-rule reducing (s ∷ []) = none
+loop-rule reducing [] = none
 
--- the depth of a map's parameter
+-- the depth of an array's element
 abbrev pub element : Option ℕ → Option ℕ
 element (some (suc d)) = some d
 element (some zero) = none
@@ -140,12 +160,22 @@ depth-at [] i = none
 depth-at (c ∷ cs) zero = c .depth
 depth-at (c ∷ cs) (suc i) = depth-at cs i
 
--- the array among a loop's parts, and the depths of the names of a pass
+-- the second depth, where there is a first
+abbrev pub and-then : Option ℕ → Option ℕ → Option ℕ
+and-then (some d) e = e
+and-then none e = none
+
+-- the depth of the array that a loop goes over, where the part before it, a reduce's start, has one too
 abbrev pub array-depth : Loop → List Checked → Option ℕ
 array-depth mapping cs = depth-at cs 0
+array-depth filtering cs = depth-at cs 0
+array-depth reducing cs = and-then (depth-at cs 0) (depth-at cs 1)
 
+-- the depths of the names of a pass
 abbrev pub pass-depths : Loop → List Checked → List (Option ℕ)
 pass-depths mapping cs = element (depth-at cs 0) ∷ []
+pass-depths filtering cs = element (depth-at cs 0) ∷ []
+pass-depths reducing cs = depth-at cs 0 ∷ element (depth-at cs 1) ∷ []
 
 abbrev pub depths-with : List ℕ → List (Option ℕ) → Depths → Depths
 depths-with [] ds Γ = Γ

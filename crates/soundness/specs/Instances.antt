@@ -1,11 +1,13 @@
--- The demands' hypotheses can be met: the theorems at the printed script, and at a script with a map and a call.
-use Prim.Native.Nat.{ℕ}
+-- The demands' hypotheses can be met: the theorems at the printed script, at a script with a map and a call, and at one
+-- with all kinds of the second edition.
+use Prim.Native.Nat.{ℕ, _+_, _*_}
 use mathlib.Core.Path.{_≡_, refl, sym, subst, _∙_}
 use mathlib.Core.List.{List, [], _∷_}
 use lib.IntN.{ℤ, pos}
 use lib.ListN.{replicate}
 use Rattle.semantics.specs.Number.{sum}
-use Rattle.semantics.specs.Kinds.{operation, call, literal, index, length-of, mapping}
+use Rattle.semantics.specs.Kinds.{operation, call, literal, index, length-of, iota, replicate as repeat, mapping}
+use Rattle.semantics.specs.Kinds.{filtering, reducing}
 use Rattle.semantics.specs.Syntax.{number, name, leaf, if-else, loop, none, more, Expr, Script, main-depth}
 use Rattle.semantics.specs.Value.{first-totals}
 use Rattle.semantics.specs.Code.{Row, row}
@@ -61,6 +63,29 @@ mapped-accepted : judged 0 (file-of 2 mapped-nodes) ≡ accepted mapped-script
 unfolding computing file-of low-first operand-bytes mapped-nodes mapped-script
 mapped-accepted = refl
 
+-- main(t: 2, r: 1): 2 =
+--   filter x over reduce a, b from replicate(2, iota(r[0])) over t: if length(b) then a else t: length(x)
+unfoldable pub folded-nodes : List Row
+folded-nodes =
+    row 0 514 ∷ row 1 512 ∷ row 1 257 ∷ row 19 2 ∷ row 20 (3 + 256 * 4) ∷
+    row 18 0 ∷ row 2 2 ∷ row 17 0 ∷ row 10 0 ∷ row 3 1 ∷ row 2 0 ∷ row 3 0 ∷
+    row 12 0 ∷ row 11 0 ∷ row 3 4 ∷ row 3 3 ∷ row 3 0 ∷ row 11 0 ∷ row 3 2 ∷ []
+
+unfoldable pub folded-script : Script
+folded-script = record {
+  parameters = record { id = 0; depth = 2 } ∷ record { id = 1; depth = 1 } ∷ [];
+  result = 2;
+  body = loop filtering (2 ∷ [])
+      (more (loop reducing (3 ∷ 4 ∷ [])
+      (more (leaf repeat (more (number (pos 2)) (more (leaf iota (more (first 1) none)) none))) (more (name 0) none))
+      (if-else (leaf length-of (more (name 4) none)) (name 3) (name 0))) none)
+      (leaf length-of (more (name 2) none));
+} ∷ []
+
+folded-accepted : judged 0 (file-of 1 folded-nodes) ≡ accepted folded-script
+unfolding computing file-of low-first operand-bytes folded-nodes folded-script
+folded-accepted = refl
+
 same-script : {fs gs : Script} → accepted fs ≡ accepted gs → fs ≡ gs
 same-script e = cc
 
@@ -86,9 +111,15 @@ pub printed-history :
 printed-history = keeps printed-file (replicate 33 0) (replicate 33 (pos 0)) (replicate 33 (pos 0))
     (replicate 9 0) printed-script printed-accepted printed-opens
 
--- and with the other, on any store that opens
+-- and with the others, on any store that opens
 pub mapped-history : (kinds : List ℕ) (operands slots : List ℤ) (heads : List ℕ) →
     number-of (engine-open 0 (file-of 2 mapped-nodes) kinds operands slots heads .answer) ≡ 0 →
     Keeps (file-of 2 mapped-nodes) kinds operands slots heads mapped-script
 mapped-history kinds operands slots heads z =
     keeps (file-of 2 mapped-nodes) kinds operands slots heads mapped-script mapped-accepted z
+
+pub folded-history : (kinds : List ℕ) (operands slots : List ℤ) (heads : List ℕ) →
+    number-of (engine-open 0 (file-of 1 folded-nodes) kinds operands slots heads .answer) ≡ 0 →
+    Keeps (file-of 1 folded-nodes) kinds operands slots heads folded-script
+folded-history kinds operands slots heads z =
+    keeps (file-of 1 folded-nodes) kinds operands slots heads folded-script folded-accepted z

@@ -7,6 +7,7 @@ pub mod Agreement
 pub mod Frames
 pub mod Standing
 pub mod Situations
+pub mod Retaining
 pub mod Elements
 pub mod Atoms
 pub mod Size
@@ -18,14 +19,18 @@ pub mod Claims
 pub mod Holding
 pub mod Reading
 pub mod Making
+pub mod Replicating
 pub mod Calling
 pub mod Leaves
 pub mod Branches
 pub mod Passes
+pub mod Sites
 pub mod Filling
 pub mod Bodies
 pub mod Filled
 pub mod Mapping
+pub mod Filtering
+pub mod Reducing
 pub mod Trees
 pub mod Parameters
 pub mod Calls

@@ -8,6 +8,7 @@ pub mod Change
 pub mod Kept
 pub mod Retain
 pub mod Acquire
+pub mod Order
 pub mod Append
 pub mod Release
 pub mod Tests

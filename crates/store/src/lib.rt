@@ -47,17 +47,26 @@ pub fn acquire_empty(slots: &mut [i64], heads: &mut [u32], depth: u32) -> Acquir
     Acquired::Cell(c)
 }
 
+// One element more in a cell that is there and has room.
+pub fn append_within(slots: &mut [i64], heads: &mut [u32], c: usize, w: i64)
+    requires { ⌜ (c < 256) × (4 * c + 4 < length (now heads)) × (16 * c + 16 < length (now slots)) ⌝ }
+    ensures { λ _. ⌜ store-of (now (slots .exit)) (now (heads .exit))
+        ≡ appended c w (store-of (now (slots .entry)) (now (heads .entry))) ⌝ }
+{
+    let size = heads[2 + 4 * c];
+    if size < 16 {
+        slots[1 + 16 * c + size as usize] = w;
+        heads[2 + 4 * c] = size + 1;
+    }
+}
+
 // One element more in a cell that has room.
 pub fn append(slots: &mut [i64], heads: &mut [u32], c: usize, w: i64)
     ensures { λ _. ⌜ store-of (now (slots .exit)) (now (heads .exit))
         ≡ appended c w (store-of (now (slots .entry)) (now (heads .entry))) ⌝ }
 {
     if store_words::is_cell(slots, heads, c) {
-        let size = heads[2 + 4 * c];
-        if size < 16 {
-            slots[1 + 16 * c + size as usize] = w;
-            heads[2 + 4 * c] = size + 1;
-        }
+        append_within(slots, heads, c, w);
     }
 }
 

@@ -85,6 +85,17 @@ pub fn read_length(slots: &[i64], heads: &[u32], c: usize) -> usize
     at_most(heads[2 + 4 * c] as usize, 16)
 }
 
+// An element of a cell that is there, 0 past its length.
+pub fn read_slot_within(slots: &[i64], heads: &[u32], c: usize, i: usize) -> i64
+    requires { ⌜ (c < 256) × (4 * c + 4 < length (now heads)) × (16 * c + 16 < length (now slots)) ⌝ }
+    ensures { λ r. ⌜ r ≡ getD (elements (cell (store-of (now (slots .entry)) (now (heads .entry))) c)) i (pos 0) ⌝ }
+{
+    if at_most(heads[2 + 4 * c] as usize, 16) <= i {
+        return 0;
+    }
+    slots[1 + 16 * c + i]
+}
+
 // An element of a cell, 0 past its length.
 pub fn read_slot(slots: &[i64], heads: &[u32], c: usize, i: usize) -> i64
     ensures { λ r. ⌜ r ≡ getD (elements (cell (store-of (now (slots .entry)) (now (heads .entry))) c)) i (pos 0) ⌝ }
@@ -92,10 +103,7 @@ pub fn read_slot(slots: &[i64], heads: &[u32], c: usize, i: usize) -> i64
     if !is_cell(slots, heads, c) {
         return 0;
     }
-    if at_most(heads[2 + 4 * c] as usize, 16) <= i {
-        return 0;
-    }
-    slots[1 + 16 * c + i]
+    read_slot_within(slots, heads, c, i)
 }
 
 // 1 for a count above 0.

@@ -1,7 +1,7 @@
 //! The annotated A-normal code of a script, as trees of lines and as rows.
 
-use super::names::Names;
-use super::script::{Arithmetic, Form, Function, Node};
+use super::annotate;
+use super::script::{Arithmetic, Form, Function, Loop, Node};
 
 #[derive(Clone, Copy, PartialEq, Eq, Debug)]
 pub enum Atom {
@@ -17,16 +17,37 @@ pub enum Operation {
     Literal(usize),
     Index,
     Length,
+    Iota,
+    Replicate,
 }
 
-/// A line, with the name that it binds first, then a map's parameter.
+/// A line, with the name that it binds first. A loop has the names of a pass, the element's last, and its atoms, the
+/// array last.
 #[derive(Clone, Debug)]
 pub enum Line {
     Plain(usize, Operation, Vec<Atom>),
     If(usize, Atom, Tree, Tree),
-    Map(usize, usize, Atom, Tree),
+    Loop(usize, Loop, Vec<usize>, Vec<Atom>, Tree),
     Retain(usize),
     Release(usize),
+}
+
+impl Line {
+    /// The name that it binds.
+    pub fn name(&self) -> Option<usize> {
+        match self {
+            Line::Plain(name, ..) | Line::If(name, ..) | Line::Loop(name, ..) => Some(*name),
+            Line::Retain(_) | Line::Release(_) => None,
+        }
+    }
+
+    pub fn atoms(&self) -> &[Atom] {
+        match self {
+            Line::Plain(_, _, atoms) | Line::Loop(_, _, _, atoms, _) => atoms,
+            Line::If(_, atom, ..) => std::slice::from_ref(atom),
+            Line::Retain(_) | Line::Release(_) => &[],
+        }
+    }
 }
 
 #[derive(Clone, Debug)]
@@ -57,10 +78,7 @@ fn translate_function(function: &Function, functions: &[Function]) -> Coded {
     }
     let plain = lowering.tree(&function.body, &scope);
     let parameters = function.parameters.len();
-    let annotation = Annotation { depths: &lowering.depths };
-    let mut tree = annotation.tree(&plain, Names::default());
-    let unused = (0..parameters).collect::<Names>() - live(&plain, Names::default());
-    annotation.open_with_releases(&mut tree, unused);
+    let tree = annotate::body(&plain, parameters, &lowering.depths);
     Coded { depth: function.depth, parameters, depths: lowering.depths, tree }
 }
 
@@ -107,8 +125,10 @@ impl Lowering<'_> {
             Form::Literal(depth, parts) => self.plain(Operation::Literal(*depth), parts, scope, lines),
             Form::Index(parts) => self.plain(Operation::Index, parts.as_slice(), scope, lines),
             Form::Length(part) => self.plain(Operation::Length, std::slice::from_ref(part.as_ref()), scope, lines),
+            Form::Iota(part) => self.plain(Operation::Iota, std::slice::from_ref(part.as_ref()), scope, lines),
+            Form::Replicate(parts) => self.plain(Operation::Replicate, parts.as_slice(), scope, lines),
             Form::If(parts) => self.choice(parts, scope, lines),
-            Form::Map(parameter, parts) => self.map(*parameter, parts, scope, lines),
+            Form::Loop(kind, names, parts) => self.passes(*kind, names, parts, scope, lines),
         }
     }
 
@@ -120,6 +140,8 @@ impl Lowering<'_> {
             Operation::Call(function) => self.functions[function].depth,
             Operation::Literal(depth) => depth + 1,
             Operation::Index => self.depth(atoms[0]) - 1,
+            Operation::Iota => 1,
+            Operation::Replicate => self.depth(atoms[1]) + 1,
         };
         let name = self.new_name(depth);
         lines.push(Line::Plain(name, operation, atoms));
@@ -136,176 +158,32 @@ impl Lowering<'_> {
         Atom::Name(name)
     }
 
-    fn map(&mut self, parameter: usize, parts: &[Node; 2], scope: &[Atom; 256], lines: &mut Vec<Line>) -> Atom {
-        let array = self.lines(&parts[0], scope, lines);
+    /// A loop: its name and the names of a pass are taken after the lines of its parts, and before those of its tree.
+    fn passes(
+        &mut self,
+        kind: Loop,
+        names: &[usize],
+        parts: &[Node],
+        scope: &[Atom; 256],
+        lines: &mut Vec<Line>,
+    ) -> Atom {
+        let (body, before) = parts.split_last().unwrap();
+        let atoms: Vec<Atom> = before.iter().map(|part| self.lines(part, scope, lines)).collect();
         let name = self.new_name(0);
-        let element = self.new_name(self.depth(array) - 1);
         let mut inner = *scope;
-        inner[parameter] = Atom::Name(element);
-        let tree = self.tree(&parts[1], &inner);
-        self.depths[name] = self.depth(tree.end) + 1;
-        lines.push(Line::Map(name, element, array, tree));
+        let mut in_pass = Vec::new();
+        for (i, (written, atom)) in names.iter().zip(&atoms).enumerate() {
+            let depth = self.depth(*atom) - usize::from(i + 1 == atoms.len()); // the last is the array: its element
+            in_pass.push(self.new_name(depth));
+            inner[*written] = Atom::Name(in_pass[i]);
+        }
+        let tree = self.tree(body, &inner);
+        self.depths[name] = match kind {
+            Loop::Map => self.depth(tree.end) + 1,
+            Loop::Filter | Loop::Reduce => self.depth(atoms[0]),
+        };
+        lines.push(Line::Loop(name, kind, in_pass, atoms, tree));
         Atom::Name(name)
-    }
-}
-
-// ---- Live sets ----
-
-impl Line {
-    /// The name that it binds.
-    fn name(&self) -> Option<usize> {
-        match self {
-            Line::Plain(name, ..) | Line::If(name, ..) | Line::Map(name, ..) => Some(*name),
-            Line::Retain(_) | Line::Release(_) => None,
-        }
-    }
-
-    fn atoms(&self) -> &[Atom] {
-        match self {
-            Line::Plain(_, _, atoms) => atoms,
-            Line::If(_, atom, ..) | Line::Map(_, _, atom, _) => std::slice::from_ref(atom),
-            Line::Retain(_) | Line::Release(_) => &[],
-        }
-    }
-}
-
-fn named(atoms: &[Atom]) -> Names {
-    atoms.iter().filter_map(|atom| if let Atom::Name(name) = atom { Some(*name) } else { None }).collect()
-}
-
-/// The names from outside that a tree uses.
-fn outer_uses(tree: &Tree) -> Names {
-    let mut uses = named(&[tree.end]);
-    let mut inside = Names::default();
-    for line in &tree.lines {
-        uses = uses | named(line.atoms()) | inner_uses(line);
-        inside = inside | line.name().into_iter().collect();
-    }
-    uses - inside
-}
-
-/// The names from outside that a line's trees use.
-fn inner_uses(line: &Line) -> Names {
-    match line {
-        Line::If(_, _, first, second) => outer_uses(first) | outer_uses(second),
-        Line::Map(_, parameter, _, tree) => outer_uses(tree).without(*parameter),
-        _ => Names::default(),
-    }
-}
-
-/// What is live before a tree, after which `after` is live.
-fn live(tree: &Tree, after: Names) -> Names {
-    tree.lines.iter().rev().fold(named(&[tree.end]) | after, |after, line| live_before(line, after))
-}
-
-fn live_before(line: &Line, after: Names) -> Names {
-    let atoms = named(line.atoms());
-    match line {
-        Line::Plain(name, ..) => atoms | after.without(*name),
-        Line::If(name, _, first, second) => {
-            let after = after.without(*name);
-            atoms | live(first, after) | live(second, after)
-        }
-        Line::Map(name, parameter, _, tree) => {
-            let after = after.without(*name) | inner_uses(line);
-            atoms | live(tree, after).without(*parameter)
-        }
-        Line::Retain(_) | Line::Release(_) => after,
-    }
-}
-
-// ---- Retains and releases ----
-
-struct Annotation<'a> {
-    depths: &'a [usize],
-}
-
-impl Annotation<'_> {
-    fn is_array(&self, name: usize) -> bool {
-        self.depths[name] > 0
-    }
-
-    fn releases(&self, names: Names) -> Vec<Line> {
-        names.rising().filter(|name| self.is_array(*name)).map(Line::Release).collect()
-    }
-
-    fn open_with_releases(&self, tree: &mut Tree, names: Names) {
-        tree.lines.splice(0..0, self.releases(names));
-    }
-
-    /// A tree with its retains and releases; `after` is live after it.
-    fn tree(&self, plain: &Tree, after: Names) -> Tree {
-        let mut lives = vec![named(&[plain.end]) | after];
-        for line in plain.lines.iter().rev() {
-            lives.push(live_before(line, lives[lives.len() - 1]));
-        }
-        lives.reverse();
-        let mut lines = Vec::new();
-        for (i, line) in plain.lines.iter().enumerate() {
-            self.line(line, lives[i + 1], &mut lines);
-        }
-        self.retain_handed(&[plain.end], after, &mut lines);
-        Tree { lines, end: plain.end }
-    }
-
-    /// Retains each handed-over atom that is live after the line or occurs again on it.
-    fn retain_handed(&self, atoms: &[Atom], after: Names, lines: &mut Vec<Line>) {
-        for (i, atom) in atoms.iter().enumerate() {
-            if let Atom::Name(name) = atom {
-                if self.is_array(*name) && (after.has(*name) || atoms[i + 1..].contains(atom)) {
-                    lines.push(Line::Retain(*name));
-                }
-            }
-        }
-    }
-
-    /// A line, with what stands before and after it.
-    fn line(&self, line: &Line, after: Names, lines: &mut Vec<Line>) {
-        let mut done_with: Names = line.name().into_iter().collect();
-        match line {
-            Line::Plain(_, Operation::Call(_) | Operation::Literal(_), atoms) => {
-                self.retain_handed(atoms, after, lines);
-                lines.push(line.clone());
-            }
-            Line::Plain(name, operation, atoms) => {
-                lines.push(line.clone());
-                if *operation == Operation::Index && self.is_array(*name) {
-                    lines.push(Line::Retain(*name));
-                }
-                done_with = done_with | named(atoms);
-            }
-            Line::If(name, guard, first, second) => {
-                let after = after.without(*name);
-                let trees = (self.branch(first, second, after), self.branch(second, first, after));
-                lines.push(Line::If(*name, *guard, trees.0, trees.1));
-            }
-            Line::Map(name, parameter, array, tree) => {
-                let annotated = self.pass(*parameter, tree, after.without(*name) | inner_uses(line));
-                lines.push(Line::Map(*name, *parameter, *array, annotated));
-                done_with = done_with | named(&[*array]) | inner_uses(line);
-            }
-            Line::Retain(_) | Line::Release(_) => lines.push(line.clone()),
-        }
-        lines.extend(self.releases(done_with - after));
-    }
-
-    /// A branch opens by releasing what only the other one uses.
-    fn branch(&self, own: &Tree, other: &Tree, after: Names) -> Tree {
-        let mut tree = self.tree(own, after);
-        self.open_with_releases(&mut tree, outer_uses(other) - live(own, after));
-        tree
-    }
-
-    /// A map's tree opens by retaining its parameter, and by releasing it if it is unused.
-    fn pass(&self, parameter: usize, plain: &Tree, after: Names) -> Tree {
-        let mut tree = self.tree(plain, after);
-        if self.is_array(parameter) {
-            if !outer_uses(plain).has(parameter) {
-                tree.lines.insert(0, Line::Release(parameter));
-            }
-            tree.lines.insert(0, Line::Retain(parameter));
-        }
-        tree
     }
 }
 
@@ -340,6 +218,16 @@ fn operation_row(operation: Operation, atoms: usize) -> (u8, usize) {
         Operation::Literal(depth) => (9, 256 * atoms + 65536 * depth),
         Operation::Index => (10, 0),
         Operation::Length => (11, 0),
+        Operation::Iota => (17, 0),
+        Operation::Replicate => (18, 0),
+    }
+}
+
+fn loop_kind(kind: Loop) -> u8 {
+    match kind {
+        Loop::Map => 13,
+        Loop::Filter => 19,
+        Loop::Reduce => 20,
     }
 }
 
@@ -351,7 +239,10 @@ fn tree_rows(tree: &Tree, rows: &mut Vec<(u8, i64)>) {
                 (kind, name + above)
             }
             Line::If(name, ..) => (12, *name),
-            Line::Map(name, parameter, ..) => (13, name + 256 * parameter),
+            Line::Loop(name, kind, in_pass, ..) => {
+                let names = in_pass.iter().rev().fold(0, |above, name| name + 256 * above);
+                (loop_kind(*kind), name + 256 * names)
+            }
             Line::Retain(name) => (14, *name),
             Line::Release(name) => (15, *name),
         };
@@ -362,7 +253,7 @@ fn tree_rows(tree: &Tree, rows: &mut Vec<(u8, i64)>) {
                 tree_rows(first, rows);
                 tree_rows(second, rows);
             }
-            Line::Map(_, _, _, tree) => tree_rows(tree, rows),
+            Line::Loop(.., tree) => tree_rows(tree, rows),
             _ => {}
         }
     }

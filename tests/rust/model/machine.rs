@@ -1,7 +1,7 @@
 //! The code of a script worked on a store: one delivery.
 
 use super::code::{Atom, Coded, Line, Operation, Tree};
-use super::script::Arithmetic;
+use super::script::{Arithmetic, Loop};
 use super::store::Store;
 
 pub const CALL_DEPTH_MAX: usize = 32;
@@ -35,13 +35,13 @@ pub fn deliver(functions: &[Coded], store: &mut Store, readings: &[i64], budget:
 
 impl Machine<'_> {
     fn delivery(&mut self, readings: &[i64]) -> Result<(), u64> {
-        let cell = self.store.acquire(0, readings).ok_or(25u64)?;
+        let cell = self.acquire(0, readings)?;
         let old = self.store.totals;
         let is_array = self.functions[0].depth > 0;
         if is_array {
             self.store.retain(old as usize);
         }
-        self.store.totals = self.function(0, vec![old, cell as i64], 1)?;
+        self.store.totals = self.function(0, vec![old, cell], 1)?;
         if is_array {
             self.store.release(old as usize);
         }
@@ -80,44 +80,94 @@ impl Machine<'_> {
             Line::Plain(name, operation, atoms) => {
                 self.step()?;
                 let atoms = atoms.iter().map(|atom| value(atom, names)).collect();
-                (*name, self.operation(*operation, atoms, call_depth)?)
+                (*name, self.operation(*operation, atoms, coded.depths[*name], call_depth)?)
             }
             Line::If(name, guard, first, second) => {
                 self.step()?;
                 let tree = if value(guard, names) != 0 { first } else { second };
                 (*name, self.tree(coded, tree, names, call_depth)?)
             }
-            Line::Map(name, parameter, array, tree) => {
+            Line::Loop(name, kind, in_pass, atoms, tree) => {
                 self.step()?;
-                let made = self.store.acquire(coded.depths[*name] as u32 - 1, &[]).ok_or(25u64)?;
-                for element in self.store.elements(value(array, names) as usize).to_vec() {
+                let atoms: Vec<i64> = atoms.iter().map(|atom| value(atom, names)).collect();
+                let depth = coded.depths[*name];
+                let mut carried = if *kind == Loop::Reduce { atoms[0] } else { self.acquire(depth - 1, &[])? };
+                for element in self.store.elements(atoms[atoms.len() - 1] as usize).to_vec() {
                     self.step()?;
-                    names[*parameter] = element;
+                    names[in_pass[0]] = carried; // a reduce's first name; for the others the element comes in its place
+                    names[in_pass[in_pass.len() - 1]] = element;
                     let result = self.tree(coded, tree, names, call_depth)?;
-                    self.store.append(made, result);
+                    carried = self.carry(*kind, depth, carried, element, result);
                 }
-                (*name, made as i64)
+                (*name, carried)
             }
         };
         names[name] = result;
         Ok(())
     }
 
-    /// What a line without trees gives for the values of its atoms.
-    fn operation(&mut self, operation: Operation, atoms: Vec<i64>, call_depth: usize) -> Result<i64, u64> {
+    fn acquire(&mut self, depth: usize, elements: &[i64]) -> Result<i64, u64> {
+        self.store.acquire(depth as u32, elements).map(|cell| cell as i64).ok_or(25)
+    }
+
+    /// What a pass over an element carries on, in a loop whose result has this depth.
+    fn carry(&mut self, kind: Loop, depth: usize, carried: i64, element: i64, result: i64) -> i64 {
+        match kind {
+            Loop::Reduce => return result,
+            Loop::Map => self.store.append(carried as usize, result),
+            Loop::Filter if result == 0 => {}
+            Loop::Filter => {
+                if depth > 1 {
+                    self.store.retain(element as usize);
+                }
+                self.store.append(carried as usize, element);
+            }
+        }
+        carried
+    }
+
+    /// What a line without trees gives for the values of its atoms; `depth` is that of its result.
+    fn operation(
+        &mut self,
+        operation: Operation,
+        atoms: Vec<i64>,
+        depth: usize,
+        call_depth: usize,
+    ) -> Result<i64, u64> {
         match operation {
             Operation::Arithmetic(Arithmetic::Sum) => atoms[0].checked_add(atoms[1]).ok_or(24),
             Operation::Arithmetic(Arithmetic::Difference) => atoms[0].checked_sub(atoms[1]).ok_or(24),
             Operation::Arithmetic(Arithmetic::Less) => Ok(i64::from(atoms[0] < atoms[1])),
             Operation::Call(_) if call_depth == CALL_DEPTH_MAX => Err(22),
             Operation::Call(function) => self.function(function, atoms, call_depth + 1),
-            Operation::Literal(depth) => Ok(self.store.acquire(depth as u32, &atoms).ok_or(25u64)? as i64),
+            Operation::Literal(depth) => self.acquire(depth, &atoms),
             Operation::Index => {
                 let elements = self.store.elements(atoms[0] as usize);
                 usize::try_from(atoms[1]).ok().and_then(|i| elements.get(i).copied()).ok_or(23)
             }
             Operation::Length => Ok(self.store.elements(atoms[0] as usize).len() as i64),
+            Operation::Iota => {
+                let count = count(atoms[0])?;
+                self.acquire(0, &(0..count).collect::<Vec<i64>>())
+            }
+            Operation::Replicate => {
+                let count = count(atoms[0])?;
+                let made = self.acquire(depth - 1, &vec![atoms[1]; count as usize])?;
+                for _ in 0..if depth > 1 { count } else { 0 } {
+                    self.store.retain(atoms[1] as usize);
+                }
+                Ok(made)
+            }
         }
+    }
+}
+
+/// A count that an array can have.
+fn count(value: i64) -> Result<i64, u64> {
+    if (0..=16).contains(&value) {
+        Ok(value)
+    } else {
+        Err(26)
     }
 }
 

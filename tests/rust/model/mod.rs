@@ -1,8 +1,10 @@
-//! A second implementation of the four calls, written from document 01 alone: trees on the heap, no proof.
+//! A second implementation of the four calls, written from documents 01 and 02 alone: trees on the heap, no proof.
 
+pub mod annotate;
 pub mod code;
 pub mod machine;
 pub mod names;
+pub mod rules;
 pub mod script;
 pub mod store;
 
@@ -49,7 +51,7 @@ fn refuse_with(lent: &mut Lent, number: u64) -> Answer {
 
 /// The code of a file, also written to the lent arrays, or the refusal 1 to 9.
 fn load(file: &[u8], lent: &mut Lent) -> Result<(Vec<Coded>, usize), Answer> {
-    let functions = match script::judge(file) {
+    let functions = match rules::judge(file) {
         Ok(functions) => functions,
         Err(refusal) => return Err(refuse(lent, refusal)),
     };

@@ -1,18 +1,24 @@
-//! The script file as a tree, and refusals 1 to 8.
+//! The script file as a tree, and refusals 1 to 5.
 
 use std::collections::BTreeSet;
 
 pub const FUNCTIONS_MAX: usize = 32;
 pub const NODES_MAX: usize = 1024;
 pub const LEVELS_MAX: usize = 64;
-pub const NEW_NAMES_MAX: usize = 256;
-pub const DEPTH_MAX: usize = 4;
 
 #[derive(Clone, Copy, PartialEq, Eq, Debug)]
 pub enum Arithmetic {
     Sum,
     Difference,
     Less,
+}
+
+/// A node whose last part is worked once for each element of an array.
+#[derive(Clone, Copy, PartialEq, Eq, Debug)]
+pub enum Loop {
+    Map,
+    Filter,
+    Reduce,
 }
 
 /// A node of a function's body, with its number in the file.
@@ -32,8 +38,26 @@ pub enum Form {
     Literal(usize, Vec<Node>),
     Index(Box<[Node; 2]>),
     Length(Box<Node>),
+    Iota(Box<Node>),
+    Replicate(Box<[Node; 2]>),
     If(Box<[Node; 3]>),
-    Map(usize, Box<[Node; 2]>),
+    /// with the names of a pass and, after the other parts, the body
+    Loop(Loop, Vec<usize>, Vec<Node>),
+}
+
+impl Form {
+    /// All parts, in order. Names that it binds reach the last alone.
+    pub fn parts(&self) -> &[Node] {
+        match self {
+            Form::Number(_) | Form::Name(_) => &[],
+            Form::Length(part) | Form::Iota(part) => std::slice::from_ref(part),
+            Form::Arithmetic(_, parts) | Form::Let(_, parts) | Form::Index(parts) | Form::Replicate(parts) => {
+                parts.as_slice()
+            }
+            Form::If(parts) => parts.as_slice(),
+            Form::Call(_, parts) | Form::Literal(_, parts) | Form::Loop(_, _, parts) => parts,
+        }
+    }
 }
 
 #[derive(Clone, Debug)]
@@ -58,32 +82,14 @@ pub struct Refusal {
     pub nodes: BTreeSet<usize>,
 }
 
-fn refusal(number: u64, node: usize) -> Refusal {
+pub fn refusal(number: u64, node: usize) -> Refusal {
     Refusal { number, nodes: BTreeSet::from([node]) }
 }
 
-/// The script of a file, or its refusal 1 to 8.
-pub fn judge(file: &[u8]) -> Result<Vec<Function>, Refusal> {
-    let functions = read(file)?;
-    let unknown = name_faults(&functions);
-    if !unknown.is_empty() {
-        return Err(Refusal { number: 6, nodes: unknown });
-    }
-    let mismatched = type_faults(&functions);
-    if !mismatched.is_empty() {
-        return Err(Refusal { number: 7, nodes: mismatched });
-    }
-    for function in &functions {
-        if function.parameters.len() + new_names(&function.body) > NEW_NAMES_MAX {
-            return Err(refusal(8, function.at));
-        }
-    }
-    Ok(functions)
-}
+// ---- Reading ----
 
-// ---- Reading: refusals 1 to 5 ----
-
-fn read(file: &[u8]) -> Result<Vec<Function>, Refusal> {
+/// The tree of a file, or its refusal 1 to 5.
+pub fn read(file: &[u8]) -> Result<Vec<Function>, Refusal> {
     if file.len() < 4 {
         return Err(refusal(1, 0));
     }
@@ -114,6 +120,9 @@ struct Reader {
     at: usize,
 }
 
+/// The kinds that a part may have.
+const PARTS: [u8; 16] = [2, 3, 4, 5, 6, 7, 8, 9, 10, 11, 12, 13, 17, 18, 19, 20];
+
 /// An operand as `low + 256 * high`, if both are in range.
 fn halves(operand: i64, low_max: i64, high_max: i64) -> Option<(usize, usize)> {
     let (low, high) = (operand.rem_euclid(256), operand.div_euclid(256));
@@ -122,7 +131,7 @@ fn halves(operand: i64, low_max: i64, high_max: i64) -> Option<(usize, usize)> {
 
 impl Reader {
     /// The node at hand: its kind must be allowed, its operand in range.
-    fn row(&self, allowed: std::ops::RangeInclusive<u8>) -> Result<(u8, i64, (usize, usize)), Refusal> {
+    fn row(&self, allowed: &[u8]) -> Result<(u8, i64, (usize, usize)), Refusal> {
         let Some(&(kind, operand)) = self.rows.get(self.at) else {
             return Err(refusal(3, self.rows.len()));
         };
@@ -133,21 +142,22 @@ impl Reader {
             0 => halves(operand, 8, 4),
             1 => halves(operand, 255, 4),
             2 => Some((0, 0)),
-            3 | 7 | 13 => halves(operand, 255, 0),
+            3 | 7 | 13 | 19 => halves(operand, 255, 0),
             8 => halves(operand, 31, 8),
             9 => halves(operand, 16, 3),
+            20 => halves(operand, 255, 255),
             _ => halves(operand, 0, 0),
         };
         parts.map(|parts| (kind, operand, parts)).ok_or_else(|| refusal(4, self.at))
     }
 
     fn function(&mut self) -> Result<Function, Refusal> {
-        let (_, _, (count, depth)) = self.row(0..=0)?;
+        let (_, _, (count, depth)) = self.row(&[0])?;
         let at = self.at;
         self.at += 1;
         let mut parameters = Vec::new();
         for _ in 0..count {
-            let (_, _, (name, depth)) = self.row(1..=1)?;
+            let (_, _, (name, depth)) = self.row(&[1])?;
             parameters.push(Parameter { at: self.at, name, depth });
             self.at += 1;
         }
@@ -156,7 +166,7 @@ impl Reader {
     }
 
     fn node(&mut self, level: usize) -> Result<Node, Refusal> {
-        let (kind, operand, (low, high)) = self.row(2..=13)?;
+        let (kind, operand, (low, high)) = self.row(&PARTS)?;
         let at = self.at;
         if level > LEVELS_MAX {
             return Err(refusal(5, at));
@@ -166,8 +176,8 @@ impl Reader {
             2 | 3 => 0,
             8 => high,
             9 => low,
-            11 => 1,
-            12 => 3,
+            11 | 17 => 1,
+            12 | 20 => 3,
             _ => 2,
         };
         let mut parts = (0..count).map(|_| self.node(level + 1)).collect::<Result<Vec<_>, _>>()?;
@@ -183,7 +193,11 @@ impl Reader {
             10 => Form::Index(boxed(parts)),
             11 => Form::Length(Box::new(parts.remove(0))),
             12 => Form::If(boxed(parts)),
-            _ => Form::Map(low, boxed(parts)),
+            13 => Form::Loop(Loop::Map, vec![low], parts),
+            17 => Form::Iota(Box::new(parts.remove(0))),
+            18 => Form::Replicate(boxed(parts)),
+            19 => Form::Loop(Loop::Filter, vec![low], parts),
+            _ => Form::Loop(Loop::Reduce, vec![low, high], parts),
         };
         Ok(Node { at, form })
     }
@@ -191,165 +205,4 @@ impl Reader {
 
 fn boxed<const N: usize>(parts: Vec<Node>) -> Box<[Node; N]> {
     Box::new(parts.try_into().unwrap())
-}
-
-// ---- Names: refusal 6 ----
-
-/// What each of the 256 names is bound to, where it is known.
-type Scope<T> = [Option<T>; 256];
-
-fn bound<T: Clone>(scope: &Scope<T>, name: usize, to: T) -> Scope<T> {
-    let mut inner = scope.clone();
-    inner[name] = Some(to);
-    inner
-}
-
-fn name_faults(functions: &[Function]) -> BTreeSet<usize> {
-    let mut faults = BTreeSet::new();
-    for function in functions {
-        let mut scope: Scope<()> = [None; 256];
-        for parameter in &function.parameters {
-            if scope[parameter.name].replace(()).is_some() {
-                faults.insert(parameter.at);
-            }
-        }
-        names_in(&function.body, &scope, functions.len(), &mut faults);
-    }
-    faults
-}
-
-fn names_in(node: &Node, scope: &Scope<()>, functions: usize, faults: &mut BTreeSet<usize>) {
-    match &node.form {
-        Form::Number(_) => {}
-        Form::Name(name) => {
-            if scope[*name].is_none() {
-                faults.insert(node.at);
-            }
-        }
-        Form::Let(name, parts) | Form::Map(name, parts) => {
-            names_in(&parts[0], scope, functions, faults);
-            names_in(&parts[1], &bound(scope, *name, ()), functions, faults);
-        }
-        Form::Call(function, parts) => {
-            if *function >= functions {
-                faults.insert(node.at);
-            }
-            parts.iter().for_each(|part| names_in(part, scope, functions, faults));
-        }
-        Form::Literal(_, parts) => parts.iter().for_each(|part| names_in(part, scope, functions, faults)),
-        Form::Arithmetic(_, parts) | Form::Index(parts) => {
-            parts.iter().for_each(|part| names_in(part, scope, functions, faults))
-        }
-        Form::Length(part) => names_in(part, scope, functions, faults),
-        Form::If(parts) => parts.iter().for_each(|part| names_in(part, scope, functions, faults)),
-    }
-}
-
-// ---- Depths: refusal 7 ----
-
-/// Functions as seen by a call, and the nodes found that break the rule.
-struct Depths<'a> {
-    functions: &'a [Function],
-    faults: BTreeSet<usize>,
-}
-
-fn type_faults(functions: &[Function]) -> BTreeSet<usize> {
-    let mut depths = Depths { functions, faults: BTreeSet::new() };
-    let main = &functions[0];
-    let shape: Vec<usize> = main.parameters.iter().map(|parameter| parameter.depth).collect();
-    if shape != [main.depth, 1] {
-        depths.faults.insert(main.at);
-    }
-    for function in functions {
-        let mut scope: Scope<Option<usize>> = [None; 256];
-        for parameter in &function.parameters {
-            scope[parameter.name] = Some(Some(parameter.depth));
-        }
-        if depths.of(&function.body, &scope).is_some_and(|depth| depth != function.depth) {
-            depths.faults.insert(function.at);
-        }
-    }
-    depths.faults
-}
-
-impl Depths<'_> {
-    /// The depth of a node, or none where it or a part of it breaks the rule.
-    fn of(&mut self, node: &Node, scope: &Scope<Option<usize>>) -> Option<usize> {
-        match &node.form {
-            Form::Number(_) => Some(0),
-            Form::Name(name) => scope[*name].flatten(),
-            Form::Arithmetic(_, parts) => {
-                let depths = self.all(parts.as_slice(), scope)?;
-                self.expect(node, depths == [0, 0], 0)
-            }
-            Form::Let(name, parts) => {
-                let first = self.of(&parts[0], scope);
-                let second = self.of(&parts[1], &bound(scope, *name, first));
-                first.and(second)
-            }
-            Form::Call(function, parts) => {
-                let depths = self.all(parts, scope)?;
-                let callee = &self.functions[*function];
-                let wanted: Vec<usize> = callee.parameters.iter().map(|parameter| parameter.depth).collect();
-                self.expect(node, depths == wanted, callee.depth)
-            }
-            Form::Literal(depth, parts) => {
-                let depths = self.all(parts, scope)?;
-                self.expect(node, depths.iter().all(|found| found == depth), depth + 1)
-            }
-            Form::Index(parts) => {
-                let depths = self.all(parts.as_slice(), scope)?;
-                self.expect(node, depths[0] > 0 && depths[1] == 0, depths[0].saturating_sub(1))
-            }
-            Form::Length(part) => {
-                let depth = self.of(part, scope)?;
-                self.expect(node, depth > 0, 0)
-            }
-            Form::If(parts) => {
-                let depths = self.all(parts.as_slice(), scope)?;
-                self.expect(node, depths[0] == 0 && depths[1] == depths[2], depths[1])
-            }
-            Form::Map(name, parts) => self.of_map(node, *name, parts, scope),
-        }
-    }
-
-    fn of_map(&mut self, node: &Node, name: usize, parts: &[Node; 2], scope: &Scope<Option<usize>>) -> Option<usize> {
-        let array = self.of(&parts[0], scope);
-        let element = array.and_then(|depth| depth.checked_sub(1));
-        let body = self.of(&parts[1], &bound(scope, name, element));
-        if array == Some(0) {
-            self.faults.insert(node.at);
-            return None;
-        }
-        array?;
-        let body = body?;
-        self.expect(node, body < DEPTH_MAX, body + 1)
-    }
-
-    /// The depths of all parts; each part is looked at, also past one without depth.
-    fn all(&mut self, parts: &[Node], scope: &Scope<Option<usize>>) -> Option<Vec<usize>> {
-        let depths: Vec<Option<usize>> = parts.iter().map(|part| self.of(part, scope)).collect();
-        depths.into_iter().collect()
-    }
-
-    fn expect(&mut self, node: &Node, holds: bool, depth: usize) -> Option<usize> {
-        if !holds {
-            self.faults.insert(node.at);
-        }
-        holds.then_some(depth)
-    }
-}
-
-// ---- New names: refusal 8 ----
-
-fn new_names(node: &Node) -> usize {
-    match &node.form {
-        Form::Number(_) | Form::Name(_) => 0,
-        Form::Let(_, parts) => parts.iter().map(new_names).sum(),
-        Form::Arithmetic(_, parts) | Form::Index(parts) => 1 + parts.iter().map(new_names).sum::<usize>(),
-        Form::Call(_, parts) | Form::Literal(_, parts) => 1 + parts.iter().map(new_names).sum::<usize>(),
-        Form::Length(part) => 1 + new_names(part),
-        Form::If(parts) => 1 + parts.iter().map(new_names).sum::<usize>(),
-        Form::Map(_, parts) => 2 + parts.iter().map(new_names).sum::<usize>(),
-    }
 }

@@ -9,8 +9,8 @@ use Rattle.cross_ledger.proofs.+same_value.Lts-same_value as same-value
 use Rattle.cross_ledger.proofs.cell_of.Reads as cell-of-reads
 use Rattle.cross_ledger.proofs.element_in.Reads as element-in-reads
 use Rattle.cross_ledger.proofs.has_head.Reads as has-head-reads
-use Rattle.cross_values.proofs.arena.element_at.Reads as element-at-reads
-use Rattle.cross_values.proofs.arena.length_at.Reads as length-at-reads
+use Rattle.cross_values.proofs.arrays.element_at.Reads as element-at-reads
+use Rattle.cross_values.proofs.arrays.length_at.Reads as length-at-reads
 use Rattle.cross_values.proofs.signed.Reads as signed-reads
 use Rattle.cross_ledger.proofs.+same_value.{statement}
 use Rattle.cross_ledger.proofs.+same_value.Tie.{close}
@@ -27,10 +27,10 @@ same-value-below t =
     and 3 same-value-kinds.ps (falls 3 same-value-kinds.ps _<_ μ-same-value t) same-value.Pre
 
 abbrev same-value-Inv-loop : same-value-lts.InvT-loop
-same-value-Inv-loop slots heads memory held value depth cell count i₀ i = Unit {0}
+same-value-Inv-loop slots heads ledger held value depth cell count i₀ i = Unit {0}
 
 abbrev same-value-μ-loop : same-value-lts.MeasureT-loop
-same-value-μ-loop slots heads memory held value depth cell count i₀ i = count - i
+same-value-μ-loop slots heads ledger held value depth cell count i₀ i = count - i
 
 pub +same-value-spec : {M : Type 1} → statement M
 +same-value-spec = close μ-same-value λ t. same-value-lts.spec (

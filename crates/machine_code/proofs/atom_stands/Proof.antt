@@ -1,3 +1,4 @@
+-- `machine_code::atom_stands` meets its contract.
 use borrow.Author.Tests.{ne-eqb}
 use borrow.Author.Needs.{needs}
 use Rattle.machine_code.proofs.atom_stands.Statement.{statement}

@@ -1,3 +1,4 @@
+-- `machine_code::byte_at` meets its contract.
 use mathlib.Core.Path.{sym, refl}
 use native.Mathlib.Omega.{arith}
 use lib.ListN.{List·getD-eq-default}

@@ -1,3 +1,4 @@
+-- `machine_code::depth_in` meets its contract.
 use Rattle.machine_code.specs.Reading.{depth-in}
 use borrow.Author.Needs.{needs}
 use Rattle.machine_code.proofs.depth_in.Statement.{statement}

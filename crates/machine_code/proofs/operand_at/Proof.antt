@@ -1,3 +1,4 @@
+-- `machine_code::operand_at` meets its contract.
 use mathlib.Core.Path.{sym}
 use lib.IntN.{pos}
 use lib.ListN.{List·getD-eq-default}

@@ -1,3 +1,4 @@
+-- `machine_code::start_in` meets its contract.
 use native.Mathlib.Omega.{arith}
 use Rattle.machine_code.specs.Reading.{start-in}
 use borrow.Author.Needs.{needs}

@@ -1,3 +1,4 @@
+-- `machine_delivery::attempt` meets its contract.
 use mir.Facts.{toZ-ofZ}
 use native.Mathlib.Omega.{arith}
 use mathlib.Core.Path.{_∙_}

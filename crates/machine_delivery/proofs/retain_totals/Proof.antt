@@ -1,3 +1,4 @@
+-- `machine_delivery::retain_totals` meets its contract.
 use mir.Facts.{toZ-ofZ}
 use Rattle.semantics.specs.Words.{store-of}
 use Rattle.machine_delivery.proofs.Laws.{retain-some, retain-none}

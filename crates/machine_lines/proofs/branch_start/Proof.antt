@@ -1,3 +1,4 @@
+-- `machine_lines::branch_start` meets its contract.
 use Rattle.machine_lines.proofs.Gathering.{guard-zero, guard-not}
 use borrow.Author.Needs.{needs}
 use Rattle.machine_lines.proofs.branch_start.Statement.{statement}

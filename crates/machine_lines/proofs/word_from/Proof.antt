@@ -1,3 +1,4 @@
+-- `machine_lines::word_from` meets its contract.
 use native.Mathlib.Omega.{arith}
 use Prim.Native.Nat.{_^_}
 use borrow.Author.Tests.{lt-ltb}

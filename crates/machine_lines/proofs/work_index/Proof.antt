@@ -1,3 +1,4 @@
+-- `machine_lines::work_index` meets its contract.
 use mir.Facts.{toZ-ofZ}
 use Rattle.semantics.specs.Words.{store-of}
 use Rattle.store_words.proofs.Naming.{not-negative}

@@ -1,88 +1,116 @@
+-- `machine_lines::work_leaf` meets its contract: one law for each kind of leaf.
 use mir.Facts.{toZ-ofZ}
 use Rattle.semantics.specs.Words.{store-of}
 use Rattle.machine_lines.specs.Lines.{memory}
-use Rattle.machine_lines.proofs.Lines.{leaf-operation, leaf-index, leaf-length, leaf-literal, leaf-retain}
-use Rattle.machine_lines.proofs.Lines.{leaf-release, leaf-other}
+use Rattle.machine_lines.proofs.Lines.{leaf-operation, leaf-index, leaf-length, leaf-literal, leaf-iota}
+use Rattle.machine_lines.proofs.Lines.{leaf-replicate, leaf-retain, leaf-release, leaf-other}
 use borrow.Author.Needs.{needs}
 use Rattle.machine_lines.proofs.work_leaf.Statement.{statement}
 use Rattle.machine_lines.proofs.work_leaf.Tie as tie
 
 returns : tie.Need-returns
 returns c =
-    let a = c .before .before .before .before .before .before .before .args in
-    let read = c .before .before .before .l in
-    leaf-operation (a .kinds .now) (a .operands .now) (a .calls) (a .at) (a .steps) (memory (store-of (a .slots .now)
-    (a .heads .now)) (a .env .now)) (a .l) (read .given .0 .0) (read .given .0 .1 .0) (read .given .0 .1 .1 .0)
-    (read .given .0 .1 .1 .1 .0) (read .given .1) (c .work-operation .result) (c .work-operation .last .0)
+    let at-l = c .before .before .before in
+    let a = at-l .before .before .before .before .before .args in
+    let read = at-l .l .given in
+    leaf-operation (a .kinds .now) (a .operands .now) (a .table .now) (a .calls) (a .at) (a .steps)
+    (memory (store-of (a .slots .now) (a .heads .now)) (a .env .now)) (a .l) (read .0 .0) (read .0 .1 .0)
+    (read .0 .1 .1 .0) (read .0 .1 .1 .1 .0) (read .1) (c .work-operation .result) (c .work-operation .last .0)
     (c .work-operation .ensures)
 
 returns-2 : tie.Need-returns-2
 returns-2 c =
-    let a = c .before .before .before .before .before .before .before .before .before .before .before .before .args in
-    leaf-literal (a .kinds .now) (a .operands .now) (a .calls) (a .at) (a .steps) (memory (store-of (a .slots .now)
-    (a .heads .now)) (a .env .now)) (a .l) (c .before .before .before .before .before .before
-    .before .before .l2 .given .0 .0) (c .before .before .before .before .before .before
-    .before .before .l2 .given .0 .1 .0) (c .before .before .before .before .before .before
-    .before .before .l2 .given .1) _ (c .before .before .before .work-literal .ensures)
+    let at-work-literal = c .before .before .before in
+    let at-l = at-work-literal .before .before .before .before .before in
+    let a = at-l .before .before .before .before .before .args in
+    let read = at-l .l2 .given in
+    leaf-literal (a .kinds .now) (a .operands .now) (a .table .now) (a .calls) (a .at) (a .steps)
+    (memory (store-of (a .slots .now) (a .heads .now)) (a .env .now)) (a .l) (read .0 .0) (read .0 .1 .0) (read .1) _
+    (at-work-literal .work-literal .ensures)
 
 returns-3 : tie.Need-returns-3
 returns-3 c =
-    let a = c .before .before .before .before .before .before .before .before .before .args in
-    leaf-index (a .kinds .now) (a .operands .now) (a .calls) (a .at) (a .steps) (memory (store-of (a .slots .now)
-    (a .heads .now)) (a .env .now)) (a .l) (c .before .before .before .before .before .l3 .given .0 .0)
-    (c .before .before .before .before .before .l3 .given .0 .1 .0) (c .before .before .before .before .before .l3
-    .given .0 .1 .1 .0) (c .before .before .before .before .before .l3 .given .1) (c .work-index .result)
-    (c .work-index .last .1 .1 .0) (c .work-index .ensures)
+    let at-l = c .before .before .before .before .before in
+    let a = at-l .before .before .before .before .before .args in
+    let read = at-l .l3 .given in
+    leaf-index (a .kinds .now) (a .operands .now) (a .table .now) (a .calls) (a .at) (a .steps)
+    (memory (store-of (a .slots .now) (a .heads .now)) (a .env .now)) (a .l) (read .0 .0) (read .0 .1 .0)
+    (read .0 .1 .1 .0) (read .1) (c .work-index .result) (c .work-index .last .1 .1 .0) (c .work-index .ensures)
 
 returns-4 : tie.Need-returns-4
 returns-4 c =
-    let a = c .before .before .before .before .before .before .before .before .before .args in
-    leaf-length (a .kinds .now) (a .operands .now) (a .calls) (a .at) (a .steps) (memory (store-of (a .slots .now)
-    (a .heads .now)) (a .env .now)) (a .l) (c .before .before .before .before .before .l4 .given .0 .0)
-    (c .before .before .before .before .before .l4 .given .0 .1 .0) (c .before .before .before .before .before .l4
-    .given .1) (c .work-length .result) (c .work-length .last .1 .1 .0) (c .work-length .ensures)
+    let at-l = c .before .before .before .before .before in
+    let a = at-l .before .before .before .before .before .args in
+    let read = at-l .l4 .given in
+    leaf-length (a .kinds .now) (a .operands .now) (a .table .now) (a .calls) (a .at) (a .steps)
+    (memory (store-of (a .slots .now) (a .heads .now)) (a .env .now)) (a .l) (read .0 .0) (read .0 .1 .0) (read .1)
+    (c .work-length .result) (c .work-length .last .1 .1 .0) (c .work-length .ensures)
 
 returns-5 : tie.Need-returns-5
 returns-5 c =
-    let a = c .before .before .before .before .before .before .before .before .before .before .before .before
-    .before .before .args in
-    let word = c .before .before .before .before .before .before .before .word-of in
-    let cell = c .before .before .before .before .before .before .named-cell in
-    leaf-retain (a .kinds .now) (a .operands .now) (a .calls) (a .at) (a .steps) (memory (store-of (a .slots .now)
-    (a .heads .now)) (a .env .now)) (a .l) (c .before .before .before .before .before .before
-    .before .before .before .before .l5 .given .0 .0) (word .result) (word .ensures) (cell .result) (rw (toZ-ofZ {z
-    = word .result} (record { sfits = word .ok })) at (cell .ensures)) _ (c .done .result) (c .done .ensures)
-    (c .before .before .before .before .before .before .before .before .before .before .l5 .given .1)
-    (c .before .before .before .retain .ensures)
+    let at-work-iota = c .before .before .before in
+    let at-l = at-work-iota .before .before .before .before .before in
+    let a = at-l .before .before .before .before .before .args in
+    let read = at-l .l5 .given in
+    leaf-iota (a .kinds .now) (a .operands .now) (a .table .now) (a .calls) (a .at) (a .steps)
+    (memory (store-of (a .slots .now) (a .heads .now)) (a .env .now)) (a .l) (read .0 .0) (read .0 .1 .0) (read .1) _
+    (at-work-iota .work-iota .ensures)
 
 returns-6 : tie.Need-returns-6
 returns-6 c =
-    let a = c .before .before .before .before .before .before .before .before .before .before .before .before
-    .before .before .before .args in
-    let word2 = c .before .before .before .before .before .before .before .before .word-of2 in
-    leaf-release (a .kinds .now) (a .operands .now) (a .calls) (a .at) (a .steps) (memory (store-of (a .slots .now)
-    (a .heads .now)) (a .env .now)) (a .l) (c .before .before .before .before .before .before
-    .before .before .before .before .before .l6 .given .0 .0) (word2 .result) (word2 .ensures)
-    (c .before .before .before .before .before .before .before .named-cell2 .result) (rw (toZ-ofZ {z =
-    word2 .result} (record { sfits = word2 .ok })) at (c .before .before .before .before .before .before
-    .before .named-cell2 .ensures)) _ (c .done2 .result) (c .done2 .ensures)
-    (c .before .before .before .before .before .before .before .before .before .before .before .l6 .given .1)
-    (c .before .before .before .before .release .ensures)
+    let at-work-replicate = c .before .before .before in
+    let at-l = at-work-replicate .before .before .before .before .before in
+    let a = at-l .before .before .before .before .before .args in
+    let read = at-l .l6 .given in
+    leaf-replicate (a .kinds .now) (a .operands .now) (a .table .now) (a .calls) (a .at) (a .steps)
+    (memory (store-of (a .slots .now) (a .heads .now)) (a .env .now)) (a .l) (read .0 .0) (read .0 .1 .0)
+    (read .0 .1 .1 .0) (read .1) _ (at-work-replicate .work-replicate .ensures)
 
 returns-7 : tie.Need-returns-7
 returns-7 c =
-    let a = c .before .before .before .before .args in
-    leaf-other (a .kinds .now) (a .operands .now) (a .calls) (a .at) (memory (store-of (a .slots .now)
-    (a .heads .now)) (a .env .now)) (a .steps) (a .l) (c .before .match .keys7) (c .halted .result) (c .halted .ensures)
+    let at-retain = c .before .before .before in
+    let at-named-cell = at-retain .before .before .before in
+    let at-word-of = at-named-cell .before in
+    let at-l = at-word-of .before .before .before in
+    let a = at-l .before .before .before .before .before .args in
+    let word = at-word-of .word-of in
+    let cell = at-named-cell .named-cell in
+    leaf-retain (a .kinds .now) (a .operands .now) (a .table .now) (a .calls) (a .at) (a .steps)
+    (memory (store-of (a .slots .now) (a .heads .now)) (a .env .now)) (a .l) (at-l .l7 .given .0 .0) (word .result)
+    (word .ensures) (cell .result) (rw (toZ-ofZ {z = word .result} (record { sfits = word .ok })) at (cell .ensures)) _
+    (c .done .result) (c .done .ensures) (at-l .l7 .given .1) (at-retain .retain .ensures)
+
+returns-8 : tie.Need-returns-8
+returns-8 c =
+    let at-release = c .before .before .before .before in
+    let at-named-cell = at-release .before .before .before in
+    let at-word-of = at-named-cell .before in
+    let at-l = at-word-of .before .before .before in
+    let a = at-l .before .before .before .before .before .args in
+    let word = at-word-of .word-of2 in
+    let cell = at-named-cell .named-cell2 in
+    leaf-release (a .kinds .now) (a .operands .now) (a .table .now) (a .calls) (a .at) (a .steps)
+    (memory (store-of (a .slots .now) (a .heads .now)) (a .env .now)) (a .l) (at-l .l8 .given .0 .0) (word .result)
+    (word .ensures) (cell .result) (rw (toZ-ofZ {z = word .result} (record { sfits = word .ok })) at (cell .ensures)) _
+    (c .done2 .result) (c .done2 .ensures) (at-l .l8 .given .1) (at-release .release .ensures)
+
+returns-9 : tie.Need-returns-9
+returns-9 c =
+    let a = c .before .before .before .before .before .args in
+    leaf-other (a .kinds .now) (a .operands .now) (a .table .now) (a .calls) (a .at)
+    (memory (store-of (a .slots .now) (a .heads .now)) (a .env .now)) (a .steps) (a .l) (c .before .match .keys9)
+    (c .halted .result) (c .halted .ensures)
 
 pub work-leaf-spec : {M : Type 1} → statement M
 work-leaf-spec =
     tie.close
     (tie.spec (λ c. search needs) (λ c. search needs) (λ c κs. search needs) (λ c. search needs)
     (λ c κs. search needs) (λ c. search needs) (λ c. search needs) (λ c κs. search needs) (λ c. search needs)
-    (λ c. search needs) (λ c κs. search needs) (λ c. search needs) (λ c κs. search needs) (λ c κs. search needs)
-    (λ c κs. search needs) (λ c. search needs) (λ c κs. search needs) (λ c. search needs) (λ c κs. search needs)
-    (λ c κs. search needs) (λ c κs. search needs) (λ c. search needs) (λ c κs. search needs) (λ c κs. search needs)
-    returns (λ c. search needs) (λ c. search needs) returns-2 (λ c. search needs) (λ c. search needs) returns-3
-    (λ c. search needs) (λ c. search needs) returns-4 (λ c. search needs) (λ c. search needs) returns-5
-    (λ c. search needs) (λ c. search needs) returns-6 returns-7)
+    (λ c. search needs) (λ c κs. search needs) (λ c. search needs) (λ c. search needs) (λ c κs. search needs)
+    (λ c. search needs) (λ c. search needs) (λ c κs. search needs) (λ c. search needs) (λ c κs. search needs)
+    (λ c κs. search needs) (λ c κs. search needs) (λ c. search needs) (λ c κs. search needs) (λ c. search needs)
+    (λ c κs. search needs) (λ c κs. search needs) (λ c κs. search needs) (λ c. search needs) (λ c κs. search needs)
+    (λ c κs. search needs) returns (λ c. search needs) (λ c. search needs) returns-2 (λ c. search needs)
+    (λ c. search needs) returns-3 (λ c. search needs) (λ c. search needs) returns-4 (λ c. search needs)
+    (λ c. search needs) returns-5 (λ c. search needs) (λ c. search needs) returns-6 (λ c. search needs)
+    (λ c. search needs) returns-7 (λ c. search needs) (λ c. search needs) returns-8 returns-9)

@@ -1,3 +1,4 @@
+-- `machine_lines::work_length` meets its contract.
 use mir.Facts.{toZ-ofZ}
 use native.Mathlib.Omega.{arith}
 use mathlib.Core.Path.{ap, _∙_}

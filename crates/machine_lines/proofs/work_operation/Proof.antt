@@ -1,3 +1,4 @@
+-- `machine_lines::work_operation` meets its contract.
 use mir.Facts.{toZ-ofZ}
 use Rattle.machine_lines.proofs.Lines.{operation-spent, operation-value, operation-over}
 use borrow.Author.Needs.{needs}

@@ -1,3 +1,4 @@
+-- `machine_table::fill` meets its contract.
 use Rattle.machine_table.proofs.Filling.{filled-short, filled-long}
 use borrow.Author.Needs.{needs}
 use Rattle.machine_table.proofs.fill.Statement.{statement}

@@ -1,6 +1,9 @@
 -- `machine_table::fill_starts` meets its contract.
 use native.Mathlib.Omega.{arith}
+use mathlib.Core.Path.{ap, _∙_}
 use Prim.Native.Nat.{_-_}
+use mir.Facts.{toZ-ofZ}
+use Rattle.machine_code.specs.Reading.{low-bits}
 use Rattle.machine_table.proofs.Filling.{Filling, filling-starts, filled-all, filled-past, fill-more}
 use borrow.Author.Needs.{needs}
 use Rattle.machine_table.proofs.fill_starts.Statement.{statement}
@@ -25,43 +28,43 @@ returns c = filled-past (c .before .before .loop .inv) (c .if1 .taken)
 mul-put-position : tie.Need-mul-put-position Inv-loop μ-loop
 mul-put-position c = omega (
   arith,
-  c .before .before .before .loop-test .taken,
-  c .before .before .before .before
-      .before .before .before .pre,
+  c .before .before .before .before .loop-test .taken,
+  c .before .before .before .before .before .before .before .before .pre,
 )
 
 add-put-position : tie.Need-add-put-position Inv-loop μ-loop
 add-put-position c = omega (
   arith,
-  c .before .before .before .loop-test .taken,
-  c .before .before .before .before
-      .before .before .before .pre,
+  c .before .before .before .before .loop-test .taken,
+  c .before .before .before .before .before .before .before .before .pre,
 )
 
 put-position-requires : tie.Need-put-position-requires Inv-loop μ-loop
 put-position-requires c κs = omega (
   arith,
-  c .before .before .before .loop-test .taken,
-  c .before .before .before
-      .before .before .before .before .pre,
+  c .before .before .before .before .loop-test .taken,
+  c .before .before .before .before .before .before .before .before .pre,
 )
 
 add-f : tie.Need-add-f Inv-loop μ-loop
-add-f c = omega (
-  arith,
-  c .before .before .before .before .before .before .before .before .loop-test .taken,
-  c
-      .before .before .before .before .before .before .before .before .before .before .before .before .pre,
-)
+add-f c =
+    let at-loop-test = c .before .before .before .before .before .before .before .before .before in
+    let start = at-loop-test .before .before .before .before in
+    omega (arith, at-loop-test .loop-test .taken, start .pre)
 
 loop-again : tie.Need-loop-again Inv-loop μ-loop
-loop-again c = fill-more (c .before .before .before .before .before .before .before .before .before .loop .inv) (c
-    .before .before .before .before .before .before .before .before .loop-test .taken) (c .before .before .before
-    .before .before .before .before .if1 .left) (c .before .before .before .before .before .before .natural-at
-    .result)
-    (c .before .before .before .before .before .before .natural-at .ensures) (c .before .before .before .before
-    .put-position .last .0) (c .end-in .result) (c .before .before .before .before .put-position .ensures)
-    (c .end-in .ensures .0)
+loop-again c =
+    let at-put-position = c .before .before .before .before in
+    let at-low-bits = at-put-position .before .before in
+    let at-operand-at = at-low-bits .before in
+    let at-if1 = at-operand-at .before in
+    let at-loop-test = at-if1 .before in
+    let operand = at-operand-at .operand-at in
+    fill-more (at-loop-test .before .loop .inv) (at-loop-test .loop-test .taken) (at-if1 .if1 .left)
+    (at-low-bits .low-bits .result)
+    (rw (toZ-ofZ {z = operand .result} (record { sfits = operand .ok })) at (at-low-bits .low-bits .ensures)
+    ∙ ap low-bits (operand .ensures)) (at-put-position .put-position .last .0) (c .end-in .result)
+    (at-put-position .put-position .ensures) (c .end-in .ensures .0)
 
 same-length-2 : tie.Need-same-length-2 Inv-loop μ-loop
 same-length-2 c = c .before .loop .inv .long
@@ -72,6 +75,6 @@ returns-2 c = filled-all (c .before .loop .inv) (omega arith)
 pub fill-starts-spec : {M : Type 1} → statement M
 fill-starts-spec =
     tie.close
-    (tie.spec Inv-loop μ-loop loop-holds same-length returns (λ c κs. search needs) (λ c. search needs)
-    (λ c. search needs) mul-put-position add-put-position put-position-requires (λ c κs. search needs) add-f
-    (λ c. search needs) loop-again same-length-2 returns-2)
+    (tie.spec Inv-loop μ-loop loop-holds same-length returns (λ c κs. search needs) (λ c κs. search needs)
+    (λ c. search needs) (λ c. search needs) mul-put-position add-put-position put-position-requires
+    (λ c κs. search needs) add-f (λ c. search needs) loop-again same-length-2 returns-2)

@@ -1,3 +1,4 @@
+-- `machine_table::put` meets its contract.
 use mathlib.Core.Path.{sym}
 use lib.Seq.{set-out}
 use borrow.Author.Needs.{needs}

@@ -2,7 +2,7 @@ use Prim.Native.Nat.{_≤_}
 use native.Mathlib.Omega.{arith}
 use Rattle.normal_code.specs.Plain.{set-of}
 use Rattle.normal_code.specs.Parts.{depth-in}
-use Rattle.normal_code.specs.Walk.{below}
+use Rattle.normal_code.specs.Parts.{below}
 use Rattle.normal_write.specs.Wrote.{Wrote, Room}
 use Rattle.normal_write.proofs.Rows.{wrote-then, wrote-as, lower}
 use Rattle.normal_write.proofs.Names.{releases-from, release-none, release-below, release-all}

@@ -4,11 +4,12 @@ use borrow.Author.Needs.{needs}
 use Rattle.script_count.proofs.new_names.Statement.{statement}
 use Rattle.script_count.proofs.new_names.Tie as tie
 
-returns-11 : tie.Need-returns-11
-returns-11 c = no-name _ (c .match .rest)
+returns-15 : tie.Need-returns-15
+returns-15 c = no-name _ (c .match .rest)
 
 pub new-names-spec : {M : Type 1} → statement M
 new-names-spec =
     tie.close
     (tie.spec (λ c. search needs) (λ c. search needs) (λ c. search needs) (λ c. search needs) (λ c. search needs)
-    (λ c. search needs) (λ c. search needs) (λ c. search needs) (λ c. search needs) (λ c. search needs) returns-11)
+    (λ c. search needs) (λ c. search needs) (λ c. search needs) (λ c. search needs) (λ c. search needs)
+    (λ c. search needs) (λ c. search needs) (λ c. search needs) (λ c. search needs) returns-15)

@@ -1,5 +1,6 @@
 -- `script_names::is_binding` meets its contract.
 use borrow.Author.Tests.{eq-eqb, ne-eqb}
+use borrow.Author.Needs.{needs}
 use Rattle.script_names.proofs.is_binding.Statement.{statement}
 use Rattle.script_names.proofs.is_binding.Tie as tie
 
@@ -7,7 +8,7 @@ returns : tie.Need-returns
 returns c = simp (eq-eqb _ _ (c .if1 .taken))
 
 returns-2 : tie.Need-returns-2
-returns-2 c = simp (ne-eqb _ _ (c .if1 .left))
+returns-2 c = simp (ne-eqb _ _ (c .before .if1 .left)) (c .is-loop .ensures)
 
 pub is-binding-spec : {M : Type 1} → statement M
-is-binding-spec = tie.close (tie.spec returns returns-2)
+is-binding-spec = tie.close (tie.spec returns (λ c κs. search needs) returns-2)

@@ -7,7 +7,8 @@ use mathlib.Core.Bool.{_&&_}
 use mathlib.Core.List.{List, [], _++_}
 use borrow.Author.Tests.{eq-eqb}
 use Rattle.semantics.specs.Basics.{with-if, occurrences}
-use Rattle.semantics.specs.Kinds.{Leaf, operation, call, literal, index, length-of, leaf-hands, leaf-reads, is-pending}
+use Rattle.semantics.specs.Kinds.{Leaf, operation, call, literal, index, length-of, iota, replicate, leaf-hands}
+use Rattle.semantics.specs.Kinds.{leaf-reads, is-pending}
 use Rattle.semantics.specs.Code.{Atom, leaf, if-else, Tree, line, retain-all, release-all}
 use Rattle.semantics.specs.Live.{Set, empty, _∪_, _∖_, only, is, among, live, live-before, uses}
 use Rattle.semantics.specs.Annotate.{NameDepths, atom-depth, is-array, dying, annotate, annotate-line}
@@ -34,6 +35,8 @@ module _ (Γ : NameDepths) where
   leaf-parts (literal d) us n = omega arith
   leaf-parts index us n = omega arith
   leaf-parts length-of us n = omega arith
+  leaf-parts iota us n = omega arith
+  leaf-parts replicate us n = omega arith
 
   module _ (few : Few Γ) (B : List ℕ) (L A : Set) (k : Tree) (same : live k L ≡ A)
       (sound : Sound Γ B k (names Γ B A) [] (names Γ B L) L) where

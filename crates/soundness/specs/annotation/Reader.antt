@@ -155,11 +155,16 @@ module _ (h : Head) (head : HeadFits at-part h) where
   free : {i : ℕ} → h .kind ≡ i → Unit {0}
   free k = tt
 
+  -- a loop's shape has as many names and parts as it should
+  looped : {i n : ℕ} → h .kind ≡ i → (n ≡ n) × (n ≡ n)
+  looped k = (refl, refl)
+
   shape-limits : ShapeLimits parts-of (shape-of h)
   unfolding part-count
   shape-limits = kind-limits 0 (h .kind) (shapes h)
       (free then free then free then free then counted 4 then counted 5 then counted 6 then free then free then
-      literal-limits then counted 10 then counted 11 then free then (λ k. (refl, refl)) then no-more) (omega arith)
+      literal-limits then counted 10 then counted 11 then free then looped then free then free then free then
+      counted 17 then counted 18 then looped then looped then no-more) (omega arith)
 
 module _ (m : Read Expr) (inner : Limits m) where
   shaped-limited : (n : ℕ) (s : Shape) → ShapeLimits n s → Limits (shaped m n s)

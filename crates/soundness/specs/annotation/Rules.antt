@@ -10,11 +10,12 @@ use lib.Dec.{eqb, leb}
 use borrow.Author.Tests.{eqb-true}
 use Rattle.laws.specs.Lists.{append-empty}
 use Rattle.semantics.specs.Basics.{with-if}
-use Rattle.semantics.specs.Kinds.{Leaf, operation, call, literal, index, length-of, Loop, mapping}
+use Rattle.semantics.specs.Kinds.{Leaf, operation, call, literal, index, length-of, iota, replicate, Loop, mapping}
+use Rattle.semantics.specs.Kinds.{filtering, reducing}
 use Rattle.semantics.specs.Types as T
 use Rattle.semantics.specs.Types.{Checked, and-more, part-depths, part-faults, Rule, ruled, is-none, breaks, node}
-use Rattle.semantics.specs.Types.{all-are, same, if-rule, index-rule, Signature, leaf-rule, loop-rule, loop-node}
-use Rattle.semantics.specs.Types.{is-number, element, depth-at, array-depth}
+use Rattle.semantics.specs.Types.{all-are, same, if-rule, index-rule, replicate-rule, Signature, leaf-rule, loop-rule}
+use Rattle.semantics.specs.Types.{loop-node, is-number, element, depth-at, and-then, array-depth}
 use Rattle.semantics.specs.Code.{Atom}
 use Rattle.semantics.specs.Annotate.{NameDepths, atom-depth, depth-of, pass-depths, leaf-depth, loop-depth}
 use Rattle.soundness.specs.machine.Discipline.{loop-arity}
@@ -45,6 +46,12 @@ length-gives [] d e = not-some d e
 length-gives (zero ∷ ds) d e = not-some d e
 length-gives (suc c ∷ ds) d e = some-same 0 d e
 
+replicate-gives : (ds : List ℕ) (d : ℕ) → replicate-rule ds ≡ some d → suc (getD ds 1 0) ≡ d
+replicate-gives [] d e = not-some d e
+replicate-gives (suc c ∷ ds) d e = not-some d e
+replicate-gives (zero ∷ []) d e = not-some d e
+replicate-gives (zero ∷ x ∷ ds) d e = some-if-holds (leb (suc x) 4) (suc x) d e .1
+
 pub leaf-gives : (signatures : ℕ → Signature) (l : Leaf) (Γ : NameDepths) (us : List Atom) (d : ℕ) →
     leaf-rule signatures l (map (atom-depth Γ) us) ≡ some d →
     leaf-depth (λ f. signatures f .result) l Γ us ≡ d
@@ -54,6 +61,8 @@ leaf-gives signatures (call f) Γ us d e =
 leaf-gives signatures (literal r) Γ us d e = some-if-holds (all-are r (map (atom-depth Γ) us)) (suc r) d e .1
 leaf-gives signatures index Γ us d e = ap pred (depth-of-map Γ us 0) ∙ index-gives (map (atom-depth Γ) us) d e
 leaf-gives signatures length-of Γ us d e = length-gives (map (atom-depth Γ) us) d e
+leaf-gives signatures iota Γ us d e = some-if-holds (all-are 0 (map (atom-depth Γ) us)) 1 d e .1
+leaf-gives signatures replicate Γ us d e = ap suc (depth-of-map Γ us 1) ∙ replicate-gives (map (atom-depth Γ) us) d e
 
 -- a loop with as many parts as it should have
 pub loop-gives : (k : Loop) (Γ : NameDepths) (us : List Atom) (a : Atom) (d : ℕ) → length us ≡ loop-arity k →
@@ -62,13 +71,25 @@ loop-gives mapping Γ [] a d h e = absurd (omega arith)
 loop-gives mapping Γ (u ∷ []) a d h e =
     some-if-holds (leb (suc (atom-depth Γ a)) 4) (suc (atom-depth Γ a)) d e .1
 loop-gives mapping Γ (u ∷ v ∷ us) a d h e = absurd (omega arith)
+loop-gives filtering Γ [] a d h e = absurd (omega arith)
+loop-gives filtering Γ (u ∷ []) a d h e = some-if-holds (eqb (atom-depth Γ a) 0) (atom-depth Γ u) d e .1
+loop-gives filtering Γ (u ∷ v ∷ us) a d h e = absurd (omega arith)
+loop-gives reducing Γ [] a d h e = absurd (omega arith)
+loop-gives reducing Γ (u ∷ []) a d h e = absurd (omega arith)
+loop-gives reducing Γ (u ∷ v ∷ []) a d h e =
+    some-if-holds (eqb (atom-depth Γ u) (atom-depth Γ a)) (atom-depth Γ u) d e .1
+loop-gives reducing Γ (u ∷ v ∷ w ∷ us) a d h e = absurd (omega arith)
 
 pub pass-gives : (k : Loop) (Γ : NameDepths) (us : List Atom) →
     pass-depths k Γ us ≡ element-depths k (map (atom-depth Γ) us)
 pass-gives mapping Γ us = λ i. pred (depth-of-map Γ us 0 i) ∷ []
+pass-gives filtering Γ us = λ i. pred (depth-of-map Γ us 0 i) ∷ []
+pass-gives reducing Γ us = λ i. depth-of-map Γ us 0 i ∷ pred (depth-of-map Γ us 1 i) ∷ []
 
 pub element-count : (k : Loop) (ds : List ℕ) → length (element-depths k ds) ≡ loop-arity k
 element-count mapping ds = refl
+element-count filtering ds = refl
+element-count reducing ds = refl
 
 -- ---- parts that have depths
 
@@ -179,9 +200,20 @@ array-found cs ds i h g e =
     let array = not-number (getD ds i 0) (ap is-number (sym at) ∙ e) in
     (array .0, ap element at ∙ array .1)
 
+-- a loop with one part and one name of a pass
+one-found : (cs : List Checked) (ds : List ℕ) → Each cs ds → length ds ≡ 1 → is-number (depth-at cs 0) ≡ false →
+    (0 < getD ds 0 0) × (element (depth-at cs 0) ∷ [] ≡ some (pred (getD ds 0 0)) ∷ [])
+one-found cs ds h n e =
+    let array = array-found cs ds 0 h (omega arith) e in
+    (array .0, (λ i. array .1 i ∷ []))
+
 pub pass-found : (k : Loop) (cs : List Checked) (ds : List ℕ) → Each cs ds → length ds ≡ loop-arity k →
     is-number (array-depth k cs) ≡ false →
     (0 < array-among k ds) × (T.pass-depths k cs ≡ map (λ d. some d) (element-depths k ds))
-pass-found mapping cs ds h n e =
-    let array = array-found cs ds 0 h (omega arith) e in
-    (array .0, (λ i. array .1 i ∷ []))
+pass-found mapping cs ds h n e = one-found cs ds h n e
+pass-found filtering cs ds h n e = one-found cs ds h n e
+pass-found reducing cs ds h n e =
+    let start = each-at cs ds 0 h (omega arith) in
+    let over = ap (λ (o : Option ℕ). is-number (and-then o (depth-at cs 1))) (sym start) ∙ e in
+    let array = array-found cs ds 1 h (omega arith) over in
+    (array .0, (λ i. start i ∷ array .1 i ∷ []))

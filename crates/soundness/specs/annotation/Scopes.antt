@@ -8,8 +8,9 @@ use mathlib.Core.List.{List, [], _∷_}
 use lib.ListN.{length}
 use borrow.Author.Tests.{eq-eqb, ltb-true}
 use Rattle.semantics.specs.Basics.{with-if, occurrences, _∈_}
-use Rattle.semantics.specs.Kinds.{Leaf, operation, call, literal, index, length-of, leaf-hands, leaf-reads, Loop}
-use Rattle.semantics.specs.Kinds.{mapping, loop-hands, loop-reads, element-name, is-pending}
+use Rattle.semantics.specs.Kinds.{Leaf, operation, call, literal, index, length-of, iota, replicate, leaf-hands}
+use Rattle.semantics.specs.Kinds.{leaf-reads, Loop, mapping, filtering, reducing, loop-hands, loop-reads, element-name}
+use Rattle.semantics.specs.Kinds.{is-pending}
 use Rattle.semantics.specs.Code.{Atom, Line, leaf, if-else, loop, retain, release, Tree, end, line, ending, retain-all}
 use Rattle.semantics.specs.Code.{release-all}
 use Rattle.semantics.specs.Live.{Set, empty, _∪_, _∖_, _∖∖_, only, just, among, live, uses, after-branch, after-pass}
@@ -56,6 +57,9 @@ just-in (p ∷ ps) n h = elim (hits n p) [
 element-in : (k : Loop) (ps : List ℕ) (n : ℕ) → n ∈ element-name k ps → n ∈ ps
 unfolding occurrences
 element-in mapping ps n h = h
+element-in filtering ps n h = h
+element-in reducing [] n h = h
+element-in reducing (p ∷ ps) n h = omega arith
 
 with-if-in : (b : Bool) (x n : ℕ) → n ∈ with-if b x [] → (n ≡ x) × (b ≡ true)
 unfolding occurrences
@@ -174,10 +178,15 @@ module _ (p : Program) where
     leaf-known (literal d) us S h = (h, tt)
     leaf-known index us S h = (tt, h)
     leaf-known length-of us S h = (tt, h)
+    leaf-known iota us S h = (tt, h)
+    leaf-known replicate us S h = (tt, h)
 
     loop-known : (k : Loop) (us : List Atom) (S : Set) → AllKnown us S →
         AllKnown (loop-hands k us) S × AllKnown (loop-reads k us) S
     loop-known mapping us S h = (tt, h)
+    loop-known filtering us S h = (tt, h)
+    loop-known reducing [] S h = (tt, tt)
+    loop-known reducing (u ∷ us) S h = ((h .0, tt), h .1)
 
     -- the outer names that a tree uses are known
     uses-known : (t : Tree) (S : Set) (c d : ℕ) → Formed functions-of Γ t S c d → (n : ℕ) → uses t n ≡ true → S n ≡ true

@@ -7,8 +7,8 @@ use mathlib.Core.Logic.{inl, inr}
 use mathlib.Core.List.{List, [], _∷_, _++_}
 use lib.ListN.{length}
 use Rattle.semantics.specs.Basics.{occurrences, _∈_}
-use Rattle.semantics.specs.Kinds.{Loop, mapping, loop-hands, loop-reads, element-name}
-use Rattle.semantics.specs.Code.{Atom, loop, Tree, line, retain-all, release-all}
+use Rattle.semantics.specs.Kinds.{Loop, mapping, filtering, reducing, loop-hands, loop-reads, element-name}
+use Rattle.semantics.specs.Code.{Atom, number, name, loop, Tree, line, retain-all, release-all}
 use Rattle.semantics.specs.Live.{Set, empty, _∪_, _∖_, _∖∖_, only, just, among, live, live-before, uses, after-pass}
 use Rattle.semantics.specs.Annotate.{NameDepths, arrays, dying, annotate, annotate-line}
 use Rattle.soundness.specs.machine.Discipline.{loop-arity, hold-of, holds-of, handed, less, unlent, left-by}
@@ -25,11 +25,17 @@ use Rattle.soundness.specs.annotation.Counts.{Needs, releasing, Apart, b
 use Rattle.soundness.specs.annotation.Counts.{handable}
 use Rattle.soundness.specs.annotation.Counts.{left, readable, bound, covered-before}
 
+only-one : (ps : List ℕ) → length ps ≡ 1 → (q : ℕ) × (ps ≡ q ∷ [])
+only-one [] h = absurd (omega arith)
+only-one (p ∷ []) h = (p, refl)
+only-one (p ∷ q ∷ ps) h = absurd (omega arith)
+
 -- a pass has one element
 element-one : (k : Loop) (ps : List ℕ) → length ps ≡ loop-arity k → (q : ℕ) × (element-name k ps ≡ q ∷ [])
-element-one mapping [] h = absurd (omega arith)
-element-one mapping (p ∷ []) h = (p, refl)
-element-one mapping (p ∷ q ∷ ps) h = absurd (omega arith)
+element-one mapping ps h = only-one ps h
+element-one filtering ps h = only-one ps h
+element-one reducing [] h = absurd (omega arith)
+element-one reducing (p ∷ ps) h = only-one ps (omega arith)
 
 module _ (Γ : NameDepths) where
   -- each atom of a loop is handed over or read
@@ -37,12 +43,27 @@ module _ (Γ : NameDepths) where
       ≡ occurrences n (handed Γ (loop-hands k us)) + occurrences n (handed Γ (loop-reads k us))
   unfolding occurrences
   loop-parts mapping us n = omega arith
+  loop-parts filtering us n = omega arith
+  loop-parts reducing [] n = omega arith
+  loop-parts reducing (number z ∷ us) n = omega arith
+  loop-parts reducing (name x ∷ us) n = omega (
+    arith,
+    occurrences-append n (hold-of Γ x) (handed Γ us),
+    occurrences-append n (hold-of Γ x) [],
+  )
 
   -- each name of a pass holds what is carried, or is the element
   pass-parts : (k : Loop) (ps : List ℕ) (n : ℕ) → occurrences n (holds-of Γ ps)
       ≡ occurrences n (holds-of Γ (element-name k ps)) + occurrences n (holds-of Γ (carried-name k ps))
   unfolding occurrences
   pass-parts mapping ps n = omega arith
+  pass-parts filtering ps n = omega arith
+  pass-parts reducing [] n = omega arith
+  pass-parts reducing (p ∷ ps) n = omega (
+    arith,
+    occurrences-append n (hold-of Γ p) (holds-of Γ ps),
+    occurrences-append n (hold-of Γ p) [],
+  )
 
   module _ (few : Few Γ) (B : List ℕ) (x : ℕ) (k : Loop) (ps : List ℕ) (us : List Atom) (t : Tree) (A : Set) where
     -- its atoms that are handed over, those that are read, and the outer names that its tree uses

@@ -7,7 +7,7 @@ use mathlib.Core.List.{List, [], _∷_, _++_}
 use mathlib.Core.Option.{some}
 use lib.ListN.{length, getD}
 use Rattle.semantics.specs.Basics.{updated}
-use Rattle.semantics.specs.Kinds.{Leaf, Loop, mapping}
+use Rattle.semantics.specs.Kinds.{Leaf, Loop, mapping, filtering, reducing}
 use Rattle.semantics.specs.Syntax as S
 use Rattle.semantics.specs.Syntax.{Expr, number, name, let-in, leaf, if-else, loop, Exprs}
 use Rattle.semantics.specs.Names.{calls-none}
@@ -57,6 +57,8 @@ array-among k ds = getD ds (array-place k) 0
 
 abbrev pub element-depths : Loop → List ℕ → List ℕ
 element-depths mapping ds = pred (getD ds 0 0) ∷ []
+element-depths filtering ds = pred (getD ds 0 0) ∷ []
+element-depths reducing ds = getD ds 0 0 ∷ pred (getD ds 1 0) ∷ []
 
 -- a loop with so many names and parts, over parts of the depths ds and a body of depth e
 pub record LoopType (k : Loop) (names parts : ℕ) (ds : List ℕ) (e d : ℕ) : Type 0 where

@@ -14,16 +14,15 @@ use Rattle.semantics.specs.Live.{Set, members}
 use Rattle.semantics.specs.Annotate.{is-array}
 use Rattle.semantics.specs.Meaning.{Meter, Env, step-wants}
 use Rattle.semantics.specs.Machine.{acquires, State, Frame, with-store, with-roots, held, acquire, acquire-if}
-use Rattle.semantics.specs.Store.{Store, Cell, cell, cell-count, cell-of, named-by, filled, has-free, acquired}
-use Rattle.semantics.specs.Sound.{free-list}
+use Rattle.semantics.specs.Store.{Store, Cell, cell, cell-of, named-by, filled, has-free, acquired}
 use Rattle.semantics.specs.Demands.{value-of, touched, replayed, OutOfCells}
 use Rattle.semantics.specs.Basics.{_∈_}
 use Rattle.laws.specs.Tests.{say-and}
 use Rattle.laws.specs.Lists.{_⊆_}
-use Rattle.soundness.specs.store.Invariant.{Invariant, StandsFor}
+use Rattle.soundness.specs.store.Invariant.{Invariant, Keeps, StandsFor}
 use Rattle.soundness.specs.store.Counting.{append-cases, in-append-left, in-append-right}
 use Rattle.soundness.specs.store.Kept.{reached, reached-more, keeps-fewer}
-use Rattle.soundness.specs.store.Acquire.{Acquires, none-left}
+use Rattle.soundness.specs.store.Acquire.{Takes, Acquires, acquire-takes, none-left}
 use Rattle.soundness.specs.store.Acquire as Store-acquire
 use Rattle.soundness.specs.machine.Discipline.{Covered}
 use Rattle.soundness.specs.machine.Images.{image-subset, member, without-middle}
@@ -70,13 +69,11 @@ abbrev pub after-acquire : ℕ → List ℤ → State → State
 after-acquire d ws s = with-store s (acquired d ws (s .store)) (acquires (s .store .first) ∷ [])
 
 pub acquire-together : {start : Start} {s : State} {m : Meter} (d : ℕ) (ws : List ℤ) →
-    free-list (s .store) ≡ s .store .first ∷ free-list (acquired d ws (s .store)) →
-    cell-count (acquired d ws (s .store)) ≡ cell-count (s .store) → Together start s m →
-    Together start (after-acquire d ws s) m
+    Takes (s .store) (acquired d ws (s .store)) → Together start s m → Together start (after-acquire d ws s) m
 unfolding touched replayed
-acquire-together {s = s} d ws e g t =
+acquire-together {s = s} d ws taken t =
     with-store-together (acquired d ws (s .store)) (acquires (s .store .first) ∷ []) refl
-    (rw (e, eq-eqb (s .store .first) (s .store .first) refl) refl) g t
+    (rw (taken .free, eq-eqb (s .store .first) (s .store .first) refl) refl) (taken .cells) t
 
 -- a cell is acquired, which the last step's node wants
 module _ {start : Start} {A B : Type 0} {Q : A → State → B → Meter → Type 0} {s : State} {m : Meter}
@@ -134,22 +131,33 @@ cell-stands {τ} d w v means used depth = record {
       rw e (used, ap suc (sym depth));
 }
 
--- a new array of words of depth d, which hold their cells: it holds one reference in their place
+-- In σ a new array was acquired, of words of depth d which hold their cells: it holds one reference in their place.
+pub array-stored : {start : Start} {Z R : List ℕ} {σ : Store} {s : State} {m : Meter} (d : ℕ) (ws : List ℤ)
+    (vs : List Value) → Together start s m → s .store ≡ acquired d ws σ → Invariant σ Z (named-by d ws ++ R) →
+    has-free σ ≡ true → length ws ≤ 16 → d ≤ 3 → ((r : ℕ) → r ∈ named-by d ws → d ≡ suc (cell σ r .depth)) →
+    map (value-of σ d) ws ≡ vs → Returned start (suc d) σ Z R (pos (σ .first)) s (list vs) m
+unfolding cell-of
+array-stored {start} {Z} {R} {σ} {s} d ws vs t stored inv free few shallow typed mean = record {
+  answered = record {
+    together = t;
+    invariant = subst (λ (τ : Store). Invariant τ Z (σ .first ∷ R)) (sym stored) (a .holds);
+    stands = subst (λ (τ : Store). StandsFor τ (suc d) (pos (σ .first)) (list vs)) (sym stored)
+        (cell-stands d (pos (σ .first)) (list vs) (a .value ∙ ap (λ (l : List Value). list l) mean)
+        (rw (a .new) (filled-count d ws)) (ap (λ (y : Cell). y .depth) (a .new) ∙ filled-depth d ws));
+  };
+  keeps = subst (λ (τ : Store). Keeps σ τ (Z ++ R)) (sym stored)
+      (keeps-fewer (Z ++ (named-by d ws ++ R)) (Z ++ R) (without-middle Z (named-by d ws) R) (a .keeps));
+}
+  where
+    a : Acquires σ (acquired d ws σ) d ws Z R
+    a = Store-acquire.acquire d ws inv free few shallow typed
+
+-- the same at once after the acquiring
 pub array-made : {start : Start} {Z R : List ℕ} {s : State} {m : Meter} (d : ℕ) (ws : List ℤ) (vs : List Value) →
     Together start s m → Invariant (s .store) Z (named-by d ws ++ R) → has-free (s .store) ≡ true →
     length ws ≤ 16 → d ≤ 3 → ((r : ℕ) → r ∈ named-by d ws → d ≡ suc (cell (s .store) r .depth)) →
     map (value-of (s .store) d) ws ≡ vs →
     Returned start (suc d) (s .store) Z R (pos (s .store .first)) (after-acquire d ws s) (list vs) m
-unfolding with-store cell-of
-array-made {start} {Z} {R} {s} {m} d ws vs t inv free few shallow typed mean = record {
-  answered = record {
-    together = acquire-together d ws (a .free) (a .cells) t;
-    invariant = a .holds;
-    stands = cell-stands d (pos (s .store .first)) (list vs) (a .value ∙ ap (λ (l : List Value). list l) mean)
-        (rw (a .new) (filled-count d ws)) (ap (λ (y : Cell). y .depth) (a .new) ∙ filled-depth d ws);
-  };
-  keeps = keeps-fewer (Z ++ (named-by d ws ++ R)) (Z ++ R) (without-middle Z (named-by d ws) R) (a .keeps);
-}
-  where
-    a : Acquires (s .store) (acquired d ws (s .store)) (s .store .first) d ws Z R
-    a = Store-acquire.acquire d ws inv free few shallow typed
+unfolding with-store
+array-made d ws vs t inv free few shallow typed mean =
+    array-stored d ws vs (acquire-together d ws (acquire-takes d ws inv free) t) refl inv free few shallow typed mean

@@ -8,7 +8,7 @@ use lib.IntN.{ℤ}
 use lib.ListN.{length}
 use borrow.Author.Tests.{lt-ltb}
 use Rattle.semantics.specs.Value.{Value}
-use Rattle.semantics.specs.Kinds.{Leaf, operation, call, literal, index, length-of}
+use Rattle.semantics.specs.Kinds.{Leaf, operation, call, literal, index, length-of, iota, replicate}
 use Rattle.semantics.specs.Live.{empty}
 use Rattle.semantics.specs.Annotate.{NameDepths}
 use Rattle.semantics.specs.Meaning.{Meter}
@@ -26,7 +26,8 @@ use Rattle.soundness.specs.machine.Size.{tree-adds}
 use Rattle.soundness.specs.machine.Rules.{TreeRules}
 use Rattle.soundness.specs.machine.Claims.{CallClaim, LeafClaim}
 use Rattle.soundness.specs.machine.Reading.{leaf-operation, leaf-index, leaf-length}
-use Rattle.soundness.specs.machine.Making.{leaf-literal}
+use Rattle.soundness.specs.machine.Making.{leaf-literal, leaf-iota}
+use Rattle.soundness.specs.machine.Replicating.{leaf-replicate}
 use Rattle.soundness.specs.machine.Calling.{leaf-call}
 use Rattle.soundness.specs.machine.Trees.{tree-sound}
 use Rattle.soundness.specs.machine.Parameters.{parameters-hold, parameter-numbers, parameter-arrays, held-range}
@@ -38,6 +39,8 @@ leaf-sound C grows calls (call f) = leaf-call C grows calls f
 leaf-sound C grows calls (literal d) = leaf-literal C d
 leaf-sound C grows calls index = leaf-index C
 leaf-sound C grows calls length-of = leaf-length C
+leaf-sound C grows calls iota = leaf-iota C
+leaf-sound C grows calls replicate = leaf-replicate C
 
 -- the most references that a function's own lines may add
 abbrev pub call-adds : ℕ

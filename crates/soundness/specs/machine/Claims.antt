@@ -11,6 +11,7 @@ use Rattle.semantics.specs.Value.{Value}
 use Rattle.semantics.specs.Kinds.{Leaf, is-pending, leaf-hands}
 use Rattle.semantics.specs.Code.{Atom, Line, leaf, Tree}
 use Rattle.semantics.specs.Live.{Set, among, _∖_}
+use Rattle.semantics.specs.Annotate.{depth-of}
 use Rattle.semantics.specs.Meaning.{Meter, Env, step-wants, do-leaf}
 use Rattle.semantics.specs.Meaning as Meaning
 use Rattle.semantics.specs.Machine.{State, Frame, word, held, work-leaf, work, work-line}
@@ -71,7 +72,7 @@ module _ (C : Setting) where
       Situation C (s .store) Z F R B H P ρ δ (leaf-adds + n) → C .need ≤ n →
       Both (Gave l x (s .store) Z (hold ρ (less (given C (leaf-hands l us)) H) ++ F))
       (Machine.step >>= λ _. work-leaf (C .callee) (R ++ held (C .depths) (among us (A ∖ x)) ρ)
-      (R ++ held (C .depths) (A ∖ x) ρ) l (map (word ρ) us)) s
+      (R ++ held (C .depths) (A ∖ x) ρ) (depth-of (C .depths) us 1) l (map (word ρ) us)) s
       (do-leaf (C .meant) l (map (value δ) us)) m
 
   -- Of a call, on words that stand for the values and hold their cells: it adds at most `need` references.

@@ -30,11 +30,11 @@ use Rattle.soundness.specs.normal.Plain.{running}
 use Rattle.soundness.specs.machine.Images.{one-more}
 use Rattle.soundness.specs.machine.Agreement.{Start, Clean, Together, SameStop, Agree, both, same, dry}
 use Rattle.soundness.specs.machine.Frames.{Room, Returned, Arguments, none, more, named-all}
-use Rattle.soundness.specs.machine.Standing.{none-in, named-few}
+use Rattle.soundness.specs.machine.Standing.{none-in, named-few, names-one}
 use Rattle.soundness.specs.machine.Acquiring.{after-acquire, acquire-together, filled-count, filled-depth}
 use Rattle.soundness.specs.machine.Acquiring.{cell-stands}
-use Rattle.soundness.specs.machine.Totals.{totals-retained, retains-totals, Prepared, prepared, Finished}
-use Rattle.soundness.specs.machine.Totals.{releases-totals, with-result, put-result, result-put}
+use Rattle.soundness.specs.machine.Retaining.{retained-array, retains-array, WordRetained, word-retained}
+use Rattle.soundness.specs.machine.Totals.{Finished, releases-totals, with-result, put-result, result-put}
 use Rattle.soundness.specs.machine.Calls.{call-adds, ProgramDisciplined, ProgramFrugal, call-sound}
 
 -- The delivery ends as main does, or stops as main does, or is out of cells just where main wants one.
@@ -118,20 +118,19 @@ module _ (p : Program) (disciplined : ProgramDisciplined p) (careful : Bool)
     abbrev c : ℕ
     c = σ .first
 
-    acquires : Acquires σ (acquired 0 readings σ) c 0 readings [] held
+    acquires : Acquires σ (acquired 0 readings σ) 0 readings [] held
     acquires = Store-acquire.acquire 0 readings (rests .holds) free (omega (arith, short)) (omega arith)
         (λ r h. absurd (none-in r h))
 
     -- the state before main
     abbrev ready : State
-    ready = totals-retained d old (after-acquire 0 readings (starting budget σ))
+    ready = retained-array d old (after-acquire 0 readings (starting budget σ))
 
-    main-begins : Prepared start d old (c ∷ held) (after-acquire 0 readings (starting budget σ)) ready meter
+    main-begins : WordRetained start d old [] (c ∷ held) (after-acquire 0 readings (starting budget σ)) ready meter
     unfolding starting with-store
-    main-begins = prepared d old (acquire-together 0 readings (acquires .free) (acquires .cells) begun)
-        (acquires .holds)
-        (λ r h. omega (arith, h, one-more r c held))
-        (λ k. omega (arith, one-more k c held, named-few k d old))
+    main-begins = word-retained d old (acquire-together 0 readings (acquires .taken) begun) (acquires .holds)
+        (λ h. omega (arith, names-one d old h, one-more (cell-of old) c held))
+        (record { few = λ k. omega (arith, none-here k, one-more k c held, named-few k d old) })
 
     totals-stand : StandsFor (ready .store) d old (value-of σ d old)
     unfolding starting with-store
@@ -194,7 +193,7 @@ module _ (p : Program) (disciplined : ProgramDisciplined p) (careful : Bool)
       go true e = subst (λ (o : Outcome State (Unit {0})).
           Delivers start d (onward (λ _. machine p 32 held 0 (old ∷ (pos (σ .first) ∷ []))
           >>= put-result d old) o) meant)
-          (sym (retains-totals d old (after-acquire 0 readings (starting budget σ)))) (finish d old (main-sound e))
+          (sym (retains-array d old (after-acquire 0 readings (starting budget σ)))) (finish d old (main-sound e))
 
 -- what a script's code does is what main means
 pub script-delivery : (fs : Script) {start : Start} {d : ℕ} {o : Outcome State (Unit {0})} (v w : Value) (budget : ℕ) →

@@ -13,8 +13,9 @@ use mathlib.Core.Option.{some}
 use lib.Dec.{eqb, ltb}
 use lib.ListN.{length, getD}
 use Rattle.semantics.specs.Basics.{with-if, occurrences, _∈_}
-use Rattle.semantics.specs.Kinds.{Leaf, operation, call, literal, index, length-of, Loop, mapping, leaf-hands}
-use Rattle.semantics.specs.Kinds.{leaf-reads, loop-hands, loop-reads, element-name, is-pending}
+use Rattle.semantics.specs.Kinds.{Leaf, operation, call, literal, index, length-of, iota, replicate, Loop, mapping}
+use Rattle.semantics.specs.Kinds.{filtering, reducing, first-part, leaf-hands, leaf-reads, loop-hands, loop-reads}
+use Rattle.semantics.specs.Kinds.{element-name, is-pending}
 use Rattle.semantics.specs.Names.{calls-none}
 use Rattle.semantics.specs.Types.{Signature, leaf-rule, loop-rule}
 use Rattle.semantics.specs.Code.{Atom, number, name, Line, leaf, if-else, loop, retain, release, Tree, end, line}
@@ -33,10 +34,14 @@ LeafLimits (call f) n = Unit {0}
 LeafLimits (literal d) n = (n ≤ 16) × (d ≤ 3)
 LeafLimits index n = n ≡ 2
 LeafLimits length-of n = n ≡ 1
+LeafLimits iota n = n ≡ 1
+LeafLimits replicate n = n ≡ 2
 
 -- the place of a loop's array among its parts before the body: it is the last; a pass has as many names
 abbrev pub array-place : Loop → ℕ
 array-place mapping = 0
+array-place filtering = 0
+array-place reducing = 1
 
 abbrev pub loop-arity : Loop → ℕ
 loop-arity k = suc (array-place k)
@@ -135,9 +140,11 @@ unfoldable pub unlent : List ℕ → List ℕ → List ℕ
 unlent B [] = []
 unlent B (x ∷ l) = with-if (eqb (occurrences x B) 0) x (unlent B l)
 
--- the names of a pass that hold what is carried into it: a map's pass has none
+-- the names of a pass that hold what is carried into it: a reduce's first, its running value's; the others have none
 abbrev pub carried-name : Loop → List ℕ → List ℕ
 carried-name mapping ps = []
+carried-name filtering ps = []
+carried-name reducing ps = first-part ps
 
 -- over the depths of a function's names
 module _ (Γ : NameDepths) where

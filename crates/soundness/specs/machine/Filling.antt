@@ -76,6 +76,25 @@ module _ (C : Setting) (d : ℕ) (Z F R L I : List ℕ) (ρ : Frame) (δ : Env) 
     still-lent y h = lent-kept Z F others-kept (λ q g. held-used inv q (in-append-right q (named-by e (r ∷ []))
         (hold ρ I ++ F) (in-append-right q (hold ρ I) F g))) (P .situation .lent y h)
 
+  -- ---- a pass that puts nothing into the cell
+
+  pub pass-kept : {σ τ : Store} {i k : ℕ} {w : ℤ} {x : Value} → Passing σ i w x τ → {r : ℤ} {s : State} {v : Value}
+      {m : Meter} → Ended C 0 τ (cell-of w ∷ Z) F I ρ δ k r s v m → Passing σ (suc i) w x (s .store)
+  pass-kept P E = record {
+    situation = record {
+      invariant = E .answered .invariant;
+      numbers = P .situation .numbers;
+      arrays = E .arrays;
+      pending = λ y h. absurd (none-in y h);
+      lent = still-lent P E;
+      room = P .situation .room;
+      rooted = P .situation .rooted;
+    };
+    filled = still-filled P E;
+    size = omega (arith, P .size);
+    keeps = keeps-trans (P .keeps) (others-kept P E);
+  }
+
   -- ---- a pass that puts a word behind the elements
 
   module _ {σ τ : Store} {i k : ℕ} {w : ℤ} {x : Value} (P : Passing σ i w x τ) (few : i < 16) {r : ℤ} {s : State}
@@ -205,7 +224,7 @@ module _ (C : Setting) (d : ℕ) (a : Atom) (B H : List ℕ) (reads : given C (a
     before = permute Z (hold ρ inside ++ others F ρ) (S .invariant) (λ k. refl)
         (hold-aside ρ H (kept-aside C a B H) inside F (lend-split C a B H reads))
 
-    pub reserves : Reserves σ began (σ .first) d Z (hold ρ inside ++ others F ρ)
+    pub reserves : Reserves σ began d Z (hold ρ inside ++ others F ρ)
     reserves = reserve d before free shallow
 
     empty-value : value-of began (suc d) (pos (σ .first)) ≡ list []

@@ -7,9 +7,9 @@ use mathlib.Core.List.{List, [], _∷_, map}
 use lib.ListN.{getD}
 use lib.Dec.{eqb, leb}
 use borrow.Author.Tests.{eqb-true, leb-true}
-use Rattle.semantics.specs.Kinds.{mapping}
-use Rattle.semantics.specs.Types.{some-if, all-are, same, call-rule, literal-rule, index-rule, length-rule, loop-rule}
-use Rattle.semantics.specs.Types.{Signature}
+use Rattle.semantics.specs.Kinds.{mapping, filtering, reducing}
+use Rattle.semantics.specs.Types.{some-if, all-are, same, call-rule, literal-rule, index-rule, length-rule}
+use Rattle.semantics.specs.Types.{replicate-rule, loop-rule, Signature}
 use Rattle.semantics.specs.Code.{Atom}
 use Rattle.semantics.specs.Annotate.{atom-depth}
 use Rattle.laws.specs.Tests.{some-same, not-some, some-if-holds, all-equal, same-lists}
@@ -52,12 +52,28 @@ pub length-fits : (a d : ℕ) → length-rule (a ∷ []) ≡ some d → (a ≡ s
 length-fits zero d h = not-some d h
 length-fits (suc a) d h = (refl, sym (some-same 0 d h))
 
+pub replicate-fits : (a b d : ℕ) → replicate-rule (a ∷ (b ∷ [])) ≡ some d → (a ≡ 0) × (b ≤ 3) × (d ≡ suc b)
+replicate-fits zero b d h =
+    let holds = some-if-holds (leb (suc b) 4) (suc b) d h in
+    (refl, omega (arith, leb-true (suc b) 4 (holds .0)), sym (holds .1))
+replicate-fits (suc a) b d h = not-some d h
+
 -- ---- loops, by the depths of their atoms, the tree's and the result's
 
 pub map-fits : (a e d : ℕ) → loop-rule mapping (a ∷ (e ∷ [])) ≡ some d → (e ≤ 3) × (d ≡ suc e)
 map-fits a e d h =
     let holds = some-if-holds (leb (suc e) 4) (suc e) d h in
     (omega (arith, leb-true (suc e) 4 (holds .0)), sym (holds .1))
+
+pub filter-fits : (a e d : ℕ) → loop-rule filtering (a ∷ (e ∷ [])) ≡ some d → (e ≡ 0) × (d ≡ a)
+filter-fits a e d h =
+    let holds = some-if-holds (eqb e 0) a d h in
+    (eqb-true e 0 (holds .0), sym (holds .1))
+
+pub reduce-fits : (s a e d : ℕ) → loop-rule reducing (s ∷ (a ∷ (e ∷ []))) ≡ some d → (s ≡ e) × (d ≡ s)
+reduce-fits s a e d h =
+    let holds = some-if-holds (eqb s e) s d h in
+    (eqb-true s e (holds .0), sym (holds .1))
 
 -- the name of an element, over an array of this depth
 pub element-fits : (p a : ℕ) → p ≡ pred a → 0 < a → a ≡ suc p
@@ -66,3 +82,6 @@ element-fits p (suc a) e h = ap suc (sym e)
 
 pub first-same : {l m : List ℕ} → l ≡ m → getD l 0 0 ≡ getD m 0 0
 first-same h = ap (λ (k : List ℕ). getD k 0 0) h
+
+pub second-same : {l m : List ℕ} → l ≡ m → getD l 1 0 ≡ getD m 1 0
+second-same h = ap (λ (k : List ℕ). getD k 1 0) h

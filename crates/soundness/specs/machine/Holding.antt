@@ -4,13 +4,12 @@ use native.Mathlib.Omega.{arith}
 use mathlib.Core.Path.{refl, sym, subst}
 use mathlib.Core.Logic.{inl, inr}
 use mathlib.Core.List.{List, [], _∷_, _++_}
-use Rattle.semantics.specs.Basics.{occurrences, _∈_}
+use Rattle.semantics.specs.Basics.{_∈_}
 use Rattle.semantics.specs.Outcome.{onward}
 use Rattle.semantics.specs.Code.{retain, release}
 use Rattle.semantics.specs.Meaning.{Env}
 use Rattle.semantics.specs.Machine.{Frame, with-store, release-events, work-line, retain-word, release-word}
 use Rattle.semantics.specs.Store.{Store, cell, cell-of, retained, released, deepest}
-use Rattle.semantics.specs.Sound.{all-inner}
 use Rattle.soundness.specs.normal.Plain.{run-line}
 use Rattle.soundness.specs.store.Invariant.{Invariant, Keeps, StandsFor}
 use Rattle.soundness.specs.store.Counting.{in-append-left, in-append-right, append-cases}
@@ -21,10 +20,11 @@ use Rattle.soundness.specs.store.Retain as Store-retain
 use Rattle.soundness.specs.store.Release.{Releases, releases-keep}
 use Rattle.soundness.specs.store.Release as Store-release
 use Rattle.laws.specs.Lists.{_≈_}
-use Rattle.soundness.specs.machine.Images.{image-in, without-middle, first-or-later}
+use Rattle.soundness.specs.machine.Images.{without-middle, first-or-later}
 use Rattle.soundness.specs.machine.Agreement.{both, with-store-together}
 use Rattle.soundness.specs.machine.Frames.{hold, Setting, Situation}
-use Rattle.soundness.specs.machine.Standing.{none-in, stands-held, hold-split, lent-kept}
+use Rattle.soundness.specs.machine.Standing.{none-in, stands-held, hold-split, readable, name-held, lent-kept}
+use Rattle.soundness.specs.machine.Retaining.{Counted}
 use Rattle.soundness.specs.machine.Size.{line-adds}
 use Rattle.soundness.specs.machine.Situations.{room-less, room-one, room-spent, touch-together}
 use Rattle.soundness.specs.machine.Claims.{LineClaim}
@@ -34,23 +34,14 @@ use Rattle.soundness.specs.machine.Spending.{spend-split, spend-one, les
 module _ (C : Setting) where
   -- a name that may be retained: its cell is held or named, and it stands for its value
   record Retainable (σ : Store) (F H : List ℕ) (ρ : Frame) (δ : Env) (x : ℕ) : Type 0 where
-    pub named : 0 < occurrences (cell-of (ρ x)) (hold ρ H ++ F) + occurrences (cell-of (ρ x)) (all-inner (σ .cells))
+    pub named : Counted σ (hold ρ H ++ F) (cell-of (ρ x))
     pub stands : StandsFor σ (C .depths x) (ρ x) (δ x)
 
   retainable : {σ : Store} {Z F R B H P : List ℕ} {ρ : Frame} {δ : Env} {n : ℕ} (x : ℕ) →
       Situation C σ Z F R B H P ρ δ n → x ∈ (P ++ (B ++ H)) → Retainable σ F H ρ δ x
-  retainable {F = F} {B = B} {H} {P} {ρ} x S h = elim (append-cases x P (B ++ H) h) [
+  retainable {B = B} {H} {P} x S h = elim (append-cases x P (B ++ H) h) [
     | inl g ↦ record { named = omega (arith, S .pending x g .named); stands = S .pending x g .stands }
-    | inr g ↦ elim (append-cases x B H g) [
-      | inl q ↦ record {
-        named = omega (arith, in-append-right (cell-of (ρ x)) (hold ρ H) F (S .lent x q .kept));
-        stands = S .lent x q .stands;
-      }
-      | inr q ↦ record {
-        named = omega (arith, in-append-left (cell-of (ρ x)) (hold ρ H) F (image-in (λ y. cell-of (ρ y)) x H q));
-        stands = S .arrays x q;
-      }
-    ]
+    | inr g ↦ record { named = omega (arith, name-held C S x g); stands = readable C S x g }
   ]
 
   pub line-retain : (x : ℕ) → LineClaim C (retain x)

@@ -30,7 +30,7 @@ use Rattle.soundness.specs.machine.Images.{image-in, image-fewer}
 use Rattle.soundness.specs.machine.Growth.{Grows, passes-grow}
 use Rattle.soundness.specs.machine.Agreement.{Start, Agree, both, agree-bind}
 use Rattle.soundness.specs.machine.Frames.{hold, Setting, Lent, given}
-use Rattle.soundness.specs.machine.Standing.{atom-stands}
+use Rattle.soundness.specs.machine.Standing.{atom-stands, array-cell}
 use Rattle.soundness.specs.machine.Elements.{words-of, array-length, array-used, elements-length, element-stands}
 use Rattle.soundness.specs.machine.Elements.{element-named}
 use Rattle.soundness.specs.machine.Acquiring.{roots-cover}
@@ -172,6 +172,13 @@ module _ (C : Setting) (a : Atom) (B H : List ℕ) where
       atom-depth (C .depths) a ≡ d → StandsFor τ d (word ρ a) (value δ a)
   lent-array numbers lent e = atom-stands C lent-names numbers (λ y h. lent y h .stands) a e
       (λ n h. in-append-left n (given C (a ∷ [])) B h)
+
+  -- and its cell is among those of others
+  pub lent-cell : {τ : Store} {F : List ℕ} {ρ : Frame} {δ : Env} →
+      ((y : ℕ) → y ∈ lent-names → Lent τ F (C .depths y) (ρ y) (δ y)) → 0 < atom-depth (C .depths) a →
+      cell-of (word ρ a) ∈ F
+  lent-cell {F = F} {ρ} lent deep =
+      array-cell C ρ F a deep (λ y h. lent y (in-append-left y (given C (a ∷ [])) B h) .kept)
 
   -- after the passes the names held before stand: those set aside are lent, the others are held
   pub lend-back : {τ : Store} {F : List ℕ} {ρ : Frame} {δ : Env} → given C (a ∷ []) ⊆ (B ++ H) →

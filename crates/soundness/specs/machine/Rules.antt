@@ -10,7 +10,8 @@ use mathlib.Core.List.{List, [], _∷_, _++_}
 use lib.Dec.{eqb}
 use borrow.Author.Tests.{eq-eqb}
 use Rattle.semantics.specs.Basics.{occurrences, _∈_}
-use Rattle.semantics.specs.Kinds.{Loop, mapping, leaf-hands, loop-hands, loop-reads, element-name, is-pending}
+use Rattle.semantics.specs.Kinds.{Loop, mapping, filtering, reducing, leaf-hands, loop-hands, loop-reads, element-name}
+use Rattle.semantics.specs.Kinds.{is-pending}
 use Rattle.semantics.specs.Code.{Atom, Line, leaf, if-else, loop, retain, release, Tree, line, ending}
 use Rattle.semantics.specs.Live.{Set, _∪_, only, just, live, after-branch, after-pass}
 use Rattle.semantics.specs.Annotate.{atom-depth}
@@ -94,6 +95,14 @@ module _ (C : Setting) where
     | yes e ↦ known-now S x n e
     | no e ↦ known-more S x n (f n (hold-of-other C x n l e h))
   ]
+
+  -- once the name x is bound and holds
+  pub names-bound : {S : Set} {B H Δ : List ℕ} (x : ℕ) → Names S B H Δ → Names (S ∪ only x) B (own C x ++ H) Δ
+  names-bound {S} {H = H} x names = record {
+    lent = λ n h. known-more S x n (names .lent n h);
+    held = bound-known S x H (names .held);
+    left = λ n h. known-more S x n (names .left n h);
+  }
 
   leaf-known : (S : Set) (x : ℕ) (b : Bool) (l : List ℕ) → ((n : ℕ) → n ∈ l → S n ≡ true) →
       (n : ℕ) → n ∈ (cond b [] (own C x) ++ l) → (S ∪ only x) n ≡ true
@@ -215,6 +224,12 @@ module _ (C : Setting) where
     carried-known : (k : Loop) (ps : List ℕ) (n : ℕ) → n ∈ holds-of (C .depths) (carried-name k ps) →
         just ps n ≡ true
     carried-known mapping ps n h = absurd (none-in n h)
+    carried-known filtering ps n h = absurd (none-in n h)
+    carried-known reducing [] n h = absurd (none-in n h)
+    carried-known reducing (p ∷ ps) n h = elim (ℕ-discrete n p) [
+      | yes e ↦ or-left (eqb p n) (just ps n) (eq-eqb p n (sym e))
+      | no e ↦ absurd (none-in n (hold-of-other C p n [] e h))
+    ]
 
     pub pass-rules : TreeRules t (pass-lent (C .depths) B k us) (S ∪ just ps) (after-pass x ps t A)
         (pass-holds (C .depths) B k ps us H) (holds-of (C .depths) (element-name k ps))

@@ -20,7 +20,7 @@ use Rattle.semantics.specs.Demands.{value-of}
 use Rattle.laws.specs.Lists.{_≈_, _⊆_, hits, occurrences-append, occurs-first}
 use Rattle.soundness.specs.normal.Plain.{value}
 use Rattle.soundness.specs.store.Invariant.{Alike, Keeps, StandsFor}
-use Rattle.soundness.specs.store.Counting.{append-cases, in-append-right}
+use Rattle.soundness.specs.store.Counting.{append-cases, in-append-left, in-append-right}
 use Rattle.soundness.specs.store.Kept.{stands-kept}
 use Rattle.soundness.specs.machine.Images.{image-in, image-same, image-alike}
 use Rattle.soundness.specs.machine.Images.{apart}
@@ -161,6 +161,20 @@ module _ (C : Setting) where
   pub readable : {σ : Store} {Z F R B H P : List ℕ} {ρ : Frame} {δ : Env} {n : ℕ} → Situation C σ Z F R B H P ρ δ n →
       (y : ℕ) → y ∈ (B ++ H) → StandsFor σ (C .depths y) (ρ y) (δ y)
   readable {B = B} {H} S y h = elim (append-cases y B H h) [ inl g ↦ S .lent y g .stands | inr g ↦ S .arrays y g ]
+
+  -- and its cell is held
+  pub name-held : {σ : Store} {Z F R B H P : List ℕ} {ρ : Frame} {δ : Env} {n : ℕ} → Situation C σ Z F R B H P ρ δ n →
+      (y : ℕ) → y ∈ (B ++ H) → cell-of (ρ y) ∈ (hold ρ H ++ F)
+  name-held {F = F} {B = B} {H} {ρ = ρ} S y h = elim (append-cases y B H h) [
+    | inl g ↦ in-append-right (cell-of (ρ y)) (hold ρ H) F (S .lent y g .kept)
+    | inr g ↦ in-append-left (cell-of (ρ y)) (hold ρ H) F (image-in (λ z. cell-of (ρ z)) y H g)
+  ]
+
+  -- an array's cell is where the cells of the names are that it would hand over
+  pub array-cell : (ρ : Frame) (K : List ℕ) (a : Atom) → 0 < atom-depth (C .depths) a →
+      ((y : ℕ) → y ∈ given C (a ∷ []) → cell-of (ρ y) ∈ K) → cell-of (word ρ a) ∈ K
+  array-cell ρ K (number z) deep f = absurd (omega (arith, deep))
+  array-cell ρ K (name x) deep f = f x (rw (hold-of-array x deep) (occurs-first x []))
 
   -- an atom that is read
   pub atom-read : {σ : Store} {Z F R B H P : List ℕ} {ρ : Frame} {δ : Env} {n d : ℕ} → Situation C σ Z F R B H P ρ δ n →

@@ -1,70 +1,27 @@
--- The totals before and after main: retained as an argument, then replaced by the result and released.
-use Prim.Native.Nat.{ℕ, zero, suc, _≤_}
+-- The totals after main: replaced by the result, and the old ones released.
+use Prim.Native.Nat.{ℕ, zero, suc}
 use native.Mathlib.Omega.{arith}
 use mathlib.Core.Path.{ap, _≡_, refl, sym, _∙_, subst}
 use mathlib.Core.Option.{some}
-use mathlib.Core.List.{List, [], _∷_, _++_}
+use mathlib.Core.List.{[], _∷_, _++_}
 use lib.IntN.{ℤ}
-use Rattle.semantics.specs.Basics.{occurrences, _∈_}
+use Rattle.semantics.specs.Basics.{occurrences}
 use Rattle.semantics.specs.Outcome.{done, _>>_}
 use Rattle.semantics.specs.Value.{Value}
 use Rattle.semantics.specs.Meaning.{Meter}
-use Rattle.semantics.specs.Machine.{State, Work, touching, release-events, with-store, retain-word, release-word}
+use Rattle.semantics.specs.Machine.{State, Work, release-events, with-store, release-word}
 use Rattle.semantics.specs.Machine.{if-array}
-use Rattle.semantics.specs.Store.{Store, cell-of, named-by, with-totals, retained, released, deepest}
+use Rattle.semantics.specs.Store.{Store, cell-of, named-by, with-totals, released, deepest}
 use Rattle.semantics.specs.Demands.{value-of, touched, replayed}
-use Rattle.laws.specs.Lists.{_⊆_}
-use Rattle.soundness.specs.store.Invariant.{Invariant, Alike, StandsFor}
+use Rattle.soundness.specs.store.Invariant.{Invariant, StandsFor}
 use Rattle.soundness.specs.store.Counting.{in-append-left}
 use Rattle.soundness.specs.store.Change.{permute, held-used}
-use Rattle.soundness.specs.store.Kept.{stands-kept, alike-self}
-use Rattle.soundness.specs.store.Retain.{Retains, retain, Rewrites, rewrite-totals}
+use Rattle.soundness.specs.store.Kept.{stands-kept}
+use Rattle.soundness.specs.store.Retain.{Rewrites, rewrite-totals}
 use Rattle.soundness.specs.store.Release.{Releases, release, releases-keep}
 use Rattle.soundness.specs.store.Rest.{Rests}
 use Rattle.soundness.specs.machine.Agreement.{Start, Clean, Together, with-store-together}
 use Rattle.soundness.specs.machine.Frames.{Returned}
-use Rattle.soundness.specs.machine.Standing.{names-one}
-use Rattle.soundness.specs.machine.Situations.{touch-together}
-
--- ---- before main
-
--- the state once the totals w, of depth d, are retained
-abbrev pub totals-retained : ℕ → ℤ → State → State
-totals-retained zero w s = s
-totals-retained (suc d) w s = with-store s (retained (cell-of w) (s .store)) (touching (s .store) (cell-of w))
-
-pub retains-totals : (d : ℕ) (w : ℤ) (s : State) → if-array d (retain-word w) s ≡ done tt (totals-retained d w s)
-unfolding retain-word
-retains-totals zero w s = refl
-retains-totals (suc d) w s = refl
-
--- from s to t: the totals hold one reference more, beside those of F
-pub record Prepared (start : Start) (d : ℕ) (w : ℤ) (F : List ℕ) (s t : State) (m : Meter) : Type 0 where
-  pub together : Together start t m
-  pub invariant : Invariant (t .store) [] (named-by d (w ∷ []) ++ F)
-  pub alike : (r : ℕ) → Alike (s .store) (t .store) r
-
-pub prepared : {start : Start} {F : List ℕ} {s : State} {m : Meter} (d : ℕ) (w : ℤ) → Together start s m →
-    Invariant (s .store) [] F → named-by d (w ∷ []) ⊆ F → ((c : ℕ) → occurrences c F ≤ 2) →
-    Prepared start d w F s (totals-retained d w s) m
-unfolding with-store occurrences
-prepared {s = s} zero w tog inv held few = record { together = tog; invariant = inv; alike = alike-self (s .store) }
-prepared {F = F} {s} (suc d) w tog inv held few = record {
-  together = touch-together c (retained c (s .store)) inv (held-used inv c named) (r .free) (r .cells) tog;
-  invariant = r .holds;
-  alike = r .alike;
-}
-  where
-    c : ℕ
-    c = cell-of w
-
-    named : c ∈ F
-    named = held c (names-one (suc d) w (omega arith))
-
-    r : Retains (s .store) (retained c (s .store)) c [] F
-    r = retain c inv (omega (arith, named)) (omega (arith, few c))
-
--- ---- after main
 
 -- a delivery that ended: the store is at rest again, and its totals are of the value
 pub record Finished (start : Start) (d : ℕ) (s : State) (v : Value) (m : Meter) : Type 0 where

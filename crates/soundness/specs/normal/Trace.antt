@@ -6,17 +6,19 @@ use mathlib.Core.Bool.{Bool, true, false, cond}
 use mathlib.Core.List.{List, [], _∷_, _++_, map, append-assoc}
 use mathlib.Core.Path.{_≡_, refl, sym, _∙_, ap, subst}
 use lib.IntN.{pos, natAbs}
+use lib.ListN as List
 use lib.ListN.{length, getD, length-append}
 use borrow.Author.Tests.{ne-eqb}
-use Rattle.semantics.specs.Basics.{updated}
+use Rattle.semantics.specs.Basics.{updated, tabulate}
 use Rattle.semantics.specs.Outcome.{Outcome, done, stop, _>>=_, give, require, passes, onward}
 use Rattle.semantics.specs.Number.{fits, exact, inside, is-zero}
 use Rattle.semantics.specs.Value.{Value, num, list, items, number-in}
 use Rattle.semantics.specs.Syntax.{Script}
 use Rattle.semantics.specs.Meaning.{Meter, Work, Callee, Env, stepped, step, do-operation, do-call, do-literal}
-use Rattle.semantics.specs.Meaning.{do-index, do-length, do-leaf, do-if, do-pass, do-loop, binding, carried-first}
-use Rattle.semantics.specs.Meaning.{carried-on, argument, looped-over, pass-values, meaning, step-wants, meter-of}
-use Rattle.semantics.specs.Kinds.{Leaf, operation, call, literal, index, length-of, Loop, takes-cell}
+use Rattle.semantics.specs.Meaning.{do-index, do-length, is-count, do-iota, do-replicate, do-leaf, do-if, do-pass}
+use Rattle.semantics.specs.Meaning.{do-loop, binding, carried-first, carried-on, argument, looped-over, pass-values}
+use Rattle.semantics.specs.Meaning.{meaning, step-wants, meter-of}
+use Rattle.semantics.specs.Kinds.{Leaf, operation, call, literal, index, length-of, iota, replicate, Loop, takes-cell}
 use Rattle.semantics.specs.Code.{Line, leaf, if-else, loop, retain, release, Tree, end, line}
 use Rattle.semantics.specs.Machine.{Program, program, routine-of}
 use Rattle.soundness.specs.normal.Plain.{value, run, run-line, values-from, running}
@@ -85,6 +87,10 @@ grows-required t n v = grows-then (require t n) (λ _. give v) (grows-require t 
 grows-stepping : {A : Type 0} (wants : Bool) (work : Work A) → Grows work → Grows (step wants >>= λ _. work)
 grows-stepping wants work h = grows-then (step wants) (λ _. work) (grows-step wants) (λ _. h)
 
+-- a new array of so many elements, if an array can have so many
+grows-counted : (n v : Value) → Grows (step (is-count n) >>= λ _. require (is-count n) 26 >>= λ _. give v)
+grows-counted n v = grows-stepping (is-count n) _ (grows-required (is-count n) 26 v)
+
 -- ---- the actions, the trees, the calls
 
 grows-if : (g : Value) (t e : Work Value) → Grows t → Grows e → Grows (do-if g t e)
@@ -104,7 +110,7 @@ grows-loop k vs body h =
         (λ r. grows-give (carried-on k c w r)))
 
 grows-leaf : (callee : Callee) → CalleeGrows callee → (l : Leaf) (vs : List Value) → Grows (do-leaf callee l vs)
-unfolding do-leaf do-operation do-call do-literal do-index do-length
+unfolding do-leaf do-operation do-call do-literal do-index do-length do-iota do-replicate
 grows-leaf callee calls (operation o) vs =
     let z = exact o (number-in (argument vs 0)) (number-in (argument vs 1)) in
     grows-stepping false _ (grows-required (fits z) 24 (num z))
@@ -116,6 +122,12 @@ grows-leaf callee calls index vs =
     grows-stepping false _ (grows-required (inside i (length us)) 23 (getD us (natAbs i) (num (pos 0))))
 grows-leaf callee calls length-of vs =
     grows-stepping false _ (grows-give (num (pos (length (items (argument vs 0))))))
+grows-leaf callee calls iota vs =
+    let n = argument vs 0 in
+    grows-counted n (list (tabulate 0 (natAbs (number-in n)) (λ i. num (pos i))))
+grows-leaf callee calls replicate vs =
+    let n = argument vs 0 in
+    grows-counted n (list (List.replicate (natAbs (number-in n)) (argument vs 1)))
 
 -- a line's action, then the binding of its name
 grows-binding : (δ : Env) (x : ℕ) (work : Work Value) → Grows work → Grows (work >>= λ v. give (updated δ x v))

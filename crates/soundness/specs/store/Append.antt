@@ -1,4 +1,4 @@
--- One more element in the result of a map in progress.
+-- One more element in the result of a map or a filter in progress.
 use Prim.Native.Nat.{ℕ, suc, _+_, _<_}
 use native.Mathlib.Omega.{arith}
 use native.Mathlib.Decide.{decLt}

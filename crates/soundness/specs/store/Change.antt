@@ -40,7 +40,7 @@ regroup Z′ R′ v same alone = record {
 pub permute : {σ : Store} {Z R : List ℕ} (Z′ R′ : List ℕ) → Invariant σ Z R → Z ≈ Z′ → R ≈ R′ → Invariant σ Z′ R′
 permute Z′ R′ v p q = regroup Z′ R′ v (λ c. omega (arith, p c, q c)) (λ c h. v .alone c (omega (arith, p c)))
 
--- the result of a map, finished: its own reference is then held outside as any other
+-- the result of a map or a filter, finished: its own reference is then held outside as any other
 pub commit : {σ : Store} {c : ℕ} {Z R : List ℕ} → Invariant σ (c ∷ Z) R → Invariant σ Z (c ∷ R)
 unfolding occurrences
 commit {σ} {c} {Z} {R} v = regroup Z (c ∷ R) v (λ d. omega arith) (λ d h. v .alone d (omega arith))

@@ -97,7 +97,7 @@ module _ (n d : ℕ) (few : suc n ≤ 256) (shallow : d ≤ 3) where
   unfolding has-free
   some-free = lt-ltb (σ .first) (cell-count σ) (omega (arith, first-is, size-is))
 
-  empty-acquired : Acquires σ (acquired d [] σ) (σ .first) d [] [] []
+  empty-acquired : Acquires σ (acquired d [] σ) d [] [] []
   empty-acquired = acquire-empty d (linked-zeroed (suc n) few .holds) some-free shallow
 
   totals-are : acquired d [] σ .totals ≡ pos 0
@@ -123,7 +123,7 @@ module _ (n d : ℕ) (few : suc n ≤ 256) (shallow : d ≤ 3) where
       fits = λ r h. empty-fits r (subst (λ (l : List ℕ). r ∈ l) names-first h);
     };
     value = ap (value-of (acquired d [] σ) (suc d)) (totals-are ∙ ap pos (sym first-is)) ∙ empty-acquired .value;
-    cells = empty-acquired .cells ∙ size-is;
+    cells = empty-acquired .taken .cells ∙ size-is;
   }
 
 -- a store just opened, of n cells, for totals of depth d

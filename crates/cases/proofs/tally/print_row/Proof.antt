@@ -5,14 +5,16 @@ use Rattle.cases.proofs.tally.print_row.Statement.{statement}
 use Rattle.cases.proofs.tally.print_row.Tie as tie
 
 abbrev Inv-loop : tie.InvT-loop
-Inv-loop tally part number column₀ t5 t6 column = Unit {0}
+Inv-loop tally row column₀ t4 t5 column = Unit {0}
 
 abbrev μ-loop : tie.MeasureT-loop
-μ-loop tally part number column₀ t5 t6 column = 6 - column
+μ-loop tally row column₀ t4 t5 column = 6 - column
 
 pub print-row-spec : {M : Type 1} → statement M
 print-row-spec =
     tie.close
-    (tie.spec Inv-loop μ-loop (λ c κs. search needs) (λ c. search needs) (λ c. search needs) (λ c κs. search needs)
-    (λ c κs. search needs) (λ c. search needs) (λ c. search needs) (λ c κs. search needs) (λ c. search needs)
-    (λ c. search needs) (λ c. search needs) (λ c. search needs) (λ c κs. search needs) (λ c. search needs))
+    (tie.spec Inv-loop μ-loop
+    (λ c κs. search needs) (λ c. search needs) (λ c. search needs) (λ c. search needs) (λ c κs. search needs)
+    (λ c. search needs) (λ c. search needs) (λ c κs. search needs) (λ c κs. search needs) (λ c. search needs)
+    (λ c. search needs) (λ c κs. search needs) (λ c. search needs) (λ c. search needs) (λ c. search needs)
+    (λ c. search needs) (λ c κs. search needs) (λ c. search needs))

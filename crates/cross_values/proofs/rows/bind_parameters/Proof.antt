@@ -5,16 +5,15 @@ use Rattle.cross_values.proofs.rows.bind_parameters.Statement.{statemen
 use Rattle.cross_values.proofs.rows.bind_parameters.Tie as tie
 
 abbrev Inv-loop : tie.InvT-loop
-Inv-loop rows function values names₀ count parameter₀ i₀ names parameter i = i ≤ count
+Inv-loop memory₀ function call values count parameter₀ i₀ memory parameter i = i ≤ count
 
 abbrev μ-loop : tie.MeasureT-loop
-μ-loop rows function values names₀ count parameter₀ i₀ names parameter i = count - i
+μ-loop memory₀ function call values count parameter₀ i₀ memory parameter i = count - i
 
 pub bind-parameters-spec : {M : Type 1} → statement M
 bind-parameters-spec =
     tie.close
     (tie.spec Inv-loop μ-loop
     (λ c κs. search needs) (λ c κs. search needs) (λ c κs. search needs) (λ c. search needs)
-    (λ c. search needs) (λ c. search needs) (λ c κs. search needs) (λ c κs. search needs) (λ c. search needs)
-    (λ c. search needs) (λ c κs. search needs) (λ c. search needs) (λ c. search needs) (λ c. search needs)
-    (λ c. search needs))
+    (λ c κs. search needs) (λ c κs. search needs) (λ c. search needs) (λ c. search needs) (λ c κs. search needs)
+    (λ c κs. search needs) (λ c. search needs) (λ c. search needs) (λ c. search needs) (λ c. search needs))

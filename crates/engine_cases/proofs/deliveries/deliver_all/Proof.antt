@@ -7,14 +7,15 @@ use Rattle.engine_cases.proofs.deliveries.deliver_all.Statement.{statem
 use Rattle.engine_cases.proofs.deliveries.deliver_all.Tie as tie
 
 abbrev Inv-loop : tie.InvT-loop
-Inv-loop case file slots₀ heads₀ code-kinds code-operands tally₀ at₀ slots heads tally at =
+Inv-loop case opening file slots₀ heads₀ tally₀ at₀ slots heads tally at =
     (length slots ≡ length slots₀) × (length heads ≡ length heads₀)
 
 abbrev μ-loop : tie.MeasureT-loop
-μ-loop case file slots₀ heads₀ code-kinds code-operands tally₀ at₀ slots heads tally at = length case - at
+μ-loop case opening file slots₀ heads₀ tally₀ at₀ slots heads tally at = length case - at
 
 pub deliver-all-spec : {M : Type 1} → statement M
 deliver-all-spec =
     tie.close
-    (tie.spec Inv-loop μ-loop (λ c. search needs) (λ c κs. search needs) (λ c κs. search needs) (λ c κs. search needs)
-    (λ c. search needs) (λ c. search needs) (λ c. search needs) (λ c. search needs) (λ c. search needs))
+    (tie.spec Inv-loop μ-loop
+    (λ c. search needs) (λ c κs. search needs) (λ c κs. search needs) (λ c κs. search needs) (λ c. search needs)
+    (λ c. search needs) (λ c. search needs) (λ c. search needs) (λ c. search needs))

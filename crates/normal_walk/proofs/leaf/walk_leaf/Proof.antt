@@ -1,69 +1,84 @@
 use Rattle.normal_code.specs.Plain.{plain}
 use Rattle.normal_code.specs.Parts.{depth-in}
-use Rattle.normal_walk.proofs.Lines.{operation-done, call-done, literal-done, index-done, length-done}
-use Rattle.normal_walk.proofs.Lines.{not-leaf}
+use Rattle.normal_walk.proofs.Lines.{unary-done, binary-done, call-done, literal-done, not-leaf}
 use borrow.Author.Needs.{needs}
 use Rattle.normal_walk.proofs.leaf.walk_leaf.Statement.{statement}
 use Rattle.normal_walk.proofs.leaf.walk_leaf.Tie as tie
 
 returns : tie.Need-returns
 returns c =
-    let at-l = c .before .before .before .before .before .before .before .before .before .before .l in
     let a = c .before .before .before .before .before .before .before .before .before .before .before .before
-    .before .before .before .args in
-    rw (at-l .given .1) (operation-done (plain (a .operands .now) (a .rows .now) (a .notes .now)) (depth-in (a
-    .depths .now)) (a .p) _ _ _ _ (c .before .before .before .before .before .put-operation .ensures) (c
-    .take-two .ensures))
+    .before .before .before .args in rw (c .before .before .before .before .before .before .before .before .before
+    .before .l .given .1) (unary-done (plain (a .operands .now) (a .rows .now) (a .notes .now)) (depth-in (a .depths
+    .now)) (a .p) _ _ _ _ (c .before .before .before .before .before .put-unary .ensures) (c .take-two .ensures))
 
 returns-2 : tie.Need-returns-2
 returns-2 c =
-    let at-l2 = c .before .before .before .before .before .before .before .before .before .before .l2 in
     let a = c .before .before .before .before .before .before .before .before .before .before .before .before
-    .before .before .before .args in
-    rw (at-l2 .given .1) (call-done (plain (a .operands .now) (a .rows .now) (a .notes .now)) (depth-in (a .depths
-    .now)) (a .p) _ _ _ (c .before .before .before .before .before .put-handing .ensures) (c .take-handed
+    .before .before .before .args in rw (c .before .before .before .before .before .before .before .before .before
+    .before .l2 .given .1) (binary-done (plain (a .operands .now) (a .rows .now) (a .notes .now)) (depth-in (a
+    .depths .now)) (a .p) _ _ _ _ (c .before .before .before .before .before .put-binary .ensures) (c .take-two2
     .ensures))
 
 returns-3 : tie.Need-returns-3
 returns-3 c =
-    let at-l3 = c .before .before .before .before .before .before .before .before .before .before .l3 in
     let a = c .before .before .before .before .before .before .before .before .before .before .before .before
-    .before .before .before .args in
-    rw (at-l3 .given .1) (literal-done (plain (a .operands .now) (a .rows .now) (a .notes .now)) (depth-in (a
-    .depths .now)) (a .p) _ _ _ (c .before .before .before .before .before .put-handing2 .ensures) (c
-    .take-handed2 .ensures))
+    .before .before .before .args in rw (c .before .before .before .before .before .before .before .before .before
+    .before .l3 .given .1) (call-done (plain (a .operands .now) (a .rows .now) (a .notes .now)) (depth-in (a .depths
+    .now)) (a .p) _ _ _ (c .before .before .before .before .before .put-handing .ensures) (c .take-handed .ensures))
 
 returns-4 : tie.Need-returns-4
 returns-4 c =
-    let at-l4 = c .before .before .before .before .before .before .before .before .before .before .l4 in
     let a = c .before .before .before .before .before .before .before .before .before .before .before .before
-    .before .before .before .args in
-    rw (at-l4 .given .1) (index-done (plain (a .operands .now) (a .rows .now) (a .notes .now)) (depth-in (a .depths
-    .now)) (a .p) _ _ _ (c .before .before .before .before .before .put-index .ensures) (c .take-two2 .ensures))
+    .before .before .before .args in rw (c .before .before .before .before .before .before .before .before .before
+    .before .l4 .given .1) (literal-done (plain (a .operands .now) (a .rows .now) (a .notes .now)) (depth-in (a
+    .depths .now)) (a .p) _ _ _ (c .before .before .before .before .before .put-handing2 .ensures) (c .take-handed2
+    .ensures))
 
 returns-5 : tie.Need-returns-5
 returns-5 c =
-    let at-l5 = c .before .before .before .before .before .before .before .before .before .before .l5 in
-    let a = c .before .before .before .before .before .before .before .before .before .before .before .before
-    .before .before .before .args in
-    rw (at-l5 .given .1) (length-done (plain (a .operands .now) (a .rows .now) (a .notes .now)) (depth-in (a
-    .depths .now)) (a .p) _ _ _ (c .before .before .before .before .before .put-length .ensures) (c .take-two3
-    .ensures))
-
-returns-6 : tie.Need-returns-6
-returns-6 c =
-    absurd (not-leaf (c .before .before .before .before .args .l) (c .match .keys6) (c .before .before .before
+    absurd (not-leaf (c .before .before .before .before .args .l) (c .match .keys5) (c .before .before .before
     .before .pre .0))
 
 pub walk-leaf-spec : {M : Type 1} → statement M
 walk-leaf-spec =
     tie.close
-    (tie.spec (λ c. search needs) (λ c κs. search needs) (λ c κs. search needs) (λ c. search needs)
-    (λ c. search needs) (λ c. search needs) (λ c. search needs) (λ c. search needs) (λ c. search needs)
-    (λ c κs. search needs) (λ c κs. search needs) (λ c. search needs) (λ c. search needs) (λ c. search needs)
-    (λ c. search needs) (λ c. search needs) (λ c. search needs) (λ c. search needs) (λ c. search needs)
-    (λ c. search needs) (λ c κs. search needs) (λ c κs. search needs) (λ c. search needs)
-    (λ c κs. search needs) (λ c κs. search needs) (λ c. search needs) (λ c κs. search needs)
-    (λ c κs. search needs) (λ c. search needs) (λ c. search needs) returns (λ c. search needs)
-    (λ c. search needs) returns-2 (λ c. search needs) (λ c. search needs) returns-3 (λ c. search needs)
-    (λ c. search needs) returns-4 (λ c. search needs) (λ c. search needs) returns-5 returns-6)
+    (tie.spec
+    (λ c. search needs)
+    (λ c κs. search needs)
+    (λ c κs. search needs)
+    (λ c. search needs)
+    (λ c κs. search needs)
+    (λ c κs. search needs)
+    (λ c. search needs)
+    (λ c. search needs)
+    (λ c. search needs)
+    (λ c. search needs)
+    (λ c. search needs)
+    (λ c. search needs)
+    (λ c κs. search needs)
+    (λ c κs. search needs)
+    (λ c. search needs)
+    (λ c. search needs)
+    (λ c. search needs)
+    (λ c. search needs)
+    (λ c. search needs)
+    (λ c. search needs)
+    (λ c. search needs)
+    (λ c. search needs)
+    (λ c. search needs)
+    (λ c κs. search needs)
+    (λ c κs. search needs)
+    (λ c. search needs)
+    (λ c. search needs)
+    returns
+    (λ c. search needs)
+    (λ c. search needs)
+    returns-2
+    (λ c. search needs)
+    (λ c. search needs)
+    returns-3
+    (λ c. search needs)
+    (λ c. search needs)
+    returns-4
+    returns-5)

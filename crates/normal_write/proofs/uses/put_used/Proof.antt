@@ -1,8 +1,8 @@
 use Prim.Native.Nat.{_≤_}
 use native.Mathlib.Omega.{arith}
 use Rattle.normal_code.specs.Plain.{set-of, meant}
-use Rattle.normal_code.specs.Parts.{depth-in}
-use Rattle.normal_code.specs.Walk.{below, since}
+use Rattle.normal_code.specs.Parts.{below, depth-in}
+use Rattle.normal_code.specs.Walk.{since}
 use Rattle.normal_write.specs.Wrote.{Wrote, Room}
 use Rattle.normal_write.proofs.Rows.{wrote-then, wrote-as, lower}
 use Rattle.normal_write.proofs.Names.{releases-from, release-none, release-used, release-all}

@@ -1,0 +1,100 @@
+// Calls. They fall: a function calls those after it, or itself with a number that falls, and at times any.
+use super::parts;
+use super::wants;
+use super::wants::Room;
+use cross_draft::Desk;
+use cross_draft::MOST_FUNCTIONS;
+use cross_values::kinds;
+ghost use Prim.Native.Nat.{_<_, _≤_};
+
+// Whether the function that is written may call another: one after it, itself if it has a falling number, and at
+// times any.
+fn may_call(desk: &mut Desk, callee: u64) -> bool {
+    let function = desk[cross_draft::FUNCTION];
+    if function < callee {
+        return true;
+    }
+    if function == callee {
+        if cross_draft::signature(desk, function, cross_draft::RECURSIVE) == 1 {
+            return true;
+        }
+    }
+    cross_draft::choose(desk, 24) == 0
+}
+
+// Whether a function is there, gives this depth and may be called here.
+fn fits_call(desk: &mut Desk, callee: u64, depth: u64) -> bool {
+    if desk[cross_draft::FUNCTIONS] <= callee {
+        return false;
+    }
+    if cross_draft::signature(desk, callee, cross_draft::RESULT) != depth {
+        return false;
+    }
+    may_call(desk, callee)
+}
+
+// A function to call here that gives this depth; `MOST_FUNCTIONS` where there is none.
+fn find_callee(desk: &mut Desk, depth: u64) -> u64 {
+    let start = cross_draft::choose(desk, MOST_FUNCTIONS);
+    let mut i: u64 = 0;
+    while i < MOST_FUNCTIONS {
+        let callee = (start + i) % MOST_FUNCTIONS;
+        if fits_call(desk, callee, depth) {
+            return callee;
+        }
+        i = i + 1;
+    }
+    MOST_FUNCTIONS
+}
+
+// Where the falling number of a function starts: also near the greatest call depth.
+fn falling_start(desk: &mut Desk) -> u64 {
+    match cross_draft::choose(desk, 8) {
+        0 => 29,
+        1 => 30,
+        2 => 31,
+        3 => 40,
+        _ => cross_draft::choose(desk, 5),
+    }
+}
+
+// Asks for the falling number of a function: within the function it is its own number less 1.
+fn push_falling(desk: &mut Desk, callee: u64) {
+    if callee == desk[cross_draft::FUNCTION] {
+        wants::push_node(desk, kinds::NUMBER, 1);
+        wants::push_node(desk, kinds::NAME, wants::name_of(0));
+        return wants::push_node(desk, kinds::DIFFERENCE, 0);
+    }
+    let start = falling_start(desk);
+    wants::push_node(desk, kinds::NUMBER, start)
+}
+
+// Asks for the arguments of a call.
+fn push_arguments(desk: &mut Desk, callee: u64, count: u64, room: Room)
+    requires { ⌜ (0 < room .levels) × (count ≤ 8) ⌝ }
+{
+    let mut left = count;
+    while 0 < left {
+        left = left - 1;
+        let depth = cross_draft::signature(desk, callee, cross_draft::FIRST_DEPTH + left);
+        if left == 0 {
+            if cross_draft::signature(desk, callee, cross_draft::RECURSIVE) == 1 {
+                return push_falling(desk, callee);
+            }
+        }
+        wants::push_child(desk, depth, room, false);
+    }
+}
+
+// Writes a call; an if where no function fits.
+pub fn make_call(desk: &mut Desk, depth: u64, room: Room)
+    requires { ⌜ 0 < room .levels ⌝ }
+{
+    let callee = find_callee(desk, depth);
+    if MOST_FUNCTIONS <= callee {
+        return parts::make_if(desk, depth, room);
+    }
+    let count = cross_draft::signature(desk, callee, cross_draft::COUNT) % 9;
+    cross_draft::write(desk, kinds::CALL, callee + 256 * count);
+    push_arguments(desk, callee, count, room)
+}

@@ -1,0 +1,51 @@
+-- The words of the atoms that follow a line.
+use mathlib.Core.Path.{_≡_, refl, sym, ap, ap₂, _∙_}
+use mathlib.Core.Bool.{false}
+use mathlib.Core.List.{List, [], _∷_, map}
+use Prim.Native.Nat.{ℕ, zero, suc, _+_, _-_, _<_, _≤_}
+use native.Mathlib.Omega.{arith}
+use lib.IntN.{ℤ}
+use lib.ListN.{getD, length}
+use Rattle.semantics.specs.Code as K
+use Rattle.semantics.specs.Code.{atom-row}
+use Rattle.semantics.specs.Live.{Set}
+use Rattle.semantics.specs.Machine.{Frame, word}
+use Rattle.semantics.specs.Machine.{argument}
+use Rattle.soundness.specs.machine.Discipline.{AllKnown}
+use Rattle.machine_code.specs.Reading.{atom-at, is-atom}
+use Rattle.machine_code.specs.declared.Atom.{Atom}
+use Rattle.machine_lines.specs.Frames.{word-of, words-at}
+use Rattle.machine_laws.specs.Rows.{At, atom-here, atom-kind}
+use Rattle.machine_laws.specs.Frames.{Bounded, FrameAgrees, small-known, word-same}
+
+module _ (kinds : List ℕ) (operands : List ℤ) (calls : ℕ) (env : List ℤ) (ρ : Frame) (S : Set) (b : Bounded S)
+    (g : FrameAgrees calls env ρ S) where
+  pub words-same : (us : List K.Atom) (n at : ℕ) → length us ≤ n → AllKnown us S →
+      At kinds operands at (map atom-row us) → is-atom (getD kinds (at + length us) 0) ≡ false →
+      words-at n kinds operands calls env at ≡ map (word ρ) us
+  unfolding words-at
+  words-same [] zero at h k r e = refl
+  words-same [] (suc n) at h k r e =
+      let z : at + 0 ≡ at = omega arith in rw (rw z at e) refl
+  words-same (a ∷ us) zero at h k r e = absurd (omega arith)
+  words-same (a ∷ us) (suc n) at h k r e =
+      let z : at + suc (length us) ≡ at + 1 + length us = omega arith in
+      rw (atom-kind kinds operands at a (r .0)) (ap₂ {C = List ℤ} _∷_
+      (ap (word-of calls env) (atom-here kinds operands at a (small-known a S b (k .0)) (r .0))
+      ∙ word-same calls env ρ S g a (k .0))
+      (words-same us n (at + 1) (omega arith) (k .1) (r .1)
+      (ap (λ (q : ℕ). is-atom (getD kinds q 0)) (sym z) ∙ e)))
+
+  -- the i-th of them
+  pub word-at : (us : List K.Atom) (at i : ℕ) → AllKnown us S → At kinds operands at (map atom-row us) → i < length
+      us →
+      word-of calls env (atom-at kinds operands (at + i)) ≡ argument (map (word ρ) us) i
+  word-at [] at i k r h = absurd (omega arith)
+  word-at (a ∷ us) at zero k r h =
+      ap (λ (q : ℕ). word-of calls env (atom-at kinds operands q)) (let z : at + 0 ≡ at = omega arith in z)
+      ∙ ap (word-of calls env) (atom-here kinds operands at a (small-known a S b (k .0)) (r .0))
+      ∙ word-same calls env ρ S g a (k .0)
+  word-at (a ∷ us) at (suc i) k r h =
+      ap (λ (q : ℕ). word-of calls env (atom-at kinds operands q)) (let z : at + suc i ≡ at + 1 + i = omega arith
+      in z)
+      ∙ word-at us (at + 1) i (k .1) (r .1) (omega arith)

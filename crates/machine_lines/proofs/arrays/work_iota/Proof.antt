@@ -1,0 +1,28 @@
+-- `machine_lines::arrays::work_iota` meets its contract.
+use mathlib.Core.Bool.{true}
+use lib.IntN.{pos}
+use mir.Facts.{toZ-ofZ}
+use borrow.Author.Needs.{needs}
+use Rattle.semantics.specs.Words.{store-of}
+use Rattle.machine_lines.proofs.Counts.{array-bound}
+use Rattle.machine_lines.proofs.arrays.work_iota.Statement.{statement}
+use Rattle.machine_lines.proofs.arrays.work_iota.Tie as tie
+
+returns : tie.Need-returns
+returns c =
+    let at-make-array = c .before .before .before .before .before in
+    let at-word-of = at-make-array .before .before .before in
+    let a = at-word-of .before .before .before .args in
+    let count = at-word-of .word-of in
+    let made = at-make-array .make-array in
+    rw (← count .ensures)
+    (array-bound (a .calls) (a .x) (a .next) (a .env .now) (made .result)
+    (store-of (made .last .0) (made .last .1 .0)) (c .bind-result .result) (c .bind-result .last .0)
+    (c .bind-result .ensures) true (pos 0) 0 (count .result) (a .steps) (store-of (a .slots .now) (a .heads .now))
+    (rw (toZ-ofZ {z = count .result} (record { sfits = count .ok })) at (made .ensures)))
+
+pub work-iota-spec : {M : Type 1} → statement M
+work-iota-spec =
+    tie.close
+    (tie.spec (λ c κs. search needs) (λ c κs. search needs) (λ c κs. search needs) (λ c. search needs)
+    (λ c. search needs) returns)

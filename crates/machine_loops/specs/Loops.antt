@@ -1,0 +1,124 @@
+-- What a loop begins with, what a pass begins with, and what it carries on to the next, on the memory of the machine.
+use mathlib.Core.Path.{_≡_}
+use mathlib.Core.Bool.{Bool, true, false, cond, not}
+use mathlib.Core.List.{List, []}
+use Prim.Native.Nat.{ℕ, _+_, _*_, _<_}
+use lib.IntN.{ℤ}
+use lib.Dec.{eqb}
+use lib.ListN.{length}
+use Rattle.semantics.specs.Outcome.{done, stop}
+use Rattle.semantics.specs.Number.{is-zero}
+use Rattle.semantics.specs.Kinds.{Loop, mapping, filtering, reducing}
+use Rattle.semantics.specs.Store.{Store, cell-of, acquired, appended, retained}
+use Rattle.semantics.specs.Machine.{argument, looped-over}
+use Rattle.semantics.specs.Words.{store-of}
+use Rattle.store.specs.Acquiring.{next-cell}
+use Rattle.machine_code.specs.declared.Atom.{Atom}
+use Rattle.machine_code.specs.declared.Loop as P
+use Rattle.machine_code.specs.declared.Loop.the-variants.{Map, Filter, Reduce}
+use Rattle.machine_lines.specs.Lines.{Memory, memory, Ran, ran, out, halted, bound, Given, acquired-given, array-of}
+use Rattle.machine_loops.specs.declared.Way.{Way}
+use Rattle.machine_loops.specs.declared.Way.the-variants.{Fill, Keep, Hand}
+use Rattle.machine_loops.specs.declared.Passes.{Passes}
+use Rattle.machine_loops.specs.declared.Begun.{Begun}
+use Rattle.machine_loops.specs.declared.Begun.the-variants as B
+use Rattle.machine_loops.specs.declared.First.{First}
+use Rattle.machine_loops.specs.declared.First.the-variants as F
+
+-- the array that a loop goes over
+abbrev pub array-atom : P.Loop → Atom
+array-atom (Map p a) = a
+array-atom (Filter p a) = a
+array-atom (Reduce p q b a) = a
+
+-- what a pass does with the word that its tree gave; d is the depth of the elements of the loop's result
+abbrev pub way-of : Loop → ℕ → Way
+way-of mapping d = Fill
+way-of filtering d = Keep (not (eqb d 0))
+way-of reducing d = Hand
+
+-- ---- what is carried into the first pass
+
+-- a small work whose word is not bound
+abbrev pub gave : ℕ → Memory → Given → Ran
+gave s m (done w u) = ran (out 0 w 0 s) m
+gave s m (stop n u) = halted n s m
+
+-- a new cell of element depth d for the result
+abbrev pub new-carried : ℕ → ℕ → Memory → Ran
+new-carried d s m = gave s (memory (acquired d [] (m .store)) (m .env)) (acquired-given (next-cell (m .store)))
+
+-- such a cell, or a reduce's start
+abbrev pub carry-first : Loop → ℕ → List ℤ → ℕ → Memory → Ran
+carry-first mapping d ws s m = new-carried d s m
+carry-first filtering d ws s m = new-carried d s m
+carry-first reducing d ws s m = ran (out 0 (argument ws 0) 0 s) m
+
+-- ---- a pass
+
+-- the frames at the beginning of a pass over w, into which v is carried: the running value's name is p, the element's q
+abbrev pub begun-frames : ℕ → ℕ → ℕ → ℤ → ℤ → List ℤ → List ℤ
+begun-frames calls p q v w env = bound calls q w (bound calls p v env)
+
+-- what a pass carries on: v was carried into it, and its tree gave r
+abbrev pub carried-word : Way → ℤ → ℤ → ℤ
+carried-word Fill v r = v
+carried-word (Keep arrays) v r = v
+carried-word Hand v r = r
+
+abbrev pub retained-if : Bool → ℕ → Store → Store
+retained-if true c σ = retained c σ
+retained-if false c σ = σ
+
+-- an element kept in the cell c, if the tree gave another word than 0
+abbrev pub kept : Bool → ℕ → ℤ → ℤ → Store → Store
+kept arrays c w r σ = cond (is-zero r) σ (appended c w (retained-if arrays (cell-of w) σ))
+
+-- the store that the pass over w leaves, where the loop's result is the cell c
+abbrev pub carried-store : Way → ℕ → ℤ → ℤ → Store → Store
+carried-store Fill c w r σ = appended c r σ
+carried-store (Keep arrays) c w r σ = kept arrays c w r σ
+carried-store Hand c w r σ = σ
+
+-- ---- what the functions promise
+
+-- all words of a cell are there
+abbrev pub Within : List ℤ → List ℕ → ℕ → Type 0
+Within slots heads c = (c < 256) × (4 * c + 4 < length heads) × (16 * c + 16 < length slots)
+
+-- the cell of a loop's result is there, where it has one
+abbrev pub ResultWithin : Way → List ℤ → List ℕ → ℕ → Type 0
+ResultWithin Fill slots heads c = Within slots heads c
+ResultWithin (Keep arrays) slots heads c = Within slots heads c
+ResultWithin Hand slots heads c = Unit {0}
+
+-- the cells of the passes are there
+pub record Usable (slots : List ℤ) (heads : List ℕ) (l : Passes) : Type 0 where
+  pub array : 0 < l .count → Within slots heads (l .from)
+  pub result : ResultWithin (l .way) slots heads (cell-of (l .carried))
+
+-- a word is carried into the first pass, or there is no cell
+abbrev pub Carries : Loop → ℕ → List ℤ → Store → List ℤ → List ℕ → First → Type 0
+Carries k d ws σ slots heads (F.Word w) =
+    ((s : ℕ) (env : List ℤ) → carry-first k d ws s (memory σ env)
+    ≡ ran (out 0 w 0 s) (memory (store-of slots heads) env))
+    × ResultWithin (way-of k d) slots heads (cell-of w)
+Carries k d ws σ slots heads F.NoneFree =
+    (s : ℕ) (env : List ℤ) → carry-first k d ws s (memory σ env) ≡ halted 25 s (memory (store-of slots heads) env)
+
+-- the passes of a loop of kind k with the names p and q, whose atoms have the words ws
+pub record Readied (k : Loop) (p q d : ℕ) (ws : List ℤ) (σ : Store) (slots : List ℤ) (heads : List ℕ) (l : Passes)
+    : Type 0 where
+  pub way : l .way ≡ way-of k d
+  pub first : l .first ≡ p
+  pub second : l .second ≡ q
+  pub from : l .from ≡ cell-of (looped-over k ws)
+  pub count : l .count ≡ length (array-of σ (looped-over k ws))
+  pub carried : (s : ℕ) (env : List ℤ) →
+      carry-first k d ws s (memory σ env) ≡ ran (out 0 (l .carried) 0 s) (memory (store-of slots heads) env)
+  pub usable : Usable slots heads l
+
+abbrev pub Begins : Loop → ℕ → ℕ → ℕ → List ℤ → Store → List ℤ → List ℕ → Begun → Type 0
+Begins k p q d ws σ slots heads (B.Ready l) = Readied k p q d ws σ slots heads l
+Begins k p q d ws σ slots heads B.NoneFree =
+    (s : ℕ) (env : List ℤ) → carry-first k d ws s (memory σ env) ≡ halted 25 s (memory (store-of slots heads) env)

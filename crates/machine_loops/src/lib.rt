@@ -1,0 +1,238 @@
+// The parts of a loop outside its tree: what it begins with, what a pass begins with, and what a pass carries on to the
+// next. A map, a filter and a reduce differ in nothing else.
+use machine_code::Atom;
+use machine_code::Loop;
+use store::Acquired;
+ghost use mathlib.Core.Path.{_≡_};
+ghost use mathlib.Core.List.{map};
+ghost use Prim.Native.Nat.{_+_, _<_};
+ghost use lib.IntN.{pos};
+ghost use lib.ListN.{getD, length};
+ghost use Rattle.semantics.specs.Store.{cell, cell-of, elements};
+ghost use Rattle.semantics.specs.Words.{store-of};
+ghost use Rattle.machine_lines.specs.Frames.{place, word-of, element-depth};
+ghost use Rattle.machine_lines.specs.Lines.{kind-of, first-name, second-name, atoms-of};
+ghost use Rattle.machine_loops.specs.Loops.{array-atom, way-of, begun-frames, carried-word, retained-if, kept};
+ghost use Rattle.machine_loops.specs.Loops.{carried-store, Within, ResultWithin, Carries, Begins};
+
+// What a pass does with the word that its tree gave: a map appends it to the result; a filter appends the element if
+// the word is not 0, and retains it first where it is an array; a reduce hands it on.
+pub enum Way {
+    Fill,
+    Keep(bool),
+    Hand,
+}
+
+// The passes of a loop: what each does with the word that its tree gave, the names of the running value and of the
+// element, the cell that they go over and how many they are, and what is carried into the first. Where there is no
+// running value both names are the element's.
+pub struct Passes {
+    pub way: Way,
+    pub first: u8,
+    pub second: u8,
+    pub from: usize,
+    pub count: usize,
+    pub carried: i64,
+}
+
+// What is carried into the first pass: a word, unless there is no cell for the result.
+pub enum First {
+    Word(i64),
+    NoneFree,
+}
+
+// How a loop begins: with its passes, unless there is no cell for the result.
+pub enum Begun {
+    Ready(Passes),
+    NoneFree,
+}
+
+// The array that a loop goes over.
+fn array_of(l: Loop) -> Atom
+    ensures { λ r. ⌜ r ≡ array-atom l ⌝ }
+{
+    match l {
+        Loop::Map(_, a) => a,
+        Loop::Filter(_, a) => a,
+        Loop::Reduce(_, _, _, a) => a,
+    }
+}
+
+// The name of the running value.
+fn first_name(l: Loop) -> u8
+    ensures { λ r. ⌜ r ≡ first-name l ⌝ }
+{
+    match l {
+        Loop::Map(p, _) => p,
+        Loop::Filter(p, _) => p,
+        Loop::Reduce(p, _, _, _) => p,
+    }
+}
+
+// The name of the element.
+fn second_name(l: Loop) -> u8
+    ensures { λ r. ⌜ r ≡ second-name l ⌝ }
+{
+    match l {
+        Loop::Map(p, _) => p,
+        Loop::Filter(p, _) => p,
+        Loop::Reduce(_, q, _, _) => q,
+    }
+}
+
+// What a pass does, by the depth of the elements of the result.
+fn way_of(l: Loop, depth: u32) -> Way
+    ensures { λ r. ⌜ r ≡ way-of (kind-of l) depth ⌝ }
+{
+    match l {
+        Loop::Map(_, _) => Way::Fill,
+        Loop::Filter(_, _) => Way::Keep(depth != 0),
+        Loop::Reduce(_, _, _, _) => Way::Hand,
+    }
+}
+
+// How many rows a loop's line has before its tree.
+pub fn rows_before(l: Loop) -> usize
+    ensures { λ r. ⌜ (r ≡ 1 + length (atoms-of l)) × (r < 4) ⌝ }
+{
+    match l {
+        Loop::Map(_, _) => 2,
+        Loop::Filter(_, _) => 2,
+        Loop::Reduce(_, _, _, _) => 3,
+    }
+}
+
+// A reduce's start, or a new cell of this element depth for the result.
+fn carry_first(
+    slots: &mut [i64],
+    heads: &mut [u32],
+    env: &[i64; 8224],
+    calls: usize,
+    l: Loop,
+    depth: u32,
+) -> First
+    requires { ⌜ (calls < 32) × (length (now env) ≡ 8224) ⌝ }
+    ensures { λ r. ⌜ Carries (kind-of l) depth (map (word-of calls (now (env .entry))) (atoms-of l))
+        (store-of (now (slots .entry)) (now (heads .entry))) (now (slots .exit)) (now (heads .exit)) r ⌝ }
+{
+    if let Loop::Reduce(_, _, a, _) = l {
+        return First::Word(machine_lines::word_of(env, calls, a));
+    }
+    match store::acquire_empty(slots, heads, depth) {
+        Acquired::Cell(c) => First::Word(machine_lines::word_from(c)),
+        Acquired::NoneFree => First::NoneFree,
+    }
+}
+
+// Begins a loop whose result is bound to a name.
+pub fn begin_loop(
+    table: &[u8],
+    slots: &mut [i64],
+    heads: &mut [u32],
+    env: &[i64; 8224],
+    calls: usize,
+    x: u8,
+    l: Loop,
+) -> Begun
+    requires { ⌜ (calls < 32) × (length (now env) ≡ 8224) ⌝ }
+    ensures { λ r. ⌜ Begins (kind-of l) (first-name l) (second-name l)
+        (element-depth (now (table .entry)) calls x (now (env .entry)))
+        (map (word-of calls (now (env .entry))) (atoms-of l))
+        (store-of (now (slots .entry)) (now (heads .entry))) (now (slots .exit)) (now (heads .exit)) r ⌝ }
+{
+    let first = first_name(l);
+    let second = second_name(l);
+    let from = store_words::named_cell(machine_lines::word_of(env, calls, array_of(l)));
+    let count = store_words::read_length(slots, heads, from);
+    let depth = machine_lines::element_depth(table, env, calls, x);
+    match carry_first(slots, heads, env, calls, l, depth) {
+        First::Word(carried) => {
+            let way = way_of(l, depth);
+            Begun::Ready(Passes {
+                way,
+                first,
+                second,
+                from,
+                count,
+                carried,
+            })
+        }
+        First::NoneFree => Begun::NoneFree,
+    }
+}
+
+// Begins pass i, into which v is carried: binds its names.
+pub fn begin_pass(
+    slots: &[i64],
+    heads: &[u32],
+    env: &mut [i64; 8224],
+    calls: usize,
+    l: Passes,
+    v: i64,
+    i: usize,
+)
+    requires { ⌜ (calls < 32) × (length (now env) ≡ 8224) × Within (now slots) (now heads) (l .from) ⌝ }
+    ensures { λ _. ⌜ now (env .exit) ≡ begun-frames calls (l .first) (l .second) v
+        (getD (elements (cell (store-of (now (slots .entry)) (now (heads .entry))) (l .from))) i (pos 0))
+        (now (env .entry)) ⌝ }
+{
+    let from = l.from;
+    let w = store_words::read_slot_within(slots, heads, from, i);
+    machine_lines::bind(env, calls, l.first, v);
+    machine_lines::bind(env, calls, l.second, w);
+}
+
+// One reference more, if asked for.
+fn retain_if(slots: &[i64], heads: &mut [u32], arrays: bool, c: usize)
+    ensures { λ _. ⌜ store-of (now (slots .entry)) (now (heads .exit))
+        ≡ retained-if arrays c (store-of (now (slots .entry)) (now (heads .entry))) ⌝ }
+{
+    if arrays {
+        store::retain(slots, heads, c);
+    }
+}
+
+// Keeps an element in a cell that is there, if the tree gave another word than 0.
+fn keep(slots: &mut [i64], heads: &mut [u32], arrays: bool, c: usize, w: i64, r: i64)
+    requires { ⌜ Within (now slots) (now heads) c ⌝ }
+    ensures { λ _. ⌜ store-of (now (slots .exit)) (now (heads .exit))
+        ≡ kept arrays c w r (store-of (now (slots .entry)) (now (heads .entry))) ⌝ }
+{
+    if r != 0 {
+        retain_if(slots, heads, arrays, store_words::named_cell(w));
+        store::append_within(slots, heads, c, w);
+    }
+}
+
+// Ends a pass, into which v was carried and whose tree gave r: what it carries on. A filter reads the element by its
+// name.
+pub fn end_pass(
+    slots: &mut [i64],
+    heads: &mut [u32],
+    env: &[i64; 8224],
+    calls: usize,
+    l: Passes,
+    v: i64,
+    r: i64,
+) -> i64
+    requires { ⌜ (calls < 32) × (length (now env) ≡ 8224)
+        × ResultWithin (l .way) (now slots) (now heads) (cell-of (l .carried)) ⌝ }
+    ensures { λ u. ⌜ (u ≡ carried-word (l .way) v r) × (store-of (now (slots .exit)) (now (heads .exit))
+        ≡ carried-store (l .way) (cell-of (l .carried)) (getD (now (env .entry)) (place calls (l .second)) (pos 0)) r
+        (store-of (now (slots .entry)) (now (heads .entry)))) ⌝ }
+{
+    let into = store_words::named_cell(l.carried);
+    let way = l.way;
+    match way {
+        Way::Fill => {
+            store::append_within(slots, heads, into, r);
+            v
+        }
+        Way::Keep(arrays) => {
+            let w = machine_lines::word_of(env, calls, Atom::Name(l.second));
+            keep(slots, heads, arrays, into, w, r);
+            v
+        }
+        Way::Hand => r,
+    }
+}

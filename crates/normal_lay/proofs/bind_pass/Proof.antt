@@ -1,0 +1,28 @@
+use mathlib.Core.Path.{refl}
+use borrow.Author.Needs.{needs}
+use Rattle.normal_lay.proofs.bind_pass.Statement.{statement}
+use Rattle.normal_lay.proofs.bind_pass.Tie as tie
+
+returns : tie.Need-returns
+returns c = (rw (c .loop-size .ensures, c .before .before .before .second-name .ensures), (refl, rw (c .before .before .before .second-name .ensures)))
+
+pub bind-pass-spec : {M : Type 1} → statement M
+bind-pass-spec =
+    tie.close
+    (tie.spec
+    (λ c κs. search needs)
+    (λ c. search needs)
+    (λ c. search needs)
+    (λ c. search needs)
+    (λ c. search needs)
+    (λ c. search needs)
+    (λ c. search needs)
+    (λ c. search needs)
+    (λ c. search needs)
+    (λ c. search needs)
+    (λ c κs. search needs)
+    (λ c. search needs)
+    (λ c. search needs)
+    (λ c. search needs)
+    (λ c. search needs)
+    returns)

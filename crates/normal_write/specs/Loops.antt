@@ -1,0 +1,45 @@
+-- The rows of a loop's line without its tree, by the line as it is read; a line that is none has no such rows.
+use mathlib.Core.List.{List, [], _++_}
+use Prim.Native.Nat.{ℕ, _+_}
+use lib.IntN.{pos}
+use Rattle.semantics.specs.Kinds.{Loop, mapping, filtering, reducing}
+use Rattle.semantics.specs.Code as C
+use Rattle.semantics.specs.Code.{Row}
+use Rattle.semantics.specs.Live.{Set}
+use Rattle.semantics.specs.Annotate.{NameDepths}
+use Rattle.normal_code.specs.Plain.{meant, loop-of, loop-size, of-loop}
+use Rattle.normal_code.specs.Parts.{below, loop-own, pass-opening, loop-closing}
+use Rattle.normal_code.specs.Marks.{Marks}
+use Rattle.normal_code.specs.Walk.{since}
+use Rattle.normal_code.specs.declared.Line.{Line}
+use Rattle.normal_code.specs.declared.Line.the-variants as L
+
+-- the second of a loop's atoms; where there is none the number 0, which uses nothing
+abbrev pub second-of : Loop → C.Atom → C.Atom
+second-of mapping b = C.number (pos 0)
+second-of filtering b = C.number (pos 0)
+second-of reducing b = b
+
+module _ (Γ : NameDepths) where
+  -- its own row and atoms, and the opening of its tree, at whose start T is live
+  unfoldable pub opening-of : Set → Line → List Row
+  opening-of T (L.Unary x kind a) = []
+  opening-of T (L.Binary x kind a b) = []
+  opening-of T (L.Call x f m) = []
+  opening-of T (L.Literal x d m) = []
+  opening-of T (L.If x g) = []
+  opening-of T (L.Loop x kind y z a b) =
+      let k = loop-of kind in
+      loop-own x k (of-loop k y z) (of-loop k (meant a) (meant b)) ++ pass-opening Γ k (of-loop k y z) T
+
+  -- the releases after it, where it stands at row p: M are the last uses and A is live there
+  unfoldable pub closing-of : ℕ → Marks → Set → Line → List Row
+  closing-of p M A (L.Unary x kind a) = []
+  closing-of p M A (L.Binary x kind a b) = []
+  closing-of p M A (L.Call x f m) = []
+  closing-of p M A (L.Literal x d m) = []
+  closing-of p M A (L.If x g) = []
+  closing-of p M A (L.Loop x kind y z a b) =
+      let k = loop-of kind in
+      let us = of-loop k (meant a) (meant b) in
+      loop-closing Γ x k us (below x (since (p + 1 + loop-size k) M)) A

@@ -1,0 +1,40 @@
+-- `store_words::read_slot_within` meets its contract.
+use Prim.Native.Nat.{_+_, _*_, _<_}
+use native.Mathlib.Omega.{arith}
+use lib.IntN.{pos}
+use lib.ListN.{getD}
+use mir.Facts.{toZ-ofZ}
+use borrow.Author.Needs.{needs}
+use Rattle.semantics.specs.Words.{cells-in}
+use Rattle.store_words.proofs.CellWords.{to-cells, length-in, element-in, element-out}
+use Rattle.store_words.proofs.read_slot_within.Statement.{statement}
+use Rattle.store_words.proofs.read_slot_within.Tie as tie
+
+inside : (c : tie.Start) → let a = c .args in a .c < cells-in (a .slots .now) (a .heads .now)
+inside c = let a = c .args in
+    to-cells (a .slots .now) (a .heads .now) (a .c) (c .pre .0) (c .pre .1) (c .pre .2)
+
+cast-at-most : tie.Need-cast-at-most
+cast-at-most c = record { fits = omega (arith, c .shared-slice-known2 .given (2 + 4 * c .before .before .args .c)) }
+
+returns : tie.Need-returns
+returns c =
+    let start = c .before .before .before .before in
+    let a = start .args in
+    element-out (a .slots .now) (a .heads .now) (a .c) (a .i)
+    (omega (arith, length-in (a .slots .now) (a .heads .now) (a .c) (inside start), c .before .at-most .ensures))
+
+returns-2 : tie.Need-returns-2
+returns-2 c =
+    let start = c .before .before .before .before .before in
+    let a = start .args in
+    rw (toZ-ofZ {z = getD (a .slots .now) (1 + 16 * a .c + a .i) (pos 0)} (record { sfits = c .result .given }))
+    (element-in (a .slots .now) (a .heads .now) (a .c) (a .i) (inside start)
+    (omega (arith, c .before .before .at-most .ensures)))
+
+pub read-slot-within-spec : {M : Type 1} → statement M
+read-slot-within-spec =
+    tie.close
+    (tie.spec (λ c. search needs) (λ c. search needs) (λ c. search needs) (λ c. search needs) cast-at-most
+    (λ c κs. search needs) returns (λ c. search needs) (λ c. search needs) (λ c. search needs) (λ c. search needs)
+    (λ c. search needs) returns-2)

@@ -1,0 +1,159 @@
+//! Live sets, and the retains and releases that stand in annotated code.
+
+use super::code::{Atom, Line, Operation, Tree};
+use super::names::Names;
+
+/// A function's body with its retains and releases, by the depths of all names. It opens by releasing the parameters
+/// that it does not use.
+pub fn body(plain: &Tree, parameters: usize, depths: &[usize]) -> Tree {
+    let annotation = Annotation { depths };
+    let mut tree = annotation.tree(plain, Names::default());
+    let unused = (0..parameters).collect::<Names>() - live(plain, Names::default());
+    annotation.open_with_releases(&mut tree, unused);
+    tree
+}
+
+// ---- Live sets ----
+
+fn named(atoms: &[Atom]) -> Names {
+    atoms.iter().filter_map(|atom| if let Atom::Name(name) = atom { Some(*name) } else { None }).collect()
+}
+
+/// The names from outside that a tree uses.
+fn outer_uses(tree: &Tree) -> Names {
+    let mut uses = named(&[tree.end]);
+    let mut inside = Names::default();
+    for line in &tree.lines {
+        uses = uses | named(line.atoms()) | inner_uses(line);
+        inside = inside | line.name().into_iter().collect();
+    }
+    uses - inside
+}
+
+/// The names from outside that a line's trees use.
+fn inner_uses(line: &Line) -> Names {
+    match line {
+        Line::If(_, _, first, second) => outer_uses(first) | outer_uses(second),
+        Line::Loop(_, _, in_pass, _, tree) => outer_uses(tree) - in_pass.iter().copied().collect(),
+        _ => Names::default(),
+    }
+}
+
+/// What is live before a tree, after which `after` is live.
+fn live(tree: &Tree, after: Names) -> Names {
+    tree.lines.iter().rev().fold(named(&[tree.end]) | after, |after, line| live_before(line, after))
+}
+
+fn live_before(line: &Line, after: Names) -> Names {
+    let atoms = named(line.atoms());
+    match line {
+        Line::Plain(name, ..) => atoms | after.without(*name),
+        Line::If(name, _, first, second) => {
+            let after = after.without(*name);
+            atoms | live(first, after) | live(second, after)
+        }
+        Line::Loop(name, _, in_pass, _, tree) => {
+            let after = after.without(*name) | inner_uses(line);
+            atoms | (live(tree, after) - in_pass.iter().copied().collect())
+        }
+        Line::Retain(_) | Line::Release(_) => after,
+    }
+}
+
+// ---- Retains and releases ----
+
+struct Annotation<'a> {
+    depths: &'a [usize],
+}
+
+impl Annotation<'_> {
+    fn is_array(&self, name: usize) -> bool {
+        self.depths[name] > 0
+    }
+
+    fn releases(&self, names: Names) -> Vec<Line> {
+        names.rising().filter(|name| self.is_array(*name)).map(Line::Release).collect()
+    }
+
+    fn open_with_releases(&self, tree: &mut Tree, names: Names) {
+        tree.lines.splice(0..0, self.releases(names));
+    }
+
+    /// A tree with its retains and releases; `after` is live after it.
+    fn tree(&self, plain: &Tree, after: Names) -> Tree {
+        let mut lives = vec![named(&[plain.end]) | after];
+        for line in plain.lines.iter().rev() {
+            lives.push(live_before(line, lives[lives.len() - 1]));
+        }
+        lives.reverse();
+        let mut lines = Vec::new();
+        for (i, line) in plain.lines.iter().enumerate() {
+            self.line(line, lives[i + 1], &mut lines);
+        }
+        self.retain_handed(&[plain.end], after, &mut lines);
+        Tree { lines, end: plain.end }
+    }
+
+    /// Retains each handed-over atom that is live after the line or occurs again on it.
+    fn retain_handed(&self, atoms: &[Atom], after: Names, lines: &mut Vec<Line>) {
+        for (i, atom) in atoms.iter().enumerate() {
+            if let Atom::Name(name) = atom {
+                if self.is_array(*name) && (after.has(*name) || atoms[i + 1..].contains(atom)) {
+                    lines.push(Line::Retain(*name));
+                }
+            }
+        }
+    }
+
+    /// A line, with what stands before and after it.
+    fn line(&self, line: &Line, after: Names, lines: &mut Vec<Line>) {
+        let mut done_with: Names = line.name().into_iter().collect();
+        match line {
+            Line::Plain(_, Operation::Call(_) | Operation::Literal(_), atoms) => {
+                self.retain_handed(atoms, after, lines);
+                lines.push(line.clone());
+            }
+            Line::Plain(name, operation, atoms) => {
+                lines.push(line.clone());
+                if *operation == Operation::Index && self.is_array(*name) {
+                    lines.push(Line::Retain(*name));
+                }
+                done_with = done_with | named(atoms);
+            }
+            Line::If(name, guard, first, second) => {
+                let after = after.without(*name);
+                let trees = (self.branch(first, second, after), self.branch(second, first, after));
+                lines.push(Line::If(*name, *guard, trees.0, trees.1));
+            }
+            Line::Loop(name, kind, in_pass, atoms, tree) => {
+                let (array, start) = atoms.split_last().unwrap();
+                let read = named(&[*array]) | inner_uses(line);
+                self.retain_handed(start, after | read, lines);
+                let annotated = self.pass(in_pass, tree, after.without(*name) | inner_uses(line));
+                lines.push(Line::Loop(*name, *kind, in_pass.clone(), atoms.clone(), annotated));
+                done_with = done_with | read;
+            }
+            Line::Retain(_) | Line::Release(_) => lines.push(line.clone()),
+        }
+        lines.extend(self.releases(done_with - after));
+    }
+
+    /// A branch opens by releasing what only the other one uses.
+    fn branch(&self, own: &Tree, other: &Tree, after: Names) -> Tree {
+        let mut tree = self.tree(own, after);
+        self.open_with_releases(&mut tree, outer_uses(other) - live(own, after));
+        tree
+    }
+
+    /// A loop's tree opens by retaining the element's name, and then releases the names of the pass that it does not
+    /// use.
+    fn pass(&self, in_pass: &[usize], plain: &Tree, after: Names) -> Tree {
+        let mut tree = self.tree(plain, after);
+        self.open_with_releases(&mut tree, in_pass.iter().copied().collect::<Names>() - outer_uses(plain));
+        let element = in_pass[in_pass.len() - 1];
+        if self.is_array(element) {
+            tree.lines.insert(0, Line::Retain(element));
+        }
+        tree
+    }
+}
