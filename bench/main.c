@@ -212,6 +212,13 @@ static unsigned wanted(const struct bench_case *c, int i)
     return i == CALLS - 1 ? c->number : ENGINE_DONE;
 }
 
+/* Whether a library before this one answered the same; one of before order 2 gives a delivery no lowest level. */
+static bool is_same_answer(uint64_t now, uint64_t before)
+{
+    const uint64_t lowest = (uint64_t)0xffff << 8;
+    return now == before || (engine_answer_lowest(before) == 0 && (now & ~lowest) == before);
+}
+
 /* Makes each call of each library that knows the script, and finds the rounds of those that are timed. The libraries
  * must answer the same. */
 static void call_first(const struct bench_case *c, struct timed timed[CALLS][ENGINES], uint64_t rounds)
@@ -225,7 +232,7 @@ static void call_first(const struct bench_case *c, struct timed timed[CALLS][ENG
             if (i < c->timed)
                 calibrate(t, rounds);
             demand(c->name, t, wanted(c, i));
-            if (e > 0 && bench.answer != answer) {
+            if (e > 0 && !is_same_answer(answer, bench.answer)) {
                 fprintf(stderr, "%s: the libraries differ in what %s answers\n", c->name, calls[i].name);
                 exit(1);
             }

@@ -23,6 +23,8 @@ struct day {
     const struct options *options;
     unsigned count;  /* deliveries so far */
     unsigned done;
+    unsigned worked; /* done or stopped */
+    unsigned lowest; /* level of all that were worked */
     unsigned faulty; /* lines of standard input that were not played */
     struct plot plot;
 };
@@ -49,15 +51,16 @@ static _Noreturn void refuse(const char *what, uint64_t answer)
     exit(STATUS_REFUSED);
 }
 
+/* A delivery's steps, cells taken and lowest level; spaces where it was refused. */
 static void print_delivery(const struct site *s, unsigned count, uint64_t answer)
 {
     unsigned number = engine_answer_number(answer);
-    printf("delivery %-3u %2u %-11s ", count, number, engine_word(number));
-    if (engine_is_refusal(number))
-        printf("                                ");
-    else
-        printf("%7" PRIu32 " steps %4u of %zu cells  ", engine_answer_steps(answer), engine_answer_cells(answer),
-               s->header.cells);
+    char columns[80];
+    int width = snprintf(columns, sizeof columns, "%7" PRIu32 " steps %4u of %zu cells, lowest %3u free  ",
+                         engine_answer_steps(answer), engine_answer_cells(answer), s->header.cells,
+                         engine_answer_lowest(answer));
+    printf("delivery %-3u %2u %-11s %*s", count, number, engine_word(number), width,
+           engine_is_refusal(number) ? "" : columns);
     print_totals(s);
     flush_output();
 }
@@ -102,7 +105,7 @@ static uint64_t take_or_open(struct site *s, const struct options *options, bool
 static void begin(struct day *day, uint64_t answer, bool is_kept)
 {
     save(day);
-    printf("%-12s  0 done                      %4u of %zu cells  ", is_kept ? "checked" : "opened",
+    printf("%-12s  0 done                      %4u of %zu cells                   ", is_kept ? "checked" : "opened",
            engine_answer_cells(answer), day->site->header.cells);
     print_totals(day->site);
     flush_output();
@@ -112,6 +115,18 @@ static void begin(struct day *day, uint64_t answer, bool is_kept)
 }
 
 /* ---- A day ---- */
+
+/* Counts a delivery in the day's last line. */
+static void count_delivery(struct day *day, uint64_t answer)
+{
+    unsigned number = engine_answer_number(answer), lowest = engine_answer_lowest(answer);
+    day->done += number == ENGINE_DONE;
+    if (engine_is_refusal(number))
+        return;
+    if (day->worked == 0 || lowest < day->lowest)
+        day->lowest = lowest;
+    day->worked++;
+}
 
 static void play_delivery(struct day *day, const struct delivery *delivery)
 {
@@ -124,7 +139,7 @@ static void play_delivery(struct day *day, const struct delivery *delivery)
     if (number == ENGINE_UNSOUND_STORE)
         refuse("store", answer);
     check_after(day);
-    day->done += number == ENGINE_DONE;
+    count_delivery(day, answer);
     if (day->options->plot != NULL)
         plot_delivery(&day->plot, answer);
 }
@@ -193,6 +208,8 @@ static void play(struct day *day)
            day->options->checks ? ", every check passed" : "");
     if (day->faulty > 0)
         printf(", %u faulty line%s not played", day->faulty, day->faulty == 1 ? "" : "s");
+    if (day->worked > 0)
+        printf("; lowest %u of %zu cells free", day->lowest, day->site->header.cells);
     putchar('\n');
     flush_output();
     if (day->options->plot != NULL)

@@ -20,7 +20,7 @@ static const char usage[] =
     "  --cells N     cells of a new store, 1 to 256 (default 64)\n"
     "  --budget N    steps that a delivery may take (default 10000)\n"
     "  --check       check the store after opening and after each delivery\n"
-    "  --plot FILE   draw the cells taken after each delivery, as an SVG picture\n"
+    "  --plot FILE   draw the cells taken after and during each delivery, as an SVG picture\n"
     "  --show STORE  its cells, their counts and who names whom; where it is not sound, the rules that are broken\n"
     "  --help        this text\n"
     "Exit status: 0 the day was played, or the store is sound; 1 the engine refused the script or the store; 2 bad\n"

@@ -1,5 +1,6 @@
-/* A picture of a day as an SVG file: a line through the cells taken after each delivery, below a line for all the
- * store's cells, with a mark for each delivery that was done, stopped or refused. */
+/* A picture of a day as an SVG file: a line through the cells taken after each delivery, and one through the most cells
+ * that each took at once, below a line for all the store's cells, with a mark for each delivery that was done, stopped
+ * or refused. The lowest level of a delivery is what lies between the second line and that for all cells. */
 #define _POSIX_C_SOURCE 200809L /* open_memstream */
 #include "plot.h"
 #include "engine.h"
@@ -23,6 +24,8 @@ enum {
     TICKS_WIDE = 20,  /* most ticks below */
     TICKS_HIGH = 8    /* most ticks on the left */
 };
+
+static const char MOST_COLOUR[] = "#390"; /* of the line of the most cells taken at once */
 
 void plot_delivery(struct plot *plot, uint64_t answer)
 {
@@ -59,10 +62,22 @@ static size_t tick(size_t range, size_t most)
                 return power * (size_t[]){ 1, 2, 5 }[i];
 }
 
+static bool is_refused(uint64_t answer)
+{
+    return engine_is_refusal(engine_answer_number(answer));
+}
+
 /* The cells taken after a delivery, given those before: a refusal carries no count, and changes nothing. */
 static unsigned cells_after(uint64_t answer, unsigned before)
 {
-    return engine_is_refusal(engine_answer_number(answer)) ? before : engine_answer_cells(answer);
+    return is_refused(answer) ? before : engine_answer_cells(answer);
+}
+
+/* The most cells that were taken at once in a delivery that was not refused. */
+static unsigned most_taken(const struct plot *plot, uint64_t answer)
+{
+    unsigned lowest = engine_answer_lowest(answer);
+    return lowest < plot->cells ? (unsigned)plot->cells - lowest : 0;
 }
 
 /* ---- Parts of the picture ---- */
@@ -131,6 +146,25 @@ static void put_level(FILE *out, const struct plot *plot)
     fputs("\"/>\n", out);
 }
 
+/* The line of the most cells taken at once. It passes over refusals, and is a dot where one delivery alone was not. */
+static void put_most(FILE *out, const struct plot *plot)
+{
+    size_t count = 0;
+    fprintf(out, "<path fill=\"none\" stroke=\"%s\" stroke-width=\"2\" stroke-linecap=\"round\" d=\"", MOST_COLOUR);
+    for (size_t i = 0; i < plot->count; i++) {
+        uint64_t answer = plot->answers[i];
+        if (is_refused(answer))
+            continue;
+        double x = across(plot, i + 1), y = up(plot, most_taken(plot, answer));
+        if (count == 0)
+            fprintf(out, "M%.1f %.1fh0", x, y);
+        else
+            fprintf(out, "%sL%.1f %.1f", count % 8 == 7 ? "\n" : "", x, y);
+        count++;
+    }
+    fputs("\"/>\n", out);
+}
+
 /* A mark by its kind: a dot for done, a cross for a stop, an open diamond for a refusal. */
 static void put_mark(FILE *out, unsigned number, double x, double y)
 {
@@ -154,6 +188,18 @@ static void put_label(FILE *out, unsigned number, double x, double y, double *la
             y - (is_stop ? 12 : 26), is_stop ? "#c00" : "#c60", number);
 }
 
+/* What a browser shows for the mark of a delivery, after which so many cells are taken; it ends the mark. */
+static void put_title(FILE *out, const struct plot *plot, size_t i, unsigned cells)
+{
+    uint64_t answer = plot->answers[i];
+    unsigned number = engine_answer_number(answer);
+    fprintf(out, "<title>delivery %zu: %u %s, %" PRIu32 " steps, %u of %zu cells", i + 1, number, engine_word(number),
+            engine_answer_steps(answer), cells, plot->cells);
+    if (!is_refused(answer))
+        fprintf(out, ", lowest %u free", engine_answer_lowest(answer));
+    fputs("</title></path>\n", out);
+}
+
 static void put_marks(FILE *out, const struct plot *plot)
 {
     unsigned cells = plot->opened;
@@ -165,8 +211,7 @@ static void put_marks(FILE *out, const struct plot *plot)
         if (number == ENGINE_DONE && plot->count > MARKS_MAX)
             continue;
         put_mark(out, number, x, y);
-        fprintf(out, "<title>delivery %zu: %u %s, %" PRIu32 " steps, %u of %zu cells</title></path>\n", i + 1, number,
-                engine_word(number), engine_answer_steps(plot->answers[i]), cells, plot->cells);
+        put_title(out, plot, i, cells);
         if (number != ENGINE_DONE)
             put_label(out, number, x, y, last);
     }
@@ -178,6 +223,23 @@ static void put_entry(FILE *out, unsigned number, int x, const char *label, size
     enum { ROW = HEIGHT - 44 };
     put_mark(out, number, x, ROW - 5);
     fprintf(out, "</path><text x=\"%d\" y=\"%d\">%s: %zu</text>\n", x + 14, ROW, label, count);
+}
+
+/* The entry of the line of the most cells taken at once, with the day's lowest level. */
+static void put_most_entry(FILE *out, const struct plot *plot)
+{
+    enum { ROW = HEIGHT - 44, X = LEFT + 540 };
+    size_t lowest = plot->cells + 1; /* more than any delivery has */
+    for (size_t i = 0; i < plot->count; i++)
+        if (!is_refused(plot->answers[i]) && engine_answer_lowest(plot->answers[i]) < lowest)
+            lowest = engine_answer_lowest(plot->answers[i]);
+    fprintf(out,
+            "<path d=\"M%d %dh20\" stroke=\"%s\" stroke-width=\"2\"/>"
+            "<text x=\"%d\" y=\"%d\">most taken at once in a delivery",
+            X, ROW - 5, MOST_COLOUR, X + 28, ROW);
+    if (lowest <= plot->cells)
+        fprintf(out, "; lowest: %zu free", lowest);
+    fputs("</text>\n", out);
 }
 
 static void put_legend(FILE *out, const struct plot *plot)
@@ -192,6 +254,7 @@ static void put_legend(FILE *out, const struct plot *plot)
     put_entry(out, ENGINE_DONE, LEFT + 6, "done", counts[ENGINE_DONE]);
     put_entry(out, ENGINE_OUT_OF_STEPS, LEFT + 156, "stopped and undone", stops);
     put_entry(out, ENGINE_BAD_REQUEST, LEFT + 406, "refused", refusals);
+    put_most_entry(out, plot);
     fprintf(out, "<text x=\"%d\" y=\"%d\" fill=\"#555\">", LEFT, HEIGHT - 16);
     const char *before = "";
     for (unsigned number = ENGINE_TRUNCATED; number < 256; number++) {
@@ -212,6 +275,7 @@ void write_plot(const struct plot *plot, const char *path, const char *script, c
         fail(STATUS_UNWRITTEN, "%s: no memory for the picture", path);
     put_head(out, plot, script, day);
     put_axes(out, plot);
+    put_most(out, plot);
     put_level(out, plot);
     put_marks(out, plot);
     put_legend(out, plot);

@@ -1,4 +1,4 @@
-/* A picture of a day: the cells taken after each delivery. */
+/* A picture of a day: the cells taken after each delivery, and the most that it took at once. */
 #ifndef PLOT_H
 #define PLOT_H
 

@@ -22,7 +22,7 @@ extern "C" {
 
 /* Of this interface: the first number rises when a host must change, the second when something is added. */
 #define ENGINE_VERSION_MAJOR 2
-#define ENGINE_VERSION_MINOR 0
+#define ENGINE_VERSION_MINOR 1
 #define ENGINE_VERSION (1000 * ENGINE_VERSION_MAJOR + ENGINE_VERSION_MINOR)
 
 /* ---- Sizes ---- */
@@ -169,6 +169,13 @@ static inline unsigned engine_answer_node(uint64_t answer)
     return (unsigned)((answer >> 8) & 0xffff);
 }
 
+/* The lowest level of an engine_deliver that was not refused, in the node's place: the least number of free cells from
+ * before its work to its end or its stop. A 25 has 0. */
+static inline unsigned engine_answer_lowest(uint64_t answer)
+{
+    return (unsigned)((answer >> 8) & 0xffff);
+}
+
 /* The code lines after engine_translate. */
 static inline uint32_t engine_answer_lines(uint64_t answer)
 {
@@ -219,7 +226,7 @@ uint64_t engine_open(const uint8_t *file, size_t file_length,
                      uint32_t *heads, size_t heads_length);
 
 /* Works one delivery: main on the totals and the readings gives the new totals. All numbers; after 0 and 21 to 26 the
- * answer has the steps and the cells taken. */
+ * answer has the lowest level, the steps and the cells taken. */
 uint64_t engine_deliver(const uint8_t *file, size_t file_length,
                         uint8_t *kinds, size_t kinds_length,
                         int64_t *operands, size_t operands_length,

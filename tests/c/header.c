@@ -26,8 +26,9 @@ int main(void)
     lent.heads_length = ENGINE_HEADS_LENGTH(ENGINE_CELLS_MAX);
     answer = engine_translate_lent(&lent) + engine_open_lent(&lent) + engine_check_lent(&lent)
              + engine_deliver_lent(&lent, readings, ENGINE_READINGS_MAX, ENGINE_BUDGET_MAX);
-    return (int)(engine_answer_node(answer) + engine_answer_lines(answer) + engine_answer_steps(answer)
-                 + engine_answer_cells(answer) + (unsigned)engine_is_refusal(engine_answer_number(answer))
+    return (int)(engine_answer_node(answer) + engine_answer_lowest(answer) + engine_answer_lines(answer)
+                 + engine_answer_steps(answer) + engine_answer_cells(answer)
+                 + (unsigned)engine_is_refusal(engine_answer_number(answer))
                  + (unsigned)engine_is_stop(engine_answer_number(answer)) + (unsigned)*engine_word(ENGINE_DONE)
                  + (unsigned)engine_is_node_kind(ENGINE_KIND_END) + ENGINE_KINDS);
 }

@@ -22,7 +22,7 @@ static void expect(bool holds, const char *what)
     }
 }
 
-/* An answer by its parts. */
+/* An answer by its parts; the second is a refusal's node or a delivery's lowest level. */
 static uint64_t answer(unsigned number, unsigned node, uint32_t count, unsigned cells)
 {
     return number + ((uint64_t)node << 8) + ((uint64_t)count << 24) + ((uint64_t)cells << 48);
@@ -142,9 +142,9 @@ static void test_trials(void)
     open_printed(1);
     expect(deliver_one(250, 1000) == answer(25, 0, 0, 1), "1 cell: 25 at step 0");
     open_printed(256);
-    expect(deliver_one(INT64_MAX, 1000) == answer(0, 0, 4, 1), "the greatest total");
-    expect(deliver_one(1, 1000) == answer(24, 0, 5, 1) && totals_are(INT64_MAX), "and {1}: 24 at step 5");
-    expect(deliver_one(0, 1000) == answer(0, 0, 6, 1) && totals_are(INT64_MAX), "with {0}: done");
+    expect(deliver_one(INT64_MAX, 1000) == answer(0, 254, 4, 1), "the greatest total");
+    expect(deliver_one(1, 1000) == answer(24, 254, 5, 1) && totals_are(INT64_MAX), "and {1}: 24 at step 5");
+    expect(deliver_one(0, 1000) == answer(0, 254, 6, 1) && totals_are(INT64_MAX), "with {0}: done");
 }
 
 static void test_requests(void)
@@ -195,18 +195,51 @@ static void test_counts(void)
             uint64_t wanted = has_room ? answer(0, 0, 4, 0) : answer(25, 0, 3, 0);
             expect(deliver_one(count, 1000) == wanted && (!has_room || lent.slots[0] == count), "counts from 0 to 16");
         }
-        expect(deliver_one(17, 1000) == answer(26, 0, 3, 0), "a count of 17 gives 26, before a cell is wanted");
-        expect(deliver_one(-1, 1000) == answer(26, 0, 3, 0), "a count of -1 too");
-        expect(deliver_one(INT64_MIN, 1000) == answer(26, 0, 3, 0), "and the least number");
-        expect(deliver_one(17, 2) == answer(21, 0, 2, 0), "its step comes first");
+        expect(deliver_one(17, 1000) == answer(26, cells - 1, 3, 0), "a count of 17 gives 26, before a cell is wanted");
+        expect(deliver_one(-1, 1000) == answer(26, cells - 1, 3, 0), "a count of -1 too");
+        expect(deliver_one(INT64_MIN, 1000) == answer(26, cells - 1, 3, 0), "and the least number");
+        expect(deliver_one(17, 2) == answer(21, cells - 1, 2, 0), "its step comes first");
     }
 }
 
-/* At each call depth 63 ifs and a call take 64 steps; two literals, 63 reduces of one pass each and a call take 129. */
+/* The length of {{}, {}, {}}: the readings' cell is free again before the first of four literals, the last of which is
+ * the array of the others. So many cells are in use after each budget of steps. */
+static void test_lowest(void)
+{
+    static const struct row rows[] = {
+        { 0, 2 }, { 1, 0 }, { 1, 257 }, { 11, 0 }, { 9, 259 }, { 9, 0 }, { 9, 0 }, { 9, 0 },
+    };
+    static const unsigned in_use[] = { 1, 1, 2, 3, 4, 4 };
+    const uint32_t steps = COUNT(in_use) - 1;
+    lend_script(1, rows, COUNT(rows));
+    lend_code(100, 100);
+    for (unsigned cells = ENGINE_CELLS_MIN; cells <= ENGINE_CELLS_MAX; cells++) {
+        lend_store(ENGINE_SLOTS_LENGTH(cells), ENGINE_HEADS_LENGTH(cells));
+        expect(open_store() == answer(0, 0, 0, 0), "an opening has no lowest level");
+        for (uint32_t budget = 0; budget <= steps; budget++) {
+            unsigned number = budget == steps ? ENGINE_DONE : ENGINE_OUT_OF_STEPS;
+            uint64_t wanted = in_use[budget] <= cells ? answer(number, cells - in_use[budget], budget, 0)
+                                                      : answer(25, 0, cells + 1, 0);
+            expect(deliver_one(1, budget) == wanted, "the lowest level after each budget of steps");
+        }
+        expect(check_store() == answer(0, 0, 0, 0), "a check has none");
+        expect(deliver_one(1, ENGINE_BUDGET_MAX + 1) == answer(10, 0, 0, 0), "nor has a refusal");
+    }
+    for (unsigned cells = 2; cells <= ENGINE_CELLS_MAX; cells++) {
+        open_printed(cells);
+        expect(deliver_one(250, 1000) == answer(0, cells - 2, 4, 1), "the totals' cell and the readings'");
+        lend_readings(0);
+        expect(deliver(1000) == answer(23, cells - 2, 4, 1), "also where it stops");
+        expect(deliver(0) == answer(21, cells - 2, 0, 1), "and where it has no step to take");
+    }
+}
+
+/* At each call depth 63 ifs and a call take 64 steps and no cell; two literals, 63 reduces of one pass each and a call
+ * take 129 steps, and the two cells stay in use. */
 static void test_deepest(void)
 {
-    const uint64_t ifs = answer(22, 0, 64 * ENGINE_CALL_DEPTH_MAX, 0);
-    const uint64_t reduces = answer(22, 0, 129 * ENGINE_CALL_DEPTH_MAX, 0);
+    const uint64_t ifs = answer(22, 255, 64 * ENGINE_CALL_DEPTH_MAX, 0);
+    const uint64_t reduces = answer(22, 256 - 2 * ENGINE_CALL_DEPTH_MAX, 129 * ENGINE_CALL_DEPTH_MAX, 0);
     expect(deliver_deepest(deepest_if_script) == ifs, "the deepest delivery of ifs on 1 MiB of stack");
     expect(deliver_deepest(deepest_reduce_script) == reduces, "the deepest delivery of reduces on 1 MiB of stack");
 }
@@ -254,6 +287,7 @@ static void test_header(void)
 {
     uint64_t parts = answer(23, 1024, 1000000, 256);
     expect(engine_answer_number(parts) == 23 && engine_answer_node(parts) == 1024, "number and node");
+    expect(engine_answer_lowest(parts) == 1024, "the lowest level in the node's place");
     expect(engine_answer_steps(parts) == 1000000 && engine_answer_lines(parts) == 1000000, "steps and lines");
     expect(engine_answer_cells(parts) == 256, "cells");
     expect(strcmp(engine_word(ENGINE_UNKNOWN_NAME), "no such nozzle") == 0, "a word");
@@ -302,6 +336,7 @@ int main(int count, char **arguments)
     test_requests();
     test_call_depth();
     test_counts();
+    test_lowest();
     test_deepest();
     test_store_lengths();
     test_damaged_store();

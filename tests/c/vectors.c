@@ -10,13 +10,16 @@
 #include <stdlib.h>
 #include <string.h>
 
-enum { LINE_BYTES = 1 << 16, NAME_BYTES = 64, NODES = 1024, NODE_SHIFT = 8 };
+enum { LINE_BYTES = 1 << 16, NAME_BYTES = 64, NODES = 1024 };
+
+#define NODE_BITS ((uint64_t)0xffff << 8) /* of a refusal's node or a delivery's lowest level */
 
 struct run {
     FILE *file;
     char line[LINE_BYTES];
     char *at; /* what is left of the line */
     char name[NAME_BYTES];
+    bool lacks_lowest; /* the file's deliveries have no lowest level */
     bool is_deliver;  /* the case opens a store and delivers to it */
     bool is_translate;
     bool agrees;
@@ -180,6 +183,22 @@ static void compare_rows(void)
     run.agrees &= code_is_zero_from((size_t)rows);
 }
 
+/* The deliveries of the base and of order 1 were written before an answer had the lowest level: those that are not
+ * refused agree in all but its place. */
+static bool is_earlier(const char *path)
+{
+    const char *slash = strrchr(path, '/');
+    const char *name = slash == NULL ? path : slash + 1;
+    return strcmp(name, "deliver.txt") == 0 || strcmp(name, "deliver_1.txt") == 0;
+}
+
+static bool is_delivered(uint64_t answer, uint64_t wanted)
+{
+    bool is_free = run.lacks_lowest && !engine_is_refusal(engine_answer_number(wanted));
+    uint64_t left_out = is_free ? NODE_BITS : 0;
+    return (answer & ~left_out) == (wanted & ~left_out);
+}
+
 static void make_delivery(void)
 {
     take_code_lengths();
@@ -195,7 +214,7 @@ static void make_delivery(void)
     }
     lend_readings(count);
     memcpy(lent.readings, readings, count * sizeof *readings);
-    run.agrees &= deliver(budget) == wanted;
+    run.agrees &= is_delivered(deliver(budget), wanted);
 }
 
 static void make_opening(void)
@@ -234,10 +253,9 @@ static void end_case(void)
     if (!run.is_deliver) {
         if (!run.is_translate)
             make_check();
-        const uint64_t node_bits = (uint64_t)0xffff << NODE_SHIFT;
         unsigned node = engine_answer_node(run.answer);
         bool node_fits = run.nodes_are_free ? node <= NODES && run.nodes[node] : node == engine_answer_node(run.wanted);
-        run.agrees &= node_fits && (run.answer & ~node_bits) == (run.wanted & ~node_bits);
+        run.agrees &= node_fits && (run.answer & ~NODE_BITS) == (run.wanted & ~NODE_BITS);
     }
     if (!run.agrees) {
         run.differ++;
@@ -305,6 +323,7 @@ static void take_line(void)
 bool run_vectors(const char *path)
 {
     memset(&run, 0, sizeof run);
+    run.lacks_lowest = is_earlier(path);
     run.file = fopen(path, "r");
     if (run.file == NULL) {
         perror(path);

@@ -13,11 +13,10 @@ pub struct Tally {
 
 pub const NODE_BITS: u64 = 0xff_ff00;
 
-/// The engine's answer is the model's, with any of the nodes that may be given.
+/// The engine's answer is the model's; where nodes may be given, with any of them.
 pub fn is_answer(engine: u64, answer: &Answer) -> bool {
     let node = (engine & NODE_BITS) >> 8;
-    let node_fits = answer.nodes.is_empty() && node == 0 || answer.nodes.contains(&node);
-    engine & !NODE_BITS == answer.packed & !NODE_BITS && node_fits
+    engine == answer.packed || answer.nodes.contains(&node) && engine & !NODE_BITS == answer.packed & !NODE_BITS
 }
 
 impl Tally {

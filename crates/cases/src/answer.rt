@@ -18,6 +18,17 @@ pub fn is_refusal(number: usize) -> bool {
     0 < number && number < 12
 }
 
+// Whether an answer to a delivery is this one but for its lowest level; a refusal has none.
+pub fn is_but_for_lowest(answer: u64, wanted: u64) -> bool {
+    if is_refusal(number_of(wanted)) {
+        return answer == wanted;
+    }
+    if number_of(answer) != number_of(wanted) {
+        return false;
+    }
+    answer / 16777216 == wanted / 16777216
+}
+
 // The cells taken as a call ends.
 pub fn cells_of(answer: u64) -> u64 {
     answer / 281474976710656

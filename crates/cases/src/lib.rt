@@ -11,6 +11,7 @@ mod text;
 
 pub use answer::answer_of;
 pub use answer::cells_of;
+pub use answer::is_but_for_lowest;
 pub use answer::is_done_with;
 pub use answer::is_refusal;
 pub use answer::is_right;

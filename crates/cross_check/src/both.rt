@@ -7,9 +7,9 @@ use cross_ledger::SLOT_WORDS;
 use cross_values::VALUE_WORDS;
 use cross_values::memory;
 use cross_values::memory::Memory;
-use cross_values::rows;
 use cross_values::rows::FILE_BYTES;
 use cross_values::stops;
+use cross_values::work;
 ghost use Prim.Native.Nat.{_≤_};
 
 // The most lines of code.
@@ -163,8 +163,8 @@ pub fn open_both(
     end: usize,
     cells: usize,
 ) -> bool {
-    rows::read_script(file, ledger);
-    cross_ledger::open(ledger);
+    work::read_script(file, ledger);
+    cross_ledger::open(ledger, cells as u64);
     let answer = open(file, slots, heads, end, cells);
     if cross_ledger::number_of(answer) != stops::DONE {
         return false;
@@ -207,7 +207,7 @@ pub fn deliver_twice(
     given: Given,
 ) -> u64 {
     let number = deliver_both(file, slots, heads, ledger, readings, given);
-    let steps = ledger[memory::ASKED];
+    let steps = ledger[memory::TAKEN];
     if number < stops::CALL_TOO_DEEP || stops::BAD_COUNT < number {
         return number;
     }

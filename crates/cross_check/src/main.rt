@@ -1,5 +1,5 @@
 // Runs the engine and a second interpreter on the same scripts and deliveries: document 01's remaining trials, and
-// scripts made from seeds. It prints how many deliveries agree in number, steps and totals, by number.
+// scripts made from seeds. It prints how many deliveries agree in each part of the answer and in the totals, by number.
 mod both;
 mod tally;
 mod trials;

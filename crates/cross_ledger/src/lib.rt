@@ -33,6 +33,11 @@ pub fn steps_of(answer: u64) -> u64 {
     answer / 16777216 % 16777216
 }
 
+// The lowest level of an answer.
+fn lowest_of(answer: u64) -> u64 {
+    answer / 256 % 65536
+}
+
 // The cells taken as a call ends.
 pub fn cells_of(answer: u64) -> u64 {
     answer / 281474976710656
@@ -45,49 +50,27 @@ pub fn totals_depth(ledger: &Memory) -> u64
     rows::operand_at(ledger, 0) / 256 % 8
 }
 
-// Opens the ledger of a script that is read: the totals are 0 or, in the same word, the array at the arena's start,
-// which is empty.
-pub fn open(ledger: &mut Memory) {
+// Opens the ledger of a script that is read, beside a store of so many cells: the totals are 0 or, in the same word,
+// the array at the arena's start, which is empty.
+pub fn open(ledger: &mut Memory, cells: u64) {
     ledger[memory::ARENA] = 0;
     ledger[memory::USED] = 1;
     ledger[memory::TOTALS] = 0;
+    ledger[memory::CELLS] = cells;
 }
 
-// Sets the meter for a delivery in which a step is asked about.
-fn start(ledger: &mut Memory, budget: u64, asked: u64) {
-    ledger[memory::LEFT] = budget;
-    ledger[memory::TAKEN] = 0;
-    ledger[memory::ASKED] = asked;
-    ledger[memory::WANTED] = 0;
-}
-
-// Whether a cell was wanted after the step that was asked about: for the readings, or by the node that took it.
-fn is_wanted(ledger: &Memory) -> bool {
-    if ledger[memory::ASKED] == 0 {
-        return true;
-    }
-    ledger[memory::WANTED] == 1
-}
-
-// Whether an answer fits a meaning that ends with this number. Of the answer the ledger uses only a want of cells with
-// its steps: a cell was wanted there. Any other has the same number and steps.
-fn fits(ledger: &Memory, number: u64, answer: u64) -> bool {
-    if number_of(answer) == stops::OUT_OF_CELLS {
-        return is_wanted(ledger);
-    }
+// Whether an answer is the one of a delivery that ends with this number, in all its parts.
+fn fits(ledger: &mut Memory, number: u64, answer: u64) -> bool {
     if number != number_of(answer) {
         return false;
     }
-    ledger[memory::TAKEN] == steps_of(answer)
-}
-
-// Ends a delivery with a result: it replaces the totals, unless the answer is a want of cells.
-fn end(ledger: &mut Memory, used: u64, result: u64, answer: u64) {
-    if number_of(answer) == stops::OUT_OF_CELLS {
-        ledger[memory::USED] = used;
-    } else {
-        ledger[memory::TOTALS] = result;
+    if ledger[memory::LOWEST] != lowest_of(answer) {
+        return false;
     }
+    if ledger[memory::TAKEN] != steps_of(answer) {
+        return false;
+    }
+    work::totals_cells(ledger) == cells_of(answer)
 }
 
 // Whether the answer to a delivery agrees with the meaning. A result replaces the totals, and a stop leaves them.
@@ -102,10 +85,11 @@ pub fn judge(
         return answer == stops::BAD_REQUEST;
     }
     let used = ledger[memory::USED];
-    start(ledger, budget, steps_of(answer));
+    ledger[memory::LEFT] = budget;
+    ledger[memory::TAKEN] = 0;
     match work::work_main(ledger, readings, count as u64) {
         Worked::Value(v) => {
-            end(ledger, used, v, answer);
+            ledger[memory::TOTALS] = v;
             fits(ledger, stops::DONE, answer)
         }
         Worked::Stop(n) => {

@@ -1,8 +1,10 @@
-// A second interpreter, for comparison: it works the written nodes of a script directly on values and has no cells.
-// A value is one word: a number is its 64 bits, and an array is its place in the arena, where its length and then
-// its elements stand. Scripts are taken as accepted: what no accepted script has stops the work with `BROKEN`, or is
-// worked as something else.
+// A second interpreter, for comparison: it works the written nodes of a script directly on values. A value is one word:
+// a number is its 64 bits, and an array is its place in the arena, where its head and then its elements stand. It has
+// no cells and no counts of references; where a cell is taken it counts the arrays that are reached from values still
+// needed, and so knows when cells run out, and the lowest level. Scripts are taken as accepted: what no accepted script
+// has stops the work with `BROKEN`, or is worked as something else.
 pub mod arrays;
+pub mod cells;
 pub mod kinds;
 mod leaves;
 mod loops;
@@ -10,6 +12,7 @@ pub mod memory;
 mod numbers;
 pub mod rows;
 pub mod stops;
+mod uses;
 pub mod work;
 
 // What working a part comes to: its value, or the number of the stop.

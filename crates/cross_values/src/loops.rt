@@ -3,8 +3,13 @@
 use super::VALUE_WORDS;
 use super::Worked;
 use super::arrays;
+use super::cells;
 use super::kinds;
+use super::memory;
 use super::memory::Memory;
+use super::memory::Typed;
+use super::rows;
+use super::uses;
 
 // The array that the passes go over, of the values of a loop's first parts.
 pub fn array_of(kind: u64, values: &[u64; VALUE_WORDS]) -> u64 {
@@ -39,9 +44,48 @@ pub fn keep(
     std::num::wrapping_add_u64(count, 1)
 }
 
-// The value of a loop after its last pass.
+// Begins a loop, whose first parts are the last roots: what its passes use are roots too, and a map or filter takes its
+// cell. The start of a reduce is handed to its first pass, and is no root of the loop's. False where no cell is free.
+pub fn begin(memory: &mut Memory, call: u64, node: usize) -> bool {
+    let kind = rows::kind_at(memory, node);
+    memory[memory::IS_ARRAY] = 0;
+    if kind == kinds::REDUCE {
+        memory[memory::IS_ARRAY] = cells::pop_under(memory);
+    }
+    uses::push_uses(memory, call, node, rows::body_at(memory, node));
+    if kind == kinds::REDUCE {
+        return true;
+    }
+    if !cells::take(memory) {
+        return false;
+    }
+    memory[memory::IN_PROGRESS] = std::num::wrapping_add_u64(memory[memory::IN_PROGRESS], 1);
+    true
+}
+
+// What a pass gave, and whether it is an array: a map's result is a root until its loop ends.
+pub fn push_result(memory: &mut Memory, kind: u64, value: u64) {
+    if kind == kinds::MAP {
+        let root = Typed {
+            value: value,
+            is_array: memory[memory::IS_ARRAY],
+        };
+        cells::push(memory, root);
+    }
+}
+
+// Whether the elements of a map's or filter's result are arrays: those of a map are what was worked last.
+fn are_arrays(memory: &Memory, kind: u64, array: u64) -> u64 {
+    if kind == kinds::FILTER {
+        return arrays::holds_arrays(memory, array);
+    }
+    memory[memory::IS_ARRAY]
+}
+
+// The value of a loop over an array after its last pass.
 pub fn value_of(
     kind: u64,
+    array: u64,
     results: &[u64; VALUE_WORDS],
     count: u64,
     memory: &mut Memory,
@@ -49,5 +93,7 @@ pub fn value_of(
     if kind == kinds::REDUCE {
         return Worked::Value(results[0]);
     }
-    arrays::make_array(memory, results, count)
+    memory[memory::IN_PROGRESS] = std::num::wrapping_sub_u64(memory[memory::IN_PROGRESS], 1);
+    let holds = are_arrays(memory, kind, array);
+    arrays::make_array(memory, results, count, holds)
 }

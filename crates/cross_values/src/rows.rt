@@ -1,10 +1,12 @@
-// A script file as rows of three words, one for each node: its kind, its operand and the node after its part.
+// A script file as rows of five words, one for each node: its kind, its operand, the node after its part, the node that
+// it is a part of, and whether it is a use of its name (see `uses`).
 use super::VALUE_WORDS;
 use super::kinds;
 use super::kinds::Kind;
 use super::memory;
 use super::memory::Memory;
 use super::memory::ROWS;
+use super::memory::Typed;
 ghost use Prim.Native.Nat.{_<_, _≤_, _^_};
 
 // The bytes of the longest script file, and the most nodes that it has.
@@ -38,7 +40,7 @@ fn bits_at(file: &[u8; FILE_BYTES], i: usize) -> u64
 }
 
 // How many nodes the file has.
-fn node_count(file: &[u8; FILE_BYTES]) -> usize
+pub fn node_count(file: &[u8; FILE_BYTES]) -> usize
     ensures { λ r. ⌜ r ≤ 1024 ⌝ }
 {
     let n = (wide(file[2]) + 256 * wide(file[3])) as usize;
@@ -50,12 +52,12 @@ fn node_count(file: &[u8; FILE_BYTES]) -> usize
 
 // The kind of a node.
 pub fn kind_at(memory: &Memory, node: usize) -> u64 {
-    memory[ROWS + 3 * (node % MOST_NODES)]
+    memory[ROWS + 5 * (node % MOST_NODES)]
 }
 
 // The operand of a node, as its bits.
 pub fn operand_at(memory: &Memory, node: usize) -> u64 {
-    memory[ROWS + 1 + 3 * (node % MOST_NODES)]
+    memory[ROWS + 1 + 5 * (node % MOST_NODES)]
 }
 
 // What a node's kind says of it.
@@ -65,7 +67,22 @@ pub fn row_at(memory: &Memory, node: usize) -> Kind {
 
 // The node after the part that begins at a node.
 pub fn end_at(memory: &Memory, node: usize) -> usize {
-    memory[ROWS + 2 + 3 * (node % MOST_NODES)] as usize
+    memory[ROWS + 2 + 5 * (node % MOST_NODES)] as usize
+}
+
+// The node that a node is a part of.
+pub fn parent_at(memory: &Memory, node: usize) -> usize {
+    memory[ROWS + 3 + 5 * (node % MOST_NODES)] as usize
+}
+
+// Whether a name is used where it stands.
+pub fn is_use(memory: &Memory, node: usize) -> bool {
+    memory[ROWS + 4 + 5 * (node % MOST_NODES)] == 1
+}
+
+// Notes that a name is used where it stands.
+pub fn set_use(memory: &mut Memory, node: usize) {
+    memory[ROWS + 4 + 5 * (node % MOST_NODES)] = 1;
 }
 
 // The node after so many parts.
@@ -112,6 +129,14 @@ pub fn callee_at(memory: &Memory, node: usize) -> usize {
     end_after(memory, 0, kinds::low(operand_at(memory, node)))
 }
 
+// 1 where a depth is that of an array, else 0.
+pub fn is_above_0(depth: u64) -> u64 {
+    if depth == 0 {
+        return 0;
+    }
+    1
+}
+
 // Binds the parameters of the function at a node to values, in a call; the node of its body.
 pub fn bind_parameters(
     memory: &mut Memory,
@@ -123,12 +148,28 @@ pub fn bind_parameters(
     let mut parameter = part_at(memory, function, 0);
     let mut i: usize = 0;
     while i < count {
-        let name = kinds::low(operand_at(memory, parameter));
-        memory::set_name(memory, call, name, values[i % VALUE_WORDS]);
+        let operand = operand_at(memory, parameter);
+        let bound = Typed {
+            value: values[i % VALUE_WORDS],
+            is_array: is_above_0(kinds::high(operand)),
+        };
+        memory::set_name(memory, call, kinds::low(operand), bound);
         parameter = end_at(memory, parameter);
         i = i + 1;
     }
     parameter
+}
+
+// Makes a node the parent of its parts, which begin after it; the node after them.
+fn adopt(memory: &mut Memory, node: usize, parts: u64) -> usize {
+    let mut part = std::num::wrapping_add_usize(node, 1);
+    let mut left = parts;
+    while 0 < left {
+        memory[ROWS + 3 + 5 * (part % MOST_NODES)] = node as u64;
+        part = end_at(memory, part);
+        left = left - 1;
+    }
+    part
 }
 
 // Fills in the row of a node; those of later nodes are there.
@@ -138,10 +179,11 @@ fn read_row(file: &[u8; FILE_BYTES], nodes: usize, node: usize, memory: &mut Mem
     let kind = wide(file[4 + node]);
     let operand = bits_at(file, 4 + nodes + 8 * node);
     let row = kinds::row_of(kind, operand);
-    let end = end_after(memory, node + 1, row.parts);
-    memory[ROWS + 3 * node] = kind;
-    memory[ROWS + 1 + 3 * node] = operand;
-    memory[ROWS + 2 + 3 * node] = end as u64;
+    let end = adopt(memory, node, row.parts);
+    memory[ROWS + 5 * node] = kind;
+    memory[ROWS + 1 + 5 * node] = operand;
+    memory[ROWS + 2 + 5 * node] = end as u64;
+    memory[ROWS + 4 + 5 * node] = 0;
 }
 
 // The rows of a script file; from the last node back, since a part ends where its own last part ends.

@@ -87,8 +87,8 @@ few-lines {file} {kinds} {operands} {l} {d} h = go (judged (h .node) file) (h .i
 module _ (kinds : List ℕ) (operands : List ℤ) where
   -- the reply for an accepted script, by what the store's part leaves
   abbrev pub reply-for : Script → StoreLeft → Ended → StoreReply
-  reply-for fs l (E.Answered number steps cells) = record {
-    answer = packed number 0 steps cells;
+  reply-for fs l (E.Answered number lowest steps cells) = record {
+    answer = packed number lowest steps cells;
     kinds = code-kinds fs kinds;
     operands = code-operands fs operands;
     slots = l .slots;
@@ -116,8 +116,8 @@ module _ (kinds : List ℕ) (operands : List ℤ) where
       where
         by : (fs : Script) (t : Bool) →
             let σ = opened (cells-in slots heads) (main-depth fs) in
-            let l = cond t (left-by 0 0 σ) (left (E.Refused 11) slots heads) in
-            cond t (answering kinds operands slots heads fs 0 0 σ) (refusing kinds operands slots heads 11 0)
+            let l = cond t (left-by 0 0 0 σ) (left (E.Refused 11) slots heads) in
+            cond t (answering kinds operands slots heads fs 0 0 0 σ) (refusing kinds operands slots heads 11 0)
             ≡ reply-for fs l (l .answer)
         by fs true = refl
         by fs false = refl
@@ -128,8 +128,8 @@ module _ (kinds : List ℕ) (operands : List ℤ) where
     check-serves = record { refuses = λ n p. refl; serves = λ fs. by fs (sound-words (main-depth fs) slots heads) }
       where
         by : (fs : Script) (t : Bool) →
-            let l = cond t (left-by 0 0 (store-of slots heads)) (left (E.Refused 11) slots heads) in
-            cond t (answering kinds operands slots heads fs 0 0 (store-of slots heads))
+            let l = cond t (left-by 0 0 0 (store-of slots heads)) (left (E.Refused 11) slots heads) in
+            cond t (answering kinds operands slots heads fs 0 0 0 (store-of slots heads))
             (refusing kinds operands slots heads 11 0) ≡ reply-for fs l (l .answer)
         by fs true = refl
         by fs false = refl
@@ -160,16 +160,16 @@ unfolding packed
 packed-alone number = omega arith
 
 -- parts that have room in an answer are packed as they are
-pub packed-number : (number steps cells : ℕ) → number < 2 ^ 8 →
-    packed (number % 2 ^ 8) (0 % 2 ^ 16) (steps % 2 ^ 24) (cells % 2 ^ 16)
-    ≡ packed number 0 (steps % 2 ^ 24) (cells % 2 ^ 16)
+pub packed-number : (number lowest steps cells : ℕ) → number < 2 ^ 8 →
+    packed (number % 2 ^ 8) (lowest % 2 ^ 16) (steps % 2 ^ 24) (cells % 2 ^ 16)
+    ≡ packed number (lowest % 2 ^ 16) (steps % 2 ^ 24) (cells % 2 ^ 16)
 unfolding packed
-packed-number number steps cells f = omega arith
+packed-number number lowest steps cells f = omega arith
 
-packed-counts : (number steps cells : ℕ) → steps ≤ 1000000 → cells ≤ 256 →
-    packed number 0 (steps % 2 ^ 24) (cells % 2 ^ 16) ≡ packed number 0 steps cells
+packed-counts : (number lowest steps cells : ℕ) → lowest ≤ 256 → steps ≤ 1000000 → cells ≤ 256 →
+    packed number (lowest % 2 ^ 16) (steps % 2 ^ 24) (cells % 2 ^ 16) ≡ packed number lowest steps cells
 unfolding packed
-packed-counts number steps cells f g = omega arith
+packed-counts number lowest steps cells l s c = omega arith
 
 module _ {file kinds : List ℕ} {operands slots : List ℤ} {heads : List ℕ} {call : Verdict → StoreReply}
     {part : Script → StoreLeft} (s : Serves kinds operands slots heads call part) where
@@ -204,19 +204,19 @@ module _ {file kinds : List ℕ} {operands slots : List ℤ} {heads : List ℕ} 
         _≡_ {A = StoreReply} (record
         { answer = a; kinds = kinds″; operands = operands″; slots = slots′; heads = heads′ })
         (reply-for kinds operands fs (left r slots′ heads′) r)
-    told fs q (E.Answered number steps cells) few t =
+    told fs q (E.Answered number lowest steps cells) few t =
         rw (
-          t .0 ∙ packed-counts number steps cells (few .0) (few .1),
+          t .0 ∙ packed-counts number lowest steps cells (few .0) (few .1) (few .2),
           t .1 .0 ∙ rw q at (h .kinds-are),
           t .1 .1 ∙ rw q at (h .operands-are),
         ) refl
     told fs q (E.Refused number) few t = rw (t .0, t .1 .0, t .1 .1, kinds-long, operands-long) refl
 
     pub replies-told : (r : Ended) → ((fs : Script) → admitted (h .node) file (room kinds operands) ≡ accepted fs →
-        d ≡ main-depth fs → left r slots′ heads′ ≡ part fs) → SmallAnswer r →
+        d ≡ main-depth fs → (left r slots′ heads′ ≡ part fs) × SmallAnswer r) →
         Tells r kinds′ operands′ a kinds″ operands″ →
         Replies file (λ node. call (admitted node file (room kinds operands))) a kinds″ operands″ slots′ heads′
-    replies-told r e few t = record {
+    replies-told r e t = record {
       node = h .node;
       faulty = h .faulty;
       is = by (admitted (h .node) file (room kinds operands)) refl (h .is);
@@ -229,5 +229,5 @@ module _ {file kinds : List ℕ} {operands slots : List ℤ} {heads : List ℕ} 
         by (refused m p) q g = absurd (let z : _≡_ {A = ℕ} 0 1 = cc in omega arith)
         by (accepted fs) q g =
             let same : d ≡ main-depth fs = cc in
-            told fs q r few t ∙ ap (λ x. reply-for kinds operands fs x (x .answer)) (e fs q same) ∙ sym (s .serves fs)
-            ∙ ap call (sym q)
+            told fs q r (e fs q same .1) t ∙ ap (λ x. reply-for kinds operands fs x (x .answer)) (e fs q same .0)
+            ∙ sym (s .serves fs) ∙ ap call (sym q)

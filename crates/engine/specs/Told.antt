@@ -9,8 +9,9 @@ use Rattle.engine_store.specs.declared.Ended.{Ended}
 use Rattle.engine_store.specs.declared.Ended.the-variants.{Answered, Refused}
 
 abbrev pub Tells : Ended → List ℕ → List ℤ → ℕ → List ℕ → List ℤ → Type 0
-Tells (Answered number steps cells) kinds operands r kinds′ operands′ =
-    (r ≡ packed number 0 (steps % 2 ^ 24) (cells % 2 ^ 16)) × ((kinds′ ≡ kinds) × (operands′ ≡ operands))
+Tells (Answered number lowest steps cells) kinds operands r kinds′ operands′ =
+    (r ≡ packed number (lowest % 2 ^ 16) (steps % 2 ^ 24) (cells % 2 ^ 16))
+    × ((kinds′ ≡ kinds) × (operands′ ≡ operands))
 Tells (Refused number) kinds operands r kinds′ operands′ =
     (r ≡ packed number 0 0 0)
     × ((kinds′ ≡ replicate (length kinds) 0) × (operands′ ≡ replicate (length operands) (pos 0)))

@@ -12,7 +12,12 @@ fn tell(ended: Ended, kinds: &mut [u8], operands: &mut [i64]) -> u64
         (now (kinds .exit)) (now (operands .exit)) ⌝ }
 {
     match ended {
-        Ended::Answered(number, steps, cells) => words::pack(number as u64, 0, steps, cells as u64),
+        Ended::Answered(number, lowest, steps, cells) => words::pack(
+            number as u64,
+            lowest as u64,
+            steps,
+            cells as u64,
+        ),
         Ended::Refused(number) => {
             normal::refuse(kinds, operands);
             number as u64

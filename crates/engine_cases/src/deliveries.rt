@@ -38,12 +38,27 @@ fn open(line: &[u8], file: &[u8], slots: &mut [i64], heads: &mut [u32], tally: &
     check(line, file, slots, heads, cases::cells_of(wanted), tally);
 }
 
+// Whether an answer to a delivery is the one that is wanted, whole or but for its lowest level.
+fn is_wanted(answer: u64, wanted: u64, whole: bool) -> bool {
+    if whole {
+        return answer == wanted;
+    }
+    cases::is_but_for_lowest(answer, wanted)
+}
+
 // Makes the delivery of a line.
-fn deliver(line: &[u8], file: &[u8], slots: &mut [i64], heads: &mut [u32], tally: &mut Tally) {
+fn deliver(
+    line: &[u8],
+    file: &[u8],
+    slots: &mut [i64],
+    heads: &mut [u32],
+    whole: bool,
+    tally: &mut Tally,
+) {
     let wanted = cases::natural(line, 4);
     let number = cases::number_of(wanted);
     let answer = calls::run(cases::DELIVER, line, file, slots, heads, number, tally);
-    cases::count_call(tally, answer == wanted);
+    cases::count_call(tally, is_wanted(answer, wanted, whole));
 }
 
 // The cells taken after the delivery of a line: those of its answer, or those of the store where it is refused.
@@ -62,10 +77,11 @@ fn run_line(
     file: &[u8],
     slots: &mut [i64],
     heads: &mut [u32],
+    whole: bool,
     tally: &mut Tally,
 ) {
     if cases::stands_at(line, 0, b"deliver") {
-        deliver(line, file, slots, heads, tally);
+        deliver(line, file, slots, heads, whole, tally);
         check(opening, file, slots, heads, cells_after(line, heads), tally);
     }
 }
@@ -77,12 +93,13 @@ fn deliver_all(
     file: &[u8],
     slots: &mut [i64],
     heads: &mut [u32],
+    whole: bool,
     tally: &mut Tally,
 ) {
     let mut at = 0;
     while at < case.len() {
         let line = cases::line_at(case, at);
-        run_line(line, opening, file, slots, heads, tally);
+        run_line(line, opening, file, slots, heads, whole, tally);
         at = cases::past(case, at, b'\n');
     }
 }
@@ -98,15 +115,23 @@ fn compare_last(case: &[u8], slots: &[i64], heads: &[u32], tally: &mut Tally) {
 }
 
 // Runs a case on its file and this store.
-fn run_store(case: &[u8], file: &[u8], slots: &mut [i64], heads: &mut [u32], tally: &mut Tally) {
+fn run_store(
+    case: &[u8],
+    file: &[u8],
+    slots: &mut [i64],
+    heads: &mut [u32],
+    whole: bool,
+    tally: &mut Tally,
+) {
     let opening = cases::line_of(case, b"open");
     open(opening, file, slots, heads, tally);
-    deliver_all(case, opening, file, slots, heads, tally);
+    deliver_all(case, opening, file, slots, heads, whole, tally);
     compare_last(case, slots, heads, tally);
 }
 
-// Runs a case. The store holds something else before it is opened.
-pub fn run_case(case: &[u8], tally: &mut Tally) {
+// Runs a case, whose answers to deliveries are whole or lack the lowest level. The store holds something else before it
+// is opened.
+pub fn run_case(case: &[u8], whole: bool, tally: &mut Tally) {
     let mut file = [0u8; 9220];
     let count = cases::file_of(case, &mut file);
     let cells = cases::length_of(cases::line_of(case, b"cells"), 1, 256);
@@ -119,6 +144,7 @@ pub fn run_case(case: &[u8], tally: &mut Tally) {
         &file[0..count],
         &mut slots[0..slots_length],
         &mut heads[0..heads_length],
+        whole,
         tally,
     );
 }

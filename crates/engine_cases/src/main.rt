@@ -1,5 +1,5 @@
-// Runs the cases of data/, the base's and order 1's, on the four calls, and prints how many calls they make and how
-// much of what each leaves is right. Then it prints the refusal of a file for each number from 1 to 9.
+// Runs the cases of data/, the base's and those of orders 1 and 2, on the four calls, and prints how many calls they
+// make and how much of what each leaves is right. Then it prints the refusal of a file for each number from 1 to 9.
 mod calls;
 mod checks;
 mod deliveries;
@@ -9,10 +9,12 @@ mod translations;
 use cases::TALLY_WORDS;
 use cases::Tally;
 
-// What the cases of a text are about.
+// What the cases of a text are about. Those of `EarlierDeliver` were written before an answer to a delivery had its
+// lowest level, and hold for all but its bits 8 to 23.
 enum Family {
     Translate,
     Check,
+    EarlierDeliver,
     Deliver,
 }
 
@@ -21,7 +23,8 @@ fn run_case(family: Family, case: &[u8], tally: &mut Tally) {
     match family {
         Family::Translate => translations::run_case(case, tally),
         Family::Check => checks::run_case(case, tally),
-        Family::Deliver => deliveries::run_case(case, tally),
+        Family::EarlierDeliver => deliveries::run_case(case, false, tally),
+        Family::Deliver => deliveries::run_case(case, true, tally),
     }
 }
 
@@ -46,10 +49,13 @@ fn main() {
     let mut tally = [0u64; TALLY_WORDS];
     run_file(Family::Translate, b"translate.txt", &mut tally);
     run_file(Family::Translate, b"translate_1.txt", &mut tally);
+    run_file(Family::Translate, b"translate_2.txt", &mut tally);
     run_file(Family::Check, b"check.txt", &mut tally);
     run_file(Family::Check, b"check_1.txt", &mut tally);
-    run_file(Family::Deliver, b"deliver.txt", &mut tally);
-    run_file(Family::Deliver, b"deliver_1.txt", &mut tally);
+    run_file(Family::Check, b"check_2.txt", &mut tally);
+    run_file(Family::EarlierDeliver, b"deliver.txt", &mut tally);
+    run_file(Family::EarlierDeliver, b"deliver_1.txt", &mut tally);
+    run_file(Family::Deliver, b"deliver_2.txt", &mut tally);
     cases::print_tally(&tally);
     refusals::print_refusals();
 }

@@ -9,10 +9,15 @@ use lib.IntN.{ℤ}
 use lib.ListN.{length}
 use borrow.Author.Tests.{leb-true}
 use Rattle.semantics.specs.Syntax.{Script, main-depth}
-use Rattle.semantics.specs.Store.{Store, cells-taken}
-use Rattle.semantics.specs.Words.{store-of, shaped}
+use Rattle.semantics.specs.Outcome.{Outcome, done, stop}
+use Rattle.semantics.specs.Store.{Store, cells-taken, free-cells}
+use Rattle.semantics.specs.Words.{cells-in, cell-at, store-of, shaped}
 use Rattle.semantics.specs.Sound.{sound, sound-words}
+use Rattle.semantics.specs.Machine.{State, Delivered, program, delivery, starting, delivered-by, delivered, state-of}
+use Rattle.semantics.specs.Machine.{lowest-over}
 use Rattle.semantics.specs.Calls.{judged, accepted, request-fits}
+use Rattle.laws.specs.Lists.{tabulate-length}
+use Rattle.laws.specs.Levels.{lowest-most}
 use Rattle.laws.specs.Tests.{both-hold}
 use Rattle.store_words.proofs.Puts.{LengthsKept}
 use Rattle.machine_positions.specs.Machine as M
@@ -41,21 +46,52 @@ pub sound-fits : (d : ℕ) (slots : List ℤ) (heads : List ℕ) → sound-words
 unfolding sound-words
 sound-fits d slots heads e = both-hold (shaped slots heads) (sound d (store-of slots heads)) e .0
 
+-- a run shows its lowest level however it ends
+shown-lowest : (budget : ℕ) (σ : Store) (o : Outcome State (Unit {0})) →
+    delivered-by budget σ o .lowest ≡ lowest-over (state-of o .log) (free-cells σ)
+shown-lowest budget σ (done a s) = refl
+shown-lowest budget σ (stop n s) = refl
+
 module _ (node : ℕ) (file : List ℕ) (fs : Script) (ok : judged node file ≡ accepted fs) (few : length fs ≤ 32)
-    (c : M.Code) (coded : Coded fs c) (readings : List ℤ) (budget : ℕ) (slots : List ℤ) (heads : List ℕ) where
-  pub delivers : {slots′ : List ℤ} {heads′ : List ℕ} {number steps n : ℕ} (d : ℕ) → d ≡ main-depth fs →
-      request-fits readings budget ≡ true → sound-words d slots heads ≡ true → LengthsKept slots heads slots′ heads′ →
-      store-of slots′ heads′ ≡ delivered-on c readings d budget (store-of slots heads) .store →
-      number ≡ delivered-on c readings d budget (store-of slots heads) .number →
-      steps ≡ delivered-on c readings d budget (store-of slots heads) .steps →
-      n ≡ cells-taken (store-of slots′ heads′) →
-      left (Answered number steps n) slots′ heads′ ≡ delivered-left fs readings budget slots heads
+    (c : M.Code) (coded : Coded fs c) (readings : List ℤ) (budget : ℕ) (slots : List ℤ) (heads : List ℕ) (d : ℕ)
+    (same : d ≡ main-depth fs) (request : request-fits readings budget ≡ true)
+    (fine : sound-words d slots heads ≡ true) where
+  abbrev shown : Delivered
+  shown = delivered-on c readings d budget (store-of slots heads)
+
+  fine-main : sound-words (main-depth fs) slots heads ≡ true
+  fine-main = subst (λ x. sound-words x slots heads ≡ true) same fine
+
+  -- the delivery of the definitions
+  is-delivered : shown ≡ delivered (program fs) readings budget (store-of slots heads)
+  is-delivered = ap (λ x. delivered-on c readings x budget (store-of slots heads)) same
+      ∙ deliver-accepted node file fs ok few c coded readings budget slots heads fine-main request
+
+  pub delivers : {slots′ : List ℤ} {heads′ : List ℕ} {number lowest steps n : ℕ} →
+      LengthsKept slots heads slots′ heads′ → store-of slots′ heads′ ≡ shown .store → number ≡ shown .number →
+      lowest ≡ shown .lowest → steps ≡ shown .steps → n ≡ cells-taken (store-of slots′ heads′) →
+      left (Answered number lowest steps n) slots′ heads′ ≡ delivered-left fs readings budget slots heads
   unfolding delivered-left
-  delivers d same request fine kept holds a b counted =
-      rw (request, subst (λ x. sound-words x slots heads ≡ true) same fine)
-      (rw (a, b) (words-left kept (sound-fits d slots heads fine) holds counted)
-      ∙ ap (λ x. left-of (delivered-on c readings x budget (store-of slots heads))) same
-      ∙ ap left-of (deliver-accepted node file fs ok few c coded readings budget (store-of slots heads)))
+  delivers kept holds a l b counted =
+      rw (request, fine-main)
+      (rw (a, l, b) (words-left kept (sound-fits d slots heads fine) holds counted) ∙ ap left-of is-delivered)
+
+  -- the least number of free cells is at most that before the delivery
+  pub lowest-few : {lowest : ℕ} → lowest ≡ shown .lowest → lowest ≤ 256
+  unfolding store-of cells-in delivered
+  lowest-few e =
+      let σ = store-of slots heads in
+      let run = delivery (program fs) readings (starting budget σ) in
+      let told = ap (λ (r : Delivered). r .lowest) is-delivered in
+      let level = shown-lowest budget σ run in
+      omega (
+        arith,
+        e,
+        told,
+        level,
+        lowest-most (state-of run .log) (free-cells σ),
+        tabulate-length (cells-in slots heads) 0 (cell-at slots heads),
+      )
 
 -- the steps of a delivery are at most its budget, and that is at most 1,000,000
 pub steps-few : (c : M.Code) (readings : List ℤ) (d budget : ℕ) (σ : Store) {n : ℕ} →

@@ -14,11 +14,11 @@ use Rattle.machine_positions.specs.Machine as M
 use Rattle.machine_laws.specs.Script.{Coded}
 use Rattle.engine_store.specs.declared.Ended.{Ended}
 use Rattle.engine_store.specs.declared.Ended.the-variants.{Refused}
-use Rattle.engine_store.specs.Left.{StoreLeft, left, left-by}
+use Rattle.engine_store.specs.Left.{StoreLeft, left, left-by, SmallAnswer}
 
 -- the answer and the words of a delivery
 abbrev pub left-of : Delivered → StoreLeft
-left-of d = left-by (d .number) (d .steps) (d .store)
+left-of d = left-by (d .number) (d .lowest) (d .steps) (d .store)
 
 -- refusal 10 before 11; either leaves the store as it is
 unfoldable pub delivered-left : Script → List ℤ → ℕ → List ℤ → List ℕ → StoreLeft
@@ -35,4 +35,4 @@ abbrev pub DeliversWords : List ℕ → List ℤ → List ℕ → List ℤ → L
 DeliversWords kinds operands table slots heads readings depth budget r slots′ heads′ =
     (node : ℕ) (file : List ℕ) (fs : Script) → judged node file ≡ accepted fs → length fs ≤ 32 →
     Coded fs (M.code kinds operands table) → depth ≡ main-depth fs →
-    left r slots′ heads′ ≡ delivered-left fs readings budget slots heads
+    (left r slots′ heads′ ≡ delivered-left fs readings budget slots heads) × SmallAnswer r

@@ -2,7 +2,6 @@
 use engine_store::Ended;
 ghost use mathlib.Core.Path.{_≡_};
 ghost use Rattle.semantics.specs.Calls.{request-fits};
-ghost use Rattle.engine_store.specs.Left.{SmallAnswer};
 ghost use Rattle.engine_delivery.specs.Delivered.{DeliversWords};
 
 // Whether there are at most 16 readings and 1,000,000 steps.
@@ -29,7 +28,6 @@ pub fn deliver_words(
     ensures { λ r. ⌜ DeliversWords (now (kinds .entry)) (now (operands .entry)) (now (table .entry))
         (now (slots .entry)) (now (heads .entry)) (now (readings .entry)) depth budget
         r (now (slots .exit)) (now (heads .exit)) ⌝ }
-    ensures { λ r. ⌜ SmallAnswer r ⌝ }
 {
     if !request_fits(readings, budget) {
         return Ended::Refused(10);
@@ -49,6 +47,7 @@ pub fn deliver_words(
     );
     Ended::Answered(
         end.number,
+        end.lowest,
         end.steps,
         store_words::cells_taken(slots, heads),
     )

@@ -1,14 +1,11 @@
 -- One law for each way out of the store's part of a call.
-use Prim.Native.Nat.{ℕ, zero, suc, _+_, _≤_}
-use native.Mathlib.Omega.{arith}
+use Prim.Native.Nat.{ℕ}
 use mathlib.Core.Bool.{true, false}
 use mathlib.Core.Path.{_≡_, refl}
-use mathlib.Core.List.{List, [], _∷_}
-use lib.ListN.{length}
+use mathlib.Core.List.{List}
 use lib.IntN.{ℤ}
-use Rattle.laws.specs.Lists.{tabulate-length}
-use Rattle.semantics.specs.Store.{Cell, Store, opened, one-if-used, used-cells, cells-taken}
-use Rattle.semantics.specs.Words.{cells-in, cell-at, store-of, shaped}
+use Rattle.semantics.specs.Store.{Store, opened, cells-taken}
+use Rattle.semantics.specs.Words.{cells-in, store-of, shaped}
 use Rattle.semantics.specs.Sound.{sound, sound-words}
 use Rattle.laws.specs.Tests.{both-hold}
 use Rattle.store_words.proofs.Puts.{LengthsKept}
@@ -18,9 +15,10 @@ use Rattle.engine_store.specs.Left.{left, left-by, opened-left, checked-
 
 -- arrays of the right lengths that hold σ, with its cells counted
 pub words-left : {slots : List ℤ} {heads : List ℕ} {slots′ : List ℤ} {heads′ : List ℕ} {σ : Store}
-    {number steps n : ℕ} →
+    {number lowest steps n : ℕ} →
     LengthsKept slots heads slots′ heads′ → shaped slots heads ≡ true → store-of slots′ heads′ ≡ σ →
-    n ≡ cells-taken (store-of slots′ heads′) → left (Answered number steps n) slots′ heads′ ≡ left-by number steps σ
+    n ≡ cells-taken (store-of slots′ heads′) →
+    left (Answered number lowest steps n) slots′ heads′ ≡ left-by number lowest steps σ
 words-left {slots} {heads} {slots′} {heads′} {σ} kept fit holds counted =
     let words = words-are kept (shaped-means slots heads fit) holds in
     rw (words .0, words .1, counted, holds)
@@ -33,7 +31,7 @@ not-opened d slots heads e = rw e
 pub opens : (d : ℕ) (slots : List ℤ) (heads : List ℕ) (slots′ : List ℤ) (heads′ : List ℕ) (n : ℕ) →
     shaped slots heads ≡ true → LengthsKept slots heads slots′ heads′ →
     store-of slots′ heads′ ≡ opened (cells-in slots heads) d → n ≡ cells-taken (store-of slots′ heads′) →
-    left (Answered 0 0 n) slots′ heads′ ≡ opened-left d slots heads
+    left (Answered 0 0 0 n) slots′ heads′ ≡ opened-left d slots heads
 unfolding opened-left
 opens d slots heads slots′ heads′ n e kept holds counted = rw e (words-left kept e holds counted)
 
@@ -43,29 +41,8 @@ unfolding checked-left
 not-checked d slots heads e = rw e
 
 pub checks : (d : ℕ) (slots : List ℤ) (heads : List ℕ) (n : ℕ) → sound-words d slots heads ≡ true →
-    n ≡ cells-taken (store-of slots heads) → left (Answered 0 0 n) slots heads ≡ checked-left d slots heads
+    n ≡ cells-taken (store-of slots heads) → left (Answered 0 0 0 n) slots heads ≡ checked-left d slots heads
 unfolding checked-left sound-words
 checks d slots heads n e counted =
     let fit = both-hold (shaped slots heads) (sound d (store-of slots heads)) e .0 in
     rw e (words-left (record { slots-long = refl; heads-long = refl }) fit refl counted)
-
--- ---- how many cells there are
-
-used-few : (l : List Cell) → used-cells l ≤ length l
-unfolding used-cells
-used-few [] = omega arith
-used-few (x ∷ l) = go (used-few l) (x .count)
-  where
-    go : used-cells l ≤ length l → (n : ℕ) → one-if-used n + used-cells l ≤ suc (length l)
-    go h zero = omega (arith, h)
-    go h (suc n) = omega (arith, h)
-
-pub taken-few : (slots : List ℤ) (heads : List ℕ) (n : ℕ) → n ≡ cells-taken (store-of slots heads) → n ≤ 256
-unfolding store-of cells-in
-taken-few slots heads n e =
-    omega (
-      arith,
-      e,
-      used-few (store-of slots heads .cells),
-      tabulate-length (cells-in slots heads) 0 (cell-at slots heads),
-    )

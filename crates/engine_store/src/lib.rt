@@ -2,9 +2,10 @@
 ghost use mathlib.Core.Path.{_≡_};
 ghost use Rattle.engine_store.specs.Left.{left, opened-left, checked-left, SmallAnswer};
 
-// How the store's part of a call ends: the number of a stop or 0, the steps and the cells taken; or a refusal.
+// How the store's part of a call ends: the number of a stop or 0, the lowest level of a delivery, the steps and the
+// cells taken; or a refusal.
 pub enum Ended {
-    Answered(u8, u64, usize),
+    Answered(u8, u32, u64, usize),
     Refused(u8),
 }
 
@@ -18,7 +19,7 @@ pub fn open_words(slots: &mut [i64], heads: &mut [u32], depth: u32) -> Ended
         return Ended::Refused(11);
     }
     store_reset::open_store(slots, heads, depth);
-    Ended::Answered(0, 0, store_words::cells_taken(slots, heads))
+    Ended::Answered(0, 0, 0, store_words::cells_taken(slots, heads))
 }
 
 // Checks a store with totals of a depth.
@@ -30,5 +31,5 @@ pub fn check_words(slots: &[i64], heads: &[u32], depth: u32) -> Ended
     if !store_check::is_sound(slots, heads, depth) {
         return Ended::Refused(11);
     }
-    Ended::Answered(0, 0, store_words::cells_taken(slots, heads))
+    Ended::Answered(0, 0, 0, store_words::cells_taken(slots, heads))
 }

@@ -2,6 +2,7 @@ pub mod Cells
 pub mod Counts
 pub mod Endings
 pub mod Files
+pub mod Levels
 pub mod Lists
 pub mod Numbers
 pub mod Releases

@@ -23,13 +23,13 @@ pub fn work_tree(
     table: &[u8; 16448],
     slots: &mut [i64],
     heads: &mut [u32],
-    env: &mut [i64; 8224],
+    env: &mut [i64; 8226],
     steps: u64,
     lines: u64,
     calls: usize,
     at: usize,
 ) -> Out
-    requires { ⌜ (calls < 32) × (length (now env) ≡ 8224) × Short (now (now kinds)) ⌝ }
+    requires { ⌜ (calls < 32) × (length (now env) ≡ 8226) × Short (now (now kinds)) ⌝ }
     ensures { λ r. ⌜ Ended (tree-on lines
         (call-on calls (code (now (now (kinds .entry))) (now (now (operands .entry))) (now (table .entry))))
         (code (now (now (kinds .entry))) (now (now (operands .entry))) (now (table .entry))) calls at steps
@@ -79,14 +79,14 @@ fn work_line(
     table: &[u8; 16448],
     slots: &mut [i64],
     heads: &mut [u32],
-    env: &mut [i64; 8224],
+    env: &mut [i64; 8226],
     steps: u64,
     lines: u64,
     calls: usize,
     at: usize,
     l: Line,
 ) -> Out
-    requires { ⌜ (at < length (now (now kinds))) × (calls < 32) × (length (now env) ≡ 8224)
+    requires { ⌜ (at < length (now (now kinds))) × (calls < 32) × (length (now env) ≡ 8226)
         × Short (now (now kinds)) ⌝ }
     ensures { λ r. ⌜ Ended (line-on
         (tree-on lines
@@ -161,7 +161,7 @@ fn work_if(
     table: &[u8; 16448],
     slots: &mut [i64],
     heads: &mut [u32],
-    env: &mut [i64; 8224],
+    env: &mut [i64; 8226],
     steps: u64,
     lines: u64,
     calls: usize,
@@ -169,7 +169,7 @@ fn work_if(
     x: u8,
     g: Atom,
 ) -> Out
-    requires { ⌜ (at < length (now (now kinds))) × (calls < 32) × (length (now env) ≡ 8224)
+    requires { ⌜ (at < length (now (now kinds))) × (calls < 32) × (length (now env) ≡ 8226)
         × Short (now (now kinds)) ⌝ }
     ensures { λ r. ⌜ Ended (if-line
         (tree-on lines
@@ -213,14 +213,14 @@ fn work_call(
     table: &[u8; 16448],
     slots: &mut [i64],
     heads: &mut [u32],
-    env: &mut [i64; 8224],
+    env: &mut [i64; 8226],
     steps: u64,
     calls: usize,
     at: usize,
     x: u8,
     g: u8,
 ) -> Out
-    requires { ⌜ (at < length (now (now kinds))) × (calls < 32) × (length (now env) ≡ 8224)
+    requires { ⌜ (at < length (now (now kinds))) × (calls < 32) × (length (now env) ≡ 8226)
         × Short (now (now kinds)) ⌝ }
     ensures { λ r. ⌜ Ended (call-line
         (call-on calls (code (now (now (kinds .entry))) (now (now (operands .entry))) (now (table .entry))))
@@ -266,7 +266,7 @@ fn work_loop(
     table: &[u8; 16448],
     slots: &mut [i64],
     heads: &mut [u32],
-    env: &mut [i64; 8224],
+    env: &mut [i64; 8226],
     steps: u64,
     lines: u64,
     calls: usize,
@@ -274,7 +274,7 @@ fn work_loop(
     x: u8,
     l: Loop,
 ) -> Out
-    requires { ⌜ (at < length (now (now kinds))) × (calls < 32) × (length (now env) ≡ 8224)
+    requires { ⌜ (at < length (now (now kinds))) × (calls < 32) × (length (now env) ≡ 8226)
         × Short (now (now kinds)) ⌝ }
     ensures { λ r. ⌜ Ended (loop-line
         (tree-on lines
@@ -318,14 +318,14 @@ fn work_pass(
     table: &[u8; 16448],
     slots: &mut [i64],
     heads: &mut [u32],
-    env: &mut [i64; 8224],
+    env: &mut [i64; 8226],
     steps: u64,
     lines: u64,
     calls: usize,
     at: usize,
     l: Passes,
 ) -> Out
-    requires { ⌜ (calls < 32) × (length (now env) ≡ 8224) × Short (now (now kinds))
+    requires { ⌜ (calls < 32) × (length (now env) ≡ 8226) × Short (now (now kinds))
         × Usable (now slots) (now heads) l ⌝ }
     ensures { λ r. ⌜ Ended (passes-on (looped (l .way)
         (tree-on lines

@@ -1,6 +1,5 @@
 // A delivery on the code of a script and a store: the readings' cell, main, the result in the totals' place; and after
 // a stop the old store, linked anew.
-use machine_lines::Out;
 use store::Acquired;
 ghost use mathlib.Core.Path.{_≡_};
 ghost use mathlib.Core.Bool.{true};
@@ -12,9 +11,17 @@ ghost use Rattle.machine_positions.specs.Machine.{code};
 ghost use Rattle.machine_positions.specs.Delivery.{retained-totals, released-totals, main-on, attempt-on, delivered-on};
 ghost use Rattle.machine_delivery.specs.Promises.{Tries, DeliversOn};
 
-// How a delivery ends: the number of its stop or 0, and the steps taken.
+// How a delivery ends: the number of its stop or 0, the least number of free cells over it, and the steps taken.
 pub struct Delivery {
     pub number: u8,
+    pub lowest: u32,
+    pub steps: u64,
+}
+
+// The same before the clearing after a stop, with the steps left.
+pub struct Attempted {
+    pub stop: u8,
+    pub lowest: u32,
     pub steps: u64,
 }
 
@@ -28,7 +35,7 @@ fn retain_totals(slots: &[i64], heads: &mut [u32], depth: u32, old: i64)
     }
 }
 
-// One reference fewer.
+// One reference fewer. No level is lower for it.
 fn release_totals(slots: &mut [i64], heads: &mut [u32], depth: u32, old: i64)
     ensures { λ _. ⌜ store-of (now (slots .exit)) (now (heads .exit))
         ≡ released-totals depth old (store-of (now (slots .entry)) (now (heads .entry))) ⌝ }
@@ -38,7 +45,7 @@ fn release_totals(slots: &mut [i64], heads: &mut [u32], depth: u32, old: i64)
     }
 }
 
-// Main on the totals and the readings' cell.
+// Main on the totals and the readings' cell, beside which so many cells are free.
 fn work_main(
     kinds: &[u8],
     operands: &[i64],
@@ -48,16 +55,18 @@ fn work_main(
     depth: u32,
     old: i64,
     readings: i64,
+    free: u32,
     budget: u64,
-) -> Out
+) -> Attempted
     requires { ⌜ 0 < length (now slots) ⌝ }
     ensures { λ r. ⌜ ((k : ℕ) → readings ≡ pos k → Tries
-        (main-on (code (now (kinds .entry)) (now (operands .entry)) (now (table .entry))) depth old k budget
+        (main-on (code (now (kinds .entry)) (now (operands .entry)) (now (table .entry))) depth old k free budget
         (store-of (now (slots .entry)) (now (heads .entry))))
         budget r (now (slots .exit)) (now (heads .exit))) ⌝ }
 {
     retain_totals(slots, heads, depth, old);
-    let mut env = [0i64; 8224];
+    let mut env = [0i64; 8226];
+    machine_lines::set_level(&mut env, free);
     machine_lines::bind(&mut env, 31, 0, old);
     machine_lines::bind(&mut env, 31, 1, readings);
     machine_lines::set_function(&mut env, 31, 0);
@@ -75,13 +84,17 @@ fn work_main(
         start,
     );
     let stop = r.stop;
-    if stop != 0 {
-        return r;
+    let lowest = machine_lines::lowest(&env);
+    if stop == 0 {
+        let w = r.value;
+        store_words::set_totals(slots, w);
+        release_totals(slots, heads, depth, old);
     }
-    let w = r.value;
-    store_words::set_totals(slots, w);
-    release_totals(slots, heads, depth, old);
-    r
+    Attempted {
+        stop,
+        lowest,
+        steps: r.steps,
+    }
 }
 
 // The delivery without the clearing after a stop.
@@ -94,7 +107,7 @@ fn attempt(
     readings: &[i64],
     depth: u32,
     budget: u64,
-) -> Out
+) -> Attempted
     requires { ⌜ 0 < length (now slots) ⌝ }
     ensures { λ r. ⌜ Tries
         (attempt-on (code (now (kinds .entry)) (now (operands .entry)) (now (table .entry)))
@@ -102,12 +115,28 @@ fn attempt(
         budget r (now (slots .exit)) (now (heads .exit)) ⌝ }
 {
     let old = store_words::word_at(slots, 0);
-    match store::acquire(slots, heads, 0, readings) {
-        Acquired::Cell(c) => {
+    let free = store_words::cells_free(slots, heads);
+    match store::acquire(slots, heads, 0, readings, free) {
+        Acquired::Cell(c, left) => {
             let w = machine_lines::word_from(c);
-            work_main(kinds, operands, table, slots, heads, depth, old, w, budget)
+            work_main(
+                kinds,
+                operands,
+                table,
+                slots,
+                heads,
+                depth,
+                old,
+                w,
+                left,
+                budget,
+            )
         }
-        Acquired::NoneFree => machine_lines::halted(machine_lines::OUT_OF_CELLS, budget),
+        Acquired::NoneFree => Attempted {
+            stop: machine_lines::OUT_OF_CELLS,
+            lowest: free,
+            steps: budget,
+        },
     }
 }
 
@@ -145,17 +174,16 @@ fn deliver_kept(
         budget,
     );
     let number = r.stop;
+    let lowest = r.lowest;
     let left = r.steps;
+    let steps = budget - left;
     if number != 0 {
         store_reset::put_back(slots, heads, old_slots, old_heads);
-        return Delivery {
-            number,
-            steps: budget - left,
-        };
     }
     Delivery {
-        number: 0,
-        steps: budget - left,
+        number,
+        lowest,
+        steps,
     }
 }
 

@@ -13,15 +13,16 @@ use Rattle.semantics.specs.Basics.{updated}
 use Rattle.semantics.specs.Outcome.{stop}
 use Rattle.semantics.specs.Code.{rows}
 use Rattle.semantics.specs.Live.{Set, empty}
-use Rattle.semantics.specs.Machine.{State, Program, routine-of, frame-from, machine}
+use Rattle.semantics.specs.Machine.{Event, State, Program, routine-of, frame-from, machine}
 use Rattle.soundness.specs.machine.Discipline.{Fitting, Scoped, parameter-names}
 use Rattle.machine_code.specs.Reading.{low-bits, depth-in, start-in}
-use Rattle.machine_lines.specs.Frames.{place, function-place, put-all, called}
+use Rattle.machine_lines.specs.Frames.{place, function-place, put-all, called, level-place}
 use Rattle.machine_lines.specs.Lines.{memory}
 use Rattle.machine_positions.specs.Machine.{Code, call-on, tree-on}
 use Rattle.machine_positions.specs.Lengths.{put-keeps, called-keeps}
 use Rattle.machine_laws.specs.Rows.{At, Jumps}
 use Rattle.machine_laws.specs.Frames.{Bounded, FrameAgrees, Framed}
+use Rattle.machine_laws.specs.Levels.{LevelsAgree, levels-set}
 use Rattle.machine_laws.specs.Same.{CalleeSame, Rel, TreeDone, CallDone, rel-map}
 use Rattle.machine_laws.specs.Trees.{tree-same}
 
@@ -73,7 +74,7 @@ parameters n = λ x. ltb x n
 pub bounded-parameters : (n : ℕ) → n ≤ 16 → Bounded (parameters n)
 bounded-parameters n h = record { below = λ x e. omega (arith, h, ltb-true x n e) }
 
-pub arguments-agree : (calls f : ℕ) (ws : List ℤ) (env : List ℤ) → calls ≤ 31 → length ws ≤ 16 → 8224 ≤ length env →
+pub arguments-agree : (calls f : ℕ) (ws : List ℤ) (env : List ℤ) → calls ≤ 31 → length ws ≤ 16 → 8226 ≤ length env →
     FrameAgrees calls (called calls f ws env) (frame-from ws 0) (parameters (length ws))
 arguments-agree calls f ws env small few long = record {
   agree = λ x e.
@@ -86,7 +87,7 @@ arguments-agree calls f ws env small few long = record {
       e));
 }
 
-framed-called : (calls f : ℕ) (ws : List ℤ) (env : List ℤ) → calls ≤ 31 → f < 256 → 8224 ≤ length env →
+framed-called : (calls f : ℕ) (ws : List ℤ) (env : List ℤ) → calls ≤ 31 → f < 256 → 8226 ≤ length env →
     Framed calls f (called calls f ws env)
 framed-called calls f ws env small h long = record {
   few = small;
@@ -96,6 +97,20 @@ framed-called calls f ws env small h long = record {
       (omega (arith, small, long, put-keeps ws (place calls 0) env)))
       ∙ (let z : f % 16777216 % 256 ≡ f = omega (arith, h) in z);
 }
+
+-- a call leaves the levels
+levels-put : {free : ℕ} {log : List Event} (ws : List ℤ) (p : ℕ) (env : List ℤ) → p + length ws ≤ level-place →
+    LevelsAgree free log env → LevelsAgree free log (put-all ws p env)
+unfolding put-all
+levels-put [] p env h levels = levels
+levels-put (w ∷ ws) p env h levels =
+    levels-put ws (p + 1) (set env p w) (omega arith) (levels-set levels p w (omega arith))
+
+levels-called : {free : ℕ} {log : List Event} (calls f : ℕ) (ws : List ℤ) (env : List ℤ) → calls ≤ 31 →
+    length ws ≤ 16 → LevelsAgree free log env → LevelsAgree free log (called calls f ws env)
+levels-called calls f ws env small few levels =
+    levels-set (levels-put ws (place calls 0) env (omega (arith, small, few)) levels) (function-place calls) (pos f)
+    (omega (arith, small))
 
 -- ---- the routines of a program in the code
 
@@ -108,40 +123,43 @@ pub record FunctionStands (p : Program) (c : Code) (g : ℕ) : Type 0 where
   pub depths : (x : ℕ) → x < 256 → depth-in (c .table) g x ≡ routine-of p g .depths x
   pub few : length (p .signatures g .parameters) ≤ 16
 
-module _ (p : Program) (enough : length (p .routines) ≤ 32) (c : Code)
+module _ (free : ℕ) (p : Program) (enough : length (p .routines) ≤ 32) (c : Code)
     (all : (g : ℕ) → g < length (p .routines) → FunctionStands p c g) (jumps : Jumps c) where
   -- a routine's tree, with some call depth left
-  pub function-same : (n : ℕ) → n ≤ 31 → CalleeSame p n (call-on n c) (machine p n) → (R : List ℕ) (g : ℕ)
+  pub function-same : (n : ℕ) → n ≤ 31 → CalleeSame free p n (call-on n c) (machine p n) → (R : List ℕ) (g : ℕ)
       (ws : List ℤ) (env : List ℤ) (s : State) → g < length (p .routines) →
-      length ws ≡ length (p .signatures g .parameters) → 8224 ≤ length env →
-      Rel (TreeDone (start-in (c .table) g + length (rows (routine-of p g .tree))) n
+      length ws ≡ length (p .signatures g .parameters) → 8226 ≤ length env →
+      LevelsAgree free (s .log) env → Rel free (TreeDone free (start-in (c .table) g + length (rows (routine-of p g
+      .tree))) n
       (called n g ws env) (parameters (length ws)))
       (tree-on 4096 (call-on n c) c n (start-in (c .table) g) (s .left) (memory (s .store) (called n g ws env)))
       (machine p (suc n) R g ws s)
   unfolding machine
-  function-same n small calling R g ws env s h a long =
+  function-same n small calling R g ws env s h a long levels =
       let st = all g h in
-      tree-same p enough (machine p n) (routine-of p g .depths) c n g (call-on n c) (st .depths) jumps calling
+      tree-same free p enough (machine p n) (routine-of p g .depths) c n g (call-on n c) (st .depths) jumps calling
       (routine-of p g .tree) 4096 (st .short) (omega arith) (parameters (length ws)) (p .signatures g .result)
       (st .fitting) (subst (λ (k : ℕ). Scoped (routine-of p g .tree) (parameters k)) (sym a) (st .scoped))
       (bounded-parameters (length ws) (omega (arith, a, st .few))) (start-in (c .table) g) (st .written) empty R
       (frame-from ws 0) s (called n g ws env) (arguments-agree n g ws env small (omega (arith, a, st .few)) long)
-      (framed-called n g ws env small (omega (arith, h, enough)) long)
+      (framed-called n g ws env small (omega (arith, h, enough)) long) (levels-called n g ws env small
+      (omega (arith, a, st .few)) levels)
 
-  pub calls-same : (n : ℕ) → n ≤ 31 → CalleeSame p n (call-on n c) (machine p n)
+  pub calls-same : (n : ℕ) → n ≤ 31 → CalleeSame free p n (call-on n c) (machine p n)
   unfolding call-on machine
   calls-same zero small = record {
     few = λ g h. all g h .few;
-    same = λ R g ws env s h a long. record { stop = refl; real = λ z. omega arith; steps = refl };
+    same = λ R g ws env s h a long levels.
+        record { stop = refl; real = λ z. omega arith; steps = refl; levels = levels };
   }
   calls-same (suc n) small = record {
     few = λ g h. all g h .few;
-    same = λ R g ws env s h a long.
+    same = λ R g ws env s h a long levels.
         let put = put-all ws (place n 0) env in
         let few : length ws ≤ 16 = omega (arith, a, all g h .few) in
-        rel-map (TreeDone (start-in (c .table) g + length (rows (routine-of p g .tree))) n (called n g ws env)
+        rel-map free (TreeDone free (start-in (c .table) g + length (rows (routine-of p g .tree))) n (called n g ws env)
         (parameters (length ws)))
-        (CallDone (suc n) env)
+        (CallDone free (suc n) env)
         (tree-on 4096 (call-on n c) c n (start-in (c .table) g) (s .left) (memory (s .store) (called n g ws env)))
         (machine p (suc n) R g ws s)
         (λ v s′ d. record {
@@ -151,11 +169,12 @@ module _ (p : Program) (enough : length (p .routines) ≤ 32) (c : Code)
           frames = λ q l m. d .word .kept .callers q (omega (arith, l)) m
               ∙ getD-set-other put (function-place n) q (pos g) (pos 0) (λ e. absurd (omega (arith, e, m)))
               ∙ put-above ws (place n 0) env q (omega (arith, l, few));
-          functions = λ k l. d .word .kept .functions k (omega (arith, l))
+          functions = λ k l m. d .word .kept .functions k (omega (arith, l)) m
               ∙ getD-set-other put (function-place n) (function-place k) (pos g) (pos 0)
               (λ e. absurd (omega (arith, e, l)))
               ∙ put-above ws (place n 0) env (function-place k) (omega (arith, small, few));
           long = d .word .kept .long ∙ called-keeps n g ws env;
+          levels = d .word .levels;
         })
-        (function-same n (omega arith) (calls-same n (omega arith)) R g ws env s h a long);
+        (function-same n (omega arith) (calls-same n (omega arith)) R g ws env s h a long levels);
   }

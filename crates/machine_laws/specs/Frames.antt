@@ -36,13 +36,14 @@ pub record FrameAgrees (calls : ℕ) (env : List ℤ) (ρ : Frame) (S : Set) : T
 pub record FrameKept (calls : ℕ) (env env′ : List ℤ) (S : Set) : Type 0 where
   pub names : (x : ℕ) → S x ≡ true → getD env′ (place calls x) (pos 0) ≡ getD env (place calls x) (pos 0)
   pub callers : (q : ℕ) → 256 * calls + 256 ≤ q → q < 8192 → getD env′ q (pos 0) ≡ getD env q (pos 0)
-  pub functions : (k : ℕ) → calls ≤ k → getD env′ (function-place k) (pos 0) ≡ getD env (function-place k) (pos 0)
+  pub functions : (k : ℕ) → calls ≤ k → k ≤ 31 →
+      getD env′ (function-place k) (pos 0) ≡ getD env (function-place k) (pos 0)
   pub long : length env′ ≡ length env
 
 -- the frame of a call of function f is there
 pub record Framed (calls f : ℕ) (env : List ℤ) : Type 0 where
   pub few : calls ≤ 31
-  pub long : 8224 ≤ length env
+  pub long : 8226 ≤ length env
   pub function : function-of calls env ≡ f
 
 pub framed-kept : {calls f : ℕ} {e₀ e₁ : List ℤ} {S : Set} → FrameKept calls e₀ e₁ S → Framed calls f e₀ →
@@ -50,7 +51,7 @@ pub framed-kept : {calls f : ℕ} {e₀ e₁ : List ℤ} {S : Set} → FrameKept
 framed-kept {calls} k h = record {
   few = h .few;
   long = omega (arith, h .long, k .long);
-  function = ap (λ (z : ℤ). low-bits z % 256) (k .functions calls (omega arith)) ∙ h .function;
+  function = ap (λ (z : ℤ). low-bits z % 256) (k .functions calls (omega arith) (h .few)) ∙ h .function;
 }
 
 pub small-known : (a : C.Atom) (S : Set) → Bounded S → Known a S → SmallAtom a
@@ -92,7 +93,7 @@ agrees-more calls {f} env ρ S x v h l b g = record { agree = λ y e. go y e (�
         ∙ sym (ap (λ (t : Bool). cond t v (ρ y)) (ne-eqb x y p))
 
 pub kept-none : (calls : ℕ) (env : List ℤ) (S : Set) → FrameKept calls env env S
-kept-none calls env S = record { names = λ x e. refl; callers = λ q h l. refl; functions = λ k h. refl; long = refl }
+kept-none calls env S = record { names = λ x e. refl; callers = λ q h l. refl; functions = λ k h l. refl; long = refl }
 
 pub kept-more : (calls : ℕ) (env : List ℤ) (S : Set) (x : ℕ) (v : ℤ) → calls ≤ 31 → x < 256 → S x ≡ false →
     FrameKept calls env (set env (place calls x) v) S
@@ -100,7 +101,7 @@ kept-more calls env S x v few small u = record {
   names = λ y e. getD-set-other env (place calls x) (place calls y) v (pos 0)
       (λ q. no-bool (sym e ∙ ap S (let z : y ≡ x = omega (arith, q) in z) ∙ u));
   callers = λ q h l. getD-set-other env (place calls x) q v (pos 0) (λ e. absurd (omega (arith, e, h, small)));
-  functions = λ k h. getD-set-other env (place calls x) (function-place k) v (pos 0)
+  functions = λ k h l. getD-set-other env (place calls x) (function-place k) v (pos 0)
       (λ e. absurd (omega (arith, e, few, small)));
   long = length-set env (place calls x) v;
 }
@@ -110,7 +111,7 @@ pub kept-then : (calls : ℕ) (e₀ e₁ e₂ : List ℤ) (S T : Set) → ((x : 
 kept-then calls e₀ e₁ e₂ S T i a b = record {
   names = λ x e. b .names x (i x e) ∙ a .names x e;
   callers = λ q h l. b .callers q h l ∙ a .callers q h l;
-  functions = λ k h. b .functions k h ∙ a .functions k h;
+  functions = λ k h l. b .functions k h l ∙ a .functions k h l;
   long = b .long ∙ a .long;
 }
 

@@ -15,36 +15,38 @@ use Rattle.semantics.specs.Number.{Operation, sum, difference, less, exact, fit
 use Rattle.semantics.specs.Kinds.{Leaf, operation, call, literal, index, length-of, iota, replicate, operation-kind}
 use Rattle.semantics.specs.Kinds.{leaf-kind, leaf-operand}
 use Rattle.semantics.specs.Types.{Signature, same, call-rule, replicate-rule}
-use Rattle.semantics.specs.Store.{Store, cell-of, has-free, acquired, retained, released, deepest}
+use Rattle.semantics.specs.Store.{Store, cell-of, has-free, acquired, retained}
 use Rattle.semantics.specs.Code as K
 use Rattle.semantics.specs.Code.{row, atom-row}
 use Rattle.semantics.specs.Live.{Set, _∪_, _∖_, only, among}
 use Rattle.semantics.specs.Annotate.{NameDepths, atom-depth, depth-of}
 use Rattle.semantics.specs.Machine as M
 use Rattle.semantics.specs.Machine.{State, Frame, Program, word, with-left, work-leaf, work-line, acquire, acquire-if}
-use Rattle.semantics.specs.Machine.{elements-of, retain-word, release-word, held, argument, touching, is-count}
+use Rattle.semantics.specs.Machine.{elements-of, retain-word, held, argument, touching, is-count}
 use Rattle.semantics.specs.Machine.{if-array, retain-times, acquires}
 use Rattle.soundness.specs.machine.Fits.{replicate-fits}
 use Rattle.laws.specs.Tests.{some-if-holds, same-lists}
 use Rattle.soundness.specs.machine.Discipline.{AllKnown, New, LeafFits}
 use Rattle.words.specs.Words.{checked}
-use Rattle.store.specs.Acquiring.{next-cell}
+use Rattle.store.specs.Acquiring.{Gained, gained, next-cell}
 use Rattle.machine_code.specs.Reading.{atom-at, is-atom, line-of, line-at, depth-in}
 use Rattle.machine_code.specs.declared.Atom.{Atom}
-use Rattle.machine_code.specs.declared.Atom.the-variants.{Name}
-use Rattle.machine_code.specs.declared.Line.{Line}
 use Rattle.machine_code.specs.declared.Line.the-variants as L
-use Rattle.machine_lines.specs.Frames.{word-of, words-at, element-depth}
+use Rattle.machine_lines.specs.Frames.{word-of, words-at, element-depth, level-of, noted}
 use Rattle.machine_lines.specs.Lines.{Memory, memory, Ran, ran, out, with-store, Given, given, operation-of}
 use Rattle.machine_lines.specs.Lines.{operation-given, array-of, index-given, length-given, acquired-given, Doing}
-use Rattle.machine_lines.specs.Lines.{elements-by, retained-times, made-store, array-store, array-given, giving}
-use Rattle.machine_lines.specs.Lines.{calling, changing, doing, giving-line, leaf-done}
+use Rattle.machine_lines.specs.Lines.{elements-by, retained-times, made-store, made-memory, array-memory, array-given}
+use Rattle.machine_lines.specs.Lines.{acquired-memory, cell-from, giving}
+use Rattle.machine_lines.specs.Lines.{calling, doing, giving-line, leaf-done}
 use Rattle.machine_lines.proofs.Counts.{counted-bad}
 use Rattle.machine_positions.specs.Machine.{Code, Work, Callee, binding, call-worked, call-line, line-done}
 use Rattle.machine_laws.specs.Rows.{Here, At, line-read}
-use Rattle.machine_laws.specs.Frames.{Bounded, FrameAgrees, Framed, kept-none}
+use Rattle.machine_laws.specs.Frames.{Bounded, FrameAgrees, FrameKept, Framed, kept-none}
+use Rattle.machine_laws.specs.Levels.{LevelsAgree, levels-touched, levels-acquired, kept-noted}
+use Rattle.machine_laws.specs.Acquiring.{acquire-same}
 use Rattle.machine_laws.specs.Atoms.{words-same, word-at}
-use Rattle.machine_laws.specs.Same.{Rel, LineDone, CallDone, CalleeSame, Gives, rel-then, rel-step, call-word}
+use Rattle.machine_laws.specs.Same.{Rel, LineDone, CallDone, CalleeSame, Gives as Given-by, rel-then, rel-step}
+use Rattle.machine_laws.specs.Same.{call-word}
 use Rattle.machine_laws.specs.Same.{bound-done}
 
 -- ---- what a call's atoms fit
@@ -71,31 +73,38 @@ operation-read sum n u v = refl
 operation-read difference n u v = refl
 operation-read less n u v = refl
 
--- so many retains leave the steps, and the store with so many references more
+-- so many retains leave the steps and the levels, and the store with so many references more
 record Retains (k : ℕ) (w : ℤ) (s : State) : Type 0 where
   pub after : State
   pub does : retain-times k w s ≡ done tt after
   pub left : after .left ≡ s .left
   pub store : after .store ≡ retained-times k (cell-of w) (s .store)
+  pub levels : (free : ℕ) (env : List ℤ) → LevelsAgree free (s .log) env → LevelsAgree free (after .log) env
 
 retains : (k : ℕ) (w : ℤ) (s : State) → Retains k w s
 unfolding retain-times retain-word retained-times onward M.with-store
-retains zero w s = record { after = s; does = refl; left = refl; store = refl }
+retains zero w s = record { after = s; does = refl; left = refl; store = refl; levels = λ free env h. h }
 retains (suc k) w s =
     let t = retains k w (M.with-store s (retained (cell-of w) (s .store)) (touching (s .store) (cell-of w))) in
-    record { after = t .after; does = t .does; left = t .left; store = t .store }
+    record {
+      after = t .after;
+      does = t .does;
+      left = t .left;
+      store = t .store;
+      levels = λ free env h. t .levels free env (levels-touched h (s .store) (cell-of w));
+    }
 
 -- numbers are no references
-made-plain : (counting : Bool) (w : ℤ) (n : ℕ) (σ : Store) (o : Outcome (Unit {0}) ℕ) →
+made-plain : (counting : Bool) (w : ℤ) (n : ℕ) (σ : Store) (o : Outcome (Unit {0}) Gained) →
     made-store counting w 0 n σ o ≡ acquired 0 (elements-by counting w n) σ
-made-plain counting w n σ (done c u) = refl
+made-plain counting w n σ (done g u) = refl
 made-plain counting w n σ (stop k u) = refl
 
 -- a line at a position, which binds x and has the atoms us
-module _ (p : Program) (few : length (p .routines) ≤ 32) (callee : M.Callee) (Γ : NameDepths) (c : Code) (calls f : ℕ)
-    (C : Callee) (calling-same : CalleeSame p calls C callee) (W : Work) (at : ℕ) (A : Set) (R : List ℕ) (ρ : Frame)
-    (s : State) (env : List ℤ) (S : Set) (b : Bounded S) (g : FrameAgrees calls env ρ S)
-    (framed : Framed calls f env) where
+module _ (free : ℕ) (p : Program) (few : length (p .routines) ≤ 32) (callee : M.Callee) (Γ : NameDepths) (c : Code)
+    (calls f : ℕ) (C : Callee) (calling-same : CalleeSame free p calls C callee) (W : Work) (at : ℕ) (A : Set)
+    (R : List ℕ) (ρ : Frame) (s : State) (env : List ℤ) (S : Set) (b : Bounded S) (g : FrameAgrees calls env ρ S)
+    (framed : Framed calls f env) (levels : LevelsAgree free (s .log) env) where
   abbrev here : Memory
   here = memory (s .store) env
 
@@ -117,11 +126,14 @@ module _ (p : Program) (few : length (p .routines) ≤ 32) (callee : M.Callee) (
     cell-roots = R ++ held Γ (among us (A ∖ x)) ρ
 
     abbrev Done : Ran → Frame → State → Type 0
-    Done = LineDone (at + suc (length us)) calls env S (S ∪ only x)
+    Done = LineDone free (at + suc (length us)) calls env S (S ∪ only x)
+
+    abbrev Gives : ℕ → Memory → Given → Outcome State ℤ → Type 0
+    Gives = Given-by free calls env S
 
     -- the line is worked as the leaf is
     abbrev Claim : Leaf → Type 0
-    Claim l = Rel Done (line-done W C c calls at (s .left) here found) (work-line callee Γ (K.leaf x l us) A R ρ s)
+    Claim l = Rel free Done (line-done W C c calls at (s .left) here found) (work-line callee Γ (K.leaf x l us) A R ρ s)
 
     abbrev LeafStands : Leaf → Type 0
     LeafStands l = Here (c .kinds) (c .operands) at (row (leaf-kind l) (leaf-operand l x (length us)))
@@ -144,35 +156,45 @@ module _ (p : Program) (few : length (p .routines) ≤ 32) (callee : M.Callee) (
         (let z : at + 2 ≡ at + 1 + 1 = omega arith in z)
         ∙ word-at (c .kinds) (c .operands) calls env ρ S b g us (at + 1) 1 known rs h
 
+    -- a word that is given where the frames are as they were
+    gives-word : (n : ℕ) (v : ℤ) (s′ : State) → n ≡ s′ .left → s .store ≡ s′ .store →
+        LevelsAgree free (s′ .log) env → Gives n here (done v tt) (done v s′)
+    gives-word n v s′ steps store agree =
+        record { value = refl; steps = steps; store = store; kept = kept-none calls env S; levels = agree }
+
+    stops-here : (n j : ℕ) (s′ : State) → (j ≡ 0 → ⊥) → n ≡ s′ .left → LevelsAgree free (s′ .log) env →
+        Gives n here (stop j tt) (stop j s′)
+    stops-here n j s′ real steps agree = record { stop = refl; real = real; steps = steps; levels = agree }
+
     -- a leaf that is a small work
-    gives-same : (l : Leaf) (next : ℕ) (σ : Store) (y : Given) → found ≡ giving x next σ y →
+    gives-same : (l : Leaf) (next : ℕ) (m : Memory) (y : Given) → found ≡ giving x next m y →
         next ≡ at + suc (length us) →
-        ((n : ℕ) → Gives n σ y (work-leaf callee cell-roots call-roots (depth-of Γ us 1) l ws (with-left s n))) →
+        ((n : ℕ) → Gives n m y (work-leaf callee cell-roots call-roots (depth-of Γ us 1) l ws (with-left s n))) →
         Claim l
     unfolding line-done leaf-done giving-line work-line onward
-    gives-same l next σ y d e h =
-        subst (λ (z : Doing). Rel Done (line-done W C c calls at (s .left) here z)
+    gives-same l next m y d e h =
+        subst (λ (z : Doing). Rel free Done (line-done W C c calls at (s .left) here z)
         (work-line callee Γ (K.leaf x l us) A R ρ s)) (sym d)
-        (rel-step Done s here (λ n. with-store σ (given calls x next n env y))
+        (rel-step free Done s here (λ n. with-store (m .store) (given calls x next n (m .env) y))
         (λ _ s′. onward (λ w. give (updated ρ x w)) (work-leaf callee cell-roots call-roots (depth-of Γ us 1) l ws s′))
-        (λ n. go n y (work-leaf callee cell-roots call-roots (depth-of Γ us 1) l ws (with-left s n)) (h n)))
+        levels (λ n. go n y (work-leaf callee cell-roots call-roots (depth-of Γ us 1) l ws (with-left s n)) (h n)))
       where
-        go : (n : ℕ) (y : Given) (o : Outcome State ℤ) → Gives n σ y o →
-            Rel Done (with-store σ (given calls x next n env y)) (onward (λ w. give (updated ρ x w)) o)
+        go : (n : ℕ) (y : Given) (o : Outcome State ℤ) → Gives n m y o →
+            Rel free Done (with-store (m .store) (given calls x next n (m .env) y))
+            (onward (λ w. give (updated ρ x w)) o)
         go n (done w u) (done v s′) q = (
           refl,
-          bound-done calls env ρ S b g framed x new next (at + suc (length us)) e (ran (out 0 w next n) (memory σ
-              env)) v
-              s′
-              (record { value = q .0; steps = q .1; store = q .2; kept = kept-none calls env S }),
+          bound-done free calls env ρ S b g framed x new next (at + suc (length us)) e (ran (out 0 w next n) m) v s′
+              (record { value = q .value; steps = q .steps; store = q .store; kept = q .kept; levels = q .levels }),
         )
         go n (done w u) (stop k s′) q = absurd q
         go n (stop j u) (done v s′) q = absurd q
-        go n (stop j u) (stop k s′) q = record { stop = q .0; real = q .1; steps = q .2 }
+        go n (stop j u) (stop k s′) q =
+            record { stop = q .stop; real = q .real; steps = q .steps; levels = q .levels }
 
     operation-same : (o : Operation) → length us ≡ 2 → LeafStands (operation o) → Claim (operation o)
     unfolding doing work-leaf onward require checked with-left
-    operation-same o two r = gives-same (operation o) (at + 3) (s .store)
+    operation-same o two r = gives-same (operation o) (at + 3) here
         (operation-given (operation-kind o) (argument ws 0) (argument ws 1))
         (ap (doing (c .kinds) (c .operands) (c .table) calls at here)
         (line-read (c .kinds) (c .operands) at (operation-kind o) x _ _ little (r .kind) (r .operand) refl refl
@@ -182,22 +204,23 @@ module _ (p : Program) (few : length (p .routines) ≤ 32) (callee : M.Callee) (
         (λ n. rw (operation-back o) (go n (exact o (argument ws 0) (argument ws 1)) _ refl))
       where
         go : (n : ℕ) (z : ℤ) (t : Bool) → fits z ≡ t →
-            Gives n (s .store) (cond (fits z) (done z tt) (stop 24 tt))
+            Gives n here (cond (fits z) (done z tt) (stop 24 tt))
             (onward (λ _. give z) (require (fits z) 24 (with-left s n)))
-        go n z true e = rw e (refl, refl, refl)
-        go n z false e = rw e (refl, λ q. omega arith, refl)
+        go n z true e = rw e (gives-word n z (with-left s n) refl refl levels)
+        go n z false e = rw e (stops-here n 24 (with-left s n) (λ q. omega arith) refl levels)
 
     length-same : length us ≡ 1 → LeafStands length-of → Claim length-of
     unfolding doing work-leaf onward elements-of M.with-store with-left
-    length-same one r = gives-same length-of (at + 2) (s .store) (length-given (array-of (s .store) (argument ws 0)))
+    length-same one r = gives-same length-of (at + 2) here (length-given (array-of (s .store) (argument ws 0)))
         (ap (doing (c .kinds) (c .operands) (c .table) calls at here)
         (line-read (c .kinds) (c .operands) at 11 x _ _ little (r .kind) (r .operand) refl refl)
         ∙ rw (byte, first-word (omega (arith, one))) refl)
-        (omega (arith, one)) (λ n. (refl, refl, refl))
+        (omega (arith, one))
+        (λ n. gives-word n _ _ refl refl (levels-touched levels (s .store) (cell-of (argument ws 0))))
 
     index-same : length us ≡ 2 → LeafStands index → Claim index
     unfolding doing work-leaf onward require elements-of M.with-store with-left
-    index-same two r = gives-same index (at + 3) (s .store)
+    index-same two r = gives-same index (at + 3) here
         (index-given (array-of (s .store) (argument ws 0)) (argument ws 1))
         (ap (doing (c .kinds) (c .operands) (c .table) calls at here)
         (line-read (c .kinds) (c .operands) at 10 x _ _ little (r .kind) (r .operand) refl refl)
@@ -206,52 +229,65 @@ module _ (p : Program) (few : length (p .routines) ≤ 32) (callee : M.Callee) (
         (λ n. go n (array-of (s .store) (argument ws 0)) (argument ws 1)
         (inside (argument ws 1) (length (array-of (s .store) (argument ws 0)))) refl)
       where
-        go : (n : ℕ) (vs : List ℤ) (w : ℤ) (t : Bool) → inside w (length vs) ≡ t → Gives n (s .store) (index-given
-            vs w)
+        told : LevelsAgree free (s .log ++ touching (s .store) (cell-of (argument ws 0))) env
+        told = levels-touched levels (s .store) (cell-of (argument ws 0))
+
+        go : (n : ℕ) (vs : List ℤ) (w : ℤ) (t : Bool) → inside w (length vs) ≡ t → Gives n here (index-given vs w)
             (onward (λ _. give (getD vs (natAbs w) (pos 0))) (require (inside w (length vs)) 23
             (M.with-store (with-left s n) (s .store) (touching (s .store) (cell-of (argument ws 0))))))
-        go n vs w true e = rw e (refl, refl, refl)
-        go n vs w false e = rw e (refl, λ q. omega arith, refl)
+        go n vs w true e = rw e (gives-word n _ _ refl refl told)
+        go n vs w false e = rw e (stops-here n 23 _ (λ q. omega arith) refl told)
 
     -- a cell acquired with some words
-    acquire-same : (d : ℕ) (vs : List ℤ) (n : ℕ) → Gives n (acquired d vs (s .store))
-        (acquired-given (next-cell (s .store))) (acquire cell-roots d vs (with-left s n))
-    unfolding acquire acquire-if M.with-store M.with-roots with-left next-cell
-    acquire-same d vs n = go (has-free (s .store)) refl
-      where
-        go : (t : Bool) → has-free (s .store) ≡ t →
-            Gives n (acquired d vs (s .store)) (acquired-given
-            (cond (has-free (s .store)) (done (s .store .first) tt) (stop 25 tt)))
-            (acquire-if (has-free (s .store)) cell-roots d vs (with-left s n))
-        go true e = rw e (refl, refl, refl)
-        go false e = rw e (refl, λ q. omega arith, refl)
+    acquires-same : (d : ℕ) (vs : List ℤ) (n : ℕ) →
+        Gives n (acquired-memory d vs here) (acquired-given (cell-from here)) (acquire cell-roots d vs (with-left s n))
+    unfolding with-left
+    acquires-same d vs n = acquire-same free calls S b cell-roots d vs n (with-left s n) env refl framed levels
 
     -- and then the references that copies of a word are
-    copies-same : (d : ℕ) (w : ℤ) (k n : ℕ) → Gives n (made-store false w d k (s .store) (next-cell (s .store)))
-        (acquired-given (next-cell (s .store)))
+    copies-same : (d : ℕ) (w : ℤ) (k n : ℕ) → Gives n (made-memory false w d k here (cell-from here))
+        (acquired-given (cell-from here))
         (onward (λ v. if-array d (retain-times k w) >> give v)
         (acquire cell-roots d (List.replicate k w) (with-left s n)))
     unfolding onward acquire acquire-if M.with-store M.with-roots with-left next-cell
     copies-same d w k n = go d (has-free (s .store)) refl
       where
+        answer : Bool → Outcome (Unit {0}) Gained
+        answer t = cond t (done (gained (s .store .first) (level-of env - 1)) tt) (stop 25 tt)
+
+        noted-env : List ℤ
+        noted-env = noted (level-of env - 1) env
+
+        kept-env : FrameKept calls env noted-env S
+        kept-env = kept-noted calls (framed .few) S b env (level-of env - 1)
+
+        acquired-levels : LevelsAgree free (s .log ++ (acquires (s .store .first) ∷ [])) noted-env
+        acquired-levels = levels-acquired levels (s .store .first) (framed .long)
+
         go : (d : ℕ) (t : Bool) → has-free (s .store) ≡ t →
-            Gives n (made-store false w d k (s .store)
-            (cond (has-free (s .store)) (done (s .store .first) tt) (stop 25 tt)))
-            (acquired-given (cond (has-free (s .store)) (done (s .store .first) tt) (stop 25 tt)))
+            Gives n (made-memory false w d k here (answer (has-free (s .store))))
+            (acquired-given (answer (has-free (s .store))))
             (onward (λ v. if-array d (retain-times k w) >> give v)
             (acquire-if (has-free (s .store)) cell-roots d (List.replicate k w) (with-left s n)))
-        go zero true e = rw e (refl, refl, refl)
+        go zero true e = rw e
+            (record { value = refl; steps = refl; store = refl; kept = kept-env; levels = acquired-levels })
         go (suc d) true e =
             let s₁ = M.with-store (with-left s n) (acquired (suc d) (List.replicate k w) (s .store))
             (acquires (s .store .first) ∷ []) in
             let t = retains k w s₁ in
-            rw (e, t .does) (refl, sym (t .left), sym (t .store))
-        go d false e = rw e (refl, λ q. omega arith, refl)
+            rw (e, t .does) (record {
+              value = refl;
+              steps = sym (t .left);
+              store = sym (t .store);
+              kept = kept-env;
+              levels = t .levels free noted-env acquired-levels;
+            })
+        go d false e = rw e (record { stop = refl; real = λ q. omega arith; steps = refl; levels = levels })
 
     literal-same : (d : ℕ) → length us ≤ 16 → d ≤ 3 → LeafStands (literal d) → Claim (literal d)
     unfolding doing work-leaf
-    literal-same d few-atoms shallow r = gives-same (literal d) (at + 1 + length ws) (acquired d ws (s .store))
-        (acquired-given (next-cell (s .store)))
+    literal-same d few-atoms shallow r = gives-same (literal d) (at + 1 + length ws) (acquired-memory d ws here)
+        (acquired-given (cell-from here))
         (ap (doing (c .kinds) (c .operands) (c .table) calls at here)
         (line-read (c .kinds) (c .operands) at 9 (x + 256 * length us + 65536 * d) _ _
         (omega (arith, new .small, few-atoms, shallow)) (r .kind) (r .operand) refl refl)
@@ -261,12 +297,12 @@ module _ (p : Program) (few : length (p .routines) ≤ 32) (callee : M.Callee) (
               in z,
           words-same (c .kinds) (c .operands) calls env ρ S b g us 16 (at + 1) few-atoms known rs closed,
         ) refl)
-        (omega (arith, length-map us (word ρ))) (acquire-same d ws)
+        (omega (arith, length-map us (word ρ))) (acquires-same d ws)
 
     -- an array of a count of elements: 26 comes before the cell
     iota-same : length us ≡ 1 → LeafStands iota → Claim iota
     unfolding doing work-leaf onward require with-left
-    iota-same one r = gives-same iota (at + 2) (array-store true (pos 0) 0 N (s .store)) (array-given N (s .store))
+    iota-same one r = gives-same iota (at + 2) (array-memory true (pos 0) 0 N here) (array-given N here)
         (ap (doing (c .kinds) (c .operands) (c .table) calls at here)
         (line-read (c .kinds) (c .operands) at 17 x _ _ little (r .kind) (r .operand) refl refl)
         ∙ rw (byte, first-word (omega (arith, one))) refl)
@@ -275,18 +311,18 @@ module _ (p : Program) (few : length (p .routines) ≤ 32) (callee : M.Callee) (
         N : ℤ
         N = argument ws 0
 
-        go : (n : ℕ) (t : Bool) → is-count N ≡ t → Gives n (array-store true (pos 0) 0 N (s .store))
-            (array-given N (s .store)) (onward (λ _. acquire cell-roots 0 (tabulate 0 (natAbs N) (λ i. pos i)))
+        go : (n : ℕ) (t : Bool) → is-count N ≡ t → Gives n (array-memory true (pos 0) 0 N here)
+            (array-given N here) (onward (λ _. acquire cell-roots 0 (tabulate 0 (natAbs N) (λ i. pos i)))
             (require (is-count N) 26 (with-left s n)))
-        go n true e = rw (e, made-plain true (pos 0) (natAbs N) (s .store) (next-cell (s .store)))
-            (acquire-same 0 (tabulate 0 (natAbs N) (λ i. pos i)) n)
-        go n false e = rw (e, counted-bad (next-cell (s .store))) (refl, λ q. omega arith, refl)
+        go n true e = rw (e, made-plain true (pos 0) (natAbs N) (s .store) (cell-from here))
+            (acquires-same 0 (tabulate 0 (natAbs N) (λ i. pos i)) n)
+        go n false e = rw (e, counted-bad (cell-from here))
+            (stops-here n 26 (with-left s n) (λ q. omega arith) refl levels)
 
     replicate-same : length us ≡ 2 → element-depth (c .table) calls x env ≡ depth-of Γ us 1 → LeafStands replicate →
         Claim replicate
     unfolding doing work-leaf onward require with-left
-    replicate-same two de r = gives-same replicate (at + 3) (array-store false w d N (s .store))
-        (array-given N (s .store))
+    replicate-same two de r = gives-same replicate (at + 3) (array-memory false w d N here) (array-given N here)
         (ap (doing (c .kinds) (c .operands) (c .table) calls at here)
         (line-read (c .kinds) (c .operands) at 18 x _ _ little (r .kind) (r .operand) refl refl)
         ∙ rw (byte, first-word (omega (arith, two)), second-word (omega (arith, two)), de) refl)
@@ -304,35 +340,37 @@ module _ (p : Program) (few : length (p .routines) ≤ 32) (callee : M.Callee) (
         made : ℕ → M.Work ℤ
         made k = acquire cell-roots d (List.replicate k w) >>= λ v. if-array d (retain-times k w) >> give v
 
-        go : (n : ℕ) (t : Bool) → is-count N ≡ t → Gives n (array-store false w d N (s .store))
-            (array-given N (s .store)) (onward (λ _. made (natAbs N)) (require (is-count N) 26 (with-left s n)))
+        go : (n : ℕ) (t : Bool) → is-count N ≡ t → Gives n (array-memory false w d N here)
+            (array-given N here) (onward (λ _. made (natAbs N)) (require (is-count N) 26 (with-left s n)))
         go n true e = rw e (copies-same d w (natAbs N) n)
-        go n false e = rw (e, counted-bad (next-cell (s .store))) (refl, λ q. omega arith, refl)
+        go n false e = rw (e, counted-bad (cell-from here))
+            (stops-here n 26 (with-left s n) (λ q. omega arith) refl levels)
 
     call-same : (h : ℕ) → h < length (p .routines) → length us ≡ length (p .signatures h .parameters) →
         LeafStands (call h) → Claim (call h)
     unfolding doing line-done call-line work-line work-leaf onward with-left
     call-same h there arity r =
-        subst (λ (z : Doing). Rel Done (line-done W C c calls at (s .left) here z)
+        subst (λ (z : Doing). Rel free Done (line-done W C c calls at (s .left) here z)
         (work-line callee Γ (K.leaf x (call h) us) A R ρ s))
         (sym (ap (doing (c .kinds) (c .operands) (c .table) calls at here)
         (line-read (c .kinds) (c .operands) at 8 (x + 256 * h) _ _ (omega (arith, new .small, there, few)) (r .kind)
         (r .operand) refl refl)
         ∙ ap₂ calling (let z : (x + 256 * h) % 256 ≡ x = omega (arith, new .small) in z)
         (let z : (x + 256 * h) / 256 % 256 ≡ h = omega (arith, new .small, there, few) in z)))
-        (rel-step Done s here
+        (rel-step free Done s here
         (λ n. call-worked C calls x h at n here (words-at 16 (c .kinds) (c .operands) calls env (at + 1)))
-        (λ _ s′. onward (λ w. give (updated ρ x w)) (callee call-roots h ws s′))
+        (λ _ s′. onward (λ w. give (updated ρ x w)) (callee call-roots h ws s′)) levels
         (λ n. rw (words-same (c .kinds) (c .operands) calls env ρ S b g us 16 (at + 1)
         (omega (arith, arity, calling-same .few h there)) known rs closed)
-        (rel-then (CallDone calls env) Done (C h ws n here) (callee call-roots h ws (with-left s n))
+        (rel-then free (CallDone free calls env) Done (C h ws n here) (callee call-roots h ws (with-left s n))
         (λ w. binding calls x (at + 1 + length ws) w) (λ w. give (updated ρ x w))
-        (calling-same .same call-roots h ws env (with-left s n) there (length-map us (word ρ) ∙ arity) (framed .long))
+        (calling-same .same call-roots h ws env (with-left s n) there (length-map us (word ρ) ∙ arity) (framed .long)
+        levels)
         (λ v s′ k. (
           refl,
-          bound-done calls env ρ S b g framed x new (at + 1 + length ws) (at + suc (length us))
+          bound-done free calls env ρ S b g framed x new (at + 1 + length ws) (at + suc (length us))
               (omega (arith, length-map us (word ρ))) (C h ws n here) v s′
-              (call-word calls (framed .few) env S b (C h ws n here) v s′ k),
+              (call-word free calls (framed .few) env S b (C h ws n here) v s′ k),
         )))))
 
     -- every leaf
@@ -357,43 +395,3 @@ module _ (p : Program) (few : length (p .routines) ≤ 32) (callee : M.Callee) (
             ∙ ap (λ (y : ℕ). y - 1) (depths x (new .small))
             ∙ omega (arith, replicate-fits (atom-depth Γ u) (atom-depth Γ v) (Γ x) e .2)
         copied (u ∷ v ∷ o ∷ vs) two e = absurd (omega (arith, two))
-
-  -- ---- retains and releases
-
-  module _ (x : ℕ) (known : S x ≡ true) where
-    -- a line that changes the store as it changes the cell of x
-    changes-same : (change : ℕ → Store → Store) (n : ℕ) (l : ℕ → Line) → Here (c .kinds) (c .operands) at (row n x) →
-        line-of n x (atom-at (c .kinds) (c .operands) (at + 1)) (atom-at (c .kinds) (c .operands) (at + 2))
-        ≡ l (x % 256) →
-        doing (c .kinds) (c .operands) (c .table) calls at here (l x)
-        ≡ changing (change (cell-of (word-of calls env (Name x))) (s .store)) →
-        (s′ : State) → s .left ≡ s′ .left → change (cell-of (ρ x)) (s .store) ≡ s′ .store →
-        Rel (LineDone (at + 1) calls env S S) (line-done W C c calls at (s .left) here found) (done ρ s′)
-    unfolding line-done leaf-done
-    changes-same change n l r e d s′ left store =
-        rw (
-          line-read (c .kinds) (c .operands) at n x _ _ (omega (arith, b .below x known)) (r .kind) (r .operand) refl
-              refl ∙ e ∙ ap l (let z : x % 256 ≡ x = omega (arith, b .below x known) in z),
-          d,
-        ) (
-          refl,
-          record {
-            next = refl;
-            steps = left;
-            store = ap (λ (w : ℤ). change (cell-of w) (s .store)) (g .agree x known) ∙ store;
-            agrees = g;
-            kept = kept-none calls env S;
-          },
-        )
-
-    pub retain-same : Here (c .kinds) (c .operands) at (row 14 x) →
-        Rel (LineDone (at + 1) calls env S S) (line-done W C c calls at (s .left) here found)
-        (work-line callee Γ (K.retain x) A R ρ s)
-    unfolding doing work-line onward retain-word M.with-store
-    retain-same r = changes-same retained 14 L.Retain r refl refl _ refl refl
-
-    pub release-same : Here (c .kinds) (c .operands) at (row 15 x) →
-        Rel (LineDone (at + 1) calls env S S) (line-done W C c calls at (s .left) here found)
-        (work-line callee Γ (K.release x) A R ρ s)
-    unfolding doing work-line onward release-word M.with-store
-    release-same r = changes-same (released deepest) 15 L.Release r refl refl _ refl refl

@@ -1,8 +1,11 @@
 pub mod Rows
 pub mod Frames
+pub mod Levels
 pub mod Same
+pub mod Acquiring
 pub mod Atoms
 pub mod Leaves
+pub mod Changes
 pub mod Passes
 pub mod Loops
 pub mod Trees

@@ -22,7 +22,7 @@ use Rattle.soundness.specs.machine.Discipline.{AllKnown, New, AllNew, LoopFits,
 use Rattle.machine_code.specs.Reading.{atom-at, line-of, line-at, depth-in, end-in}
 use Rattle.machine_code.specs.declared.Atom.{Atom}
 use Rattle.machine_code.specs.declared.Line.{Line}
-use Rattle.machine_lines.specs.Frames.{word-of, element-depth}
+use Rattle.machine_lines.specs.Frames.{place, word-of, element-depth, level-place}
 use Rattle.machine_lines.specs.Lines.{Memory, memory, Ran, out, bound, array-of, Doing, looping}
 use Rattle.machine_lines.specs.Lines.{doing}
 use Rattle.machine_loops.specs.Loops.{way-of, carry-first}
@@ -33,7 +33,9 @@ use Rattle.machine_laws.specs.Frames.{Bounded, FrameAgrees, FrameKept, s
 use Rattle.machine_laws.specs.Frames.{Framed, framed-kept, kept-then}
 use Rattle.machine_laws.specs.Frames.{agrees-kept, bounded-all}
 use Rattle.machine_laws.specs.Passes.{PassNames, maps, filters, reduces, entered-agrees, entered-kept}
-use Rattle.machine_laws.specs.Passes.{element-known, element-word, carry-first-same, carry-by-same}
+use Rattle.machine_laws.specs.Passes.{element-known, element-word, first-small, second-small, carry-first-same}
+use Rattle.machine_laws.specs.Passes.{carry-by-same}
+use Rattle.machine_laws.specs.Levels.{LevelsAgree, levels-set, levels-touched}
 use Rattle.machine_laws.specs.Same.{Rel, WordDone, TreeDone, LineDone, rel-then, rel-step, rel-map}
 use Rattle.machine_laws.specs.Same.{onward-onward, word-moved, word-kept, bound-done}
 
@@ -137,13 +139,13 @@ coded-words calls env ρ S g [] h = refl
 coded-words calls env ρ S g (u ∷ us) h =
     ap₂ {C = List ℤ} _∷_ (word-same calls env ρ S g u (h .0)) (coded-words calls env ρ S g us (h .1))
 
-module _ (p : Program) (callee : M.Callee) (Γ : NameDepths) (c : Code) (calls f : ℕ) (C : Callee) where
+module _ (free : ℕ) (p : Program) (callee : M.Callee) (Γ : NameDepths) (c : Code) (calls f : ℕ) (C : Callee) where
   -- a tree at a position is worked as the tree
   abbrev pub TreeClaim : K.Tree → Type 0
   TreeClaim t = (n : ℕ) → length (rows t) ≤ n → n ≤ 4096 → (S : Set) (d : ℕ) → Fitting p Γ t d → Scoped t S →
       Bounded S → (at : ℕ) → At (c .kinds) (c .operands) at (rows t) → (L : Set) (R : List ℕ) (ρ : Frame) (s : State)
-      (env : List ℤ) → FrameAgrees calls env ρ S → Framed calls f env →
-      Rel (TreeDone (at + length (rows t)) calls env S)
+      (env : List ℤ) → FrameAgrees calls env ρ S → Framed calls f env → LevelsAgree free (s .log) env →
+      Rel free (TreeDone free (at + length (rows t)) calls env S)
       (tree-on n C c calls at (s .left) (memory (s .store) env)) (work callee Γ t L R ρ s)
 
   -- the passes of a loop over the array a, whose tree t is at a position
@@ -166,22 +168,27 @@ module _ (p : Program) (callee : M.Callee) (Γ : NameDepths) (c : Code) (calls f
 
     -- one pass, before the others
     pass-same : (count i : ℕ) (v : ℤ) (s₀ : State) (e₀ : List ℤ) → FrameAgrees calls e₀ ρ S → Framed calls f e₀ →
-        ((u : ℤ) (s₁ : State) (e₁ : List ℤ) → FrameAgrees calls e₁ ρ S → Framed calls f e₁ → Rel (WordDone calls e₁ S)
+        LevelsAgree free (s₀ .log) e₀ →
+        ((u : ℤ) (s₁ : State) (e₁ : List ℤ) → FrameAgrees calls e₁ ρ S → Framed calls f e₁ →
+        LevelsAgree free (s₁ .log) e₁ → Rel free (WordDone free calls e₁ S)
         (passes-on l count u (suc i) (s₁ .left) (memory (s₁ .store) e₁)) (rest count (suc i) u s₁)) →
-        (m : ℕ) → s₀ .left ≡ m → Rel (WordDone calls e₀ S) (passes-on l (suc count) v i m (memory (s₀ .store) e₀))
+        (m : ℕ) → s₀ .left ≡ m → Rel free (WordDone free calls e₀ S) (passes-on l (suc count) v i m (memory (s₀
+        .store) e₀))
         (onward (λ u. rest count (suc i) u) (onward (λ _ s₁. onward (λ ws s₂. onward
         (λ r. carried-on k e v (getD ws i (pos 0)) r) (body (pass-words k v (getD ws i (pos 0))) s₂))
         (elements-of a s₁)) (stepped m s₀)))
     unfolding passes-on onward stepped with-left elements-of M.with-store
-    pass-same count i v s₀ e₀ g₀ l₀ more zero q = record { stop = refl; real = λ z. omega arith; steps = sym q }
-    pass-same count i v s₀ e₀ g₀ l₀ more (suc m) q =
-        subst (λ (o : Outcome State ℤ). Rel (WordDone calls e₀ S) (and-then (W m (memory (s₀ .store) e₁)) carry) o)
+    pass-same count i v s₀ e₀ g₀ l₀ v₀ more zero q =
+        record { stop = refl; real = λ z. omega arith; steps = sym q; levels = v₀ }
+    pass-same count i v s₀ e₀ g₀ l₀ v₀ more (suc m) q =
+        subst (λ (o : Outcome State ℤ). Rel free (WordDone free calls e₀ S) (and-then (W m (memory (s₀ .store) e₁))
+        carry) o)
         (sym (onward-onward (λ u. rest count (suc i) u) (λ r. carried-on k e v item r) (body vs s₁)))
-        (rel-then (TreeDone (at + length (rows t)) calls e₁ (S ∪ just ps)) (WordDone calls e₀ S)
+        (rel-then free (TreeDone free (at + length (rows t)) calls e₁ (S ∪ just ps)) (WordDone free calls e₀ S)
         (W m (memory (s₀ .store) e₁)) (body vs s₁) carry
         (λ r s₂. onward (λ u. rest count (suc i) u) (carried-on k e v item r s₂))
         (claim n lt few (S ∪ just ps) d fit scoped (bounded-all ps S new b) at rs B R (M.binding ps vs ρ) s₁ e₁
-        (entered-agrees calls e₀ ρ S b l₀ v item names new g₀) (framed-kept kept₁ l₀))
+        (entered-agrees calls e₀ ρ S b l₀ v item names new g₀) (framed-kept kept₁ l₀) levels₁)
         (λ r s₂ h. after r s₂ h))
       where
         item : ℤ
@@ -196,6 +203,13 @@ module _ (p : Program) (callee : M.Callee) (Γ : NameDepths) (c : Code) (calls f
         kept₁ : FrameKept calls e₀ e₁ S
         kept₁ = entered-kept calls e₀ ρ S b l₀ v item names new
 
+        small : (o : ℕ) → o < 256 → place calls o < level-place
+        small o h = omega (arith, h, l₀ .few)
+
+        levels₁ : LevelsAgree free (s₀ .log ++ touching (s₀ .store) (cell-of a)) e₁
+        levels₁ = levels-touched (levels-set (levels-set v₀ (place calls y) v (small y (first-small S names new)))
+            (place calls z) item (small z (second-small S names new))) (s₀ .store) (cell-of a)
+
         s₁ : State
         s₁ = M.with-store (with-left s₀ m) (s₀ .store) (touching (s₀ .store) (cell-of a))
 
@@ -204,54 +218,60 @@ module _ (p : Program) (callee : M.Callee) (Γ : NameDepths) (c : Code) (calls f
             (λ u. passes-on l count (u .out .value) (i + 1) (u .out .steps) (u .memory))
 
         after : (r : ℤ) (s₂ : State) →
-            TreeDone (at + length (rows t)) calls e₁ (S ∪ just ps) (W m (memory (s₀ .store) e₁)) r s₂ →
-            Rel (WordDone calls e₀ S) (carry (W m (memory (s₀ .store) e₁)))
+            TreeDone free (at + length (rows t)) calls e₁ (S ∪ just ps) (W m (memory (s₀ .store) e₁)) r s₂ →
+            Rel free (WordDone free calls e₀ S) (carry (W m (memory (s₀ .store) e₁)))
             (onward (λ u. rest count (suc i) u) (carried-on k e v item r s₂))
         after r s₂ h =
             let w : Ran = W m (memory (s₀ .store) e₁) in
             let x : Ran = carry-on l v w in
-            rel-then (WordDone calls (w .memory .env) S) (WordDone calls e₀ S) x (carried-on k e v item r s₂)
+            rel-then free (WordDone free calls (w .memory .env) S) (WordDone free calls e₀ S) x (carried-on k e v
+            item r s₂)
             (λ u. passes-on l count (u .out .value) (i + 1) (u .out .steps) (u .memory)) (λ u. rest count (suc i) u)
             (subst (λ (o : ℤ).
-            Rel (WordDone calls (w .memory .env) S) (carry-by (way-of k e) v o w) (carried-on k e v item r s₂))
+            Rel free (WordDone free calls (w .memory .env) S) (carry-by (way-of k e) v o w) (carried-on k e v item r
+            s₂))
             (sym (h .word .kept .names z (element-known calls e₀ ρ S b l₀ v item names)
             ∙ element-word calls e₀ ρ S b l₀ v item y z (bounded-all ps S new b .below z
             (element-known calls e₀ ρ S b l₀ v item names))))
-            (carry-by-same k e v item calls S w r s₂ (h .word .value) (h .word .steps) (h .word .store)))
+            (carry-by-same free k e v item calls S w r s₂ (h .word .value) (h .word .steps) (h .word .store)
+            (h .word .levels)))
             (λ u s₃ q.
             let kept : FrameKept calls e₀ (x .memory .env) S =
             kept-then calls e₀ (w .memory .env) (x .memory .env) S S (λ y z. z)
             (kept-then calls e₀ e₁ (w .memory .env) S (S ∪ just ps) (λ y z. or-left (S y) (just ps y) z)
             kept₁ (h .word .kept)) (q .kept) in
-            subst (λ (y : Ran). Rel (WordDone calls e₀ S) y (rest count (suc i) u s₃))
+            subst (λ (y : Ran). Rel free (WordDone free calls e₀ S) y (rest count (suc i) u s₃))
             (sym (word-moved (λ y j μ. passes-on l count y (i + 1) j μ) q
             ∙ ap (λ (j : ℕ). passes-on l count u j (s₃ .left) (memory (s₃ .store) (x .memory .env)))
             (let z : i + 1 ≡ suc i = omega arith in z)))
-            (rel-map (WordDone calls (x .memory .env) S) (WordDone calls e₀ S)
+            (rel-map free (WordDone free calls (x .memory .env) S) (WordDone free calls e₀ S)
             (passes-on l count u (suc i) (s₃ .left) (memory (s₃ .store) (x .memory .env))) (rest count (suc i) u s₃)
-            (λ y s₄ z. word-kept calls e₀ (x .memory .env) S S (λ o j. j) kept _ y s₄ z)
+            (λ y s₄ z. word-kept free calls e₀ (x .memory .env) S S (λ o j. j) kept _ y s₄ z)
             (more u s₃ (x .memory .env) (agrees-kept calls e₀ (x .memory .env) ρ S g₀ kept)
-            (framed-kept kept l₀))))
+            (framed-kept kept l₀) (q .levels))))
 
     passes-same : (count i : ℕ) (v : ℤ) (s₀ : State) (e₀ : List ℤ) → FrameAgrees calls e₀ ρ S → Framed calls f e₀ →
-        Rel (WordDone calls e₀ S) (passes-on l count v i (s₀ .left) (memory (s₀ .store) e₀)) (rest count i v s₀)
+        LevelsAgree free (s₀ .log) e₀ → Rel free (WordDone free calls e₀ S)
+        (passes-on l count v i (s₀ .left) (memory (s₀ .store) e₀)) (rest count i v s₀)
     unfolding passes-on passes tabulate work-pass step
-    passes-same zero i v s₀ e₀ g₀ l₀ =
-        (refl, record { value = refl; steps = refl; store = refl; kept = kept-none calls e₀ S })
-    passes-same (suc count) i v s₀ e₀ g₀ l₀ =
-        pass-same count i v s₀ e₀ g₀ l₀ (λ u s₁ e₁ g₁ l₁. passes-same count (suc i) u s₁ e₁ g₁ l₁) (s₀ .left) refl
+    passes-same zero i v s₀ e₀ g₀ l₀ v₀ =
+        (refl, record { value = refl; steps = refl; store = refl; kept = kept-none calls e₀ S; levels = v₀ })
+    passes-same (suc count) i v s₀ e₀ g₀ l₀ v₀ =
+        pass-same count i v s₀ e₀ g₀ l₀ v₀
+        (λ u s₁ e₁ g₁ l₁ v₁. passes-same count (suc i) u s₁ e₁ g₁ l₁ v₁) (s₀ .left) refl
 
   -- a loop's line
   module _ (depths : (x : ℕ) → x < 256 → depth-in (c .table) f x ≡ Γ x) (jumps : Jumps c) (n : ℕ) (few : n ≤ 4096)
       (S : Set) (b : Bounded S) (at : ℕ) (A : Set) (R : List ℕ) (ρ : Frame) (s : State) (env : List ℤ)
-      (g : FrameAgrees calls env ρ S) (framed : Framed calls f env) (x : ℕ) (k : Loop) (ps : List ℕ) (us : List K.Atom)
+      (g : FrameAgrees calls env ρ S) (framed : Framed calls f env) (levels : LevelsAgree free (s .log) env) (x : ℕ)
+      (k : Loop) (ps : List ℕ) (us : List K.Atom)
       (t : K.Tree) (y z : ℕ) (names : PassNames k ps y z) (new : New x S) (news : AllNew ps S)
       (known : AllKnown us S) (claim : TreeClaim t)
       (lt : length (rows t) ≤ n) (d : ℕ) (fit : Fitting p Γ t d) (scoped : Scoped t (S ∪ just ps))
       (rs : At (c .kinds) (c .operands) (at + suc (length (map coded us))) (rows t)) (goal : ℕ)
       (ge : at + suc (length (map coded us)) + length (rows t) ≡ goal) where
     abbrev Done : Ran → Frame → State → Type 0
-    Done = LineDone goal calls env S (S ∪ only x)
+    Done = LineDone free goal calls env S (S ∪ only x)
 
     abbrev ws : List ℤ
     ws = map (word ρ) us
@@ -282,51 +302,52 @@ module _ (p : Program) (callee : M.Callee) (Γ : NameDepths) (c : Code) (calls f
         (passes (work-pass k (pred (Γ x)) (λ vs. work callee Γ t B (R′ ++ in-progress k v) (M.binding ps vs ρ)) array) v
         (tabulate 0 count (λ i. i)) s₃)
 
-    after-first : (m : ℕ) (s₂ : State) → m ≡ s₂ .left → s .store ≡ s₂ .store →
-        Rel Done (and-then (carry-first k (pred (Γ x)) ws m (memory (s .store) env))
+    after-first : (m : ℕ) (s₂ : State) → m ≡ s₂ .left → s .store ≡ s₂ .store → LevelsAgree free (s₂ .log) env →
+        Rel free Done (and-then (carry-first k (pred (Γ x)) ws m (memory (s .store) env))
         (λ v. and-then (passes-on whole count (v .out .value) 0 (v .out .steps) (v .memory)) bind))
         (onward then-passes (carried-first k R′ (pred (Γ x)) ws s₂))
-    after-first m s₂ e h =
-        rel-then (WordDone calls env S) Done first (carried-first k R′ (pred (Γ x)) ws s₂)
+    after-first m s₂ e h told =
+        rel-then free (WordDone free calls env S) Done first (carried-first k R′ (pred (Γ x)) ws s₂)
         (λ v. and-then (passes-on whole count (v .out .value) 0 (v .out .steps) (v .memory)) bind) then-passes
-        (subst (λ (σ : Store). Rel (WordDone calls env S) (carry-first k (pred (Γ x)) ws m (memory σ env))
+        (subst (λ (σ : Store). Rel free (WordDone free calls env S) (carry-first k (pred (Γ x)) ws m (memory σ env))
         (carried-first k R′ (pred (Γ x)) ws s₂)) (sym h)
-        (carry-first-same k R′ (pred (Γ x)) ws calls S env m s₂ e))
+        (carry-first-same free k R′ (pred (Γ x)) ws calls S b env m s₂ e framed told))
         (λ v s₃ q.
-        subst (λ (y : Ran). Rel Done (and-then y bind) (then-passes v s₃))
+        subst (λ (y : Ran). Rel free Done (and-then y bind) (then-passes v s₃))
         (sym (word-moved (λ y j μ. passes-on whole count y 0 j μ) q))
-        (rel-then (WordDone calls (first .memory .env) S) Done
+        (rel-then free (WordDone free calls (first .memory .env) S) Done
         (passes-on whole count v 0 (s₃ .left) (memory (s₃ .store) (first .memory .env)))
         (passes (work-pass k (pred (Γ x)) (λ vs. work callee Γ t B (R′ ++ in-progress k v) (M.binding ps vs ρ)) array) v
         (tabulate 0 count (λ i. i)) s₃) bind (λ w. give (updated ρ x w))
         (passes-same n few S b ρ k ps y z names news (pred (Γ x)) t claim lt d fit scoped start rs B
         (R′ ++ in-progress k v) array count 0 v s₃ (first .memory .env)
         (agrees-kept calls env (first .memory .env) ρ S g (q .kept))
-        (framed-kept (q .kept) framed))
+        (framed-kept (q .kept) framed) (q .levels))
         (λ w s₄ z. (
           refl,
-          bound-done calls env ρ S b g framed x new (end-in (c .table) start) goal (jumps t start rs ∙ ge) _ w s₄
-              (word-kept calls env (first .memory .env) S S (λ o j. j) (q .kept) _ w s₄ z),
+          bound-done free calls env ρ S b g framed x new (end-in (c .table) start) goal (jumps t start rs ∙ ge) _ w s₄
+              (word-kept free calls env (first .memory .env) S S (λ o j. j) (q .kept) _ w s₄ z),
         ))))
       where
         first : Ran
         first = carry-first k (pred (Γ x)) ws m (memory (s .store) env)
 
-    pub loop-same : Rel Done
+    pub loop-same : Rel free Done
         (loop-line (tree-on n C c calls) c calls x k y z (map coded us) at (s .left) (memory (s .store) env))
         (work-line callee Γ (K.loop x k ps us t) A R ρ s)
     unfolding loop-line work-line onward with-left elements-of M.with-store
     loop-same =
-        rel-step Done s (memory (s .store) env)
+        rel-step free Done s (memory (s .store) env)
         (λ m. loop-worked (tree-on n C c calls) c calls x k y z start m (memory (s .store) env)
         (map (word-of calls env) (map coded us)))
         (λ _ s₁. onward (λ vs s₂. onward (λ v s₃. onward (λ w. give (updated ρ x w))
         (passes (work-pass k (pred (Γ x)) (λ vs. work callee Γ t B (R′ ++ in-progress k v) (M.binding ps vs ρ)) array) v
         (tabulate 0 (length vs) (λ i. i)) s₃)) (carried-first k R′ (pred (Γ x)) ws s₂)) (elements-of array s₁))
-        (λ m. rw (
+        levels (λ m. rw (
           coded-words calls env ρ S g us known,
           let z : element-depth (c .table) calls x env ≡ pred (Γ x) =
               ap (λ (h : ℕ). depth-in (c .table) h x - 1) (framed .function)
               ∙ ap (λ (y : ℕ). y - 1) (depths x (new .small)) ∙ pred-less (Γ x) in z,
         )
-        (after-first m (M.with-store (with-left s m) (s .store) (touching (s .store) (cell-of array))) refl refl))
+        (after-first m (M.with-store (with-left s m) (s .store) (touching (s .store) (cell-of array))) refl refl
+        (levels-touched levels (s .store) (cell-of array))))

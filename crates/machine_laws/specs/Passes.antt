@@ -10,32 +10,44 @@ use lib.Dec.{eqb}
 use lib.ListN.{getD, length-set}
 use lib.Seq.{getD-set-same}
 use borrow.Author.Tests.{eq-eqb, ne-eqb}
-use Rattle.semantics.specs.Outcome.{done, stop, onward, _>>=_, _>>_, give}
+use Rattle.semantics.specs.Outcome.{onward, _>>=_, _>>_, give}
 use Rattle.semantics.specs.Number.{is-zero}
 use Rattle.semantics.specs.Kinds.{Loop, mapping, filtering, reducing}
-use Rattle.semantics.specs.Store.{Store, cell-of, has-free, acquired, appended, retained}
+use Rattle.semantics.specs.Store.{Store, cell-of, appended, retained}
 use Rattle.semantics.specs.Live.{Set, _∪_, just}
 use Rattle.semantics.specs.Machine as M
 use Rattle.semantics.specs.Machine.{State, Frame}
-use Rattle.semantics.specs.Machine.{acquire, acquire-if, append-word}
+use Rattle.semantics.specs.Machine.{acquire, append-word}
 use Rattle.semantics.specs.Machine.{carried-first, pass-words, carried-on, if-array, retain-word}
 use Rattle.laws.specs.Tests.{or-right}
 use Rattle.soundness.specs.machine.Discipline.{AllNew}
-use Rattle.store.specs.Acquiring.{next-cell}
 use Rattle.machine_lines.specs.Frames.{place}
-use Rattle.machine_lines.specs.Lines.{memory, Ran, ran, out, bound, acquired-given}
-use Rattle.machine_loops.specs.Loops.{way-of, gave, new-carried, carry-first, retained-if}
+use Rattle.machine_lines.specs.Lines.{memory, Ran, ran, out, bound, acquired-given, cell-from, acquired-memory}
+use Rattle.machine_loops.specs.Loops.{way-of, new-carried, carry-first, retained-if}
 use Rattle.machine_positions.specs.Machine.{binding, carry-by}
 use Rattle.machine_laws.specs.Frames.{Bounded, FrameAgrees, FrameKept, kept-none}
 use Rattle.machine_laws.specs.Frames.{Framed, framed-kept, kept-then}
 use Rattle.machine_laws.specs.Frames.{agrees-kept, agrees-all, kept-all, kept-more}
-use Rattle.machine_laws.specs.Same.{Rel, WordDone}
+use Rattle.machine_laws.specs.Levels.{LevelsAgree, levels-touched}
+use Rattle.machine_laws.specs.Same.{Rel, WordDone, gives-rel}
+use Rattle.machine_laws.specs.Acquiring.{acquire-same}
 
 -- the names of a pass: the running value's and the element's, which are one where there is no running value
 pub data PassNames : Loop → List ℕ → ℕ → ℕ → Type 0 where
   maps : (p : ℕ) → PassNames mapping (p ∷ []) p p
   filters : (p : ℕ) → PassNames filtering (p ∷ []) p p
   reduces : (q p : ℕ) → PassNames reducing (q ∷ (p ∷ [])) q p
+
+-- both fit a byte
+pub first-small : (S : Set) {k : Loop} {ps : List ℕ} {p q : ℕ} → PassNames k ps p q → AllNew ps S → p < 256
+first-small S (maps p) new = new .0 .small
+first-small S (filters p) new = new .0 .small
+first-small S (reduces q p) new = new .0 .small
+
+pub second-small : (S : Set) {k : Loop} {ps : List ℕ} {p q : ℕ} → PassNames k ps p q → AllNew ps S → q < 256
+second-small S (maps p) new = new .0 .small
+second-small S (filters p) new = new .0 .small
+second-small S (reduces q p) new = new .1 .0 .small
 
 -- names that are bound to what is carried and then to the element agree with the frame of a pass
 module _ (calls : ℕ) {f : ℕ} (env : List ℤ) (ρ : Frame) (S : Set) (b : Bounded S) (framed : Framed calls f env)
@@ -80,77 +92,80 @@ module _ (calls : ℕ) {f : ℕ} (env : List ℤ) (ρ : Frame) (S : Set) (b : Bo
   element-word p q small = getD-set-same (bound calls p v env) (place calls q) w (pos 0)
       (omega (arith, small, framed .few, framed .long, length-set env (place calls p) v))
 
-new-same : (R : List ℕ) (d calls : ℕ) (S : Set) (env : List ℤ) (n : ℕ) (s : State) → n ≡ s .left →
-    Rel (WordDone calls env S) (new-carried d n (memory (s .store) env)) (acquire R d [] s)
-unfolding acquire acquire-if M.with-store M.with-roots next-cell
-new-same R d calls S env n s e = go (has-free (s .store)) refl
-  where
-    go : (t : Bool) → has-free (s .store) ≡ t → Rel (WordDone calls env S)
-        (gave n (memory (acquired d [] (s .store)) env)
-        (acquired-given (cond (has-free (s .store)) (done (s .store .first) tt) (stop 25 tt))))
-        (acquire-if (has-free (s .store)) R d [] s)
-    go true q = rw q (refl, record { value = refl; steps = e; store = refl; kept = kept-none calls env S })
-    go false q = rw q (record { stop = refl; real = λ z. omega arith; steps = e })
+new-same : (free : ℕ) (R : List ℕ) (d calls : ℕ) {f : ℕ} (S : Set) → Bounded S → (env : List ℤ) (n : ℕ) (s : State) →
+    n ≡ s .left → Framed calls f env → LevelsAgree free (s .log) env →
+    Rel free (WordDone free calls env S) (new-carried d n (memory (s .store) env)) (acquire R d [] s)
+new-same free R d calls S b env n s e framed levels =
+    let m = memory (s .store) env in
+    gives-rel free calls env S n (acquired-memory d [] m) (acquired-given (cell-from m)) (acquire R d [] s)
+    (acquire-same free calls S b R d [] n s env e framed levels)
 
-pub carry-first-same : (k : Loop) (R : List ℕ) (d : ℕ) (ws : List ℤ) (calls : ℕ) (S : Set) (env : List ℤ) (n : ℕ)
-    (s : State) → n ≡ s .left →
-    Rel (WordDone calls env S) (carry-first k d ws n (memory (s .store) env)) (carried-first k R d ws s)
-carry-first-same mapping R d ws calls S env n s e = new-same R d calls S env n s e
-carry-first-same filtering R d ws calls S env n s e = new-same R d calls S env n s e
-carry-first-same reducing R d ws calls S env n s e =
-    (refl, record { value = refl; steps = e; store = refl; kept = kept-none calls env S })
+pub carry-first-same : (free : ℕ) (k : Loop) (R : List ℕ) (d : ℕ) (ws : List ℤ) (calls : ℕ) {f : ℕ} (S : Set) →
+    Bounded S → (env : List ℤ) (n : ℕ) (s : State) → n ≡ s .left → Framed calls f env → LevelsAgree free (s .log) env →
+    Rel free (WordDone free calls env S) (carry-first k d ws n (memory (s .store) env)) (carried-first k R d ws s)
+carry-first-same free mapping R d ws calls S b env n s e framed levels =
+    new-same free R d calls S b env n s e framed levels
+carry-first-same free filtering R d ws calls S b env n s e framed levels =
+    new-same free R d calls S b env n s e framed levels
+carry-first-same free reducing R d ws calls S b env n s e framed levels =
+    (refl, record { value = refl; steps = e; store = refl; kept = kept-none calls env S; levels = levels })
 
 -- an element that is kept, by its depth
-keep-same : (d : ℕ) (v e : ℤ) (calls : ℕ) (S : Set) (env : List ℤ) (n : ℕ) (s : State) (σ : Store) → n ≡ s .left →
-    σ ≡ s .store →
-    Rel (WordDone calls env S)
+keep-same : (free d : ℕ) (v e : ℤ) (calls : ℕ) (S : Set) (env : List ℤ) (n : ℕ) (s : State) (σ : Store) →
+    n ≡ s .left → σ ≡ s .store → LevelsAgree free (s .log) env →
+    Rel free (WordDone free calls env S)
     (ran (out 0 v 0 n) (memory (appended (cell-of v) e (retained-if (not (eqb d 0)) (cell-of e) σ)) env))
     ((if-array d (retain-word e) >> (append-word v e >> give v)) s)
 unfolding append-word retain-word onward M.with-store
-keep-same zero v e calls S env n s σ f h = (
+keep-same free zero v e calls S env n s σ f h levels = (
   refl,
   record {
     value = refl;
     steps = f;
     store = ap (appended (cell-of v) e) h;
     kept = kept-none calls env S;
+    levels = levels-touched levels (s .store) (cell-of v);
   },
 )
-keep-same (suc d) v e calls S env n s σ f h = rw (ne-eqb (suc d) 0 (λ z. omega arith)) (
+keep-same free (suc d) v e calls S env n s σ f h levels = rw (ne-eqb (suc d) 0 (λ z. omega arith)) (
   refl,
   record {
     value = refl;
     steps = f;
     store = ap (λ (τ : Store). appended (cell-of v) e (retained (cell-of e) τ)) h;
     kept = kept-none calls env S;
+    levels = levels-touched (levels-touched levels (s .store) (cell-of e)) (retained (cell-of e) (s .store)) (cell-of
+        v);
   },
 )
 
-pub carry-by-same : (k : Loop) (d : ℕ) (v e : ℤ) (calls : ℕ) (S : Set) (w : Ran) (r : ℤ) (s : State) →
+pub carry-by-same : (free : ℕ) (k : Loop) (d : ℕ) (v e : ℤ) (calls : ℕ) (S : Set) (w : Ran) (r : ℤ) (s : State) →
     w .out .value ≡ r → w .out .steps ≡ s .left → w .memory .store ≡ s .store →
-    Rel (WordDone calls (w .memory .env) S) (carry-by (way-of k d) v e w) (carried-on k d v e r s)
+    LevelsAgree free (s .log) (w .memory .env) →
+    Rel free (WordDone free calls (w .memory .env) S) (carry-by (way-of k d) v e w) (carried-on k d v e r s)
 unfolding append-word onward M.with-store
-carry-by-same mapping d v e calls S w r s ve f h = (
+carry-by-same free mapping d v e calls S w r s ve f h levels = (
   refl,
   record {
     value = refl;
     steps = f;
     store = ap₂ (appended (cell-of v)) ve h;
     kept = kept-none calls (w .memory .env) S;
+    levels = levels-touched levels (s .store) (cell-of v);
   },
 )
-carry-by-same filtering d v e calls S w r s ve f h = rw ve (go (is-zero r))
+carry-by-same free filtering d v e calls S w r s ve f h levels = rw ve (go (is-zero r))
   where
-    go : (t : Bool) → Rel (WordDone calls (w .memory .env) S)
+    go : (t : Bool) → Rel free (WordDone free calls (w .memory .env) S)
         (ran (out 0 v 0 (w .out .steps)) (memory (cond t (w .memory .store)
         (appended (cell-of v) e (retained-if (not (eqb d 0)) (cell-of e) (w .memory .store)))) (w .memory .env)))
         (cond t (give v) (if-array d (retain-word e) >> (append-word v e >> give v)) s)
     go true = (
       refl,
-      record { value = refl; steps = f; store = h; kept = kept-none calls (w .memory .env) S },
+      record { value = refl; steps = f; store = h; kept = kept-none calls (w .memory .env) S; levels = levels },
     )
-    go false = keep-same d v e calls S (w .memory .env) (w .out .steps) s (w .memory .store) f h
-carry-by-same reducing d v e calls S w r s ve f h = (
+    go false = keep-same free d v e calls S (w .memory .env) (w .out .steps) s (w .memory .store) f h levels
+carry-by-same free reducing d v e calls S w r s ve f h levels = (
   refl,
-  record { value = ve; steps = f; store = h; kept = kept-none calls (w .memory .env) S },
+  record { value = ve; steps = f; store = h; kept = kept-none calls (w .memory .env) S; levels = levels },
 )

@@ -2,15 +2,18 @@
 use Prim.Native.Nat.{ℕ, zero, suc, _+_, _<_, _≤_}
 use native.Mathlib.Omega.{arith}
 use mathlib.Core.Path.{_≡_, refl, sym, ap, subst, _∙_}
+use mathlib.Core.Bool.{true}
 use mathlib.Core.List.{List, [], _∷_, _++_, map, append-assoc}
 use lib.IntN.{ℤ, pos}
 use lib.ListN.{getD, length, length-append, length-map}
 use Rattle.soundness.specs.machine.Size.{function-within}
+use Rattle.soundness.specs.Delivering.{levels-bounded}
 use Rattle.semantics.specs.Syntax.{Parameter, Function, Script, function-at, no-function, main-depth}
 use Rattle.semantics.specs.Code.{Row, rows}
 use Rattle.semantics.specs.Annotate.{depths-of, annotated-body, parameter-rows, function-rows, functions-rows, code}
-use Rattle.semantics.specs.Calls.{judged, accepted}
-use Rattle.semantics.specs.Store.{Store}
+use Rattle.semantics.specs.Calls.{judged, accepted, request-fits}
+use Rattle.semantics.specs.Words.{store-of}
+use Rattle.semantics.specs.Sound.{sound-words}
 use Rattle.semantics.specs.Machine.{Routine, routine, no-routine, program, routine-of, delivered}
 use Rattle.soundness.specs.annotation.Reader.{AllOf, FunctionLimits}
 use Rattle.soundness.specs.annotation.Accepting.{Clean, judged-clean, functions-disciplined, main-shape-of}
@@ -140,14 +143,17 @@ module _ (node : ℕ) (file : List ℕ) (fs : Script) (ok : judged node file ≡
         few = omega (arith, length-depths (function-at fs f .parameters), few-parameters fs f (clean .limits .1));
       }
 
-  -- the delivery of an accepted script
-  pub deliver-accepted : (c : Code) → Coded fs c → (readings : List ℤ) (budget : ℕ) (σ : Store) →
-      delivered-on c readings (main-depth fs) budget σ ≡ delivered (program fs) readings budget σ
+  -- the delivery of an accepted script on a sound store
+  pub deliver-accepted : (c : Code) → Coded fs c → (readings : List ℤ) (budget : ℕ) (slots : List ℤ) (heads : List ℕ) →
+      sound-words (main-depth fs) slots heads ≡ true → request-fits readings budget ≡ true →
+      delivered-on c readings (main-depth fs) budget (store-of slots heads)
+      ≡ delivered (program fs) readings budget (store-of slots heads)
   unfolding program
-  deliver-accepted c held readings budget σ =
+  deliver-accepted c held readings budget slots heads sound request =
       delivered-same (program fs) (omega (arith, few, routines)) c (omega (arith, clean .limits .0, routines))
       (sym (ap (λ s. length (s .parameters)) (main-shape-of node file fs ok .0))) (stands c held) (held .ends) readings
-      budget σ
+      budget (store-of slots heads)
+      (levels-bounded node file fs ok (held .short) slots heads sound readings budget request)
 
 -- what `code-kinds` and `code-operands` leave in the arrays
 pub code-written : (fs : Script) (ks : List ℕ) (os : List ℤ) →

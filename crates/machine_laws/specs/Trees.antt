@@ -30,9 +30,11 @@ use Rattle.machine_laws.specs.Rows.{At, Jumps, at-first, at-second, code
 use Rattle.machine_laws.specs.Rows.{no-atom, tree-within, line-some, rows-some}
 use Rattle.machine_laws.specs.Frames.{Bounded, FrameAgrees, small-known, word-same, kept-none, known-stays}
 use Rattle.machine_laws.specs.Frames.{Framed, framed-kept, bounded-after}
+use Rattle.machine_laws.specs.Levels.{LevelsAgree}
 use Rattle.machine_laws.specs.Same.{CalleeSame, Rel, TreeDone, LineDone, rel-then, rel-step, rel-map, word-kept}
 use Rattle.machine_laws.specs.Same.{bound-done}
-use Rattle.machine_laws.specs.Leaves.{operation-read, leaf-same, retain-same, release-same}
+use Rattle.machine_laws.specs.Leaves.{operation-read, leaf-same}
+use Rattle.machine_laws.specs.Changes.{retain-same, release-same}
 use Rattle.machine_laws.specs.Loops.{TreeClaim, loop-read, loop-same}
 
 -- the same work from the same place
@@ -65,11 +67,11 @@ line-open kinds operands at (K.loop x k ps us t) h = rw (h .0 .kind) (loop-open 
 line-open kinds operands at (K.retain x) h = rw (h .0 .kind) refl
 line-open kinds operands at (K.release x) h = rw (h .0 .kind) refl
 
-module _ (p : Program) (enough : length (p .routines) ≤ 32) (callee : M.Callee) (Γ : NameDepths) (c : Code)
+module _ (free : ℕ) (p : Program) (enough : length (p .routines) ≤ 32) (callee : M.Callee) (Γ : NameDepths) (c : Code)
     (calls f : ℕ) (C : Callee) (depths : (x : ℕ) → x < 256 → depth-in (c .table) f x ≡ Γ x) (jumps : Jumps c)
-    (calling : CalleeSame p calls C callee) where
+    (calling : CalleeSame free p calls C callee) where
   abbrev Claim : K.Tree → Type 0
-  Claim t = TreeClaim p callee Γ c calls f C t
+  Claim t = TreeClaim free p callee Γ c calls f C t
 
   -- the claims of the trees of a line
   abbrev LineClaims : K.Line → Type 0
@@ -80,7 +82,8 @@ module _ (p : Program) (enough : length (p .routines) ≤ 32) (callee : M.Callee
   LineClaims (K.release x) = Unit {0}
 
   module _ (n : ℕ) (few : n ≤ 4096) (S : Set) (b : Bounded S) (at : ℕ) (A : Set) (R : List ℕ) (ρ : Frame) (s : State)
-      (env : List ℤ) (g : FrameAgrees calls env ρ S) (framed : Framed calls f env) where
+      (env : List ℤ) (g : FrameAgrees calls env ρ S) (framed : Framed calls f env)
+      (levels : LevelsAgree free (s .log) env) where
     abbrev W : Work
     W = tree-on n C c calls
 
@@ -94,33 +97,33 @@ module _ (p : Program) (enough : length (p .routines) ≤ 32) (callee : M.Callee
     branch-same : (x : ℕ) → New x S → (t : K.Tree) → Claim t → length (rows t) ≤ n → (d : ℕ) → Fitting p Γ t d →
         Scoped t S → (q : ℕ) → At (c .kinds) (c .operands) q (rows t) → (next : ℕ → ℕ) (goal : ℕ) →
         next (q + length (rows t)) ≡ goal → (m : ℕ) →
-        Rel (LineDone goal calls env S (S ∪ only x))
+        Rel free (LineDone free goal calls env S (S ∪ only x))
         (and-then (W q m here) (λ w. binding calls x (next (w .out .next)) w))
         (onward (λ w. give (updated ρ x w)) (work callee Γ t (after-branch x A) R ρ (with-left s m)))
     unfolding with-left
     branch-same x new t claim lt d fit scoped q rs next goal e m =
-        rel-then (TreeDone (q + length (rows t)) calls env S) (LineDone goal calls env S (S ∪ only x))
+        rel-then free (TreeDone free (q + length (rows t)) calls env S) (LineDone free goal calls env S (S ∪ only x))
         (W q m here) (work callee Γ t (after-branch x A) R ρ (with-left s m))
         (λ w. binding calls x (next (w .out .next)) w) (λ w. give (updated ρ x w))
-        (claim n lt few S d fit scoped b q rs (after-branch x A) R ρ (with-left s m) env g framed)
+        (claim n lt few S d fit scoped b q rs (after-branch x A) R ρ (with-left s m) env g framed levels)
         (λ w s′ h. (
           refl,
-          bound-done calls env ρ S b g framed x new (next (W q m here .out .next)) goal (ap next (h .next) ∙ e)
+          bound-done free calls env ρ S b g framed x new (next (W q m here .out .next)) goal (ap next (h .next) ∙ e)
               (W q m here) w s′ (h .word),
         ))
 
     if-same : (x : ℕ) (a : K.Atom) (t e : K.Tree) → Claim t → Claim e → length (rows t) ≤ n → length (rows e) ≤ n →
         Known a S → New x S → Fitting p Γ t (Γ x) → Fitting p Γ e (Γ x) → Scoped t S → Scoped e S →
         At (c .kinds) (c .operands) (at + 2) (rows t ++ rows e) →
-        Rel (LineDone (at + 2 + length (rows t) + length (rows e)) calls env S (S ∪ only x))
+        Rel free (LineDone free (at + 2 + length (rows t) + length (rows e)) calls env S (S ∪ only x))
         (if-line W (c .table) calls x (coded a) at (s .left) here) (work-line callee Γ (K.if-else x a t e) A R ρ s)
     unfolding if-line work-line onward
     if-same x a t e claim-t claim-e lt le known new fit-t fit-e st se rs =
-        rel-step (LineDone (at + 2 + length (rows t) + length (rows e)) calls env S (S ∪ only x)) s here
+        rel-step free (LineDone free (at + 2 + length (rows t) + length (rows e)) calls env S (S ∪ only x)) s here
         (λ m. if-worked W (c .table) calls x at m here (word-of calls env (coded a)))
         (λ _ s′. onward (λ w. give (updated ρ x w))
         (cond (is-zero (word ρ a)) (work callee Γ e (after-branch x A) R ρ) (work callee Γ t (after-branch x A) R ρ)
-        s′))
+        s′)) levels
         (λ m. rw (word-same calls env ρ S g a known) (go m (word ρ a) (is-zero (word ρ a)) refl))
       where
         in-t : At (c .kinds) (c .operands) (at + 2) (rows t)
@@ -130,7 +133,7 @@ module _ (p : Program) (enough : length (p .routines) ≤ 32) (callee : M.Callee
         in-e = at-second (c .kinds) (c .operands) (at + 2) (rows t) (rows e) rs
 
         go : (m : ℕ) (v : ℤ) (z : Bool) → is-zero v ≡ z →
-            Rel (LineDone (at + 2 + length (rows t) + length (rows e)) calls env S (S ∪ only x))
+            Rel free (LineDone free (at + 2 + length (rows t) + length (rows e)) calls env S (S ∪ only x))
             (if-worked W (c .table) calls x at m here v)
             (onward (λ w. give (updated ρ x w))
             (cond (is-zero v) (work callee Γ e (after-branch x A) R ρ) (work callee Γ t (after-branch x A) R ρ)
@@ -152,7 +155,7 @@ module _ (p : Program) (enough : length (p .routines) ≤ 32) (callee : M.Callee
         (at-second (c .kinds) (c .operands) (at + 1) (map atom-row us) (rows t) rs)
 
     abbrev LineSame : K.Line → Doing → Type 0
-    LineSame l d = Rel (LineDone (at + length (line-rows l)) calls env S (known-after l S))
+    LineSame l d = Rel free (LineDone free (at + length (line-rows l)) calls env S (known-after l S))
         (line-done W C c calls at (s .left) here d) (work-line callee Γ l A R ρ s)
 
     -- any line
@@ -160,10 +163,11 @@ module _ (p : Program) (enough : length (p .routines) ≤ 32) (callee : M.Callee
         (t : K.Tree) → At (c .kinds) (c .operands) at (line-rows l ++ rows t) → LineSame l found
     unfolding line-rows line-done doing
     line-same (K.leaf x l us) claims lt fit h t rs =
-        subst (λ (q : ℕ). Rel (LineDone q calls env S (S ∪ only x)) (line-done W C c calls at (s .left) here found)
+        subst (λ (q : ℕ). Rel free (LineDone free q calls env S (S ∪ only x)) (line-done W C c calls at (s .left)
+        here found)
         (work-line callee Γ (K.leaf x l us) A R ρ s))
         (ap (λ (q : ℕ). at + suc q) (sym (length-map us atom-row)))
-        (leaf-same p enough callee Γ c calls f C calling W at A R ρ s env S b g framed x (h .1) us (h .0)
+        (leaf-same free p enough callee Γ c calls f C calling W at A R ρ s env S b g framed levels x (h .1) us (h .0)
         (at-first (c .kinds) (c .operands) (at + 1) (map atom-row us) (rows t) (rs .1)) (atoms-stop us t (rs .1))
         depths l fit (rs .0))
     line-same (K.if-else x u t₁ t₂) claims lt fit h t rs =
@@ -178,7 +182,7 @@ module _ (p : Program) (enough : length (p .routines) ≤ 32) (callee : M.Callee
         (rs .0 .operand)
         (atom-here (c .kinds) (c .operands) (at + 1) u (small-known u S b (h .0)) (rs .1 .0)) refl)
         ∙ ap (λ (q : ℕ). branching q (coded u)) (let o : x % 256 ≡ x = omega (arith, h .1 .small) in o)))
-        (subst (λ (q : ℕ). Rel (LineDone q calls env S (S ∪ only x))
+        (subst (λ (q : ℕ). Rel free (LineDone free q calls env S (S ∪ only x))
         (if-line W (c .table) calls x (coded u) at (s .left) here) (work-line callee Γ (K.if-else x u t₁ t₂) A R ρ
         s)) z
         (if-same x u t₁ t₂ (claims .0) (claims .1) (omega (arith, e, lt)) (omega (arith, e, lt)) (h .0) (h .1) (fit
@@ -193,7 +197,8 @@ module _ (p : Program) (enough : length (p .routines) ≤ 32) (callee : M.Callee
         let read = loop-read p Γ c calls at here S b x k ps us (atom-depth Γ (ending t₁)) (fit .0) (h .1) (h .2) (h .0)
         (rs .0) (at-first (c .kinds) (c .operands) (at + 1) (map atom-row us) (rows t₁) mine) in
         subst (LineSame (K.loop x k ps us t₁)) (sym (read .is))
-        (loop-same p callee Γ c calls f C depths jumps n few S b at A R ρ s env g framed x k ps us t₁ (read .first)
+        (loop-same free p callee Γ c calls f C depths jumps n few S b at A R ρ s env g framed levels x k ps us t₁
+        (read .first)
         (read .second) (read .names) (h .1) (h .2) (h .0)
         claims (omega (arith, e, lt)) (atom-depth Γ (ending t₁)) (fit .1) (h .3)
         (subst (λ (q : ℕ). At (c .kinds) (c .operands) q (rows t₁))
@@ -202,16 +207,16 @@ module _ (p : Program) (enough : length (p .routines) ≤ 32) (callee : M.Callee
         (at-second (c .kinds) (c .operands) (at + 1) (map atom-row us) (rows t₁) mine)) _
         (omega (arith, e, length-map us coded, length-map us atom-row)))
     line-same (K.retain x) claims lt fit h t rs =
-        retain-same p enough callee Γ c calls f C calling W at A R ρ s env S b g framed x h (rs .0)
+        retain-same free callee Γ c calls f C W at A R ρ s env S b g framed levels x h (rs .0)
     line-same (K.release x) claims lt fit h t rs =
-        release-same p enough callee Γ c calls f C calling W at A R ρ s env S b g framed x h (rs .0)
+        release-same free callee Γ c calls f C W at A R ρ s env S b g framed levels x h (rs .0)
 
   -- ---- trees
 
   end-same : (a : K.Atom) → Claim (K.end a)
   unfolding tree-on tree-from work rows
-  end-same a zero lt few S d fit sc b at rs L R ρ s env g framed = absurd (omega arith)
-  end-same a (suc n) lt few S d fit sc b at rs L R ρ s env g framed =
+  end-same a zero lt few S d fit sc b at rs L R ρ s env g framed levels = absurd (omega arith)
+  end-same a (suc n) lt few S d fit sc b at rs L R ρ s env g framed levels =
       rw (
         tree-within (c .kinds) (c .operands) at (K.end a) rs,
         line-read (c .kinds) (c .operands) at 16 0 (coded a) (atom-at (c .kinds) (c .operands) (at + 2)) (omega arith)
@@ -226,23 +231,25 @@ module _ (p : Program) (enough : length (p .routines) ≤ 32) (callee : M.Callee
             steps = refl;
             store = refl;
             kept = kept-none calls env S;
+            levels = levels;
           };
         },
       )
 
   more-same : (l : K.Line) (t : K.Tree) → LineClaims l → Claim t → Claim (K.line l t)
   unfolding tree-on tree-from line-on work rows
-  more-same l t claims claim zero lt few S d fit sc b at rs L R ρ s env g framed =
+  more-same l t claims claim zero lt few S d fit sc b at rs L R ρ s env g framed levels =
       absurd (omega (arith, length-append (line-rows l) (rows t), rows-some t))
-  more-same l t claims claim (suc n) lt few S d fit sc b at rs L R ρ s env g framed =
+  more-same l t claims claim (suc n) lt few S d fit sc b at rs L R ρ s env g framed levels =
       rw (
         tree-within (c .kinds) (c .operands) at (K.line l t) rs,
         line-open (c .kinds) (c .operands) at l (at-first (c .kinds) (c .operands) at (line-rows l) (rows t) rs),
       )
-      (rel-then (LineDone goal calls env S known) (TreeDone (at + length (line-rows l ++ rows t)) calls env S)
+      (rel-then free (LineDone free goal calls env S known) (TreeDone free (at + length (line-rows l ++ rows t))
+      calls env S)
       w (work-line callee Γ l (live t L) R ρ s)
       (λ y. tree-on n C c calls (y .out .next) (y .out .steps) (y .memory)) (λ ρ′. work callee Γ t L R ρ′)
-      (line-same n (omega (arith, few)) S b at (live t L) R ρ s env g framed l claims
+      (line-same n (omega (arith, few)) S b at (live t L) R ρ s env g framed levels l claims
       (omega (arith, len, rows-some t, lt)) (fit .0) (sc .0) t rs)
       (λ ρ′ s′ h. then-tree ρ′ s′ h))
     where
@@ -260,25 +267,25 @@ module _ (p : Program) (enough : length (p .routines) ≤ 32) (callee : M.Callee
       len : length (line-rows l ++ rows t) ≡ length (line-rows l) + length (rows t)
       len = length-append (line-rows l) (rows t)
 
-      then-tree : (ρ′ : Frame) (s′ : State) → LineDone goal calls env S known w ρ′ s′ →
-          Rel (TreeDone (at + length (line-rows l ++ rows t)) calls env S)
+      then-tree : (ρ′ : Frame) (s′ : State) → LineDone free goal calls env S known w ρ′ s′ →
+          Rel free (TreeDone free (at + length (line-rows l ++ rows t)) calls env S)
           (tree-on n C c calls (w .out .next) (w .out .steps) (w .memory)) (work callee Γ t L R ρ′ s′)
       then-tree ρ′ s′ h =
-          subst (λ (y : Ran). Rel (TreeDone (at + length (line-rows l ++ rows t)) calls env S) y
+          subst (λ (y : Ran). Rel free (TreeDone free (at + length (line-rows l ++ rows t)) calls env S) y
           (work callee Γ t L R ρ′ s′))
           (sym (moved (tree-on n C c calls) (w .out .next) goal (w .out .steps) (s′ .left) (w .memory) (s′ .store)
           (h .next) (h .steps) (h .store)))
-          (rel-map (TreeDone (goal + length (rows t)) calls (w .memory .env) known)
-          (TreeDone (at + length (line-rows l ++ rows t)) calls env S)
+          (rel-map free (TreeDone free (goal + length (rows t)) calls (w .memory .env) known)
+          (TreeDone free (at + length (line-rows l ++ rows t)) calls env S)
           (tree-on n C c calls goal (s′ .left) (memory (s′ .store) (w .memory .env))) (work callee Γ t L R ρ′ s′)
           (λ v s″ q. record {
             next = q .next ∙ omega (arith, len);
-            word = word-kept calls env (w .memory .env) S known (known-stays l S) (h .kept) _ v s″ (q .word);
+            word = word-kept free calls env (w .memory .env) S known (known-stays l S) (h .kept) _ v s″ (q .word);
           })
           (claim n (omega (arith, len, line-some l, lt)) (omega (arith, few)) known d (fit .1) (sc .1)
           (bounded-after l S (sc .0) b) goal
           (at-second (c .kinds) (c .operands) at (line-rows l) (rows t) rs) L R ρ′ s′ (w .memory .env) (h .agrees)
-          (framed-kept (h .kept) framed)))
+          (framed-kept (h .kept) framed) (h .levels)))
 
   mutual
     pub tree-same : (t : K.Tree) → Claim t

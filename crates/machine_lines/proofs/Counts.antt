@@ -15,16 +15,16 @@ use Rattle.semantics.specs.Outcome.{Outcome, done, stop}
 use Rattle.semantics.specs.Machine.{is-count}
 use Rattle.semantics.specs.Store.{Store, cell-of, has-free, acquired, retained}
 use Rattle.laws.specs.Lists.{tabulate-length, tabulate-at}
-use Rattle.store.specs.Acquiring.{acquired-outcome, next-cell}
+use Rattle.store.specs.Acquiring.{Gained, gained, acquired-outcome, next-cell}
 use Rattle.store.specs.declared.Acquired.{Acquired}
 use Rattle.store.specs.declared.Acquired.the-variants.{Cell, NoneFree}
 use Rattle.machine_code.proofs.Reading.{no-bool, less-one}
 use Rattle.machine_lines.specs.declared.Out.{Out}
-use Rattle.machine_lines.specs.Frames.{place}
-use Rattle.machine_lines.specs.Lines.{memory, ran, left, stored, StoreLeft, out, with-store, stepping}
-use Rattle.machine_lines.specs.Lines.{Given, given, acquired-given, elements-by, retained-times, retained-copies}
-use Rattle.machine_lines.specs.Lines.{made-store, array-store, counted-given, array-given, unbound, array-made}
-use Rattle.machine_lines.specs.Lines.{bound-result, giving-line, array-line}
+use Rattle.machine_lines.specs.Frames.{place, level-of, noted}
+use Rattle.machine_lines.specs.Lines.{Memory, memory, Ran, ran, left, out, with-store, stepping, cell-from}
+use Rattle.machine_lines.specs.Lines.{Given, given, gave, acquired-given, elements-by, retained-times}
+use Rattle.machine_lines.specs.Lines.{retained-copies, made-memory, array-memory, counted-given, array-given}
+use Rattle.machine_lines.specs.Lines.{array-made, bound-result, giving-line, array-line}
 use Rattle.machine_lines.proofs.Lines.{inside-negative}
 
 -- ---- a result that is bound
@@ -88,43 +88,44 @@ count-fits (pos n) e =
 count-fits (negsuc n) e = no-bool (sym e)
 
 -- a count out of range gives 26, whether a cell is free or not
-pub counted-bad : (o : Outcome (Unit {0}) ℕ) → counted-given false o ≡ stop 26 tt
-counted-bad (done c u) = refl
+pub counted-bad : (o : Outcome (Unit {0}) Gained) → counted-given false o ≡ stop 26 tt
+counted-bad (done g u) = refl
 counted-bad (stop n u) = refl
 
 -- ---- the ways out
 
-module _ (counting : Bool) (w : ℤ) (d : ℕ) (n : ℤ) (steps : ℕ) (σ : Store) where
-  abbrev made : StoreLeft
-  made = array-made counting w d n steps σ
+module _ (counting : Bool) (w : ℤ) (d : ℕ) (n : ℤ) (steps : ℕ) (m : Memory) where
+  abbrev made : Ran
+  made = array-made counting w d n steps m
 
-  pub array-spent : (r : Out) → steps ≡ 0 → r ≡ out 21 (pos 0) 0 steps → stored r σ ≡ made
+  pub array-spent : (r : Out) → steps ≡ 0 → r ≡ out 21 (pos 0) 0 steps → ran r m ≡ made
   unfolding array-made stepping
   array-spent r z e = rw (e, z)
 
   module _ (some : steps ≡ 0 → ⊥) where
-    array-is : made ≡ unbound (steps - 1) (array-store counting w d n σ) (array-given n σ)
+    array-is : made ≡ gave (steps - 1) (array-memory counting w d n m) (array-given n m)
     unfolding array-made stepping
-    array-is = ap (λ (k : ℕ). array-made counting w d n k σ) (less-one steps (omega arith))
+    array-is = ap (λ (k : ℕ). array-made counting w d n k m) (less-one steps (omega arith))
 
-    pub array-bad : is-count n ≡ false → (r : Out) → r ≡ out 26 (pos 0) 0 (steps - 1) → stored r σ ≡ made
-    array-bad e r q = ap (λ (y : Out). stored y σ) q
-        ∙ sym (array-is ∙ rw e (ap (unbound (steps - 1) σ) (counted-bad (next-cell σ))))
+    pub array-bad : is-count n ≡ false → (r : Out) → r ≡ out 26 (pos 0) 0 (steps - 1) → ran r m ≡ made
+    array-bad e r q = ap (λ (y : Out). ran y m) q
+        ∙ sym (array-is ∙ rw e (ap (gave (steps - 1) m) (counted-bad (cell-from m))))
 
-    module _ (e : is-count n ≡ true) (a : Acquired) (ae : acquired-outcome a ≡ next-cell σ) where
-      array-in : made ≡ unbound (steps - 1) (made-store counting w d (natAbs n) σ (acquired-outcome a))
+    module _ (e : is-count n ≡ true) (a : Acquired) (ae : acquired-outcome a ≡ cell-from m) where
+      array-in : made ≡ gave (steps - 1) (made-memory counting w d (natAbs n) m (acquired-outcome a))
           (acquired-given (acquired-outcome a))
       array-in = array-is ∙ rw (e, ae) refl
 
-      pub array-cell : (c : ℕ) → a ≡ Cell c → (τ : Store) →
-          τ ≡ retained-copies d w (natAbs n) (acquired d (elements-by counting w (natAbs n)) σ) → (z : ℤ) →
-          z ≡ pos c → (r : Out) → r ≡ out 0 z 0 (steps - 1) → stored r τ ≡ made
-      array-cell c h τ τe z ze r q =
-          ap₂ stored (q ∙ ap (λ (y : ℤ). out 0 y 0 (steps - 1)) ze) τe ∙ sym (array-in ∙ rw h refl)
+      pub array-cell : (c k : ℕ) → a ≡ Cell c k → (env′ : List ℤ) → env′ ≡ noted k (m .env) → (τ : Store) →
+          τ ≡ retained-copies d w (natAbs n) (acquired d (elements-by counting w (natAbs n)) (m .store)) → (z : ℤ) →
+          z ≡ pos c → (r : Out) → r ≡ out 0 z 0 (steps - 1) → ran r (memory τ env′) ≡ made
+      array-cell c k h env′ f τ τe z ze r q =
+          ap₂ ran (q ∙ ap (λ (y : ℤ). out 0 y 0 (steps - 1)) ze) (ap₂ memory τe f) ∙ sym (array-in ∙ rw h refl)
 
-      pub array-none : a ≡ NoneFree → (τ : Store) → τ ≡ acquired d (elements-by counting w (natAbs n)) σ → (r : Out) →
-          r ≡ out 25 (pos 0) 0 (steps - 1) → stored r τ ≡ made
-      array-none h τ τe r q = ap₂ stored q τe ∙ sym (array-in ∙ rw h refl)
+      pub array-none : a ≡ NoneFree → (τ : Store) →
+          τ ≡ acquired d (elements-by counting w (natAbs n)) (m .store) → (r : Out) →
+          r ≡ out 25 (pos 0) 0 (steps - 1) → ran r (memory τ (m .env)) ≡ made
+      array-none h τ τe r q = ap₂ (λ (y : Out) (ρ : Store). ran y (memory ρ (m .env))) q τe ∙ sym (array-in ∙ rw h refl)
 
 -- ---- the array bound to a name
 
@@ -133,11 +134,12 @@ abbrev Real : Given → Type 0
 Real (done w u) = Unit {0}
 Real (stop n u) = n ≡ 0 → ⊥
 
-array-real : (n : ℤ) (σ : Store) → Real (array-given n σ)
+array-real : (n : ℤ) (m : Memory) → Real (array-given n m)
 unfolding next-cell
-array-real n σ = go (is-count n) (has-free σ)
+array-real n m = go (is-count n) (has-free (m .store))
   where
-    go : (t f : Bool) → Real (counted-given t (cond f (done (σ .first) tt) (stop 25 tt)))
+    go : (t f : Bool) → Real (counted-given t
+        (cond f (done (gained (m .store .first) (level-of (m .env) - 1)) tt) (stop 25 tt)))
     go true true = tt
     go true false = λ e. omega arith
     go false true = λ e. omega arith
@@ -145,23 +147,22 @@ array-real n σ = go (is-count n) (has-free σ)
 
 module _ (calls x next : ℕ) (env : List ℤ) (r : Out) (τ : Store) (q : Out) (env′ : List ℤ)
     (bound : left q env′ ≡ bound-result calls x next r env) where
-  given-bound : (s : ℕ) (σ : Store) (g : Given) → Real g → stored r τ ≡ unbound s σ g →
-      ran q (memory τ env′) ≡ with-store σ (given calls x next s env g)
-  given-bound s σ (done w u) h e =
-      let q′ = ap (λ (y : StoreLeft). y .out) e in
-      ap₂ (λ (l : _) (ρ : Store). with-store ρ l) (bound ∙ ap (λ (y : Out). bound-result calls x next y env) q′)
-      (ap (λ (y : StoreLeft). y .store) e)
-  given-bound s σ (stop n u) h e =
-      let q′ = ap (λ (y : StoreLeft). y .out) e in
+  given-bound : (s : ℕ) (m : Memory) (g : Given) → Real g → ran r (memory τ env) ≡ gave s m g →
+      ran q (memory τ env′) ≡ with-store (m .store) (given calls x next s (m .env) g)
+  given-bound s m (done w u) h e =
       ap₂ (λ (l : _) (ρ : Store). with-store ρ l)
-      (bound ∙ sym (bound-stop calls x next r env (λ z. h (sym (ap (λ (y : Out). y .stop) q′) ∙ z)))
-      ∙ ap (λ (y : Out). left y env) q′)
-      (ap (λ (y : StoreLeft). y .store) e)
+      (bound ∙ ap (λ (y : Ran). bound-result calls x next (y .out) (y .memory .env)) e)
+      (ap (λ (y : Ran). y .memory .store) e)
+  given-bound s m (stop n u) h e =
+      ap₂ (λ (l : _) (ρ : Store). with-store ρ l)
+      (bound ∙ sym (bound-stop calls x next r env (λ z. h (sym (ap (λ (y : Ran). y .out .stop) e) ∙ z)))
+      ∙ ap (λ (y : Ran). left (y .out) (y .memory .env)) e)
+      (ap (λ (y : Ran). y .memory .store) e)
 
-  pub array-bound : (counting : Bool) (w : ℤ) (d : ℕ) (n : ℤ) (steps : ℕ) (σ : Store) →
-      stored r τ ≡ array-made counting w d n steps σ →
-      ran q (memory τ env′) ≡ array-line calls x next counting w d n steps (memory σ env)
+  pub array-bound : (counting : Bool) (w : ℤ) (d : ℕ) (n : ℤ) (steps : ℕ) (m : Memory) →
+      ran r (memory τ env) ≡ array-made counting w d n steps m →
+      ran q (memory τ env′) ≡ array-line calls x next counting w d n steps m
   unfolding array-made giving-line stepping
-  array-bound counting w d n zero σ e = given-bound 0 σ (stop 21 tt) (λ z. omega arith) e
-  array-bound counting w d n (suc s) σ e =
-      given-bound s (array-store counting w d n σ) (array-given n σ) (array-real n σ) e
+  array-bound counting w d n zero m e = given-bound 0 m (stop 21 tt) (λ z. omega arith) e
+  array-bound counting w d n (suc s) m e =
+      given-bound s (array-memory counting w d n m) (array-given n m) (array-real n m) e

@@ -1,3 +1,4 @@
 pub mod Counts
 pub mod Gathering
+pub mod Levels
 pub mod Lines

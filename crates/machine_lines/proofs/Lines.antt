@@ -16,12 +16,12 @@ use borrow.Author.Tests.{lt-ltb, le-ltb, ltb-true, ltb-false}
 use Rattle.semantics.specs.Outcome.{Outcome, done, stop}
 use Rattle.semantics.specs.Number.{Operation, less, exact, fits, inside}
 use Rattle.semantics.specs.Store.{Store, cell, cell-of, elements, acquired, has-free, cell-count, retained}
-use Rattle.semantics.specs.Store.{released, deepest}
+use Rattle.semantics.specs.Store.{deepest, cells-taken}
 use Rattle.semantics.specs.Words.{store-of, cells-in}
 use Rattle.words.specs.Words.{exact-outcome, checked}
 use Rattle.words.specs.declared.Exact.{Exact}
 use Rattle.words.specs.declared.Exact.the-variants.{Value, Overflow}
-use Rattle.store.specs.Acquiring.{acquired-outcome, next-cell}
+use Rattle.store.specs.Acquiring.{Gained, gained, acquired-outcome, next-cell, Releases}
 use Rattle.store.specs.declared.Acquired.{Acquired}
 use Rattle.store.specs.declared.Acquired.the-variants.{Cell, NoneFree}
 use Rattle.store.proofs.Filling.{cell-given}
@@ -32,12 +32,12 @@ use Rattle.machine_code.specs.declared.Line.{Line}
 use Rattle.machine_code.specs.declared.Line.the-variants as L
 use Rattle.machine_code.proofs.Reading.{no-bool, less-one}
 use Rattle.machine_lines.specs.declared.Out.{Out}
-use Rattle.machine_lines.specs.Frames.{place, word-of, words-at, element-depth}
+use Rattle.machine_lines.specs.Frames.{place, word-of, words-at, element-depth, noted, noted-by, raised}
 use Rattle.machine_lines.specs.Lines.{no-line, Memory, memory, Ran, ran, left, out, with-store, halted, stepping}
 use Rattle.machine_lines.specs.Lines.{Given, given, worked, operation-of, operation-given}
 use Rattle.machine_lines.specs.Lines.{array-of, index-given, length-given, acquired-given, operation-line}
 use Rattle.machine_lines.specs.Lines.{index-line, length-line, Doing, giving, changing, ending, calling}
-use Rattle.machine_lines.specs.Lines.{branching, looping, array-doing}
+use Rattle.machine_lines.specs.Lines.{branching, looping, array-doing, cell-from, released-memory}
 use Rattle.machine_lines.specs.Lines.{doing, giving-line, leaf-done, literal-line, array-line, leaf}
 
 -- ---- operations
@@ -168,14 +168,14 @@ module _ (σ : Store) (calls x : ℕ) (a : Atom) (next steps : ℕ) (env : List 
 -- ---- a literal
 
 -- the cell that an acquire answers is small
-pub next-small : (slots : List ℤ) (heads : List ℕ) (q : Acquired) (c : ℕ) →
-    acquired-outcome q ≡ next-cell (store-of slots heads) →
-    q ≡ Cell c → c < 256
+pub next-small : (free : ℕ) (slots : List ℤ) (heads : List ℕ) (q : Acquired) (c k : ℕ) →
+    acquired-outcome q ≡ next-cell free (store-of slots heads) →
+    q ≡ Cell c k → c < 256
 unfolding has-free
-next-small slots heads q c e h = let e′ = ap acquired-outcome (sym h) ∙ e in
-    let given = cell-given (store-of slots heads) c e′ in omega (
+next-small free slots heads q c k e h = let e′ = ap acquired-outcome (sym h) ∙ e in
+    let given = cell-given free (store-of slots heads) (gained c k) e′ in omega (
       arith,
-      given .1,
+      ap (λ (g : Gained). g .cell) (given .1),
       ltb-true (store-of slots heads .first) (cell-count (store-of slots heads)) (given .0),
       store-size slots heads,
       few-cells slots heads,
@@ -188,42 +188,45 @@ module _ (kinds : List ℕ) (operands : List ℤ) (calls x d at steps : ℕ) (m 
   literal-spent r z e = rw (e, z)
 
   module _ (some : steps ≡ 0 → ⊥) (ws : List ℤ) (we : ws ≡ words-at 16 kinds operands calls (m .env) (at + 1))
-      (q : Acquired) (qe : acquired-outcome q ≡ next-cell (m .store)) (σ : Store)
-      (σe : σ ≡ acquired d ws (m .store)) where
+      (q : Acquired) (qe : acquired-outcome q ≡ cell-from m) (σ : Store) (σe : σ ≡ acquired d ws (m .store)) where
     literal-is : literal-line kinds operands calls x d at steps m
-        ≡ with-store σ (given calls x (at + 1 + length ws) (steps - 1) (m .env) (acquired-given (acquired-outcome q)))
+        ≡ with-store σ (given calls x (at + 1 + length ws) (steps - 1) (noted-by (acquired-outcome q) (m .env))
+        (acquired-given (acquired-outcome q)))
     unfolding leaf-done giving-line stepping
     literal-is = ap (λ (n : ℕ). literal-line kinds operands calls x d at n m) (less-one steps (omega arith))
         ∙ rw (← we, ← qe, ← σe) refl
 
-    pub literal-cell : (c : ℕ) → q ≡ Cell c → (z : ℤ) → z ≡ pos c → (env′ : List ℤ) → env′ ≡ set (m .env) (place
-        calls x) z →
-        (n : ℕ) → n ≡ length ws → (r : Out) → r ≡ out 0 z (at + 1 + n) (steps - 1) →
+    pub literal-cell : (c k : ℕ) → q ≡ Cell c k → (env₁ : List ℤ) → env₁ ≡ noted k (m .env) → (z : ℤ) → z ≡ pos c →
+        (env′ : List ℤ) → env′ ≡ set env₁ (place calls x) z → (n : ℕ) → n ≡ length ws → (r : Out) →
+        r ≡ out 0 z (at + 1 + n) (steps - 1) →
         ran r (memory σ env′) ≡ literal-line kinds operands calls x d at steps m
-    literal-cell c h z ze env′ g n ne r p = sym (literal-is
-        ∙ ap₂ (λ (y : Given) (k : ℕ). with-store σ (given calls x (at + 1 + k) (steps - 1) (m .env) y))
-        (ap (λ (y : Acquired). acquired-given (acquired-outcome y)) h ∙ ap (λ (y : ℤ). done y tt) (sym ze)) (sym ne)
+    literal-cell c k h env₁ f z ze env′ g n ne r p = sym (literal-is
+        ∙ ap (λ (y : Acquired). with-store σ (given calls x (at + 1 + length ws) (steps - 1)
+        (noted-by (acquired-outcome y) (m .env)) (acquired-given (acquired-outcome y)))) h
+        ∙ ap₂ (λ (l : List ℤ) (y : ℤ). with-store σ (given calls x (at + 1 + length ws) (steps - 1) l (done y tt)))
+        (sym f) (sym ze)
+        ∙ ap (λ (i : ℕ). with-store σ (given calls x (at + 1 + i) (steps - 1) env₁ (done z tt))) (sym ne)
         ∙ ap₂ (λ (y : Out) (l : List ℤ). ran y (memory σ l)) (sym p) (sym g))
 
     pub literal-none : q ≡ NoneFree → (r : Out) → r ≡ out 25 (pos 0) 0 (steps - 1) →
         ran r (memory σ (m .env)) ≡ literal-line kinds operands calls x d at steps m
     literal-none h r p = sym (literal-is
-        ∙ ap (λ (y : Acquired). with-store σ (given calls x (at + 1 + length ws) (steps - 1) (m .env)
-        (acquired-given (acquired-outcome y)))) h
+        ∙ ap (λ (y : Acquired). with-store σ (given calls x (at + 1 + length ws) (steps - 1)
+        (noted-by (acquired-outcome y) (m .env)) (acquired-given (acquired-outcome y)))) h
         ∙ ap (λ (y : Out). ran y (memory σ (m .env))) (sym p))
 
 -- ---- any leaf
 
 -- a small work that leaves the store alone is a leaf
 worked-leaf : (calls at x next s : ℕ) (m : Memory) (g : Given) →
-    with-store (m .store) (worked calls x next s (m .env) g) ≡ leaf-done calls at s m (giving x next (m .store) g)
+    with-store (m .store) (worked calls x next s (m .env) g) ≡ leaf-done calls at s m (giving x next m g)
 unfolding worked leaf-done giving-line stepping
 worked-leaf calls at x next zero m g = refl
 worked-leaf calls at x next (suc s) m g = refl
 
 module _ (kinds : List ℕ) (operands : List ℤ) (table : List ℕ) (calls at steps : ℕ) (m : Memory) (l : Line) where
   left-leaf : (k : Line) → l ≡ k → (x next : ℕ) (g : Given) →
-      doing kinds operands table calls at m k ≡ giving x next (m .store) g →
+      doing kinds operands table calls at m k ≡ giving x next m g →
       (r : Out) (env′ : List ℤ) → left r env′ ≡ worked calls x next steps (m .env) g →
       ran r (memory (m .store) env′) ≡ leaf kinds operands table calls at steps m l
   left-leaf k e x next g d r env′ h = ap (with-store (m .store)) h ∙ worked-leaf calls at x next steps m g
@@ -255,7 +258,7 @@ module _ (kinds : List ℕ) (operands : List ℤ) (table : List ℕ) (calls at s
 
   -- an iota or a replicate
   pub leaf-array : (k : Line) → l ≡ k → (x next : ℕ) (counting : Bool) (w : ℤ) (d : ℕ) (n : ℤ) →
-      doing kinds operands table calls at m k ≡ array-doing x next counting w d n (m .store) → (r : Ran) →
+      doing kinds operands table calls at m k ≡ array-doing x next counting w d n m → (r : Ran) →
       r ≡ array-line calls x next counting w d n steps m → r ≡ leaf kinds operands table calls at steps m l
   unfolding leaf-done
   leaf-array k e x next counting w d n h r q =
@@ -277,25 +280,27 @@ module _ (kinds : List ℕ) (operands : List ℤ) (table : List ℕ) (calls at s
 
   module _ (x : ℕ) (v : ℤ) (ve : v ≡ word-of calls (m .env) (Name x)) (c : ℕ) (ce : c ≡ cell-of v) (σ : Store)
       (r : Out) (re : r ≡ out 0 (pos 0) (at + 1) steps) where
-    -- a line that changes the store as it changes a cell
-    changed-leaf : (k : Line) → l ≡ k → (change : ℕ → Store → Store) →
-        doing kinds operands table calls at m k
-        ≡ changing (change (cell-of (word-of calls (m .env) (Name x))) (m .store)) →
-        σ ≡ change c (m .store) → ran r (memory σ (m .env)) ≡ leaf kinds operands table calls at steps m l
+    -- a line that changes the memory as it changes a cell
+    changed-leaf : (k : Line) → l ≡ k → (change : ℕ → Memory) →
+        doing kinds operands table calls at m k ≡ changing (change (cell-of (word-of calls (m .env) (Name x)))) →
+        (m′ : Memory) → m′ ≡ change c → ran r m′ ≡ leaf kinds operands table calls at steps m l
     unfolding leaf-done
-    changed-leaf k e change d h = ap₂ (λ (y : Out) (τ : Store). ran y (memory τ (m .env))) re
-        (h ∙ ap (λ (k : ℕ). change k (m .store)) (ce ∙ ap cell-of ve))
+    changed-leaf k e change d m′ h = ap₂ ran re (h ∙ ap change (ce ∙ ap cell-of ve))
         ∙ ap (leaf-done calls at steps m) (sym (ap (doing kinds operands table calls at m) e ∙ d))
 
     pub leaf-retain : l ≡ L.Retain x → σ ≡ retained c (m .store) →
         ran r (memory σ (m .env)) ≡ leaf kinds operands table calls at steps m l
     unfolding doing
-    leaf-retain e = changed-leaf (L.Retain x) e retained refl
+    leaf-retain e h = changed-leaf (L.Retain x) e (λ c. memory (retained c (m .store)) (m .env)) refl
+        (memory σ (m .env)) (ap (λ (τ : Store). memory τ (m .env)) h)
 
-    pub leaf-release : l ≡ L.Release x → σ ≡ released deepest c (m .store) →
-        ran r (memory σ (m .env)) ≡ leaf kinds operands table calls at steps m l
+    pub leaf-release : l ≡ L.Release x → (n : ℕ) → Releases deepest c (m .store) σ n → (env′ : List ℤ) →
+        env′ ≡ raised n (m .env) → ran r (memory σ env′) ≡ leaf kinds operands table calls at steps m l
     unfolding doing
-    leaf-release e = changed-leaf (L.Release x) e (released deepest) refl
+    leaf-release e n h env′ f = changed-leaf (L.Release x) e (λ c. released-memory c m) refl (memory σ env′)
+        (ap (memory σ) (f ∙ ap (λ (k : ℕ). raised k (m .env))
+        (let z : n ≡ cells-taken (m .store) - cells-taken σ = omega (arith, h .freed) in z))
+        ∙ ap (λ (τ : Store). memory τ (raised (cells-taken (m .store) - cells-taken τ) (m .env))) (h .store))
 
 -- the variants of the lines that work or end a tree
 abbrev pub bigger : List ℕ
@@ -303,8 +308,8 @@ bigger = 1 ∷ 7 ∷ 8 ∷ 11 ∷ []
 
 -- which variants are worked so
 abbrev pub Told : Doing → ℕ → Type 0
-Told (giving x next σ g) n = T (not (hasKey bigger n))
-Told (changing σ) n = T (not (hasKey bigger n))
+Told (giving x next m′ g) n = T (not (hasKey bigger n))
+Told (changing m′) n = T (not (hasKey bigger n))
 Told (ending a) n = n ≡ 11
 Told (calling x f) n = n ≡ 1
 Told (branching x g) n = n ≡ 7
@@ -334,8 +339,8 @@ module _ (kinds : List ℕ) (operands : List ℤ) (table : List ℕ) (calls at :
   leaf-other steps l h r e = ap (λ (y : Out). ran y m) e ∙ go (doing kinds operands table calls at m l) (told l)
     where
       go : (d : Doing) → Told d (tagOf the-type l) → halted no-line steps m ≡ leaf-done calls at steps m d
-      go (giving x next σ g) t = absurd (miss bigger (tagOf the-type l) t h)
-      go (changing σ) t = absurd (miss bigger (tagOf the-type l) t h)
+      go (giving x next m′ g) t = absurd (miss bigger (tagOf the-type l) t h)
+      go (changing m′) t = absurd (miss bigger (tagOf the-type l) t h)
       go (ending a) t = refl
       go (calling x f) t = refl
       go (branching x g) t = refl
@@ -349,9 +354,9 @@ given-fewer calls x next s env (stop n u) = omega arith
 
 pub leaf-fewer : (calls at s : ℕ) (m : Memory) (d : Doing) → leaf-done calls at s m d .out .steps ≤ s
 unfolding leaf-done giving-line stepping
-leaf-fewer calls at zero m (giving x next σ g) = omega arith
-leaf-fewer calls at (suc s) m (giving x next σ g) = given-fewer calls x next s (m .env) g
-leaf-fewer calls at s m (changing σ) = omega arith
+leaf-fewer calls at zero m (giving x next m′ g) = omega arith
+leaf-fewer calls at (suc s) m (giving x next m′ g) = given-fewer calls x next s (m′ .env) g
+leaf-fewer calls at s m (changing m′) = omega arith
 leaf-fewer calls at s m (ending a) = omega arith
 leaf-fewer calls at s m (calling x f) = omega arith
 leaf-fewer calls at s m (branching x g) = omega arith

@@ -1,14 +1,16 @@
--- The frames of all calls in progress in one list of words: 256 for each, main's last, and then one for each with the
--- number of its function.
+-- The frames of all calls in progress in one list of words: 256 for each, main's last, then one for each with the
+-- number of its function, and then how many cells are free and the least number that was.
 use mathlib.Core.Bool.{cond}
 use mathlib.Core.List.{List, [], _∷_}
 use Prim.Native.Nat.{ℕ, zero, suc, _+_, _-_, _*_, _%_, _≤_}
 use lib.IntN.{ℤ, pos}
+use lib.Dec.{ltb}
 use lib.ListN.{getD, set, length}
 use mathlib.Core.Path.{_≡_}
 use Rattle.semantics.specs.Number.{is-zero}
 use Rattle.semantics.specs.Store.{Store}
-use Rattle.store.specs.Acquiring.{appended-all}
+use Rattle.semantics.specs.Outcome.{Outcome, done, stop}
+use Rattle.store.specs.Acquiring.{Gained, appended-all}
 use Rattle.machine_code.specs.Reading.{low-bits, atom-at, is-atom, depth-in, end-in}
 use Rattle.machine_code.specs.declared.Atom.{Atom}
 use Rattle.machine_code.specs.declared.Atom.the-variants.{Number, Name}
@@ -23,6 +25,40 @@ function-place calls = 8192 + calls
 
 abbrev pub function-of : ℕ → List ℤ → ℕ
 function-of calls env = low-bits (getD env (function-place calls) (pos 0)) % 256
+
+-- ---- levels
+
+-- the places of the number of free cells, and of the least such number
+abbrev pub level-place : ℕ
+level-place = 8224
+
+abbrev pub lowest-place : ℕ
+lowest-place = 8225
+
+abbrev pub level-of : List ℤ → ℕ
+level-of env = low-bits (getD env level-place (pos 0))
+
+abbrev pub lowest-of : List ℤ → ℕ
+lowest-of env = low-bits (getD env lowest-place (pos 0))
+
+-- n cells are free, as never fewer were
+abbrev pub levelled : ℕ → List ℤ → List ℤ
+levelled n env = set (set env level-place (pos n)) lowest-place (pos n)
+
+-- n cells are free after an acquire
+unfoldable pub noted : ℕ → List ℤ → List ℤ
+noted n env = cond (ltb n (lowest-of env)) (levelled n env) (set env level-place (pos n))
+
+-- the same by what the acquire answers
+abbrev pub noted-by : Outcome (Unit {0}) Gained → List ℤ → List ℤ
+noted-by (done g u) env = noted (g .left) env
+noted-by (stop n u) env = env
+
+-- k cells more are free after a release
+unfoldable pub raised : ℕ → List ℤ → List ℤ
+raised k env = set env level-place (pos (level-of env + k))
+
+-- ---- names and arguments
 
 -- the element depth of an array by its name, in the function that is worked
 abbrev pub element-depth : List ℕ → ℕ → ℕ → List ℤ → ℕ

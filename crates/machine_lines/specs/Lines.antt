@@ -10,11 +10,11 @@ use Rattle.semantics.specs.Basics.{tabulate}
 use Rattle.semantics.specs.Outcome.{Outcome, done, stop}
 use Rattle.semantics.specs.Kinds.{Loop, mapping, filtering, reducing}
 use Rattle.semantics.specs.Number.{Operation, sum, difference, less, exact, inside}
-use Rattle.semantics.specs.Store.{Store, cell, cell-of, elements, acquired, retained, released, deepest}
+use Rattle.semantics.specs.Store.{Store, cell, cell-of, elements, acquired, retained, released, deepest, cells-taken}
 use Rattle.semantics.specs.Machine.{is-count}
 use Rattle.semantics.specs.Words.{store-of}
 use Rattle.words.specs.Words.{checked}
-use Rattle.store.specs.Acquiring.{next-cell}
+use Rattle.store.specs.Acquiring.{Gained, next-cell}
 use Rattle.machine_code.specs.declared.Atom.{Atom}
 use Rattle.machine_code.specs.declared.Atom.the-variants.{Name}
 use Rattle.machine_code.specs.declared.Loop as P
@@ -22,7 +22,7 @@ use Rattle.machine_code.specs.declared.Loop.the-variants.{Map, Filter, Reduce}
 use Rattle.machine_code.specs.declared.Line.{Line}
 use Rattle.machine_code.specs.declared.Line.the-variants as L
 use Rattle.machine_lines.specs.declared.Out.{Out}
-use Rattle.machine_lines.specs.Frames.{place, word-of, words-at, element-depth}
+use Rattle.machine_lines.specs.Frames.{place, word-of, words-at, element-depth, level-of, noted-by, raised}
 
 -- what the machine changes: the store, and the words of the frames
 pub record Memory : Type 0 where
@@ -42,19 +42,11 @@ pub record FrameLeft : Type 0 where
   pub out : Out
   pub env : List ℤ
 
--- and for work that leaves the frames alone
-pub record StoreLeft : Type 0 where
-  pub out : Out
-  pub store : Store
-
 abbrev pub out : ℕ → ℤ → ℕ → ℕ → Out
 out number value next steps = record { stop = number; value = value; next = next; steps = steps }
 
 abbrev pub left : Out → List ℤ → FrameLeft
 left r env = record { out = r; env = env }
-
-abbrev pub stored : Out → Store → StoreLeft
-stored r σ = record { out = r; store = σ }
 
 abbrev pub ran : Out → Memory → Ran
 ran r m = record { out = r; memory = m }
@@ -118,9 +110,18 @@ index-given ws w = cond (inside w (length ws)) (done (getD ws (natAbs w) (pos 0)
 abbrev pub length-given : List ℤ → Given
 length-given ws = done (pos (length ws)) tt
 
-abbrev pub acquired-given : Outcome (Unit {0}) ℕ → Given
-acquired-given (done c u) = done (pos c) tt
+abbrev pub acquired-given : Outcome (Unit {0}) Gained → Given
+acquired-given (done g u) = done (pos (g .cell)) tt
 acquired-given (stop n u) = stop n tt
+
+-- what an acquire answers, by the number of free cells among the frames
+abbrev pub cell-from : Memory → Outcome (Unit {0}) Gained
+cell-from m = next-cell (level-of (m .env)) (m .store)
+
+-- what a small work gave, not bound to a name
+abbrev pub gave : ℕ → Memory → Given → Ran
+gave s m (done w u) = ran (out 0 w 0 s) m
+gave s m (stop n u) = halted n s m
 
 -- ---- the lines
 
@@ -153,52 +154,62 @@ retained-copies zero w n σ = σ
 retained-copies (suc d) w n σ = retained-times n (cell-of w) σ
 
 -- the store that is left, by what the acquire answers
-abbrev pub made-store : Bool → ℤ → ℕ → ℕ → Store → Outcome (Unit {0}) ℕ → Store
-made-store counting w d n σ (done c u) = retained-copies d w n (acquired d (elements-by counting w n) σ)
+abbrev pub made-store : Bool → ℤ → ℕ → ℕ → Store → Outcome (Unit {0}) Gained → Store
+made-store counting w d n σ (done g u) = retained-copies d w n (acquired d (elements-by counting w n) σ)
 made-store counting w d n σ (stop k u) = acquired d (elements-by counting w n) σ
 
-abbrev pub array-store : Bool → ℤ → ℕ → ℤ → Store → Store
-array-store counting w d n σ = cond (is-count n) (made-store counting w d (natAbs n) σ (next-cell σ)) σ
+-- the memory that is left, by what the acquire answers
+abbrev pub made-memory : Bool → ℤ → ℕ → ℕ → Memory → Outcome (Unit {0}) Gained → Memory
+made-memory counting w d n m o = memory (made-store counting w d n (m .store) o) (noted-by o (m .env))
+
+abbrev pub array-memory : Bool → ℤ → ℕ → ℤ → Memory → Memory
+array-memory counting w d n m = cond (is-count n) (made-memory counting w d (natAbs n) m (cell-from m)) m
 
 -- by whether the count is one that an array can have: 26 comes before 25
-abbrev pub counted-given : Bool → Outcome (Unit {0}) ℕ → Given
+abbrev pub counted-given : Bool → Outcome (Unit {0}) Gained → Given
 counted-given true o = acquired-given o
-counted-given false (done c u) = stop 26 tt
+counted-given false (done g u) = stop 26 tt
 counted-given false (stop n u) = stop 26 tt
 
-abbrev pub array-given : ℤ → Store → Given
-array-given n σ = counted-given (is-count n) (next-cell σ)
+abbrev pub array-given : ℤ → Memory → Given
+array-given n m = counted-given (is-count n) (cell-from m)
 
--- what a small work gave, not yet bound
-abbrev pub unbound : ℕ → Store → Given → StoreLeft
-unbound s σ (done w u) = stored (out 0 w 0 s) σ
-unbound s σ (stop n u) = stored (out n (pos 0) 0 s) σ
-
-unfoldable pub array-made : Bool → ℤ → ℕ → ℤ → ℕ → Store → StoreLeft
-array-made counting w d n steps σ = stepping steps (stored (out 21 (pos 0) 0 0) σ)
-    (λ s. unbound s (array-store counting w d n σ) (array-given n σ))
+unfoldable pub array-made : Bool → ℤ → ℕ → ℤ → ℕ → Memory → Ran
+array-made counting w d n steps m = stepping steps (halted 21 0 m)
+    (λ s. gave s (array-memory counting w d n m) (array-given n m))
 
 -- the word of work that was not stopped, bound to a name
 abbrev pub bound-result : ℕ → ℕ → ℕ → Out → List ℤ → FrameLeft
 bound-result calls x next r env =
     cond (eqb (r .stop) 0) (left (out 0 (r .value) next (r .steps)) (bound calls x (r .value) env)) (left r env)
 
--- how a line is worked: `giving` binds the word of a small work that leaves a store to a name, and the code goes on at
--- a position; `changing` leaves a store; the others end a tree or work one. A loop has the name of its running value,
+-- how a line is worked: `giving` binds the word of a small work that leaves a memory to a name, and the code goes on at
+-- a position; `changing` leaves a memory; the others end a tree or work one. A loop has the name of its running value,
 -- its element's and its atoms; where it has no running value both names are the element's.
 pub data Doing : Type 0 where
-  giving : ℕ → ℕ → Store → Given → Doing
-  changing : Store → Doing
+  giving : ℕ → ℕ → Memory → Given → Doing
+  changing : Memory → Doing
   ending : Atom → Doing
   calling : ℕ → ℕ → Doing
   branching : ℕ → Atom → Doing
   looping : ℕ → Loop → ℕ → ℕ → List Atom → Doing
 
-abbrev pub literal-doing : ℕ → ℕ → ℕ → Store → List ℤ → Doing
-literal-doing x depth at σ ws = giving x (at + 1 + length ws) (acquired depth ws σ) (acquired-given (next-cell σ))
+-- a cell acquired with some words
+abbrev pub acquired-memory : ℕ → List ℤ → Memory → Memory
+acquired-memory d ws m = memory (acquired d ws (m .store)) (noted-by (cell-from m) (m .env))
 
-abbrev pub array-doing : ℕ → ℕ → Bool → ℤ → ℕ → ℤ → Store → Doing
-array-doing x next counting w d n σ = giving x next (array-store counting w d n σ) (array-given n σ)
+-- a cell released down to its last element
+abbrev pub released-memory : ℕ → Memory → Memory
+released-memory c m =
+    let σ = released deepest c (m .store) in
+    memory σ (raised (cells-taken (m .store) - cells-taken σ) (m .env))
+
+abbrev pub literal-doing : ℕ → ℕ → ℕ → Memory → List ℤ → Doing
+literal-doing x depth at m ws =
+    giving x (at + 1 + length ws) (acquired-memory depth ws m) (acquired-given (cell-from m))
+
+abbrev pub array-doing : ℕ → ℕ → Bool → ℤ → ℕ → ℤ → Memory → Doing
+array-doing x next counting w d n m = giving x next (array-memory counting w d n m) (array-given n m)
 
 abbrev pub kind-of : P.Loop → Loop
 kind-of (Map p a) = mapping
@@ -223,38 +234,38 @@ atoms-of (Reduce p q a b) = a ∷ b ∷ []
 -- the line at a position, by its variant
 unfoldable pub doing : List ℕ → List ℤ → List ℕ → ℕ → ℕ → Memory → Line → Doing
 doing kinds operands table calls at m (L.Operation kind x a b) =
-    giving x (at + 3) (m .store) (operation-given kind (word-of calls (m .env) a) (word-of calls (m .env) b))
+    giving x (at + 3) m (operation-given kind (word-of calls (m .env) a) (word-of calls (m .env) b))
 doing kinds operands table calls at m (L.Call x f) = calling x f
 doing kinds operands table calls at m (L.Literal x d) =
-    literal-doing x d at (m .store) (words-at 16 kinds operands calls (m .env) (at + 1))
+    literal-doing x d at m (words-at 16 kinds operands calls (m .env) (at + 1))
 doing kinds operands table calls at m (L.Index x a b) =
-    giving x (at + 3) (m .store)
+    giving x (at + 3) m
     (index-given (array-of (m .store) (word-of calls (m .env) a)) (word-of calls (m .env) b))
 doing kinds operands table calls at m (L.Length x a) =
-    giving x (at + 2) (m .store) (length-given (array-of (m .store) (word-of calls (m .env) a)))
+    giving x (at + 2) m (length-given (array-of (m .store) (word-of calls (m .env) a)))
 doing kinds operands table calls at m (L.Iota x a) =
-    array-doing x (at + 2) true (pos 0) 0 (word-of calls (m .env) a) (m .store)
+    array-doing x (at + 2) true (pos 0) 0 (word-of calls (m .env) a) m
 doing kinds operands table calls at m (L.Replicate x a b) =
     array-doing x (at + 3) false (word-of calls (m .env) b) (element-depth table calls x (m .env))
-    (word-of calls (m .env) a) (m .store)
+    (word-of calls (m .env) a) m
 doing kinds operands table calls at m (L.If x g) = branching x g
 doing kinds operands table calls at m (L.Loop x l) =
     looping x (kind-of l) (first-name l) (second-name l) (atoms-of l)
 doing kinds operands table calls at m (L.Retain x) =
-    changing (retained (cell-of (word-of calls (m .env) (Name x))) (m .store))
+    changing (memory (retained (cell-of (word-of calls (m .env) (Name x))) (m .store)) (m .env))
 doing kinds operands table calls at m (L.Release x) =
-    changing (released deepest (cell-of (word-of calls (m .env) (Name x))) (m .store))
+    changing (released-memory (cell-of (word-of calls (m .env) (Name x))) m)
 doing kinds operands table calls at m (L.End a) = ending a
 
--- a step, and then a small work that leaves a store
-unfoldable pub giving-line : ℕ → ℕ → ℕ → ℕ → Memory → Store → Given → Ran
-giving-line calls x next steps m σ g =
-    stepping steps (halted 21 0 m) (λ s. with-store σ (given calls x next s (m .env) g))
+-- a step, and then a small work that leaves a memory
+unfoldable pub giving-line : ℕ → ℕ → ℕ → ℕ → Memory → Memory → Given → Ran
+giving-line calls x next steps m m′ g =
+    stepping steps (halted 21 0 m) (λ s. with-store (m′ .store) (given calls x next s (m′ .env) g))
 
 -- a line that works no tree; other lines stop with a number that no script can meet
 unfoldable pub leaf-done : ℕ → ℕ → ℕ → Memory → Doing → Ran
-leaf-done calls at s m (giving x next σ g) = giving-line calls x next s m σ g
-leaf-done calls at s m (changing σ) = ran (out 0 (pos 0) (at + 1) s) (memory σ (m .env))
+leaf-done calls at s m (giving x next m′ g) = giving-line calls x next s m m′ g
+leaf-done calls at s m (changing m′) = ran (out 0 (pos 0) (at + 1) s) m′
 leaf-done calls at s m (ending a) = halted no-line s m
 leaf-done calls at s m (calling x f) = halted no-line s m
 leaf-done calls at s m (branching x g) = halted no-line s m
@@ -263,11 +274,11 @@ leaf-done calls at s m (looping x k p q us) = halted no-line s m
 abbrev pub literal-line : List ℕ → List ℤ → ℕ → ℕ → ℕ → ℕ → ℕ → Memory → Ran
 literal-line kinds operands calls x depth at steps m =
     leaf-done calls at steps m
-    (literal-doing x depth at (m .store) (words-at 16 kinds operands calls (m .env) (at + 1)))
+    (literal-doing x depth at m (words-at 16 kinds operands calls (m .env) (at + 1)))
 
 abbrev pub array-line : ℕ → ℕ → ℕ → Bool → ℤ → ℕ → ℤ → ℕ → Memory → Ran
 array-line calls x next counting w d n steps m =
-    giving-line calls x next steps m (array-store counting w d n (m .store)) (array-given n (m .store))
+    giving-line calls x next steps m (array-memory counting w d n m) (array-given n m)
 
 abbrev pub leaf : List ℕ → List ℤ → List ℕ → ℕ → ℕ → ℕ → Memory → Line → Ran
 leaf kinds operands table calls at s m l = leaf-done calls at s m (doing kinds operands table calls at m l)

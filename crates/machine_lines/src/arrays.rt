@@ -15,7 +15,7 @@ ghost use Rattle.semantics.specs.Machine.{is-count};
 ghost use Rattle.semantics.specs.Words.{store-of};
 ghost use Rattle.store.specs.Acquiring.{appended-all};
 ghost use Rattle.machine_lines.specs.Frames.{word-of, words-at, Appended, element-depth};
-ghost use Rattle.machine_lines.specs.Lines.{memory, stored, elements-by, retained-times, retained-copies};
+ghost use Rattle.machine_lines.specs.Lines.{memory, elements-by, retained-times, retained-copies};
 ghost use Rattle.machine_lines.specs.Lines.{literal-line, array-made, array-line, Ends};
 
 // Appends the words of the atoms that stand from a position on, at most 16, to a cell; how many they are.
@@ -24,12 +24,12 @@ fn append_atoms(
     operands: &[i64],
     slots: &mut [i64],
     heads: &mut [u32],
-    env: &[i64; 8224],
+    env: &[i64; 8226],
     calls: usize,
     c: usize,
     at: usize,
 ) -> usize
-    requires { ⌜ (at ≤ length (now kinds)) × (calls < 32) × (length (now env) ≡ 8224) ⌝ }
+    requires { ⌜ (at ≤ length (now kinds)) × (calls < 32) × (length (now env) ≡ 8226) ⌝ }
     ensures { λ r. ⌜ Appended (words-at 16 (now (kinds .entry)) (now (operands .entry)) calls (now (env .entry)) at) c r
         (store-of (now (slots .entry)) (now (heads .entry))) (store-of (now (slots .exit)) (now (heads .exit))) ⌝ }
 {
@@ -52,14 +52,14 @@ pub fn work_literal(
     operands: &[i64],
     slots: &mut [i64],
     heads: &mut [u32],
-    env: &mut [i64; 8224],
+    env: &mut [i64; 8226],
     calls: usize,
     x: u8,
     depth: u8,
     at: usize,
     steps: u64,
 ) -> Out
-    requires { ⌜ (at < length (now kinds)) × (calls < 32) × (length (now env) ≡ 8224) ⌝ }
+    requires { ⌜ (at < length (now kinds)) × (calls < 32) × (length (now env) ≡ 8226) ⌝ }
     ensures { λ r. ⌜ Ends (literal-line (now (kinds .entry)) (now (operands .entry)) calls x depth at steps
         (memory (store-of (now (slots .entry)) (now (heads .entry))) (now (env .entry))))
         r (now (slots .exit)) (now (heads .exit)) (now (env .exit)) ⌝ }
@@ -67,9 +67,10 @@ pub fn work_literal(
     if steps == 0 {
         return crate::halted(OUT_OF_STEPS, steps);
     }
-    match store::acquire_empty(slots, heads, depth as u32) {
-        Acquired::Cell(c) => {
+    match store::acquire_empty(slots, heads, depth as u32, crate::level(env)) {
+        Acquired::Cell(c, left) => {
             let n = append_atoms(kinds, operands, slots, heads, env, calls, c, at + 1);
+            crate::note_level(env, left);
             let w = crate::word_from(c);
             crate::bind(env, calls, x, w);
             crate::done(w, at + 1 + n, steps - 1)
@@ -133,14 +134,17 @@ fn retain_copies(slots: &[i64], heads: &mut [u32], depth: u32, w: i64, n: usize)
 fn make_array(
     slots: &mut [i64],
     heads: &mut [u32],
+    env: &mut [i64; 8226],
     counting: bool,
     w: i64,
     depth: u32,
     count: i64,
     steps: u64,
 ) -> Out
-    ensures { λ r. ⌜ stored r (store-of (now (slots .exit)) (now (heads .exit)))
-        ≡ array-made counting w depth count steps (store-of (now (slots .entry)) (now (heads .entry))) ⌝ }
+    requires { ⌜ length (now env) ≡ 8226 ⌝ }
+    ensures { λ r. ⌜ Ends (array-made counting w depth count steps
+        (memory (store-of (now (slots .entry)) (now (heads .entry))) (now (env .entry))))
+        r (now (slots .exit)) (now (heads .exit)) (now (env .exit)) ⌝ }
 {
     if steps == 0 {
         return crate::halted(OUT_OF_STEPS, steps);
@@ -149,8 +153,9 @@ fn make_array(
         return crate::halted(BAD_COUNT, steps - 1);
     }
     let n = count as usize;
-    match store::acquire_empty(slots, heads, depth) {
-        Acquired::Cell(c) => {
+    match store::acquire_empty(slots, heads, depth, crate::level(env)) {
+        Acquired::Cell(c, left) => {
+            crate::note_level(env, left);
             append_elements(slots, heads, c, counting, w, n);
             retain_copies(slots, heads, depth, w, n);
             crate::done(crate::word_from(c), 0, steps - 1)
@@ -163,20 +168,20 @@ fn make_array(
 pub fn work_iota(
     slots: &mut [i64],
     heads: &mut [u32],
-    env: &mut [i64; 8224],
+    env: &mut [i64; 8226],
     calls: usize,
     x: u8,
     a: Atom,
     next: usize,
     steps: u64,
 ) -> Out
-    requires { ⌜ (calls < 32) × (length (now env) ≡ 8224) ⌝ }
+    requires { ⌜ (calls < 32) × (length (now env) ≡ 8226) ⌝ }
     ensures { λ r. ⌜ Ends (array-line calls x next true (pos 0) 0 (word-of calls (now (env .entry)) a) steps
         (memory (store-of (now (slots .entry)) (now (heads .entry))) (now (env .entry))))
         r (now (slots .exit)) (now (heads .exit)) (now (env .exit)) ⌝ }
 {
     let n = crate::word_of(env, calls, a);
-    let made = make_array(slots, heads, true, 0, 0, n, steps);
+    let made = make_array(slots, heads, env, true, 0, 0, n, steps);
     crate::bind_result(env, calls, x, made, next)
 }
 
@@ -185,7 +190,7 @@ pub fn work_replicate(
     table: &[u8],
     slots: &mut [i64],
     heads: &mut [u32],
-    env: &mut [i64; 8224],
+    env: &mut [i64; 8226],
     calls: usize,
     x: u8,
     a: Atom,
@@ -193,7 +198,7 @@ pub fn work_replicate(
     next: usize,
     steps: u64,
 ) -> Out
-    requires { ⌜ (calls < 32) × (length (now env) ≡ 8224) ⌝ }
+    requires { ⌜ (calls < 32) × (length (now env) ≡ 8226) ⌝ }
     ensures { λ r. ⌜ Ends (array-line calls x next false (word-of calls (now (env .entry)) b)
         (element-depth (now (table .entry)) calls x (now (env .entry))) (word-of calls (now (env .entry)) a) steps
         (memory (store-of (now (slots .entry)) (now (heads .entry))) (now (env .entry))))
@@ -202,6 +207,6 @@ pub fn work_replicate(
     let n = crate::word_of(env, calls, a);
     let w = crate::word_of(env, calls, b);
     let depth = crate::element_depth(table, env, calls, x);
-    let made = make_array(slots, heads, false, w, depth, n, steps);
+    let made = make_array(slots, heads, env, false, w, depth, n, steps);
     crate::bind_result(env, calls, x, made, next)
 }

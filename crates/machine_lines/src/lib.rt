@@ -1,6 +1,6 @@
 // The lines that work no tree, on a memory of two store arrays and one array of frames: 256 words for each call in
-// progress, main's last, and then a word for each with the number of its function. `calls` is the call depth left, 31
-// in main.
+// progress, main's last, a word for each with the number of its function, and two words for levels: how many cells are
+// free, and the least number that was. `calls` is the call depth left, 31 in main.
 mod arrays;
 
 use machine_code::Atom;
@@ -15,7 +15,7 @@ ghost use Rattle.semantics.specs.Words.{store-of};
 ghost use Rattle.words.specs.Words.{exact-outcome, checked};
 ghost use Rattle.machine_lines.specs.Frames.{place, word-of, words-at, Passed};
 ghost use Rattle.machine_lines.specs.Frames.{function-place, function-of, element-depth, branch-start};
-ghost use Rattle.machine_lines.specs.Frames.{branch-end};
+ghost use Rattle.machine_lines.specs.Frames.{branch-end, level-of, lowest-of, levelled, noted, raised};
 ghost use Rattle.machine_lines.specs.Lines.{out, left, memory, operation-of, operation-line, index-line};
 ghost use Rattle.machine_lines.specs.Lines.{length-line, bound-result, leaf, Ends};
 
@@ -70,14 +70,14 @@ pub fn done(value: i64, next: usize, steps: u64) -> Out
 // The place of a name's word among the frames.
 pub fn place(calls: usize, x: u8) -> usize
     requires { ⌜ calls < 32 ⌝ }
-    ensures { λ r. ⌜ (r ≡ place calls x) × (r < 8224) ⌝ }
+    ensures { λ r. ⌜ (r ≡ place calls x) × (r < 8226) ⌝ }
 {
     256 * calls + x as usize
 }
 
 // The word of an atom.
-pub fn word_of(env: &[i64; 8224], calls: usize, a: Atom) -> i64
-    requires { ⌜ (calls < 32) × (length (now env) ≡ 8224) ⌝ }
+pub fn word_of(env: &[i64; 8226], calls: usize, a: Atom) -> i64
+    requires { ⌜ (calls < 32) × (length (now env) ≡ 8226) ⌝ }
     ensures { λ r. ⌜ r ≡ word-of calls (now (env .entry)) a ⌝ }
 {
     match a {
@@ -87,16 +87,16 @@ pub fn word_of(env: &[i64; 8224], calls: usize, a: Atom) -> i64
 }
 
 // Binds a name.
-pub fn bind(env: &mut [i64; 8224], calls: usize, x: u8, w: i64)
-    requires { ⌜ (calls < 32) × (length (now env) ≡ 8224) ⌝ }
+pub fn bind(env: &mut [i64; 8226], calls: usize, x: u8, w: i64)
+    requires { ⌜ (calls < 32) × (length (now env) ≡ 8226) ⌝ }
     ensures { λ _. ⌜ now (env .exit) ≡ set (now (env .entry)) (place calls x) w ⌝ }
 {
     env[place(calls, x)] = w;
 }
 
 // Binds the word of work that was not stopped to a name, with the code going on at a position.
-pub fn bind_result(env: &mut [i64; 8224], calls: usize, x: u8, r: Out, next: usize) -> Out
-    requires { ⌜ (calls < 32) × (length (now env) ≡ 8224) ⌝ }
+pub fn bind_result(env: &mut [i64; 8226], calls: usize, x: u8, r: Out, next: usize) -> Out
+    requires { ⌜ (calls < 32) × (length (now env) ≡ 8226) ⌝ }
     ensures { λ q. ⌜ left q (now (env .exit)) ≡ bound-result calls x next r (now (env .entry)) ⌝ }
 {
     let stop = r.stop;
@@ -109,27 +109,73 @@ pub fn bind_result(env: &mut [i64; 8224], calls: usize, x: u8, r: Out, next: usi
 }
 
 // The number of the function that is worked in a frame.
-pub fn function_of(env: &[i64; 8224], calls: usize) -> u8
-    requires { ⌜ (calls < 32) × (length (now env) ≡ 8224) ⌝ }
+pub fn function_of(env: &[i64; 8226], calls: usize) -> u8
+    requires { ⌜ (calls < 32) × (length (now env) ≡ 8226) ⌝ }
     ensures { λ r. ⌜ r ≡ function-of calls (now (env .entry)) ⌝ }
 {
     (machine_code::low_bits(env[8192 + calls]) % 256) as u8
 }
 
 // The element depth of an array by its name, in the function that is worked.
-pub fn element_depth(table: &[u8], env: &[i64; 8224], calls: usize, x: u8) -> u32
-    requires { ⌜ (calls < 32) × (length (now env) ≡ 8224) ⌝ }
+pub fn element_depth(table: &[u8], env: &[i64; 8226], calls: usize, x: u8) -> u32
+    requires { ⌜ (calls < 32) × (length (now env) ≡ 8226) ⌝ }
     ensures { λ r. ⌜ r ≡ element-depth (now (table .entry)) calls x (now (env .entry)) ⌝ }
 {
     machine_code::element_depth(table, function_of(env, calls), x)
 }
 
 // Says which function is worked in a frame.
-pub fn set_function(env: &mut [i64; 8224], calls: usize, f: u8)
-    requires { ⌜ (calls < 32) × (length (now env) ≡ 8224) ⌝ }
+pub fn set_function(env: &mut [i64; 8226], calls: usize, f: u8)
+    requires { ⌜ (calls < 32) × (length (now env) ≡ 8226) ⌝ }
     ensures { λ _. ⌜ now (env .exit) ≡ set (now (env .entry)) (function-place calls) (pos f) ⌝ }
 {
     env[8192 + calls] = f as i64;
+}
+
+// How many cells are free.
+pub fn level(env: &[i64; 8226]) -> u32
+    requires { ⌜ length (now env) ≡ 8226 ⌝ }
+    ensures { λ r. ⌜ (r ≡ level-of (now (env .entry))) × (r < 16777216) ⌝ }
+{
+    machine_code::low_bits(env[8224]) as u32
+}
+
+// The least number of free cells so far.
+pub fn lowest(env: &[i64; 8226]) -> u32
+    requires { ⌜ length (now env) ≡ 8226 ⌝ }
+    ensures { λ r. ⌜ (r ≡ lowest-of (now (env .entry))) × (r < 16777216) ⌝ }
+{
+    machine_code::low_bits(env[8225]) as u32
+}
+
+// Says how many cells are free, as never fewer were.
+pub fn set_level(env: &mut [i64; 8226], n: u32)
+    requires { ⌜ length (now env) ≡ 8226 ⌝ }
+    ensures { λ _. ⌜ now (env .exit) ≡ levelled n (now (env .entry)) ⌝ }
+{
+    env[8224] = n as i64;
+    env[8225] = n as i64;
+}
+
+// Says how many cells are free after an acquire.
+pub fn note_level(env: &mut [i64; 8226], n: u32)
+    requires { ⌜ length (now env) ≡ 8226 ⌝ }
+    ensures { λ _. ⌜ now (env .exit) ≡ noted n (now (env .entry)) ⌝ }
+{
+    let least = lowest(env);
+    env[8224] = n as i64;
+    if n < least {
+        env[8225] = n as i64;
+    }
+}
+
+// Says that a release freed so many cells.
+pub fn raise_level(env: &mut [i64; 8226], freed: u32)
+    requires { ⌜ (freed ≤ 256) × (length (now env) ≡ 8226) ⌝ }
+    ensures { λ _. ⌜ now (env .exit) ≡ raised freed (now (env .entry)) ⌝ }
+{
+    let n = level(env);
+    env[8224] = (n + freed) as i64;
 }
 
 // Copies the words of the atoms that stand from a position on, at most 16, to the first words of the frame of a call
@@ -137,12 +183,12 @@ pub fn set_function(env: &mut [i64; 8224], calls: usize, f: u8)
 pub fn pass_arguments(
     kinds: &[u8],
     operands: &[i64],
-    env: &mut [i64; 8224],
+    env: &mut [i64; 8226],
     calls: usize,
     below: usize,
     at: usize,
 ) -> usize
-    requires { ⌜ (at ≤ length (now kinds)) × (below < calls) × (calls < 32) × (length (now env) ≡ 8224) ⌝ }
+    requires { ⌜ (at ≤ length (now kinds)) × (below < calls) × (calls < 32) × (length (now env) ≡ 8226) ⌝ }
     ensures { λ r. ⌜ Passed (words-at 16 (now (kinds .entry)) (now (operands .entry)) calls (now (env .entry)) at)
         below r (now (env .entry)) (now (env .exit)) ⌝ }
 {
@@ -205,7 +251,7 @@ pub fn word_from(n: usize) -> i64
 
 // A sum, a difference or a comparison.
 fn work_operation(
-    env: &mut [i64; 8224],
+    env: &mut [i64; 8226],
     calls: usize,
     kind: u8,
     x: u8,
@@ -214,7 +260,7 @@ fn work_operation(
     next: usize,
     steps: u64,
 ) -> Out
-    requires { ⌜ (calls < 32) × (length (now env) ≡ 8224) ⌝ }
+    requires { ⌜ (calls < 32) × (length (now env) ≡ 8226) ⌝ }
     ensures { λ r. ⌜ left r (now (env .exit)) ≡ operation-line calls kind x a b next steps (now (env .entry)) ⌝ }
 {
     if steps == 0 {
@@ -235,7 +281,7 @@ fn work_operation(
 fn work_index(
     slots: &[i64],
     heads: &[u32],
-    env: &mut [i64; 8224],
+    env: &mut [i64; 8226],
     calls: usize,
     x: u8,
     a: Atom,
@@ -243,7 +289,7 @@ fn work_index(
     next: usize,
     steps: u64,
 ) -> Out
-    requires { ⌜ (calls < 32) × (length (now env) ≡ 8224) ⌝ }
+    requires { ⌜ (calls < 32) × (length (now env) ≡ 8226) ⌝ }
     ensures { λ r. ⌜ left r (now (env .exit))
         ≡ index-line (store-of (now (slots .entry)) (now (heads .entry))) calls x a b next steps (now (env .entry)) ⌝ }
 {
@@ -268,14 +314,14 @@ fn work_index(
 fn work_length(
     slots: &[i64],
     heads: &[u32],
-    env: &mut [i64; 8224],
+    env: &mut [i64; 8226],
     calls: usize,
     x: u8,
     a: Atom,
     next: usize,
     steps: u64,
 ) -> Out
-    requires { ⌜ (calls < 32) × (length (now env) ≡ 8224) ⌝ }
+    requires { ⌜ (calls < 32) × (length (now env) ≡ 8226) ⌝ }
     ensures { λ r. ⌜ left r (now (env .exit))
         ≡ length-line (store-of (now (slots .entry)) (now (heads .entry))) calls x a next steps (now (env .entry)) ⌝ }
 {
@@ -295,13 +341,13 @@ pub fn work_leaf(
     table: &[u8],
     slots: &mut [i64],
     heads: &mut [u32],
-    env: &mut [i64; 8224],
+    env: &mut [i64; 8226],
     l: Line,
     calls: usize,
     at: usize,
     steps: u64,
 ) -> Out
-    requires { ⌜ (at < length (now kinds)) × (calls < 32) × (length (now env) ≡ 8224) ⌝ }
+    requires { ⌜ (at < length (now kinds)) × (calls < 32) × (length (now env) ≡ 8226) ⌝ }
     ensures { λ r. ⌜ Ends (leaf (now (kinds .entry)) (now (operands .entry)) (now (table .entry)) calls at steps
         (memory (store-of (now (slots .entry)) (now (heads .entry))) (now (env .entry))) l)
         r (now (slots .exit)) (now (heads .exit)) (now (env .exit)) ⌝ }
@@ -342,7 +388,8 @@ pub fn work_leaf(
         }
         Line::Release(x) => {
             let cell = store_words::named_cell(word_of(env, calls, Atom::Name(x)));
-            store::release(slots, heads, cell, 4);
+            let freed = store::release(slots, heads, cell, 4);
+            raise_level(env, freed);
             done(0, at + 1, steps)
         }
         _ => halted(NO_LINE, steps),

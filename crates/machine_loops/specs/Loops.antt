@@ -6,17 +6,16 @@ use Prim.Native.Nat.{ℕ, _+_, _*_, _<_}
 use lib.IntN.{ℤ}
 use lib.Dec.{eqb}
 use lib.ListN.{length}
-use Rattle.semantics.specs.Outcome.{done, stop}
 use Rattle.semantics.specs.Number.{is-zero}
 use Rattle.semantics.specs.Kinds.{Loop, mapping, filtering, reducing}
-use Rattle.semantics.specs.Store.{Store, cell-of, acquired, appended, retained}
+use Rattle.semantics.specs.Store.{Store, cell-of, appended, retained}
 use Rattle.semantics.specs.Machine.{argument, looped-over}
 use Rattle.semantics.specs.Words.{store-of}
-use Rattle.store.specs.Acquiring.{next-cell}
 use Rattle.machine_code.specs.declared.Atom.{Atom}
 use Rattle.machine_code.specs.declared.Loop as P
 use Rattle.machine_code.specs.declared.Loop.the-variants.{Map, Filter, Reduce}
-use Rattle.machine_lines.specs.Lines.{Memory, memory, Ran, ran, out, halted, bound, Given, acquired-given, array-of}
+use Rattle.machine_lines.specs.Lines.{Memory, memory, Ran, ran, out, halted, bound, acquired-given, cell-from, gave}
+use Rattle.machine_lines.specs.Lines.{acquired-memory, array-of}
 use Rattle.machine_loops.specs.declared.Way.{Way}
 use Rattle.machine_loops.specs.declared.Way.the-variants.{Fill, Keep, Hand}
 use Rattle.machine_loops.specs.declared.Passes.{Passes}
@@ -39,14 +38,9 @@ way-of reducing d = Hand
 
 -- ---- what is carried into the first pass
 
--- a small work whose word is not bound
-abbrev pub gave : ℕ → Memory → Given → Ran
-gave s m (done w u) = ran (out 0 w 0 s) m
-gave s m (stop n u) = halted n s m
-
 -- a new cell of element depth d for the result
 abbrev pub new-carried : ℕ → ℕ → Memory → Ran
-new-carried d s m = gave s (memory (acquired d [] (m .store)) (m .env)) (acquired-given (next-cell (m .store)))
+new-carried d s m = gave s (acquired-memory d [] m) (acquired-given (cell-from m))
 
 -- such a cell, or a reduce's start
 abbrev pub carry-first : Loop → ℕ → List ℤ → ℕ → Memory → Ran
@@ -98,27 +92,26 @@ pub record Usable (slots : List ℤ) (heads : List ℕ) (l : Passes) : Type 0 wh
   pub result : ResultWithin (l .way) slots heads (cell-of (l .carried))
 
 -- a word is carried into the first pass, or there is no cell
-abbrev pub Carries : Loop → ℕ → List ℤ → Store → List ℤ → List ℕ → First → Type 0
-Carries k d ws σ slots heads (F.Word w) =
-    ((s : ℕ) (env : List ℤ) → carry-first k d ws s (memory σ env)
-    ≡ ran (out 0 w 0 s) (memory (store-of slots heads) env))
+abbrev pub Carries : Loop → ℕ → List ℤ → Memory → List ℤ → List ℕ → List ℤ → First → Type 0
+Carries k d ws m slots heads env (F.Word w) =
+    ((s : ℕ) → carry-first k d ws s m ≡ ran (out 0 w 0 s) (memory (store-of slots heads) env))
     × ResultWithin (way-of k d) slots heads (cell-of w)
-Carries k d ws σ slots heads F.NoneFree =
-    (s : ℕ) (env : List ℤ) → carry-first k d ws s (memory σ env) ≡ halted 25 s (memory (store-of slots heads) env)
+Carries k d ws m slots heads env F.NoneFree =
+    (s : ℕ) → carry-first k d ws s m ≡ halted 25 s (memory (store-of slots heads) env)
 
 -- the passes of a loop of kind k with the names p and q, whose atoms have the words ws
-pub record Readied (k : Loop) (p q d : ℕ) (ws : List ℤ) (σ : Store) (slots : List ℤ) (heads : List ℕ) (l : Passes)
-    : Type 0 where
+pub record Readied (k : Loop) (p q d : ℕ) (ws : List ℤ) (m : Memory) (slots : List ℤ) (heads : List ℕ) (env : List ℤ)
+    (l : Passes) : Type 0 where
   pub way : l .way ≡ way-of k d
   pub first : l .first ≡ p
   pub second : l .second ≡ q
   pub from : l .from ≡ cell-of (looped-over k ws)
-  pub count : l .count ≡ length (array-of σ (looped-over k ws))
-  pub carried : (s : ℕ) (env : List ℤ) →
-      carry-first k d ws s (memory σ env) ≡ ran (out 0 (l .carried) 0 s) (memory (store-of slots heads) env)
+  pub count : l .count ≡ length (array-of (m .store) (looped-over k ws))
+  pub carried : (s : ℕ) →
+      carry-first k d ws s m ≡ ran (out 0 (l .carried) 0 s) (memory (store-of slots heads) env)
   pub usable : Usable slots heads l
 
-abbrev pub Begins : Loop → ℕ → ℕ → ℕ → List ℤ → Store → List ℤ → List ℕ → Begun → Type 0
-Begins k p q d ws σ slots heads (B.Ready l) = Readied k p q d ws σ slots heads l
-Begins k p q d ws σ slots heads B.NoneFree =
-    (s : ℕ) (env : List ℤ) → carry-first k d ws s (memory σ env) ≡ halted 25 s (memory (store-of slots heads) env)
+abbrev pub Begins : Loop → ℕ → ℕ → ℕ → List ℤ → Memory → List ℤ → List ℕ → List ℤ → Begun → Type 0
+Begins k p q d ws m slots heads env (B.Ready l) = Readied k p q d ws m slots heads env l
+Begins k p q d ws m slots heads env B.NoneFree =
+    (s : ℕ) → carry-first k d ws s m ≡ halted 25 s (memory (store-of slots heads) env)

@@ -11,7 +11,7 @@ ghost use lib.ListN.{getD, length};
 ghost use Rattle.semantics.specs.Store.{cell, cell-of, elements};
 ghost use Rattle.semantics.specs.Words.{store-of};
 ghost use Rattle.machine_lines.specs.Frames.{place, word-of, element-depth};
-ghost use Rattle.machine_lines.specs.Lines.{kind-of, first-name, second-name, atoms-of};
+ghost use Rattle.machine_lines.specs.Lines.{memory, kind-of, first-name, second-name, atoms-of};
 ghost use Rattle.machine_loops.specs.Loops.{array-atom, way-of, begun-frames, carried-word, retained-if, kept};
 ghost use Rattle.machine_loops.specs.Loops.{carried-store, Within, ResultWithin, Carries, Begins};
 
@@ -106,20 +106,24 @@ pub fn rows_before(l: Loop) -> usize
 fn carry_first(
     slots: &mut [i64],
     heads: &mut [u32],
-    env: &[i64; 8224],
+    env: &mut [i64; 8226],
     calls: usize,
     l: Loop,
     depth: u32,
 ) -> First
-    requires { ⌜ (calls < 32) × (length (now env) ≡ 8224) ⌝ }
+    requires { ⌜ (calls < 32) × (length (now env) ≡ 8226) ⌝ }
     ensures { λ r. ⌜ Carries (kind-of l) depth (map (word-of calls (now (env .entry))) (atoms-of l))
-        (store-of (now (slots .entry)) (now (heads .entry))) (now (slots .exit)) (now (heads .exit)) r ⌝ }
+        (memory (store-of (now (slots .entry)) (now (heads .entry))) (now (env .entry)))
+        (now (slots .exit)) (now (heads .exit)) (now (env .exit)) r ⌝ }
 {
     if let Loop::Reduce(_, _, a, _) = l {
         return First::Word(machine_lines::word_of(env, calls, a));
     }
-    match store::acquire_empty(slots, heads, depth) {
-        Acquired::Cell(c) => First::Word(machine_lines::word_from(c)),
+    match store::acquire_empty(slots, heads, depth, machine_lines::level(env)) {
+        Acquired::Cell(c, left) => {
+            machine_lines::note_level(env, left);
+            First::Word(machine_lines::word_from(c))
+        }
         Acquired::NoneFree => First::NoneFree,
     }
 }
@@ -129,16 +133,17 @@ pub fn begin_loop(
     table: &[u8],
     slots: &mut [i64],
     heads: &mut [u32],
-    env: &[i64; 8224],
+    env: &mut [i64; 8226],
     calls: usize,
     x: u8,
     l: Loop,
 ) -> Begun
-    requires { ⌜ (calls < 32) × (length (now env) ≡ 8224) ⌝ }
+    requires { ⌜ (calls < 32) × (length (now env) ≡ 8226) ⌝ }
     ensures { λ r. ⌜ Begins (kind-of l) (first-name l) (second-name l)
         (element-depth (now (table .entry)) calls x (now (env .entry)))
         (map (word-of calls (now (env .entry))) (atoms-of l))
-        (store-of (now (slots .entry)) (now (heads .entry))) (now (slots .exit)) (now (heads .exit)) r ⌝ }
+        (memory (store-of (now (slots .entry)) (now (heads .entry))) (now (env .entry)))
+        (now (slots .exit)) (now (heads .exit)) (now (env .exit)) r ⌝ }
 {
     let first = first_name(l);
     let second = second_name(l);
@@ -165,13 +170,13 @@ pub fn begin_loop(
 pub fn begin_pass(
     slots: &[i64],
     heads: &[u32],
-    env: &mut [i64; 8224],
+    env: &mut [i64; 8226],
     calls: usize,
     l: Passes,
     v: i64,
     i: usize,
 )
-    requires { ⌜ (calls < 32) × (length (now env) ≡ 8224) × Within (now slots) (now heads) (l .from) ⌝ }
+    requires { ⌜ (calls < 32) × (length (now env) ≡ 8226) × Within (now slots) (now heads) (l .from) ⌝ }
     ensures { λ _. ⌜ now (env .exit) ≡ begun-frames calls (l .first) (l .second) v
         (getD (elements (cell (store-of (now (slots .entry)) (now (heads .entry))) (l .from))) i (pos 0))
         (now (env .entry)) ⌝ }
@@ -209,13 +214,13 @@ fn keep(slots: &mut [i64], heads: &mut [u32], arrays: bool, c: usize, w: i64, r:
 pub fn end_pass(
     slots: &mut [i64],
     heads: &mut [u32],
-    env: &[i64; 8224],
+    env: &[i64; 8226],
     calls: usize,
     l: Passes,
     v: i64,
     r: i64,
 ) -> i64
-    requires { ⌜ (calls < 32) × (length (now env) ≡ 8224)
+    requires { ⌜ (calls < 32) × (length (now env) ≡ 8226)
         × ResultWithin (l .way) (now slots) (now heads) (cell-of (l .carried)) ⌝ }
     ensures { λ u. ⌜ (u ≡ carried-word (l .way) v r) × (store-of (now (slots .exit)) (now (heads .exit))
         ≡ carried-store (l .way) (cell-of (l .carried)) (getD (now (env .entry)) (place calls (l .second)) (pos 0)) r

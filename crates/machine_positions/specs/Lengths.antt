@@ -1,5 +1,5 @@
 -- No work changes how many words the frames have.
-use mathlib.Core.Path.{_≡_, refl, ap, _∙_}
+use mathlib.Core.Path.{_≡_, refl, sym, ap, _∙_}
 use mathlib.Core.Bool.{Bool, true, false, cond}
 use mathlib.Core.List.{List, [], _∷_, map}
 use Prim.Native.Nat.{ℕ, zero, suc, _+_}
@@ -9,19 +9,22 @@ use lib.ListN.{length, set, length-set}
 use Rattle.semantics.specs.Outcome.{done, stop}
 use Rattle.semantics.specs.Kinds.{Loop, mapping, filtering, reducing}
 use Rattle.semantics.specs.Machine.{looped-over}
-use Rattle.semantics.specs.Store.{Store, cell-of, acquired}
-use Rattle.store.specs.Acquiring.{next-cell}
+use Rattle.semantics.specs.Store.{cell-of}
 use Rattle.machine_code.specs.Reading.{line-at, two-rows, start-in, end-in}
 use Rattle.machine_code.specs.declared.Atom.{Atom}
 use Rattle.machine_code.specs.declared.Line.{Line}
+use Rattle.machine_code.specs.declared.Line.the-variants as L
 use Rattle.machine_lines.specs.declared.Out.{Out}
 use Rattle.machine_lines.specs.Frames.{place, function-place, word-of, words-at, put-all, called, Passed}
-use Rattle.machine_lines.specs.Frames.{element-depth, branch-start, branch-end}
+use Rattle.machine_lines.specs.Frames.{element-depth, branch-start, branch-end, level-place, lowest-place}
+use Rattle.machine_lines.specs.Frames.{levelled}
 use Rattle.machine_lines.specs.Lines.{Memory, memory, Ran, bound, with-store, stepping, Given, given, array-of}
 use Rattle.machine_lines.specs.Lines.{acquired-given, Doing, giving, changing, ending, calling, branching, looping}
-use Rattle.machine_lines.specs.Lines.{doing, giving-line, leaf-done}
+use Rattle.machine_lines.specs.Lines.{doing, giving-line, leaf-done, cell-from, gave, acquired-memory}
+use Rattle.machine_lines.proofs.Levels.{noted-by-long, raised-long, array-long}
 use Rattle.machine_loops.specs.declared.Way.{Way}
-use Rattle.machine_loops.specs.Loops.{way-of, gave, carry-first}
+use Rattle.machine_loops.specs.declared.Passes.{Passes}
+use Rattle.machine_loops.specs.Loops.{way-of, carry-first, Readied}
 use Rattle.machine_positions.specs.Machine.{Work, Callee, Code, and-then, binding, if-line, call-line, looped}
 use Rattle.machine_positions.specs.Machine.{entered, carry-on, passes-on}
 use Rattle.machine_positions.specs.Machine.{loop-line}
@@ -47,6 +50,10 @@ passed-long {ws} {calls} {n} {env} {env′} p = ap length (p .frames) ∙ put-ke
 pub bound-long : (env : List ℤ) (p : ℕ) (w : ℤ) {env′ : List ℤ} → env′ ≡ set env p w → length env′ ≡ length env
 bound-long env p w e = ap length e ∙ length-set env p w
 
+pub levelled-keeps : (n : ℕ) (env : List ℤ) → length (levelled n env) ≡ length env
+levelled-keeps n env =
+    length-set (set env level-place (pos n)) lowest-place (pos n) ∙ length-set env level-place (pos n)
+
 either : (m : Memory) (v w : Ran) → Keeps m v → Keeps m w → (t : Bool) → Keeps m (cond t v w)
 either m v w p q true = p
 either m v w p q false = q
@@ -57,20 +64,47 @@ then-keeps m w f k g = either m (f w) w (g w k) k (eqb (w .out .stop) 0)
 
 -- ---- lines
 
-given-keeps : (calls x next s : ℕ) (σ : Store) (m : Memory) (g : Given) →
-    Keeps m (with-store σ (given calls x next s (m .env) g))
-given-keeps calls x next s σ m (done w u) = length-set (m .env) (place calls x) w
-given-keeps calls x next s σ m (stop n u) = refl
+given-keeps : (calls x next s : ℕ) (m : Memory) (g : Given) → Keeps m (with-store (m .store) (given calls x next s
+    (m .env) g))
+given-keeps calls x next s m (done w u) = length-set (m .env) (place calls x) w
+given-keeps calls x next s m (stop n u) = refl
 
-leaf-keeps : (calls at s : ℕ) (m : Memory) (d : Doing) → Keeps m (leaf-done calls at s m d)
+-- what a leaf leaves has as many words
+abbrev Steady : Memory → Doing → Type 0
+Steady m (giving x next m′ g) = length (m′ .env) ≡ length (m .env)
+Steady m (changing m′) = length (m′ .env) ≡ length (m .env)
+Steady m (ending a) = Unit {0}
+Steady m (calling x f) = Unit {0}
+Steady m (branching x g) = Unit {0}
+Steady m (looping x k p q us) = Unit {0}
+
+leaf-keeps : (calls at s : ℕ) (m : Memory) (d : Doing) → Steady m d → Keeps m (leaf-done calls at s m d)
 unfolding leaf-done giving-line stepping
-leaf-keeps calls at zero m (giving x next σ g) = refl
-leaf-keeps calls at (suc s) m (giving x next σ g) = given-keeps calls x next s σ m g
-leaf-keeps calls at s m (changing σ) = refl
-leaf-keeps calls at s m (ending a) = refl
-leaf-keeps calls at s m (calling x f) = refl
-leaf-keeps calls at s m (branching x g) = refl
-leaf-keeps calls at s m (looping x k p q us) = refl
+leaf-keeps calls at zero m (giving x next m′ g) h = refl
+leaf-keeps calls at (suc s) m (giving x next m′ g) h = given-keeps calls x next s m′ g ∙ h
+leaf-keeps calls at s m (changing m′) h = h
+leaf-keeps calls at s m (ending a) h = refl
+leaf-keeps calls at s m (calling x f) h = refl
+leaf-keeps calls at s m (branching x g) h = refl
+leaf-keeps calls at s m (looping x k p q us) h = refl
+
+doing-steady : (kinds : List ℕ) (operands : List ℤ) (table : List ℕ) (calls at : ℕ) (m : Memory) (l : Line) →
+    Steady m (doing kinds operands table calls at m l)
+unfolding doing
+doing-steady kinds operands table calls at m (L.Operation kind x a b) = refl
+doing-steady kinds operands table calls at m (L.Call x f) = tt
+doing-steady kinds operands table calls at m (L.Literal x d) = noted-by-long (cell-from m) (m .env)
+doing-steady kinds operands table calls at m (L.Index x a b) = refl
+doing-steady kinds operands table calls at m (L.Length x a) = refl
+doing-steady kinds operands table calls at m (L.Iota x a) =
+    array-long true (pos 0) 0 (word-of calls (m .env) a) m
+doing-steady kinds operands table calls at m (L.Replicate x a b) =
+    array-long false (word-of calls (m .env) b) (element-depth table calls x (m .env)) (word-of calls (m .env) a) m
+doing-steady kinds operands table calls at m (L.If x g) = tt
+doing-steady kinds operands table calls at m (L.Loop x l) = tt
+doing-steady kinds operands table calls at m (L.Retain x) = refl
+doing-steady kinds operands table calls at m (L.Release x) = raised-long _ (m .env)
+doing-steady kinds operands table calls at m (L.End a) = tt
 
 -- ---- trees and calls
 
@@ -85,10 +119,16 @@ gave-keeps s m (stop n u) = refl
 
 carry-first-keeps : (k : Loop) (d : ℕ) (ws : List ℤ) (s : ℕ) (m : Memory) → Keeps m (carry-first k d ws s m)
 carry-first-keeps mapping d ws s m =
-    gave-keeps s (memory (acquired d [] (m .store)) (m .env)) (acquired-given (next-cell (m .store)))
+    gave-keeps s (acquired-memory d [] m) (acquired-given (cell-from m)) ∙ noted-by-long (cell-from m) (m .env)
 carry-first-keeps filtering d ws s m =
-    gave-keeps s (memory (acquired d [] (m .store)) (m .env)) (acquired-given (next-cell (m .store)))
+    gave-keeps s (acquired-memory d [] m) (acquired-given (cell-from m)) ∙ noted-by-long (cell-from m) (m .env)
 carry-first-keeps reducing d ws s m = refl
+
+-- the frames with which the passes of a loop begin
+pub readied-long : {k : Loop} {p q d : ℕ} {ws : List ℤ} {m : Memory} {slots : List ℤ} {heads : List ℕ} {env : List ℤ}
+    {l : Passes} → Readied k p q d ws m slots heads env l → length env ≡ length (m .env)
+readied-long {k} {p} {q} {d} {ws} {m} r =
+    ap (λ (w : Ran). length (w .memory .env)) (sym (r .carried 0)) ∙ carry-first-keeps k d ws 0 m
 
 module _ (W : Work) (w : (at s : ℕ) (m : Memory) → Keeps m (W at s m)) where
   if-keeps : (table : List ℕ) (calls x : ℕ) (g : Atom) (at s : ℕ) (m : Memory) →
@@ -142,18 +182,19 @@ module _ (W : Work) (w : (at s : ℕ) (m : Memory) → Keeps m (W at s m)) where
         then-keeps m (C f ws s m) (λ v. binding calls x (at + 1 + length ws) v) (h f ws s m)
         (λ v k. length-set (v .memory .env) (place calls x) (v .out .value) ∙ k)
 
-    done-keeps : (calls at s : ℕ) (m : Memory) (d : Doing) → Keeps m (line-done W C c calls at s m d)
+    done-keeps : (calls at s : ℕ) (m : Memory) (d : Doing) → Steady m d → Keeps m (line-done W C c calls at s m d)
     unfolding line-done
-    done-keeps calls at s m (giving x next σ g) = leaf-keeps calls at s m (giving x next σ g)
-    done-keeps calls at s m (changing σ) = leaf-keeps calls at s m (changing σ)
-    done-keeps calls at s m (ending a) = leaf-keeps calls at s m (ending a)
-    done-keeps calls at s m (calling x g) = call-keeps calls x g at s m
-    done-keeps calls at s m (branching x g) = if-keeps (c .table) calls x g at s m
-    done-keeps calls at s m (looping x k p q us) = loop-keeps c calls x k p q us at s m
+    done-keeps calls at s m (giving x next m′ g) h = leaf-keeps calls at s m (giving x next m′ g) h
+    done-keeps calls at s m (changing m′) h = leaf-keeps calls at s m (changing m′) h
+    done-keeps calls at s m (ending a) h = leaf-keeps calls at s m (ending a) h
+    done-keeps calls at s m (calling x g) h = call-keeps calls x g at s m
+    done-keeps calls at s m (branching x g) h = if-keeps (c .table) calls x g at s m
+    done-keeps calls at s m (looping x k p q us) h = loop-keeps c calls x k p q us at s m
 
     line-keeps : (calls at s : ℕ) (m : Memory) (l : Line) → Keeps m (line-on W C c calls at s m l)
     unfolding line-on
     line-keeps calls at s m l = done-keeps calls at s m (doing (c .kinds) (c .operands) (c .table) calls at m l)
+        (doing-steady (c .kinds) (c .operands) (c .table) calls at m l)
 
     from-keeps : (calls at s : ℕ) (m : Memory) (l : Line) → Keeps m (tree-from W C c calls at s m l)
     unfolding tree-from

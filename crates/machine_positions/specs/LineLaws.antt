@@ -173,38 +173,38 @@ module _ (W : Work) (c : Code) (calls x : ℕ) (k : Loop) (p q : ℕ) (us : List
       (length (array-of (store-of slots heads) (looped-over k words))) (v .out .value) 0 (v .out .steps) (v .memory))
       bind
 
-  module _ (some : steps ≡ 0 → ⊥) (sl₁ : List ℤ) (he₁ : List ℕ) where
+  module _ (some : steps ≡ 0 → ⊥) (sl₁ : List ℤ) (he₁ : List ℕ) (en₁ : List ℤ) where
     loop-is : whole ≡ and-then (carry-first k depth words (steps - 1) here) follows
     unfolding loop-line stepping
     loop-is = ap (λ (n : ℕ). loop-line W c calls x k p q us at n here) (less-one steps (omega arith))
 
     -- there is no cell for the result
-    pub loop-dry : Begins k p q depth words (store-of slots heads) sl₁ he₁ NoneFree → (r : Out) →
-        r ≡ out 25 (pos 0) 0 (steps - 1) → Ended whole steps r sl₁ he₁ env
-    loop-dry dry r e = part-stops _ steps r sl₁ he₁ env follows
-        (loop-is ∙ ap (λ (w : Ran). and-then w follows) (dry (steps - 1) env
-        ∙ ap (λ (y : Out). ran y (memory (store-of sl₁ he₁) env)) (sym e)))
+    pub loop-dry : Begins k p q depth words here sl₁ he₁ en₁ NoneFree → (r : Out) →
+        r ≡ out 25 (pos 0) 0 (steps - 1) → Ended whole steps r sl₁ he₁ en₁
+    loop-dry dry r e = part-stops _ steps r sl₁ he₁ en₁ follows
+        (loop-is ∙ ap (λ (w : Ran). and-then w follows) (dry (steps - 1)
+        ∙ ap (λ (y : Out). ran y (memory (store-of sl₁ he₁) en₁)) (sym e)))
         (omega (arith, ap (λ (y : Out). y .steps) e)) (λ z. omega (arith, z, ap (λ (y : Out). y .stop) e))
 
-    module _ (l : Passes) (ready : Readied k p q depth words (store-of slots heads) sl₁ he₁ l) (start : ℕ)
+    module _ (l : Passes) (ready : Readied k p q depth words here sl₁ he₁ en₁ l) (start : ℕ)
         (se : start ≡ tree-at) (r : Out) (sl : List ℤ) (he : List ℕ) (en : List ℤ)
         (done : Ended (passes-on (looped (l .way) (W start) calls (l .first) (l .second) (l .from)) (l .count)
-        (l .carried) 0 (steps - 1) (memory (store-of sl₁ he₁) env)) (steps - 1) r sl he en) where
+        (l .carried) 0 (steps - 1) (memory (store-of sl₁ he₁) en₁)) (steps - 1) r sl he en) where
       -- the passes as the line has them
       same-passes : passes-on (looped (way-of k depth) (W tree-at) calls p q (cell-of (looped-over k words)))
           (length (array-of (store-of slots heads) (looped-over k words))) (l .carried) 0 (steps - 1)
-          (memory (store-of sl₁ he₁) env)
+          (memory (store-of sl₁ he₁) en₁)
           ≡ passes-on (looped (l .way) (W start) calls (l .first) (l .second) (l .from)) (l .count) (l .carried) 0
-          (steps - 1) (memory (store-of sl₁ he₁) env)
+          (steps - 1) (memory (store-of sl₁ he₁) en₁)
       same-passes = λ i. passes-on (looped (sym (ready .way) i) (W (sym se i)) calls (sym (ready .first) i)
           (sym (ready .second) i) (sym (ready .from) i)) (sym (ready .count) i) (l .carried) 0 (steps - 1)
-          (memory (store-of sl₁ he₁) env)
+          (memory (store-of sl₁ he₁) en₁)
 
       -- what the passes gave is bound
       pub loop-bound : (next : ℕ) → next ≡ end-in (c .table) start → (y : Out) (en′ : List ℤ) →
           left y en′ ≡ bound-result calls x next r en → Ended whole steps y sl he en′
       loop-bound next ne y en′ e = part-bound calls x next r en whole steps sl he
-          (loop-is ∙ ap (λ (w : Ran). and-then w follows) (ready .carried (steps - 1) env)
+          (loop-is ∙ ap (λ (w : Ran). and-then w follows) (ready .carried (steps - 1))
           ∙ ap (λ (w : Ran). and-then w bind) (same-passes ∙ sym (done .is))
           ∙ ap (λ (m : ℕ). and-then (ran r (memory (store-of sl he) en)) (λ w. binding calls x m w))
           (sym (ne ∙ ap (end-in (c .table)) se)))
@@ -264,8 +264,8 @@ module _ (W : Work) (C : Callee) (c : Code) (calls at steps : ℕ) (slots : List
       go : (d : Doing) → Told d (tagOf the-type l) →
           leaf-done calls at steps (memory (store-of slots heads) env) d
           ≡ line-done W C c calls at steps (memory (store-of slots heads) env) d
-      go (giving x next σ g) t = refl
-      go (changing σ) t = refl
+      go (giving x next m′ g) t = refl
+      go (changing m′) t = refl
       go (ending a) t = refl
       go (calling x g) t = absurd (miss leaves 1 tt (subst (OneOf leaves) t h))
       go (branching x g) t = absurd (miss leaves 7 tt (subst (OneOf leaves) t h))

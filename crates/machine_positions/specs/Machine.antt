@@ -123,8 +123,8 @@ loop-line W c calls x k p q us at steps m = stepping steps (halted 21 0 m)
 
 -- a line that stands at a position: W works its trees, C its calls
 unfoldable pub line-done : Work → Callee → Code → ℕ → ℕ → ℕ → Memory → Doing → Ran
-line-done W C c calls at s m (giving x next σ g) = leaf-done calls at s m (giving x next σ g)
-line-done W C c calls at s m (changing σ) = leaf-done calls at s m (changing σ)
+line-done W C c calls at s m (giving x next m′ g) = leaf-done calls at s m (giving x next m′ g)
+line-done W C c calls at s m (changing m′) = leaf-done calls at s m (changing m′)
 line-done W C c calls at s m (ending a) = leaf-done calls at s m (ending a)
 line-done W C c calls at s m (calling x g) = call-line C c calls x g at s m
 line-done W C c calls at s m (branching x g) = if-line W (c .table) calls x g at s m

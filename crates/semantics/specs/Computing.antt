@@ -24,7 +24,7 @@ use Rattle.semantics.specs.Sound.{all-used, formed-as, formed, places, c
 use Rattle.semantics.specs.Machine.{touching, each-events, lower-events, release-events, with-store, with-left}
 use Rattle.semantics.specs.Machine.{with-roots, stepped, step, acquire-if, acquire, elements-of, retain-word}
 use Rattle.semantics.specs.Machine.{release-word, append-word, held, retain-times, work-pass, work-leaf, work}
-use Rattle.semantics.specs.Machine.{routine, program, frame-from}
+use Rattle.semantics.specs.Machine.{routine, program, frame-from, level-after, lowest-over}
 use Rattle.semantics.specs.Machine.{machine, delivery, starting, delivered}
 use Rattle.semantics.specs.Meaning.{step as meaning-step, stepped as meaning-stepped, do-operation, do-call}
 use Rattle.semantics.specs.Meaning.{do-literal, do-index, do-length, do-iota, do-replicate, do-if, do-pass}
@@ -50,6 +50,7 @@ unfolding tabulate all occurrences each updated onward require times passes byte
     names-used all-used formed-as formed places counted sound sound-words touching each-events lower-events
     release-events with-store with-left with-roots stepped step acquire-if acquire elements-of retain-word
     release-word append-word held retain-times work-pass work-leaf work routine program frame-from machine delivery
+    level-after lowest-over
     starting delivered packed
     judged code-fits admitted translated engine-translate request-fits refusing answering open-for check-for
     deliver-for engine-open engine-check engine-deliver meaning-step meaning-stepped do-operation do-call

@@ -23,4 +23,5 @@ pub mod Computing
 pub mod Trials
 pub mod Slips
 pub mod Second
+pub mod Levels
 pub mod Watched

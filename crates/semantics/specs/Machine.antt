@@ -1,7 +1,7 @@
 -- Document 01, "The store": the annotated code worked on a store, and the delivery.
 -- Three parts of the definition leave no word in the store: the log of what happened to cells, the set L that is live
 -- after a tree, and the roots R, the cells that are in use outside it.
-use Prim.Native.Nat.{ℕ, zero, suc, _+_, _-_, pred}
+use Prim.Native.Nat.{ℕ, zero, suc, _+_, _-_, min, pred}
 use mathlib.Core.Bool.{Bool, true, false, cond, _&&_}
 use mathlib.Core.List.{List, [], _∷_, _++_, map}
 use lib.IntN.{ℤ, pos, natAbs}
@@ -19,7 +19,7 @@ use Rattle.semantics.specs.Code.{Atom, number, name, Line, leaf, if-else
 use Rattle.semantics.specs.Live.{Set, empty, _∖_, among, members, live, after-branch, after-pass}
 use Rattle.semantics.specs.Annotate.{NameDepths, depth-of, is-array, depths-of, annotated-body}
 use Rattle.semantics.specs.Store.{Store, cell, cell-of, elements, inner, named-by, with-totals, has-free}
-use Rattle.semantics.specs.Store.{acquired, retained, released, freed, appended, relinked, deepest}
+use Rattle.semantics.specs.Store.{acquired, retained, released, freed, appended, relinked, deepest, free-cells}
 use Rattle.semantics.specs.Sound.{free-list}
 
 -- ---- the log
@@ -46,6 +46,24 @@ unfoldable pub release-events : ℕ → ℕ → Store → List Event
 release-events zero c σ = []
 release-events (suc n) c σ =
     touching σ c ++ lower-events (released n) (release-events n) (cell σ c .count) c σ
+
+-- ---- levels
+
+-- how many cells are free after an event, before which n were
+abbrev pub level-by : Event → ℕ → ℕ
+level-by (acquires c) n = n - 1
+level-by (frees c) n = n + 1
+level-by (touches c) n = n
+
+-- how many cells are free after some events, before which n were
+unfoldable pub level-after : List Event → ℕ → ℕ
+level-after [] n = n
+level-after (e ∷ l) n = level-after l (level-by e n)
+
+-- the least number of free cells over some events, the n before them included
+unfoldable pub lowest-over : List Event → ℕ → ℕ
+lowest-over [] n = n
+lowest-over (e ∷ l) n = min n (lowest-over l (level-by e n))
 
 -- ---- the state and its changes
 
@@ -302,15 +320,22 @@ delivery p readings s =
 unfoldable pub starting : ℕ → Store → State
 starting budget σ = record { left = budget; store = σ; log = []; roots = [] }
 
--- what a delivery shows: its number, its steps, and the store after it
+-- what a delivery shows: its number, the least number of free cells over it, its steps, and the store after it
 pub record Delivered : Type 0 where
   pub number : ℕ
+  pub lowest : ℕ
   pub steps : ℕ
   pub store : Store
 
+-- over a run from the store σ to a state, the free cells before the readings' cell was taken included
+abbrev pub lowest-level : Store → State → ℕ
+lowest-level σ s = lowest-over (s .log) (free-cells σ)
+
 abbrev pub delivered-by : {A : Type 0} → ℕ → Store → Outcome State A → Delivered
-delivered-by budget σ (done a s) = record { number = 0; steps = budget - s .left; store = s .store }
-delivered-by budget σ (stop n s) = record { number = n; steps = budget - s .left; store = relinked σ }
+delivered-by budget σ (done a s) =
+    record { number = 0; lowest = lowest-level σ s; steps = budget - s .left; store = s .store }
+delivered-by budget σ (stop n s) =
+    record { number = n; lowest = lowest-level σ s; steps = budget - s .left; store = relinked σ }
 
 unfoldable pub delivered : Program → List ℤ → ℕ → Store → Delivered
 delivered p readings budget σ = delivered-by budget σ (delivery p readings (starting budget σ))

@@ -111,16 +111,16 @@ pub second :
     seeing 1 hidden-first ((pos 4 ∷ []) ∷ (pos 5 ∷ []) ∷ []) ∷
     seeing 1 nested ((pos 4 ∷ []) ∷ (pos 2 ∷ pos 4 ∷ []) ∷ []) ∷ []
     ≡
-    as-told (packed 0 0 2 1 ∷ packed 26 0 2 1 ∷ packed 0 0 2 1 ∷ []) (numbers []) ∷
-    as-told (packed 0 0 2 2 ∷ packed 0 0 2 1 ∷ packed 0 0 2 2 ∷ [])
+    as-told (packed 0 6 2 1 ∷ packed 26 6 2 1 ∷ packed 0 6 2 1 ∷ []) (numbers []) ∷
+    as-told (packed 0 5 2 2 ∷ packed 0 4 2 1 ∷ packed 0 5 2 2 ∷ [])
     (list (numbers (pos 3 ∷ []) ∷ numbers (pos 3 ∷ []) ∷ numbers (pos 3 ∷ []) ∷ [])) ∷
-    as-told (packed 0 0 8 2 ∷ packed 0 0 8 1 ∷ packed 0 0 8 2 ∷ [])
+    as-told (packed 0 4 8 2 ∷ packed 0 3 8 1 ∷ packed 0 4 8 2 ∷ [])
     (list (numbers (pos 3 ∷ []) ∷ numbers (pos 3 ∷ []) ∷ [])) ∷
-    as-told (packed 0 0 5 0 ∷ packed 0 0 3 0 ∷ []) (num (pos 12)) ∷
-    as-told (packed 0 0 6 2 ∷ packed 0 0 5 2 ∷ packed 0 0 6 2 ∷ []) (list (numbers (pos 7 ∷ []) ∷ [])) ∷
-    as-told (packed 0 0 4 1 ∷ packed 0 0 4 1 ∷ []) (numbers (pos 5 ∷ [])) ∷
-    as-told (packed 0 0 3 1 ∷ packed 0 0 3 1 ∷ []) (numbers (pos 5 ∷ [])) ∷
-    as-told (packed 0 0 21 1 ∷ packed 0 0 27 1 ∷ []) (numbers (pos 6 ∷ [])) ∷ []
+    as-told (packed 0 7 5 0 ∷ packed 0 7 3 0 ∷ []) (num (pos 12)) ∷
+    as-told (packed 0 4 6 2 ∷ packed 0 4 5 2 ∷ packed 0 3 6 2 ∷ []) (list (numbers (pos 7 ∷ []) ∷ [])) ∷
+    as-told (packed 0 5 4 1 ∷ packed 0 5 4 1 ∷ []) (numbers (pos 5 ∷ [])) ∷
+    as-told (packed 0 5 3 1 ∷ packed 0 5 3 1 ∷ []) (numbers (pos 5 ∷ [])) ∷
+    as-told (packed 0 4 21 1 ∷ packed 0 4 27 1 ∷ []) (numbers (pos 6 ∷ [])) ∷ []
 unfolding computing low-first operand-bytes file-of seen-from seen-of seeing counting repeating sieving summing folding
     start-in-the-tree hidden-first nested
 second = refl

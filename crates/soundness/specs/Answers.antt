@@ -12,13 +12,13 @@ pub number-packed : (n p k c : ℕ) → n < 256 → number-of (packed n p k c) �
 unfolding packed
 number-packed n p k c h = omega arith
 
-pub steps-packed : (n k c : ℕ) → n < 256 → k < 2 ^ 24 → steps-of (packed n 0 k c) ≡ k
+pub steps-packed : (n p k c : ℕ) → n < 256 → p < 2 ^ 16 → k < 2 ^ 24 → steps-of (packed n p k c) ≡ k
 unfolding packed
-steps-packed n k c h l = omega arith
+steps-packed n p k c h m l = omega arith
 
 -- of an answer other than 25 the ledger is fed nothing
 pub not-dry : (n p k c : ℕ) → n < 256 → n ≢ 25 → dry-steps (packed n p k c) ≡ none
 not-dry n p k c h f = rw (number-packed n p k c h, ne-eqb n 25 f)
 
-pub dry-packed : (k c : ℕ) → k < 2 ^ 24 → dry-steps (packed 25 0 k c) ≡ some k
-dry-packed k c h = rw (number-packed 25 0 k c (omega arith), steps-packed 25 k c (omega arith) h)
+pub dry-packed : (p k c : ℕ) → p < 2 ^ 16 → k < 2 ^ 24 → dry-steps (packed 25 p k c) ≡ some k
+dry-packed p k c m h = rw (number-packed 25 p k c (omega arith), steps-packed 25 p k c (omega arith) m h)

@@ -12,17 +12,21 @@ use borrow.Author.Tests.{leb-true}
 use Rattle.semantics.specs.Syntax.{Script, main-depth}
 use Rattle.semantics.specs.Value.{Value, numbers}
 use Rattle.semantics.specs.Meaning.{Meter, main-meaning}
-use Rattle.semantics.specs.Store.{Store}
+use Rattle.semantics.specs.Store.{Store, cell-count, free-cells}
+use Rattle.semantics.specs.Words.{store-of}
+use Rattle.semantics.specs.Sound.{sound-words}
 use Rattle.semantics.specs.Annotate.{code}
-use Rattle.semantics.specs.Machine.{State, program, delivery, starting}
+use Rattle.semantics.specs.Machine.{State, program, delivery, starting, state-of}
 use Rattle.semantics.specs.Calls.{accepted, judged, code-fits, request-fits}
 use Rattle.semantics.specs.Demands.{value-of}
 use Rattle.laws.specs.Tests.{both-hold}
+use Rattle.laws.specs.Levels.{LevelsUpTo, up-to-more}
+use Rattle.soundness.specs.store.LowestLevel.{free-cells-listed}
 use Rattle.soundness.specs.annotation.Programs.{program-disciplined, program-frugal}
 use Rattle.soundness.specs.machine.Agreement.{Start}
 use Rattle.soundness.specs.machine.Totals.{Finished}
-use Rattle.soundness.specs.machine.Delivery.{Delivers, delivery-sound, script-delivery}
-use Rattle.soundness.specs.Settled.{Settled}
+use Rattle.soundness.specs.machine.Delivery.{Delivers, delivery-sound, script-delivery, delivers-clean}
+use Rattle.soundness.specs.Settled.{Settled, sound-settles}
 
 -- code that fits fewer lines fits 4,096
 pub few-lines : (fs : Script) (lines : ℕ) → lines ≤ 4096 → code-fits fs lines ≡ true → length (code fs) ≤ 4096
@@ -60,3 +64,17 @@ module _ (node : ℕ) (file : List ℕ) (fs : Script) (ok : judged node file ≡
       (script-delivery fs (value-of σ (main-depth fs) (σ .totals)) (numbers readings) budget
       (delivery-sound (program fs) (program-disciplined node file fs ok short) true
       (λ _. program-frugal node file fs ok) readings (few-readings readings budget fits) budget σ (settled .rests)))
+
+  -- over a delivery on a sound store never more than 256 cells are free
+  pub levels-bounded : (slots : List ℤ) (heads : List ℕ) → sound-words (main-depth fs) slots heads ≡ true →
+      (readings : List ℤ) (budget : ℕ) → request-fits readings budget ≡ true →
+      LevelsUpTo 256 (state-of (delivery (program fs) readings (starting budget (store-of slots heads))) .log)
+      (free-cells (store-of slots heads))
+  levels-bounded slots heads sound readings budget fits =
+      let σ = store-of slots heads in
+      let settled = sound-settles (main-depth fs) slots heads sound in
+      let holds = settled .rests .holds in
+      let log = state-of (delivery (program fs) readings (starting budget σ)) .log in
+      let levels = delivers-clean (delivers settled readings budget fits) .levels in
+      up-to-more (cell-count σ) 256 log (free-cells σ) (holds .few)
+      (subst (λ n. LevelsUpTo (cell-count σ) log n) (sym (free-cells-listed holds)) levels)

@@ -1,15 +1,15 @@
--- The statements leave an engine no choice: what a delivery answers and leaves is fixed by what it agrees with, and a
--- machine that runs dry while a cell is free does not do what is meant. Each is tried where a wrong engine would tell
--- something else.
-use Prim.Native.Nat.{ℕ}
+-- The statements leave an engine no choice: a log has one least level, what a delivery answers and leaves is fixed by
+-- what it agrees with, and a machine that runs dry while a cell is free does not do what is meant. The last two are
+-- tried where a wrong engine would tell something else.
+use Prim.Native.Nat.{ℕ, _≤_}
 use native.Mathlib.Omega.{arith}
 use mathlib.Core.Bool.{Bool, true, false, cond}
 use mathlib.Core.Path.{_≡_, sym, ap, _∙_}
 use mathlib.Core.Option as O
 use mathlib.Core.Option.{Option, some}
-use mathlib.Core.List.{[], _∷_}
+use mathlib.Core.List.{List, [], _∷_}
 use lib.IntN.{pos}
-use lib.ListN.{replicate}
+use lib.ListN.{length, replicate}
 use Rattle.semantics.specs.Outcome.{Outcome, done, stop}
 use Rattle.semantics.specs.Number.{sum}
 use Rattle.semantics.specs.Kinds.{operation, literal}
@@ -17,13 +17,29 @@ use Rattle.semantics.specs.Syntax.{Script, number, let-in, leaf, none, more}
 use Rattle.semantics.specs.Value.{Value, list, numbers}
 use Rattle.semantics.specs.Meaning.{Meter, main-meaning}
 use Rattle.semantics.specs.Store.{Store, opened, cells-taken}
-use Rattle.semantics.specs.Machine.{Delivered, program, delivered, delivered-by, starting}
+use Rattle.semantics.specs.Machine.{Event, Delivered, program, delivered, delivered-by, starting}
 use Rattle.semantics.specs.Calls.{packed, room, code-fits, request-fits}
 use Rattle.semantics.specs.Ledger as L
 use Rattle.semantics.specs.Ledger.{Delivery, Entry, worked, meant, entry, entry-of, entry-by, dry-steps}
-use Rattle.semantics.specs.Demands.{Agrees, Does}
+use Rattle.semantics.specs.Demands.{FreeAfter, Least, Agrees, Does}
 use Rattle.semantics.specs.Computing.{computing}
 use Rattle.soundness.specs.Instances.{first, printed-script}
+
+-- ---- one least level
+
+free-after-one : {log : List Event} {free : List ℕ} {n m : ℕ} → FreeAfter log free n → FreeAfter log free m → n ≡ m
+free-after-one p q =
+    let both = sym (p .replays) ∙ q .replays in
+    let z : p .list ≡ q .list = cc in
+    sym (p .count) ∙ ap length z ∙ q .count
+
+least-below : {log : List Event} {free : List ℕ} {n m : ℕ} → Least log free n → Least log free m → n ≤ m
+least-below p q =
+    omega (arith, p .bounds (q .at) (q .begins), free-after-one (p .leaves (q .at) (q .begins)) (q .reached))
+
+-- a log and the free list before it have one least number of free cells
+pub least-one : {log : List Event} {free : List ℕ} {n m : ℕ} → Least log free n → Least log free m → n ≡ m
+least-one p q = omega (arith, least-below p q, least-below q p)
 
 -- ---- one answer and one store
 
@@ -35,7 +51,7 @@ module _ (fs : Script) (σ : Store) (v : Value) (δ : Delivery) where
   abbrev fixed-answer : Bool → Bool → ℕ
   fixed-answer a b =
       cond a
-      (cond b (packed (run .number) 0 (run .steps) (cells-taken (run .store))) (packed 10 0 0 0))
+      (cond b (packed (run .number) (run .lowest) (run .steps) (cells-taken (run .store))) (packed 10 0 0 0))
       (packed 9 0 0 0)
 
   abbrev fixed-store : Bool → Bool → Store
@@ -50,22 +66,22 @@ module _ (fs : Script) (σ : Store) (v : Value) (δ : Delivery) where
 
     -- a worked delivery shows what the machine's run shows
     run-fixes : (n k : ℕ) (w : Value) → AgreesOn (worked n k w) →
-        Fixes (packed (run .number) 0 (run .steps) (cells-taken (run .store))) (run .store)
+        Fixes (packed (run .number) (run .lowest) (run .steps) (cells-taken (run .store))) (run .store)
     unfolding delivered
     run-fixes n k w g =
-        let s : record { number = n; steps = k; store = σ′ } ≡ run =
+        let s : record { number = n; lowest = g .lowest; steps = k; store = σ′ } ≡ run =
         sym (g .owed .shows) ∙ ap (delivered-by (δ .budget) σ) (sym (g .owed .ran)) in (
-          g .answered ∙ ap (λ (d : Delivered). packed (d .number) 0 (d .steps) (cells-taken (d .store))) s,
+          g .answered ∙ ap (λ (d : Delivered). packed (d .number) (d .lowest) (d .steps) (cells-taken (d .store))) s,
           ap (λ (d : Delivered). d .store) s,
         )
 
     meant-fixes : (o : Outcome Meter Value) → AgreesOn (entry-of (δ .budget) v o) →
-        Fixes (packed (run .number) 0 (run .steps) (cells-taken (run .store))) (run .store)
+        Fixes (packed (run .number) (run .lowest) (run .steps) (cells-taken (run .store))) (run .store)
     meant-fixes (done w m) g = run-fixes _ _ w g
     meant-fixes (stop n m) g = run-fixes n _ v g
 
     by-fixes : (dry : Option ℕ) → AgreesOn (entry-by fs v δ dry) →
-        Fixes (packed (run .number) 0 (run .steps) (cells-taken (run .store))) (run .store)
+        Fixes (packed (run .number) (run .lowest) (run .steps) (cells-taken (run .store))) (run .store)
     by-fixes O.none g = meant-fixes (meant fs v δ) g
     by-fixes (some k) g = run-fixes 25 k v g
 
@@ -117,6 +133,12 @@ two-literals = record {
 pub steps-told : (σ′ : Store) (answer : ℕ) → AgreesAfter two-literals 2 σ′ answer → answer ≡ packed 25 0 1 1
 unfolding computing two-literals
 steps-told σ′ answer g = fixed two-literals (opened 2 1) (list []) trial σ′ answer g .0
+
+-- On four cells its first literal leaves one free, until it is released: no answer but this agrees, not one that tells
+-- another lowest level.
+pub lowest-told : (σ′ : Store) (answer : ℕ) → AgreesAfter two-literals 4 σ′ answer → answer ≡ packed 0 1 5 1
+unfolding computing two-literals
+lowest-told σ′ answer g = fixed two-literals (opened 4 1) (list []) trial σ′ answer g .0
 
 -- A machine that runs dry before it starts does not do what is meant: on two cells one is free.
 pub never-starts : Does 1 1000 (stop 25 (starting 1000 (opened 2 1)))

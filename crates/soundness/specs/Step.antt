@@ -12,18 +12,20 @@ use Rattle.semantics.specs.Outcome.{Outcome, done, stop}
 use Rattle.semantics.specs.Syntax.{Script, main-depth}
 use Rattle.semantics.specs.Value.{Value}
 use Rattle.semantics.specs.Meaning.{Meter}
-use Rattle.semantics.specs.Store.{Store, cells-taken, relinked}
+use Rattle.semantics.specs.Store.{Store, cells-taken, free-cells, relinked}
 use Rattle.semantics.specs.Words.{store-of, slot-words, head-words}
-use Rattle.semantics.specs.Sound.{sound-words}
-use Rattle.semantics.specs.Machine.{State, program, delivery, starting, delivered-by}
+use Rattle.semantics.specs.Sound.{free-list, sound-words}
+use Rattle.semantics.specs.Machine.{State, program, delivery, starting, delivered-by, lowest-over, lowest-level}
 use Rattle.semantics.specs.Calls.{StoreReply, request-fits, refusing, answering, deliver-in}
 use Rattle.semantics.specs.Ledger as L
 use Rattle.semantics.specs.Ledger.{Delivery, Entry, worked, meant, entry-by, dry-steps, wants-cell, value-after}
-use Rattle.semantics.specs.Demands.{value-of, Agrees, OutOfCells}
+use Rattle.semantics.specs.Demands.{value-of, Agrees, Least, OutOfCells}
 use Rattle.laws.specs.Tests.{both-hold}
+use Rattle.laws.specs.Levels.{lowest-most}
 use Rattle.soundness.specs.Answers.{not-dry, dry-packed}
 use Rattle.soundness.specs.Settled.{Settled, sound-settles, settled-sound, settled-words, settled-rests}
 use Rattle.soundness.specs.Settled.{relinked-settles, relinked-alone}
+use Rattle.soundness.specs.store.LowestLevel.{free-cells-listed, least-level}
 use Rattle.soundness.specs.machine.Agreement.{Start, Clean}
 use Rattle.soundness.specs.machine.Delivery.{Delivers, finishes, stops, runs-dry}
 use Rattle.soundness.specs.Delivering.{start-of, finished-settled}
@@ -65,12 +67,19 @@ module _ (fs : Script) (slots : List ℤ) (heads : List ℕ) (v : Value) (δ : D
     pub refused-step : (n : ℕ) → Stepped (refusing kinds operands slots heads n 0) (L.refused n)
     unfolding refusing
     refused-step n = record {
-      agrees = record { answered = refl; rests = settled-rests (standing-settled stood); owed = refl };
+      agrees = record { lowest = 0; answered = refl; rests = settled-rests (standing-settled stood); owed = refl };
       stands = stood;
     }
 
     abbrev replied : Outcome State (Unit {0}) → StoreReply
     replied o = deliver-in kinds operands slots heads fs (delivered-by (δ .budget) before o)
+
+    -- the lowest level is the least number of free cells
+    least-shown : (s : State) → Clean start s → Least (s .log) (free-list before) (lowest-level before s)
+    least-shown s clean =
+        let counted = free-cells-listed (standing-settled stood .rests .holds) in
+        subst (λ n. Least (s .log) (free-list before) (lowest-over (s .log) n)) (sym counted)
+        (least-level (s .log) (free-list before) (free-list (s .store)) (sym (clean .replays)))
 
     -- a result replaces the totals
     finished-step : (u : Unit {0}) (s : State) (w : Value) → run ≡ done u s → Clean start s →
@@ -80,12 +89,14 @@ module _ (fs : Script) (slots : List ℤ) (heads : List ℕ) (v : Value) (δ : D
         let back = settled-words settled in
         record {
           agrees = record {
+            lowest = lowest-level before s;
             answered = rw back;
             rests = rw back (settled-rests settled);
             owed = rw back (record {
               end = done u s;
               ran = e;
               shows = refl;
+              least = least-shown s clean;
               untouched = clean .untouched;
               unswept = λ z. clean .replays;
               left-alone = λ f. absurd (f refl);
@@ -106,12 +117,14 @@ module _ (fs : Script) (slots : List ℤ) (heads : List ℕ) (v : Value) (δ : D
         let back = settled-words settled in
         record {
           agrees = record {
+            lowest = lowest-level before s;
             answered = rw back;
             rests = rw back (settled-rests settled);
             owed = rw back (record {
               end = stop n s;
               ran = e;
               shows = refl;
+              least = least-shown s clean;
               untouched = clean .untouched;
               unswept = λ z. absurd (omega (arith, z, positive));
               left-alone = λ f. relinked-alone (standing-settled stood);
@@ -121,6 +134,11 @@ module _ (fs : Script) (slots : List ℤ) (heads : List ℕ) (v : Value) (δ : D
           };
           stands = settled-standing settled;
         }
+
+    -- there are no more than 256 cells
+    few-free : (s : State) → lowest-level before s < 2 ^ 16
+    few-free s =
+        omega (arith, lowest-most (s .log) (free-cells before), standing-settled stood .rests .holds .few)
 
     few-steps : request-fits (δ .readings) (δ .budget) ≡ true → (k : ℕ) → δ .budget - k < 2 ^ 24
     unfolding request-fits
@@ -134,16 +152,17 @@ module _ (fs : Script) (slots : List ℤ) (heads : List ℕ) (v : Value) (δ : D
         Stepped (replied o) (entry-by fs v δ (dry-steps (replied o .answer)))
     unfolding answering
     worked-step requested o p e m (finishes {u} {s} {v = w} q) =
-        let none = not-dry 0 0 (δ .budget - s .left) (cells-taken (s .store)) (omega arith)
+        let none = not-dry 0 (lowest-level before s) (δ .budget - s .left) (cells-taken (s .store)) (omega arith)
         (λ z. absurd (omega arith)) in
         rw (none, m, sym (q .left))
         (finished-step u s w e (q .clean) (finished-settled (standing-settled stood) q))
     worked-step requested o p e m (stops {k} {n} {s} q) =
-        let none = not-dry k 0 (δ .budget - s .left) (cells-taken (relinked before)) (q .stops .high)
-        (q .stops .other) in
+        let none = not-dry k (lowest-level before s) (δ .budget - s .left) (cells-taken (relinked before))
+        (q .stops .high) (q .stops .other) in
         rw (none, m, sym (q .left), sym (q .number))
         (stopped-step k s (omega (arith, q .stops .low)) e (q .clean) (λ z. absurd (q .stops .other z))
         (λ z. absurd (q .stops .other z)))
     worked-step requested o p e m (runs-dry {s} none-free out clean wants) =
-        rw (dry-packed (δ .budget - s .left) (cells-taken (relinked before)) (few-steps requested (s .left)))
+        rw (dry-packed (lowest-level before s) (δ .budget - s .left) (cells-taken (relinked before)) (few-free s)
+        (few-steps requested (s .left)))
         (stopped-step 25 s (omega arith) e clean (λ z. rw m wants) (λ z. out refl))

@@ -11,6 +11,7 @@ pub mod Acquire
 pub mod Order
 pub mod Append
 pub mod Release
+pub mod LowestLevel
 pub mod Tests
 pub mod Rest
 pub mod Words

@@ -2,7 +2,7 @@
 use mathlib.Core.Path.{_≡_, refl, sym}
 use mathlib.Core.Bool.{true, false}
 use mathlib.Core.List.{List, []}
-use Prim.Native.Nat.{ℕ, _+_, _*_, _<_, _≤_}
+use Prim.Native.Nat.{ℕ, _+_, _-_, _*_, _<_, _≤_}
 use native.Mathlib.Omega.{arith}
 use lib.IntN.{ℤ}
 use lib.ListN.{getD}
@@ -12,7 +12,7 @@ use Rattle.semantics.specs.Store.{cell-count, with-first, has-free, filled, acq
 use Rattle.semantics.specs.Words.{cells-in, store-of}
 use Rattle.store_words.proofs.CellWords.{store-size, first-is, next-is}
 use Rattle.store_words.proofs.Written.{Written, written-store, cleared-store}
-use Rattle.store.specs.Acquiring.{next-cell}
+use Rattle.store.specs.Acquiring.{gained, next-cell}
 
 -- ---- a cell freed
 
@@ -35,19 +35,19 @@ module _ (slots : List ℤ) (heads : List ℕ) where
   first-out h = le-ltb (store-of slots heads .first) (cell-count (store-of slots heads))
       (omega (arith, store-size slots heads, first-is slots heads))
 
-  pub none-acquired : (depth : ℕ) (words : List ℤ) → cells-in slots heads ≤ getD heads 0 0 →
-      (stop 25 tt ≡ next-cell (store-of slots heads))
+  pub none-acquired : (depth free : ℕ) (words : List ℤ) → cells-in slots heads ≤ getD heads 0 0 →
+      (stop 25 tt ≡ next-cell free (store-of slots heads))
       × (store-of slots heads ≡ acquired depth words (store-of slots heads))
   unfolding next-cell acquired
-  none-acquired depth words h = (sym (rw (first-out h) refl), sym (rw (first-out h) refl))
+  none-acquired depth free words h = (sym (rw (first-out h) refl), sym (rw (first-out h) refl))
 
-  pub one-acquired : (depth : ℕ) {slots′ : List ℤ} {heads′ : List ℕ} →
+  pub one-acquired : (depth free : ℕ) {slots′ : List ℤ} {heads′ : List ℕ} →
       Written slots heads (getD heads 0 0) (getD heads (4 + 4 * getD heads 0 0) 0) 1 0 depth 0 slots′ heads′ →
       getD heads 0 0 < cells-in slots heads →
-      (done (getD heads 0 0) tt ≡ next-cell (store-of slots heads))
+      (done (gained (getD heads 0 0) (free - 1)) tt ≡ next-cell free (store-of slots heads))
       × (store-of slots′ heads′ ≡ acquired depth [] (store-of slots heads))
   unfolding next-cell acquired filled with-first store-of
-  one-acquired depth w h = (
+  one-acquired depth free w h = (
     sym (rw (first-in h, first-is slots heads) refl),
     sym (rw (first-in h, first-is slots heads, next-is slots heads (getD heads 0 0) h) (sym (written-store w h))),
   )

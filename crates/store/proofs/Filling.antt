@@ -3,7 +3,7 @@ use mathlib.Core.Path.{_≡_, refl, sym, ap, ap₂, _∙_}
 use mathlib.Core.Bool.{Bool, true, false, cond}
 use mathlib.Core.Logic.{_≢_}
 use mathlib.Core.List.{List, [], _∷_, _++_, append-nil}
-use Prim.Native.Nat.{ℕ, suc, _+_, _<_, _≤_, min}
+use Prim.Native.Nat.{ℕ, suc, _+_, _-_, _<_, _≤_, min}
 use native.Mathlib.Omega.{arith}
 use native.Mathlib.Decide.{decLt}
 use lib.IntN.{ℤ, pos}
@@ -16,7 +16,7 @@ use Rattle.semantics.specs.Store.{acquired, appended}
 use Rattle.semantics.specs.Store as C
 use Rattle.laws.specs.Cells.{same-cell, same-store, with-here}
 use Rattle.store_words.proofs.Tables.{tabulate-same, set-tabulate}
-use Rattle.store.specs.Acquiring.{next-cell, appended-all}
+use Rattle.store.specs.Acquiring.{Gained, gained, next-cell, appended-all}
 
 -- ---- one word more in a cell
 
@@ -78,30 +78,34 @@ module _ (d : ℕ) (σ : Store) (free : has-free σ ≡ true) where
       ∙ appended-all-acquired ws (vs ++ (w ∷ [])) ∙ ap (λ (l : List ℤ). acquired d l σ) (append-snoc vs w ws)
 
 -- what an acquire that gave a cell says
-pub cell-given : (σ : Store) (c : ℕ) → done c tt ≡ next-cell σ → (has-free σ ≡ true) × (c ≡ σ .first)
+pub cell-given : (free : ℕ) (σ : Store) (g : Gained) → done g tt ≡ next-cell free σ →
+    (has-free σ ≡ true) × (g ≡ gained (σ .first) (free - 1))
 unfolding next-cell
-cell-given σ c e = go (has-free σ) refl e
+cell-given free σ g e = go (has-free σ) refl e
   where
     go : (t : Bool) → has-free σ ≡ t →
-        _≡_ {A = Outcome (Unit {0}) ℕ} (done c tt) (cond t (done (σ .first) tt) (stop 25 tt)) →
-        (has-free σ ≡ true) × (c ≡ σ .first)
-    go true f g = (f, cc)
-    go false f g = let z : _≡_ {A = ℕ} 0 1 = cc in absurd (omega arith)
+        _≡_ {A = Outcome (Unit {0}) Gained} (done g tt) (cond t (done (gained (σ .first) (free - 1)) tt) (stop 25 tt)) →
+        (has-free σ ≡ true) × (g ≡ gained (σ .first) (free - 1))
+    go true f e = (f, cc)
+    go false f e = let z : _≡_ {A = ℕ} 0 1 = cc in absurd (omega arith)
 
 -- where none is free, an acquire changes nothing
-pub none-given : (d : ℕ) (σ : Store) (ws : List ℤ) → stop 25 tt ≡ next-cell σ → acquired d [] σ ≡ acquired d ws σ
+pub none-given : (free d : ℕ) (σ : Store) (ws : List ℤ) → stop 25 tt ≡ next-cell free σ →
+    acquired d [] σ ≡ acquired d ws σ
 unfolding next-cell acquired
-none-given d σ ws e = go (has-free σ) refl e
+none-given free d σ ws e = go (has-free σ) refl e
   where
     go : (t : Bool) → has-free σ ≡ t →
-        _≡_ {A = Outcome (Unit {0}) ℕ} (stop 25 tt) (cond t (done (σ .first) tt) (stop 25 tt)) →
+        _≡_ {A = Outcome (Unit {0}) Gained} (stop 25 tt)
+        (cond t (done (gained (σ .first) (free - 1)) tt) (stop 25 tt)) →
         acquired d [] σ ≡ acquired d ws σ
     go true f g = let z : _≡_ {A = ℕ} 0 1 = cc in absurd (omega arith)
     go false f g = rw f
 
-pub filled-by-appending : (d : ℕ) (σ : Store) (c : ℕ) (ws : List ℤ) → done c tt ≡ next-cell σ →
-    appended-all c ws (acquired d [] σ) ≡ acquired d ws σ
-filled-by-appending d σ c ws e = rw (cell-given σ c e .1) (appended-all-acquired d σ (cell-given σ c e .0) ws [])
+pub filled-by-appending : (free d : ℕ) (σ : Store) (g : Gained) (ws : List ℤ) → done g tt ≡ next-cell free σ →
+    appended-all (g .cell) ws (acquired d [] σ) ≡ acquired d ws σ
+filled-by-appending free d σ g ws e =
+    rw (cell-given free σ g e .1) (appended-all-acquired d σ (cell-given free σ g e .0) ws [])
 
 -- ---- the loop over the words
 

@@ -1,12 +1,12 @@
 // The operations of the counted store on the two arrays that a caller lends. Every public function is total: it works
 // on arrays of any length and content, and a cell that is not there takes no write.
 ghost use mathlib.Core.Path.{_≡_};
-ghost use Prim.Native.Nat.{_+_, _*_, _<_};
+ghost use Prim.Native.Nat.{_+_, _-_, _*_, _<_};
 ghost use mathlib.Core.List.{[]};
 ghost use lib.ListN.{length};
-ghost use Rattle.semantics.specs.Store.{retained, acquired, appended, freed, released};
+ghost use Rattle.semantics.specs.Store.{retained, acquired, appended, freed};
 ghost use Rattle.semantics.specs.Words.{slots-at, store-of};
-ghost use Rattle.store.specs.Acquiring.{acquired-outcome, next-cell, appended-all};
+ghost use Rattle.store.specs.Acquiring.{acquired-outcome, next-cell, Releases, appended-all};
 
 // One reference more to a cell.
 pub fn retain(slots: &[i64], heads: &mut [u32], c: usize)
@@ -21,15 +21,22 @@ pub fn retain(slots: &[i64], heads: &mut [u32], c: usize)
     }
 }
 
-// What an acquire answers: the cell, or that none is free.
+// What an acquire answers: the cell and how many free cells remain, or that none is free.
 pub enum Acquired {
-    Cell(usize),
+    Cell(usize, u32),
     NoneFree,
 }
 
-// Acquires the free list's first cell, with no elements.
-pub fn acquire_empty(slots: &mut [i64], heads: &mut [u32], depth: u32) -> Acquired
-    ensures { λ r. ⌜ (acquired-outcome r ≡ next-cell (store-of (now (slots .entry)) (now (heads .entry))))
+// One free cell fewer.
+fn one_fewer(free: u32) -> u32
+    ensures { λ r. ⌜ r ≡ free - 1 ⌝ }
+{
+    if free == 0 { 0 } else { free - 1 }
+}
+
+// Acquires the free list's first cell, with no elements; so many cells were free.
+pub fn acquire_empty(slots: &mut [i64], heads: &mut [u32], depth: u32, free: u32) -> Acquired
+    ensures { λ r. ⌜ (acquired-outcome r ≡ next-cell free (store-of (now (slots .entry)) (now (heads .entry))))
         × (store-of (now (slots .exit)) (now (heads .exit))
         ≡ acquired depth [] (store-of (now (slots .entry)) (now (heads .entry)))) ⌝ }
 {
@@ -44,7 +51,7 @@ pub fn acquire_empty(slots: &mut [i64], heads: &mut [u32], depth: u32) -> Acquir
     heads[0] = next;
     store_words::write_head(heads, c, 1, 0, depth, 0);
     store_words::clear_slots(slots, c);
-    Acquired::Cell(c)
+    Acquired::Cell(c, one_fewer(free))
 }
 
 // One element more in a cell that is there and has room.
@@ -83,16 +90,23 @@ fn append_all(slots: &mut [i64], heads: &mut [u32], c: usize, words: &[i64])
     }
 }
 
-// Acquires the free list's first cell with these words, the first 16 of them, as elements of this depth.
-pub fn acquire(slots: &mut [i64], heads: &mut [u32], depth: u32, words: &[i64]) -> Acquired
-    ensures { λ r. ⌜ (acquired-outcome r ≡ next-cell (store-of (now (slots .entry)) (now (heads .entry))))
+// Acquires the free list's first cell with these words, the first 16 of them, as elements of this depth; so many cells
+// were free.
+pub fn acquire(
+    slots: &mut [i64],
+    heads: &mut [u32],
+    depth: u32,
+    words: &[i64],
+    free: u32,
+) -> Acquired
+    ensures { λ r. ⌜ (acquired-outcome r ≡ next-cell free (store-of (now (slots .entry)) (now (heads .entry))))
         × (store-of (now (slots .exit)) (now (heads .exit))
         ≡ acquired depth (now (words .entry)) (store-of (now (slots .entry)) (now (heads .entry)))) ⌝ }
 {
-    match acquire_empty(slots, heads, depth) {
-        Acquired::Cell(c) => {
+    match acquire_empty(slots, heads, depth, free) {
+        Acquired::Cell(c, left) => {
             append_all(slots, heads, c, words);
-            Acquired::Cell(c)
+            Acquired::Cell(c, left)
         }
         Acquired::NoneFree => Acquired::NoneFree,
     }
@@ -126,36 +140,38 @@ fn free(slots: &mut [i64], heads: &mut [u32], c: usize)
 }
 
 // One reference fewer to a cell. The last one frees it, and then its elements are released, first to last; this goes
-// down the given levels.
-pub fn release(slots: &mut [i64], heads: &mut [u32], c: usize, levels: u32)
-    ensures { λ _. ⌜ store-of (now (slots .exit)) (now (heads .exit))
-        ≡ released levels c (store-of (now (slots .entry)) (now (heads .entry))) ⌝ }
+// down the given levels. How many cells were freed.
+pub fn release(slots: &mut [i64], heads: &mut [u32], c: usize, levels: u32) -> u32
+    ensures { λ r. ⌜ Releases levels c (store-of (now (slots .entry)) (now (heads .entry)))
+        (store-of (now (slots .exit)) (now (heads .exit))) r ⌝ }
 {
     if levels == 0 {
-        return;
+        return 0;
     }
     if !store_words::is_cell(slots, heads, c) {
-        return;
+        return 0;
     }
     let n = heads[1 + 4 * c];
     if n == 0 {
-        return;
+        return 0;
     }
     if 1 < n {
         heads[1 + 4 * c] = n - 1;
-        return;
+        return 0;
     }
     let size = heads[2 + 4 * c];
     let depth = heads[3 + 4 * c];
     let words = slots_of(slots, c);
     free(slots, heads, c);
     if depth == 0 {
-        return;
+        return 1;
     }
     let k = store_words::at_most(size as usize, 16);
+    let mut freed: u32 = 1;
     let mut i: usize = 0;
     while i < k {
-        release(slots, heads, store_words::named_cell(words[i]), levels - 1);
+        freed = freed + release(slots, heads, store_words::named_cell(words[i]), levels - 1);
         i = i + 1;
     }
+    freed
 }

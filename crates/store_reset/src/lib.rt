@@ -84,7 +84,12 @@ pub fn open_store(slots: &mut [i64], heads: &mut [u32], depth: u32)
     if depth == 0 {
         return;
     }
-    store::acquire_empty(slots, heads, depth - 1);
+    store::acquire_empty(
+        slots,
+        heads,
+        depth - 1,
+        store_words::cells(slots, heads) as u32,
+    );
 }
 
 // Keeps the words of the first array for a stop, at the front of one that is no shorter.

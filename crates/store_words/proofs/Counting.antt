@@ -1,7 +1,7 @@
 -- Counts: one more, the cells in use, and the test of the lengths.
 use mathlib.Core.Path.{_≡_, refl, sym, ap, _∙_}
 use mathlib.Core.Bool.{false}
-use mathlib.Core.List.{List}
+use mathlib.Core.List.{List, [], _∷_}
 use Prim.Native.Nat.{ℕ, zero, suc, _+_, _*_, _<_, _≤_}
 use native.Mathlib.Omega.{arith}
 use native.Mathlib.Numerals.{add-one}
@@ -10,7 +10,8 @@ use lib.ListN.{length, getD, drop}
 use lib.Seq.{drop-cons, drop-length}
 use lib.Dec.{eqb}
 use borrow.Author.Tests.{eq-eqb, ne-eqb, lt-ltb, le-ltb}
-use Rattle.semantics.specs.Store.{Cell, Store, cell, clear, one-more, one-if-used, used-cells}
+use Rattle.semantics.specs.Store.{Cell, Store, cell, cell-count, clear, one-more, one-if-used}
+use Rattle.semantics.specs.Store.{used-cells, cells-taken}
 use Rattle.semantics.specs.Words.{cells-in, store-of, shaped}
 use Rattle.store_words.specs.Parts.{Holds}
 use Rattle.store_words.proofs.CellWords.{store-size, count-is}
@@ -39,9 +40,23 @@ pub used-some : (n : ℕ) → (n ≡ 0 → ⊥) → 1 ≡ one-if-used n
 used-some zero f = absurd (f refl)
 used-some (suc n) f = refl
 
-used-few : (n : ℕ) → one-if-used n ≤ 1
-used-few zero = omega arith
-used-few (suc n) = omega arith
+one-at-most : (n : ℕ) → one-if-used n ≤ 1
+one-at-most zero = omega arith
+one-at-most (suc n) = omega arith
+
+used-few : (l : List Cell) → used-cells l ≤ length l
+unfolding used-cells
+used-few [] = omega arith
+used-few (x ∷ l) = omega (arith, used-few l, one-at-most (x .count))
+
+-- no more cells are in use than there are, and there are at most 256
+module _ (slots : List ℤ) (heads : List ℕ) where
+  pub taken-within : cells-taken (store-of slots heads) ≤ cell-count (store-of slots heads)
+  taken-within = used-few (store-of slots heads .cells)
+
+  pub taken-few : cells-taken (store-of slots heads) ≤ 256
+  unfolding cells-in
+  taken-few = omega (arith, taken-within, store-size slots heads)
 
 -- of the first i cells k are in use
 pub record Counting (σ : Store) (i k : ℕ) : Type 0 where
@@ -60,7 +75,7 @@ module _ (slots : List ℤ) (heads : List ℕ) {i k : ℕ} (t : Counting (store-
   unfolding used-cells cell
   counting-more h u e = record {
     same = omega (arith, t .same, one, next, e, ap one-if-used (count-is slots heads i h));
-    few = omega (arith, t .few, e, used-few (getD heads (1 + 4 * i) 0));
+    few = omega (arith, t .few, e, one-at-most (getD heads (1 + 4 * i) 0));
   }
     where
       one : used-cells (drop i all-cells)

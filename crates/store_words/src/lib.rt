@@ -2,10 +2,10 @@
 // free cell first, and writing the words of one cell. The readers are total: they work on arrays of any length and
 // content, and a cell that is not there reads as a clear one.
 ghost use mathlib.Core.Path.{_≡_};
-ghost use Prim.Native.Nat.{_+_, _*_, _<_, min};
+ghost use Prim.Native.Nat.{_+_, _*_, _<_, _≤_, min};
 ghost use lib.IntN.{pos};
 ghost use lib.ListN.{length, set, getD};
-ghost use Rattle.semantics.specs.Store.{cell, cell-of, elements, one-if-used, cells-taken};
+ghost use Rattle.semantics.specs.Store.{cell, cell-of, elements, one-if-used, cells-taken, free-cells};
 ghost use Rattle.semantics.specs.Words.{store-of, shaped};
 ghost use Rattle.store_words.specs.Parts.{Cleared, Holds, CellThere, with-head};
 
@@ -125,6 +125,15 @@ pub fn cells_taken(slots: &[i64], heads: &[u32]) -> usize
         i = i + 1;
     }
     k
+}
+
+// How many cells are free.
+pub fn cells_free(slots: &[i64], heads: &[u32]) -> u32
+    ensures { λ r. ⌜ (r ≡ free-cells (store-of (now (slots .entry)) (now (heads .entry)))) × (r ≤ 256) ⌝ }
+{
+    let n = cells(slots, heads);
+    let taken = cells_taken(slots, heads);
+    (n - taken) as u32
 }
 
 // Writes the totals.

@@ -6,9 +6,10 @@ use super::store::Store;
 
 pub const CALL_DEPTH_MAX: usize = 32;
 
-/// A delivery's end: its number and steps.
+/// A delivery's end: its number and steps, and the least number of free cells that was counted over it.
 pub struct Ended {
     pub number: u64,
+    pub lowest: u64,
     pub steps: u64,
 }
 
@@ -16,21 +17,21 @@ struct Machine<'a> {
     functions: &'a [Coded],
     store: Store,
     left: u64,
+    lowest: usize,
 }
 
 /// Works one delivery on a sound store.
 pub fn deliver(functions: &[Coded], store: &mut Store, readings: &[i64], budget: u64) -> Ended {
-    let mut machine = Machine { functions, store: store.clone(), left: budget };
-    match machine.delivery(readings) {
-        Ok(()) => {
-            *store = machine.store;
-            Ended { number: 0, steps: budget - machine.left }
-        }
-        Err(number) => {
-            store.chain_upwards();
-            Ended { number, steps: budget - machine.left }
-        }
+    let mut machine = Machine { functions, store: store.clone(), left: budget, lowest: store.free() };
+    let number = machine.delivery(readings).err().unwrap_or(0);
+    machine.look();
+    let ended = Ended { number, lowest: machine.lowest as u64, steps: budget - machine.left };
+    if number == 0 {
+        *store = machine.store;
+    } else {
+        store.chain_upwards();
     }
+    ended
 }
 
 impl Machine<'_> {
@@ -55,7 +56,13 @@ impl Machine<'_> {
         self.tree(coded, &coded.tree, &mut names, call_depth)
     }
 
+    /// Counts the free cells: at each step, after each cell that is taken, and as the work ends.
+    fn look(&mut self) {
+        self.lowest = self.lowest.min(self.store.free());
+    }
+
     fn step(&mut self) -> Result<(), u64> {
+        self.look();
         self.left = self.left.checked_sub(1).ok_or(21u64)?;
         Ok(())
     }
@@ -107,7 +114,9 @@ impl Machine<'_> {
     }
 
     fn acquire(&mut self, depth: usize, elements: &[i64]) -> Result<i64, u64> {
-        self.store.acquire(depth as u32, elements).map(|cell| cell as i64).ok_or(25)
+        let cell = self.store.acquire(depth as u32, elements).ok_or(25u64)?;
+        self.look();
+        Ok(cell as i64)
     }
 
     /// What a pass over an element carries on, in a loop whose result has this depth.

@@ -21,7 +21,8 @@ pub struct Lent {
     pub heads: Vec<u32>,
 }
 
-/// An answer; `nodes` are those that may stand in a refusal's place for one.
+/// An answer; `nodes` are those that may stand in a refusal's place for one. A delivery that is not refused has its
+/// lowest level there, and no nodes.
 #[derive(Clone, PartialEq, Eq, Debug)]
 pub struct Answer {
     pub packed: u64,
@@ -114,7 +115,7 @@ pub fn deliver(file: &[u8], lent: &mut Lent, readings: &[i64], budget: u64) -> A
     };
     let ended = machine::deliver(&coded, &mut store, readings, budget);
     keep(lent, &store);
-    plain(ended.number, ended.steps, store.taken() as u64)
+    Answer { packed: pack(ended.number, ended.lowest, ended.steps, store.taken() as u64), nodes: Vec::new() }
 }
 
 fn keep(lent: &mut Lent, store: &Store) {

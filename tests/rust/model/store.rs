@@ -59,6 +59,10 @@ impl Store {
         self.cells.iter().filter(|cell| cell.count > 0).count()
     }
 
+    pub fn free(&self) -> usize {
+        self.cells.iter().filter(|cell| cell.count == 0).count()
+    }
+
     /// Chains all cells of count 0, lowest first.
     pub fn chain_upwards(&mut self) {
         let mut next = self.cells.len() as u32;

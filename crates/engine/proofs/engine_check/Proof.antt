@@ -21,7 +21,7 @@ returns c =
     (loaded .ensures) in
     replies-told (check-serves (a .kinds .now) (a .operands .now) (a .slots .now) (a .heads .now)) h
     (loaded .kept .1 .0) (loaded .kept .1 .1 .0) (part .result)
-    (λ fs q same. part .ensures .0 ∙ ap (λ d. checked-left d (a .slots .now) (a .heads .now)) same) (part .ensures .1)
+    (λ fs q same. (part .ensures .0 ∙ ap (λ d. checked-left d (a .slots .now) (a .heads .now)) same, part .ensures .1))
     (c .before .before .before .tell .ensures)
 
 returns-2 : tie.Need-returns-2

@@ -27,10 +27,10 @@ returns c =
     replies-told (deliver-serves (a .kinds .now) (a .operands .now) (a .slots .now) (a .heads .now) (a .readings .now)
     (a .budget)) (h .loads) (loaded .kept .1 .0) (loaded .kept .1 .1 .0) (part .result)
     (λ fs q same. let coded = h .coded node fs q (omega arith) in
-    part .ensures .0 node (a .file .now) fs
+    part .ensures node (a .file .now) fs
     (admitted-judged node node fs (a .file .now) (room (a .kinds .now) (a .operands .now)) q) (coded .0) (coded .1)
     same)
-    (part .ensures .1) (c .before .before .before .tell .ensures)
+    (c .before .before .before .tell .ensures)
 
 returns-2 : tie.Need-returns-2
 unfolding engine-deliver

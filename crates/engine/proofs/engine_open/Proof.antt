@@ -21,7 +21,7 @@ returns c =
     .before .before .before .depth .given .1) (loaded .ensures) in
     replies-told (open-serves (a .kinds .now) (a .operands .now) (a .slots .now) (a .heads .now)) h
     (loaded .kept .1 .0) (loaded .kept .1 .1 .0) (part .result)
-    (λ fs q same. part .ensures .0 ∙ ap (λ d. opened-left d (a .slots .now) (a .heads .now)) same) (part .ensures .1)
+    (λ fs q same. (part .ensures .0 ∙ ap (λ d. opened-left d (a .slots .now) (a .heads .now)) same, part .ensures .1))
     (c .before .before .before .tell .ensures)
 
 returns-2 : tie.Need-returns-2

@@ -13,7 +13,7 @@ returns c =
     let parts = c .before .before .ended .given .0 in
     subst (λ e. Tells e (a .kinds .now) (a .operands .now) (c .pack .result) (a .kinds .now) (a .operands .now))
     (sym (c .before .before .ended .given .1)) (
-      c .pack .ensures ∙ packed-number (parts .0) (parts .1 .0) (parts .1 .1 .0)
+      c .pack .ensures ∙ packed-number (parts .0) (parts .1 .0) (parts .1 .1 .0) (parts .1 .1 .1 .0)
           (omega (arith, c .before .known-told .given .0 .1)),
       (refl, refl),
     )
@@ -30,5 +30,5 @@ returns-2 c =
 pub tell-spec : {M : Type 1} → statement M
 tell-spec =
     tie.close
-    (tie.spec (λ c. search needs) (λ c. search needs) (λ c κs. search needs) (λ c. search needs)
+    (tie.spec (λ c. search needs) (λ c. search needs) (λ c. search needs) (λ c κs. search needs) (λ c. search needs)
     (λ c κs. search needs) (λ c. search needs) returns (λ c. search needs) (λ c. search needs) returns-2)

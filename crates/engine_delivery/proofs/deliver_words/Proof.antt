@@ -2,16 +2,17 @@
 use mathlib.Core.Path.{sym, _∙_}
 use borrow.Author.Needs.{needs}
 use borrow.Author.Tests.{not-true, not-false}
-use Rattle.engine_store.proofs.Laws.{taken-few}
-use Rattle.engine_delivery.proofs.Laws.{refuses-10, refuses-11, sound-fits, delivers, steps-few}
+use Rattle.store_words.proofs.Counting.{taken-few}
+use Rattle.engine_delivery.proofs.Laws.{refuses-10, refuses-11, sound-fits, delivers, lowest-few, steps-few}
 use Rattle.engine_delivery.proofs.deliver_words.Statement.{statement}
 use Rattle.engine_delivery.proofs.deliver_words.Tie as tie
 
 returns : tie.Need-returns
 returns c =
     let a = c .before .before .before .before .args in
-    let asked = c .before .request-fits in (
-      λ node file fs ok few coded same. refuses-10 fs (a .readings .now) (a .budget) (a .slots .now) (a .heads .now)
+    let asked = c .before .request-fits in
+    λ node file fs ok few coded same. (
+      refuses-10 fs (a .readings .now) (a .budget) (a .slots .now) (a .heads .now)
           (sym (asked .ensures) ∙ not-true (asked .result) (c .if1 .taken)),
       tt,
     )
@@ -21,8 +22,9 @@ returns-2 c =
     let at-request-fits = c .before .before .before .before .before in
     let a = at-request-fits .before .before .before .args in
     let asked = at-request-fits .request-fits in
-    let test = c .before .is-sound in (
-      λ node file fs ok few coded same. refuses-11 fs (a .readings .now) (a .budget) (a .slots .now) (a .heads .now)
+    let test = c .before .is-sound in
+    λ node file fs ok few coded same. (
+      refuses-11 fs (a .readings .now) (a .budget) (a .slots .now) (a .heads .now)
           (sym (asked .ensures) ∙ not-false (asked .result) (c .before .before .before .before .if1 .left)) (a .depth)
           same
           (sym (test .ensures) ∙ not-true (test .result) (c .if2 .taken)),
@@ -38,24 +40,25 @@ deliver-on-requires c κs =
 
 returns-3 : tie.Need-returns-3
 returns-3 c =
-    let a = c .before .before .before .before .before .before .before .before .before .before .before .before .before
-    .before .before .before .before .args in
-    let asked = c .before .before .before .before .before .before .before .before .before .before .before .before
-    .before .before .request-fits in
-    let request = sym (asked .ensures) ∙ not-false (asked .result)
-    (c .before .before .before .before .before .before .before .before .before .before .before .before .before .if1
-    .left) in
-    let test = c .before .before .before .before .before .before .before .before .before .before .is-sound in
-    let fine = sym (test .ensures) ∙ not-false (test .result)
-    (c .before .before .before .before .before .before .before .before .before .if2 .left) in
-    let end = c .before .before .before .before .before .before .deliver-on in (
-      λ node file fs ok few coded same. delivers node file fs ok few _ coded (a .readings .now) (a .budget)
-          (a .slots .now) (a .heads .now) (a .depth) same request fine
-          (record { slots-long = end .kept .1 .1 .1 .0; heads-long = end .kept .1 .1 .1 .1 .0 })
-          (end .ensures .store) (end .ensures .number) (end .ensures .steps) (c .cells-taken .ensures),
+    let end = c .before .before .before .before .before .before .deliver-on in
+    let at-if2 = c .before .before .before .before .before .before .before .before .before in
+    let test = at-if2 .before .is-sound in
+    let fine = sym (test .ensures) ∙ not-false (test .result) (at-if2 .if2 .left) in
+    let at-if1 = at-if2 .before .before .before .before in
+    let asked = at-if1 .before .request-fits in
+    let request = sym (asked .ensures) ∙ not-false (asked .result) (at-if1 .if1 .left) in
+    let a = at-if1 .before .before .before .before .args in
+    λ node file fs ok few coded same. (
+      delivers node file fs ok few _ coded (a .readings .now) (a .budget) (a .slots .now) (a .heads .now) (a .depth)
+          same
+          request fine (record { slots-long = end .kept .1 .1 .1 .0; heads-long = end .kept .1 .1 .1 .1 .0 })
+          (end .ensures .store) (end .ensures .number) (end .ensures .lowest) (end .ensures .steps)
+          (c .cells-taken .ensures),
       (
+        lowest-few node file fs ok few _ coded (a .readings .now) (a .budget) (a .slots .now) (a .heads .now) (a .depth)
+            same request fine (end .ensures .lowest),
         steps-few _ (a .readings .now) (a .depth) (a .budget) _ request (end .ensures .steps),
-        taken-few _ _ (c .cells-taken .result) (c .cells-taken .ensures),
+        rw (c .cells-taken .ensures) (taken-few _ _),
       ),
     )
 

@@ -2,7 +2,8 @@
 use native.Mathlib.Omega.{arith}
 use borrow.Author.Needs.{needs}
 use Rattle.laws.specs.Tests.{passed, failed}
-use Rattle.engine_store.proofs.Laws.{not-checked, checks, taken-few}
+use Rattle.store_words.proofs.Counting.{taken-few}
+use Rattle.engine_store.proofs.Laws.{not-checked, checks}
 use Rattle.engine_store.proofs.check_words.Statement.{statement}
 use Rattle.engine_store.proofs.check_words.Tie as tie
 
@@ -14,7 +15,7 @@ returns-2 c =
     let taken = c .cells-taken in (
       checks _ _ _ (taken .result) (passed (c .before .before .is-sound .ensures) (c .before .if1 .left))
           (taken .ensures),
-      (omega arith, taken-few _ _ (taken .result) (taken .ensures)),
+      (omega arith, omega arith, rw (taken .ensures) (taken-few _ _)),
     )
 
 pub check-words-spec : {M : Type 1} → statement M

@@ -2,7 +2,8 @@
 use native.Mathlib.Omega.{arith}
 use borrow.Author.Needs.{needs}
 use Rattle.laws.specs.Tests.{passed, failed}
-use Rattle.engine_store.proofs.Laws.{not-opened, opens, taken-few}
+use Rattle.store_words.proofs.Counting.{taken-few}
+use Rattle.engine_store.proofs.Laws.{not-opened, opens}
 use Rattle.engine_store.proofs.open_words.Statement.{statement}
 use Rattle.engine_store.proofs.open_words.Tie as tie
 
@@ -17,7 +18,7 @@ returns-2 c =
       opens _ _ _ (store .last .0) (store .last .1 .0) (taken .result)
           (passed (test .before .lengths-fit .ensures) (test .if1 .left))
           (record { slots-long = store .kept .0; heads-long = store .kept .1 .0 }) (store .ensures) (taken .ensures),
-      (omega arith, taken-few (store .last .0) (store .last .1 .0) (taken .result) (taken .ensures)),
+      (omega arith, omega arith, rw (taken .ensures) (taken-few _ _)),
     )
 
 pub open-words-spec : {M : Type 1} → statement M

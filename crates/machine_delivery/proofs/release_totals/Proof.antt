@@ -7,18 +7,20 @@ use Rattle.machine_delivery.proofs.release_totals.Statement.{statement}
 use Rattle.machine_delivery.proofs.release_totals.Tie as tie
 
 returns : tie.Need-returns
-returns c = release-some (c .before .before .before .before .before .before .before .before .before .args .depth) (c
-    .before .before .before .before .named-cell .result) (c .before .before .before .before .before .before .before
-    .before .before .args .old) (rw (toZ-ofZ {z = c .before .before .before .before .before .before .before .before
-    .before .args .old} (c .before .before .before .before .before .before .before .before .before .fits .old)) at
-    (c .before .before .before .before .named-cell .ensures)) (store-of (c .before .before .before .before .before
-    .before .before .before .before .args .slots .now) (c .before .before .before .before .before .before .before
-    .before .before .args .heads .now)) _ (c .before .before .before .before .before .before .before .if1 .taken) (c
-    .before .before .before .release .ensures)
+returns c =
+    let at-release = c .before .before .before in
+    let at-named-cell = at-release .before in
+    let at-if1 = at-named-cell .before .before .before in
+    let start = at-if1 .before .before in
+    let a = start .args in
+    release-some (a .depth) (at-named-cell .named-cell .result) (a .old)
+    (rw (toZ-ofZ {z = a .old} (start .fits .old)) at (at-named-cell .named-cell .ensures))
+    (store-of (a .slots .now) (a .heads .now)) _ (at-if1 .if1 .taken) (at-release .release .ensures .store)
 
 returns-2 : tie.Need-returns-2
-returns-2 c = release-none (c .before .before .args .depth) (c .before .before .args .old) (store-of (c .before
-    .before .args .slots .now) (c .before .before .args .heads .now)) (c .if1 .left)
+returns-2 c =
+    let a = c .before .before .args in
+    release-none (a .depth) (a .old) (store-of (a .slots .now) (a .heads .now)) (c .if1 .left)
 
 pub release-totals-spec : {M : Type 1} → statement M
 release-totals-spec =

@@ -1,151 +1,169 @@
 -- `machine_delivery::work_main` meets its contract.
 use mir.Facts.{toZ-ofZ}
 use native.Mathlib.Omega.{arith}
-use mathlib.Core.Path.{ap, _∙_}
-use Rattle.semantics.specs.Words.{store-of}
-use lib.IntN.{ℤ, pos}
+use Prim.Native.Nat.{ℕ}
+use mathlib.Core.Path.{_≡_, ap, _∙_}
 use mathlib.Core.List.{List}
-use lib.ListN.{replicate, length-replicate}
+use lib.IntN.{ℤ, pos}
+use lib.ListN.{length, replicate, length-replicate}
+use Rattle.semantics.specs.Words.{store-of}
 use Rattle.store_words.proofs.Puts.{totals-store}
-use Rattle.machine_positions.specs.Machine.{code}
 use Rattle.machine_lines.specs.Frames.{place, function-place}
-use Rattle.machine_positions.specs.Lengths.{bound-long}
-use Rattle.machine_positions.specs.Delivery.{released-totals}
-use Rattle.machine_delivery.proofs.Laws.{main-stops, main-goes}
+use Rattle.machine_lines.specs.Lines.{memory}
+use Rattle.machine_positions.specs.Machine.{code}
+use Rattle.machine_positions.specs.Lengths.{levelled-keeps, bound-long, tree-long}
+use Rattle.machine_positions.specs.Delivery.{released-totals, main-on}
+use Rattle.machine_delivery.proofs.Laws.{MainEnds, main-ends, main-stops, main-goes}
 use borrow.Author.Needs.{needs}
 use Rattle.machine_delivery.proofs.work_main.Statement.{statement}
 use Rattle.machine_delivery.proofs.work_main.Tie as tie
 
+-- ---- the lengths of main's frames
+
+levelled-long : (c : tie.After-set-level) → length (c .set-level .last .0) ≡ 8226
+levelled-long c =
+    let a = c .before .before .before .before .before .before .before .before .before .args in
+    ap length (c .set-level .ensures) ∙ levelled-keeps (a .free) (replicate 8226 (pos 0))
+    ∙ length-replicate 8226 (pos 0)
+
+totals-long : (c : tie.After-bind) → length (c .bind .last .0) ≡ 8226
+totals-long c =
+    let at-set-level = c .before .before in
+    let start = at-set-level .before .before .before .before .before .before .before .before .before in
+    let old = start .args .old in
+    bound-long (at-set-level .set-level .last .0) (place 31 0) old
+    (rw (toZ-ofZ {z = old} (start .fits .old)) at (c .bind .ensures)) ∙ levelled-long at-set-level
+
+readings-long : (c : tie.After-bind2) → length (c .bind2 .last .0) ≡ 8226
+readings-long c =
+    let at-bind = c .before .before in
+    let start = at-bind .before .before .before .before .before .before .before .before .before .before .before in
+    let readings = start .args .readings in
+    bound-long (at-bind .bind .last .0) (place 31 1) readings
+    (rw (toZ-ofZ {z = readings} (start .fits .readings)) at (c .bind2 .ensures)) ∙ totals-long at-bind
+
+function-long : (c : tie.After-set-function) → length (c .set-function .last .0) ≡ 8226
+function-long c =
+    let at-bind2 = c .before .before in
+    bound-long (at-bind2 .bind2 .last .0) (function-place 31) (pos 0) (c .set-function .ensures)
+    ∙ readings-long at-bind2
+
+worked-long : (c : tie.After-work-tree) → length (c .work-tree .last .1 .1 .1 .1 .1 .0) ≡ 8226
+worked-long c =
+    let at-start-in = c .before .before .before .before .before .before in
+    let at-set-function = at-start-in .before .before in
+    let at-retain-totals = at-set-function .before .before .before .before .before .before .before .before .before
+    .before in
+    let a = at-retain-totals .before .before .before .before .before .args in
+    tree-long (code (a .t1 .now) (a .t2 .now) (a .table .now)) 4096 31 (at-start-in .start-in .result) (a .budget)
+    (memory (store-of (a .slots .now) (at-retain-totals .retain-totals .last .1 .0))
+    (at-set-function .set-function .last .0)) (c .work-tree .ensures) ∙ function-long at-set-function
+
+bind-requires : tie.Need-bind-requires
+bind-requires c κs = (omega arith, levelled-long (c .before))
+
 bind-requires-2 : tie.Need-bind-requires-2
-bind-requires-2 c κs =
-    let at-fits = c .before .before .before .before .before .before .before .before .before .before .fits in
-    let a = c .before .before .before .before .before .before .before .before .before .before .args in (
-      omega
-          arith,
-      bound-long (replicate 8224 (pos 0)) (place 31 0) (a .old) (rw (toZ-ofZ {z = a .old} (at-fits .old))
-          at (c .before .bind .ensures)) ∙ length-replicate 8224 (pos 0),
-    )
+bind-requires-2 c κs = (omega arith, totals-long (c .before))
 
 set-function-requires : tie.Need-set-function-requires
-set-function-requires c κs =
-    let at-bind = c .before .before .before .bind in
-    let at-fits = c .before .before .before .before .before .before .before .before .before .before .before .before
-    .fits in
-    let a = c .before .before .before .before .before .before .before .before .before .before .before .before .args
-    in (
-      omega arith,
-      bound-long (at-bind .last .0) (place 31 1) (a .readings) (rw (toZ-ofZ {z = a .readings}
-          (at-fits .readings)) at (c .before .bind2 .ensures)) ∙ bound-long (replicate 8224 (pos 0)) (place 31 0) (a
-          .old) (rw (toZ-ofZ {z = a .old} (at-fits .old)) at (at-bind .ensures)) ∙ length-replicate 8224 (pos 0),
-    )
+set-function-requires c κs = (omega arith, readings-long (c .before))
 
 work-tree-requires : tie.Need-work-tree-requires
 work-tree-requires c κs =
-    let at-set-function = c .before .before .before .before .before .before .before .set-function in
-    let at-bind2 = c .before .before .before .before .before .before .before .before .before .bind2 in
-    let at-bind = c .before .before .before .before .before .before .before .before .before .before .before .bind in
-    let at-fits = c .before .before .before .before .before .before .before .before .before .before .before .before
-    .before .before .before .before .before .before .before .before .fits in
-    let at-good = c .before .before .before .before .before .before .before .before .before .before .before .before
-    .before .before .before .before .before .before .before .before .good in
-    let a = c .before .before .before .before .before .before .before .before .before .before .before .before
-    .before .before .before .before .before .before .before .before .args in (
+    let at-set-function = c .before .before .before .before .before .before .before in (
       omega arith,
-      bound-long
-          (at-bind2 .last .0) (function-place 31) (pos 0) (at-set-function .ensures) ∙ bound-long (at-bind .last .0)
-          (place 31 1) (a .readings) (rw (toZ-ofZ {z = a .readings} (at-fits .readings)) at (at-bind2 .ensures)) ∙
-          bound-long (replicate 8224 (pos 0)) (place 31 0) (a .old) (rw (toZ-ofZ {z = a .old} (at-fits .old)) at
-          (at-bind .ensures)) ∙ length-replicate 8224 (pos 0),
-      omega (arith, at-good .0),
+      function-long at-set-function,
+      omega (
+        arith,
+        at-set-function .before .before .before .before
+            .before .before .before .before .before .before .before .before .before .before .before .good .0,
+      ),
     )
+
+lowest-requires : tie.Need-lowest-requires
+lowest-requires c κs = worked-long (c .before .before .before .before)
+
+-- ---- what main leaves
+
+ends : (c : tie.After-lowest) →
+    let tree = c .before .before .before .before .before .work-tree in
+    let a = c .before .before .before .before .before .before .before .before .before .before .before .before .before
+    .before .before .before .before .before .before .before .before .before .before .before .before .before .before
+    .before .args in
+    (k : ℕ) → a .readings ≡ pos k →
+    MainEnds (main-on (code (a .t1 .now) (a .t2 .now) (a .table .now)) (a .depth) (a .old) k (a .free) (a .budget)
+    (store-of (a .slots .now) (a .heads .now))) (a .budget) (a .depth) (a .old) (tree .result) (c .lowest .result)
+    (store-of (tree .last .1 .1 .1 .0) (tree .last .1 .1 .1 .1 .0))
+ends c k e =
+    let at-work-tree = c .before .before .before .before .before in
+    let at-start-in = at-work-tree .before .before .before .before .before .before in
+    let at-set-function = at-start-in .before .before in
+    let at-bind2 = at-set-function .before .before in
+    let at-bind = at-bind2 .before .before in
+    let at-set-level = at-bind .before .before in
+    let at-retain-totals = at-set-level .before .before .before .before in
+    let start = at-retain-totals .before .before .before .before .before in
+    let a = start .args in
+    let old = toZ-ofZ {z = a .old} (start .fits .old) in
+    let retained = at-retain-totals .retain-totals in
+    let tree = at-work-tree .work-tree in
+    main-ends (code (a .t1 .now) (a .t2 .now) (a .table .now)) (a .depth) (a .old) k (a .free) (a .budget)
+    (a .slots .now) (a .heads .now) (retained .last .1 .0) (rw old at (retained .ensures)) (a .readings) e
+    (at-set-level .set-level .last .0) (at-bind .bind .last .0) (at-bind2 .bind2 .last .0)
+    (at-set-function .set-function .last .0) (at-set-level .set-level .ensures) (rw old at (at-bind .bind .ensures))
+    (rw (toZ-ofZ {z = a .readings} (start .fits .readings)) at (at-bind2 .bind2 .ensures))
+    (at-set-function .set-function .ensures) (at-start-in .start-in .result) (at-start-in .start-in .ensures)
+    (tree .result) (tree .last .1 .1 .1 .0) (tree .last .1 .1 .1 .1 .0) (tree .last .1 .1 .1 .1 .1 .0) (tree .ensures)
+    (c .lowest .result) (c .lowest .ensures .0)
+
+same-length-2 : tie.Need-same-length-2
+same-length-2 c =
+    let at-release-totals = c .before .before .before in
+    let at-work-tree = at-release-totals .before .before .before .before .before .before .before .before .before
+    .before .before .before .before in
+    let at-retain-totals = at-work-tree .before .before .before .before .before .before .before .before .before
+    .before .before .before .before .before .before .before .before .before in
+    at-release-totals .release-totals .kept .1 .0 ∙ at-work-tree .work-tree .kept .1 .1 .1 .1 .0
+    ∙ at-retain-totals .retain-totals .kept .1 .0
 
 returns : tie.Need-returns
 returns c =
-    let at-start-in = c .before .before .before .before .before .before .before .before .before .before .start-in in
-    let at-set-function = c .before .before .before .before .before .before .before .before .before .before .before
-    .before .set-function in
-    let at-bind2 = c .before .before .before .before .before .before .before .before .before .before .before
-    .before .before .before .bind2 in
-    let at-bind = c .before .before .before .before .before .before .before .before .before .before .before .before
-    .before .before .before .before .bind in
-    let at-retain-totals = c .before .before .before .before .before .before .before .before .before .before
-    .before .before .before .before .before .before .before .before .before .before .retain-totals in
-    let given-args = c .before .before .before .before .before .before .before .before .before .before .before
-    .before .before .before .before .before .before .before .before .before .before .before .before .before
-    .before .args in
-    let at-fits = c .before .before .before .before .before .before .before .before .before .before .before .before
-    .before .before .before .before .before .before .before .before .before .before .before .before .before
-    .fits in
-    λ k e. let a = given-args in let old = toZ-ofZ {z = a .old} (at-fits .old) in let tree = c .before .before
-    .before .before .work-tree in main-stops (code (a .t1 .now) (a .t2 .now) (a .table .now)) (a .depth) (a
-    .old) k (a .budget) (a .slots .now) (a .heads .now) (at-retain-totals .last .1 .0) (rw old at
-    (at-retain-totals .ensures)) (a .readings) e (at-bind .last .0) (at-bind2 .last .0) (at-set-function .last
-    .0) (rw old at (at-bind .ensures)) (rw (toZ-ofZ {z = a .readings} (at-fits .readings)) at (at-bind2
-    .ensures)) (at-set-function .ensures) (at-start-in .result) (at-start-in .ensures) (tree .result) (tree
-    .last .1 .1 .1 .0) (tree .last .1 .1 .1 .1 .0) (tree .last .1 .1 .1 .1 .1 .0) (tree .ensures) (c .if1 .taken)
+    let at-release-totals = c .before .before .before in
+    let at-set-totals = at-release-totals .before .before .before .before in
+    let at-struct-told = at-set-totals .before .before in
+    let at-if1 = at-struct-told .before in
+    let at-lowest = at-if1 .before in
+    let at-work-tree = at-lowest .before .before .before .before .before in
+    let start = at-work-tree .before .before .before .before .before .before .before .before .before .before .before
+    .before .before .before .before .before .before .before .before .before .before .before .before in
+    let a = start .args in
+    let tree = at-work-tree .work-tree in
+    let slots = tree .last .1 .1 .1 .0 in
+    let heads = tree .last .1 .1 .1 .1 .0 in
+    let released = at-release-totals .release-totals in
+    λ k e. main-goes slots heads (ends at-lowest k e) (at-if1 .if1 .taken) (released .last .0) (released .last .1 .0)
+    (rw (toZ-ofZ {z = a .old} (start .fits .old)) at (released .ensures)
+    ∙ ap (released-totals (a .depth) (a .old)) (ap (λ (l : List ℤ). store-of l heads)
+    (rw (toZ-ofZ {z = tree .result .value} (record { sfits = at-struct-told .struct-told .given .1 .0 .1 }))
+    at (at-set-totals .set-totals .ensures))
+    ∙ totals-store slots heads (tree .result .value) (omega (arith, start .pre, tree .kept .1 .1 .1 .0))))
 
 same-length-4 : tie.Need-same-length-4
 same-length-4 c =
-    let at-work-tree = c .before .before .before .before .before .before .before .before .before .before .before
-    .before .before .before .work-tree in
-    let at-retain-totals = c .before .before .before .before .before .before .before .before .before .before
-    .before .before .before .before .before .before .before .before .before .before .before .before .before
-    .before .before .before .before .before .before .before .retain-totals in
-    c .before .before .before .release-totals .kept .1 .0 ∙ at-work-tree .kept .1 .1 .1 .1 .0 ∙ at-retain-totals
+    let at-work-tree = c .before .before .before .before .before .before in
+    at-work-tree .work-tree .kept .1 .1 .1 .1 .0 ∙ at-work-tree .before .before .before .before .before .before
+    .before .before .before .before .before .before .before .before .before .before .before .before .retain-totals
     .kept .1 .0
 
 returns-2 : tie.Need-returns-2
 returns-2 c =
-    let at-release-totals = c .before .before .before .release-totals in
-    let at-set-totals = c .before .before .before .before .before .before .before .set-totals in
-    let at-struct-told = c .before .before .before .before .before .before .before .before .before .struct-told in
-    let at-if1 = c .before .before .before .before .before .before .before .before .before .before .if1 in
-    let at-work-tree = c .before .before .before .before .before .before .before .before .before .before .before
-    .before .before .before .work-tree in
-    let at-start-in = c .before .before .before .before .before .before .before .before .before .before .before
-    .before .before .before .before .before .before .before .before .before .start-in in
-    let at-set-function = c .before .before .before .before .before .before .before .before .before .before .before
-    .before .before .before .before .before .before .before .before .before .before .before .set-function in
-    let at-bind2 = c .before .before .before .before .before .before .before .before .before .before .before
-    .before .before .before .before .before .before .before .before .before .before .before .before .before
-    .bind2 in
-    let at-bind = c .before .before .before .before .before .before .before .before .before .before .before .before
-    .before .before .before .before .before .before .before .before .before .before .before .before .before
-    .before .bind in
-    let at-retain-totals = c .before .before .before .before .before .before .before .before .before .before
-    .before .before .before .before .before .before .before .before .before .before .before .before .before
-    .before .before .before .before .before .before .before .retain-totals in
-    let given-args = c .before .before .before .before .before .before .before .before .before .before .before
-    .before .before .before .before .before .before .before .before .before .before .before .before .before
-    .before .before .before .before .before .before .before .before .before .before .before .args in
-    let at-fits = c .before .before .before .before .before .before .before .before .before .before .before .before
-    .before .before .before .before .before .before .before .before .before .before .before .before .before
-    .before .before .before .before .before .before .before .before .before .before .fits in
-    let at-pre = c .before .before .before .before .before .before .before .before .before .before .before .before
-    .before .before .before .before .before .before .before .before .before .before .before .before .before
-    .before .before .before .before .before .before .before .before .before .before .pre in
-    λ k e. let a = given-args in let old = toZ-ofZ {z = a .old} (at-fits .old) in let tree = at-work-tree in
-    main-goes (code (a .t1 .now) (a .t2 .now) (a .table .now)) (a .depth) (a .old) k (a .budget) (a .slots
-    .now) (a .heads .now) (at-retain-totals .last .1 .0) (rw old at (at-retain-totals .ensures)) (a .readings)
-    e (at-bind .last .0) (at-bind2 .last .0) (at-set-function .last .0) (rw old at (at-bind .ensures)) (rw
-    (toZ-ofZ {z = a .readings} (at-fits .readings)) at (at-bind2 .ensures)) (at-set-function .ensures)
-    (at-start-in .result) (at-start-in .ensures) (tree .result) (tree .last .1 .1 .1 .0) (tree .last .1 .1 .1
-    .1 .0) (tree .last .1 .1 .1 .1 .1 .0) (tree .ensures) (at-if1 .left) (at-release-totals .last .0)
-    (at-release-totals .last .1 .0) (rw old at (at-release-totals .ensures) ∙ ap (released-totals (a .depth) (a
-    .old)) (ap (λ (l : List ℤ). store-of l (tree .last .1 .1 .1 .1 .0)) (rw (toZ-ofZ {z = tree .result .value}
-    (record { sfits = at-struct-told .given .1 .0 .1 })) at (at-set-totals .ensures)) ∙ totals-store (tree
-    .last .1 .1 .1 .0) (tree .last .1 .1 .1 .1 .0) (tree .result .value) (omega (
-      arith,
-      at-pre,
-      tree .kept .1
-          .1 .1 .0,
-    ))))
+    let at-lowest = c .before in
+    let tree = at-lowest .before .before .before .before .before .work-tree in
+    λ k e. main-stops (tree .last .1 .1 .1 .0) (tree .last .1 .1 .1 .1 .0) (ends at-lowest k e) (c .if1 .left)
 
 pub work-main-spec : {M : Type 1} → statement M
 work-main-spec =
     tie.close
-    (tie.spec (λ c κs. search needs) (λ c κs. search needs) bind-requires-2 set-function-requires (λ c κs. search
-    needs)
-    work-tree-requires
-    (λ c. search needs) (λ c. search needs) returns (λ c κs. search needs) (λ c κs. search needs) (λ c. search needs)
-    same-length-4 returns-2)
+    (tie.spec (λ c κs. search needs) (λ c κs. search needs) bind-requires bind-requires-2 set-function-requires
+    (λ c κs. search needs) work-tree-requires lowest-requires (λ c κs. search needs) (λ c κs. search needs)
+    (λ c. search needs) same-length-2 returns (λ c. search needs) same-length-4 returns-2)

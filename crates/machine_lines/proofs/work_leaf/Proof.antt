@@ -82,17 +82,23 @@ returns-7 c =
 
 returns-8 : tie.Need-returns-8
 returns-8 c =
-    let at-release = c .before .before .before .before in
+    let at-raise-level = c .before in
+    let at-release = at-raise-level .before .before .before .before .before in
     let at-named-cell = at-release .before .before .before in
     let at-word-of = at-named-cell .before in
     let at-l = at-word-of .before .before .before in
     let a = at-l .before .before .before .before .before .args in
     let word = at-word-of .word-of2 in
     let cell = at-named-cell .named-cell2 in
+    let freed = at-release .release in
     leaf-release (a .kinds .now) (a .operands .now) (a .table .now) (a .calls) (a .at) (a .steps)
     (memory (store-of (a .slots .now) (a .heads .now)) (a .env .now)) (a .l) (at-l .l8 .given .0 .0) (word .result)
     (word .ensures) (cell .result) (rw (toZ-ofZ {z = word .result} (record { sfits = word .ok })) at (cell .ensures)) _
-    (c .done2 .result) (c .done2 .ensures) (at-l .l8 .given .1) (at-release .release .ensures)
+    (c .done2 .result) (c .done2 .ensures) (at-l .l8 .given .1) (freed .result) (freed .ensures)
+    (at-raise-level .raise-level .last .0) (at-raise-level .raise-level .ensures)
+
+raise-level-requires : tie.Need-raise-level-requires
+raise-level-requires c κs = (c .before .before .before .before .release .ensures .few, search needs)
 
 returns-9 : tie.Need-returns-9
 returns-9 c =
@@ -109,8 +115,8 @@ work-leaf-spec =
     (λ c. search needs) (λ c κs. search needs) (λ c. search needs) (λ c. search needs) (λ c κs. search needs)
     (λ c. search needs) (λ c. search needs) (λ c κs. search needs) (λ c. search needs) (λ c κs. search needs)
     (λ c κs. search needs) (λ c κs. search needs) (λ c. search needs) (λ c κs. search needs) (λ c. search needs)
-    (λ c κs. search needs) (λ c κs. search needs) (λ c κs. search needs) (λ c. search needs) (λ c κs. search needs)
-    (λ c κs. search needs) returns (λ c. search needs) (λ c. search needs) returns-2 (λ c. search needs)
-    (λ c. search needs) returns-3 (λ c. search needs) (λ c. search needs) returns-4 (λ c. search needs)
-    (λ c. search needs) returns-5 (λ c. search needs) (λ c. search needs) returns-6 (λ c. search needs)
-    (λ c. search needs) returns-7 (λ c. search needs) (λ c. search needs) returns-8 returns-9)
+    (λ c κs. search needs) (λ c κs. search needs) (λ c κs. search needs) raise-level-requires (λ c. search needs)
+    (λ c κs. search needs) (λ c κs. search needs) returns (λ c. search needs) (λ c. search needs) returns-2
+    (λ c. search needs) (λ c. search needs) returns-3 (λ c. search needs) (λ c. search needs) returns-4
+    (λ c. search needs) (λ c. search needs) returns-5 (λ c. search needs) (λ c. search needs) returns-6
+    (λ c. search needs) (λ c. search needs) returns-7 (λ c. search needs) (λ c. search needs) returns-8 returns-9)

@@ -5,7 +5,7 @@ use borrow.Author.Needs.{needs}
 use Rattle.semantics.specs.Store.{cell-of}
 use Rattle.semantics.specs.Words.{store-of}
 use Rattle.machine_lines.specs.Frames.{word-of, element-depth}
-use Rattle.machine_lines.specs.Lines.{kind-of, first-name, second-name}
+use Rattle.machine_lines.specs.Lines.{memory, kind-of, first-name, second-name}
 use Rattle.machine_loops.specs.Loops.{Carries}
 use Rattle.machine_loops.proofs.Beginning.{words, array-word, readied, dry-begun}
 use Rattle.machine_loops.proofs.begin_loop.Statement.{statement}
@@ -16,12 +16,12 @@ returns c =
     let at-known-told = c .before in
     let at-carried = at-known-told .before in
     let at-carry-first = at-carried .before .before .before .before .before in
-    let at-element-depth = at-carry-first .before .before .before in
-    let at-read-length = at-element-depth .before in
+    let at-element-depth = at-carry-first .before .before .before .before in
+    let at-read-length = at-element-depth .before .before in
     let at-named-cell = at-read-length .before .before .before in
     let at-word-of = at-named-cell .before in
     let at-array-of = at-word-of .before in
-    let at-second-name = at-array-of .before in
+    let at-second-name = at-array-of .before .before in
     let at-first-name = at-second-name .before in
     let a = at-first-name .before .before .before .args in
     let k = kind-of (a .l) in
@@ -34,30 +34,31 @@ returns c =
     rw (toZ-ofZ {z = carried .0 .0} (record { sfits = at-known-told .known-told .given .0 .1 }))
     (readied k (first-name (a .l)) (second-name (a .l))
     (element-depth (a .table .now) (a .calls) (a .x) (a .env .now)) ws (a .slots .now) (first .last .0) (a .heads .now)
-    (first .last .1 .0) (first .kept .0) (first .kept .1 .0)
+    (first .last .1 .0) (a .env .now) (first .last .1 .1 .0) (first .kept .0) (first .kept .1 .0)
     (depth .result) (depth .ensures) _ (c .way-of .ensures) (at-first-name .first-name .ensures)
     (at-second-name .second-name .ensures)
     ((rw (toZ-ofZ {z = word .result} (record { sfits = word .ok })) at (cell .ensures))
     ∙ ap cell-of (word .ensures ∙ ap (word-of (a .calls) (a .env .now)) (at-array-of .array-of .ensures)
     ∙ array-word (a .calls) (a .env .now) (a .l))) (at-read-length .read-length .ensures)
-    (subst (Carries k (depth .result) ws (store-of (a .slots .now) (a .heads .now)) (first .last .0)
-    (first .last .1 .0)) (carried .1) (first .ensures)))
+    (subst (Carries k (depth .result) ws (memory (store-of (a .slots .now) (a .heads .now)) (a .env .now))
+    (first .last .0) (first .last .1 .0) (first .last .1 .1 .0)) (carried .1) (first .ensures)))
 
 returns-2 : tie.Need-returns-2
 returns-2 c =
     let at-carry-first = c .before .before .before .before .before in
-    let at-element-depth = at-carry-first .before .before .before in
-    let at-first-name = at-element-depth .before .before .before .before .before .before .before .before in
+    let at-element-depth = at-carry-first .before .before .before .before in
+    let at-first-name = at-element-depth .before .before .before .before .before .before .before .before .before
+    .before in
     let a = at-first-name .before .before .before .args in
     let k = kind-of (a .l) in
     let ws = words (a .calls) (a .env .now) (a .l) (a .l) in
     let depth = at-element-depth .element-depth in
     let first = at-carry-first .carry-first in
     dry-begun k (first-name (a .l)) (second-name (a .l)) (element-depth (a .table .now) (a .calls) (a .x) (a .env .now))
-    ws (a .slots .now) (first .last .0) (a .heads .now) (first .last .1 .0) (first .kept .0) (first .kept .1 .0)
-    (depth .result) (depth .ensures)
-    (subst (Carries k (depth .result) ws (store-of (a .slots .now) (a .heads .now)) (first .last .0)
-    (first .last .1 .0)) (c .enum-told .given .1) (first .ensures))
+    ws (a .slots .now) (first .last .0) (a .heads .now) (first .last .1 .0) (a .env .now) (first .last .1 .1 .0)
+    (first .kept .0) (first .kept .1 .0) (depth .result) (depth .ensures)
+    (subst (Carries k (depth .result) ws (memory (store-of (a .slots .now) (a .heads .now)) (a .env .now))
+    (first .last .0) (first .last .1 .0) (first .last .1 .1 .0)) (c .enum-told .given .1) (first .ensures))
 
 pub begin-loop-spec : {M : Type 1} → statement M
 begin-loop-spec =

@@ -11,7 +11,7 @@ use Rattle.machine_loops.proofs.carry_first.Tie as tie
 
 returns : tie.Need-returns
 returns c =
-    let at-l = c .before .before in
+    let at-l = c .before .before .before in
     let a = at-l .before .before .before .args in
     let read = at-l .l .given in
     rw (toZ-ofZ {z = c .word-of .result} (record { sfits = c .word-of .ok }))
@@ -20,45 +20,53 @@ returns c =
 
 -- the cell that was acquired
 inside : (c : tie.After-c) →
-    let a = c .before .before .before .before .before .before .before .before .before .before .args in
+    let a = c .before .before .before .before .before .before .before .before .before .before .before .before .args in
     Within (a .slots .now) (a .heads .now) (c .c .given .0 .0)
 inside c =
     let at-acquire-empty = c .before .before .before .before .before in
-    let a = at-acquire-empty .before .before .before .before .before .args in
+    let at-level = at-acquire-empty .before in
+    let a = at-level .before .before .before .before .before .before .args in
     let taken = at-acquire-empty .acquire-empty in
-    cell-within (a .slots .now) (a .heads .now) (taken .result) (c .c .given .0 .0) (taken .ensures .0) (c .c .given .1)
+    cell-within (a .slots .now) (a .heads .now) (at-level .level .result) (taken .result) (c .c .given .0 .0)
+    (c .c .given .0 .1 .0) (taken .ensures .0) (c .c .given .1)
 
 word-from-requires : tie.Need-word-from-requires
-word-from-requires c κs = omega (arith, inside (c .before) .0)
+word-from-requires c κs = omega (arith, inside (c .before .before .before) .0)
 
 returns-2 : tie.Need-returns-2
 returns-2 c =
-    let at-c = c .before .before in
+    let noted = c .before .note-level in
+    let at-c = c .before .before .before .before in
     let at-acquire-empty = at-c .before .before .before .before .before in
-    let at-match = at-acquire-empty .before .before .before in
+    let at-level = at-acquire-empty .before in
+    let at-match = at-level .before .before .before .before in
     let a = at-match .before .before .args in
     let taken = at-acquire-empty .acquire-empty in
+    let read = at-c .c .given in
     let number = c .word-from in
     rw (toZ-ofZ {z = number .result} (record { sfits = number .ok }))
     (cell-carried (a .l) (at-match .match .keys2) (a .depth) (words (a .calls) (a .env .now) (a .l) (a .l))
-    (store-of (a .slots .now) (a .heads .now)) (taken .last .0) (taken .last .1 .0) (taken .result) (taken .ensures .0)
-    (taken .ensures .1) (at-c .c .given .0 .0) (at-c .c .given .1)
-    (within-kept (a .slots .now) (taken .last .0) (a .heads .now) (taken .last .1 .0) (at-c .c .given .0 .0)
+    (store-of (a .slots .now) (a .heads .now)) (a .env .now) (at-level .level .result) (at-level .level .ensures .0)
+    (taken .last .0) (taken .last .1 .0) (taken .result) (taken .ensures .0) (taken .ensures .1) (read .0 .0)
+    (read .0 .1 .0) (read .1) (noted .last .0) (noted .ensures)
+    (within-kept (a .slots .now) (taken .last .0) (a .heads .now) (taken .last .1 .0) (read .0 .0)
     (taken .kept .0) (taken .kept .1 .0) (inside at-c)) (number .result) (number .ensures))
 
 returns-3 : tie.Need-returns-3
 returns-3 c =
     let at-acquire-empty = c .before .before .before .before .before in
-    let at-match = at-acquire-empty .before .before .before in
+    let at-level = at-acquire-empty .before in
+    let at-match = at-level .before .before .before .before in
     let a = at-match .before .before .args in
     let taken = at-acquire-empty .acquire-empty in
     none-carried (a .l) (at-match .match .keys2) (a .depth) (words (a .calls) (a .env .now) (a .l) (a .l))
-    (store-of (a .slots .now) (a .heads .now)) (taken .last .0) (taken .last .1 .0) (taken .result) (taken .ensures .0)
-    (taken .ensures .1) (c .enum-told .given .1)
+    (store-of (a .slots .now) (a .heads .now)) (a .env .now) (at-level .level .result) (at-level .level .ensures .0)
+    (taken .last .0) (taken .last .1 .0) (taken .result) (taken .ensures .0) (taken .ensures .1)
+    (c .enum-told .given .1)
 
 pub carry-first-spec : {M : Type 1} → statement M
 carry-first-spec =
     tie.close
-    (tie.spec (λ c. search needs) (λ c κs. search needs) returns (λ c κs. search needs) (λ c. search needs)
-    word-from-requires (λ c. search needs) (λ c. search needs) (λ c. search needs) returns-2 (λ c. search needs)
-    (λ c. search needs) returns-3)
+    (tie.spec (λ c. search needs) (λ c κs. search needs) returns (λ c κs. search needs) (λ c κs. search needs)
+    (λ c. search needs) (λ c κs. search needs) word-from-requires (λ c. search needs) (λ c. search needs)
+    (λ c. search needs) returns-2 (λ c. search needs) (λ c. search needs) returns-3)

@@ -19,6 +19,7 @@ use Rattle.semantics.specs.Demands.{value-of, touched, replayed, OutOfCells}
 use Rattle.semantics.specs.Basics.{_∈_}
 use Rattle.laws.specs.Tests.{say-and}
 use Rattle.laws.specs.Lists.{_⊆_}
+use Rattle.laws.specs.Levels.{acquire-no-higher}
 use Rattle.soundness.specs.store.Invariant.{Invariant, Keeps, StandsFor}
 use Rattle.soundness.specs.store.Counting.{append-cases, in-append-left, in-append-right}
 use Rattle.soundness.specs.store.Kept.{reached, reached-more, keeps-fewer}
@@ -72,7 +73,8 @@ pub acquire-together : {start : Start} {s : State} {m : Meter} (d : ℕ) (ws : L
     Takes (s .store) (acquired d ws (s .store)) → Together start s m → Together start (after-acquire d ws s) m
 unfolding touched replayed
 acquire-together {s = s} d ws taken t =
-    with-store-together (acquired d ws (s .store)) (acquires (s .store .first) ∷ []) refl
+    with-store-together (acquired d ws (s .store)) (acquires (s .store .first) ∷ [])
+    (acquire-no-higher (s .store .first)) refl
     (rw (taken .free, eq-eqb (s .store .first) (s .store .first) refl) refl) (taken .cells) t
 
 -- a cell is acquired, which the last step's node wants
@@ -91,7 +93,12 @@ module _ {start : Start} {A B : Type 0} {Q : A → State → B → Meter → Typ
       go false e = dry {p = g m} record {
         none-free = e;
         in-use = out e;
-        clean = record { untouched = t .clean .untouched; replays = t .clean .replays; cells = t .clean .cells };
+        clean = record {
+          untouched = t .clean .untouched;
+          replays = t .clean .replays;
+          cells = t .clean .cells;
+          levels = t .clean .levels;
+        };
         wanted = grows .later m (start .budget - s .left) wants;
       }
 

@@ -12,12 +12,14 @@ use borrow.Author.Tests.{eq-eqb}
 use Rattle.semantics.specs.Outcome.{Outcome, done, stop, Run, onward, require}
 use Rattle.semantics.specs.Meaning.{Meter, step-wants, meter-of}
 use Rattle.semantics.specs.Meaning as Meaning
-use Rattle.semantics.specs.Machine.{Event, State, with-store, with-left}
+use Rattle.semantics.specs.Machine.{Event, State, with-store, with-left, level-after}
 use Rattle.semantics.specs.Machine as Machine
 use Rattle.semantics.specs.Store.{Store, cell-count, has-free}
 use Rattle.semantics.specs.Sound.{free-list}
 use Rattle.semantics.specs.Demands.{touched, replayed, OutOfCells}
+use Rattle.laws.specs.Levels.{LevelsUpTo, up-to-append, up-to-last, NoHigher}
 use Rattle.soundness.specs.store.Release.{untouched-append, replayed-append}
+use Rattle.soundness.specs.store.LowestLevel.{free-list-length, level-replayed}
 use Rattle.soundness.specs.machine.Growth.{Grows, onward-grows}
 
 -- where a delivery began, and whether its code holds nothing but what is live
@@ -26,11 +28,13 @@ pub record Start : Type 0 where
   pub store : Store
   pub frugal : Bool
 
--- No free cell was touched, and the log alone leads from the free list at the start to the one of now.
+-- No free cell was touched, and the log alone leads from the free list at the start to the one of now; over it there
+-- were never more free cells than cells.
 pub record Clean (start : Start) (s : State) : Type 0 where
   pub untouched : touched (s .log) ≡ []
   pub replays : some (free-list (s .store)) ≡ replayed (s .log) (some (free-list (start .store)))
   pub cells : cell-count (s .store) ≡ cell-count (start .store)
+  pub levels : LevelsUpTo (cell-count (start .store)) (s .log) (length (free-list (start .store)))
 
 -- The machine and the meter at one point: the same steps left, the trace one entry for each step taken.
 pub record Together (start : Start) (s : State) (m : Meter) : Type 0 where
@@ -136,7 +140,12 @@ step-agrees {start} {s} {m} wants t =
       together = record {
         left = refl;
         metered = omega (arith, t .metered, e);
-        clean = record { untouched = t .clean .untouched; replays = t .clean .replays; cells = t .clean .cells };
+        clean = record {
+          untouched = t .clean .untouched;
+          replays = t .clean .replays;
+          cells = t .clean .cells;
+          levels = t .clean .levels;
+        };
       };
       store = refl;
       wanted = λ h. rw h (wants-now (start .budget - n) (m .trace) (omega (arith, t .metered, e)));
@@ -167,13 +176,19 @@ after-test k f g false false e stops t next = same {k = k} record {
 
 -- ---- the log
 
+-- the level after the log is the length of the free list of now
+level-now : {start : Start} {s : State} → Clean start s →
+    level-after (s .log) (length (free-list (start .store))) ≡ length (free-list (s .store))
+level-now {start} {s} c =
+    level-replayed (s .log) (free-list (start .store)) (free-list (s .store)) (sym (c .replays))
+
 -- the store changes by clean events
 pub with-store-together : {start : Start} {s : State} {m : Meter} (σ : Store) (events : List Event) →
-    touched events ≡ [] → some (free-list σ) ≡ replayed events (some (free-list (s .store))) →
+    NoHigher events → touched events ≡ [] → some (free-list σ) ≡ replayed events (some (free-list (s .store))) →
     cell-count σ ≡ cell-count (s .store) →
     Together start s m → Together start (with-store s σ events) m
 unfolding with-store
-with-store-together {start} {s} σ events e f g t = record {
+with-store-together {start} {s} σ events h e f g t = record {
   left = t .left;
   metered = t .metered;
   clean = record {
@@ -181,5 +196,26 @@ with-store-together {start} {s} σ events e f g t = record {
     replays = f ∙ ap (replayed events) (t .clean .replays)
         ∙ sym (replayed-append (s .log) events (some (free-list (start .store))));
     cells = g ∙ t .clean .cells;
+    levels = up-to-append N (s .log) events n (t .clean .levels)
+        (h .up-to N now (up-to-last N (s .log) n (t .clean .levels)) below);
   };
 }
+  where
+    N : ℕ
+    N = cell-count (start .store)
+
+    n : ℕ
+    n = length (free-list (start .store))
+
+    now : ℕ
+    now = level-after (s .log) n
+
+    below : level-after events now ≤ N
+    below = omega (
+      arith,
+      ap (level-after events) (level-now (t .clean)),
+      level-replayed events (free-list (s .store)) (free-list σ) (sym f),
+      free-list-length σ,
+      g,
+      t .clean .cells,
+    )

@@ -27,6 +27,7 @@ use Rattle.soundness.specs.store.Acquire.{Acquires, none-left}
 use Rattle.soundness.specs.store.Acquire as Store-acquire
 use Rattle.soundness.specs.normal.Running.{running-is-meaning}
 use Rattle.soundness.specs.normal.Plain.{running}
+use Rattle.soundness.specs.store.LowestLevel.{free-list-length}
 use Rattle.soundness.specs.machine.Images.{one-more}
 use Rattle.soundness.specs.machine.Agreement.{Start, Clean, Together, SameStop, Agree, both, same, dry}
 use Rattle.soundness.specs.machine.Frames.{Room, Returned, Arguments, none, more, named-all}
@@ -98,7 +99,7 @@ module _ (p : Program) (disciplined : ProgramDisciplined p) (careful : Bool)
   begun = record {
     left = refl;
     metered = omega arith;
-    clean = record { untouched = refl; replays = refl; cells = refl };
+    clean = record { untouched = refl; replays = refl; cells = refl; levels = free-list-length σ };
   }
 
   -- no cell is free for the readings
@@ -110,7 +111,7 @@ module _ (p : Program) (disciplined : ProgramDisciplined p) (careful : Bool)
     all-taken = λ c h. none-left (rests .holds) e c h;
     in-use = λ c h. reached (rests .holds) c h;
   })
-      (record { untouched = refl; replays = refl; cells = refl })
+      (record { untouched = refl; replays = refl; cells = refl; levels = free-list-length σ })
       (let none-taken : 0 ≡ budget - budget = omega arith in
       subst (λ (k : ℕ). wants-cell k meant ≡ true) none-taken refl)
 

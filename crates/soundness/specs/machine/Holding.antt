@@ -10,6 +10,7 @@ use Rattle.semantics.specs.Code.{retain, release}
 use Rattle.semantics.specs.Meaning.{Env}
 use Rattle.semantics.specs.Machine.{Frame, with-store, release-events, work-line, retain-word, release-word}
 use Rattle.semantics.specs.Store.{Store, cell, cell-of, retained, released, deepest}
+use Rattle.laws.specs.Levels.{release-no-higher}
 use Rattle.soundness.specs.normal.Plain.{run-line}
 use Rattle.soundness.specs.store.Invariant.{Invariant, Keeps, StandsFor}
 use Rattle.soundness.specs.store.Counting.{in-append-left, in-append-right, append-cases}
@@ -88,7 +89,8 @@ module _ (C : Setting) where
   pub line-release : (x : ℕ) → LineClaim C (release x)
   unfolding work-line run-line onward release-word with-store line-adds holds-after
   line-release x B T A H P Δ rules Z F R ρ δ n s m t S need = both record {
-    together = with-store-together (released deepest c σ) (release-events deepest c σ) (r .untouched) (r .replays)
+    together = with-store-together (released deepest c σ) (release-events deepest c σ)
+        (release-no-higher deepest c σ) (r .untouched) (r .replays)
         (r .cells) t;
     situation = record {
       invariant = r .holds;

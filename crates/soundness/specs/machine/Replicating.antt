@@ -24,6 +24,7 @@ use Rattle.semantics.specs.Store.{Store, cell, cell-count, cell-of, has-free, a
 use Rattle.semantics.specs.Sound.{free-list}
 use Rattle.semantics.specs.Demands.{value-of, touched, replayed}
 use Rattle.laws.specs.Lists.{occurs-first}
+use Rattle.laws.specs.Levels.{touching-no-higher}
 use Rattle.soundness.specs.normal.Plain.{value}
 use Rattle.soundness.specs.store.Invariant.{Invariant, Alike, StandsFor}
 use Rattle.soundness.specs.store.Tabulate.{map-replicate}
@@ -130,7 +131,7 @@ module _ (start : Start) (Z R : List ℕ) (m : Meter) (σ : Store) (d : ℕ) (ws
       counted = omega (arith, occurs-first u (List.replicate n u ++ R));
       alike = λ q. alike-trans (o .alike q) (r .alike q);
       together = with-store-together (retained u (s .store)) (touching (s .store) u)
-          (rw (untouched (s .store) u off-list) refl)
+          (touching-no-higher (s .store) u) (rw (untouched (s .store) u off-list) refl)
           (rw (untouched (s .store) u off-list) (ap some same-list)) same-count (o .together);
     }
 

@@ -11,6 +11,7 @@ use Rattle.semantics.specs.Store.{Store, cell, cell-of, cell-count, named-by}
 use Rattle.semantics.specs.Sound.{free-list}
 use Rattle.semantics.specs.Demands.{touched, replayed}
 use Rattle.laws.specs.Lists.{_≈_, occurrences-append}
+use Rattle.laws.specs.Levels.{touching-no-higher}
 use Rattle.soundness.specs.store.Invariant.{Invariant}
 use Rattle.soundness.specs.store.Change.{touch}
 use Rattle.soundness.specs.machine.Images.{image-fewer, one-more}
@@ -86,4 +87,5 @@ pub touch-together : {start : Start} {s : State} {m : Meter} {Z R : List ℕ} (c
     Together start (with-store s τ (touching (s .store) c)) m
 unfolding touched replayed
 touch-together {s = s} c τ v used e g t =
-    with-store-together τ (touching (s .store) c) (rw (touch v c used) refl) (rw (touch v c used) (ap some e)) g t
+    with-store-together τ (touching (s .store) c) (touching-no-higher (s .store) c)
+    (rw (touch v c used) refl) (rw (touch v c used) (ap some e)) g t

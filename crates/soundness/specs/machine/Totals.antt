@@ -13,6 +13,7 @@ use Rattle.semantics.specs.Machine.{State, Work, release-events, with-store, re
 use Rattle.semantics.specs.Machine.{if-array}
 use Rattle.semantics.specs.Store.{Store, cell-of, named-by, with-totals, released, deepest}
 use Rattle.semantics.specs.Demands.{value-of, touched, replayed}
+use Rattle.laws.specs.Levels.{none-higher, release-no-higher}
 use Rattle.soundness.specs.store.Invariant.{Invariant, StandsFor}
 use Rattle.soundness.specs.store.Counting.{in-append-left}
 use Rattle.soundness.specs.store.Change.{permute, held-used}
@@ -69,7 +70,8 @@ unfolding with-store
 finished zero old w tog inv totals stands = settled w totals tog inv stands
 finished {start} {s} {v} {m} (suc d) old w tog inv totals stands =
     settled w (r .totals ∙ totals)
-    (with-store-together τ (release-events deepest c (s .store)) (r .untouched) (r .replays) (r .cells) tog) (r .holds)
+    (with-store-together τ (release-events deepest c (s .store))
+    (release-no-higher deepest c (s .store)) (r .untouched) (r .replays) (r .cells) tog) (r .holds)
     (stands-kept stands (λ q h. (releases-keep before r .keep q h, held-used (r .holds) q h)))
   where
     c : ℕ
@@ -98,7 +100,8 @@ pub result-put : {start : Start} {σ : Store} {w : ℤ} {s : State} {v : Value} 
 unfolding with-store with-totals touched replayed
 result-put {w = w} {s} d old q =
     finished d old w
-    (with-store-together (with-totals (s .store) w) [] refl (ap some (t .free)) refl (q .answered .together))
+    (with-store-together (with-totals (s .store) w) [] none-higher refl (ap some (t .free)) refl
+    (q .answered .together))
     (t .holds) refl
     (stands-kept (q .answered .stands) (λ r h.
     (t .alike r, held-used (t .holds) r (in-append-left r (named-by d (w ∷ [])) (named-by d (old ∷ [])) h))))

@@ -2,8 +2,8 @@
 use Prim.Native.Nat.{ℕ, zero, suc, _+_, _<_, _≤_}
 use native.Mathlib.Omega.{arith}
 use native.Mathlib.Decide.{ℕ-discrete, decLt}
-use mathlib.Core.Path.{_≡_, refl, ap}
-use mathlib.Core.Logic.{_⊎_, inl, inr}
+use mathlib.Core.Path.{_≡_, refl, sym, ap, _∙_}
+use mathlib.Core.Logic.{_≢_, _⊎_, inl, inr}
 use mathlib.Core.Bool.{cond}
 use mathlib.Core.List.{List, [], _∷_, _++_, map}
 use lib.IntN.{ℤ, pos}
@@ -79,11 +79,11 @@ named-at (w ∷ ws) (suc i) h = omega (arith, named-at ws i (omega arith))
 
 -- ---- a list of distinct numbers below n has at most n
 
-unfoldable without : ℕ → List ℕ → List ℕ
+unfoldable pub without : ℕ → List ℕ → List ℕ
 without k [] = []
 without k (x ∷ l) = cond (eqb k x) (without k l) (x ∷ without k l)
 
-without-length : (k : ℕ) (l : List ℕ) → length l ≡ occurrences k l + length (without k l)
+pub without-length : (k : ℕ) (l : List ℕ) → length l ≡ occurrences k l + length (without k l)
 unfolding occurrences without
 without-length k [] = refl
 without-length k (x ∷ l) = let ih = without-length k l in elim (ℕ-discrete k x) [
@@ -91,13 +91,21 @@ without-length k (x ∷ l) = let ih = without-length k l in elim (ℕ-discrete k
   | no f ↦ rw (ne-eqb k x f) (omega arith)
 ]
 
-without-fewer : (k n : ℕ) (l : List ℕ) →
+pub without-fewer : (k n : ℕ) (l : List ℕ) →
     (occurrences n (without k l) ≤ occurrences n l) × (occurrences k (without k l) ≡ 0)
 unfolding occurrences without
 without-fewer k n [] = (omega arith, refl)
 without-fewer k n (x ∷ l) = let ih = without-fewer k n l in elim (ℕ-discrete k x) [
   | yes e ↦ rw (eq-eqb k x e) (omega arith, ih .1)
   | no f ↦ rw (ne-eqb k x f) (omega arith, omega (arith, ih .1, ap (λ b. cond {A = ℕ} b 1 0) (ne-eqb k x f)))
+]
+
+pub without-other : (k n : ℕ) (l : List ℕ) → n ≢ k → occurrences n (without k l) ≡ occurrences n l
+unfolding occurrences without
+without-other k n [] h = refl
+without-other k n (x ∷ l) h = let ih = without-other k n l h in elim (ℕ-discrete k x) [
+  | yes e ↦ rw (eq-eqb k x e, ne-eqb n x (λ q. h (q ∙ sym e))) (omega (arith, ih))
+  | no f ↦ rw (ne-eqb k x f) (omega (arith, ih))
 ]
 
 pub distinct-length : (n : ℕ) (l : List ℕ) → ((c : ℕ) → c ∈ l → c < n) → ((c : ℕ) → occurrences c l ≤ 1) →

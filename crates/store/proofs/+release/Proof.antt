@@ -13,7 +13,7 @@ use Rattle.store_words.specs.Parts.{InCells}
 use Rattle.store_words.proofs.CellWords.{told-there, told-gone, slots-length}
 use Rattle.store.proofs.Releasing.{no-levels, released-out, released-free}
 use Rattle.store.proofs.Releasing.{released-less, released-flat, released-all}
-use Rattle.store.proofs.Releasing.{Releasing, releasing-none, releasing-more, releasing-all}
+use Rattle.store.proofs.Releasing.{Releasing, releasing-none, releasing-more}
 use Rattle.store.proofs.release.Reads as release
 use Rattle.store.proofs.release.Kinds as release-kinds
 use Rattle.store.proofs.+release.Lts-release as release-lts
@@ -35,12 +35,12 @@ abbrev release-below : ℕ → In 2 release-kinds.ps
 release-below t = and 2 release-kinds.ps (falls 2 release-kinds.ps _<_ μ-release t) release.Pre
 
 abbrev release-Inv-loop : release-lts.InvT-loop
-release-Inv-loop slots₀ heads₀ c levels n size depth words k i₀ slots heads i =
+release-Inv-loop slots₀ heads₀ c levels n size depth words k freed₀ i₀ slots heads freed i =
     (i ≤ k) × (length slots ≡ length slots₀) × (length heads ≡ length heads₀)
-    × Releasing (levels - 1) words k (store-of slots₀ heads₀) i (store-of slots heads)
+    × Releasing (levels - 1) words k (store-of slots₀ heads₀) freed i (store-of slots heads)
 
 abbrev release-μ-loop : release-lts.MeasureT-loop
-release-μ-loop slots₀ heads₀ c levels n size depth words k i₀ slots heads i = k - i
+release-μ-loop slots₀ heads₀ c levels n size depth words k freed₀ i₀ slots heads freed i = k - i
 
 abbrev release-claims : ℕ → release-lts.Claims
 release-claims t = (
@@ -105,9 +105,15 @@ release-loop-holds t c = (
   omega arith,
   refl,
   refl,
-  releasing-none _ _ _ _ (ap length (c .before .before .before .before .before .before
+  releasing-none _ _ _ _ _ (ap length (c .before .before .before .before .before .before
       .before .before .slots-of .ensures) ∙ slots-length _ _) (omega arith),
 )
+
+release-add-freed : (t : ℕ) → release-lts.Need-add-freed (release-claims t) (release-at t) release.Post
+    release-Inv-loop release-μ-loop
+release-add-freed t c =
+    let inv = c .before .before .before .before .before .before .before .before .before .loop .inv .3 in
+    record { fits = omega (arith, inv .counted, inv .taken, c .before .before .before .release .ensures .few) }
 
 release-loop-again : (t : ℕ) → release-lts.Need-loop-again (release-claims t) (release-at t) release.Post
     release-Inv-loop release-μ-loop
@@ -123,7 +129,8 @@ release-loop-again t c =
       gone .kept .0 ∙ inv .1,
       gone .kept .1 .0 ∙ inv .2,
       releasing-more (inv .3) (c .before .before .before .before .before .before .before .before .loop-test .taken) _
-          (rw (toZ-ofZ {z = w} (record { sfits = arg .named-cell-arg .given })) at (named .ensures)) _ (gone .ensures),
+          (rw (toZ-ofZ {z = w} (record { sfits = arg .named-cell-arg .given })) at (named .ensures)) _ _
+          (gone .ensures),
     )
 
 release-returns-6 : (t : ℕ) → release-lts.Need-returns-6 (release-claims t) (release-at t) release.Post
@@ -131,11 +138,10 @@ release-returns-6 : (t : ℕ) → release-lts.Need-returns-6 (release-claims t) 
 release-returns-6 t c =
     let found = c .before .before .before .before .before .before .before .before .before .before .before .before
     .before .before .before .before .before in
-    released-all _ _ _ _ (omega arith) (inside t found .0) (omega arith) (c .before .before .before .if5 .left) (rw (
-      c .before .before .at-most .ensures,
-      c .before .before .before .before .before .before .before .before .before .before .slots-of .ensures,
-      c .before .before .before .before .before .before .before .free .ensures,
-    ) at (releasing-all (c .before .loop .inv .3) (omega arith)))
+    released-all _ _ _ _ (omega arith) (inside t found .0) (omega arith) (c .before .before .before .if5 .left)
+    (c .before .before .before .before .before .before .before .before .before .before .slots-of .ensures)
+    (c .before .before .at-most .ensures) (c .before .before .before .before .before .before .before .free .ensures)
+    (c .before .loop .inv .3) (omega arith)
 
 pub +release-spec : {M : Type 1} → statement M
 +release-spec = close μ-release λ t. release-lts.spec (release-claims t)
@@ -159,5 +165,5 @@ pub +release-spec : {M : Type 1} → statement M
     (λ c κs. search (needs, inside t (c .before .before .before .before .before .before .before .before .before)))
     (λ c. search needs) (λ c. search needs) (release-returns-5 t) (release-cast-at-most t) (λ c κs. search needs)
     (release-loop-holds t) (λ c. search needs) (λ c. search needs) (λ c κs. search needs) (λ c. search needs)
-    (λ c κs. search needs) (λ c. search needs) (λ c. search needs) (release-loop-again t) (λ c. search needs)
-    (λ c. search needs) (release-returns-6 t)
+    (λ c κs. search needs) (release-add-freed t) (λ c. search needs) (λ c. search needs) (release-loop-again t)
+    (λ c. search needs) (λ c. search needs) (release-returns-6 t)

@@ -2,7 +2,7 @@
 use mathlib.Core.Path.{sym, ap, _∙_}
 use borrow.Author.Needs.{needs}
 use Rattle.semantics.specs.Words.{store-of}
-use Rattle.store.specs.Acquiring.{acquired-outcome, appended-all}
+use Rattle.store.specs.Acquiring.{gained, acquired-outcome, appended-all}
 use Rattle.store.proofs.Filling.{filled-by-appending, none-given}
 use Rattle.store.proofs.acquire.Statement.{statement}
 use Rattle.store.proofs.acquire.Tie as tie
@@ -16,7 +16,8 @@ returns c =
       e,
       c .before .before .before .append-all .ensures
           ∙ ap (appended-all (told .0 .0) (a .words .now)) (empty .acquire-empty .ensures .1)
-          ∙ filled-by-appending (a .depth) (store-of (a .slots .now) (a .heads .now)) (told .0 .0) (a .words .now) e,
+          ∙ filled-by-appending (a .free) (a .depth) (store-of (a .slots .now) (a .heads .now))
+          (gained (told .0 .0) (told .0 .1 .0)) (a .words .now) e,
     )
 
 returns-2 : tie.Need-returns-2
@@ -26,7 +27,7 @@ returns-2 c =
     let e = ap acquired-outcome (sym (c .enum-told .given .1)) ∙ empty .acquire-empty .ensures .0 in (
       e,
       empty .acquire-empty .ensures .1
-          ∙ none-given (a .depth) (store-of (a .slots .now) (a .heads .now)) (a .words .now) e,
+          ∙ none-given (a .free) (a .depth) (store-of (a .slots .now) (a .heads .now)) (a .words .now) e,
     )
 
 pub acquire-spec : {M : Type 1} → statement M

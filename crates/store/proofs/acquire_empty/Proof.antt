@@ -18,13 +18,13 @@ inside c = told-there (c .before .is-cell .ensures) (c .if2 .left)
 
 returns : tie.Need-returns
 unfolding cells-in
-returns c = none-acquired _ _ _ [] (omega arith)
+returns c = none-acquired _ _ _ _ [] (omega arith)
 
 cast-c : tie.Need-cast-c
 cast-c c = record { fits = omega (arith, c .slice-known2 .given 0) }
 
 returns-2 : tie.Need-returns-2
-returns-2 c = none-acquired _ _ _ [] (told-gone (c .before .is-cell .ensures) (c .if2 .taken))
+returns-2 c = none-acquired _ _ _ _ [] (told-gone (c .before .is-cell .ensures) (c .if2 .taken))
 
 write-head-requires : tie.Need-write-head-requires
 write-head-requires c κs = let h = inside (c .before .before) in (h .1, simp length-set (h .2))
@@ -32,17 +32,17 @@ write-head-requires c κs = let h = inside (c .before .before) in (h .1, simp le
 same-length-4 : tie.Need-same-length-4
 same-length-4 c =
     let heads = c .before .before .before .before .before .before .before .before .before .before .before .before
-    .before .before .before .args .heads .now in
-    c .before .before .before .before .before .write-head .kept .0 ∙ length-set heads 0 _
+    .before .before .before .before .args .heads .now in
+    c .before .before .before .before .before .before .write-head .kept .0 ∙ length-set heads 0 _
 
 returns-3 : tie.Need-returns-3
 returns-3 c =
-    let found = c .before .before .before .before .before .before .before .before in
-    one-acquired _ _ _ (record {
-      long = c .before .clear-slots .kept .0;
-      slots-cleared = c .before .clear-slots .ensures;
-      heads-written = c .before .before .before .before .before .write-head .ensures;
-    }) (inside found .0)
+    let cleared = c .before .before .clear-slots in
+    rw (c .one-fewer .ensures) (one-acquired _ _ _ _ (record {
+      long = cleared .kept .0;
+      slots-cleared = cleared .ensures;
+      heads-written = c .before .before .before .before .before .before .write-head .ensures;
+    }) (inside (c .before .before .before .before .before .before .before .before .before) .0))
 
 pub acquire-empty-spec : {M : Type 1} → statement M
 acquire-empty-spec =
@@ -50,5 +50,5 @@ acquire-empty-spec =
     (tie.spec returns (λ c. search needs) cast-c (λ c κs. search needs) (λ c. search needs) (λ c. search needs)
     returns-2 (λ c. search (needs, inside c)) (λ c. search (needs, inside c)) (λ c. search (needs, inside c))
     (λ c. search (needs, inside (c .before))) (λ c. search (needs, inside (c .before))) write-head-requires
-    (λ c κs. search (needs, inside (c .before .before .before .before .before .before))) (λ c. search needs)
-    same-length-4 returns-3)
+    (λ c κs. search (needs, inside (c .before .before .before .before .before .before))) (λ c κs. search needs)
+    (λ c. search needs) same-length-4 returns-3)

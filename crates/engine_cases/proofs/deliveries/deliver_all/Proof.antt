@@ -7,11 +7,11 @@ use Rattle.engine_cases.proofs.deliveries.deliver_all.Statement.{statem
 use Rattle.engine_cases.proofs.deliveries.deliver_all.Tie as tie
 
 abbrev Inv-loop : tie.InvT-loop
-Inv-loop case opening file slots₀ heads₀ tally₀ at₀ slots heads tally at =
+Inv-loop case opening file slots₀ heads₀ whole tally₀ at₀ slots heads tally at =
     (length slots ≡ length slots₀) × (length heads ≡ length heads₀)
 
 abbrev μ-loop : tie.MeasureT-loop
-μ-loop case opening file slots₀ heads₀ tally₀ at₀ slots heads tally at = length case - at
+μ-loop case opening file slots₀ heads₀ whole tally₀ at₀ slots heads tally at = length case - at
 
 pub deliver-all-spec : {M : Type 1} → statement M
 deliver-all-spec =

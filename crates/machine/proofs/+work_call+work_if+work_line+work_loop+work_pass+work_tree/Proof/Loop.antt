@@ -9,7 +9,7 @@ use Rattle.machine_lines.specs.Lines.{memory, kind-of, first-name, second-name,
 use Rattle.machine_loops.specs.Loops.{Readied, Begins}
 use Rattle.machine_positions.specs.Machine.{code, tree-on, call-on}
 use Rattle.machine_positions.specs.LineLaws.{loop-spent, loop-dry, loop-bound}
-use Rattle.machine_positions.specs.Lengths.{passes-long}
+use Rattle.machine_positions.specs.Lengths.{readied-long, passes-long}
 use Rattle.machine.proofs.work_loop.Reads as work-loop
 use Rattle.machine.proofs.+work_call+work_if+work_line+work_loop+work_pass+work_tree.Lts-work_loop as work-loop-lts
 use Rattle.machine.proofs.+work_call+work_if+work_line+work_loop+work_pass+work_tree.Proof.Common.{work-loop-at}
@@ -33,16 +33,17 @@ readied : (t : ℕ) (c : Began t) →
     Readied (kind-of (a .l)) (first-name (a .l)) (second-name (a .l))
     (element-depth (a .table .now) (a .calls) (a .x) (a .env .now))
     (map (word-of (a .calls) (a .env .now)) (atoms-of (a .l)))
-    (store-of (a .slots .now) (a .heads .now)) (begin .begin-loop .last .1 .0) (begin .begin-loop .last .1 .1 .0)
-    (c .passes .given .0 .0)
+    (memory (store-of (a .slots .now) (a .heads .now)) (a .env .now)) (begin .begin-loop .last .1 .0)
+    (begin .begin-loop .last .1 .1 .0) (begin .begin-loop .last .1 .1 .1 .0) (c .passes .given .0 .0)
 readied t c =
     let begin = c .before .before .before .before .before in
     let a = begin .before .before .before .before .before .before .before .args in
     subst (Begins (kind-of (a .l)) (first-name (a .l)) (second-name (a .l))
     (element-depth (a .table .now) (a .calls) (a .x) (a .env .now))
     (map (word-of (a .calls) (a .env .now)) (atoms-of (a .l)))
-    (store-of (a .slots .now) (a .heads .now)) (begin .begin-loop .last .1 .0) (begin .begin-loop .last .1 .1 .0))
-    (c .passes .given .1) (begin .begin-loop .ensures)
+    (memory (store-of (a .slots .now) (a .heads .now)) (a .env .now)) (begin .begin-loop .last .1 .0)
+    (begin .begin-loop .last .1 .1 .0) (begin .begin-loop .last .1 .1 .1 .0)) (c .passes .given .1)
+    (begin .begin-loop .ensures)
 
 pub work-loop-add-start : (t : ℕ) → work-loop-lts.Need-add-start (work-loop-claims t) (work-loop-at t) work-loop.Post
 work-loop-add-start t c =
@@ -58,7 +59,12 @@ work-loop-work-pass-requires t c κs =
     let at-if1 = begin .before .before .before .before .before in
     let start = at-if1 .before .before in (
       omega (arith, start .pre .0, at-if1 .if1 .left),
-      (start .pre .1 .1, start .pre .1 .2, start .pre .1 .3, readied t at-passes .usable),
+      (
+        start .pre .1 .1,
+        readied-long (readied t at-passes) ∙ start .pre .1 .2,
+        start .pre .1 .3,
+        readied t at-passes .usable,
+      ),
     )
 
 pub work-loop-bind-result-requires : (t : ℕ) → work-loop-lts.Need-bind-result-requires (work-loop-claims t)
@@ -75,8 +81,9 @@ work-loop-bind-result-requires t c κs =
       start .pre .1 .1,
       passes-long k (a .lines) (a .calls) (l .way) (a .at + at-rows-before .rows-before .result) (l .first) (l .second)
           (l .from) (l .count) (l .carried) 0 (a .steps - 1)
-          (memory (store-of (begin .begin-loop .last .1 .0) (begin .begin-loop .last .1 .1 .0)) (a .env .now))
-          (at-work-pass .work-pass .ensures) ∙ start .pre .1 .2,
+          (memory (store-of (begin .begin-loop .last .1 .0) (begin .begin-loop .last .1 .1 .0))
+          (begin .begin-loop .last .1 .1 .1 .0)) (at-work-pass .work-pass .ensures)
+          ∙ readied-long (readied t at-passes) ∙ start .pre .1 .2,
     )
 
 pub work-loop-same-length : (t : ℕ) → work-loop-lts.Need-same-length (work-loop-claims t) (work-loop-at t)
@@ -110,7 +117,7 @@ work-loop-returns-2 t c =
     loop-bound (tree-on (a .lines) (call-on (a .calls) k) k (a .calls)) k (a .calls) (a .x) (kind-of (a .l))
     (first-name (a .l)) (second-name (a .l)) (atoms-of (a .l)) (a .at) (a .steps) (a .slots .now) (a .heads .now)
     (a .env .now) (at-if1 .if1 .left) (begin .begin-loop .last .1 .0) (begin .begin-loop .last .1 .1 .0)
-    (at-passes .passes .given .0 .0) (readied t at-passes) (a .at + rows .result)
+    (begin .begin-loop .last .1 .1 .1 .0) (at-passes .passes .given .0 .0) (readied t at-passes) (a .at + rows .result)
     (ap (λ (n : ℕ). a .at + n) (rows .ensures .0) ∙ omega arith)
     (passes .result) (passes .last .1 .1 .1 .0) (passes .last .1 .1 .1 .1 .0) (passes .last .1 .1 .1 .1 .1 .0)
     (passes .ensures) (at-end-in .end-in .result) (at-end-in .end-in .ensures .0) (c .bind-result .result)
@@ -125,8 +132,9 @@ work-loop-returns-3 t c =
     loop-dry (tree-on (a .lines) (call-on (a .calls) k) k (a .calls)) k (a .calls) (a .x) (kind-of (a .l))
     (first-name (a .l)) (second-name (a .l)) (atoms-of (a .l)) (a .at) (a .steps) (a .slots .now) (a .heads .now)
     (a .env .now) (at-if1 .if1 .left) (begin .begin-loop .last .1 .0) (begin .begin-loop .last .1 .1 .0)
-    (subst (Begins (kind-of (a .l)) (first-name (a .l)) (second-name (a .l))
+    (begin .begin-loop .last .1 .1 .1 .0) (subst (Begins (kind-of (a .l)) (first-name (a .l)) (second-name (a .l))
     (element-depth (a .table .now) (a .calls) (a .x) (a .env .now))
     (map (word-of (a .calls) (a .env .now)) (atoms-of (a .l)))
-    (store-of (a .slots .now) (a .heads .now)) (begin .begin-loop .last .1 .0) (begin .begin-loop .last .1 .1 .0))
-    (c .before .enum-told .given .1) (begin .begin-loop .ensures)) (c .halted2 .result) (c .halted2 .ensures)
+    (memory (store-of (a .slots .now) (a .heads .now)) (a .env .now)) (begin .begin-loop .last .1 .0)
+    (begin .begin-loop .last .1 .1 .0) (begin .begin-loop .last .1 .1 .1 .0)) (c .before .enum-told .given .1) (begin
+    .begin-loop .ensures)) (c .halted2 .result) (c .halted2 .ensures)

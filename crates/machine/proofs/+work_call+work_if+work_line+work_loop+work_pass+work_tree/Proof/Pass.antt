@@ -95,7 +95,7 @@ abbrev Entered : ℕ → Type 0
 Entered t = work-pass-lts.After-begin-pass (work-pass-claims t) (work-pass-at t) work-pass.Post work-pass-Inv-loop
     work-pass-μ-loop
 
-entered-long : (t : ℕ) (c : Entered t) → length (c .begin-pass .last .1 .1 .0) ≡ 8224
+entered-long : (t : ℕ) (c : Entered t) → length (c .begin-pass .last .1 .1 .0) ≡ 8226
 entered-long t c =
     let at-loop = c .before .before .before .before .before .before in
     let start = at-loop .before .before .before in
@@ -132,7 +132,7 @@ abbrev Worked : ℕ → Type 0
 Worked t = work-pass-lts.After-work-tree (work-pass-claims t) (work-pass-at t) work-pass.Post work-pass-Inv-loop
     work-pass-μ-loop
 
-worked-long : (t : ℕ) (c : Worked t) → length (c .work-tree .last .1 .1 .1 .1 .1 .0) ≡ 8224
+worked-long : (t : ℕ) (c : Worked t) → length (c .work-tree .last .1 .1 .1 .1 .1 .0) ≡ 8226
 worked-long t c =
     let at-begin-pass = c .before .before .before .before in
     let at-loop = at-begin-pass .before .before .before .before .before .before in

@@ -2,12 +2,14 @@
 use mir.Facts.{toZ-ofZ}
 use native.Mathlib.Omega.{arith}
 use mathlib.Core.Path.{sym, refl, ap, _∙_}
-use Prim.Native.Nat.{_+_}
+use Prim.Native.Nat.{ℕ, _+_}
+use lib.ListN.{length}
 use Rattle.semantics.specs.Words.{store-of}
-use Rattle.store.specs.Acquiring.{acquired-outcome, appended-all}
+use Rattle.store.specs.Acquiring.{gained, acquired-outcome, next-cell, appended-all}
 use Rattle.store.proofs.Filling.{filled-by-appending, none-given}
 use Rattle.machine_lines.specs.Frames.{words-at}
 use Rattle.machine_lines.specs.Lines.{memory}
+use Rattle.machine_lines.proofs.Levels.{noted-long}
 use Rattle.machine_lines.proofs.Lines.{literal-spent, literal-cell, literal-none, next-small}
 use borrow.Author.Needs.{needs}
 use Rattle.machine_lines.proofs.arrays.work_literal.Statement.{statement}
@@ -21,73 +23,85 @@ returns c = let a = c .before .before .before .before .args in
 
 word-from-requires : tie.Need-word-from-requires
 word-from-requires c κs =
-    let a = c .before .before .before .before .before .before .before .before .before .before .before .before
-    .before .before .before .before .before .before .before .args in
+    let at-append-atoms = c .before .before .before .before .before in
+    let at-c = at-append-atoms .before .before .before .before .before in
+    let at-acquire-empty = at-c .before .before .before .before .before in
+    let at-level = at-acquire-empty .before in
+    let a = at-level .before .before .before .before .before .before .before .args in
+    let taken = at-acquire-empty .acquire-empty in
+    let cell = at-c .c .given in
     omega (
       arith,
-      next-small (a .slots .now) (a .heads .now) (c .before .before .before .before .before .before
-          .before .before .before .before .before .before .before .acquire-empty .result)
-          (c .before .before .before .before .before .before .before .before .c .given .0 .0)
-          (c .before .before .before .before .before .before .before .before .before .before .before .before
-          .before .acquire-empty .ensures .0) (c .before .before .before .before .before .before
-          .before .before .c .given .1),
+      next-small (at-level .level .result) (a .slots .now) (a .heads .now) (taken .result) (cell .0 .0)
+          (cell .0 .1 .0) (taken .ensures .0) (cell .1),
     )
+
+bind-requires : tie.Need-bind-requires
+bind-requires c κs =
+    let at-note-level = c .before .before in
+    let at-append-atoms = at-note-level .before .before .before .before .before in
+    let at-c = at-append-atoms .before .before .before .before .before in
+    let at-acquire-empty = at-c .before .before .before .before .before in
+    let start = at-acquire-empty .before .before .before .before .before .before .before .before in
+    (start .pre .1, ap length (at-note-level .note-level .ensures) ∙ noted-long _ _ ∙ start .pre .2)
 
 returns-2 : tie.Need-returns-2
 returns-2 c =
-    let a = c .before .before .before .before .before .before .before .before .before .before .before .before
-    .before .before .before .before .before .before .before .before .before .before .before .args in
-    let m = memory (store-of (a .slots .now) (a .heads .now)) (a .env .now) in
+    let at-bind = c .before in
+    let at-word-from = at-bind .before .before in
+    let at-note-level = at-word-from .before in
+    let at-append-atoms = at-note-level .before .before .before .before .before in
+    let at-c = at-append-atoms .before .before .before .before .before in
+    let at-acquire-empty = at-c .before .before .before .before .before in
+    let at-level = at-acquire-empty .before in
+    let at-if1 = at-level .before .before .before .before in
+    let a = at-if1 .before .before .before .args in
+    let σ = store-of (a .slots .now) (a .heads .now) in
     let ws = words-at 16 (a .kinds .now) (a .operands .now) (a .calls) (a .env .now) (a .at + 1) in
-    literal-cell (a .kinds .now) (a .operands .now) (a .calls) (a .x) (a .depth) (a .at) (a .steps) m
-    (c .before .before .before .before .before .before .before .before .before .before .before .before
-    .before .before .before .before .before .before .before .before .if1 .left) ws refl
-    (c .before .before .before .before .before .before .before .before .before .before .before .before
-    .before .before .before .before .before .acquire-empty .result)
-    (c .before .before .before .before .before .before .before .before .before .before .before .before
-    .before .before .before .before .before .acquire-empty .ensures .0) (store-of
-    (c .before .before .before .before .before .before .before .append-atoms .last .1 .1 .0)
-    (c .before .before .before .before .before .before .before .append-atoms .last .1 .1 .1 .0))
-    (c .before .before .before .before .before .before .before .append-atoms .ensures .store ∙ ap (appended-all
-    (c .before .before .before .before .before .before .before .before .before .before .before .before
-    .c .given .0 .0) ws) (c .before .before .before .before .before .before
-    .before .before .before .before .before .before .before .before .before .before .before .acquire-empty
-    .ensures .1) ∙ filled-by-appending (a .depth) (m .store) (c .before .before .before .before .before .before
-    .before .before .before .before .before .before .c .given .0 .0) ws (ap acquired-outcome (sym
-    (c .before .before .before .before .before .before .before .before .before .before .before .before .c .given .1))
-    ∙ c .before .before .before .before .before .before .before .before .before .before .before .before
-    .before .before .before .before .before .acquire-empty .ensures .0))
-    (c .before .before .before .before .before .before .before .before .before .before .before .before
-    .c .given .0 .0) (c .before .before .before .before .before .before
-    .before .before .before .before .before .before .c .given .1) (c .before .before .before .word-from .result)
-    (c .before .before .before .word-from .ensures) _ (rw (toZ-ofZ {z =
-    c .before .before .before .word-from .result} (record { sfits = c .before .before .before .word-from .ok })) at
-    (c .before .bind .ensures)) (c .before .before .before .before .before .before .before .append-atoms .result)
-    (c .before .before .before .before .before .before .before .append-atoms .ensures .count) (c .done .result) (rw
-    (toZ-ofZ {z = c .before .before .before .word-from .result} (record {
-      sfits =
-          c .before .before .before .word-from .ok;
-    })) at (c .done .ensures))
+    let free = at-level .level in
+    let taken = at-acquire-empty .acquire-empty in
+    let cell = at-c .c .given in
+    let put = at-append-atoms .append-atoms in
+    let noted = at-note-level .note-level in
+    let number = at-word-from .word-from in
+    literal-cell (a .kinds .now) (a .operands .now) (a .calls) (a .x) (a .depth) (a .at) (a .steps)
+    (memory σ (a .env .now)) (at-if1 .if1 .left) ws refl (taken .result)
+    (taken .ensures .0 ∙ ap (λ (k : ℕ). next-cell k σ) (free .ensures .0))
+    (store-of (put .last .1 .1 .0) (put .last .1 .1 .1 .0))
+    (put .ensures .store ∙ ap (appended-all (cell .0 .0) ws) (taken .ensures .1)
+    ∙ filled-by-appending (free .result) (a .depth) σ (gained (cell .0 .0) (cell .0 .1 .0)) ws
+    (ap acquired-outcome (sym (cell .1)) ∙ taken .ensures .0))
+    (cell .0 .0) (cell .0 .1 .0) (cell .1) (noted .last .0) (noted .ensures) (number .result) (number .ensures)
+    (at-bind .bind .last .0)
+    (rw (toZ-ofZ {z = number .result} (record { sfits = number .ok })) at (at-bind .bind .ensures))
+    (put .result) (put .ensures .count) (c .done .result)
+    (rw (toZ-ofZ {z = number .result} (record { sfits = number .ok })) at (c .done .ensures))
 
 returns-3 : tie.Need-returns-3
 returns-3 c =
-    let a = c .before .before .before .before .before .before .before .before .before .before .before .before .args in
-    let m = memory (store-of (a .slots .now) (a .heads .now)) (a .env .now) in
+    let at-enum-told = c .before in
+    let at-acquire-empty = at-enum-told .before .before .before .before .before in
+    let at-level = at-acquire-empty .before in
+    let at-if1 = at-level .before .before .before .before in
+    let a = at-if1 .before .before .before .args in
+    let σ = store-of (a .slots .now) (a .heads .now) in
     let ws = words-at 16 (a .kinds .now) (a .operands .now) (a .calls) (a .env .now) (a .at + 1) in
-    literal-none (a .kinds .now) (a .operands .now) (a .calls) (a .x) (a .depth) (a .at) (a .steps) m
-    (c .before .before .before .before .before .before .before .before .before .if1 .left) ws refl
-    (c .before .before .before .before .before .before .acquire-empty .result)
-    (c .before .before .before .before .before .before .acquire-empty .ensures .0) (store-of
-    (c .before .before .before .before .before .before .acquire-empty .last .0)
-    (c .before .before .before .before .before .before .acquire-empty .last .1 .0))
-    (c .before .before .before .before .before .before .acquire-empty .ensures .1 ∙ none-given (a .depth) (m .store)
-    ws (ap acquired-outcome (sym (c .before .enum-told .given .1)) ∙ c .before .before .before .before .before .before
-    .acquire-empty .ensures .0)) (c .before .enum-told .given .1) (c .halted2 .result) (c .halted2 .ensures)
+    let free = at-level .level in
+    let taken = at-acquire-empty .acquire-empty in
+    let none = at-enum-told .enum-told .given .1 in
+    literal-none (a .kinds .now) (a .operands .now) (a .calls) (a .x) (a .depth) (a .at) (a .steps)
+    (memory σ (a .env .now)) (at-if1 .if1 .left) ws refl (taken .result)
+    (taken .ensures .0 ∙ ap (λ (k : ℕ). next-cell k σ) (free .ensures .0))
+    (store-of (taken .last .0) (taken .last .1 .0))
+    (taken .ensures .1
+    ∙ none-given (free .result) (a .depth) σ ws (ap acquired-outcome (sym none) ∙ taken .ensures .0)) none
+    (c .halted2 .result) (c .halted2 .ensures)
 
 pub work-literal-spec : {M : Type 1} → statement M
 work-literal-spec =
     tie.close
-    (tie.spec (λ c κs. search needs) returns (λ c κs. search needs) (λ c. search needs) (λ c. search needs)
-    (λ c κs. search needs) word-from-requires (λ c κs. search needs) (λ c. search needs) (λ c. search needs)
-    (λ c. search needs) (λ c κs. search needs) (λ c. search needs) (λ c. search needs) (λ c κs. search needs)
-    (λ c. search needs) (λ c. search needs) returns-2 (λ c. search needs) (λ c. search needs) returns-3)
+    (tie.spec (λ c κs. search needs) returns (λ c κs. search needs) (λ c κs. search needs) (λ c. search needs)
+    (λ c. search needs) (λ c κs. search needs) (λ c κs. search needs) word-from-requires bind-requires
+    (λ c. search needs) (λ c. search needs) (λ c. search needs) (λ c κs. search needs) (λ c. search needs)
+    (λ c. search needs) (λ c κs. search needs) (λ c. search needs) (λ c. search needs) returns-2 (λ c. search needs)
+    (λ c. search needs) returns-3)
