@@ -23,10 +23,9 @@ module _ (arrays : Bool) (c : ℕ) (w r : ℤ) (σ : Store) (fits : SFits w64 r)
   pub keeps-none : ofZ w64 r ≡ 0 → σ ≡ kept arrays c w r σ
   keeps-none e = rw (guard-zero r (fits .sfits) e) refl
 
-  pub keeps : (ofZ w64 r ≡ 0 → ⊥) → (cell : ℕ) → cell ≡ cell-of w → (τ : Store) → τ ≡ retained-if arrays cell σ →
+  pub keeps : (ofZ w64 r ≡ 0 → ⊥) → (τ : Store) → τ ≡ retained-if arrays (cell-of w) σ →
       (υ : Store) → υ ≡ appended c w τ → υ ≡ kept arrays c w r σ
-  keeps f cell e τ t υ u =
-      u ∙ ap (appended c w) (t ∙ ap (λ (k : ℕ). retained-if arrays k σ) e) ∙ rw (guard-not r f) refl
+  keeps f τ t υ u = u ∙ ap (appended c w) t ∙ rw (guard-not r f) refl
 
 -- ---- the ways that a pass ends
 

@@ -187,13 +187,13 @@ pub fn begin_pass(
     machine_lines::bind(env, calls, l.second, w);
 }
 
-// One reference more, if asked for.
-fn retain_if(slots: &[i64], heads: &mut [u32], arrays: bool, c: usize)
+// One reference more to the cell that a word names, if asked for.
+fn retain_if(slots: &[i64], heads: &mut [u32], arrays: bool, w: i64)
     ensures { λ _. ⌜ store-of (now (slots .entry)) (now (heads .exit))
-        ≡ retained-if arrays c (store-of (now (slots .entry)) (now (heads .entry))) ⌝ }
+        ≡ retained-if arrays (cell-of w) (store-of (now (slots .entry)) (now (heads .entry))) ⌝ }
 {
     if arrays {
-        store::retain(slots, heads, c);
+        store::retain(slots, heads, store_words::named_cell(w));
     }
 }
 
@@ -204,7 +204,7 @@ fn keep(slots: &mut [i64], heads: &mut [u32], arrays: bool, c: usize, w: i64, r:
         ≡ kept arrays c w r (store-of (now (slots .entry)) (now (heads .entry))) ⌝ }
 {
     if r != 0 {
-        retain_if(slots, heads, arrays, store_words::named_cell(w));
+        retain_if(slots, heads, arrays, w);
         store::append_within(slots, heads, c, w);
     }
 }

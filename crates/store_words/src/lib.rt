@@ -90,7 +90,10 @@ pub fn read_slot_within(slots: &[i64], heads: &[u32], c: usize, i: usize) -> i64
     requires { ⌜ (c < 256) × (4 * c + 4 < length (now heads)) × (16 * c + 16 < length (now slots)) ⌝ }
     ensures { λ r. ⌜ r ≡ getD (elements (cell (store-of (now (slots .entry)) (now (heads .entry))) c)) i (pos 0) ⌝ }
 {
-    if at_most(heads[2 + 4 * c] as usize, 16) <= i {
+    if 16 <= i {
+        return 0;
+    }
+    if heads[2 + 4 * c] as usize <= i {
         return 0;
     }
     slots[1 + 16 * c + i]

@@ -14,27 +14,33 @@ inside : (c : tie.Start) → let a = c .args in a .c < cells-in (a .slots .now) 
 inside c = let a = c .args in
     to-cells (a .slots .now) (a .heads .now) (a .c) (c .pre .0) (c .pre .1) (c .pre .2)
 
-cast-at-most : tie.Need-cast-at-most
-cast-at-most c = record { fits = omega (arith, c .shared-slice-known2 .given (2 + 4 * c .before .before .args .c)) }
-
 returns : tie.Need-returns
 returns c =
-    let start = c .before .before .before .before in
+    let start = c .before in
     let a = start .args in
     element-out (a .slots .now) (a .heads .now) (a .c) (a .i)
-    (omega (arith, length-in (a .slots .now) (a .heads .now) (a .c) (inside start), c .before .at-most .ensures))
+    (omega (arith, length-in (a .slots .now) (a .heads .now) (a .c) (inside start), c .if1 .taken))
+
+cast-if2 : tie.Need-cast-if2
+cast-if2 c = record { fits = omega (arith, c .shared-slice-known .given (2 + 4 * c .before .before .args .c)) }
 
 returns-2 : tie.Need-returns-2
 returns-2 c =
-    let start = c .before .before .before .before .before in
+    let start = c .before .before .before in
+    let a = start .args in
+    element-out (a .slots .now) (a .heads .now) (a .c) (a .i)
+    (omega (arith, length-in (a .slots .now) (a .heads .now) (a .c) (inside start), c .if2 .taken))
+
+returns-3 : tie.Need-returns-3
+returns-3 c =
+    let start = c .before .before .before .before in
     let a = start .args in
     rw (toZ-ofZ {z = getD (a .slots .now) (1 + 16 * a .c + a .i) (pos 0)} (record { sfits = c .result .given }))
     (element-in (a .slots .now) (a .heads .now) (a .c) (a .i) (inside start)
-    (omega (arith, c .before .before .at-most .ensures)))
+    (omega (arith, c .before .if2 .left, c .before .before .before .if1 .left)))
 
 pub read-slot-within-spec : {M : Type 1} → statement M
 read-slot-within-spec =
     tie.close
-    (tie.spec (λ c. search needs) (λ c. search needs) (λ c. search needs) (λ c. search needs) cast-at-most
-    (λ c κs. search needs) returns (λ c. search needs) (λ c. search needs) (λ c. search needs) (λ c. search needs)
-    (λ c. search needs) returns-2)
+    (tie.spec returns (λ c. search needs) (λ c. search needs) (λ c. search needs) (λ c. search needs) cast-if2 returns-2
+    (λ c. search needs) (λ c. search needs) (λ c. search needs) (λ c. search needs) (λ c. search needs) returns-3)
