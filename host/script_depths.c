@@ -16,8 +16,7 @@ struct binding {
 struct descent {
     const struct script *script;
     unsigned number;      /* whose breaches are named */
-    size_t engines_node;
-    bool has_engines_node; /* among those that were named */
+    size_t lowest;        /* of the nodes that were named */
     size_t at;            /* the next node */
     struct binding names[NAMES];
     size_t functions[ENGINE_FUNCTIONS_MAX]; /* the node of each */
@@ -32,7 +31,8 @@ __attribute__((format(printf, 4, 5))) static void breach(struct descent *d, unsi
     va_list arguments;
     if (d->number != number)
         return;
-    d->has_engines_node |= node == d->engines_node;
+    if (node < d->lowest)
+        d->lowest = node;
     va_start(arguments, format);
     say_refusal_with(d->script, number, d->script->nodes[node].line, format, arguments);
     va_end(arguments);
@@ -325,7 +325,7 @@ static void judge_main(struct descent *d)
 
 void explain_depths(const struct script *script, unsigned number, size_t node)
 {
-    struct descent d = { .script = script, .number = number, .engines_node = node };
+    struct descent d = { .script = script, .number = number, .lowest = script->count };
     size_t count = 0;
     for (size_t i = 0; i < script->count; i++)
         if (script->nodes[i].kind == ENGINE_KIND_FUNCTION)
@@ -340,6 +340,6 @@ void explain_depths(const struct script *script, unsigned number, size_t node)
             breach(&d, ENGINE_TYPE_MISMATCH, function, "its body is %s, and its result is said to be %s",
                    depth_phrase(depth).text, depth_phrase(wanted).text);
     }
-    if (!d.has_engines_node)
+    if (d.lowest != node)
         say_refusal(script, number, script->nodes[node].line, "the engine refuses this node");
 }

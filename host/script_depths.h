@@ -11,7 +11,7 @@ void say_refusal_with(const struct script *script, unsigned number, unsigned lin
                       va_list arguments);
 
 /* Names each node that breaks the rule of 6 or of 7, in a script that passes 1 to 5 (and 6, for 7). The engine gave
- * this one of them. */
+ * this one, the lowest of them. */
 void explain_depths(const struct script *script, unsigned number, size_t node);
 
 #endif

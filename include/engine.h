@@ -163,7 +163,8 @@ static inline unsigned engine_answer_number(uint64_t answer)
     return (unsigned)(answer & 0xff);
 }
 
-/* The node that a refusal 3 to 8 names; for 3 it is the number of nodes where nodes are missing. */
+/* The node that a refusal 3 to 8 names, for 6 and 7 the lowest that breaks the rule; for 3 it is the number of nodes
+ * where nodes are missing. */
 static inline unsigned engine_answer_node(uint64_t answer)
 {
     return (unsigned)((answer >> 8) & 0xffff);

@@ -1,7 +1,7 @@
 /* Reads a file of test vectors and runs each case as it is read. A case is lines of a key and its values from `case` to
- * `end`: `file` has a script's bytes, `arrays` the lengths of the code arrays, `answer` the packed answer and `nodes`
- * the nodes that may stand in it, `rows` the code; `open` and `deliver` are calls to make, `slots` and `heads` a
- * store's words: before a check, after the deliveries. */
+ * `end`: `file` has a script's bytes, `arrays` the lengths of the code arrays, `answer` the packed answer, `rows` the
+ * code; `open` and `deliver` are calls to make, `slots` and `heads` a store's words: before a check, after the
+ * deliveries. Cases from before order 3 have other faulty nodes beside an answer, as `nodes`; its own is the lowest. */
 #include "vectors.h"
 #include "lent.h"
 
@@ -10,9 +10,9 @@
 #include <stdlib.h>
 #include <string.h>
 
-enum { LINE_BYTES = 1 << 16, NAME_BYTES = 64, NODES = 1024 };
+enum { LINE_BYTES = 1 << 16, NAME_BYTES = 64 };
 
-#define NODE_BITS ((uint64_t)0xffff << 8) /* of a refusal's node or a delivery's lowest level */
+#define LEVEL_BITS ((uint64_t)0xffff << 8) /* of a delivery's lowest level */
 
 struct run {
     FILE *file;
@@ -25,8 +25,6 @@ struct run {
     bool agrees;
     uint64_t answer;  /* the engine's */
     uint64_t wanted;
-    bool nodes[NODES + 1]; /* that may stand in the answer */
-    bool nodes_are_free;
     unsigned cases, differ;
 };
 
@@ -153,18 +151,6 @@ static void compare_words(size_t length, bool is_slots)
         run.agrees &= (is_slots ? lent.slots[at] : lent.heads[at]) == 0;
 }
 
-static void take_nodes(void)
-{
-    char *found;
-    run.nodes_are_free = true;
-    while ((found = word()) != NULL) {
-        unsigned long node = strtoul(found, NULL, 10);
-        if (node > NODES)
-            unusable("a node is out of range");
-        run.nodes[node] = true;
-    }
-}
-
 static void compare_rows(void)
 {
     uint64_t rows = natural();
@@ -195,7 +181,7 @@ static bool is_earlier(const char *path)
 static bool is_delivered(uint64_t answer, uint64_t wanted)
 {
     bool is_free = run.lacks_lowest && !engine_is_refusal(engine_answer_number(wanted));
-    uint64_t left_out = is_free ? NODE_BITS : 0;
+    uint64_t left_out = is_free ? LEVEL_BITS : 0;
     return (answer & ~left_out) == (wanted & ~left_out);
 }
 
@@ -228,8 +214,7 @@ static void make_opening(void)
 static void begin_case(void)
 {
     snprintf(run.name, sizeof run.name, "%s", wanted_word());
-    memset(run.nodes, 0, sizeof run.nodes);
-    run.is_deliver = run.is_translate = run.nodes_are_free = false;
+    run.is_deliver = run.is_translate = false;
     run.agrees = true;
     run.cases++;
 }
@@ -253,9 +238,7 @@ static void end_case(void)
     if (!run.is_deliver) {
         if (!run.is_translate)
             make_check();
-        unsigned node = engine_answer_node(run.answer);
-        bool node_fits = run.nodes_are_free ? node <= NODES && run.nodes[node] : node == engine_answer_node(run.wanted);
-        run.agrees &= node_fits && (run.answer & ~NODE_BITS) == (run.wanted & ~NODE_BITS);
+        run.agrees &= run.answer == run.wanted;
     }
     if (!run.agrees) {
         run.differ++;
@@ -288,7 +271,7 @@ static void take_store_words(bool is_slots)
 static void take_line(void)
 {
     const char *key = word();
-    if (key == NULL || strcmp(key, "note") == 0)
+    if (key == NULL || strcmp(key, "note") == 0 || strcmp(key, "nodes") == 0)
         return;
     if (strcmp(key, "case") == 0)
         begin_case();
@@ -298,8 +281,6 @@ static void take_line(void)
         take_code_lengths();
     else if (strcmp(key, "answer") == 0)
         run.wanted = natural();
-    else if (strcmp(key, "nodes") == 0)
-        take_nodes();
     else if (strcmp(key, "rows") == 0)
         compare_rows();
     else if (strcmp(key, "cells") == 0) {

@@ -1,7 +1,7 @@
 //! Each call made twice, by the engine and by the model, on equal arrays; and counts of what was answered.
 
 use crate::engine;
-use crate::model::{self, Answer, Lent};
+use crate::model::{self, Lent};
 use std::collections::BTreeMap;
 
 /// How often each number was answered, by the name of the call.
@@ -11,26 +11,18 @@ pub struct Tally {
     pub differ: u64,
 }
 
-pub const NODE_BITS: u64 = 0xff_ff00;
-
-/// The engine's answer is the model's; where nodes may be given, with any of them.
-pub fn is_answer(engine: u64, answer: &Answer) -> bool {
-    let node = (engine & NODE_BITS) >> 8;
-    engine == answer.packed || answer.nodes.contains(&node) && engine & !NODE_BITS == answer.packed & !NODE_BITS
-}
+/// Where a delivery's answer has its lowest level.
+pub const LEVEL_BITS: u64 = 0xff_ff00;
 
 impl Tally {
     /// Compares a call's answers and lent arrays; what the engine left becomes what is lent.
-    fn compare(&mut self, call: &'static str, file: &[u8], engine: (u64, Lent), model: (Answer, Lent)) -> Lent {
+    fn compare(&mut self, call: &'static str, file: &[u8], engine: (u64, Lent), model: (u64, Lent)) -> Lent {
         *self.calls.entry((call, engine.0 & 0xff)).or_default() += 1;
-        if !is_answer(engine.0, &model.0) || engine.1 != model.1 {
+        if engine != model {
             self.differ += 1;
             if self.differ < 4 {
                 let bytes: String = file.iter().map(|byte| format!("{byte:02x}")).collect();
-                eprintln!(
-                    "{call}: engine {:#x}, model {:#x} {:?}\n  file {bytes}",
-                    engine.0, model.0.packed, model.0.nodes
-                );
+                eprintln!("{call}: engine {:#x}, model {:#x}\n  file {bytes}", engine.0, model.0);
             }
         }
         engine.1

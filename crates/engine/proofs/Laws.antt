@@ -37,14 +37,10 @@ translated-by (refused n p) kinds operands l d e = absurd (let z : _≡_ {A = �
 
 pub translates : {file kinds : List ℕ} {operands : List ℤ} {l d : ℕ} {kinds′ : List ℕ} {operands′ : List ℤ} →
     Loads file kinds operands (Ready l d) kinds′ operands′ →
-    Translates file kinds operands (packed 0 0 l 0) kinds′ operands′
+    Translates (engine-translate file kinds operands) (packed 0 0 l 0) kinds′ operands′
 unfolding engine-translate
-translates {file} {kinds} {operands} {l} {d} h = record {
-  node = h .node;
-  faulty = h .faulty;
-  is = rw (h .kinds-are, h .operands-are)
-      (translated-by (admitted (h .node) file (room kinds operands)) kinds operands l d (h .is));
-}
+translates {file} {kinds} {operands} {l} {d} h = rw (h .kinds-are, h .operands-are)
+    (translated-by (admitted file (room kinds operands)) kinds operands l d (h .is))
 
 -- a refusal zeroes both arrays
 refused-by : (verdict : Verdict) (kinds : List ℕ) (operands : List ℤ) (a : ℕ) → Refused a ≡ told-load verdict →
@@ -55,14 +51,11 @@ refused-by (accepted fs) kinds operands a e = absurd (let z : _≡_ {A = ℕ} 0 
 refused-by (refused n p) kinds operands a e = let same : a ≡ packed n p 0 0 = cc in rw same
 
 pub translates-not : {file kinds : List ℕ} {operands : List ℤ} {a : ℕ} {kinds′ : List ℕ} {operands′ : List ℤ} →
-    Loads file kinds operands (Refused a) kinds′ operands′ → Translates file kinds operands a kinds′ operands′
+    Loads file kinds operands (Refused a) kinds′ operands′ →
+    Translates (engine-translate file kinds operands) a kinds′ operands′
 unfolding engine-translate
-translates-not {file} {kinds} {operands} {a} h = record {
-  node = h .node;
-  faulty = h .faulty;
-  is = rw (h .kinds-are, h .operands-are)
-      (refused-by (admitted (h .node) file (room kinds operands)) kinds operands a (h .is));
-}
+translates-not {file} {kinds} {operands} {a} h = rw (h .kinds-are, h .operands-are)
+    (refused-by (admitted file (room kinds operands)) kinds operands a (h .is))
 
 -- ---- calls on a store
 
@@ -70,7 +63,7 @@ translates-not {file} {kinds} {operands} {a} h = record {
 pub few-lines : {file kinds : List ℕ} {operands : List ℤ} {l d : ℕ} {kinds′ : List ℕ} {operands′ : List ℤ} →
     Loads file kinds operands (Ready l d) kinds′ operands′ → l ≤ 4096
 unfolding admitted code-fits
-few-lines {file} {kinds} {operands} {l} {d} h = go (judged (h .node) file) (h .is)
+few-lines {file} {kinds} {operands} {l} {d} h = go (judged file) (h .is)
   where
     go : (verdict : Verdict) → Ready l d ≡ told-load (admitted-if (room kinds operands) verdict) → l ≤ 4096
     go (refused n p) e = absurd (let z : _≡_ {A = ℕ} 0 1 = cc in omega arith)
@@ -176,13 +169,9 @@ module _ {file kinds : List ℕ} {operands slots : List ℤ} {heads : List ℕ} 
   -- loading refused the script
   pub replies-refused : {a : ℕ} {kinds′ : List ℕ} {operands′ : List ℤ} →
       Loads file kinds operands (Refused a) kinds′ operands′ →
-      Replies file (λ node. call (admitted node file (room kinds operands))) a kinds′ operands′ slots heads
+      Replies (call (admitted file (room kinds operands))) a kinds′ operands′ slots heads
   unfolding refusing
-  replies-refused {a} h = record {
-    node = h .node;
-    faulty = h .faulty;
-    is = rw (h .kinds-are, h .operands-are) (by (admitted (h .node) file (room kinds operands)) (h .is));
-  }
+  replies-refused {a} h = rw (h .kinds-are, h .operands-are) (by (admitted file (room kinds operands)) (h .is))
     where
       by : (verdict : Verdict) → Refused a ≡ told-load verdict → record {
         answer = a;
@@ -199,7 +188,7 @@ module _ {file kinds : List ℕ} {operands slots : List ℤ} {heads : List ℕ} 
       (h : Loads file kinds operands (Ready l d) kinds′ operands′)
       (kinds-long : length kinds′ ≡ length kinds) (operands-long : length operands′ ≡ length operands)
       {a : ℕ} {kinds″ : List ℕ} {operands″ : List ℤ} {slots′ : List ℤ} {heads′ : List ℕ} where
-    told : (fs : Script) → admitted (h .node) file (room kinds operands) ≡ accepted fs → (r : Ended) → SmallAnswer r →
+    told : (fs : Script) → admitted file (room kinds operands) ≡ accepted fs → (r : Ended) → SmallAnswer r →
         Tells r kinds′ operands′ a kinds″ operands″ →
         _≡_ {A = StoreReply} (record
         { answer = a; kinds = kinds″; operands = operands″; slots = slots′; heads = heads′ })
@@ -212,20 +201,16 @@ module _ {file kinds : List ℕ} {operands slots : List ℤ} {heads : List ℕ} 
         ) refl
     told fs q (E.Refused number) few t = rw (t .0, t .1 .0, t .1 .1, kinds-long, operands-long) refl
 
-    pub replies-told : (r : Ended) → ((fs : Script) → admitted (h .node) file (room kinds operands) ≡ accepted fs →
+    pub replies-told : (r : Ended) → ((fs : Script) → admitted file (room kinds operands) ≡ accepted fs →
         d ≡ main-depth fs → (left r slots′ heads′ ≡ part fs) × SmallAnswer r) →
         Tells r kinds′ operands′ a kinds″ operands″ →
-        Replies file (λ node. call (admitted node file (room kinds operands))) a kinds″ operands″ slots′ heads′
-    replies-told r e t = record {
-      node = h .node;
-      faulty = h .faulty;
-      is = by (admitted (h .node) file (room kinds operands)) refl (h .is);
-    }
+        Replies (call (admitted file (room kinds operands))) a kinds″ operands″ slots′ heads′
+    replies-told r e t = by (admitted file (room kinds operands)) refl (h .is)
       where
-        by : (v : Verdict) → admitted (h .node) file (room kinds operands) ≡ v → Ready l d ≡ told-load v →
+        by : (v : Verdict) → admitted file (room kinds operands) ≡ v → Ready l d ≡ told-load v →
             _≡_ {A = StoreReply} (record
             { answer = a; kinds = kinds″; operands = operands″; slots = slots′; heads = heads′ })
-            (call (admitted (h .node) file (room kinds operands)))
+            (call (admitted file (room kinds operands)))
         by (refused m p) q g = absurd (let z : _≡_ {A = ℕ} 0 1 = cc in omega arith)
         by (accepted fs) q g =
             let same : d ≡ main-depth fs = cc in

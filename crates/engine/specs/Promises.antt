@@ -1,20 +1,15 @@
--- What the calls promise: the answer and every lent word, as the definition gives them. Where 6 or 7 is given, the node
--- stands by name, with the property that it breaks the rule.
+-- What the calls promise: the answer and every lent word, as the definition gives them.
 use Prim.Native.Nat.{ℕ}
 use mathlib.Core.Path.{_≡_}
 use mathlib.Core.List.{List}
 use lib.IntN.{ℤ}
-use Rattle.semantics.specs.Calls.{Faulty, StoreReply, engine-translate}
+use Rattle.semantics.specs.Calls.{Reply, StoreReply}
 
-pub record Translates (file kinds : List ℕ) (operands : List ℤ) (answer : ℕ) (kinds′ : List ℕ) (operands′ : List ℤ)
-    : Type 0 where
-  pub node : ℕ
-  pub faulty : Faulty file node
-  pub is : record { answer = answer; kinds = kinds′; operands = operands′ } ≡ engine-translate node file kinds operands
+-- a translation, and the reply that the definition gives
+abbrev pub Translates : Reply → ℕ → List ℕ → List ℤ → Type 0
+Translates reply answer kinds′ operands′ = record { answer = answer; kinds = kinds′; operands = operands′ } ≡ reply
 
--- a call on a store; `reply` is what it gives for a node
-pub record Replies (file : List ℕ) (reply : ℕ → StoreReply) (answer : ℕ) (kinds′ : List ℕ) (operands′ slots′ : List ℤ)
-    (heads′ : List ℕ) : Type 0 where
-  pub node : ℕ
-  pub faulty : Faulty file node
-  pub is : record { answer = answer; kinds = kinds′; operands = operands′; slots = slots′; heads = heads′ } ≡ reply node
+-- the same of a call on a store
+abbrev pub Replies : StoreReply → ℕ → List ℕ → List ℤ → List ℤ → List ℕ → Type 0
+Replies reply answer kinds′ operands′ slots′ heads′ =
+    record { answer = answer; kinds = kinds′; operands = operands′; slots = slots′; heads = heads′ } ≡ reply

@@ -2,7 +2,7 @@
 // number.
 use engine_load::Loaded;
 use engine_store::Ended;
-ghost use Rattle.semantics.specs.Calls.{engine-open, engine-check, engine-deliver};
+ghost use Rattle.semantics.specs.Calls.{engine-translate, engine-open, engine-check, engine-deliver};
 ghost use Rattle.engine.specs.Promises.{Translates, Replies};
 ghost use Rattle.engine.specs.Told.{Tells};
 
@@ -28,8 +28,9 @@ fn tell(ended: Ended, kinds: &mut [u8], operands: &mut [i64]) -> u64
 // Translates a script: its code in the two arrays, and its lines in the answer.
 #[no_mangle]
 pub extern "C" fn engine_translate(file: &[u8], kinds: &mut [u8], operands: &mut [i64]) -> u64
-    ensures { λ r. ⌜ Translates (now (file .entry)) (now (kinds .entry)) (now (operands .entry)) r
-        (now (kinds .exit)) (now (operands .exit)) ⌝ }
+    ensures { λ r. ⌜ Translates
+        (engine-translate (now (file .entry)) (now (kinds .entry)) (now (operands .entry)))
+        r (now (kinds .exit)) (now (operands .exit)) ⌝ }
 {
     match engine_load::load(file, kinds, operands) {
         Loaded::Ready(lines, _) => words::pack(0, 0, lines as u64, 0),
@@ -46,8 +47,8 @@ pub extern "C" fn engine_open(
     slots: &mut [i64],
     heads: &mut [u32],
 ) -> u64
-    ensures { λ r. ⌜ Replies (now (file .entry))
-        (λ node. engine-open node (now (file .entry)) (now (kinds .entry)) (now (operands .entry))
+    ensures { λ r. ⌜ Replies
+        (engine-open (now (file .entry)) (now (kinds .entry)) (now (operands .entry))
         (now (slots .entry)) (now (heads .entry)))
         r (now (kinds .exit)) (now (operands .exit)) (now (slots .exit)) (now (heads .exit)) ⌝ }
 {
@@ -69,8 +70,8 @@ pub extern "C" fn engine_check(
     slots: &[i64],
     heads: &[u32],
 ) -> u64
-    ensures { λ r. ⌜ Replies (now (file .entry))
-        (λ node. engine-check node (now (file .entry)) (now (kinds .entry)) (now (operands .entry))
+    ensures { λ r. ⌜ Replies
+        (engine-check (now (file .entry)) (now (kinds .entry)) (now (operands .entry))
         (now (slots .entry)) (now (heads .entry)))
         r (now (kinds .exit)) (now (operands .exit)) (now (slots .entry)) (now (heads .entry)) ⌝ }
 {
@@ -94,8 +95,8 @@ pub extern "C" fn engine_deliver(
     readings: &[i64],
     budget: u64,
 ) -> u64
-    ensures { λ r. ⌜ Replies (now (file .entry))
-        (λ node. engine-deliver node (now (file .entry)) (now (kinds .entry)) (now (operands .entry))
+    ensures { λ r. ⌜ Replies
+        (engine-deliver (now (file .entry)) (now (kinds .entry)) (now (operands .entry))
         (now (slots .entry)) (now (heads .entry)) (now (readings .entry)) budget)
         r (now (kinds .exit)) (now (operands .exit)) (now (slots .exit)) (now (heads .exit)) ⌝ }
 {

@@ -52,7 +52,7 @@ shown-lowest : (budget : ℕ) (σ : Store) (o : Outcome State (Unit {0})) →
 shown-lowest budget σ (done a s) = refl
 shown-lowest budget σ (stop n s) = refl
 
-module _ (node : ℕ) (file : List ℕ) (fs : Script) (ok : judged node file ≡ accepted fs) (few : length fs ≤ 32)
+module _ (file : List ℕ) (fs : Script) (ok : judged file ≡ accepted fs) (few : length fs ≤ 32)
     (c : M.Code) (coded : Coded fs c) (readings : List ℤ) (budget : ℕ) (slots : List ℤ) (heads : List ℕ) (d : ℕ)
     (same : d ≡ main-depth fs) (request : request-fits readings budget ≡ true)
     (fine : sound-words d slots heads ≡ true) where
@@ -65,7 +65,7 @@ module _ (node : ℕ) (file : List ℕ) (fs : Script) (ok : judged node file ≡
   -- the delivery of the definitions
   is-delivered : shown ≡ delivered (program fs) readings budget (store-of slots heads)
   is-delivered = ap (λ x. delivered-on c readings x budget (store-of slots heads)) same
-      ∙ deliver-accepted node file fs ok few c coded readings budget slots heads fine-main request
+      ∙ deliver-accepted file fs ok few c coded readings budget slots heads fine-main request
 
   pub delivers : {slots′ : List ℤ} {heads′ : List ℕ} {number lowest steps n : ℕ} →
       LengthsKept slots heads slots′ heads′ → store-of slots′ heads′ ≡ shown .store → number ≡ shown .number →

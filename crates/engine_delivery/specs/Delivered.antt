@@ -33,6 +33,6 @@ delivered-left fs readings budget slots heads =
 abbrev pub DeliversWords : List ℕ → List ℤ → List ℕ → List ℤ → List ℕ → List ℤ → ℕ → ℕ → Ended → List ℤ → List ℕ →
     Type 0
 DeliversWords kinds operands table slots heads readings depth budget r slots′ heads′ =
-    (node : ℕ) (file : List ℕ) (fs : Script) → judged node file ≡ accepted fs → length fs ≤ 32 →
+    (file : List ℕ) (fs : Script) → judged file ≡ accepted fs → length fs ≤ 32 →
     Coded fs (M.code kinds operands table) → depth ≡ main-depth fs →
     (left r slots′ heads′ ≡ delivered-left fs readings budget slots heads) × SmallAnswer r

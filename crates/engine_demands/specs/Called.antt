@@ -57,12 +57,12 @@ compiled = record { opens = OpenCall; delivers = DeliverCall }
 opens-defined : (file kinds : List ℕ) (operands slots : List ℤ) (heads : List ℕ) (r : StoreReply) →
     OpenCall file kinds operands slots heads r → defined .opens file kinds operands slots heads r
 unfolding defined
-opens-defined file kinds operands slots heads r (opens κs a q s h) = (h .node, h .is)
+opens-defined file kinds operands slots heads r (opens κs a q s h) = h
 
 delivers-defined : (file : List ℕ) (slots : List ℤ) (heads : List ℕ) (δ : Delivery) (r : StoreReply) →
     DeliverCall file slots heads δ r → defined .delivers file slots heads δ r
 unfolding defined
-delivers-defined file slots heads δ r (delivers κs a q s h) = (h .node, h .is)
+delivers-defined file slots heads δ r (delivers κs a q s h) = h
 
 -- For every opening that answered 0, and every list of calls of `engine_deliver` after it, on its file and store.
 pub demand-3-of-calls : Demand3 compiled

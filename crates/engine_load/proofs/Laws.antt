@@ -38,26 +38,22 @@ no-equation e = absurd (omega arith)
 pub record AcceptedFile (file : List ℕ) (f n : ℕ) : Type 0 where
   pub tree : Script
   pub last : ℕ
-  pub judged-so : (node : ℕ) → judged node file ≡ C.accepted tree
+  pub judged-so : judged file ≡ C.accepted tree
   pub reads : read-file file ≡ done tree last
   pub functions : f ≡ bytes-at 2 file 0
   pub nodes : n ≡ bytes-at 2 file 2
 
 pub accepted-file : (file : List ℕ) (f n : ℕ) → Judges file (Accepted f n) → AcceptedFile file f n
 unfolding judged
-accepted-file file f n h = go (read-file file) refl (h .is)
+accepted-file file f n h = go (read-file file) refl h
   where
-    by-node : (node : ℕ) (fs : Script) (q : ℕ) → read-file file ≡ done fs q → name-faults fs ≡ [] →
-        type-faults fs ≡ [] → too-many-names fs ≡ none → judged node file ≡ C.accepted fs
-    by-node node fs q r a b c = rw (r, a, b, c) refl
-
     by : (fs : Script) (q : ℕ) → read-file file ≡ done fs q → (l m : List ℕ) (o : Option ℕ) → name-faults fs ≡ l →
         type-faults fs ≡ m → too-many-names fs ≡ o →
-        Accepted f n ≡ told-verdict file (judged-script 0 fs l m o) → AcceptedFile file f n
+        Accepted f n ≡ told-verdict file (judged-script fs l m o) → AcceptedFile file f n
     by fs q r [] [] none a b c e = record {
       tree = fs;
       last = q;
-      judged-so = λ node. by-node node fs q r a b c;
+      judged-so = rw (r, a, b, c) refl;
       reads = r;
       functions = let z : f ≡ bytes-at 2 file 0 = cc in z;
       nodes = let z : n ≡ bytes-at 2 file 2 = cc in z;
@@ -66,8 +62,7 @@ accepted-file file f n h = go (read-file file) refl (h .is)
     by fs q r [] (x ∷ m) o a b c e = no-equation (let z : _≡_ {A = ℕ} 0 1 = cc in z)
     by fs q r (x ∷ l) m o a b c e = no-equation (let z : _≡_ {A = ℕ} 0 1 = cc in z)
 
-    go : (o : Outcome ℕ Script) → read-file file ≡ o → Accepted f n ≡ told-verdict file (judged-read 0
-        (read-file file)) →
+    go : (o : Outcome ℕ Script) → read-file file ≡ o → Accepted f n ≡ told-verdict file (judged-read (read-file file)) →
         AcceptedFile file f n
     go (done fs q) r e = by fs q r (name-faults fs) (type-faults fs) (too-many-names fs) refl refl refl (rw r at e)
     go (stop m q) r e = no-equation (let s : Accepted f n ≡ Refused m q = rw r at e in let z : _≡_ {A = ℕ} 0 1 = cc
@@ -88,7 +83,7 @@ module _ {file : List ℕ} {f n : ℕ} (a : AcceptedFile file f n) where
     tree = a .tree;
     last = a .last;
     reads = script-reads;
-    clean = judged-clean 0 file (a .tree) (a .judged-so 0);
+    clean = judged-clean file (a .tree) (a .judged-so);
     started = rw (a .reads) at h;
   }
 
@@ -107,15 +102,15 @@ module _ {file : List ℕ} {f n : ℕ} (a : AcceptedFile file f n) where
 -- ---- the ways out
 
 -- the verdict is a refusal 1 to 8
-pub refused-so : {file : List ℕ} {n p : ℕ} → Judges file (Refused n p) → judged p file ≡ C.refused n p
-refused-so {file} {n} {p} j = go (judged p file) (j .is)
+pub refused-so : (file : List ℕ) {n p : ℕ} → Judges file (Refused n p) → judged file ≡ C.refused n p
+refused-so file {n} {p} j = go (judged file) j
   where
     go : (v : C.Verdict) → Refused n p ≡ told-verdict file v → v ≡ C.refused n p
     go (C.accepted fs) e = no-equation (let z : _≡_ {A = ℕ} 0 1 = cc in z)
     go (C.refused m q) e = cc
 
-pub node-fits : {file : List ℕ} {n p : ℕ} → Judges file (Refused n p) → p ≤ 1024
-node-fits {file} {n} {p} j = refused-node p n p file (j .faulty) (refused-so j)
+pub node-fits : (file : List ℕ) {n p : ℕ} → Judges file (Refused n p) → p ≤ 1024
+node-fits file {n} {p} j = refused-node n p file (refused-so file j)
 
 -- an answer of the translator, as one of loading
 abbrev pub ready : ℕ → Outcome (Unit {0}) ℕ → Loaded
@@ -145,20 +140,16 @@ module _ {file : List ℕ} {kinds : List ℕ} {operands : List ℤ} {kinds′ : 
       by true q g =
           let s = rw q at g in
           record {
-            node = 0;
-            faulty = j .faulty;
-            is = rw (a .judged-so 0, q, e, depth-read a) (ap (λ l. ready (main-depth fs) (l .answer)) s);
-            kinds-are = rw (a .judged-so 0, q) (ap (λ l. l .kinds) s);
-            operands-are = rw (a .judged-so 0, q) (ap (λ l. l .operands) s);
+            is = rw (a .judged-so, q, e, depth-read a) (ap (λ l. ready (main-depth fs) (l .answer)) s);
+            kinds-are = rw (a .judged-so, q) (ap (λ l. l .kinds) s);
+            operands-are = rw (a .judged-so, q) (ap (λ l. l .operands) s);
           }
       by false q g =
           let s = rw q at g in
           record {
-            node = 0;
-            faulty = j .faulty;
-            is = rw (a .judged-so 0, q) (ap (λ l. ready d (l .answer)) s);
-            kinds-are = rw (a .judged-so 0, q) (ap (λ l. l .kinds) s);
-            operands-are = rw (a .judged-so 0, q) (ap (λ l. l .operands) s);
+            is = rw (a .judged-so, q) (ap (λ l. ready d (l .answer)) s);
+            kinds-are = rw (a .judged-so, q) (ap (λ l. l .kinds) s);
+            operands-are = rw (a .judged-so, q) (ap (λ l. l .operands) s);
           }
 
   pub loads-refusal : {n p a : ℕ} → Judges file (Refused n p) → a ≡ packed n p 0 0 →
@@ -166,9 +157,7 @@ module _ {file : List ℕ} {kinds : List ℕ} {operands : List ℤ} {kinds′ : 
       Loads file kinds operands (L.Refused a) kinds′ operands′
   unfolding admitted
   loads-refusal {n} {p} j e k o = record {
-    node = p;
-    faulty = j .faulty;
-    is = rw (refused-so j, e) refl;
-    kinds-are = rw (refused-so j) k;
-    operands-are = rw (refused-so j) o;
+    is = rw (refused-so file j, e) refl;
+    kinds-are = rw (refused-so file j) k;
+    operands-are = rw (refused-so file j) o;
   }

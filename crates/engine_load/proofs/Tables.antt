@@ -19,7 +19,7 @@ use Rattle.script_read.proofs.Written.{script-written}
 use Rattle.script.specs.declared.Verdict.the-variants.{Accepted, Refused}
 use Rattle.script.specs.Verdicts.{Judges}
 use Rattle.script.proofs.Whole.{kinds-of, operands-of}
-use Rattle.script_nodes.specs.Free.{no-script, admitted-free}
+use Rattle.script_nodes.specs.Admitted.{no-script, admitted-judged}
 use Rattle.soundness.specs.annotation.Accepting.{judged-clean}
 use Rattle.machine_code.specs.Reading.{depth-in, start-in}
 use Rattle.machine_positions.specs.Machine as M
@@ -45,10 +45,10 @@ zeros-past (x ∷ xs) k (suc q) h = zeros-past xs k q (omega arith)
 
 -- an accepted file is admitted just where its code fits
 module _ {file : List ℕ} {f n : ℕ} (a : AcceptedFile file f n) where
-  pub admitted-so : (node lines : ℕ) (fs : Script) → admitted node file lines ≡ C.accepted fs →
+  pub admitted-so : (lines : ℕ) (fs : Script) → admitted file lines ≡ C.accepted fs →
       (fs ≡ a .tree) × (code-fits (a .tree) lines ≡ true)
   unfolding admitted
-  admitted-so node lines fs e = by (code-fits (a .tree) lines) refl (rw (a .judged-so node) at e)
+  admitted-so lines fs e = by (code-fits (a .tree) lines) refl (rw (a .judged-so) at e)
     where
       by : (t : Bool) → code-fits (a .tree) lines ≡ t → cond t (C.accepted (a .tree)) (C.refused 9 0) ≡ C.accepted fs →
           (fs ≡ a .tree) × (code-fits (a .tree) lines ≡ true)
@@ -95,7 +95,7 @@ module _ {file : List ℕ} {f n : ℕ} (a : AcceptedFile file f n) where
         let name : 0 + g ≡ g = omega arith in
         let place : 0 + body-at fs fs g ≡ body-at fs fs g = omega arith in
         subst (λ (m : ℕ). start-in (starts-from (length fs) ks os 0 0 table) m ≡ body-at fs fs g) name
-        (starts-stand ks os fs fs 0 0 table written (judged-clean 0 file fs (a .judged-so 0) .limits .1) long jumps
+        (starts-stand ks os fs fs 0 0 table written (judged-clean file fs (a .judged-so) .limits .1) long jumps
         (omega (arith, few)) (omega (arith, short)) g l ∙ place)
 
     -- the table after the pass over the rows and the one over the functions
@@ -176,7 +176,7 @@ module _ {file kinds : List ℕ} {operands : List ℤ} {table kinds′ : List �
   unfolding left-of
   loads-with-laid {f} {n} r d table′ j e left deep = record {
     loads = loads-laid r d j e left;
-    coded = λ node fs g long. by fs (admitted-so a node (room kinds operands) fs g) (rw (script-reads a) at left)
+    coded = λ fs g long. by fs (admitted-so a (room kinds operands) fs g) (rw (script-reads a) at left)
         (rw (script-reads a) at deep) long;
   }
     where
@@ -198,6 +198,5 @@ module _ {file kinds : List ℕ} {operands : List ℤ} {table kinds′ : List �
   unfolding admitted
   loads-with-refusal {n} {p} j e k o = record {
     loads = loads-refusal j e k o;
-    coded = λ node fs g long. no-script n p fs (rw (refused-so j) at (admitted-free node p fs file
-        (room kinds operands) g));
+    coded = λ fs g long. no-script n p fs (rw (refused-so file j) at (admitted-judged fs file (room kinds operands) g));
   }

@@ -6,7 +6,7 @@ use lib.IntN.{ℤ, pos}
 use lib.ListN.{length, replicate}
 use Rattle.semantics.specs.Syntax.{Script, main-depth}
 use Rattle.semantics.specs.Annotate.{code}
-use Rattle.semantics.specs.Calls.{Verdict, accepted, refused, Faulty, packed, admitted, room, code-kinds, code-operands}
+use Rattle.semantics.specs.Calls.{Verdict, accepted, refused, packed, admitted, room, code-kinds, code-operands}
 use Rattle.machine_positions.specs.Machine as M
 use Rattle.machine_laws.specs.Script.{Coded}
 use Rattle.engine_load.specs.declared.Loaded.{Loaded}
@@ -25,19 +25,17 @@ abbrev pub operands-after : Verdict → List ℤ → List ℤ
 operands-after (accepted fs) operands = code-operands fs operands
 operands-after (refused n p) operands = replicate (length operands) (pos 0)
 
--- the verdict on a file with refusal 9, for a node that breaks the rule where 6 or 7 is given
+-- the verdict on a file with refusal 9
 pub record Loads (file kinds : List ℕ) (operands : List ℤ) (r : Loaded) (kinds′ : List ℕ) (operands′ : List ℤ)
     : Type 0 where
-  pub node : ℕ
-  pub faulty : Faulty file node
-  pub is : r ≡ told-load (admitted node file (room kinds operands))
-  pub kinds-are : kinds′ ≡ kinds-after (admitted node file (room kinds operands)) kinds
-  pub operands-are : operands′ ≡ operands-after (admitted node file (room kinds operands)) operands
+  pub is : r ≡ told-load (admitted file (room kinds operands))
+  pub kinds-are : kinds′ ≡ kinds-after (admitted file (room kinds operands)) kinds
+  pub operands-are : operands′ ≡ operands-after (admitted file (room kinds operands)) operands
 
 -- and where the script is ready, code and table are what the machine needs; the table has 256 depths for each of 32
 -- functions, and then two bytes for the position of each and for that after the tree at each of 4,096 rows
 pub record LoadsWith (file kinds : List ℕ) (operands : List ℤ) (table : List ℕ) (r : Loaded) (kinds′ : List ℕ)
     (operands′ : List ℤ) (table′ : List ℕ) : Type 0 where
   pub loads : Loads file kinds operands r kinds′ operands′
-  pub coded : (node : ℕ) (fs : Script) → admitted node file (room kinds operands) ≡ accepted fs →
+  pub coded : (fs : Script) → admitted file (room kinds operands) ≡ accepted fs →
       16448 ≤ length table → (length fs ≤ 32) × Coded fs (M.code kinds′ operands′ table′)

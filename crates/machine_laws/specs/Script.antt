@@ -111,9 +111,9 @@ few-parameters [] g h = omega arith
 few-parameters (f ∷ gs) zero h = h .0 .parameters
 few-parameters (f ∷ gs) (suc g) h = few-parameters gs g (h .1)
 
-module _ (node : ℕ) (file : List ℕ) (fs : Script) (ok : judged node file ≡ accepted fs) (few : length fs ≤ 32) where
+module _ (file : List ℕ) (fs : Script) (ok : judged file ≡ accepted fs) (few : length fs ≤ 32) where
   clean : Clean fs
-  clean = judged-clean node file fs ok
+  clean = judged-clean file fs ok
 
   routines : length (program fs .routines) ≡ length fs
   unfolding program
@@ -127,7 +127,7 @@ module _ (node : ℕ) (file : List ℕ) (fs : Script) (ok : judged node file ≡
   unfolding routine code program
   stands c held f l =
       let h : f < length fs = omega (arith, l, routines) in
-      let d = functions-disciplined node file fs ok f in
+      let d = functions-disciplined file fs ok f in
       record {
         fitting = d .fits;
         scoped = d .scoped;
@@ -151,9 +151,9 @@ module _ (node : ℕ) (file : List ℕ) (fs : Script) (ok : judged node file ≡
   unfolding program
   deliver-accepted c held readings budget slots heads sound request =
       delivered-same (program fs) (omega (arith, few, routines)) c (omega (arith, clean .limits .0, routines))
-      (sym (ap (λ s. length (s .parameters)) (main-shape-of node file fs ok .0))) (stands c held) (held .ends) readings
+      (sym (ap (λ s. length (s .parameters)) (main-shape-of file fs ok .0))) (stands c held) (held .ends) readings
       budget (store-of slots heads)
-      (levels-bounded node file fs ok (held .short) slots heads sound readings budget request)
+      (levels-bounded file fs ok (held .short) slots heads sound readings budget request)
 
 -- what `code-kinds` and `code-operands` leave in the arrays
 pub code-written : (fs : Script) (ks : List ℕ) (os : List ℤ) →

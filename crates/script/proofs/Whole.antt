@@ -8,8 +8,7 @@ use native.Mathlib.Omega.{arith}
 use lib.Dec.{leb, ltb, eqb}
 use lib.ListN.{length, take, drop, length-take, length-drop}
 use lib.Seq.{take-all}
-use borrow.Author.Tests.{eqb-true, leb-true, eq-eqb}
-use Rattle.semantics.specs.Basics.{occurrences, _∈_}
+use borrow.Author.Tests.{eqb-true, leb-true}
 use Rattle.semantics.specs.Outcome.{Outcome, done, stop}
 use Rattle.semantics.specs.Number.{bytes-at}
 use Rattle.semantics.specs.Syntax.{Script}
@@ -17,11 +16,13 @@ use Rattle.semantics.specs.File.{script, read-file, between}
 use Rattle.semantics.specs.Names.{name-faults}
 use Rattle.semantics.specs.Types.{type-faults}
 use Rattle.semantics.specs.Normal.{too-many-names}
-use Rattle.semantics.specs.Calls.{judged, judged-script, Faulty-in}
+use Rattle.semantics.specs.Calls.{judged, judged-script}
 use Rattle.script_read.specs.Told.{Parts, told}
 use Rattle.script_read.specs.declared.Read.the-variants as R
 use Rattle.laws.specs.Tests.{both-hold}
-use Rattle.script.specs.Verdicts.{Readable, told-verdict, node-of, Judges, refused-by, listed, checked-as}
+use Rattle.script_nodes.specs.Faults.{Rising}
+use Rattle.script_nodes.specs.Nodes.{names-rise, types-rise, first-least}
+use Rattle.script.specs.Verdicts.{Readable, told-verdict, Judges, refused-by, listed, checked-as}
 use Rattle.script.specs.declared.Verdict.{Verdict}
 use Rattle.script.specs.declared.Verdict.the-variants.{Accepted, Refused}
 
@@ -93,19 +94,15 @@ module _ (l : List ℕ) (f n q : ℕ) (fe : f ≡ bytes-at 2 l 0) (ne : n ≡ by
             sized = simp (length-take, length-drop) (omega arith);
           }
 
--- the verdict with the lowest node is one that the definitions allow
-among : (p : ℕ) (l : List ℕ) → p ∈ (p ∷ l)
-unfolding occurrences
-among p l = rw (eq-eqb p p refl) (omega arith)
-
+-- the verdict with the first node has the lowest
 module _ (l : List ℕ) (r : Verdict) where
-  by-faults : (fs : Script) (a b : List ℕ) (c : Option ℕ) →
+  by-faults : (fs : Script) (a b : List ℕ) (c : Option ℕ) → Rising a → Rising b →
       r ≡ refused-by 6 a (refused-by 7 b (refused-by 8 (listed c) (Accepted (bytes-at 2 l 0) (bytes-at 2 l 2)))) →
-      (r ≡ told-verdict l (judged-script (node-of r) fs a b c)) × Faulty-in (node-of r) a b
-  by-faults fs [] [] none e = rw e (refl, tt)
-  by-faults fs [] [] (some p) e = rw e (refl, tt)
-  by-faults fs [] (q ∷ qs) c e = rw e (refl, among q qs)
-  by-faults fs (p ∷ ps) b c e = rw e (refl, among p ps)
+      r ≡ told-verdict l (judged-script fs a b c)
+  by-faults fs [] [] none h k e = e
+  by-faults fs [] [] (some p) h k e = e
+  by-faults fs [] (q ∷ qs) c h k e = rw (first-least q qs k) e
+  by-faults fs (p ∷ ps) b c h k e = rw (first-least p ps h) e
 
   pub judges : r ≡ checked-as (bytes-at 2 l 0) (bytes-at 2 l 2) (read-file l) → Judges l r
   unfolding judged
@@ -113,9 +110,8 @@ module _ (l : List ℕ) (r : Verdict) where
     where
       go : (o : Outcome ℕ Script) → read-file l ≡ o → r ≡ checked-as (bytes-at 2 l 0) (bytes-at 2 l 2) o → Judges l r
       go (done fs q) i e =
-          let h = by-faults fs (name-faults fs) (type-faults fs) (too-many-names fs) e in
-          record { is = rw i (h .0); faulty = rw i (h .1) }
-      go (stop n p) i e = record { is = rw (i, e); faulty = rw i tt }
+          rw i (by-faults fs (name-faults fs) (type-faults fs) (too-many-names fs) (names-rise fs) (types-rise fs) e)
+      go (stop n p) i e = rw i e
 
   pub refused : (n p : ℕ) → r ≡ Refused n p → R.Refused n p ≡ told (read-file l) → Judges l r
   refused n p e f = judges (e ∙ go (read-file l) f)

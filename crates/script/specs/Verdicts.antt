@@ -11,7 +11,7 @@ use Rattle.semantics.specs.Names.{name-faults}
 use Rattle.semantics.specs.Types.{type-faults}
 use Rattle.semantics.specs.Normal.{too-many-names}
 use Rattle.semantics.specs.Calls as C
-use Rattle.semantics.specs.Calls.{judged, Faulty}
+use Rattle.semantics.specs.Calls.{judged}
 use Rattle.script_read.specs.Told.{Parts}
 use Rattle.script.specs.declared.Verdict.{Verdict}
 use Rattle.script.specs.declared.Verdict.the-variants.{Accepted, Refused}
@@ -21,16 +21,9 @@ abbrev pub told-verdict : List ℕ → C.Verdict → Verdict
 told-verdict file (C.accepted fs) = Accepted (bytes-at 2 file 0) (bytes-at 2 file 2)
 told-verdict file (C.refused n p) = Refused n p
 
--- the node that a verdict gives
-abbrev pub node-of : Verdict → ℕ
-node-of (Accepted f n) = 0
-node-of (Refused n p) = p
-
--- The promise of `judge`: the verdict is document 01's, and its node, where the document leaves it free
--- (6 and 7), is one that breaks the rule.
-pub record Judges (file : List ℕ) (r : Verdict) : Type 0 where
-  pub is : r ≡ told-verdict file (judged (node-of r) file)
-  pub faulty : Faulty file (node-of r)
+-- the promise of `judge`: the verdict is the documents'
+abbrev pub Judges : List ℕ → Verdict → Type 0
+Judges file r = r ≡ told-verdict file (judged file)
 
 -- the two parts of a file that the reader takes
 pub record Readable (kinds operands : List ℕ) (functions : ℕ) : Type 0 where
@@ -50,7 +43,7 @@ abbrev pub listed : Option ℕ → List ℕ
 listed none = []
 listed (some p) = p ∷ []
 
--- the verdict with the lowest node, by what is read: 6, 7 and 8 each over the whole file
+-- the verdict with the first node, by what is read: 6, 7 and 8 each over the whole file
 abbrev pub checked-as : ℕ → ℕ → Outcome ℕ Script → Verdict
 checked-as f n (done fs q) =
     refused-by 6 (name-faults fs)

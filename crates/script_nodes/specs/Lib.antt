@@ -1,4 +1,4 @@
 pub mod Reading
 pub mod Faults
 pub mod Nodes
-pub mod Free
+pub mod Admitted

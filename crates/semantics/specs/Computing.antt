@@ -1,5 +1,5 @@
 -- `unfolding computing` opens every definition that the trials compute with.
-use Rattle.semantics.specs.Basics.{tabulate, all, occurrences, each, updated}
+use Rattle.semantics.specs.Basics.{tabulate, all, occurrences, least, each, updated}
 use Rattle.semantics.specs.Outcome.{onward, require, times, passes}
 use Rattle.semantics.specs.Number.{bytes-at}
 use Rattle.semantics.specs.Syntax.{size, function-size}
@@ -38,7 +38,7 @@ use Rattle.semantics.specs.Ledger.{entry}
 use Rattle.semantics.specs.Demands.{value-of, touched}
 
 unfoldable pub computing : Unit {0}
-unfolding tabulate all occurrences each updated onward require times passes bytes-at size function-size
+unfolding tabulate all occurrences least each updated onward require times passes bytes-at size function-size
     part-count node-of
     parts node-at look part parameter function finish script read-file unknown unknown-from unknown-in name-faults
     node loop-node check check-function function-faults type-faults ending rows fresh too-many-names-from atom lines

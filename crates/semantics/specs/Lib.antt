@@ -24,4 +24,5 @@ pub mod Trials
 pub mod Slips
 pub mod Second
 pub mod Levels
+pub mod Lowest
 pub mod Watched

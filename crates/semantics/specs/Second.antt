@@ -77,7 +77,7 @@ code-of (accepted fs) = code fs
 code-of (refused n p) = row n p ∷ []
 
 unfoldable pub coded : List Row → List Row
-coded nodes = code-of (judged 0 (file-of 1 nodes))
+coded nodes = code-of (judged (file-of 1 nodes))
 
 pub second-code :
     coded repeating ∷ coded folding ∷ coded start-in-the-tree ∷ coded hidden-first ∷ coded nested ∷ []
@@ -132,8 +132,8 @@ unfoldable pub answer-on : ℕ → List ℕ → List ℤ → ℕ
 answer-on cells file readings =
     let kinds : List ℕ = replicate 64 0 in
     let operands : List ℤ = replicate 64 (pos 0) in
-    let r = engine-open 0 file kinds operands (replicate (1 + 16 * cells) (pos 0)) (replicate (1 + 4 * cells) 0) in
-    engine-deliver 0 file kinds operands (r .slots) (r .heads) readings 1000 .answer
+    let r = engine-open file kinds operands (replicate (1 + 16 * cells) (pos 0)) (replicate (1 + 4 * cells) 0) in
+    engine-deliver file kinds operands (r .slots) (r .heads) readings 1000 .answer
 
 -- whether the ledger lets a first delivery on the totals v be dry after so many steps
 unfoldable pub may-be-dry : Verdict → Value → List ℤ → ℕ → Bool
@@ -141,7 +141,7 @@ may-be-dry (accepted fs) v readings steps = wants-cell steps (main-meaning fs v 
 may-be-dry (refused n p) v readings steps = false
 
 unfoldable pub dry-at : List Row → Value → List ℤ → ℕ → Bool
-dry-at nodes v readings steps = may-be-dry (judged 0 (file-of 1 nodes)) v readings steps
+dry-at nodes v readings steps = may-be-dry (judged (file-of 1 nodes)) v readings steps
 
 -- With no cell free a count out of range is 26, and one in range 25; a filter wants its cell after its array's; a reduce
 -- wants none.

@@ -112,7 +112,7 @@ dry-of (stop n s) =
 -- a delivery of two readings on a store of 7 cells just opened
 unfoldable pub dry-in : List ℕ → Verdict → Dry
 dry-in file (accepted fs) =
-    let r = engine-open 0 file (replicate 64 0) (replicate 64 (pos 0)) (replicate 113 (pos 0)) (replicate 29 0) in
+    let r = engine-open file (replicate 64 0) (replicate 64 (pos 0)) (replicate 113 (pos 0)) (replicate 29 0) in
     dry-of (delivery (program fs) (pos 5 ∷ pos 6 ∷ []) (starting 100 (store-of (r .slots) (r .heads))))
 dry-in file (refused n p) = record { number = n; left = 0; roots = []; missed = 0; missed-without = [] }
 
@@ -120,7 +120,7 @@ dry-in file (refused n p) = record { number = n; left = 0; roots = []; missed = 
 -- its result so far (3, with 4 and 5 below it) and the literal's atom (6); without any one of these starts a taken cell
 -- is reached from none.
 pub dry-roots :
-    dry-in (file-of 2 map-in-a-call) (judged 0 (file-of 2 map-in-a-call))
+    dry-in (file-of 2 map-in-a-call) (judged (file-of 2 map-in-a-call))
     ≡ record {
       number = 25;
       left = 91;

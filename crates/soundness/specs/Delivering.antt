@@ -51,7 +51,7 @@ finished-settled settled q = record {
   cells = subst (λ n. 1 ≤ n) (sym (q .clean .cells)) (settled .cells);
 }
 
-module _ (node : ℕ) (file : List ℕ) (fs : Script) (ok : judged node file ≡ accepted fs)
+module _ (file : List ℕ) (fs : Script) (ok : judged file ≡ accepted fs)
     (short : length (code fs) ≤ 4096) where
   pub delivers : {σ : Store} {v : Value} → Settled (main-depth fs) σ v → (readings : List ℤ) (budget : ℕ) →
       request-fits readings budget ≡ true →
@@ -62,8 +62,8 @@ module _ (node : ℕ) (file : List ℕ) (fs : Script) (ok : judged node file ≡
       subst (λ w. Delivers (start-of budget σ) (main-depth fs) (delivery (program fs) readings (starting budget σ))
       (main-meaning fs w (numbers readings) budget)) (settled .value)
       (script-delivery fs (value-of σ (main-depth fs) (σ .totals)) (numbers readings) budget
-      (delivery-sound (program fs) (program-disciplined node file fs ok short) true
-      (λ _. program-frugal node file fs ok) readings (few-readings readings budget fits) budget σ (settled .rests)))
+      (delivery-sound (program fs) (program-disciplined file fs ok short) true
+      (λ _. program-frugal file fs ok) readings (few-readings readings budget fits) budget σ (settled .rests)))
 
   -- over a delivery on a sound store never more than 256 cells are free
   pub levels-bounded : (slots : List ℤ) (heads : List ℕ) → sound-words (main-depth fs) slots heads ≡ true →

@@ -17,7 +17,6 @@ use Rattle.semantics.specs.Calls.{engine-open, engine-deliver}
 use Rattle.semantics.specs.Ledger.{Delivery, entry, dry-steps, meant}
 use Rattle.semantics.specs.Demands.{Engine, Call, InTurn, entered, Kept, Demand3, defined}
 use Rattle.laws.specs.Tests.{both-hold}
-use Rattle.script_nodes.specs.Free.{judged-free}
 use Rattle.script_nodes.specs.Nodes.{Numbered, judged-numbered}
 use Rattle.soundness.specs.Answers.{number-packed}
 use Rattle.soundness.specs.Settled.{opened-settles}
@@ -28,9 +27,9 @@ use Rattle.soundness.specs.Settled.{settled-rests}
 
 -- ---- one accepted file
 
-module _ (node : ℕ) (file : List ℕ) (fs : Script) (ok : judged node file ≡ accepted fs) where
+module _ (file : List ℕ) (fs : Script) (ok : judged file ≡ accepted fs) where
   -- an accepted file is refused by 9 alone
-  admitted-is : (lines : ℕ) → admitted node file lines ≡ cond (code-fits fs lines) (accepted fs) (refused 9 0)
+  admitted-is : (lines : ℕ) → admitted file lines ≡ cond (code-fits fs lines) (accepted fs) (refused 9 0)
   unfolding admitted
   admitted-is lines = rw ok
 
@@ -39,7 +38,7 @@ module _ (node : ℕ) (file : List ℕ) (fs : Script) (ok : judged node file ≡
     lines = room (δ .kinds) (δ .operands)
 
     abbrev reply : StoreReply
-    reply = engine-deliver node file (δ .kinds) (δ .operands) slots heads (δ .readings) (δ .budget)
+    reply = engine-deliver file (δ .kinds) (δ .operands) slots heads (δ .readings) (δ .budget)
 
     abbrev Step : Type 0
     Step = Stepped fs slots heads v δ reply (entry fs v δ (dry-steps (reply .answer)))
@@ -56,12 +55,12 @@ module _ (node : ℕ) (file : List ℕ) (fs : Script) (ok : judged node file ≡
             rw (admitted-is lines, e, f, stood .sound)
             (worked-step fs slots heads v δ stood (δ .kinds) (δ .operands) f
             (delivery (program fs) (δ .readings) (starting (δ .budget) (store-of slots heads))) (meant fs v δ) refl refl
-            (delivers node file fs ok (few-lines fs lines (omega arith) e) (standing-settled stood) (δ .readings)
+            (delivers file fs ok (few-lines fs lines (omega arith) e) (standing-settled stood) (δ .readings)
             (δ .budget) f))
 
   module _ (kinds : List ℕ) (operands slots : List ℤ) (heads : List ℕ) where
     abbrev opening : StoreReply
-    opening = engine-open node file kinds operands slots heads
+    opening = engine-open file kinds operands slots heads
 
     few-cells : cells-in slots heads ≤ 256
     unfolding cells-in
@@ -89,31 +88,31 @@ module _ (node : ℕ) (file : List ℕ) (fs : Script) (ok : judged node file ≡
         by true e false f =
             rw (admitted-is (room kinds operands), e, f) (λ z. no-refusal 11 (omega arith) (omega arith) z)
         by true e true f =
-            let shallow = main-shape-of node file fs ok .1 in
+            let shallow = main-shape-of file fs ok .1 in
             let settled = opened-settles (cells-in slots heads) (main-depth fs) (some-cells f) few-cells shallow in
             rw (admitted-is (room kinds operands), e, f) (λ _. settled-standing settled)
 
 -- ---- an opening that answers 0 has an accepted file, for every refusal has another number
 
-pub record Accepts (node : ℕ) (file : List ℕ) : Type 0 where
+pub record Accepts (file : List ℕ) : Type 0 where
   pub script : Script
-  pub so : judged node file ≡ accepted script
+  pub so : judged file ≡ accepted script
 
-pub open-accepts : (node : ℕ) (file kinds : List ℕ) (operands slots : List ℤ) (heads : List ℕ) →
-    number-of (engine-open node file kinds operands slots heads .answer) ≡ 0 → Accepts node file
+pub open-accepts : (file kinds : List ℕ) (operands slots : List ℤ) (heads : List ℕ) →
+    number-of (engine-open file kinds operands slots heads .answer) ≡ 0 → Accepts file
 unfolding engine-open admitted open-for refusing
-open-accepts node file kinds operands slots heads = by (judged node file) refl (judged-numbered node file)
+open-accepts file kinds operands slots heads = by (judged file) refl (judged-numbered file)
   where
-    by : (v : Verdict) → judged node file ≡ v → Numbered v →
+    by : (v : Verdict) → judged file ≡ v → Numbered v →
         number-of (open-for kinds operands slots heads (admitted-if (room kinds operands) v) .answer) ≡ 0 →
-        Accepts node file
+        Accepts file
     by (accepted fs) e ok z = record { script = fs; so = e }
     by (refused n p) e ok z = absurd (omega (arith, number-packed n p 0 0 (omega (arith, ok .1)), z, ok .0))
 
 -- ---- the list
 
--- of the definitions' calls, with whatever nodes
-kept : (file : List ℕ) (fs : Script) → ((node : ℕ) → judged node file ≡ accepted fs) → (cs : List Call) (slots : List ℤ)
+-- of the definitions' calls
+kept : (file : List ℕ) (fs : Script) → judged file ≡ accepted fs → (cs : List Call) (slots : List ℤ)
     (heads : List ℕ) (v : Value) → Standing fs slots heads v → InTurn (defined .delivers file) slots heads cs →
     Kept fs slots heads v cs
 unfolding defined
@@ -123,22 +122,20 @@ kept file fs ok (c ∷ cs) slots heads v s turn =
   where
     one : Stepped fs slots heads v (c .lent) (c .reply) (entered fs v c)
     one = subst (λ r. Stepped fs slots heads v (c .lent) r (entry fs v (c .lent) (dry-steps (r .answer))))
-        (sym (turn .0 .1)) (one-delivery (turn .0 .0) file fs (ok (turn .0 .0)) slots heads v s (c .lent))
+        (sym (turn .0)) (one-delivery file fs ok slots heads v s (c .lent))
 
 pub demand-3 : Demand3 defined
 unfolding defined
 demand-3 file kinds operands slots heads opening opened answered =
-    let node = opened .0 in
-    let z = subst (λ r. number-of (r .answer) ≡ 0) (opened .1) answered in
-    let a = open-accepts node file kinds operands slots heads z in
-    let ok : (q : ℕ) → judged q file ≡ accepted (a .script) = λ q. judged-free node q (a .script) file (a .so) in
+    let z = subst (λ r. number-of (r .answer) ≡ 0) opened answered in
+    let a = open-accepts file kinds operands slots heads z in
     record {
       script = a .script;
-      is-accepted = ok;
-      keeps = λ cs turn. kept file (a .script) ok cs (opening .slots) (opening .heads)
+      is-accepted = a .so;
+      keeps = λ cs turn. kept file (a .script) (a .so) cs (opening .slots) (opening .heads)
           (first-totals (main-depth (a .script)))
           (subst (λ r. Standing (a .script) (r .slots) (r .heads) (first-totals (main-depth (a .script))))
-          (sym (opened .1)) (opening-stands node file (a .script) (a .so) kinds operands slots heads z)) turn;
+          (sym opened) (opening-stands file (a .script) (a .so) kinds operands slots heads z)) turn;
     }
 
 -- ---- an engine of which less is known

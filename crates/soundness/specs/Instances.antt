@@ -32,11 +32,11 @@ printed-script = record {
       (leaf (literal 0) (more (first 1) none));
 } ∷ []
 
-printed-accepted : judged 0 printed-file ≡ accepted printed-script
+printed-accepted : judged printed-file ≡ accepted printed-script
 unfolding computing printed-file printed-script
 printed-accepted = refl
 
-printed-opens : number-of (engine-open 0 printed-file (replicate 33 0) (replicate 33 (pos 0)) (replicate 33 (pos 0))
+printed-opens : number-of (engine-open printed-file (replicate 33 0) (replicate 33 (pos 0)) (replicate 33 (pos 0))
     (replicate 9 0) .answer) ≡ 0
 unfolding computing printed-file
 printed-opens = refl
@@ -59,7 +59,7 @@ mapped-script =
       body = leaf (literal 0) (more (name 0) (more (name 0) none));
     } ∷ []
 
-mapped-accepted : judged 0 (file-of 2 mapped-nodes) ≡ accepted mapped-script
+mapped-accepted : judged (file-of 2 mapped-nodes) ≡ accepted mapped-script
 unfolding computing file-of low-first operand-bytes mapped-nodes mapped-script
 mapped-accepted = refl
 
@@ -82,7 +82,7 @@ folded-script = record {
       (leaf length-of (more (name 2) none));
 } ∷ []
 
-folded-accepted : judged 0 (file-of 1 folded-nodes) ≡ accepted folded-script
+folded-accepted : judged (file-of 1 folded-nodes) ≡ accepted folded-script
 unfolding computing file-of low-first operand-bytes folded-nodes folded-script
 folded-accepted = refl
 
@@ -92,17 +92,17 @@ same-script e = cc
 -- demand 3 for a file of this script, on a store that opens
 module _ (file kinds : List ℕ) (operands slots : List ℤ) (heads : List ℕ) where
   abbrev opening : StoreReply
-  opening = engine-open 0 file kinds operands slots heads
+  opening = engine-open file kinds operands slots heads
 
   abbrev pub Keeps : Script → Type 0
   Keeps gs = (cs : List Call) → InTurn (defined .delivers file) (opening .slots) (opening .heads) cs →
       Kept gs (opening .slots) (opening .heads) (first-totals (main-depth gs)) cs
 
-  keeps : (fs : Script) → judged 0 file ≡ accepted fs → number-of (opening .answer) ≡ 0 → Keeps fs
+  keeps : (fs : Script) → judged file ≡ accepted fs → number-of (opening .answer) ≡ 0 → Keeps fs
   unfolding defined
   keeps fs ok z =
-      let s = demand-3 file kinds operands slots heads opening (0, refl) z in
-      subst Keeps (same-script (sym (s .is-accepted 0) ∙ ok)) (s .keeps)
+      let s = demand-3 file kinds operands slots heads opening refl z in
+      subst Keeps (same-script (sym (s .is-accepted) ∙ ok)) (s .keeps)
 
 -- every list of deliveries with the printed script, on a store of 2 cells
 pub printed-history :
@@ -113,13 +113,13 @@ printed-history = keeps printed-file (replicate 33 0) (replicate 33 (pos 0)) (re
 
 -- and with the others, on any store that opens
 pub mapped-history : (kinds : List ℕ) (operands slots : List ℤ) (heads : List ℕ) →
-    number-of (engine-open 0 (file-of 2 mapped-nodes) kinds operands slots heads .answer) ≡ 0 →
+    number-of (engine-open (file-of 2 mapped-nodes) kinds operands slots heads .answer) ≡ 0 →
     Keeps (file-of 2 mapped-nodes) kinds operands slots heads mapped-script
 mapped-history kinds operands slots heads z =
     keeps (file-of 2 mapped-nodes) kinds operands slots heads mapped-script mapped-accepted z
 
 pub folded-history : (kinds : List ℕ) (operands slots : List ℤ) (heads : List ℕ) →
-    number-of (engine-open 0 (file-of 1 folded-nodes) kinds operands slots heads .answer) ≡ 0 →
+    number-of (engine-open (file-of 1 folded-nodes) kinds operands slots heads .answer) ≡ 0 →
     Keeps (file-of 1 folded-nodes) kinds operands slots heads folded-script
 folded-history kinds operands slots heads z =
     keeps (file-of 1 folded-nodes) kinds operands slots heads folded-script folded-accepted z

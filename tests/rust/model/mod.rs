@@ -21,37 +21,28 @@ pub struct Lent {
     pub heads: Vec<u32>,
 }
 
-/// An answer; `nodes` are those that may stand in a refusal's place for one. A delivery that is not refused has its
-/// lowest level there, and no nodes.
-#[derive(Clone, PartialEq, Eq, Debug)]
-pub struct Answer {
-    pub packed: u64,
-    pub nodes: Vec<u64>,
-}
-
 pub fn pack(number: u64, node: u64, count: u64, cells: u64) -> u64 {
     number + (node << 8) + (count << 24) + (cells << 48)
 }
 
-/// An answer without nodes.
-fn plain(number: u64, count: u64, cells: u64) -> Answer {
-    Answer { packed: pack(number, 0, count, cells), nodes: Vec::new() }
+/// An answer without a node.
+fn plain(number: u64, count: u64, cells: u64) -> u64 {
+    pack(number, 0, count, cells)
 }
 
 /// Refuses: the code arrays are zero, the store stays.
-fn refuse(lent: &mut Lent, refusal: Refusal) -> Answer {
+fn refuse(lent: &mut Lent, refusal: Refusal) -> u64 {
     lent.kinds.fill(0);
     lent.operands.fill(0);
-    let nodes: Vec<u64> = refusal.nodes.iter().map(|node| *node as u64).collect();
-    Answer { packed: pack(refusal.number, nodes.first().copied().unwrap_or(0), 0, 0), nodes }
+    pack(refusal.number, refusal.node as u64, 0, 0)
 }
 
-fn refuse_with(lent: &mut Lent, number: u64) -> Answer {
-    refuse(lent, Refusal { number, nodes: Default::default() })
+fn refuse_with(lent: &mut Lent, number: u64) -> u64 {
+    refuse(lent, Refusal { number, node: 0 })
 }
 
 /// The code of a file, also written to the lent arrays, or the refusal 1 to 9.
-fn load(file: &[u8], lent: &mut Lent) -> Result<(Vec<Coded>, usize), Answer> {
+fn load(file: &[u8], lent: &mut Lent) -> Result<(Vec<Coded>, usize), u64> {
     let functions = match rules::judge(file) {
         Ok(functions) => functions,
         Err(refusal) => return Err(refuse(lent, refusal)),
@@ -70,14 +61,14 @@ fn load(file: &[u8], lent: &mut Lent) -> Result<(Vec<Coded>, usize), Answer> {
     Ok((coded, rows.len()))
 }
 
-pub fn translate(file: &[u8], lent: &mut Lent) -> Answer {
+pub fn translate(file: &[u8], lent: &mut Lent) -> u64 {
     match load(file, lent) {
         Ok((_, lines)) => plain(0, lines as u64, 0),
         Err(answer) => answer,
     }
 }
 
-pub fn open(file: &[u8], lent: &mut Lent) -> Answer {
+pub fn open(file: &[u8], lent: &mut Lent) -> u64 {
     let coded = match load(file, lent) {
         Ok((coded, _)) => coded,
         Err(answer) => return answer,
@@ -90,7 +81,7 @@ pub fn open(file: &[u8], lent: &mut Lent) -> Answer {
     plain(0, 0, store.taken() as u64)
 }
 
-pub fn check(file: &[u8], lent: &mut Lent) -> Answer {
+pub fn check(file: &[u8], lent: &mut Lent) -> u64 {
     let coded = match load(file, lent) {
         Ok((coded, _)) => coded,
         Err(answer) => return answer,
@@ -101,7 +92,7 @@ pub fn check(file: &[u8], lent: &mut Lent) -> Answer {
     }
 }
 
-pub fn deliver(file: &[u8], lent: &mut Lent, readings: &[i64], budget: u64) -> Answer {
+pub fn deliver(file: &[u8], lent: &mut Lent, readings: &[i64], budget: u64) -> u64 {
     let coded = match load(file, lent) {
         Ok((coded, _)) => coded,
         Err(answer) => return answer,
@@ -115,7 +106,7 @@ pub fn deliver(file: &[u8], lent: &mut Lent, readings: &[i64], budget: u64) -> A
     };
     let ended = machine::deliver(&coded, &mut store, readings, budget);
     keep(lent, &store);
-    Answer { packed: pack(ended.number, ended.lowest, ended.steps, store.taken() as u64), nodes: Vec::new() }
+    pack(ended.number, ended.lowest, ended.steps, store.taken() as u64)
 }
 
 fn keep(lent: &mut Lent, store: &Store) {

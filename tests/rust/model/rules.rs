@@ -9,13 +9,11 @@ pub const DEPTH_MAX: usize = 4;
 /// The script of a file, or its refusal 1 to 8.
 pub fn judge(file: &[u8]) -> Result<Vec<Function>, Refusal> {
     let functions = read(file)?;
-    let unknown = name_faults(&functions);
-    if !unknown.is_empty() {
-        return Err(Refusal { number: 6, nodes: unknown });
+    if let Some(lowest) = name_faults(&functions).first() {
+        return Err(refusal(6, *lowest));
     }
-    let mismatched = type_faults(&functions);
-    if !mismatched.is_empty() {
-        return Err(Refusal { number: 7, nodes: mismatched });
+    if let Some(lowest) = type_faults(&functions).first() {
+        return Err(refusal(7, *lowest));
     }
     for function in &functions {
         if function.parameters.len() + new_names(&function.body) > NEW_NAMES_MAX {

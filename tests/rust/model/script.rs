@@ -1,6 +1,5 @@
 //! The script file as a tree, and refusals 1 to 5.
 
-use std::collections::BTreeSet;
 
 pub const FUNCTIONS_MAX: usize = 32;
 pub const NODES_MAX: usize = 1024;
@@ -75,15 +74,15 @@ pub struct Function {
     pub body: Node,
 }
 
-/// A refusal's number, and the nodes that may stand in the answer.
+/// A refusal's number and node.
 #[derive(Clone, PartialEq, Eq, Debug)]
 pub struct Refusal {
     pub number: u64,
-    pub nodes: BTreeSet<usize>,
+    pub node: usize,
 }
 
 pub fn refusal(number: u64, node: usize) -> Refusal {
-    Refusal { number, nodes: BTreeSet::from([node]) }
+    Refusal { number, node }
 }
 
 // ---- Reading ----

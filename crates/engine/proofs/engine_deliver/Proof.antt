@@ -3,7 +3,7 @@ use native.Mathlib.Omega.{arith}
 use lib.ListN.{replicate}
 use mathlib.Core.Path.{subst}
 use Rattle.semantics.specs.Calls.{room, engine-deliver}
-use Rattle.script_nodes.specs.Free.{admitted-judged}
+use Rattle.script_nodes.specs.Admitted.{admitted-judged}
 use Rattle.engine_load.specs.Loading.{LoadsWith}
 use Rattle.engine.proofs.Laws.{deliver-serves, replies-refused, replies-told}
 use borrow.Author.Needs.{needs}
@@ -23,12 +23,11 @@ returns c =
     (loaded .last .1 .0) (loaded .last .1 .1 .0) (loaded .last .1 .1 .1 .0))
     (c .before .before .before .before .before .before .before .before .before .before .before .before .before
     .before .before .before .depth .given .1) (loaded .ensures) in
-    let node = h .loads .node in
     replies-told (deliver-serves (a .kinds .now) (a .operands .now) (a .slots .now) (a .heads .now) (a .readings .now)
     (a .budget)) (h .loads) (loaded .kept .1 .0) (loaded .kept .1 .1 .0) (part .result)
-    (λ fs q same. let coded = h .coded node fs q (omega arith) in
-    part .ensures node (a .file .now) fs
-    (admitted-judged node node fs (a .file .now) (room (a .kinds .now) (a .operands .now)) q) (coded .0) (coded .1)
+    (λ fs q same. let coded = h .coded fs q (omega arith) in
+    part .ensures (a .file .now) fs
+    (admitted-judged fs (a .file .now) (room (a .kinds .now) (a .operands .now)) q) (coded .0) (coded .1)
     same)
     (c .before .before .before .tell .ensures)
 

@@ -1,6 +1,7 @@
 -- `engine::engine_translate` meets its contract.
 use native.Mathlib.Omega.{arith}
 use mathlib.Core.Path.{sym, subst, _∙_}
+use Rattle.semantics.specs.Calls.{engine-translate}
 use Rattle.words.proofs.Packing.{packed-small}
 use Rattle.engine_load.specs.Loading.{Loads}
 use Rattle.engine.specs.Promises.{Translates}
@@ -18,7 +19,7 @@ returns c =
     (c .before .before .lines .given .1) (loaded .ensures) in
     let small = packed-small {number = 0} {node = 0} {count = c .before .before .lines .given .0 .0} {cells = 0}
     (omega arith) (omega arith) (omega (arith, few-lines h)) (omega arith) in
-    subst (λ x. Translates (a .file .now) (a .kinds .now) (a .operands .now) x (loaded .last .1 .0)
+    subst (λ x. Translates (engine-translate (a .file .now) (a .kinds .now) (a .operands .now)) x (loaded .last .1 .0)
     (loaded .last .1 .1 .0))
     (sym (c .pack .ensures ∙ small)) (translates h)
 

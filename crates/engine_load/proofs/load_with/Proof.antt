@@ -124,8 +124,7 @@ returns-3 c =
     .file .now)) (at-number .given .1) (at-judge .ensures .0) in let small = packed-small {number = parts .0}
     {node = parts .1 .0} {count = 0} {cells = 0} (omega (arith, told .given .0 .1)) (omega (
       arith,
-      node-fits
-          refused,
+      node-fits (a .file .now) refused,
     )) (omega arith) (omega arith) in loads-with-refusal refused (c .pack .ensures ∙ small) (cleared
     .ensures .0) (cleared .ensures .1)
 

@@ -9,13 +9,13 @@ use mathlib.Core.Option.{Option, none, some}
 use lib.ListN.{length, getD, length-map}
 use lib.Dec.{ltb}
 use borrow.Author.Tests.{ltb-false}
-use Rattle.script_nodes.specs.Free.{no-script}
-use Rattle.semantics.specs.Basics.{updated}
+use Rattle.script_nodes.specs.Admitted.{no-script}
+use Rattle.semantics.specs.Basics.{least, updated}
 use Rattle.semantics.specs.Outcome.{Outcome, done, stop}
 use Rattle.semantics.specs.Syntax.{Expr, Parameter, Function, Script, no-function, function-size, main-depth}
 use Rattle.semantics.specs.File.{read-file}
 use Rattle.semantics.specs.Names.{Scope, unknown-from, unknown-in, name-faults}
-use Rattle.semantics.specs.Types.{node, all-are, check, parameter-depths, result-rule, check-function, function-faults}
+use Rattle.semantics.specs.Types.{all-are, check, parameter-depths, result-rule, check-function, function-faults}
 use Rattle.semantics.specs.Types.{signatures-of, main-shape, type-faults}
 use Rattle.semantics.specs.Normal.{fresh, too-many-names-from, too-many-names}
 use Rattle.semantics.specs.Calls.{Verdict, accepted, refused, judged-script, judged-read, judged}
@@ -44,22 +44,21 @@ pub record Clean (fs : Script) : Type 0 where
   pub types : type-faults fs ≡ []
   pub roomy : too-many-names fs ≡ none
 
-script-clean : (node : ℕ) (gs fs : Script) (ps qs : List ℕ) (o : Option ℕ) →
-    judged-script node gs ps qs o ≡ accepted fs →
+script-clean : (gs fs : Script) (ps qs : List ℕ) (o : Option ℕ) → judged-script gs ps qs o ≡ accepted fs →
     (gs ≡ fs) × (ps ≡ []) × (qs ≡ []) × (o ≡ none)
 unfolding script-of
-script-clean node gs fs [] [] none e = (ap script-of e, refl, refl, refl)
-script-clean node gs fs [] [] (some p) e = no-script 8 p fs e
-script-clean node gs fs [] (q ∷ qs) o e = no-script 7 node fs e
-script-clean node gs fs (p ∷ ps) qs o e = no-script 6 node fs e
+script-clean gs fs [] [] none e = (ap script-of e, refl, refl, refl)
+script-clean gs fs [] [] (some p) e = no-script 8 p fs e
+script-clean gs fs [] (q ∷ qs) o e = no-script 7 (least q qs) fs e
+script-clean gs fs (p ∷ ps) qs o e = no-script 6 (least p ps) fs e
 
-pub judged-clean : (node : ℕ) (file : List ℕ) (fs : Script) → judged node file ≡ accepted fs → Clean fs
+pub judged-clean : (file : List ℕ) (fs : Script) → judged file ≡ accepted fs → Clean fs
 unfolding judged
-judged-clean node file fs = go (read-file file) (file-limited file)
+judged-clean file fs = go (read-file file) (file-limited file)
   where
-    go : (o : Outcome ℕ Script) → After ScriptLimits o → judged-read node o ≡ accepted fs → Clean fs
+    go : (o : Outcome ℕ Script) → After ScriptLimits o → judged-read o ≡ accepted fs → Clean fs
     go (done gs p) l e =
-        let clean = script-clean node gs fs (name-faults gs) (type-faults gs) (too-many-names gs) e in
+        let clean = script-clean gs fs (name-faults gs) (type-faults gs) (too-many-names gs) e in
         subst Clean (clean .0) (record { limits = l; names = clean .1; types = clean .2; roomy = clean .3 })
     go (stop n p) l e = no-script n p fs e
 
@@ -147,25 +146,25 @@ module _ (fs : Script) (functions : ℕ) where
 
 -- ---- accepted scripts
 
-all-accepted : (node : ℕ) (file : List ℕ) (fs : Script) → judged node file ≡ accepted fs → (f : ℕ) →
+all-accepted : (file : List ℕ) (fs : Script) → judged file ≡ accepted fs → (f : ℕ) →
     Accepted fs (getD fs f no-function)
 unfolding name-faults type-faults program
-all-accepted node file fs e f =
-    let clean = judged-clean node file fs e in
+all-accepted file fs e f =
+    let clean = judged-clean file fs e in
     let shape = main-shape (signatures-of fs 0) in
     let faultless : Faultless fs (length fs) shape fs 0 =
     record { names = clean .names; types = clean .types; roomy = clean .roomy } in
     accepted-at fs (length fs) (sym (length-map fs (routine fs))) shape fs 0 f (clean .limits .1) faultless
 
-pub functions-disciplined : (node : ℕ) (file : List ℕ) (fs : Script) → judged node file ≡ accepted fs → (f : ℕ) →
+pub functions-disciplined : (file : List ℕ) (fs : Script) → judged file ≡ accepted fs → (f : ℕ) →
     FunctionDisciplined (program fs) f
 unfolding program
-functions-disciplined node file fs e f = all-disciplined fs fs f (all-accepted node file fs e)
+functions-disciplined file fs e f = all-disciplined fs fs f (all-accepted file fs e)
 
-pub functions-frugal : (node : ℕ) (file : List ℕ) (fs : Script) → judged node file ≡ accepted fs → (f : ℕ) →
+pub functions-frugal : (file : List ℕ) (fs : Script) → judged file ≡ accepted fs → (f : ℕ) →
     FunctionFrugal (program fs) f
 unfolding program
-functions-frugal node file fs e f = all-frugal fs fs f (all-accepted node file fs e)
+functions-frugal file fs e f = all-frugal fs fs f (all-accepted file fs e)
 
 -- a script has a first function
 shaped : (fs : Script) (shape : Bool) (gs : List Function) → 1 ≤ length gs →
@@ -180,11 +179,11 @@ shallow [] l = omega arith
 shallow (g ∷ gs) l = l .0 .result
 
 -- main takes the totals and the readings, and gives new totals, of depth 4 at most
-pub main-shape-of : (node : ℕ) (file : List ℕ) (fs : Script) → judged node file ≡ accepted fs →
+pub main-shape-of : (file : List ℕ) (fs : Script) → judged file ≡ accepted fs →
     (signatures-of fs 0 ≡ record { parameters = main-depth fs ∷ 1 ∷ []; result = main-depth fs }) × (main-depth fs ≤ 4)
 unfolding type-faults
-main-shape-of node file fs e =
-    let clean = judged-clean node file fs e in
+main-shape-of file fs e =
+    let clean = judged-clean file fs e in
     let s = signatures-of fs 0 in
     let shape = shaped fs (main-shape s) fs (clean .limits .0) (clean .types) in
     let parameters = same-lists (s .parameters) (s .result ∷ 1 ∷ []) shape in

@@ -22,22 +22,22 @@ tree-at fs [] f h = absurd (omega arith)
 tree-at fs (g ∷ gs) zero h = refl
 tree-at fs (g ∷ gs) (suc f) h = tree-at fs gs f (omega arith)
 
-module _ (node : ℕ) (file : List ℕ) (fs : Script) (ok : judged node file ≡ accepted fs) where
+module _ (file : List ℕ) (fs : Script) (ok : judged file ≡ accepted fs) where
   pub program-disciplined : length (code fs) ≤ 4096 → ProgramDisciplined (program fs)
   unfolding program
   program-disciplined few = record {
-    functions = λ f h. functions-disciplined node file fs ok f;
+    functions = λ f h. functions-disciplined file fs ok f;
     short = λ f h. omega (
       arith,
       few,
       function-adds fs f,
       ap tree-adds (tree-at fs fs f (omega (arith, length-map fs (routine fs)))),
     );
-    some = omega (arith, judged-clean node file fs ok .limits .0, length-map fs (routine fs));
-    takes = ap (λ (s : Signature). s .parameters) (main-shape-of node file fs ok .0);
+    some = omega (arith, judged-clean file fs ok .limits .0, length-map fs (routine fs));
+    takes = ap (λ (s : Signature). s .parameters) (main-shape-of file fs ok .0);
     gives = refl;
   }
 
   pub program-frugal : ProgramFrugal (program fs)
   unfolding program
-  program-frugal f h = functions-frugal node file fs ok f
+  program-frugal f h = functions-frugal file fs ok f
