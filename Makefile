@@ -9,7 +9,7 @@ OBJCOPY ?= objcopy
 ROUNDS ?= 25
 PROVED_LIBRARY := target/staticlib/libengine.a
 LIBRARY ?= $(PROVED_LIBRARY)
-VECTORS ?= $(wildcard $(foreach name,translate check deliver,crates/*/data/$(name)*.txt))
+VECTORS ?= $(wildcard $(foreach name,translate check deliver swap,crates/*/data/$(name)*.txt))
 SANITIZERS := -O1 -g -fsanitize=address,undefined -fno-sanitize-recover=all
 PEDANTIC := -Wall -Wextra -Wpedantic -Wconversion -Wsign-conversion -Werror
 SCRIPT ?= build/forecourt.script
@@ -17,7 +17,8 @@ SCRIPT ?= build/forecourt.script
 SOURCES := crates.txt $(shell find crates -name '*.rt' -o -name '*.antt')
 HOST_HEADERS := include/engine.h $(wildcard host/*.h)
 SHARED_FILES := message place text
-CONTROLLER := $(patsubst %,host/%.c,controller day diagnosis display options plot show site store_file $(SHARED_FILES))
+CONTROLLER := $(patsubst %,host/%.c,controller day diagnosis display options plot show site store_file totals_file \
+	$(SHARED_FILES))
 SCRIPT_TOOL := $(patsubst %,host/%.c,script_tool script_text script_file script_check script_explain script_depths \
 	script_code node_kinds $(SHARED_FILES))
 RUST_SOURCES := $(shell find tests/rust -name '*.rs')
@@ -143,7 +144,7 @@ build/store_bits: tests/host/store_bits.c host/store_file.c host/text.c host/mes
 	$(CC) $(CFLAGS) -Iinclude -o $@ $(filter %.c,$^)
 
 STRIKERS := build/fault build/store_bits
-HOST_TESTS := controller_test store_test fault_test script_test refusal_test manual_test
+HOST_TESTS := controller_test store_test totals_test fault_test script_test refusal_test manual_test
 
 check-tool: all $(STRIKERS)
 	$(foreach test,$(HOST_TESTS),CC='$(CC)' LIBRARY='$(LIBRARY)' tests/host/$(test) build &&) :
@@ -155,7 +156,7 @@ check-sanitized: $(patsubst %,build/sanitized/%,c_link_test controller script_to
 # ---- measurements ----
 
 # The program is built anew each time, whatever LIBRARY and BASE were before. The base's calls get names of their own.
-RENAMED := $(foreach call,translate open check deliver,--redefine-sym engine_$(call)=base_engine_$(call))
+RENAMED := $(foreach call,translate open check deliver save restore,--redefine-sym engine_$(call)=base_engine_$(call))
 BASE_RENAMED := $(if $(BASE),build/bench_base.a)
 
 build/bench_base.a: $(BASE) anew | build

@@ -1,5 +1,6 @@
-/* A small pump controller: it opens a store for a script, or goes on with one that was kept, works a day's deliveries
- * on it, and prints for each what the service display would show. A delivery is saved before it is shown. */
+/* A small pump controller: it opens a store for a script, with saved totals if there are any, or goes on with one that
+ * was kept, works a day's deliveries on it, and prints for each what the service display would show. A delivery is
+ * saved before it is shown. At the end the totals can be saved for another controller. */
 #define _POSIX_C_SOURCE 200809L /* getline */
 #include "day.h"
 #include "display.h"
@@ -8,6 +9,7 @@
 #include "plot.h"
 #include "show.h"
 #include "site.h"
+#include "totals_file.h"
 
 #include <errno.h>
 #include <inttypes.h>
@@ -29,9 +31,10 @@ struct day {
     struct plot plot;
 };
 
-/* Static, as on a controller: the site is about 82 KB. */
+/* Static, as on a controller: the site is about 140 KB. */
 static struct site site;
 static uint8_t day_bytes[DAY_BYTES_MAX];
+static uint8_t totals_bytes[TOTALS_BYTES];
 
 /* ---- What is shown ---- */
 
@@ -41,14 +44,29 @@ static void print_totals(const struct site *s)
     putchar('\n');
 }
 
-/* A refusal of the script or the store: nothing can be delivered. */
-static _Noreturn void refuse(const char *what, uint64_t answer)
+/* A store at rest: the cells that an answer says are taken, and the totals. */
+static void print_store(const struct site *s, const char *what, uint64_t answer)
+{
+    printf("%-12s  0 done                      %4u of %zu cells                   ", what, engine_answer_cells(answer),
+           s->header.cells);
+    print_totals(s);
+    flush_output();
+}
+
+/* Ends the program with an answer other than 0 to what was to be done, and the reason, if it is not empty. */
+static _Noreturn void refuse_for(const char *what, uint64_t answer, const char *reason)
 {
     printf("%-12s ", what);
     print_number(stdout, answer);
-    putchar('\n');
+    printf("%s%s\n", *reason == '\0' ? "" : ": ", reason);
     flush_output();
     exit(STATUS_REFUSED);
+}
+
+/* A refusal of the script or the store: nothing can be delivered. */
+static _Noreturn void refuse(const char *what, uint64_t answer)
+{
+    refuse_for(what, answer, "");
 }
 
 /* A delivery's steps, cells taken and lowest level; spaces where it was refused. */
@@ -88,11 +106,14 @@ static void check_after(const struct day *day)
         refuse("check", answer);
 }
 
-/* Goes on with the store that was kept, which must be sound, or opens one. */
+/* Goes on with the store that was kept, which must be sound, or opens one. A store that is to be replaced may have any
+ * number of cells, and one whose totals are only to be saved must be there. */
 static uint64_t take_or_open(struct site *s, const struct options *options, bool *is_kept)
 {
-    *is_kept = options->store != NULL
-               && take_store(s, options->store, options->cells, options->takes_another_scripts);
+    size_t wanted = options->restored == NULL ? options->cells : 0;
+    *is_kept = options->store != NULL && take_store(s, options->store, wanted, options->takes_another_scripts);
+    if (!*is_kept && options->day == NULL && options->restored == NULL)
+        fail(STATUS_UNUSABLE, "%s: there is no store; nothing was saved", options->store);
     if (!*is_kept)
         lend_cells(s, options->cells == 0 ? DEFAULT_CELLS : options->cells);
     uint64_t answer = *is_kept ? engine_check_lent(&s->lent) : engine_open_lent(&s->lent);
@@ -101,20 +122,58 @@ static uint64_t take_or_open(struct site *s, const struct options *options, bool
     return answer;
 }
 
-/* The first save tries the store's place before anything is played. */
-static void begin(struct day *day, uint64_t answer, bool is_kept)
+/* ---- Totals that move ---- */
+
+/* Opens the store with saved totals. Where it is refused, the store's file is as it was. */
+static uint64_t restore(struct site *s, const struct options *options, size_t length)
 {
-    save(day);
-    printf("%-12s  0 done                      %4u of %zu cells                   ", is_kept ? "checked" : "opened",
-           engine_answer_cells(answer), day->site->header.cells);
-    print_totals(day->site);
-    flush_output();
+    struct totals_fault fault = { "" };
+    if (options->cells != 0)
+        lend_cells(s, options->cells);
+    uint64_t answer = engine_restore_lent(&s->lent, totals_bytes, length);
+    unsigned number = engine_answer_number(answer);
+    if (number == ENGINE_DONE)
+        return answer;
+    if (number == ENGINE_BAD_LABEL)
+        explain_totals(totals_bytes, length, s->header.depth, &fault);
+    if (number == ENGINE_OUT_OF_CELLS)
+        snprintf(fault.text, sizeof fault.text, "the saved totals have %zu arrays, and the store has %zu cells",
+                 arrays_in(totals_bytes), s->header.cells);
+    refuse_for("restore", answer, fault.text);
+}
+
+/* Saves the totals in their file, of which the old one or the new one is there. */
+static void save_totals(const struct site *s, const char *path)
+{
+    uint64_t answer = engine_save_lent(&s->lent, totals_bytes, ENGINE_SAVED_LENGTH_MAX);
+    unsigned number = engine_answer_number(answer);
+    if (number != ENGINE_DONE)
+        refuse_for("save", answer, number == ENGINE_BAD_LABEL ? "the totals have over 4,096 entries" : "");
+    write_whole(path, totals_bytes, engine_saved_length(totals_bytes));
+    print_store(s, "saved", answer);
+}
+
+/* ---- A day ---- */
+
+/* Takes or opens the store. The first save tries its place before anything is played; a store whose totals are only to
+ * be saved stays as it is. A store that is replaced is shown before. */
+static void begin(struct day *day)
+{
+    const struct options *options = day->options;
+    bool is_kept, is_restored = options->restored != NULL;
+    size_t length = is_restored ? read_totals(options->restored, totals_bytes) : 0;
+    uint64_t answer = take_or_open(day->site, options, &is_kept);
+    if (is_restored && is_kept)
+        print_store(day->site, "checked", answer);
+    if (is_restored)
+        answer = restore(day->site, options, length);
+    if (is_restored || options->day != NULL)
+        save(day);
+    print_store(day->site, is_restored ? "restored" : is_kept ? "checked" : "opened", answer);
     day->plot.cells = day->site->header.cells;
     day->plot.opened = engine_answer_cells(answer);
     check_after(day);
 }
-
-/* ---- A day ---- */
 
 /* Counts a delivery in the day's last line. */
 static void count_delivery(struct day *day, uint64_t answer)
@@ -192,18 +251,8 @@ static struct text day_of(const char *path)
     return text;
 }
 
-static void play(struct day *day)
+static void print_day(const struct day *day)
 {
-    bool is_kept, is_standard = strcmp(day->options->day, "-") == 0;
-    struct text text = is_standard ? text_of("-", day_bytes, 0) : day_of(day->options->day);
-    if (day->options->plot != NULL)
-        try_whole(day->options->plot);
-    uint64_t answer = take_or_open(day->site, day->options, &is_kept);
-    begin(day, answer, is_kept);
-    if (is_standard)
-        play_standard_input(day);
-    else
-        play_text(day, text);
     printf("day          %u deliveries, %u done%s", day->count, day->done,
            day->options->checks ? ", every check passed" : "");
     if (day->faulty > 0)
@@ -212,6 +261,27 @@ static void play(struct day *day)
         printf("; lowest %u of %zu cells free", day->lowest, day->site->header.cells);
     putchar('\n');
     flush_output();
+}
+
+/* Files are looked at, and places tried, before anything is done. */
+static void play(struct day *day)
+{
+    const char *path = day->options->day;
+    bool is_file = path != NULL && strcmp(path, "-") != 0;
+    struct text text = is_file ? day_of(path) : text_of("-", day_bytes, 0);
+    if (day->options->plot != NULL)
+        try_whole(day->options->plot);
+    if (day->options->saved != NULL)
+        try_whole(day->options->saved);
+    begin(day);
+    if (is_file)
+        play_text(day, text);
+    else if (path != NULL)
+        play_standard_input(day);
+    if (path != NULL)
+        print_day(day);
+    if (day->options->saved != NULL)
+        save_totals(day->site, day->options->saved);
     if (day->options->plot != NULL)
         write_plot(&day->plot, day->options->plot, day->options->script, day->options->day);
 }

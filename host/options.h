@@ -10,9 +10,11 @@ enum { DEFAULT_CELLS = 64, DEFAULT_BUDGET = 10000 };
 
 struct options {
     const char *script; /* null only where a store is to be shown */
-    const char *day;    /* "-" for standard input */
+    const char *day;    /* "-" for standard input; null: no day, only totals are moved */
     const char *store;  /* null: the store is not kept */
     const char *plot;   /* null: no picture */
+    const char *restored; /* saved totals to begin with; null: none */
+    const char *saved;    /* where the totals are saved at the end; null: nowhere */
     const char *shown;  /* the store that is to be shown; null: a day is to be played */
     size_t cells;       /* 0: as the store has, or DEFAULT_CELLS */
     uint64_t budget;

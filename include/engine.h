@@ -1,9 +1,9 @@
-/* The script engine's C interface: four calls, the sizes of what is lent to them, and the parts of their answers.
+/* The script engine's C interface: six calls, the sizes of what is lent to them, and the parts of their answers.
  *
  * Every call takes the script file and the two code arrays, and translates the script afresh; nothing is kept between
  * calls but the store, in the host's two store arrays. The engine has no global data, allocates nothing, calls no
  * function of the host's but memcpy and memset, and always returns. It believes nothing that is lent to it: any bytes
- * may be a script file, and any words a store. The host sees to three things only:
+ * may be a script file or saved totals, and any words a store. The host sees to three things only:
  *   - a pointer is aligned and not null, and has at least the number of elements that follows it (so also for 0);
  *   - the arrays of one call lie apart in memory;
  *   - calls on one store come one after another.
@@ -22,7 +22,7 @@ extern "C" {
 
 /* Of this interface: the first number rises when a host must change, the second when something is added. */
 #define ENGINE_VERSION_MAJOR 2
-#define ENGINE_VERSION_MINOR 1
+#define ENGINE_VERSION_MINOR 2
 #define ENGINE_VERSION (1000 * ENGINE_VERSION_MAJOR + ENGINE_VERSION_MINOR)
 
 /* ---- Sizes ---- */
@@ -49,6 +49,17 @@ extern "C" {
 #define ENGINE_HEADS_LENGTH(cells) (1 + ENGINE_CELL_HEADS * (size_t)(cells))
 #define ENGINE_SLOTS_OF(cell) (1 + ENGINE_CELL_SLOTS * (size_t)(cell)) /* where a cell's words begin */
 #define ENGINE_HEADS_OF(cell) (1 + ENGINE_CELL_HEADS * (size_t)(cell))
+
+/* Saved totals: 3 bytes, then one byte and one number of 8 bytes for each of K entries, 1 to 4,096:
+ *   byte 0               main's depth
+ *   bytes 1 and 2        K, low byte first
+ *   bytes 3 to 2 + K     the mark of each entry: 0 for a number, its length + 1 for an array
+ *   the other 8 K bytes  the number of each entry, signed, low byte first; 0 for an array
+ * The entries are the totals' value in prefix order: an array before its elements, the elements from first to last. An
+ * array that several places name is written at each. */
+#define ENGINE_SAVED_ENTRIES_MAX 4096
+#define ENGINE_SAVED_LENGTH(entries) (3 + 9 * (size_t)(entries))
+#define ENGINE_SAVED_LENGTH_MAX ENGINE_SAVED_LENGTH(ENGINE_SAVED_ENTRIES_MAX) /* 36,867 */
 
 /* A delivery. */
 #define ENGINE_READINGS_MAX 16
@@ -107,24 +118,28 @@ enum engine_number {
     ENGINE_TOO_MANY_NAMES = 8,       /* crowded: a function with over 256 new names */
     ENGINE_CODE_TOO_LONG = 9,        /* long hose: more lines than the shorter code array has, or than 4,096 */
     ENGINE_BAD_REQUEST = 10,         /* bad ticket: over 16 readings, or a budget above 1,000,000 */
-    ENGINE_UNSOUND_STORE = 11,       /* bad tank: the store is not sound (on opening: the lengths do not fit) */
+    ENGINE_UNSOUND_STORE = 11,       /* bad tank: the store is not sound (opening, restoring: the lengths do not fit) */
 
     /* Stops of a delivery: the code stands, the totals and their cells are as before, the other cells are clear. */
     ENGINE_OUT_OF_STEPS = 21,        /* spent: a step was due and none was left */
     ENGINE_CALL_TOO_DEEP = 22,       /* nested: a 33rd call depth */
     ENGINE_INDEX_OUT_OF_RANGE = 23,  /* off the end */
     ENGINE_OVERFLOW = 24,            /* overrun: a sum or difference does not fit 64 bits */
-    ENGINE_OUT_OF_CELLS = 25,        /* tank dry: a cell was wanted and none was free */
-    ENGINE_BAD_COUNT = 26            /* bad count: an iota's or replicate's count outside 0 to 16 */
+    ENGINE_OUT_OF_CELLS = 25,        /* tank dry: a cell was wanted and none was free (restoring: the store is zero) */
+    ENGINE_BAD_COUNT = 26,           /* bad count: an iota's or replicate's count outside 0 to 16 */
+
+    /* A refusal like 11, of engine_save and engine_restore alone. */
+    ENGINE_BAD_LABEL = 27            /* bad label: over 4,096 entries, a buffer too short for them, or saved totals that
+                                        break their form or have not main's depth */
 };
 
 /* Whether a number is a refusal: nothing was done. */
 static inline int engine_is_refusal(unsigned number)
 {
-    return number >= ENGINE_TRUNCATED && number <= ENGINE_UNSOUND_STORE;
+    return (number >= ENGINE_TRUNCATED && number <= ENGINE_UNSOUND_STORE) || number == ENGINE_BAD_LABEL;
 }
 
-/* Whether a number is a stop: the delivery was begun and undone. */
+/* Whether a number is a stop: the delivery was begun and undone. A restore's 25 has no store to go back to. */
 static inline int engine_is_stop(unsigned number)
 {
     return number >= ENGINE_OUT_OF_STEPS && number <= ENGINE_BAD_COUNT;
@@ -152,6 +167,7 @@ static inline const char *engine_word(unsigned number)
     case ENGINE_OVERFLOW: return "overrun";
     case ENGINE_OUT_OF_CELLS: return "tank dry";
     case ENGINE_BAD_COUNT: return "bad count";
+    case ENGINE_BAD_LABEL: return "bad label";
     default: return "unknown number";
     }
 }
@@ -189,7 +205,7 @@ static inline uint32_t engine_answer_steps(uint64_t answer)
     return (uint32_t)((answer >> 24) & 0xffffff);
 }
 
-/* The cells taken as engine_open, engine_check or engine_deliver ends. */
+/* The cells taken as a call other than engine_translate ends. */
 static inline unsigned engine_answer_cells(uint64_t answer)
 {
     return (unsigned)(answer >> 48);
@@ -211,6 +227,7 @@ static inline unsigned engine_answer_cells(uint64_t answer)
  *              1 + 4 c to 4 + 4 c the count, length, element depth and next free cell of cell c
  *   readings   the readings of one delivery, at most ENGINE_READINGS_MAX; read only
  *   budget     the steps that the delivery may take, at most ENGINE_BUDGET_MAX
+ *   saved      saved totals, of ENGINE_SAVED_LENGTH(K) bytes for K entries
  */
 
 /* Translates a script. Numbers 0 to 9; the answer has the code's lines. */
@@ -226,8 +243,8 @@ uint64_t engine_open(const uint8_t *file, size_t file_length,
                      int64_t *slots, size_t slots_length,
                      uint32_t *heads, size_t heads_length);
 
-/* Works one delivery: main on the totals and the readings gives the new totals. All numbers; after 0 and 21 to 26 the
- * answer has the lowest level, the steps and the cells taken. */
+/* Works one delivery: main on the totals and the readings gives the new totals. Numbers 0 to 11 and 21 to 26; after 0
+ * and 21 to 26 the answer has the lowest level, the steps and the cells taken. */
 uint64_t engine_deliver(const uint8_t *file, size_t file_length,
                         uint8_t *kinds, size_t kinds_length,
                         int64_t *operands, size_t operands_length,
@@ -243,6 +260,34 @@ uint64_t engine_check(const uint8_t *file, size_t file_length,
                       int64_t *operands, size_t operands_length,
                       const int64_t *slots, size_t slots_length,
                       const uint32_t *heads, size_t heads_length);
+
+/* Saves the totals of a sound store in a buffer: after 0 it begins with ENGINE_SAVED_LENGTH(K) bytes of saved totals
+ * and is zero past them; after a refusal it is all zero. No word of the store changes. Numbers 0 to 9, 11 and 27; the
+ * answer has the cells taken. A buffer of ENGINE_SAVED_LENGTH_MAX bytes is never too short. */
+uint64_t engine_save(const uint8_t *file, size_t file_length,
+                     uint8_t *kinds, size_t kinds_length,
+                     int64_t *operands, size_t operands_length,
+                     const int64_t *slots, size_t slots_length,
+                     const uint32_t *heads, size_t heads_length,
+                     uint8_t *saved, size_t saved_length);
+
+/* Opens a store for a script, whatever its words were, with saved totals: cells 0, 1, .. are taken in the order of the
+ * entries, one for each array. Numbers 0 to 9, 11, 27 and 25; the answer has the cells taken. After 25 (more arrays
+ * than cells) every word of the store is zero and the code stands; after a refusal the store is unchanged. The length
+ * must be just that of the saved totals, not the buffer's: lend the first engine_saved_length(buffer) bytes of a buffer
+ * that engine_save filled. */
+uint64_t engine_restore(const uint8_t *file, size_t file_length,
+                        uint8_t *kinds, size_t kinds_length,
+                        int64_t *operands, size_t operands_length,
+                        int64_t *slots, size_t slots_length,
+                        uint32_t *heads, size_t heads_length,
+                        const uint8_t *saved, size_t saved_length);
+
+/* The length of the saved totals that a buffer of at least 3 bytes begins with, as its bytes 1 and 2 say it. */
+static inline size_t engine_saved_length(const uint8_t *saved)
+{
+    return ENGINE_SAVED_LENGTH(saved[1] + 256 * (size_t)saved[2]);
+}
 
 /* ---- The calls on one struct ---- */
 
@@ -284,6 +329,20 @@ static inline uint64_t engine_deliver_lent(const struct engine_lent *lent, const
     return engine_deliver(lent->file, lent->file_length, lent->kinds, lent->kinds_length, lent->operands,
                           lent->operands_length, lent->slots, lent->slots_length, lent->heads, lent->heads_length,
                           readings, readings_length, budget);
+}
+
+static inline uint64_t engine_save_lent(const struct engine_lent *lent, uint8_t *saved, size_t saved_length)
+{
+    return engine_save(lent->file, lent->file_length, lent->kinds, lent->kinds_length, lent->operands,
+                       lent->operands_length, lent->slots, lent->slots_length, lent->heads, lent->heads_length, saved,
+                       saved_length);
+}
+
+static inline uint64_t engine_restore_lent(const struct engine_lent *lent, const uint8_t *saved, size_t saved_length)
+{
+    return engine_restore(lent->file, lent->file_length, lent->kinds, lent->kinds_length, lent->operands,
+                          lent->operands_length, lent->slots, lent->slots_length, lent->heads, lent->heads_length,
+                          saved, saved_length);
 }
 
 #ifdef __cplusplus

@@ -9,6 +9,7 @@ static uint8_t file[ENGINE_FILE_LENGTH_MAX], kinds[ENGINE_CODE_LINES_MAX];
 static int64_t operands[ENGINE_CODE_LINES_MAX], slots[ENGINE_SLOTS_LENGTH(ENGINE_CELLS_MAX)];
 static uint32_t heads[ENGINE_HEADS_LENGTH(ENGINE_CELLS_MAX)];
 static int64_t readings[ENGINE_READINGS_MAX];
+static uint8_t saved[ENGINE_SAVED_LENGTH_MAX];
 
 int main(void)
 {
@@ -25,7 +26,9 @@ int main(void)
     lent.heads = heads;
     lent.heads_length = ENGINE_HEADS_LENGTH(ENGINE_CELLS_MAX);
     answer = engine_translate_lent(&lent) + engine_open_lent(&lent) + engine_check_lent(&lent)
-             + engine_deliver_lent(&lent, readings, ENGINE_READINGS_MAX, ENGINE_BUDGET_MAX);
+             + engine_deliver_lent(&lent, readings, ENGINE_READINGS_MAX, ENGINE_BUDGET_MAX)
+             + engine_save_lent(&lent, saved, sizeof saved)
+             + engine_restore_lent(&lent, saved, engine_saved_length(saved));
     return (int)(engine_answer_node(answer) + engine_answer_lowest(answer) + engine_answer_lines(answer)
                  + engine_answer_steps(answer) + engine_answer_cells(answer)
                  + (unsigned)engine_is_refusal(engine_answer_number(answer))

@@ -7,7 +7,7 @@
 enum { LONGEST = 1 << 16 }; /* bytes of an array, more than any case has */
 
 struct lent lent;
-static struct guarded files, kinds, operands, slots, heads, readings;
+static struct guarded files, kinds, operands, slots, heads, readings, saved;
 
 void lend(void)
 {
@@ -17,10 +17,12 @@ void lend(void)
     slots = guard(LONGEST);
     heads = guard(LONGEST);
     readings = guard(LONGEST);
+    saved = guard(LONGEST);
     lend_file(0);
     lend_code(0, 0);
     lend_store(0, 0);
     lend_readings(0);
+    lend_saved(0);
 }
 
 void lend_file(size_t length)
@@ -55,6 +57,13 @@ void lend_readings(size_t length)
     lent.readings_length = length;
 }
 
+void lend_saved(size_t length)
+{
+    lent.saved = last_bytes(saved, length);
+    lent.saved_length = length;
+    memset(lent.saved, 0xa5, length);
+}
+
 uint64_t translate(void)
 {
     return engine_translate(lent.file, lent.file_length, lent.kinds, lent.kinds_length, lent.operands,
@@ -78,6 +87,20 @@ uint64_t deliver(uint64_t budget)
     return engine_deliver(lent.file, lent.file_length, lent.kinds, lent.kinds_length, lent.operands,
                           lent.operands_length, lent.slots, lent.slots_length, lent.heads, lent.heads_length,
                           lent.readings, lent.readings_length, budget);
+}
+
+uint64_t save_totals(void)
+{
+    return engine_save(lent.file, lent.file_length, lent.kinds, lent.kinds_length, lent.operands,
+                       lent.operands_length, lent.slots, lent.slots_length, lent.heads, lent.heads_length,
+                       lent.saved, lent.saved_length);
+}
+
+uint64_t restore_totals(void)
+{
+    return engine_restore(lent.file, lent.file_length, lent.kinds, lent.kinds_length, lent.operands,
+                          lent.operands_length, lent.slots, lent.slots_length, lent.heads, lent.heads_length,
+                          lent.saved, lent.saved_length);
 }
 
 bool code_is_zero_from(size_t line)

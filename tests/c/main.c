@@ -283,6 +283,41 @@ static void test_damaged_store(void)
     expect(check_store() == answer(0, 0, 0, 1) && totals_are(250), "as it was");
 }
 
+/* Totals {250}: saved into buffers of each length, restored from each length and with each byte changed. */
+static void test_saved(void)
+{
+    enum { LENGTH = ENGINE_SAVED_LENGTH(2), SECOND_NUMBER = 13 };
+    static const uint8_t wanted[2 * LENGTH] = { 1, 2, 0, 2, 0, [SECOND_NUMBER] = 250 };
+    open_printed(2);
+    expect(deliver_one(250, 1000) == answer(0, 0, 4, 1), "a store with totals {250}");
+    for (size_t length = 0; length <= 2 * LENGTH; length++) {
+        bool fits = length >= LENGTH;
+        lend_saved(length);
+        expect(save_totals() == (fits ? answer(0, 0, 0, 1) : answer(27, 0, 0, 0)), "a buffer of each length");
+        expect(code_is_zero_from(fits ? PRINTED_LINES : 0) && totals_are(250), "code and store of a save");
+        static const uint8_t zeros[LENGTH];
+        expect(memcmp(lent.saved, fits ? wanted : zeros, length) == 0, "the buffer, zero past the totals");
+    }
+    for (size_t length = 0; length <= 2 * LENGTH; length++) {
+        unsigned cells = 1 + (unsigned)length % 3;
+        lend_store(ENGINE_SLOTS_LENGTH(cells), ENGINE_HEADS_LENGTH(cells));
+        lend_saved(length);
+        memcpy(lent.saved, wanted, length);
+        bool fits = length == LENGTH;
+        expect(restore_totals() == (fits ? answer(0, 0, 0, 1) : answer(27, 0, 0, 0)), "bytes of each length");
+        expect(fits ? totals_are(250) : lent.heads[0] == 0x66666666, "the store, as it was after a refusal");
+    }
+    lend_saved(LENGTH);
+    for (size_t i = 0; i < LENGTH; i++) {
+        open_printed(1);
+        memcpy(lent.saved, wanted, LENGTH);
+        lent.saved[i] ^= 128;
+        bool is_free_choice = i >= SECOND_NUMBER; /* the number itself */
+        expect(restore_totals() == (is_free_choice ? answer(0, 0, 0, 1) : answer(27, 0, 0, 0)), "a byte changed");
+        expect((lent.heads[2] == 1) == is_free_choice, "an array of one number, or the empty one that was there");
+    }
+}
+
 static void test_header(void)
 {
     uint64_t parts = answer(23, 1024, 1000000, 256);
@@ -292,9 +327,10 @@ static void test_header(void)
     expect(engine_answer_cells(parts) == 256, "cells");
     expect(strcmp(engine_word(ENGINE_UNKNOWN_NAME), "no such nozzle") == 0, "a word");
     expect(strcmp(engine_word(ENGINE_BAD_COUNT), "bad count") == 0, "the word of 26");
+    expect(strcmp(engine_word(ENGINE_BAD_LABEL), "bad label") == 0, "the word of 27");
     expect(strcmp(engine_word(12), "unknown number") == 0, "no word");
     for (unsigned number = 0; number < 256; number++) {
-        bool is_refusal = number >= 1 && number <= 11, is_stop = number >= 21 && number <= 26;
+        bool is_refusal = (number >= 1 && number <= 11) || number == 27, is_stop = number >= 21 && number <= 26;
         expect(engine_is_refusal(number) == is_refusal && engine_is_stop(number) == is_stop, "refusals and stops");
         bool has_word = strcmp(engine_word(number), "unknown number") != 0;
         expect(has_word == (number == 0 || is_refusal || is_stop), "a word for each number");
@@ -304,6 +340,8 @@ static void test_header(void)
     expect(ENGINE_KINDS == ENGINE_KIND_REDUCE + 1, "all kinds");
     expect(ENGINE_FILE_LENGTH_MAX == 9220, "the longest file");
     expect(ENGINE_SLOTS_LENGTH(256) == 4097 && ENGINE_HEADS_LENGTH(256) == 1025, "the largest store");
+    expect(ENGINE_SAVED_LENGTH_MAX == 36867, "the longest saved totals");
+    expect(engine_saved_length((const uint8_t[]){ 3, 0, 16 }) == ENGINE_SAVED_LENGTH_MAX, "their length in bytes");
 }
 
 /* The calls on one struct are the calls. */
@@ -316,7 +354,11 @@ static void test_lent(void)
     expect(engine_translate_lent(&all) == answer(0, 0, PRINTED_LINES, 0), "translate on the struct");
     expect(engine_deliver_lent(&all, readings, 1, 1000) == answer(0, 0, 4, 1) && totals_are(250), "deliver on it");
     expect(engine_check_lent(&all) == answer(0, 0, 0, 1) && totals_are(250), "check on it");
+    uint8_t saved[ENGINE_SAVED_LENGTH(2)];
+    expect(engine_save_lent(&all, saved, sizeof saved) == answer(0, 0, 0, 1), "save on it");
     expect(engine_open_lent(&all) == answer(0, 0, 0, 1) && lent.slots[0] == 0, "open on it");
+    expect(engine_restore_lent(&all, saved, engine_saved_length(saved)) == answer(0, 0, 0, 1) && totals_are(250),
+           "restore on it");
     for (size_t i = 0; i < PRINTED_LINES; i++)
         expect(lent.kinds[i] == printed_code[i].kind, "a kind");
     expect(printed_code[10].kind == ENGINE_KIND_RELEASE && printed_code[20].kind == ENGINE_KIND_END, "kinds by name");
@@ -340,6 +382,7 @@ int main(int count, char **arguments)
     test_deepest();
     test_store_lengths();
     test_damaged_store();
+    test_saved();
     printf("C link tests: %u passed, %u failed\n", passed, failed);
     return agreed && failed == 0 ? 0 : 1;
 }

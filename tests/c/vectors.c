@@ -1,9 +1,11 @@
 /* Reads a file of test vectors and runs each case as it is read. A case is lines of a key and its values from `case` to
  * `end`: `file` has a script's bytes, `arrays` the lengths of the code arrays, `answer` the packed answer, `rows` the
  * code; `open` and `deliver` are calls to make, `slots` and `heads` a store's words: before a check, after the
- * deliveries. Cases from before order 3 have other faulty nodes beside an answer, as `nodes`; its own is the lowest. */
+ * deliveries. Cases from before order 3 have other faulty nodes beside an answer, as `nodes`; its own is the lowest.
+ * The acts of swap.txt are those of swap.c. */
 #include "vectors.h"
 #include "lent.h"
+#include "swap.h"
 
 #include <inttypes.h>
 #include <stdio.h>
@@ -30,7 +32,7 @@ struct run {
 
 static struct run run;
 
-static _Noreturn void unusable(const char *what)
+_Noreturn void unusable(const char *what)
 {
     fprintf(stderr, "%s: %s\n", run.name, what);
     exit(2);
@@ -38,7 +40,7 @@ static _Noreturn void unusable(const char *what)
 
 /* ---- Words of a line ---- */
 
-static char *word(void)
+char *word(void)
 {
     while (*run.at == ' ')
         run.at++;
@@ -60,7 +62,7 @@ static char *wanted_word(void)
     return found;
 }
 
-static uint64_t natural(void)
+uint64_t natural(void)
 {
     return strtoull(wanted_word(), NULL, 10);
 }
@@ -80,7 +82,7 @@ static bool next_line(void)
 
 /* ---- Parts of a case ---- */
 
-static unsigned digit(char c)
+unsigned digit(char c)
 {
     return c <= '9' ? (unsigned)(c - '0') : (unsigned)(c - 'a' + 10);
 }
@@ -94,7 +96,7 @@ static void take_file(void)
         lent.file[i] = (uint8_t)(16 * digit(digits[2 * i]) + digit(digits[2 * i + 1]));
 }
 
-static void take_code_lengths(void)
+void take_code_lengths(void)
 {
     size_t kinds = (size_t)natural();
     size_t operands = (size_t)natural();
@@ -102,7 +104,7 @@ static void take_code_lengths(void)
 }
 
 /* The next word INDEX=VALUE of the line; false after the last. */
-static bool entry(size_t *index, int64_t *value)
+bool entry(size_t *index, int64_t *value)
 {
     char *found = word();
     if (found == NULL)
@@ -287,7 +289,18 @@ static void take_line(void)
         size_t cells = (size_t)natural();
         run.is_deliver = true;
         lend_store(ENGINE_SLOTS_LENGTH(cells), ENGINE_HEADS_LENGTH(cells));
-    } else if (strcmp(key, "open") == 0)
+    } else if (strcmp(key, "store") == 0) {
+        run.is_deliver = true; /* its words are compared where they are given */
+        lend_clear_store();
+    } else if (strcmp(key, "put") == 0)
+        put_words();
+    else if (strcmp(key, "check") == 0)
+        run.agrees &= make_sound_check();
+    else if (strcmp(key, "save") == 0)
+        run.agrees &= make_save();
+    else if (strcmp(key, "restore") == 0)
+        run.agrees &= make_restore();
+    else if (strcmp(key, "open") == 0)
         make_opening();
     else if (strcmp(key, "deliver") == 0)
         make_delivery();

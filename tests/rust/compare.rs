@@ -50,18 +50,38 @@ impl Tally {
         *lent = self.compare("check", file, (engine, ours), (model, theirs));
     }
 
-    pub fn deliver(&mut self, file: &[u8], lent: &mut Lent, readings: &[i64], budget: u64) {
+    pub fn deliver(&mut self, file: &[u8], lent: &mut Lent, readings: &[i64], budget: u64) -> u64 {
         let (mut ours, mut theirs) = (lent.clone(), lent.clone());
         let engine = engine::deliver(file, &mut ours, readings, budget);
         let model = model::deliver(file, &mut theirs, readings, budget);
         *lent = self.compare("deliver", file, (engine, ours), (model, theirs));
+        engine & 0xff
+    }
+
+    /// Saves into a buffer that holds something else before.
+    pub fn save(&mut self, file: &[u8], lent: &mut Lent, buffer: &mut [u8]) -> u64 {
+        let (mut ours, mut theirs) = (lent.clone(), lent.clone());
+        let mut modelled = buffer.to_vec();
+        let engine = engine::save(file, &mut ours, buffer);
+        let model = model::save(file, &mut theirs, &mut modelled);
+        self.differ += u64::from(*buffer != modelled);
+        *lent = self.compare("save", file, (engine, ours), (model, theirs));
+        engine & 0xff
+    }
+
+    pub fn restore(&mut self, file: &[u8], lent: &mut Lent, saved: &[u8]) -> u64 {
+        let (mut ours, mut theirs) = (lent.clone(), lent.clone());
+        let engine = engine::restore(file, &mut ours, saved);
+        let model = model::restore(file, &mut theirs, saved);
+        *lent = self.compare("restore", file, (engine, ours), (model, theirs));
+        engine & 0xff
     }
 
     /// Prints how often each number was answered, and says whether all agreed.
     pub fn report(&self, title: &str) -> bool {
         let total: u64 = self.calls.values().sum();
         println!("{title}: {total} calls, {} differ", self.differ);
-        for call in ["translate", "open", "check", "deliver"] {
+        for call in ["translate", "open", "check", "deliver", "save", "restore"] {
             let counts: Vec<String> = self
                 .calls
                 .iter()

@@ -50,6 +50,34 @@ extern "C" {
         readings_length: usize,
         budget: u64,
     ) -> u64;
+    fn engine_save(
+        file: *const u8,
+        file_length: usize,
+        kinds: *mut u8,
+        kinds_length: usize,
+        operands: *mut i64,
+        operands_length: usize,
+        slots: *const i64,
+        slots_length: usize,
+        heads: *const u32,
+        heads_length: usize,
+        saved: *mut u8,
+        saved_length: usize,
+    ) -> u64;
+    fn engine_restore(
+        file: *const u8,
+        file_length: usize,
+        kinds: *mut u8,
+        kinds_length: usize,
+        operands: *mut i64,
+        operands_length: usize,
+        slots: *mut i64,
+        slots_length: usize,
+        heads: *mut u32,
+        heads_length: usize,
+        saved: *const u8,
+        saved_length: usize,
+    ) -> u64;
 }
 
 // The calls ask for nothing that borrowed slices do not have: aligned, not null, apart.
@@ -117,6 +145,44 @@ pub fn deliver(file: &[u8], lent: &mut Lent, readings: &[i64], budget: u64) -> u
             readings.as_ptr(),
             readings.len(),
             budget,
+        )
+    }
+}
+
+pub fn save(file: &[u8], lent: &mut Lent, buffer: &mut [u8]) -> u64 {
+    unsafe {
+        engine_save(
+            file.as_ptr(),
+            file.len(),
+            lent.kinds.as_mut_ptr(),
+            lent.kinds.len(),
+            lent.operands.as_mut_ptr(),
+            lent.operands.len(),
+            lent.slots.as_ptr(),
+            lent.slots.len(),
+            lent.heads.as_ptr(),
+            lent.heads.len(),
+            buffer.as_mut_ptr(),
+            buffer.len(),
+        )
+    }
+}
+
+pub fn restore(file: &[u8], lent: &mut Lent, saved: &[u8]) -> u64 {
+    unsafe {
+        engine_restore(
+            file.as_ptr(),
+            file.len(),
+            lent.kinds.as_mut_ptr(),
+            lent.kinds.len(),
+            lent.operands.as_mut_ptr(),
+            lent.operands.len(),
+            lent.slots.as_mut_ptr(),
+            lent.slots.len(),
+            lent.heads.as_mut_ptr(),
+            lent.heads.len(),
+            saved.as_ptr(),
+            saved.len(),
         )
     }
 }

@@ -6,6 +6,7 @@ mod engine;
 mod generate;
 mod model;
 mod random;
+mod swaps;
 mod vectors;
 
 use compare::Tally;
@@ -140,6 +141,83 @@ fn histories(random: &mut Random, count: usize) -> Tally {
     tally
 }
 
+/// Changes saved totals: a byte, the length, or all of them.
+fn damage_saved(random: &mut Random, saved: &mut Vec<u8>) {
+    match random.below(8) {
+        0 => drop(saved.pop()),
+        1 => saved.push(0),
+        2 => saved.truncate(random.below(12)),
+        3 => *saved = (0..random.below(40)).map(|_| random.below(3) as u8).collect(),
+        4 => saved.extend([0; 9]),
+        _ => {
+            let at = random.below(saved.len().min(12));
+            saved[at] = saved[at].wrapping_add(1 + random.below(3) as u8);
+        }
+    }
+}
+
+/// The totals of a store as they are saved, with their number; the buffer is ample, or at times too short.
+fn save(random: &mut Random, tally: &mut Tally, file: &[u8], arrays: &mut Lent) -> (u64, Vec<u8>) {
+    let length = if random.once_in(6) { random.below(60) } else { 36_867 + random.below(2) };
+    let mut buffer: Vec<u8> = (0..length).map(|_| random.next() as u8).collect();
+    let number = tally.save(file, arrays, &mut buffer);
+    if number == 0 {
+        buffer.truncate(3 + 9 * (buffer[1] as usize + 256 * buffer[2] as usize));
+    }
+    (number, buffer)
+}
+
+/// Sites whose totals are saved after some deliveries, and restored into a store of another size. Both sites go on with
+/// the same deliveries, and while neither meets 25 their totals are saved alike.
+fn swapped_sites(random: &mut Random, count: usize) -> Tally {
+    let mut tally = Tally::default();
+    for _ in 0..count {
+        let shape = shape(random);
+        let file = generate::script(random, shape);
+        let cells = *random.pick(&[2, 3, 4, 8, 16, 40, 255, 256]);
+        let mut site = lent(random, 4096, 4096, cells);
+        if tally.open(&file, &mut site) != 0 {
+            continue;
+        }
+        for _ in 0..1 + random.below(4) {
+            tally.deliver(&file, &mut site, &readings(random), budget(random));
+        }
+        let (number, mut saved) = save(random, &mut tally, &file, &mut site);
+        let is_damaged = random.once_in(3);
+        if is_damaged {
+            damage_saved(random, &mut saved);
+        }
+        let cells = *random.pick(&[1, 2, 3, 5, 9, 40, 256]);
+        let mut swapped = lent(random, 4096, 4096, cells);
+        if random.once_in(20) {
+            damage_store(random, &mut swapped);
+        }
+        if tally.restore(&file, &mut swapped, &saved) != 0 || number != 0 {
+            continue;
+        }
+        let (number, again) = save(random, &mut tally, &file, &mut swapped);
+        tally.differ += u64::from(number == 0 && again != saved);
+        if is_damaged {
+            continue;
+        }
+        for _ in 0..random.below(4) {
+            let (readings, budget) = (readings(random), budget(random));
+            let numbers = [
+                tally.deliver(&file, &mut site, &readings, budget),
+                tally.deliver(&file, &mut swapped, &readings, budget),
+            ];
+            if numbers.contains(&25) {
+                break;
+            }
+            let (mut one, mut other) = (vec![1; 36_867], vec![2; 36_867]);
+            tally.save(&file, &mut site, &mut one);
+            tally.save(&file, &mut swapped, &mut other);
+            tally.differ += u64::from(one != other);
+        }
+    }
+    tally
+}
+
 fn main() {
     let mut agreed = true;
     for path in std::env::args().skip(1) {
@@ -149,6 +227,7 @@ fn main() {
     agreed &= files(&mut random, 12_000).report("files");
     agreed &= cut_files(&mut random).report("cut files");
     agreed &= histories(&mut random, 4_000).report("histories");
+    agreed &= swapped_sites(&mut random, 2_000).report("swapped sites");
     println!("{}", if agreed { "all agree" } else { "NOT ALL AGREE" });
     std::process::exit(if agreed { 0 } else { 1 });
 }

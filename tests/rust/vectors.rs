@@ -1,11 +1,12 @@
 //! The test vectors: cases of plain text, one file for each call, run by the engine and by the model.
 
-use crate::engine;
 use crate::compare::LEVEL_BITS;
+use crate::engine;
 use crate::model::{self, Lent};
+use crate::swaps;
 
 /// A case's lines, each as its key and its words.
-type Case<'a> = Vec<(&'a str, Vec<&'a str>)>;
+pub type Case<'a> = Vec<(&'a str, Vec<&'a str>)>;
 
 fn cases(text: &str) -> Vec<Case<'_>> {
     let mut cases: Vec<Case> = Vec::new();
@@ -26,23 +27,23 @@ fn values<'a>(case: &'a Case, key: &str) -> Option<&'a [&'a str]> {
     case.iter().find(|(k, _)| *k == key).map(|(_, words)| words.as_slice())
 }
 
-fn number<T: std::str::FromStr>(word: &str) -> T {
+pub fn number<T: std::str::FromStr>(word: &str) -> T {
     word.parse().unwrap_or_else(|_| panic!("{word} is no number of its place"))
 }
 
-fn file_bytes(case: &Case) -> Vec<u8> {
+pub fn file_bytes(case: &Case) -> Vec<u8> {
     let digits = values(case, "file").and_then(|words| words.first().copied()).unwrap_or("");
     (0..digits.len() / 2).map(|i| u8::from_str_radix(&digits[2 * i..2 * i + 2], 16).unwrap()).collect()
 }
 
 /// Code arrays that hold something else before a call.
-fn code_arrays(lent: &mut Lent, words: &[&str]) {
+pub fn code_arrays(lent: &mut Lent, words: &[&str]) {
     lent.kinds = vec![0xa5; number(words[0])];
     lent.operands = vec![-3; number(words[1])];
 }
 
 /// An array of some length from words INDEX=VALUE; all others are 0.
-fn array<T: Default + Clone + std::str::FromStr>(length: usize, words: &[&str]) -> Vec<T> {
+pub fn array<T: Default + Clone + std::str::FromStr>(length: usize, words: &[&str]) -> Vec<T> {
     let mut array = vec![T::default(); length];
     for word in words {
         let (index, value) = word.split_once('=').unwrap();
@@ -51,7 +52,7 @@ fn array<T: Default + Clone + std::str::FromStr>(length: usize, words: &[&str]) 
     array
 }
 
-fn empty() -> Lent {
+pub fn empty() -> Lent {
     Lent { kinds: Vec::new(), operands: Vec::new(), slots: Vec::new(), heads: Vec::new() }
 }
 
@@ -61,21 +62,31 @@ fn expected(case: &Case) -> u64 {
 }
 
 /// One of the two that are tested.
-struct Calls {
-    translate: fn(&[u8], &mut Lent) -> u64,
-    open: fn(&[u8], &mut Lent) -> u64,
-    check: fn(&[u8], &mut Lent) -> u64,
-    deliver: fn(&[u8], &mut Lent, &[i64], u64) -> u64,
+pub struct Calls {
+    pub translate: fn(&[u8], &mut Lent) -> u64,
+    pub open: fn(&[u8], &mut Lent) -> u64,
+    pub check: fn(&[u8], &mut Lent) -> u64,
+    pub deliver: fn(&[u8], &mut Lent, &[i64], u64) -> u64,
+    pub save: fn(&[u8], &mut Lent, &mut [u8]) -> u64,
+    pub restore: fn(&[u8], &mut Lent, &[u8]) -> u64,
 }
 
-const ENGINE: Calls =
-    Calls { translate: engine::translate, open: engine::open, check: engine::check, deliver: engine::deliver };
+const ENGINE: Calls = Calls {
+    translate: engine::translate,
+    open: engine::open,
+    check: engine::check,
+    deliver: engine::deliver,
+    save: engine::save,
+    restore: engine::restore,
+};
 
 const MODEL: Calls = Calls {
     translate: model::translate,
     open: model::open,
     check: model::check,
     deliver: model::deliver,
+    save: model::save,
+    restore: model::restore,
 };
 
 fn translate_case(case: &Case, calls: &Calls) -> bool {
@@ -142,6 +153,8 @@ fn deliver_case(case: &Case, calls: &Calls, without_lowest: bool) -> bool {
 fn agrees(case: &Case, calls: &Calls, without_lowest: bool) -> bool {
     if values(case, "rows").is_some() {
         translate_case(case, calls)
+    } else if values(case, "store").is_some() {
+        swaps::swap_case(case, calls)
     } else if values(case, "cells").is_some() {
         deliver_case(case, calls, without_lowest)
     } else {

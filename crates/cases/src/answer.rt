@@ -12,7 +12,7 @@ pub fn number_of(answer: u64) -> usize
 
 // Whether a number is a refusal: such a call leaves the code arrays zero and the store as it was.
 pub fn is_refusal(number: usize) -> bool {
-    0 < number && number < 12
+    number == 27 || (0 < number && number < 12)
 }
 
 // Whether an answer to a delivery is this one but for its lowest level; a refusal has none.

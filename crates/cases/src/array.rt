@@ -12,7 +12,7 @@ use crate::text::past;
 use crate::text::start_of;
 use crate::text::word;
 ghost use mathlib.Core.Path.{_≡_};
-ghost use Prim.Native.Nat.{_+_, _*_, _≤_};
+ghost use Prim.Native.Nat.{_+_, _*_, _≤_, min};
 ghost use lib.ListN.{length};
 ghost use Rattle.io.specs.Counts.{Counts};
 
@@ -44,6 +44,67 @@ pub fn file_of(case: &[u8], bytes: &mut [u8]) -> usize
         }
         bytes[n] = paired(high, low);
         n = n + 1;
+    }
+    n
+}
+
+// Puts a byte into an array so many times, from a place on and as far as it goes. Answers the place after them.
+fn repeat(bytes: &mut [u8], from: usize, byte: u8, times: u64) -> usize
+    requires { ⌜ from ≤ length (now bytes) ⌝ }
+    ensures { λ r. ⌜ (r ≤ length (now (bytes .exit))) × (length (now (bytes .exit)) ≡ length (now (bytes .entry))) ⌝ }
+{
+    let mut n = from;
+    let mut left = times;
+    while 0 < left {
+        if bytes.len() <= n {
+            return n;
+        }
+        bytes[n] = byte;
+        n = n + 1;
+        left = left - 1;
+    }
+    n
+}
+
+// How often the byte stands whose digits end at a position: as often as a number after `*` says, or once.
+fn times_at(line: &[u8], at: usize) -> u64 {
+    if byte_at(line, at) == b'*' {
+        return natural_at(line, after(line, at));
+    }
+    1
+}
+
+// Where the next byte's digits begin, behind those that end at a position.
+fn next_at(line: &[u8], at: usize) -> usize
+    ensures { λ r. ⌜ min at (length (now (line .entry))) ≤ r ⌝ }
+{
+    match byte_at(line, at) {
+        b'*' => past(line, at, b' '),
+        b' ' => after(line, at),
+        _ => at,
+    }
+}
+
+// Puts the bytes of a line's pieces, from a word on, into an array, and answers how many there are. A piece is two
+// digits of base 16 a byte, or two digits, `*` and a count.
+pub fn pieces_of(line: &[u8], from: usize, bytes: &mut [u8]) -> usize
+    ensures { λ r. ⌜ r ≤ length (now (bytes .exit)) ⌝ }
+{
+    let mut at = word(line, from);
+    let mut n = 0;
+    while at < line.len() {
+        let second = after(line, at);
+        let high = digit(byte_at(line, at));
+        let low = digit(byte_at(line, second));
+        if 15 < high {
+            return n;
+        }
+        if 15 < low {
+            return n;
+        }
+        let end = after(line, second);
+        n = repeat(bytes, n, paired(high, low), times_at(line, end));
+        at = next_at(line, end);
     }
     n
 }

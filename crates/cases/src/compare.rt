@@ -84,6 +84,18 @@ fn same_store(slots: &[i64], heads: &[u32], wanted_slots: &[i64], wanted_heads: 
     false
 }
 
+// Whether a buffer holds what an array that is at least as long begins with.
+fn same_buffer(bytes: &[u8], wanted: &[u8]) -> bool
+    ensures { λ r. ⌜ (r ≡ true →
+        now (bytes .entry) ≡ take (length (now (bytes .entry))) (now (wanted .entry))) ⌝ }
+{
+    let count = bytes.len();
+    if wanted.len() < count {
+        return false;
+    }
+    check::same(bytes, &wanted[..count])
+}
+
 // Whether both code arrays are as a call with this answer leaves them: the code, or all zero after a refusal.
 pub fn has_right_code(
     answer: u64,
@@ -120,5 +132,13 @@ pub fn compare_store(
         tally::count(tally, tally::STORES, 1);
         tally::count(tally, tally::STORE_WORDS, slots.len() as u64);
         tally::count(tally, tally::STORE_WORDS, heads.len() as u64);
+    }
+}
+
+// Counts the buffer that a save leaves where it is right.
+pub fn compare_buffer(tally: &mut Tally, bytes: &[u8], wanted: &[u8]) {
+    if same_buffer(bytes, wanted) {
+        tally::count(tally, tally::STORES, 1);
+        tally::count(tally, tally::STORE_WORDS, bytes.len() as u64);
     }
 }

@@ -107,6 +107,14 @@ pub fn open_heads(heads: &mut [u32], size: usize, depth: u64) {
     link_free(heads, size);
 }
 
+// The words of a store after a restore that ended with 25: all zero.
+pub fn clear_store(slots: &mut [i64], heads: &mut [u32]) {
+    let no_slots = [0i64; MOST_SLOTS];
+    let no_heads = [0u32; MOST_HEADS];
+    copy_slots(&no_slots, slots);
+    copy_heads(&no_heads, heads);
+}
+
 // The heads of a store after a delivery that did not end with 0, from those before it: after a stop the free cells are
 // linked upwards. Its slots are as before.
 pub fn end_heads(number: usize, heads: &mut [u32], size: usize) {

@@ -3,7 +3,7 @@
 use libc::STDOUT_FILENO;
 ghost use Prim.Native.Nat.{_<_};
 
-// The parts of a tally: the four calls, and the stores that the cases of deliver.txt end with.
+// The parts of a tally: the six calls, and the stores that histories end with.
 pub const TRANSLATE: usize = 0;
 
 pub const OPEN: usize = 1;
@@ -12,9 +12,14 @@ pub const CHECK: usize = 2;
 
 pub const DELIVER: usize = 3;
 
-const LAST: usize = 4;
+pub const SAVE: usize = 4;
 
-// The columns of a part. The words are those of the code arrays and stores that are right.
+pub const RESTORE: usize = 5;
+
+const LAST: usize = 6;
+
+// The columns of a part. The words are those of the code arrays and stores that are right. A save has its buffer in the
+// store's place, for it cannot change the store.
 const CALLS: usize = 0;
 
 const ANSWERS: usize = 1;
@@ -30,24 +35,24 @@ pub const STORE_WORDS: usize = 5;
 const COLUMNS: usize = 6;
 
 // A row of 8 words for each of 32 numbers, in each part; then the row that is counted in.
-const ROW: usize = 1280;
+const ROW: usize = 1792;
 
-pub const TALLY_WORDS: usize = 1281;
+pub const TALLY_WORDS: usize = 1793;
 
 pub type Tally = [u64; TALLY_WORDS];
 
 // The row of a part and a number.
 fn row_of(part: usize, number: usize) -> usize
-    ensures { λ r. ⌜ r < 160 ⌝ }
+    ensures { λ r. ⌜ r < 224 ⌝ }
 {
-    32 * (part % 5) + number % 32
+    32 * (part % 7) + number % 32
 }
 
 // Where a count of a row stands.
 fn place(row: usize, column: usize) -> usize
-    ensures { λ r. ⌜ r < 1280 ⌝ }
+    ensures { λ r. ⌜ r < 1792 ⌝ }
 {
-    8 * (row % 160) + column % 8
+    8 * (row % 224) + column % 8
 }
 
 // Turns to the row of a part and a number: what comes next is counted in it.
@@ -105,11 +110,13 @@ fn print_part(tally: &Tally, part: usize, name: &[u8]) {
 pub fn print_tally(tally: &Tally) {
     io::write_all(
         STDOUT_FILENO,
-        b"number, calls, and what is right: answers, codes, their words, stores, their words\n",
+        b"number, calls, and what is right: answers, codes, their words, stores (saved buffers), their words\n",
     );
     print_part(tally, TRANSLATE, b"engine_translate");
     print_part(tally, OPEN, b"engine_open");
     print_part(tally, CHECK, b"engine_check");
     print_part(tally, DELIVER, b"engine_deliver");
+    print_part(tally, SAVE, b"engine_save");
+    print_part(tally, RESTORE, b"engine_restore");
     print_part(tally, LAST, b"the stores that histories end with");
 }

@@ -17,6 +17,7 @@ use Rattle.semantics.specs.Calls.{admitted-if, code-fits}
 use borrow.Author.Tests.{leb-true}
 use Rattle.semantics.specs.Calls.{engine-translate, request-fits, deliver-in, deliver-for}
 use Rattle.semantics.specs.Machine.{program, delivered}
+use Rattle.soundness.specs.annotation.Accepting.{main-shape-of}
 use Rattle.engine_store.specs.declared.Ended.{Ended}
 use Rattle.engine_store.specs.declared.Ended.the-variants as E
 use Rattle.engine_store.specs.Left.{StoreLeft, left, left-by, opened-left, checked-left, SmallAnswer}
@@ -59,23 +60,42 @@ translates-not {file} {kinds} {operands} {a} h = rw (h .kinds-are, h .operands-a
 
 -- ---- calls on a store
 
--- the lines of loaded code are at most 4,096
-pub few-lines : {file kinds : List ℕ} {operands : List ℤ} {l d : ℕ} {kinds′ : List ℕ} {operands′ : List ℤ} →
-    Loads file kinds operands (Ready l d) kinds′ operands′ → l ≤ 4096
-unfolding admitted code-fits
-few-lines {file} {kinds} {operands} {l} {d} h = go (judged file) (h .is)
-  where
-    go : (verdict : Verdict) → Ready l d ≡ told-load (admitted-if (room kinds operands) verdict) → l ≤ 4096
-    go (refused n p) e = absurd (let z : _≡_ {A = ℕ} 0 1 = cc in omega arith)
-    go (accepted fs) e = fit (code-fits fs (room kinds operands)) refl e
-      where
-        fit : (t : Bool) → code-fits fs (room kinds operands) ≡ t →
-            Ready l d ≡ told-load (cond t (accepted fs) (refused 9 0)) → l ≤ 4096
-        fit true q g = let same : l ≡ length (code fs) = cc in omega (arith, same, short q)
-          where
-            short : code-fits fs (room kinds operands) ≡ true → length (code fs) ≤ room kinds operands
-            short q = leb-true (length (code fs)) (room kinds operands) q
-        fit false q g = absurd (let z : _≡_ {A = ℕ} 0 1 = cc in omega arith)
+-- the script that was loaded into so much room, with the lines of its code and main's depth
+pub record LoadedScript (file : List ℕ) (space l d : ℕ) : Type 0 where
+  pub script : Script
+  pub judges : judged file ≡ accepted script
+  pub fits : code-fits script space ≡ true
+  pub lines : l ≡ length (code script)
+  pub depth : d ≡ main-depth script
+
+module _ {file kinds : List ℕ} {operands : List ℤ} {l d : ℕ} {kinds′ : List ℕ} {operands′ : List ℤ}
+    (h : Loads file kinds operands (Ready l d) kinds′ operands′) where
+  pub loaded-script : LoadedScript file (room kinds operands) l d
+  unfolding admitted
+  loaded-script = by (judged file) refl (h .is)
+    where
+      by : (verdict : Verdict) → judged file ≡ verdict →
+          Ready l d ≡ told-load (admitted-if (room kinds operands) verdict) →
+          LoadedScript file (room kinds operands) l d
+      by (refused n p) q e = absurd (let z : _≡_ {A = ℕ} 0 1 = cc in omega arith)
+      by (accepted fs) q e = fit (code-fits fs (room kinds operands)) refl e
+        where
+          fit : (t : Bool) → code-fits fs (room kinds operands) ≡ t →
+              Ready l d ≡ told-load (cond t (accepted fs) (refused 9 0)) →
+              LoadedScript file (room kinds operands) l d
+          fit true f g = record { script = fs; judges = q; fits = f; lines = cc; depth = cc }
+          fit false f g = absurd (let z : _≡_ {A = ℕ} 0 1 = cc in omega arith)
+
+  -- its lines are at most 4,096
+  pub few-lines : l ≤ 4096
+  unfolding code-fits
+  few-lines =
+      let s = loaded-script in
+      omega (arith, s .lines, leb-true (length (code (s .script))) (room kinds operands) (s .fits))
+
+  -- its totals are of depth 4 at most
+  pub shallow : d ≤ 4
+  shallow = let s = loaded-script in omega (arith, s .depth, main-shape-of file (s .script) (s .judges) .1)
 
 module _ (kinds : List ℕ) (operands : List ℤ) where
   -- the reply for an accepted script, by what the store's part leaves
@@ -159,7 +179,7 @@ pub packed-number : (number lowest steps cells : ℕ) → number < 2 ^ 8 →
 unfolding packed
 packed-number number lowest steps cells f = omega arith
 
-packed-counts : (number lowest steps cells : ℕ) → lowest ≤ 256 → steps ≤ 1000000 → cells ≤ 256 →
+pub packed-counts : (number lowest steps cells : ℕ) → lowest ≤ 256 → steps ≤ 1000000 → cells ≤ 256 →
     packed number (lowest % 2 ^ 16) (steps % 2 ^ 24) (cells % 2 ^ 16) ≡ packed number lowest steps cells
 unfolding packed
 packed-counts number lowest steps cells l s c = omega arith

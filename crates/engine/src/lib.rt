@@ -3,7 +3,8 @@
 use engine_load::Loaded;
 use engine_store::Ended;
 ghost use Rattle.semantics.specs.Calls.{engine-translate, engine-open, engine-check, engine-deliver};
-ghost use Rattle.engine.specs.Promises.{Translates, Replies};
+ghost use Rattle.semantics.specs.SaveCalls.{engine-save, engine-restore};
+ghost use Rattle.engine.specs.Promises.{Translates, Replies, Saves};
 ghost use Rattle.engine.specs.Told.{Tells};
 
 // The packed answer to how the store's part of a call ended; a refusal zeroes both code arrays.
@@ -113,6 +114,57 @@ pub extern "C" fn engine_deliver(
                 depth,
                 budget,
             );
+            tell(ended, kinds, operands)
+        }
+        Loaded::Refused(answer) => answer,
+    }
+}
+
+// Saves the totals of a script's store in a buffer, from which a restore takes them; the store stays as it is.
+#[no_mangle]
+pub extern "C" fn engine_save(
+    file: &[u8],
+    kinds: &mut [u8],
+    operands: &mut [i64],
+    slots: &[i64],
+    heads: &[u32],
+    saved: &mut [u8],
+) -> u64
+    ensures { λ r. ⌜ Saves
+        (engine-save (now (file .entry)) (now (kinds .entry)) (now (operands .entry))
+        (now (slots .entry)) (now (heads .entry)) (now (saved .entry)))
+        r (now (kinds .exit)) (now (operands .exit)) (now (slots .entry)) (now (heads .entry)) (now (saved .exit)) ⌝ }
+{
+    match engine_load::load(file, kinds, operands) {
+        Loaded::Ready(_, depth) => {
+            let ended = engine_saved::save_words(slots, heads, saved, depth);
+            tell(ended, kinds, operands)
+        }
+        Loaded::Refused(answer) => {
+            clearing::clear_bytes(saved, 0);
+            answer
+        }
+    }
+}
+
+// Opens a store for a script with the totals of a saved file.
+#[no_mangle]
+pub extern "C" fn engine_restore(
+    file: &[u8],
+    kinds: &mut [u8],
+    operands: &mut [i64],
+    slots: &mut [i64],
+    heads: &mut [u32],
+    saved: &[u8],
+) -> u64
+    ensures { λ r. ⌜ Replies
+        (engine-restore (now (file .entry)) (now (kinds .entry)) (now (operands .entry))
+        (now (slots .entry)) (now (heads .entry)) (now (saved .entry)))
+        r (now (kinds .exit)) (now (operands .exit)) (now (slots .exit)) (now (heads .exit)) ⌝ }
+{
+    match engine_load::load(file, kinds, operands) {
+        Loaded::Ready(_, depth) => {
+            let ended = engine_saved::restore_words(slots, heads, saved, depth);
             tell(ended, kinds, operands)
         }
         Loaded::Refused(answer) => answer,

@@ -5,6 +5,11 @@ use cases::MOST_HEADS;
 use cases::MOST_LINES;
 use cases::MOST_SLOTS;
 use cases::Tally;
+ghost use Prim.Native.Nat.{_≤_};
+ghost use lib.ListN.{length};
+
+// The most bytes that are saved or lent to a restore.
+const MOST_BYTES: usize = 40000;
 
 // What is seen of a call: its answer, and whether both code arrays are right.
 pub struct Seen {
@@ -12,7 +17,8 @@ pub struct Seen {
     pub right_code: bool,
 }
 
-// Makes the delivery of a line with these code arrays; one that gives no more than lengths has budget 0 and no readings.
+// Makes the delivery of a line with these code arrays; one that gives no more than lengths has budget 0 and no
+// readings.
 fn deliver(
     line: &[u8],
     file: &[u8],
@@ -35,7 +41,8 @@ fn deliver(
     )
 }
 
-// Makes a call with these code arrays. A check is lent the store as `&`, so no word of it can change.
+// Makes a call with these code arrays. A check and a save are lent the store as `&`, so no word of it can change, and
+// nor can the bytes lent to a restore.
 fn make(
     call: usize,
     line: &[u8],
@@ -44,12 +51,44 @@ fn make(
     operands: &mut [i64],
     slots: &mut [i64],
     heads: &mut [u32],
+    saved: &mut [u8],
 ) -> u64 {
     match call {
         cases::OPEN => engine::engine_open(file, kinds, operands, slots, heads),
         cases::CHECK => engine::engine_check(file, kinds, operands, slots, heads),
+        cases::SAVE => engine::engine_save(file, kinds, operands, slots, heads, saved),
+        cases::RESTORE => engine::engine_restore(file, kinds, operands, slots, heads, saved),
         _ => deliver(line, file, kinds, operands, slots, heads),
     }
+}
+
+// The bytes that a call is lent, put into an array: for a restore those of its line, for a save a buffer of the length
+// that its line gives, or of 64 bytes where the line is another's. Answers how many.
+fn lend_bytes(call: usize, line: &[u8], bytes: &mut [u8]) -> usize
+    ensures { λ r. ⌜ r ≤ length (now (bytes .exit)) ⌝ }
+{
+    match call {
+        cases::RESTORE => cases::pieces_of(line, 4, bytes),
+        cases::SAVE => buffer_length(line, bytes.len()),
+        _ => 0,
+    }
+}
+
+// The length of a save's buffer, at most `most`.
+fn buffer_length(line: &[u8], most: usize) -> usize
+    ensures { λ r. ⌜ r ≤ most ⌝ }
+{
+    if cases::stands_at(line, 0, b"save") {
+        return cases::length_of(line, 3, most);
+    }
+    if most < 64 { most } else { 64 }
+}
+
+// Compares the buffer of a save with the bytes of its line, and zeros past them.
+fn compare_saved(line: &[u8], saved: &[u8], tally: &mut Tally) {
+    let mut wanted = [0u8; MOST_BYTES];
+    cases::pieces_of(line, 5, &mut wanted);
+    cases::compare_buffer(tally, saved, &wanted);
 }
 
 // Whether the code arrays are as a call on this file with this answer leaves them.
@@ -60,7 +99,7 @@ fn has_right_code(answer: u64, file: &[u8], kinds: &[u8], operands: &[i64]) -> b
     cases::has_right_code(answer, kinds, operands, &code_kinds, &code_operands)
 }
 
-// Makes a call with these code arrays, and compares them.
+// Makes a call with these code arrays, and compares them. The buffer of a save is counted where it is right.
 fn make_with(
     call: usize,
     line: &[u8],
@@ -69,8 +108,13 @@ fn make_with(
     operands: &mut [i64],
     slots: &mut [i64],
     heads: &mut [u32],
+    saved: &mut [u8],
+    tally: &mut Tally,
 ) -> Seen {
-    let answer = make(call, line, file, kinds, operands, slots, heads);
+    let answer = make(call, line, file, kinds, operands, slots, heads, saved);
+    if call == cases::SAVE {
+        compare_saved(line, saved, tally);
+    }
     Seen {
         answer: answer,
         right_code: has_right_code(answer, file, kinds, operands),
@@ -90,6 +134,8 @@ fn lend(
     let operands_length = cases::length_of(line, 2, MOST_LINES);
     let mut kinds = [170u8; MOST_LINES];
     let mut operands = [-170i64; MOST_LINES];
+    let mut saved = [170u8; MOST_BYTES];
+    let saved_length = lend_bytes(call, line, &mut saved);
     let seen = make_with(
         call,
         line,
@@ -98,14 +144,25 @@ fn lend(
         &mut operands[0..operands_length],
         slots,
         heads,
+        &mut saved[0..saved_length],
+        tally,
     );
     let words = (kinds_length + operands_length) as u64;
     cases::count_code(tally, seen.right_code, words);
     seen.answer
 }
 
+// The words that a call leaves which did not answer 0, from those before it.
+fn end_store(call: usize, number: usize, slots: &mut [i64], heads: &mut [u32], size: usize) {
+    if call == cases::RESTORE && !cases::is_refusal(number) {
+        cases::clear_store(slots, heads);
+    } else {
+        cases::end_heads(number, heads, size);
+    }
+}
+
 // Makes a call of which this number is wanted; its answer. After a refusal or a stop the store is compared with the
-// words before the call, but not after a check.
+// words that it must have then, but not after a check or a save.
 pub fn run(
     call: usize,
     line: &[u8],
@@ -121,8 +178,8 @@ pub fn run(
     cases::copy_heads(heads, &mut kept_heads);
     cases::turn_to(tally, call, number);
     let answer = lend(call, line, file, slots, heads, tally);
-    if call != cases::CHECK && number != 0 {
-        cases::end_heads(number, &mut kept_heads, heads.len());
+    if call != cases::CHECK && call != cases::SAVE && number != 0 {
+        end_store(call, number, &mut kept_slots, &mut kept_heads, heads.len());
         cases::compare_store(tally, slots, heads, &kept_slots, &kept_heads);
     }
     answer

@@ -1,5 +1,5 @@
 // The cases of check.txt: the answer, and the code as `engine_translate` gives it. A store that is refused is lent to a
-// delivery too: it is refused alike, and every word of the store stays as it was.
+// delivery and to a save too: it is refused alike, and every word of the store stays as it was.
 use super::calls;
 use cases::MOST_HEADS;
 use cases::MOST_SLOTS;
@@ -26,6 +26,7 @@ fn run_store(case: &[u8], file: &[u8], slots: &mut [i64], heads: &mut [u32], tal
     compare(cases::CHECK, case, file, slots, heads, number, tally);
     if cases::is_refusal(number) {
         compare(cases::DELIVER, case, file, slots, heads, number, tally);
+        compare(cases::SAVE, case, file, slots, heads, number, tally);
     }
 }
 

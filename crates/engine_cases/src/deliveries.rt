@@ -7,7 +7,7 @@ use cases::MOST_SLOTS;
 use cases::Tally;
 
 // Checks the store after a call, with code arrays of the lengths that a line gives; so many cells are taken.
-fn check(
+pub fn check(
     line: &[u8],
     file: &[u8],
     slots: &mut [i64],
@@ -29,7 +29,7 @@ fn compare_opened(file: &[u8], slots: &[i64], heads: &[u32], tally: &mut Tally) 
 }
 
 // Opens a store by the line of a case.
-fn open(line: &[u8], file: &[u8], slots: &mut [i64], heads: &mut [u32], tally: &mut Tally) {
+pub fn open(line: &[u8], file: &[u8], slots: &mut [i64], heads: &mut [u32], tally: &mut Tally) {
     let wanted = cases::natural(line, 3);
     let number = cases::number_of(wanted);
     let answer = calls::run(cases::OPEN, line, file, slots, heads, number, tally);
@@ -47,7 +47,7 @@ fn is_wanted(answer: u64, wanted: u64, whole: bool) -> bool {
 }
 
 // Makes the delivery of a line.
-fn deliver(
+pub fn deliver(
     line: &[u8],
     file: &[u8],
     slots: &mut [i64],
@@ -62,7 +62,7 @@ fn deliver(
 }
 
 // The cells taken after the delivery of a line: those of its answer, or those of the store where it is refused.
-fn cells_after(line: &[u8], heads: &[u32]) -> u64 {
+pub fn cells_after(line: &[u8], heads: &[u32]) -> u64 {
     let wanted = cases::natural(line, 4);
     if cases::is_refusal(cases::number_of(wanted)) {
         return cases::taken(heads);
@@ -105,7 +105,7 @@ fn deliver_all(
 }
 
 // Compares the store after the last delivery with the words of the case.
-fn compare_last(case: &[u8], slots: &[i64], heads: &[u32], tally: &mut Tally) {
+pub fn compare_last(case: &[u8], slots: &[i64], heads: &[u32], tally: &mut Tally) {
     let mut wanted_slots = [0i64; MOST_SLOTS];
     let mut wanted_heads = [0u32; MOST_HEADS];
     cases::fill_slots(cases::line_of(case, b"slots"), 1, &mut wanted_slots);

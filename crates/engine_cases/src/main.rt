@@ -1,9 +1,10 @@
-// Runs the cases of data/, the base's and those of orders 1 to 3, on the four calls, and prints how many calls they
+// Runs the cases of data/, the base's and those of orders 1 to 4, on the six calls, and prints how many calls they
 // make and how much of what each leaves is right. Then it prints the refusal of a file for each number from 1 to 9.
 mod calls;
 mod checks;
 mod deliveries;
 mod refusals;
+mod swaps;
 mod translations;
 
 use cases::TALLY_WORDS;
@@ -16,6 +17,7 @@ enum Family {
     Check,
     EarlierDeliver,
     Deliver,
+    Swap,
 }
 
 // Runs a case.
@@ -25,6 +27,7 @@ fn run_case(family: Family, case: &[u8], tally: &mut Tally) {
         Family::Check => checks::run_case(case, tally),
         Family::EarlierDeliver => deliveries::run_case(case, false, tally),
         Family::Deliver => deliveries::run_case(case, true, tally),
+        Family::Swap => swaps::run_case(case, tally),
     }
 }
 
@@ -51,14 +54,18 @@ fn main() {
     run_file(Family::Translate, b"translate_1.txt", &mut tally);
     run_file(Family::Translate, b"translate_2.txt", &mut tally);
     run_file(Family::Translate, b"translate_3.txt", &mut tally);
+    run_file(Family::Translate, b"translate_4.txt", &mut tally);
     run_file(Family::Check, b"check.txt", &mut tally);
     run_file(Family::Check, b"check_1.txt", &mut tally);
     run_file(Family::Check, b"check_2.txt", &mut tally);
     run_file(Family::Check, b"check_3.txt", &mut tally);
+    run_file(Family::Check, b"check_4.txt", &mut tally);
     run_file(Family::EarlierDeliver, b"deliver.txt", &mut tally);
     run_file(Family::EarlierDeliver, b"deliver_1.txt", &mut tally);
     run_file(Family::Deliver, b"deliver_2.txt", &mut tally);
     run_file(Family::Deliver, b"deliver_3.txt", &mut tally);
+    run_file(Family::Deliver, b"deliver_4.txt", &mut tally);
+    run_file(Family::Swap, b"swap_4.txt", &mut tally);
     cases::print_tally(&tally);
     refusals::print_refusals();
 }

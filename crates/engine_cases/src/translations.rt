@@ -1,4 +1,4 @@
-// The cases of translate.txt: the answer, and the code line by line. A file that is refused is lent to the other three
+// The cases of translate.txt: the answer, and the code line by line. A file that is refused is lent to the other five
 // calls too: they refuse it alike, and leave every word of the store as it was.
 use super::calls;
 use super::calls::Seen;
@@ -53,6 +53,8 @@ fn run_file(case: &[u8], file: &[u8], tally: &mut Tally) {
         refuse(cases::OPEN, case, file, number, tally);
         refuse(cases::CHECK, case, file, number, tally);
         refuse(cases::DELIVER, case, file, number, tally);
+        refuse(cases::SAVE, case, file, number, tally);
+        refuse(cases::RESTORE, case, file, number, tally);
     }
 }
 

@@ -6,5 +6,6 @@ pub mod Levels
 pub mod Lists
 pub mod Numbers
 pub mod Releases
+pub mod SavedFiles
 pub mod Tests
 pub mod Updates

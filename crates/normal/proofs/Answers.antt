@@ -15,7 +15,7 @@ use Rattle.semantics.specs.Calls.{room, code-fits}
 use Rattle.normal_write.specs.Wrote.{before-place, backed, kinds-of, operands-of, Wrote}
 use Rattle.normal_write.proofs.Rows.{map-length}
 use Rattle.normal.specs.Left.{CodeLeft, left-of}
-use Rattle.normal.proofs.Moves.{take-front}
+use Rattle.clearing.proofs.Clearing.{take-front}
 
 module _ {A : Type 0} where
   drop-set : (l : List A) (j : ℕ) (v : A) → j < length l → drop j (set l j v) ≡ v ∷ drop (suc j) l
@@ -52,7 +52,7 @@ module _ {A : Type 0} where
   front-long : (k : List A) (at n : ℕ) → at + n ≤ length k → length (take n (drop at k)) ≡ n
   front-long k at n h = length-take-le n (drop at k) (omega (arith, length-drop at k))
 
-  pub moved-long : (k x : List A) (at n : ℕ) → at + n ≤ length k → x ≡ take n (drop at k) ++ drop n k →
+  moved-long : (k x : List A) (at n : ℕ) → at + n ≤ length k → x ≡ take n (drop at k) ++ drop n k →
       length x ≡ length k
   moved-long k x at n h e =
       ap length e ∙ length-append (take n (drop at k)) (drop n k)

@@ -41,39 +41,13 @@ fn move_operands(os: &mut [i64], at: usize, n: usize)
     }
 }
 
-// Zeros from a place on.
-fn clear_kinds(ks: &mut [u8], from: usize)
-    requires { ⌜ from ≤ length (now ks) ⌝ }
-    ensures { λ _. ⌜ now (ks .exit)
-        ≡ take from (now (ks .entry)) ++ replicate (length (now (ks .entry)) - from) 0 ⌝ }
-{
-    let mut i = from;
-    while i < ks.len() {
-        ks[i] = 0;
-        i = i + 1;
-    }
-}
-
-// The same.
-fn clear_operands(os: &mut [i64], from: usize)
-    requires { ⌜ from ≤ length (now os) ⌝ }
-    ensures { λ _. ⌜ now (os .exit)
-        ≡ take from (now (os .entry)) ++ replicate (length (now (os .entry)) - from) (pos 0) ⌝ }
-{
-    let mut i = from;
-    while i < os.len() {
-        os[i] = 0;
-        i = i + 1;
-    }
-}
-
 // Makes both arrays all zero, as every refusal leaves them.
 pub fn refuse(ks: &mut [u8], os: &mut [i64])
     ensures { λ _. ⌜ (now (ks .exit) ≡ replicate (length (now (ks .entry))) 0)
         × (now (os .exit) ≡ replicate (length (now (os .entry))) (pos 0)) ⌝ }
 {
-    clear_kinds(ks, 0);
-    clear_operands(os, 0);
+    clearing::clear_bytes(ks, 0);
+    clearing::clear_words(os, 0);
 }
 
 // Brings the n lines that stand from `at` on to the front of both arrays, and clears what is behind them.
@@ -86,8 +60,8 @@ fn settle(ks: &mut [u8], os: &mut [i64], at: usize, n: usize)
 {
     move_kinds(ks, at, n);
     move_operands(os, at, n);
-    clear_kinds(ks, n);
-    clear_operands(os, n);
+    clearing::clear_bytes(ks, n);
+    clearing::clear_words(os, n);
 }
 
 // The lesser of two numbers.

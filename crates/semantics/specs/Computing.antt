@@ -36,6 +36,11 @@ use Rattle.semantics.specs.Calls.{request-fits, refusing, answering, ope
 use Rattle.semantics.specs.Calls.{engine-open, engine-check, engine-deliver}
 use Rattle.semantics.specs.Ledger.{entry}
 use Rattle.semantics.specs.Demands.{value-of, touched}
+use Rattle.semantics.specs.Saved.{entries, low-bytes, marks, number-bytes, file-bytes, saved-bytes, save-fits}
+use Rattle.semantics.specs.Saved.{value-at, labelled, read-saved, acquire-cell, load-element, load-value}
+use Rattle.semantics.specs.Saved.{load-totals, loaded}
+use Rattle.semantics.specs.SaveCalls.{refusing-save, answering-save, save-for, engine-save, restore-for}
+use Rattle.semantics.specs.SaveCalls.{engine-restore}
 
 unfoldable pub computing : Unit {0}
 unfolding tabulate all occurrences least each updated onward require times passes bytes-at size function-size
@@ -56,5 +61,7 @@ unfolding tabulate all occurrences least each updated onward require times passe
     deliver-for engine-open engine-check engine-deliver meaning-step meaning-stepped do-operation do-call
     do-literal do-index do-length do-iota do-replicate do-if do-pass do-loop do-leaf eval bound meaning main-meaning
     step-wants entry value-of
-    touched
+    touched entries low-bytes marks number-bytes file-bytes saved-bytes save-fits value-at labelled read-saved
+    acquire-cell load-element load-value load-totals loaded refusing-save answering-save save-for engine-save
+    restore-for engine-restore
 computing = tt

@@ -19,6 +19,9 @@ pub mod Machine
 pub mod Calls
 pub mod Ledger
 pub mod Demands
+pub mod Saved
+pub mod SaveCalls
+pub mod Swap
 pub mod Computing
 pub mod Trials
 pub mod Slips
@@ -26,3 +29,4 @@ pub mod Second
 pub mod Levels
 pub mod Lowest
 pub mod Watched
+pub mod Carried

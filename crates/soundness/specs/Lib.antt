@@ -7,6 +7,7 @@ pub mod Settled
 pub mod Delivering
 pub mod Step
 pub mod Demand3
+pub mod saved
 pub mod Demand2
 pub mod Instances
 pub mod Fixed

@@ -16,13 +16,13 @@ use Rattle.semantics.specs.Store.{Store, cells-taken, free-cells, relinked}
 use Rattle.semantics.specs.Words.{store-of, slot-words, head-words}
 use Rattle.semantics.specs.Sound.{free-list, sound-words}
 use Rattle.semantics.specs.Machine.{State, program, delivery, starting, delivered-by, lowest-over, lowest-level}
-use Rattle.semantics.specs.Calls.{StoreReply, request-fits, refusing, answering, deliver-in}
+use Rattle.semantics.specs.Calls.{number-of, steps-of, StoreReply, request-fits, refusing, answering, deliver-in}
 use Rattle.semantics.specs.Ledger as L
 use Rattle.semantics.specs.Ledger.{Delivery, Entry, worked, meant, entry-by, dry-steps, wants-cell, value-after}
 use Rattle.semantics.specs.Demands.{value-of, Agrees, Least, OutOfCells}
 use Rattle.laws.specs.Tests.{both-hold}
 use Rattle.laws.specs.Levels.{lowest-most}
-use Rattle.soundness.specs.Answers.{not-dry, dry-packed}
+use Rattle.soundness.specs.Answers.{number-packed, steps-packed, not-dry, dry-packed}
 use Rattle.soundness.specs.Settled.{Settled, sound-settles, settled-sound, settled-words, settled-rests}
 use Rattle.soundness.specs.Settled.{relinked-settles, relinked-alone}
 use Rattle.soundness.specs.store.LowestLevel.{free-cells-listed, least-level}
@@ -46,6 +46,15 @@ pub settled-standing : {fs : Script} {σ : Store} {v : Value} →
     Settled (main-depth fs) σ v → Standing fs (slot-words σ) (head-words σ) v
 settled-standing s = record { sound = settled-sound s; value = rw (settled-words s) (s .value) }
 
+-- the number and the steps of an entry, as its answer tells them
+abbrev pub entry-number : Entry → ℕ
+entry-number (L.refused n) = n
+entry-number (worked n steps w) = n
+
+abbrev pub entry-steps : Entry → ℕ
+entry-steps (L.refused n) = 0
+entry-steps (worked n steps w) = steps
+
 -- over a store and a ledger that agree, and the next delivery
 module _ (fs : Script) (slots : List ℤ) (heads : List ℕ) (v : Value) (δ : Delivery) where
   abbrev before : Store
@@ -61,14 +70,19 @@ module _ (fs : Script) (slots : List ℤ) (heads : List ℕ) (v : Value) (δ : D
   pub record Stepped (r : StoreReply) (e : Entry) : Type 0 where
     pub agrees : Agrees fs (store-of slots heads) (store-of (r .slots) (r .heads)) v δ (r .answer) e
     pub stands : Standing fs (r .slots) (r .heads) (value-after v e)
+    -- the entry's number and steps have room in the answer
+    pub number : number-of (r .answer) ≡ entry-number e
+    pub steps : steps-of (r .answer) ≡ entry-steps e
 
   module _ (stood : Standing fs slots heads v) (kinds : List ℕ) (operands : List ℤ) where
     -- a refusal changes nothing
-    pub refused-step : (n : ℕ) → Stepped (refusing kinds operands slots heads n 0) (L.refused n)
+    pub refused-step : (n : ℕ) → n < 256 → Stepped (refusing kinds operands slots heads n 0) (L.refused n)
     unfolding refusing
-    refused-step n = record {
+    refused-step n small = record {
       agrees = record { lowest = 0; answered = refl; rests = settled-rests (standing-settled stood); owed = refl };
       stands = stood;
+      number = number-packed n 0 0 0 small;
+      steps = steps-packed n 0 0 0 small (omega arith) (omega arith);
     }
 
     abbrev replied : Outcome State (Unit {0}) → StoreReply
@@ -81,11 +95,23 @@ module _ (fs : Script) (slots : List ℤ) (heads : List ℕ) (v : Value) (δ : D
         subst (λ n. Least (s .log) (free-list before) (lowest-over (s .log) n)) (sym counted)
         (least-level (s .log) (free-list before) (free-list (s .store)) (sym (clean .replays)))
 
+    -- there are no more than 256 cells
+    few-free : (s : State) → lowest-level before s < 2 ^ 16
+    few-free s =
+        omega (arith, lowest-most (s .log) (free-cells before), standing-settled stood .rests .holds .few)
+
+    few-steps : request-fits (δ .readings) (δ .budget) ≡ true → (k : ℕ) → δ .budget - k < 2 ^ 24
+    unfolding request-fits
+    few-steps requested k =
+        let e = both-hold (leb (length (δ .readings)) 16) (leb (δ .budget) 1000000) requested .1 in
+        omega (arith, leb-true (δ .budget) 1000000 e)
+
     -- a result replaces the totals
-    finished-step : (u : Unit {0}) (s : State) (w : Value) → run ≡ done u s → Clean start s →
-        Settled (main-depth fs) (s .store) w → Stepped (replied (done u s)) (worked 0 (δ .budget - s .left) w)
+    finished-step : request-fits (δ .readings) (δ .budget) ≡ true → (u : Unit {0}) (s : State) (w : Value) →
+        run ≡ done u s → Clean start s → Settled (main-depth fs) (s .store) w →
+        Stepped (replied (done u s)) (worked 0 (δ .budget - s .left) w)
     unfolding answering
-    finished-step u s w e clean settled =
+    finished-step requested u s w e clean settled =
         let back = settled-words settled in
         record {
           agrees = record {
@@ -105,14 +131,18 @@ module _ (fs : Script) (slots : List ℤ) (heads : List ℕ) (v : Value) (δ : D
             });
           };
           stands = settled-standing settled;
+          number = number-packed 0 (lowest-level before s) (δ .budget - s .left) (cells-taken (s .store)) (omega arith);
+          steps = steps-packed 0 (lowest-level before s) (δ .budget - s .left) (cells-taken (s .store)) (omega arith)
+              (few-free s) (few-steps requested (s .left));
         }
 
     -- a stop leaves them
-    stopped-step : (n : ℕ) (s : State) → 0 < n → run ≡ stop n s → Clean start s →
+    stopped-step : request-fits (δ .readings) (δ .budget) ≡ true → (n : ℕ) (s : State) → 0 < n → n < 256 →
+        run ≡ stop n s → Clean start s →
         (n ≡ 25 → wants-cell (δ .budget - s .left) (meant fs v δ) ≡ true) → (n ≡ 25 → OutOfCells s) →
         Stepped (replied (stop n s)) (worked n (δ .budget - s .left) v)
     unfolding answering
-    stopped-step n s positive e clean wanted out =
+    stopped-step requested n s positive small e clean wanted out =
         let settled = relinked-settles (standing-settled stood) in
         let back = settled-words settled in
         record {
@@ -133,18 +163,10 @@ module _ (fs : Script) (slots : List ℤ) (heads : List ℕ) (v : Value) (δ : D
             });
           };
           stands = settled-standing settled;
+          number = number-packed n (lowest-level before s) (δ .budget - s .left) (cells-taken (relinked before)) small;
+          steps = steps-packed n (lowest-level before s) (δ .budget - s .left) (cells-taken (relinked before)) small
+              (few-free s) (few-steps requested (s .left));
         }
-
-    -- there are no more than 256 cells
-    few-free : (s : State) → lowest-level before s < 2 ^ 16
-    few-free s =
-        omega (arith, lowest-most (s .log) (free-cells before), standing-settled stood .rests .holds .few)
-
-    few-steps : request-fits (δ .readings) (δ .budget) ≡ true → (k : ℕ) → δ .budget - k < 2 ^ 24
-    unfolding request-fits
-    few-steps requested k =
-        let e = both-hold (leb (length (δ .readings)) 16) (leb (δ .budget) 1000000) requested .1 in
-        omega (arith, leb-true (δ .budget) 1000000 e)
 
     -- the reply, with the entry that the ledger makes of it
     pub worked-step : request-fits (δ .readings) (δ .budget) ≡ true → (o : Outcome State (Unit {0})) →
@@ -155,14 +177,14 @@ module _ (fs : Script) (slots : List ℤ) (heads : List ℕ) (v : Value) (δ : D
         let none = not-dry 0 (lowest-level before s) (δ .budget - s .left) (cells-taken (s .store)) (omega arith)
         (λ z. absurd (omega arith)) in
         rw (none, m, sym (q .left))
-        (finished-step u s w e (q .clean) (finished-settled (standing-settled stood) q))
+        (finished-step requested u s w e (q .clean) (finished-settled (standing-settled stood) q))
     worked-step requested o p e m (stops {k} {n} {s} q) =
         let none = not-dry k (lowest-level before s) (δ .budget - s .left) (cells-taken (relinked before))
         (q .stops .high) (q .stops .other) in
         rw (none, m, sym (q .left), sym (q .number))
-        (stopped-step k s (omega (arith, q .stops .low)) e (q .clean) (λ z. absurd (q .stops .other z))
-        (λ z. absurd (q .stops .other z)))
+        (stopped-step requested k s (omega (arith, q .stops .low)) (q .stops .high) e (q .clean)
+        (λ z. absurd (q .stops .other z)) (λ z. absurd (q .stops .other z)))
     worked-step requested o p e m (runs-dry {s} none-free out clean wants) =
         rw (dry-packed (lowest-level before s) (δ .budget - s .left) (cells-taken (relinked before)) (few-free s)
         (few-steps requested (s .left)))
-        (stopped-step 25 s (omega arith) e clean (λ z. rw m wants) (λ z. out refl))
+        (stopped-step requested 25 s (omega arith) (omega arith) e clean (λ z. rw m wants) (λ z. out refl))

@@ -3,7 +3,7 @@ ghost use mathlib.Core.Path.{_≡_};
 ghost use Prim.Native.Nat.{_+_, _*_, _<_, _≤_};
 ghost use lib.IntN.{pos};
 ghost use lib.ListN.{length, getD};
-ghost use Rattle.semantics.specs.Store.{cell, with-cell, relinked, opened};
+ghost use Rattle.semantics.specs.Store.{cell, with-cell, relinked, zeroed, opened};
 ghost use Rattle.semantics.specs.Words.{cells-in, store-of};
 ghost use Rattle.store_reset.specs.Resetting.{words-of, cell-linked, head-linked};
 
@@ -70,16 +70,24 @@ pub fn relink(slots: &mut [i64], heads: &mut [u32])
     }
 }
 
+// Makes all words of a store zero.
+pub fn zero_words(slots: &mut [i64], heads: &mut [u32])
+    ensures { λ _. ⌜ store-of (now (slots .exit)) (now (heads .exit))
+        ≡ zeroed (cells-in (now (slots .entry)) (now (heads .entry))) ⌝ }
+{
+    let no_words = [0; 1];
+    let no_numbers = [0; 1];
+    copy_slots(slots, &no_words[0..0]);
+    copy_heads(heads, &no_numbers[0..0]);
+}
+
 // Opens a store: all words zero, all cells free and linked upwards; for totals that are an array the first cell is
 // acquired as the empty one.
 pub fn open_store(slots: &mut [i64], heads: &mut [u32], depth: u32)
     ensures { λ _. ⌜ store-of (now (slots .exit)) (now (heads .exit))
         ≡ opened (cells-in (now (slots .entry)) (now (heads .entry))) depth ⌝ }
 {
-    let no_words = [0; 1];
-    let no_numbers = [0; 1];
-    copy_slots(slots, &no_words[0..0]);
-    copy_heads(heads, &no_numbers[0..0]);
+    zero_words(slots, heads);
     relink(slots, heads);
     if depth == 0 {
         return;

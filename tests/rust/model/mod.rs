@@ -1,10 +1,11 @@
-//! A second implementation of the four calls, written from documents 01 and 02 alone: trees on the heap, no proof.
+//! A second implementation of the six calls, written from documents 01 and 02 alone: trees on the heap, no proof.
 
 pub mod annotate;
 pub mod code;
 pub mod machine;
 pub mod names;
 pub mod rules;
+pub mod saved;
 pub mod script;
 pub mod store;
 
@@ -87,7 +88,7 @@ pub fn check(file: &[u8], lent: &mut Lent) -> u64 {
         Err(answer) => return answer,
     };
     match Store::from_words(&lent.slots, &lent.heads) {
-        Some(store) if store.is_sound(coded[0].depth) => plain(0, 0, store.taken() as u64),
+        Some(store) if store.is_sound(coded[0].depth) => pack(0, 0, 0, store.taken() as u64),
         _ => refuse_with(lent, 11),
     }
 }
@@ -107,6 +108,45 @@ pub fn deliver(file: &[u8], lent: &mut Lent, readings: &[i64], budget: u64) -> u
     let ended = machine::deliver(&coded, &mut store, readings, budget);
     keep(lent, &store);
     pack(ended.number, ended.lowest, ended.steps, store.taken() as u64)
+}
+
+/// Saves the totals in a buffer, which is zero where they are not and after a refusal.
+pub fn save(file: &[u8], lent: &mut Lent, buffer: &mut [u8]) -> u64 {
+    buffer.fill(0);
+    let coded = match load(file, lent) {
+        Ok((coded, _)) => coded,
+        Err(answer) => return answer,
+    };
+    let store = match Store::from_words(&lent.slots, &lent.heads) {
+        Some(store) if store.is_sound(coded[0].depth) => store,
+        _ => return refuse_with(lent, 11),
+    };
+    match saved::bytes_of(&store, coded[0].depth) {
+        Some(bytes) if bytes.len() <= buffer.len() => buffer[..bytes.len()].copy_from_slice(&bytes),
+        _ => return refuse_with(lent, 27),
+    }
+    plain(0, 0, store.taken() as u64)
+}
+
+/// Opens a store with saved totals; where cells run out it is zero.
+pub fn restore(file: &[u8], lent: &mut Lent, bytes: &[u8]) -> u64 {
+    let coded = match load(file, lent) {
+        Ok((coded, _)) => coded,
+        Err(answer) => return answer,
+    };
+    let Some(cells) = cells_of(&lent.slots, &lent.heads) else {
+        return refuse_with(lent, 11);
+    };
+    let Some(value) = saved::value_in(bytes, coded[0].depth) else {
+        return refuse_with(lent, 27);
+    };
+    let Some(store) = saved::restored(cells, &value, coded[0].depth) else {
+        lent.slots.fill(0);
+        lent.heads.fill(0);
+        return plain(25, 0, 0);
+    };
+    keep(lent, &store);
+    plain(0, 0, store.taken() as u64)
 }
 
 fn keep(lent: &mut Lent, store: &Store) {

@@ -2,16 +2,16 @@
 use mathlib.Core.Path.{_∙_}
 use lib.IntN.{pos}
 use borrow.Author.Needs.{needs}
-use Rattle.normal.proofs.Moves.{cleared-whole}
+use Rattle.clearing.proofs.Clearing.{cleared-whole}
 use Rattle.normal.proofs.refuse.Statement.{statement}
 use Rattle.normal.proofs.refuse.Tie as tie
 
 returns : tie.Need-returns
 returns c =
     let a = c .before .before .before .before .before .before .before .before .args in (
-      c .before .before .before .before .before .clear-kinds .ensures ∙ cleared-whole (a .ks .now) 0,
+      c .before .before .before .before .before .clear-bytes .ensures ∙ cleared-whole (a .ks .now) 0,
       c .before
-          .clear-operands .ensures ∙ cleared-whole (a .os .now) (pos 0),
+          .clear-words .ensures ∙ cleared-whole (a .os .now) (pos 0),
     )
 
 pub refuse-spec : {M : Type 1} → statement M

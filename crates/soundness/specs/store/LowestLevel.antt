@@ -9,7 +9,7 @@ use mathlib.Core.List.{List, [], _∷_}
 use lib.ListN.{length, getD}
 use lib.Dec.{ltb, eqb}
 use Rattle.semantics.specs.Basics.{occurrences, _∈_}
-use Rattle.semantics.specs.Store.{Cell, Store, cell, cell-count, clear, one-if-used, used-cells, free-cells}
+use Rattle.semantics.specs.Store.{Cell, Store, cell, cell-count, clear, one-if-used, used-cells, free-cells, cells-taken}
 use Rattle.semantics.specs.Sound.{free-from, free-list, due}
 use Rattle.semantics.specs.Machine.{Event, acquires, frees, touches, level-by, level-after, lowest-over}
 use Rattle.semantics.specs.Demands.{replayed, FreeAfter, BeginsWith, Least}
@@ -155,10 +155,14 @@ counted-from (x ∷ xs) c l within once =
         without-other c (suc c + i) l (λ q. omega (arith, q)) ∙ ap (λ k. occurrences k l) one-on
         ∙ once (suc i) (omega (arith, h))
 
-pub free-cells-listed : {σ : Store} {Z R : List ℕ} → Invariant σ Z R → free-cells σ ≡ length (free-list σ)
+-- each cell is taken or on the free list
+pub listed-or-taken : {σ : Store} {Z R : List ℕ} → Invariant σ Z R →
+    length (free-list σ) + cells-taken σ ≡ cell-count σ
 unfolding cell
-free-cells-listed {σ} v =
+listed-or-taken {σ} v =
     let l = free-list σ in
-    let m = counted-from (σ .cells) 0 l (λ k h. omega (arith, links-in-range σ (σ .first) l (listed v .links) k h))
-    (λ i h. ap (λ k. occurrences k l) (omega arith) ∙ v .free i (omega (arith, h))) in
-    omega (arith, m)
+    counted-from (σ .cells) 0 l (λ k h. omega (arith, links-in-range σ (σ .first) l (listed v .links) k h))
+    (λ i h. ap (λ k. occurrences k l) (omega arith) ∙ v .free i (omega (arith, h)))
+
+pub free-cells-listed : {σ : Store} {Z R : List ℕ} → Invariant σ Z R → free-cells σ ≡ length (free-list σ)
+free-cells-listed v = omega (arith, listed-or-taken v)

@@ -1,0 +1,156 @@
+// The cases of swap.txt: acts on one store, in order, in which totals are saved and restored. The answer of each call
+// is compared, the code as `engine_translate` gives it, the buffer of a save byte by byte, and the store: after a
+// refusal, a stop and a restore that ended with 25 with the words that it must have, and at the end with those of the
+// case. The store is checked after each opening, delivery and restore that left one.
+use super::calls;
+use super::deliveries;
+use cases::MOST_HEADS;
+use cases::MOST_SLOTS;
+use cases::Tally;
+
+// Makes the check or the save of a line, whose answer is this word.
+fn look(
+    call: usize,
+    line: &[u8],
+    answer: usize,
+    file: &[u8],
+    slots: &mut [i64],
+    heads: &mut [u32],
+    tally: &mut Tally,
+) {
+    let wanted = cases::natural(line, answer);
+    let number = cases::number_of(wanted);
+    let found = calls::run(call, line, file, slots, heads, number, tally);
+    cases::count_call(tally, found == wanted);
+}
+
+// Makes the delivery of a line, and checks the store.
+fn deliver(line: &[u8], file: &[u8], slots: &mut [i64], heads: &mut [u32], tally: &mut Tally) {
+    deliveries::deliver(line, file, slots, heads, true, tally);
+    let cells = deliveries::cells_after(line, heads);
+    deliveries::check(line, file, slots, heads, cells, tally);
+}
+
+// Makes the restore of a line, and checks the store that it opened.
+fn restore(line: &[u8], file: &[u8], slots: &mut [i64], heads: &mut [u32], tally: &mut Tally) {
+    let wanted = cases::natural(line, 3);
+    look(cases::RESTORE, line, 3, file, slots, heads, tally);
+    if cases::number_of(wanted) == 0 {
+        deliveries::check(line, file, slots, heads, cases::cells_of(wanted), tally);
+    }
+}
+
+// Makes the call of a line, or puts words into the store.
+fn act(line: &[u8], file: &[u8], slots: &mut [i64], heads: &mut [u32], tally: &mut Tally) {
+    if cases::stands_at(line, 0, b"put slots") {
+        cases::fill_slots(line, 2, slots);
+    } else if cases::stands_at(line, 0, b"put heads") {
+        cases::fill_heads(line, 2, heads);
+    } else if cases::stands_at(line, 0, b"open") {
+        deliveries::open(line, file, slots, heads, tally);
+    } else if cases::stands_at(line, 0, b"check") {
+        look(cases::CHECK, line, 3, file, slots, heads, tally);
+    } else if cases::stands_at(line, 0, b"save") {
+        look(cases::SAVE, line, 4, file, slots, heads, tally);
+    } else if cases::stands_at(line, 0, b"deliver") {
+        deliver(line, file, slots, heads, tally);
+    } else if cases::stands_at(line, 0, b"restore") {
+        restore(line, file, slots, heads, tally);
+    }
+}
+
+// The same on the first words of two arrays: the store is so long.
+fn act_on(
+    line: &[u8],
+    file: &[u8],
+    slots: &mut [i64],
+    heads: &mut [u32],
+    slots_length: usize,
+    heads_length: usize,
+    tally: &mut Tally,
+) {
+    if slots.len() < slots_length {
+        return;
+    }
+    if heads.len() < heads_length {
+        return;
+    }
+    act(
+        line,
+        file,
+        &mut slots[0..slots_length],
+        &mut heads[0..heads_length],
+        tally,
+    );
+}
+
+// Compares the first words of two arrays with those that the case ends with.
+fn compare_last(
+    case: &[u8],
+    slots: &[i64],
+    heads: &[u32],
+    slots_length: usize,
+    heads_length: usize,
+    tally: &mut Tally,
+) {
+    if slots.len() < slots_length {
+        return;
+    }
+    if heads.len() < heads_length {
+        return;
+    }
+    deliveries::compare_last(
+        case,
+        &slots[0..slots_length],
+        &heads[0..heads_length],
+        tally,
+    );
+}
+
+// Clears both arrays at a line `store`.
+fn begin_store(line: &[u8], slots: &mut [i64], heads: &mut [u32]) {
+    if cases::stands_at(line, 0, b"store") {
+        cases::clear_store(slots, heads);
+    }
+}
+
+// The length of one of the store's arrays, which a line `store` gives as this word, and any other line leaves.
+fn length_after(line: &[u8], index: usize, before: usize) -> usize {
+    if cases::stands_at(line, 0, b"store") {
+        return cases::natural(line, index) as usize;
+    }
+    before
+}
+
+// Runs a case on its file. A line `store` gives the lengths of the store from there on, all of whose words are zero.
+fn run_acts(case: &[u8], file: &[u8], tally: &mut Tally) {
+    let mut slots = [0i64; MOST_SLOTS];
+    let mut heads = [0u32; MOST_HEADS];
+    let mut slots_length = 0;
+    let mut heads_length = 0;
+    let mut at = 0;
+    while at < case.len() {
+        let line = cases::line_at(case, at);
+        begin_store(line, &mut slots, &mut heads);
+        slots_length = length_after(line, 1, slots_length);
+        heads_length = length_after(line, 2, heads_length);
+        act_on(
+            line,
+            file,
+            &mut slots,
+            &mut heads,
+            slots_length,
+            heads_length,
+            tally,
+        );
+        at = cases::past(case, at, b'\n');
+    }
+    compare_last(case, &slots, &heads, slots_length, heads_length, tally);
+}
+
+// Runs a case.
+pub fn run_case(case: &[u8], tally: &mut Tally) {
+    let mut file = [0u8; 9220];
+    let count = cases::file_of(case, &mut file);
+    run_acts(case, &file[0..count], tally);
+}

@@ -1,0 +1,4 @@
+pub mod Unsigned
+pub mod Laws
+pub mod Whole
+pub mod Saving

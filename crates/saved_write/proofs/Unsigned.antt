@@ -1,0 +1,58 @@
+-- A signed number with its bits as an unsigned one.
+use Prim.Native.Nat.{ℕ, suc, _-_, _^_, _<_, _≤_}
+use native.Mathlib.Omega.{arith}
+use mathlib.Core.Path.{_≡_, refl, sym, ap, _∙_}
+use mathlib.Core.Bool.{true, false}
+use lib.IntN.{ℤ, pos, negsuc, natAbs, _-ℤ_}
+use lib.Dec.{T}
+use lib.Signed.{mag, ltZ, nonNeg}
+use mir.Syntax.{w64}
+use mir.Val.{Fits, SFits, toZ, ofZ}
+use mir.Facts.{toZ-ofZ}
+use borrow.Author.Tests.{ltb-true, le-ltb}
+use Rattle.semantics.specs.Saved.{unsigned}
+
+no-bool : {A : Type 0} → true ≡ false → A
+no-bool e = let z : _≡_ {A = ℕ} 0 1 = cc in absurd (let f : ⊥ = omega arith in f)
+
+pub not-negative : (z : ℤ) → mag z < 2 ^ 63 → ltZ z (pos 0) ≡ false →
+    (T (nonNeg z) × Fits w64 (natAbs z)) × (natAbs z ≡ unsigned z)
+not-negative (pos n) h e = ((tt, record { fits = omega arith }), refl)
+not-negative (negsuc n) h e = no-bool e
+
+-- -1 less a negative number
+minus : (n : ℕ) → negsuc 0 -ℤ negsuc n ≡ pos n
+minus n = rw (le-ltb (suc n) 1 (omega arith)) (ap pos (omega arith))
+
+-- how far a negative number is below -1
+pub record Below (z : ℤ) : Type 0 where
+  pub by : ℕ
+  pub is : z ≡ negsuc by
+  pub small : by < 2 ^ 63
+  pub less : negsuc 0 -ℤ z ≡ pos by
+
+pub negative : (z : ℤ) → mag z < 2 ^ 63 → ltZ z (pos 0) ≡ true → Below z
+negative (pos n) h e = let f = ltb-true n 0 e in absurd (omega arith)
+negative (negsuc n) h e = record { by = n; is = refl; small = omega (arith, h); less = minus n }
+
+module _ (z : ℤ) (h : mag z < 2 ^ 63) (e : ltZ z (pos 0) ≡ true) where
+  b : Below z
+  b = negative z h e
+
+  pub fits : SFits w64 (negsuc 0 -ℤ z)
+  fits = record { sfits = rw (b .less) (b .small) }
+
+  back : toZ w64 (ofZ w64 (negsuc 0 -ℤ z)) ≡ pos (b .by)
+  back = toZ-ofZ {z = negsuc 0 -ℤ z} fits ∙ b .less
+
+  pub casts : T (nonNeg (toZ w64 (ofZ w64 (negsuc 0 -ℤ z)))) × Fits w64 (natAbs (toZ w64 (ofZ w64 (negsuc 0 -ℤ z))))
+  casts = rw back (tt, record { fits = omega (arith, b .small) })
+
+  pub under : natAbs (toZ w64 (ofZ w64 (negsuc 0 -ℤ z))) ≤ 18446744073709551615
+  under = rw back (omega (arith, b .small))
+
+  pub bits : 18446744073709551615 - natAbs (toZ w64 (ofZ w64 (negsuc 0 -ℤ z))) ≡ unsigned z
+  bits =
+      let n = b .by in
+      let less : 18446744073709551615 - n ≡ 2 ^ 64 - suc n = omega (arith, b .small) in
+      ap (λ (y : ℤ). 18446744073709551615 - natAbs y) back ∙ less ∙ sym (ap unsigned (b .is))

@@ -1,0 +1,12 @@
+-- `saved_write::put_byte` meets its contract.
+use mathlib.Core.Path.{sym}
+use lib.Seq.{set-out}
+use borrow.Author.Needs.{needs}
+use Rattle.saved_write.proofs.put_byte.Statement.{statement}
+use Rattle.saved_write.proofs.put_byte.Tie as tie
+
+returns-2 : tie.Need-returns-2
+returns-2 c = sym (set-out (c .before .args .bytes .now) (c .before .args .i) (c .before .args .b) (c .if1 .left))
+
+pub put-byte-spec : {M : Type 1} → statement M
+put-byte-spec = tie.close (tie.spec (λ c. search needs) (λ c. search needs) (λ c. search needs) returns-2)

@@ -1,0 +1,61 @@
+-- Values of a depth: what a typed script's totals are, and what a saved file can hold.
+use Prim.Native.Nat.{ℕ, zero, suc, _+_, _≤_}
+use native.Mathlib.Omega.{arith}
+use mathlib.Core.Bool.{true}
+use mathlib.Core.Path.{_≡_, refl, ap}
+use mathlib.Core.List.{List, [], _∷_, _++_}
+use lib.ListN.{length}
+use Rattle.semantics.specs.Number.{fits}
+use Rattle.semantics.specs.Value.{Value, num, array, Values, nil, cons, of-list, to-list}
+use Rattle.semantics.specs.Saved.{size-of}
+
+abbrev mutual
+  -- a number, or at most 16 values of the depth below
+  pub OfDepth : Value → ℕ → Type 0
+  OfDepth (num z) zero = Unit {0}
+  OfDepth (num z) (suc d) = ⊥
+  OfDepth (array vs) zero = ⊥
+  OfDepth (array vs) (suc d) = (size-of vs ≤ 16) × AllOfDepth vs d
+
+  pub AllOfDepth : Values → ℕ → Type 0
+  AllOfDepth nil d = Unit {0}
+  AllOfDepth (cons v vs) d = OfDepth v d × AllOfDepth vs d
+
+abbrev mutual
+  -- all numbers are of 64 bits
+  pub Fits : Value → Type 0
+  Fits (num z) = fits z ≡ true
+  Fits (array vs) = AllFits vs
+
+  pub AllFits : Values → Type 0
+  AllFits nil = Unit {0}
+  AllFits (cons v vs) = Fits v × AllFits vs
+
+pub size-of-list : (l : List Value) → size-of (of-list l) ≡ length l
+size-of-list [] = refl
+size-of-list (v ∷ l) = ap suc (size-of-list l)
+
+pub of-to : (vs : Values) → of-list (to-list vs) ≡ vs
+of-to nil = refl
+of-to (cons v vs) = ap (λ (l : Values). cons v l) (of-to vs)
+
+pub to-of : (l : List Value) → to-list (of-list l) ≡ l
+to-of [] = refl
+to-of (v ∷ l) = ap {B = List Value} (λ r. v ∷ r) (to-of l)
+
+-- ---- arrays
+
+abbrev mutual
+  -- how many arrays a value has, counted at every place
+  pub arrays-in : Value → ℕ
+  arrays-in (num z) = 0
+  arrays-in (array vs) = suc (arrays-among vs)
+
+  pub arrays-among : Values → ℕ
+  arrays-among nil = 0
+  arrays-among (cons v vs) = arrays-in v + arrays-among vs
+
+pub arrays-append : (l m : List Value) →
+    arrays-among (of-list (l ++ m)) ≡ arrays-among (of-list l) + arrays-among (of-list m)
+arrays-append [] m = omega arith
+arrays-append (v ∷ l) m = omega (arith, arrays-append l m)
