@@ -45,13 +45,13 @@ local jobs = {
         return kept
       end
       return function(totals, readings)
-        local all = { 0, 1, 2, 3, 4, 5, 6, 7, 8, 9, 10, 11, 12, 13, 14, 15 }
-        return filter({ 0, 1, 2, 3, 4, 5, 6, 7, 8, 9, 10 }, function(x)
-          return #filter(all, function(a)
-            return #filter(all, function(b)
-              return #filter(all, function(c) return x + c end)
-            end)
-          end)
+        local all = { 1, 1, 1, 1, 1, 1, 1, 1, 1, 1, 1, 1, 1, 1, 1, 1 }
+        return filter({ 0, 0, 0, 0, 0, 0, 0, 0, 0, 0, 0 }, function(x)
+          return filter(all, function(a)
+            return filter(all, function(b)
+              return filter(all, function(c) return x < c and 1 or 0 end)[16]
+            end)[16]
+          end)[16]
         end)
       end
     ]],

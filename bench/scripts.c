@@ -158,7 +158,7 @@ static void second_function(struct writer *w, int units, int next)
         let(w, 0);
         filter(w, 2);
         name(w, 0);
-        sum(w);
+        less(w);
         name(w, 2);
         name(w, 1);
         let(w, 1);
@@ -283,21 +283,31 @@ void map_script(struct script *script)
     finish(&w, script);
 }
 
+static void equal_literal(struct writer *w, int length, int element)
+{
+    literal(w, length, 0);
+    for (int i = 0; i < length; i++)
+        number(w, element);
+}
+
+/* The last element that a filter keeps is 1, and so the guard of the filter around it. */
 void filter_script(struct script *script)
 {
     struct writer w = main_of(1);
     let(&w, 2);
-    counting_literal(&w, 16);
+    equal_literal(&w, 16, 1);
     filter(&w, 3);
-    counting_literal(&w, 11);
+    equal_literal(&w, 11, 0);
     for (int i = 4; i < 7; i++) { /* names 4, 5 and 6 */
-        length_of(&w);
+        index_of(&w);
         filter(&w, i);
         name(&w, 2);
     }
-    sum(&w);
+    less(&w);
     name(&w, 3);
     name(&w, 6);
+    for (int i = 0; i < 3; i++)
+        number(&w, 15);
     finish(&w, script);
 }
 

@@ -39,7 +39,7 @@ void level_script(struct script *script);
 /* Four maps within one another, over 11, 16, 16 and 16 elements. */
 void map_script(struct script *script);
 
-/* The same with filters, each keeping all elements but one at most, and with reduces. All three take as many steps. */
+/* The same with filters, each of which keeps all elements, and with reduces. All three take as many steps. */
 void filter_script(struct script *script);
 void reduce_script(struct script *script);
 

@@ -47,7 +47,7 @@ static void print_totals(const struct site *s)
 /* A store at rest: the cells that an answer says are taken, and the totals. */
 static void print_store(const struct site *s, const char *what, uint64_t answer)
 {
-    printf("%-12s  0 done                      %4u of %zu cells                   ", what, engine_answer_cells(answer),
+    printf("%-12s  0 done                          %4u of %zu cells                   ", what, engine_answer_cells(answer),
            s->header.cells);
     print_totals(s);
     flush_output();
@@ -77,7 +77,7 @@ static void print_delivery(const struct site *s, unsigned count, uint64_t answer
     int width = snprintf(columns, sizeof columns, "%7" PRIu32 " steps %4u of %zu cells, lowest %3u free  ",
                          engine_answer_steps(answer), engine_answer_cells(answer), s->header.cells,
                          engine_answer_lowest(answer));
-    printf("delivery %-3u %2u %-11s %*s", count, number, engine_word(number), width,
+    printf("delivery %-3u %2u %-15s %*s", count, number, engine_word(number), width,
            engine_is_refusal(number) ? "" : columns);
     print_totals(s);
     flush_output();

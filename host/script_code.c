@@ -199,14 +199,14 @@ static void print_meaning(const struct printing *p, uint8_t kind, int64_t operan
         break;
     case ENGINE_KIND_INDEX: printf("%s[%s]", one.text, two.text); break;
     case ENGINE_KIND_LENGTH: printf("length of %s", one.text); break;
-    case ENGINE_KIND_IF: printf("one of two trees: the first if %s is not 0", one.text); break;
+    case ENGINE_KIND_IF: printf("one of two trees: the first if %s is 1, the second if it is 0", one.text); break;
     case ENGINE_KIND_IOTA: printf("{0, 1, ..} of length %s in a new cell", one.text); break;
     case ENGINE_KIND_REPLICATE: printf("{%s, %s, ..} of length %s in a new cell", two.text, two.text, one.text); break;
     case ENGINE_KIND_MAP:
         printf("for each %s of %s the tree's result, in a new cell", first_name.text, one.text);
         break;
     case ENGINE_KIND_FILTER:
-        printf("each %s of %s for which the tree's result is not 0, in a new cell", first_name.text, one.text);
+        printf("each %s of %s for which the tree's result is 1, in a new cell", first_name.text, one.text);
         break;
     case ENGINE_KIND_REDUCE:
         printf("the last %s: first %s, then for each %s of %s the tree's result", first_name.text, one.text,

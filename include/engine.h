@@ -22,7 +22,7 @@ extern "C" {
 
 /* Of this interface: the first number rises when a host must change, the second when something is added. */
 #define ENGINE_VERSION_MAJOR 2
-#define ENGINE_VERSION_MINOR 2
+#define ENGINE_VERSION_MINOR 3
 #define ENGINE_VERSION (1000 * ENGINE_VERSION_MAJOR + ENGINE_VERSION_MINOR)
 
 /* ---- Sizes ---- */
@@ -127,6 +127,7 @@ enum engine_number {
     ENGINE_OVERFLOW = 24,            /* overrun: a sum or difference does not fit 64 bits */
     ENGINE_OUT_OF_CELLS = 25,        /* tank dry: a cell was wanted and none was free (restoring: the store is zero) */
     ENGINE_BAD_COUNT = 26,           /* bad count: an iota's or replicate's count outside 0 to 16 */
+    ENGINE_BAD_GUARD = 28,           /* doubtful switch: an if's or filter's guard that is neither 1 nor 0 */
 
     /* A refusal like 11, of engine_save and engine_restore alone. */
     ENGINE_BAD_LABEL = 27            /* bad label: over 4,096 entries, a buffer too short for them, or saved totals that
@@ -142,7 +143,7 @@ static inline int engine_is_refusal(unsigned number)
 /* Whether a number is a stop: the delivery was begun and undone. A restore's 25 has no store to go back to. */
 static inline int engine_is_stop(unsigned number)
 {
-    return number >= ENGINE_OUT_OF_STEPS && number <= ENGINE_BAD_COUNT;
+    return (number >= ENGINE_OUT_OF_STEPS && number <= ENGINE_BAD_COUNT) || number == ENGINE_BAD_GUARD;
 }
 
 /* What the service display shows for a number: the one table of these words. */
@@ -168,6 +169,7 @@ static inline const char *engine_word(unsigned number)
     case ENGINE_OUT_OF_CELLS: return "tank dry";
     case ENGINE_BAD_COUNT: return "bad count";
     case ENGINE_BAD_LABEL: return "bad label";
+    case ENGINE_BAD_GUARD: return "doubtful switch";
     default: return "unknown number";
     }
 }
@@ -243,8 +245,8 @@ uint64_t engine_open(const uint8_t *file, size_t file_length,
                      int64_t *slots, size_t slots_length,
                      uint32_t *heads, size_t heads_length);
 
-/* Works one delivery: main on the totals and the readings gives the new totals. Numbers 0 to 11 and 21 to 26; after 0
- * and 21 to 26 the answer has the lowest level, the steps and the cells taken. */
+/* Works one delivery: main on the totals and the readings gives the new totals. Numbers 0 to 11, 21 to 26 and 28;
+ * after 0 and a stop the answer has the lowest level, the steps and the cells taken. */
 uint64_t engine_deliver(const uint8_t *file, size_t file_length,
                         uint8_t *kinds, size_t kinds_length,
                         int64_t *operands, size_t operands_length,

@@ -162,12 +162,12 @@ static void test_requests(void)
     expect(deliver_one(1, UINT64_MAX) == answer(10, 0, 0, 0), "the greatest number as budget");
 }
 
-/* Function 1 of a calls itself until its number is 0; main calls it with the first reading. */
+/* Function 1 of a calls itself until its number is 0, by the guard 0 < number; main calls it with the first reading. */
 static void test_call_depth(void)
 {
     static const struct row rows[] = {
         { 0, 2 },  { 1, 0 }, { 1, 257 }, { 8, 257 }, { 10, 0 }, { 3, 1 }, { 2, 0 },
-        { 0, 1 },  { 1, 0 }, { 12, 0 },  { 3, 0 },   { 8, 257 }, { 5, 0 }, { 3, 0 }, { 2, 1 }, { 2, 7 },
+        { 0, 1 },  { 1, 0 }, { 12, 0 },  { 6, 0 },   { 2, 0 },  { 3, 0 }, { 8, 257 }, { 5, 0 }, { 3, 0 }, { 2, 1 }, { 2, 7 },
     };
     lend_script(2, rows, COUNT(rows));
     lend_code(100, 100);
@@ -199,6 +199,40 @@ static void test_counts(void)
         expect(deliver_one(-1, 1000) == answer(26, cells - 1, 3, 0), "a count of -1 too");
         expect(deliver_one(INT64_MIN, 1000) == answer(26, cells - 1, 3, 0), "and the least number");
         expect(deliver_one(17, 2) == answer(21, cells - 1, 2, 0), "its step comes first");
+    }
+}
+
+/* An if whose guard is the reading; and the length of a filter of the readings whose guard is the element, after a
+ * literal: a guard is judged after the if's step, and after the filter's body, where a wanted cell comes first. */
+static void test_guards(void)
+{
+    static const struct row choice[] = {
+        { 0, 258 }, { 1, 256 }, { 1, 257 }, { 12, 0 }, { 10, 0 }, { 3, 1 }, { 2, 0 }, { 9, 0 }, { 9, 1 }, { 2, 7 },
+    };
+    static const struct row kept[] = {
+        { 0, 2 }, { 1, 0 }, { 1, 257 }, { 11, 0 }, { 19, 2 }, { 3, 1 }, { 7, 3 }, { 9, 0 }, { 3, 2 },
+    };
+    static const int64_t doubtful[] = { 2, -1, INT64_MIN, INT64_MAX };
+    lend_script(1, choice, COUNT(choice));
+    lend_code(100, 100);
+    lend_store(ENGINE_SLOTS_LENGTH(2), ENGINE_HEADS_LENGTH(2));
+    expect(open_store() == answer(0, 0, 0, 1), "opens with an array");
+    for (size_t i = 0; i < COUNT(doubtful); i++)
+        expect(deliver_one(doubtful[i], 1000) == answer(28, 0, 2, 1), "28 after the if's step");
+    expect(deliver_one(2, 1) == answer(21, 0, 1, 1), "its step comes first");
+    expect(deliver_one(1, 1000) == answer(0, 0, 3, 1), "1 takes the first part");
+    expect(deliver_one(0, 1000) == answer(0, 0, 3, 1), "0 takes the second");
+
+    lend_script(1, kept, COUNT(kept));
+    for (unsigned cells = 2; cells <= 3; cells++) {
+        lend_store(ENGINE_SLOTS_LENGTH(cells), ENGINE_HEADS_LENGTH(cells));
+        expect(open_store() == answer(0, 0, 0, 0), "opens without an array");
+        bool has_room = cells == 3;
+        for (size_t i = 0; i < COUNT(doubtful); i++)
+            expect(deliver_one(doubtful[i], 1000) == answer(has_room ? 28 : 25, 0, 3, 0),
+                   "28 after the body, a wanted cell first at equal steps");
+        expect(!has_room || (deliver_one(1, 1000) == answer(0, 0, 4, 0) && lent.slots[0] == 1), "1 keeps an element");
+        expect(!has_room || (deliver_one(0, 1000) == answer(0, 0, 4, 0) && lent.slots[0] == 0), "0 leaves it out");
     }
 }
 
@@ -328,9 +362,11 @@ static void test_header(void)
     expect(strcmp(engine_word(ENGINE_UNKNOWN_NAME), "no such nozzle") == 0, "a word");
     expect(strcmp(engine_word(ENGINE_BAD_COUNT), "bad count") == 0, "the word of 26");
     expect(strcmp(engine_word(ENGINE_BAD_LABEL), "bad label") == 0, "the word of 27");
+    expect(strcmp(engine_word(ENGINE_BAD_GUARD), "doubtful switch") == 0, "the word of 28");
     expect(strcmp(engine_word(12), "unknown number") == 0, "no word");
     for (unsigned number = 0; number < 256; number++) {
-        bool is_refusal = (number >= 1 && number <= 11) || number == 27, is_stop = number >= 21 && number <= 26;
+        bool is_refusal = (number >= 1 && number <= 11) || number == 27;
+        bool is_stop = (number >= 21 && number <= 26) || number == 28;
         expect(engine_is_refusal(number) == is_refusal && engine_is_stop(number) == is_stop, "refusals and stops");
         bool has_word = strcmp(engine_word(number), "unknown number") != 0;
         expect(has_word == (number == 0 || is_refusal || is_stop), "a word for each number");
@@ -378,6 +414,7 @@ int main(int count, char **arguments)
     test_requests();
     test_call_depth();
     test_counts();
+    test_guards();
     test_lowest();
     test_deepest();
     test_store_lengths();

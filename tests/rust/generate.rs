@@ -176,7 +176,7 @@ impl Generator<'_> {
 
     fn choose(&mut self, depth: usize, level: usize, scope: &Scope) {
         self.put(12, 0);
-        self.side(0, level, scope);
+        self.guard(level, scope, false);
         if self.random.once_in(2) {
             self.side(depth, level, scope);
             self.part(depth, level, scope);
@@ -257,7 +257,27 @@ impl Generator<'_> {
         self.side(depth, level, scope);
         let mut inner = scope.clone();
         inner.push((name, depth - 1));
-        self.part(0, level, &inner);
+        self.guard(level, &inner, true);
+    }
+
+    /// A guard: mostly a comparison, at times 1 or 0, and at times any number. One that goes deep does so in its last
+    /// part.
+    fn guard(&mut self, level: usize, scope: &Scope, deep: bool) {
+        let choice = self.random.below(8);
+        if choice == 0 {
+            return if deep { self.part(0, level, scope) } else { self.side(0, level, scope) };
+        }
+        if choice == 1 || level >= self.shape.levels {
+            let answer = self.random.below(2);
+            return self.put(2, answer);
+        }
+        self.put(6, 0);
+        self.side(0, level + 1, scope);
+        if deep {
+            self.part(0, level + 1, scope);
+        } else {
+            self.side(0, level + 1, scope);
+        }
     }
 
     /// A reduce; at times its two names are equal, and the second hides the first.

@@ -93,5 +93,6 @@ pub fn print_tally(tally: &[u64; TALLY_WORDS]) {
     print_line(stops::DONE, tally[stops::DONE as usize]);
     print_line(stops::BAD_REQUEST, tally[stops::BAD_REQUEST as usize]);
     print_words(tally, 0, stops::OUT_OF_STEPS, stops::BAD_COUNT + 1);
+    print_line(stops::BAD_GUARD, tally[stops::BAD_GUARD as usize]);
     print_count(b"deliveries that differ: ", tally[stops::DIFFERS as usize]);
 }

@@ -43,7 +43,7 @@ fn write_first(desk: &mut Desk) {
     write(desk, kinds::NUMBER, 0);
 }
 
-// Main calls a function with the first reading n, which calls itself n times: f(n) = if n then f(n - 1) else 0.
+// Main calls a function with the first reading n, which calls itself n times: f(n) = if 0 < n then f(n - 1) else 0.
 fn write_nested(desk: &mut Desk) {
     desk[cross_draft::FUNCTIONS] = 2;
     write(desk, kinds::FUNCTION, 2);
@@ -54,6 +54,8 @@ fn write_nested(desk: &mut Desk) {
     write(desk, kinds::FUNCTION, 1);
     write(desk, kinds::PARAMETER, 0);
     write(desk, kinds::IF, 0);
+    write(desk, kinds::LESS, 0);
+    write(desk, kinds::NUMBER, 0);
     write(desk, kinds::NAME, 0);
     write(desk, kinds::CALL, 0x101);
     write(desk, kinds::DIFFERENCE, 0);

@@ -49,8 +49,11 @@ fn make_filter(desk: &mut Desk, depth: u64, room: Room)
 {
     let name = wants::binding_name(desk);
     let deep_body = cross_draft::choose(desk, 2) == 0;
+    let old = cross_draft::known(desk, name);
     cross_draft::write(desk, kinds::FILTER, name);
-    wants::push_under(desk, name, depth - 1, 0, room, deep_body);
+    cross_draft::push(desk, cross_draft::BINDING, name, old);
+    wants::push_guard(desk, room, deep_body);
+    cross_draft::push(desk, cross_draft::BINDING, name, depth);
     wants::push_child(desk, depth, room, !deep_body);
 }
 

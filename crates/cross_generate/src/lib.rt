@@ -1,5 +1,5 @@
 // Scripts made from a seed, for comparing two interpreters: every node kind, depths to 4, levels to 64, shared and
-// shadowed names, counts in range and out of it, and functions that call themselves.
+// shadowed names, counts and guards in range and out of it, and functions that call themselves.
 mod arrays;
 mod calls;
 mod parts;

@@ -74,7 +74,7 @@ pub fn make_if(desk: &mut Desk, depth: u64, room: Room)
     cross_draft::write(desk, kinds::IF, 0);
     wants::push_child(desk, depth, room, chosen == 2);
     wants::push_child(desk, depth, room, chosen == 1);
-    wants::push_child(desk, 0, room, chosen == 0);
+    wants::push_guard(desk, room, chosen == 0);
 }
 
 // Asks for a position, mostly a low one.

@@ -1,5 +1,6 @@
 // What the parts of a script want: names, depths, and items on the agenda for parts of their own.
 use cross_draft::Desk;
+use cross_values::kinds;
 ghost use Prim.Native.Nat.{_<_, _≤_};
 
 // How many names scripts use.
@@ -100,6 +101,27 @@ pub fn push_child(desk: &mut Desk, depth: u64, room: Room, chosen: bool)
         }
     }
     push_part(desk, depth, room.levels - 1, false)
+}
+
+// Asks for a guard: mostly a comparison, at times 1 or 0, and at times any number.
+pub fn push_guard(desk: &mut Desk, room: Room, chosen: bool)
+    requires { ⌜ 0 < room .levels ⌝ }
+{
+    let choice = cross_draft::choose(desk, 10);
+    let answer = cross_draft::choose(desk, 2);
+    if choice == 0 {
+        return push_child(desk, 0, room, chosen);
+    }
+    if room.levels < 3 || (choice == 1 && !chosen) {
+        return push_node(desk, kinds::NUMBER, answer);
+    }
+    let below = Room {
+        levels: room.levels - 1,
+        spine: room.spine,
+    };
+    push_child(desk, 0, below, chosen);
+    push_child(desk, 0, below, false);
+    push_node(desk, kinds::LESS, 0)
 }
 
 // Asks for a part of this depth in which a name has another; after it the name has its old one.

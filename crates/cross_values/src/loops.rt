@@ -11,6 +11,11 @@ use super::memory::Typed;
 use super::rows;
 use super::uses;
 
+// Whether a guard is 1 for yes or 0 for no; the bits of a negative one are above it.
+pub fn is_answer(guard: u64) -> bool {
+    guard < 2
+}
+
 // The array that the passes go over, of the values of a loop's first parts.
 pub fn array_of(kind: u64, values: &[u64; VALUE_WORDS]) -> u64 {
     if kind == kinds::REDUCE {
@@ -19,8 +24,13 @@ pub fn array_of(kind: u64, values: &[u64; VALUE_WORDS]) -> u64 {
     values[0]
 }
 
-// Keeps what the body gave for an element: a map keeps it, a filter keeps the element unless it is 0, and a reduce has
-// it as its running value. How many results there are then.
+// Whether a loop can use what its body gave: a filter has to be told 1 or 0.
+pub fn is_told(kind: u64, given: u64) -> bool {
+    kind != kinds::FILTER || is_answer(given)
+}
+
+// Keeps what the body gave for an element: a map keeps it, a filter keeps the element if it is 1, and a reduce has it
+// as its running value. How many results there are then.
 pub fn keep(
     results: &mut [u64; VALUE_WORDS],
     count: u64,

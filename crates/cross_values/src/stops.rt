@@ -15,6 +15,8 @@ pub const OUT_OF_CELLS: u64 = 25;
 
 pub const BAD_COUNT: u64 = 26;
 
+pub const BAD_GUARD: u64 = 28;
+
 // Given instead of a number where the engine and the second interpreter differ. No answer of the engine has this
 // number.
 pub const DIFFERS: u64 = 32;

@@ -138,6 +138,9 @@ fn work_if(memory: &mut Memory, at: Place, guard: u64) -> Worked {
     if !memory::step(memory) {
         return Worked::Stop(stops::OUT_OF_STEPS);
     }
+    if !loops::is_answer(guard) {
+        return Worked::Stop(stops::BAD_GUARD);
+    }
     let branch = Place {
         node: rows::branch_at(memory, at.node, guard),
         levels: at.levels,
@@ -167,6 +170,9 @@ fn work_loop(memory: &mut Memory, at: Place, values: &[u64; VALUE_WORDS]) -> Wor
         };
         match work_pass(memory, at, results[0], element) {
             Worked::Value(v) => {
+                if !loops::is_told(kind, v) {
+                    return Worked::Stop(stops::BAD_GUARD);
+                }
                 count = loops::keep(&mut results, count, kind, element.value, v);
                 loops::push_result(memory, kind, v);
             }

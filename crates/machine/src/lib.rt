@@ -154,7 +154,7 @@ fn work_line(
     }
 }
 
-// Works one tree of an if.
+// Works one tree of an if, whose guard is 1 or 0.
 fn work_if(
     kinds: &&[u8],
     operands: &&[i64],
@@ -183,7 +183,10 @@ fn work_if(
         return machine_lines::halted(machine_lines::OUT_OF_STEPS, steps);
     }
     let guard = machine_lines::word_of(env, calls, g);
-    let start = machine_lines::branch_start(table, guard, at + 2);
+    if !machine_lines::guards::is_answer(guard) {
+        return machine_lines::halted(machine_lines::BAD_GUARD, steps - 1);
+    }
+    let start = machine_lines::guards::branch_start(table, guard, at + 2);
     let r = work_tree(
         kinds,
         operands,
@@ -201,7 +204,7 @@ fn work_if(
         return r;
     }
     let w = r.value;
-    let next = machine_lines::branch_end(table, guard, r.next);
+    let next = machine_lines::guards::branch_end(table, guard, r.next);
     machine_lines::bind(env, calls, x, w);
     machine_lines::done(w, next, r.steps)
 }
@@ -359,6 +362,9 @@ fn work_pass(
         let stop = r.stop;
         if stop != 0 {
             return r;
+        }
+        if !machine_loops::is_taken(l, r.value) {
+            return machine_lines::halted(machine_lines::BAD_GUARD, r.steps);
         }
         let u = machine_loops::end_pass(slots, heads, env, calls, l, v, r.value);
         v = u;

@@ -16,7 +16,7 @@ use Rattle.semantics.specs.Annotate.{NameDepths}
 use Rattle.semantics.specs.Machine as M
 use Rattle.semantics.specs.Machine.{State, Frame, Program, word, step, stepped, with-left, work, work-line, work-pass}
 use Rattle.semantics.specs.Machine.{elements-of, held, touching, looped-over}
-use Rattle.semantics.specs.Machine.{carried-first, pass-words, carried-on, in-progress}
+use Rattle.semantics.specs.Machine.{carried-first, pass-words, in-progress}
 use Rattle.laws.specs.Tests.{or-left}
 use Rattle.soundness.specs.machine.Discipline.{AllKnown, New, AllNew, LoopFits, Fitting, Scoped}
 use Rattle.machine_code.specs.Reading.{atom-at, line-of, line-at, depth-in, end-in}
@@ -34,7 +34,7 @@ use Rattle.machine_laws.specs.Frames.{Framed, framed-kept, kept-then}
 use Rattle.machine_laws.specs.Frames.{agrees-kept, bounded-all}
 use Rattle.machine_laws.specs.Passes.{PassNames, maps, filters, reduces, entered-agrees, entered-kept}
 use Rattle.machine_laws.specs.Passes.{element-known, element-word, first-small, second-small, carry-first-same}
-use Rattle.machine_laws.specs.Passes.{carry-by-same}
+use Rattle.machine_laws.specs.Passes.{after-body, carry-by-same}
 use Rattle.machine_laws.specs.Levels.{LevelsAgree, levels-set, levels-touched}
 use Rattle.machine_laws.specs.Same.{Rel, WordDone, TreeDone, LineDone, rel-then, rel-step, rel-map}
 use Rattle.machine_laws.specs.Same.{onward-onward, word-moved, word-kept, bound-done}
@@ -175,7 +175,7 @@ module _ (free : ℕ) (p : Program) (callee : M.Callee) (Γ : NameDepths) (c : C
         (m : ℕ) → s₀ .left ≡ m → Rel free (WordDone free calls e₀ S) (passes-on l (suc count) v i m (memory (s₀
         .store) e₀))
         (onward (λ u. rest count (suc i) u) (onward (λ _ s₁. onward (λ ws s₂. onward
-        (λ r. carried-on k e v (getD ws i (pos 0)) r) (body (pass-words k v (getD ws i (pos 0))) s₂))
+        (λ r. after-body k e v (getD ws i (pos 0)) r) (body (pass-words k v (getD ws i (pos 0))) s₂))
         (elements-of a s₁)) (stepped m s₀)))
     unfolding passes-on onward stepped with-left elements-of M.with-store
     pass-same count i v s₀ e₀ g₀ l₀ v₀ more zero q =
@@ -183,10 +183,10 @@ module _ (free : ℕ) (p : Program) (callee : M.Callee) (Γ : NameDepths) (c : C
     pass-same count i v s₀ e₀ g₀ l₀ v₀ more (suc m) q =
         subst (λ (o : Outcome State ℤ). Rel free (WordDone free calls e₀ S) (and-then (W m (memory (s₀ .store) e₁))
         carry) o)
-        (sym (onward-onward (λ u. rest count (suc i) u) (λ r. carried-on k e v item r) (body vs s₁)))
+        (sym (onward-onward (λ u. rest count (suc i) u) (λ r. after-body k e v item r) (body vs s₁)))
         (rel-then free (TreeDone free (at + length (rows t)) calls e₁ (S ∪ just ps)) (WordDone free calls e₀ S)
         (W m (memory (s₀ .store) e₁)) (body vs s₁) carry
-        (λ r s₂. onward (λ u. rest count (suc i) u) (carried-on k e v item r s₂))
+        (λ r s₂. onward (λ u. rest count (suc i) u) (after-body k e v item r s₂))
         (claim n lt few (S ∪ just ps) d fit scoped (bounded-all ps S new b) at rs B R (M.binding ps vs ρ) s₁ e₁
         (entered-agrees calls e₀ ρ S b l₀ v item names new g₀) (framed-kept kept₁ l₀) levels₁)
         (λ r s₂ h. after r s₂ h))
@@ -220,15 +220,15 @@ module _ (free : ℕ) (p : Program) (callee : M.Callee) (Γ : NameDepths) (c : C
         after : (r : ℤ) (s₂ : State) →
             TreeDone free (at + length (rows t)) calls e₁ (S ∪ just ps) (W m (memory (s₀ .store) e₁)) r s₂ →
             Rel free (WordDone free calls e₀ S) (carry (W m (memory (s₀ .store) e₁)))
-            (onward (λ u. rest count (suc i) u) (carried-on k e v item r s₂))
+            (onward (λ u. rest count (suc i) u) (after-body k e v item r s₂))
         after r s₂ h =
             let w : Ran = W m (memory (s₀ .store) e₁) in
             let x : Ran = carry-on l v w in
-            rel-then free (WordDone free calls (w .memory .env) S) (WordDone free calls e₀ S) x (carried-on k e v
+            rel-then free (WordDone free calls (w .memory .env) S) (WordDone free calls e₀ S) x (after-body k e v
             item r s₂)
             (λ u. passes-on l count (u .out .value) (i + 1) (u .out .steps) (u .memory)) (λ u. rest count (suc i) u)
             (subst (λ (o : ℤ).
-            Rel free (WordDone free calls (w .memory .env) S) (carry-by (way-of k e) v o w) (carried-on k e v item r
+            Rel free (WordDone free calls (w .memory .env) S) (carry-by (way-of k e) v o w) (after-body k e v item r
             s₂))
             (sym (h .word .kept .names z (element-known calls e₀ ρ S b l₀ v item names)
             ∙ element-word calls e₀ ρ S b l₀ v item y z (bounded-all ps S new b .below z

@@ -10,19 +10,20 @@ use lib.Dec.{eqb}
 use lib.ListN.{getD, length-set}
 use lib.Seq.{getD-set-same}
 use borrow.Author.Tests.{eq-eqb, ne-eqb}
-use Rattle.semantics.specs.Outcome.{onward, _>>=_, _>>_, give}
-use Rattle.semantics.specs.Number.{is-zero}
+use Rattle.semantics.specs.Outcome.{onward, _>>=_, _>>_, give, require}
+use Rattle.semantics.specs.Number.{is-zero, is-answer}
 use Rattle.semantics.specs.Kinds.{Loop, mapping, filtering, reducing}
 use Rattle.semantics.specs.Store.{Store, cell-of, appended, retained}
 use Rattle.semantics.specs.Live.{Set, _∪_, just}
 use Rattle.semantics.specs.Machine as M
 use Rattle.semantics.specs.Machine.{State, Frame}
 use Rattle.semantics.specs.Machine.{acquire, append-word}
-use Rattle.semantics.specs.Machine.{carried-first, pass-words, carried-on, if-array, retain-word}
+use Rattle.semantics.specs.Machine.{carried-first, pass-words, taken-by, carried-on, if-array, retain-word}
 use Rattle.laws.specs.Tests.{or-right}
 use Rattle.soundness.specs.machine.Discipline.{AllNew}
 use Rattle.machine_lines.specs.Frames.{place}
-use Rattle.machine_lines.specs.Lines.{memory, Ran, ran, out, bound, acquired-given, cell-from, acquired-memory}
+use Rattle.machine_lines.specs.Lines.{memory, Ran, ran, out, halted, bound, acquired-given, cell-from}
+use Rattle.machine_lines.specs.Lines.{acquired-memory}
 use Rattle.machine_loops.specs.Loops.{way-of, new-carried, carry-first, retained-if}
 use Rattle.machine_positions.specs.Machine.{binding, carry-by}
 use Rattle.machine_laws.specs.Frames.{Bounded, FrameAgrees, FrameKept, kept-none}
@@ -139,11 +140,15 @@ keep-same free (suc d) v e calls S env n s σ f h levels = rw (ne-eqb (suc d) 0 
   },
 )
 
+-- what follows the tree of a pass
+abbrev pub after-body : Loop → ℕ → ℤ → ℤ → ℤ → M.Work ℤ
+after-body k d v e r = require (taken-by k r) 28 >> carried-on k d v e r
+
 pub carry-by-same : (free : ℕ) (k : Loop) (d : ℕ) (v e : ℤ) (calls : ℕ) (S : Set) (w : Ran) (r : ℤ) (s : State) →
     w .out .value ≡ r → w .out .steps ≡ s .left → w .memory .store ≡ s .store →
     LevelsAgree free (s .log) (w .memory .env) →
-    Rel free (WordDone free calls (w .memory .env) S) (carry-by (way-of k d) v e w) (carried-on k d v e r s)
-unfolding append-word onward M.with-store
+    Rel free (WordDone free calls (w .memory .env) S) (carry-by (way-of k d) v e w) (after-body k d v e r s)
+unfolding append-word onward require M.with-store
 carry-by-same free mapping d v e calls S w r s ve f h levels = (
   refl,
   record {
@@ -154,7 +159,7 @@ carry-by-same free mapping d v e calls S w r s ve f h levels = (
     levels = levels-touched levels (s .store) (cell-of v);
   },
 )
-carry-by-same free filtering d v e calls S w r s ve f h levels = rw ve (go (is-zero r))
+carry-by-same free filtering d v e calls S w r s ve f h levels = rw ve (answered (is-answer r))
   where
     go : (t : Bool) → Rel free (WordDone free calls (w .memory .env) S)
         (ran (out 0 v 0 (w .out .steps)) (memory (cond t (w .memory .store)
@@ -165,6 +170,14 @@ carry-by-same free filtering d v e calls S w r s ve f h levels = rw ve (go (is-z
       record { value = refl; steps = f; store = h; kept = kept-none calls (w .memory .env) S; levels = levels },
     )
     go false = keep-same free d v e calls S (w .memory .env) (w .out .steps) s (w .memory .store) f h levels
+
+    answered : (t : Bool) → Rel free (WordDone free calls (w .memory .env) S)
+        (cond t (ran (out 0 v 0 (w .out .steps)) (memory (cond (is-zero r) (w .memory .store)
+        (appended (cell-of v) e (retained-if (not (eqb d 0)) (cell-of e) (w .memory .store)))) (w .memory .env)))
+        (halted 28 (w .out .steps) (w .memory)))
+        (onward (λ _. carried-on filtering d v e r) (require t 28 s))
+    answered true = go (is-zero r)
+    answered false = record { stop = refl; real = λ z. omega arith; steps = f; levels = levels }
 carry-by-same free reducing d v e calls S w r s ve f h levels = (
   refl,
   record { value = ve; steps = f; store = h; kept = kept-none calls (w .memory .env) S; levels = levels },

@@ -7,8 +7,8 @@ use native.Mathlib.Omega.{arith}
 use lib.IntN.{ℤ}
 use lib.ListN.{getD, length, length-append, length-map}
 use Rattle.semantics.specs.Basics.{updated}
-use Rattle.semantics.specs.Outcome.{onward, give}
-use Rattle.semantics.specs.Number.{is-zero}
+use Rattle.semantics.specs.Outcome.{onward, give, require}
+use Rattle.semantics.specs.Number.{is-zero, is-answer}
 use Rattle.semantics.specs.Kinds.{Leaf, operation, call, literal, index, length-of, iota, replicate, leaf-kind}
 use Rattle.semantics.specs.Kinds.{Loop, mapping, filtering, reducing, loop-kind}
 use Rattle.semantics.specs.Store.{Store}
@@ -22,9 +22,9 @@ use Rattle.soundness.specs.machine.Discipline.{Known, New, known-after, LineFit
 use Rattle.machine_code.specs.Reading.{is-atom, atom-at, line-of, line-at, depth-in, end-in}
 use Rattle.machine_code.specs.declared.Atom.{Atom}
 use Rattle.machine_lines.specs.Frames.{word-of}
-use Rattle.machine_lines.specs.Lines.{Memory, memory, Ran, Doing, branching, doing}
-use Rattle.machine_positions.specs.Machine.{Code, Work, Callee, and-then, binding, if-worked, if-line, line-done}
-use Rattle.machine_positions.specs.Machine.{line-on}
+use Rattle.machine_lines.specs.Lines.{Memory, memory, Ran, halted, Doing, branching, doing}
+use Rattle.machine_positions.specs.Machine.{Code, Work, Callee, and-then, binding, branch-worked, if-worked, if-line}
+use Rattle.machine_positions.specs.Machine.{line-done, line-on}
 use Rattle.machine_positions.specs.Machine.{is-end, tree-from, tree-on}
 use Rattle.machine_laws.specs.Rows.{At, Jumps, at-first, at-second, coded, atom-here, line-read}
 use Rattle.machine_laws.specs.Rows.{no-atom, tree-within, line-some, rows-some}
@@ -117,14 +117,14 @@ module _ (free : ℕ) (p : Program) (enough : length (p .routines) ≤ 32) (call
         At (c .kinds) (c .operands) (at + 2) (rows t ++ rows e) →
         Rel free (LineDone free (at + 2 + length (rows t) + length (rows e)) calls env S (S ∪ only x))
         (if-line W (c .table) calls x (coded a) at (s .left) here) (work-line callee Γ (K.if-else x a t e) A R ρ s)
-    unfolding if-line work-line onward
+    unfolding if-line work-line onward require with-left
     if-same x a t e claim-t claim-e lt le known new fit-t fit-e st se rs =
         rel-step free (LineDone free (at + 2 + length (rows t) + length (rows e)) calls env S (S ∪ only x)) s here
         (λ m. if-worked W (c .table) calls x at m here (word-of calls env (coded a)))
-        (λ _ s′. onward (λ w. give (updated ρ x w))
+        (λ _ s′. onward (λ _ s″. onward (λ w. give (updated ρ x w))
         (cond (is-zero (word ρ a)) (work callee Γ e (after-branch x A) R ρ) (work callee Γ t (after-branch x A) R ρ)
-        s′)) levels
-        (λ m. rw (word-same calls env ρ S g a known) (go m (word ρ a) (is-zero (word ρ a)) refl))
+        s″)) (require (is-answer (word ρ a)) 28 s′)) levels
+        (λ m. rw (word-same calls env ρ S g a known) (answered m (word ρ a) (is-answer (word ρ a))))
       where
         in-t : At (c .kinds) (c .operands) (at + 2) (rows t)
         in-t = at-first (c .kinds) (c .operands) (at + 2) (rows t) (rows e) rs
@@ -134,7 +134,7 @@ module _ (free : ℕ) (p : Program) (enough : length (p .routines) ≤ 32) (call
 
         go : (m : ℕ) (v : ℤ) (z : Bool) → is-zero v ≡ z →
             Rel free (LineDone free (at + 2 + length (rows t) + length (rows e)) calls env S (S ∪ only x))
-            (if-worked W (c .table) calls x at m here v)
+            (branch-worked W (c .table) calls x at m here v)
             (onward (λ w. give (updated ρ x w))
             (cond (is-zero v) (work callee Γ e (after-branch x A) R ρ) (work callee Γ t (after-branch x A) R ρ)
             (with-left s m)))
@@ -143,6 +143,15 @@ module _ (free : ℕ) (p : Program) (enough : length (p .routines) ≤ 32) (call
         go m v false q = rw q
             (branch-same x new t claim-t lt (Γ x) fit-t st (at + 2) in-t (end-in (c .table)) _
             (jumps e (at + 2 + length (rows t)) in-e) m)
+
+        answered : (m : ℕ) (v : ℤ) (yes : Bool) →
+            Rel free (LineDone free (at + 2 + length (rows t) + length (rows e)) calls env S (S ∪ only x))
+            (cond yes (branch-worked W (c .table) calls x at m here v) (halted 28 m here))
+            (onward (λ _ s′. onward (λ w. give (updated ρ x w))
+            (cond (is-zero v) (work callee Γ e (after-branch x A) R ρ) (work callee Γ t (after-branch x A) R ρ) s′))
+            (require yes 28 (with-left s m)))
+        answered m v true = go m v (is-zero v) refl
+        answered m v false = record { stop = refl; real = λ z. omega arith; steps = refl; levels = levels }
 
     -- no atom follows those of a line
     atoms-stop : (us : List K.Atom) (t : K.Tree) → At (c .kinds) (c .operands) (at + 1) (map atom-row us ++ rows t) →

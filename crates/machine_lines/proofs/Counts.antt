@@ -5,12 +5,12 @@ use mathlib.Core.List.{List}
 use Prim.Native.Nat.{ℕ, zero, suc, _+_, _-_, _<_, _≤_}
 use native.Mathlib.Omega.{arith}
 use lib.IntN.{ℤ, pos, negsuc, natAbs}
-use lib.Dec.{T, ltb, leb}
-use lib.Signed.{ltZ, leZ, nonNeg}
+use lib.Dec.{T}
+use lib.Signed.{nonNeg}
 use mir.Syntax.{w64}
 use mir.Val.{Fits}
 use lib.ListN.{getD, set, length, length-replicate, getD-replicate}
-use borrow.Author.Tests.{eq-eqb, ne-eqb, lt-ltb, le-ltb, ltb-true, leb-true, leb-false}
+use borrow.Author.Tests.{eq-eqb, ne-eqb, ltb-true}
 use Rattle.semantics.specs.Outcome.{Outcome, done, stop}
 use Rattle.semantics.specs.Machine.{is-count}
 use Rattle.semantics.specs.Store.{Store, cell-of, has-free, acquired, retained}
@@ -25,7 +25,6 @@ use Rattle.machine_lines.specs.Lines.{Memory, memory, Ran, ran, left, ou
 use Rattle.machine_lines.specs.Lines.{Given, given, gave, acquired-given, elements-by, retained-times}
 use Rattle.machine_lines.specs.Lines.{retained-copies, made-memory, array-memory, counted-given, array-given}
 use Rattle.machine_lines.specs.Lines.{array-made, bound-result, giving-line, array-line}
-use Rattle.machine_lines.proofs.Lines.{inside-negative}
 
 -- ---- a result that is bound
 
@@ -70,17 +69,6 @@ copies-some zero w n σ f c e = absurd (f refl)
 copies-some (suc d) w n σ f c e = ap (λ (k : ℕ). retained-times n k σ) e
 
 -- ---- counts
-
-pub count-not : (n : ℤ) → ltZ n (pos 0) ≡ true → false ≡ is-count n
-count-not n e = sym (inside-negative n 17 e)
-
-pub count-is : (n : ℤ) → ltZ n (pos 0) ≡ false → leZ n (pos 16) ≡ is-count n
-count-is (pos n) e = go (leb n 16) refl
-  where
-    go : (t : Bool) → leb n 16 ≡ t → t ≡ ltb n 17
-    go true h = sym (lt-ltb n 17 (omega (arith, leb-true n 16 h)))
-    go false h = sym (le-ltb n 17 (omega (arith, leb-false n 16 h)))
-count-is (negsuc n) e = no-bool e
 
 pub count-fits : (n : ℤ) → is-count n ≡ true → (T (nonNeg n) × Fits w64 (natAbs n)) × (natAbs n < 17)
 count-fits (pos n) e =

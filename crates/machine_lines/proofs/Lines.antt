@@ -5,14 +5,14 @@ use mathlib.Core.List.{List, [], _∷_}
 use Prim.Native.Nat.{ℕ, zero, suc, _+_, _-_, _<_, _≤_}
 use native.Mathlib.Omega.{arith}
 use lib.IntN.{ℤ, pos, negsuc, natAbs}
-use lib.Signed.{ltZ}
-use lib.Dec.{T, ltb}
+use lib.Signed.{ltZ, leZ}
+use lib.Dec.{T, ltb, leb}
 use lib.ListN.{getD, set, length}
 use denote.Enum.Declared.{tagOf}
 use types.Run.{OneOf, miss}
 use mir.Val.{hasKey}
 use Rattle.machine_code.proofs.Line.{the-type}
-use borrow.Author.Tests.{lt-ltb, le-ltb, ltb-true, ltb-false}
+use borrow.Author.Tests.{lt-ltb, le-ltb, ltb-true, ltb-false, leb-true, leb-false}
 use Rattle.semantics.specs.Outcome.{Outcome, done, stop}
 use Rattle.semantics.specs.Number.{Operation, less, exact, fits, inside}
 use Rattle.semantics.specs.Store.{Store, cell, cell-of, elements, acquired, has-free, cell-count, retained}
@@ -99,6 +99,14 @@ module _ (calls kind x : ℕ) (a b : Atom) (next steps : ℕ) (env : List ℤ) w
 pub inside-negative : (w : ℤ) (n : ℕ) → ltZ w (pos 0) ≡ true → inside w n ≡ false
 inside-negative (pos i) n e = let f = ltb-true i 0 e in absurd (omega arith)
 inside-negative (negsuc i) n e = refl
+
+pub inside-at-most : (w : ℤ) (n : ℕ) → ltZ w (pos 0) ≡ false → leZ w (pos n) ≡ inside w (suc n)
+inside-at-most (pos i) n e = go (leb i n) refl
+  where
+    go : (t : Bool) → leb i n ≡ t → t ≡ ltb i (suc n)
+    go true h = sym (lt-ltb i (suc n) (omega (arith, leb-true i n h)))
+    go false h = sym (le-ltb i (suc n) (omega (arith, leb-false i n h)))
+inside-at-most (negsuc i) n e = no-bool e
 
 inside-past : (w : ℤ) (n : ℕ) → n ≤ natAbs w → inside w n ≡ false
 inside-past (pos i) n h = le-ltb i n h

@@ -97,7 +97,7 @@ pub record Appended (ws : List ℤ) (c n : ℕ) (σ σ′ : Store) : Type 0 wher
   pub count : n ≡ length ws
   pub few : n ≤ 16
 
--- the first of an if's trees is at a position; the guard other than 0 takes it
+-- the first of an if's trees is at a position; a guard of 0 takes the second
 abbrev pub branch-start : List ℕ → ℤ → ℕ → ℕ
 branch-start table guard at = cond (is-zero guard) (end-in table at) at
 

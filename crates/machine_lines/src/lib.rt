@@ -2,6 +2,7 @@
 // progress, main's last, a word for each with the number of its function, and two words for levels: how many cells are
 // free, and the least number that was. `calls` is the call depth left, 31 in main.
 mod arrays;
+pub mod guards;
 
 use machine_code::Atom;
 use machine_code::Line;
@@ -14,8 +15,8 @@ ghost use Rattle.semantics.specs.Number.{exact};
 ghost use Rattle.semantics.specs.Words.{store-of};
 ghost use Rattle.words.specs.Words.{exact-outcome, checked};
 ghost use Rattle.machine_lines.specs.Frames.{place, word-of, words-at, Passed};
-ghost use Rattle.machine_lines.specs.Frames.{function-place, function-of, element-depth, branch-start};
-ghost use Rattle.machine_lines.specs.Frames.{branch-end, level-of, lowest-of, levelled, noted, raised};
+ghost use Rattle.machine_lines.specs.Frames.{function-place, function-of, element-depth, level-of, lowest-of};
+ghost use Rattle.machine_lines.specs.Frames.{levelled, noted, raised};
 ghost use Rattle.machine_lines.specs.Lines.{out, left, memory, operation-of, operation-line, index-line};
 ghost use Rattle.machine_lines.specs.Lines.{length-line, bound-result, leaf, Ends};
 
@@ -39,6 +40,8 @@ pub const OVERFLOW: u8 = 24;
 pub const OUT_OF_CELLS: u8 = 25;
 
 pub const BAD_COUNT: u8 = 26;
+
+pub const BAD_GUARD: u8 = 28;
 
 // The stop of work that comes to no line that it can do: the code of an accepted script never does.
 pub const NO_LINE: u8 = 99;
@@ -204,28 +207,6 @@ pub fn pass_arguments(
         i = i + 1;
     }
     i
-}
-
-// Where the branch of an if begins, by the word of its guard: the first tree, at a position, or the second.
-pub fn branch_start(table: &[u8], guard: i64, at: usize) -> usize
-    ensures { λ r. ⌜ r ≡ branch-start (now (table .entry)) guard at ⌝ }
-{
-    if guard == 0 {
-        machine_code::end_in(table, at)
-    } else {
-        at
-    }
-}
-
-// Where the code goes on after an if, by the word of its guard and the position after the tree that was worked.
-pub fn branch_end(table: &[u8], guard: i64, next: usize) -> usize
-    ensures { λ r. ⌜ r ≡ branch-end (now (table .entry)) guard next ⌝ }
-{
-    if guard == 0 {
-        next
-    } else {
-        machine_code::end_in(table, next)
-    }
 }
 
 // The exact result of an operation, if it is in 64 bits.

@@ -6,7 +6,7 @@ use Prim.Native.Nat.{ℕ, _+_, _*_, _<_}
 use lib.IntN.{ℤ}
 use lib.Dec.{eqb}
 use lib.ListN.{length}
-use Rattle.semantics.specs.Number.{is-zero}
+use Rattle.semantics.specs.Number.{is-zero, is-answer}
 use Rattle.semantics.specs.Kinds.{Loop, mapping, filtering, reducing}
 use Rattle.semantics.specs.Store.{Store, cell-of, appended, retained}
 use Rattle.semantics.specs.Machine.{argument, looped-over}
@@ -54,6 +54,12 @@ carry-first reducing d ws s m = ran (out 0 (argument ws 0) 0 s) m
 abbrev pub begun-frames : ℕ → ℕ → ℕ → ℤ → ℤ → List ℤ → List ℤ
 begun-frames calls p q v w env = bound calls q w (bound calls p v env)
 
+-- whether a pass takes what its tree gave: a filter takes an answer
+abbrev pub is-taken : Way → ℤ → Bool
+is-taken Fill r = true
+is-taken (Keep arrays) r = is-answer r
+is-taken Hand r = true
+
 -- what a pass carries on: v was carried into it, and its tree gave r
 abbrev pub carried-word : Way → ℤ → ℤ → ℤ
 carried-word Fill v r = v
@@ -64,7 +70,7 @@ abbrev pub retained-if : Bool → ℕ → Store → Store
 retained-if true c σ = retained c σ
 retained-if false c σ = σ
 
--- an element kept in the cell c, if the tree gave another word than 0
+-- an element kept in the cell c, unless the tree gave 0
 abbrev pub kept : Bool → ℕ → ℤ → ℤ → Store → Store
 kept arrays c w r σ = cond (is-zero r) σ (appended c w (retained-if arrays (cell-of w) σ))
 

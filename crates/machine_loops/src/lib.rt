@@ -13,10 +13,10 @@ ghost use Rattle.semantics.specs.Words.{store-of};
 ghost use Rattle.machine_lines.specs.Frames.{place, word-of, element-depth};
 ghost use Rattle.machine_lines.specs.Lines.{memory, kind-of, first-name, second-name, atoms-of};
 ghost use Rattle.machine_loops.specs.Loops.{array-atom, way-of, begun-frames, carried-word, retained-if, kept};
-ghost use Rattle.machine_loops.specs.Loops.{carried-store, Within, ResultWithin, Carries, Begins};
+ghost use Rattle.machine_loops.specs.Loops.{is-taken, carried-store, Within, ResultWithin, Carries, Begins};
 
 // What a pass does with the word that its tree gave: a map appends it to the result; a filter appends the element if
-// the word is not 0, and retains it first where it is an array; a reduce hands it on.
+// the word is 1 and not if it is 0, and retains it first where it is an array; a reduce hands it on.
 pub enum Way {
     Fill,
     Keep(bool),
@@ -197,7 +197,7 @@ fn retain_if(slots: &[i64], heads: &mut [u32], arrays: bool, w: i64)
     }
 }
 
-// Keeps an element in a cell that is there, if the tree gave another word than 0.
+// Keeps an element in a cell that is there, unless the tree gave 0.
 fn keep(slots: &mut [i64], heads: &mut [u32], arrays: bool, c: usize, w: i64, r: i64)
     requires { ⌜ Within (now slots) (now heads) c ⌝ }
     ensures { λ _. ⌜ store-of (now (slots .exit)) (now (heads .exit))
@@ -206,6 +206,18 @@ fn keep(slots: &mut [i64], heads: &mut [u32], arrays: bool, c: usize, w: i64, r:
     if r != 0 {
         retain_if(slots, heads, arrays, w);
         store::append_within(slots, heads, c, w);
+    }
+}
+
+// Whether a pass takes what its tree gave: a filter takes 1 and 0.
+pub fn is_taken(l: Passes, r: i64) -> bool
+    ensures { λ t. ⌜ t ≡ is-taken (l .way) r ⌝ }
+{
+    let way = l.way;
+    match way {
+        Way::Fill => true,
+        Way::Keep(_) => machine_lines::guards::is_answer(r),
+        Way::Hand => true,
     }
 }
 

@@ -7,6 +7,7 @@ use lib.IntN.{ℤ, pos}
 use lib.Dec.{eqb}
 use lib.ListN.{length, set, length-set}
 use Rattle.semantics.specs.Outcome.{done, stop}
+use Rattle.semantics.specs.Number.{is-answer}
 use Rattle.semantics.specs.Kinds.{Loop, mapping, filtering, reducing}
 use Rattle.semantics.specs.Machine.{looped-over}
 use Rattle.semantics.specs.Store.{cell-of}
@@ -24,7 +25,7 @@ use Rattle.machine_lines.specs.Lines.{doing, giving-line, leaf-done, cell-from,
 use Rattle.machine_lines.proofs.Levels.{noted-by-long, raised-long, array-long}
 use Rattle.machine_loops.specs.declared.Way.{Way}
 use Rattle.machine_loops.specs.declared.Passes.{Passes}
-use Rattle.machine_loops.specs.Loops.{way-of, carry-first, Readied}
+use Rattle.machine_loops.specs.Loops.{way-of, carry-first, is-taken, Readied}
 use Rattle.machine_positions.specs.Machine.{Work, Callee, Code, and-then, binding, if-line, call-line, looped}
 use Rattle.machine_positions.specs.Machine.{entered, carry-on, passes-on}
 use Rattle.machine_positions.specs.Machine.{loop-line}
@@ -137,8 +138,9 @@ module _ (W : Work) (w : (at s : ℕ) (m : Memory) → Keeps m (W at s m)) where
   if-keeps table calls x g at zero m = refl
   if-keeps table calls x g at (suc s) m = let guard = word-of calls (m .env) g in
       let start = branch-start table guard (at + 2) in
-      then-keeps m (W start s m) (λ v. binding calls x (branch-end table guard (v .out .next)) v) (w start s m)
-      (λ v k. length-set (v .memory .env) (place calls x) (v .out .value) ∙ k)
+      either m _ _
+      (then-keeps m (W start s m) (λ v. binding calls x (branch-end table guard (v .out .next)) v) (w start s m)
+      (λ v k. length-set (v .memory .env) (place calls x) (v .out .value) ∙ k)) refl (is-answer guard)
 
   passes-keeps : (way : Way) (at calls p q from n : ℕ) (v : ℤ) (i s : ℕ) (m : Memory) →
       Keeps m (passes-on (looped way (W at) calls p q from) n v i s m)
@@ -151,7 +153,7 @@ module _ (W : Work) (w : (at s : ℕ) (m : Memory) → Keeps m (W at s m)) where
       let rest : Ran → Ran = λ u. passes-on l n (u .out .value) (i + 1) (u .out .steps) (u .memory) in
       then-keeps m (W at s m₁) (λ w. and-then (carry-on l v w) rest)
       (w at s m₁ ∙ entered-keeps calls p q v _ (m .env))
-      (λ u e. then-keeps m (carry-on l v u) rest e
+      (λ u e. then-keeps m (carry-on l v u) rest (either m _ _ e e (is-taken way (u .out .value)))
       (λ y g. passes-keeps way at calls p q from n (y .out .value) (i + 1) (y .out .steps) (y .memory) ∙ g))
 
   loop-keeps : (c : Code) (calls x : ℕ) (k : Loop) (p q : ℕ) (us : List Atom) (at s : ℕ) (m : Memory) →

@@ -1,5 +1,6 @@
 -- Laws of the lines that work a tree: one for each way out of the code.
 use mathlib.Core.Path.{_≡_, refl, sym, ap, ap₂, subst, _∙_}
+use mathlib.Core.Bool.{Bool, true, false, cond}
 use mathlib.Core.List.{List, [], _∷_, map}
 use Prim.Native.Nat.{ℕ, suc, _+_, _-_}
 use native.Mathlib.Omega.{arith}
@@ -7,6 +8,7 @@ use lib.IntN.{ℤ, pos}
 use lib.ListN.{set, length}
 use denote.Enum.Declared.{tagOf}
 use types.Run.{OneOf, miss}
+use Rattle.semantics.specs.Number.{is-answer}
 use Rattle.semantics.specs.Kinds.{Loop}
 use Rattle.semantics.specs.Machine.{looped-over}
 use Rattle.semantics.specs.Store.{cell-of}
@@ -21,14 +23,15 @@ use Rattle.machine_code.proofs.Reading.{less-one}
 use Rattle.machine_lines.specs.declared.Out.{Out}
 use Rattle.machine_lines.specs.Frames.{place, function-place, word-of, words-at, Passed, branch-start}
 use Rattle.machine_lines.specs.Frames.{branch-end, element-depth}
-use Rattle.machine_lines.specs.Lines.{Memory, memory, Ran, ran, left, out, bound-result, stepping, array-of}
+use Rattle.machine_lines.specs.Lines.{Memory, memory, Ran, ran, left, out, halted, bound-result, stepping, array-of}
 use Rattle.machine_lines.specs.Lines.{Doing, giving, changing, ending, calling, branching, looping}
 use Rattle.machine_lines.specs.Lines.{kind-of, first-name, second-name, atoms-of, doing, leaf-done, leaf, Ends}
 use Rattle.machine_lines.proofs.Lines.{Told, told, leaf-fewer}
 use Rattle.machine_loops.specs.declared.Passes.{Passes}
 use Rattle.machine_loops.specs.declared.Begun.the-variants.{NoneFree}
 use Rattle.machine_loops.specs.Loops.{way-of, carry-first, Readied, Begins}
-use Rattle.machine_positions.specs.Machine.{Work, Callee, Code, and-then, binding, if-worked, if-line}
+use Rattle.machine_positions.specs.Machine.{Work, Callee, Code, and-then, binding, branch-worked}
+use Rattle.machine_positions.specs.Machine.{if-worked, if-line}
 use Rattle.machine_positions.specs.Machine.{call-worked, call-line, looped, passes-on}
 use Rattle.machine_positions.specs.Machine.{loop-line, line-done, line-on, tree-on}
 use Rattle.machine_positions.specs.Machine.{call-on, Ended}
@@ -52,7 +55,19 @@ module _ (W : Work) (table : List ℕ) (calls x : ℕ) (g : Atom) (at steps : �
   unfolding if-line stepping
   if-spent r z e = record { is = rw (e, z); fewer = rw e (omega arith) }
 
-  module _ (some : steps ≡ 0 → ⊥) (v : ℤ) (ve : v ≡ word-of calls env g) (start : ℕ)
+  pub if-doubts : (steps ≡ 0 → ⊥) → (v : ℤ) → v ≡ word-of calls env g → is-answer v ≡ false → (r : Out) →
+      r ≡ out 28 (pos 0) 0 (steps - 1) →
+      Ended (if-line W table calls x g at steps (memory (store-of slots heads) env)) steps r slots heads env
+  unfolding if-line stepping
+  if-doubts some v ve doubt r e = record {
+    is = ap (λ (y : Out). ran y (memory (store-of slots heads) env)) e ∙ sym (
+        ap (λ (n : ℕ). if-line W table calls x g at n (memory (store-of slots heads) env))
+        (less-one steps (omega arith))
+        ∙ ap (if-worked W table calls x at (steps - 1) (memory (store-of slots heads) env)) (sym ve) ∙ rw doubt);
+    fewer = rw e (omega arith);
+  }
+
+  module _ (some : steps ≡ 0 → ⊥) (v : ℤ) (ve : v ≡ word-of calls env g) (answer : is-answer v ≡ true) (start : ℕ)
       (se : start ≡ branch-start table v (at + 2)) (r : Out) (sl : List ℤ) (he : List ℕ) (en : List ℤ)
       (done : Ended (W start (steps - 1) (memory (store-of slots heads) env)) (steps - 1) r sl he en) where
     if-part : if-line W table calls x g at steps (memory (store-of slots heads) env)
@@ -61,6 +76,8 @@ module _ (W : Work) (table : List ℕ) (calls x : ℕ) (g : Atom) (at steps : �
     if-part = ap (λ (n : ℕ). if-line W table calls x g at n (memory (store-of slots heads) env)) (less-one steps
         (omega arith))
         ∙ ap (if-worked W table calls x at (steps - 1) (memory (store-of slots heads) env)) (sym ve)
+        ∙ ap (λ (b : Bool). cond b (branch-worked W table calls x at (steps - 1) (memory (store-of slots heads) env) v)
+        (halted 28 (steps - 1) (memory (store-of slots heads) env))) answer
         ∙ ap (λ (n : ℕ). and-then (W n (steps - 1) (memory (store-of slots heads) env))
         (λ w. binding calls x (branch-end table v (w .out .next)) w)) (sym se)
         ∙ ap (λ (w : Ran). and-then w (λ w. binding calls x (branch-end table v (w .out .next)) w)) (sym (done .is))

@@ -6,6 +6,7 @@ use Prim.Native.Nat.{ℕ, zero, suc, _+_, _≤_}
 use lib.IntN.{ℤ, pos}
 use lib.Dec.{eqb}
 use lib.ListN.{getD, length}
+use Rattle.semantics.specs.Number.{is-answer}
 use Rattle.semantics.specs.Kinds.{Loop}
 use Rattle.semantics.specs.Machine.{looped-over}
 use Rattle.semantics.specs.Store.{cell, cell-of, elements}
@@ -19,7 +20,7 @@ use Rattle.machine_lines.specs.Frames.{place, word-of, words-at, called, elemen
 use Rattle.machine_lines.specs.Lines.{no-line, Memory, memory, Ran, ran, out, halted, goes-on, stepping, array-of}
 use Rattle.machine_lines.specs.Lines.{Doing, giving, changing, ending, calling, branching, looping, doing, leaf-done}
 use Rattle.machine_loops.specs.declared.Way.{Way}
-use Rattle.machine_loops.specs.Loops.{way-of, carry-first, begun-frames, carried-word, carried-store}
+use Rattle.machine_loops.specs.Loops.{way-of, carry-first, begun-frames, is-taken, carried-word, carried-store}
 
 -- the two code arrays, and the table of the functions and of the positions after trees
 pub record Code : Type 0 where
@@ -52,10 +53,16 @@ binding calls x next w = goes-on calls x (w .out .value) next (w .out .steps) (w
 
 -- ---- lines that work a tree
 
+-- one tree of an if, by the word of its guard
+abbrev pub branch-worked : Work → List ℕ → ℕ → ℕ → ℕ → ℕ → Memory → ℤ → Ran
+branch-worked W table calls x at s m guard =
+    and-then (W (branch-start table guard (at + 2)) s m)
+    (λ w. binding calls x (branch-end table guard (w .out .next)) w)
+
+-- a guard that is no answer stops
 abbrev pub if-worked : Work → List ℕ → ℕ → ℕ → ℕ → ℕ → Memory → ℤ → Ran
 if-worked W table calls x at s m guard =
-    and-then (W (branch-start table guard (at + 2)) s m) (λ w. binding calls x (branch-end table guard (w .out
-    .next)) w)
+    cond (is-answer guard) (branch-worked W table calls x at s m guard) (halted 28 s m)
 
 unfoldable pub if-line : Work → List ℕ → ℕ → ℕ → Atom → ℕ → ℕ → Memory → Ran
 if-line W table calls x g at steps m = stepping steps (halted 21 0 m)
@@ -91,9 +98,14 @@ entered l v i m = begun-frames (l .calls) (l .first) (l .second) v
     (getD (elements (cell (m .store) (l .from))) i (pos 0)) (m .env)
 
 -- what a pass over e carries on, by what was carried into it and how its tree ended
-abbrev pub carry-by : Way → ℤ → ℤ → Ran → Ran
-carry-by way v e w = ran (out 0 (carried-word way v (w .out .value)) 0 (w .out .steps))
+abbrev pub carried : Way → ℤ → ℤ → Ran → Ran
+carried way v e w = ran (out 0 (carried-word way v (w .out .value)) 0 (w .out .steps))
     (memory (carried-store way (cell-of v) e (w .out .value) (w .memory .store)) (w .memory .env))
+
+-- a word that it does not take stops
+abbrev pub carry-by : Way → ℤ → ℤ → Ran → Ran
+carry-by way v e w =
+    cond (is-taken way (w .out .value)) (carried way v e w) (halted 28 (w .out .steps) (w .memory))
 
 -- the element is that of the pass's name
 abbrev pub carry-on : Looped → ℤ → Ran → Ran

@@ -16,7 +16,7 @@ use Rattle.machine_lines.specs.Lines.{Memory, memory, Ran, ran, FrameLeft, left
 use Rattle.machine_lines.specs.Lines.{bound-result}
 use Rattle.machine_loops.specs.declared.Way.{Way}
 use Rattle.machine_loops.specs.declared.Way.the-variants.{Fill, Keep, Hand}
-use Rattle.machine_loops.specs.Loops.{carried-word, kept, carried-store}
+use Rattle.machine_loops.specs.Loops.{is-taken, carried-word, kept, carried-store}
 use Rattle.machine_positions.specs.Machine.{and-then, binding, Looped, entered, carry-by, carry-on, passes-on}
 use Rattle.machine_positions.specs.Machine.{Ended}
 
@@ -142,6 +142,14 @@ module _ {l : Looped} {count steps : ℕ} {v₀ : ℤ} {slots₀ : List ℤ} {he
       pass-stops g =
           part-stops _ steps r sl he en after pass-part (omega (arith, done .fewer, inv .fewer)) g
 
+      pub pass-doubts : r .stop ≡ 0 → is-taken (l .way) (r .value) ≡ false → (q : Out) →
+          q ≡ out 28 (pos 0) 0 (r .steps) → Ended whole steps q sl he en
+      pass-doubts g doubt q e = record {
+        is = ap (λ (y : Out). ran y (memory (store-of sl he) en)) e
+            ∙ sym (pass-part ∙ then-go (ran r (memory (store-of sl he) en)) after g ∙ rw doubt);
+        fewer = rw e (omega (arith, done .fewer, inv .fewer));
+      }
+
       pub pass-goes : r .stop ≡ 0 → (u : ℤ) (sl′ : List ℤ) (he′ : List ℕ) →
           carry-on l v (ran r (memory (store-of sl he) en))
           ≡ ran (out 0 u 0 (r .steps)) (memory (store-of sl′ he′) en) →
@@ -188,12 +196,13 @@ stays-on Fill v₀ v r u h e = e ∙ h
 stays-on (Keep arrays) v₀ v r u h e = e ∙ h
 stays-on Hand v₀ v r u h e = tt
 
--- what the end of a pass leaves is what it carries on
+-- what the end of a pass leaves is what it carries on, if it takes what its tree gave
 pub carries-on : (way : Way) (v₀ v e : ℤ) → Stays way v₀ v → (r : Out) (σ τ : Store) (env : List ℤ) (u : ℤ) →
-    u ≡ carried-word way v (r .value) → τ ≡ carried-store way (cell-of v₀) e (r .value) σ →
+    is-taken way (r .value) ≡ true → u ≡ carried-word way v (r .value) → τ ≡ carried-store way (cell-of v₀) e (r
+    .value) σ →
     carry-by way v e (ran r (memory σ env)) ≡ ran (out 0 u 0 (r .steps)) (memory τ env)
-carries-on way v₀ v e h r σ τ env u ue τe =
-    ap₂ (λ (y : ℤ) (ρ : Store). ran (out 0 y 0 (r .steps)) (memory ρ env)) (sym ue) (sym (τe ∙ go way h))
+carries-on way v₀ v e h r σ τ env u taken ue τe =
+    rw taken (ap₂ (λ (y : ℤ) (ρ : Store). ran (out 0 y 0 (r .steps)) (memory ρ env)) (sym ue) (sym (τe ∙ go way h)))
   where
     go : (y : Way) → Stays y v₀ v →
         carried-store y (cell-of v₀) e (r .value) σ ≡ carried-store y (cell-of v) e (r .value) σ

@@ -28,5 +28,6 @@ pub mod Slips
 pub mod Second
 pub mod Levels
 pub mod Lowest
+pub mod Guards
 pub mod Watched
 pub mod Carried

@@ -10,7 +10,7 @@ use lib.ListN.{length, getD}
 use lib.Dec.{ltb}
 use Rattle.semantics.specs.Basics.{tabulate, with-if, occurrences, updated}
 use Rattle.semantics.specs.Outcome.{Outcome, done, stop, Run, _>>=_, _>>_, give, halt, require, passes}
-use Rattle.semantics.specs.Number.{exact, fits, inside, is-zero}
+use Rattle.semantics.specs.Number.{exact, fits, inside, is-zero, is-answer}
 use Rattle.semantics.specs.Syntax.{Function, Script, main-depth}
 use Rattle.semantics.specs.Types.{Signature, signatures-of}
 use Rattle.semantics.specs.Kinds.{Leaf, operation, call, literal, index, length-of, iota, replicate, Loop}
@@ -196,6 +196,12 @@ pass-words mapping c w = w ∷ []
 pass-words filtering c w = w ∷ []
 pass-words reducing c w = c ∷ w ∷ []
 
+-- whether a loop takes what the tree of a pass gave: a filter takes an answer
+abbrev pub taken-by : Loop → ℤ → Bool
+taken-by mapping r = true
+taken-by filtering r = is-answer r
+taken-by reducing r = true
+
 -- What a pass over w carries on, by what its tree gave; d is the depth of the elements of the loop's result. A filter
 -- retains each element that it keeps.
 abbrev pub carried-on : Loop → ℕ → ℤ → ℤ → ℤ → Work ℤ
@@ -211,6 +217,7 @@ work-pass k d body a c i = do
   ws ← elements-of a
   let w = getD ws i (pos 0)
   r ← body (pass-words k c w)
+  require (taken-by k r) 28
   carried-on k d c w r
 
 -- the result of a loop in progress; a reduce's running value is the first name of its pass
@@ -246,6 +253,7 @@ module _ (callee : Callee) (Γ : NameDepths) where
       give (updated ρ x w)
     work-line (if-else x g t e) A R ρ = do
       step
+      require (is-answer (word ρ g)) 28
       let B = after-branch x A
       w ← cond (is-zero (word ρ g)) (work e B R ρ) (work t B R ρ)
       give (updated ρ x w)

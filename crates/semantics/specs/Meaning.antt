@@ -9,7 +9,7 @@ use lib.ListN.{length, getD}
 use lib.Dec.{eqb}
 use Rattle.semantics.specs.Basics.{updated, tabulate}
 use Rattle.semantics.specs.Outcome.{Outcome, done, stop, Run, _>>=_, _>>_, give, halt, require, passes}
-use Rattle.semantics.specs.Number.{Operation, exact, fits, inside, is-zero}
+use Rattle.semantics.specs.Number.{Operation, exact, fits, inside, is-zero, is-answer}
 use Rattle.semantics.specs.Value.{Value, num, items, number-in, list}
 use Rattle.semantics.specs.Syntax as S
 use Rattle.semantics.specs.Kinds.{Leaf, operation, call, literal, index, length-of, iota, replicate, Loop}
@@ -78,9 +78,12 @@ do-replicate n v = do
   require (is-count n) 26
   give (list (List.replicate (natAbs (number-in n)) v))
 
--- a guard other than 0 takes the then part
+-- a guard of 1 takes the then part, one of 0 the else part, and any other stops
 unfoldable pub do-if : Value → Work Value → Work Value → Work Value
-do-if g t e = do step false; cond (is-zero (number-in g)) e t
+do-if g t e = do
+  step false
+  require (is-answer (number-in g)) 28
+  cond (is-zero (number-in g)) e t
 
 abbrev pub argument : List Value → ℕ → Value
 argument vs i = getD vs i (num (pos 0))
@@ -116,7 +119,13 @@ pass-values mapping c v = v ∷ []
 pass-values filtering c v = v ∷ []
 pass-values reducing c v = c ∷ v ∷ []
 
--- what a pass over v carries on, by what its body gave; any guard but 0 keeps the element
+-- whether a loop takes what the body of a pass gave: a filter takes an answer
+abbrev pub taken-by : Loop → Value → Bool
+taken-by mapping r = true
+taken-by filtering r = is-answer (number-in r)
+taken-by reducing r = true
+
+-- what a pass over v carries on, by what its body gave; a filter's 0 leaves the element out
 abbrev pub carried-on : Loop → Value → Value → Value → Value
 carried-on mapping c v r = with-item c r
 carried-on filtering c v r = cond (is-zero (number-in r)) c (with-item c v)
@@ -124,7 +133,11 @@ carried-on reducing c v r = r
 
 -- one pass: its step, then the body
 unfoldable pub do-pass : Loop → (List Value → Work Value) → Value → Value → Work Value
-do-pass k body c v = do step false; r ← body (pass-values k c v); give (carried-on k c v r)
+do-pass k body c v = do
+  step false
+  r ← body (pass-values k c v)
+  require (taken-by k r) 28
+  give (carried-on k c v r)
 
 unfoldable pub do-loop : Loop → List Value → (List Value → Work Value) → Work Value
 do-loop k vs body = do

@@ -106,7 +106,7 @@ pub second :
     seeing 1 repeating ((pos 2 ∷ []) ∷ (pos 0 ∷ []) ∷ (pos 3 ∷ []) ∷ []) ∷
     seeing 1 sieving ((pos 2 ∷ []) ∷ (pos 7 ∷ []) ∷ (pos 3 ∷ []) ∷ []) ∷
     seeing 1 summing ((pos 2 ∷ pos 3 ∷ []) ∷ (pos 7 ∷ []) ∷ []) ∷
-    seeing 1 folding ((pos 2 ∷ pos 3 ∷ []) ∷ [] ∷ (pos 7 ∷ []) ∷ []) ∷
+    seeing 1 folding ((pos 2 ∷ []) ∷ [] ∷ (pos 7 ∷ []) ∷ []) ∷
     seeing 1 start-in-the-tree ((pos 4 ∷ []) ∷ (pos 5 ∷ []) ∷ []) ∷
     seeing 1 hidden-first ((pos 4 ∷ []) ∷ (pos 5 ∷ []) ∷ []) ∷
     seeing 1 nested ((pos 4 ∷ []) ∷ (pos 2 ∷ pos 4 ∷ []) ∷ []) ∷ []

@@ -91,7 +91,7 @@ impl Machine<'_> {
             }
             Line::If(name, guard, first, second) => {
                 self.step()?;
-                let tree = if value(guard, names) != 0 { first } else { second };
+                let tree = if answer(value(guard, names))? { first } else { second };
                 (*name, self.tree(coded, tree, names, call_depth)?)
             }
             Line::Loop(name, kind, in_pass, atoms, tree) => {
@@ -104,7 +104,7 @@ impl Machine<'_> {
                     names[in_pass[0]] = carried; // a reduce's first name; for the others the element comes in its place
                     names[in_pass[in_pass.len() - 1]] = element;
                     let result = self.tree(coded, tree, names, call_depth)?;
-                    carried = self.carry(*kind, depth, carried, element, result);
+                    carried = self.carry(*kind, depth, carried, element, result)?;
                 }
                 (*name, carried)
             }
@@ -120,19 +120,20 @@ impl Machine<'_> {
     }
 
     /// What a pass over an element carries on, in a loop whose result has this depth.
-    fn carry(&mut self, kind: Loop, depth: usize, carried: i64, element: i64, result: i64) -> i64 {
+    fn carry(&mut self, kind: Loop, depth: usize, carried: i64, element: i64, result: i64) -> Result<i64, u64> {
         match kind {
-            Loop::Reduce => return result,
+            Loop::Reduce => return Ok(result),
             Loop::Map => self.store.append(carried as usize, result),
-            Loop::Filter if result == 0 => {}
             Loop::Filter => {
-                if depth > 1 {
-                    self.store.retain(element as usize);
+                if answer(result)? {
+                    if depth > 1 {
+                        self.store.retain(element as usize);
+                    }
+                    self.store.append(carried as usize, element);
                 }
-                self.store.append(carried as usize, element);
             }
         }
-        carried
+        Ok(carried)
     }
 
     /// What a line without trees gives for the values of its atoms; `depth` is that of its result.
@@ -168,6 +169,15 @@ impl Machine<'_> {
                 Ok(made)
             }
         }
+    }
+}
+
+/// What a guard says: 1 is yes and 0 is no.
+fn answer(guard: i64) -> Result<bool, u64> {
+    match guard {
+        0 => Ok(false),
+        1 => Ok(true),
+        _ => Err(28),
     }
 }
 

@@ -7,7 +7,7 @@ use lib.IntN.{ℤ, pos}
 use lib.ListN.{length, getD}
 use Rattle.laws.specs.Updates.{updated-there}
 use Rattle.semantics.specs.Basics.{updated}
-use Rattle.semantics.specs.Outcome.{done, onward, _>>=_, _>>_, give}
+use Rattle.semantics.specs.Outcome.{onward, _>>=_, _>>_}
 use Rattle.semantics.specs.Value.{Value, num, items}
 use Rattle.semantics.specs.Code.{Tree}
 use Rattle.semantics.specs.Live.{Set}
@@ -21,7 +21,7 @@ use Rattle.soundness.specs.normal.Trace.{CalleeGrows}
 use Rattle.soundness.specs.store.Invariant.{StandsFor}
 use Rattle.soundness.specs.store.Kept.{keeps-self}
 use Rattle.soundness.specs.machine.Images.{apart}
-use Rattle.soundness.specs.machine.Growth.{give-grows, bind-grows, tree-grows}
+use Rattle.soundness.specs.machine.Growth.{Grows, bind-grows, tree-grows}
 use Rattle.soundness.specs.machine.Agreement.{Together, Agree, agree-bind, after-step}
 use Rattle.soundness.specs.machine.Frames.{Setting, Situation, Ended, own}
 use Rattle.soundness.specs.machine.Binding.{pending-situation, ended-back}
@@ -41,10 +41,11 @@ module _ (C : Setting) (grows : CalleeGrows (C .meant)) (p : ℕ) {t : Tree} (cl
   pub pass-begins : {Q : ℤ → State → Value → Meter → Type 0} {i : ℕ} {s : State} {m : Meter} (w : ℤ) (v : Value)
       (Before : Store → Type 0) → ((τ : Store) → Before τ → Situation C τ Z F R L H [] ρ δ (tree-adds t + n)) →
       ((τ : Store) → Before τ → StandsFor τ (suc (C .depths p)) w v) → (finish : ℤ → ℤ → Machine.Work ℤ)
-      (meant-finish : Value → Value) → i < length (items v) → Together (C .start) s m → Before (s .store) →
+      (meant-finish : Value → Meaning.Work Value) → ((x : Value) → Grows (meant-finish x)) → i < length (items v) →
+      Together (C .start) s m → Before (s .store) →
       ((τ : Store) (r : ℤ) (s′ : State) (x : Value) (m′ : Meter) → Before τ → Item τ (C .depths p) w v i →
       Ended C e τ Z F I ρ δ n r s′ x m′ →
-      Agree (C .start) Q (finish (getD (words-of τ w) i (pos 0)) r s′) (done (meant-finish x) m′)) →
+      Agree (C .start) Q (finish (getD (words-of τ w) i (pos 0)) r s′) (meant-finish x m′)) →
       Agree (C .start) Q
       ((do
         Machine.step
@@ -54,10 +55,10 @@ module _ (C : Setting) (grows : CalleeGrows (C .meant)) (p : ℕ) {t : Tree} (cl
       ((do
         Meaning.step false
         r ← run (C .meant) t (updated δ p (getD (items v) i (num (pos 0))))
-        give (meant-finish r)) m)
+        meant-finish r) m)
   unfolding elements-of onward with-store
-  pass-begins {i = i} w v Before situated array finish meant-finish within tog before next =
-      after-step false tog (λ u. bind-grows (tree-grows (C .meant) grows t _) (λ r. give-grows _)) (λ u u′ s′ m′ h.
+  pass-begins {i = i} w v Before situated array finish meant-finish finishes within tog before next =
+      after-step false tog (λ u. bind-grows (tree-grows (C .meant) grows t _) finishes) (λ u u′ s′ m′ h.
       let b = subst Before (sym (h .store)) before in
       let situation = situated (s′ .store) b in
       let item = element-at-pass i (situation .invariant) (array (s′ .store) b) within in
@@ -67,7 +68,7 @@ module _ (C : Setting) (grows : CalleeGrows (C .meant)) (p : ℕ) {t : Tree} (cl
       (with-store s′ (s′ .store) (touching (s′ .store) (cell-of w))) m′
       (touch-together (cell-of w) (s′ .store) (situation .invariant) (item .used) refl refl (h .together))
       (pending-situation C situation (new .lent) (new .before) (item .stands) (item .named)) need)
-      (λ r. give-grows _)
+      finishes
       (λ r s″ x m″ E. next (s′ .store) r s″ x m″ b item
       (ended-back C (λ y g. updated-there ρ p w′ y (apart p y I (new .after) g))
       (λ y g. updated-there δ p v′ y (apart p y I (new .after) g)) (keeps-self (s′ .store) (Z ++ F)) E)))

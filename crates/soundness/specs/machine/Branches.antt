@@ -4,7 +4,8 @@ use native.Mathlib.Omega.{arith}
 use mathlib.Core.Bool.{Bool, true, false, cond}
 use mathlib.Core.Path.{refl}
 use mathlib.Core.List.{[]}
-use Rattle.semantics.specs.Number.{is-zero}
+use Rattle.semantics.specs.Number.{is-zero, is-answer}
+use Rattle.semantics.specs.Outcome.{require}
 use Rattle.semantics.specs.Value.{number-in}
 use Rattle.semantics.specs.Code.{Atom, if-else, Tree}
 use Rattle.semantics.specs.Live.{after-branch}
@@ -14,8 +15,8 @@ use Rattle.semantics.specs.Machine.{State, word, work, work-line}
 use Rattle.soundness.specs.normal.Plain.{value, run, run-line}
 use Rattle.soundness.specs.normal.Trace.{CalleeGrows}
 use Rattle.soundness.specs.machine.Discipline.{left-by, holds-after}
-use Rattle.soundness.specs.machine.Growth.{Grows, give-grows, bind-grows, tree-grows}
-use Rattle.soundness.specs.machine.Agreement.{Together, both, agree-assoc, agree-bind}
+use Rattle.soundness.specs.machine.Growth.{Grows, give-grows, require-grows, bind-grows, tree-grows}
+use Rattle.soundness.specs.machine.Agreement.{Together, both, agree-assoc, agree-bind, after-test}
 use Rattle.soundness.specs.machine.Frames.{Setting, Situation, Ended, Going}
 use Rattle.soundness.specs.machine.Standing.{atom-number}
 use Rattle.soundness.specs.machine.Binding.{name-bound}
@@ -30,11 +31,15 @@ module _ (C : Setting) (grows : CalleeGrows (C .meant)) where
   line-if x g t e then else B T A H P Δ rules Z F R ρ δ n s m tog S need =
       agree-assoc _ _ (Meaning.step false m) (begin-step C
       (λ σ. Going C (if-else x g t e) σ Z F R B H Δ ρ δ n) false tog S
-      (λ u. bind-grows (choice-grows (is-zero (number-in (value δ g)))) (λ v. give-grows _))
+      (λ u. bind-grows (bind-grows (require-grows _ 28) (λ _. choice-grows (is-zero (number-in (value δ g)))))
+      (λ v. give-grows _))
       (λ u v s′ m′ t′ S′ w. rw (atom-number C S′ g (rules .fits .0))
-      (agree-bind (branch (is-zero (word ρ g)) s′ m′ t′ (settled S′)) (λ v. give-grows _)
+      (agree-assoc _ _ (require (is-answer (word ρ g)) 28 m′)
+      (after-test 28 _ _ (is-answer (word ρ g)) (is-answer (word ρ g)) refl
+      (record { low = omega arith; high = omega arith; other = λ h. omega arith }) t′
+      (λ answer. agree-bind (branch (is-zero (word ρ g)) s′ m′ t′ (settled S′)) (λ v. give-grows _)
       (λ w s″ v m″ E. both (name-bound C (if-else x g t e) (left-by (C .depths) t H) refl refl (if-fresh C rules) S′
-      E)))))
+      E)))))))
     where
       choice-grows : (b : Bool) → Grows (cond b (run (C .meant) e δ) (run (C .meant) t δ))
       choice-grows true = tree-grows (C .meant) grows e δ

@@ -7,7 +7,7 @@ use mathlib.Core.List.{List, [], _∷_, _++_}
 use lib.IntN.{ℤ, pos}
 use lib.ListN.{length, getD}
 use Rattle.semantics.specs.Basics.{updated, tabulate}
-use Rattle.semantics.specs.Outcome.{Run, done, onward, passes, _>>=_, _>>_, give}
+use Rattle.semantics.specs.Outcome.{Run, onward, passes, _>>=_, _>>_, give}
 use Rattle.semantics.specs.Value.{Value, num, list, items}
 use Rattle.semantics.specs.Kinds.{Loop, loop-hands}
 use Rattle.semantics.specs.Code.{Atom, loop, Tree, ending}
@@ -90,13 +90,14 @@ module _ (C : Setting) {x : ℕ} {k : Loop} {ps : List ℕ} {us : List Atom} {t 
 
     -- what follows its tree gets the element and what the tree gave
     pub filling-pass : CalleeGrows (C .meant) → (Q : List ℕ) {σ : Store} {i : ℕ} {w : ℤ} {v : Value} {s : State}
-        {m : Meter} → tree-adds t ≤ j → C .need ≤ n → (finish : ℤ → ℤ → Machine.Work ℤ) (meant-finish : Value → Value) →
+        {m : Meter} → tree-adds t ≤ j → C .need ≤ n → (finish : ℤ → ℤ → Machine.Work ℤ)
+        (meant-finish : Value → Meaning.Work Value) → ((y : Value) → Grows (meant-finish y)) →
         i < length (items (value δ a)) → Carried Q σ i w s v m →
         ((τ : Store) (r : ℤ) (s′ : State) (y : Value) (m′ : Meter) → Between Q σ i w v τ →
         Item τ (C .depths p) (word ρ a) (value δ a) i →
         Ended C (atom-depth (C .depths) (ending t)) τ (cell-of w ∷ Z) others inside ρ δ n r s′ y m′ →
         Agree (C .start) (Carried Q σ (suc i)) (finish (getD (words-of τ (word ρ a)) i (pos 0)) r s′)
-        (done (meant-finish y) m′)) →
+        (meant-finish y m′)) →
         Agree (C .start) (Carried Q σ (suc i))
         ((do
           Machine.step
@@ -106,13 +107,13 @@ module _ (C : Setting) {x : ℕ} {k : Loop} {ps : List ℕ} {us : List Atom} {t 
         ((do
           Meaning.step false
           r ← run (C .meant) t (updated δ p (getD (items (value δ a)) i (num (pos 0))))
-          give (meant-finish r)) m)
-    filling-pass grows Q {σ} {i} {w} {v} enough need finish meant-finish within q next =
+          meant-finish r) m)
+    filling-pass grows Q {σ} {i} {w} {v} enough need finish meant-finish finishes within q next =
         pass-begins C grows p (f .claim) tree-rules (fresh p (f .new) (site-names C (f .site))) (cell-of w ∷ Z) others Q
         ρ δ n need (word ρ a) (value δ a) (Between Q σ i w v)
         (λ τ P′. situation-less (tree-adds t + n) (P′ .situation) (omega (arith, enough)))
         (λ τ P′. lent-array C a B start-holds (P′ .situation .numbers) (P′ .situation .lent) (f .site .array))
-        finish meant-finish within (q .0) (q .1) next
+        finish meant-finish finishes within (q .0) (q .1) next
 
     -- what the tree gave is put behind the elements
     pub put-behind : {Q : List ℕ} {σ τ : Store} {i : ℕ} {w r : ℤ} {v y : Value} {s : State} {m : Meter} →

@@ -1,4 +1,5 @@
--- The line of a filter: its cell is reserved, and each element that is kept is retained and put there.
+-- The line of a filter: its cell is reserved, and each element whose guard is 1 is retained and put there; both runs
+-- stop at a guard that is neither 1 nor 0.
 use Prim.Native.Nat.{ℕ, suc, _+_, _<_, _≤_, pred}
 use native.Mathlib.Omega.{arith}
 use mathlib.Core.Bool.{Bool, true, false, cond}
@@ -7,8 +8,8 @@ use mathlib.Core.List.{List, [], _∷_, _++_}
 use lib.IntN.{ℤ, pos}
 use lib.ListN.{length, getD}
 use Rattle.semantics.specs.Basics.{_∈_}
-use Rattle.semantics.specs.Number.{is-zero}
-use Rattle.semantics.specs.Outcome.{done, onward, _>>=_, _>>_, give}
+use Rattle.semantics.specs.Number.{is-zero, is-answer}
+use Rattle.semantics.specs.Outcome.{done, onward, _>>=_, _>>_, give, require}
 use Rattle.semantics.specs.Value.{Value, num, items, number-in}
 use Rattle.semantics.specs.Kinds.{filtering}
 use Rattle.semantics.specs.Code.{Atom, loop, Tree, ending}
@@ -31,8 +32,8 @@ use Rattle.soundness.specs.store.Cells.{agree-elements}
 use Rattle.soundness.specs.store.Change.{held-used}
 use Rattle.soundness.specs.store.Kept.{alike-trans, stands-kept}
 use Rattle.soundness.specs.machine.Discipline.{less}
-use Rattle.soundness.specs.machine.Growth.{pass-grows, tree-grows}
-use Rattle.soundness.specs.machine.Agreement.{Agree, both}
+use Rattle.soundness.specs.machine.Growth.{give-grows, require-grows, bind-grows, pass-grows, tree-grows}
+use Rattle.soundness.specs.machine.Agreement.{Agree, both, after-test}
 use Rattle.soundness.specs.machine.Frames.{hold, Room, Setting, Ended}
 use Rattle.soundness.specs.machine.Standing.{named-few, stands-held, atom-read, stands-number}
 use Rattle.soundness.specs.machine.Binding.{ended-depth}
@@ -175,12 +176,16 @@ module _ (C : Setting) {x p : ℕ} {a : Atom} {t : Tree} {B : List ℕ} {T A : S
     unfolding work-pass do-pass
     filter-pass grows need σ i w v s m within q =
         filling-pass C filter-fills Z F ρ δ (suc (tree-adds t)) n grows R (omega arith) need
-        (λ e r. Machine.carried-on filtering d w e r)
-        (λ r. Meaning.carried-on filtering v (getD (items (value δ a)) i (num (pos 0))) r) within q
+        (λ e r. require (is-answer r) 28 >> Machine.carried-on filtering d w e r)
+        (λ r. require (is-answer (number-in r)) 28 >>
+        give (Meaning.carried-on filtering v (getD (items (value δ a)) i (num (pos 0))) r))
+        (λ r. bind-grows (require-grows (is-answer (number-in r)) 28) (λ _. give-grows _)) within q
         (λ τ r s′ y m′ between item E.
         let E′ = ended-depth C (fits .0) E in
         rw (ap number-in (sym (stands-number refl (E′ .answered .stands))))
-        (chosen between within E′ (item .few) (is-zero r)))
+        (after-test 28 _ _ (is-answer r) (is-answer r) refl
+        (record { low = omega arith; high = omega arith; other = λ h. omega arith }) (E′ .answered .together)
+        (λ answer. chosen between within E′ (item .few) (is-zero r))))
 
 module _ (C : Setting) (grows : CalleeGrows (C .meant)) where
   filter-line : (x p : ℕ) (a : Atom) (t : Tree) → TreeClaim C t → LineClaim C (loop x filtering (p ∷ []) (a ∷ []) t)

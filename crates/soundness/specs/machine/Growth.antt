@@ -73,7 +73,8 @@ passes-grow f grows b (a ∷ l) = bind-grows (grows b a) (λ c. passes-grow f gr
 pub pass-grows : (k : Loop) (body : List Value → Run Meter Value) → ((vs : List Value) → Grows (body vs)) →
     (c v : Value) → Grows (do-pass k body c v)
 unfolding do-pass
-pass-grows k body grows c v = bind-grows (step-grows false) (λ _. bind-grows (grows _) (λ r. give-grows _))
+pass-grows k body grows c v = bind-grows (step-grows false)
+    (λ _. bind-grows (grows _) (λ r. bind-grows (require-grows _ 28) (λ _. give-grows _)))
 
 pub tree-grows : (callee : Callee) → CalleeGrows callee → (t : Tree) (δ : Env) → Grows (run callee t δ)
 tree-grows callee grows t δ = grown (run-grows callee grows t δ)

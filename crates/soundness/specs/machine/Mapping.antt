@@ -1,11 +1,12 @@
 -- The line of a map: its cell is reserved, its passes fill it.
 use Prim.Native.Nat.{ℕ, suc, _+_, _<_, _≤_, pred}
 use native.Mathlib.Omega.{arith}
+use mathlib.Core.Bool.{true}
 use mathlib.Core.Path.{_≡_, refl, sym, ap, _∙_, subst}
 use mathlib.Core.List.{List, [], _∷_}
 use lib.IntN.{ℤ, pos}
 use lib.ListN.{length, getD}
-use Rattle.semantics.specs.Outcome.{onward}
+use Rattle.semantics.specs.Outcome.{onward, _>>=_, _>>_, give, require}
 use Rattle.semantics.specs.Value.{Value, num, items}
 use Rattle.semantics.specs.Kinds.{mapping}
 use Rattle.semantics.specs.Code.{Atom, loop, Tree, ending}
@@ -18,7 +19,7 @@ use Rattle.semantics.specs.Machine as Machine
 use Rattle.semantics.specs.Store.{Store, cell-of}
 use Rattle.soundness.specs.normal.Plain.{value, run, run-line}
 use Rattle.soundness.specs.normal.Trace.{CalleeGrows}
-use Rattle.soundness.specs.machine.Growth.{pass-grows, tree-grows}
+use Rattle.soundness.specs.machine.Growth.{give-grows, require-grows, bind-grows, pass-grows, tree-grows}
 use Rattle.soundness.specs.machine.Agreement.{Agree, both}
 use Rattle.soundness.specs.machine.Frames.{Setting}
 use Rattle.soundness.specs.machine.Binding.{ended-depth}
@@ -63,10 +64,11 @@ module _ (C : Setting) {x p : ℕ} {a : Atom} {t : Tree} {B : List ℕ} {T A : S
       (binding (p ∷ []) vs ρ)) (word ρ a) w i s)
       (do-pass mapping (λ vs. run (C .meant) t (Meaning.binding (p ∷ []) vs δ)) v
       (getD (items (value δ a)) i (num (pos 0))) m)
-  unfolding work-pass do-pass append-word onward
+  unfolding work-pass do-pass append-word onward require
   map-pass grows Z F R ρ δ n need σ i w v s m within q =
       filling-pass C map-fills Z F ρ δ (tree-adds t) n grows R (omega arith) need
-      (λ e r. Machine.carried-on mapping d w e r) (λ r. with-item v r) within q
+      (λ e r. require true 28 >> Machine.carried-on mapping d w e r) (λ r. require true 28 >> give (with-item v r))
+      (λ r. bind-grows (require-grows true 28) (λ _. give-grows (with-item v r))) within q
       (λ τ r s′ y m′ between item E.
       both (put-behind C map-fills Z F ρ δ (tree-adds t) n between (item .few) (ended-depth C given-depth E)))
 

@@ -7,7 +7,7 @@ use mathlib.Core.List.{List, [], _∷_, _++_, append-nil}
 use lib.IntN.{ℤ, pos}
 use lib.ListN.{length, getD}
 use Rattle.semantics.specs.Basics.{occurrences, _∈_, updated}
-use Rattle.semantics.specs.Outcome.{onward, passes}
+use Rattle.semantics.specs.Outcome.{onward, _>>=_, _>>_, give, require, passes}
 use Rattle.semantics.specs.Value.{Value, num, items}
 use Rattle.semantics.specs.Kinds.{reducing}
 use Rattle.semantics.specs.Code.{Atom, loop, Tree, ending}
@@ -30,7 +30,8 @@ use Rattle.soundness.specs.store.Kept.{keeps-self, keeps-fewer}
 use Rattle.soundness.specs.machine.Discipline.{less, holds-after}
 use Rattle.soundness.specs.machine.Spending.{spend-split, less-in, less-counts}
 use Rattle.soundness.specs.machine.Images.{apart, without-middle}
-use Rattle.soundness.specs.machine.Growth.{Grows, give-grows, bind-grows, passes-grow, pass-grows, tree-grows}
+use Rattle.soundness.specs.machine.Growth.{Grows, give-grows, require-grows, bind-grows, passes-grow, pass-grows}
+use Rattle.soundness.specs.machine.Growth.{tree-grows}
 use Rattle.soundness.specs.machine.Agreement.{Together, Agree, both, agree-assoc, agree-bind}
 use Rattle.soundness.specs.machine.Frames.{hold, Room, Setting, Situation, Lent, Ended, Going, own, given}
 use Rattle.soundness.specs.machine.Standing.{atom-stands, hold-aside, named-few, lent-kept, handed-named}
@@ -208,11 +209,13 @@ module _ (C : Setting) {x q p : ℕ} {b a : Atom} {t : Tree} {B : List ℕ} {T A
         (binding (q ∷ (p ∷ [])) vs ρ)) (word ρ a) w i s)
         (do-pass reducing (λ vs. run (C .meant) t (Meaning.binding (q ∷ (p ∷ [])) vs δ)) v
         (getD (items (value δ a)) i (num (pos 0))) m)
-    unfolding work-pass do-pass
+    unfolding work-pass do-pass onward require
     reduce-pass grows claim need i w v s m within E =
         pass-begins C grows p claim tree-rules new-element Z others (roots ++ []) (updated ρ q w) (updated δ q v) n need
         (word ρ a) (value δ a) (Bound w v) (λ τ B′. B′ .situation) (λ τ B′. B′ .array)
-        (λ e r. Machine.carried-on reducing (pred (C .depths x)) w e r) (λ r. r) within (E .answered .together)
+        (λ e r. require true 28 >> Machine.carried-on reducing (pred (C .depths x)) w e r)
+        (λ r. require true 28 >> give r) (λ r. bind-grows (require-grows true 28) (λ _. give-grows r)) within
+        (E .answered .together)
         (bound E) (λ τ r s′ y m′ B′ item E′. both (given-on B′ E′))
 
     -- ---- after the last pass the array's hold is back

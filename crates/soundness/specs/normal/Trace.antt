@@ -11,12 +11,13 @@ use lib.ListN.{length, getD, length-append}
 use borrow.Author.Tests.{ne-eqb}
 use Rattle.semantics.specs.Basics.{updated, tabulate}
 use Rattle.semantics.specs.Outcome.{Outcome, done, stop, _>>=_, give, require, passes, onward}
-use Rattle.semantics.specs.Number.{fits, exact, inside, is-zero}
+use Rattle.semantics.specs.Number.{fits, exact, inside, is-zero, is-answer}
 use Rattle.semantics.specs.Value.{Value, num, list, items, number-in}
 use Rattle.semantics.specs.Syntax.{Script}
 use Rattle.semantics.specs.Meaning.{Meter, Work, Callee, Env, stepped, step, do-operation, do-call, do-literal}
 use Rattle.semantics.specs.Meaning.{do-index, do-length, is-count, do-iota, do-replicate, do-leaf, do-if, do-pass}
 use Rattle.semantics.specs.Meaning.{do-loop, binding, carried-first, carried-on, argument, looped-over, pass-values}
+use Rattle.semantics.specs.Meaning.{taken-by}
 use Rattle.semantics.specs.Meaning.{meaning, step-wants, meter-of}
 use Rattle.semantics.specs.Kinds.{Leaf, operation, call, literal, index, length-of, iota, replicate, Loop, takes-cell}
 use Rattle.semantics.specs.Code.{Line, leaf, if-else, loop, retain, release, Tree, end, line}
@@ -79,9 +80,12 @@ unfolding passes
 grows-passes f each [] b = grows-give b
 grows-passes f each (a ∷ l) b = grows-then (f b a) (λ c. passes f c l) (each b a) (λ c. grows-passes f each l c)
 
--- an answer that has a condition
+-- what has a condition, and an answer that has one
+grows-after : {A : Type 0} (t : Bool) (n : ℕ) (work : Work A) → Grows work → Grows (require t n >>= λ _. work)
+grows-after t n work h = grows-then (require t n) (λ _. work) (grows-require t n) (λ _. h)
+
 grows-required : (t : Bool) (n : ℕ) (v : Value) → Grows (require t n >>= λ _. give v)
-grows-required t n v = grows-then (require t n) (λ _. give v) (grows-require t n) (λ _. grows-give v)
+grows-required t n v = grows-after t n (give v) (grows-give v)
 
 -- a step, and what follows it
 grows-stepping : {A : Type 0} (wants : Bool) (work : Work A) → Grows work → Grows (step wants >>= λ _. work)
@@ -95,8 +99,8 @@ grows-counted n v = grows-stepping (is-count n) _ (grows-required (is-count n) 2
 
 grows-if : (g : Value) (t e : Work Value) → Grows t → Grows e → Grows (do-if g t e)
 unfolding do-if
-grows-if g t e h k = grows-stepping false (cond (is-zero (number-in g)) e t)
-    (elim (is-zero (number-in g)) as (λ b. Grows (cond b e t)) [ true ↦ k | false ↦ h ])
+grows-if g t e h k = grows-stepping false _ (grows-after (is-answer (number-in g)) 28 (cond (is-zero (number-in g)) e t)
+    (elim (is-zero (number-in g)) as (λ b. Grows (cond b e t)) [ true ↦ k | false ↦ h ]))
 
 grows-loop : (k : Loop) (vs : List Value) (body : List Value → Work Value) → ((ws : List Value) → Grows (body ws)) →
     Grows (do-loop k vs body)
@@ -107,7 +111,7 @@ grows-loop k vs body h =
     pass : (c w : Value) → Grows (do-pass k body c w)
     pass c w =
         grows-stepping false _ (grows-then (body (pass-values k c w)) _ (h (pass-values k c w))
-        (λ r. grows-give (carried-on k c w r)))
+        (λ r. grows-required (taken-by k r) 28 (carried-on k c w r)))
 
 grows-leaf : (callee : Callee) → CalleeGrows callee → (l : Leaf) (vs : List Value) → Grows (do-leaf callee l vs)
 unfolding do-leaf do-operation do-call do-literal do-index do-length do-iota do-replicate

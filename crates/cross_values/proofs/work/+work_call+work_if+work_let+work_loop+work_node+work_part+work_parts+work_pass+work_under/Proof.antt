@@ -40,6 +40,8 @@ use Rattle.cross_values.proofs.kinds.low.Reads as low-reads
 use Rattle.cross_values.proofs.leaves.work_leaf.Reads as work-leaf-reads
 use Rattle.cross_values.proofs.loops.array_of.Reads as array-of-reads
 use Rattle.cross_values.proofs.loops.begin.Reads as begin-reads
+use Rattle.cross_values.proofs.loops.is_answer.Reads as is-answer-reads
+use Rattle.cross_values.proofs.loops.is_told.Reads as is-told-reads
 use Rattle.cross_values.proofs.loops.keep.Reads as keep-reads
 use Rattle.cross_values.proofs.loops.push_result.Reads as push-result-reads
 use Rattle.cross_values.proofs.loops.value_of.Reads as value-of-reads
@@ -202,6 +204,8 @@ pub +work-call+work-if+work-let+work-loop+work-node+work-part+work-parts+work-pa
     (λ t. work-if-lts.spec (
       step-reads.Asked,
       step-reads.Learnt,
+      is-answer-reads.Asked,
+      is-answer-reads.Learnt,
       branch-at-reads.Asked,
       branch-at-reads.Learnt,
       work-part-below t,
@@ -209,7 +213,8 @@ pub +work-call+work-if+work-let+work-loop+work-node+work-part+work-parts+work-pa
     )
     (work-if-at t)
     work-if.Post
-    (λ c κs. search needs) (λ c. search needs) (λ c κs. search needs) (λ c κs. search needs) (λ c. search needs))
+    (λ c κs. search needs) (λ c. search needs) (λ c κs. search needs) (λ c. search needs) (λ c κs. search needs)
+    (λ c κs. search needs) (λ c. search needs))
     (λ t. work-let-lts.spec (
       pop-reads.Asked,
       pop-reads.Learnt,
@@ -236,6 +241,8 @@ pub +work-call+work-if+work-let+work-loop+work-node+work-part+work-parts+work-pa
       holds-arrays-reads.Learnt,
       work-pass-below t,
       work-pass.Post,
+      is-told-reads.Asked,
+      is-told-reads.Learnt,
       keep-reads.Asked,
       keep-reads.Learnt,
       push-result-reads.Asked,
@@ -250,8 +257,8 @@ pub +work-call+work-if+work-let+work-loop+work-node+work-part+work-parts+work-pa
     (λ c κs. search needs) (λ c κs. search needs) (λ c. search needs) (λ c κs. search needs) (λ c. search needs)
     (λ c κs. search needs) (λ c κs. search needs) (λ c. search needs) (λ c. search needs) (λ c κs. search needs)
     (λ c κs. search needs) (λ c. search needs) (λ c κs. search needs) (λ c. search needs) (λ c κs. search needs)
-    (λ c κs. search needs) (λ c. search needs) (λ c. search needs) (λ c. search needs) (λ c. search needs)
-    (λ c. search needs) (λ c κs. search needs) (λ c. search needs))
+    (λ c. search needs) (λ c κs. search needs) (λ c κs. search needs) (λ c. search needs) (λ c. search needs)
+    (λ c. search needs) (λ c. search needs) (λ c. search needs) (λ c κs. search needs) (λ c. search needs))
     (λ t. work-node-lts.spec (
       kind-at-reads.Asked,
       kind-at-reads.Learnt,

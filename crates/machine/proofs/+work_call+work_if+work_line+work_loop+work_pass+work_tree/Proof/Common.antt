@@ -26,9 +26,10 @@ use Rattle.machine_code.proofs.start_in.Reads as start-in-reads
 use Rattle.machine_code.proofs.two_rows.Reads as two-rows-reads
 use Rattle.machine_lines.proofs.bind.Reads as bind-reads
 use Rattle.machine_lines.proofs.bind_result.Reads as bind-result-reads
-use Rattle.machine_lines.proofs.branch_end.Reads as branch-end-reads
-use Rattle.machine_lines.proofs.branch_start.Reads as branch-start-reads
 use Rattle.machine_lines.proofs.done.Reads as done-reads
+use Rattle.machine_lines.proofs.guards.branch_end.Reads as branch-end-reads
+use Rattle.machine_lines.proofs.guards.branch_start.Reads as branch-start-reads
+use Rattle.machine_lines.proofs.guards.is_answer.Reads as is-answer-reads
 use Rattle.machine_lines.proofs.halted.Reads as halted-reads
 use Rattle.machine_lines.proofs.pass_arguments.Reads as pass-arguments-reads
 use Rattle.machine_lines.proofs.set_function.Reads as set-function-reads
@@ -37,6 +38,7 @@ use Rattle.machine_lines.proofs.work_leaf.Reads as work-leaf-reads
 use Rattle.machine_loops.proofs.begin_loop.Reads as begin-loop-reads
 use Rattle.machine_loops.proofs.begin_pass.Reads as begin-pass-reads
 use Rattle.machine_loops.proofs.end_pass.Reads as end-pass-reads
+use Rattle.machine_loops.proofs.is_taken.Reads as is-taken-reads
 use Rattle.machine_loops.proofs.rows_before.Reads as rows-before-reads
 
 abbrev pub μ-work-call : Measures 8 work-call-kinds.ps ℕ
@@ -122,6 +124,8 @@ work-if-claims t = (
   halted-reads.Learnt,
   word-of-reads.Asked,
   word-of-reads.Learnt,
+  is-answer-reads.Asked,
+  is-answer-reads.Learnt,
   branch-start-reads.Asked,
   branch-start-reads.Learnt,
   work-tree-below t,
@@ -170,6 +174,8 @@ work-pass-claims t = (
   begin-pass-reads.Learnt,
   work-tree-below t,
   work-tree.Post,
+  is-taken-reads.Asked,
+  is-taken-reads.Learnt,
   end-pass-reads.Asked,
   end-pass-reads.Learnt,
   done-reads.Asked,

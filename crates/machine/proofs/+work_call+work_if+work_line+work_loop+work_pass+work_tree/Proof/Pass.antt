@@ -7,14 +7,16 @@ use lib.ListN.{length, getD}
 use mir.Syntax.{w64}
 use mir.Facts.{toZ-ofZ}
 use mir.Val.{SFits, toZ}
+use borrow.Author.Tests.{not-true, not-false}
 use Rattle.semantics.specs.Store.{cell-of}
 use Rattle.semantics.specs.Words.{store-of}
 use Rattle.machine_lines.specs.Frames.{place}
 use Rattle.machine_lines.specs.Lines.{memory}
+use Rattle.machine_loops.specs.Loops.{is-taken}
 use Rattle.machine_loops.proofs.Beginning.{within-kept, result-kept}
 use Rattle.machine_positions.specs.Machine.{code, looped, tree-on, call-on}
-use Rattle.machine_positions.specs.Parts.{Passing, passing-starts, pass-dry, pass-end, pass-stops, pass-goes}
-use Rattle.machine_positions.specs.Parts.{Stays, stays-first, stays-on, carries-on}
+use Rattle.machine_positions.specs.Parts.{Passing, passing-starts, pass-dry, pass-end, pass-stops, pass-doubts}
+use Rattle.machine_positions.specs.Parts.{pass-goes, Stays, stays-first, stays-on, carries-on}
 use Rattle.machine_positions.specs.Lengths.{entered-keeps, tree-long}
 use Rattle.machine.proofs.work_pass.Reads as work-pass
 use Rattle.machine.proofs.+work_call+work_if+work_line+work_loop+work_pass+work_tree.Lts-work_pass as work-pass-lts
@@ -143,10 +145,57 @@ worked-long t c =
     (memory (store-of (o .slots) (o .heads)) (at-begin-pass .begin-pass .last .1 .1 .0)) (c .work-tree .ensures)
     ∙ entered-long t at-begin-pass
 
+-- where what the tree gave was looked at
+abbrev Judged : ℕ → Type 0
+Judged t = work-pass-lts.After-is-taken (work-pass-claims t) (work-pass-at t) work-pass.Post work-pass-Inv-loop
+    work-pass-μ-loop
+
+judged : (t : ℕ) (c : Judged t) →
+    let at-work-tree = c .before .before .before .before .before .before in
+    let at-loop = at-work-tree .before .before .before .before .before .before .before .before .before .before in
+    c .is-taken .result
+    ≡ is-taken (at-loop .before .before .before .args .l .way) (at-work-tree .work-tree .result .value)
+judged t c =
+    let at-work-tree = c .before .before .before .before .before .before in
+    rw (toZ-ofZ {z = at-work-tree .work-tree .result .value}
+    (record { sfits = c .before .struct-told2 .given .1 .0 .1 })) at (c .is-taken .ensures)
+
+pub work-pass-same-length-5 : (t : ℕ) → work-pass-lts.Need-same-length-5 (work-pass-claims t) (work-pass-at t)
+    work-pass.Post work-pass-Inv-loop work-pass-μ-loop
+work-pass-same-length-5 t c =
+    let at-work-tree = c .before .before .before .before .before .before .before .before in
+    let at-loop = at-work-tree .before .before .before .before .before .before .before .before .before .before in
+    at-work-tree .work-tree .kept .1 .1 .1 .0 ∙ passing t at-loop .0 .sized .slots-long
+
+pub work-pass-same-length-6 : (t : ℕ) → work-pass-lts.Need-same-length-6 (work-pass-claims t) (work-pass-at t)
+    work-pass.Post work-pass-Inv-loop work-pass-μ-loop
+work-pass-same-length-6 t c =
+    let at-work-tree = c .before .before .before .before .before .before .before .before in
+    let at-loop = at-work-tree .before .before .before .before .before .before .before .before .before .before in
+    at-work-tree .work-tree .kept .1 .1 .1 .1 .0 ∙ passing t at-loop .0 .sized .heads-long
+
+pub work-pass-returns-3 : (t : ℕ) → work-pass-lts.Need-returns-3 (work-pass-claims t) (work-pass-at t) work-pass.Post
+    work-pass-Inv-loop work-pass-μ-loop
+work-pass-returns-3 t c =
+    let at-if3 = c .before in
+    let at-is-taken = at-if3 .before in
+    let at-if2 = at-is-taken .before .before in
+    let at-work-tree = at-if2 .before .before .before .before in
+    let at-begin-pass = at-work-tree .before .before .before .before in
+    let at-if1 = at-begin-pass .before .before .before .before in
+    let at-loop-test = at-if1 .before in
+    let tree = at-work-tree .work-tree in
+    pass-doubts (passing t (at-loop-test .before) .0) (at-loop-test .loop-test .taken) (at-if1 .if1 .left)
+    (at-begin-pass .begin-pass .last .1 .1 .0) (at-begin-pass .begin-pass .ensures) (tree .result)
+    (tree .last .1 .1 .1 .0) (tree .last .1 .1 .1 .1 .0) (tree .last .1 .1 .1 .1 .1 .0) (tree .ensures)
+    (at-if2 .if2 .left)
+    (sym (judged t at-is-taken) ∙ not-true (at-is-taken .is-taken .result) (at-if3 .if3 .taken))
+    (c .halted2 .result) (c .halted2 .ensures)
+
 pub work-pass-end-pass-requires : (t : ℕ) → work-pass-lts.Need-end-pass-requires (work-pass-claims t)
     (work-pass-at t) work-pass.Post work-pass-Inv-loop work-pass-μ-loop
 work-pass-end-pass-requires t c κs =
-    let at-work-tree = c .before .before .before .before .before .before .before .before in
+    let at-work-tree = c .before .before .before .before .before .before .before .before .before .before .before in
     let at-loop = at-work-tree .before .before .before .before .before .before .before .before .before .before in
     let start = at-loop .before .before .before in
     let a = start .args in
@@ -163,7 +212,8 @@ pub work-pass-add-i : (t : ℕ) → work-pass-lts.Need-add-i (work-pass-claims t
     work-pass-Inv-loop work-pass-μ-loop
 work-pass-add-i t c =
     let at-end-pass = c .before .before .before in
-    let at-work-tree = at-end-pass .before .before .before .before .before .before .before .before .before in
+    let at-is-taken = at-end-pass .before .before .before .before .before .before in
+    let at-work-tree = at-is-taken .before .before .before .before .before .before in
     let at-loop-test = at-work-tree .before .before .before .before .before .before .before .before .before in
     record {
       fits = omega (
@@ -173,12 +223,23 @@ work-pass-add-i t c =
       );
     }
 
+pub work-pass-loop-less : (t : ℕ) → work-pass-lts.Need-loop-less (work-pass-claims t) (work-pass-at t) work-pass.Post
+    work-pass-Inv-loop work-pass-μ-loop
+work-pass-loop-less t c =
+    let at-end-pass = c .before .before .before in
+    let at-is-taken = at-end-pass .before .before .before .before .before .before in
+    let at-work-tree = at-is-taken .before .before .before .before .before .before in
+    let at-loop-test = at-work-tree .before .before .before .before .before .before .before .before .before in
+    omega (arith, at-loop-test .loop-test .taken)
+
 pub work-pass-loop-again : (t : ℕ) → work-pass-lts.Need-loop-again (work-pass-claims t) (work-pass-at t)
     work-pass.Post work-pass-Inv-loop work-pass-μ-loop
 work-pass-loop-again t c =
     let at-end-pass = c .before .before .before in
     let at-struct-told = at-end-pass .before in
-    let at-if2 = at-struct-told .before .before .before .before in
+    let at-if3 = at-struct-told .before .before .before .before in
+    let at-is-taken = at-if3 .before in
+    let at-if2 = at-is-taken .before .before in
     let at-work-tree = at-if2 .before .before .before .before in
     let at-begin-pass = at-work-tree .before .before .before .before in
     let at-if1 = at-begin-pass .before .before .before .before in
@@ -191,7 +252,7 @@ work-pass-loop-again t c =
     let begin = at-begin-pass .begin-pass in
     let tree = at-work-tree .work-tree in
     let value-fits : SFits w64 (tree .result .value) =
-    record { sfits = at-struct-told .struct-told2 .given .1 .0 .1 } in
+    record { sfits = at-struct-told .struct-told3 .given .1 .0 .1 } in
     let ended = at-end-pass .end-pass in
     let says = rw (toZ-ofZ {z = tree .result .value} value-fits) at (ended .ensures) in
     rw (
@@ -206,7 +267,8 @@ work-pass-loop-again t c =
           (carries-on (a .l .way) (a .l .carried) v
           (getD (tree .last .1 .1 .1 .1 .1 .0) (place (a .calls) (a .l .second)) (pos 0)) (passing t at-loop .1)
           (tree .result) (store-of (tree .last .1 .1 .1 .0) (tree .last .1 .1 .1 .1 .0))
-          (store-of (ended .last .0) (ended .last .1 .0)) (tree .last .1 .1 .1 .1 .1 .0) (ended .result) (says .0)
+          (store-of (ended .last .0) (ended .last .1 .0)) (tree .last .1 .1 .1 .1 .1 .0) (ended .result)
+          (sym (judged t at-is-taken) ∙ not-false (at-is-taken .is-taken .result) (at-if3 .if3 .left)) (says .0)
           (says .1))
           (record {
             slots-long = ended .kept .0 ∙ tree .kept .1 .1 .1 .0;
@@ -217,8 +279,8 @@ work-pass-loop-again t c =
       stays-on (a .l .way) (a .l .carried) v (tree .result .value) (ended .result) (passing t at-loop .1) (says .0),
     )
 
-pub work-pass-returns-3 : (t : ℕ) → work-pass-lts.Need-returns-3 (work-pass-claims t) (work-pass-at t) work-pass.Post
+pub work-pass-returns-4 : (t : ℕ) → work-pass-lts.Need-returns-4 (work-pass-claims t) (work-pass-at t) work-pass.Post
     work-pass-Inv-loop work-pass-μ-loop
-work-pass-returns-3 t c =
+work-pass-returns-4 t c =
     let at-loop = c .before .before in
     pass-end (passing t at-loop .0) (omega arith) (c .done .result) (c .done .ensures)

@@ -1,8 +1,8 @@
--- `machine_lines::branch_start` meets its contract.
+-- `machine_lines::guards::branch_start` meets its contract.
 use Rattle.machine_lines.proofs.Gathering.{guard-zero, guard-not}
 use borrow.Author.Needs.{needs}
-use Rattle.machine_lines.proofs.branch_start.Statement.{statement}
-use Rattle.machine_lines.proofs.branch_start.Tie as tie
+use Rattle.machine_lines.proofs.guards.branch_start.Statement.{statement}
+use Rattle.machine_lines.proofs.guards.branch_start.Tie as tie
 
 returns : tie.Need-returns
 returns c = rw (guard-zero (c .before .before .before .args .guard) (c .before .before .before .fits .guard .sfits)

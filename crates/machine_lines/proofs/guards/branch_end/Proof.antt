@@ -1,8 +1,8 @@
--- `machine_lines::branch_end` meets its contract.
+-- `machine_lines::guards::branch_end` meets its contract.
 use Rattle.machine_lines.proofs.Gathering.{guard-zero, guard-not}
 use borrow.Author.Needs.{needs}
-use Rattle.machine_lines.proofs.branch_end.Statement.{statement}
-use Rattle.machine_lines.proofs.branch_end.Tie as tie
+use Rattle.machine_lines.proofs.guards.branch_end.Statement.{statement}
+use Rattle.machine_lines.proofs.guards.branch_end.Tie as tie
 
 returns : tie.Need-returns
 returns c = rw (guard-zero (c .before .before .args .guard) (c .before .before .fits .guard .sfits) (c .if1 .taken))
