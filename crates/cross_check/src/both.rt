@@ -196,7 +196,7 @@ pub fn deliver_both(
     cross_ledger::number_of(answer)
 }
 
-// Works a delivery in both, and one that stops with 22 to 26 after some steps once more with a step less: that is 21,
+// Works a delivery in both, and one that stops with 22 to 28 after some steps once more with a step less: that is 21,
 // which comes before them. The number of the first answer.
 pub fn deliver_twice(
     file: &[u8; FILE_BYTES],
@@ -208,7 +208,7 @@ pub fn deliver_twice(
 ) -> u64 {
     let number = deliver_both(file, slots, heads, ledger, readings, given);
     let steps = ledger[memory::TAKEN];
-    if number < stops::CALL_TOO_DEEP || stops::BAD_COUNT < number {
+    if number < stops::CALL_TOO_DEEP || stops::BAD_GUARD < number {
         return number;
     }
     if steps == 0 {

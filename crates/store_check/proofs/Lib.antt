@@ -1,6 +1,6 @@
 pub mod Ranges
 pub mod Tallying
-pub mod CellTests
+pub mod Gathering
 pub mod FreeList
-pub mod Places
+pub mod Comparing
 pub mod Whole

@@ -54,3 +54,15 @@ module _ {f : ℕ → Bool} {n m i : ℕ} (t : Testing f 0 n i) (e : n ≡ m) wh
 
   pub all-hold : n ≤ i → true ≡ all f 0 m
   all-hold h = from-zero f n m e (testing-all t h)
+
+-- two tests of one range
+pub all-both : (f g : ℕ → Bool) (i n : ℕ) → all (λ c. f c && g c) i n ≡ all f i n && all g i n
+unfolding all
+all-both f g i zero = refl
+all-both f g i (suc n) = rw (all-both f g (suc i) n) (go (f i) (g i) (all f (suc i) n) (all g (suc i) n))
+  where
+    go : (a b p q : Bool) → (a && b) && (p && q) ≡ (a && p) && (b && q)
+    go true true p q = refl
+    go true false true q = refl
+    go true false false q = refl
+    go false b p q = refl

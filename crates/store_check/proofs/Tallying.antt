@@ -10,7 +10,7 @@ use Rattle.semantics.specs.Basics.{each, occurrences}
 use Rattle.semantics.specs.Store.{one-more}
 use Rattle.laws.specs.Counts.{occurs-here, occurs-after}
 use Rattle.store_words.proofs.Counting.{most, more-small, more-full}
-use Rattle.store_check.specs.Tallies.{tally-one, tally}
+use Rattle.store_check.specs.Holders.{tally-one, tally}
 
 -- ---- one count written
 

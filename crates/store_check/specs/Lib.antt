@@ -1,1 +1,3 @@
-pub mod Tallies
+pub mod Holders
+pub mod Fitting
+pub mod Rows

@@ -1,12 +1,12 @@
 -- `store_check::follow_list` meets its contract.
 use mathlib.Core.Path.{_≡_, refl, _∙_}
-use Prim.Native.Nat.{_+_, _*_, _≤_}
+use Prim.Native.Nat.{_≤_}
 use native.Mathlib.Omega.{arith}
 use lib.ListN.{length, getD}
 use borrow.Author.Needs.{needs}
 use Rattle.semantics.specs.Words.{store-of}
-use Rattle.store_check.proofs.FreeList.{Following, following-none, following-more}
-use Rattle.store_check.proofs.FreeList.{following-spent, following-out}
+use Rattle.store_words.proofs.CellWords.{store-size}
+use Rattle.store_check.proofs.FreeList.{Following, following-more, following-spent, following-out}
 use Rattle.store_check.proofs.follow_list.Statement.{statement}
 use Rattle.store_check.proofs.follow_list.Tie as tie
 
@@ -20,41 +20,32 @@ abbrev μ-loop : tie.MeasureT-loop
 cast-c : tie.Need-cast-c Inv-loop μ-loop
 cast-c c = record { fits = omega (arith, c .shared-slice-known2 .given 0) }
 
-loop-holds : tie.Need-loop-holds Inv-loop μ-loop
-loop-holds c = (refl, omega arith, following-none _ _ _ _)
-
 returns : tie.Need-returns Inv-loop μ-loop
 returns c =
     let turn = c .before .before in
-    rw (turn .before .before .cells .ensures .is) at (following-spent _ _ (turn .loop .inv .2) (c .if1 .taken))
-
-cast-c-2 : tie.Need-cast-c-2 Inv-loop μ-loop
-cast-c-2 c = record {
-  fits =
-      omega (
-        arith,
-        c .shared-slice-known3 .given
-            (4 + 4 * c .before .before .before .before .before .before .before .loop .c),
-      );
-}
+    rw (turn .before .before .cells .ensures .is) at (following-spent (turn .loop .inv .2) (c .if1 .taken))
 
 loop-again : tie.Need-loop-again Inv-loop μ-loop
 loop-again c =
     let turn = c .before .before .before .before .before .before .before in
+    let a = turn .before .before .before .before .before .args in
     let one = c .before .before .before .count-one in (
       one .kept .0 ∙ turn .loop .inv .0,
       omega arith,
-      following-more _ _ (turn .loop .inv .2) (omega arith) (c .before .before .before .before .before .if1 .left)
-          (one .ensures),
+      following-more (turn .loop .inv .2) (omega (arith, store-size (a .slots .now) (a .heads .now)))
+          (c .before .before .before .before .before .if1 .left) (one .ensures) (c .head-of .ensures .next),
     )
 
 returns-2 : tie.Need-returns-2 Inv-loop μ-loop
 returns-2 c =
-    rw (c .before .before .before .cells .ensures .is) at (following-out _ _ (c .before .loop .inv .2) (omega arith))
+    let a = c .before .before .before .before .before .before .args in
+    rw (c .before .before .before .cells .ensures .is) at
+    (following-out (c .before .loop .inv .2) (omega (arith, store-size (a .slots .now) (a .heads .now))))
 
 pub follow-list-spec : {M : Type 1} → statement M
 follow-list-spec =
     tie.close
-    (tie.spec Inv-loop μ-loop (λ c κs. search needs) (λ c. search needs) cast-c loop-holds (λ c. search needs) returns
-    (λ c κs. search needs) (λ c. search needs) (λ c. search needs) (λ c. search needs) (λ c. search needs) cast-c-2
-    (λ c. search needs) (λ c. search needs) loop-again (λ c. search needs) returns-2)
+    (tie.spec Inv-loop μ-loop (λ c κs. search needs) (λ c. search needs) cast-c
+    (λ c. (refl, omega arith, record { ends = refl; meets = refl })) (λ c. search needs) returns
+    (λ c κs. search needs) (λ c κs. search needs) (λ c. search needs) (λ c. search needs) loop-again
+    (λ c. search needs) returns-2)

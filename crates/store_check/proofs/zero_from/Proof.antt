@@ -9,7 +9,7 @@ use Rattle.semantics.specs.Words.{slots-at}
 use Rattle.semantics.specs.Number.{is-zero}
 use Rattle.store_words.proofs.CellWords.{slot-is}
 use Rattle.laws.specs.Numbers.{zero-is, zero-not}
-use Rattle.store_check.proofs.CellTests.{zero-at, zeros-are}
+use Rattle.store_check.proofs.Comparing.{zero-at, zeros-are}
 use Rattle.store_check.proofs.Ranges.{Testing, testing-none, testing-more, testing-fails, testing-all}
 use Rattle.store_check.proofs.zero_from.Statement.{statement}
 use Rattle.store_check.proofs.zero_from.Tie as tie
