@@ -6,6 +6,7 @@ use machine_code::Line;
 use machine_code::Loop;
 use machine_lines::Out;
 use machine_loops::Begun;
+use machine_loops::Next;
 use machine_loops::Passes;
 ghost use mathlib.Core.Path.{_≡_};
 ghost use Prim.Native.Nat.{_<_};
@@ -363,10 +364,10 @@ fn work_pass(
         if stop != 0 {
             return r;
         }
-        if !machine_loops::is_taken(l, r.value) {
+        let next = machine_loops::end_pass(slots, heads, env, calls, l, v, r.value);
+        let Next::Word(u) = next else {
             return machine_lines::halted(machine_lines::BAD_GUARD, r.steps);
-        }
-        let u = machine_loops::end_pass(slots, heads, env, calls, l, v, r.value);
+        };
         v = u;
         let rest = r.steps;
         s = rest;

@@ -6,11 +6,14 @@ use Prim.Native.Nat.{ℕ}
 use lib.IntN.{ℤ}
 use mir.Syntax.{w64}
 use mir.Val.{SFits, ofZ}
+use Rattle.semantics.specs.Number.{is-answer}
 use Rattle.semantics.specs.Store.{Store, cell-of, appended, retained}
 use Rattle.machine_lines.proofs.Gathering.{guard-zero, guard-not}
 use Rattle.machine_loops.specs.declared.Way.{Way}
 use Rattle.machine_loops.specs.declared.Way.the-variants.{Fill, Keep, Hand}
-use Rattle.machine_loops.specs.Loops.{retained-if, kept, carried-word, carried-store, Within, ResultWithin}
+use Rattle.machine_loops.specs.declared.Next.{Next}
+use Rattle.machine_loops.specs.declared.Next.the-variants.{Word, BadGuard}
+use Rattle.machine_loops.specs.Loops.{retained-if, kept, Within, ResultWithin, CarriesOn}
 
 module _ (arrays : Bool) (c : ℕ) (σ : Store) where
   pub retained-asked : arrays ≡ true → retained c σ ≡ retained-if arrays c σ
@@ -30,21 +33,22 @@ module _ (arrays : Bool) (c : ℕ) (w r : ℤ) (σ : Store) (fits : SFits w64 r)
 -- ---- the ways that a pass ends
 
 module _ (way : Way) (into : ℕ) (carried : ℤ) (ce : into ≡ cell-of carried) (v w r : ℤ) (σ τ : Store) where
-  abbrev Carried : ℤ → Type 0
-  Carried u = (u ≡ carried-word way v r) × (τ ≡ carried-store way (cell-of carried) w r σ)
+  abbrev Ended : Next → Way → Type 0
+  Ended n y = CarriesOn y (cell-of carried) v w r σ τ n
 
-  pub fills : way ≡ Fill → τ ≡ appended into r σ → Carried v
-  fills e h = subst (λ (y : Way). (v ≡ carried-word y v r) × (τ ≡ carried-store y (cell-of carried) w r σ)) (sym e)
-      (refl, h ∙ ap (λ (c : ℕ). appended c r σ) ce)
+  pub fills : way ≡ Fill → τ ≡ appended into r σ → Ended (Word v) way
+  fills e h = subst (Ended (Word v)) (sym e) (refl, refl, h ∙ ap (λ (c : ℕ). appended c r σ) ce)
 
-  pub keeps-on : (arrays : Bool) → way ≡ Keep arrays → (e : ℤ) → e ≡ w → τ ≡ kept arrays into e r σ → Carried v
-  keeps-on arrays g e we h =
-      subst (λ (y : Way). (v ≡ carried-word y v r) × (τ ≡ carried-store y (cell-of carried) w r σ)) (sym g)
-      (refl, h ∙ ap₂ (λ (c : ℕ) (y : ℤ). kept arrays c y r σ) ce we)
+  module _ (arrays : Bool) (g : way ≡ Keep arrays) where
+    pub keeps-on : is-answer r ≡ true → (e : ℤ) → e ≡ w → τ ≡ kept arrays into e r σ → Ended (Word v) way
+    keeps-on answer e we h = subst (Ended (Word v)) (sym g)
+        (answer, refl, h ∙ ap₂ (λ (c : ℕ) (y : ℤ). kept arrays c y r σ) ce we)
 
-  pub hands : way ≡ Hand → τ ≡ σ → Carried r
-  hands e h = subst (λ (y : Way). (r ≡ carried-word y v r) × (τ ≡ carried-store y (cell-of carried) w r σ)) (sym e)
-      (refl, h)
+    pub doubts : is-answer r ≡ false → τ ≡ σ → Ended BadGuard way
+    doubts none h = subst (Ended BadGuard) (sym g) (none, h)
+
+  pub hands : way ≡ Hand → τ ≡ σ → Ended (Word r) way
+  hands e h = subst (Ended (Word r)) (sym e) (refl, refl, h)
 
 -- the cell of the result is there
 module _ (way : Way) (slots : List ℤ) (heads : List ℕ) (into : ℕ) (carried : ℤ) (ce : into ≡ cell-of carried)

@@ -21,6 +21,8 @@ use Rattle.machine_loops.specs.declared.Way.the-variants.{Fill, Keep, Ha
 use Rattle.machine_loops.specs.declared.Passes.{Passes}
 use Rattle.machine_loops.specs.declared.Begun.{Begun}
 use Rattle.machine_loops.specs.declared.Begun.the-variants as B
+use Rattle.machine_loops.specs.declared.Next.{Next}
+use Rattle.machine_loops.specs.declared.Next.the-variants as N
 use Rattle.machine_loops.specs.declared.First.{First}
 use Rattle.machine_loops.specs.declared.First.the-variants as F
 
@@ -104,6 +106,13 @@ Carries k d ws m slots heads env (F.Word w) =
     × ResultWithin (way-of k d) slots heads (cell-of w)
 Carries k d ws m slots heads env F.NoneFree =
     (s : ℕ) → carry-first k d ws s m ≡ halted 25 s (memory (store-of slots heads) env)
+
+-- The pass over w, into which v was carried and whose tree gave r, carries a word on; or it does not take r, and leaves
+-- the store as it is.
+abbrev pub CarriesOn : Way → ℕ → ℤ → ℤ → ℤ → Store → Store → Next → Type 0
+CarriesOn way c v w r σ τ (N.Word u) =
+    (is-taken way r ≡ true) × (u ≡ carried-word way v r) × (τ ≡ carried-store way c w r σ)
+CarriesOn way c v w r σ τ N.BadGuard = (is-taken way r ≡ false) × (τ ≡ σ)
 
 -- the passes of a loop of kind k with the names p and q, whose atoms have the words ws
 pub record Readied (k : Loop) (p q d : ℕ) (ws : List ℤ) (m : Memory) (slots : List ℤ) (heads : List ℕ) (env : List ℤ)

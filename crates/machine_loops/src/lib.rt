@@ -12,8 +12,8 @@ ghost use Rattle.semantics.specs.Store.{cell, cell-of, elements};
 ghost use Rattle.semantics.specs.Words.{store-of};
 ghost use Rattle.machine_lines.specs.Frames.{place, word-of, element-depth};
 ghost use Rattle.machine_lines.specs.Lines.{memory, kind-of, first-name, second-name, atoms-of};
-ghost use Rattle.machine_loops.specs.Loops.{array-atom, way-of, begun-frames, carried-word, retained-if, kept};
-ghost use Rattle.machine_loops.specs.Loops.{is-taken, carried-store, Within, ResultWithin, Carries, Begins};
+ghost use Rattle.machine_loops.specs.Loops.{array-atom, way-of, begun-frames, retained-if, kept};
+ghost use Rattle.machine_loops.specs.Loops.{Within, ResultWithin, Carries, CarriesOn, Begins};
 
 // What a pass does with the word that its tree gave: a map appends it to the result; a filter appends the element if
 // the word is 1 and not if it is 0, and retains it first where it is an array; a reduce hands it on.
@@ -39,6 +39,12 @@ pub struct Passes {
 pub enum First {
     Word(i64),
     NoneFree,
+}
+
+// What a pass carries on: a word, unless a filter's tree gave another word than 1 and 0.
+pub enum Next {
+    Word(i64),
+    BadGuard,
 }
 
 // How a loop begins: with its passes, unless there is no cell for the result.
@@ -209,20 +215,8 @@ fn keep(slots: &mut [i64], heads: &mut [u32], arrays: bool, c: usize, w: i64, r:
     }
 }
 
-// Whether a pass takes what its tree gave: a filter takes 1 and 0.
-pub fn is_taken(l: Passes, r: i64) -> bool
-    ensures { λ t. ⌜ t ≡ is-taken (l .way) r ⌝ }
-{
-    let way = l.way;
-    match way {
-        Way::Fill => true,
-        Way::Keep(_) => machine_lines::guards::is_answer(r),
-        Way::Hand => true,
-    }
-}
-
-// Ends a pass, into which v was carried and whose tree gave r: what it carries on. A filter reads the element by its
-// name.
+// Ends a pass, into which v was carried and whose tree gave r: what it carries on. A filter takes 1 and 0 alone, and
+// reads the element by its name.
 pub fn end_pass(
     slots: &mut [i64],
     heads: &mut [u32],
@@ -231,25 +225,28 @@ pub fn end_pass(
     l: Passes,
     v: i64,
     r: i64,
-) -> i64
+) -> Next
     requires { ⌜ (calls < 32) × (length (now env) ≡ 8226)
         × ResultWithin (l .way) (now slots) (now heads) (cell-of (l .carried)) ⌝ }
-    ensures { λ u. ⌜ (u ≡ carried-word (l .way) v r) × (store-of (now (slots .exit)) (now (heads .exit))
-        ≡ carried-store (l .way) (cell-of (l .carried)) (getD (now (env .entry)) (place calls (l .second)) (pos 0)) r
-        (store-of (now (slots .entry)) (now (heads .entry)))) ⌝ }
+    ensures { λ u. ⌜ CarriesOn (l .way) (cell-of (l .carried)) v
+        (getD (now (env .entry)) (place calls (l .second)) (pos 0)) r
+        (store-of (now (slots .entry)) (now (heads .entry))) (store-of (now (slots .exit)) (now (heads .exit))) u ⌝ }
 {
     let into = store_words::named_cell(l.carried);
     let way = l.way;
     match way {
         Way::Fill => {
             store::append_within(slots, heads, into, r);
-            v
+            Next::Word(v)
         }
         Way::Keep(arrays) => {
+            if !machine_lines::guards::is_answer(r) {
+                return Next::BadGuard;
+            }
             let w = machine_lines::word_of(env, calls, Atom::Name(l.second));
             keep(slots, heads, arrays, into, w, r);
-            v
+            Next::Word(v)
         }
-        Way::Hand => r,
+        Way::Hand => Next::Word(r),
     }
 }

@@ -142,10 +142,11 @@ module _ {l : Looped} {count steps : ℕ} {v₀ : ℤ} {slots₀ : List ℤ} {he
       pass-stops g =
           part-stops _ steps r sl he en after pass-part (omega (arith, done .fewer, inv .fewer)) g
 
-      pub pass-doubts : r .stop ≡ 0 → is-taken (l .way) (r .value) ≡ false → (q : Out) →
-          q ≡ out 28 (pos 0) 0 (r .steps) → Ended whole steps q sl he en
-      pass-doubts g doubt q e = record {
-        is = ap (λ (y : Out). ran y (memory (store-of sl he) en)) e
+      pub pass-doubts : r .stop ≡ 0 → is-taken (l .way) (r .value) ≡ false → (sl′ : List ℤ) (he′ : List ℕ) →
+          store-of sl′ he′ ≡ store-of sl he → (q : Out) → q ≡ out 28 (pos 0) 0 (r .steps) →
+          Ended whole steps q sl′ he′ en
+      pass-doubts g doubt sl′ he′ se q e = record {
+        is = ap₂ (λ (y : Out) (σ : Store). ran y (memory σ en)) e se
             ∙ sym (pass-part ∙ then-go (ran r (memory (store-of sl he) en)) after g ∙ rw doubt);
         fewer = rw e (omega (arith, done .fewer, inv .fewer));
       }

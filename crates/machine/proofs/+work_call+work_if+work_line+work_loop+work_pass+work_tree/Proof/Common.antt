@@ -38,7 +38,6 @@ use Rattle.machine_lines.proofs.work_leaf.Reads as work-leaf-reads
 use Rattle.machine_loops.proofs.begin_loop.Reads as begin-loop-reads
 use Rattle.machine_loops.proofs.begin_pass.Reads as begin-pass-reads
 use Rattle.machine_loops.proofs.end_pass.Reads as end-pass-reads
-use Rattle.machine_loops.proofs.is_taken.Reads as is-taken-reads
 use Rattle.machine_loops.proofs.rows_before.Reads as rows-before-reads
 
 abbrev pub μ-work-call : Measures 8 work-call-kinds.ps ℕ
@@ -174,8 +173,6 @@ work-pass-claims t = (
   begin-pass-reads.Learnt,
   work-tree-below t,
   work-tree.Post,
-  is-taken-reads.Asked,
-  is-taken-reads.Learnt,
   end-pass-reads.Asked,
   end-pass-reads.Learnt,
   done-reads.Asked,

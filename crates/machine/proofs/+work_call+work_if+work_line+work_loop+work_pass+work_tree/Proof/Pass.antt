@@ -1,5 +1,5 @@
 -- What `work_pass` has to show.
-use mathlib.Core.Path.{_≡_, sym, ap, _∙_}
+use mathlib.Core.Path.{_≡_, sym, ap, subst, _∙_}
 use Prim.Native.Nat.{_-_, ℕ}
 use native.Mathlib.Omega.{arith}
 use lib.IntN.{pos}
@@ -7,12 +7,12 @@ use lib.ListN.{length, getD}
 use mir.Syntax.{w64}
 use mir.Facts.{toZ-ofZ}
 use mir.Val.{SFits, toZ}
-use borrow.Author.Tests.{not-true, not-false}
 use Rattle.semantics.specs.Store.{cell-of}
 use Rattle.semantics.specs.Words.{store-of}
 use Rattle.machine_lines.specs.Frames.{place}
 use Rattle.machine_lines.specs.Lines.{memory}
-use Rattle.machine_loops.specs.Loops.{is-taken}
+use Rattle.machine_loops.specs.declared.Next.{Next}
+use Rattle.machine_loops.specs.Loops.{CarriesOn}
 use Rattle.machine_loops.proofs.Beginning.{within-kept, result-kept}
 use Rattle.machine_positions.specs.Machine.{code, looped, tree-on, call-on}
 use Rattle.machine_positions.specs.Parts.{Passing, passing-starts, pass-dry, pass-end, pass-stops, pass-doubts}
@@ -145,57 +145,10 @@ worked-long t c =
     (memory (store-of (o .slots) (o .heads)) (at-begin-pass .begin-pass .last .1 .1 .0)) (c .work-tree .ensures)
     ∙ entered-long t at-begin-pass
 
--- where what the tree gave was looked at
-abbrev Judged : ℕ → Type 0
-Judged t = work-pass-lts.After-is-taken (work-pass-claims t) (work-pass-at t) work-pass.Post work-pass-Inv-loop
-    work-pass-μ-loop
-
-judged : (t : ℕ) (c : Judged t) →
-    let at-work-tree = c .before .before .before .before .before .before in
-    let at-loop = at-work-tree .before .before .before .before .before .before .before .before .before .before in
-    c .is-taken .result
-    ≡ is-taken (at-loop .before .before .before .args .l .way) (at-work-tree .work-tree .result .value)
-judged t c =
-    let at-work-tree = c .before .before .before .before .before .before in
-    rw (toZ-ofZ {z = at-work-tree .work-tree .result .value}
-    (record { sfits = c .before .struct-told2 .given .1 .0 .1 })) at (c .is-taken .ensures)
-
-pub work-pass-same-length-5 : (t : ℕ) → work-pass-lts.Need-same-length-5 (work-pass-claims t) (work-pass-at t)
-    work-pass.Post work-pass-Inv-loop work-pass-μ-loop
-work-pass-same-length-5 t c =
-    let at-work-tree = c .before .before .before .before .before .before .before .before in
-    let at-loop = at-work-tree .before .before .before .before .before .before .before .before .before .before in
-    at-work-tree .work-tree .kept .1 .1 .1 .0 ∙ passing t at-loop .0 .sized .slots-long
-
-pub work-pass-same-length-6 : (t : ℕ) → work-pass-lts.Need-same-length-6 (work-pass-claims t) (work-pass-at t)
-    work-pass.Post work-pass-Inv-loop work-pass-μ-loop
-work-pass-same-length-6 t c =
-    let at-work-tree = c .before .before .before .before .before .before .before .before in
-    let at-loop = at-work-tree .before .before .before .before .before .before .before .before .before .before in
-    at-work-tree .work-tree .kept .1 .1 .1 .1 .0 ∙ passing t at-loop .0 .sized .heads-long
-
-pub work-pass-returns-3 : (t : ℕ) → work-pass-lts.Need-returns-3 (work-pass-claims t) (work-pass-at t) work-pass.Post
-    work-pass-Inv-loop work-pass-μ-loop
-work-pass-returns-3 t c =
-    let at-if3 = c .before in
-    let at-is-taken = at-if3 .before in
-    let at-if2 = at-is-taken .before .before in
-    let at-work-tree = at-if2 .before .before .before .before in
-    let at-begin-pass = at-work-tree .before .before .before .before in
-    let at-if1 = at-begin-pass .before .before .before .before in
-    let at-loop-test = at-if1 .before in
-    let tree = at-work-tree .work-tree in
-    pass-doubts (passing t (at-loop-test .before) .0) (at-loop-test .loop-test .taken) (at-if1 .if1 .left)
-    (at-begin-pass .begin-pass .last .1 .1 .0) (at-begin-pass .begin-pass .ensures) (tree .result)
-    (tree .last .1 .1 .1 .0) (tree .last .1 .1 .1 .1 .0) (tree .last .1 .1 .1 .1 .1 .0) (tree .ensures)
-    (at-if2 .if2 .left)
-    (sym (judged t at-is-taken) ∙ not-true (at-is-taken .is-taken .result) (at-if3 .if3 .taken))
-    (c .halted2 .result) (c .halted2 .ensures)
-
 pub work-pass-end-pass-requires : (t : ℕ) → work-pass-lts.Need-end-pass-requires (work-pass-claims t)
     (work-pass-at t) work-pass.Post work-pass-Inv-loop work-pass-μ-loop
 work-pass-end-pass-requires t c κs =
-    let at-work-tree = c .before .before .before .before .before .before .before .before .before .before .before in
+    let at-work-tree = c .before .before .before .before .before .before .before .before in
     let at-loop = at-work-tree .before .before .before .before .before .before .before .before .before .before in
     let start = at-loop .before .before .before in
     let a = start .args in
@@ -208,12 +161,69 @@ work-pass-end-pass-requires t c κs =
           (tree .kept .1 .1 .1 .1 .0 ∙ sized .heads-long) (start .pre .1 .3 .result),
     )
 
+-- where a pass was ended
+abbrev PassEnded : ℕ → Type 0
+PassEnded t = work-pass-lts.After-end-pass (work-pass-claims t) (work-pass-at t) work-pass.Post work-pass-Inv-loop
+    work-pass-μ-loop
+
+-- that it carries something on
+abbrev CarriedOn : (t : ℕ) → PassEnded t → Next → Type 0
+CarriedOn t c =
+    let at-work-tree = c .before .before .before .before .before .before .before .before .before in
+    let at-loop = at-work-tree .before .before .before .before .before .before .before .before .before .before in
+    let a = at-loop .before .before .before .args in
+    let tree = at-work-tree .work-tree in
+    CarriesOn (a .l .way) (cell-of (a .l .carried)) (toZ w64 (at-loop .loop .v))
+    (getD (tree .last .1 .1 .1 .1 .1 .0) (place (a .calls) (a .l .second)) (pos 0)) (tree .result .value)
+    (store-of (tree .last .1 .1 .1 .0) (tree .last .1 .1 .1 .1 .0))
+    (store-of (c .end-pass .last .0) (c .end-pass .last .1 .0))
+
+carried-on : (t : ℕ) (c : PassEnded t) → CarriedOn t c (c .end-pass .result)
+carried-on t c =
+    let at-work-tree = c .before .before .before .before .before .before .before .before .before in
+    rw (toZ-ofZ {z = at-work-tree .work-tree .result .value}
+    (record { sfits = c .before .struct-told2 .given .1 .0 .1 })) at (c .end-pass .ensures)
+
+pub work-pass-same-length-5 : (t : ℕ) → work-pass-lts.Need-same-length-5 (work-pass-claims t) (work-pass-at t)
+    work-pass.Post work-pass-Inv-loop work-pass-μ-loop
+work-pass-same-length-5 t c =
+    let at-end-pass = c .before .before .before .before .before .before in
+    let at-work-tree = at-end-pass .before .before .before .before .before .before .before .before .before in
+    let at-loop = at-work-tree .before .before .before .before .before .before .before .before .before .before in
+    at-end-pass .end-pass .kept .0 ∙ at-work-tree .work-tree .kept .1 .1 .1 .0 ∙ passing t at-loop .0 .sized .slots-long
+
+pub work-pass-same-length-6 : (t : ℕ) → work-pass-lts.Need-same-length-6 (work-pass-claims t) (work-pass-at t)
+    work-pass.Post work-pass-Inv-loop work-pass-μ-loop
+work-pass-same-length-6 t c =
+    let at-end-pass = c .before .before .before .before .before .before in
+    let at-work-tree = at-end-pass .before .before .before .before .before .before .before .before .before in
+    let at-loop = at-work-tree .before .before .before .before .before .before .before .before .before .before in
+    at-end-pass .end-pass .kept .1 .0 ∙ at-work-tree .work-tree .kept .1 .1 .1 .1 .0
+    ∙ passing t at-loop .0 .sized .heads-long
+
+pub work-pass-returns-3 : (t : ℕ) → work-pass-lts.Need-returns-3 (work-pass-claims t) (work-pass-at t) work-pass.Post
+    work-pass-Inv-loop work-pass-μ-loop
+work-pass-returns-3 t c =
+    let at-end-pass = c .before .before .before .before .before .before in
+    let at-if2 = at-end-pass .before .before .before .before .before in
+    let at-work-tree = at-if2 .before .before .before .before in
+    let at-begin-pass = at-work-tree .before .before .before .before in
+    let at-if1 = at-begin-pass .before .before .before .before in
+    let at-loop-test = at-if1 .before in
+    let tree = at-work-tree .work-tree in
+    let ended = at-end-pass .end-pass in
+    let doubt = subst (CarriedOn t at-end-pass) (c .before .enum-told .given .1) (carried-on t at-end-pass) in
+    pass-doubts (passing t (at-loop-test .before) .0) (at-loop-test .loop-test .taken) (at-if1 .if1 .left)
+    (at-begin-pass .begin-pass .last .1 .1 .0) (at-begin-pass .begin-pass .ensures) (tree .result)
+    (tree .last .1 .1 .1 .0) (tree .last .1 .1 .1 .1 .0) (tree .last .1 .1 .1 .1 .1 .0) (tree .ensures)
+    (at-if2 .if2 .left) (doubt .0) (ended .last .0) (ended .last .1 .0) (doubt .1) (c .halted2 .result)
+    (c .halted2 .ensures)
+
 pub work-pass-add-i : (t : ℕ) → work-pass-lts.Need-add-i (work-pass-claims t) (work-pass-at t) work-pass.Post
     work-pass-Inv-loop work-pass-μ-loop
 work-pass-add-i t c =
-    let at-end-pass = c .before .before .before in
-    let at-is-taken = at-end-pass .before .before .before .before .before .before in
-    let at-work-tree = at-is-taken .before .before .before .before .before .before in
+    let at-end-pass = c .before .before .before .before .before .before in
+    let at-work-tree = at-end-pass .before .before .before .before .before .before .before .before .before in
     let at-loop-test = at-work-tree .before .before .before .before .before .before .before .before .before in
     record {
       fits = omega (
@@ -226,20 +236,16 @@ work-pass-add-i t c =
 pub work-pass-loop-less : (t : ℕ) → work-pass-lts.Need-loop-less (work-pass-claims t) (work-pass-at t) work-pass.Post
     work-pass-Inv-loop work-pass-μ-loop
 work-pass-loop-less t c =
-    let at-end-pass = c .before .before .before in
-    let at-is-taken = at-end-pass .before .before .before .before .before .before in
-    let at-work-tree = at-is-taken .before .before .before .before .before .before in
+    let at-end-pass = c .before .before .before .before .before .before in
+    let at-work-tree = at-end-pass .before .before .before .before .before .before .before .before .before in
     let at-loop-test = at-work-tree .before .before .before .before .before .before .before .before .before in
     omega (arith, at-loop-test .loop-test .taken)
 
 pub work-pass-loop-again : (t : ℕ) → work-pass-lts.Need-loop-again (work-pass-claims t) (work-pass-at t)
     work-pass.Post work-pass-Inv-loop work-pass-μ-loop
 work-pass-loop-again t c =
-    let at-end-pass = c .before .before .before in
-    let at-struct-told = at-end-pass .before in
-    let at-if3 = at-struct-told .before .before .before .before in
-    let at-is-taken = at-if3 .before in
-    let at-if2 = at-is-taken .before .before in
+    let at-end-pass = c .before .before .before .before .before .before in
+    let at-if2 = at-end-pass .before .before .before .before .before in
     let at-work-tree = at-if2 .before .before .before .before in
     let at-begin-pass = at-work-tree .before .before .before .before in
     let at-if1 = at-begin-pass .before .before .before .before in
@@ -251,32 +257,28 @@ work-pass-loop-again t c =
     let v = toZ w64 (o .v) in
     let begin = at-begin-pass .begin-pass in
     let tree = at-work-tree .work-tree in
-    let value-fits : SFits w64 (tree .result .value) =
-    record { sfits = at-struct-told .struct-told3 .given .1 .0 .1 } in
     let ended = at-end-pass .end-pass in
-    let says = rw (toZ-ofZ {z = tree .result .value} value-fits) at (ended .ensures) in
+    let u = c .before .next .given .0 .0 in
+    let says = subst (CarriedOn t at-end-pass) (c .before .next .given .1) (carried-on t at-end-pass) in
     rw (
       toZ-ofZ {z = a .l .carried} (carried-fits t (at-loop .before)),
-      toZ-ofZ {z = ended .result}
-          (record { sfits = ended .ok }),
+      toZ-ofZ {z = u} (record { sfits = c .known-told .given .0 .1 }),
     ) (
       pass-goes (passing t at-loop .0) (at-loop-test .loop-test .taken) (at-if1 .if1 .left) (begin .last .1 .1 .0)
           (begin .ensures) (tree .result) (tree .last .1 .1 .1 .0) (tree .last .1 .1 .1 .1 .0)
-          (tree .last .1 .1 .1 .1 .1 .0) (tree .ensures) (at-if2 .if2 .left) (ended .result) (ended .last .0)
-          (ended .last .1 .0)
+          (tree .last .1 .1 .1 .1 .1 .0) (tree .ensures) (at-if2 .if2 .left) u (ended .last .0) (ended .last .1 .0)
           (carries-on (a .l .way) (a .l .carried) v
           (getD (tree .last .1 .1 .1 .1 .1 .0) (place (a .calls) (a .l .second)) (pos 0)) (passing t at-loop .1)
           (tree .result) (store-of (tree .last .1 .1 .1 .0) (tree .last .1 .1 .1 .1 .0))
-          (store-of (ended .last .0) (ended .last .1 .0)) (tree .last .1 .1 .1 .1 .1 .0) (ended .result)
-          (sym (judged t at-is-taken) ∙ not-false (at-is-taken .is-taken .result) (at-if3 .if3 .left)) (says .0)
-          (says .1))
+          (store-of (ended .last .0) (ended .last .1 .0)) (tree .last .1 .1 .1 .1 .1 .0) u (says .0) (says .1)
+          (says .2))
           (record {
             slots-long = ended .kept .0 ∙ tree .kept .1 .1 .1 .0;
             heads-long = ended .kept .1 .0 ∙ tree .kept .1 .1 .1 .1 .0;
             env-long = worked-long t at-work-tree
                 ∙ sym (passing t at-loop .0 .sized .env-long ∙ start .pre .1 .1);
           }),
-      stays-on (a .l .way) (a .l .carried) v (tree .result .value) (ended .result) (passing t at-loop .1) (says .0),
+      stays-on (a .l .way) (a .l .carried) v (tree .result .value) u (passing t at-loop .1) (says .1),
     )
 
 pub work-pass-returns-4 : (t : ℕ) → work-pass-lts.Need-returns-4 (work-pass-claims t) (work-pass-at t) work-pass.Post
