@@ -64,7 +64,13 @@ pub fn work_tree(
         );
         let stop = r.stop;
         if stop != 0 {
-            return r;
+            // field by field: a copy of r keeps the bytes between its fields too, in each frame
+            return Out {
+                stop,
+                value: r.value,
+                next: r.next,
+                steps: r.steps,
+            };
         }
         p = r.next;
         s = r.steps;

@@ -113,7 +113,8 @@ work-tree-returns-2 t c =
 pub work-tree-returns-3 : (t : ℕ) → work-tree-lts.Need-returns-3 (work-tree-claims t) (work-tree-at t) work-tree.Post
     work-tree-Inv-loop work-tree-μ-loop
 work-tree-returns-3 t c =
-    let at-work-line = c .before .before .before .before in
+    let at-if2 = c .before in
+    let at-work-line = at-if2 .before .before .before .before in
     let at-match = at-work-line .before .before .before .before in
     let at-line-at = at-match .before in
     let at-if1 = at-line-at .before .before .before in
@@ -123,11 +124,12 @@ work-tree-returns-3 t c =
     let at-loop = at-loop-test .before in
     let worked = at-work-line .work-line in
     let line = at-line-at .line-at in
-    tree-stops (at-loop .loop .inv) (line .result) (at-loop-test .loop-test .taken)
+    rw (toZ-ofZ {z = worked .result .value} (record { sfits = c .struct-told .given .1 .0 .1 }))
+    (tree-stops (at-loop .loop .inv) (line .result) (at-loop-test .loop-test .taken)
     (sym (rows .ensures) ∙ not-false (rows .result) (at-if1 .if1 .left))
     (line .ensures) (not-end (line .result) (at-match .match .keys2)) (worked .result)
     (worked .last .1 .1 .1 .0) (worked .last .1 .1 .1 .1 .0) (worked .last .1 .1 .1 .1 .1 .0) (worked .ensures)
-    (c .if2 .taken)
+    (at-if2 .if2 .taken))
 
 pub work-tree-loop-again : (t : ℕ) → work-tree-lts.Need-loop-again (work-tree-claims t) (work-tree-at t)
     work-tree.Post
