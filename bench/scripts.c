@@ -256,13 +256,6 @@ void level_script(struct script *script)
     finish(&w, script);
 }
 
-static void counting_literal(struct writer *w, int length)
-{
-    literal(w, length, 0);
-    for (int i = 0; i < length; i++)
-        number(w, i);
-}
-
 void map_script(struct script *script)
 {
     struct writer w = main_of(1);
@@ -327,27 +320,5 @@ void reduce_script(struct script *script)
         name(&w, 7);
     }
     name(&w, 6);
-    finish(&w, script);
-}
-
-void call_script(struct script *script)
-{
-    struct writer w = main_of(0);
-    call(&w, 1, 1);
-    first_reading(&w);
-    function(&w, 1, 0);
-    parameter(&w, 0, 0);
-    if_then_else(&w);
-    less(&w);
-    name(&w, 0);
-    number(&w, 2);
-    name(&w, 0);
-    sum(&w);
-    for (int i = 1; i <= 2; i++) {
-        call(&w, 1, 1);
-        difference(&w);
-        name(&w, 0);
-        number(&w, i);
-    }
     finish(&w, script);
 }

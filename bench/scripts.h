@@ -30,6 +30,15 @@ void size_1024_script(struct script *script);
 /* 32 functions, of which main gives its totals and each other its parameter. */
 void small_functions_script(struct script *script);
 
+/* 32 functions, all but main of eight arrays, which each passes to the next, and the last back to the first, each to
+ * the place before its own. In the first script the last function also gives one of them as its result, so that all are
+ * handed over, one after the other; in the second all are only read. */
+void handed_round_script(struct script *script);
+void read_round_script(struct script *script);
+
+/* An array of 16 prices that is passed down five calls 4,096 times, and is read by the fifth. */
+void passed_down_script(struct script *script);
+
 /* 255 ifs, the ones in both parts of the others. */
 void balanced_if_script(struct script *script);
 

@@ -58,6 +58,14 @@ static inline void reduce(struct writer *w, int first, int second)
     node(w, ENGINE_KIND_REDUCE, first + 256 * second);
 }
 
+/* The numbers from 0 on. */
+static inline void counting_literal(struct writer *w, int length)
+{
+    literal(w, length, 0);
+    for (int i = 0; i < length; i++)
+        number(w, i);
+}
+
 /* The first reading, in main with parameters 0 and 1. */
 static inline void first_reading(struct writer *w)
 {

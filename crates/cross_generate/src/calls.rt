@@ -1,23 +1,28 @@
-// Calls. They fall: a function calls those after it, or itself with a number that falls, and at times any.
+// Calls. They fall: a function calls those after it and, if it has a falling number, itself and others that have one,
+// and at times any.
 use super::parts;
 use super::wants;
+use super::wants::NO_NAME;
 use super::wants::Room;
 use cross_draft::Desk;
 use cross_draft::MOST_FUNCTIONS;
 use cross_values::kinds;
 ghost use Prim.Native.Nat.{_<_, _≤_};
 
-// Whether the function that is written may call another: one after it, itself if it has a falling number, and at
-// times any.
+// Whether a function has a falling number.
+fn falls(desk: &Desk, function: u64) -> bool {
+    cross_draft::signature(desk, function, cross_draft::RECURSIVE) == 1
+}
+
+// Whether the function that is written may call another: one after it, any that has a falling number if it has one
+// itself, and at times any.
 fn may_call(desk: &mut Desk, callee: u64) -> bool {
     let function = desk[cross_draft::FUNCTION];
     if function < callee {
         return true;
     }
-    if function == callee {
-        if cross_draft::signature(desk, function, cross_draft::RECURSIVE) == 1 {
-            return true;
-        }
+    if falls(desk, function) && falls(desk, callee) {
+        return true;
     }
     cross_draft::choose(desk, 24) == 0
 }
@@ -58,15 +63,27 @@ fn falling_start(desk: &mut Desk) -> u64 {
     }
 }
 
-// Asks for the falling number of a function: within the function it is its own number less 1.
-fn push_falling(desk: &mut Desk, callee: u64) {
-    if callee == desk[cross_draft::FUNCTION] {
+// Asks for the falling number of a function: within a function that has one it is that number less 1.
+fn push_falling(desk: &mut Desk) {
+    let function = desk[cross_draft::FUNCTION];
+    if falls(desk, function) {
         wants::push_node(desk, kinds::NUMBER, 1);
         wants::push_node(desk, kinds::NAME, wants::name_of(0));
         return wants::push_node(desk, kinds::DIFFERENCE, 0);
     }
     let start = falling_start(desk);
     wants::push_node(desk, kinds::NUMBER, start)
+}
+
+// Asks for an argument: half of them are names that are passed on.
+fn push_argument(desk: &mut Desk, depth: u64, room: Room)
+    requires { ⌜ (0 < room .levels) × (depth ≤ 4) ⌝ }
+{
+    let name = wants::find_name(desk, depth);
+    if name < NO_NAME && cross_draft::choose(desk, 2) == 0 {
+        return wants::push_node(desk, kinds::NAME, name);
+    }
+    wants::push_child(desk, depth, room, false)
 }
 
 // Asks for the arguments of a call.
@@ -76,13 +93,13 @@ fn push_arguments(desk: &mut Desk, callee: u64, count: u64, room: Room)
     let mut left = count;
     while 0 < left {
         left = left - 1;
-        let depth = cross_draft::signature(desk, callee, cross_draft::FIRST_DEPTH + left);
+        let depth = cross_draft::signature(desk, callee, cross_draft::FIRST_DEPTH + left) % 5;
         if left == 0 {
-            if cross_draft::signature(desk, callee, cross_draft::RECURSIVE) == 1 {
-                return push_falling(desk, callee);
+            if falls(desk, callee) {
+                return push_falling(desk);
             }
         }
-        wants::push_child(desk, depth, room, false);
+        push_argument(desk, depth, room);
     }
 }
 

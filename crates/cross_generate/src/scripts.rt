@@ -30,9 +30,22 @@ fn choose_count(desk: &mut Desk) -> u64 {
     cross_draft::choose(desk, 4)
 }
 
+// A depth for a function's signature: half of the time it is that of the function before, which can then pass on what
+// it takes.
+fn choose_depth(desk: &mut Desk, function: u64, column: u64) -> u64
+    ensures { λ r. ⌜ r ≤ 4 ⌝ }
+{
+    let other = wants::some_depth(desk);
+    if function == 0 || cross_draft::choose(desk, 2) == 0 {
+        return other;
+    }
+    let before = std::num::wrapping_sub_u64(function, 1);
+    cross_draft::signature(desk, before, column) % 5
+}
+
 // Chooses the signature of a function.
 fn choose_signature(desk: &mut Desk, function: u64) {
-    let result = wants::some_depth(desk);
+    let result = choose_depth(desk, function, cross_draft::RESULT);
     if function == 0 {
         return set_main(desk, result);
     }
@@ -50,8 +63,9 @@ fn choose_signature(desk: &mut Desk, function: u64) {
 fn choose_depths(desk: &mut Desk, function: u64) {
     let mut i: u64 = 0;
     while i < 8 {
-        let depth = wants::some_depth(desk);
-        cross_draft::set_signature(desk, function, cross_draft::FIRST_DEPTH + i, depth);
+        let column = cross_draft::FIRST_DEPTH + i;
+        let depth = choose_depth(desk, function, column);
+        cross_draft::set_signature(desk, function, column, depth);
         i = i + 1;
     }
 }
@@ -179,7 +193,7 @@ fn write_function(desk: &mut Desk, function: u64) {
 pub fn make_script(desk: &mut Desk, seed: u64) {
     cross_draft::plant(desk, seed);
     desk[cross_draft::NODES] = 0;
-    let functions = 1 + cross_draft::choose(desk, 5);
+    let functions = 1 + cross_draft::choose(desk, 8);
     choose_signatures(desk, functions);
     let mut function: u64 = 0;
     while function < functions {

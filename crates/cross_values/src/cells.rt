@@ -37,17 +37,21 @@ pub fn pop(memory: &mut Memory, count: u64) {
     }
 }
 
-// Takes away the root before the last, and leaves its place to a number; 1 where it was an array, else 0.
-pub fn pop_under(memory: &mut Memory) -> u64 {
+// Takes away the root that is so many places from the end, and leaves its place to a number; 1 where it was an array,
+// else 0.
+pub fn take_out(memory: &mut Memory, back: usize) -> u64 {
     let count = memory[ROOT_COUNT] as usize;
-    if count < 2 {
+    if back == 0 {
+        return 0;
+    }
+    if count < back {
         return 0;
     }
     if ROOT_WORDS < count {
         return 0;
     }
-    let root = memory[ROOTS + count - 2];
-    memory[ROOTS + count - 2] = 0;
+    let root = memory[ROOTS + count - back];
+    memory[ROOTS + count - back] = 0;
     if root == 0 {
         return 0;
     }

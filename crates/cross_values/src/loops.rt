@@ -60,7 +60,7 @@ pub fn begin(memory: &mut Memory, call: u64, node: usize) -> bool {
     let kind = rows::kind_at(memory, node);
     memory[memory::IS_ARRAY] = 0;
     if kind == kinds::REDUCE {
-        memory[memory::IS_ARRAY] = cells::pop_under(memory);
+        memory[memory::IS_ARRAY] = cells::take_out(memory, 2);
     }
     uses::push_uses(memory, call, node, rows::body_at(memory, node));
     if kind == kinds::REDUCE {

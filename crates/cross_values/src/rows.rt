@@ -1,5 +1,6 @@
 // A script file as rows of five words, one for each node: its kind, its operand, the node after its part, the node that
-// it is a part of, and whether it is a use of its name (see `uses`).
+// it is a part of, and a note: of a name that it is used where it stands (see `uses`), and of a node that binds a name
+// that what it binds is handed over (see `handing`).
 use super::VALUE_WORDS;
 use super::kinds;
 use super::kinds::Kind;
@@ -75,13 +76,13 @@ pub fn parent_at(memory: &Memory, node: usize) -> usize {
     memory[ROWS + 3 + 5 * (node % MOST_NODES)] as usize
 }
 
-// Whether a name is used where it stands.
-pub fn is_use(memory: &Memory, node: usize) -> bool {
+// Whether a node is noted.
+pub fn is_noted(memory: &Memory, node: usize) -> bool {
     memory[ROWS + 4 + 5 * (node % MOST_NODES)] == 1
 }
 
-// Notes that a name is used where it stands.
-pub fn set_use(memory: &mut Memory, node: usize) {
+// Notes a node.
+pub fn note(memory: &mut Memory, node: usize) {
     memory[ROWS + 4 + 5 * (node % MOST_NODES)] = 1;
 }
 

@@ -7,10 +7,10 @@ use super::memory::Memory;
 use super::rows;
 
 // The levels of a function's body.
-const MOST_LEVELS: u64 = 64;
+pub const MOST_LEVELS: u64 = 64;
 
 // Whether a node binds a name at a later node, which is in its body.
-fn binds(memory: &Memory, binder: usize, node: usize, name: u64) -> bool {
+pub fn binds(memory: &Memory, binder: usize, node: usize, name: u64) -> bool {
     let operand = rows::operand_at(memory, binder);
     let is_first = kinds::low(operand) == name;
     let is_named = match rows::kind_at(memory, binder) {
@@ -32,7 +32,7 @@ fn is_use_from(memory: &Memory, start: usize, node: usize) -> bool {
     if rows::kind_at(memory, node) != kinds::NAME {
         return false;
     }
-    if !rows::is_use(memory, node) {
+    if !rows::is_noted(memory, node) {
         return false;
     }
     let name = rows::operand_at(memory, node);
@@ -61,22 +61,25 @@ fn has_use(memory: &Memory, binder: usize) -> bool {
     false
 }
 
-// Whether the value of a node goes to more than a let that needs nothing. The uses among later nodes are noted.
-fn is_needed(memory: &Memory, node: usize) -> bool {
+// The part that gives the value of a node on: the last of those around the node that is not the body of a let.
+pub fn giving_part(memory: &Memory, node: usize) -> usize {
     let mut part = node;
     let mut left = MOST_LEVELS;
     while 0 < left {
         let parent = rows::parent_at(memory, part);
-        if rows::kind_at(memory, parent) != kinds::LET {
-            return true;
-        }
-        if part != rows::body_at(memory, parent) {
-            return has_use(memory, parent);
+        if rows::kind_at(memory, parent) != kinds::LET || part != rows::body_at(memory, parent) {
+            return part;
         }
         part = parent;
         left = left - 1;
     }
-    true
+    part
+}
+
+// Whether the value of a node goes to more than a let that needs nothing. The uses among later nodes are noted.
+fn is_needed(memory: &Memory, node: usize) -> bool {
+    let parent = rows::parent_at(memory, giving_part(memory, node));
+    rows::kind_at(memory, parent) != kinds::LET || has_use(memory, parent)
 }
 
 // Notes the uses of a script of so many nodes, from the last node back.
@@ -85,7 +88,7 @@ pub fn note_uses(memory: &mut Memory, nodes: usize) {
     while 0 < node {
         node = node - 1;
         if rows::kind_at(memory, node) == kinds::NAME && is_needed(memory, node) {
-            rows::set_use(memory, node);
+            rows::note(memory, node);
         }
     }
 }

@@ -4,6 +4,7 @@ use super::VALUE_WORDS;
 use super::Worked;
 use super::arrays;
 use super::cells;
+use super::handing;
 use super::kinds;
 use super::leaves;
 use super::loops;
@@ -206,7 +207,8 @@ fn work_pass(memory: &mut Memory, at: Place, running: u64, element: Typed) -> Wo
     r
 }
 
-// Works a call: its step, then the function's body under its parameters alone, to which the values are handed.
+// Works a call: its step, then the function's body under its parameters alone. Values that the function only reads stay
+// roots till the end of the call, and the others are handed to it.
 fn work_call(memory: &mut Memory, at: Place, values: &[u64; VALUE_WORDS]) -> Worked {
     if !memory::step(memory) {
         return Worked::Stop(stops::OUT_OF_STEPS);
@@ -216,8 +218,8 @@ fn work_call(memory: &mut Memory, at: Place, values: &[u64; VALUE_WORDS]) -> Wor
     }
     let calls = at.calls - 1;
     let row = rows::row_at(memory, at.node);
-    cells::pop(memory, row.first);
     let function = rows::callee_at(memory, at.node);
+    handing::hand_over(memory, function, row.first);
     let body = Place {
         node: rows::bind_parameters(memory, function, calls, values),
         levels: MOST_LEVELS,
@@ -249,8 +251,10 @@ pub fn work_main(memory: &mut Memory, readings: &[u64; VALUE_WORDS], count: u64)
 
 // Reads a script file.
 pub fn read_script(file: &[u8; FILE_BYTES], memory: &mut Memory) {
+    let nodes = rows::node_count(file);
     rows::read_script(file, memory);
-    uses::note_uses(memory, rows::node_count(file));
+    uses::note_uses(memory, nodes);
+    handing::note_handed(memory, nodes);
 }
 
 // The totals.

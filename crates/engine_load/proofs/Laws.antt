@@ -24,7 +24,7 @@ use Rattle.script.specs.Verdicts.{told-verdict, Judges}
 use Rattle.script.proofs.Whole.{kinds-of, operands-of, FileTaken, taken}
 use Rattle.script_nodes.specs.Nodes.{refused-node}
 use Rattle.soundness.specs.annotation.Accepting.{judged-clean}
-use Rattle.normal_script.specs.Script.{Translatable}
+use Rattle.normal_plain.specs.Script.{Translatable}
 use Rattle.normal.specs.Left.{CodeLeft, left-of, Leaves}
 use Rattle.engine_load.specs.declared.Loaded.{Loaded}
 use Rattle.engine_load.specs.declared.Loaded.the-variants as L

@@ -11,6 +11,7 @@ use Rattle.semantics.specs.Outcome.{Outcome, done, stop}
 use Rattle.semantics.specs.Syntax.{Script}
 use Rattle.semantics.specs.File.{at-function, script}
 use Rattle.semantics.specs.Code.{Row}
+use Rattle.semantics.specs.Borrow.{Table, borrowed}
 use Rattle.semantics.specs.Annotate.{code}
 use Rattle.semantics.specs.Calls as C
 use Rattle.semantics.specs.Calls.{packed, admitted, room, code-fits, code-kinds, code-operands}
@@ -63,6 +64,9 @@ module _ {file : List ℕ} {f n : ℕ} (a : AcceptedFile file f n) where
     abbrev fs : Script
     fs = a .tree
 
+    abbrev T : Table
+    T = borrowed fs
+
     abbrev ks : List ℕ
     ks = code-kinds fs kinds
 
@@ -85,17 +89,17 @@ module _ {file : List ℕ} {f n : ℕ} (a : AcceptedFile file f n) where
     past q h = zeros-past (map (λ r. r .kind) (code fs)) (length kinds - length (code fs)) q
         (omega (arith, h, length-map (code fs) (λ (r : Row). r .kind)))
 
-    jumping : (table : List ℕ) → Roomy table → Jumping ks os fs (ends-from (length (code fs)) ks table)
+    jumping : (table : List ℕ) → Roomy table → Jumping ks os (ends-from (length (code fs)) ks table)
     jumping table long = tree-ends ks os (length (code fs)) short past table long
 
-    stand : (table : List ℕ) → Roomy table → Jumping ks os fs table → (g : ℕ) → g < length fs →
-        start-in (starts-from (length fs) ks os 0 0 table) g ≡ body-at fs fs g
+    stand : (table : List ℕ) → Roomy table → Jumping ks os table → (g : ℕ) → g < length fs →
+        start-in (starts-from (length fs) ks os 0 0 table) g ≡ body-at fs T 0 fs g
     unfolding code
     stand table long jumps g l =
         let name : 0 + g ≡ g = omega arith in
-        let place : 0 + body-at fs fs g ≡ body-at fs fs g = omega arith in
-        subst (λ (m : ℕ). start-in (starts-from (length fs) ks os 0 0 table) m ≡ body-at fs fs g) name
-        (starts-stand ks os fs fs 0 0 table written (judged-clean file fs (a .judged-so) .limits .1) long jumps
+        let place : 0 + body-at fs T 0 fs g ≡ body-at fs T 0 fs g = omega arith in
+        subst (λ (m : ℕ). start-in (starts-from (length fs) ks os 0 0 table) m ≡ body-at fs T 0 fs g) name
+        (starts-stand ks os fs T fs 0 0 table written (judged-clean file fs (a .judged-so) .limits .1) long jumps
         (omega (arith, few)) (omega (arith, short)) g l ∙ place)
 
     -- the table after the pass over the rows and the one over the functions
@@ -107,12 +111,13 @@ module _ {file : List ℕ} {f n : ℕ} (a : AcceptedFile file f n) where
         record {
           written = written;
           short = short;
-          starts = λ g l. subst (λ (m : ℕ). start-in (starts-from m ks os 0 0 ends) g ≡ body-at fs fs g) functions-are
+          starts = λ g l. subst (λ (m : ℕ). start-in (starts-from m ks os 0 0 ends) g ≡ body-at fs T 0 fs g)
+              functions-are
               (stand ends (omega (arith, long, ends-long ks (length (code fs)) table′)) (jumping table′ long) g l);
-          depths = λ g x l m. starts-below ks os fs f 0 0 ends (256 * g + x) (omega (arith, few))
+          depths = λ g x l m. starts-below ks os f 0 0 ends (256 * g + x) (omega (arith, few))
               ∙ ends-below ks (length (code fs)) table′ (256 * g + x) (omega (arith, few))
               ∙ h .there g x (omega arith) l m (omega (arith, few, long₀));
-          ends = λ t q w. starts-ends ks os fs f 0 0 ends q (omega (arith, few, functions-are))
+          ends = λ t q w. starts-ends ks os f 0 0 ends q (omega (arith, few, functions-are))
               ∙ jumping table′ long t q w;
         }
 

@@ -6,6 +6,7 @@ pub mod Levels
 pub mod Lists
 pub mod Numbers
 pub mod Releases
+pub mod Routines
 pub mod SavedFiles
 pub mod Tests
 pub mod Updates

@@ -137,7 +137,8 @@ module _ (free : ℕ) (p : Program) (enough : length (p .routines) ≤ 32) (c : 
   unfolding machine
   function-same n small calling R g ws env s h a long levels =
       let st = all g h in
-      tree-same free p enough (machine p n) (routine-of p g .depths) c n g (call-on n c) (st .depths) jumps calling
+      tree-same free p enough (machine p n) (p .borrowing) (routine-of p g .depths) c n g (call-on n c) (st .depths)
+      jumps calling
       (routine-of p g .tree) 4096 (st .short) (omega arith) (parameters (length ws)) (p .signatures g .result)
       (st .fitting) (subst (λ (k : ℕ). Scoped (routine-of p g .tree) (parameters k)) (sym a) (st .scoped))
       (bounded-parameters (length ws) (omega (arith, a, st .few))) (start-in (c .table) g) (st .written) empty R

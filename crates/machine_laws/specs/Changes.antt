@@ -7,6 +7,7 @@ use native.Mathlib.Omega.{arith}
 use lib.IntN.{ℤ}
 use Rattle.semantics.specs.Outcome.{done, onward}
 use Rattle.semantics.specs.Store.{cell-of, retained}
+use Rattle.semantics.specs.Kinds.{Borrowing}
 use Rattle.semantics.specs.Code as K
 use Rattle.semantics.specs.Code.{row}
 use Rattle.semantics.specs.Live.{Set}
@@ -31,8 +32,8 @@ use Rattle.machine_laws.specs.Levels.{kept-raised}
 use Rattle.machine_laws.specs.Same.{Rel, LineDone}
 
 -- a line at a position
-module _ (free : ℕ) (callee : M.Callee) (Γ : NameDepths) (c : Code) (calls f : ℕ) (C : Callee) (W : Work) (at : ℕ)
-    (A : Set) (R : List ℕ) (ρ : Frame) (s : State) (env : List ℤ) (S : Set) (b : Bounded S)
+module _ (free : ℕ) (callee : M.Callee) (β : Borrowing) (Γ : NameDepths) (c : Code) (calls f : ℕ) (C : Callee)
+    (W : Work) (at : ℕ) (A : Set) (R : List ℕ) (ρ : Frame) (s : State) (env : List ℤ) (S : Set) (b : Bounded S)
     (g : FrameAgrees calls env ρ S) (framed : Framed calls f env) (levels : LevelsAgree free (s .log) env) where
   abbrev here : Memory
   here = memory (s .store) env
@@ -73,14 +74,14 @@ module _ (free : ℕ) (callee : M.Callee) (Γ : NameDepths) (c : Code) (calls f 
 
     pub retain-same : Here (c .kinds) (c .operands) at (row 14 x) →
         Rel free (LineDone free (at + 1) calls env S S) (line-done W C c calls at (s .left) here found)
-        (work-line callee Γ (K.retain x) A R ρ s)
+        (work-line callee β Γ (K.retain x) A R ρ s)
     unfolding doing work-line onward retain-word M.with-store
     retain-same r = changes-same (λ k. memory (retained k (s .store)) env) 14 L.Retain r refl refl _ refl refl
         (kept-none calls env S) (levels-touched levels (s .store) (cell-of (ρ x)))
 
     pub release-same : Here (c .kinds) (c .operands) at (row 15 x) →
         Rel free (LineDone free (at + 1) calls env S S) (line-done W C c calls at (s .left) here found)
-        (work-line callee Γ (K.release x) A R ρ s)
+        (work-line callee β Γ (K.release x) A R ρ s)
     unfolding doing work-line onward release-word M.with-store
     release-same r = changes-same (λ k. released-memory k here) 15 L.Release r refl refl _ refl refl
         (kept-raised calls (framed .few) S b env _) (levels-released levels (cell-of (ρ x)) (s .store) (framed .long))

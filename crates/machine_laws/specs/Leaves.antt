@@ -13,7 +13,7 @@ use Rattle.semantics.specs.Basics.{updated, tabulate}
 use Rattle.semantics.specs.Outcome.{Outcome, done, stop, onward, _>>=_, _>>_, give, require}
 use Rattle.semantics.specs.Number.{Operation, sum, difference, less, exact, fits, inside}
 use Rattle.semantics.specs.Kinds.{Leaf, operation, call, literal, index, length-of, iota, replicate, operation-kind}
-use Rattle.semantics.specs.Kinds.{leaf-kind, leaf-operand}
+use Rattle.semantics.specs.Kinds.{leaf-kind, leaf-operand, Borrowing, leaf-reads}
 use Rattle.semantics.specs.Types.{Signature, same, call-rule, replicate-rule}
 use Rattle.semantics.specs.Store.{Store, cell-of, has-free, acquired, retained}
 use Rattle.semantics.specs.Code as K
@@ -46,8 +46,7 @@ use Rattle.machine_laws.specs.Levels.{LevelsAgree, levels-touched, level
 use Rattle.machine_laws.specs.Acquiring.{acquire-same}
 use Rattle.machine_laws.specs.Atoms.{words-same, word-at}
 use Rattle.machine_laws.specs.Same.{Rel, LineDone, CallDone, CalleeSame, Gives as Given-by, rel-then, rel-step}
-use Rattle.machine_laws.specs.Same.{call-word}
-use Rattle.machine_laws.specs.Same.{bound-done}
+use Rattle.machine_laws.specs.Same.{call-word, bound-done}
 
 -- ---- what a call's atoms fit
 
@@ -101,10 +100,10 @@ made-plain counting w n σ (done g u) = refl
 made-plain counting w n σ (stop k u) = refl
 
 -- a line at a position, which binds x and has the atoms us
-module _ (free : ℕ) (p : Program) (few : length (p .routines) ≤ 32) (callee : M.Callee) (Γ : NameDepths) (c : Code)
-    (calls f : ℕ) (C : Callee) (calling-same : CalleeSame free p calls C callee) (W : Work) (at : ℕ) (A : Set)
-    (R : List ℕ) (ρ : Frame) (s : State) (env : List ℤ) (S : Set) (b : Bounded S) (g : FrameAgrees calls env ρ S)
-    (framed : Framed calls f env) (levels : LevelsAgree free (s .log) env) where
+module _ (free : ℕ) (p : Program) (few : length (p .routines) ≤ 32) (callee : M.Callee) (β : Borrowing)
+    (Γ : NameDepths) (c : Code) (calls f : ℕ) (C : Callee) (calling-same : CalleeSame free p calls C callee) (W : Work)
+    (at : ℕ) (A : Set) (R : List ℕ) (ρ : Frame) (s : State) (env : List ℤ) (S : Set) (b : Bounded S)
+    (g : FrameAgrees calls env ρ S) (framed : Framed calls f env) (levels : LevelsAgree free (s .log) env) where
   abbrev here : Memory
   here = memory (s .store) env
 
@@ -119,8 +118,8 @@ module _ (free : ℕ) (p : Program) (few : length (p .routines) ≤ 32) (callee 
     ws = map (word ρ) us
 
     -- the roots of a call, and those where a cell is wanted
-    abbrev call-roots : List ℕ
-    call-roots = R ++ held Γ (A ∖ x) ρ
+    abbrev call-roots : Leaf → List ℕ
+    call-roots l = R ++ held Γ (among (leaf-reads β l us) (A ∖ x)) ρ
 
     abbrev cell-roots : List ℕ
     cell-roots = R ++ held Γ (among us (A ∖ x)) ρ
@@ -133,7 +132,8 @@ module _ (free : ℕ) (p : Program) (few : length (p .routines) ≤ 32) (callee 
 
     -- the line is worked as the leaf is
     abbrev Claim : Leaf → Type 0
-    Claim l = Rel free Done (line-done W C c calls at (s .left) here found) (work-line callee Γ (K.leaf x l us) A R ρ s)
+    Claim l = Rel free Done (line-done W C c calls at (s .left) here found)
+        (work-line callee β Γ (K.leaf x l us) A R ρ s)
 
     abbrev LeafStands : Leaf → Type 0
     LeafStands l = Here (c .kinds) (c .operands) at (row (leaf-kind l) (leaf-operand l x (length us)))
@@ -169,15 +169,16 @@ module _ (free : ℕ) (p : Program) (few : length (p .routines) ≤ 32) (callee 
     -- a leaf that is a small work
     gives-same : (l : Leaf) (next : ℕ) (m : Memory) (y : Given) → found ≡ giving x next m y →
         next ≡ at + suc (length us) →
-        ((n : ℕ) → Gives n m y (work-leaf callee cell-roots call-roots (depth-of Γ us 1) l ws (with-left s n))) →
+        ((n : ℕ) → Gives n m y (work-leaf callee cell-roots (call-roots l) (depth-of Γ us 1) l ws (with-left s n))) →
         Claim l
     unfolding line-done leaf-done giving-line work-line onward
     gives-same l next m y d e h =
         subst (λ (z : Doing). Rel free Done (line-done W C c calls at (s .left) here z)
-        (work-line callee Γ (K.leaf x l us) A R ρ s)) (sym d)
+        (work-line callee β Γ (K.leaf x l us) A R ρ s)) (sym d)
         (rel-step free Done s here (λ n. with-store (m .store) (given calls x next n (m .env) y))
-        (λ _ s′. onward (λ w. give (updated ρ x w)) (work-leaf callee cell-roots call-roots (depth-of Γ us 1) l ws s′))
-        levels (λ n. go n y (work-leaf callee cell-roots call-roots (depth-of Γ us 1) l ws (with-left s n)) (h n)))
+        (λ _ s′. onward (λ w. give (updated ρ x w))
+        (work-leaf callee cell-roots (call-roots l) (depth-of Γ us 1) l ws s′)) levels
+        (λ n. go n y (work-leaf callee cell-roots (call-roots l) (depth-of Γ us 1) l ws (with-left s n)) (h n)))
       where
         go : (n : ℕ) (y : Given) (o : Outcome State ℤ) → Gives n m y o →
             Rel free Done (with-store (m .store) (given calls x next n (m .env) y))
@@ -350,8 +351,9 @@ module _ (free : ℕ) (p : Program) (few : length (p .routines) ≤ 32) (callee 
         LeafStands (call h) → Claim (call h)
     unfolding doing line-done call-line work-line work-leaf onward with-left
     call-same h there arity r =
+        let roots = call-roots (call h) in
         subst (λ (z : Doing). Rel free Done (line-done W C c calls at (s .left) here z)
-        (work-line callee Γ (K.leaf x (call h) us) A R ρ s))
+        (work-line callee β Γ (K.leaf x (call h) us) A R ρ s))
         (sym (ap (doing (c .kinds) (c .operands) (c .table) calls at here)
         (line-read (c .kinds) (c .operands) at 8 (x + 256 * h) _ _ (omega (arith, new .small, there, few)) (r .kind)
         (r .operand) refl refl)
@@ -359,12 +361,12 @@ module _ (free : ℕ) (p : Program) (few : length (p .routines) ≤ 32) (callee 
         (let z : (x + 256 * h) / 256 % 256 ≡ h = omega (arith, new .small, there, few) in z)))
         (rel-step free Done s here
         (λ n. call-worked C calls x h at n here (words-at 16 (c .kinds) (c .operands) calls env (at + 1)))
-        (λ _ s′. onward (λ w. give (updated ρ x w)) (callee call-roots h ws s′)) levels
+        (λ _ s′. onward (λ w. give (updated ρ x w)) (callee roots h ws s′)) levels
         (λ n. rw (words-same (c .kinds) (c .operands) calls env ρ S b g us 16 (at + 1)
         (omega (arith, arity, calling-same .few h there)) known rs closed)
-        (rel-then free (CallDone free calls env) Done (C h ws n here) (callee call-roots h ws (with-left s n))
+        (rel-then free (CallDone free calls env) Done (C h ws n here) (callee roots h ws (with-left s n))
         (λ w. binding calls x (at + 1 + length ws) w) (λ w. give (updated ρ x w))
-        (calling-same .same call-roots h ws env (with-left s n) there (length-map us (word ρ) ∙ arity) (framed .long)
+        (calling-same .same roots h ws env (with-left s n) there (length-map us (word ρ) ∙ arity) (framed .long)
         levels)
         (λ v s′ k. (
           refl,

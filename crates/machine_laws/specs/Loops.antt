@@ -7,7 +7,7 @@ use lib.IntN.{ℤ, pos}
 use lib.ListN.{getD, length}
 use Rattle.semantics.specs.Basics.{tabulate, updated}
 use Rattle.semantics.specs.Outcome.{Outcome, stop, onward, give, passes}
-use Rattle.semantics.specs.Kinds.{Loop, mapping, filtering, reducing, loop-kind, packed-names}
+use Rattle.semantics.specs.Kinds.{Loop, mapping, filtering, reducing, loop-kind, packed-names, Borrowing}
 use Rattle.semantics.specs.Store.{Store, cell, cell-of, elements}
 use Rattle.semantics.specs.Code as K
 use Rattle.semantics.specs.Code.{row, atom-row, rows}
@@ -139,14 +139,15 @@ coded-words calls env ρ S g [] h = refl
 coded-words calls env ρ S g (u ∷ us) h =
     ap₂ {C = List ℤ} _∷_ (word-same calls env ρ S g u (h .0)) (coded-words calls env ρ S g us (h .1))
 
-module _ (free : ℕ) (p : Program) (callee : M.Callee) (Γ : NameDepths) (c : Code) (calls f : ℕ) (C : Callee) where
+module _ (free : ℕ) (p : Program) (callee : M.Callee) (β : Borrowing) (Γ : NameDepths) (c : Code) (calls f : ℕ)
+    (C : Callee) where
   -- a tree at a position is worked as the tree
   abbrev pub TreeClaim : K.Tree → Type 0
   TreeClaim t = (n : ℕ) → length (rows t) ≤ n → n ≤ 4096 → (S : Set) (d : ℕ) → Fitting p Γ t d → Scoped t S →
       Bounded S → (at : ℕ) → At (c .kinds) (c .operands) at (rows t) → (L : Set) (R : List ℕ) (ρ : Frame) (s : State)
       (env : List ℤ) → FrameAgrees calls env ρ S → Framed calls f env → LevelsAgree free (s .log) env →
       Rel free (TreeDone free (at + length (rows t)) calls env S)
-      (tree-on n C c calls at (s .left) (memory (s .store) env)) (work callee Γ t L R ρ s)
+      (tree-on n C c calls at (s .left) (memory (s .store) env)) (work callee β Γ t L R ρ s)
 
   -- the passes of a loop over the array a, whose tree t is at a position
   module _ (n : ℕ) (few : n ≤ 4096) (S : Set) (b : Bounded S) (ρ : Frame) (k : Loop) (ps : List ℕ) (y z : ℕ)
@@ -161,7 +162,7 @@ module _ (free : ℕ) (p : Program) (callee : M.Callee) (Γ : NameDepths) (c : C
     l = looped (way-of k e) W calls y z (cell-of a)
 
     abbrev body : List ℤ → M.Work ℤ
-    body = λ vs. work callee Γ t B R (M.binding ps vs ρ)
+    body = λ vs. work callee β Γ t B R (M.binding ps vs ρ)
 
     abbrev rest : ℕ → ℕ → ℤ → M.Work ℤ
     rest count i v = passes (work-pass k e body a) v (tabulate i count (λ j. j))
@@ -299,8 +300,8 @@ module _ (free : ℕ) (p : Program) (callee : M.Callee) (Γ : NameDepths) (c : C
 
     abbrev then-passes : ℤ → M.Work Frame
     then-passes v s₃ = onward (λ w. give (updated ρ x w))
-        (passes (work-pass k (pred (Γ x)) (λ vs. work callee Γ t B (R′ ++ in-progress k v) (M.binding ps vs ρ)) array) v
-        (tabulate 0 count (λ i. i)) s₃)
+        (passes (work-pass k (pred (Γ x)) (λ vs. work callee β Γ t B (R′ ++ in-progress k v) (M.binding ps vs ρ)) array)
+        v (tabulate 0 count (λ i. i)) s₃)
 
     after-first : (m : ℕ) (s₂ : State) → m ≡ s₂ .left → s .store ≡ s₂ .store → LevelsAgree free (s₂ .log) env →
         Rel free Done (and-then (carry-first k (pred (Γ x)) ws m (memory (s .store) env))
@@ -317,8 +318,8 @@ module _ (free : ℕ) (p : Program) (callee : M.Callee) (Γ : NameDepths) (c : C
         (sym (word-moved (λ y j μ. passes-on whole count y 0 j μ) q))
         (rel-then free (WordDone free calls (first .memory .env) S) Done
         (passes-on whole count v 0 (s₃ .left) (memory (s₃ .store) (first .memory .env)))
-        (passes (work-pass k (pred (Γ x)) (λ vs. work callee Γ t B (R′ ++ in-progress k v) (M.binding ps vs ρ)) array) v
-        (tabulate 0 count (λ i. i)) s₃) bind (λ w. give (updated ρ x w))
+        (passes (work-pass k (pred (Γ x)) (λ vs. work callee β Γ t B (R′ ++ in-progress k v) (M.binding ps vs ρ)) array)
+        v (tabulate 0 count (λ i. i)) s₃) bind (λ w. give (updated ρ x w))
         (passes-same n few S b ρ k ps y z names news (pred (Γ x)) t claim lt d fit scoped start rs B
         (R′ ++ in-progress k v) array count 0 v s₃ (first .memory .env)
         (agrees-kept calls env (first .memory .env) ρ S g (q .kept))
@@ -334,15 +335,15 @@ module _ (free : ℕ) (p : Program) (callee : M.Callee) (Γ : NameDepths) (c : C
 
     pub loop-same : Rel free Done
         (loop-line (tree-on n C c calls) c calls x k y z (map coded us) at (s .left) (memory (s .store) env))
-        (work-line callee Γ (K.loop x k ps us t) A R ρ s)
+        (work-line callee β Γ (K.loop x k ps us t) A R ρ s)
     unfolding loop-line work-line onward with-left elements-of M.with-store
     loop-same =
         rel-step free Done s (memory (s .store) env)
         (λ m. loop-worked (tree-on n C c calls) c calls x k y z start m (memory (s .store) env)
         (map (word-of calls env) (map coded us)))
         (λ _ s₁. onward (λ vs s₂. onward (λ v s₃. onward (λ w. give (updated ρ x w))
-        (passes (work-pass k (pred (Γ x)) (λ vs. work callee Γ t B (R′ ++ in-progress k v) (M.binding ps vs ρ)) array) v
-        (tabulate 0 (length vs) (λ i. i)) s₃)) (carried-first k R′ (pred (Γ x)) ws s₂)) (elements-of array s₁))
+        (passes (work-pass k (pred (Γ x)) (λ vs. work callee β Γ t B (R′ ++ in-progress k v) (M.binding ps vs ρ)) array)
+        v (tabulate 0 (length vs) (λ i. i)) s₃)) (carried-first k R′ (pred (Γ x)) ws s₂)) (elements-of array s₁))
         levels (λ m. rw (
           coded-words calls env ρ S g us known,
           let z : element-depth (c .table) calls x env ≡ pred (Γ x) =

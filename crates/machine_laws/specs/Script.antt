@@ -5,18 +5,20 @@ use mathlib.Core.Path.{_≡_, refl, sym, ap, subst, _∙_}
 use mathlib.Core.Bool.{true}
 use mathlib.Core.List.{List, [], _∷_, _++_, map, append-assoc}
 use lib.IntN.{ℤ, pos}
-use lib.ListN.{getD, length, length-append, length-map}
+use lib.ListN.{getD, length, length-append}
 use Rattle.soundness.specs.machine.Size.{function-within}
 use Rattle.soundness.specs.Delivering.{levels-bounded}
 use Rattle.semantics.specs.Syntax.{Parameter, Function, Script, function-at, no-function, main-depth}
 use Rattle.semantics.specs.Code.{Row, rows}
+use Rattle.semantics.specs.Borrow.{Table, borrowed}
 use Rattle.semantics.specs.Annotate.{depths-of, annotated-body, parameter-rows, function-rows, functions-rows, code}
 use Rattle.semantics.specs.Calls.{judged, accepted, request-fits}
 use Rattle.semantics.specs.Words.{store-of}
 use Rattle.semantics.specs.Sound.{sound-words}
-use Rattle.semantics.specs.Machine.{Routine, routine, no-routine, program, routine-of, delivered}
+use Rattle.semantics.specs.Machine.{Routine, program, delivered}
 use Rattle.soundness.specs.annotation.Reader.{AllOf, FunctionLimits}
 use Rattle.soundness.specs.annotation.Accepting.{Clean, judged-clean, functions-disciplined, main-shape-of}
+use Rattle.laws.specs.Routines.{length-routines, routine-is}
 use Rattle.machine_code.specs.Reading.{depth-in, start-in}
 use Rattle.machine_positions.specs.Machine.{Code}
 use Rattle.machine_positions.specs.Delivery.{delivered-on}
@@ -26,33 +28,40 @@ use Rattle.machine_laws.specs.Delivery.{delivered-same}
 
 -- ---- where the functions' trees stand
 
-unfoldable pub body-at : Script → List Function → ℕ → ℕ
-body-at fs [] g = 0
-body-at fs (h ∷ hs) zero = 1 + length (h .parameters)
-body-at fs (h ∷ hs) (suc g) = length (function-rows fs h) + body-at fs hs g
+-- in the rows of some functions, the first of which has number f
+unfoldable pub body-at : Script → Table → ℕ → List Function → ℕ → ℕ
+body-at fs T f [] g = 0
+body-at fs T f (h ∷ hs) zero = 1 + length (h .parameters)
+body-at fs T f (h ∷ hs) (suc g) = length (function-rows fs T f h) + body-at fs T (suc f) hs g
 
 pub length-parameters : (xs : List Parameter) (n : ℕ) → length (parameter-rows xs n) ≡ length xs
 unfolding parameter-rows
 length-parameters [] n = refl
 length-parameters (x ∷ xs) n = ap suc (length-parameters xs (suc n))
 
-body-written : (kinds : List ℕ) (operands : List ℤ) (fs : Script) (gs : List Function) (p g : ℕ) →
-    At kinds operands p (functions-rows fs gs) → g < length gs →
-    At kinds operands (p + body-at fs gs g) (rows (annotated-body fs (getD gs g no-function)))
+body-written : (kinds : List ℕ) (operands : List ℤ) (fs : Script) (T : Table) (f : ℕ) (gs : List Function) (p g : ℕ) →
+    At kinds operands p (functions-rows fs T f gs) → g < length gs →
+    At kinds operands (p + body-at fs T f gs g) (rows (annotated-body fs T (f + g) (getD gs g no-function)))
 unfolding functions-rows function-rows body-at
-body-written kinds operands fs [] p g h l = absurd (omega arith)
-body-written kinds operands fs (f ∷ gs) p zero h l =
-    let z : p + 1 + length (parameter-rows (f .parameters) 0) ≡ p + (1 + length (f .parameters)) =
-    omega (arith, length-parameters (f .parameters) 0) in
-    subst (λ (q : ℕ). At kinds operands q (rows (annotated-body fs f))) z
-    (at-second kinds operands (p + 1) (parameter-rows (f .parameters) 0) (rows (annotated-body fs f))
-    (at-first kinds operands p (function-rows fs f) (functions-rows fs gs) h .1))
-body-written kinds operands fs (f ∷ gs) p (suc g) h l =
-    let z : p + length (function-rows fs f) + body-at fs gs g ≡ p + (length (function-rows fs f) + body-at fs gs g)
-    = omega arith in
-    subst (λ (q : ℕ). At kinds operands q (rows (annotated-body fs (getD gs g no-function)))) z
-    (body-written kinds operands fs gs (p + length (function-rows fs f)) g
-    (at-second kinds operands p (function-rows fs f) (functions-rows fs gs) h) (omega arith))
+body-written kinds operands fs T f [] p g h l = absurd (omega arith)
+body-written kinds operands fs T f (k ∷ gs) p zero h l =
+    let z : p + 1 + length (parameter-rows (k .parameters) 0) ≡ p + (1 + length (k .parameters)) =
+    omega (arith, length-parameters (k .parameters) 0) in
+    let y : f ≡ f + 0 = omega arith in
+    subst (λ (n : ℕ). At kinds operands (p + (1 + length (k .parameters))) (rows (annotated-body fs T n k))) y
+    (subst (λ (q : ℕ). At kinds operands q (rows (annotated-body fs T f k))) z
+    (at-second kinds operands (p + 1) (parameter-rows (k .parameters) 0) (rows (annotated-body fs T f k))
+    (at-first kinds operands p (function-rows fs T f k) (functions-rows fs T (suc f) gs) h .1)))
+body-written kinds operands fs T f (k ∷ gs) p (suc g) h l =
+    let here = function-rows fs T f k in
+    let rest = body-at fs T (suc f) gs g in
+    let z : p + length here + rest ≡ p + (length here + rest) = omega arith in
+    let y : suc f + g ≡ f + suc g = omega arith in
+    subst (λ (n : ℕ). At kinds operands (p + (length here + rest))
+    (rows (annotated-body fs T n (getD gs g no-function)))) y
+    (subst (λ (q : ℕ). At kinds operands q (rows (annotated-body fs T (suc f + g) (getD gs g no-function)))) z
+    (body-written kinds operands fs T (suc f) gs (p + length here) g
+    (at-second kinds operands p here (functions-rows fs T (suc f) gs) h) (omega arith)))
 
 -- rows written at the front of two lists stand there
 pub front-written : (rs : List Row) (ks ps : List ℕ) (os qs : List ℤ) → length ps ≡ length qs →
@@ -91,19 +100,13 @@ front-written (r ∷ rs) ks ps os qs e = (
 pub record Coded (fs : Script) (c : Code) : Type 0 where
   pub written : At (c .kinds) (c .operands) 0 (code fs)
   pub short : length (code fs) ≤ 4096
-  pub starts : (g : ℕ) → g < length fs → start-in (c .table) g ≡ body-at fs fs g
+  pub starts : (g : ℕ) → g < length fs → start-in (c .table) g ≡ body-at fs (borrowed fs) 0 fs g
   pub depths : (g x : ℕ) → g < length fs → x < 256 → depth-in (c .table) g x ≡ depths-of fs (function-at fs g) x
   pub ends : Jumps c
 
 length-depths : (xs : List Parameter) → length (map (λ x. x .depth) xs) ≡ length xs
 length-depths [] = refl
 length-depths (x ∷ xs) = ap suc (length-depths xs)
-
-getD-routine : (fs : Script) (gs : List Function) (g : ℕ) → g < length gs →
-    getD (map (routine fs) gs) g no-routine ≡ routine fs (getD gs g no-function)
-getD-routine fs [] g h = absurd (omega arith)
-getD-routine fs (f ∷ gs) zero h = refl
-getD-routine fs (f ∷ gs) (suc g) h = getD-routine fs gs g (omega arith)
 
 few-parameters : (gs : List Function) (g : ℕ) → AllOf FunctionLimits gs → length (getD gs g no-function .parameters)
     ≤ 8
@@ -115,31 +118,28 @@ module _ (file : List ℕ) (fs : Script) (ok : judged file ≡ accepted fs) (few
   clean : Clean fs
   clean = judged-clean file fs ok
 
-  routines : length (program fs .routines) ≡ length fs
-  unfolding program
-  routines = length-map fs (routine fs)
-
-  routine-is : (f : ℕ) → f < length fs → routine fs (function-at fs f) ≡ routine-of (program fs) f
-  unfolding program
-  routine-is f h = sym (getD-routine fs fs f h)
-
   pub stands : (c : Code) → Coded fs c → (f : ℕ) → f < length (program fs .routines) → FunctionStands (program fs) c f
-  unfolding routine code program
+  unfolding code program
   stands c held f l =
-      let h : f < length fs = omega (arith, l, routines) in
+      let T = borrowed fs in
+      let h : f < length fs = omega (arith, l, length-routines fs) in
       let d = functions-disciplined file fs ok f in
+      let is = sym (routine-is fs f h) in
+      let same : 0 + f ≡ f = omega arith in
       record {
         fitting = d .fits;
         scoped = d .scoped;
-        written = subst (λ (r : Routine). At (c .kinds) (c .operands) (start-in (c .table) f) (rows (r .tree)))
-            (routine-is f h)
-            (subst (λ (q : ℕ). At (c .kinds) (c .operands) q (rows (annotated-body fs (function-at fs f))))
-            (let z : 0 + body-at fs fs f ≡ start-in (c .table) f = omega (arith, held .starts f h) in z)
-            (body-written (c .kinds) (c .operands) fs fs 0 f (held .written) h));
-        short = subst (λ (r : Routine). length (rows (r .tree)) ≤ 4096) (routine-is f h)
-            (let z : length (rows (annotated-body fs (function-at fs f))) ≤ 4096 =
-            omega (arith, function-within fs fs f h, held .short) in z);
-        depths = λ x g. held .depths f x h g ∙ ap (λ (r : Routine). r .depths x) (routine-is f h);
+        written = subst (λ (r : Routine). At (c .kinds) (c .operands) (start-in (c .table) f) (rows (r .tree))) is
+            (subst (λ (n : ℕ). At (c .kinds) (c .operands) (start-in (c .table) f)
+            (rows (annotated-body fs T n (function-at fs f)))) same
+            (subst (λ (q : ℕ). At (c .kinds) (c .operands) q (rows (annotated-body fs T (0 + f) (function-at fs f))))
+            (let z : 0 + body-at fs T 0 fs f ≡ start-in (c .table) f = omega (arith, held .starts f h) in z)
+            (body-written (c .kinds) (c .operands) fs T 0 fs 0 f (held .written) h)));
+        short = subst (λ (r : Routine). length (rows (r .tree)) ≤ 4096) is
+            (subst (λ (n : ℕ). length (rows (annotated-body fs T n (function-at fs f))) ≤ 4096) same
+            (let z : length (rows (annotated-body fs T (0 + f) (function-at fs f))) ≤ 4096 =
+            omega (arith, function-within fs T 0 fs f h, held .short) in z));
+        depths = λ x g. held .depths f x h g ∙ ap (λ (r : Routine). r .depths x) is;
         few = omega (arith, length-depths (function-at fs f .parameters), few-parameters fs f (clean .limits .1));
       }
 
@@ -150,7 +150,8 @@ module _ (file : List ℕ) (fs : Script) (ok : judged file ≡ accepted fs) (few
       ≡ delivered (program fs) readings budget (store-of slots heads)
   unfolding program
   deliver-accepted c held readings budget slots heads sound request =
-      delivered-same (program fs) (omega (arith, few, routines)) c (omega (arith, clean .limits .0, routines))
+      delivered-same (program fs) (omega (arith, few, length-routines fs)) c
+      (omega (arith, clean .limits .0, length-routines fs))
       (sym (ap (λ s. length (s .parameters)) (main-shape-of file fs ok .0))) (stands c held) (held .ends) readings
       budget (store-of slots heads)
       (levels-bounded file fs ok (held .short) slots heads sound readings budget request)

@@ -8,7 +8,8 @@ use mathlib.Core.List.{List, [], _∷_, _++_}
 use lib.IntN.{ℤ}
 use lib.ListN.{getD, length, length-append}
 use Rattle.semantics.specs.Syntax.{Function, Script}
-use Rattle.semantics.specs.Code.{Tree, rows}
+use Rattle.semantics.specs.Code.{Row, Tree, rows}
+use Rattle.semantics.specs.Borrow.{Table}
 use Rattle.semantics.specs.Annotate.{annotated-body, parameter-rows, function-rows, functions-rows}
 use Rattle.soundness.specs.annotation.Reader.{AllOf, FunctionLimits}
 use Rattle.machine_code.specs.Reading.{start-in, end-in}
@@ -33,7 +34,7 @@ start-read table f start long h small = position-read table (8192 + 2 * f) start
 start-ends : (table : List ℕ) (f start q : ℕ) → f < 32 → end-in (with-start table f start) q ≡ end-in table q
 start-ends table f start q h = end-kept table (8192 + 2 * f) start q (omega (arith, h))
 
-module _ (kinds : List ℕ) (operands : List ℤ) (fs : Script) where
+module _ (kinds : List ℕ) (operands : List ℤ) where
   -- what stands before the first position stays
   pub starts-below : (n f p : ℕ) (table : List ℕ) (i : ℕ) → i < 8192 + 2 * f →
       getD (starts-from n kinds operands f p table) i 0 ≡ getD table i 0
@@ -84,93 +85,91 @@ module _ (kinds : List ℕ) (operands : List ℤ) (fs : Script) where
   abbrev pub Jumping : List ℕ → Type 0
   Jumping table = (t : Tree) (q : ℕ) → At kinds operands q (rows t) → end-in table q ≡ q + length (rows t)
 
+module _ (kinds : List ℕ) (operands : List ℤ) (fs : Script) (T : Table) where
   -- the tree of a function that stands at p, and where the next function begins
-  start-is : (g : Function) (p : ℕ) → At kinds operands p (function-rows fs g) → length (g .parameters) ≤ 8 →
-      tree-start operands p ≡ p + (1 + length (g .parameters))
+  start-is : (f : ℕ) (g : Function) (p : ℕ) → At kinds operands p (function-rows fs T f g) →
+      length (g .parameters) ≤ 8 → tree-start operands p ≡ p + (1 + length (g .parameters))
   unfolding function-rows
-  start-is g p h few = rw (h .0 .operand)
+  start-is f g p h few = rw (h .0 .operand)
       (let z : (length (g .parameters) + 256 * g .result) % 256 ≡ length (g .parameters) = omega (arith, few) in
       omega (arith, z))
 
-  next-is : (g : Function) (p : ℕ) (table : List ℕ) → Jumping table → At kinds operands p (function-rows fs g) →
-      length (g .parameters) ≤ 8 → end-in table (tree-start operands p) ≡ p + length (function-rows fs g)
+  next-is : (f : ℕ) (g : Function) (p : ℕ) (table : List ℕ) → Jumping kinds operands table →
+      At kinds operands p (function-rows fs T f g) → length (g .parameters) ≤ 8 →
+      end-in table (tree-start operands p) ≡ p + length (function-rows fs T f g)
   unfolding function-rows
-  next-is g p table jumps h few =
-      let l = length-append (parameter-rows (g .parameters) 0) (rows (annotated-body fs g)) in
+  next-is f g p table jumps h few =
+      let l = length-append (parameter-rows (g .parameters) 0) (rows (annotated-body fs T f g)) in
       let z : p + 1 + length (parameter-rows (g .parameters) 0) ≡ p + (1 + length (g .parameters)) =
       omega (arith, length-parameters (g .parameters) 0) in
-      ap (end-in table) (start-is g p h few)
-      ∙ jumps (annotated-body fs g) (p + (1 + length (g .parameters)))
-      (subst (λ (q : ℕ). At kinds operands q (rows (annotated-body fs g))) z
-      (at-second kinds operands (p + 1) (parameter-rows (g .parameters) 0) (rows (annotated-body fs g)) (h .1)))
-      ∙ (let y : p + (1 + length (g .parameters)) + length (rows (annotated-body fs g))
-      ≡ p + suc (length (parameter-rows (g .parameters) 0 ++ rows (annotated-body fs g))) =
+      ap (end-in table) (start-is f g p h few)
+      ∙ jumps (annotated-body fs T f g) (p + (1 + length (g .parameters)))
+      (subst (λ (q : ℕ). At kinds operands q (rows (annotated-body fs T f g))) z
+      (at-second kinds operands (p + 1) (parameter-rows (g .parameters) 0) (rows (annotated-body fs T f g)) (h .1)))
+      ∙ (let y : p + (1 + length (g .parameters)) + length (rows (annotated-body fs T f g))
+      ≡ p + suc (length (parameter-rows (g .parameters) 0 ++ rows (annotated-body fs T f g))) =
       omega (arith, l, length-parameters (g .parameters) 0) in y)
 
   -- a function's parameters are within its rows
-  body-fits : (g : Function) → 1 + length (g .parameters) ≤ length (function-rows fs g)
+  body-fits : (f : ℕ) (g : Function) → 1 + length (g .parameters) ≤ length (function-rows fs T f g)
   unfolding function-rows
-  body-fits g = omega (
+  body-fits f g = omega (
     arith,
-    length-append (parameter-rows (g .parameters) 0) (rows (annotated-body fs g)),
+    length-append (parameter-rows (g .parameters) 0) (rows (annotated-body fs T f g)),
     length-parameters (g .parameters) 0,
   )
 
-  -- each position that the pass writes is that of the function's tree
-  pub starts-stand : (gs : List Function) (f p : ℕ) (table : List ℕ) → At kinds operands p (functions-rows fs gs) →
-      AllOf FunctionLimits gs → Roomy table → Jumping table → f + length gs ≤ 32 → p + length
-      (functions-rows fs gs) ≤ 4096 →
-      (g : ℕ) → g < length gs → start-in (starts-from (length gs) kinds operands f p table) (f + g) ≡ p + body-at fs
-      gs g
+  -- each position that the pass writes is that of the function's tree; the first function has number f
+  pub starts-stand : (gs : List Function) (f p : ℕ) (table : List ℕ) → At kinds operands p (functions-rows fs T f gs) →
+      AllOf FunctionLimits gs → Roomy table → Jumping kinds operands table → f + length gs ≤ 32 →
+      p + length (functions-rows fs T f gs) ≤ 4096 → (g : ℕ) → g < length gs →
+      start-in (starts-from (length gs) kinds operands f p table) (f + g) ≡ p + body-at fs T f gs g
   unfolding functions-rows body-at function-rows
   starts-stand [] f p table h few long jumps room short g l = absurd (omega arith)
   starts-stand (k ∷ gs) f p table h few long jumps room short g l =
-      let len = length-append (function-rows fs k) (functions-rows fs gs) in
-      let here = at-first kinds operands p (function-rows fs k) (functions-rows fs gs) h in
-      let st = tree-start operands p in
-      let within : p < length kinds = first-within k p here in
-      ap (λ (t : List ℕ). start-in t (f + g)) (from-more (length gs) kinds operands f p table within
-      ∙ ap (λ (q : ℕ). starts-from (length gs) kinds operands (f + 1) q (with-start table f st))
-      (next-is k p (with-start table f st) (jumps-more p) here (few .0 .parameters)))
+      ap (λ (t : List ℕ). start-in t (f + g)) (from-more (length gs) kinds operands f p table (here .0 .within)
+      ∙ ap₂ (λ (m : ℕ) (q : ℕ). starts-from (length gs) kinds operands m q after) (let z : f + 1 ≡ suc f = omega arith
+      in z) (next-is f k p after jumps-after here (few .0 .parameters)))
       ∙ by g l
-      (λ j m. starts-stand gs (f + 1) (p + length (function-rows fs k)) (with-start table f st)
-      (at-second kinds operands p (function-rows fs k) (functions-rows fs gs) h) (few .1)
-      (omega (arith, long, length-position table (8192 + 2 * f) st)) (jumps-more p) (omega arith) (omega
-      (arith, len, short)) j m)
+      (λ j m. starts-stand gs (suc f) (p + length mine) after (at-second kinds operands p mine rest h) (few .1)
+      (omega (arith, long, length-position table (8192 + 2 * f) start)) jumps-after (omega arith)
+      (omega (arith, length-append mine rest, short)) j m)
     where
-      jumps-more : (p : ℕ) → Jumping (with-start table f (tree-start operands p))
-      jumps-more p t q h = start-ends table f (tree-start operands p) q (omega (arith, room)) ∙ jumps t q h
+      mine : List Row
+      mine = function-rows fs T f k
 
-      first-within : (k : Function) (p : ℕ) → At kinds operands p (function-rows fs k) → p < length kinds
-      first-within k p h = h .0 .within
+      rest : List Row
+      rest = functions-rows fs T (suc f) gs
+
+      here : At kinds operands p mine
+      here = at-first kinds operands p mine rest h
+
+      start : ℕ
+      start = tree-start operands p
+
+      after : List ℕ
+      after = with-start table f start
+
+      jumps-after : Jumping kinds operands after
+      jumps-after t q w = start-ends table f start q (omega (arith, room)) ∙ jumps t q w
+
+      whole : List ℕ
+      whole = starts-from (length gs) kinds operands (suc f) (p + length mine) after
 
       by : (g : ℕ) → g < length (k ∷ gs) →
           ((j : ℕ) → j < length gs →
-          start-in (starts-from (length gs) kinds operands (f + 1) (p + length (function-rows fs k))
-          (with-start table f (tree-start operands p))) (f + 1 + j)
-          ≡ p + length (function-rows fs k) + body-at fs gs j) →
-          start-in (starts-from (length gs) kinds operands (f + 1) (p + length (function-rows fs k))
-          (with-start table f (tree-start operands p))) (f + g) ≡ p + body-at fs (k ∷ gs) g
+          start-in whole (suc f + j) ≡ p + length mine + body-at fs T (suc f) gs j) →
+          start-in whole (f + g) ≡ p + body-at fs T f (k ∷ gs) g
       by zero l more =
-          let e = start-is k p (at-first kinds operands p (function-rows fs k) (functions-rows fs gs) h) (few .0
-          .parameters) in
-          ap (start-in (starts-from (length gs) kinds operands (f + 1) (p + length (function-rows fs k))
-          (with-start table f (tree-start operands p)))) (let z : f + 0 ≡ f = omega arith in z)
-          ∙ start-same (starts-from (length gs) kinds operands (f + 1) (p + length (function-rows fs k))
-          (with-start table f (tree-start operands p))) (with-start table f (tree-start operands p)) f
-          (λ i m. starts-below (length gs) (f + 1) (p + length (function-rows fs k)) (with-start table f
-          (tree-start operands p)) i m)
-          ∙ start-read table f (tree-start operands p) long (omega (arith, room)) (omega (
-            arith,
-            e,
-            short,
-            length-append (function-rows fs k) (functions-rows fs gs),
-            body-fits k,
-          ))
+          let e = start-is f k p here (few .0 .parameters) in
+          ap (start-in whole) (let z : f + 0 ≡ f = omega arith in z)
+          ∙ start-same kinds operands whole after f
+          (λ i m. starts-below kinds operands (length gs) (suc f) (p + length mine) after i (omega (arith, m)))
+          ∙ start-read table f start long (omega (arith, room))
+          (omega (arith, e, short, length-append mine rest, body-fits f k))
           ∙ e
       by (suc j) l more =
-          ap (start-in (starts-from (length gs) kinds operands (f + 1) (p + length (function-rows fs k))
-          (with-start table f (tree-start operands p)))) (let z : f + suc j ≡ f + 1 + j = omega arith in z)
+          ap (start-in whole) (let z : f + suc j ≡ suc f + j = omega arith in z)
           ∙ more j (omega arith)
-          ∙ (let z : p + length (function-rows fs k) + body-at fs gs j ≡ p + (length (function-rows fs k) + body-at
-          fs gs j) = omega arith in z)
+          ∙ (let z : p + length mine + body-at fs T (suc f) gs j ≡ p + (length mine + body-at fs T (suc f) gs j) =
+          omega arith in z)

@@ -10,7 +10,7 @@ use Rattle.semantics.specs.Basics.{updated}
 use Rattle.semantics.specs.Outcome.{onward, give, require}
 use Rattle.semantics.specs.Number.{is-zero, is-answer}
 use Rattle.semantics.specs.Kinds.{Leaf, operation, call, literal, index, length-of, iota, replicate, leaf-kind}
-use Rattle.semantics.specs.Kinds.{Loop, mapping, filtering, reducing, loop-kind}
+use Rattle.semantics.specs.Kinds.{Loop, mapping, filtering, reducing, loop-kind, Borrowing}
 use Rattle.semantics.specs.Store.{Store}
 use Rattle.semantics.specs.Code as K
 use Rattle.semantics.specs.Code.{atom-row, rows, line-rows, ending}
@@ -67,11 +67,12 @@ line-open kinds operands at (K.loop x k ps us t) h = rw (h .0 .kind) (loop-open 
 line-open kinds operands at (K.retain x) h = rw (h .0 .kind) refl
 line-open kinds operands at (K.release x) h = rw (h .0 .kind) refl
 
-module _ (free : ℕ) (p : Program) (enough : length (p .routines) ≤ 32) (callee : M.Callee) (Γ : NameDepths) (c : Code)
-    (calls f : ℕ) (C : Callee) (depths : (x : ℕ) → x < 256 → depth-in (c .table) f x ≡ Γ x) (jumps : Jumps c)
+module _ (free : ℕ) (p : Program) (enough : length (p .routines) ≤ 32) (callee : M.Callee) (β : Borrowing)
+    (Γ : NameDepths) (c : Code) (calls f : ℕ) (C : Callee)
+    (depths : (x : ℕ) → x < 256 → depth-in (c .table) f x ≡ Γ x) (jumps : Jumps c)
     (calling : CalleeSame free p calls C callee) where
   abbrev Claim : K.Tree → Type 0
-  Claim t = TreeClaim free p callee Γ c calls f C t
+  Claim t = TreeClaim free p callee β Γ c calls f C t
 
   -- the claims of the trees of a line
   abbrev LineClaims : K.Line → Type 0
@@ -99,11 +100,11 @@ module _ (free : ℕ) (p : Program) (enough : length (p .routines) ≤ 32) (call
         next (q + length (rows t)) ≡ goal → (m : ℕ) →
         Rel free (LineDone free goal calls env S (S ∪ only x))
         (and-then (W q m here) (λ w. binding calls x (next (w .out .next)) w))
-        (onward (λ w. give (updated ρ x w)) (work callee Γ t (after-branch x A) R ρ (with-left s m)))
+        (onward (λ w. give (updated ρ x w)) (work callee β Γ t (after-branch x A) R ρ (with-left s m)))
     unfolding with-left
     branch-same x new t claim lt d fit scoped q rs next goal e m =
         rel-then free (TreeDone free (q + length (rows t)) calls env S) (LineDone free goal calls env S (S ∪ only x))
-        (W q m here) (work callee Γ t (after-branch x A) R ρ (with-left s m))
+        (W q m here) (work callee β Γ t (after-branch x A) R ρ (with-left s m))
         (λ w. binding calls x (next (w .out .next)) w) (λ w. give (updated ρ x w))
         (claim n lt few S d fit scoped b q rs (after-branch x A) R ρ (with-left s m) env g framed levels)
         (λ w s′ h. (
@@ -116,13 +117,13 @@ module _ (free : ℕ) (p : Program) (enough : length (p .routines) ≤ 32) (call
         Known a S → New x S → Fitting p Γ t (Γ x) → Fitting p Γ e (Γ x) → Scoped t S → Scoped e S →
         At (c .kinds) (c .operands) (at + 2) (rows t ++ rows e) →
         Rel free (LineDone free (at + 2 + length (rows t) + length (rows e)) calls env S (S ∪ only x))
-        (if-line W (c .table) calls x (coded a) at (s .left) here) (work-line callee Γ (K.if-else x a t e) A R ρ s)
+        (if-line W (c .table) calls x (coded a) at (s .left) here) (work-line callee β Γ (K.if-else x a t e) A R ρ s)
     unfolding if-line work-line onward require with-left
     if-same x a t e claim-t claim-e lt le known new fit-t fit-e st se rs =
         rel-step free (LineDone free (at + 2 + length (rows t) + length (rows e)) calls env S (S ∪ only x)) s here
         (λ m. if-worked W (c .table) calls x at m here (word-of calls env (coded a)))
         (λ _ s′. onward (λ _ s″. onward (λ w. give (updated ρ x w))
-        (cond (is-zero (word ρ a)) (work callee Γ e (after-branch x A) R ρ) (work callee Γ t (after-branch x A) R ρ)
+        (cond (is-zero (word ρ a)) (work callee β Γ e (after-branch x A) R ρ) (work callee β Γ t (after-branch x A) R ρ)
         s″)) (require (is-answer (word ρ a)) 28 s′)) levels
         (λ m. rw (word-same calls env ρ S g a known) (answered m (word ρ a) (is-answer (word ρ a))))
       where
@@ -136,7 +137,7 @@ module _ (free : ℕ) (p : Program) (enough : length (p .routines) ≤ 32) (call
             Rel free (LineDone free (at + 2 + length (rows t) + length (rows e)) calls env S (S ∪ only x))
             (branch-worked W (c .table) calls x at m here v)
             (onward (λ w. give (updated ρ x w))
-            (cond (is-zero v) (work callee Γ e (after-branch x A) R ρ) (work callee Γ t (after-branch x A) R ρ)
+            (cond (is-zero v) (work callee β Γ e (after-branch x A) R ρ) (work callee β Γ t (after-branch x A) R ρ)
             (with-left s m)))
         go m v true q = rw (q, jumps t (at + 2) in-t)
             (branch-same x new e claim-e le (Γ x) fit-e se (at + 2 + length (rows t)) in-e (λ y. y) _ refl m)
@@ -148,7 +149,7 @@ module _ (free : ℕ) (p : Program) (enough : length (p .routines) ≤ 32) (call
             Rel free (LineDone free (at + 2 + length (rows t) + length (rows e)) calls env S (S ∪ only x))
             (cond yes (branch-worked W (c .table) calls x at m here v) (halted 28 m here))
             (onward (λ _ s′. onward (λ w. give (updated ρ x w))
-            (cond (is-zero v) (work callee Γ e (after-branch x A) R ρ) (work callee Γ t (after-branch x A) R ρ) s′))
+            (cond (is-zero v) (work callee β Γ e (after-branch x A) R ρ) (work callee β Γ t (after-branch x A) R ρ) s′))
             (require yes 28 (with-left s m)))
         answered m v true = go m v (is-zero v) refl
         answered m v false = record { stop = refl; real = λ z. omega arith; steps = refl; levels = levels }
@@ -165,7 +166,7 @@ module _ (free : ℕ) (p : Program) (enough : length (p .routines) ≤ 32) (call
 
     abbrev LineSame : K.Line → Doing → Type 0
     LineSame l d = Rel free (LineDone free (at + length (line-rows l)) calls env S (known-after l S))
-        (line-done W C c calls at (s .left) here d) (work-line callee Γ l A R ρ s)
+        (line-done W C c calls at (s .left) here d) (work-line callee β Γ l A R ρ s)
 
     -- any line
     line-same : (l : K.Line) → LineClaims l → length (line-rows l) ≤ n → LineFitting p Γ l → LineScoped l S →
@@ -174,9 +175,9 @@ module _ (free : ℕ) (p : Program) (enough : length (p .routines) ≤ 32) (call
     line-same (K.leaf x l us) claims lt fit h t rs =
         subst (λ (q : ℕ). Rel free (LineDone free q calls env S (S ∪ only x)) (line-done W C c calls at (s .left)
         here found)
-        (work-line callee Γ (K.leaf x l us) A R ρ s))
+        (work-line callee β Γ (K.leaf x l us) A R ρ s))
         (ap (λ (q : ℕ). at + suc q) (sym (length-map us atom-row)))
-        (leaf-same free p enough callee Γ c calls f C calling W at A R ρ s env S b g framed levels x (h .1) us (h .0)
+        (leaf-same free p enough callee β Γ c calls f C calling W at A R ρ s env S b g framed levels x (h .1) us (h .0)
         (at-first (c .kinds) (c .operands) (at + 1) (map atom-row us) (rows t) (rs .1)) (atoms-stop us t (rs .1))
         depths l fit (rs .0))
     line-same (K.if-else x u t₁ t₂) claims lt fit h t rs =
@@ -192,7 +193,7 @@ module _ (free : ℕ) (p : Program) (enough : length (p .routines) ≤ 32) (call
         (atom-here (c .kinds) (c .operands) (at + 1) u (small-known u S b (h .0)) (rs .1 .0)) refl)
         ∙ ap (λ (q : ℕ). branching q (coded u)) (let o : x % 256 ≡ x = omega (arith, h .1 .small) in o)))
         (subst (λ (q : ℕ). Rel free (LineDone free q calls env S (S ∪ only x))
-        (if-line W (c .table) calls x (coded u) at (s .left) here) (work-line callee Γ (K.if-else x u t₁ t₂) A R ρ
+        (if-line W (c .table) calls x (coded u) at (s .left) here) (work-line callee β Γ (K.if-else x u t₁ t₂) A R ρ
         s)) z
         (if-same x u t₁ t₂ (claims .0) (claims .1) (omega (arith, e, lt)) (omega (arith, e, lt)) (h .0) (h .1) (fit
         .1)
@@ -206,7 +207,7 @@ module _ (free : ℕ) (p : Program) (enough : length (p .routines) ≤ 32) (call
         let read = loop-read p Γ c calls at here S b x k ps us (atom-depth Γ (ending t₁)) (fit .0) (h .1) (h .2) (h .0)
         (rs .0) (at-first (c .kinds) (c .operands) (at + 1) (map atom-row us) (rows t₁) mine) in
         subst (LineSame (K.loop x k ps us t₁)) (sym (read .is))
-        (loop-same free p callee Γ c calls f C depths jumps n few S b at A R ρ s env g framed levels x k ps us t₁
+        (loop-same free p callee β Γ c calls f C depths jumps n few S b at A R ρ s env g framed levels x k ps us t₁
         (read .first)
         (read .second) (read .names) (h .1) (h .2) (h .0)
         claims (omega (arith, e, lt)) (atom-depth Γ (ending t₁)) (fit .1) (h .3)
@@ -216,9 +217,9 @@ module _ (free : ℕ) (p : Program) (enough : length (p .routines) ≤ 32) (call
         (at-second (c .kinds) (c .operands) (at + 1) (map atom-row us) (rows t₁) mine)) _
         (omega (arith, e, length-map us coded, length-map us atom-row)))
     line-same (K.retain x) claims lt fit h t rs =
-        retain-same free callee Γ c calls f C W at A R ρ s env S b g framed levels x h (rs .0)
+        retain-same free callee β Γ c calls f C W at A R ρ s env S b g framed levels x h (rs .0)
     line-same (K.release x) claims lt fit h t rs =
-        release-same free callee Γ c calls f C W at A R ρ s env S b g framed levels x h (rs .0)
+        release-same free callee β Γ c calls f C W at A R ρ s env S b g framed levels x h (rs .0)
 
   -- ---- trees
 
@@ -256,8 +257,8 @@ module _ (free : ℕ) (p : Program) (enough : length (p .routines) ≤ 32) (call
       )
       (rel-then free (LineDone free goal calls env S known) (TreeDone free (at + length (line-rows l ++ rows t))
       calls env S)
-      w (work-line callee Γ l (live t L) R ρ s)
-      (λ y. tree-on n C c calls (y .out .next) (y .out .steps) (y .memory)) (λ ρ′. work callee Γ t L R ρ′)
+      w (work-line callee β Γ l (live t L) R ρ s)
+      (λ y. tree-on n C c calls (y .out .next) (y .out .steps) (y .memory)) (λ ρ′. work callee β Γ t L R ρ′)
       (line-same n (omega (arith, few)) S b at (live t L) R ρ s env g framed levels l claims
       (omega (arith, len, rows-some t, lt)) (fit .0) (sc .0) t rs)
       (λ ρ′ s′ h. then-tree ρ′ s′ h))
@@ -278,15 +279,15 @@ module _ (free : ℕ) (p : Program) (enough : length (p .routines) ≤ 32) (call
 
       then-tree : (ρ′ : Frame) (s′ : State) → LineDone free goal calls env S known w ρ′ s′ →
           Rel free (TreeDone free (at + length (line-rows l ++ rows t)) calls env S)
-          (tree-on n C c calls (w .out .next) (w .out .steps) (w .memory)) (work callee Γ t L R ρ′ s′)
+          (tree-on n C c calls (w .out .next) (w .out .steps) (w .memory)) (work callee β Γ t L R ρ′ s′)
       then-tree ρ′ s′ h =
           subst (λ (y : Ran). Rel free (TreeDone free (at + length (line-rows l ++ rows t)) calls env S) y
-          (work callee Γ t L R ρ′ s′))
+          (work callee β Γ t L R ρ′ s′))
           (sym (moved (tree-on n C c calls) (w .out .next) goal (w .out .steps) (s′ .left) (w .memory) (s′ .store)
           (h .next) (h .steps) (h .store)))
           (rel-map free (TreeDone free (goal + length (rows t)) calls (w .memory .env) known)
           (TreeDone free (at + length (line-rows l ++ rows t)) calls env S)
-          (tree-on n C c calls goal (s′ .left) (memory (s′ .store) (w .memory .env))) (work callee Γ t L R ρ′ s′)
+          (tree-on n C c calls goal (s′ .left) (memory (s′ .store) (w .memory .env))) (work callee β Γ t L R ρ′ s′)
           (λ v s″ q. record {
             next = q .next ∙ omega (arith, len);
             word = word-kept free calls env (w .memory .env) S known (known-stays l S) (h .kept) _ v s″ (q .word);

@@ -5,7 +5,7 @@ ghost use Prim.Native.Nat.{_+_, _-_, _≤_, min};
 ghost use lib.IntN.{pos};
 ghost use lib.ListN.{length, take, drop, replicate};
 ghost use Rattle.semantics.specs.File.{script};
-ghost use Rattle.normal_script.specs.Script.{Translatable};
+ghost use Rattle.normal_plain.specs.Script.{Translatable};
 ghost use Rattle.normal_script.specs.Depths.{Depths-by};
 ghost use Rattle.normal.specs.Left.{laid-outcome, Leaves};
 

@@ -5,7 +5,7 @@ use Prim.Native.Nat.{ℕ, _+_, _*_}
 use lib.Dec.{ltb}
 use lib.ListN.{getD, length}
 use Rattle.semantics.specs.Basics.{with-if}
-use Rattle.semantics.specs.Kinds.{Leaf, leaf-kind, leaf-operand, leaf-hands, leaf-reads, is-pending}
+use Rattle.semantics.specs.Kinds.{Leaf, leaf-kind, leaf-operand, leaf-hands, leaf-reads, is-pending, Borrowing}
 use Rattle.semantics.specs.Kinds.{Loop, loop-kind, loop-reads, element-name, packed-names}
 use Rattle.semantics.specs.Code.{Atom, number, name, Row, row, atom-row}
 use Rattle.semantics.specs.Live.{Set, empty, only, just, among, _∪_}
@@ -35,14 +35,6 @@ module _ (Γ : NameDepths) where
   handed-one (number z) S = []
   handed-one (name x) S = with-if (is-array Γ x && S x) x []
 
-  -- a leaf's line, with the retains before it and those and the releases after it; A is live after the line
-  abbrev pub leaf-part : ℕ → Leaf → List Atom → Set → List Row
-  leaf-part x l us A =
-      retain-rows (handed-again Γ (leaf-hands l us) (among (leaf-reads l us) empty ∪ A))
-      ++ ((row (leaf-kind l) (leaf-operand l x (length us)) ∷ map atom-row us)
-      ++ (retain-rows (with-if (is-pending l && is-array Γ x) x [])
-      ++ release-rows (dying Γ (among (leaf-reads l us) empty ∪ only x) A)))
-
   -- a line whose atoms are all handed over, after its first row
   abbrev pub handing : ℕ → Row → List Atom → Set → List Row
   handing x r us A = retain-rows (handed-again Γ us A) ++ ((r ∷ map atom-row us) ++ release-rows (dying Γ (only x) A))
@@ -59,3 +51,12 @@ module _ (Γ : NameDepths) where
   -- a tree's end, after which L is live
   abbrev pub ending : Atom → Set → List Row
   ending a L = retain-rows (handed-one a L) ++ (row 16 0 ∷ (atom-row a ∷ []))
+
+-- a leaf's line, over the places that are borrowed, with the retains before it and those and the releases after it;
+-- A is live after the line
+abbrev pub leaf-part : Borrowing → NameDepths → ℕ → Leaf → List Atom → Set → List Row
+leaf-part B Γ x l us A =
+    retain-rows (handed-again Γ (leaf-hands B l us) (among (leaf-reads B l us) empty ∪ A))
+    ++ ((row (leaf-kind l) (leaf-operand l x (length us)) ∷ map atom-row us)
+    ++ (retain-rows (with-if (is-pending l && is-array Γ x) x [])
+    ++ release-rows (dying Γ (among (leaf-reads B l us) empty ∪ only x) A)))

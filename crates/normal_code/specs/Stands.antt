@@ -2,7 +2,9 @@
 -- and each name's row to the row of the use before it.
 use mathlib.Core.Path.{_≡_}
 use mathlib.Core.List.{List, [], _∷_}
-use Prim.Native.Nat.{ℕ, _+_, _-_, _<_, _≤_}
+use mathlib.Core.Bool.{false}
+use Prim.Native.Nat.{ℕ, _+_, _-_, _%_, _<_, _≤_}
+use lib.Dec.{eqb}
 use lib.ListN.{getD, length}
 use Rattle.semantics.specs.Kinds.{call, literal}
 use Rattle.semantics.specs.Code as C
@@ -25,13 +27,14 @@ module _ (F : Plain) where
       let k = loop-of kind in
       C.loop x k (of-loop k y z) (of-loop k (meant a) (meant b)) t
 
-  -- the rows from p on are those of a line whose trees are t and e
+  -- the rows from p on are those of a line whose trees are t and e, and not of an end
   abbrev pub LineAt : ℕ → Tree → Tree → C.Line → Type 0
-  LineAt p t e l = line-with p t e (line-at (F .operands) (F .rows) p) ≡ l
+  LineAt p t e l =
+      (line-with p t e (line-at (F .operands) (F .rows) p) ≡ l) × (eqb (getD (F .rows) p 0 % 256) 16 ≡ false)
 
-  -- the row after p is that of an end's atom
+  -- the row p is an end's, and the row after it its atom's
   abbrev pub EndAt : ℕ → C.Atom → Type 0
-  EndAt p a = meant (placed (F .operands) (getD (F .rows) (p + 1) 0)) ≡ a
+  EndAt p a = (meant (placed (F .operands) (getD (F .rows) (p + 1) 0)) ≡ a) × (getD (F .rows) p 0 % 256 ≡ 16)
 
   -- a tree begins at row p: no line of its own tree stands before it
   abbrev pub Begins : ℕ → Type 0

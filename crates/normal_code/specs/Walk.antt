@@ -5,7 +5,7 @@ use mathlib.Core.List.{List, [], _∷_, _++_}
 use Prim.Native.Nat.{ℕ, zero, suc, _+_, _-_}
 use lib.Dec.{ltb}
 use lib.ListN.{getD, length}
-use Rattle.semantics.specs.Kinds.{Leaf, call, literal, Loop}
+use Rattle.semantics.specs.Kinds.{Leaf, call, literal, Loop, Borrowing}
 use Rattle.semantics.specs.Kinds.{loop-hands, loop-reads}
 use Rattle.semantics.specs.Code as C
 use Rattle.semantics.specs.Code.{Row, row, atom-row}
@@ -57,7 +57,8 @@ put rs P = point (P .names) (P .marks) (rs ++ P .rows)
 abbrev pub with-names : Set → Point → Point
 with-names A P = point A (P .marks) (P .rows)
 
-module _ (F : Plain) (Γ : NameDepths) where
+-- over the places that are borrowed and the depths of a function's names
+module _ (F : Plain) (B : Borrowing) (Γ : NameDepths) where
   -- the uses of some atoms from row r on taken back
   abbrev pub taken : ℕ → List C.Atom → Point → Point
   taken r us P = point (among us (P .names)) (unmarked-all (F .notes) r us (P .marks)) (P .rows)
@@ -68,15 +69,15 @@ module _ (F : Plain) (Γ : NameDepths) where
 
   -- a leaf's line at row p
   unfoldable pub leaf-walk : ℕ → ℕ → Leaf → List C.Atom → Point → Point
-  leaf-walk p x l us P = taken (p + 1) us (with-names (P .names ∖ x) (put (leaf-part Γ x l us (P .names)) P))
+  leaf-walk p x l us P = taken (p + 1) us (with-names (P .names ∖ x) (put (leaf-part B Γ x l us (P .names)) P))
 
   -- over the walk W of the tree whose end line is at a row
   module _ (W : ℕ → Point → Point) where
-    -- the first tree of an if at p, after which B is live; E is the point before its second
+    -- the first tree of an if at p, after which A is live; E is the point before its second
     unfoldable pub then-walk : ℕ → ℕ → Set → Point → Point
-    then-walk p x B E =
+    then-walk p x A E =
         W (then-end (F .notes) p)
-        (with-names B (put (release-rows (dying Γ (used-since x (p + 2) E) (E .names))) E))
+        (with-names A (put (release-rows (dying Γ (used-since x (p + 2) E) (E .names))) E))
 
     abbrev pub if-head : ℕ → ℕ → C.Atom → Point → Point → Point
     if-head p x g E T =
@@ -99,16 +100,16 @@ module _ (F : Plain) (Γ : NameDepths) where
     pass-names p x m P = outer-names p x m P ∪ P .names ∖ x
 
     abbrev pub loop-head : ℕ → ℕ → Loop → List ℕ → List C.Atom → Set → Point → Point
-    loop-head p x k ps us B T =
-        taken (p + 1) us (with-names B
-        (put (retain-rows (handed-again Γ (loop-hands k us) (among (loop-reads k us) B)))
+    loop-head p x k ps us A T =
+        taken (p + 1) us (with-names A
+        (put (retain-rows (handed-again Γ (loop-hands k us) (among (loop-reads k us) A)))
         (put (loop-own x k ps us) (put (pass-opening Γ k ps (T .names)) T))))
 
     -- the tree of a loop that stands from p to before q, and its own rows
     unfoldable pub loop-tree : ℕ → ℕ → ℕ → Loop → List ℕ → List C.Atom → Point → Point
     loop-tree p q x k ps us P =
-        let B = pass-names p x (length us) P in
-        loop-head p x k ps us B (W (q - 2) (with-names B P))
+        let A = pass-names p x (length us) P in
+        loop-head p x k ps us A (W (q - 2) (with-names A P))
 
     unfoldable pub loop-walk : ℕ → ℕ → ℕ → Loop → List ℕ → List C.Atom → Point → Point
     loop-walk p q x k ps us P =

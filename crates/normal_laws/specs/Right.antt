@@ -6,7 +6,7 @@ use native.Mathlib.Omega.{arith}
 use native.Mathlib.Decide.{ℕ-discrete}
 use borrow.Author.Tests.{lt-ltb, le-ltb}
 use Rattle.semantics.specs.Basics.{updated}
-use Rattle.semantics.specs.Kinds.{Leaf}
+use Rattle.semantics.specs.Kinds.{Leaf, Borrowing}
 use Rattle.semantics.specs.Code as C
 use Rattle.semantics.specs.Code.{Tree, end, line, Row, rows}
 use Rattle.semantics.specs.Live.{Set, among, live, live-before}
@@ -62,37 +62,38 @@ unfolding spine extent
 spine-few (end a) = omega arith
 spine-few (line l t) = omega (arith, spine-few t, line-some l)
 
-module _ (F : Plain) (Γ : NameDepths) where
+module _ (F : Plain) (B : Borrowing) (Γ : NameDepths) where
   -- ---- what is claimed
 
   -- of the tree t from row p on, with d levels
   abbrev pub TreeRight : ℕ → Tree → ℕ → Marks → Type 0
   TreeRight d t p M = (e : ℕ) → e ≡ p + extent t - 2 → (L : Set) (rs : List Row) →
-      tree-walk F Γ d e (point L (marks t p M) rs) ≡ point (live t L) M (rows (annotate Γ t L) ++ rs)
+      tree-walk F B Γ d e (point L (marks t p M) rs) ≡ point (live t L) M (rows (annotate B Γ t L) ++ rs)
 
   -- of its lines, from the last to the first
   abbrev pub BackRight : ℕ → Tree → ℕ → Marks → Type 0
   BackRight d t p M = (e f : ℕ) → e ≡ p + extent t - 2 → (L : Set) (rs : List Row) →
-      back-walk F Γ (tree-walk F Γ d) (f + spine t) e (end-walk F Γ e (point L (marks t p M) rs))
-      ≡ back-walk F Γ (tree-walk F Γ d) f p (point (live t L) M (rows (annotate Γ t L) ++ rs))
+      back-walk F B Γ (tree-walk F B Γ d) (f + spine t) e (end-walk F B Γ e (point L (marks t p M) rs))
+      ≡ back-walk F B Γ (tree-walk F B Γ d) f p (point (live t L) M (rows (annotate B Γ t L) ++ rs))
 
   -- of a line before the tree k
   abbrev pub LineRight : ℕ → C.Line → ℕ → Marks → Type 0
   LineRight d l p M = (A : Set) (k : Tree) (rs : List Row) →
-      line-walk F Γ (tree-walk F Γ d) p (p + line-extent l) (line-at (F .operands) (F .rows) p)
+      line-walk F B Γ (tree-walk F B Γ d) p (p + line-extent l) (line-at (F .operands) (F .rows) p)
       (point A (line-marks l p M) (rows k ++ rs))
-      ≡ point (live-before l A) M (rows (annotate-line Γ l A k) ++ rs)
+      ≡ point (live-before l A) M (rows (annotate-line B Γ l A k) ++ rs)
 
   -- ---- a tree by its lines
 
   module _ (W : ℕ → Point → Point) where
-    back-stops : (f p : ℕ) (P : Point) → Begins F p → back-walk F Γ W f p P ≡ P
+    back-stops : (f p : ℕ) (P : Point) → Begins F p → back-walk F B Γ W f p P ≡ P
     unfolding back-walk
     back-stops zero p P h = refl
     back-stops (suc f) p P h = rw (le-ltb (note (F .notes) p) p h)
 
     pub back-goes : (f q p : ℕ) (P : Point) → note (F .notes) q ≡ p → p < q →
-        back-walk F Γ W (suc f) q P ≡ back-walk F Γ W f p (line-walk F Γ W p q (line-at (F .operands) (F .rows) p) P)
+        back-walk F B Γ W (suc f) q P
+        ≡ back-walk F B Γ W f p (line-walk F B Γ W p q (line-at (F .operands) (F .rows) p) P)
     unfolding back-walk
     back-goes f q p P e h = rw (e, lt-ltb p q h)
 
@@ -101,10 +102,10 @@ module _ (F : Plain) (Γ : NameDepths) where
       TreeRight (suc d) t p M
   unfolding tree-walk
   tree-from d t p M h g b e q L rs =
-      ap (λ (n : ℕ). back-walk F Γ (tree-walk F Γ d) n e (end-walk F Γ e (point L (marks t p M) rs)))
+      ap (λ (n : ℕ). back-walk F B Γ (tree-walk F B Γ d) n e (end-walk F B Γ e (point L (marks t p M) rs)))
       (let i : 4096 ≡ 4096 - spine t + spine t = omega (arith, spine-few t) in i)
       ∙ b e (4096 - spine t) q L rs
-      ∙ back-stops (tree-walk F Γ d) (4096 - spine t) p _ h
+      ∙ back-stops (tree-walk F B Γ d) (4096 - spine t) p _ h
 
   pub at-level : (d : ℕ) (t : Tree) (p : ℕ) (M : Marks) → 0 < d → TreeRight (suc (d - 1)) t p M → TreeRight d t p M
   at-level d t p M h r =
@@ -116,24 +117,24 @@ module _ (F : Plain) (Γ : NameDepths) where
   end-right d a p M s e f q L rs =
       let i : f + 0 ≡ f = omega arith in
       let j : e ≡ p = omega arith in
-      rw (i, j, s .0)
-      (ap (back-walk F Γ (tree-walk F Γ d) f p)
-      (same-point refl (back-all F (a ∷ []) (p + 1) M (s .1, tt)) (end-rows Γ a L rs)))
+      rw (i, j, s .0 .0)
+      (ap (back-walk F B Γ (tree-walk F B Γ d) f p)
+      (same-point refl (back-all F (a ∷ []) (p + 1) M (s .1, tt)) (end-rows B Γ a L rs)))
 
   -- ---- lines
 
   module _ (W : ℕ → Point → Point) where
     -- the walk of a line that stands from p to before q
     unfoldable pub walk-over : ℕ → ℕ → C.Line → Point → Point
-    walk-over p q (C.leaf x l us) P = leaf-walk F Γ p x l us P
-    walk-over p q (C.if-else x g t e) P = if-walk F Γ W p q x g P
-    walk-over p q (C.loop x k ps us t) P = loop-walk F Γ W p q x k ps us P
+    walk-over p q (C.leaf x l us) P = leaf-walk F B Γ p x l us P
+    walk-over p q (C.if-else x g t e) P = if-walk F B Γ W p q x g P
+    walk-over p q (C.loop x k ps us t) P = loop-walk F B Γ W p q x k ps us P
     walk-over p q (C.retain x) P = P
     walk-over p q (C.release x) P = P
 
     -- each row's line is walked as the line of code that it stands for
     walks-over : (p q : ℕ) (t e : Tree) (l : Line) (P : Point) →
-        line-walk F Γ W p q l P ≡ walk-over p q (line-with F p t e l) P
+        line-walk F B Γ W p q l P ≡ walk-over p q (line-with F p t e l) P
     unfolding line-walk line-with walk-over
     walks-over p q t e (L.Unary x kind a) P = refl
     walks-over p q t e (L.Binary x kind a b) P = refl
@@ -144,13 +145,13 @@ module _ (F : Plain) (Γ : NameDepths) where
 
     -- where the rows from p on are those of a line, the walk there is that line's
     pub at-line : (p q : ℕ) (t e : Tree) (l : C.Line) (P : Point) → LineAt F p t e l →
-        line-walk F Γ W p q (line-at (F .operands) (F .rows) p) P ≡ walk-over p q l P
+        line-walk F B Γ W p q (line-at (F .operands) (F .rows) p) P ≡ walk-over p q l P
     at-line p q t e l P h =
-        walks-over p q t e (line-at (F .operands) (F .rows) p) P ∙ ap (λ (m : C.Line). walk-over p q m P) h
+        walks-over p q t e (line-at (F .operands) (F .rows) p) P ∙ ap (λ (m : C.Line). walk-over p q m P) (h .0)
 
   pub leaf-right : (d x : ℕ) (l : Leaf) (us : List C.Atom) (p : ℕ) (M : Marks) → StandsLine F d (C.leaf x l us) p M →
       LineRight d (C.leaf x l us) p M
   unfolding walk-over leaf-walk marks live
   leaf-right d x l us p M s A k rs =
       at-line _ p _ _ _ (C.leaf x l us) _ (s .0)
-      ∙ same-point refl (back-all F us (p + 1) M (s .1)) (leaf-rows Γ x l us A k rs)
+      ∙ same-point refl (back-all F us (p + 1) M (s .1)) (leaf-rows B Γ x l us A k rs)

@@ -4,7 +4,7 @@ use mathlib.Core.Bool.{_&&_}
 use mathlib.Core.List.{List, [], _∷_, _++_, append-assoc, map-append}
 use Prim.Native.Nat.{ℕ, _+_}
 use Rattle.semantics.specs.Basics.{with-if}
-use Rattle.semantics.specs.Kinds.{Leaf, leaf-hands, leaf-reads, is-pending, Loop}
+use Rattle.semantics.specs.Kinds.{Leaf, leaf-hands, leaf-reads, is-pending, Loop, Borrowing}
 use Rattle.semantics.specs.Code.{Atom, number, name, Line, leaf, if-else, loop, Tree, end, line}
 use Rattle.semantics.specs.Code.{retain-all, release-all, Row, row, atom-row, rows, line-rows}
 use Rattle.semantics.specs.Live.{Set, empty, only, among, _∪_}
@@ -70,15 +70,15 @@ loop-shape x j ps us hs ns ds os ws t k rs =
     (map-append _ os ws)
     ∙ ap (λ (l : List Row). l ++ rs) (around hs [] (os ++ ws) (loop x j ps us (retain-all ns (release-all ds t))) k)
 
-module _ (Γ : NameDepths) where
+module _ (B : Borrowing) (Γ : NameDepths) where
   pub leaf-rows : (x : ℕ) (l : Leaf) (us : List Atom) (A : Set) (k : Tree) (rs : List Row) →
-      leaf-part Γ x l us A ++ (rows k ++ rs) ≡ rows (annotate-line Γ (leaf x l us) A k) ++ rs
+      leaf-part B Γ x l us A ++ (rows k ++ rs) ≡ rows (annotate-line B Γ (leaf x l us) A k) ++ rs
   unfolding annotate rows
   leaf-rows x l us A k rs =
-      sym (append-assoc (leaf-part Γ x l us A) (rows k) rs)
-      ∙ ap (λ (qs : List Row). qs ++ rs) (around (handed-again Γ (leaf-hands l us) (among (leaf-reads l us) empty ∪
+      sym (append-assoc (leaf-part B Γ x l us A) (rows k) rs)
+      ∙ ap (λ (qs : List Row). qs ++ rs) (around (handed-again Γ (leaf-hands B l us) (among (leaf-reads B l us) empty ∪
       A))
-      (with-if (is-pending l && is-array Γ x) x []) (dying Γ (among (leaf-reads l us) empty ∪ only x) A)
+      (with-if (is-pending l && is-array Γ x) x []) (dying Γ (among (leaf-reads B l us) empty ∪ only x) A)
       (leaf x l us) k)
 
   handed-alone : (a : Atom) (L : Set) → handed-one Γ a L ≡ handed-again Γ (a ∷ []) L
@@ -86,7 +86,7 @@ module _ (Γ : NameDepths) where
   handed-alone (number z) L = refl
   handed-alone (name x) L = refl
 
-  pub end-rows : (a : Atom) (L : Set) (rs : List Row) → ending Γ a L ++ rs ≡ rows (annotate Γ (end a) L) ++ rs
+  pub end-rows : (a : Atom) (L : Set) (rs : List Row) → ending Γ a L ++ rs ≡ rows (annotate B Γ (end a) L) ++ rs
   unfolding annotate rows
   end-rows a L rs =
       ap (λ (xs : List ℕ). (retain-rows xs ++ rows (end a)) ++ rs) (handed-alone a L)

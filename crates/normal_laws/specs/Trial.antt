@@ -4,7 +4,7 @@ use mathlib.Core.List.{[], _∷_, _++_}
 use native.Mathlib.Omega.{arith}
 use Rattle.semantics.specs.Basics.{updated}
 use Rattle.semantics.specs.Syntax.{Function, name, if-else, loop, none, more}
-use Rattle.semantics.specs.Kinds.{mapping, reducing}
+use Rattle.semantics.specs.Kinds.{mapping, reducing, Borrowing}
 use Rattle.semantics.specs.Code.{rows}
 use Rattle.semantics.specs.Live.{empty, uses}
 use Rattle.semantics.specs.Normal.{normal, normal-body, parameter-names, lines, atom, fresh}
@@ -35,23 +35,23 @@ unfolding sample sample-code normal-body normal lines atom fresh parameter-names
     marked-all updated extent marks
 sample-stands = (
   (
-    refl,
+    (refl, refl),
     refl,
     omega arith,
     (refl, omega arith),
-    (refl, refl),
-    ((refl, (refl, tt), omega arith, omega arith, (refl, refl)), refl, (refl, refl)),
+    ((refl, refl), refl),
+    (((refl, refl), (refl, tt), omega arith, omega arith, ((refl, refl), refl)), refl, ((refl, refl), refl)),
   ),
   refl,
-  (refl, refl),
+  ((refl, refl), refl),
 )
 
 -- the walk of it, from the row of its last end on
-pub sample-walk : (Γ : NameDepths) →
-    tree-walk sample-code Γ 3 10 (point empty (marks (normal-body sample) 0 (λ _. 0)) [])
-    ≡ point (uses (normal-body sample)) (λ _. 0) (rows (annotate Γ (normal-body sample) empty) ++ [])
+pub sample-walk : (B : Borrowing) (Γ : NameDepths) →
+    tree-walk sample-code B Γ 3 10 (point empty (marks (normal-body sample) 0 (λ _. 0)) [])
+    ≡ point (uses (normal-body sample)) (λ _. 0) (rows (annotate B Γ (normal-body sample) empty) ++ [])
 unfolding sample normal-body normal lines atom fresh extent
-sample-walk Γ = body-walk sample-code Γ sample 2 sample-stands (omega arith) empty []
+sample-walk B Γ = body-walk sample-code B Γ sample 2 sample-stands (omega arith) empty []
 
 -- a reduce from the first parameter over the second that gives each element
 unfoldable pub reduced : Function
@@ -71,10 +71,14 @@ reduced-code =
 reduced-stands : Stands reduced-code 1 (normal-body reduced) 0 (λ _. 0)
 unfolding reduced reduced-code normal-body normal lines atom fresh parameter-names line-at placed line-with marked
     marked-all updated extent marks
-reduced-stands = ((refl, (refl, (refl, tt)), omega arith, omega arith, (refl, refl)), refl, (refl, refl))
+reduced-stands = (
+  ((refl, refl), (refl, (refl, tt)), omega arith, omega arith, ((refl, refl), refl)),
+  refl,
+  ((refl, refl), refl),
+)
 
-pub reduced-walk : (Γ : NameDepths) →
-    tree-walk reduced-code Γ 2 5 (point empty (marks (normal-body reduced) 0 (λ _. 0)) [])
-    ≡ point (uses (normal-body reduced)) (λ _. 0) (rows (annotate Γ (normal-body reduced) empty) ++ [])
+pub reduced-walk : (B : Borrowing) (Γ : NameDepths) →
+    tree-walk reduced-code B Γ 2 5 (point empty (marks (normal-body reduced) 0 (λ _. 0)) [])
+    ≡ point (uses (normal-body reduced)) (λ _. 0) (rows (annotate B Γ (normal-body reduced) empty) ++ [])
 unfolding reduced normal-body normal lines atom fresh extent
-reduced-walk Γ = body-walk reduced-code Γ reduced 1 reduced-stands (omega arith) empty []
+reduced-walk B Γ = body-walk reduced-code B Γ reduced 1 reduced-stands (omega arith) empty []

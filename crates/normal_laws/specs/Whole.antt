@@ -6,7 +6,7 @@ use Prim.Native.Nat.{ℕ, suc, _+_, _-_, _≤_}
 use native.Mathlib.Omega.{arith}
 use lib.ListN.{length}
 use borrow.Author.Tests.{lt-ltb}
-use Rattle.semantics.specs.Kinds.{Loop, loop-hands, loop-reads, element-name}
+use Rattle.semantics.specs.Kinds.{Loop, loop-hands, loop-reads, element-name, Borrowing}
 use Rattle.semantics.specs.Code as C
 use Rattle.semantics.specs.Code.{Tree, end, line, Row, row, atom-row, rows}
 use Rattle.semantics.specs.Code.{retain-all, release-all}
@@ -29,58 +29,58 @@ use Rattle.normal_laws.specs.Rows.{if-shape, loop-shape}
 use Rattle.normal_laws.specs.Right.{same-point, back-all, spine, line-some, TreeRight, BackRight, LineRight}
 use Rattle.normal_laws.specs.Right.{back-goes, tree-from, at-level, end-right, walk-over, at-line, leaf-right}
 
-module _ (F : Plain) (Γ : NameDepths) where
+module _ (F : Plain) (B : Borrowing) (Γ : NameDepths) where
   -- ---- an if
 
   module _ (d x : ℕ) (g : C.Atom) (t e : Tree) (p : ℕ) (M : Marks) (h : LineAt F p t e (C.if-else x g t e))
       (n : Linked F g (p + 1) M) (second : note (F .notes) (p + 2) ≡ p + 2 + extent t)
       (i : Inner x (uses t) (binds t)) (j : Inner x (uses e) (binds e)) (low : Low M p)
       (room : p + 2 + extent t ≤ 4096)
-      (rt : TreeRight F Γ d t (p + 2) (marked g (p + 1) M))
-      (re : TreeRight F Γ d e (p + 2 + extent t) (marks t (p + 2) (marked g (p + 1) M))) where
+      (rt : TreeRight F B Γ d t (p + 2) (marked g (p + 1) M))
+      (re : TreeRight F B Γ d e (p + 2 + extent t) (marks t (p + 2) (marked g (p + 1) M))) where
     -- the note at the first tree's first row says where that tree ends
     then-end-is : then-end (F .notes) p ≡ p + 2 + extent t - 2
     unfolding then-end
     then-end-is = rw (second, lt-ltb (p + 2 + extent t) 4098 (omega arith))
 
     -- the first tree, and the releases that open the second
-    then-right : (B : Set) (rs : List Row) →
-        then-walk F Γ (tree-walk F Γ d) p x B (point (live e B) (marks t (p + 2) (marked g (p + 1) M)) rs)
-        ≡ point (live t B) (marked g (p + 1) M)
-        (rows (annotate Γ t B) ++ (release-rows (dying Γ (uses t) (live e B)) ++ rs))
+    then-right : (L : Set) (rs : List Row) →
+        then-walk F B Γ (tree-walk F B Γ d) p x L (point (live e L) (marks t (p + 2) (marked g (p + 1) M)) rs)
+        ≡ point (live t L) (marked g (p + 1) M)
+        (rows (annotate B Γ t L) ++ (release-rows (dying Γ (uses t) (live e L)) ++ rs))
     unfolding then-walk
-    then-right B rs =
-        ap (λ (U : Set). tree-walk F Γ d (then-end (F .notes) p) (point B (marks t (p + 2) (marked g (p + 1) M))
-        (release-rows (dying Γ U (live e B)) ++ rs)))
+    then-right L rs =
+        ap (λ (U : Set). tree-walk F B Γ d (then-end (F .notes) p) (point L (marks t (p + 2) (marked g (p + 1) M))
+        (release-rows (dying Γ U (live e L)) ++ rs)))
         (branch-uses x t (p + 2) (low-atom g p low) i)
-        ∙ rt (then-end (F .notes) p) then-end-is B (release-rows (dying Γ (uses t) (live e B)) ++ rs)
+        ∙ rt (then-end (F .notes) p) then-end-is L (release-rows (dying Γ (uses t) (live e L)) ++ rs)
 
     -- the releases that open the first tree, and the if's own rows
     if-rows : (A : Set) (k : Tree) (rs : List Row) →
         (row 12 x ∷ (atom-row g ∷ []))
         ++ (release-rows (dying Γ (below x (live e (A ∖ x))) (live t (A ∖ x)))
-        ++ (rows (annotate Γ t (A ∖ x)) ++ (release-rows (dying Γ (uses t) (live e (A ∖ x)))
-        ++ (rows (annotate Γ e (A ∖ x)) ++ (release-rows (dying Γ (only x) A) ++ (rows k ++ rs))))))
-        ≡ rows (annotate-line Γ (C.if-else x g t e) A k) ++ rs
+        ++ (rows (annotate B Γ t (A ∖ x)) ++ (release-rows (dying Γ (uses t) (live e (A ∖ x)))
+        ++ (rows (annotate B Γ e (A ∖ x)) ++ (release-rows (dying Γ (only x) A) ++ (rows k ++ rs))))))
+        ≡ rows (annotate-line B Γ (C.if-else x g t e) A k) ++ rs
     unfolding annotate
     if-rows A k rs =
-        let B = A ∖ x in
-        if-shape x g (dying Γ (below x (live e B)) (live t B)) (dying Γ (uses t) (live e B)) (dying Γ (only x) A)
-        (annotate Γ t B) (annotate Γ e B) k rs
-        ∙ ap (λ (ts : List ℕ). rows (line (C.if-else x g (release-all ts (annotate Γ t B))
-        (release-all (dying Γ (uses t) (live e B)) (annotate Γ e B))) (release-all (dying Γ (only x) A) k)) ++ rs)
-        (branch-releases Γ x t e B i j)
+        let L = A ∖ x in
+        if-shape x g (dying Γ (below x (live e L)) (live t L)) (dying Γ (uses t) (live e L)) (dying Γ (only x) A)
+        (annotate B Γ t L) (annotate B Γ e L) k rs
+        ∙ ap (λ (ts : List ℕ). rows (line (C.if-else x g (release-all ts (annotate B Γ t L))
+        (release-all (dying Γ (uses t) (live e L)) (annotate B Γ e L))) (release-all (dying Γ (only x) A) k)) ++ rs)
+        (branch-releases Γ x t e L i j)
 
-    pub if-right : LineRight F Γ d (C.if-else x g t e) p M
+    pub if-right : LineRight F B Γ d (C.if-else x g t e) p M
     unfolding walk-over if-walk if-trees marks extent live among marked-all
     if-right A k rs =
-        let W = tree-walk F Γ d in
-        let after = rows (annotate Γ e (A ∖ x)) ++ (release-rows (dying Γ (only x) A) ++ (rows k ++ rs)) in
-        at-line F Γ W p _ t e (C.if-else x g t e) _ h
-        ∙ ap (λ (E : Point). if-head F Γ W p x g E (then-walk F Γ W p x (A ∖ x) E))
+        let W = tree-walk F B Γ d in
+        let after = rows (annotate B Γ e (A ∖ x)) ++ (release-rows (dying Γ (only x) A) ++ (rows k ++ rs)) in
+        at-line F B Γ W p _ t e (C.if-else x g t e) _ h
+        ∙ ap (λ (E : Point). if-head F B Γ W p x g E (then-walk F B Γ W p x (A ∖ x) E))
         (re (p + (2 + extent t + extent e) - 2) (omega arith) (A ∖ x) (release-rows (dying Γ (only x) A) ++ (rows k
         ++ rs)))
-        ∙ ap (if-head F Γ W p x g (point (live e (A ∖ x)) (marks t (p + 2) (marked g (p + 1) M)) after))
+        ∙ ap (if-head F B Γ W p x g (point (live e (A ∖ x)) (marks t (p + 2) (marked g (p + 1) M)) after))
         (then-right (A ∖ x) after)
         ∙ same-point refl (back-all F (g ∷ []) (p + 1) M (n, tt)) (if-rows A k rs)
 
@@ -89,7 +89,7 @@ module _ (F : Plain) (Γ : NameDepths) where
   module _ (d x : ℕ) (j : Loop) (ps : List ℕ) (us : List C.Atom) (t : Tree) (p : ℕ) (M : Marks)
       (h : LineAt F p t t (C.loop x j ps us t)) (n : LinkedAll F us (p + 1) M)
       (inner : Inner x (among us empty ∪ uses t ∖∖ ps) (just ps ∪ binds t)) (low : Low M p)
-      (rt : TreeRight F Γ d t (p + 1 + length us) (marked-all us (p + 1) M)) where
+      (rt : TreeRight F B Γ d t (p + 1 + length us) (marked-all us (p + 1) M)) where
     -- the rows of last uses tell the outer names that the tree uses
     outer-is : below x (since (p + 1 + length us) (marks t (p + 1 + length us) (marked-all us (p + 1) M)))
         ≡ uses t ∖∖ ps
@@ -97,34 +97,34 @@ module _ (F : Plain) (Γ : NameDepths) where
 
     -- the loop's own rows and its tree's, before some others
     loop-rows-are : (A : Set) (k : Tree) (rs : List Row) →
-        let B = after-pass x ps t A in
-        retain-rows (handed-again Γ (loop-hands j us) (among (loop-reads j us) B))
-        ++ (loop-own x j ps us ++ (pass-opening Γ j ps (live t B)
-        ++ (rows (annotate Γ t B) ++ (loop-closing Γ x j us (uses t ∖∖ ps) A ++ (rows k ++ rs)))))
-        ≡ rows (annotate-line Γ (C.loop x j ps us t) A k) ++ rs
+        let L = after-pass x ps t A in
+        retain-rows (handed-again Γ (loop-hands j us) (among (loop-reads j us) L))
+        ++ (loop-own x j ps us ++ (pass-opening Γ j ps (live t L)
+        ++ (rows (annotate B Γ t L) ++ (loop-closing Γ x j us (uses t ∖∖ ps) A ++ (rows k ++ rs)))))
+        ≡ rows (annotate-line B Γ (C.loop x j ps us t) A k) ++ rs
     unfolding annotate
     loop-rows-are A k rs =
-        let B = after-pass x ps t A in
+        let L = after-pass x ps t A in
         let R = among (loop-reads j us) (uses t ∖∖ ps) in
-        let hs = handed-again Γ (loop-hands j us) (among (loop-reads j us) B) in
-        let ds = dying Γ (just ps) (live t B) in
+        let hs = handed-again Γ (loop-hands j us) (among (loop-reads j us) L) in
+        let ds = dying Γ (just ps) (live t L) in
         loop-shape x j ps us hs (arrays Γ (element-name j ps)) ds (dying Γ (below x R) A) (dying Γ (only x) A)
-        (annotate Γ t B) k rs
+        (annotate B Γ t L) k rs
         ∙ (λ i. rows (retain-all (hands-live Γ x j us (uses t ∖∖ ps) A _ inner i) (line (C.loop x j ps us
-        (retain-all (arrays Γ (element-name j ps)) (release-all ds (annotate Γ t B))))
+        (retain-all (arrays Γ (element-name j ps)) (release-all ds (annotate B Γ t L))))
         (release-all (loop-releases Γ x R A (reads-below x j ps us t inner) i) k))) ++ rs)
 
-    pub loop-right : LineRight F Γ d (C.loop x j ps us t) p M
+    pub loop-right : LineRight F B Γ d (C.loop x j ps us t) p M
     unfolding walk-over loop-walk loop-tree marks extent live
     loop-right A k rs =
-        let W = tree-walk F Γ d in
+        let W = tree-walk F B Γ d in
         let q = p + (1 + length us + extent t) in
-        let B = after-pass x ps t A in
-        at-line F Γ W p _ t t (C.loop x j ps us t) _ h
-        ∙ ap (λ (O : Set). loop-head F Γ W p x j ps us (O ∪ A ∖ x) (W (q - 2) (point (O ∪ A ∖ x)
+        let L = after-pass x ps t A in
+        at-line F B Γ W p _ t t (C.loop x j ps us t) _ h
+        ∙ ap (λ (O : Set). loop-head F B Γ W p x j ps us (O ∪ A ∖ x) (W (q - 2) (point (O ∪ A ∖ x)
         (marks t (p + 1 + length us) (marked-all us (p + 1) M)) (loop-closing Γ x j us O A ++ (rows k ++
         rs))))) outer-is
-        ∙ ap (loop-head F Γ W p x j ps us B) (rt (q - 2) (omega arith) B
+        ∙ ap (loop-head F B Γ W p x j ps us L) (rt (q - 2) (omega arith) L
         (loop-closing Γ x j us (uses t ∖∖ ps) A ++ (rows k ++ rs)))
         ∙ same-point refl (back-all F us (p + 1) M n) (loop-rows-are A k rs)
 
@@ -135,35 +135,35 @@ module _ (F : Plain) (Γ : NameDepths) where
 
     -- the lines of a tree that stands from row p on
     back-right : (t : Tree) (d p : ℕ) (M : Marks) → Stands F d t p M → Nested t → Low M p → p + extent t ≤ 4096 →
-        BackRight F Γ d t p M
-    back-right (end a) d p M s n low h = end-right F Γ d a p M s
+        BackRight F B Γ d t p M
+    back-right (end a) d p M s n low h = end-right F B Γ d a p M s
     back-right (line l t) d p M s n low h = λ e f q L rs.
-        ap (λ (m : ℕ). back-walk F Γ (tree-walk F Γ d) m e (end-walk F Γ e
+        ap (λ (m : ℕ). back-walk F B Γ (tree-walk F B Γ d) m e (end-walk F B Γ e
         (point L (marks t (p + line-extent l) (line-marks l p M)) rs)))
         (let i : f + suc (spine t) ≡ suc f + spine t = omega arith in i)
         ∙ back-right t d (p + line-extent l) (line-marks l p M) (s .2) (n .1) (low-line l p low) (omega arith)
         e (suc f) (omega arith) L rs
-        ∙ back-goes F Γ (tree-walk F Γ d) f (p + line-extent l) p _ (s .1) (omega (arith, line-some l))
-        ∙ ap (back-walk F Γ (tree-walk F Γ d) f p)
-        (line-right l d p M (s .0) (n .0) low (omega arith) (live t L) (annotate Γ t L) rs)
+        ∙ back-goes F B Γ (tree-walk F B Γ d) f (p + line-extent l) p _ (s .1) (omega (arith, line-some l))
+        ∙ ap (back-walk F B Γ (tree-walk F B Γ d) f p)
+        (line-right l d p M (s .0) (n .0) low (omega arith) (live t L) (annotate B Γ t L) rs)
 
     -- a line that stands from row p on
     line-right : (l : C.Line) (d p : ℕ) (M : Marks) → StandsLine F d l p M → NestedLine l → Low M p →
-        p + line-extent l ≤ 4096 → LineRight F Γ d l p M
-    line-right (C.leaf x l us) d p M s n low h = leaf-right F Γ d x l us p M s
+        p + line-extent l ≤ 4096 → LineRight F B Γ d l p M
+    line-right (C.leaf x l us) d p M s n low h = leaf-right F B Γ d x l us p M s
     line-right (C.if-else x g t e) d p M s n low h =
         if-right d x g t e p M (s .0) (s .1) (s .3 .0) (n .0 .0) (n .1 .0) low (omega arith)
-        (at-level F Γ d t (p + 2) (marked g (p + 1) M) (s .2)
-        (tree-from F Γ (d - 1) t (p + 2) (marked g (p + 1) M) (omega (arith, s .3 .0)) (omega arith)
+        (at-level F B Γ d t (p + 2) (marked g (p + 1) M) (s .2)
+        (tree-from F B Γ (d - 1) t (p + 2) (marked g (p + 1) M) (omega (arith, s .3 .0)) (omega arith)
         (back-right t (d - 1) (p + 2) (marked g (p + 1) M) (s .4) (n .0 .1) (low-atom g p low) (omega arith))))
-        (at-level F Γ d e (p + 2 + extent t) (marks t (p + 2) (marked g (p + 1) M)) (s .2)
-        (tree-from F Γ (d - 1) e (p + 2 + extent t) (marks t (p + 2) (marked g (p + 1) M)) (s .3 .1) (omega arith)
+        (at-level F B Γ d e (p + 2 + extent t) (marks t (p + 2) (marked g (p + 1) M)) (s .2)
+        (tree-from F B Γ (d - 1) e (p + 2 + extent t) (marks t (p + 2) (marked g (p + 1) M)) (s .3 .1) (omega arith)
         (back-right e (d - 1) (p + 2 + extent t) (marks t (p + 2) (marked g (p + 1) M)) (s .5) (n .1 .1)
         (low-tree t (p + 2) (low-atom g p low)) (omega arith))))
     line-right (C.loop x k ps us t) d p M s n low h =
         loop-right d x k ps us t p M (s .0) (s .1) (n .0) low
-        (at-level F Γ d t (p + 1 + length us) (marked-all us (p + 1) M) (s .2)
-        (tree-from F Γ (d - 1) t (p + 1 + length us) (marked-all us (p + 1) M) (s .3) (omega arith)
+        (at-level F B Γ d t (p + 1 + length us) (marked-all us (p + 1) M) (s .2)
+        (tree-from F B Γ (d - 1) t (p + 1 + length us) (marked-all us (p + 1) M) (s .3) (omega arith)
         (back-right t (d - 1) (p + 1 + length us) (marked-all us (p + 1) M) (s .4) (n .1) (low-atoms us p low)
         (omega arith))))
     line-right (C.retain x) d p M s n low h = absurd s
@@ -172,17 +172,17 @@ module _ (F : Plain) (Γ : NameDepths) where
   -- The walk of a tree that stands from row p on, M being the last uses before it and L live after it.
   pub walk-right : (t : Tree) (d p : ℕ) (M : Marks) → Stands F d t p M → Nested t → Low M p → p + extent t ≤ 4096 →
       Begins F p → (L : Set) (rs : List Row) →
-      tree-walk F Γ (suc d) (p + extent t - 2) (point L (marks t p M) rs)
-      ≡ point (live t L) M (rows (annotate Γ t L) ++ rs)
+      tree-walk F B Γ (suc d) (p + extent t - 2) (point L (marks t p M) rs)
+      ≡ point (live t L) M (rows (annotate B Γ t L) ++ rs)
   walk-right t d p M s n low h g L rs =
-      tree-from F Γ d t p M g (omega arith) (back-right t d p M s n low h) (p + extent t - 2) refl L rs
+      tree-from F B Γ d t p M g (omega arith) (back-right t d p M s n low h) (p + extent t - 2) refl L rs
 
   -- The walk of a function's body that stands from row 0 on: no name was used before it.
   pub body-walk : (g : Function) (d : ℕ) → Stands F d (normal-body g) 0 (λ _. 0) → extent (normal-body g) ≤ 4096 →
       (L : Set) (rs : List Row) →
-      tree-walk F Γ (suc d) (extent (normal-body g) - 2) (point L (marks (normal-body g) 0 (λ _. 0)) rs)
-      ≡ point (live (normal-body g) L) (λ _. 0) (rows (annotate Γ (normal-body g) L) ++ rs)
+      tree-walk F B Γ (suc d) (extent (normal-body g) - 2) (point L (marks (normal-body g) 0 (λ _. 0)) rs)
+      ≡ point (live (normal-body g) L) (λ _. 0) (rows (annotate B Γ (normal-body g) L) ++ rs)
   body-walk g d s h L rs =
-      tree-from F Γ d (normal-body g) 0 (λ _. 0) (omega arith) h
+      tree-from F B Γ d (normal-body g) 0 (λ _. 0) (omega arith) h
       (back-right (normal-body g) d 0 (λ _. 0) s (body-nested g) (record { at = λ y. omega arith }) (omega arith))
       (extent (normal-body g) - 2) (omega arith) L rs

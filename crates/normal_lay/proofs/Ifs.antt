@@ -21,7 +21,7 @@ use Rattle.normal_lay.proofs.Uses.{table-set}
 use Rattle.normal_lay.proofs.Stays.{same-less, same-then, same-lays, same-sets, same-splits}
 use Rattle.normal_lay.proofs.Stays.{split-first, split-second, note-there, agrees-back, agrees-from}
 use Rattle.normal_lay.proofs.Stays.{agrees-split}
-use Rattle.normal_lay.proofs.Stays.{line-back, sized-sets}
+use Rattle.normal_lay.proofs.Stays.{line-back, no-end, sized-sets}
 use Rattle.normal_lay.proofs.Trees.{place-atom, name-placed, normal-ending}
 use Rattle.normal_lay.proofs.Adds.{stands-as, LineMade, adds-to, adds-then, adds-line}
 use Rattle.normal_lay.proofs.Heads.{head-marks, head-linked, head-row, head-atom, head-means}
@@ -123,11 +123,15 @@ module _ (w : List ℕ) (res : ℕ → ℕ) where
       if-there : (d : ℕ) → d₀ + 1 ≤ d → StandsLine F d if-line (rg .p) (marks-of (X₁ .last))
       unfolding if-line own other line-with
       if-there d h = (
-        ap (line-with F (rg .p) own other)
-            (line-back F (rg .p) 12 (rg .n) 0 0 (rg .place) (omega arith) (omega (arith, A .count, few)) (omega arith)
-            (omega arith) (head-row A l F u in₂ (omega (arith, end-is, short, A .reach)))
-            (head-atom A l F u in₂ (omega (arith, end-is, short, A .reach))))
-            ∙ same-if (A .count) (head-means A l F u in₂ (omega (arith, end-is, short, A .reach))) refl refl,
+        (
+          ap (line-with F (rg .p) own other)
+              (line-back F (rg .p) 12 (rg .n) 0 0 (rg .place) (omega arith) (omega (arith, A .count, few)) (omega
+              arith) (omega arith) (head-row A l F u in₂ (omega (arith, end-is, short, A .reach)))
+              (head-atom A l F u in₂ (omega (arith, end-is, short, A .reach))))
+              ∙ same-if (A .count) (head-means A l F u in₂ (omega (arith, end-is, short, A .reach))) refl refl,
+          no-end F (rg .p) 12 (rg .n) 0 0 (omega arith) (λ e. omega arith)
+              (head-row A l F u in₂ (omega (arith, end-is, short, A .reach))),
+        ),
         head-linked A l F u in₂ (omega (arith, end-is, short, A .reach)),
         omega arith,
         (at-own ∙ middle-is, omega (arith, middle-is, ap (note (F .notes)) (sym middle-is) ∙ at-other)),

@@ -24,6 +24,7 @@ use Rattle.normal_lay.proofs.Trees.{place-atom}
 -- how a leaf's line is read back, and the depth of the name that it binds
 pub record Shaped (kind y m : ℕ) : Type 0 where
   pub low : kind < 256
+  pub no-end : kind ≡ 16 → ⊥
   pub reads : (F : Plain) (t e : Tree) (p x : ℕ) →
       line-with F p t e (line-of kind x y m (placed (F .operands) (getD (F .rows) (p + 1) 0))
       (placed (F .operands) (getD (F .rows) (p + 2) 0)))
@@ -45,24 +46,45 @@ module _ (y : ℕ) where
 
   shape-call : (m : ℕ) → Shaped 8 y m
   unfolding line-with
-  shape-call m = record { low = omega arith; reads = λ F t e p x. refl; deep = λ w rs ds vs. refl }
+  shape-call m = record {
+    low = omega arith;
+    no-end = λ i. omega arith;
+    reads = λ F t e p x. refl;
+    deep = λ w rs ds vs. refl;
+  }
 
   shape-literal : (m : ℕ) → Shaped 9 y m
   unfolding line-with
-  shape-literal m = record { low = omega arith; reads = λ F t e p x. refl; deep = λ w rs ds vs. refl }
+  shape-literal m = record {
+    low = omega arith;
+    no-end = λ i. omega arith;
+    reads = λ F t e p x. refl;
+    deep = λ w rs ds vs. refl;
+  }
 
   shape-length : Shaped 11 y 1
   unfolding line-with atoms-at
-  shape-length = record { low = omega arith; reads = λ F t e p x. refl; deep = λ w rs ds vs. refl }
+  shape-length = record {
+    low = omega arith;
+    no-end = λ i. omega arith;
+    reads = λ F t e p x. refl;
+    deep = λ w rs ds vs. refl;
+  }
 
   shape-iota : Shaped 17 y 1
   unfolding line-with atoms-at
-  shape-iota = record { low = omega arith; reads = λ F t e p x. refl; deep = λ w rs ds vs. refl }
+  shape-iota = record {
+    low = omega arith;
+    no-end = λ i. omega arith;
+    reads = λ F t e p x. refl;
+    deep = λ w rs ds vs. refl;
+  }
 
   shape-index : Shaped 10 y 2
   unfolding line-with firsts
   shape-index = record {
     low = omega arith;
+    no-end = λ i. omega arith;
     reads = λ F t e p x. two-atoms F p x index;
     deep = λ w rs ds vs. ap pred (sym (place-atom w ds (getD vs 0 0)));
   }
@@ -71,6 +93,7 @@ module _ (y : ℕ) where
   unfolding line-with firsts
   shape-replicate = record {
     low = omega arith;
+    no-end = λ i. omega arith;
     reads = λ F t e p x. two-atoms F p x replicate;
     deep = λ w rs ds vs. ap suc (sym (place-atom w ds (getD vs 1 0)));
   }
@@ -87,6 +110,7 @@ module _ (y : ℕ) where
       let n₁₈ = other 18 (omega arith) in
       record {
         low = omega arith;
+        no-end = λ i. omega arith;
         reads = λ F t e p x.
             rw (
               n₈,

@@ -18,7 +18,7 @@ use Rattle.normal_lay.specs.Source.{several, leaf-by, laid-rows}
 use Rattle.normal_lay.specs.Made.{State, Lays, Sets, LinesAgree, RowsAgree, Counted, Made, out}
 use Rattle.normal_lay.proofs.Uses.{table-set}
 use Rattle.normal_lay.proofs.Stays.{same-less, same-then, same-lays, same-sets, agrees-back}
-use Rattle.normal_lay.proofs.Stays.{note-there, marks-laid, line-back, sized-lays, sized-sets}
+use Rattle.normal_lay.proofs.Stays.{note-there, marks-laid, line-back, no-end, sized-lays, sized-sets}
 use Rattle.normal_lay.proofs.Trees.{name-placed}
 use Rattle.normal_lay.proofs.Adds.{LineMade, adds-to, adds-then, adds-line}
 use Rattle.normal_lay.proofs.Leaves.{Shaped, shaped}
@@ -56,12 +56,16 @@ module _ (results : List ℕ) {w : List ℕ} {R : ℕ → Expr} {m at : ℕ} {μ
   line-there F u g d =
       let here : RowsAgree Z F q (q + 1 + m) =
       agrees-back (q + 1 + m) (q + 1 + m) g (same-sets (q + 1 + m) s) (omega arith) (omega arith) in (
-        ap (line-with F q (end (C.name 0)) (end (C.name 0)))
-            (line-back F q kind x y m (getD (F .rows) (q + 1) 0) (shape .low) (omega (arith, few))
-            (omega (arith, c .second)) (omega (arith, c .parts)) (row-there m vs l (P .adds .sized) short F here) refl)
-            ∙ shape .reads F (end (C.name 0)) (end (C.name 0)) q x
-            ∙ rw (u, x-is P ie, atoms-are P ie) (ap (C.leaf x (leaf-by kind y))
-            (atoms-placed w (F .rows) (q + 1) vs 0 m (place-there m vs l (P .adds .sized) short F here))),
+        (
+          ap (line-with F q (end (C.name 0)) (end (C.name 0)))
+              (line-back F q kind x y m (getD (F .rows) (q + 1) 0) (shape .low) (omega (arith, few))
+              (omega (arith, c .second)) (omega (arith, c .parts)) (row-there m vs l (P .adds .sized) short F here)
+              refl)
+              ∙ shape .reads F (end (C.name 0)) (end (C.name 0)) q x
+              ∙ rw (u, x-is P ie, atoms-are P ie) (ap (C.leaf x (leaf-by kind y))
+              (atoms-placed w (F .rows) (q + 1) vs 0 m (place-there m vs l (P .adds .sized) short F here))),
+          no-end F q kind x y m (shape .low) (shape .no-end) (row-there m vs l (P .adds .sized) short F here),
+        ),
         subst (λ (us : List C.Atom). LinkedAll F us (q + 1) (marks-of (Y .last))) (sym (atoms-are P ie))
             (linked-there m vs l (P .adds .sized) short F here w),
       )

@@ -28,7 +28,7 @@ use Rattle.normal_lay.specs.declared.Out.{Out}
 use Rattle.normal_lay.proofs.Laws.{some-size}
 use Rattle.normal_lay.proofs.Uses.{table-set}
 use Rattle.normal_lay.proofs.Stays.{same-less, same-then, same-lays, same-opens, same-sets, note-there}
-use Rattle.normal_lay.proofs.Stays.{agrees-back, agrees-from, marks-laid, line-back}
+use Rattle.normal_lay.proofs.Stays.{agrees-back, agrees-from, marks-laid, line-back, no-end}
 use Rattle.normal_lay.proofs.Stays.{sized-lays, sized-opens, sized-sets}
 use Rattle.normal_lay.proofs.Trees.{place-atom, normal-ending}
 use Rattle.normal_lay.proofs.Adds.{stands-as, LineMade, adds-as, adds-line}
@@ -49,6 +49,10 @@ each-loop P kind l m f r = go (eqb kind 13) refl (eqb kind 19) refl (eqb kind 20
 module _ (kind : ℕ) (looping : is-looping kind ≡ true) where
   low-kind : kind < 256
   low-kind = each-loop (λ i. i < 256) kind looping (omega arith) (omega arith) (omega arith)
+
+  loop-no-end : kind ≡ 16 → ⊥
+  loop-no-end =
+      each-loop (λ i. i ≡ 16 → ⊥) kind looping (λ e. omega arith) (λ e. omega arith) (λ e. omega arith)
 
   loop-reads : (F : Plain) (t : Tree) (p x y z v u : ℕ) → line-with F p t t (line-of kind x y z
       (placed (F .operands) v) (placed (F .operands) u))
@@ -249,13 +253,17 @@ module _ (w : List ℕ) (res : ℕ → ℕ) (kind low high : ℕ) (vs : List ℕ
         loop-there : (i : ℕ) → d + 1 ≤ i → StandsLine F i the-line q (marks-of (X .last))
         unfolding the-line body
         loop-there i h = (
-          ap (line-with F q body body)
-              (line-back F q kind n (n + 1) (third-of k n) (getD (F .rows) (q + 1) 0) (low-kind kind looping)
-              (omega (arith, few)) (omega (arith, few, some-size kind)) (third-low k n few)
-              (row-there m vs l (ready .sized) (omega (arith, short)) F to₂) refl)
-              ∙ loop-reads kind looping F body q n (n + 1) (third-of k n) (getD (F .rows) (q + 1) 0)
-              (getD (F .rows) (q + 2) 0)
-              ∙ same-loop (own-names k low high n) atoms-there,
+          (
+            ap (line-with F q body body)
+                (line-back F q kind n (n + 1) (third-of k n) (getD (F .rows) (q + 1) 0) (low-kind kind looping)
+                (omega (arith, few)) (omega (arith, few, some-size kind)) (third-low k n few)
+                (row-there m vs l (ready .sized) (omega (arith, short)) F to₂) refl)
+                ∙ loop-reads kind looping F body q n (n + 1) (third-of k n) (getD (F .rows) (q + 1) 0)
+                (getD (F .rows) (q + 2) 0)
+                ∙ same-loop (own-names k low high n) atoms-there,
+            no-end F q kind n (n + 1) (third-of k n) (low-kind kind looping) (loop-no-end kind looping)
+                (row-there m vs l (ready .sized) (omega (arith, short)) F to₂),
+          ),
           linked-there m vs l (ready .sized) (omega (arith, short)) F to₂ w,
           omega arith,
           rw many (omega (arith, at-tree)),

@@ -1,10 +1,13 @@
 -- Laws of rows and notes that stay, of what was laid and is read back, and of sizes.
 use mathlib.Core.Path.{_≡_, refl, ap, _∙_}
+use mathlib.Core.Bool.{false}
 use mathlib.Core.List.{List, _∷_}
 use Prim.Native.Nat.{ℕ, suc, _+_, _/_, _%_, _<_, _≤_}
 use native.Mathlib.Omega.{arith}
+use lib.Dec.{eqb}
 use lib.ListN.{length, getD, set, length-set}
 use lib.Seq.{getD-set-same, getD-set-other}
+use borrow.Author.Tests.{ne-eqb}
 use Rattle.normal_code.specs.Plain.{Plain, placed, packed-row, line-of, line-at, note}
 use Rattle.normal_code.specs.Marks.{marks-of, marked-all}
 use Rattle.normal_code.specs.Stands.{LinkedAll}
@@ -125,6 +128,11 @@ unfolding line-at
 line-back F p kind x y m v a b c d e f =
     let z = packed-parts kind x y m a b c d in
     rw (e, f, z .0, z .1, z .2, z .3)
+
+-- it is no end's
+pub no-end : (F : Plain) (p kind x y m : ℕ) → kind < 256 → (kind ≡ 16 → ⊥) →
+    getD (F .rows) p 0 ≡ packed-row kind x y m → eqb (getD (F .rows) p 0 % 256) 16 ≡ false
+no-end F p kind x y m a f e = ne-eqb (getD (F .rows) p 0 % 256) 16 (λ g. f (omega arith))
 
 -- ---- sizes
 

@@ -112,9 +112,17 @@ module _ (w : List ℕ) (res : ℕ → ℕ) where
     end-there : (F : Plain) → F .operands ≡ w → RowsAgree Z F p (r .p + 2) → (d : ℕ) →
         Stands F d (end (atom e μ n)) (r .p) (marks-of (Y .last))
     end-there F u a d = (
-      ap (λ (v : ℕ). meant (placed (F .operands) v))
-          (row-laid l (A .adds .sized) F here (omega (arith, A .reach)) (omega arith) 1 (r .p + 1) refl (omega arith))
-          ∙ ap (λ (o : List ℕ). meant (placed o (r .place))) u ∙ A .gives,
+      (
+        ap (λ (v : ℕ). meant (placed (F .operands) v))
+            (row-laid l (A .adds .sized) F here (omega (arith, A .reach)) (omega arith) 1 (r .p + 1) refl (omega
+            arith))
+            ∙ ap (λ (o : List ℕ). meant (placed o (r .place))) u ∙ A .gives,
+        omega (
+          arith,
+          row-laid l (A .adds .sized) F here (omega (arith, A .reach)) (omega arith) 0 (r .p) (omega arith) (omega
+              arith),
+        ),
+      ),
       subst (λ (b : C.Atom). Linked F b (r .p + 1) (marks-of (Y .last))) (A .gives)
           (linked-laid l (A .adds .sized) F here (omega (arith, A .reach)) (omega arith) w .0),
     )

@@ -1,6 +1,5 @@
-pub mod Typed
+pub mod Owned
 pub mod Whole
 pub mod Depths
 pub mod Parameters
-pub mod Accepted
 pub mod Functions

@@ -1,3 +1,3 @@
-pub mod Read
+pub mod Rows
 pub mod Script
 pub mod Depths

@@ -6,7 +6,7 @@ use Prim.Native.Nat.{ℕ, _+_, _-_}
 use native.Mathlib.Omega.{arith}
 use lib.IntN.{ℤ}
 use lib.ListN.{length}
-use Rattle.semantics.specs.Kinds.{Loop, mapping, filtering, reducing, loop-hands, loop-reads}
+use Rattle.semantics.specs.Kinds.{Loop, mapping, filtering, reducing, loop-hands, loop-reads, Borrowing}
 use Rattle.semantics.specs.Code as C
 use Rattle.semantics.specs.Code.{Row, row, atom-row}
 use Rattle.semantics.specs.Live.{Set, is, among, _∪_, _∖_}
@@ -35,9 +35,9 @@ joined a b c d e = simp append-assoc
 
 -- ---- an if
 
-module _ (F : Plain) (Γ : NameDepths) (W : ℕ → Point → Point) (p q x : ℕ) (g : C.Atom) (s₀ s₁ s₂ j s : List Bool)
-    {c c₁ c₂ c₃ k k₁ k₂ k₃ k₄ k₅ k₆ : List ℕ} {o o₁ o₂ o₃ o₄ o₅ o₆ : List ℤ} {w u₁ v₁ u₂ v₂ w₂ w₃ : ℕ}
-    (e t : ℕ) where
+module _ (F : Plain) (B : Borrowing) (Γ : NameDepths) (W : ℕ → Point → Point) (p q x : ℕ) (g : C.Atom)
+    (s₀ s₁ s₂ j s : List Bool) {c c₁ c₂ c₃ k k₁ k₂ k₃ k₄ k₅ k₆ : List ℕ} {o o₁ o₂ o₃ o₄ o₅ o₆ : List ℤ}
+    {w u₁ v₁ u₂ v₂ w₂ w₃ : ℕ} (e t : ℕ) where
   module _
       (he : e ≡ q - 2) (ht : t ≡ then-end (F .notes) p)
       (d₁ : Walks (W e) s₀ c k o w s₁ c₁ k₁ o₁ u₁)
@@ -55,20 +55,20 @@ module _ (F : Plain) (Γ : NameDepths) (W : ℕ → Point → Point) (p q x : �
     R₃ = release-rows (dying Γ (below x (set-of s₁)) (set-of s₂))
 
     then-is : (rs : List Row) →
-        then-walk F Γ W p x (set-of s₀) (point (set-of s₁) (marks-of c₁) rs)
+        then-walk F B Γ W p x (set-of s₀) (point (set-of s₁) (marks-of c₁) rs)
         ≡ point (set-of s₂) (marks-of c₂) (d₂ .added ++ (R₂ ++ rs))
     unfolding then-walk
     then-is rs =
         ap (λ (i : ℕ). W i (point (set-of s₀) (marks-of c₁) (R₂ ++ rs))) (sym ht) ∙ d₂ .is (R₂ ++ rs)
 
-    pub if-done : Walks (if-trees F Γ W p q x g) s₀ c k o w s c₃ k₆ o₆ w₃
+    pub if-done : Walks (if-trees F B Γ W p q x g) s₀ c k o w s c₃ k₆ o₆ w₃
     unfolding if-trees among unmarked-all
     if-done = record {
       added = (row 12 x ∷ []) ++ ((atom-row g ∷ []) ++ (R₃ ++ (d₂ .added ++ (R₂ ++ d₁ .added))));
       is = λ rs.
-          ap (λ (E : Point). if-head F Γ W p x g E (then-walk F Γ W p x (set-of s₀) E))
+          ap (λ (E : Point). if-head F B Γ W p x g E (then-walk F B Γ W p x (set-of s₀) E))
           (ap (λ (i : ℕ). W i (point (set-of s₀) (marks-of c) rs)) (sym he) ∙ d₁ .is rs)
-          ∙ ap (if-head F Γ W p x g (point (set-of s₁) (marks-of c₁) (d₁ .added ++ rs))) (then-is (d₁ .added ++ rs))
+          ∙ ap (if-head F B Γ W p x g (point (set-of s₁) (marks-of c₁) (d₁ .added ++ rs))) (then-is (d₁ .added ++ rs))
           ∙ same-point (sym (tk .names ∙ ap (λ (A : Set). is g ∪ A) hj)) (sym (tk .marks))
           (ap (λ (l : List Row). row 12 x ∷ (atom-row g ∷ l)) (four R₃ (d₂ .added) R₂ (d₁ .added) rs));
       wrote = wrote-then (wrote-then (wrote-then (wrote-then (wrote-then (d₁ .wrote) y₂) (d₂ .wrote)) y₃) y₄) y₅;
@@ -79,11 +79,11 @@ module _ (F : Plain) (Γ : NameDepths) (W : ℕ → Point → Point) (p q x : �
 
 -- its atoms taken back, the second first
 module _ (j : Loop) (a b : C.Atom) where
-  uses-are : (B : Set) → is a ∪ (is (second-of j b) ∪ B) ≡ among (of-loop j a b) B
+  uses-are : (A : Set) → is a ∪ (is (second-of j b) ∪ A) ≡ among (of-loop j a b) A
   unfolding among
-  uses-are B = by j
+  uses-are A = by j
     where
-      by : (j : Loop) → is a ∪ (is (second-of j b) ∪ B) ≡ among (of-loop j a b) B
+      by : (j : Loop) → is a ∪ (is (second-of j b) ∪ A) ≡ among (of-loop j a b) A
       by mapping = refl
       by filtering = refl
       by reducing = refl
@@ -102,19 +102,19 @@ module _ (j : Loop) (a b : C.Atom) where
           (let e : p + 2 ≡ p + 1 + 1 = omega arith in e)
 
   -- what is retained before it: a start that its array or its tree uses too, or what follows
-  hands-are : (Γ : NameDepths) (B : Set) →
-      handed-again Γ (loop-hands j (a ∷ [])) (is (second-of j b) ∪ B)
-      ≡ handed-again Γ (loop-hands j (of-loop j a b)) (among (loop-reads j (of-loop j a b)) B)
+  hands-are : (Γ : NameDepths) (A : Set) →
+      handed-again Γ (loop-hands j (a ∷ [])) (is (second-of j b) ∪ A)
+      ≡ handed-again Γ (loop-hands j (of-loop j a b)) (among (loop-reads j (of-loop j a b)) A)
   unfolding handed-again among
-  hands-are Γ B = by j
+  hands-are Γ A = by j
     where
-      by : (j : Loop) → handed-again Γ (loop-hands j (a ∷ [])) (is (second-of j b) ∪ B)
-          ≡ handed-again Γ (loop-hands j (of-loop j a b)) (among (loop-reads j (of-loop j a b)) B)
+      by : (j : Loop) → handed-again Γ (loop-hands j (a ∷ [])) (is (second-of j b) ∪ A)
+          ≡ handed-again Γ (loop-hands j (of-loop j a b)) (among (loop-reads j (of-loop j a b)) A)
       by mapping = refl
       by filtering = refl
       by reducing = refl
 
-module _ (F : Plain) (Γ : NameDepths) (W : ℕ → Point → Point) (p q x kind y z : ℕ) (a b b₁ : Atom)
+module _ (F : Plain) (B : Borrowing) (Γ : NameDepths) (W : ℕ → Point → Point) (p q x kind y z : ℕ) (a b b₁ : Atom)
     (s₀ i t s₁ s : List Bool) {c c₁ c₂ c₃ k k₁ k₂ k₃ : List ℕ} {o o₁ o₂ o₃ : List ℤ} {w u v v₁ : ℕ} {l : Line} (n e
     : ℕ) where
   module _ (hn : n ≡ loop-size (loop-of kind)) (he : e ≡ q - 2)
@@ -170,14 +170,14 @@ module _ (F : Plain) (Γ : NameDepths) (W : ℕ → Point → Point) (p q x kind
     unfolding opening-of
     opened = y₁
 
-    pub loop-done : Walks (loop-tree-of F Γ W p q l) s₀ c k o w s c₃ k₃ o₃ v₁
+    pub loop-done : Walks (loop-tree-of F B Γ W p q l) s₀ c k o w s c₃ k₃ o₃ v₁
     unfolding loop-tree-of loop-tree
     loop-done = rw hl (record {
       added = hands (set-of s₁) ++ ((own ++ opening) ++ d .added);
       is = λ rs.
-          (λ h. loop-head F Γ W p x j (of-loop j y z) us (pass-is h) (W (sym he h) (point (pass-is h) (marks-of c)
+          (λ h. loop-head F B Γ W p x j (of-loop j y z) us (pass-is h) (W (sym he h) (point (pass-is h) (marks-of c)
           rs)))
-          ∙ ap (loop-head F Γ W p x j (of-loop j y z) us (set-of i)) (d .is rs)
+          ∙ ap (loop-head F B Γ W p x j (of-loop j y z) us (set-of i)) (d .is rs)
           ∙ same-point names-are before
           (ap (λ (l : List Row). l ++ (own ++ (opening ++ (d .added ++ rs)))) hands-as
           ∙ joined (hands (set-of s₁)) own opening (d .added) rs);

@@ -9,7 +9,7 @@ use lib.IntN.{ℤ}
 use lib.ListN.{length, set}
 use denote.Enum.Declared.{tagOf}
 use types.Run.{OneOf}
-use Rattle.semantics.specs.Kinds.{Leaf, call, literal, Loop}
+use Rattle.semantics.specs.Kinds.{Leaf, call, literal, Loop, Borrowing}
 use Rattle.semantics.specs.Code as C
 use Rattle.semantics.specs.Code.{Row, row}
 use Rattle.semantics.specs.Live.{Set, is, only, among, _∪_, _∖_}
@@ -30,7 +30,7 @@ use Rattle.normal_code.proofs.Atoms.{length-atoms}
 use Rattle.normal_code.proofs.Rows.{of-size}
 use Rattle.normal_code.proofs.Sets.{without-in}
 use Rattle.normal_write.proofs.Rows.{wrote-as, wrote-then}
-use Rattle.normal_write.proofs.Leaves.{call-rows, literal-rows}
+use Rattle.normal_write.proofs.Leaves.{literal-rows}
 use Rattle.normal_walk.specs.Walks.{Walks, is-leaf, is-loop, no-tree, loop-tree-of}
 
 pub same-point : {A B : Set} {M N : Marks} {rs qs : List Row} → A ≡ B → M ≡ N → rs ≡ qs → point A M rs ≡ point B N qs
@@ -94,69 +94,67 @@ one : (notes : List ℕ) (p : ℕ) (a : C.Atom) (z : ℤ) (A : Set) (M : Marks) 
 unfolding among unmarked-all marked
 one notes p a z A M t = record { names = t .names; marks = t .marks; long = t .long }
 
-module _ (F : Plain) (Γ : NameDepths) (p : ℕ) {s₀ : List Bool} {c c₁ k k₁ : List ℕ} {o o₁ : List ℤ} {w v : ℕ}
-    {s : List Bool} where
+module _ (F : Plain) (B : Borrowing) (Γ : NameDepths) (p : ℕ) {s₀ : List Bool} {c c₁ k k₁ : List ℕ} {o o₁ : List ℤ}
+    {w v : ℕ} {s : List Bool} where
   -- any leaf, whose atoms were taken back and whose part was written
-  leaf-done : (x : ℕ) (l : Leaf) (us : List C.Atom) → Wrote k o k₁ o₁ w v (leaf-part Γ x l us (set-of s₀)) →
+  leaf-done : (x : ℕ) (l : Leaf) (us : List C.Atom) → Wrote k o k₁ o₁ w v (leaf-part B Γ x l us (set-of s₀)) →
       Took (among us (set-of s₀ ∖ x)) (unmarked-all (F .notes) (p + 1) us (marks-of c)) s c₁ →
-      Walks (leaf-walk F Γ p x l us) s₀ c k o w s c₁ k₁ o₁ v
+      Walks (leaf-walk F B Γ p x l us) s₀ c k o w s c₁ k₁ o₁ v
   unfolding leaf-walk
   leaf-done x l us y t = record {
-    added = leaf-part Γ x l us (set-of s₀);
+    added = leaf-part B Γ x l us (set-of s₀);
     is = λ rs. same-point (sym (t .names)) (sym (t .marks)) refl;
     wrote = y;
     long = t .long;
   }
 
   pub binary-done : (x kind : ℕ) (a b : Atom) →
-      Wrote k o k₁ o₁ w v (leaf-part Γ x (binary-of kind) (meant a ∷ (meant b ∷ [])) (set-of s₀)) →
+      Wrote k o k₁ o₁ w v (leaf-part B Γ x (binary-of kind) (meant a ∷ (meant b ∷ [])) (set-of s₀)) →
       Took (is (meant a) ∪ is (meant b) ∪ set-of s₀ ∖ x)
       (unmarked (F .notes) (p + 1) (meant a) (unmarked (F .notes) (p + 2) (meant b) (marks-of c))) s c₁ →
-      Walks (line-walk F Γ no-tree p 0 (L.Binary x kind a b)) s₀ c k o w s c₁ k₁ o₁ v
+      Walks (line-walk F B Γ no-tree p 0 (L.Binary x kind a b)) s₀ c k o w s c₁ k₁ o₁ v
   unfolding line-walk
   binary-done x kind a b y t =
       leaf-done x (binary-of kind) (meant a ∷ (meant b ∷ [])) y
       (both (F .notes) p (meant a) (meant b) (set-of s₀ ∖ x) (marks-of c) t)
 
   pub unary-done : (x kind : ℕ) (a : Atom) (z : ℤ) →
-      Wrote k o k₁ o₁ w v (leaf-part Γ x (unary-of kind) (meant a ∷ []) (set-of s₀)) →
+      Wrote k o k₁ o₁ w v (leaf-part B Γ x (unary-of kind) (meant a ∷ []) (set-of s₀)) →
       Took (is (meant a) ∪ is (C.number z) ∪ set-of s₀ ∖ x)
       (unmarked (F .notes) (p + 1) (meant a) (unmarked (F .notes) (p + 2) (C.number z) (marks-of c))) s c₁ →
-      Walks (line-walk F Γ no-tree p 0 (L.Unary x kind a)) s₀ c k o w s c₁ k₁ o₁ v
+      Walks (line-walk F B Γ no-tree p 0 (L.Unary x kind a)) s₀ c k o w s c₁ k₁ o₁ v
   unfolding line-walk
   unary-done x kind a z y t =
       leaf-done x (unary-of kind) (meant a ∷ []) y (one (F .notes) p (meant a) z (set-of s₀ ∖ x) (marks-of c) t)
 
   pub call-done : (x f m : ℕ) →
       Wrote k o k₁ o₁ w v
-      (handing Γ x (row 8 (x + 256 * f)) (atoms-at (F .operands) (F .rows) (p + 1) m) (set-of s₀)) →
+      (leaf-part B Γ x (call f) (atoms-at (F .operands) (F .rows) (p + 1) m) (set-of s₀)) →
       Took (among (atoms-at (F .operands) (F .rows) (p + 1) m) (set-of s₀ ∖ x))
       (unmarked-all (F .notes) (p + 1) (atoms-at (F .operands) (F .rows) (p + 1) m) (marks-of c)) s c₁ →
-      Walks (line-walk F Γ no-tree p 0 (L.Call x f m)) s₀ c k o w s c₁ k₁ o₁ v
+      Walks (line-walk F B Γ no-tree p 0 (L.Call x f m)) s₀ c k o w s c₁ k₁ o₁ v
   unfolding line-walk
-  call-done x f m y t =
-      let us = atoms-at (F .operands) (F .rows) (p + 1) m in
-      leaf-done x (call f) us (wrote-as (call-rows Γ x (set-of s₀) f us) y) t
+  call-done x f m y t = leaf-done x (call f) (atoms-at (F .operands) (F .rows) (p + 1) m) y t
 
   pub literal-done : (x d m : ℕ) →
       Wrote k o k₁ o₁ w v
       (handing Γ x (row 9 (x + 256 * m + 65536 * d)) (atoms-at (F .operands) (F .rows) (p + 1) m) (set-of s₀)) →
       Took (among (atoms-at (F .operands) (F .rows) (p + 1) m) (set-of s₀ ∖ x))
       (unmarked-all (F .notes) (p + 1) (atoms-at (F .operands) (F .rows) (p + 1) m) (marks-of c)) s c₁ →
-      Walks (line-walk F Γ no-tree p 0 (L.Literal x d m)) s₀ c k o w s c₁ k₁ o₁ v
+      Walks (line-walk F B Γ no-tree p 0 (L.Literal x d m)) s₀ c k o w s c₁ k₁ o₁ v
   unfolding line-walk
   literal-done x d m y t =
       let us = atoms-at (F .operands) (F .rows) (p + 1) m in
       leaf-done x (literal d) us
       (wrote-as (ap (λ (n : ℕ). handing Γ x (row 9 (x + 256 * n + 65536 * d)) us (set-of s₀))
-      (sym (length-atoms (F .operands) (F .rows) (p + 1) m)) ∙ literal-rows Γ x (set-of s₀) d us) y) t
+      (sym (length-atoms (F .operands) (F .rows) (p + 1) m)) ∙ literal-rows B Γ x (set-of s₀) d us) y) t
 
 -- ---- the lines of a tree, whatever walks the trees in them
 
-module _ (F : Plain) (Γ : NameDepths) (W : ℕ → Point → Point) (p q : ℕ) {s s₁ : List Bool} {c c₁ k k₁ : List ℕ}
-    {o o₁ : List ℤ} {w w₁ : ℕ} where
-  pub leaf-line : (l : Line) → is-leaf l ≡ true → Walks (line-walk F Γ no-tree p 0 l) s c k o w s₁ c₁ k₁ o₁ w₁ →
-      Walks (line-walk F Γ W p q l) s c k o w s₁ c₁ k₁ o₁ w₁
+module _ (F : Plain) (B : Borrowing) (Γ : NameDepths) (W : ℕ → Point → Point) (p q : ℕ) {s s₁ : List Bool}
+    {c c₁ k k₁ : List ℕ} {o o₁ : List ℤ} {w w₁ : ℕ} where
+  pub leaf-line : (l : Line) → is-leaf l ≡ true → Walks (line-walk F B Γ no-tree p 0 l) s c k o w s₁ c₁ k₁ o₁ w₁ →
+      Walks (line-walk F B Γ W p q l) s c k o w s₁ c₁ k₁ o₁ w₁
   unfolding is-leaf line-walk
   leaf-line (L.Unary x kind a) e d = record { added = d .added; is = d .is; wrote = d .wrote; long = d .long }
   leaf-line (L.Binary x kind a b) e d = record { added = d .added; is = d .is; wrote = d .wrote; long = d .long }
@@ -166,24 +164,24 @@ module _ (F : Plain) (Γ : NameDepths) (W : ℕ → Point → Point) (p q : ℕ)
   leaf-line (L.Loop x kind y z a b) e d = absurd (false-true e)
 
   pub binary-line : (x kind : ℕ) (a b : Atom) →
-      Wrote k o k₁ o₁ w w₁ (leaf-part Γ x (binary-of kind) (meant a ∷ (meant b ∷ [])) (set-of s)) →
+      Wrote k o k₁ o₁ w w₁ (leaf-part B Γ x (binary-of kind) (meant a ∷ (meant b ∷ [])) (set-of s)) →
       Took (is (meant a) ∪ is (meant b) ∪ set-of s ∖ x)
       (unmarked (F .notes) (p + 1) (meant a) (unmarked (F .notes) (p + 2) (meant b) (marks-of c))) s₁ c₁ →
-      Walks (line-walk F Γ W p q (L.Binary x kind a b)) s c k o w s₁ c₁ k₁ o₁ w₁
+      Walks (line-walk F B Γ W p q (L.Binary x kind a b)) s c k o w s₁ c₁ k₁ o₁ w₁
   unfolding is-leaf
-  binary-line x kind a b y t = leaf-line (L.Binary x kind a b) refl (binary-done F Γ p x kind a b y t)
+  binary-line x kind a b y t = leaf-line (L.Binary x kind a b) refl (binary-done F B Γ p x kind a b y t)
 
   module _ {k₂ : List ℕ} {o₂ : List ℤ} {w₂ : ℕ} where
     -- what follows an if, and its trees
     pub if-line : (x : ℕ) (g : Atom) → x < length s → Wrote k o k₁ o₁ w w₁ (release-rows (dying Γ (only x) (set-of
         s))) →
-        Walks (if-trees F Γ W p q x (meant g)) (set s x false) c k₁ o₁ w₁ s₁ c₁ k₂ o₂ w₂ →
-        Walks (line-walk F Γ W p q (L.If x g)) s c k o w s₁ c₁ k₂ o₂ w₂
+        Walks (if-trees F B Γ W p q x (meant g)) (set s x false) c k₁ o₁ w₁ s₁ c₁ k₂ o₂ w₂ →
+        Walks (line-walk F B Γ W p q (L.If x g)) s c k o w s₁ c₁ k₂ o₂ w₂
     unfolding line-walk if-walk
     if-line x g h y d = record {
       added = d .added ++ release-rows (dying Γ (only x) (set-of s));
       is = λ rs.
-          ap (λ (A : Set). if-trees F Γ W p q x (meant g) (point A (marks-of c)
+          ap (λ (A : Set). if-trees F B Γ W p q x (meant g) (point A (marks-of c)
           (release-rows (dying Γ (only x) (set-of s)) ++ rs))) (sym (without-in s x h))
           ∙ d .is (release-rows (dying Γ (only x) (set-of s)) ++ rs)
           ∙ ap (point (set-of s₁) (marks-of c₁)) (sym (append-assoc (d .added) _ rs));
@@ -194,8 +192,8 @@ module _ (F : Plain) (Γ : NameDepths) (W : ℕ → Point → Point) (p q : ℕ)
     -- what follows a loop, and its tree
     pub loop-line : (l : Line) → is-loop l ≡ true →
         Wrote k o k₁ o₁ w w₁ (closing-of Γ p (marks-of c) (set-of s) l) →
-        Walks (loop-tree-of F Γ W p q l) s c k₁ o₁ w₁ s₁ c₁ k₂ o₂ w₂ →
-        Walks (line-walk F Γ W p q l) s c k o w s₁ c₁ k₂ o₂ w₂
+        Walks (loop-tree-of F B Γ W p q l) s c k₁ o₁ w₁ s₁ c₁ k₂ o₂ w₂ →
+        Walks (line-walk F B Γ W p q l) s c k o w s₁ c₁ k₂ o₂ w₂
     unfolding is-loop line-walk loop-walk loop-tree-of closing-of
     loop-line (L.Loop x kind y z a b) e v d =
         let j = loop-of kind in
@@ -205,7 +203,7 @@ module _ (F : Plain) (Γ : NameDepths) (W : ℕ → Point → Point) (p q : ℕ)
         record {
           added = d .added ++ closing (loop-size j);
           is = λ rs.
-              ap (λ (n : ℕ). loop-tree F Γ W p q x j (of-loop j y z) us (point (set-of s) (marks-of c)
+              ap (λ (n : ℕ). loop-tree F B Γ W p q x j (of-loop j y z) us (point (set-of s) (marks-of c)
               (closing n ++ rs))) (of-size j (meant a) (meant b))
               ∙ d .is (closing (loop-size j) ++ rs)
               ∙ ap (point (set-of s₁) (marks-of c₁)) (sym (append-assoc (d .added) _ rs));

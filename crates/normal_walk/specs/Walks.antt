@@ -5,6 +5,7 @@ use mathlib.Core.List.{List, _++_}
 use Prim.Native.Nat.{ℕ}
 use lib.IntN.{ℤ}
 use lib.ListN.{length}
+use Rattle.semantics.specs.Kinds.{Borrowing}
 use Rattle.semantics.specs.Code.{Row}
 use Rattle.semantics.specs.Annotate.{NameDepths}
 use Rattle.normal_code.specs.Plain.{Plain, set-of, meant, loop-of, of-loop}
@@ -46,12 +47,12 @@ abbrev pub no-tree : ℕ → Point → Point
 no-tree e P = P
 
 -- the walk of a loop's tree, over the walk W of trees, where the line l stands from p to before q
-unfoldable pub loop-tree-of : Plain → NameDepths → (ℕ → Point → Point) → ℕ → ℕ → Line → Point → Point
-loop-tree-of F Γ W p q (L.Unary x kind a) P = P
-loop-tree-of F Γ W p q (L.Binary x kind a b) P = P
-loop-tree-of F Γ W p q (L.Call x f m) P = P
-loop-tree-of F Γ W p q (L.Literal x d m) P = P
-loop-tree-of F Γ W p q (L.If x g) P = P
-loop-tree-of F Γ W p q (L.Loop x kind y z a b) P =
+unfoldable pub loop-tree-of : Plain → Borrowing → NameDepths → (ℕ → Point → Point) → ℕ → ℕ → Line → Point → Point
+loop-tree-of F B Γ W p q (L.Unary x kind a) P = P
+loop-tree-of F B Γ W p q (L.Binary x kind a b) P = P
+loop-tree-of F B Γ W p q (L.Call x f m) P = P
+loop-tree-of F B Γ W p q (L.Literal x d m) P = P
+loop-tree-of F B Γ W p q (L.If x g) P = P
+loop-tree-of F B Γ W p q (L.Loop x kind y z a b) P =
     let k = loop-of kind in
-    loop-tree F Γ W p q x k (of-loop k y z) (of-loop k (meant a) (meant b)) P
+    loop-tree F B Γ W p q x k (of-loop k y z) (of-loop k (meant a) (meant b)) P

@@ -1,6 +1,7 @@
 // A line without trees, walked backwards.
 use normal_code::Atom;
 use normal_code::Line;
+use normal_write::calls::put_call;
 use normal_write::lines::put_binary;
 use normal_write::lines::put_handing;
 use normal_write::lines::put_unary;
@@ -10,6 +11,7 @@ ghost use mathlib.Core.Path.{_≡_};
 ghost use mathlib.Core.Bool.{true};
 ghost use Prim.Native.Nat.{_+_, _*_, _<_};
 ghost use lib.ListN.{length};
+ghost use Rattle.semantics.specs.Borrow.{borrows};
 ghost use Rattle.normal_code.specs.Plain.{plain};
 ghost use Rattle.normal_code.specs.Parts.{depth-in};
 ghost use Rattle.normal_code.specs.Walk.{line-walk};
@@ -25,6 +27,7 @@ pub fn walk_leaf(
     notes: &[u16; 2048],
     cur: &mut [u16; 256],
     depths: &[u8; 256],
+    table: &[[bool; 8]; 32],
     l: Line,
     p: usize,
     at: &mut usize,
@@ -33,7 +36,7 @@ pub fn walk_leaf(
     requires { ⌜ (is-leaf l ≡ true) × (p < 4096) × (length (now cur) ≡ 256) × Room (now ks) (now os) (now at) ⌝ }
     ensures { λ r. ⌜ Walks
         (line-walk (plain (now (operands .entry)) (now (rows .entry)) (now (notes .entry)))
-        (depth-in (now (depths .entry))) no-tree p 0 l)
+        (borrows (now (table .entry))) (depth-in (now (depths .entry))) no-tree p 0 l)
         after (now (cur .entry)) (now (ks .entry)) (now (os .entry)) (now (at .entry))
         r (now (cur .exit)) (now (ks .exit)) (now (os .exit)) (now (at .exit)) ⌝ }
 {
@@ -50,8 +53,20 @@ pub fn walk_leaf(
             take_two(notes, cur, p, x, a, b, after)
         }
         Line::Call(x, f, m) => {
-            let n = x as u32 + 256 * (f as u32);
-            let v = put_handing(ks, os, depths, operands, rows, p + 1, x, m, 8, n, &after, w);
+            let v = put_call(
+                ks,
+                os,
+                depths,
+                operands,
+                rows,
+                table,
+                p + 1,
+                x,
+                f,
+                m,
+                &after,
+                w,
+            );
             *at = v;
             take_handed(operands, rows, notes, cur, p, x, m, after)
         }

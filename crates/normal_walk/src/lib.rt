@@ -23,6 +23,7 @@ ghost use mathlib.Core.Path.{_≡_};
 ghost use mathlib.Core.Bool.{true};
 ghost use Prim.Native.Nat.{_+_, _-_, _<_, _≤_};
 ghost use lib.ListN.{length};
+ghost use Rattle.semantics.specs.Borrow.{borrows};
 ghost use Rattle.normal_code.specs.Plain.{plain, meant};
 ghost use Rattle.normal_code.specs.Parts.{depth-in};
 ghost use Rattle.normal_code.specs.Walk.{tree-walk, if-trees};
@@ -47,6 +48,7 @@ pub fn walk_tree(
     notes: &[u16; 2048],
     cur: &mut [u16; 256],
     depths: &[u8; 256],
+    table: &[[bool; 8]; 32],
     e: usize,
     levels: u64,
     at: &mut usize,
@@ -55,7 +57,7 @@ pub fn walk_tree(
     requires { ⌜ (e ≤ 4096) × (length (now cur) ≡ 256) × Room (now ks) (now os) (now at) ⌝ }
     ensures { λ r. ⌜ Walks
         (tree-walk (plain (now (operands .entry)) (now (rows .entry)) (now (notes .entry)))
-        (depth-in (now (depths .entry))) levels e)
+        (borrows (now (table .entry))) (depth-in (now (depths .entry))) levels e)
         after (now (cur .entry)) (now (ks .entry)) (now (os .entry)) (now (at .entry))
         r (now (cur .exit)) (now (ks .exit)) (now (os .exit)) (now (at .exit)) ⌝ }
 {
@@ -97,6 +99,7 @@ pub fn walk_tree(
                     notes,
                     cur,
                     depths,
+                    table,
                     x,
                     g,
                     here,
@@ -112,7 +115,20 @@ pub fn walk_tree(
                 let w = *at;
                 let v = close_loop(ks, os, depths, cur, l, p, &s, w);
                 *at = v;
-                let t = walk_loop(ks, os, operands, rows, notes, cur, depths, l, here, at, s);
+                let t = walk_loop(
+                    ks,
+                    os,
+                    operands,
+                    rows,
+                    notes,
+                    cur,
+                    depths,
+                    table,
+                    l,
+                    here,
+                    at,
+                    s,
+                );
                 s = t;
                 q = p;
                 left = left - 1;
@@ -132,7 +148,20 @@ pub fn walk_tree(
             }
             _ => {}
         }
-        let t = walk_leaf(ks, os, operands, rows, notes, cur, depths, l, p, at, s);
+        let t = walk_leaf(
+            ks,
+            os,
+            operands,
+            rows,
+            notes,
+            cur,
+            depths,
+            table,
+            l,
+            p,
+            at,
+            s,
+        );
         s = t;
         q = p;
         left = left - 1;
@@ -149,6 +178,7 @@ fn walk_if(
     notes: &[u16; 2048],
     cur: &mut [u16; 256],
     depths: &[u8; 256],
+    table: &[[bool; 8]; 32],
     x: u8,
     g: Atom,
     here: Span,
@@ -158,9 +188,9 @@ fn walk_if(
     requires { ⌜ (here .p < 4096) × (here .q ≤ 4096) × (length (now cur) ≡ 256) × Room (now ks) (now os) (now at) ⌝ }
     ensures { λ r. ⌜ Walks
         (if-trees (plain (now (operands .entry)) (now (rows .entry)) (now (notes .entry)))
-        (depth-in (now (depths .entry)))
+        (borrows (now (table .entry))) (depth-in (now (depths .entry)))
         (tree-walk (plain (now (operands .entry)) (now (rows .entry)) (now (notes .entry)))
-        (depth-in (now (depths .entry))) (here .levels)) (here .p) (here .q) x (meant g))
+        (borrows (now (table .entry))) (depth-in (now (depths .entry))) (here .levels)) (here .p) (here .q) x (meant g))
         after (now (cur .entry)) (now (ks .entry)) (now (os .entry)) (now (at .entry))
         r (now (cur .exit)) (now (ks .exit)) (now (os .exit)) (now (at .exit)) ⌝ }
 {
@@ -175,6 +205,7 @@ fn walk_if(
         notes,
         cur,
         depths,
+        table,
         e,
         here.levels,
         at,
@@ -192,6 +223,7 @@ fn walk_if(
         notes,
         cur,
         depths,
+        table,
         t,
         here.levels,
         at,
@@ -217,6 +249,7 @@ fn walk_loop(
     notes: &[u16; 2048],
     cur: &mut [u16; 256],
     depths: &[u8; 256],
+    table: &[[bool; 8]; 32],
     l: Line,
     here: Span,
     at: &mut usize,
@@ -226,9 +259,9 @@ fn walk_loop(
         × Room (now ks) (now os) (now at) ⌝ }
     ensures { λ r. ⌜ Walks
         (loop-tree-of (plain (now (operands .entry)) (now (rows .entry)) (now (notes .entry)))
-        (depth-in (now (depths .entry)))
+        (borrows (now (table .entry))) (depth-in (now (depths .entry)))
         (tree-walk (plain (now (operands .entry)) (now (rows .entry)) (now (notes .entry)))
-        (depth-in (now (depths .entry))) (here .levels)) (here .p) (here .q) l)
+        (borrows (now (table .entry))) (depth-in (now (depths .entry))) (here .levels)) (here .p) (here .q) l)
         after (now (cur .entry)) (now (ks .entry)) (now (os .entry)) (now (at .entry))
         r (now (cur .exit)) (now (ks .exit)) (now (os .exit)) (now (at .exit)) ⌝ }
 {
@@ -246,6 +279,7 @@ fn walk_loop(
                 notes,
                 cur,
                 depths,
+                table,
                 e,
                 here.levels,
                 at,

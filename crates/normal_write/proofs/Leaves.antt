@@ -11,7 +11,7 @@ use lib.ListN.{length}
 use borrow.Author.Tests.{lt-ltb, ne-eqb}
 use Rattle.semantics.specs.Basics.{with-if}
 use Rattle.semantics.specs.Kinds.{Leaf, operation, call, literal, index, length-of, iota, replicate, leaf-kind}
-use Rattle.semantics.specs.Kinds.{leaf-operand, leaf-hands, leaf-reads, is-pending}
+use Rattle.semantics.specs.Kinds.{leaf-operand, leaf-hands, leaf-reads, is-pending, Borrowing}
 use Rattle.semantics.specs.Code.{Atom, number, name, Row, row, atom-row}
 use Rattle.semantics.specs.Live.{Set, empty, is, only, among, _∪_, members-from, members}
 use Rattle.semantics.specs.Annotate.{NameDepths, atom-depth, is-array, dying, handed-again}
@@ -84,74 +84,77 @@ module _ (Γ : NameDepths) where
 -- ---- the lines of leaves
 
 -- it hands nothing over, and its operand is its name
-record Reads (l : Leaf) : Type 0 where
-  hands : (us : List Atom) → leaf-hands l us ≡ []
-  reads : (us : List Atom) → leaf-reads l us ≡ us
+record Reads (B : Borrowing) (l : Leaf) : Type 0 where
+  hands : (us : List Atom) → leaf-hands B l us ≡ []
+  reads : (us : List Atom) → leaf-reads B l us ≡ us
   operand : (x n : ℕ) → leaf-operand l x n ≡ x
 
-unary-reads : (kind : ℕ) → Reads (unary-of kind)
-unary-reads kind = go (eqb kind 17)
+unary-reads : (B : Borrowing) (kind : ℕ) → Reads B (unary-of kind)
+unary-reads B kind = go (eqb kind 17)
   where
-    go : (b : Bool) → Reads (cond b iota length-of)
+    go : (b : Bool) → Reads B (cond b iota length-of)
     go true = record { hands = λ us. refl; reads = λ us. refl; operand = λ x n. refl }
     go false = record { hands = λ us. refl; reads = λ us. refl; operand = λ x n. refl }
 
-binary-reads : (kind : ℕ) → Reads (binary-of kind)
-binary-reads kind = go (eqb kind 10) (eqb kind 18)
+binary-reads : (B : Borrowing) (kind : ℕ) → Reads B (binary-of kind)
+binary-reads B kind = go (eqb kind 10) (eqb kind 18)
   where
-    go : (b c : Bool) → Reads (cond b index (cond c replicate (operation (operation-of kind))))
+    go : (b c : Bool) → Reads B (cond b index (cond c replicate (operation (operation-of kind))))
     go true c = record { hands = λ us. refl; reads = λ us. refl; operand = λ x n. refl }
     go false true = record { hands = λ us. refl; reads = λ us. refl; operand = λ x n. refl }
     go false false = record { hands = λ us. refl; reads = λ us. refl; operand = λ x n. refl }
 
-module _ (Γ : NameDepths) (x : ℕ) (A : Set) where
+module _ (B : Borrowing) (Γ : NameDepths) (x : ℕ) (A : Set) where
   -- a leaf's part with its sets joined
   abbrev joined-part : Leaf → List Atom → List Row
   joined-part l us =
-      retain-rows (handed-again Γ (leaf-hands l us) (among (leaf-reads l us) A))
+      retain-rows (handed-again Γ (leaf-hands B l us) (among (leaf-reads B l us) A))
       ++ ((row (leaf-kind l) (leaf-operand l x (length us)) ∷ map atom-row us)
       ++ (retain-rows (with-if (is-pending l && is-array Γ x) x [])
-      ++ release-rows (dying Γ (among (leaf-reads l us) (only x)) A)))
+      ++ release-rows (dying Γ (among (leaf-reads B l us) (only x)) A)))
 
-  joined : (us : List Atom) (B : Set) → among us B ≡ among us empty ∪ B
-  joined us B = fun-ext (λ y. among-split us B y)
+  joined : (us : List Atom) (S : Set) → among us S ≡ among us empty ∪ S
+  joined us S = fun-ext (λ y. among-split us S y)
 
-  leaf-rows : (l : Leaf) (us : List Atom) → joined-part l us ≡ leaf-part Γ x l us A
-  leaf-rows l us = rw (joined (leaf-reads l us) A, joined (leaf-reads l us) (only x))
+  leaf-rows : (l : Leaf) (us : List Atom) → joined-part l us ≡ leaf-part B Γ x l us A
+  leaf-rows l us = rw (joined (leaf-reads B l us) A, joined (leaf-reads B l us) (only x))
 
   -- a leaf that reads all its atoms
-  reads-rows : (l : Leaf) (us : List Atom) → Reads l →
+  reads-rows : (l : Leaf) (us : List Atom) → Reads B l →
       row (leaf-kind l) x ∷ (map atom-row us ++ (retain-rows (with-if (is-pending l && is-array Γ x) x [])
       ++ release-rows (dying Γ (among us (only x)) A)))
-      ≡ leaf-part Γ x l us A
+      ≡ leaf-part B Γ x l us A
   unfolding handed-again
   reads-rows l us r = rw (r .hands us, r .reads us, r .operand x (length us), joined us (only x))
 
   pub binary-rows : (kind : ℕ) {k : ℕ} (a b : Atom) → k ≡ leaf-kind (binary-of kind) →
       row k x ∷ (atom-row a ∷ (atom-row b ∷ (retain-rows (with-if (is-pending (binary-of kind) && is-array Γ x) x [])
       ++ release-rows (dying Γ (is a ∪ is b ∪ only x) A))))
-      ≡ leaf-part Γ x (binary-of kind) (a ∷ (b ∷ [])) A
+      ≡ leaf-part B Γ x (binary-of kind) (a ∷ (b ∷ [])) A
   unfolding among
-  binary-rows kind a b e = rw e (reads-rows (binary-of kind) (a ∷ (b ∷ [])) (binary-reads kind))
+  binary-rows kind a b e = rw e (reads-rows (binary-of kind) (a ∷ (b ∷ [])) (binary-reads B kind))
 
   pub unary-rows : (kind : ℕ) {k : ℕ} (a : Atom) → k ≡ leaf-kind (unary-of kind) →
-      row k x ∷ (atom-row a ∷ release-rows (dying Γ (is a ∪ only x) A)) ≡ leaf-part Γ x (unary-of kind) (a ∷ []) A
+      row k x ∷ (atom-row a ∷ release-rows (dying Γ (is a ∪ only x) A)) ≡ leaf-part B Γ x (unary-of kind) (a ∷ []) A
   unfolding among
   unary-rows kind a e =
       rw e (ap (λ (b : Bool). row (leaf-kind (unary-of kind)) x ∷ (atom-row a
       ∷ (retain-rows (with-if (b && is-array Γ x) x []) ++ release-rows (dying Γ (is a ∪ only x) A)))) (none (eqb kind
-      17)) ∙ reads-rows (unary-of kind) (a ∷ []) (unary-reads kind))
+      17)) ∙ reads-rows (unary-of kind) (a ∷ []) (unary-reads B kind))
     where
       none : (b : Bool) → false ≡ is-pending (cond b iota length-of)
       none true = refl
       none false = refl
 
-  pub call-rows : (f : ℕ) (us : List Atom) → handing Γ x (row 8 (x + 256 * f)) us A ≡ leaf-part Γ x (call f) us A
-  unfolding among
-  call-rows f us = leaf-rows (call f) us
+  pub call-rows : (f : ℕ) (us : List Atom) (S : Set) → S ≡ among (leaf-reads B (call f) us) A →
+      retain-rows (handed-again Γ (leaf-hands B (call f) us) S)
+      ++ ((row 8 (x + 256 * f) ∷ map atom-row us)
+      ++ release-rows (dying Γ (among (leaf-reads B (call f) us) (only x)) A))
+      ≡ leaf-part B Γ x (call f) us A
+  call-rows f us S e = rw e (leaf-rows (call f) us)
 
   pub literal-rows : (d : ℕ) (us : List Atom) →
-      handing Γ x (row 9 (x + 256 * length us + 65536 * d)) us A ≡ leaf-part Γ x (literal d) us A
+      handing Γ x (row 9 (x + 256 * length us + 65536 * d)) us A ≡ leaf-part B Γ x (literal d) us A
   unfolding among
   literal-rows d us = leaf-rows (literal d) us
 

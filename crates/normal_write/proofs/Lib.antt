@@ -4,3 +4,4 @@ pub mod Atoms
 pub mod Laws
 pub mod Leaves
 pub mod LoopRows
+pub mod Arguments

@@ -14,6 +14,7 @@ ghost use Rattle.normal_code.specs.Plain.{set-of, meant};
 ghost use Rattle.normal_code.specs.Parts.{below, depth-in, retain-rows, release-rows};
 ghost use Rattle.normal_write.specs.Wrote.{Wrote, Room};
 
+pub mod calls;
 pub mod lines;
 pub mod loops;
 pub mod marks;

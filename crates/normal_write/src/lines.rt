@@ -12,7 +12,7 @@ ghost use mathlib.Core.List.{[], _∷_, map};
 ghost use Prim.Native.Nat.{_+_, _-_, _≤_};
 ghost use lib.Dec.{ltb};
 ghost use Rattle.semantics.specs.Basics.{with-if};
-ghost use Rattle.semantics.specs.Kinds.{leaf-kind, is-pending};
+ghost use Rattle.semantics.specs.Kinds.{Borrowing, leaf-kind, is-pending};
 ghost use Rattle.semantics.specs.Code.{row, atom-row};
 ghost use Rattle.semantics.specs.Annotate.{handed-again};
 ghost use Rattle.normal_code.specs.Plain.{set-of, meant, atoms-at, unary-of, binary-of};
@@ -76,7 +76,7 @@ fn put_retains(
 }
 
 // The m atoms from a row on.
-fn put_atoms(
+pub fn put_atoms(
     ks: &mut [u8],
     os: &mut [i64],
     operands: &[u8],
@@ -146,9 +146,10 @@ pub fn put_binary(
     w: usize,
 ) -> usize
     requires { ⌜ Room (now ks) (now os) w ⌝ }
-    ensures { λ r. ⌜ Wrote (now (ks .entry)) (now (os .entry)) (now (ks .exit)) (now (os .exit)) w r
-        (leaf-part (depth-in (now (depths .entry))) x (binary-of kind) (meant a ∷ (meant b ∷ []))
-        (set-of (now (after .entry)))) ⌝ }
+    ensures { λ r. ⌜ ((B : Borrowing) →
+        Wrote (now (ks .entry)) (now (os .entry)) (now (ks .exit)) (now (os .exit)) w r
+        (leaf-part B (depth-in (now (depths .entry))) x (binary-of kind) (meant a ∷ (meant b ∷ []))
+        (set-of (now (after .entry))))) ⌝ }
 {
     let s = put_reads(ks, os, depths, x, a, b, after, w);
     let t = retain_indexed(ks, os, depths, x, kind, s);
@@ -177,8 +178,10 @@ pub fn put_unary(
     w: usize,
 ) -> usize
     requires { ⌜ Room (now ks) (now os) w ⌝ }
-    ensures { λ r. ⌜ Wrote (now (ks .entry)) (now (os .entry)) (now (ks .exit)) (now (os .exit)) w r
-        (leaf-part (depth-in (now (depths .entry))) x (unary-of kind) (meant a ∷ []) (set-of (now (after .entry)))) ⌝ }
+    ensures { λ r. ⌜ ((B : Borrowing) →
+        Wrote (now (ks .entry)) (now (os .entry)) (now (ks .exit)) (now (os .exit)) w r
+        (leaf-part B (depth-in (now (depths .entry))) x (unary-of kind) (meant a ∷ [])
+        (set-of (now (after .entry))))) ⌝ }
 {
     let u = release_both(ks, os, depths, x, a, after, w);
     let v = put_atom(ks, os, u, a);
@@ -186,7 +189,7 @@ pub fn put_unary(
     put_row(ks, os, v, k, x as u32)
 }
 
-// A call or a literal: a row of the kind and the number n, and the m atoms from a row on.
+// A literal: a row of the kind and the number n, and the m atoms from a row on, all handed over.
 pub fn put_handing(
     ks: &mut [u8],
     os: &mut [i64],

@@ -1,18 +1,20 @@
--- Document 01, "The code": the retains and releases that the live sets require, and the code of a script.
+-- Document 01, "The code": the retains and releases that the live sets require, and the code of a script; with
+-- document 02's order 7.
 use Prim.Native.Nat.{ℕ, zero, suc, _+_, _*_, pred}
-use mathlib.Core.Bool.{Bool, not, _&&_}
+use mathlib.Core.Bool.{Bool, cond, not, _&&_}
 use mathlib.Core.List.{List, [], _∷_, _++_}
 use lib.ListN.{length}
 use lib.Dec.{ltb}
 use Rattle.semantics.specs.Basics.{with-if, updated}
 use Rattle.semantics.specs.Syntax.{Parameter, Function, Script, function-at}
 use Rattle.semantics.specs.Kinds.{Leaf, operation, call, literal, index, length-of, iota, replicate, Loop}
-use Rattle.semantics.specs.Kinds.{mapping, filtering, reducing}
+use Rattle.semantics.specs.Kinds.{mapping, filtering, reducing, Borrowing}
 use Rattle.semantics.specs.Kinds.{leaf-hands, leaf-reads, loop-hands, loop-reads, element-name, is-pending}
 use Rattle.semantics.specs.Code.{Atom, number, name, Line, leaf, if-else, loop, retain, release, Tree, end, line}
 use Rattle.semantics.specs.Code.{ending, retain-all, release-all}
 use Rattle.semantics.specs.Code.{Row, row, rows}
 use Rattle.semantics.specs.Normal.{normal-body}
+use Rattle.semantics.specs.Borrow.{Table, borrows, borrowed}
 use Rattle.semantics.specs.Live.{Set, empty, _∪_, _∖_, _∖∖_, only, just, among, members, live, uses}
 use Rattle.semantics.specs.Live.{after-branch}
 use Rattle.semantics.specs.Live.{after-pass}
@@ -112,39 +114,47 @@ module _ (Γ : NameDepths) where
   handed-again (number z ∷ us) A = handed-again us A
   handed-again (name x ∷ us) A = with-if (is-array x && among us A x) x (handed-again us A)
 
+-- over the places that are borrowed
+module _ (B : Borrowing) (Γ : NameDepths) where
   unfoldable mutual
     -- a tree, after which L is live
     pub annotate : Tree → Set → Tree
-    annotate (end a) L = retain-all (handed-again (a ∷ []) L) (end a)
+    annotate (end a) L = retain-all (handed-again Γ (a ∷ []) L) (end a)
     annotate (line l t) L = annotate-line l (live t L) (annotate t L)
 
     -- a line, after which A is live and the tree k follows
     pub annotate-line : Line → Set → Tree → Tree
     annotate-line (leaf x l us) A k =
-        let R = among (leaf-reads l us) empty in
-        let k′ = release-all (dying (R ∪ only x) A) k in
-        retain-all (handed-again (leaf-hands l us) (R ∪ A))
-        (line (leaf x l us) (retain-all (with-if (is-pending l && is-array x) x []) k′))
+        let R = among (leaf-reads B l us) empty in
+        let k′ = release-all (dying Γ (R ∪ only x) A) k in
+        retain-all (handed-again Γ (leaf-hands B l us) (R ∪ A))
+        (line (leaf x l us) (retain-all (with-if (is-pending l && is-array Γ x) x []) k′))
     annotate-line (if-else x g t e) A k =
-        let B = after-branch x A in
-        let t′ = release-all (dying (uses e) (live t B)) (annotate t B) in
-        let e′ = release-all (dying (uses t) (live e B)) (annotate e B) in
-        line (if-else x g t′ e′) (release-all (dying (only x) A) k)
+        let L = after-branch x A in
+        let t′ = release-all (dying Γ (uses e) (live t L)) (annotate t L) in
+        let e′ = release-all (dying Γ (uses t) (live e L)) (annotate e L) in
+        line (if-else x g t′ e′) (release-all (dying Γ (only x) A) k)
     annotate-line (loop x j ps us t) A k =
-        let B = after-pass x ps t A in
+        let L = after-pass x ps t A in
         let R = among (loop-reads j us) (uses t ∖∖ ps) in
-        let t′ = retain-all (arrays (element-name j ps)) (release-all (dying (just ps) (live t B)) (annotate t B)) in
-        retain-all (handed-again (loop-hands j us) (R ∪ A))
-        (line (loop x j ps us t′) (release-all (dying (R ∪ only x) A) k))
+        let opened = release-all (dying Γ (just ps) (live t L)) (annotate t L) in
+        let t′ = retain-all (arrays Γ (element-name j ps)) opened in
+        retain-all (handed-again Γ (loop-hands j us) (R ∪ A))
+        (line (loop x j ps us t′) (release-all (dying Γ (R ∪ only x) A) k))
     annotate-line (retain x) A k = line (retain x) k
     annotate-line (release x) A k = line (release x) k
 
--- a function's annotated tree: it opens by releasing the unused parameters
-unfoldable pub annotated-body : Script → Function → Tree
-annotated-body fs g =
-    let Γ = depths-of fs g in
+-- The depths by which the names of function f are annotated. A borrowed parameter is never handed over, so no retain is
+-- due, and is never released: like a number, it is left alone.
+unfoldable pub owned-depths : Script → Table → ℕ → Function → NameDepths
+owned-depths fs T f g = λ x. cond (ltb x (length (g .parameters)) && borrows T f x) 0 (depths-of fs g x)
+
+-- the annotated tree of function f: it opens by releasing the unused parameters
+unfoldable pub annotated-body : Script → Table → ℕ → Function → Tree
+annotated-body fs T f g =
+    let Γ = owned-depths fs T f g in
     let t = normal-body g in
-    release-all (dying Γ (λ x. ltb x (length (g .parameters))) (uses t)) (annotate Γ t empty)
+    release-all (dying Γ (λ x. ltb x (length (g .parameters))) (uses t)) (annotate (borrows T) Γ t empty)
 
 -- ---- the code
 
@@ -152,15 +162,16 @@ unfoldable pub parameter-rows : List Parameter → ℕ → List Row
 parameter-rows [] n = []
 parameter-rows (x ∷ xs) n = row 1 (n + 256 * x .depth) ∷ parameter-rows xs (suc n)
 
-unfoldable pub function-rows : Script → Function → List Row
-function-rows fs g =
-    row 0 (length (g .parameters) + 256 * g .result) ∷ (parameter-rows (g .parameters) 0 ++ rows (annotated-body fs g))
+unfoldable pub function-rows : Script → Table → ℕ → Function → List Row
+function-rows fs T f g =
+    row 0 (length (g .parameters) + 256 * g .result)
+    ∷ (parameter-rows (g .parameters) 0 ++ rows (annotated-body fs T f g))
 
--- the rows of some functions of a script
-unfoldable pub functions-rows : Script → List Function → List Row
-functions-rows fs [] = []
-functions-rows fs (g ∷ gs) = function-rows fs g ++ functions-rows fs gs
+-- the rows of some functions of a script, the first of which has number f
+unfoldable pub functions-rows : Script → Table → ℕ → List Function → List Row
+functions-rows fs T f [] = []
+functions-rows fs T f (g ∷ gs) = function-rows fs T f g ++ functions-rows fs T (suc f) gs
 
 -- the code of a script, line by line
 unfoldable pub code : Script → List Row
-code fs = functions-rows fs fs
+code fs = functions-rows fs (borrowed fs) 0 fs

@@ -1,8 +1,9 @@
 -- The kinds of nodes and lines that are not numbers, names, lets or ifs: leaves, which work no tree, and loops, which
 -- work one tree a pass. What a new kind says of itself stands here.
-use Prim.Native.Nat.{ℕ, _+_, _*_}
-use mathlib.Core.Bool.{Bool, true, false}
+use Prim.Native.Nat.{ℕ, suc, _+_, _*_}
+use mathlib.Core.Bool.{Bool, true, false, not}
 use mathlib.Core.List.{List, [], _∷_}
+use Rattle.semantics.specs.Basics.{with-if}
 use Rattle.semantics.specs.Number.{Operation, sum, difference, less}
 
 pub data Leaf : Type 0 where
@@ -48,6 +49,10 @@ abbrev pub packed-names : List ℕ → ℕ
 packed-names [] = 0
 packed-names (x ∷ xs) = x + 256 * packed-names xs
 
+-- whether a function borrows an argument: by the function and the argument's place
+abbrev pub Borrowing : Type 0
+Borrowing = ℕ → ℕ → Bool
+
 module _ {A : Type 0} where
   abbrev pub first-part : List A → List A
   first-part [] = []
@@ -57,24 +62,30 @@ module _ {A : Type 0} where
   later-parts [] = []
   later-parts (a ∷ l) = l
 
-  -- of a leaf's parts those that are handed over; the others are read
-  abbrev pub leaf-hands : Leaf → List A → List A
-  leaf-hands (operation o) us = []
-  leaf-hands (call f) us = us
-  leaf-hands (literal d) us = us
-  leaf-hands index us = []
-  leaf-hands length-of us = []
-  leaf-hands iota us = []
-  leaf-hands replicate us = []
+  -- of some parts, the first of which has place i, those at certain places
+  abbrev pub picked : (ℕ → Bool) → ℕ → List A → List A
+  picked at i [] = []
+  picked at i (u ∷ us) = with-if (at i) u (picked at (suc i) us)
 
-  abbrev pub leaf-reads : Leaf → List A → List A
-  leaf-reads (operation o) us = us
-  leaf-reads (call f) us = []
-  leaf-reads (literal d) us = []
-  leaf-reads index us = us
-  leaf-reads length-of us = us
-  leaf-reads iota us = us
-  leaf-reads replicate us = us
+  -- Of a leaf's parts those that are handed over; the others are read. A call hands over the arguments that its
+  -- function does not borrow.
+  abbrev pub leaf-hands : Borrowing → Leaf → List A → List A
+  leaf-hands B (operation o) us = []
+  leaf-hands B (call f) us = picked (λ i. not (B f i)) 0 us
+  leaf-hands B (literal d) us = us
+  leaf-hands B index us = []
+  leaf-hands B length-of us = []
+  leaf-hands B iota us = []
+  leaf-hands B replicate us = []
+
+  abbrev pub leaf-reads : Borrowing → Leaf → List A → List A
+  leaf-reads B (operation o) us = us
+  leaf-reads B (call f) us = picked (B f) 0 us
+  leaf-reads B (literal d) us = []
+  leaf-reads B index us = us
+  leaf-reads B length-of us = us
+  leaf-reads B iota us = us
+  leaf-reads B replicate us = us
 
   -- of a loop's parts before its body those that are handed over, a reduce's start; it reads the others, its array
   abbrev pub loop-hands : Loop → List A → List A

@@ -9,6 +9,7 @@ pub mod Types
 pub mod Code
 pub mod Normal
 pub mod Live
+pub mod Borrow
 pub mod Annotate
 pub mod Store
 pub mod Words
@@ -29,5 +30,6 @@ pub mod Second
 pub mod Levels
 pub mod Lowest
 pub mod Guards
+pub mod Borrows
 pub mod Watched
 pub mod Carried

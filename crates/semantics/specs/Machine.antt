@@ -14,9 +14,10 @@ use Rattle.semantics.specs.Number.{exact, fits, inside, is-zero, is-answ
 use Rattle.semantics.specs.Syntax.{Function, Script, main-depth}
 use Rattle.semantics.specs.Types.{Signature, signatures-of}
 use Rattle.semantics.specs.Kinds.{Leaf, operation, call, literal, index, length-of, iota, replicate, Loop}
-use Rattle.semantics.specs.Kinds.{mapping, filtering, reducing, later-parts}
+use Rattle.semantics.specs.Kinds.{mapping, filtering, reducing, later-parts, Borrowing, leaf-reads}
 use Rattle.semantics.specs.Code.{Atom, number, name, Line, leaf, if-else, loop, retain, release, Tree, end, line}
 use Rattle.semantics.specs.Live.{Set, empty, _∖_, among, members, live, after-branch, after-pass}
+use Rattle.semantics.specs.Borrow.{Table, borrows, borrowed}
 use Rattle.semantics.specs.Annotate.{NameDepths, depth-of, is-array, depths-of, annotated-body}
 use Rattle.semantics.specs.Store.{Store, cell, cell-of, elements, inner, named-by, with-totals, has-free}
 use Rattle.semantics.specs.Store.{acquired, retained, released, freed, appended, relinked, deepest, free-cells}
@@ -153,8 +154,9 @@ retain-times (suc n) w = do retain-word w; retain-times n w
 abbrev pub is-count : ℤ → Bool
 is-count n = inside n 17
 
--- A leaf's work on the words ws of its atoms, after its step: S are the roots while a cell is wanted, C those of a call,
--- and d is the depth of its second atom, which a replicate retains once for each element.
+-- A leaf's work on the words ws of its atoms, after its step. S are the roots while a cell is wanted; C those of a call
+-- with what the caller keeps for a borrowed argument; d is the depth of the second atom, which a replicate retains once
+-- for each element.
 unfoldable pub work-leaf : Callee → List ℕ → List ℕ → ℕ → Leaf → List ℤ → Work ℤ
 work-leaf callee S C d (operation o) ws = do
   let r = exact o (argument ws 0) (argument ws 1)
@@ -235,7 +237,7 @@ binding (x ∷ xs) ws ρ = binding xs (later-parts ws) (updated ρ x (argument w
 abbrev pub element-depth : NameDepths → ℕ → ℕ
 element-depth Γ x = pred (Γ x)
 
-module _ (callee : Callee) (Γ : NameDepths) where
+module _ (callee : Callee) (B : Borrowing) (Γ : NameDepths) where
   unfoldable mutual
     -- a tree, after which L is live
     pub work : Tree → Set → List ℕ → Frame → Work ℤ
@@ -248,23 +250,23 @@ module _ (callee : Callee) (Γ : NameDepths) where
     pub work-line : Line → Set → List ℕ → Frame → Work Frame
     work-line (leaf x l us) A R ρ = do
       step
-      w ← work-leaf callee (R ++ held Γ (among us (A ∖ x)) ρ) (R ++ held Γ (A ∖ x) ρ) (depth-of Γ us 1) l
-          (map (word ρ) us)
+      let C = among (leaf-reads B l us) (A ∖ x)
+      w ← work-leaf callee (R ++ held Γ (among us (A ∖ x)) ρ) (R ++ held Γ C ρ) (depth-of Γ us 1) l (map (word ρ) us)
       give (updated ρ x w)
     work-line (if-else x g t e) A R ρ = do
       step
       require (is-answer (word ρ g)) 28
-      let B = after-branch x A
-      w ← cond (is-zero (word ρ g)) (work e B R ρ) (work t B R ρ)
+      let L = after-branch x A
+      w ← cond (is-zero (word ρ g)) (work e L R ρ) (work t L R ρ)
       give (updated ρ x w)
     work-line (loop x k ps us t) A R ρ = do
       step
-      let B = after-pass x ps t A
-      let R′ = R ++ held Γ (among us B) ρ
+      let L = after-pass x ps t A
+      let R′ = R ++ held Γ (among us L) ρ
       let a = looped-over k (map (word ρ) us)
       ws ← elements-of a
       c ← carried-first k R′ (element-depth Γ x) (map (word ρ) us)
-      w ← passes (work-pass k (element-depth Γ x) (λ vs. work t B (R′ ++ in-progress k c) (binding ps vs ρ)) a)
+      w ← passes (work-pass k (element-depth Γ x) (λ vs. work t L (R′ ++ in-progress k c) (binding ps vs ρ)) a)
           c (tabulate 0 (length ws) (λ i. i))
       give (updated ρ x w)
     work-line (retain x) A R ρ = do
@@ -281,20 +283,32 @@ pub record Routine : Type 0 where
   pub tree : Tree
   pub depths : NameDepths
 
-unfoldable pub routine : Script → Function → Routine
-routine fs g = record { tree = annotated-body fs g; depths = depths-of fs g }
+-- those of some functions of a script, the first of which has number f
+unfoldable pub routines-from : Script → Table → ℕ → List Function → List Routine
+routines-from fs T f [] = []
+routines-from fs T f (g ∷ gs) =
+    record { tree = annotated-body fs T f g; depths = depths-of fs g } ∷ routines-from fs T (suc f) gs
 
 abbrev pub no-routine : Routine
 no-routine = record { tree = end (number (pos 0)); depths = λ _. 0 }
 
--- What is worked: the routines by their numbers, the depths of their parameters and results, and the totals' depth.
+-- What is worked: the routines by their numbers, the depths of their parameters and results, the places that they
+-- borrow, and the totals' depth.
 pub record Program : Type 0 where
   pub routines : List Routine
   pub signatures : ℕ → Signature
+  pub borrowing : Borrowing
   pub depth : ℕ
 
 unfoldable pub program : Script → Program
-program fs = record { routines = map (routine fs) fs; signatures = signatures-of fs; depth = main-depth fs }
+program fs =
+    let T = borrowed fs in
+    record {
+      routines = routines-from fs T 0 fs;
+      signatures = signatures-of fs;
+      borrowing = borrows T;
+      depth = main-depth fs;
+    }
 
 -- the routine of a number
 abbrev pub routine-of : Program → ℕ → Routine
@@ -310,7 +324,7 @@ unfoldable pub machine : Program → ℕ → Callee
 machine p zero R f ws = halt 22
 machine p (suc n) R f ws =
     let r = routine-of p f in
-    work (machine p n) (r .depths) (r .tree) empty R (frame-from ws 0)
+    work (machine p n) (p .borrowing) (r .depths) (r .tree) empty R (frame-from ws 0)
 
 -- The readings' cell, the totals retained, main, the result in the totals' place, the old totals released
 unfoldable pub delivery : Program → List ℤ → Work (Unit {0})

@@ -2,6 +2,7 @@ pub mod store
 pub mod normal
 pub mod machine
 pub mod annotation
+pub mod borrowing
 pub mod Answers
 pub mod Settled
 pub mod Delivering

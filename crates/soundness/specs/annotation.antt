@@ -14,6 +14,8 @@ pub mod Moves
 pub mod Counts
 pub mod Lines
 pub mod Trees
+pub mod Sparing
+pub mod Lending
 pub mod Annotated
 pub mod Scopes
 pub mod Parameters

@@ -6,6 +6,7 @@ pub mod Images
 pub mod Agreement
 pub mod Frames
 pub mod Standing
+pub mod Places
 pub mod Situations
 pub mod Retaining
 pub mod Elements

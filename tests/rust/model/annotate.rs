@@ -1,12 +1,14 @@
 //! Live sets, and the retains and releases that stand in annotated code.
 
+use super::borrow::Borrowed;
 use super::code::{Atom, Line, Operation, Tree};
 use super::names::Names;
 
-/// A function's body with its retains and releases, by the depths of all names. It opens by releasing the parameters
-/// that it does not use.
-pub fn body(plain: &Tree, parameters: usize, depths: &[usize]) -> Tree {
-    let annotation = Annotation { depths };
+/// The body of a function with its retains and releases, by the depths of all names. It opens by releasing the
+/// parameters that it owns and does not use.
+pub fn body(function: usize, plain: &Tree, parameters: usize, depths: &[usize], borrowed: &Borrowed) -> Tree {
+    let lent = (0..parameters).filter(|parameter| borrowed.has(function, *parameter)).collect();
+    let annotation = Annotation { depths, borrowed, lent };
     let mut tree = annotation.tree(plain, Names::default());
     let unused = (0..parameters).collect::<Names>() - live(plain, Names::default());
     annotation.open_with_releases(&mut tree, unused);
@@ -15,7 +17,7 @@ pub fn body(plain: &Tree, parameters: usize, depths: &[usize]) -> Tree {
 
 // ---- Live sets ----
 
-fn named(atoms: &[Atom]) -> Names {
+pub fn named(atoms: &[Atom]) -> Names {
     atoms.iter().filter_map(|atom| if let Atom::Name(name) = atom { Some(*name) } else { None }).collect()
 }
 
@@ -62,17 +64,20 @@ fn live_before(line: &Line, after: Names) -> Names {
 
 // ---- Retains and releases ----
 
+/// The names that are lent are the function's borrowed parameters: they hold nothing, so nothing is due for them.
 struct Annotation<'a> {
     depths: &'a [usize],
+    borrowed: &'a Borrowed,
+    lent: Names,
 }
 
 impl Annotation<'_> {
-    fn is_array(&self, name: usize) -> bool {
-        self.depths[name] > 0
+    fn holds(&self, name: usize) -> bool {
+        self.depths[name] > 0 && !self.lent.has(name)
     }
 
     fn releases(&self, names: Names) -> Vec<Line> {
-        names.rising().filter(|name| self.is_array(*name)).map(Line::Release).collect()
+        names.rising().filter(|name| self.holds(*name)).map(Line::Release).collect()
     }
 
     fn open_with_releases(&self, tree: &mut Tree, names: Names) {
@@ -98,7 +103,7 @@ impl Annotation<'_> {
     fn retain_handed(&self, atoms: &[Atom], after: Names, lines: &mut Vec<Line>) {
         for (i, atom) in atoms.iter().enumerate() {
             if let Atom::Name(name) = atom {
-                if self.is_array(*name) && (after.has(*name) || atoms[i + 1..].contains(atom)) {
+                if self.holds(*name) && (after.has(*name) || atoms[i + 1..].contains(atom)) {
                     lines.push(Line::Retain(*name));
                 }
             }
@@ -109,13 +114,19 @@ impl Annotation<'_> {
     fn line(&self, line: &Line, after: Names, lines: &mut Vec<Line>) {
         let mut done_with: Names = line.name().into_iter().collect();
         match line {
-            Line::Plain(_, Operation::Call(_) | Operation::Literal(_), atoms) => {
+            Line::Plain(_, Operation::Literal(_), atoms) => {
                 self.retain_handed(atoms, after, lines);
                 lines.push(line.clone());
             }
+            Line::Plain(_, Operation::Call(function), atoms) => {
+                let (handed, read) = self.borrowed.split(*function, atoms);
+                self.retain_handed(&handed, after | named(&read), lines);
+                lines.push(line.clone());
+                done_with = done_with | named(&read);
+            }
             Line::Plain(name, operation, atoms) => {
                 lines.push(line.clone());
-                if *operation == Operation::Index && self.is_array(*name) {
+                if *operation == Operation::Index && self.holds(*name) {
                     lines.push(Line::Retain(*name));
                 }
                 done_with = done_with | named(atoms);
@@ -151,7 +162,7 @@ impl Annotation<'_> {
         let mut tree = self.tree(plain, after);
         self.open_with_releases(&mut tree, in_pass.iter().copied().collect::<Names>() - outer_uses(plain));
         let element = in_pass[in_pass.len() - 1];
-        if self.is_array(element) {
+        if self.holds(element) {
             tree.lines.insert(0, Line::Retain(element));
         }
         tree

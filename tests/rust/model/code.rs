@@ -1,6 +1,7 @@
 //! The annotated A-normal code of a script, as trees of lines and as rows.
 
 use super::annotate;
+use super::borrow::Borrowed;
 use super::script::{Arithmetic, Form, Function, Loop, Node};
 
 #[derive(Clone, Copy, PartialEq, Eq, Debug)]
@@ -66,20 +67,24 @@ pub struct Coded {
 }
 
 pub fn translate(functions: &[Function]) -> Vec<Coded> {
-    functions.iter().map(|function| translate_function(function, functions)).collect()
+    let mut coded: Vec<Coded> = functions.iter().map(|function| plain_code(function, functions)).collect();
+    let borrowed = Borrowed::by(&coded.iter().map(|coded| &coded.tree).collect::<Vec<_>>());
+    for (f, coded) in coded.iter_mut().enumerate() {
+        coded.tree = annotate::body(f, &coded.tree, coded.parameters, &coded.depths, &borrowed);
+    }
+    coded
 }
 
-fn translate_function(function: &Function, functions: &[Function]) -> Coded {
+/// A function's code without retains and releases.
+fn plain_code(function: &Function, functions: &[Function]) -> Coded {
     let depths = function.parameters.iter().map(|parameter| parameter.depth).collect();
     let mut lowering = Lowering { functions, depths };
     let mut scope = [Atom::Number(0); 256];
     for (name, parameter) in function.parameters.iter().enumerate() {
         scope[parameter.name] = Atom::Name(name);
     }
-    let plain = lowering.tree(&function.body, &scope);
-    let parameters = function.parameters.len();
-    let tree = annotate::body(&plain, parameters, &lowering.depths);
-    Coded { depth: function.depth, parameters, depths: lowering.depths, tree }
+    let tree = lowering.tree(&function.body, &scope);
+    Coded { depth: function.depth, parameters: function.parameters.len(), depths: lowering.depths, tree }
 }
 
 // ---- The normal form ----

@@ -1,6 +1,7 @@
 //! A second implementation of the six calls, written from documents 01 and 02 alone: trees on the heap, no proof.
 
 pub mod annotate;
+pub mod borrow;
 pub mod code;
 pub mod machine;
 pub mod names;

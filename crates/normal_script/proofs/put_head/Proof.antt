@@ -2,7 +2,8 @@
 use native.Mathlib.Omega.{arith}
 use borrow.Author.Needs.{needs}
 use Rattle.normal_write.proofs.Rows.{lower}
-use Rattle.normal_script.proofs.Parameters.{count-most, result-most, head-wrote}
+use Rattle.normal_plain.proofs.Parameters.{count-most, result-most}
+use Rattle.normal_script.proofs.Parameters.{head-wrote}
 use Rattle.normal_script.proofs.put_head.Statement.{statement}
 use Rattle.normal_script.proofs.put_head.Tie as tie
 

@@ -1,7 +1,8 @@
 use Rattle.semantics.specs.Annotate.{parameter-rows}
 use Rattle.normal_write.specs.Wrote.{Wrote, Room}
 use Rattle.normal_write.proofs.Rows.{lower}
-use Rattle.normal_script.proofs.Parameters.{Rest, rows-begin, rows-go, rows-end, depth-most}
+use Rattle.normal_plain.proofs.Parameters.{Rest, depth-most}
+use Rattle.normal_script.proofs.Parameters.{rows-begin, rows-go, rows-end}
 use native.Mathlib.Omega.{arith}
 use Prim.Native.Nat.{_+_, _-_, _≤_}
 use borrow.Author.Needs.{needs}

@@ -2,42 +2,59 @@
 use mathlib.Core.Path.{_≡_, refl, _∙_}
 use native.Mathlib.Omega.{arith}
 use Prim.Native.Nat.{_+_, _-_, _≤_}
-use lib.ListN.{length, drop}
+use lib.ListN.{length}
 use borrow.Author.Needs.{needs}
-use Rattle.semantics.specs.Annotate.{functions-rows}
+use Rattle.semantics.specs.Borrow.{borrowed}
 use Rattle.normal_write.specs.Wrote.{Wrote, Room}
 use Rattle.normal_write.proofs.Rows.{lower}
-use Rattle.normal_script.specs.Script.{Translatable, Resulting}
+use Rattle.normal_plain.specs.Script.{Translatable, Resulting}
+use Rattle.normal_plain.proofs.Functions.{known, fits-at}
 use Rattle.normal_script.specs.Depths.{DepthsFrom}
 use Rattle.normal_script.proofs.Depths.{depths-none, depths-one}
-use Rattle.normal_script.proofs.Functions.{known, fits-at, depths-there, code-begins, code-goes, code-ends}
+use Rattle.normal_script.proofs.Functions.{rows-from, depths-there, code-begins, code-goes, code-ends}
 use Rattle.normal_script.proofs.script_code.Statement.{statement}
 use Rattle.normal_script.proofs.script_code.Tie as tie
 
 abbrev Inv-loop : tie.InvT-loop
-Inv-loop kinds operands starts functions table₀ ks₀ os₀ w results rows₀ notes₀ v₀ i₀ table ks os rows notes v i =
+Inv-loop kinds operands starts functions table₀ ks₀ os₀ w results rows₀ notes₀ borrowing v₀ i₀ table ks os rows notes v
+    i =
     (t : Translatable kinds operands functions starts) × Resulting (t .tree) results × (i ≤ functions)
-    × Room ks os v × Wrote ks₀ os₀ ks os w v (functions-rows (t .tree) (drop i (t .tree)))
+    × Room ks os v × Wrote ks₀ os₀ ks os w v (rows-from (t .tree) i)
     × DepthsFrom i (t .tree) table₀ table × (length rows ≡ 2048) × (length notes ≡ 2048)
+    × (borrowing ≡ borrowed (t .tree))
 
 abbrev μ-loop : tie.MeasureT-loop
-μ-loop kinds operands starts functions table₀ ks₀ os₀ w results rows₀ notes₀ v₀ i₀ table ks os rows notes v i = i
+μ-loop kinds operands starts functions table₀ ks₀ os₀ w results rows₀ notes₀ borrowing v₀ i₀ table ks os rows notes v
+    i = i
 
 results-of-requires : tie.Need-results-of-requires Inv-loop μ-loop
 results-of-requires c κs = c .before .before .before .before .pre .0
 
+borrow-table-requires : tie.Need-borrow-table-requires Inv-loop μ-loop
+borrow-table-requires c κs = (
+  c .before .before .before .before .before .before .before .before .pre .0,
+  (
+    c .before .before .before .results-of
+        .ensures,
+    (refl, refl),
+  ),
+)
+
 loop-holds : tie.Need-loop-holds Inv-loop μ-loop
 loop-holds c =
-    let at-pre = c .before .before .before .before .before .pre in
-    let t = at-pre .0 in let resulting = rw (t .reads) at (c .results-of .ensures) in (
+    let at-pre = c .before .before .before .before .before .before .before .before .before .pre in
+    let t = at-pre .0 in
+    let resulting = rw (t .reads) at (c .before .before .before .before .results-of .ensures) in
+    let made = rw (t .reads) at (c .borrow-table .ensures) in (
       t,
       resulting,
       omega arith,
       at-pre .1,
       code-begins t resulting,
       depths-none _ (omega (arith, known t .1 .0)),
-      refl,
-      refl,
+      made .1 .0,
+      made .1 .1,
+      made .0,
     )
 
 mul-at : tie.Need-mul-at Inv-loop μ-loop
@@ -52,41 +69,42 @@ element-copy-out-at c =
 
 function-code-requires : tie.Need-function-code-requires Inv-loop μ-loop
 function-code-requires c κs =
-    let at-loop-test = c .before .before .before .before .before .before .before .loop-test in
-    let at-loop = c .before .before .before .before .before .before .before .before .loop in
+    let turn = c .before .before .before .before .before .before .before .before .loop-test .taken in
+    let at-loop = c .before .before .before .before .before .before .before .before .before .loop in
     let v = at-loop .inv in (
       (
-        fits-at (v .0) (v .1) (at-loop .i - 1) _ (omega (arith, v .2, at-loop-test .taken))
-            refl,
-        v .3,
+        fits-at (v .0) (v .1) (at-loop .i - 1) _ (omega (arith, v .2, turn)) refl,
+        (v .3, omega (arith, v .0 .few, v .2, turn)),
       ),
       (v .6, (v .7, refl)),
     )
 
 note-depths-requires : tie.Need-note-depths-requires Inv-loop μ-loop
 note-depths-requires c κs =
-    let at-loop-test = c .before .before .before .before .before .before .before .before .before .before .before
-    .before .before .loop-test in
+    let turn = c .before .before .before .before .before .before .before .before .before .before .before .before
+    .before .before .loop-test .taken in
     let v = c .before .before .before .before .before .before .before .before .before .before .before .before
-    .before .before .loop .inv in omega (arith, v .0 .few, v .2, at-loop-test .taken)
+    .before .before .before .loop .inv in omega (arith, v .0 .few, v .2, turn)
 
 loop-again : tie.Need-loop-again Inv-loop μ-loop
 loop-again c =
-    let at-function-code = c .before .before .before .before .before .before .before .before .function-code in
-    let at-loop = c .before .before .before .before .before .before .before .before .before .before .before .before
-    .before .before .before .before .before .loop in
+    let coded = c .before .before .before .before .before .before .before .before .function-code .ensures in
     let turn = c .before .before .before .before .before .before .before .before .before .before .before .before
-    .before .before .before .before .loop-test .taken in let coded = at-function-code .ensures in let v =
-    at-loop .inv in let next : at-loop .i ≡ at-loop .i - 1 + 1 = omega arith in (
+    .before .before .before .before .before .loop-test .taken in
+    let at-loop = c .before .before .before .before .before .before .before .before .before .before .before .before
+    .before .before .before .before .before .before .loop in
+    let v = at-loop .inv in
+    let next : at-loop .i ≡ at-loop .i - 1 + 1 = omega arith in (
       v .0,
       v .1,
       omega arith,
       lower (coded .0) (v .3),
-      code-goes (v .0) (v .1) (at-loop .i) _ turn (v .2) refl (v .4) (coded .0),
+      code-goes (v .0) (v .1) _ (at-loop .i) _ (v .8) turn (v .2) refl (v .4) (coded .0),
       depths-one (v .5) next (omega (arith, known (v .0) .1 .0, v .2)) (coded .1 .0 ∙ depths-there (v .0) (v .1)
           (at-loop .i) _ turn (v .2) refl) (c .before .before .note-depths .ensures),
       coded .1 .1 .0,
       coded .1 .1 .1,
+      v .8,
     )
 
 same-length : tie.Need-same-length Inv-loop μ-loop
@@ -102,13 +120,14 @@ returns : tie.Need-returns Inv-loop μ-loop
 returns c =
     let at-loop = c .before .loop in
     let v = at-loop .inv in let first : at-loop .i ≡ 0 = omega (arith, c .loop-test .left) in rw (v .0 .reads) (
-      code-ends (v .0) (v .1) (at-loop .i) (c .loop-test .left) (v .4),
+      code-ends (v .0 .tree) (at-loop .i) (c .loop-test .left) (v .4),
       rw first at (v .5),
     )
 
 pub script-code-spec : {M : Type 1} → statement M
 script-code-spec =
     tie.close
-    (tie.spec Inv-loop μ-loop results-of-requires loop-holds (λ c. search needs) mul-at element-copy-out-at
+    (tie.spec Inv-loop μ-loop results-of-requires borrow-table-requires loop-holds (λ c. search needs) mul-at
+    element-copy-out-at
     function-code-requires note-depths-requires (λ c. search needs) loop-again same-length same-length-2 same-length-3
     returns)

@@ -6,7 +6,7 @@ use mathlib.Core.Path.{_≡_, refl, sym, ap, subst}
 use mathlib.Core.Bool.{Bool, true, false, cond}
 use mathlib.Core.List.{List, [], _∷_}
 use mathlib.Core.Option.{Option, none, some}
-use lib.ListN.{length, getD, length-map}
+use lib.ListN.{length, getD}
 use lib.Dec.{ltb}
 use borrow.Author.Tests.{ltb-false}
 use Rattle.script_nodes.specs.Admitted.{no-script}
@@ -19,11 +19,12 @@ use Rattle.semantics.specs.Types.{all-are, check, parameter-depths, result-rule
 use Rattle.semantics.specs.Types.{signatures-of, main-shape, type-faults}
 use Rattle.semantics.specs.Normal.{fresh, too-many-names-from, too-many-names}
 use Rattle.semantics.specs.Calls.{Verdict, accepted, refused, judged-script, judged-read, judged}
-use Rattle.semantics.specs.Machine.{program, routine}
+use Rattle.semantics.specs.Machine.{program}
 use Rattle.laws.specs.Tests.{not-some, some-if-holds, all-equal, same-lists}
 use Rattle.soundness.specs.machine.Discipline.{FunctionDisciplined, FunctionFrugal}
 use Rattle.soundness.specs.annotation.Typed.{Limited, Called, Functions, Typed}
 use Rattle.laws.specs.Lists.{append-empty}
+use Rattle.laws.specs.Routines.{length-routines}
 use Rattle.soundness.specs.annotation.Rules.{with-if-empty, node-parts, node-depth}
 use Rattle.soundness.specs.annotation.Calling.{body-called}
 use Rattle.soundness.specs.annotation.Checking.{check-typed}
@@ -154,17 +155,17 @@ all-accepted file fs e f =
     let shape = main-shape (signatures-of fs 0) in
     let faultless : Faultless fs (length fs) shape fs 0 =
     record { names = clean .names; types = clean .types; roomy = clean .roomy } in
-    accepted-at fs (length fs) (sym (length-map fs (routine fs))) shape fs 0 f (clean .limits .1) faultless
+    accepted-at fs (length fs) (sym (length-routines fs)) shape fs 0 f (clean .limits .1) faultless
 
 pub functions-disciplined : (file : List ℕ) (fs : Script) → judged file ≡ accepted fs → (f : ℕ) →
     FunctionDisciplined (program fs) f
 unfolding program
-functions-disciplined file fs e f = all-disciplined fs fs f (all-accepted file fs e)
+functions-disciplined file fs e f = all-disciplined fs (all-accepted file fs e) f
 
 pub functions-frugal : (file : List ℕ) (fs : Script) → judged file ≡ accepted fs → (f : ℕ) →
     FunctionFrugal (program fs) f
 unfolding program
-functions-frugal file fs e f = all-frugal fs fs f (all-accepted file fs e)
+functions-frugal file fs e f = all-frugal fs (all-accepted file fs e) f
 
 -- a script has a first function
 shaped : (fs : Script) (shape : Bool) (gs : List Function) → 1 ≤ length gs →

@@ -1,6 +1,5 @@
 -- `annotated-sound`: annotation gives sound trees, in which at each point exactly the live arrays that are not lent
--- hold
--- one reference each.
+-- hold one reference each.
 use Prim.Native.Nat.{ℕ, suc, _+_, _≤_, _<_, min, max}
 use native.Mathlib.Omega.{arith}
 use native.Mathlib.Decide.{decLt}
@@ -9,7 +8,7 @@ use mathlib.Core.Logic.{inl, inr}
 use mathlib.Core.Bool.{false≢true}
 use mathlib.Core.List.{List, [], _∷_}
 use Rattle.semantics.specs.Basics.{occurrences, _∈_}
-use Rattle.semantics.specs.Kinds.{Loop, leaf-hands, leaf-reads, loop-hands, loop-reads}
+use Rattle.semantics.specs.Kinds.{Borrowing, Loop, leaf-hands, leaf-reads, loop-hands, loop-reads}
 use Rattle.semantics.specs.Code.{Atom, Line, leaf, if-else, loop, retain, release, Tree, end, line, ending}
 use Rattle.semantics.specs.Live.{Set, empty, _∪_, _∖_, _∖∖_, only, just, is, among, live, live-before, uses, after-pass}
 use Rattle.semantics.specs.Annotate.{NameDepths, atom-depth, handed-again, annotate, annotate-line}
@@ -23,18 +22,20 @@ use Rattle.soundness.specs.annotation.Held.{held-is, again-held, append-
 use Rattle.soundness.specs.annotation.Moves.{Sound, retains}
 use Rattle.soundness.specs.annotation.Sets.{Inside, inside-bound, inside-pass}
 use Rattle.soundness.specs.annotation.Formed.{Within, within-up, within-bound, rising-up, within-pass, bound-by}
-use Rattle.soundness.specs.annotation.Formed.{Formed, LineFormed, LoopForm, live-seen, line-stays}
+use Rattle.soundness.specs.annotation.Formed.{Shallower, shallow-number, Formed, LineFormed, LoopForm, live-seen}
+use Rattle.soundness.specs.annotation.Formed.{line-stays}
 use Rattle.soundness.specs.annotation.Unchanged.{live-annotate}
 use Rattle.soundness.specs.annotation.Counts.{Lower, lower-up, free-most, outside, unseen, Steady, needs, Apart}
 use Rattle.soundness.specs.annotation.Lines.{leaf-parts, leaf-line, if-line}
 use Rattle.soundness.specs.annotation.Trees.{loop-parts, Passing, pass-steady, loop-line}
 
-module _ (F : Functions) (Γ : NameDepths) (few : Few Γ) where
+-- The tree is formed over the depths Θ and annotated by Γ, which is nowhere deeper.
+module _ (F : Functions) (β : Borrowing) (Θ Γ : NameDepths) (under : Shallower Γ Θ) (few : Few Γ) where
   end-sound : (B : List ℕ) (a : Atom) (L : Set) → Steady Γ B (is a ∪ L) L →
-      Sound Γ B (annotate Γ (end a) L) (names Γ B (is a ∪ L)) [] (names Γ B L) L
+      Sound β Γ B (annotate β Γ (end a) L) (names Γ B (is a ∪ L)) [] (names Γ B L) L
   unfolding annotate
   end-sound B a L steady =
-      retains Γ B again (end a) (names Γ B (is a ∪ L)) (names Γ B L) L
+      retains β Γ B again (end a) (names Γ B (is a ∪ L)) (names Γ B L) L
       (λ n h. omega (
         arith,
         retained n,
@@ -82,16 +83,16 @@ module _ (F : Functions) (Γ : NameDepths) (few : Few Γ) where
     }
 
     -- so is what a loop's tree uses, less the names of a pass
-    uses-within : (ps : List ℕ) (t : Tree) (e d : ℕ) → Formed F Γ t (S ∪ just ps) e d → Within (uses t ∖∖ ps) c
+    uses-within : (ps : List ℕ) (t : Tree) (e d : ℕ) → Formed F Θ t (S ∪ just ps) e d → Within (uses t ∖∖ ps) c
     uses-within ps t e d f = record {
       below = λ n q. elim (own .either n q) [ inl v ↦ scope .below n v | inr v ↦ absurd (false≢true v) ];
     }
       where
         own : Inside (uses t ∖∖ ps) S empty
-        own = inside-pass ps (live-seen F Γ t (S ∪ just ps) empty e d f)
+        own = inside-pass ps (live-seen F Θ t (S ∪ just ps) empty e d f)
 
     pass-within : (x : ℕ) (ps : List ℕ) (t : Tree) (A : Set) (e d : ℕ) → Inside A (S ∪ only x) L →
-        Formed F Γ t (S ∪ just ps) e d →
+        Formed F Θ t (S ∪ just ps) e d →
         Within (after-pass x ps t A) c
     pass-within x ps t A e d i f = record {
       below = λ n q. elim (or-cases ((uses t ∖∖ ps) n) ((A ∖ x) n) q) [
@@ -102,14 +103,14 @@ module _ (F : Functions) (Γ : NameDepths) (few : Few Γ) where
 
     -- what is lent and live before the line is live after it, and so on to the tree's end
     module _ (l : Line) (t : Tree) (d c′ : ℕ) (above : c ≤ bound-by l) (below : bound-by l < c′)
-        (form : LineFormed F Γ l S) (tree : Formed F Γ t (S ∪ only (bound-by l)) c′ d)
+        (form : LineFormed F Θ l S) (tree : Formed F Θ t (S ∪ only (bound-by l)) c′ d)
         (steady : Steady Γ B (live-before l (live t L)) L) where
       steady-line : Steady Γ B (live-before l (live t L)) (live t L)
       steady-line n =
           omega (
             arith,
             steady n,
-            needs Γ F t (S ∪ only (bound-by l)) L c′ d tree (within-up L c c′ (omega arith) last) n .rest,
+            needs Γ F Θ t (S ∪ only (bound-by l)) L c′ d tree (within-up L c c′ (omega arith) last) n .rest,
           )
 
       steady-tree : Steady Γ B (live t L) L
@@ -118,7 +119,7 @@ module _ (F : Functions) (Γ : NameDepths) (few : Few Γ) where
             omega (
               arith,
               steady n,
-              held-le Γ (live t L) (live-before l (live t L)) n (line-stays F Γ l S (live t L) c n form above h),
+              held-le Γ (live t L) (live-before l (live t L)) n (line-stays F Θ l S (live t L) c n form above h),
             )
         | no h ↦ omega (arith, lower .free-from n (omega arith), held-most Γ (live t L) n)
       ]
@@ -145,8 +146,8 @@ module _ (F : Functions) (Γ : NameDepths) (few : Few Γ) where
 
     -- the names of a loop's pass
     module _ (x : ℕ) (k : Loop) (ps : List ℕ) (us : List Atom) (t : Tree) (A : Set) (e d : ℕ) (above : c ≤ x)
-        (i : Inside A (S ∪ only x) L) (form : LoopForm F Γ x k ps us d S e)
-        (tree : Formed F Γ t (S ∪ just ps) e d) where
+        (i : Inside A (S ∪ only x) L) (form : LoopForm F Θ x k ps us d S e)
+        (tree : Formed F Θ t (S ∪ just ps) e d) where
       later : (n : ℕ) → n ∈ ps → suc x ≤ n
       later n h = elim (decLt n (suc x)) [
         | yes g ↦ absurd (omega (arith, rising-off Γ ps (suc x) e n (form .rising) g))
@@ -173,7 +174,7 @@ module _ (F : Functions) (Γ : NameDepths) (few : Few Γ) where
         unlent = λ n h. inner-free n (omega (arith, later n h));
         unused = λ n h. outside Γ (after-pass x ps t A) c n (pass-within x ps t A e d i tree) (omega
             (arith, later n h));
-        needs = needs Γ F t (S ∪ just ps) (after-pass x ps t A) e d tree
+        needs = needs Γ F Θ t (S ∪ just ps) (after-pass x ps t A) e d tree
             (within-up (after-pass x ps t A) c e (omega (arith, rising-up ps (suc x) e (form .rising)))
             (pass-within x ps t A e d i tree));
       }
@@ -190,33 +191,33 @@ module _ (F : Functions) (Γ : NameDepths) (few : Few Γ) where
   mutual
     unfolding annotate live
 
-    pub annotated-sound : (t : Tree) (B : List ℕ) (S L : Set) (c d : ℕ) → Formed F Γ t S c d → Within S c → Within L c →
+    pub annotated-sound : (t : Tree) (B : List ℕ) (S L : Set) (c d : ℕ) → Formed F Θ t S c d → Within S c → Within L c →
         Lower B c → Steady Γ B (live t L) L →
-        Sound Γ B (annotate Γ t L) (names Γ B (live t L)) [] (names Γ B L) L
+        Sound β Γ B (annotate β Γ t L) (names Γ B (live t L)) [] (names Γ B L) L
     annotated-sound (end a) B S L c d f v w b steady = end-sound B a L steady
     annotated-sound (line l t) B S L c d f v w b steady =
         let x = bound-by l in
         let above = f .1 .above in
         let c′ = f .0 in
         let up : c ≤ c′ = omega (arith, above, f .1 .below) in
-        annotated-line l t B S L c above (f .2) (live-seen F Γ t (S ∪ only x) L c′ d (f .3)) v w b
+        annotated-line l t B S L c above (f .2) (live-seen F Θ t (S ∪ only x) L c′ d (f .3)) v w b
         (steady-line B S L c v w b l t d c′ above (f .1 .below) (f .2) (f .3) steady)
         (annotated-sound t B (S ∪ only x) L c′ d (f .3) (within-bound S x c c′ up (f .1 .below) v)
         (within-up L c c′ up w)
         (lower-up B c c′ up b) (steady-tree B S L c v w b l t d c′ above (f .1 .below) (f .2) (f .3) steady))
 
-    annotated-line : (l : Line) (t : Tree) (B : List ℕ) (S L : Set) (c : ℕ) → c ≤ bound-by l → LineFormed F Γ l S →
+    annotated-line : (l : Line) (t : Tree) (B : List ℕ) (S L : Set) (c : ℕ) → c ≤ bound-by l → LineFormed F Θ l S →
         Inside (live t L) (S ∪ only (bound-by l)) L → Within S c → Within L c → Lower B c →
         Steady Γ B (live-before l (live t L)) (live t L) →
-        Sound Γ B (annotate Γ t L) (names Γ B (live t L)) [] (names Γ B L) L →
-        Sound Γ B (annotate-line Γ l (live t L) (annotate Γ t L)) (names Γ B (live-before l (live t L))) []
+        Sound β Γ B (annotate β Γ t L) (names Γ B (live t L)) [] (names Γ B L) L →
+        Sound β Γ B (annotate-line β Γ l (live t L) (annotate β Γ t L)) (names Γ B (live-before l (live t L))) []
         (names Γ B L) L
     annotated-line (leaf x l us) t B S L c above f i v w b steady s =
         let A = live t L in
-        leaf-line Γ few B L A (annotate Γ t L) (live-annotate Γ t L L) s x l us
-        (line-apart B S L c v w b x us (leaf-hands l us) (leaf-reads l us) empty A above
+        leaf-line β Γ few B L A (annotate β Γ t L) (live-annotate β Γ t L L) s x l us
+        (line-apart B S L c v w b x us (leaf-hands β l us) (leaf-reads β l us) empty A above
         (unseen Γ us S c x (f .seen) v above) (record { below = λ n e. absurd (false≢true e) })
-        (leaf-parts Γ l us) steady)
+        (leaf-parts β Γ l us) steady)
     annotated-line (if-else x g t₁ t₂) t B S L c above f i v w b steady s =
         let A = live t L in
         let A′ = A ∖ x in
@@ -232,16 +233,17 @@ module _ (F : Functions) (Γ : NameDepths) (few : Few Γ) where
         (live t₂ A′) n) in
         let steady₁ = steady-branch B S L c v w b x A (live t₁ A′) N above steady (λ n. omega (arith, joined n)) in
         let steady₂ = steady-branch B S L c v w b x A (live t₂ A′) N above steady (λ n. omega (arith, joined n)) in
-        if-line Γ few B L A (annotate Γ t L) (live-annotate Γ t L L) s x g t₁ t₂ (b .free-from x above) (f .0 .guard)
-        (needs Γ F t₁ S A′ c₁ (Γ x) (f .1 .2) (within-up A′ c c₁ le₁ within))
-        (needs Γ F t₂ S A′ c₂ (Γ x) (f .2 .2) (within-up A′ c c₂ le₂ within)) steady₁ steady₂
-        (annotated-sound t₁ B S A′ c₁ (Γ x) (f .1 .2) (within-up S c c₁ le₁ v) (within-up A′ c c₁ le₁ within)
+        if-line β Γ few B L A (annotate β Γ t L) (live-annotate β Γ t L L) s x g t₁ t₂ (b .free-from x above)
+        (shallow-number g under (f .0 .guard))
+        (needs Γ F Θ t₁ S A′ c₁ (Θ x) (f .1 .2) (within-up A′ c c₁ le₁ within))
+        (needs Γ F Θ t₂ S A′ c₂ (Θ x) (f .2 .2) (within-up A′ c c₂ le₂ within)) steady₁ steady₂
+        (annotated-sound t₁ B S A′ c₁ (Θ x) (f .1 .2) (within-up S c c₁ le₁ v) (within-up A′ c c₁ le₁ within)
         (lower-up B c c₁ le₁ b) steady₁)
-        (annotated-sound t₂ B S A′ c₂ (Γ x) (f .2 .2) (within-up S c c₂ le₂ v) (within-up A′ c c₂ le₂ within)
+        (annotated-sound t₂ B S A′ c₂ (Θ x) (f .2 .2) (within-up S c c₂ le₂ v) (within-up A′ c c₂ le₂ within)
         (lower-up B c c₂ le₂ b) steady₂)
     annotated-line (loop x k ps us t₁) t B S L c above f i v w b steady s =
         let A = live t L in
-        let d = atom-depth Γ (ending t₁) in
+        let d = atom-depth Θ (ending t₁) in
         let e = f .0 in
         let form = f .1 in
         let after = after-pass x ps t₁ A in
@@ -251,7 +253,7 @@ module _ (F : Functions) (Γ : NameDepths) (few : Few Γ) where
         (loop-parts Γ k us) steady in
         loop-line Γ few B x k ps us t₁ A apart (suc x) e (passing B S L c v w b x k ps us t₁ A e d above i form
         (f .2) apart)
-        L (annotate Γ t L) (live-annotate Γ t L L)
+        β L (annotate β Γ t L) (live-annotate β Γ t L L)
         (annotated-sound t₁ (pass-lent Γ B k us) (S ∪ just ps) after e d (f .2)
         (within-pass S ps c (suc x) e (omega arith) (form .rising) v)
         (within-up after c e up (pass-within B S L c v w b x ps t₁ A e d i (f .2)))

@@ -8,6 +8,7 @@ use mathlib.Core.Logic.{_≢_, inl, inr}
 use mathlib.Core.List.{List, [], _++_}
 use borrow.Author.Tests.{eq-eqb}
 use Rattle.semantics.specs.Basics.{occurrences, _∈_}
+use Rattle.semantics.specs.Kinds.{Borrowing}
 use Rattle.semantics.specs.Code.{Atom, number, name, Tree, release-all}
 use Rattle.semantics.specs.Live.{Set, empty, _∪_, _∖_, only, is, among, live, uses}
 use Rattle.semantics.specs.Annotate.{NameDepths, atom-depth, dying, handed-again}
@@ -70,27 +71,18 @@ module _ (Γ : NameDepths) where
   abbrev pub Steady : List ℕ → Set → Set → Type 0
   Steady B A L = (n : ℕ) → held Γ A n ≤ held Γ L n + free B n
 
-  pub needs : (F : Functions) (t : Tree) (S A : Set) (c d : ℕ) → Formed F Γ t S c d → Within A c → (n : ℕ) →
-      Needs t A n
-  needs F t S A c d f w n =
+  pub needs : (F : Functions) (Θ : NameDepths) (t : Tree) (S A : Set) (c d : ℕ) → Formed F Θ t S c d → Within A c →
+      (n : ℕ) → Needs t A n
+  needs F Θ t S A c d f w n =
       let upper : Inside (live t A) (live t empty) A = live-inside t inside-right in
       let lower : Inside (live t empty) (live t A) empty = live-inside t inside-empty in
       record {
         most = held-either Γ (live t A) (uses t) A n (upper .either n);
         own = omega (arith, held-empty Γ n, held-either Γ (uses t) (live t A) empty n (lower .either n));
-        rest = held-le Γ A (live t A) n (λ q. live-stays F Γ t S A c d n f (w .below n q) q);
+        rest = held-le Γ A (live t A) n (λ q. live-stays F Θ t S A c d n f (w .below n q) q);
       }
 
   module _ (few : Few Γ) (B : List ℕ) where
-    -- what is used and not live is released before the tree k
-    pub releasing : (used A : Set) (k : Tree) (H P : List ℕ) (L : Set) →
-        ((n : ℕ) → occurrences n H ≡ held Γ used n - held Γ A n + min (free B n) (held Γ A n)) →
-        Sound Γ B k (names Γ B A) [] (names Γ B L) L →
-        Sound Γ B (release-all (dying Γ used A) k) H P (names Γ B L) L
-    releasing used A k H P L h s =
-        releases Γ B (dying Γ used A) k H (names Γ B A) P (names Γ B L) L
-        (λ n. omega (arith, h n, append-held Γ few (dying Γ used A) B A n, dying-held Γ few used A n)) s
-
     -- A line that binds x, hands over some of its atoms and reads the others; its tree uses U, and A is live after it.
     module _ (x : ℕ) (us hands reads : List Atom) (U A : Set) where
       abbrev pub before : Set
@@ -274,3 +266,13 @@ module _ (Γ : NameDepths) where
         pub covered-behind : Covered Γ (less (handed Γ hands) (again ++ names Γ B before)) behind
         covered-behind = covered-by Γ few (less (handed Γ hands) (again ++ names Γ B before)) behind
             (λ n h. omega (arith, left n, names-held Γ few B behind n))
+
+module _ (β : Borrowing) (Γ : NameDepths) (few : Few Γ) (B : List ℕ) where
+  -- what is used and not live is released before the tree k
+  pub releasing : (used A : Set) (k : Tree) (H P : List ℕ) (L : Set) →
+      ((n : ℕ) → occurrences n H ≡ held Γ used n - held Γ A n + min (free B n) (held Γ A n)) →
+      Sound β Γ B k (names Γ B A) [] (names Γ B L) L →
+      Sound β Γ B (release-all (dying Γ used A) k) H P (names Γ B L) L
+  releasing used A k H P L h s =
+      releases β Γ B (dying Γ used A) k H (names Γ B A) P (names Γ B L) L
+      (λ n. omega (arith, h n, append-held Γ few (dying Γ used A) B A n, dying-held Γ few used A n)) s

@@ -1,9 +1,9 @@
 -- Well-formed plain trees: every atom is known, every name is bound anew, and the depths fit. What is live in them.
 use Prim.Native.Nat.{ℕ, suc, _≤_, _<_}
 use native.Mathlib.Omega.{arith}
-use mathlib.Core.Path.{_≡_, sym, ap, _∙_}
+use mathlib.Core.Path.{_≡_, refl, sym, ap, _∙_}
 use mathlib.Core.Logic.{inl, inr}
-use mathlib.Core.Bool.{true, false≢true}
+use mathlib.Core.Bool.{Bool, true, false, false≢true}
 use mathlib.Core.List.{List, [], _∷_, map}
 use lib.ListN.{length}
 use borrow.Author.Tests.{eqb-true}
@@ -28,6 +28,14 @@ pub record Within (S : Set) (c : ℕ) : Type 0 where
 
 pub within-up : (A : Set) (c e : ℕ) → c ≤ e → Within A c → Within A e
 within-up A c e h w = record { below = λ n q. omega (arith, w .below n q) }
+
+-- it has no name from c on
+pub not-within : (S : Set) (c n : ℕ) → Within S c → c ≤ n → S n ≡ false
+not-within S c n w h = go (S n) refl
+  where
+    go : (b : Bool) → S n ≡ b → b ≡ false
+    go true e = absurd (omega (arith, w .below n e))
+    go false e = refl
 
 -- with one more name
 pub within-bound : (A : Set) (x c e : ℕ) → c ≤ e → x < e → Within A c → Within (A ∪ only x) e
@@ -77,6 +85,16 @@ bound-by (if-else x g t e) = x
 bound-by (loop x k ps us t) = x
 bound-by (retain x) = x
 bound-by (release x) = x
+
+-- ---- depths
+
+-- no name is deeper in Γ than in Θ
+pub record Shallower (Γ Θ : NameDepths) : Type 0 where
+  pub most : (n : ℕ) → Γ n ≤ Θ n
+
+pub shallow-number : {Γ Θ : NameDepths} (a : Atom) → Shallower Γ Θ → atom-depth Θ a ≡ 0 → atom-depth Γ a ≡ 0
+shallow-number (number z) under e = refl
+shallow-number (name x) under e = omega (arith, under .most x)
 
 -- ---- trees
 

@@ -1,39 +1,50 @@
--- A function that the checks accept is disciplined and frugal: from one hold for each array parameter to none.
+-- A function that the checks accept is disciplined and frugal: with the array parameters lent that it borrows, from one
+-- hold for each other to none.
 use Prim.Native.Nat.{ℕ, zero, suc, _+_, _-_, _≤_, _<_, min}
 use native.Mathlib.Omega.{arith}
 use native.Mathlib.Decide.{decLt}
-use mathlib.Core.Path.{_≡_, refl, sym, _∙_, subst}
-use mathlib.Core.Bool.{true, false, cond, false≢true}
-use mathlib.Core.List.{List, [], _∷_, map}
+use mathlib.Core.Path.{_≡_, refl, sym, ap, _∙_, subst}
+use mathlib.Core.Logic.{inl, inr}
+use mathlib.Core.Bool.{Bool, true, false, cond, not, _&&_, and-false, false≢true}
+use mathlib.Core.List.{List, [], map}
 use lib.ListN.{length, getD, length-map, List·getD-eq-default}
 use lib.Dec.{ltb}
 use borrow.Author.Tests.{ltb-true, lt-ltb}
-use Rattle.semantics.specs.Basics.{occurrences}
-use Rattle.semantics.specs.Syntax.{Function, Script, no-function}
+use Rattle.semantics.specs.Basics.{occurrences, _∈_}
+use Rattle.semantics.specs.Syntax.{Function, Script, function-at, no-function}
+use Rattle.semantics.specs.Kinds.{Borrowing}
 use Rattle.semantics.specs.Types.{signature}
-use Rattle.semantics.specs.Code.{Atom, number, name, end}
+use Rattle.semantics.specs.Code.{Atom, number, name, Tree, end}
 use Rattle.semantics.specs.Normal.{Meanings, fresh, atom, normal, normal-body, parameter-names}
 use Rattle.semantics.specs.Live.{Set, empty, uses}
+use Rattle.semantics.specs.Borrow.{spent, Table, borrows, borrowed}
 use Rattle.semantics.specs.Annotate.{NameDepths, atom-depth, dying, annotate, tree-depths, parameter-depths-from}
-use Rattle.semantics.specs.Annotate.{result-of, depths-of, annotated-body}
-use Rattle.semantics.specs.Machine.{routine, no-routine, Program, program}
+use Rattle.semantics.specs.Annotate.{result-of, depths-of, owned-depths, annotated-body}
+use Rattle.semantics.specs.Machine.{Routine, no-routine, Program, program, routine-of}
+use Rattle.laws.specs.Tests.{both-hold, say-and}
+use Rattle.laws.specs.Routines.{routine-at, length-routines, routine-is}
+use Rattle.soundness.specs.borrowing.Stable.{stable}
 use Rattle.soundness.specs.machine.Discipline as D
-use Rattle.soundness.specs.machine.Discipline.{parameter-holds, Known, RoutineDisciplined, RoutineFrugal}
+use Rattle.soundness.specs.machine.Discipline.{arrays-at, lent-parameters, parameter-holds, Known}
+use Rattle.soundness.specs.machine.Discipline.{RoutineDisciplined, RoutineFrugal, FunctionDisciplined}
+use Rattle.soundness.specs.machine.Discipline.{FunctionFrugal}
 use Rattle.soundness.specs.normal.Agree.{AtomBelow, below-more}
 use Rattle.soundness.specs.normal.Parameters.{parameters-below}
 use Rattle.soundness.specs.annotation.Typed.{Functions, Typed}
 use Rattle.soundness.specs.annotation.Held.{Few, free, free-or, held, names, held-most, held-le, held-empty}
-use Rattle.soundness.specs.annotation.Held.{held-either, names-held}
-use Rattle.soundness.specs.annotation.Formed.{Within, Formed, live-seen}
+use Rattle.soundness.specs.annotation.Held.{names-held}
+use Rattle.soundness.specs.annotation.Formed.{Shallower, Within, Formed, live-seen}
 use Rattle.soundness.specs.annotation.Moves.{Sound, sound-same}
 use Rattle.soundness.specs.annotation.Counts.{releasing}
 use Rattle.soundness.specs.annotation.Scopes.{functions-of, Fits, fits-releases, dying-in, annotated-fits}
 use Rattle.soundness.specs.annotation.Annotated.{annotated-sound}
+use Rattle.soundness.specs.annotation.Sparing.{Spares, formed-spares, spares-releases, annotated-spares}
+use Rattle.soundness.specs.annotation.Lending.{Without, Lends, holding-lent, frugal-lent}
 use Rattle.soundness.specs.annotation.Tables.{Off, table, lines-table, table-off}
 use Rattle.soundness.specs.annotation.Fitted.{MeaningsFit, Fitted, atom-fitted, typed-fitted}
 use Rattle.soundness.specs.annotation.NormalFormed.{InScope, lines-formed}
 use Rattle.soundness.specs.annotation.Parameters.{written, Distinct, written-depth, parameter-depth}
-use Rattle.soundness.specs.annotation.Parameters.{parameter-held}
+use Rattle.soundness.specs.annotation.Parameters.{arrays-at-once}
 
 below-known : (u : Atom) (n : ℕ) → AtomBelow u n → Known u (λ y. ltb y n)
 below-known (number z) n h = tt
@@ -150,86 +161,203 @@ module _ (fs : Script) (g : Function) (ok : Accepted fs g) where
       (g .result) (ok .few) fitted in-scope
       (λ R more within seen. (seen, last))
 
-  -- ---- the annotated tree is disciplined
-
-  -- a parameter that is an array holds one reference
-  given-held : (n : ℕ) → occurrences n (parameter-holds depths 0) ≡ held Γ given n
-  given-held n =
-      let parameter = parameter-held depths 0 n n (omega arith) in
-      elim (decLt n arity) [
-        | yes h ↦ omega (arith, held-array Γ given n (lt-ltb n arity h), parameters-fit n h)
-        | no h ↦
-            omega (
-              arith,
-              none-past n (omega arith),
-              held-empty Γ n,
-              held-le Γ given empty n (λ e. absurd (omega (arith, ltb-true n arity e))),
-            )
-      ]
-
   -- what the body uses is given
-  uses-held : (n : ℕ) → held Γ (uses (normal-body g)) n ≤ held Γ given n
-  uses-held n =
-      let seen = live-seen F Γ (normal-body g) given empty arity (g .result) formed in
-      omega (arith, held-either Γ (uses (normal-body g)) given empty n (seen .either n), held-empty Γ n)
-
-  pub body-sound : Sound Γ [] (annotated-body fs g) (parameter-holds depths 0) [] [] empty
-  unfolding annotated-body occurrences
-  body-sound =
-      let t = normal-body g in
-      let tree = annotated-sound F Γ few-names t [] given empty arity (g .result) formed given-within
-      (record { below = λ y e. absurd (false≢true e) }) (record { free-from = λ n h. none-lent n })
-      (λ n. omega (arith, none-lent n, held-most Γ (uses t) n)) in
-      sound-same Γ [] (annotated-body fs g) (parameter-holds depths 0) (parameter-holds depths 0) []
-      (names Γ [] empty) [] empty (λ n. refl) (λ n. omega (arith, names-held Γ few-names [] empty n, held-empty Γ n))
-      (releasing Γ few-names [] given (uses t) (annotate Γ t empty) (parameter-holds depths 0) [] empty
-      (λ n. omega (arith, given-held n, uses-held n, none-lent n, held-most Γ (uses t) n)) tree)
-
-  pub body-fits : Fits (program fs) Γ (annotated-body fs g) (g .result) given
-  unfolding annotated-body
-  body-fits =
-      let t = normal-body g in
-      fits-releases (program fs) Γ (dying Γ given (uses t)) (annotate Γ t empty) (g .result) given
-      (dying-in (program fs) Γ given (uses t) given (λ n e. e))
-      (annotated-fits (program fs) Γ t given empty arity (g .result) formed given-within)
+  uses-given : (n : ℕ) → uses (normal-body g) n ≡ true → given n ≡ true
+  uses-given n e = elim (live-seen F Γ (normal-body g) given empty arity (g .result) formed .either n e) [
+    | inl q ↦ q
+    | inr q ↦ absurd (false≢true q)
+  ]
 
   given-same : given ≡ D.parameter-names depths
   given-same = λ i y. ltb y (sym (length-map (g .parameters) (λ x. x .depth)) i)
 
-  pub routine-disciplined : RoutineDisciplined (program fs) (routine fs g) (signature g)
-  unfolding routine
-  routine-disciplined = record {
-    parameters = λ i h. parameters-fit i (omega (arith, length-map (g .parameters) (λ x. x .depth)));
-    fits = body-fits .0;
-    scoped = subst (D.Scoped (annotated-body fs g)) given-same (body-fits .1);
-    holds = body-sound .0;
-  }
+  -- ---- the annotated tree is disciplined: g has number f and spends none of the parameters that it borrows
 
-  pub routine-frugal : RoutineFrugal (routine fs g) (signature g)
-  unfolding routine
-  routine-frugal = body-sound .1
+  module _ (f : ℕ)
+      (kept : (i : ℕ) → borrows (borrowed fs) f i ≡ true →
+      spent (borrows (borrowed fs)) (normal-body g) i ≡ false) where
+    abbrev T : Table
+    T = borrowed fs
+
+    abbrev β : Borrowing
+    β = borrows T
+
+    -- its borrowed parameters are lent, and annotated like numbers
+    abbrev lent : Set
+    lent = λ y. given y && β f y
+
+    abbrev Γ′ : NameDepths
+    Γ′ = owned-depths fs T f g
+
+    abbrev body : Tree
+    body = annotated-body fs T f g
+
+    lent-within : Within lent arity
+    lent-within = record { below = λ y e. ltb-true y arity (both-hold (given y) (β f y) e .0) }
+
+    owned : Without lent Γ Γ′
+    unfolding owned-depths
+    owned = record {
+      numbers = λ y e. ap (λ (b : Bool). cond b 0 (Γ y)) e;
+      others = λ y e. ap (λ (b : Bool). cond b 0 (Γ y)) e;
+    }
+
+    under : Shallower Γ′ Γ
+    under = record { most = λ y. by y (lent y) refl }
+      where
+        by : (y : ℕ) (b : Bool) → lent y ≡ b → Γ′ y ≤ Γ y
+        by y true e = omega (arith, owned .numbers y e)
+        by y false e = omega (arith, owned .others y e)
+
+    few-owned : Few Γ′
+    few-owned y h = omega (arith, under .most y, few-names y h)
+
+    spares : Spares β lent body
+    unfolding annotated-body
+    spares =
+        let t = normal-body g in
+        spares-releases β lent (dying Γ′ given (uses t)) (annotate β Γ′ t empty)
+        (annotated-spares β lent Γ′ t empty
+        (formed-spares β lent F Γ t given arity (g .result) formed lent-within (λ y e. by y (lent y) refl e)))
+      where
+        by : (y : ℕ) (b : Bool) → lent y ≡ b → spent β (normal-body g) y ≡ true → b ≡ false
+        by y true q e = absurd (false≢true (sym (kept y (both-hold (given y) (β f y) q .1)) ∙ e))
+        by y false q e = refl
+
+    -- the arrays among the borrowed parameters are lent
+    lends : Lends lent Γ [] (lent-parameters (β f) depths)
+    unfolding occurrences
+    lends = record {
+      more = λ y h. absurd (omega (arith, h));
+      arrays = λ y e d.
+          let both = both-hold (given y) (β f y) e in
+          omega (arith, d, once y true (both .1), parameters-fit y (ltb-true y arity (both .0)));
+      others = λ y e h. absurd (by y (β f y) refl e h);
+    }
+      where
+        once : (y : ℕ) (b : Bool) → β f y ≡ b →
+            occurrences y (lent-parameters (β f) depths) ≡ cond b (min 1 (getD depths y 0)) 0
+        once y b e =
+            arrays-at-once (β f) depths 0 y y (omega arith)
+            ∙ ap (λ (c : Bool). cond c (min 1 (getD depths y 0)) 0) e
+
+        by : (y : ℕ) (b : Bool) → β f y ≡ b → lent y ≡ false → y ∈ lent-parameters (β f) depths → ⊥
+        by y false q e h = omega (arith, h, once y false q)
+        by y true q e h = elim (decLt y arity) [
+          | yes d ↦ false≢true (sym e ∙ say-and (given y) (β f y) (lt-ltb y arity d) q)
+          | no d ↦ omega (arith, h, once y true q, none-past y (omega arith))
+        ]
+
+    -- an array parameter that is not borrowed holds one reference
+    given-held : (y : ℕ) → occurrences y (parameter-holds (β f) depths) ≡ held Γ′ given y
+    given-held y =
+        arrays-at-once (λ i. not (β f i)) depths 0 y y (omega arith) ∙ elim (decLt y arity) [
+          | yes h ↦ here h (β f y) refl ∙ sym (held-array Γ′ given y (lt-ltb y arity h))
+          | no h ↦
+              omega (
+                arith,
+                past (not (β f y)) (none-past y (omega arith)),
+                held-empty Γ′ y,
+                held-le Γ′ given empty y (λ e. absurd (omega (arith, ltb-true y arity e))),
+              )
+        ]
+      where
+        here : y < arity → (b : Bool) → β f y ≡ b → cond (not b) (min 1 (getD depths y 0)) 0 ≡ min 1 (Γ′ y)
+        here h true e =
+            omega (arith, owned .numbers y (say-and (given y) (β f y) (lt-ltb y arity h) e))
+        here h false e =
+            omega (arith, owned .others y (ap (_&&_ (given y)) e ∙ and-false (given y)), parameters-fit y h)
+
+        past : (b : Bool) → getD depths y 0 ≡ 0 → cond b (min 1 (getD depths y 0)) 0 ≡ 0
+        past true e = omega (arith, e)
+        past false e = refl
+
+    -- by the depths that it is annotated by
+    owned-sound : Sound β Γ′ [] body (parameter-holds (β f) depths) [] [] empty
+    unfolding annotated-body occurrences
+    owned-sound =
+        let t = normal-body g in
+        let tree = annotated-sound F β Γ Γ′ under few-owned t [] given empty arity (g .result) formed given-within
+        (record { below = λ y e. absurd (false≢true e) }) (record { free-from = λ n h. none-lent n })
+        (λ n. omega (arith, none-lent n, held-most Γ′ (uses t) n)) in
+        sound-same β Γ′ [] body (parameter-holds (β f) depths) (parameter-holds (β f) depths) []
+        (names Γ′ [] empty) [] empty (λ n. refl)
+        (λ n. omega (arith, names-held Γ′ few-owned [] empty n, held-empty Γ′ n))
+        (releasing β Γ′ few-owned [] given (uses t) (annotate β Γ′ t empty) (parameter-holds (β f) depths) [] empty
+        (λ n. omega (
+          arith,
+          given-held n,
+          held-le Γ′ (uses t) given n (uses-given n),
+          none-lent n,
+          held-most Γ′ (uses t) n,
+        )) tree)
+
+    body-fits : Fits (program fs) Γ body (g .result) given
+    unfolding annotated-body
+    body-fits =
+        let t = normal-body g in
+        fits-releases (program fs) Γ (dying Γ′ given (uses t)) (annotate β Γ′ t empty) (g .result) given
+        (dying-in (program fs) Γ β Γ′ under given (uses t) given (λ n e. e))
+        (annotated-fits (program fs) Γ β Γ′ under t given empty arity (g .result) formed given-within)
+
+    pub routine-disciplined : RoutineDisciplined (program fs) (β f) (routine-at fs T f g) (signature g)
+    unfolding program
+    routine-disciplined = record {
+      parameters = λ i h. parameters-fit i (omega (arith, length-map (g .parameters) (λ x. x .depth)));
+      fits = body-fits .0;
+      scoped = subst (D.Scoped body) given-same (body-fits .1);
+      holds = holding-lent β lent Γ Γ′ owned body [] (lent-parameters (β f) depths) (parameter-holds (β f) depths)
+          [] [] lends spares (owned-sound .0);
+    }
+
+    pub routine-frugal : RoutineFrugal β (β f) (routine-at fs T f g) (signature g)
+    routine-frugal =
+        frugal-lent β lent Γ Γ′ owned body [] (lent-parameters (β f) depths) (parameter-holds (β f) depths) empty
+        lends spares (owned-sound .1)
 
 -- ---- the routines of a script
 
 -- past the last function
-no-disciplined : (p : Program) → RoutineDisciplined p no-routine (signature no-function)
-unfolding parameter-holds
-no-disciplined p = record {
+no-disciplined : (p : Program) (b : ℕ → Bool) → RoutineDisciplined p b no-routine (signature no-function)
+unfolding arrays-at
+no-disciplined p b = record {
   parameters = λ i h. absurd (omega arith);
   fits = refl;
   scoped = tt;
   holds = λ n. refl;
 }
 
-module _ (fs : Script) where
-  pub all-disciplined : (gs : List Function) (f : ℕ) → ((i : ℕ) → Accepted fs (getD gs i no-function)) →
-      RoutineDisciplined (program fs) (getD (map (routine fs) gs) f no-routine) (signature (getD gs f no-function))
-  all-disciplined [] f ok = no-disciplined (program fs)
-  all-disciplined (g ∷ gs) zero ok = routine-disciplined fs g (ok 0)
-  all-disciplined (g ∷ gs) (suc f) ok = all-disciplined gs f (λ i. ok (suc i))
+module _ (fs : Script) (ok : (f : ℕ) → Accepted fs (function-at fs f)) where
+  abbrev p : Program
+  p = program fs
 
-  pub all-frugal : (gs : List Function) (f : ℕ) → ((i : ℕ) → Accepted fs (getD gs i no-function)) →
-      RoutineFrugal (getD (map (routine fs) gs) f no-routine) (signature (getD gs f no-function))
-  all-frugal [] f ok = tt
-  all-frugal (g ∷ gs) zero ok = routine-frugal fs g (ok 0)
-  all-frugal (g ∷ gs) (suc f) ok = all-frugal gs f (λ i. ok (suc i))
+  no-function-past : (f : ℕ) → length fs ≤ f → function-at fs f ≡ no-function
+  no-function-past f h = List·getD-eq-default fs no-function {n = f} h
+
+  no-routine-past : (f : ℕ) → length fs ≤ f → routine-of p f ≡ no-routine
+  no-routine-past f h =
+      List·getD-eq-default (p .routines) no-routine {n = f} (omega (arith, length-routines fs))
+
+  pub all-disciplined : (f : ℕ) → FunctionDisciplined p f
+  unfolding program
+  all-disciplined f = elim (decLt f (length fs)) [
+    | yes h ↦
+        subst (λ (r : Routine). RoutineDisciplined p (p .borrowing f) r (signature (function-at fs f)))
+        (sym (routine-is fs f h)) (routine-disciplined fs (function-at fs f) (ok f) f (stable fs .kept f))
+    | no h ↦
+        subst (λ (r : Routine). RoutineDisciplined p (p .borrowing f) r (signature (function-at fs f)))
+        (sym (no-routine-past f (omega arith)))
+        (subst (λ (g : Function). RoutineDisciplined p (p .borrowing f) no-routine (signature g))
+        (sym (no-function-past f (omega arith))) (no-disciplined p (p .borrowing f)))
+  ]
+
+  pub all-frugal : (f : ℕ) → FunctionFrugal p f
+  unfolding program
+  all-frugal f = elim (decLt f (length fs)) [
+    | yes h ↦
+        subst (λ (r : Routine). RoutineFrugal (p .borrowing) (p .borrowing f) r (signature (function-at fs f)))
+        (sym (routine-is fs f h)) (routine-frugal fs (function-at fs f) (ok f) f (stable fs .kept f))
+    | no h ↦
+        subst (λ (r : Routine). RoutineFrugal (p .borrowing) (p .borrowing f) r (signature (function-at fs f)))
+        (sym (no-routine-past f (omega arith))) tt
+  ]

@@ -158,6 +158,13 @@ module _ (Γ : NameDepths) where
   pub only-other : (x n : ℕ) → n ≢ x → held (only x) n ≡ 0
   only-other x n f = omega (arith, hold-held x n, hold-other x n f)
 
+  pub handed-first : (u : Atom) (us : List Atom) (n : ℕ) → occurrences n (handed Γ (u ∷ us))
+      ≡ occurrences n (handed Γ (u ∷ [])) + occurrences n (handed Γ us)
+  unfolding occurrences
+  handed-first (number z) us n = omega arith
+  handed-first (name x) us n =
+      omega (arith, occurrences-append n (hold x) (handed Γ us), occurrences-append n (hold x) [])
+
   pub held-is : (a : Atom) (n : ℕ) → held (is a) n ≡ occurrences n (handed Γ (a ∷ []))
   unfolding occurrences
   held-is (number z) n = held-empty n

@@ -5,7 +5,7 @@ use mathlib.Core.Path.{refl, sym}
 use mathlib.Core.Bool.{Bool, true, false, cond, _&&_}
 use mathlib.Core.List.{List, [], _∷_, _++_}
 use Rattle.semantics.specs.Basics.{with-if, occurrences}
-use Rattle.semantics.specs.Kinds.{Leaf, is-pending}
+use Rattle.semantics.specs.Kinds.{Borrowing, Leaf, is-pending}
 use Rattle.semantics.specs.Code.{Line, leaf, if-else, loop, retain, release, Tree, end, line, retain-all, release-all}
 use Rattle.semantics.specs.Live.{Set}
 use Rattle.semantics.specs.Annotate.{NameDepths, is-array, arrays}
@@ -15,21 +15,21 @@ use Rattle.soundness.specs.machine.Discipline.{LineHolding}
 use Rattle.soundness.specs.machine.Discipline.{Frugal}
 use Rattle.soundness.specs.machine.Spending.{less-is, holding-same, frugal-same}
 
-module _ (Γ : NameDepths) where
+module _ (β : Borrowing) (Γ : NameDepths) where
   -- with B lent, from the holds H, with P pending, to the holds Δ; after the tree L is live
   abbrev pub Sound : List ℕ → Tree → List ℕ → List ℕ → List ℕ → Set → Type 0
-  Sound B t H P Δ L = Holding Γ B t H P Δ × Frugal Γ B t H L
+  Sound B t H P Δ L = Holding β Γ B t H P Δ × Frugal β Γ B t H L
 
   module _ (B : List ℕ) where
     pub sound-same : (t : Tree) (H I P Δ E : List ℕ) (L : Set) → H ≈ I → Δ ≈ E → Sound B t H P Δ L → Sound B t I P E L
-    sound-same t H I P Δ E L h d s = (holding-same Γ B t H I P Δ E h d (s .0), frugal-same Γ B t H I L h (s .1))
+    sound-same t H I P Δ E L h d s = (holding-same β Γ B t H I P Δ E h d (s .0), frugal-same β Γ B t H I L h (s .1))
 
     -- a tree need not retain what is pending
     pub sound-pending : (t : Tree) (H P Δ : List ℕ) (L : Set) → Sound B t H [] Δ L → Sound B t H P Δ L
     sound-pending (end a) H P Δ L s = s
     sound-pending (line l t) H P Δ L s = ((line-pending l (s .0 .0), s .0 .1), s .1)
       where
-        line-pending : (k : Line) → LineHolding Γ B k H [] → LineHolding Γ B k H P
+        line-pending : (k : Line) → LineHolding β Γ B k H [] → LineHolding β Γ B k H P
         line-pending (leaf x j us) h = h
         line-pending (if-else x g u e) h = h
         line-pending (loop x j ps us u) h = h

@@ -1,10 +1,10 @@
--- The parameters of a function: the depths of their names, written and new, and what they hold.
+-- The parameters of a function: the depths of their names, written and new, and the arrays among them.
 use Prim.Native.Nat.{ℕ, zero, suc, _+_, _<_, min}
 use native.Mathlib.Omega.{arith}
 use native.Mathlib.Decide.{ℕ-discrete}
 use mathlib.Core.Path.{_≡_, refl, sym, ap, _∙_}
-use mathlib.Core.Logic.{_≢_, inl, inr}
-use mathlib.Core.Bool.{true, false, false≢true}
+use mathlib.Core.Logic.{_≢_}
+use mathlib.Core.Bool.{Bool, true, false, cond, false≢true}
 use mathlib.Core.List.{List, [], _∷_, map}
 use mathlib.Core.Option.{some}
 use lib.ListN.{getD}
@@ -16,9 +16,9 @@ use Rattle.semantics.specs.Types.{Signature, Depths, parameter-depths}
 use Rattle.semantics.specs.Code.{Atom, number, name}
 use Rattle.semantics.specs.Normal.{parameter-names}
 use Rattle.semantics.specs.Annotate.{NameDepths, atom-depth, parameter-depths-from}
-use Rattle.laws.specs.Lists.{hits}
-use Rattle.soundness.specs.machine.Discipline.{parameter-holds}
+use Rattle.soundness.specs.machine.Discipline.{arrays-at}
 use Rattle.soundness.specs.normal.Parameters.{From, parameters-from}
+use Rattle.soundness.specs.annotation.Members.{with-if-same, with-if-other}
 use Rattle.soundness.specs.annotation.Checking.{Known, known-updated}
 
 -- ---- the parameters' depths
@@ -91,27 +91,35 @@ parameter-depth (x ∷ xs) n (suc i) y e =
     updated-other (parameter-depths-from xs (suc n)) n (x .depth) y (λ q. omega arith)
     ∙ parameter-depth xs (suc n) i y (omega arith)
 
--- ---- the parameters' holds
+-- ---- the arrays among the parameters
 
-holds-below : (ds : List ℕ) (n y : ℕ) → y < n → occurrences y (parameter-holds ds n) ≡ 0
-unfolding parameter-holds occurrences
-holds-below [] n y h = refl
-holds-below (zero ∷ ds) n y h = holds-below ds (suc n) y (omega arith)
-holds-below (suc d ∷ ds) n y h = elim (hits y n) [
-  | inl g ↦ absurd (omega arith)
-  | inr g ↦ omega (arith, holds-below ds (suc n) y (omega arith))
-]
+arrays-below : (at : ℕ → Bool) (ds : List ℕ) (n y : ℕ) → y < n → occurrences y (arrays-at at ds n) ≡ 0
+unfolding arrays-at occurrences
+arrays-below at [] n y h = refl
+arrays-below at (zero ∷ ds) n y h = arrays-below at ds (suc n) y (omega arith)
+arrays-below at (suc d ∷ ds) n y h =
+    with-if-other (at n) y n (arrays-at at ds (suc n)) (λ e. omega arith) ∙ arrays-below at ds (suc n) y (omega arith)
 
-pub parameter-held : (ds : List ℕ) (n i y : ℕ) → y ≡ n + i → occurrences y (parameter-holds ds n) ≡ min 1 (getD ds i 0)
-unfolding parameter-holds occurrences
-parameter-held [] n i y e = omega arith
-parameter-held (zero ∷ ds) n zero y e = holds-below ds (suc n) y (omega arith) ∙ omega arith
-parameter-held (zero ∷ ds) n (suc i) y e = parameter-held ds (suc n) i y (omega arith)
-parameter-held (suc d ∷ ds) n zero y e = elim (hits y n) [
-  | inl g ↦ omega (arith, holds-below ds (suc n) y (omega arith))
-  | inr g ↦ absurd (g .0 (omega arith))
-]
-parameter-held (suc d ∷ ds) n (suc i) y e = elim (hits y n) [
-  | inl g ↦ absurd (omega arith)
-  | inr g ↦ omega (arith, parameter-held ds (suc n) i y (omega arith))
-]
+none-there : (b : Bool) → 0 ≡ cond b (min 1 0) 0
+none-there true = omega arith
+none-there false = refl
+
+-- an array at one of the places stands there once
+pub arrays-at-once : (at : ℕ → Bool) (ds : List ℕ) (n i y : ℕ) → y ≡ n + i →
+    occurrences y (arrays-at at ds n) ≡ cond (at y) (min 1 (getD ds i 0)) 0
+unfolding arrays-at occurrences
+arrays-at-once at [] n i y e = none-there (at y)
+arrays-at-once at (zero ∷ ds) n zero y e = arrays-below at ds (suc n) y (omega arith) ∙ none-there (at y)
+arrays-at-once at (zero ∷ ds) n (suc i) y e = arrays-at-once at ds (suc n) i y (omega arith)
+arrays-at-once at (suc d ∷ ds) n zero y e =
+    let here : n ≡ y = omega arith in
+    rw here (with-if-same (at y) y (arrays-at at ds (suc y))
+    ∙ one (at y) (arrays-below at ds (suc y) y (omega arith)))
+  where
+    one : (b : Bool) → occurrences y (arrays-at at ds (suc y)) ≡ 0 →
+        cond b 1 0 + occurrences y (arrays-at at ds (suc y)) ≡ cond b (min 1 (suc d)) 0
+    one true h = omega (arith, h)
+    one false h = omega (arith, h)
+arrays-at-once at (suc d ∷ ds) n (suc i) y e =
+    with-if-other (at n) y n (arrays-at at ds (suc n)) (λ q. omega arith)
+    ∙ arrays-at-once at ds (suc n) i y (omega arith)

@@ -7,8 +7,8 @@ use mathlib.Core.Logic.{inl, inr}
 use mathlib.Core.List.{List, [], _∷_, _++_}
 use lib.ListN.{length}
 use Rattle.semantics.specs.Basics.{occurrences, _∈_}
-use Rattle.semantics.specs.Kinds.{Loop, mapping, filtering, reducing, loop-hands, loop-reads, element-name}
-use Rattle.semantics.specs.Code.{Atom, number, name, loop, Tree, line, retain-all, release-all}
+use Rattle.semantics.specs.Kinds.{Borrowing, Loop, mapping, filtering, reducing, loop-hands, loop-reads, element-name}
+use Rattle.semantics.specs.Code.{Atom, loop, Tree, line, retain-all, release-all}
 use Rattle.semantics.specs.Live.{Set, empty, _∪_, _∖_, _∖∖_, only, just, among, live, live-before, uses, after-pass}
 use Rattle.semantics.specs.Annotate.{NameDepths, arrays, dying, annotate, annotate-line}
 use Rattle.soundness.specs.machine.Discipline.{loop-arity, hold-of, holds-of, handed, less, unlent, left-by}
@@ -18,6 +18,7 @@ use Rattle.laws.specs.Lists.{_≈_, occurrences-append}
 use Rattle.soundness.specs.machine.Spending.{less-counts, same-append, unlent-few, lent-or-not}
 use Rattle.soundness.specs.annotation.Held.{Few, free, free-or, held, names, held-most, held-or, names-held}
 use Rattle.soundness.specs.annotation.Held.{append-held, held-pass, just-none, just-most, holds-just, held-among}
+use Rattle.soundness.specs.annotation.Held.{handed-first}
 use Rattle.soundness.specs.annotation.Formed.{Rising}
 use Rattle.soundness.specs.annotation.Moves.{Sound, sound-same, retains, retains-element}
 use Rattle.soundness.specs.annotation.Unchanged.{live-release-all, pass, live-pass}
@@ -45,12 +46,7 @@ module _ (Γ : NameDepths) where
   loop-parts mapping us n = omega arith
   loop-parts filtering us n = omega arith
   loop-parts reducing [] n = omega arith
-  loop-parts reducing (number z ∷ us) n = omega arith
-  loop-parts reducing (name x ∷ us) n = omega (
-    arith,
-    occurrences-append n (hold-of Γ x) (handed Γ us),
-    occurrences-append n (hold-of Γ x) [],
-  )
+  loop-parts reducing (u ∷ us) n = handed-first Γ u us n
 
   -- each name of a pass holds what is carried, or is the element
   pass-parts : (k : Loop) (ps : List ℕ) (n : ℕ) → occurrences n (holds-of Γ ps)
@@ -170,17 +166,18 @@ module _ (Γ : NameDepths) where
                 let none : occurrences n ps ≡ 0 = omega arith in
                 omega (arith, just-none Γ ps n none, pass-steady n none)
 
-        pass-sound : Sound Γ inner (annotate Γ t after) (names Γ inner (live t after)) [] (names Γ inner after) after →
-            Sound Γ inner (pass Γ x k ps t A) (pass-holds Γ B k ps us start) (holds-of Γ (element-name k ps))
+        pass-sound : (β : Borrowing) →
+            Sound β Γ inner (annotate β Γ t after) (names Γ inner (live t after)) [] (names Γ inner after) after →
+            Sound β Γ inner (pass β Γ x k ps t A) (pass-holds Γ B k ps us start) (holds-of Γ (element-name k ps))
             (outer-holds Γ B k us start) after
-        pass-sound s =
-            let t′ = release-all (dying Γ (just ps) (live t after)) (annotate Γ t after) in
+        pass-sound β s =
+            let t′ = release-all (dying Γ (just ps) (live t after)) (annotate β Γ t after) in
             let H = pass-holds Γ B k ps us start in
             let E = element-name k ps in
-            let rest : Sound Γ inner t′ (holds-of Γ ps ++ names Γ inner after) [] (names Γ inner after) after =
-            releasing Γ few inner (just ps) (live t after) (annotate Γ t after) _ [] after given s in
-            let here : Sound Γ inner t′ (holds-of Γ E ++ H) [] (outer-holds Γ B k us start) after =
-            sound-same Γ inner t′ (holds-of Γ ps ++ names Γ inner after) (holds-of Γ E ++ H) []
+            let rest : Sound β Γ inner t′ (holds-of Γ ps ++ names Γ inner after) [] (names Γ inner after) after =
+            releasing β Γ few inner (just ps) (live t after) (annotate β Γ t after) _ [] after given s in
+            let here : Sound β Γ inner t′ (holds-of Γ E ++ H) [] (outer-holds Γ B k us start) after =
+            sound-same β Γ inner t′ (holds-of Γ ps ++ names Γ inner after) (holds-of Γ E ++ H) []
             (names Γ inner after) (outer-holds Γ B k us start) after
             (λ n. omega (
               arith,
@@ -192,34 +189,34 @@ module _ (Γ : NameDepths) where
             ))
             (λ n. sym (outer n)) rest in
             let one = element-one k ps (passing .named) in
-            subst (λ es. Sound Γ inner (retain-all (arrays Γ es) t′) H (holds-of Γ es)
+            subst (λ es. Sound β Γ inner (retain-all (arrays Γ es) t′) H (holds-of Γ es)
             (outer-holds Γ B k us start) after)
             (sym (one .1))
-            (retains-element Γ inner (one .0) t′ H (outer-holds Γ B k us start) after
-            (subst (λ es. Sound Γ inner t′ (holds-of Γ es ++ H) [] (outer-holds Γ B k us start) after) (one .1) here))
+            (retains-element β Γ inner (one .0) t′ H (outer-holds Γ B k us start) after
+            (subst (λ es. Sound β Γ inner t′ (holds-of Γ es ++ H) [] (outer-holds Γ B k us start) after) (one .1) here))
 
-        pub loop-line : (L : Set) (j : Tree) → live j L ≡ A →
-            Sound Γ inner (annotate Γ t after) (names Γ inner (live t after)) [] (names Γ inner after) after →
-            Sound Γ B j (names Γ B A) [] (names Γ B L) L →
-            Sound Γ B (annotate-line Γ (loop x k ps us t) A j) (names Γ B (live-before (loop x k ps us t) A)) []
+        pub loop-line : (β : Borrowing) (L : Set) (j : Tree) → live j L ≡ A →
+            Sound β Γ inner (annotate β Γ t after) (names Γ inner (live t after)) [] (names Γ inner after) after →
+            Sound β Γ B j (names Γ B A) [] (names Γ B L) L →
+            Sound β Γ B (annotate-line β Γ (loop x k ps us t) A j) (names Γ B (live-before (loop x k ps us t) A)) []
             (names Γ B L) L
         unfolding annotate live left-by
-        loop-line L j same s sound =
+        loop-line β L j same s sound =
             let free = dying Γ (among reads used ∪ only x) A in
             let j′ = release-all free j in
-            let t′ = pass Γ x k ps t A in
+            let t′ = pass β Γ x k ps t A in
             let rest = less (handed Γ hands) start in
             let q : live j′ L ≡ A = live-release-all free j L ∙ same in
             let pass-same : after-pass x ps t′ (live j′ L) ≡ after =
-            λ i. live-pass Γ x k ps t A empty i ∖∖ ps ∪ q i ∖ x in
-            let inside = pass-sound s in
-            let s′ : Sound Γ B j′ (hold-of Γ x ++ rest) [] (names Γ B L) L =
-            sound-same Γ B j′ (hold-of Γ x ++ names Γ B (behind Γ few B x us hands reads used A)) (hold-of Γ x ++ rest)
-            [] (names Γ B L) (names Γ B L) L
+            λ i. live-pass β Γ x k ps t A empty i ∖∖ ps ∪ q i ∖ x in
+            let inside = pass-sound β s in
+            let s′ : Sound β Γ B j′ (hold-of Γ x ++ rest) [] (names Γ B L) L =
+            sound-same β Γ B j′ (hold-of Γ x ++ names Γ B (behind Γ few B x us hands reads used A))
+            (hold-of Γ x ++ rest) [] (names Γ B L) (names Γ B L) L
             (same-append (hold-of Γ x) _ rest (λ n. sym (left Γ few B x us hands reads used A apart n))) (λ n. refl)
-            (releasing Γ few B (among reads used ∪ only x) A j _ [] L
+            (releasing β Γ few B (among reads used ∪ only x) A j _ [] L
             (bound Γ few B x us hands reads used A apart) sound) in
-            retains Γ B (again Γ few B x us hands reads used A) (line (loop x k ps us t′) j′)
+            retains β Γ B (again Γ few B x us hands reads used A) (line (loop x k ps us t′) j′)
             (names Γ B (before Γ few B x us hands reads used A)) (names Γ B L) L
             (retainable Γ few B x us hands reads used A apart) (
               (
@@ -234,7 +231,7 @@ module _ (Γ : NameDepths) where
                 (
                   subst (λ M. Covered Γ start (among us M)) (sym pass-same)
                       (covered-before Γ few B x us hands reads used A apart),
-                  subst (Frugal Γ inner t′ (pass-holds Γ B k ps us start)) (sym pass-same) (inside .1),
+                  subst (Frugal β Γ inner t′ (pass-holds Γ B k ps us start)) (sym pass-same) (inside .1),
                 ),
                 s′ .1,
               ),

@@ -120,8 +120,9 @@ module _ (C : Setting) where
 
   -- a line that gave a word for the name x, with the holds H′ left
   pub name-bound : {σ : Store} {Z F R B H I P Δ : List ℕ} {ρ : Frame} {δ : Env} {k n x : ℕ} {w : ℤ} {s : State}
-      {v : Value} {m : Meter} (l : Line) (H′ : List ℕ) → holds-after (C .depths) l H ≡ own C x ++ H′ →
-      waits-after (C .depths) l ≡ [] → Fresh x B H′ Δ → Situation C σ Z F R B I P ρ δ k →
+      {v : Value} {m : Meter} (l : Line) (H′ : List ℕ) →
+      holds-after (C .program .borrowing) (C .depths) l H ≡ own C x ++ H′ → waits-after (C .depths) l ≡ [] →
+      Fresh x B H′ Δ → Situation C σ Z F R B I P ρ δ k →
       Ended C (C .depths x) σ Z F H′ ρ δ n w s v m →
       Going C l σ Z F R B H Δ ρ δ n (updated ρ x w) s (updated δ x v) m
   name-bound {Z = Z} {F} {R} {B} {Δ = Δ} {ρ} {δ} {n = n} {x} {w} {s} {v} l H′ after none fresh S e = record {

@@ -50,7 +50,7 @@ module _ (C : Setting) (grows : CalleeGrows (C .meant)) (p : ℕ) {t : Tree} (cl
       ((do
         Machine.step
         ws ← elements-of w
-        r ← work (C .callee) (C .depths) t A R (updated ρ p (getD ws i (pos 0)))
+        r ← work (C .callee) (C .program .borrowing) (C .depths) t A R (updated ρ p (getD ws i (pos 0)))
         finish (getD ws i (pos 0)) r) s)
       ((do
         Meaning.step false

@@ -38,8 +38,8 @@ module _ (C : Setting) (grows : CalleeGrows (C .meant)) where
       (after-test 28 _ _ (is-answer (word ρ g)) (is-answer (word ρ g)) refl
       (record { low = omega arith; high = omega arith; other = λ h. omega arith }) t′
       (λ answer. agree-bind (branch (is-zero (word ρ g)) s′ m′ t′ (settled S′)) (λ v. give-grows _)
-      (λ w s″ v m″ E. both (name-bound C (if-else x g t e) (left-by (C .depths) t H) refl refl (if-fresh C rules) S′
-      E)))))))
+      (λ w s″ v m″ E. both (name-bound C (if-else x g t e) (left-by (C .program .borrowing) (C .depths) t H) refl refl
+      (if-fresh C rules) S′ E)))))))
     where
       choice-grows : (b : Bool) → Grows (cond b (run (C .meant) e δ) (run (C .meant) t δ))
       choice-grows true = tree-grows (C .meant) grows e δ
@@ -47,13 +47,13 @@ module _ (C : Setting) (grows : CalleeGrows (C .meant)) where
 
       branch : (b : Bool) (s′ : State) (m′ : Meter) → Together (C .start) s′ m′ →
           Situation C (s′ .store) Z F R B H [] ρ δ (line-adds (if-else x g t e) + n) →
-          Both C (Ended C (C .depths x) (s′ .store) Z F (left-by (C .depths) t H) ρ δ n)
-          (cond b (work (C .callee) (C .depths) e (after-branch x A) R ρ)
-          (work (C .callee) (C .depths) t (after-branch x A) R ρ)) s′
+          Both C (Ended C (C .depths x) (s′ .store) Z F (left-by (C .program .borrowing) (C .depths) t H) ρ δ n)
+          (cond b (work (C .callee) (C .program .borrowing) (C .depths) e (after-branch x A) R ρ)
+          (work (C .callee) (C .program .borrowing) (C .depths) t (after-branch x A) R ρ)) s′
           (cond b (run (C .meant) e δ) (run (C .meant) t δ)) m′
       branch true s′ m′ t′ S′ =
-          else B T (after-branch x A) H [] (left-by (C .depths) t H) (C .depths x) (else-rules C rules) Z F R ρ δ n s′
-          m′ t′ (situation-less (tree-adds e + n) S′ (omega arith)) need
+          else B T (after-branch x A) H [] (left-by (C .program .borrowing) (C .depths) t H) (C .depths x)
+          (else-rules C rules) Z F R ρ δ n s′ m′ t′ (situation-less (tree-adds e + n) S′ (omega arith)) need
       branch false s′ m′ t′ S′ =
-          then B T (after-branch x A) H [] (left-by (C .depths) t H) (C .depths x) (then-rules C rules) Z F R ρ δ n s′
-          m′ t′ (situation-less (tree-adds t + n) S′ (omega arith)) need
+          then B T (after-branch x A) H [] (left-by (C .program .borrowing) (C .depths) t H) (C .depths x)
+          (then-rules C rules) Z F R ρ δ n s′ m′ t′ (situation-less (tree-adds t + n) S′ (omega arith)) need

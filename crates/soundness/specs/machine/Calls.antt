@@ -1,7 +1,7 @@
 -- A call of a disciplined program, by induction on the call depth left.
 use Prim.Native.Nat.{ℕ, zero, suc, _+_, _*_, _<_, _≤_}
 use native.Mathlib.Omega.{arith}
-use mathlib.Core.Bool.{true}
+use mathlib.Core.Bool.{Bool, true, false, not}
 use mathlib.Core.Path.{_≡_, refl, sym, subst}
 use mathlib.Core.List.{List, [], _∷_, _++_}
 use lib.IntN.{ℤ}
@@ -17,10 +17,11 @@ use Rattle.laws.specs.Lists.{_⊆_}
 use Rattle.soundness.specs.normal.Plain.{run, running, values-from}
 use Rattle.soundness.specs.store.Invariant.{Invariant}
 use Rattle.soundness.specs.normal.Trace.{CalleeGrows, running-grows}
-use Rattle.soundness.specs.machine.Discipline.{parameter-holds, parameter-names, FunctionDisciplined}
-use Rattle.soundness.specs.machine.Discipline.{FunctionFrugal}
+use Rattle.soundness.specs.machine.Discipline.{parameter-holds, lent-parameters, parameter-names}
+use Rattle.soundness.specs.machine.Discipline.{FunctionDisciplined, FunctionFrugal}
 use Rattle.soundness.specs.machine.Agreement.{Start, Together, Agree, same, agree-map}
-use Rattle.soundness.specs.machine.Frames.{Room, Setting, Situation, Returned, Arguments, named-all}
+use Rattle.soundness.specs.machine.Frames.{Room, Setting, Situation, Returned, Arguments, owned-cells}
+use Rattle.soundness.specs.machine.Frames.{borrowed-cells}
 use Rattle.soundness.specs.machine.Standing.{none-in}
 use Rattle.soundness.specs.machine.Size.{tree-adds}
 use Rattle.soundness.specs.machine.Rules.{TreeRules}
@@ -30,7 +31,8 @@ use Rattle.soundness.specs.machine.Making.{leaf-literal, leaf-iota}
 use Rattle.soundness.specs.machine.Replicating.{leaf-replicate}
 use Rattle.soundness.specs.machine.Calling.{leaf-call}
 use Rattle.soundness.specs.machine.Trees.{tree-sound}
-use Rattle.soundness.specs.machine.Parameters.{parameters-hold, parameter-numbers, parameter-arrays, held-range}
+use Rattle.soundness.specs.machine.Parameters.{parameters-hold, parameter-numbers, parameter-arrays, arrays-range}
+use Rattle.soundness.specs.machine.Parameters.{parameters-lent}
 
 -- every leaf
 pub leaf-sound : (C : Setting) → CalleeGrows (C .meant) → CallClaim C → (l : Leaf) → LeafClaim C l
@@ -57,11 +59,13 @@ setting p start n Γ = record {
   need = call-adds * n;
 }
 
--- Every function is disciplined, and short: code of 4,096 rows adds at most 69,632 references. The first is main.
+-- Every function is disciplined, and short: code of 4,096 rows adds at most 69,632 references. The first is main, which
+-- owns its parameters.
 pub record ProgramDisciplined (p : Program) : Type 0 where
   pub functions : (f : ℕ) → f < length (p .routines) → FunctionDisciplined p f
   pub short : (f : ℕ) → f < length (p .routines) → tree-adds (routine-of p f .tree) ≤ call-adds
   pub some : 0 < length (p .routines)
+  pub owns : (i : ℕ) → p .borrowing 0 i ≡ false
   pub takes : p .signatures 0 .parameters ≡ p .depth ∷ (1 ∷ [])
   pub gives : p .signatures 0 .result ≡ p .depth
 
@@ -75,16 +79,16 @@ module _ (p : Program) (disciplined : ProgramDisciplined p) (start : Start)
   body-sound : (n : ℕ) → ((Γ : NameDepths) → CallClaim (setting p start n Γ)) →
       (f : ℕ) (ws : List ℤ) (vs : List Value) (Z F R : List ℕ) (s : State) (m : Meter) → f < length (p .routines) →
       Together start s m → Arguments (s .store) (p .signatures f .parameters) ws vs →
-      Invariant (s .store) Z (named-all (p .signatures f .parameters) ws ++ F) →
-      Room Z (named-all (p .signatures f .parameters) ws ++ F) (call-adds * suc n) →
+      borrowed-cells p f ws ⊆ F → Invariant (s .store) Z (owned-cells p f ws ++ F) →
+      Room Z (owned-cells p f ws ++ F) (call-adds * suc n) →
       (start .frugal ≡ true → (Z ++ F) ⊆ R) →
       Agree start (Returned start (p .signatures f .result) (s .store) Z F)
-      (work (machine p n) (routine-of p f .depths) (routine-of p f .tree) empty R (frame-from ws 0) s)
+      (work (machine p n) (p .borrowing) (routine-of p f .depths) (routine-of p f .tree) empty R (frame-from ws 0) s)
       (run (running p n) (routine-of p f .tree) (values-from vs 0) m)
-  body-sound n calls f ws vs Z F R s m there tog args inv room rooted =
+  body-sound n calls f ws vs Z F R s m there tog args kept inv room rooted =
       agree-map (λ w s′ v m′ e. record { answered = e .answered; keeps = e .keeps })
       (tree-sound C (running-grows p n) (leaf-sound C (running-grows p n) (calls (r .depths))) (r .tree)
-      [] (parameter-names ds) empty (parameter-holds ds 0) [] [] (p .signatures f .result) rules Z F R
+      lent (parameter-names ds) empty held [] [] (p .signatures f .result) rules Z F R
       (frame-from ws 0) (values-from vs 0) (call-adds * n) s m tog situation (omega arith))
     where
       r : Routine
@@ -96,40 +100,52 @@ module _ (p : Program) (disciplined : ProgramDisciplined p) (start : Start)
       ds : List ℕ
       ds = p .signatures f .parameters
 
-      rules : TreeRules C (r .tree) [] (parameter-names ds) empty (parameter-holds ds 0) [] [] (p .signatures f .result)
+      lends : ℕ → Bool
+      lends = p .borrowing f
+
+      owns : ℕ → Bool
+      owns = λ i. not (lends i)
+
+      lent : List ℕ
+      lent = lent-parameters lends ds
+
+      held : List ℕ
+      held = parameter-holds lends ds
+
+      rules : TreeRules C (r .tree) lent (parameter-names ds) empty held [] [] (p .signatures f .result)
       rules = record {
         fits = disciplined .functions f there .fits;
         scoped = disciplined .functions f there .scoped;
         names = record {
-          lent = λ y h. absurd (none-in y h);
-          held = λ y h. lt-ltb y (length ds) (omega (arith, held-range ds 0 y h));
+          lent = λ y h. lt-ltb y (length ds) (omega (arith, arrays-range lends ds 0 y h));
+          held = λ y h. lt-ltb y (length ds) (omega (arith, arrays-range owns ds 0 y h));
           left = λ y h. absurd (none-in y h);
         };
         holds = disciplined .functions f there .holds;
         frugal = λ q. frugal q f there;
       }
 
-      situation : Situation C (s .store) Z F R [] (parameter-holds ds 0) [] (frame-from ws 0)
-          (values-from vs 0) (tree-adds (r .tree) + call-adds * n)
+      situation : Situation C (s .store) Z F R lent held [] (frame-from ws 0) (values-from vs 0)
+          (tree-adds (r .tree) + call-adds * n)
       situation = record {
-        invariant = subst (λ (l : List ℕ). Invariant (s .store) Z (l ++ F)) (sym (parameters-hold args 0)) inv;
+        invariant = subst (λ (l : List ℕ). Invariant (s .store) Z (l ++ F)) (sym (parameters-hold owns args 0)) inv;
         numbers = parameter-numbers args (r .depths) (disciplined .functions f there .parameters);
-        arrays = parameter-arrays args (r .depths) (disciplined .functions f there .parameters);
+        arrays = parameter-arrays args (r .depths) (disciplined .functions f there .parameters) owns;
         pending = λ y h. absurd (none-in y h);
-        lent = λ y h. absurd (none-in y h);
+        lent = parameters-lent args (r .depths) (disciplined .functions f there .parameters) lends F kept;
         room = subst (λ (l : List ℕ). Room Z (l ++ F) (tree-adds (r .tree) + call-adds * n))
-            (sym (parameters-hold args 0))
+            (sym (parameters-hold owns args 0))
             (record { few = λ c. omega (arith, room .few c, disciplined .short f there) });
         rooted = rooted;
       }
 
   pub call-sound : (n : ℕ) (Γ : NameDepths) → CallClaim (setting p start n Γ)
   unfolding machine running
-  call-sound zero Γ f ws vs Z F R s m there tog args inv room rooted = same {k = 22} record {
+  call-sound zero Γ f ws vs Z F R s m there tog args kept inv room rooted = same {k = 22} record {
     number = refl;
     stops = record { low = omega arith; high = omega arith; other = λ h. omega arith };
     left = tog .left;
     clean = tog .clean;
   }
-  call-sound (suc n) Γ f ws vs Z F R s m there tog args inv room rooted =
-      body-sound n (call-sound n) f ws vs Z F R s m there tog args inv room rooted
+  call-sound (suc n) Γ f ws vs Z F R s m there tog args kept inv room rooted =
+      body-sound n (call-sound n) f ws vs Z F R s m there tog args kept inv room rooted

@@ -8,7 +8,7 @@ use lib.ListN.{length}
 use Rattle.semantics.specs.Basics.{_∈_}
 use Rattle.semantics.specs.Outcome.{Run, onward, _>>=_}
 use Rattle.semantics.specs.Value.{Value}
-use Rattle.semantics.specs.Kinds.{Leaf, is-pending, leaf-hands}
+use Rattle.semantics.specs.Kinds.{Leaf, is-pending, leaf-reads}
 use Rattle.semantics.specs.Code.{Atom, Line, leaf, Tree}
 use Rattle.semantics.specs.Live.{Set, among, _∖_}
 use Rattle.semantics.specs.Annotate.{depth-of}
@@ -25,7 +25,7 @@ use Rattle.soundness.specs.machine.Discipline.{LeafFits, LineHolding, Li
 use Rattle.soundness.specs.machine.Growth.{Grows}
 use Rattle.soundness.specs.machine.Agreement.{Together, Agree, after-step}
 use Rattle.soundness.specs.machine.Frames.{hold, Room, Setting, Situation, Returned, Ended, Going, Arguments}
-use Rattle.soundness.specs.machine.Frames.{named-all, given}
+use Rattle.soundness.specs.machine.Frames.{owned-cells, borrowed-cells, given-by}
 use Rattle.soundness.specs.machine.Size.{leaf-adds, tree-adds, line-adds}
 use Rattle.soundness.specs.machine.Rules.{TreeRules, LineRules}
 
@@ -40,14 +40,16 @@ module _ (C : Setting) where
   TreeClaim t = (B : List ℕ) (S L : Set) (H P Δ : List ℕ) (d : ℕ) → TreeRules C t B S L H P Δ d →
       (Z F R : List ℕ) (ρ : Frame) (δ : Env) (n : ℕ) (s : State) (m : Meter) → Together (C .start) s m →
       Situation C (s .store) Z F R B H P ρ δ (tree-adds t + n) → C .need ≤ n →
-      Both (Ended C d (s .store) Z F Δ ρ δ n) (work (C .callee) (C .depths) t L R ρ) s (run (C .meant) t δ) m
+      Both (Ended C d (s .store) Z F Δ ρ δ n) (work (C .callee) (C .program .borrowing) (C .depths) t L R ρ) s
+      (run (C .meant) t δ) m
 
   -- Of a line under its rules, after which A is live: the tree may go on.
   abbrev pub LineClaim : Line → Type 0
   LineClaim l = (B : List ℕ) (S A : Set) (H P Δ : List ℕ) → LineRules C l B S A H P Δ →
       (Z F R : List ℕ) (ρ : Frame) (δ : Env) (n : ℕ) (s : State) (m : Meter) → Together (C .start) s m →
       Situation C (s .store) Z F R B H P ρ δ (line-adds l + n) → C .need ≤ n →
-      Both (Going C l (s .store) Z F R B H Δ ρ δ n) (work-line (C .callee) (C .depths) l A R ρ) s
+      Both (Going C l (s .store) Z F R B H Δ ρ δ n)
+      (work-line (C .callee) (C .program .borrowing) (C .depths) l A R ρ) s
       (run-line (C .meant) l δ) m
 
   -- what a leaf gave for the name x: a word that holds its cell, or one that is pending, and the store is σ still
@@ -66,22 +68,25 @@ module _ (C : Setting) where
   -- after it.
   abbrev pub LeafClaim : Leaf → Type 0
   LeafClaim l = (x : ℕ) (us : List Atom) (A : Set) (B H P : List ℕ) → LeafFits (C .program) (C .depths) x l us →
-      LineHolding (C .depths) B (leaf x l us) H P →
-      (C .start .frugal ≡ true → LineFrugal (C .depths) B (leaf x l us) H A) →
+      LineHolding (C .program .borrowing) (C .depths) B (leaf x l us) H P →
+      (C .start .frugal ≡ true → LineFrugal (C .program .borrowing) (C .depths) B (leaf x l us) H A) →
       (Z F R : List ℕ) (ρ : Frame) (δ : Env) (n : ℕ) (s : State) (m : Meter) → Together (C .start) s m →
       Situation C (s .store) Z F R B H P ρ δ (leaf-adds + n) → C .need ≤ n →
-      Both (Gave l x (s .store) Z (hold ρ (less (given C (leaf-hands l us)) H) ++ F))
+      Both (Gave l x (s .store) Z (hold ρ (less (given-by C l us) H) ++ F))
       (Machine.step >>= λ _. work-leaf (C .callee) (R ++ held (C .depths) (among us (A ∖ x)) ρ)
-      (R ++ held (C .depths) (A ∖ x) ρ) (depth-of (C .depths) us 1) l (map (word ρ) us)) s
+      (R ++ held (C .depths) (among (leaf-reads (C .program .borrowing) l us) (A ∖ x)) ρ)
+      (depth-of (C .depths) us 1) l (map (word ρ) us)) s
       (do-leaf (C .meant) l (map (value δ) us)) m
 
-  -- Of a call, on words that stand for the values and hold their cells: it adds at most `need` references.
+  -- Of a call, on words that stand for the values: those that its function owns hold their cells, and the cells of
+  -- those that it borrows are among those of others. It adds at most `need` references.
   abbrev pub CallClaim : Type 0
   CallClaim = (f : ℕ) (ws : List ℤ) (vs : List Value) (Z F R : List ℕ) (s : State) (m : Meter) →
       f < length (C .program .routines) → Together (C .start) s m →
       Arguments (s .store) (C .program .signatures f .parameters) ws vs →
-      Invariant (s .store) Z (named-all (C .program .signatures f .parameters) ws ++ F) →
-      Room Z (named-all (C .program .signatures f .parameters) ws ++ F) (C .need) →
+      borrowed-cells (C .program) f ws ⊆ F →
+      Invariant (s .store) Z (owned-cells (C .program) f ws ++ F) →
+      Room Z (owned-cells (C .program) f ws ++ F) (C .need) →
       (C .start .frugal ≡ true → (Z ++ F) ⊆ R) →
       Both (Returned (C .start) (C .program .signatures f .result) (s .store) Z F) (C .callee R f ws) s
       (C .meant f vs) m

@@ -1,13 +1,14 @@
 -- A delivery on a store between deliveries does what main means.
 use Prim.Native.Nat.{ℕ, zero, suc, _-_, _*_, _≤_}
 use native.Mathlib.Omega.{arith}
-use mathlib.Core.Bool.{Bool, true, false}
-use mathlib.Core.Path.{_≡_, refl, sym, ap, _∙_, subst}
+use mathlib.Core.Bool.{Bool, true, false, not}
+use mathlib.Core.Path.{_≡_, refl, sym, ap, ap₂, _∙_, subst}
 use mathlib.Core.Logic.{inl, inr}
 use mathlib.Core.List.{List, [], _∷_, _++_, append-assoc}
 use lib.IntN.{ℤ, pos}
 use lib.ListN.{length}
-use Rattle.semantics.specs.Basics.{occurrences}
+use Rattle.semantics.specs.Basics.{occurrences, _∈_}
+use Rattle.semantics.specs.Kinds.{picked}
 use Rattle.semantics.specs.Outcome.{Outcome, done, stop, onward, _>>=_, _>>_}
 use Rattle.semantics.specs.Value.{Value, numbers}
 use Rattle.semantics.specs.Syntax.{Script}
@@ -17,7 +18,7 @@ use Rattle.semantics.specs.Machine.{program, machine, if-array, delivery, start
 use Rattle.semantics.specs.Store.{Store, Cell, cell-of, named-by, has-free, acquired}
 use Rattle.semantics.specs.Ledger.{wants-cell}
 use Rattle.semantics.specs.Demands.{value-of, touched, replayed, OutOfCells, Does}
-use Rattle.laws.specs.Lists.{occurrences-append}
+use Rattle.laws.specs.Lists.{_⊆_, occurrences-append}
 use Rattle.soundness.specs.store.Invariant.{Invariant, StandsFor}
 use Rattle.soundness.specs.store.Counting.{in-append-left, in-append-right}
 use Rattle.soundness.specs.store.Change.{held-used}
@@ -30,7 +31,9 @@ use Rattle.soundness.specs.normal.Plain.{running}
 use Rattle.soundness.specs.store.LowestLevel.{free-list-length}
 use Rattle.soundness.specs.machine.Images.{one-more}
 use Rattle.soundness.specs.machine.Agreement.{Start, Clean, Together, SameStop, Agree, both, same, dry}
-use Rattle.soundness.specs.machine.Frames.{Room, Returned, Arguments, none, more, named-all}
+use Rattle.soundness.specs.machine.Frames.{Room, Returned, Arguments, none, more, named-all, owned-cells}
+use Rattle.soundness.specs.machine.Frames.{borrowed-cells}
+use Rattle.soundness.specs.machine.Places.{picked-all, picked-none}
 use Rattle.soundness.specs.machine.Standing.{none-in, named-few, names-one}
 use Rattle.soundness.specs.machine.Acquiring.{after-acquire, acquire-together, filled-count, filled-depth}
 use Rattle.soundness.specs.machine.Acquiring.{cell-stands}
@@ -151,9 +154,25 @@ module _ (p : Program) (disciplined : ProgramDisciplined p) (careful : Bool)
               (omega (arith, h, occurrences-append r (c ∷ []) held))),
         ))
 
-    holds : named-all (p .signatures 0 .parameters) (old ∷ (pos c ∷ [])) ++ held ≡ held ++ (c ∷ held)
+    -- main owns its parameters
+    owned : owned-cells p 0 (old ∷ (pos c ∷ [])) ≡ named-all (p .signatures 0 .parameters) (old ∷ (pos c ∷ []))
+    owned = ap₂ {C = List ℕ} named-all
+        (picked-all _ 0 (p .signatures 0 .parameters) owns) (picked-all _ 0 (old ∷ (pos c ∷ [])) owns)
+      where
+        owns : (i : ℕ) → not (p .borrowing 0 i) ≡ true
+        owns i = ap not (disciplined .owns i)
+
+    none-borrowed : borrowed-cells p 0 (old ∷ (pos c ∷ [])) ⊆ held
+    none-borrowed r h = absurd (none-in r (subst (λ (l : List ℕ). r ∈ l) empty h))
+      where
+        empty : borrowed-cells p 0 (old ∷ (pos c ∷ [])) ≡ []
+        empty = ap (λ (l : List ℕ). named-all l (picked (p .borrowing 0) 0 (old ∷ (pos c ∷ []))))
+            (picked-none (p .borrowing 0) 0 (p .signatures 0 .parameters) (disciplined .owns))
+
+    holds : owned-cells p 0 (old ∷ (pos c ∷ [])) ++ held ≡ held ++ (c ∷ held)
     unfolding cell-of
-    holds = ap (λ (l : List ℕ). named-all l (old ∷ (pos c ∷ [])) ++ held) (disciplined .takes)
+    holds = ap (λ (l : List ℕ). l ++ held) owned
+        ∙ ap (λ (l : List ℕ). named-all l (old ∷ (pos c ∷ [])) ++ held) (disciplined .takes)
         ∙ append-assoc held (c ∷ []) held
 
     main-sound : Agree start (Returned start d (ready .store) [] held) (machine p 32 held 0 (old ∷ (pos c ∷ [])) ready)
@@ -163,7 +182,7 @@ module _ (p : Program) (disciplined : ProgramDisciplined p) (careful : Bool)
         (call-sound p disciplined start frugal 32 (λ _. 0) 0 (old ∷ (pos c ∷ [])) values [] held held
         ready meter (disciplined .some) (main-begins .together)
         (subst (λ (l : List ℕ). Arguments (ready .store) l (old ∷ (pos c ∷ [])) values) (sym (disciplined .takes))
-        (more totals-stand (more readings-stand none)))
+        (more totals-stand (more readings-stand none))) none-borrowed
         (subst (λ (l : List ℕ). Invariant (ready .store) [] l) (sym holds) (main-begins .invariant))
         (subst (λ (l : List ℕ). Room [] l (call-adds * 32)) (sym holds) room)
         (λ f r h. h))

@@ -3,10 +3,11 @@
 -- no hold outlives its name.
 -- A hold is a name in a list, once for each reference. What a line hands over or releases it spends. A name that is
 -- pending holds nothing yet, and may be retained by the very next line. A name that is lent holds nothing, but another
--- holds its cell meanwhile: it may be read and retained. A loop lends its array to its tree.
+-- holds its cell meanwhile: it may be read and retained. A loop lends its array to its tree, and a call lends the
+-- arguments that its function borrows.
 -- The holds after a line are computed from those before it, so that every rule is a test of the holds.
 use Prim.Native.Nat.{ℕ, zero, suc, _<_, _≤_}
-use mathlib.Core.Bool.{true, false, cond}
+use mathlib.Core.Bool.{Bool, true, false, cond, not}
 use mathlib.Core.Path.{_≡_}
 use mathlib.Core.List.{List, [], _∷_, _++_, map}
 use mathlib.Core.Option.{some}
@@ -15,7 +16,7 @@ use lib.ListN.{length, getD}
 use Rattle.semantics.specs.Basics.{with-if, occurrences, _∈_}
 use Rattle.semantics.specs.Kinds.{Leaf, operation, call, literal, index, length-of, iota, replicate, Loop, mapping}
 use Rattle.semantics.specs.Kinds.{filtering, reducing, first-part, leaf-hands, leaf-reads, loop-hands, loop-reads}
-use Rattle.semantics.specs.Kinds.{element-name, is-pending}
+use Rattle.semantics.specs.Kinds.{element-name, is-pending, Borrowing}
 use Rattle.semantics.specs.Names.{calls-none}
 use Rattle.semantics.specs.Types.{Signature, leaf-rule, loop-rule}
 use Rattle.semantics.specs.Code.{Atom, number, name, Line, leaf, if-else, loop, retain, release, Tree, end, line}
@@ -169,20 +170,6 @@ module _ (Γ : NameDepths) where
   abbrev pub leaf-waits : ℕ → Leaf → List ℕ
   leaf-waits x l = cond (is-pending l) (hold-of x) []
 
-  unfoldable mutual
-    -- the holds that a tree leaves
-    pub left-by : Tree → List ℕ → List ℕ
-    left-by (end a) H = less (handed (a ∷ [])) H
-    left-by (line l t) H = left-by t (holds-after l H)
-
-    -- the holds after a line
-    pub holds-after : Line → List ℕ → List ℕ
-    holds-after (leaf x l us) H = leaf-holds x l ++ less (handed (leaf-hands l us)) H
-    holds-after (if-else x g t e) H = hold-of x ++ left-by t H
-    holds-after (loop x k ps us t) H = hold-of x ++ less (handed (loop-hands k us)) H
-    holds-after (retain x) H = x ∷ H
-    holds-after (release x) H = less (x ∷ []) H
-
   -- the names that are pending after a line
   abbrev pub waits-after : Line → List ℕ
   waits-after (leaf x l us) = leaf-waits x l
@@ -208,23 +195,6 @@ module _ (Γ : NameDepths) where
   abbrev pub pass-holds : List ℕ → Loop → List ℕ → List Atom → List ℕ → List ℕ
   pass-holds B k ps us H = holds-of (carried-name k ps) ++ outer-holds B k us H
 
-  abbrev mutual
-    -- with the names B lent, from the holds H, with P pending, a tree hands over its result and leaves the holds Δ
-    pub Holding : List ℕ → Tree → List ℕ → List ℕ → List ℕ → Type 0
-    Holding B (end a) H P Δ = H ≈ handed (a ∷ []) ++ Δ
-    Holding B (line l t) H P Δ = LineHolding B l H P × Holding B t (holds-after l H) (waits-after l) Δ
-
-    pub LineHolding : List ℕ → Line → List ℕ → List ℕ → Type 0
-    LineHolding B (leaf x l us) H P =
-        (handed (leaf-hands l us) ⊑ H) × (handed (leaf-reads l us) ⊆ (B ++ less (handed (leaf-hands l us)) H))
-    LineHolding B (if-else x g t e) H P =
-        (left-by t H ⊆ H) × Holding B t H [] (left-by t H) × Holding B e H [] (left-by t H)
-    LineHolding B (loop x k ps us t) H P =
-        (handed (loop-hands k us) ⊑ H) × (handed (loop-reads k us) ⊆ (B ++ loop-holds k us H))
-        × Holding (pass-lent B k us) t (pass-holds B k ps us H) (holds-of (element-name k ps)) (outer-holds B k us H)
-    LineHolding B (retain x) H P = x ∈ (P ++ (B ++ H))
-    LineHolding B (release x) H P = x ∈ H
-
   -- ---- holds that are live
 
   -- every held name is an array in the set: so its cell is among `Machine.held`
@@ -232,6 +202,41 @@ module _ (Γ : NameDepths) where
     pub live : (n : ℕ) → n ∈ H → A n ≡ true
     pub below : (n : ℕ) → n ∈ H → n < 256
     pub array : (n : ℕ) → n ∈ H → is-array Γ n ≡ true
+
+-- over the places that are borrowed and the depths of a function's names
+module _ (β : Borrowing) (Γ : NameDepths) where
+  unfoldable mutual
+    -- the holds that a tree leaves
+    pub left-by : Tree → List ℕ → List ℕ
+    left-by (end a) H = less (handed Γ (a ∷ [])) H
+    left-by (line l t) H = left-by t (holds-after l H)
+
+    -- the holds after a line
+    pub holds-after : Line → List ℕ → List ℕ
+    holds-after (leaf x l us) H = leaf-holds Γ x l ++ less (handed Γ (leaf-hands β l us)) H
+    holds-after (if-else x g t e) H = hold-of Γ x ++ left-by t H
+    holds-after (loop x k ps us t) H = hold-of Γ x ++ less (handed Γ (loop-hands k us)) H
+    holds-after (retain x) H = x ∷ H
+    holds-after (release x) H = less (x ∷ []) H
+
+  abbrev mutual
+    -- with the names B lent, from the holds H, with P pending, a tree hands over its result and leaves the holds Δ
+    pub Holding : List ℕ → Tree → List ℕ → List ℕ → List ℕ → Type 0
+    Holding B (end a) H P Δ = H ≈ handed Γ (a ∷ []) ++ Δ
+    Holding B (line l t) H P Δ = LineHolding B l H P × Holding B t (holds-after l H) (waits-after Γ l) Δ
+
+    pub LineHolding : List ℕ → Line → List ℕ → List ℕ → Type 0
+    LineHolding B (leaf x l us) H P =
+        (handed Γ (leaf-hands β l us) ⊑ H)
+        × (handed Γ (leaf-reads β l us) ⊆ (B ++ less (handed Γ (leaf-hands β l us)) H))
+    LineHolding B (if-else x g t e) H P =
+        (left-by t H ⊆ H) × Holding B t H [] (left-by t H) × Holding B e H [] (left-by t H)
+    LineHolding B (loop x k ps us t) H P =
+        (handed Γ (loop-hands k us) ⊑ H) × (handed Γ (loop-reads k us) ⊆ (B ++ loop-holds Γ k us H))
+        × Holding (pass-lent Γ B k us) t (pass-holds Γ B k ps us H) (holds-of Γ (element-name k ps))
+        (outer-holds Γ B k us H)
+    LineHolding B (retain x) H P = x ∈ (P ++ (B ++ H))
+    LineHolding B (release x) H P = x ∈ H
 
   abbrev mutual
     -- wherever a tree may want a cell, what it holds is live; after the tree L is live
@@ -242,40 +247,50 @@ module _ (Γ : NameDepths) where
     -- a line, after which A is live: before it, and once it has handed over its atoms
     pub LineFrugal : List ℕ → Line → List ℕ → Set → Type 0
     LineFrugal B (leaf x l us) H A =
-        Covered H (among us (A ∖ x))
-        × Covered (less (handed (leaf-hands l us)) H) (among (leaf-reads l us) (A ∖ x))
+        Covered Γ H (among us (A ∖ x))
+        × Covered Γ (less (handed Γ (leaf-hands β l us)) H) (among (leaf-reads β l us) (A ∖ x))
     LineFrugal B (if-else x g t e) H A = Frugal B t H (after-branch x A) × Frugal B e H (after-branch x A)
     LineFrugal B (loop x k ps us t) H A =
-        Covered H (among us (after-pass x ps t A))
-        × Frugal (pass-lent B k us) t (pass-holds B k ps us H) (after-pass x ps t A)
+        Covered Γ H (among us (after-pass x ps t A))
+        × Frugal (pass-lent Γ B k us) t (pass-holds Γ B k ps us H) (after-pass x ps t A)
     LineFrugal B (retain x) H A = Unit {0}
     LineFrugal B (release x) H A = Unit {0}
 
 -- ---- a program
 
--- the holds of the parameters from name n on: one for each array
-unfoldable pub parameter-holds : List ℕ → ℕ → List ℕ
-parameter-holds [] n = []
-parameter-holds (zero ∷ ds) n = parameter-holds ds (suc n)
-parameter-holds (suc d ∷ ds) n = n ∷ parameter-holds ds (suc n)
+-- of the parameters from name n on the arrays at certain places
+unfoldable pub arrays-at : (ℕ → Bool) → List ℕ → ℕ → List ℕ
+arrays-at at [] n = []
+arrays-at at (zero ∷ ds) n = arrays-at at ds (suc n)
+arrays-at at (suc d ∷ ds) n = with-if (at n) n (arrays-at at ds (suc n))
+
+-- the array parameters of a function that borrows those at b: these are lent, the others hold one reference each
+abbrev pub lent-parameters : (ℕ → Bool) → List ℕ → List ℕ
+lent-parameters b ds = arrays-at b ds 0
+
+abbrev pub parameter-holds : (ℕ → Bool) → List ℕ → List ℕ
+parameter-holds b ds = arrays-at (λ i. not (b i)) ds 0
 
 -- so many parameters are known at the beginning
 abbrev pub parameter-names : List ℕ → Set
 parameter-names ds = λ x. ltb x (length ds)
 
--- A routine with these depths of its parameters and its result: from one hold for each array parameter to none.
-pub record RoutineDisciplined (p : Program) (r : Routine) (s : Signature) : Type 0 where
+-- A routine with these depths of its parameters and its result, which borrows the parameters at b: from one hold for
+-- each other array parameter to none.
+pub record RoutineDisciplined (p : Program) (b : ℕ → Bool) (r : Routine) (s : Signature) : Type 0 where
   pub parameters : (i : ℕ) → i < length (s .parameters) → r .depths i ≡ getD (s .parameters) i 0
   pub fits : Fitting p (r .depths) (r .tree) (s .result)
   pub scoped : Scoped (r .tree) (parameter-names (s .parameters))
-  pub holds : Holding (r .depths) [] (r .tree) (parameter-holds (s .parameters) 0) [] []
+  pub holds : Holding (p .borrowing) (r .depths) (lent-parameters b (s .parameters)) (r .tree)
+      (parameter-holds b (s .parameters)) [] []
 
 abbrev pub FunctionDisciplined : Program → ℕ → Type 0
-FunctionDisciplined p f = RoutineDisciplined p (routine-of p f) (p .signatures f)
+FunctionDisciplined p f = RoutineDisciplined p (p .borrowing f) (routine-of p f) (p .signatures f)
 
 -- what is asked of a routine for every taken cell to be in use where none is free
-abbrev pub RoutineFrugal : Routine → Signature → Type 0
-RoutineFrugal r s = Frugal (r .depths) [] (r .tree) (parameter-holds (s .parameters) 0) empty
+abbrev pub RoutineFrugal : Borrowing → (ℕ → Bool) → Routine → Signature → Type 0
+RoutineFrugal β b r s =
+    Frugal β (r .depths) (lent-parameters b (s .parameters)) (r .tree) (parameter-holds b (s .parameters)) empty
 
 abbrev pub FunctionFrugal : Program → ℕ → Type 0
-FunctionFrugal p f = RoutineFrugal (routine-of p f) (p .signatures f)
+FunctionFrugal p f = RoutineFrugal (p .borrowing) (p .borrowing f) (routine-of p f) (p .signatures f)

@@ -102,7 +102,8 @@ module _ (C : Setting) {x : ℕ} {k : Loop} {ps : List ℕ} {us : List Atom} {t 
         ((do
           Machine.step
           ws ← elements-of (word ρ a)
-          r ← work (C .callee) (C .depths) t (after-pass x ps t A) Q (updated ρ p (getD ws i (pos 0)))
+          r ← work (C .callee) (C .program .borrowing) (C .depths) t (after-pass x ps t A) Q
+              (updated ρ p (getD ws i (pos 0)))
           finish (getD ws i (pos 0)) r) s)
         ((do
           Meaning.step false

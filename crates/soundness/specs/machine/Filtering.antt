@@ -169,8 +169,8 @@ module _ (C : Setting) {x p : ℕ} {a : Atom} {t : Tree} {B : List ℕ} {T A : S
         (m : Meter) → i < length (items (value δ a)) →
         Carried C filter-fills Z F ρ δ (suc (tree-adds t)) n R σ i w s v m →
         Agree (C .start) (Carried C filter-fills Z F ρ δ (suc (tree-adds t)) n R σ (suc i))
-        (work-pass filtering d (λ vs. work (C .callee) (C .depths) t (after-pass x (p ∷ []) t A) R
-        (binding (p ∷ []) vs ρ)) array w i s)
+        (work-pass filtering d (λ vs. work (C .callee) (C .program .borrowing) (C .depths) t
+        (after-pass x (p ∷ []) t A) R (binding (p ∷ []) vs ρ)) array w i s)
         (do-pass filtering (λ vs. run (C .meant) t (Meaning.binding (p ∷ []) vs δ)) v
         (getD (items (value δ a)) i (num (pos 0))) m)
     unfolding work-pass do-pass

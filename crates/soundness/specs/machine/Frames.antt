@@ -1,11 +1,12 @@
 -- The names of a call: what they hold and stand for before and after a line or a tree.
 use Prim.Native.Nat.{ℕ, _+_, _≤_}
 use mathlib.Core.Path.{_≡_}
-use mathlib.Core.Bool.{true}
+use mathlib.Core.Bool.{Bool, true, not}
 use mathlib.Core.List.{List, [], _∷_, _++_, map}
 use lib.IntN.{ℤ}
 use Rattle.semantics.specs.Basics.{occurrences, _∈_}
 use Rattle.semantics.specs.Value.{Value, num}
+use Rattle.semantics.specs.Kinds.{Leaf, leaf-hands, picked}
 use Rattle.semantics.specs.Code.{Atom, Line}
 use Rattle.semantics.specs.Annotate.{NameDepths}
 use Rattle.semantics.specs.Meaning.{Meter, Env}
@@ -55,6 +56,10 @@ own C x = hold-of (C .depths) x
 abbrev pub given : Setting → List Atom → List ℕ
 given C us = handed (C .depths) us
 
+-- what a leaf hands over: of a call's arguments those that its function owns
+abbrev pub given-by : Setting → Leaf → List Atom → List ℕ
+given-by C l us = given C (leaf-hands (C .program .borrowing) l us)
+
 -- Before a line or a tree: the names H hold their cells, beside the references F of others, which are among the roots R
 -- if the code is frugal; the names B are lent and the names P pending; the words of the frame stand for the values; n
 -- references more may come.
@@ -79,12 +84,23 @@ pub record Returned (start : Start) (d : ℕ) (σ : Store) (Z F : List ℕ) (w :
   pub answered : Answered start d Z F w s v m
   pub keeps : Keeps σ (s .store) (Z ++ F)
 
--- what a call answers for: words of the depths ds, which hold their cells
+-- the cells that words of the depths ds name
 abbrev pub named-all : List ℕ → List ℤ → List ℕ
 named-all [] ws = []
 named-all (d ∷ ds) [] = []
 named-all (d ∷ ds) (w ∷ ws) = named-by d (w ∷ []) ++ named-all ds ws
 
+-- the cells of a call's words: those that hold a reference each, and those that are lent
+abbrev pub owned-cells : Program → ℕ → List ℤ → List ℕ
+owned-cells p f ws =
+    let owned : ℕ → Bool = λ i. not (p .borrowing f i) in
+    named-all (picked owned 0 (p .signatures f .parameters)) (picked owned 0 ws)
+
+abbrev pub borrowed-cells : Program → ℕ → List ℤ → List ℕ
+borrowed-cells p f ws =
+    named-all (picked (p .borrowing f) 0 (p .signatures f .parameters)) (picked (p .borrowing f) 0 ws)
+
+-- words that stand for values
 pub data Arguments (σ : Store) : List ℕ → List ℤ → List Value → Type 0 where
   none : Arguments σ [] [] []
   more : {d : ℕ} {w : ℤ} {v : Value} {ds : List ℕ} {ws : List ℤ} {vs : List Value} →
@@ -104,7 +120,8 @@ module _ (C : Setting) where
   pub record Going (l : Line) (σ : Store) (Z F R B H Δ : List ℕ) (ρ : Frame) (δ : Env) (n : ℕ) (ρ′ : Frame) (s : State)
       (δ′ : Env) (m : Meter) : Type 0 where
     pub together : Together (C .start) s m
-    pub situation : Situation C (s .store) Z F R B (holds-after (C .depths) l H) (waits-after (C .depths) l) ρ′ δ′ n
+    pub situation : Situation C (s .store) Z F R B (holds-after (C .program .borrowing) (C .depths) l H)
+        (waits-after (C .depths) l) ρ′ δ′ n
     pub keeps : Keeps σ (s .store) (Z ++ F)
     pub words : (y : ℕ) → y ∈ Δ → ρ′ y ≡ ρ y
     pub values : (y : ℕ) → y ∈ Δ → δ′ y ≡ δ y

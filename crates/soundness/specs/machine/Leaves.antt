@@ -9,7 +9,7 @@ use Rattle.laws.specs.Updates.{updated-there}
 use Rattle.semantics.specs.Basics.{updated}
 use Rattle.semantics.specs.Outcome.{done}
 use Rattle.semantics.specs.Value.{Value}
-use Rattle.semantics.specs.Kinds.{Leaf, leaf-hands, is-pending}
+use Rattle.semantics.specs.Kinds.{Leaf, is-pending}
 use Rattle.semantics.specs.Code.{Atom, leaf}
 use Rattle.semantics.specs.Meaning.{Meter, Env}
 use Rattle.semantics.specs.Machine.{State, Frame, work-line}
@@ -24,7 +24,7 @@ use Rattle.soundness.specs.machine.Spending.{spend-split, less-in, less-
 use Rattle.soundness.specs.machine.Images.{apart}
 use Rattle.soundness.specs.machine.Growth.{give-grows}
 use Rattle.soundness.specs.machine.Agreement.{both, agree-after, agree-bind}
-use Rattle.soundness.specs.machine.Frames.{hold, Setting, Situation, Going, given, own}
+use Rattle.soundness.specs.machine.Frames.{hold, Setting, Situation, Going, given-by, own}
 use Rattle.soundness.specs.machine.Situations.{situation-less, room-given, room-spent, room-less}
 use Rattle.soundness.specs.machine.Standing.{none-in}
 use Rattle.soundness.specs.machine.Binding.{pending-situation, returned-ended, name-bound}
@@ -35,7 +35,7 @@ use Rattle.soundness.specs.machine.Claims.{LeafClaim, LineClaim, Gave, h
 module _ (C : Setting) where
   module _ (x : ℕ) (l : Leaf) (us : List Atom) (B H P Δ : List ℕ) where
     abbrev H′ : List ℕ
-    H′ = less (given C (leaf-hands l us)) H
+    H′ = less (given-by C l us) H
 
     holding : is-pending l ≡ false → leaf-holds (C .depths) x l ≡ own C x
     holding e = ap (λ (b : Bool). cond b [] (own C x)) e
@@ -48,23 +48,23 @@ module _ (C : Setting) where
     left-over {Z = Z} {F} {ρ = ρ} {n = n} S inv = record {
       invariant = inv;
       numbers = S .numbers;
-      arrays = λ y h. S .arrays y (less-in (given C (leaf-hands l us)) H y h);
+      arrays = λ y h. S .arrays y (less-in (given-by C l us) H y h);
       pending = λ y h. absurd (none-in y h);
       lent = S .lent;
-      room = room-spent ρ (given C (leaf-hands l us)) H F (room-less n (S .room) (omega arith));
+      room = room-spent ρ (given-by C l us) H F (room-less n (S .room) (omega arith));
       rooted = S .rooted;
     }
 
     -- a line whose leaf gave a word, in whatever way
     pub leaf-going : {σ : Store} {Z F R : List ℕ} {ρ : Frame} {δ : Env} {n : ℕ} {w : ℤ} {s : State} {v : Value}
-        {m : Meter} → H ≈ given C (leaf-hands l us) ++ H′ → Fresh x B H′ Δ → Situation C σ Z F R B H P ρ δ (suc n) →
+        {m : Meter} → H ≈ given-by C l us ++ H′ → Fresh x B H′ Δ → Situation C σ Z F R B H P ρ δ (suc n) →
         Gave C l x σ Z (hold ρ H′ ++ F) w s v m →
         Going C (leaf x l us) σ Z F R B H Δ ρ δ n (updated ρ x w) s (updated δ x v) m
     unfolding holds-after
     leaf-going {F = F} {ρ = ρ} {n = n} {w} {s} {v} {m} split new S (holds now q) =
         name-bound C (leaf x l us) H′ (ap (λ (q : List ℕ). q ++ H′) (holding now)) (not-waiting now) new S
-        (returned-ended C (λ y h. S .arrays y (less-in (given C (leaf-hands l us)) H y h))
-        (room-given ρ H (given C (leaf-hands l us)) H′ F (C .depths x) w split (S .room)) q)
+        (returned-ended C (λ y h. S .arrays y (less-in (given-by C l us) H y h))
+        (room-given ρ H (given-by C l us) H′ F (C .depths x) w split (S .room)) q)
     leaf-going {σ} {Z} {F} {R} {ρ} {δ} {n} {w} {s} {v} {m} split new S (waits later same t inv stands named) = record {
       together = t;
       situation = subst (λ (τ : Store). Situation C τ Z F R B (leaf-holds (C .depths) x l ++ H′)
@@ -84,13 +84,13 @@ module _ (C : Setting) where
       agree-after _ (λ w s′. done (updated ρ x w) s′) (Machine.step s)
       (agree-bind (claim x us A B H P (rules .fits) (rules .holds) (rules .frugal) Z F R ρ δ n s m t S need)
       (λ v. give-grows _)
-      (λ w s′ v m′ q. both (leaf-going x l us B H P Δ (spend-split (given C (leaf-hands l us)) H (rules .holds .0)) new
+      (λ w s′ v m′ q. both (leaf-going x l us B H P Δ (spend-split (given-by C l us) H (rules .holds .0)) new
       (situation-less (suc n) S (omega arith)) q)))
     where
-      new : Fresh x B (less (given C (leaf-hands l us)) H) Δ
+      new : Fresh x B (less (given-by C l us) H) Δ
       new = record {
         lent = names .lent;
-        before = omega (arith, names .before, less-counts (given C (leaf-hands l us)) H x);
+        before = omega (arith, names .before, less-counts (given-by C l us) H x);
         after = names .after;
       }
         where

@@ -60,7 +60,7 @@ module _ (C : Setting) {x p : ℕ} {a : Atom} {t : Tree} {B : List ℕ} {T A : S
       (w : ℤ) (v : Value) (s : State) (m : Meter) → i < length (items (value δ a)) →
       Carried C map-fills Z F ρ δ (tree-adds t) n R σ i w s v m →
       Agree (C .start) (Carried C map-fills Z F ρ δ (tree-adds t) n R σ (suc i))
-      (work-pass mapping d (λ vs. work (C .callee) (C .depths) t (after-pass x (p ∷ []) t A) R
+      (work-pass mapping d (λ vs. work (C .callee) (C .program .borrowing) (C .depths) t (after-pass x (p ∷ []) t A) R
       (binding (p ∷ []) vs ρ)) (word ρ a) w i s)
       (do-pass mapping (λ vs. run (C .meant) t (Meaning.binding (p ∷ []) vs δ)) v
       (getD (items (value δ a)) i (num (pos 0))) m)

@@ -4,19 +4,22 @@ use native.Mathlib.Omega.{arith}
 use native.Mathlib.Decide.{ℕ-discrete, decLt}
 use mathlib.Core.Path.{_≡_, refl, sym, ap, ap₂, _∙_, subst}
 use mathlib.Core.Logic.{inl, inr}
+use mathlib.Core.Bool.{Bool, true, false}
 use mathlib.Core.List.{List, [], _∷_}
 use lib.IntN.{ℤ, pos}
 use lib.ListN.{length, getD, List·getD-eq-default}
 use Rattle.laws.specs.Updates.{updated-same, updated-there}
-use Rattle.semantics.specs.Basics.{occurrences, _∈_, updated}
+use Rattle.semantics.specs.Basics.{occurrences, _∈_, updated, with-if}
 use Rattle.semantics.specs.Value.{Value, num}
+use Rattle.semantics.specs.Kinds.{picked}
 use Rattle.semantics.specs.Machine.{frame-from}
 use Rattle.semantics.specs.Store.{Store, cell-of}
+use Rattle.laws.specs.Lists.{_⊆_}
 use Rattle.soundness.specs.normal.Plain.{values-from}
 use Rattle.soundness.specs.store.Invariant.{StandsFor}
-use Rattle.soundness.specs.machine.Discipline.{parameter-holds}
-use Rattle.soundness.specs.machine.Images.{first-or-later}
-use Rattle.soundness.specs.machine.Frames.{hold, named-all, Arguments, none, more}
+use Rattle.soundness.specs.machine.Discipline.{arrays-at}
+use Rattle.soundness.specs.machine.Images.{first-or-later, image-in}
+use Rattle.soundness.specs.machine.Frames.{hold, named-all, Arguments, none, more, Lent}
 use Rattle.soundness.specs.machine.Standing.{none-in, number-stands, stands-number, hold-updated}
 
 -- the depths of the parameters from name n on
@@ -51,33 +54,56 @@ names-stand (more {d} {w} {v} {ds} {ws} {vs} s rest) n y = elim (ℕ-discrete y 
   ) (names-stand rest (suc n) y)
 ]
 
--- ---- the holds
+-- ---- the arrays at certain places
 
-pub held-range : (ds : List ℕ) (n y : ℕ) → y ∈ parameter-holds ds n → (n ≤ y) × (y < n + length ds)
-unfolding parameter-holds
-held-range [] n y h = absurd (none-in y h)
-held-range (zero ∷ ds) n y h = let q = held-range ds (suc n) y h in (omega (arith, q), omega (arith, q))
-held-range (suc d ∷ ds) n y h = elim (first-or-later y n (parameter-holds ds (suc n)) h) [
-  | inl e ↦ (omega (arith, e), omega (arith, e))
-  | inr g ↦ let q = held-range ds (suc n) y g in (omega (arith, q), omega (arith, q))
-]
+module _ (at : ℕ → Bool) where
+  pub arrays-range : (ds : List ℕ) (n y : ℕ) → y ∈ arrays-at at ds n → (n ≤ y) × (y < n + length ds)
+  unfolding arrays-at
+  arrays-range [] n y h = absurd (none-in y h)
+  arrays-range (zero ∷ ds) n y h = let q = arrays-range ds (suc n) y h in (omega (arith, q), omega (arith, q))
+  arrays-range (suc d ∷ ds) n y h = go (at n) h (arrays-range ds (suc n) y)
+    where
+      go : (b : Bool) → y ∈ with-if b n (arrays-at at ds (suc n)) →
+          (y ∈ arrays-at at ds (suc n) → (suc n ≤ y) × (y < suc n + length ds)) →
+          (n ≤ y) × (y < n + suc (length ds))
+      go true h later = elim (first-or-later y n (arrays-at at ds (suc n)) h) [
+        | inl e ↦ (omega (arith, e), omega (arith, e))
+        | inr g ↦ let q = later g in (omega (arith, q), omega (arith, q))
+      ]
+      go false h later = let q = later h in (omega (arith, q), omega (arith, q))
 
-not-held : (ds : List ℕ) (n : ℕ) → occurrences n (parameter-holds ds (suc n)) ≡ 0
-not-held ds n = elim (decLt 0 (occurrences n (parameter-holds ds (suc n)))) [
-  | yes h ↦ absurd (omega (arith, held-range ds (suc n) n h))
-  | no f ↦ omega arith
-]
+  not-later : (ds : List ℕ) (n : ℕ) → occurrences n (arrays-at at ds (suc n)) ≡ 0
+  not-later ds n = elim (decLt 0 (occurrences n (arrays-at at ds (suc n)))) [
+    | yes h ↦ absurd (omega (arith, arrays-range ds (suc n) n h))
+    | no f ↦ omega arith
+  ]
 
-pub parameters-hold : {σ : Store} {ds : List ℕ} {ws : List ℤ} {vs : List Value} → Arguments σ ds ws vs → (n : ℕ) →
-    hold (frame-from ws n) (parameter-holds ds n) ≡ named-all ds ws
-unfolding parameter-holds frame-from
-parameters-hold none n = refl
-parameters-hold (more {d = zero} {w} {v} {ds} {ws} s rest) n =
-    hold-updated (frame-from ws (suc n)) n w (parameter-holds ds (suc n)) (not-held ds n) ∙ parameters-hold rest (suc n)
-parameters-hold (more {d = suc d} {w} {v} {ds} {ws} s rest) n =
-    ap₂ {C = List ℕ} (λ (z : ℤ) (l : List ℕ). cell-of z ∷ l) (updated-same (frame-from ws (suc n)) n w)
-    (hold-updated (frame-from ws (suc n)) n w (parameter-holds ds (suc n)) (not-held ds n) ∙ parameters-hold rest
-    (suc n))
+  -- their cells are those of the words there
+  pub parameters-hold : {σ : Store} {ds : List ℕ} {ws : List ℤ} {vs : List Value} → Arguments σ ds ws vs → (n : ℕ) →
+      hold (frame-from ws n) (arrays-at at ds n) ≡ named-all (picked at n ds) (picked at n ws)
+  unfolding arrays-at frame-from
+  parameters-hold none n = refl
+  parameters-hold (more {d = zero} {w} {v} {ds} {ws} s rest) n = go (at n)
+      (hold-updated (frame-from ws (suc n)) n w (arrays-at at ds (suc n)) (not-later ds n)
+      ∙ parameters-hold rest (suc n))
+    where
+      go : (b : Bool) → hold (updated (frame-from ws (suc n)) n w) (arrays-at at ds (suc n))
+          ≡ named-all (picked at (suc n) ds) (picked at (suc n) ws) →
+          hold (updated (frame-from ws (suc n)) n w) (arrays-at at ds (suc n))
+          ≡ named-all (with-if b 0 (picked at (suc n) ds)) (with-if b w (picked at (suc n) ws))
+      go true e = e
+      go false e = e
+  parameters-hold (more {d = suc d} {w} {v} {ds} {ws} s rest) n = go (at n)
+      (hold-updated (frame-from ws (suc n)) n w (arrays-at at ds (suc n)) (not-later ds n)
+      ∙ parameters-hold rest (suc n))
+    where
+      go : (b : Bool) → hold (updated (frame-from ws (suc n)) n w) (arrays-at at ds (suc n))
+          ≡ named-all (picked at (suc n) ds) (picked at (suc n) ws) →
+          hold (updated (frame-from ws (suc n)) n w) (with-if b n (arrays-at at ds (suc n)))
+          ≡ named-all (with-if b (suc d) (picked at (suc n) ds)) (with-if b w (picked at (suc n) ws))
+      go true e = ap₂ {C = List ℕ} (λ (z : ℤ) (l : List ℕ). cell-of z ∷ l)
+          (updated-same (frame-from ws (suc n)) n w) e
+      go false e = e
 
 -- ---- under the depths of the function's names
 
@@ -90,8 +116,18 @@ module _ {σ : Store} {ds : List ℕ} {ws : List ℤ} {vs : List Value} (args : 
   below-stand y h = subst (λ (d : ℕ). StandsFor σ d (frame-from ws 0 y) (values-from vs 0 y))
       (depth-of y ∙ sym (depths y h)) (names-stand args 0 y)
 
-  pub parameter-arrays : (y : ℕ) → y ∈ parameter-holds ds 0 → StandsFor σ (Γ y) (frame-from ws 0 y) (values-from vs 0 y)
-  parameter-arrays y h = below-stand y (omega (arith, held-range ds 0 y h))
+  pub parameter-arrays : (at : ℕ → Bool) (y : ℕ) → y ∈ arrays-at at ds 0 →
+      StandsFor σ (Γ y) (frame-from ws 0 y) (values-from vs 0 y)
+  parameter-arrays at y h = below-stand y (omega (arith, arrays-range at ds 0 y h))
+
+  -- the arrays at places whose cells others keep
+  pub parameters-lent : (at : ℕ → Bool) (F : List ℕ) → named-all (picked at 0 ds) (picked at 0 ws) ⊆ F → (y : ℕ) →
+      y ∈ arrays-at at ds 0 → Lent σ F (Γ y) (frame-from ws 0 y) (values-from vs 0 y)
+  parameters-lent at F kept y h = record {
+    stands = parameter-arrays at y h;
+    kept = kept (cell-of (frame-from ws 0 y)) (subst (λ (l : List ℕ). cell-of (frame-from ws 0 y) ∈ l)
+        (parameters-hold at args 0) (image-in (λ x. cell-of (frame-from ws 0 x)) y (arrays-at at ds 0) h));
+  }
 
   pub parameter-numbers : (y : ℕ) → Γ y ≡ 0 → num (frame-from ws 0 y) ≡ values-from vs 0 y
   parameter-numbers y e = stands-number zero-depth (names-stand args 0 y)

@@ -205,8 +205,8 @@ module _ (C : Setting) {x q p : ℕ} {b a : Atom} {t : Tree} {B : List ℕ} {T A
 
     reduce-pass : CalleeGrows (C .meant) → TreeClaim C t → C .need ≤ n → (i : ℕ) (w : ℤ) (v : Value) (s : State)
         (m : Meter) → i < length (items (value δ a)) → Carried w s v m → Agree (C .start) Carried
-        (work-pass reducing (pred (C .depths x)) (λ vs. work (C .callee) (C .depths) t after (roots ++ [])
-        (binding (q ∷ (p ∷ [])) vs ρ)) (word ρ a) w i s)
+        (work-pass reducing (pred (C .depths x)) (λ vs. work (C .callee) (C .program .borrowing) (C .depths) t after
+        (roots ++ []) (binding (q ∷ (p ∷ [])) vs ρ)) (word ρ a) w i s)
         (do-pass reducing (λ vs. run (C .meant) t (Meaning.binding (q ∷ (p ∷ [])) vs δ)) v
         (getD (items (value δ a)) i (num (pos 0))) m)
     unfolding work-pass do-pass onward require

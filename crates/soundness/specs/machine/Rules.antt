@@ -66,16 +66,16 @@ module _ (C : Setting) where
     pub fits : Fitting (C .program) (C .depths) t d
     pub scoped : Scoped t S
     pub names : Names S B H Δ
-    pub holds : Holding (C .depths) B t H P Δ
-    pub frugal : C .start .frugal ≡ true → Frugal (C .depths) B t H L
+    pub holds : Holding (C .program .borrowing) (C .depths) B t H P Δ
+    pub frugal : C .start .frugal ≡ true → Frugal (C .program .borrowing) (C .depths) B t H L
 
   -- a line of such a tree, after which A is live
   pub record LineRules (l : Line) (B : List ℕ) (S A : Set) (H P Δ : List ℕ) : Type 0 where
     pub fits : LineFitting (C .program) (C .depths) l
     pub scoped : LineScoped l S
     pub names : Names S B H Δ
-    pub holds : LineHolding (C .depths) B l H P
-    pub frugal : C .start .frugal ≡ true → LineFrugal (C .depths) B l H A
+    pub holds : LineHolding (C .program .borrowing) (C .depths) B l H P
+    pub frugal : C .start .frugal ≡ true → LineFrugal (C .program .borrowing) (C .depths) B l H A
 
   pub line-rules : {l : Line} {t : Tree} {B : List ℕ} {S L : Set} {H P Δ : List ℕ} {d : ℕ} →
       TreeRules (line l t) B S L H P Δ d → LineRules l B S (live t L) H P Δ
@@ -110,13 +110,13 @@ module _ (C : Setting) where
   leaf-known S x false l f n h = bound-known S x l f n h
 
   after-known : {B : List ℕ} {S A : Set} {P Δ : List ℕ} (l : Line) (H : List ℕ) → LineRules l B S A H P Δ →
-      (n : ℕ) → n ∈ holds-after (C .depths) l H → known-after l S n ≡ true
+      (n : ℕ) → n ∈ holds-after (C .program .borrowing) (C .depths) l H → known-after l S n ≡ true
   unfolding holds-after
   after-known {S = S} (leaf x l us) H r =
-      leaf-known S x (is-pending l) (less (handed (C .depths) (leaf-hands l us)) H)
-      (λ n h. r .names .held n (less-in (handed (C .depths) (leaf-hands l us)) H n h))
+      leaf-known S x (is-pending l) (less (handed (C .depths) (leaf-hands (C .program .borrowing) l us)) H)
+      (λ n h. r .names .held n (less-in (handed (C .depths) (leaf-hands (C .program .borrowing) l us)) H n h))
   after-known {S = S} (if-else x g t e) H r =
-      bound-known S x (left-by (C .depths) t H) (λ n h. r .names .held n (r .holds .0 n h))
+      bound-known S x (left-by (C .program .borrowing) (C .depths) t H) (λ n h. r .names .held n (r .holds .0 n h))
   after-known {S = S} (loop x k ps us t) H r =
       bound-known S x (loop-holds (C .depths) k us H)
       (λ n h. r .names .held n (less-in (handed (C .depths) (loop-hands k us)) H n h))
@@ -136,7 +136,8 @@ module _ (C : Setting) where
   -- the rest of a tree
   pub rest-rules : {t : Tree} {B : List ℕ} {S L : Set} {H P Δ : List ℕ} {d : ℕ} (l : Line) →
       TreeRules (line l t) B S L H P Δ d →
-      TreeRules t B (known-after l S) L (holds-after (C .depths) l H) (waits-after (C .depths) l) Δ d
+      TreeRules t B (known-after l S) L (holds-after (C .program .borrowing) (C .depths) l H)
+      (waits-after (C .depths) l) Δ d
   rest-rules {S = S} {H = H} l r = record {
     fits = r .fits .1;
     scoped = r .scoped .1;
@@ -153,14 +154,15 @@ module _ (C : Setting) where
 
   module _ {x : ℕ} {g : Atom} {t e : Tree} {B : List ℕ} {S A : Set} {H P Δ : List ℕ}
       (r : LineRules (if-else x g t e) B S A H P Δ) where
-    kept-names : Names S B H (left-by (C .depths) t H)
+    kept-names : Names S B H (left-by (C .program .borrowing) (C .depths) t H)
     kept-names = record {
       lent = r .names .lent;
       held = r .names .held;
       left = λ n h. r .names .held n (r .holds .0 n h);
     }
 
-    pub then-rules : TreeRules t B S (after-branch x A) H [] (left-by (C .depths) t H) (C .depths x)
+    pub then-rules : TreeRules t B S (after-branch x A) H [] (left-by (C .program .borrowing) (C .depths) t H)
+        (C .depths x)
     then-rules = record {
       fits = r .fits .1;
       scoped = r .scoped .2;
@@ -169,7 +171,8 @@ module _ (C : Setting) where
       frugal = λ f. r .frugal f .0;
     }
 
-    pub else-rules : TreeRules e B S (after-branch x A) H [] (left-by (C .depths) t H) (C .depths x)
+    pub else-rules : TreeRules e B S (after-branch x A) H [] (left-by (C .program .borrowing) (C .depths) t H)
+        (C .depths x)
     else-rules = record {
       fits = r .fits .2;
       scoped = r .scoped .3;
@@ -178,10 +181,10 @@ module _ (C : Setting) where
       frugal = λ f. r .frugal f .1;
     }
 
-    pub if-fresh : Fresh x B (left-by (C .depths) t H) Δ
+    pub if-fresh : Fresh x B (left-by (C .program .borrowing) (C .depths) t H) Δ
     if-fresh = record {
       lent = names .lent;
-      before = unknown-none S x (left-by (C .depths) t H) (r .scoped .1 .unknown)
+      before = unknown-none S x (left-by (C .program .borrowing) (C .depths) t H) (r .scoped .1 .unknown)
           (λ n h. r .names .held n (r .holds .0 n h));
       after = names .after;
     }

@@ -9,7 +9,7 @@ use mathlib.Core.List.{List, [], _∷_, _++_}
 use lib.Dec.{eqb}
 use borrow.Author.Tests.{eq-eqb, ne-eqb}
 use Rattle.semantics.specs.Basics.{occurrences, _∈_, with-if}
-use Rattle.semantics.specs.Kinds.{leaf-hands, leaf-reads, loop-hands, loop-reads, element-name}
+use Rattle.semantics.specs.Kinds.{Borrowing, leaf-hands, leaf-reads, loop-hands, loop-reads, element-name}
 use Rattle.semantics.specs.Code.{Line, leaf, if-else, loop, retain, release, Tree, end, line}
 use Rattle.semantics.specs.Live.{Set, live}
 use Rattle.semantics.specs.Annotate.{NameDepths}
@@ -128,21 +128,21 @@ covers-same H I h c = record {
   array = λ n g. c .array n (omega (arith, g, h n));
 }
 
-module _ (Γ : NameDepths) where
+module _ (β : Borrowing) (Γ : NameDepths) where
   mutual
     unfolding left-by
 
-    pub left-by-same : (t : Tree) (H I : List ℕ) → H ≈ I → left-by Γ t H ≈ left-by Γ t I
+    pub left-by-same : (t : Tree) (H I : List ℕ) → H ≈ I → left-by β Γ t H ≈ left-by β Γ t I
     left-by-same (end a) H I h = less-same (handed Γ (a ∷ [])) H I h
     left-by-same (line l t) H I h =
-        left-by-same t (holds-after Γ l H) (holds-after Γ l I) (holds-after-same l H I h)
+        left-by-same t (holds-after β Γ l H) (holds-after β Γ l I) (holds-after-same l H I h)
 
-    pub holds-after-same : (l : Line) (H I : List ℕ) → H ≈ I → holds-after Γ l H ≈ holds-after Γ l I
+    pub holds-after-same : (l : Line) (H I : List ℕ) → H ≈ I → holds-after β Γ l H ≈ holds-after β Γ l I
     holds-after-same (leaf x l us) H I h =
-        same-append (leaf-holds Γ x l) (less (handed Γ (leaf-hands l us)) H) (less (handed Γ (leaf-hands l us)) I)
-        (less-same (handed Γ (leaf-hands l us)) H I h)
+        same-append (leaf-holds Γ x l) (less (handed Γ (leaf-hands β l us)) H) (less (handed Γ (leaf-hands β l us)) I)
+        (less-same (handed Γ (leaf-hands β l us)) H I h)
     holds-after-same (if-else x g t e) H I h =
-        same-append (hold-of Γ x) (left-by Γ t H) (left-by Γ t I) (left-by-same t H I h)
+        same-append (hold-of Γ x) (left-by β Γ t H) (left-by β Γ t I) (left-by-same t H I h)
     holds-after-same (loop x k ps us t) H I h =
         same-append (hold-of Γ x) (loop-holds Γ k us H) (loop-holds Γ k us I)
         (less-same (handed Γ (loop-hands k us)) H I h)
@@ -153,33 +153,33 @@ module _ (Γ : NameDepths) where
   outer-same l m H I h = less-same l (less m H) (less m I) (less-same m H I h)
 
   -- a tree leaves the holds that it is said to leave
-  pub holding-left : (B : List ℕ) (t : Tree) (H P Δ : List ℕ) → Holding Γ B t H P Δ → left-by Γ t H ≈ Δ
+  pub holding-left : (B : List ℕ) (t : Tree) (H P Δ : List ℕ) → Holding β Γ B t H P Δ → left-by β Γ t H ≈ Δ
   unfolding left-by
   holding-left B (end a) H P Δ h = less-is (handed Γ (a ∷ [])) H Δ h
-  holding-left B (line l t) H P Δ h = holding-left B t (holds-after Γ l H) (waits-after Γ l) Δ (h .1)
+  holding-left B (line l t) H P Δ h = holding-left B t (holds-after β Γ l H) (waits-after Γ l) Δ (h .1)
 
   mutual
-    pub holding-same : (B : List ℕ) (t : Tree) (H I P Δ E : List ℕ) → H ≈ I → Δ ≈ E → Holding Γ B t H P Δ →
-        Holding Γ B t I P E
+    pub holding-same : (B : List ℕ) (t : Tree) (H I P Δ E : List ℕ) → H ≈ I → Δ ≈ E → Holding β Γ B t H P Δ →
+        Holding β Γ B t I P E
     holding-same B (end a) H I P Δ E h d q =
         λ n. sym (h n) ∙ q n ∙ same-append (handed Γ (a ∷ [])) Δ E d n
     holding-same B (line l t) H I P Δ E h d q = (
       line-holding-same B l H I P h (q .0),
-      holding-same B t (holds-after Γ l H) (holds-after Γ l I) (waits-after Γ l) Δ E (holds-after-same l H I h) d
+      holding-same B t (holds-after β Γ l H) (holds-after β Γ l I) (waits-after Γ l) Δ E (holds-after-same l H I h) d
           (q .1),
     )
 
-    pub line-holding-same : (B : List ℕ) (l : Line) (H I P : List ℕ) → H ≈ I → LineHolding Γ B l H P →
-        LineHolding Γ B l I P
+    pub line-holding-same : (B : List ℕ) (l : Line) (H I P : List ℕ) → H ≈ I → LineHolding β Γ B l H P →
+        LineHolding β Γ B l I P
     line-holding-same B (leaf x l us) H I P h q = (
       λ n. omega (arith, h n, q .0 n),
-      reads-same B (handed Γ (leaf-hands l us)) (handed Γ (leaf-reads l us)) H I h (q .1),
+      reads-same B (handed Γ (leaf-hands β l us)) (handed Γ (leaf-reads β l us)) H I h (q .1),
     )
     line-holding-same B (if-else x g t e) H I P h q =
         let left = left-by-same t H I h in (
           λ n k. omega (arith, h n, left n, q .0 n (omega (arith, left n, k))),
-          holding-same B t H I [] (left-by Γ t H) (left-by Γ t I) h left (q .1),
-          holding-same B e H I [] (left-by Γ t H) (left-by Γ t I) h left (q .2),
+          holding-same B t H I [] (left-by β Γ t H) (left-by β Γ t I) h left (q .1),
+          holding-same B e H I [] (left-by β Γ t H) (left-by β Γ t I) h left (q .2),
         )
     line-holding-same B (loop x k ps us t) H I P h q =
         let outer = outer-same (aside Γ B k us) (handed Γ (loop-hands k us)) H I h in (
@@ -195,19 +195,19 @@ module _ (Γ : NameDepths) where
     line-holding-same B (release x) H I P h q = omega (arith, h x, q)
 
   mutual
-    pub frugal-same : (B : List ℕ) (t : Tree) (H I : List ℕ) (L : Set) → H ≈ I → Frugal Γ B t H L → Frugal Γ B t I L
+    pub frugal-same : (B : List ℕ) (t : Tree) (H I : List ℕ) (L : Set) → H ≈ I → Frugal β Γ B t H L → Frugal β Γ B t I L
     frugal-same B (end a) H I L h q = tt
     frugal-same B (line l t) H I L h q = (
       line-frugal-same B l H I (live t L) h (q .0),
-      frugal-same B t (holds-after Γ l H) (holds-after Γ l I) L (holds-after-same l H I h) (q .1),
+      frugal-same B t (holds-after β Γ l H) (holds-after β Γ l I) L (holds-after-same l H I h) (q .1),
     )
 
-    pub line-frugal-same : (B : List ℕ) (l : Line) (H I : List ℕ) (A : Set) → H ≈ I → LineFrugal Γ B l H A →
-        LineFrugal Γ B l I A
+    pub line-frugal-same : (B : List ℕ) (l : Line) (H I : List ℕ) (A : Set) → H ≈ I → LineFrugal β Γ B l H A →
+        LineFrugal β Γ B l I A
     line-frugal-same B (leaf x l us) H I A h q = (
       covers-same H I h (q .0),
-      covers-same (less (handed Γ (leaf-hands l us)) H) (less (handed Γ (leaf-hands l us)) I)
-          (less-same (handed Γ (leaf-hands l us)) H I h) (q .1),
+      covers-same (less (handed Γ (leaf-hands β l us)) H) (less (handed Γ (leaf-hands β l us)) I)
+          (less-same (handed Γ (leaf-hands β l us)) H I h) (q .1),
     )
     line-frugal-same B (if-else x g t e) H I A h q = (
       frugal-same B t H I _ h (q .0),

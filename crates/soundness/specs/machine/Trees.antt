@@ -68,8 +68,8 @@ module _ (C : Setting) where
         (omega arith))
         (λ δ′. tree-grows (C .meant) grows t δ′)
         (λ ρ′ s′ δ′ m′ g. agree-map (λ w s″ v m″ e. ended-back C (g .words) (g .values) (g .keeps) e)
-        (rest B (known-after l T) L (holds-after (C .depths) l H) (waits-after (C .depths) l) Δ d (rest-rules C l rules)
-        Z F R ρ′ δ′ n s′ m′ (g .together) (g .situation) need))
+        (rest B (known-after l T) L (holds-after (C .program .borrowing) (C .depths) l H)
+        (waits-after (C .depths) l) Δ d (rest-rules C l rules) Z F R ρ′ δ′ n s′ m′ (g .together) (g .situation) need))
 
     line-loop : (x : ℕ) (k : Loop) (ps : List ℕ) (us : List Atom) (t : Tree) → TreeClaim C t →
         LineClaim C (loop x k ps us t)

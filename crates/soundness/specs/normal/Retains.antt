@@ -10,12 +10,13 @@ use Rattle.semantics.specs.Outcome.{_>>=_, give, onward}
 use Rattle.semantics.specs.Value.{Value}
 use Rattle.semantics.specs.Syntax.{Function, Script}
 use Rattle.semantics.specs.Meaning.{Work, Callee, Env, do-if, do-loop, binding}
-use Rattle.semantics.specs.Kinds.{element-name, loop-reads, loop-hands, leaf-reads, leaf-hands, is-pending}
+use Rattle.semantics.specs.Kinds.{Borrowing, element-name, loop-reads, loop-hands, leaf-reads, leaf-hands, is-pending}
 use Rattle.semantics.specs.Code.{Line, leaf, if-else, loop, retain, release, Tree, end, line, retain-all, release-all}
 use Rattle.semantics.specs.Normal.{normal-body}
 use Rattle.semantics.specs.Live.{Set, empty, _∪_, _∖_, _∖∖_, only, just, among, live, uses, after-branch, after-pass}
 use Rattle.semantics.specs.Annotate.{NameDepths, is-array, arrays, dying, handed-again, annotate, annotate-line}
-use Rattle.semantics.specs.Annotate.{depths-of, annotated-body}
+use Rattle.semantics.specs.Annotate.{owned-depths, annotated-body}
+use Rattle.semantics.specs.Borrow.{Table, borrows}
 use Rattle.soundness.specs.normal.Plain.{value, run, run-line}
 
 module _ (callee : Callee) where
@@ -36,35 +37,35 @@ module _ (callee : Callee) where
   run-after : (l : Line) {f f′ : Env → Work Value} → f ≡ f′ → after-line l f ≡ after-line l f′
   run-after l e = ap (after-line l) e
 
-  module _ (Γ : NameDepths) where
+  module _ (B : Borrowing) (Γ : NameDepths) where
     mutual
       unfolding annotate run onward
 
-      pub run-annotate : (t : Tree) (L : Set) → run callee (annotate Γ t L) ≡ run callee t
+      pub run-annotate : (t : Tree) (L : Set) → run callee (annotate B Γ t L) ≡ run callee t
       run-annotate (end a) L = run-retain-all (handed-again Γ (a ∷ []) L) (end a)
-      run-annotate (line l t) L = run-annotate-line l (live t L) (annotate Γ t L) t (run-annotate t L)
+      run-annotate (line l t) L = run-annotate-line l (live t L) (annotate B Γ t L) t (run-annotate t L)
 
       pub run-annotate-line : (l : Line) (A : Set) (k t : Tree) → run callee k ≡ run callee t →
-          run callee (annotate-line Γ l A k) ≡ run callee (line l t)
+          run callee (annotate-line B Γ l A k) ≡ run callee (line l t)
       run-annotate-line (leaf x l us) A k t e =
-          let R = among (leaf-reads l us) empty in
+          let R = among (leaf-reads B l us) empty in
           let k′ = release-all (dying Γ (R ∪ only x) A) k in
           let ys = with-if (is-pending l && is-array Γ x) x [] in
-          run-retain-all (handed-again Γ (leaf-hands l us) (R ∪ A)) (line (leaf x l us) (retain-all ys k′))
+          run-retain-all (handed-again Γ (leaf-hands B l us) (R ∪ A)) (line (leaf x l us) (retain-all ys k′))
           ∙ run-after (leaf x l us) (run-retain-all ys k′ ∙ run-release-all (dying Γ (R ∪ only x) A) k ∙ e)
       run-annotate-line (if-else x g t₁ t₂) A k t e =
-          let B = after-branch x A in
-          let e₁ = run-release-all (dying Γ (uses t₂) (live t₁ B)) (annotate Γ t₁ B) ∙ run-annotate t₁ B in
-          let e₂ = run-release-all (dying Γ (uses t₁) (live t₂ B)) (annotate Γ t₂ B) ∙ run-annotate t₂ B in
+          let L = after-branch x A in
+          let e₁ = run-release-all (dying Γ (uses t₂) (live t₁ L)) (annotate B Γ t₁ L) ∙ run-annotate t₁ L in
+          let e₂ = run-release-all (dying Γ (uses t₁) (live t₂ L)) (annotate B Γ t₂ L) ∙ run-annotate t₂ L in
           let e₃ = run-release-all (dying Γ (only x) A) k ∙ e in
           λ i δ m. onward (e₃ i) (onward (λ v. give (updated δ x v)) (do-if (value δ g) (e₁ i δ) (e₂ i δ) m))
       run-annotate-line (loop x j ps us t₁) A k t e =
-          let B = after-pass x ps t₁ A in
+          let L = after-pass x ps t₁ A in
           let R = among (loop-reads j us) (uses t₁ ∖∖ ps) in
-          let t₂ = release-all (dying Γ (just ps) (live t₁ B)) (annotate Γ t₁ B) in
+          let t₂ = release-all (dying Γ (just ps) (live t₁ L)) (annotate B Γ t₁ L) in
           let t′ = retain-all (arrays Γ (element-name j ps)) t₂ in
           let e₁ = run-retain-all (arrays Γ (element-name j ps)) t₂
-          ∙ run-release-all (dying Γ (just ps) (live t₁ B)) (annotate Γ t₁ B) ∙ run-annotate t₁ B in
+          ∙ run-release-all (dying Γ (just ps) (live t₁ L)) (annotate B Γ t₁ L) ∙ run-annotate t₁ L in
           let e₃ = run-release-all (dying Γ (R ∪ only x) A) k ∙ e in
           run-retain-all (handed-again Γ (loop-hands j us) (R ∪ A))
           (line (loop x j ps us t′) (release-all (dying Γ (R ∪ only x) A) k))
@@ -74,10 +75,11 @@ module _ (callee : Callee) where
       run-annotate-line (release x) A k t e = run-after (release x) e
 
   -- a function's annotated tree
-  pub run-annotated-body : (fs : Script) (g : Function) → run callee (annotated-body fs g) ≡ run callee (normal-body g)
+  pub run-annotated-body : (fs : Script) (T : Table) (f : ℕ) (g : Function) →
+      run callee (annotated-body fs T f g) ≡ run callee (normal-body g)
   unfolding annotated-body
-  run-annotated-body fs g =
-      let Γ = depths-of fs g in
+  run-annotated-body fs T f g =
+      let Γ = owned-depths fs T f g in
       let t = normal-body g in
-      run-release-all (dying Γ (λ x. ltb x (length (g .parameters))) (uses t)) (annotate Γ t empty)
-      ∙ run-annotate Γ t empty
+      run-release-all (dying Γ (λ x. ltb x (length (g .parameters))) (uses t)) (annotate (borrows T) Γ t empty)
+      ∙ run-annotate (borrows T) Γ t empty

@@ -1,14 +1,15 @@
 -- `running-is-meaning`: running the code of a script on values is the script's meaning, for every script, function and
 -- arguments.
 use Prim.Native.Nat.{ℕ, zero, suc}
-use mathlib.Core.List.{List, [], _∷_, map}
+use mathlib.Core.List.{List, [], _∷_}
 use mathlib.Core.Path.{_≡_, refl, _∙_, ap}
 use lib.ListN.{length, getD}
 use Rattle.semantics.specs.Value.{Value}
 use Rattle.semantics.specs.Syntax.{Function, Script, no-function, function-at}
 use Rattle.semantics.specs.Meaning.{Meter, Callee, eval, bound, meaning}
 use Rattle.semantics.specs.Normal.{atom, lines, normal, normal-body, parameter-names}
-use Rattle.semantics.specs.Machine.{routine, no-routine, program}
+use Rattle.semantics.specs.Borrow.{Table, borrowed}
+use Rattle.semantics.specs.Machine.{routines-from, no-routine, program}
 use Rattle.soundness.specs.normal.Plain.{run, values-from, running}
 use Rattle.soundness.specs.normal.Lines.{normal-run}
 use Rattle.soundness.specs.normal.Retains.{run-annotated-body}
@@ -22,12 +23,12 @@ body-run callee g vs =
     (length (g .parameters)) (parameters-agree (g .parameters) vs)
 
 -- a routine is its function's body; a number that is no function's gives 0
-routine-run : (callee : Callee) (fs : Script) (gs : List Function) (f : ℕ) →
-    run callee (getD (map (routine fs) gs) f no-routine .tree) ≡ run callee (normal-body (getD gs f no-function))
-unfolding routine normal-body normal lines atom
-routine-run callee fs [] f = refl
-routine-run callee fs (g ∷ gs) zero = run-annotated-body callee fs g
-routine-run callee fs (g ∷ gs) (suc f) = routine-run callee fs gs f
+routine-run : (callee : Callee) (fs : Script) (T : Table) (k : ℕ) (gs : List Function) (f : ℕ) →
+    run callee (getD (routines-from fs T k gs) f no-routine .tree) ≡ run callee (normal-body (getD gs f no-function))
+unfolding routines-from normal-body normal lines atom
+routine-run callee fs T k [] f = refl
+routine-run callee fs T k (g ∷ gs) zero = run-annotated-body callee fs T k g
+routine-run callee fs T k (g ∷ gs) (suc f) = routine-run callee fs T (suc k) gs f
 
 pub running-is-meaning : (fs : Script) (n f : ℕ) (vs : List Value) (m : Meter) →
     running (program fs) n f vs m ≡ meaning fs n f vs m
@@ -37,6 +38,7 @@ running-is-meaning fs (suc n) f vs m =
     let g = function-at fs f in
     let callees : running (program fs) n ≡ meaning fs n = λ i h us r. running-is-meaning fs n h us r i in
     let same =
-    (λ i. routine-run (running (program fs) n) fs fs f i (values-from vs 0)) ∙ body-run (running (program fs) n) g vs
+    (λ i. routine-run (running (program fs) n) fs (borrowed fs) 0 fs f i (values-from vs 0))
+    ∙ body-run (running (program fs) n) g vs
     ∙ ap (λ c. eval c (g .body) (bound (g .parameters) vs)) callees in
     λ i. same i m

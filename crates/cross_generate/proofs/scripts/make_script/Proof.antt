@@ -5,7 +5,7 @@ use Rattle.cross_generate.proofs.scripts.make_script.Statement.{stateme
 use Rattle.cross_generate.proofs.scripts.make_script.Tie as tie
 
 abbrev Inv-loop : tie.InvT-loop
-Inv-loop desk₀ seed functions function₀ desk function = (function ≤ functions) × (functions ≤ 5)
+Inv-loop desk₀ seed functions function₀ desk function = (function ≤ functions) × (functions ≤ 8)
 
 abbrev μ-loop : tie.MeasureT-loop
 μ-loop desk₀ seed functions function₀ desk function = functions - function

@@ -36,6 +36,7 @@ use Rattle.cross_values.proofs.arrays.holds_arrays.Reads as holds-array
 use Rattle.cross_values.proofs.arrays.length_at.Reads as length-at-reads
 use Rattle.cross_values.proofs.cells.pop.Reads as pop-reads
 use Rattle.cross_values.proofs.cells.push.Reads as push-reads
+use Rattle.cross_values.proofs.handing.hand_over.Reads as hand-over-reads
 use Rattle.cross_values.proofs.kinds.low.Reads as low-reads
 use Rattle.cross_values.proofs.leaves.work_leaf.Reads as work-leaf-reads
 use Rattle.cross_values.proofs.loops.array_of.Reads as array-of-reads
@@ -187,10 +188,10 @@ pub +work-call+work-if+work-let+work-loop+work-node+work-part+work-parts+work-pa
       step-reads.Learnt,
       row-at-reads.Asked,
       row-at-reads.Learnt,
-      pop-reads.Asked,
-      pop-reads.Learnt,
       callee-at-reads.Asked,
       callee-at-reads.Learnt,
+      hand-over-reads.Asked,
+      hand-over-reads.Learnt,
       bind-parameters-reads.Asked,
       bind-parameters-reads.Learnt,
       work-part-below t,

@@ -36,34 +36,34 @@ use Rattle.normal_write.proofs.uses.pass_names.Reads as pass-names-reads
 use Rattle.normal_write.proofs.uses.put_used.Reads as put-used-reads
 use Prim.Native.Nat.{ℕ, _+_, _*_, _<_}
 
-abbrev pub μ-walk-if : Measures 8 walk-if-kinds.ps ℕ
-μ-walk-if κs a = 2 * a .1 .1 .1 .1 .1 .1 .1 .1 .1 .0 .levels + 1
+abbrev pub μ-walk-if : Measures 9 walk-if-kinds.ps ℕ
+μ-walk-if κs a = 2 * a .1 .1 .1 .1 .1 .1 .1 .1 .1 .1 .0 .levels + 1
 
-abbrev pub μ-walk-loop : Measures 8 walk-loop-kinds.ps ℕ
-μ-walk-loop κs a = 2 * a .1 .1 .1 .1 .1 .1 .1 .1 .0 .levels + 1
+abbrev pub μ-walk-loop : Measures 9 walk-loop-kinds.ps ℕ
+μ-walk-loop κs a = 2 * a .1 .1 .1 .1 .1 .1 .1 .1 .1 .0 .levels + 1
 
-abbrev pub μ-walk-tree : Measures 8 walk-tree-kinds.ps ℕ
-μ-walk-tree κs a = 2 * a .1 .1 .1 .1 .1 .1 .1 .1 .0
+abbrev pub μ-walk-tree : Measures 9 walk-tree-kinds.ps ℕ
+μ-walk-tree κs a = 2 * a .1 .1 .1 .1 .1 .1 .1 .1 .1 .0
 
-abbrev pub walk-if-at : ℕ → In 8 walk-if-kinds.ps
-walk-if-at t = and 8 walk-if-kinds.ps (is 8 walk-if-kinds.ps μ-walk-if t) walk-if.Pre
+abbrev pub walk-if-at : ℕ → In 9 walk-if-kinds.ps
+walk-if-at t = and 9 walk-if-kinds.ps (is 9 walk-if-kinds.ps μ-walk-if t) walk-if.Pre
 
-abbrev pub walk-if-below : ℕ → In 8 walk-if-kinds.ps
-walk-if-below t = and 8 walk-if-kinds.ps (falls 8 walk-if-kinds.ps _<_ μ-walk-if t) walk-if.Pre
+abbrev pub walk-if-below : ℕ → In 9 walk-if-kinds.ps
+walk-if-below t = and 9 walk-if-kinds.ps (falls 9 walk-if-kinds.ps _<_ μ-walk-if t) walk-if.Pre
 
-abbrev pub walk-loop-at : ℕ → In 8 walk-loop-kinds.ps
-walk-loop-at t = and 8 walk-loop-kinds.ps (is 8 walk-loop-kinds.ps μ-walk-loop t) walk-loop.Pre
+abbrev pub walk-loop-at : ℕ → In 9 walk-loop-kinds.ps
+walk-loop-at t = and 9 walk-loop-kinds.ps (is 9 walk-loop-kinds.ps μ-walk-loop t) walk-loop.Pre
 
-abbrev pub walk-loop-below : ℕ → In 8 walk-loop-kinds.ps
+abbrev pub walk-loop-below : ℕ → In 9 walk-loop-kinds.ps
 walk-loop-below t =
-    and 8 walk-loop-kinds.ps (falls 8 walk-loop-kinds.ps _<_ μ-walk-loop t) walk-loop.Pre
+    and 9 walk-loop-kinds.ps (falls 9 walk-loop-kinds.ps _<_ μ-walk-loop t) walk-loop.Pre
 
-abbrev pub walk-tree-at : ℕ → In 8 walk-tree-kinds.ps
-walk-tree-at t = and 8 walk-tree-kinds.ps (is 8 walk-tree-kinds.ps μ-walk-tree t) walk-tree.Pre
+abbrev pub walk-tree-at : ℕ → In 9 walk-tree-kinds.ps
+walk-tree-at t = and 9 walk-tree-kinds.ps (is 9 walk-tree-kinds.ps μ-walk-tree t) walk-tree.Pre
 
-abbrev pub walk-tree-below : ℕ → In 8 walk-tree-kinds.ps
+abbrev pub walk-tree-below : ℕ → In 9 walk-tree-kinds.ps
 walk-tree-below t =
-    and 8 walk-tree-kinds.ps (falls 8 walk-tree-kinds.ps _<_ μ-walk-tree t) walk-tree.Pre
+    and 9 walk-tree-kinds.ps (falls 9 walk-tree-kinds.ps _<_ μ-walk-tree t) walk-tree.Pre
 
 abbrev pub walk-if-claims : ℕ → walk-if-lts.Claims
 walk-if-claims t = (

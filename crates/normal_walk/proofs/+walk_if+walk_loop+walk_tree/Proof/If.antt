@@ -4,6 +4,7 @@ use Rattle.normal_walk.proofs.walk_if.Reads as walk-if
 use Rattle.normal_walk.proofs.+walk_if+walk_loop+walk_tree.Lts-walk_if as walk-if-lts
 use mathlib.Core.Path.{_∙_}
 use native.Mathlib.Omega.{arith}
+use Rattle.semantics.specs.Borrow.{borrows}
 use Rattle.normal_code.specs.Plain.{plain, meant}
 use Rattle.normal_code.specs.Parts.{depth-in}
 use Rattle.normal_code.specs.Walk.{tree-walk}
@@ -234,9 +235,10 @@ walk-if-returns t c =
     .before .before .before .before .before .before .before .before .before .before .before .before .before
     .before .before .before .args in
     let code = plain (a .operands .now) (a .rows .now) (a .notes .now) in
+    let borrowing = borrows (a .table .now) in
     let depths = depth-in (a .depths .now) in
-    let inner = tree-walk code depths (a .here .levels) in
-    if-done code depths inner (a .here .p) (a .here .q) (a .x) (meant (a .g)) (a .after) (at-walk-tree
+    let inner = tree-walk code borrowing depths (a .here .levels) in
+    if-done code borrowing depths inner (a .here .p) (a .here .q) (a .x) (meant (a .g)) (a .after) (at-walk-tree
     .result) (at-walk-tree2 .result) (c .before .before .before .before .joined .result) _ (at-less-two
     .result) (at-then-end-at .result)
     (at-less-two .ensures) (at-then-end-at .ensures .0) (at-walk-tree .ensures) (at-put-used .ensures)

@@ -5,6 +5,7 @@ use Rattle.normal_walk.proofs.+walk_if+walk_loop+walk_tree.Lts-walk_loo
 use mathlib.Core.Path.{_≡_, _∙_}
 use native.Mathlib.Omega.{arith}
 use lib.ListN.{length, length-set}
+use Rattle.semantics.specs.Borrow.{borrows}
 use Rattle.normal_code.specs.Plain.{plain, loop-of}
 use Rattle.normal_code.specs.Parts.{depth-in}
 use Rattle.normal_code.specs.Walk.{tree-walk}
@@ -174,9 +175,10 @@ walk-loop-returns t c =
     .before .before .before .before .before .before .before .before .before .before .before .before .before
     .before .before .before .args in
     let code = plain (a .operands .now) (a .rows .now) (a .notes .now) in
+    let borrowing = borrows (a .table .now) in
     let depths = depth-in (a .depths .now) in
-    let inner = tree-walk code depths (a .here .levels) in
-    (loop-done code depths inner (a .here .p) (a .here .q) (at-l .given .0 .0) (at-l .given .0 .1 .0) (at-l
+    let inner = tree-walk code borrowing depths (a .here .levels) in
+    (loop-done code borrowing depths inner (a .here .p) (a .here .q) (at-l .given .0 .0) (at-l .given .0 .1 .0) (at-l
     .given .0 .1 .1 .0) (at-l .given .0 .1 .1 .1 .0) (at-l .given .0 .1 .1 .1 .1 .0) (at-l .given .0 .1 .1 .1
     .1 .1 .0) (at-second-of .result) (a .after) (at-pass-names .result) (at-walk-tree .result) _ _
     (at-loop-size .result) (at-less-two .result)

@@ -6,6 +6,7 @@ use Prim.Native.Nat.{ℕ, _-_, _<_}
 use mathlib.Core.Path.{_≡_, sym, _∙_}
 use lib.ListN.{length, length-set}
 use native.Mathlib.Omega.{arith}
+use Rattle.semantics.specs.Borrow.{borrows}
 use Rattle.normal_code.specs.Plain.{plain}
 use Rattle.normal_code.specs.Parts.{depth-in}
 use Rattle.normal_code.specs.Walk.{tree-walk}
@@ -18,13 +19,15 @@ use Rattle.normal_walk.proofs.+walk_if+walk_loop+walk_tree.Proof.Common
 use Rattle.normal_walk.proofs.+walk_if+walk_loop+walk_tree.Proof.Common.{walk-tree-claims}
 
 abbrev pub walk-tree-Inv-loop : walk-tree-lts.InvT-loop
-walk-tree-Inv-loop ks₀ os₀ operands rows notes cur₀ depths e levels at₀ place w s₀ v q₀ left₀ ks os cur at s q left =
-    (length s ≡ 256) × Going (plain operands rows notes) (depth-in depths)
-    (tree-walk (plain operands rows notes) (depth-in depths) (levels - 1))
+walk-tree-Inv-loop ks₀ os₀ operands rows notes cur₀ depths table e levels at₀ place w s₀ v q₀ left₀ ks os cur at s q
+    left =
+    (length s ≡ 256) × Going (plain operands rows notes) (borrows table) (depth-in depths)
+    (tree-walk (plain operands rows notes) (borrows table) (depth-in depths) (levels - 1))
     s₀ cur₀ ks₀ os₀ at₀ left₀ q₀ s cur ks os at left q
 
 abbrev pub walk-tree-μ-loop : walk-tree-lts.MeasureT-loop
-walk-tree-μ-loop ks₀ os₀ operands rows notes cur₀ depths e levels at₀ place w s₀ v q₀ left₀ ks os cur at s q left =
+walk-tree-μ-loop ks₀ os₀ operands rows notes cur₀ depths table e levels at₀ place w s₀ v q₀ left₀ ks os cur at s q
+    left =
     left
 
 pub walk-tree-put-end-requires : (t : ℕ) →
@@ -54,10 +57,11 @@ walk-tree-returns t c =
     let a = c .before .before .before .before .before .before .before .before .before .before .before .before
     .before .before .before .before .before .args in
     let code = plain (a .operands .now) (a .rows .now) (a .notes .now) in
+    let borrowing = borrows (a .table .now) in
     let depths = depth-in (a .depths .now) in
-    none-done code depths (a .levels) (a .e) (c .if1 .taken) (end-done code depths (a .e) (at-atom-of .result)
-    (at-row-at .result) (at-row-at .ensures) (at-atom-of .ensures) (at-put-end .ensures) (c .before .before
-    .take-use .ensures))
+    none-done code borrowing depths (a .levels) (a .e) (c .if1 .taken) (end-done code borrowing depths (a .e)
+    (at-atom-of .result) (at-row-at .result) (at-row-at .ensures) (at-atom-of .ensures) (at-put-end .ensures)
+    (c .before .before .take-use .ensures))
 
 pub walk-tree-loop-holds : (t : ℕ) →
     walk-tree-lts.Need-loop-holds (walk-tree-claims t) (walk-tree-at t) walk-tree.Post walk-tree-Inv-loop
@@ -71,11 +75,12 @@ walk-tree-loop-holds t c =
     let at-pre = c .before .before .before .before .before .before .before .before .before .before .before
     .before .before .before .before .before .before .pre in
     let code = plain (a .operands .now) (a .rows .now) (a .notes .now) in
+    let borrowing = borrows (a .table .now) in
     let depths = depth-in (a .depths .now) in
-    let walk = tree-walk code depths (a .levels - 1) in (
+    let walk = tree-walk code borrowing depths (a .levels - 1) in (
       let h : length (a .after) ≡ 256 = search (needs, at-good .1 .1 .1 .1 .1 .1 .1 .1 .1 .1 .0) in simp
           length-set h,
-      going-none code depths walk (c .before .before .take-use .ensures .long) (lower (at-put-end
+      going-none code borrowing depths walk (c .before .before .take-use .ensures .long) (lower (at-put-end
           .ensures) (at-pre .1 .2)) (omega arith) (omega arith),
     )
 
@@ -93,12 +98,13 @@ walk-tree-returns-2 t c =
     let a = c .before .before .before .before .before .before .before .before .before .before .before .before
     .before .before .before .before .before .before .before .before .before .args in
     let code = plain (a .operands .now) (a .rows .now) (a .notes .now) in
+    let borrowing = borrows (a .table .now) in
     let depths = depth-in (a .depths .now) in
-    let walk = tree-walk code depths (a .levels - 1) in
-    tree-done code depths (a .levels) (a .e) (c .before .before .before .before .if1 .left) (end-done code
-    depths (a .e) (at-atom-of .result) (at-row-at .result) (at-row-at .ensures) (at-atom-of .ensures)
+    let walk = tree-walk code borrowing depths (a .levels - 1) in
+    tree-done code borrowing depths (a .levels) (a .e) (c .before .before .before .before .if1 .left) (end-done code
+    borrowing depths (a .e) (at-atom-of .result) (at-row-at .result) (at-row-at .ensures) (at-atom-of .ensures)
     (at-put-end .ensures) (at-take-use .ensures)) (c .before .before .before .loop .inv .1) (going-stops code
-    depths walk (c .before .before .before .loop .inv .1) (c .before .note-at .result) (c .before .note-at
+    borrowing depths walk (c .before .before .before .loop .inv .1) (c .before .note-at .result) (c .before .note-at
     .ensures) (c .if2 .taken))
 
 pub walk-tree-line-at-requires : (t : ℕ) →
@@ -163,14 +169,16 @@ walk-tree-loop-again t c =
     .before .before .before .before .before .before .before .before .before .before .before .before .before
     .before .before .before .args in
     let code = plain (a .operands .now) (a .rows .now) (a .notes .now) in
+    let borrowing = borrows (a .table .now) in
     let depths = depth-in (a .depths .now) in
-    let walk = tree-walk code depths (a .levels - 1) in (
+    let walk = tree-walk code borrowing depths (a .levels - 1) in (
       search needs,
-      going-more code depths walk (at-loop .inv .1) (at-note-at .result) _ (at-loop-test .taken)
+      going-more code borrowing depths walk (at-loop .inv .1) (at-note-at .result) _ (at-loop-test .taken)
           (at-note-at .ensures) (at-if2 .left) (sym (at-l .given .1) ∙ at-line-at .ensures)
-          (if-line code depths walk (at-note-at .result) (at-loop .q) _ _ (let h : at-l .given .0 .0 < 256 = search
-          (needs, at-known-told .given) in omega (arith, h, at-loop .inv .0)) (at-put-release .ensures) (c .before
-          .before .before .walk-if .ensures)),
+          (if-line code borrowing depths walk (at-note-at .result) (at-loop .q) _ _
+          (let h : at-l .given .0 .0 < 256 = search (needs, at-known-told .given) in
+          omega (arith, h, at-loop .inv .0))
+          (at-put-release .ensures) (c .before .before .before .walk-if .ensures)),
     )
 
 pub walk-tree-close-loop-requires : (t : ℕ) →
@@ -237,13 +245,15 @@ walk-tree-loop-again-2 t c =
     .before .before .before .before .before .before .before .before .before .before .before .before .before
     .before .before .before .args in
     let code = plain (a .operands .now) (a .rows .now) (a .notes .now) in
+    let borrowing = borrows (a .table .now) in
     let depths = depth-in (a .depths .now) in
-    let walk = tree-walk code depths (a .levels - 1) in (
+    let walk = tree-walk code borrowing depths (a .levels - 1) in (
       search needs,
-      going-more code depths walk (at-loop .inv .1) (at-note-at .result) (at-line-at .result)
+      going-more code borrowing depths walk (at-loop .inv .1) (at-note-at .result) (at-line-at .result)
           (at-loop-test .taken) (at-note-at .ensures) (at-if2 .left) (at-line-at .ensures)
-          (loop-line code depths walk (at-note-at .result) (at-loop .q) (at-line-at .result) (loop-is (at-line-at
-          .result) (at-match .keys2)) (at-close-loop .ensures) (c .before .before .before .walk-loop .ensures)),
+          (loop-line code borrowing depths walk (at-note-at .result) (at-loop .q) (at-line-at .result)
+          (loop-is (at-line-at .result) (at-match .keys2)) (at-close-loop .ensures)
+          (c .before .before .before .walk-loop .ensures)),
     )
 
 pub walk-tree-put-binary-requires : (t : ℕ) →
@@ -284,13 +294,15 @@ walk-tree-loop-again-3 t c =
     .before .before .before .before .before .before .before .before .before .before .before .before .before
     .before .before .before .before .before .before .before .before .before .before .before .before .args in
     let code = plain (a .operands .now) (a .rows .now) (a .notes .now) in
+    let borrowing = borrows (a .table .now) in
     let depths = depth-in (a .depths .now) in
-    let walk = tree-walk code depths (a .levels - 1) in (
+    let walk = tree-walk code borrowing depths (a .levels - 1) in (
       simp length-set (at-loop .inv .0),
-      going-more code depths walk (at-loop .inv .1) (at-note-at .result) _
+      going-more code borrowing depths walk (at-loop .inv .1) (at-note-at .result) _
           (at-loop-test .taken) (at-note-at .ensures) (at-if2 .left) (sym (at-l2 .given .1) ∙ at-line-at .ensures)
-          (binary-line code depths walk (at-note-at .result) (at-loop .q) _ _ _ _ (at-put-binary .ensures) (c
-          .before .before .take-pair .ensures (at-loop .s) (at-loop .inv .0))),
+          (binary-line code borrowing depths walk (at-note-at .result) (at-loop .q) _ _ _ _
+          (at-put-binary .ensures borrowing)
+          (c .before .before .take-pair .ensures (at-loop .s) (at-loop .inv .0))),
     )
 
 pub walk-tree-walk-leaf-requires : (t : ℕ) →
@@ -326,13 +338,14 @@ walk-tree-loop-again-4 t c =
     .before .before .before .before .before .before .before .before .before .before .before .before .before
     .before .before .before .before .before .before .args in
     let code = plain (a .operands .now) (a .rows .now) (a .notes .now) in
+    let borrowing = borrows (a .table .now) in
     let depths = depth-in (a .depths .now) in
-    let walk = tree-walk code depths (a .levels - 1) in (
+    let walk = tree-walk code borrowing depths (a .levels - 1) in (
       search needs,
-      going-more code depths walk (at-loop .inv .1) (at-note-at .result) (at-line-at .result)
+      going-more code borrowing depths walk (at-loop .inv .1) (at-note-at .result) (at-line-at .result)
           (at-loop-test .taken) (at-note-at .ensures) (at-if2 .left) (at-line-at .ensures)
-          (leaf-line code depths walk (at-note-at .result) (at-loop .q) (at-line-at .result) (leaf-is (at-line-at
-          .result) (at-match .keys4)) (c .before .before .before .walk-leaf .ensures)),
+          (leaf-line code borrowing depths walk (at-note-at .result) (at-loop .q) (at-line-at .result)
+          (leaf-is (at-line-at .result) (at-match .keys4)) (c .before .before .before .walk-leaf .ensures)),
     )
 
 pub walk-tree-returns-3 : (t : ℕ) →
@@ -347,9 +360,11 @@ walk-tree-returns-3 t c =
     let a = c .before .before .before .before .before .before .before .before .before .before .before .before
     .before .before .before .before .before .before .before .args in
     let code = plain (a .operands .now) (a .rows .now) (a .notes .now) in
+    let borrowing = borrows (a .table .now) in
     let depths = depth-in (a .depths .now) in
-    let walk = tree-walk code depths (a .levels - 1) in
-    tree-done code depths (a .levels) (a .e) (c .before .before .if1 .left) (end-done code depths (a .e)
-    (at-atom-of .result) (at-row-at .result) (at-row-at .ensures) (at-atom-of .ensures) (at-put-end .ensures)
-    (c .before .before .before .before .take-use .ensures)) (c .before .loop .inv .1) (going-ends code depths
-    walk (c .before .loop .inv .1) (c .loop-test .left))
+    let walk = tree-walk code borrowing depths (a .levels - 1) in
+    tree-done code borrowing depths (a .levels) (a .e) (c .before .before .if1 .left)
+    (end-done code borrowing depths (a .e) (at-atom-of .result) (at-row-at .result) (at-row-at .ensures)
+    (at-atom-of .ensures) (at-put-end .ensures) (c .before .before .before .before .take-use .ensures))
+    (c .before .loop .inv .1)
+    (going-ends code borrowing depths walk (c .before .loop .inv .1) (c .loop-test .left))

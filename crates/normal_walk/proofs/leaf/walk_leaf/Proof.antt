@@ -1,3 +1,4 @@
+use Rattle.semantics.specs.Borrow.{borrows}
 use Rattle.normal_code.specs.Plain.{plain}
 use Rattle.normal_code.specs.Parts.{depth-in}
 use Rattle.normal_walk.proofs.Lines.{unary-done, binary-done, call-done, literal-done, not-leaf}
@@ -8,32 +9,42 @@ use Rattle.normal_walk.proofs.leaf.walk_leaf.Tie as tie
 returns : tie.Need-returns
 returns c =
     let a = c .before .before .before .before .before .before .before .before .before .before .before .before
-    .before .before .before .args in rw (c .before .before .before .before .before .before .before .before .before
-    .before .l .given .1) (unary-done (plain (a .operands .now) (a .rows .now) (a .notes .now)) (depth-in (a .depths
-    .now)) (a .p) _ _ _ _ (c .before .before .before .before .before .put-unary .ensures) (c .take-two .ensures))
+    .before .before .before .args in
+    let code = plain (a .operands .now) (a .rows .now) (a .notes .now) in
+    let borrowing = borrows (a .table .now) in
+    rw (c .before .before .before .before .before .before .before .before .before .before .l .given .1)
+    (unary-done code borrowing (depth-in (a .depths .now)) (a .p) _ _ _ _
+    (c .before .before .before .before .before .put-unary .ensures borrowing) (c .take-two .ensures))
 
 returns-2 : tie.Need-returns-2
 returns-2 c =
     let a = c .before .before .before .before .before .before .before .before .before .before .before .before
-    .before .before .before .args in rw (c .before .before .before .before .before .before .before .before .before
-    .before .l2 .given .1) (binary-done (plain (a .operands .now) (a .rows .now) (a .notes .now)) (depth-in (a
-    .depths .now)) (a .p) _ _ _ _ (c .before .before .before .before .before .put-binary .ensures) (c .take-two2
-    .ensures))
+    .before .before .before .args in
+    let code = plain (a .operands .now) (a .rows .now) (a .notes .now) in
+    let borrowing = borrows (a .table .now) in
+    rw (c .before .before .before .before .before .before .before .before .before .before .l2 .given .1)
+    (binary-done code borrowing (depth-in (a .depths .now)) (a .p) _ _ _ _
+    (c .before .before .before .before .before .put-binary .ensures borrowing) (c .take-two2 .ensures))
 
 returns-3 : tie.Need-returns-3
 returns-3 c =
     let a = c .before .before .before .before .before .before .before .before .before .before .before .before
-    .before .before .before .args in rw (c .before .before .before .before .before .before .before .before .before
-    .before .l3 .given .1) (call-done (plain (a .operands .now) (a .rows .now) (a .notes .now)) (depth-in (a .depths
-    .now)) (a .p) _ _ _ (c .before .before .before .before .before .put-handing .ensures) (c .take-handed .ensures))
+    .before .before .before .args in
+    let code = plain (a .operands .now) (a .rows .now) (a .notes .now) in
+    let borrowing = borrows (a .table .now) in
+    rw (c .before .before .before .before .before .before .before .before .before .before .l3 .given .1)
+    (call-done code borrowing (depth-in (a .depths .now)) (a .p) _ _ _
+    (c .before .before .before .before .before .put-call .ensures) (c .take-handed .ensures))
 
 returns-4 : tie.Need-returns-4
 returns-4 c =
     let a = c .before .before .before .before .before .before .before .before .before .before .before .before
-    .before .before .before .args in rw (c .before .before .before .before .before .before .before .before .before
-    .before .l4 .given .1) (literal-done (plain (a .operands .now) (a .rows .now) (a .notes .now)) (depth-in (a
-    .depths .now)) (a .p) _ _ _ (c .before .before .before .before .before .put-handing2 .ensures) (c .take-handed2
-    .ensures))
+    .before .before .before .args in
+    let code = plain (a .operands .now) (a .rows .now) (a .notes .now) in
+    let borrowing = borrows (a .table .now) in
+    rw (c .before .before .before .before .before .before .before .before .before .before .l4 .given .1)
+    (literal-done code borrowing (depth-in (a .depths .now)) (a .p) _ _ _
+    (c .before .before .before .before .before .put-handing .ensures) (c .take-handed2 .ensures))
 
 returns-5 : tie.Need-returns-5
 returns-5 c =
@@ -50,10 +61,6 @@ walk-leaf-spec =
     (λ c. search needs)
     (λ c κs. search needs)
     (λ c κs. search needs)
-    (λ c. search needs)
-    (λ c. search needs)
-    (λ c. search needs)
-    (λ c. search needs)
     (λ c. search needs)
     (λ c. search needs)
     (λ c κs. search needs)

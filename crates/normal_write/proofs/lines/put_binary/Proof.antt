@@ -31,11 +31,11 @@ put-row-requires c κs =
     .before .before .before .before .put-reads .ensures) (search needs))))
 
 returns : tie.Need-returns
-returns c =
+returns c B =
     let a = c .before .before .before .before .before .before .before .before .before .before .before .before
     .before .before .before .before .before .before .before .before .before .before .before .before .before .before
     .before .before .before .before .before .before .args in
-    wrote-as (binary-rows (depth-in (a .depths .now)) (a .x) (set-of (a .after .now)) (a .kind) (meant (a .a))
+    wrote-as (binary-rows B (depth-in (a .depths .now)) (a .x) (set-of (a .after .now)) (a .kind) (meant (a .a))
     (meant (a .b)) (c .before .before .before .before .before .before .binary-kind .ensures))
     (wrote-then (wrote-then (wrote-then (wrote-then (c .before .before .before .before .before .before .before
     .before .before .before .before .before .before .before .before .before .before .before .before .before .before

@@ -15,10 +15,10 @@ put-row-requires c κs =
     .before .before .before .before .before .before .before .before .before .release-both .ensures) (search needs))
 
 returns : tie.Need-returns
-returns c =
+returns c B =
     let a = c .before .before .before .before .before .before .before .before .before .before .before .before
     .before .before .before .before .before .before .before .before .args in
-    wrote-as (unary-rows (depth-in (a .depths .now)) (a .x) (set-of (a .after .now)) (a .kind) (meant (a .a)) (c
+    wrote-as (unary-rows B (depth-in (a .depths .now)) (a .x) (set-of (a .after .now)) (a .kind) (meant (a .a)) (c
     .before .before .before .before .before .before .unary-kind .ensures))
     (wrote-then (wrote-then (c .before .before .before .before .before .before .before .before .before .before
     .before .before .before .before .before .before .release-both .ensures) (c .before .before .before .before

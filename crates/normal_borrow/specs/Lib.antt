@@ -1,0 +1,4 @@
+pub mod Gathered
+pub mod Rounds
+pub mod Scan
+pub mod Table

@@ -1,0 +1,5 @@
+pub mod Parameters
+pub mod Typed
+pub mod Accepted
+pub mod Functions
+pub mod Whole

@@ -1,0 +1,4 @@
+-- The table of borrowed parameters is the largest in which no borrowed parameter is spent.
+pub mod Rounds
+pub mod Stable
+pub mod Largest
