@@ -41,6 +41,7 @@ static const struct bench_case cases[] = {
     { "read_round", read_round_script, 16, LINES, 1, 1, ENGINE_DONE, CALLS },
     { "balanced_ifs", balanced_if_script, 16, LINES, 1, 1, ENGINE_DONE, CALLS },
     { "maps", map_script, 16, LINES, 1, 1, ENGINE_DONE, CALLS },
+    { "map_chain", map_chain_script, 16, LINES, 1, 1, ENGINE_DONE, CALLS },
     { "filters", filter_script, 16, LINES, 1, 1, ENGINE_DONE, CALLS },
     { "reduces", reduce_script, 16, LINES, 1, 1, ENGINE_DONE, CALLS },
     { "calls", call_script, 16, LINES, 1, 20, ENGINE_DONE, CALLS },
@@ -242,6 +243,8 @@ static void call_first(const struct bench_case *c, struct timed timed[CALLS][ENG
                 exit(1);
             }
             answer = bench.answer;
+            if (i == CALLS - 1)
+                printf(" %slowest=%u", engines[e].mark, engine_answer_lowest(answer));
         }
     printf(" steps=%" PRIu32, engine_answer_steps(answer));
 }

@@ -322,3 +322,30 @@ void reduce_script(struct script *script)
     name(&w, 6);
     finish(&w, script);
 }
+
+void map_chain_script(struct script *script)
+{
+    enum { MAPS = 12 };
+    struct writer w = main_of(0);
+    let(&w, 2);
+    counting_literal(&w, 16);
+    for (int i = 3; i < 5; i++) { /* names 3 and 4, beside 7 for each running value */
+        reduce(&w, 7, i);
+        number(&w, 0);
+        name(&w, 2);
+        sum(&w);
+        name(&w, 7);
+    }
+    index_of(&w);
+    for (int i = 0; i < MAPS; i++)
+        map(&w, 5);
+    iota(&w);
+    number(&w, 16);
+    for (int i = 0; i < MAPS; i++) {
+        sum(&w);
+        name(&w, 5);
+        number(&w, 1);
+    }
+    name(&w, 4);
+    finish(&w, script);
+}

@@ -48,7 +48,11 @@ void level_script(struct script *script);
 /* Four maps within one another, over 11, 16, 16 and 16 elements. */
 void map_script(struct script *script);
 
-/* The same with filters, each of which keeps all elements, and with reduces. All three take as many steps. */
+/* Twelve maps, each of the one before, over an array of 16 numbers that is made anew 256 times. */
+void map_chain_script(struct script *script);
+
+/* The maps within one another with filters in their place, each of which keeps all elements, and with reduces.
+ * All three take as many steps. */
 void filter_script(struct script *script);
 void reduce_script(struct script *script);
 

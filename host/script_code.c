@@ -152,6 +152,12 @@ static void print_atoms(struct printing *p, uint8_t kind, int64_t operand, unsig
     p->indentation -= 2;
 }
 
+/* The kind of the node that a line comes from, where its kind is another. */
+static uint8_t node_kind_of(uint8_t kind)
+{
+    return kind == ENGINE_KIND_REWRITING_MAP ? ENGINE_KIND_MAP : kind;
+}
+
 /* An operand with which a node of a line's kind has as many children as the line's has. */
 static int64_t node_operand_of(uint8_t kind, int64_t operand)
 {
@@ -165,7 +171,7 @@ static int64_t node_operand_of(uint8_t kind, int64_t operand)
 /* How many atoms follow a line; a retain and a release have none. */
 static unsigned atoms_of(uint8_t kind, int64_t node_operand)
 {
-    return kind == ENGINE_KIND_END ? 1 : children_of(kind, node_operand) - trees_of(kind);
+    return kind == ENGINE_KIND_END ? 1 : children_of(node_kind_of(kind), node_operand) - trees_of(node_kind_of(kind));
 }
 
 /* Atoms in a row, between commas. */
@@ -181,7 +187,7 @@ static void print_meaning(const struct printing *p, uint8_t kind, int64_t operan
     uint32_t first = p->at;
     struct phrase one = atom_phrase(p, first), two = atom_phrase(p, atoms > 1 ? first + 1 : first);
     struct phrase first_name = name_phrase(p, operand / 256 % 256); /* of a pass */
-    if (is_compound(kind))
+    if (is_compound(node_kind_of(kind)))
         printf("%s = ", name_phrase(p, operand % 256).text);
     switch (kind) {
     case ENGINE_KIND_SUM: printf("%s + %s", one.text, two.text); break;
@@ -204,6 +210,10 @@ static void print_meaning(const struct printing *p, uint8_t kind, int64_t operan
     case ENGINE_KIND_REPLICATE: printf("{%s, %s, ..} of length %s in a new cell", two.text, two.text, one.text); break;
     case ENGINE_KIND_MAP:
         printf("for each %s of %s the tree's result, in a new cell", first_name.text, one.text);
+        break;
+    case ENGINE_KIND_REWRITING_MAP:
+        printf("for each %s of %s the tree's result, in the same cell or, where that is shared, in a new one",
+               first_name.text, one.text);
         break;
     case ENGINE_KIND_FILTER:
         printf("each %s of %s for which the tree's result is 1, in a new cell", first_name.text, one.text);
@@ -229,9 +239,9 @@ static void print_tree(struct printing *p)
         unsigned atoms = atoms_of(kind, node_operand);
         begin_line(p);
         print_meaning(p, kind, operand, atoms);
-        print_atoms(p, kind, node_operand, atoms);
+        print_atoms(p, node_kind_of(kind), node_operand, atoms);
         p->indentation++;
-        for (unsigned i = 0; i < trees_of(kind); i++)
+        for (unsigned i = 0; i < trees_of(node_kind_of(kind)); i++)
             print_tree(p);
         p->indentation--;
     } while (kind != ENGINE_KIND_END);

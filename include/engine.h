@@ -22,7 +22,7 @@ extern "C" {
 
 /* Of this interface: the first number rises when a host must change, the second when something is added. */
 #define ENGINE_VERSION_MAJOR 2
-#define ENGINE_VERSION_MINOR 3
+#define ENGINE_VERSION_MINOR 4
 #define ENGINE_VERSION (1000 * ENGINE_VERSION_MAJOR + ENGINE_VERSION_MINOR)
 
 /* ---- Sizes ---- */
@@ -68,7 +68,7 @@ extern "C" {
 
 /* ---- Kinds ---- */
 
-/* The kind of a node of a script file and of a line of code. Three are of lines alone; let is the only kind of a node
+/* The kind of a node of a script file and of a line of code. Four are of lines alone; let is the only kind of a node
  * that no line has. */
 enum engine_kind {
     ENGINE_KIND_FUNCTION = 0,
@@ -91,9 +91,10 @@ enum engine_kind {
     ENGINE_KIND_IOTA = 17,    /* the second edition's, as the next three */
     ENGINE_KIND_REPLICATE = 18,
     ENGINE_KIND_FILTER = 19,
-    ENGINE_KIND_REDUCE = 20
+    ENGINE_KIND_REDUCE = 20,
+    ENGINE_KIND_REWRITING_MAP = 21 /* in code alone: a map in its array's own cell, where nothing else refers to it */
 };
-#define ENGINE_KINDS 21 /* every kind is below it */
+#define ENGINE_KINDS 22 /* every kind is below it */
 
 /* Whether a kind is one of nodes. */
 static inline int engine_is_node_kind(unsigned kind)

@@ -373,7 +373,7 @@ static void test_header(void)
     }
     for (unsigned kind = 0; kind < 256; kind++)
         expect(engine_is_node_kind(kind) == (kind <= 13 || (kind >= 17 && kind <= 20)), "kinds of nodes");
-    expect(ENGINE_KINDS == ENGINE_KIND_REDUCE + 1, "all kinds");
+    expect(ENGINE_KINDS == ENGINE_KIND_REWRITING_MAP + 1, "all kinds");
     expect(ENGINE_FILE_LENGTH_MAX == 9220, "the longest file");
     expect(ENGINE_SLOTS_LENGTH(256) == 4097 && ENGINE_HEADS_LENGTH(256) == 1025, "the largest store");
     expect(ENGINE_SAVED_LENGTH_MAX == 36867, "the longest saved totals");

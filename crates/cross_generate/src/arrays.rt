@@ -31,12 +31,24 @@ fn make_literal(desk: &mut Desk, depth: u64, room: Room)
     }
 }
 
+// The depth of the elements that a map of this depth goes over. For a map of numbers these are mostly numbers too: then
+// it may rewrite its array.
+fn element_depth(desk: &mut Desk, depth: u64) -> u64
+    ensures { λ r. ⌜ r < 4 ⌝ }
+{
+    let alike = cross_draft::choose(desk, 4) != 0;
+    if depth == 1 && alike {
+        return 0;
+    }
+    cross_draft::choose(desk, 4)
+}
+
 // Writes a map.
 fn make_map(desk: &mut Desk, depth: u64, room: Room)
     requires { ⌜ (0 < room .levels) × (0 < depth) ⌝ }
 {
     let name = wants::binding_name(desk);
-    let element = cross_draft::choose(desk, 4);
+    let element = element_depth(desk, depth);
     let deep_body = cross_draft::choose(desk, 3) != 0;
     cross_draft::write(desk, kinds::MAP, name);
     wants::push_under(desk, name, element, depth - 1, room, deep_body);
@@ -105,10 +117,10 @@ fn make_counted(desk: &mut Desk, depth: u64, room: Room)
 pub fn make_array(desk: &mut Desk, depth: u64, room: Room)
     requires { ⌜ (0 < room .levels) × (0 < depth) × (depth ≤ 4) ⌝ }
 {
-    match cross_draft::choose(desk, 10) {
-        0 | 1 | 2 => make_map(desk, depth, room),
-        3 | 4 => make_filter(desk, depth, room),
-        5 | 6 => make_counted(desk, depth, room),
+    match cross_draft::choose(desk, 11) {
+        0 | 1 | 2 | 3 => make_map(desk, depth, room),
+        4 | 5 => make_filter(desk, depth, room),
+        6 | 7 => make_counted(desk, depth, room),
         _ => make_literal(desk, depth, room),
     }
 }

@@ -37,9 +37,9 @@ pub fn pop(memory: &mut Memory, count: u64) {
     }
 }
 
-// Takes away the root that is so many places from the end, and leaves its place to a number; 1 where it was an array,
-// else 0.
-pub fn take_out(memory: &mut Memory, back: usize) -> u64 {
+// Puts a word in the place of the root that is so many places from the end; the word that was there, or 0 where there
+// is no such place.
+fn exchange(memory: &mut Memory, back: usize, word: u64) -> u64 {
     let count = memory[ROOT_COUNT] as usize;
     if back == 0 {
         return 0;
@@ -51,8 +51,14 @@ pub fn take_out(memory: &mut Memory, back: usize) -> u64 {
         return 0;
     }
     let root = memory[ROOTS + count - back];
-    memory[ROOTS + count - back] = 0;
-    if root == 0 {
+    memory[ROOTS + count - back] = word;
+    root
+}
+
+// Takes away the root that is so many places from the end, and leaves its place to a number; 1 where it was an array,
+// else 0.
+pub fn take_out(memory: &mut Memory, back: usize) -> u64 {
+    if exchange(memory, back, 0) == 0 {
         return 0;
     }
     1
@@ -119,6 +125,17 @@ pub fn begin(memory: &mut Memory, totals: Typed) {
     push(memory, totals);
     let level = free(memory);
     memory[LOWEST] = level;
+}
+
+// Takes away the root that is so many places from the end if nothing else reaches its array; false where it stays.
+pub fn take_over(memory: &mut Memory, back: usize) -> bool {
+    let before = reached(memory);
+    let root = exchange(memory, back, 0);
+    if reached(memory) < before {
+        return true;
+    }
+    exchange(memory, back, root);
+    false
 }
 
 // Takes a cell; false where none is free.

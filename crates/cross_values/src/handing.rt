@@ -56,7 +56,7 @@ fn parameter_of(memory: &Memory, function: usize, name: u64) -> usize {
 }
 
 // The node that binds the name that stands at a node: the innermost around it, or a parameter.
-fn binder_of(memory: &Memory, node: usize) -> usize {
+pub fn binder_of(memory: &Memory, node: usize) -> usize {
     let name = rows::operand_at(memory, node);
     let mut around = rows::parent_at(memory, node);
     let mut left = MOST_LEVELS;

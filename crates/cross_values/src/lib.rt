@@ -5,6 +5,7 @@
 // has stops the work with `BROKEN`, or is worked as something else.
 pub mod arrays;
 pub mod cells;
+mod depths;
 mod handing;
 pub mod kinds;
 mod leaves;

@@ -54,6 +54,28 @@ pub fn keep(
     std::num::wrapping_add_u64(count, 1)
 }
 
+// Whether a map may write its results over its array: both hold numbers, by their depths.
+fn may_rewrite(memory: &Memory, node: usize) -> bool {
+    if rows::kind_at(memory, node) != kinds::MAP {
+        return false;
+    }
+    if rows::depth_at(memory, rows::part_at(memory, node, 0)) != 1 {
+        return false;
+    }
+    rows::depth_at(memory, node) == 1
+}
+
+// Takes the cell of a map or filter, whose array is the root that is so many places from the end; false where none is
+// free. An array that only this root reaches is written over: it is no root any more, and its cell is the result's.
+fn take_cell(memory: &mut Memory, node: usize, back: usize) -> bool {
+    if may_rewrite(memory, node) {
+        if cells::take_over(memory, back) {
+            return true;
+        }
+    }
+    cells::take(memory)
+}
+
 // Begins a loop, whose first parts are the last roots: what its passes use are roots too, and a map or filter takes its
 // cell. The start of a reduce is handed to its first pass, and is no root of the loop's. False where no cell is free.
 pub fn begin(memory: &mut Memory, call: u64, node: usize) -> bool {
@@ -62,11 +84,13 @@ pub fn begin(memory: &mut Memory, call: u64, node: usize) -> bool {
     if kind == kinds::REDUCE {
         memory[memory::IS_ARRAY] = cells::take_out(memory, 2);
     }
+    let roots = memory[memory::ROOT_COUNT];
     uses::push_uses(memory, call, node, rows::body_at(memory, node));
     if kind == kinds::REDUCE {
         return true;
     }
-    if !cells::take(memory) {
+    let more = std::num::wrapping_sub_u64(memory[memory::ROOT_COUNT], roots);
+    if !take_cell(memory, node, std::num::wrapping_add_u64(more, 1) as usize) {
         return false;
     }
     memory[memory::IN_PROGRESS] = std::num::wrapping_add_u64(memory[memory::IN_PROGRESS], 1);

@@ -25,14 +25,14 @@ pub const ROOT_COUNT: usize = 8;
 
 pub const MARK: usize = 9;
 
-// Regions: five words for each node; two for each name of each call; the arena; the roots.
+// Regions: six words for each node; two for each name of each call; the arena; the roots.
 pub const ROWS: usize = 16;
 
-const NAMES: usize = 5136;
+const NAMES: usize = 6160;
 
-pub const ARENA: usize = 21520;
+pub const ARENA: usize = 22544;
 
-pub const ROOTS: usize = 152592;
+pub const ROOTS: usize = 153616;
 
 // The names of a call, and the calls that may be in progress.
 const MOST_NAMES: u64 = 256;
@@ -44,7 +44,7 @@ pub const ARENA_WORDS: usize = 131072;
 
 pub const ROOT_WORDS: usize = 65536;
 
-pub const MEMORY_WORDS: usize = 218128;
+pub const MEMORY_WORDS: usize = 219152;
 
 pub type Memory = [u64; MEMORY_WORDS];
 
@@ -67,7 +67,7 @@ pub fn step(memory: &mut Memory) -> bool {
 
 // Where a name of a call stands. A call in progress goes by the number of those that may be made below it.
 fn name_place(call: u64, name: u64) -> usize
-    ensures { λ r. ⌜ r < 21519 ⌝ }
+    ensures { λ r. ⌜ r < 22543 ⌝ }
 {
     NAMES + 2 * (call % MOST_CALLS * MOST_NAMES + name % MOST_NAMES) as usize
 }

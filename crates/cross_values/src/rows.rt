@@ -1,6 +1,6 @@
-// A script file as rows of five words, one for each node: its kind, its operand, the node after its part, the node that
-// it is a part of, and a note: of a name that it is used where it stands (see `uses`), and of a node that binds a name
-// that what it binds is handed over (see `handing`).
+// A script file as rows of six words, one for each node: its kind, its operand, the node after its part, the node that
+// it is a part of, a note: of a name that it is used where it stands (see `uses`), and of a node that binds a name that
+// what it binds is handed over (see `handing`); and the depth of its value (see `depths`).
 use super::VALUE_WORDS;
 use super::kinds;
 use super::kinds::Kind;
@@ -53,12 +53,12 @@ pub fn node_count(file: &[u8; FILE_BYTES]) -> usize
 
 // The kind of a node.
 pub fn kind_at(memory: &Memory, node: usize) -> u64 {
-    memory[ROWS + 5 * (node % MOST_NODES)]
+    memory[ROWS + 6 * (node % MOST_NODES)]
 }
 
 // The operand of a node, as its bits.
 pub fn operand_at(memory: &Memory, node: usize) -> u64 {
-    memory[ROWS + 1 + 5 * (node % MOST_NODES)]
+    memory[ROWS + 1 + 6 * (node % MOST_NODES)]
 }
 
 // What a node's kind says of it.
@@ -68,22 +68,32 @@ pub fn row_at(memory: &Memory, node: usize) -> Kind {
 
 // The node after the part that begins at a node.
 pub fn end_at(memory: &Memory, node: usize) -> usize {
-    memory[ROWS + 2 + 5 * (node % MOST_NODES)] as usize
+    memory[ROWS + 2 + 6 * (node % MOST_NODES)] as usize
 }
 
 // The node that a node is a part of.
 pub fn parent_at(memory: &Memory, node: usize) -> usize {
-    memory[ROWS + 3 + 5 * (node % MOST_NODES)] as usize
+    memory[ROWS + 3 + 6 * (node % MOST_NODES)] as usize
 }
 
 // Whether a node is noted.
 pub fn is_noted(memory: &Memory, node: usize) -> bool {
-    memory[ROWS + 4 + 5 * (node % MOST_NODES)] == 1
+    memory[ROWS + 4 + 6 * (node % MOST_NODES)] == 1
 }
 
 // Notes a node.
 pub fn note(memory: &mut Memory, node: usize) {
-    memory[ROWS + 4 + 5 * (node % MOST_NODES)] = 1;
+    memory[ROWS + 4 + 6 * (node % MOST_NODES)] = 1;
+}
+
+// The depth of a node's value.
+pub fn depth_at(memory: &Memory, node: usize) -> u64 {
+    memory[ROWS + 5 + 6 * (node % MOST_NODES)]
+}
+
+// Sets the depth of a node's value.
+pub fn set_depth(memory: &mut Memory, node: usize, depth: u64) {
+    memory[ROWS + 5 + 6 * (node % MOST_NODES)] = depth;
 }
 
 // The node after so many parts.
@@ -166,7 +176,7 @@ fn adopt(memory: &mut Memory, node: usize, parts: u64) -> usize {
     let mut part = std::num::wrapping_add_usize(node, 1);
     let mut left = parts;
     while 0 < left {
-        memory[ROWS + 3 + 5 * (part % MOST_NODES)] = node as u64;
+        memory[ROWS + 3 + 6 * (part % MOST_NODES)] = node as u64;
         part = end_at(memory, part);
         left = left - 1;
     }
@@ -181,10 +191,11 @@ fn read_row(file: &[u8; FILE_BYTES], nodes: usize, node: usize, memory: &mut Mem
     let operand = bits_at(file, 4 + nodes + 8 * node);
     let row = kinds::row_of(kind, operand);
     let end = adopt(memory, node, row.parts);
-    memory[ROWS + 5 * node] = kind;
-    memory[ROWS + 1 + 5 * node] = operand;
-    memory[ROWS + 2 + 5 * node] = end as u64;
-    memory[ROWS + 4 + 5 * node] = 0;
+    memory[ROWS + 6 * node] = kind;
+    memory[ROWS + 1 + 6 * node] = operand;
+    memory[ROWS + 2 + 6 * node] = end as u64;
+    memory[ROWS + 4 + 6 * node] = 0;
+    memory[ROWS + 5 + 6 * node] = 0;
 }
 
 // The rows of a script file; from the last node back, since a part ends where its own last part ends.

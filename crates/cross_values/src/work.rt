@@ -4,6 +4,7 @@ use super::VALUE_WORDS;
 use super::Worked;
 use super::arrays;
 use super::cells;
+use super::depths;
 use super::handing;
 use super::kinds;
 use super::leaves;
@@ -255,6 +256,7 @@ pub fn read_script(file: &[u8; FILE_BYTES], memory: &mut Memory) {
     rows::read_script(file, memory);
     uses::note_uses(memory, nodes);
     handing::note_handed(memory, nodes);
+    depths::find_depths(memory, nodes);
 }
 
 // The totals.

@@ -1,4 +1,4 @@
-// Runs the cases of data/, the base's and those of orders 1 to 7, on the six calls, and prints how many calls they
+// Runs the cases of data/, the base's and those of orders 1 to 8, on the six calls, and prints how many calls they
 // make and how much of what each leaves is right. Then it prints the refusal of a file for each number from 1 to 9.
 mod calls;
 mod checks;
@@ -58,6 +58,7 @@ fn main() {
     run_file(Family::Translate, b"translate_5.txt", &mut tally);
     run_file(Family::Translate, b"translate_6.txt", &mut tally);
     run_file(Family::Translate, b"translate_7.txt", &mut tally);
+    run_file(Family::Translate, b"translate_8.txt", &mut tally);
     run_file(Family::Check, b"check.txt", &mut tally);
     run_file(Family::Check, b"check_1.txt", &mut tally);
     run_file(Family::Check, b"check_2.txt", &mut tally);
@@ -66,6 +67,7 @@ fn main() {
     run_file(Family::Check, b"check_5.txt", &mut tally);
     run_file(Family::Check, b"check_6.txt", &mut tally);
     run_file(Family::Check, b"check_7.txt", &mut tally);
+    run_file(Family::Check, b"check_8.txt", &mut tally);
     run_file(Family::EarlierDeliver, b"deliver.txt", &mut tally);
     run_file(Family::EarlierDeliver, b"deliver_1.txt", &mut tally);
     run_file(Family::Deliver, b"deliver_2.txt", &mut tally);
@@ -74,6 +76,7 @@ fn main() {
     run_file(Family::Deliver, b"deliver_5.txt", &mut tally);
     run_file(Family::Deliver, b"deliver_6.txt", &mut tally);
     run_file(Family::Deliver, b"deliver_7.txt", &mut tally);
+    run_file(Family::Deliver, b"deliver_8.txt", &mut tally);
     run_file(Family::Swap, b"swap_4.txt", &mut tally);
     cases::print_tally(&tally);
     refusals::print_refusals();

@@ -269,7 +269,7 @@ fn work_call(
     machine_lines::done(w, at + 1 + n, r.steps)
 }
 
-// Works a loop: what it begins with, and then its passes.
+// Works a loop: what it begins with, its passes, and what it ends with.
 fn work_loop(
     kinds: &&[u8],
     operands: &&[i64],
@@ -315,7 +315,7 @@ fn work_loop(
                 passes,
             );
             let next = machine_code::end_in(table, start);
-            machine_lines::bind_result(env, calls, x, r, next)
+            machine_loops::end_loop(slots, heads, env, calls, x, passes, r, next)
         }
         Begun::NoneFree => machine_lines::halted(machine_lines::OUT_OF_CELLS, steps - 1),
     }
@@ -370,7 +370,7 @@ fn work_pass(
         if stop != 0 {
             return r;
         }
-        let next = machine_loops::end_pass(slots, heads, env, calls, l, v, r.value);
+        let next = machine_loops::end_pass(slots, heads, env, calls, l, v, i, r.value);
         let Next::Word(u) = next else {
             return machine_lines::halted(machine_lines::BAD_GUARD, r.steps);
         };

@@ -85,6 +85,7 @@ pub record NotNamed (kind : ℕ) : Type 0 where
   pub k18 : kind ≡ 18 → ⊥
   pub k19 : kind ≡ 19 → ⊥
   pub k20 : kind ≡ 20 → ⊥
+  pub k21 : kind ≡ 21 → ⊥
 
 pub operation-of-kind : (kind n : ℕ) (a b : Atom) → NotNamed kind → Operation kind (n % 256) a b ≡ line-of kind n a
     b
@@ -103,6 +104,7 @@ operation-of-kind kind n a b h =
       ne-eqb kind 18 (h .k18),
       ne-eqb kind 19 (h .k19),
       ne-eqb kind 20 (h .k20),
+      ne-eqb kind 21 (h .k21),
     )
 
 pub less-one : (n : ℕ) → 0 < n → n ≡ suc (n - 1)

@@ -45,7 +45,8 @@ line-of kind n a b =
     (cond (eqb kind 18) (Replicate (n % 256) a b)
     (cond (eqb kind 19) (Loop (n % 256) (P.Filter (n / 256 % 256) a))
     (cond (eqb kind 20) (Loop (n % 256) (P.Reduce (n / 256 % 256) (n / 65536 % 256) a b))
-    (Operation kind (n % 256) a b)))))))))))))
+    (cond (eqb kind 21) (Loop (n % 256) (P.Rewrite (n / 256 % 256) a))
+    (Operation kind (n % 256) a b))))))))))))))
 
 unfoldable pub line-at : List ℕ → List ℤ → ℕ → Line
 line-at kinds operands at =

@@ -14,11 +14,12 @@ pub enum Atom {
 }
 
 // A loop without its tree: the names of a pass, and the atoms. A reduce has the name of its running value before the
-// element's, and its start before its array.
+// element's, and its start before its array. A rewrite is a map in the cell of its array.
 pub enum Loop {
     Map(u8, Atom),
     Filter(u8, Atom),
     Reduce(u8, u8, Atom, Atom),
+    Rewrite(u8, Atom),
 }
 
 // A line without its trees; it begins with the name that it binds, an operation's with its kind.
@@ -137,6 +138,7 @@ pub fn line_at(kinds: &[u8], operands: &[i64], at: usize) -> Line
                 atom_at(kinds, operands, at + 2),
             ),
         ),
+        21 => Line::Loop(x, Loop::Rewrite(y, a)),
         _ => Line::Operation(kind, x, a, atom_at(kinds, operands, at + 2)),
     }
 }

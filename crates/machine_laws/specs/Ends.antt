@@ -11,7 +11,7 @@ use lib.ListN.{getD, set, length, length-append, length-set}
 use lib.Seq.{getD-set-same, getD-set-other}
 use types.Run.{OneOf, miss}
 use borrow.Author.Tests.{ne-eqb, ltb-true, ltb-false}
-use Rattle.semantics.specs.Kinds.{Leaf, Loop, mapping, filtering, reducing, leaf-kind, loop-kind, packed-names}
+use Rattle.semantics.specs.Kinds.{Leaf, Loop, mapping, filtering, reducing, rewriting, leaf-kind, loop-kind, packed-names}
 use Rattle.semantics.specs.Code as C
 use Rattle.semantics.specs.Code.{Row, row, atom-row, rows, line-rows}
 use Rattle.machine_code.specs.Reading.{end-in}
@@ -209,7 +209,8 @@ module _ (kinds : List ℕ) (operands : List ℤ) (n : ℕ) (few : n ≤ 4096) (
       ne-eqb (leaf-kind l) 12 (λ e. other (inr (inr (inr (inl e))))),
       ne-eqb (leaf-kind l) 13 (λ e. other (inr (inr (inr (inr (inl e)))))),
       ne-eqb (leaf-kind l) 19 (λ e. other (inr (inr (inr (inr (inr (inr (inl e)))))))),
-      ne-eqb (leaf-kind l) 20 (λ e. other (inr (inr (inr (inr (inr (inr (inr e)))))))),
+      ne-eqb (leaf-kind l) 20 (λ e. other (inr (inr (inr (inr (inr (inr (inr (inl e))))))))),
+      ne-eqb (leaf-kind l) 21 (λ e. other (inr (inr (inr (inr (inr (inr (inr (inr e))))))))),
     ) refl;
     no-end = λ e. other (inr (inr (inr (inr (inr (inl e))))));
   }
@@ -222,6 +223,7 @@ module _ (kinds : List ℕ) (operands : List ℤ) (n : ℕ) (few : n ≤ 4096) (
   loop-row mapping q a e v = tree-row 13 q a e v (λ z. omega arith) (λ z. omega arith) refl
   loop-row filtering q a e v = tree-row 19 q a e v (λ z. omega arith) (λ z. omega arith) refl
   loop-row reducing q a e v = tree-row 20 q a e v (λ z. omega arith) (λ z. omega arith) refl
+  loop-row rewriting q a e v = tree-row 21 q a e v (λ z. omega arith) (λ z. omega arith) refl
 
   -- a tree's rows are among the n
   tree-short : (t : C.Tree) (p : ℕ) → At kinds operands p (rows t) → p + length (rows t) ≤ n

@@ -6,8 +6,9 @@ use native.Mathlib.Omega.{arith}
 use lib.IntN.{ℤ, pos}
 use lib.ListN.{getD, length}
 use Rattle.semantics.specs.Basics.{tabulate, updated}
-use Rattle.semantics.specs.Outcome.{Outcome, stop, onward, give, passes}
-use Rattle.semantics.specs.Kinds.{Loop, mapping, filtering, reducing, loop-kind, packed-names, Borrowing}
+use Rattle.semantics.specs.Outcome.{Outcome, stop, onward, _>>_, give, passes}
+use Rattle.semantics.specs.Kinds.{Loop, mapping, filtering, reducing, rewriting, loop-kind, packed-names}
+use Rattle.semantics.specs.Kinds.{Borrowing}
 use Rattle.semantics.specs.Store.{Store, cell, cell-of, elements}
 use Rattle.semantics.specs.Code as K
 use Rattle.semantics.specs.Code.{row, atom-row, rows}
@@ -16,7 +17,7 @@ use Rattle.semantics.specs.Annotate.{NameDepths}
 use Rattle.semantics.specs.Machine as M
 use Rattle.semantics.specs.Machine.{State, Frame, Program, word, step, stepped, with-left, work, work-line, work-pass}
 use Rattle.semantics.specs.Machine.{elements-of, held, touching, looped-over}
-use Rattle.semantics.specs.Machine.{carried-first, pass-words, in-progress}
+use Rattle.semantics.specs.Machine.{carried-first, pass-words, in-progress, loop-ends}
 use Rattle.laws.specs.Tests.{or-left}
 use Rattle.soundness.specs.machine.Discipline.{AllKnown, New, AllNew, LoopFits, Fitting, Scoped}
 use Rattle.machine_code.specs.Reading.{atom-at, line-of, line-at, depth-in, end-in}
@@ -25,19 +26,20 @@ use Rattle.machine_code.specs.declared.Line.{Line}
 use Rattle.machine_lines.specs.Frames.{place, word-of, element-depth, level-place}
 use Rattle.machine_lines.specs.Lines.{Memory, memory, Ran, out, bound, array-of, Doing, looping}
 use Rattle.machine_lines.specs.Lines.{doing}
+use Rattle.machine_loops.specs.declared.Way.{Way}
 use Rattle.machine_loops.specs.Loops.{way-of, carry-first}
-use Rattle.machine_positions.specs.Machine.{Code, Callee, and-then, binding, Looped, looped, carry-by, carry-on}
+use Rattle.machine_positions.specs.Machine.{Code, Callee, and-then, binding-passed, Looped, looped, carry-by, carry-on}
 use Rattle.machine_positions.specs.Machine.{passes-on, loop-worked, loop-line, tree-on}
 use Rattle.machine_laws.specs.Rows.{Here, At, Jumps, coded, atom-here, line-read}
 use Rattle.machine_laws.specs.Frames.{Bounded, FrameAgrees, FrameKept, small-known, word-same, kept-none}
 use Rattle.machine_laws.specs.Frames.{Framed, framed-kept, kept-then}
 use Rattle.machine_laws.specs.Frames.{agrees-kept, bounded-all}
-use Rattle.machine_laws.specs.Passes.{PassNames, maps, filters, reduces, entered-agrees, entered-kept}
+use Rattle.machine_laws.specs.Passes.{PassNames, maps, filters, reduces, rewrites, entered-agrees, entered-kept}
 use Rattle.machine_laws.specs.Passes.{element-known, element-word, first-small, second-small, carry-first-same}
-use Rattle.machine_laws.specs.Passes.{after-body, carry-by-same}
+use Rattle.machine_laws.specs.Passes.{after-body, carry-by-same, way-stays, ends-same}
 use Rattle.machine_laws.specs.Levels.{LevelsAgree, levels-set, levels-touched}
 use Rattle.machine_laws.specs.Same.{Rel, WordDone, TreeDone, LineDone, rel-then, rel-step, rel-map}
-use Rattle.machine_laws.specs.Same.{onward-onward, word-moved, word-kept, bound-done}
+use Rattle.machine_laws.specs.Same.{onward-onward, word-moved, word-kept}
 
 -- ---- how a loop stands in the code: a clause for each kind
 
@@ -126,6 +128,16 @@ module _ (p : Program) (Γ : NameDepths) (c : Code) (calls at : ℕ) (m : Memory
   loop-read x reducing (q ∷ o ∷ []) [] d fits new news known r rs = absurd (omega (arith, fits .limits))
   loop-read x reducing (q ∷ o ∷ []) (u ∷ []) d fits new news known r rs = absurd (omega (arith, fits .limits))
   loop-read x reducing (q ∷ o ∷ []) (u ∷ v ∷ w ∷ us) d fits new news known r rs = absurd (omega (arith, fits .limits))
+  loop-read x rewriting (q ∷ []) (u ∷ []) d fits new news known r rs = record {
+    first = q;
+    second = q;
+    names = rewrites q;
+    is = one-read 21 rewriting (λ n a o. refl) x q u new news known r rs;
+  }
+  loop-read x rewriting [] us d fits new news known r rs = absurd (omega (arith, ap length (fits .names)))
+  loop-read x rewriting (q ∷ o ∷ ps) us d fits new news known r rs = absurd (omega (arith, ap length (fits .names)))
+  loop-read x rewriting (q ∷ []) [] d fits new news known r rs = absurd (omega (arith, fits .limits))
+  loop-read x rewriting (q ∷ []) (u ∷ v ∷ us) d fits new news known r rs = absurd (omega (arith, fits .limits))
 
 -- ---- all loops
 
@@ -154,12 +166,16 @@ module _ (free : ℕ) (p : Program) (callee : M.Callee) (β : Borrowing) (Γ : N
       (names : PassNames k ps y z) (new : AllNew ps S) (e : ℕ) (t : K.Tree) (claim : TreeClaim t)
       (lt : length (rows t) ≤ n) (d : ℕ) (fit : Fitting p Γ t d)
       (scoped : Scoped t (S ∪ just ps)) (at : ℕ) (rs : At (c .kinds) (c .operands) at (rows t)) (B : Set) (R : List ℕ)
-      (a : ℤ) where
+      (a : ℤ) (way : Way) where
     abbrev W : ℕ → Memory → Ran
     W = tree-on n C c calls at
 
     abbrev l : Looped
-    l = looped (way-of k e) W calls y z (cell-of a)
+    l = looped way W calls y z (cell-of a)
+
+    -- a word was carried on, which goes with the way
+    abbrev Carried : List ℤ → Ran → ℤ → State → Type 0
+    Carried env w v s = WordDone free calls env S w v s × (way ≡ way-of k e (cell-of a) v)
 
     abbrev body : List ℤ → M.Work ℤ
     body = λ vs. work callee β Γ t B R (M.binding ps vs ρ)
@@ -168,26 +184,25 @@ module _ (free : ℕ) (p : Program) (callee : M.Callee) (β : Borrowing) (Γ : N
     rest count i v = passes (work-pass k e body a) v (tabulate i count (λ j. j))
 
     -- one pass, before the others
-    pass-same : (count i : ℕ) (v : ℤ) (s₀ : State) (e₀ : List ℤ) → FrameAgrees calls e₀ ρ S → Framed calls f e₀ →
-        LevelsAgree free (s₀ .log) e₀ →
-        ((u : ℤ) (s₁ : State) (e₁ : List ℤ) → FrameAgrees calls e₁ ρ S → Framed calls f e₁ →
-        LevelsAgree free (s₁ .log) e₁ → Rel free (WordDone free calls e₁ S)
+    pass-same : (count i : ℕ) (v : ℤ) → way ≡ way-of k e (cell-of a) v → (s₀ : State) (e₀ : List ℤ) →
+        FrameAgrees calls e₀ ρ S → Framed calls f e₀ → LevelsAgree free (s₀ .log) e₀ →
+        ((u : ℤ) → way ≡ way-of k e (cell-of a) u → (s₁ : State) (e₁ : List ℤ) → FrameAgrees calls e₁ ρ S →
+        Framed calls f e₁ → LevelsAgree free (s₁ .log) e₁ → Rel free (Carried e₁)
         (passes-on l count u (suc i) (s₁ .left) (memory (s₁ .store) e₁)) (rest count (suc i) u s₁)) →
-        (m : ℕ) → s₀ .left ≡ m → Rel free (WordDone free calls e₀ S) (passes-on l (suc count) v i m (memory (s₀
-        .store) e₀))
+        (m : ℕ) → s₀ .left ≡ m →
+        Rel free (Carried e₀) (passes-on l (suc count) v i m (memory (s₀ .store) e₀))
         (onward (λ u. rest count (suc i) u) (onward (λ _ s₁. onward (λ ws s₂. onward
-        (λ r. after-body k e v (getD ws i (pos 0)) r) (body (pass-words k v (getD ws i (pos 0))) s₂))
+        (λ r. after-body k e a i v (getD ws i (pos 0)) r) (body (pass-words k v (getD ws i (pos 0))) s₂))
         (elements-of a s₁)) (stepped m s₀)))
     unfolding passes-on onward stepped with-left elements-of M.with-store
-    pass-same count i v s₀ e₀ g₀ l₀ v₀ more zero q =
+    pass-same count i v we s₀ e₀ g₀ l₀ v₀ more zero q =
         record { stop = refl; real = λ z. omega arith; steps = sym q; levels = v₀ }
-    pass-same count i v s₀ e₀ g₀ l₀ v₀ more (suc m) q =
-        subst (λ (o : Outcome State ℤ). Rel free (WordDone free calls e₀ S) (and-then (W m (memory (s₀ .store) e₁))
-        carry) o)
-        (sym (onward-onward (λ u. rest count (suc i) u) (λ r. after-body k e v item r) (body vs s₁)))
-        (rel-then free (TreeDone free (at + length (rows t)) calls e₁ (S ∪ just ps)) (WordDone free calls e₀ S)
+    pass-same count i v we s₀ e₀ g₀ l₀ v₀ more (suc m) q =
+        subst (λ (o : Outcome State ℤ). Rel free (Carried e₀) (and-then (W m (memory (s₀ .store) e₁)) carry) o)
+        (sym (onward-onward (λ u. rest count (suc i) u) (λ r. after-body k e a i v item r) (body vs s₁)))
+        (rel-then free (TreeDone free (at + length (rows t)) calls e₁ (S ∪ just ps)) (Carried e₀)
         (W m (memory (s₀ .store) e₁)) (body vs s₁) carry
-        (λ r s₂. onward (λ u. rest count (suc i) u) (after-body k e v item r s₂))
+        (λ r s₂. onward (λ u. rest count (suc i) u) (after-body k e a i v item r s₂))
         (claim n lt few (S ∪ just ps) d fit scoped (bounded-all ps S new b) at rs B R (M.binding ps vs ρ) s₁ e₁
         (entered-agrees calls e₀ ρ S b l₀ v item names new g₀) (framed-kept kept₁ l₀) levels₁)
         (λ r s₂ h. after r s₂ h))
@@ -215,51 +230,52 @@ module _ (free : ℕ) (p : Program) (callee : M.Callee) (β : Borrowing) (Γ : N
         s₁ = M.with-store (with-left s₀ m) (s₀ .store) (touching (s₀ .store) (cell-of a))
 
         carry : Ran → Ran
-        carry = λ w. and-then (carry-on l v w)
+        carry = λ w. and-then (carry-on l v i w)
             (λ u. passes-on l count (u .out .value) (i + 1) (u .out .steps) (u .memory))
 
         after : (r : ℤ) (s₂ : State) →
             TreeDone free (at + length (rows t)) calls e₁ (S ∪ just ps) (W m (memory (s₀ .store) e₁)) r s₂ →
-            Rel free (WordDone free calls e₀ S) (carry (W m (memory (s₀ .store) e₁)))
-            (onward (λ u. rest count (suc i) u) (after-body k e v item r s₂))
+            Rel free (Carried e₀) (carry (W m (memory (s₀ .store) e₁)))
+            (onward (λ u. rest count (suc i) u) (after-body k e a i v item r s₂))
         after r s₂ h =
             let w : Ran = W m (memory (s₀ .store) e₁) in
-            let x : Ran = carry-on l v w in
-            rel-then free (WordDone free calls (w .memory .env) S) (WordDone free calls e₀ S) x (after-body k e v
-            item r s₂)
+            let o : ℤ = getD (w .memory .env) (place calls z) (pos 0) in
+            let x : Ran = carry-on l v i w in
+            rel-then free (WordDone free calls (w .memory .env) S) (Carried e₀) x (after-body k e a i v item r s₂)
             (λ u. passes-on l count (u .out .value) (i + 1) (u .out .steps) (u .memory)) (λ u. rest count (suc i) u)
-            (subst (λ (o : ℤ).
-            Rel free (WordDone free calls (w .memory .env) S) (carry-by (way-of k e) v o w) (after-body k e v item r
-            s₂))
+            (subst (λ (y : Way). Rel free (WordDone free calls (w .memory .env) S) (carry-by y v i o w)
+            (after-body k e a i v item r s₂)) (sym we)
+            (subst (λ (o : ℤ). Rel free (WordDone free calls (w .memory .env) S)
+            (carry-by (way-of k e (cell-of a) v) v i o w) (after-body k e a i v item r s₂))
             (sym (h .word .kept .names z (element-known calls e₀ ρ S b l₀ v item names)
             ∙ element-word calls e₀ ρ S b l₀ v item y z (bounded-all ps S new b .below z
             (element-known calls e₀ ρ S b l₀ v item names))))
-            (carry-by-same free k e v item calls S w r s₂ (h .word .value) (h .word .steps) (h .word .store)
-            (h .word .levels)))
+            (carry-by-same free k e a i v item calls S w r s₂ (h .word .value) (h .word .steps) (h .word .store)
+            (h .word .levels))))
             (λ u s₃ q.
             let kept : FrameKept calls e₀ (x .memory .env) S =
             kept-then calls e₀ (w .memory .env) (x .memory .env) S S (λ y z. z)
             (kept-then calls e₀ e₁ (w .memory .env) S (S ∪ just ps) (λ y z. or-left (S y) (just ps y) z)
             kept₁ (h .word .kept)) (q .kept) in
-            subst (λ (y : Ran). Rel free (WordDone free calls e₀ S) y (rest count (suc i) u s₃))
+            subst (λ (y : Ran). Rel free (Carried e₀) y (rest count (suc i) u s₃))
             (sym (word-moved (λ y j μ. passes-on l count y (i + 1) j μ) q
             ∙ ap (λ (j : ℕ). passes-on l count u j (s₃ .left) (memory (s₃ .store) (x .memory .env)))
             (let z : i + 1 ≡ suc i = omega arith in z)))
-            (rel-map free (WordDone free calls (x .memory .env) S) (WordDone free calls e₀ S)
+            (rel-map free (Carried (x .memory .env)) (Carried e₀)
             (passes-on l count u (suc i) (s₃ .left) (memory (s₃ .store) (x .memory .env))) (rest count (suc i) u s₃)
-            (λ y s₄ z. word-kept free calls e₀ (x .memory .env) S S (λ o j. j) kept _ y s₄ z)
-            (more u s₃ (x .memory .env) (agrees-kept calls e₀ (x .memory .env) ρ S g₀ kept)
-            (framed-kept kept l₀) (q .levels))))
+            (λ y s₄ z. (word-kept free calls e₀ (x .memory .env) S S (λ o j. j) kept _ y s₄ (z .0), z .1))
+            (more u (way-stays k e (cell-of a) v way we i o w ∙ ap (way-of k e (cell-of a)) (q .value)) s₃
+            (x .memory .env) (agrees-kept calls e₀ (x .memory .env) ρ S g₀ kept) (framed-kept kept l₀) (q .levels))))
 
-    passes-same : (count i : ℕ) (v : ℤ) (s₀ : State) (e₀ : List ℤ) → FrameAgrees calls e₀ ρ S → Framed calls f e₀ →
-        LevelsAgree free (s₀ .log) e₀ → Rel free (WordDone free calls e₀ S)
-        (passes-on l count v i (s₀ .left) (memory (s₀ .store) e₀)) (rest count i v s₀)
+    passes-same : (count i : ℕ) (v : ℤ) → way ≡ way-of k e (cell-of a) v → (s₀ : State) (e₀ : List ℤ) →
+        FrameAgrees calls e₀ ρ S → Framed calls f e₀ → LevelsAgree free (s₀ .log) e₀ →
+        Rel free (Carried e₀) (passes-on l count v i (s₀ .left) (memory (s₀ .store) e₀)) (rest count i v s₀)
     unfolding passes-on passes tabulate work-pass step
-    passes-same zero i v s₀ e₀ g₀ l₀ v₀ =
-        (refl, record { value = refl; steps = refl; store = refl; kept = kept-none calls e₀ S; levels = v₀ })
-    passes-same (suc count) i v s₀ e₀ g₀ l₀ v₀ =
-        pass-same count i v s₀ e₀ g₀ l₀ v₀
-        (λ u s₁ e₁ g₁ l₁ v₁. passes-same count (suc i) u s₁ e₁ g₁ l₁ v₁) (s₀ .left) refl
+    passes-same zero i v we s₀ e₀ g₀ l₀ v₀ =
+        (refl, (record { value = refl; steps = refl; store = refl; kept = kept-none calls e₀ S; levels = v₀ }, we))
+    passes-same (suc count) i v we s₀ e₀ g₀ l₀ v₀ =
+        pass-same count i v we s₀ e₀ g₀ l₀ v₀
+        (λ u ue s₁ e₁ g₁ l₁ v₁. passes-same count (suc i) u ue s₁ e₁ g₁ l₁ v₁) (s₀ .left) refl
 
   -- a loop's line
   module _ (depths : (x : ℕ) → x < 256 → depth-in (c .table) f x ≡ Γ x) (jumps : Jumps c) (n : ℕ) (few : n ≤ 4096)
@@ -289,46 +305,54 @@ module _ (free : ℕ) (p : Program) (callee : M.Callee) (β : Borrowing) (Γ : N
     abbrev R′ : List ℕ
     R′ = R ++ held Γ (among us B) ρ
 
-    abbrev whole : Looped
-    whole = looped (way-of k (pred (Γ x))) (tree-on n C c calls start) calls y z (cell-of array)
+    abbrev way : ℤ → Way
+    way v = way-of k (pred (Γ x)) (cell-of array) v
 
     abbrev count : ℕ
     count = length (array-of (s .store) array)
 
-    abbrev bind : Ran → Ran
-    bind = λ w. binding calls x (end-in (c .table) start) w
+    abbrev next : ℕ
+    next = end-in (c .table) start
 
-    abbrev then-passes : ℤ → M.Work Frame
-    then-passes v s₃ = onward (λ w. give (updated ρ x w))
-        (passes (work-pass k (pred (Γ x)) (λ vs. work callee β Γ t B (R′ ++ in-progress k v) (M.binding ps vs ρ)) array)
-        v (tabulate 0 count (λ i. i)) s₃)
+    -- the passes over positions, into the first of which v is carried, and what follows them
+    abbrev passed : ℤ → ℕ → Memory → Ran
+    passed v j μ = passes-on (looped (way v) (tree-on n C c calls start) calls y z (cell-of array)) count v 0 j μ
+
+    abbrev follows : Ran → Ran
+    follows v = and-then (passed (v .out .value) (v .out .steps) (v .memory))
+        (λ w. binding-passed (way (v .out .value)) (cell-of array) calls x next w)
+
+    -- the same in the machine
+    abbrev run : ℤ → M.Work ℤ
+    run v = passes (work-pass k (pred (Γ x)) (λ vs. work callee β Γ t B (R′ ++ in-progress k v) (M.binding ps vs ρ))
+        array) v (tabulate 0 count (λ i. i))
+
+    abbrev ends : ℤ → M.Work Frame
+    ends w = loop-ends k array w >> give (updated ρ x w)
 
     after-first : (m : ℕ) (s₂ : State) → m ≡ s₂ .left → s .store ≡ s₂ .store → LevelsAgree free (s₂ .log) env →
-        Rel free Done (and-then (carry-first k (pred (Γ x)) ws m (memory (s .store) env))
-        (λ v. and-then (passes-on whole count (v .out .value) 0 (v .out .steps) (v .memory)) bind))
-        (onward then-passes (carried-first k R′ (pred (Γ x)) ws s₂))
+        Rel free Done (and-then (carry-first k (pred (Γ x)) ws m (memory (s .store) env)) follows)
+        (onward (λ v s₃. onward ends (run v s₃)) (carried-first k R′ (pred (Γ x)) ws s₂))
     after-first m s₂ e h told =
-        rel-then free (WordDone free calls env S) Done first (carried-first k R′ (pred (Γ x)) ws s₂)
-        (λ v. and-then (passes-on whole count (v .out .value) 0 (v .out .steps) (v .memory)) bind) then-passes
+        rel-then free (WordDone free calls env S) Done first (carried-first k R′ (pred (Γ x)) ws s₂) follows
+        (λ v s₃. onward ends (run v s₃))
         (subst (λ (σ : Store). Rel free (WordDone free calls env S) (carry-first k (pred (Γ x)) ws m (memory σ env))
         (carried-first k R′ (pred (Γ x)) ws s₂)) (sym h)
         (carry-first-same free k R′ (pred (Γ x)) ws calls S b env m s₂ e framed told))
         (λ v s₃ q.
-        subst (λ (y : Ran). Rel free Done (and-then y bind) (then-passes v s₃))
-        (sym (word-moved (λ y j μ. passes-on whole count y 0 j μ) q))
-        (rel-then free (WordDone free calls (first .memory .env) S) Done
-        (passes-on whole count v 0 (s₃ .left) (memory (s₃ .store) (first .memory .env)))
-        (passes (work-pass k (pred (Γ x)) (λ vs. work callee β Γ t B (R′ ++ in-progress k v) (M.binding ps vs ρ)) array)
-        v (tabulate 0 count (λ i. i)) s₃) bind (λ w. give (updated ρ x w))
+        subst (λ (u : Ran). Rel free Done u (onward ends (run v s₃)))
+        (sym (word-moved (λ u j μ. and-then (passed u j μ)
+        (λ w. binding-passed (way u) (cell-of array) calls x next w)) q))
+        (rel-then free (λ w u s₄. WordDone free calls (first .memory .env) S w u s₄ × (way v ≡ way u)) Done
+        (passed v (s₃ .left) (memory (s₃ .store) (first .memory .env))) (run v s₃)
+        (λ w. binding-passed (way v) (cell-of array) calls x next w) ends
         (passes-same n few S b ρ k ps y z names news (pred (Γ x)) t claim lt d fit scoped start rs B
-        (R′ ++ in-progress k v) array count 0 v s₃ (first .memory .env)
+        (R′ ++ in-progress k v) array (way v) count 0 v refl s₃ (first .memory .env)
         (agrees-kept calls env (first .memory .env) ρ S g (q .kept))
         (framed-kept (q .kept) framed) (q .levels))
-        (λ w s₄ z. (
-          refl,
-          bound-done free calls env ρ S b g framed x new (end-in (c .table) start) goal (jumps t start rs ∙ ge) _ w s₄
-              (word-kept free calls env (first .memory .env) S S (λ o j. j) (q .kept) _ w s₄ z),
-        ))))
+        (λ w s₄ z. ends-same free calls env ρ S b g framed x new next goal (jumps t start rs ∙ ge) _ w s₄
+        (word-kept free calls env (first .memory .env) S S (λ o j. j) (q .kept) _ w s₄ (z .0)) k (pred (Γ x)) array
+        (way v) (z .1))))
       where
         first : Ran
         first = carry-first k (pred (Γ x)) ws m (memory (s .store) env)
@@ -341,7 +365,7 @@ module _ (free : ℕ) (p : Program) (callee : M.Callee) (β : Borrowing) (Γ : N
         rel-step free Done s (memory (s .store) env)
         (λ m. loop-worked (tree-on n C c calls) c calls x k y z start m (memory (s .store) env)
         (map (word-of calls env) (map coded us)))
-        (λ _ s₁. onward (λ vs s₂. onward (λ v s₃. onward (λ w. give (updated ρ x w))
+        (λ _ s₁. onward (λ vs s₂. onward (λ v s₃. onward ends
         (passes (work-pass k (pred (Γ x)) (λ vs. work callee β Γ t B (R′ ++ in-progress k v) (M.binding ps vs ρ)) array)
         v (tabulate 0 (length vs) (λ i. i)) s₃)) (carried-first k R′ (pred (Γ x)) ws s₂)) (elements-of array s₁))
         levels (λ m. rw (

@@ -13,7 +13,7 @@ use types.Run.{miss}
 use borrow.Author.Tests.{ne-eqb, lt-ltb}
 use Rattle.semantics.specs.Number.{sum, difference, less}
 use Rattle.semantics.specs.Kinds.{Leaf, operation, call, literal, index, length-of, iota, replicate, leaf-kind}
-use Rattle.semantics.specs.Kinds.{Loop, mapping, filtering, reducing, loop-kind}
+use Rattle.semantics.specs.Kinds.{Loop, mapping, filtering, reducing, rewriting, loop-kind}
 use Rattle.semantics.specs.Code as C
 use Rattle.semantics.specs.Code.{Row, atom-row, rows, line-rows}
 use Rattle.machine_code.specs.Reading.{atom-at, is-atom, two-rows, line-of, line-at, end-in}
@@ -81,7 +81,7 @@ module _ (kinds : List ℕ) (operands : List ℤ) (at : ℕ) where
 
 -- the kinds that are no leaf's: of functions, atoms, ifs, loops and ends
 abbrev pub not-leaves : List ℕ
-not-leaves = 0 ∷ 2 ∷ 3 ∷ 12 ∷ 13 ∷ 16 ∷ 19 ∷ 20 ∷ []
+not-leaves = 0 ∷ 2 ∷ 3 ∷ 12 ∷ 13 ∷ 16 ∷ 19 ∷ 20 ∷ 21 ∷ []
 
 pub leaf-apart : (l : Leaf) → T (not (hasKey not-leaves (leaf-kind l)))
 leaf-apart (operation sum) = tt
@@ -104,6 +104,7 @@ loop-no-atom : (k : Loop) → is-atom (loop-kind k) ≡ false
 loop-no-atom mapping = refl
 loop-no-atom filtering = refl
 loop-no-atom reducing = refl
+loop-no-atom rewriting = refl
 
 -- the rows of a tree begin with no atom
 pub no-atom : (kinds : List ℕ) (operands : List ℤ) (at : ℕ) (t : C.Tree) → At kinds operands at (rows t) →

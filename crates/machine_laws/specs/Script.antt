@@ -15,7 +15,7 @@ use Rattle.semantics.specs.Annotate.{depths-of, annotated-body, parameter-rows,
 use Rattle.semantics.specs.Calls.{judged, accepted, request-fits}
 use Rattle.semantics.specs.Words.{store-of}
 use Rattle.semantics.specs.Sound.{sound-words}
-use Rattle.semantics.specs.Machine.{Routine, program, delivered}
+use Rattle.semantics.specs.Machine.{Routine, program-in, program, delivered}
 use Rattle.soundness.specs.annotation.Reader.{AllOf, FunctionLimits}
 use Rattle.soundness.specs.annotation.Accepting.{Clean, judged-clean, functions-disciplined, main-shape-of}
 use Rattle.laws.specs.Routines.{length-routines, routine-is}
@@ -119,7 +119,7 @@ module _ (file : List ℕ) (fs : Script) (ok : judged file ≡ accepted fs) (few
   clean = judged-clean file fs ok
 
   pub stands : (c : Code) → Coded fs c → (f : ℕ) → f < length (program fs .routines) → FunctionStands (program fs) c f
-  unfolding code program
+  unfolding code program-in
   stands c held f l =
       let T = borrowed fs in
       let h : f < length fs = omega (arith, l, length-routines fs) in
@@ -148,7 +148,7 @@ module _ (file : List ℕ) (fs : Script) (ok : judged file ≡ accepted fs) (few
       sound-words (main-depth fs) slots heads ≡ true → request-fits readings budget ≡ true →
       delivered-on c readings (main-depth fs) budget (store-of slots heads)
       ≡ delivered (program fs) readings budget (store-of slots heads)
-  unfolding program
+  unfolding program-in
   deliver-accepted c held readings budget slots heads sound request =
       delivered-same (program fs) (omega (arith, few, length-routines fs)) c
       (omega (arith, clean .limits .0, length-routines fs))

@@ -10,7 +10,7 @@ use Rattle.semantics.specs.Basics.{updated}
 use Rattle.semantics.specs.Outcome.{onward, give, require}
 use Rattle.semantics.specs.Number.{is-zero, is-answer}
 use Rattle.semantics.specs.Kinds.{Leaf, operation, call, literal, index, length-of, iota, replicate, leaf-kind}
-use Rattle.semantics.specs.Kinds.{Loop, mapping, filtering, reducing, loop-kind, Borrowing}
+use Rattle.semantics.specs.Kinds.{Loop, mapping, filtering, reducing, rewriting, loop-kind, Borrowing}
 use Rattle.semantics.specs.Store.{Store}
 use Rattle.semantics.specs.Code as K
 use Rattle.semantics.specs.Code.{atom-row, rows, line-rows, ending}
@@ -57,6 +57,7 @@ loop-open : (k : Loop) (n : ℕ) (a b : Atom) → is-end (line-of (loop-kind k) 
 loop-open mapping n a b = refl
 loop-open filtering n a b = refl
 loop-open reducing n a b = refl
+loop-open rewriting n a b = refl
 
 line-open : (kinds : List ℕ) (operands : List ℤ) (at : ℕ) (l : K.Line) → At kinds operands at (line-rows l) →
     is-end (line-at kinds operands at) ≡ false

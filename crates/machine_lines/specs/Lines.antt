@@ -8,7 +8,7 @@ use lib.Dec.{eqb}
 use lib.ListN.{getD, set, length, replicate}
 use Rattle.semantics.specs.Basics.{tabulate}
 use Rattle.semantics.specs.Outcome.{Outcome, done, stop}
-use Rattle.semantics.specs.Kinds.{Loop, mapping, filtering, reducing}
+use Rattle.semantics.specs.Kinds.{Loop, mapping, filtering, reducing, rewriting}
 use Rattle.semantics.specs.Number.{Operation, sum, difference, less, exact, inside}
 use Rattle.semantics.specs.Store.{Store, cell, cell-of, elements, acquired, retained, released, deepest, cells-taken}
 use Rattle.semantics.specs.Machine.{is-count}
@@ -18,7 +18,7 @@ use Rattle.store.specs.Acquiring.{Gained, next-cell}
 use Rattle.machine_code.specs.declared.Atom.{Atom}
 use Rattle.machine_code.specs.declared.Atom.the-variants.{Name}
 use Rattle.machine_code.specs.declared.Loop as P
-use Rattle.machine_code.specs.declared.Loop.the-variants.{Map, Filter, Reduce}
+use Rattle.machine_code.specs.declared.Loop.the-variants.{Map, Filter, Reduce, Rewrite}
 use Rattle.machine_code.specs.declared.Line.{Line}
 use Rattle.machine_code.specs.declared.Line.the-variants as L
 use Rattle.machine_lines.specs.declared.Out.{Out}
@@ -215,21 +215,25 @@ abbrev pub kind-of : P.Loop → Loop
 kind-of (Map p a) = mapping
 kind-of (Filter p a) = filtering
 kind-of (Reduce p q a b) = reducing
+kind-of (Rewrite p a) = rewriting
 
 abbrev pub first-name : P.Loop → ℕ
 first-name (Map p a) = p
 first-name (Filter p a) = p
 first-name (Reduce p q a b) = p
+first-name (Rewrite p a) = p
 
 abbrev pub second-name : P.Loop → ℕ
 second-name (Map p a) = p
 second-name (Filter p a) = p
 second-name (Reduce p q a b) = q
+second-name (Rewrite p a) = p
 
 abbrev pub atoms-of : P.Loop → List Atom
 atoms-of (Map p a) = a ∷ []
 atoms-of (Filter p a) = a ∷ []
 atoms-of (Reduce p q a b) = a ∷ b ∷ []
+atoms-of (Rewrite p a) = a ∷ []
 
 -- the line at a position, by its variant
 unfoldable pub doing : List ℕ → List ℤ → List ℕ → ℕ → ℕ → Memory → Line → Doing

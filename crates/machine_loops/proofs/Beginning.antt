@@ -1,37 +1,38 @@
 -- Laws of what a loop begins with, and of the cells that its passes use.
-use mathlib.Core.Path.{_≡_, refl, sym, ap, subst, _∙_}
-use mathlib.Core.Bool.{Bool, true, false}
+use mathlib.Core.Path.{_≡_, refl, sym, ap, ap₂, subst, _∙_}
+use mathlib.Core.Bool.{Bool, true, false, cond, true≢false}
 use mathlib.Core.List.{List, [], _∷_, map}
 use Prim.Native.Nat.{ℕ, _<_}
 use native.Mathlib.Omega.{arith}
 use lib.IntN.{ℤ, pos}
-use lib.Dec.{ltb}
+use lib.Dec.{eqb, ltb}
 use lib.ListN.{length}
 use denote.Enum.Declared.{tagOf}
 use types.Run.{OneOf, miss}
-use borrow.Author.Tests.{ltb-true, ltb-false}
-use Rattle.semantics.specs.Kinds.{Loop}
-use Rattle.semantics.specs.Store.{Store, cell, cell-of, elements, acquired, has-free, cell-count}
+use borrow.Author.Tests.{eq-eqb, ne-eqb, ltb-true, ltb-false}
+use Rattle.semantics.specs.Kinds.{Loop, rewriting}
+use Rattle.semantics.specs.Store.{Store, Cell as C, cell, cell-of, clear, elements, acquired, has-free, cell-count}
 use Rattle.semantics.specs.Machine.{looped-over}
 use Rattle.semantics.specs.Words.{store-of, cells-in}
-use Rattle.store_words.proofs.CellWords.{in-cells, store-size, length-out}
+use Rattle.store_words.proofs.CellWords.{in-cells, store-size, cell-out, length-out}
 use Rattle.store.specs.Acquiring.{Gained, gained, acquired-outcome, next-cell}
 use Rattle.store.specs.declared.Acquired.{Acquired}
 use Rattle.store.specs.declared.Acquired.the-variants.{Cell, NoneFree}
 use Rattle.store.proofs.Filling.{cell-given}
 use Rattle.machine_code.specs.declared.Atom.{Atom}
 use Rattle.machine_code.specs.declared.Loop as P
-use Rattle.machine_code.specs.declared.Loop.the-variants.{Map, Filter, Reduce}
+use Rattle.machine_code.specs.declared.Loop.the-variants.{Map, Filter, Reduce, Rewrite}
 use Rattle.machine_code.proofs.Loop.{the-type}
 use Rattle.machine_lines.specs.Frames.{word-of, level-of, noted, noted-by}
-use Rattle.machine_lines.specs.Lines.{Memory, memory, ran, out, halted, acquired-given, gave, kind-of, atoms-of}
+use Rattle.machine_lines.specs.Lines.{Memory, memory, ran, out, acquired-given, gave, kind-of, atoms-of}
 use Rattle.machine_loops.specs.declared.Way.{Way}
-use Rattle.machine_loops.specs.declared.Way.the-variants.{Fill, Keep, Hand}
+use Rattle.machine_loops.specs.declared.Way.the-variants.{Fill, Keep, Hand, Overwrite}
 use Rattle.machine_loops.specs.declared.Passes.{Passes}
+use Rattle.machine_loops.specs.declared.First.{First}
 use Rattle.machine_loops.specs.declared.First.the-variants.{Word, NoneFree as NoCell}
 use Rattle.machine_loops.specs.declared.Begun.the-variants.{NoneFree as NoPasses}
-use Rattle.machine_loops.specs.Loops.{array-atom, way-of, new-carried, carry-first, Within, ResultWithin}
-use Rattle.machine_loops.specs.Loops.{Carries, Readied, Begins}
+use Rattle.machine_loops.specs.Loops.{array-atom, way-of, new-carried, is-alone, carry-first, Within}
+use Rattle.machine_loops.specs.Loops.{ResultWithin, NewCarries, Carries, Readied, Begins}
 
 -- ---- cells that are there
 
@@ -42,9 +43,10 @@ within-kept slots slots′ heads heads′ c s h w = (w .0, omega (arith, h, w .1
 
 pub result-kept : (way : Way) (slots slots′ : List ℤ) (heads heads′ : List ℕ) (c : ℕ) → length slots′ ≡ length slots →
     length heads′ ≡ length heads → ResultWithin way slots heads c → ResultWithin way slots′ heads′ c
-result-kept Fill slots slots′ heads heads′ c s h w = within-kept slots slots′ heads heads′ c s h w
+result-kept (Fill releases) slots slots′ heads heads′ c s h w = within-kept slots slots′ heads heads′ c s h w
 result-kept (Keep arrays) slots slots′ heads heads′ c s h w = within-kept slots slots′ heads heads′ c s h w
 result-kept Hand slots slots′ heads heads′ c s h w = tt
+result-kept Overwrite slots slots′ heads heads′ c s h w = within-kept slots slots′ heads heads′ c s h w
 
 -- the cell that an acquire answers
 pub cell-within : (slots : List ℤ) (heads : List ℕ) (free : ℕ) (q : Acquired) (c left : ℕ) →
@@ -81,6 +83,7 @@ module _ (calls : ℕ) (env : List ℤ) (l : P.Loop) where
       go (Map p a) = refl
       go (Filter p a) = refl
       go (Reduce p q b a) = refl
+      go (Rewrite p a) = refl
 
   -- a reduce's start
   pub start-carried : (p q : ℕ) (b a : Atom) → l ≡ Reduce p q b a → (d : ℕ) (slots : List ℤ) (heads : List ℕ) (w : ℤ) →
@@ -93,13 +96,9 @@ module _ (calls : ℕ) (env : List ℤ) (l : P.Loop) where
         tt,
       )
 
--- the loops that take a cell
-abbrev filling : List ℕ
-filling = 0 ∷ 1 ∷ []
-
-module _ (l : P.Loop) (h : OneOf filling (tagOf the-type l)) (d : ℕ) (ws : List ℤ) (σ : Store) (env : List ℤ)
-    (free : ℕ) (fe : free ≡ level-of env) (slots : List ℤ) (heads : List ℕ) (q : Acquired)
-    (qe : acquired-outcome q ≡ next-cell free σ) (store : store-of slots heads ≡ acquired d [] σ) where
+-- a new cell for the result
+module _ (d : ℕ) (σ : Store) (env : List ℤ) (free : ℕ) (fe : free ≡ level-of env) (slots : List ℤ) (heads : List ℕ)
+    (q : Acquired) (qe : acquired-outcome q ≡ next-cell free σ) (store : store-of slots heads ≡ acquired d [] σ) where
   cell-is : (s : ℕ) → new-carried d s (memory σ env)
       ≡ gave s (memory (store-of slots heads) (noted-by (acquired-outcome q) env)) (acquired-given (acquired-outcome q))
   cell-is s =
@@ -107,33 +106,103 @@ module _ (l : P.Loop) (h : OneOf filling (tagOf the-type l)) (d : ℕ) (ws : Lis
       λ i. gave s (memory (sym store i) (noted-by (e i) env)) (acquired-given (e i))
 
   pub cell-carried : (c n : ℕ) → q ≡ Cell c n → (env′ : List ℤ) → env′ ≡ noted n env → Within slots heads c → (z : ℤ) →
-      z ≡ pos c → Carries (kind-of l) d ws (memory σ env) slots heads env′ (Word z)
+      z ≡ pos c → NewCarries d (memory σ env) slots heads env′ (Word z)
   unfolding cell-of
-  cell-carried c n e env′ ne w z ze = go l h
+  cell-carried c n e env′ ne w z ze = (
+    λ s. cell-is s ∙ rw (e, ze, ne) refl,
+    subst (λ (y : ℤ). Within slots heads (cell-of y)) (sym ze) w,
+  )
+
+  pub none-carried : q ≡ NoneFree → NewCarries d (memory σ env) slots heads env NoCell
+  none-carried e s = cell-is s ∙ rw e refl
+
+-- the loops that always take a cell
+abbrev filling : List ℕ
+filling = 0 ∷ 1 ∷ []
+
+module _ (l : P.Loop) (d : ℕ) (ws : List ℤ) (m : Memory) (slots : List ℤ) (heads : List ℕ) (env : List ℤ) where
+  pub new-carries : OneOf filling (tagOf the-type l) → (r : First) → NewCarries d m slots heads env r →
+      Carries (kind-of l) d ws m slots heads env r
+  new-carries h r n = go l h r n
     where
-      carried : (s : ℕ) → new-carried d s (memory σ env) ≡ ran (out 0 z 0 s) (memory (store-of slots heads) env′)
-      carried s = cell-is s ∙ rw (e, ze, ne) refl
+      go : (k : P.Loop) → OneOf filling (tagOf the-type k) → (r : First) → NewCarries d m slots heads env r →
+          Carries (kind-of k) d ws m slots heads env r
+      go (Map p a) g (Word w) n = n
+      go (Map p a) g NoCell n = n
+      go (Filter p a) g (Word w) n = n
+      go (Filter p a) g NoCell n = n
+      go (Reduce p q b a) g r n = absurd (miss filling 2 tt g)
+      go (Rewrite p a) g r n = absurd (miss filling 3 tt g)
 
-      within : Within slots heads (cell-of z)
-      within = subst (λ (y : ℤ). Within slots heads (cell-of y)) (sym ze) w
+-- ---- an array that is to be rewritten
 
-      go : (m : P.Loop) → OneOf filling (tagOf the-type m) →
-          Carries (kind-of m) d ws (memory σ env) slots heads env′ (Word z)
-      go (Map p a) g = (carried, within)
-      go (Filter p a) g = (carried, within)
-      go (Reduce p r b a) g = absurd (miss filling 2 tt g)
+-- a cell with one reference is there
+alone-within : (slots : List ℤ) (heads : List ℕ) (w : ℤ) → is-alone (store-of slots heads) w ≡ true →
+    Within slots heads (cell-of w)
+unfolding clear
+alone-within slots heads w h = go (ltb (cell-of w) (cells-in slots heads)) refl
+  where
+    go : (t : Bool) → ltb (cell-of w) (cells-in slots heads) ≡ t → Within slots heads (cell-of w)
+    go true e = in-cells slots heads (cell-of w) (ltb-true _ _ e)
+    go false e = absurd (true≢false (sym h
+        ∙ ap (λ (x : C). eqb (x .count) 1) (cell-out slots heads (cell-of w) (ltb-false _ _ e))))
 
-  pub none-carried : q ≡ NoneFree → Carries (kind-of l) d ws (memory σ env) slots heads env NoCell
-  none-carried e = go l h
+-- what the test of its cell says
+pub alone-told : (σ : Store) (w : ℤ) (c : ℕ) → c ≡ cell-of w → (t u : Bool) → t ≡ eqb (cell σ c .count) 1 → t ≡ u →
+    is-alone σ w ≡ u
+alone-told σ w c ce t u e f = ap (λ (d : ℕ). eqb (cell σ d .count) 1) (sym ce) ∙ sym e ∙ f
+
+-- by whether the array itself is carried into the first pass
+module _ (l : P.Loop) (p : ℕ) (a : Atom) (le : l ≡ Rewrite p a) (d c : ℕ) (v : ℤ) (e : ℕ) (ee : e ≡ cell-of v) where
+  pub way-in-place : e ≡ c → Overwrite ≡ way-of (kind-of l) d c v
+  way-in-place h = subst (λ (k : P.Loop). Overwrite ≡ way-of (kind-of k) d c v) (sym le)
+      (rw (eq-eqb (cell-of v) c (sym ee ∙ h)) refl)
+
+  pub way-anew : (e ≡ c → ⊥) → Fill true ≡ way-of (kind-of l) d c v
+  way-anew h = subst (λ (k : P.Loop). Fill true ≡ way-of (kind-of k) d c v) (sym le)
+      (rw (ne-eqb (cell-of v) c (λ z. h (ee ∙ z))) refl)
+
+-- both ways of such a loop have a cell for the result
+rewrite-within : (t : Bool) (slots : List ℤ) (heads : List ℕ) (c : ℕ) → Within slots heads c →
+    ResultWithin (cond t Overwrite (Fill true)) slots heads c
+rewrite-within true slots heads c h = h
+rewrite-within false slots heads c h = h
+
+module _ (calls : ℕ) (env : List ℤ) (l : P.Loop) (p : ℕ) (a : Atom) (le : l ≡ Rewrite p a) (d : ℕ) (slots : List ℤ)
+    (heads : List ℕ) (w : ℤ) (we : w ≡ word-of calls env a) where
+  abbrev here : Memory
+  here = memory (store-of slots heads) env
+
+  -- what begins a loop that rewrites begins this one
+  as-rewrite : (slots′ : List ℤ) (heads′ : List ℕ) (env′ : List ℤ) (r : First) →
+      Carries rewriting d (w ∷ []) here slots′ heads′ env′ r →
+      Carries (kind-of l) d (words calls env l l) here slots′ heads′ env′ r
+  as-rewrite slots′ heads′ env′ r =
+      subst (λ (k : P.Loop). Carries rewriting d (w ∷ []) here slots′ heads′ env′ r →
+      Carries (kind-of k) d (words calls env l k) here slots′ heads′ env′ r) (sym le)
+      (subst (λ (y : ℤ). Carries rewriting d (w ∷ []) here slots′ heads′ env′ r →
+      Carries rewriting d (y ∷ []) here slots′ heads′ env′ r) we (λ h. h))
+
+  -- nothing else refers to the array
+  pub alone-carried : is-alone (store-of slots heads) w ≡ true →
+      Carries (kind-of l) d (words calls env l l) here slots heads env (Word w)
+  alone-carried h = as-rewrite slots heads env (Word w) (
+    λ s. rw h,
+    rewrite-within (eqb (cell-of w) (cell-of w)) slots heads (cell-of w) (alone-within slots heads w h),
+  )
+
+  -- something does
+  pub shared-carried : is-alone (store-of slots heads) w ≡ false → (slots′ : List ℤ) (heads′ : List ℕ) (env′ : List ℤ)
+      (r : First) → NewCarries d here slots′ heads′ env′ r →
+      Carries (kind-of l) d (words calls env l l) here slots′ heads′ env′ r
+  shared-carried h slots′ heads′ env′ r n = as-rewrite slots′ heads′ env′ r (go r n)
     where
-      dry : (s : ℕ) → new-carried d s (memory σ env) ≡ halted 25 s (memory (store-of slots heads) env)
-      dry s = cell-is s ∙ rw e refl
-
-      go : (m : P.Loop) → OneOf filling (tagOf the-type m) →
-          Carries (kind-of m) d ws (memory σ env) slots heads env NoCell
-      go (Map p a) g = dry
-      go (Filter p a) g = dry
-      go (Reduce p r b a) g = absurd (miss filling 2 tt g)
+      go : (y : First) → NewCarries d here slots′ heads′ env′ y → Carries rewriting d (w ∷ []) here slots′ heads′ env′ y
+      go (Word v) n = (
+        λ s. rw h (n .0 s),
+        rewrite-within (eqb (cell-of v) (cell-of w)) slots′ heads′ (cell-of v) (n .1),
+      )
+      go NoCell n = λ s. rw h (n s)
 
 -- ---- the passes
 
@@ -144,12 +213,12 @@ module _ (k : Loop) (p q d : ℕ) (ws : List ℤ) (slots slots′ : List ℤ) (h
   before = memory (store-of slots heads) env
 
   -- the passes of a loop into whose first a word is carried
-  pub readied : (l : Passes) → l .way ≡ way-of k depth → l .first ≡ p → l .second ≡ q →
+  pub readied : (l : Passes) → l .way ≡ way-of k depth (l .from) (l .carried) → l .first ≡ p → l .second ≡ q →
       l .from ≡ cell-of (looped-over k ws) → l .count ≡ length (elements (cell (store-of slots heads) (l .from))) →
       Carries k depth ws before slots′ heads′ env′ (Word (l .carried)) →
       Readied k p q d ws before slots′ heads′ env′ l
   readied l way first second from count carries = record {
-    way = way ∙ ap (way-of k) de;
+    way = way ∙ ap₂ (λ (n c : ℕ). way-of k n c (l .carried)) de from;
     first = first;
     second = second;
     from = from;
@@ -158,7 +227,8 @@ module _ (k : Loop) (p q d : ℕ) (ws : List ℤ) (slots slots′ : List ℤ) (h
     usable = record {
       array = λ n. within-kept slots slots′ heads heads′ (l .from) slots-long heads-long
           (array-within slots heads (l .from) (omega (arith, n, count)));
-      result = subst (λ (y : Way). ResultWithin y slots′ heads′ (cell-of (l .carried))) (sym way) (carries .1);
+      result = subst (λ (y : Way). ResultWithin y slots′ heads′ (cell-of (l .carried)))
+          (sym (way ∙ ap (λ (c : ℕ). way-of k depth c (l .carried)) from)) (carries .1);
     };
   }
 

@@ -1,19 +1,32 @@
--- Laws of what a pass carries on.
+-- Laws of what a pass carries on, and of what a loop ends with.
 use mathlib.Core.Path.{_≡_, refl, sym, ap, ap₂, subst, _∙_}
 use mathlib.Core.Bool.{Bool, true, false}
-use mathlib.Core.List.{List}
-use Prim.Native.Nat.{ℕ}
+use mathlib.Core.List.{List, [], _∷_}
+use Prim.Native.Nat.{ℕ, _-_}
+use native.Mathlib.Omega.{arith}
 use lib.IntN.{ℤ}
+use lib.ListN.{length}
+use denote.Enum.Declared.{tagOf}
+use types.Run.{OneOf, miss}
 use mir.Syntax.{w64}
 use mir.Val.{SFits, ofZ}
+use borrow.Author.Tests.{eq-eqb, ne-eqb}
 use Rattle.semantics.specs.Number.{is-answer}
-use Rattle.semantics.specs.Store.{Store, cell-of, appended, retained}
+use Rattle.semantics.specs.Store.{Store, cell-of, appended, overwritten, retained, cells-taken}
+use Rattle.semantics.specs.Words.{store-of}
+use Rattle.store.specs.Acquiring.{Releases}
+use Rattle.machine_lines.specs.declared.Out.{Out}
+use Rattle.machine_lines.specs.Frames.{raised}
+use Rattle.machine_lines.specs.Lines.{Memory, memory, ran, out, bound}
+use Rattle.machine_lines.proofs.Levels.{raised-long}
 use Rattle.machine_lines.proofs.Gathering.{guard-zero, guard-not}
 use Rattle.machine_loops.specs.declared.Way.{Way}
-use Rattle.machine_loops.specs.declared.Way.the-variants.{Fill, Keep, Hand}
+use Rattle.machine_loops.specs.declared.Way.the-variants.{Fill, Keep, Hand, Overwrite}
 use Rattle.machine_loops.specs.declared.Next.{Next}
 use Rattle.machine_loops.specs.declared.Next.the-variants.{Word, BadGuard}
-use Rattle.machine_loops.specs.Loops.{retained-if, kept, Within, ResultWithin, CarriesOn}
+use Rattle.machine_loops.proofs.Way.{the-type}
+use Rattle.machine_loops.specs.Loops.{retained-if, kept, loop-ended, loop-bound, Within, ResultWithin}
+use Rattle.machine_loops.specs.Loops.{CarriesOn}
 
 module _ (arrays : Bool) (c : ℕ) (σ : Store) where
   pub retained-asked : arrays ≡ true → retained c σ ≡ retained-if arrays c σ
@@ -32,31 +45,92 @@ module _ (arrays : Bool) (c : ℕ) (w r : ℤ) (σ : Store) (fits : SFits w64 r)
 
 -- ---- the ways that a pass ends
 
-module _ (way : Way) (into : ℕ) (carried : ℤ) (ce : into ≡ cell-of carried) (v w r : ℤ) (σ τ : Store) where
-  abbrev Ended : Next → Way → Type 0
-  Ended n y = CarriesOn y (cell-of carried) v w r σ τ n
+module _ (way : Way) (into : ℕ) (carried : ℤ) (ce : into ≡ cell-of carried) (v : ℤ) (i : ℕ) (w r : ℤ) (σ τ : Store)
+  where
+    abbrev Ended : Next → Way → Type 0
+    Ended n y = CarriesOn y (cell-of carried) v i w r σ τ n
 
-  pub fills : way ≡ Fill → τ ≡ appended into r σ → Ended (Word v) way
-  fills e h = subst (Ended (Word v)) (sym e) (refl, refl, h ∙ ap (λ (c : ℕ). appended c r σ) ce)
+    pub fills : (releases : Bool) → way ≡ Fill releases → τ ≡ appended into r σ → Ended (Word v) way
+    fills releases e h =
+        subst (Ended (Word v)) (sym e) (refl, refl, h ∙ ap (λ (c : ℕ). appended c r σ) ce)
 
-  module _ (arrays : Bool) (g : way ≡ Keep arrays) where
-    pub keeps-on : is-answer r ≡ true → (e : ℤ) → e ≡ w → τ ≡ kept arrays into e r σ → Ended (Word v) way
-    keeps-on answer e we h = subst (Ended (Word v)) (sym g)
-        (answer, refl, h ∙ ap₂ (λ (c : ℕ) (y : ℤ). kept arrays c y r σ) ce we)
+    module _ (arrays : Bool) (g : way ≡ Keep arrays) where
+      pub keeps-on : is-answer r ≡ true → (e : ℤ) → e ≡ w → τ ≡ kept arrays into e r σ → Ended (Word v) way
+      keeps-on answer e we h = subst (Ended (Word v)) (sym g)
+          (answer, refl, h ∙ ap₂ (λ (c : ℕ) (y : ℤ). kept arrays c y r σ) ce we)
 
-    pub doubts : is-answer r ≡ false → τ ≡ σ → Ended BadGuard way
-    doubts none h = subst (Ended BadGuard) (sym g) (none, h)
+      pub doubts : is-answer r ≡ false → τ ≡ σ → Ended BadGuard way
+      doubts none h = subst (Ended BadGuard) (sym g) (none, h)
 
-  pub hands : way ≡ Hand → τ ≡ σ → Ended (Word r) way
-  hands e h = subst (Ended (Word r)) (sym e) (refl, refl, h)
+    pub hands : way ≡ Hand → τ ≡ σ → Ended (Word r) way
+    hands e h = subst (Ended (Word r)) (sym e) (refl, refl, h)
+
+    pub overwrites : way ≡ Overwrite → τ ≡ overwritten into i r σ → Ended (Word v) way
+    overwrites e h = subst (Ended (Word v)) (sym e) (refl, refl, h ∙ ap (λ (c : ℕ). overwritten c i r σ) ce)
 
 -- the cell of the result is there
 module _ (way : Way) (slots : List ℤ) (heads : List ℕ) (into : ℕ) (carried : ℤ) (ce : into ≡ cell-of carried)
     (within : ResultWithin way slots heads (cell-of carried)) where
-  pub fills-within : way ≡ Fill → Within slots heads into
-  fills-within e = subst (Within slots heads) (sym ce)
+  pub fills-within : (releases : Bool) → way ≡ Fill releases → Within slots heads into
+  fills-within releases e = subst (Within slots heads) (sym ce)
       (subst (λ (y : Way). ResultWithin y slots heads (cell-of carried)) e within)
 
   pub keeps-within : (arrays : Bool) → way ≡ Keep arrays → Within slots heads into
   keeps-within arrays e = subst (Within slots heads) (sym ce)
       (subst (λ (y : Way). ResultWithin y slots heads (cell-of carried)) e within)
+
+  pub overwrites-within : way ≡ Overwrite → Within slots heads into
+  overwrites-within e = subst (Within slots heads) (sym ce)
+      (subst (λ (y : Way). ResultWithin y slots heads (cell-of carried)) e within)
+
+-- ---- the end of a loop
+
+-- the array is released, if the way says so
+module _ (way : Way) (c : ℕ) (slots : List ℤ) (heads : List ℕ) (env : List ℤ) where
+  abbrev before : Memory
+  before = memory (store-of slots heads) env
+
+  pub releases-array : (releases : Bool) → way ≡ Fill releases → releases ≡ true → (slots′ : List ℤ) (heads′ : List ℕ)
+      (freed : ℕ) → Releases 4 c (store-of slots heads) (store-of slots′ heads′) freed → (env′ : List ℤ) →
+      env′ ≡ raised freed env → memory (store-of slots′ heads′) env′ ≡ loop-ended way c before
+  releases-array releases e t slots′ heads′ freed h env′ f =
+      subst (λ (y : Way). memory (store-of slots′ heads′) env′ ≡ loop-ended y c before) (sym (e ∙ ap Fill t))
+      (ap₂ (λ (σ : Store) (l : List ℤ). memory σ l) (h .store)
+      (f ∙ ap (λ (n : ℕ). raised n env)
+      (let z : freed ≡ cells-taken (store-of slots heads) - cells-taken (store-of slots′ heads′) =
+      omega (arith, h .freed) in z)
+      ∙ ap (λ (σ : Store). raised (cells-taken (store-of slots heads) - cells-taken σ) env) (h .store)))
+
+  pub releases-not : (releases : Bool) → way ≡ Fill releases → releases ≡ false → before ≡ loop-ended way c before
+  releases-not releases e t =
+      subst (λ (y : Way). before ≡ loop-ended y c before) (sym (e ∙ ap Fill t)) refl
+
+-- the ways that release nothing
+abbrev keeping : List ℕ
+keeping = 1 ∷ 2 ∷ 3 ∷ []
+
+pub releases-none : (way : Way) (c : ℕ) (slots : List ℤ) (heads : List ℕ) (env : List ℤ) →
+    OneOf keeping (tagOf the-type way) →
+    memory (store-of slots heads) env ≡ loop-ended way c (memory (store-of slots heads) env)
+releases-none (Fill releases) c slots heads env h = absurd (miss keeping 0 tt h)
+releases-none (Keep arrays) c slots heads env h = refl
+releases-none Hand c slots heads env h = refl
+releases-none Overwrite c slots heads env h = refl
+
+-- the frames keep their length
+pub ended-long : (way : Way) (c : ℕ) (m : Memory) → length (loop-ended way c m .env) ≡ length (m .env)
+ended-long (Fill true) c m = raised-long _ (m .env)
+ended-long (Fill false) c m = refl
+ended-long (Keep arrays) c m = refl
+ended-long Hand c m = refl
+ended-long Overwrite c m = refl
+
+-- what the passes gave is bound, unless they were stopped
+module _ (way : Way) (c calls x next : ℕ) (r : Out) (m : Memory) where
+  pub loop-stopped : (r .stop ≡ 0 → ⊥) → ran r m ≡ loop-bound way c calls x next r m
+  loop-stopped h = rw (ne-eqb (r .stop) 0 h)
+
+  pub loop-given : r .stop ≡ 0 → (m′ : Memory) → m′ ≡ loop-ended way c m → (env : List ℤ) →
+      env ≡ bound calls x (r .value) (m′ .env) → (q : Out) → q ≡ out 0 (r .value) next (r .steps) →
+      ran q (memory (m′ .store) env) ≡ loop-bound way c calls x next r m
+  loop-given h m′ me env ee q qe = rw (eq-eqb (r .stop) 0 h, qe, ee, me) refl

@@ -7,17 +7,18 @@ use lib.IntN.{ℤ}
 use lib.Dec.{eqb}
 use lib.ListN.{length}
 use Rattle.semantics.specs.Number.{is-zero, is-answer}
-use Rattle.semantics.specs.Kinds.{Loop, mapping, filtering, reducing}
-use Rattle.semantics.specs.Store.{Store, cell-of, appended, retained}
+use Rattle.semantics.specs.Kinds.{Loop, mapping, filtering, reducing, rewriting}
+use Rattle.semantics.specs.Store.{Store, cell, cell-of, appended, overwritten, retained}
 use Rattle.semantics.specs.Machine.{argument, looped-over}
 use Rattle.semantics.specs.Words.{store-of}
 use Rattle.machine_code.specs.declared.Atom.{Atom}
 use Rattle.machine_code.specs.declared.Loop as P
-use Rattle.machine_code.specs.declared.Loop.the-variants.{Map, Filter, Reduce}
+use Rattle.machine_code.specs.declared.Loop.the-variants.{Map, Filter, Reduce, Rewrite}
+use Rattle.machine_lines.specs.declared.Out.{Out}
 use Rattle.machine_lines.specs.Lines.{Memory, memory, Ran, ran, out, halted, bound, acquired-given, cell-from, gave}
-use Rattle.machine_lines.specs.Lines.{acquired-memory, array-of}
+use Rattle.machine_lines.specs.Lines.{goes-on, acquired-memory, released-memory, array-of}
 use Rattle.machine_loops.specs.declared.Way.{Way}
-use Rattle.machine_loops.specs.declared.Way.the-variants.{Fill, Keep, Hand}
+use Rattle.machine_loops.specs.declared.Way.the-variants.{Fill, Keep, Hand, Overwrite}
 use Rattle.machine_loops.specs.declared.Passes.{Passes}
 use Rattle.machine_loops.specs.declared.Begun.{Begun}
 use Rattle.machine_loops.specs.declared.Begun.the-variants as B
@@ -31,12 +32,15 @@ abbrev pub array-atom : P.Loop → Atom
 array-atom (Map p a) = a
 array-atom (Filter p a) = a
 array-atom (Reduce p q b a) = a
+array-atom (Rewrite p a) = a
 
--- what a pass does with the word that its tree gave; d is the depth of the elements of the loop's result
-abbrev pub way-of : Loop → ℕ → Way
-way-of mapping d = Fill
-way-of filtering d = Keep (not (eqb d 0))
-way-of reducing d = Hand
+-- What a pass does with the word that its tree gave; d is the depth of the elements of the loop's result. A map that
+-- rewrites does so if what is carried into its first pass is its own array, the cell c.
+abbrev pub way-of : Loop → ℕ → ℕ → ℤ → Way
+way-of mapping d c v = Fill false
+way-of filtering d c v = Keep (not (eqb d 0))
+way-of reducing d c v = Hand
+way-of rewriting d c v = cond (eqb (cell-of v) c) Overwrite (Fill true)
 
 -- ---- what is carried into the first pass
 
@@ -44,11 +48,17 @@ way-of reducing d = Hand
 abbrev pub new-carried : ℕ → ℕ → Memory → Ran
 new-carried d s m = gave s (acquired-memory d [] m) (acquired-given (cell-from m))
 
--- such a cell, or a reduce's start
+-- whether the cell that a word names has one reference
+abbrev pub is-alone : Store → ℤ → Bool
+is-alone σ w = eqb (cell σ (cell-of w) .count) 1
+
+-- such a cell, a reduce's start, or an array that is to be rewritten, if nothing else refers to it
 abbrev pub carry-first : Loop → ℕ → List ℤ → ℕ → Memory → Ran
 carry-first mapping d ws s m = new-carried d s m
 carry-first filtering d ws s m = new-carried d s m
 carry-first reducing d ws s m = ran (out 0 (argument ws 0) 0 s) m
+carry-first rewriting d ws s m =
+    cond (is-alone (m .store) (argument ws 0)) (ran (out 0 (argument ws 0) 0 s) m) (new-carried d s m)
 
 -- ---- a pass
 
@@ -58,15 +68,17 @@ begun-frames calls p q v w env = bound calls q w (bound calls p v env)
 
 -- whether a pass takes what its tree gave: a filter takes an answer
 abbrev pub is-taken : Way → ℤ → Bool
-is-taken Fill r = true
+is-taken (Fill releases) r = true
 is-taken (Keep arrays) r = is-answer r
 is-taken Hand r = true
+is-taken Overwrite r = true
 
 -- what a pass carries on: v was carried into it, and its tree gave r
 abbrev pub carried-word : Way → ℤ → ℤ → ℤ
-carried-word Fill v r = v
+carried-word (Fill releases) v r = v
 carried-word (Keep arrays) v r = v
 carried-word Hand v r = r
+carried-word Overwrite v r = v
 
 abbrev pub retained-if : Bool → ℕ → Store → Store
 retained-if true c σ = retained c σ
@@ -76,11 +88,27 @@ retained-if false c σ = σ
 abbrev pub kept : Bool → ℕ → ℤ → ℤ → Store → Store
 kept arrays c w r σ = cond (is-zero r) σ (appended c w (retained-if arrays (cell-of w) σ))
 
--- the store that the pass over w leaves, where the loop's result is the cell c
-abbrev pub carried-store : Way → ℕ → ℤ → ℤ → Store → Store
-carried-store Fill c w r σ = appended c r σ
-carried-store (Keep arrays) c w r σ = kept arrays c w r σ
-carried-store Hand c w r σ = σ
+-- the store that pass i, over w, leaves, where the loop's result is the cell c
+abbrev pub carried-store : Way → ℕ → ℕ → ℤ → ℤ → Store → Store
+carried-store (Fill releases) c i w r σ = appended c r σ
+carried-store (Keep arrays) c i w r σ = kept arrays c w r σ
+carried-store Hand c i w r σ = σ
+carried-store Overwrite c i w r σ = overwritten c i r σ
+
+-- ---- the end of a loop
+
+-- the memory after the passes over a cell: an array that was to be rewritten and was not is released
+abbrev pub loop-ended : Way → ℕ → Memory → Memory
+loop-ended (Fill true) c m = released-memory c m
+loop-ended (Fill false) c m = m
+loop-ended (Keep arrays) c m = m
+loop-ended Hand c m = m
+loop-ended Overwrite c m = m
+
+-- what the passes over a cell gave, if they were not stopped, bound to a name
+abbrev pub loop-bound : Way → ℕ → ℕ → ℕ → ℕ → Out → Memory → Ran
+loop-bound way c calls x next r m =
+    cond (eqb (r .stop) 0) (goes-on calls x (r .value) next (r .steps) (loop-ended way c m)) (ran r m)
 
 -- ---- what the functions promise
 
@@ -90,34 +118,43 @@ Within slots heads c = (c < 256) × (4 * c + 4 < length heads) × (16 * c + 16 <
 
 -- the cell of a loop's result is there, where it has one
 abbrev pub ResultWithin : Way → List ℤ → List ℕ → ℕ → Type 0
-ResultWithin Fill slots heads c = Within slots heads c
+ResultWithin (Fill releases) slots heads c = Within slots heads c
 ResultWithin (Keep arrays) slots heads c = Within slots heads c
 ResultWithin Hand slots heads c = Unit {0}
+ResultWithin Overwrite slots heads c = Within slots heads c
 
 -- the cells of the passes are there
 pub record Usable (slots : List ℤ) (heads : List ℕ) (l : Passes) : Type 0 where
   pub array : 0 < l .count → Within slots heads (l .from)
   pub result : ResultWithin (l .way) slots heads (cell-of (l .carried))
 
+-- a new cell is carried into the first pass, or there is none
+abbrev pub NewCarries : ℕ → Memory → List ℤ → List ℕ → List ℤ → First → Type 0
+NewCarries d m slots heads env (F.Word w) =
+    ((s : ℕ) → new-carried d s m ≡ ran (out 0 w 0 s) (memory (store-of slots heads) env))
+    × Within slots heads (cell-of w)
+NewCarries d m slots heads env F.NoneFree =
+    (s : ℕ) → new-carried d s m ≡ halted 25 s (memory (store-of slots heads) env)
+
 -- a word is carried into the first pass, or there is no cell
 abbrev pub Carries : Loop → ℕ → List ℤ → Memory → List ℤ → List ℕ → List ℤ → First → Type 0
 Carries k d ws m slots heads env (F.Word w) =
     ((s : ℕ) → carry-first k d ws s m ≡ ran (out 0 w 0 s) (memory (store-of slots heads) env))
-    × ResultWithin (way-of k d) slots heads (cell-of w)
+    × ResultWithin (way-of k d (cell-of (looped-over k ws)) w) slots heads (cell-of w)
 Carries k d ws m slots heads env F.NoneFree =
     (s : ℕ) → carry-first k d ws s m ≡ halted 25 s (memory (store-of slots heads) env)
 
--- The pass over w, into which v was carried and whose tree gave r, carries a word on; or it does not take r, and leaves
+-- Pass i, over w, into which v was carried and whose tree gave r, carries a word on; or it does not take r, and leaves
 -- the store as it is.
-abbrev pub CarriesOn : Way → ℕ → ℤ → ℤ → ℤ → Store → Store → Next → Type 0
-CarriesOn way c v w r σ τ (N.Word u) =
-    (is-taken way r ≡ true) × (u ≡ carried-word way v r) × (τ ≡ carried-store way c w r σ)
-CarriesOn way c v w r σ τ N.BadGuard = (is-taken way r ≡ false) × (τ ≡ σ)
+abbrev pub CarriesOn : Way → ℕ → ℤ → ℕ → ℤ → ℤ → Store → Store → Next → Type 0
+CarriesOn way c v i w r σ τ (N.Word u) =
+    (is-taken way r ≡ true) × (u ≡ carried-word way v r) × (τ ≡ carried-store way c i w r σ)
+CarriesOn way c v i w r σ τ N.BadGuard = (is-taken way r ≡ false) × (τ ≡ σ)
 
 -- the passes of a loop of kind k with the names p and q, whose atoms have the words ws
 pub record Readied (k : Loop) (p q d : ℕ) (ws : List ℤ) (m : Memory) (slots : List ℤ) (heads : List ℕ) (env : List ℤ)
     (l : Passes) : Type 0 where
-  pub way : l .way ≡ way-of k d
+  pub way : l .way ≡ way-of k d (cell-of (looped-over k ws)) (l .carried)
   pub first : l .first ≡ p
   pub second : l .second ≡ q
   pub from : l .from ≡ cell-of (looped-over k ws)

@@ -1,7 +1,8 @@
-// The parts of a loop outside its tree: what it begins with, what a pass begins with, and what a pass carries on to the
-// next. A map, a filter and a reduce differ in nothing else.
+// The parts of a loop outside its tree: what it begins with, what a pass begins with, what a pass carries on to the
+// next, and what it ends with. A map, a filter and a reduce differ in nothing else.
 use machine_code::Atom;
 use machine_code::Loop;
+use machine_lines::Out;
 use store::Acquired;
 ghost use mathlib.Core.Path.{_≡_};
 ghost use mathlib.Core.List.{map};
@@ -11,16 +12,20 @@ ghost use lib.ListN.{getD, length};
 ghost use Rattle.semantics.specs.Store.{cell, cell-of, elements};
 ghost use Rattle.semantics.specs.Words.{store-of};
 ghost use Rattle.machine_lines.specs.Frames.{place, word-of, element-depth};
-ghost use Rattle.machine_lines.specs.Lines.{memory, kind-of, first-name, second-name, atoms-of};
+ghost use Rattle.machine_lines.specs.Lines.{memory, kind-of, first-name, second-name, atoms-of, Ends};
 ghost use Rattle.machine_loops.specs.Loops.{array-atom, way-of, begun-frames, retained-if, kept};
-ghost use Rattle.machine_loops.specs.Loops.{Within, ResultWithin, Carries, CarriesOn, Begins};
+ghost use Rattle.machine_loops.specs.Loops.{loop-ended, loop-bound, Within, ResultWithin, NewCarries, Carries};
+ghost use Rattle.machine_loops.specs.Loops.{CarriesOn, Begins};
 
 // What a pass does with the word that its tree gave: a map appends it to the result; a filter appends the element if
-// the word is 1 and not if it is 0, and retains it first where it is an array; a reduce hands it on.
+// the word is 1 and not if it is 0, and retains it first where it is an array; a reduce hands it on; a map in the cell
+// of its array overwrites the element. Where that cell had another reference the map fills a new one, and its array is
+// released after the passes.
 pub enum Way {
-    Fill,
+    Fill(bool),
     Keep(bool),
     Hand,
+    Overwrite,
 }
 
 // The passes of a loop: what each does with the word that its tree gave, the names of the running value and of the
@@ -61,6 +66,7 @@ fn array_of(l: Loop) -> Atom
         Loop::Map(_, a) => a,
         Loop::Filter(_, a) => a,
         Loop::Reduce(_, _, _, a) => a,
+        Loop::Rewrite(_, a) => a,
     }
 }
 
@@ -72,6 +78,7 @@ fn first_name(l: Loop) -> u8
         Loop::Map(p, _) => p,
         Loop::Filter(p, _) => p,
         Loop::Reduce(p, _, _, _) => p,
+        Loop::Rewrite(p, _) => p,
     }
 }
 
@@ -83,17 +90,25 @@ fn second_name(l: Loop) -> u8
         Loop::Map(p, _) => p,
         Loop::Filter(p, _) => p,
         Loop::Reduce(_, q, _, _) => q,
+        Loop::Rewrite(p, _) => p,
     }
 }
 
-// What a pass does, by the depth of the elements of the result.
-fn way_of(l: Loop, depth: u32) -> Way
-    ensures { λ r. ⌜ r ≡ way-of (kind-of l) depth ⌝ }
+// What a pass over a cell does, by the depth of the elements of the result and by what is carried into the first.
+fn way_of(l: Loop, depth: u32, from: usize, carried: i64) -> Way
+    ensures { λ r. ⌜ r ≡ way-of (kind-of l) depth from carried ⌝ }
 {
     match l {
-        Loop::Map(_, _) => Way::Fill,
+        Loop::Map(_, _) => Way::Fill(false),
         Loop::Filter(_, _) => Way::Keep(depth != 0),
         Loop::Reduce(_, _, _, _) => Way::Hand,
+        Loop::Rewrite(_, _) => {
+            if store_words::named_cell(carried) == from {
+                Way::Overwrite
+            } else {
+                Way::Fill(true)
+            }
+        }
     }
 }
 
@@ -105,10 +120,27 @@ pub fn rows_before(l: Loop) -> usize
         Loop::Map(_, _) => 2,
         Loop::Filter(_, _) => 2,
         Loop::Reduce(_, _, _, _) => 3,
+        Loop::Rewrite(_, _) => 2,
     }
 }
 
-// A reduce's start, or a new cell of this element depth for the result.
+// A new cell of this element depth for the result.
+fn acquire_result(slots: &mut [i64], heads: &mut [u32], env: &mut [i64; 8226], depth: u32) -> First
+    requires { ⌜ length (now env) ≡ 8226 ⌝ }
+    ensures { λ r. ⌜ NewCarries depth
+        (memory (store-of (now (slots .entry)) (now (heads .entry))) (now (env .entry)))
+        (now (slots .exit)) (now (heads .exit)) (now (env .exit)) r ⌝ }
+{
+    match store::acquire_empty(slots, heads, depth, machine_lines::level(env)) {
+        Acquired::Cell(c, left) => {
+            machine_lines::note_level(env, left);
+            First::Word(machine_lines::word_from(c))
+        }
+        Acquired::NoneFree => First::NoneFree,
+    }
+}
+
+// A reduce's start, an array that is to be rewritten, if nothing else refers to it, or a new cell for the result.
 fn carry_first(
     slots: &mut [i64],
     heads: &mut [u32],
@@ -122,15 +154,17 @@ fn carry_first(
         (memory (store-of (now (slots .entry)) (now (heads .entry))) (now (env .entry)))
         (now (slots .exit)) (now (heads .exit)) (now (env .exit)) r ⌝ }
 {
-    if let Loop::Reduce(_, _, a, _) = l {
-        return First::Word(machine_lines::word_of(env, calls, a));
-    }
-    match store::acquire_empty(slots, heads, depth, machine_lines::level(env)) {
-        Acquired::Cell(c, left) => {
-            machine_lines::note_level(env, left);
-            First::Word(machine_lines::word_from(c))
+    match l {
+        Loop::Reduce(_, _, a, _) => First::Word(machine_lines::word_of(env, calls, a)),
+        Loop::Rewrite(_, a) => {
+            let w = machine_lines::word_of(env, calls, a);
+            if store::is_alone(slots, heads, store_words::named_cell(w)) {
+                First::Word(w)
+            } else {
+                acquire_result(slots, heads, env, depth)
+            }
         }
-        Acquired::NoneFree => First::NoneFree,
+        _ => acquire_result(slots, heads, env, depth),
     }
 }
 
@@ -158,7 +192,7 @@ pub fn begin_loop(
     let depth = machine_lines::element_depth(table, env, calls, x);
     match carry_first(slots, heads, env, calls, l, depth) {
         First::Word(carried) => {
-            let way = way_of(l, depth);
+            let way = way_of(l, depth, from, carried);
             Begun::Ready(Passes {
                 way,
                 first,
@@ -215,7 +249,7 @@ fn keep(slots: &mut [i64], heads: &mut [u32], arrays: bool, c: usize, w: i64, r:
     }
 }
 
-// Ends a pass, into which v was carried and whose tree gave r: what it carries on. A filter takes 1 and 0 alone, and
+// Ends pass i, into which v was carried and whose tree gave r: what it carries on. A filter takes 1 and 0 alone, and
 // reads the element by its name.
 pub fn end_pass(
     slots: &mut [i64],
@@ -224,18 +258,19 @@ pub fn end_pass(
     calls: usize,
     l: Passes,
     v: i64,
+    i: usize,
     r: i64,
 ) -> Next
     requires { ⌜ (calls < 32) × (length (now env) ≡ 8226)
         × ResultWithin (l .way) (now slots) (now heads) (cell-of (l .carried)) ⌝ }
-    ensures { λ u. ⌜ CarriesOn (l .way) (cell-of (l .carried)) v
+    ensures { λ u. ⌜ CarriesOn (l .way) (cell-of (l .carried)) v i
         (getD (now (env .entry)) (place calls (l .second)) (pos 0)) r
         (store-of (now (slots .entry)) (now (heads .entry))) (store-of (now (slots .exit)) (now (heads .exit))) u ⌝ }
 {
     let into = store_words::named_cell(l.carried);
     let way = l.way;
     match way {
-        Way::Fill => {
+        Way::Fill(_) => {
             store::append_within(slots, heads, into, r);
             Next::Word(v)
         }
@@ -248,5 +283,51 @@ pub fn end_pass(
             Next::Word(v)
         }
         Way::Hand => Next::Word(r),
+        Way::Overwrite => {
+            store::overwrite_within(slots, heads, into, i, r);
+            Next::Word(v)
+        }
     }
+}
+
+// Releases the array of a loop after its passes, if the way says so.
+fn release_array(slots: &mut [i64], heads: &mut [u32], env: &mut [i64; 8226], l: Passes)
+    requires { ⌜ length (now env) ≡ 8226 ⌝ }
+    ensures { λ _. ⌜ memory (store-of (now (slots .exit)) (now (heads .exit))) (now (env .exit))
+        ≡ loop-ended (l .way) (l .from)
+        (memory (store-of (now (slots .entry)) (now (heads .entry))) (now (env .entry))) ⌝ }
+{
+    let way = l.way;
+    if let Way::Fill(releases) = way {
+        if releases {
+            let freed = store::release(slots, heads, l.from, 4);
+            machine_lines::raise_level(env, freed);
+        }
+    }
+}
+
+// Ends a loop whose passes ended with r: binds what they gave to a name, and the code goes on at a position.
+pub fn end_loop(
+    slots: &mut [i64],
+    heads: &mut [u32],
+    env: &mut [i64; 8226],
+    calls: usize,
+    x: u8,
+    l: Passes,
+    r: Out,
+    next: usize,
+) -> Out
+    requires { ⌜ (calls < 32) × (length (now env) ≡ 8226) ⌝ }
+    ensures { λ q. ⌜ Ends (loop-bound (l .way) (l .from) calls x next r
+        (memory (store-of (now (slots .entry)) (now (heads .entry))) (now (env .entry))))
+        q (now (slots .exit)) (now (heads .exit)) (now (env .exit)) ⌝ }
+{
+    let stop = r.stop;
+    if stop != 0 {
+        return r;
+    }
+    release_array(slots, heads, env, l);
+    let w = r.value;
+    machine_lines::bind(env, calls, x, w);
+    machine_lines::done(w, next, r.steps)
 }

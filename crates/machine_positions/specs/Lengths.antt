@@ -8,8 +8,8 @@ use lib.Dec.{eqb}
 use lib.ListN.{length, set, length-set}
 use Rattle.semantics.specs.Outcome.{done, stop}
 use Rattle.semantics.specs.Number.{is-answer}
-use Rattle.semantics.specs.Kinds.{Loop, mapping, filtering, reducing}
-use Rattle.semantics.specs.Machine.{looped-over}
+use Rattle.semantics.specs.Kinds.{Loop, mapping, filtering, reducing, rewriting}
+use Rattle.semantics.specs.Machine.{argument, looped-over}
 use Rattle.semantics.specs.Store.{cell-of}
 use Rattle.machine_code.specs.Reading.{line-at, two-rows, start-in, end-in}
 use Rattle.machine_code.specs.declared.Atom.{Atom}
@@ -25,9 +25,10 @@ use Rattle.machine_lines.specs.Lines.{doing, giving-line, leaf-done, cell-from,
 use Rattle.machine_lines.proofs.Levels.{noted-by-long, raised-long, array-long}
 use Rattle.machine_loops.specs.declared.Way.{Way}
 use Rattle.machine_loops.specs.declared.Passes.{Passes}
-use Rattle.machine_loops.specs.Loops.{way-of, carry-first, is-taken, Readied}
+use Rattle.machine_loops.specs.Loops.{way-of, is-alone, carry-first, is-taken, loop-ended, Readied}
+use Rattle.machine_loops.proofs.Ending.{ended-long}
 use Rattle.machine_positions.specs.Machine.{Work, Callee, Code, and-then, binding, if-line, call-line, looped}
-use Rattle.machine_positions.specs.Machine.{entered, carry-on, passes-on}
+use Rattle.machine_positions.specs.Machine.{entered, carry-on, passes-on, binding-passed, passes-worked}
 use Rattle.machine_positions.specs.Machine.{loop-line}
 use Rattle.machine_positions.specs.Machine.{line-done, line-on, is-end, tree-from, tree-on, call-on, Ended}
 
@@ -124,6 +125,9 @@ carry-first-keeps mapping d ws s m =
 carry-first-keeps filtering d ws s m =
     gave-keeps s (acquired-memory d [] m) (acquired-given (cell-from m)) ∙ noted-by-long (cell-from m) (m .env)
 carry-first-keeps reducing d ws s m = refl
+carry-first-keeps rewriting d ws s m = either m _ _ refl
+    (gave-keeps s (acquired-memory d [] m) (acquired-given (cell-from m)) ∙ noted-by-long (cell-from m) (m .env))
+    (is-alone (m .store) (argument ws 0))
 
 -- the frames with which the passes of a loop begin
 pub readied-long : {k : Loop} {p q d : ℕ} {ws : List ℤ} {m : Memory} {slots : List ℤ} {heads : List ℕ} {env : List ℤ}
@@ -151,9 +155,9 @@ module _ (W : Work) (w : (at s : ℕ) (m : Memory) → Keeps m (W at s m)) where
       let l = looped way (W at) calls p q from in
       let m₁ = memory (m .store) (entered l v i m) in
       let rest : Ran → Ran = λ u. passes-on l n (u .out .value) (i + 1) (u .out .steps) (u .memory) in
-      then-keeps m (W at s m₁) (λ w. and-then (carry-on l v w) rest)
+      then-keeps m (W at s m₁) (λ w. and-then (carry-on l v i w) rest)
       (w at s m₁ ∙ entered-keeps calls p q v _ (m .env))
-      (λ u e. then-keeps m (carry-on l v u) rest (either m _ _ e e (is-taken way (u .out .value)))
+      (λ u e. then-keeps m (carry-on l v i u) rest (either m _ _ e e (is-taken way (u .out .value)))
       (λ y g. passes-keeps way at calls p q from n (y .out .value) (i + 1) (y .out .steps) (y .memory) ∙ g))
 
   loop-keeps : (c : Code) (calls x : ℕ) (k : Loop) (p q : ℕ) (us : List Atom) (at s : ℕ) (m : Memory) →
@@ -164,16 +168,17 @@ module _ (W : Work) (w : (at s : ℕ) (m : Memory) → Keeps m (W at s m)) where
       let d = element-depth (c .table) calls x (m .env) in
       let ws = map (word-of calls (m .env)) us in
       let here = at + suc (length us) in
-      let l = looped (way-of k d) (W here) calls p q (cell-of (looped-over k ws)) in
+      let from = cell-of (looped-over k ws) in
       let n = length (array-of (m .store) (looped-over k ws)) in
-      let bind : Ran → Ran = λ w. binding calls x (end-in (c .table) here) w in
-      then-keeps m (carry-first k d ws s m)
-      (λ v. and-then (passes-on l n (v .out .value) 0 (v .out .steps) (v .memory)) bind)
+      let way : Ran → Way = λ v. way-of k d from (v .out .value) in
+      then-keeps m (carry-first k d ws s m) (λ v. passes-worked W c calls x (way v) p q here from n v)
       (carry-first-keeps k d ws s m)
-      (λ v e. then-keeps m (passes-on l n (v .out .value) 0 (v .out .steps) (v .memory)) bind
-      (passes-keeps (way-of k d) here calls p q (cell-of (looped-over k ws)) n (v .out .value) 0 (v .out .steps)
-      (v .memory) ∙ e)
-      (λ y g. length-set (y .memory .env) (place calls x) (y .out .value) ∙ g))
+      (λ v e. then-keeps m
+      (passes-on (looped (way v) (W here) calls p q from) n (v .out .value) 0 (v .out .steps) (v .memory))
+      (λ w. binding-passed (way v) from calls x (end-in (c .table) here) w)
+      (passes-keeps (way v) here calls p q from n (v .out .value) 0 (v .out .steps) (v .memory) ∙ e)
+      (λ y g. length-set (loop-ended (way v) from (y .memory) .env) (place calls x) (y .out .value)
+      ∙ ended-long (way v) from (y .memory) ∙ g))
 
   module _ (C : Callee) (h : (f : ℕ) (ws : List ℤ) (s : ℕ) (m : Memory) → Keeps m (C f ws s m)) (c : Code) where
     call-keeps : (calls x f at s : ℕ) (m : Memory) → Keeps m (call-line C c calls x f at s m)
@@ -225,24 +230,24 @@ call-on-keeps (suc n) c f ws s m = tree-keeps 4096 (call-on n c) (λ f ws s m. c
 
 -- ---- what the workers leave
 
-ended-long : {w : Ran} {steps : ℕ} {r : Out} {slots : List ℤ} {heads : List ℕ} {env : List ℤ} (m : Memory) →
+worked-long : {w : Ran} {steps : ℕ} {r : Out} {slots : List ℤ} {heads : List ℕ} {env : List ℤ} (m : Memory) →
     Keeps m w → Ended w steps r slots heads env → length env ≡ length (m .env)
-ended-long m k e = ap (λ (w : Ran). length (w .memory .env)) (e .is) ∙ k
+worked-long m k e = ap (λ (w : Ran). length (w .memory .env)) (e .is) ∙ k
 
 module _ (c : Code) (lines calls : ℕ) {r : Out} {slots : List ℤ} {heads : List ℕ} {env : List ℤ} where
   pub tree-long : (at s : ℕ) (m : Memory) {steps : ℕ} →
       Ended (tree-on lines (call-on calls c) c calls at s m) steps r slots heads env → length env ≡ length (m .env)
-  tree-long at s m e = ended-long m (tree-keeps lines (call-on calls c) (call-on-keeps calls c) c calls at s m) e
+  tree-long at s m e = worked-long m (tree-keeps lines (call-on calls c) (call-on-keeps calls c) c calls at s m) e
 
   pub line-long : (at s : ℕ) (m : Memory) (l : Line) {steps : ℕ} →
       Ended (line-on (tree-on lines (call-on calls c) c calls) (call-on calls c) c calls at s m l) steps r slots
       heads env → length env ≡ length (m .env)
-  line-long at s m l e = ended-long m (line-keeps (tree-on lines (call-on calls c) c calls)
+  line-long at s m l e = worked-long m (line-keeps (tree-on lines (call-on calls c) c calls)
       (tree-keeps lines (call-on calls c) (call-on-keeps calls c) c calls) (call-on calls c) (call-on-keeps calls c)
       c calls at s m l) e
 
   pub passes-long : (way : Way) (at p q from n : ℕ) (v : ℤ) (i s : ℕ) (m : Memory) {steps : ℕ} →
       Ended (passes-on (looped way (tree-on lines (call-on calls c) c calls at) calls p q from) n v i s m) steps r
       slots heads env → length env ≡ length (m .env)
-  passes-long way at p q from n v i s m e = ended-long m (passes-keeps (tree-on lines (call-on calls c) c calls)
+  passes-long way at p q from n v i s m e = worked-long m (passes-keeps (tree-on lines (call-on calls c) c calls)
       (tree-keeps lines (call-on calls c) (call-on-keeps calls c) c calls) way at calls p q from n v i s m) e

@@ -5,6 +5,7 @@ use mathlib.Core.List.{List, [], _∷_, map}
 use Prim.Native.Nat.{ℕ, suc, _+_, _-_}
 use native.Mathlib.Omega.{arith}
 use lib.IntN.{ℤ, pos}
+use lib.Dec.{eqb}
 use lib.ListN.{set, length}
 use denote.Enum.Declared.{tagOf}
 use types.Run.{OneOf, miss}
@@ -23,19 +24,21 @@ use Rattle.machine_code.proofs.Reading.{less-one}
 use Rattle.machine_lines.specs.declared.Out.{Out}
 use Rattle.machine_lines.specs.Frames.{place, function-place, word-of, words-at, Passed, branch-start}
 use Rattle.machine_lines.specs.Frames.{branch-end, element-depth}
-use Rattle.machine_lines.specs.Lines.{Memory, memory, Ran, ran, left, out, halted, bound-result, stepping, array-of}
+use Rattle.machine_lines.specs.Lines.{Memory, memory, Ran, ran, out, halted, goes-on, stepping, array-of}
 use Rattle.machine_lines.specs.Lines.{Doing, giving, changing, ending, calling, branching, looping}
 use Rattle.machine_lines.specs.Lines.{kind-of, first-name, second-name, atoms-of, doing, leaf-done, leaf, Ends}
 use Rattle.machine_lines.proofs.Lines.{Told, told, leaf-fewer}
+use Rattle.machine_loops.specs.declared.Way.{Way}
 use Rattle.machine_loops.specs.declared.Passes.{Passes}
 use Rattle.machine_loops.specs.declared.Begun.the-variants.{NoneFree}
-use Rattle.machine_loops.specs.Loops.{way-of, carry-first, Readied, Begins}
+use Rattle.machine_loops.specs.Loops.{way-of, carry-first, loop-ended, loop-bound, Readied, Begins}
 use Rattle.machine_positions.specs.Machine.{Work, Callee, Code, and-then, binding, branch-worked}
 use Rattle.machine_positions.specs.Machine.{if-worked, if-line}
 use Rattle.machine_positions.specs.Machine.{call-worked, call-line, looped, passes-on}
+use Rattle.machine_positions.specs.Machine.{binding-passed, passes-worked}
 use Rattle.machine_positions.specs.Machine.{loop-line, line-done, line-on, tree-on}
 use Rattle.machine_positions.specs.Machine.{call-on, Ended}
-use Rattle.machine_positions.specs.Parts.{part-stops, part-goes, part-bound}
+use Rattle.machine_positions.specs.Parts.{part-stops, part-goes}
 
 -- what a line leaves that binds the word of a part
 bound-left : (r : Out) (calls x next next′ : ℕ) (sl : List ℤ) (he : List ℕ) (en en′ : List ℤ) (q : Out) → next′ ≡
@@ -160,6 +163,15 @@ module _ (c : Code) (calls x g at steps : ℕ) (slots : List ℤ) (heads : List 
 
 -- ---- a loop
 
+bound-steps : (way : Way) (from calls x next : ℕ) (r : Out) (m : Memory) →
+    loop-bound way from calls x next r m .out .steps ≡ r .steps
+bound-steps way from calls x next r m = go (eqb (r .stop) 0)
+  where
+    go : (t : Bool) → cond t (goes-on calls x (r .value) next (r .steps) (loop-ended way from m)) (ran r m) .out .steps
+        ≡ r .steps
+    go true = refl
+    go false = refl
+
 module _ (W : Work) (c : Code) (calls x : ℕ) (k : Loop) (p q : ℕ) (us : List Atom) (at steps : ℕ) (slots : List ℤ)
     (heads : List ℕ) (env : List ℤ) where
   abbrev depth : ℕ
@@ -171,9 +183,6 @@ module _ (W : Work) (c : Code) (calls x : ℕ) (k : Loop) (p q : ℕ) (us : List
   abbrev tree-at : ℕ
   tree-at = at + suc (length us)
 
-  abbrev bind : Ran → Ran
-  bind w = binding calls x (end-in (c .table) tree-at) w
-
   abbrev whole : Ran
   whole = loop-line W c calls x k p q us at steps here
 
@@ -184,11 +193,12 @@ module _ (W : Work) (c : Code) (calls x : ℕ) (k : Loop) (p q : ℕ) (us : List
   abbrev words : List ℤ
   words = map (word-of calls env) us
 
+  abbrev array : ℤ
+  array = looped-over k words
+
   abbrev follows : Ran → Ran
-  follows v = and-then
-      (passes-on (looped (way-of k depth) (W tree-at) calls p q (cell-of (looped-over k words)))
-      (length (array-of (store-of slots heads) (looped-over k words))) (v .out .value) 0 (v .out .steps) (v .memory))
-      bind
+  follows v = passes-worked W c calls x (way-of k depth (cell-of array) (v .out .value)) p q tree-at (cell-of array)
+      (length (array-of (store-of slots heads) array)) v
 
   module _ (some : steps ≡ 0 → ⊥) (sl₁ : List ℤ) (he₁ : List ℕ) (en₁ : List ℤ) where
     loop-is : whole ≡ and-then (carry-first k depth words (steps - 1) here) follows
@@ -207,25 +217,30 @@ module _ (W : Work) (c : Code) (calls x : ℕ) (k : Loop) (p q : ℕ) (us : List
         (se : start ≡ tree-at) (r : Out) (sl : List ℤ) (he : List ℕ) (en : List ℤ)
         (done : Ended (passes-on (looped (l .way) (W start) calls (l .first) (l .second) (l .from)) (l .count)
         (l .carried) 0 (steps - 1) (memory (store-of sl₁ he₁) en₁)) (steps - 1) r sl he en) where
-      -- the passes as the line has them
-      same-passes : passes-on (looped (way-of k depth) (W tree-at) calls p q (cell-of (looped-over k words)))
-          (length (array-of (store-of slots heads) (looped-over k words))) (l .carried) 0 (steps - 1)
-          (memory (store-of sl₁ he₁) en₁)
-          ≡ passes-on (looped (l .way) (W start) calls (l .first) (l .second) (l .from)) (l .count) (l .carried) 0
-          (steps - 1) (memory (store-of sl₁ he₁) en₁)
-      same-passes = λ i. passes-on (looped (sym (ready .way) i) (W (sym se i)) calls (sym (ready .first) i)
-          (sym (ready .second) i) (sym (ready .from) i)) (sym (ready .count) i) (l .carried) 0 (steps - 1)
-          (memory (store-of sl₁ he₁) en₁)
+      -- the passes, and what follows them, as the line has them
+      same-passes : follows (ran (out 0 (l .carried) 0 (steps - 1)) (memory (store-of sl₁ he₁) en₁))
+          ≡ passes-worked W c calls x (l .way) (l .first) (l .second) start (l .from) (l .count)
+          (ran (out 0 (l .carried) 0 (steps - 1)) (memory (store-of sl₁ he₁) en₁))
+      same-passes = λ i. passes-worked W c calls x (sym (ready .way) i) (sym (ready .first) i) (sym (ready .second) i)
+          (sym se i) (sym (ready .from) i) (sym (ready .count) i)
+          (ran (out 0 (l .carried) 0 (steps - 1)) (memory (store-of sl₁ he₁) en₁))
 
       -- what the passes gave is bound
-      pub loop-bound : (next : ℕ) → next ≡ end-in (c .table) start → (y : Out) (en′ : List ℤ) →
-          left y en′ ≡ bound-result calls x next r en → Ended whole steps y sl he en′
-      loop-bound next ne y en′ e = part-bound calls x next r en whole steps sl he
-          (loop-is ∙ ap (λ (w : Ran). and-then w follows) (ready .carried (steps - 1))
-          ∙ ap (λ (w : Ran). and-then w bind) (same-passes ∙ sym (done .is))
-          ∙ ap (λ (m : ℕ). and-then (ran r (memory (store-of sl he) en)) (λ w. binding calls x m w))
-          (sym (ne ∙ ap (end-in (c .table)) se)))
-          (omega (arith, done .fewer)) y en′ e
+      pub loop-goes : (next : ℕ) → next ≡ end-in (c .table) start → (y : Out) (sl′ : List ℤ) (he′ : List ℕ)
+          (en′ : List ℤ) →
+          Ends (loop-bound (l .way) (l .from) calls x next r (memory (store-of sl he) en)) y sl′ he′ en′ →
+          Ended whole steps y sl′ he′ en′
+      loop-goes next ne y sl′ he′ en′ e = record {
+        is = e ∙ sym (loop-is ∙ ap (λ (w : Ran). and-then w follows) (ready .carried (steps - 1)) ∙ same-passes
+            ∙ ap₂ (λ (w : Ran) (m : ℕ). and-then w (λ w. binding-passed (l .way) (l .from) calls x m w))
+            (sym (done .is)) (sym ne));
+        fewer = omega (
+          arith,
+          done .fewer,
+          ap (λ (w : Ran). w .out .steps) e
+              ∙ bound-steps (l .way) (l .from) calls x next r (memory (store-of sl he) en),
+        );
+      }
 
 -- ---- which line
 

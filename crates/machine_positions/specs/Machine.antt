@@ -21,6 +21,7 @@ use Rattle.machine_lines.specs.Lines.{no-line, Memory, memory, Ran, ran, out, h
 use Rattle.machine_lines.specs.Lines.{Doing, giving, changing, ending, calling, branching, looping, doing, leaf-done}
 use Rattle.machine_loops.specs.declared.Way.{Way}
 use Rattle.machine_loops.specs.Loops.{way-of, carry-first, begun-frames, is-taken, carried-word, carried-store}
+use Rattle.machine_loops.specs.Loops.{loop-ended}
 
 -- the two code arrays, and the table of the functions and of the positions after trees
 pub record Code : Type 0 where
@@ -97,19 +98,19 @@ abbrev pub entered : Looped → ℤ → ℕ → Memory → List ℤ
 entered l v i m = begun-frames (l .calls) (l .first) (l .second) v
     (getD (elements (cell (m .store) (l .from))) i (pos 0)) (m .env)
 
--- what a pass over e carries on, by what was carried into it and how its tree ended
-abbrev pub carried : Way → ℤ → ℤ → Ran → Ran
-carried way v e w = ran (out 0 (carried-word way v (w .out .value)) 0 (w .out .steps))
-    (memory (carried-store way (cell-of v) e (w .out .value) (w .memory .store)) (w .memory .env))
+-- what pass i, over e, carries on, by what was carried into it and how its tree ended
+abbrev pub carried : Way → ℤ → ℕ → ℤ → Ran → Ran
+carried way v i e w = ran (out 0 (carried-word way v (w .out .value)) 0 (w .out .steps))
+    (memory (carried-store way (cell-of v) i e (w .out .value) (w .memory .store)) (w .memory .env))
 
 -- a word that it does not take stops
-abbrev pub carry-by : Way → ℤ → ℤ → Ran → Ran
-carry-by way v e w =
-    cond (is-taken way (w .out .value)) (carried way v e w) (halted 28 (w .out .steps) (w .memory))
+abbrev pub carry-by : Way → ℤ → ℕ → ℤ → Ran → Ran
+carry-by way v i e w =
+    cond (is-taken way (w .out .value)) (carried way v i e w) (halted 28 (w .out .steps) (w .memory))
 
 -- the element is that of the pass's name
-abbrev pub carry-on : Looped → ℤ → Ran → Ran
-carry-on l v w = carry-by (l .way) v (getD (w .memory .env) (place (l .calls) (l .second)) (pos 0)) w
+abbrev pub carry-on : Looped → ℤ → ℕ → Ran → Ran
+carry-on l v i w = carry-by (l .way) v i (getD (w .memory .env) (place (l .calls) (l .second)) (pos 0)) w
 
 -- n passes from the i-th on
 unfoldable pub passes-on : Looped → ℕ → ℤ → ℕ → ℕ → Memory → Ran
@@ -117,17 +118,27 @@ passes-on l zero v i s m = ran (out 0 v 0 s) m
 passes-on l (suc n) v i zero m = halted 21 0 m
 passes-on l (suc n) v i (suc s) m =
     and-then (l .body s (memory (m .store) (entered l v i m)))
-    (λ w. and-then (carry-on l v w)
+    (λ w. and-then (carry-on l v i w)
     (λ u. passes-on l n (u .out .value) (i + 1) (u .out .steps) (u .memory)))
+
+-- what the passes over a cell gave, bound to a name, with the code going on at a position
+abbrev pub binding-passed : Way → ℕ → ℕ → ℕ → ℕ → Ran → Ran
+binding-passed way from calls x next w = binding calls x next (ran (w .out) (loop-ended way from (w .memory)))
+
+-- the passes over an array, into the first of which a word is carried, and what follows them
+abbrev pub passes-worked : Work → Code → ℕ → ℕ → Way → ℕ → ℕ → ℕ → ℕ → ℕ → Ran → Ran
+passes-worked W c calls x way p q at from n v =
+    and-then (passes-on (looped way (W at) calls p q from) n (v .out .value) 0 (v .out .steps) (v .memory))
+    (λ w. binding-passed way from calls x (end-in (c .table) at) w)
 
 -- a loop's line, whose tree is at a position, by the words of its atoms
 abbrev pub loop-worked : Work → Code → ℕ → ℕ → Loop → ℕ → ℕ → ℕ → ℕ → Memory → List ℤ → Ran
 loop-worked W c calls x k p q at s m ws =
     let d = element-depth (c .table) calls x (m .env) in
+    let a = looped-over k ws in
     and-then (carry-first k d ws s m)
-    (λ v. and-then (passes-on (looped (way-of k d) (W at) calls p q (cell-of (looped-over k ws)))
-    (length (array-of (m .store) (looped-over k ws))) (v .out .value) 0 (v .out .steps) (v .memory))
-    (λ w. binding calls x (end-in (c .table) at) w))
+    (λ v. passes-worked W c calls x (way-of k d (cell-of a) (v .out .value)) p q at (cell-of a)
+    (length (array-of (m .store) a)) v)
 
 unfoldable pub loop-line : Work → Code → ℕ → ℕ → Loop → ℕ → ℕ → List Atom → ℕ → ℕ → Memory → Ran
 loop-line W c calls x k p q us at steps m = stepping steps (halted 21 0 m)

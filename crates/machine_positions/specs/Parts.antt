@@ -1,23 +1,21 @@
 -- What work goes on with, and the invariants of the two loops.
 use mathlib.Core.Path.{_≡_, refl, sym, ap, ap₂, _∙_}
-use mathlib.Core.Bool.{Bool, true, false, cond}
+use mathlib.Core.Bool.{true, false}
 use mathlib.Core.List.{List}
 use Prim.Native.Nat.{ℕ, suc, _+_, _-_, _<_, _≤_}
 use native.Mathlib.Omega.{arith}
 use lib.IntN.{ℤ, pos}
-use lib.Dec.{eqb}
 use lib.ListN.{length}
 use borrow.Author.Tests.{eq-eqb, ne-eqb}
-use Rattle.semantics.specs.Store.{Store, cell-of, appended}
+use Rattle.semantics.specs.Store.{Store, cell-of, appended, overwritten}
 use Rattle.semantics.specs.Words.{store-of}
 use Rattle.machine_code.proofs.Reading.{less-one}
 use Rattle.machine_lines.specs.declared.Out.{Out}
-use Rattle.machine_lines.specs.Lines.{Memory, memory, Ran, ran, FrameLeft, left, out, with-store, halted, bound}
-use Rattle.machine_lines.specs.Lines.{bound-result}
+use Rattle.machine_lines.specs.Lines.{Memory, memory, Ran, ran, out, halted}
 use Rattle.machine_loops.specs.declared.Way.{Way}
-use Rattle.machine_loops.specs.declared.Way.the-variants.{Fill, Keep, Hand}
+use Rattle.machine_loops.specs.declared.Way.the-variants.{Fill, Keep, Hand, Overwrite}
 use Rattle.machine_loops.specs.Loops.{is-taken, carried-word, kept, carried-store}
-use Rattle.machine_positions.specs.Machine.{and-then, binding, Looped, entered, carry-by, carry-on, passes-on}
+use Rattle.machine_positions.specs.Machine.{and-then, Looped, entered, carry-by, carry-on, passes-on}
 use Rattle.machine_positions.specs.Machine.{Ended}
 
 pub then-stop : (w : Ran) (f : Ran → Ran) → (w .out .stop ≡ 0 → ⊥) → and-then w f ≡ w
@@ -45,35 +43,6 @@ module _ (X : Ran) (steps : ℕ) (r : Out) (sl : List ℤ) (he : List ℕ) (en :
   part-goes h q en′ e t =
       record { is = sym (is ∙ then-go (ran r (memory (store-of sl he) en)) F h ∙ e); fewer = rw t fewer }
 
--- a part whose word is bound to a name
-module _ (calls x next : ℕ) (r : Out) (en : List ℤ) where
-  abbrev bound-if : Bool → FrameLeft
-  bound-if t = cond t (left (out 0 (r .value) next (r .steps)) (bound calls x (r .value) en)) (left r en)
-
-  then-bound : (σ : Store) → and-then (ran r (memory σ en)) (λ w. binding calls x next w)
-      ≡ with-store σ (bound-result calls x next r en)
-  then-bound σ = go (eqb (r .stop) 0)
-    where
-      go : (t : Bool) → cond t (binding calls x next (ran r (memory σ en))) (ran r (memory σ en))
-          ≡ with-store σ (bound-if t)
-      go true = refl
-      go false = refl
-
-  bound-steps : bound-result calls x next r en .out .steps ≡ r .steps
-  bound-steps = go (eqb (r .stop) 0)
-    where
-      go : (t : Bool) → bound-if t .out .steps ≡ r .steps
-      go true = refl
-      go false = refl
-
-  pub part-bound : (X : Ran) (steps : ℕ) (sl : List ℤ) (he : List ℕ) →
-      X ≡ and-then (ran r (memory (store-of sl he) en)) (λ w. binding calls x next w) → r .steps ≤ steps → (q : Out)
-      (en′ : List ℤ) → left q en′ ≡ bound-result calls x next r en → Ended X steps q sl he en′
-  part-bound X steps sl he is fewer q en′ e = record {
-    is = ap (with-store (store-of sl he)) e ∙ sym (is ∙ then-bound (store-of sl he));
-    fewer = rw (ap (λ (l : FrameLeft). l .out .steps) e ∙ bound-steps) fewer;
-  }
-
 -- ---- the passes of a loop
 
 -- i passes are done, and v is carried; what is left gives what the whole gives
@@ -96,7 +65,7 @@ module _ (l : Looped) (n : ℕ) (v : ℤ) (i s : ℕ) (m : Memory) where
 
   -- what follows the tree of a pass
   abbrev carrying : Ran → Ran
-  carrying w = and-then (carry-on l v w)
+  carrying w = and-then (carry-on l v i w)
       (λ u. passes-on l (n - 1) (u .out .value) (i + 1) (u .out .steps) (u .memory))
 
   passes-step : 0 < n → 0 < s →
@@ -152,7 +121,7 @@ module _ {l : Looped} {count steps : ℕ} {v₀ : ℤ} {slots₀ : List ℤ} {he
       }
 
       pub pass-goes : r .stop ≡ 0 → (u : ℤ) (sl′ : List ℤ) (he′ : List ℕ) →
-          carry-on l v (ran r (memory (store-of sl he) en))
+          carry-on l v i (ran r (memory (store-of sl he) en))
           ≡ ran (out 0 u 0 (r .steps)) (memory (store-of sl′ he′) en) →
           Sized sl′ he′ en slots heads env →
           Passing l count steps v₀ slots₀ heads₀ env₀ u (r .steps) (i + 1) sl′ he′ en
@@ -183,30 +152,34 @@ passing-starts l count steps v slots heads env = record {
 
 -- What stays the same from pass to pass: the word of the result's cell, where there is one.
 abbrev pub Stays : Way → ℤ → ℤ → Type 0
-Stays Fill v₀ v = v ≡ v₀
+Stays (Fill releases) v₀ v = v ≡ v₀
 Stays (Keep arrays) v₀ v = v ≡ v₀
 Stays Hand v₀ v = Unit {0}
+Stays Overwrite v₀ v = v ≡ v₀
 
 pub stays-first : (way : Way) (v : ℤ) → Stays way v v
-stays-first Fill v = refl
+stays-first (Fill releases) v = refl
 stays-first (Keep arrays) v = refl
 stays-first Hand v = tt
+stays-first Overwrite v = refl
 
 pub stays-on : (way : Way) (v₀ v r u : ℤ) → Stays way v₀ v → u ≡ carried-word way v r → Stays way v₀ u
-stays-on Fill v₀ v r u h e = e ∙ h
+stays-on (Fill releases) v₀ v r u h e = e ∙ h
 stays-on (Keep arrays) v₀ v r u h e = e ∙ h
 stays-on Hand v₀ v r u h e = tt
+stays-on Overwrite v₀ v r u h e = e ∙ h
 
 -- what the end of a pass leaves is what it carries on, if it takes what its tree gave
-pub carries-on : (way : Way) (v₀ v e : ℤ) → Stays way v₀ v → (r : Out) (σ τ : Store) (env : List ℤ) (u : ℤ) →
-    is-taken way (r .value) ≡ true → u ≡ carried-word way v (r .value) → τ ≡ carried-store way (cell-of v₀) e (r
-    .value) σ →
-    carry-by way v e (ran r (memory σ env)) ≡ ran (out 0 u 0 (r .steps)) (memory τ env)
-carries-on way v₀ v e h r σ τ env u taken ue τe =
+pub carries-on : (way : Way) (v₀ v : ℤ) (i : ℕ) (e : ℤ) → Stays way v₀ v → (r : Out) (σ τ : Store) (env : List ℤ)
+    (u : ℤ) → is-taken way (r .value) ≡ true → u ≡ carried-word way v (r .value) →
+    τ ≡ carried-store way (cell-of v₀) i e (r .value) σ →
+    carry-by way v i e (ran r (memory σ env)) ≡ ran (out 0 u 0 (r .steps)) (memory τ env)
+carries-on way v₀ v i e h r σ τ env u taken ue τe =
     rw taken (ap₂ (λ (y : ℤ) (ρ : Store). ran (out 0 y 0 (r .steps)) (memory ρ env)) (sym ue) (sym (τe ∙ go way h)))
   where
     go : (y : Way) → Stays y v₀ v →
-        carried-store y (cell-of v₀) e (r .value) σ ≡ carried-store y (cell-of v) e (r .value) σ
-    go Fill g = ap (λ (z : ℤ). appended (cell-of z) (r .value) σ) (sym g)
+        carried-store y (cell-of v₀) i e (r .value) σ ≡ carried-store y (cell-of v) i e (r .value) σ
+    go (Fill releases) g = ap (λ (z : ℤ). appended (cell-of z) (r .value) σ) (sym g)
     go (Keep arrays) g = ap (λ (z : ℤ). kept arrays (cell-of z) e (r .value) σ) (sym g)
     go Hand g = refl
+    go Overwrite g = ap (λ (z : ℤ). overwritten (cell-of z) i (r .value) σ) (sym g)

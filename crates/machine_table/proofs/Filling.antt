@@ -29,15 +29,16 @@ module _ (kind : ℕ) (table : List ℕ) (at : ℕ) where
 
 -- a line that has trees, and not one, has two
 pub trees-two : (kind n : ℕ) → n ≡ trees-of kind → (n ≡ 0 → ⊥) → (n ≡ 1 → ⊥) → _≡_ {A = ℕ} 2 (trees-of kind)
-trees-two kind n e f g = go (eqb kind 12) (eqb kind 13) (eqb kind 19) (eqb kind 20) e
+trees-two kind n e f g = go (eqb kind 12) (eqb kind 13) (eqb kind 19) (eqb kind 20) (eqb kind 21) e
   where
-    go : (a b c d : Bool) → n ≡ cond a 2 (cond b 1 (cond c 1 (cond d 1 0))) →
-        _≡_ {A = ℕ} 2 (cond a 2 (cond b 1 (cond c 1 (cond d 1 0))))
-    go true b c d h = refl
-    go false true c d h = absurd (g h)
-    go false false true d h = absurd (g h)
-    go false false false true h = absurd (g h)
-    go false false false false h = absurd (f h)
+    go : (a b c d i : Bool) → n ≡ cond a 2 (cond b 1 (cond c 1 (cond d 1 (cond i 1 0)))) →
+        _≡_ {A = ℕ} 2 (cond a 2 (cond b 1 (cond c 1 (cond d 1 (cond i 1 0)))))
+    go true b c d i h = refl
+    go false true c d i h = absurd (g h)
+    go false false true d i h = absurd (g h)
+    go false false false true i h = absurd (g h)
+    go false false false false true h = absurd (g h)
+    go false false false false false h = absurd (f h)
 
 -- ---- the loop over the rows: what is left gives what the whole gives
 

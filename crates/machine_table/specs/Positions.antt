@@ -19,7 +19,8 @@ with-end table at end = with-position table (8256 + 2 * at) end
 -- how many trees a line of a kind has behind its atoms: an if two, a loop one
 abbrev pub trees-of : ℕ → ℕ
 trees-of kind =
-    cond (eqb kind 12) 2 (cond (eqb kind 13) 1 (cond (eqb kind 19) 1 (cond (eqb kind 20) 1 0)))
+    cond (eqb kind 12) 2
+    (cond (eqb kind 13) 1 (cond (eqb kind 19) 1 (cond (eqb kind 20) 1 (cond (eqb kind 21) 1 0))))
 
 -- the end of what follows a row, behind so many trees
 abbrev pub past-trees : ℕ → List ℕ → ℕ → ℕ

@@ -1,12 +1,13 @@
 -- The rows of annotated lines: of a leaf, of a loop without its tree, and of a tree's end.
-use mathlib.Core.Bool.{_&&_}
+use mathlib.Core.Bool.{Bool, false, cond, not, _&&_}
 use mathlib.Core.List.{List, [], _∷_, _++_, map}
 use Prim.Native.Nat.{ℕ, _+_, _*_}
-use lib.Dec.{ltb}
+use lib.Dec.{eqb, ltb}
 use lib.ListN.{getD, length}
 use Rattle.semantics.specs.Basics.{with-if}
 use Rattle.semantics.specs.Kinds.{Leaf, leaf-kind, leaf-operand, leaf-hands, leaf-reads, is-pending, Borrowing}
-use Rattle.semantics.specs.Kinds.{Loop, loop-kind, loop-reads, element-name, packed-names}
+use Rattle.semantics.specs.Kinds.{Loop, mapping, filtering, reducing, rewriting}
+use Rattle.semantics.specs.Kinds.{loop-kind, loop-reads, element-name, packed-names}
 use Rattle.semantics.specs.Code.{Atom, number, name, Row, row, atom-row}
 use Rattle.semantics.specs.Live.{Set, empty, only, just, among, _∪_}
 use Rattle.semantics.specs.Annotate.{NameDepths, is-array, arrays, dying, handed-again}
@@ -38,6 +39,19 @@ module _ (Γ : NameDepths) where
   -- a line whose atoms are all handed over, after its first row
   abbrev pub handing : ℕ → Row → List Atom → Set → List Row
   handing x r us A = retain-rows (handed-again Γ us A) ++ ((r ∷ map atom-row us) ++ release-rows (dying Γ (only x) A))
+
+  -- Whether a map that binds x rewrites its array: O are the outer names that its tree uses, A is live after it.
+  abbrev pub is-rewritten : ℕ → List Atom → Set → Set → Bool
+  is-rewritten x [] O A = false
+  is-rewritten x (number z ∷ us) O A = false
+  is-rewritten x (name y ∷ us) O A = eqb (Γ y) 1 && (eqb (Γ x) 1 && (not (A y) && not (O y)))
+
+  -- the loop that is written
+  abbrev pub written-as : ℕ → Loop → List Atom → Set → Set → Loop
+  written-as x mapping us O A = cond (is-rewritten x us O A) rewriting mapping
+  written-as x filtering us O A = filtering
+  written-as x reducing us O A = reducing
+  written-as x rewriting us O A = rewriting
 
   -- the opening of a loop's tree, at whose start T is live: the element is retained, then what is not used is released
   abbrev pub pass-opening : Loop → List ℕ → Set → List Row

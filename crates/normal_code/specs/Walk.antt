@@ -14,7 +14,7 @@ use Rattle.semantics.specs.Annotate.{NameDepths, dying, handed-again}
 use Rattle.normal_code.specs.Plain.{Plain, meant, placed, atoms-at, line-at, note}
 use Rattle.normal_code.specs.Plain.{unary-of, binary-of, loop-of, of-loop}
 use Rattle.normal_code.specs.Parts.{below, retain-rows, release-rows, leaf-part, loop-own, pass-opening}
-use Rattle.normal_code.specs.Parts.{loop-closing, ending}
+use Rattle.normal_code.specs.Parts.{written-as, loop-closing, ending}
 use Rattle.normal_code.specs.Marks.{Marks, marked}
 use Rattle.normal_code.specs.declared.Line.{Line}
 use Rattle.normal_code.specs.declared.Line.the-variants as L
@@ -111,9 +111,12 @@ module _ (F : Plain) (B : Borrowing) (Γ : NameDepths) where
         let A = pass-names p x (length us) P in
         loop-head p x k ps us A (W (q - 2) (with-names A P))
 
+    -- the loop k is written as another where it rewrites its array
     unfoldable pub loop-walk : ℕ → ℕ → ℕ → Loop → List ℕ → List C.Atom → Point → Point
     loop-walk p q x k ps us P =
-        loop-tree p q x k ps us (put (loop-closing Γ x k us (outer-names p x (length us) P) (P .names)) P)
+        let O = outer-names p x (length us) P in
+        let j = written-as Γ x k us O (P .names) in
+        loop-tree p q x j ps us (put (loop-closing Γ x j us O (P .names)) P)
 
     -- a line that stands from p to before q
     unfoldable pub line-walk : ℕ → ℕ → Line → Point → Point

@@ -7,7 +7,7 @@ use native.Mathlib.Omega.{arith}
 use native.Mathlib.Decide.{decLt}
 use lib.Dec.{eqb, ltb}
 use borrow.Author.Tests.{lt-ltb, le-ltb, eq-eqb, ne-eqb}
-use Rattle.semantics.specs.Kinds.{Loop, mapping, filtering, reducing, loop-hands, loop-reads}
+use Rattle.semantics.specs.Kinds.{Loop, mapping, filtering, reducing, rewriting, loop-hands, loop-reads}
 use Rattle.semantics.specs.Basics.{with-if}
 use Rattle.semantics.specs.Code.{Atom, number, name, Line, leaf, if-else, loop, retain, release, Tree, end, line}
 use Rattle.semantics.specs.Live.{Set, empty, _∪_, _∖_, _∖∖_, only, just, is, among, live, uses, members}
@@ -109,6 +109,7 @@ reads-own mapping us y h = h
 reads-own filtering us y h = h
 reads-own reducing [] y h = h
 reads-own reducing (a ∷ us) y h = or-no (is a y) (among us empty y) h .1
+reads-own rewriting us y h = refl
 
 hands-own : (k : Loop) (us : List Atom) (y : ℕ) → among us empty y ≡ false → among (loop-hands k us) empty y ≡ false
 unfolding among
@@ -116,6 +117,7 @@ hands-own mapping us y h = refl
 hands-own filtering us y h = refl
 hands-own reducing [] y h = refl
 hands-own reducing (a ∷ us) y h = neither (is a y) false (or-no (is a y) (among us empty y) h .0) refl
+hands-own rewriting us y h = h
 
 -- what a loop reads is below its name
 pub reads-below : (x : ℕ) (k : Loop) (ps : List ℕ) (us : List Atom) (t : Tree) {B : Set} →

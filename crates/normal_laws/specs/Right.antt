@@ -10,7 +10,7 @@ use Rattle.semantics.specs.Kinds.{Leaf, Borrowing}
 use Rattle.semantics.specs.Code as C
 use Rattle.semantics.specs.Code.{Tree, end, line, Row, rows}
 use Rattle.semantics.specs.Live.{Set, among, live, live-before}
-use Rattle.semantics.specs.Annotate.{NameDepths, annotate, annotate-line}
+use Rattle.semantics.specs.Annotate.{NameDepths, full-style, annotate, annotate-line}
 use Rattle.laws.specs.Updates.{updated-same, updated-other}
 use Rattle.normal_code.specs.Plain.{Plain, line-at, note}
 use Rattle.normal_code.specs.Marks.{Marks, marked, marked-all, extent, line-extent, marks, line-marks}
@@ -68,20 +68,20 @@ module _ (F : Plain) (B : Borrowing) (Γ : NameDepths) where
   -- of the tree t from row p on, with d levels
   abbrev pub TreeRight : ℕ → Tree → ℕ → Marks → Type 0
   TreeRight d t p M = (e : ℕ) → e ≡ p + extent t - 2 → (L : Set) (rs : List Row) →
-      tree-walk F B Γ d e (point L (marks t p M) rs) ≡ point (live t L) M (rows (annotate B Γ t L) ++ rs)
+      tree-walk F B Γ d e (point L (marks t p M) rs) ≡ point (live t L) M (rows (annotate full-style B Γ t L) ++ rs)
 
   -- of its lines, from the last to the first
   abbrev pub BackRight : ℕ → Tree → ℕ → Marks → Type 0
   BackRight d t p M = (e f : ℕ) → e ≡ p + extent t - 2 → (L : Set) (rs : List Row) →
       back-walk F B Γ (tree-walk F B Γ d) (f + spine t) e (end-walk F B Γ e (point L (marks t p M) rs))
-      ≡ back-walk F B Γ (tree-walk F B Γ d) f p (point (live t L) M (rows (annotate B Γ t L) ++ rs))
+      ≡ back-walk F B Γ (tree-walk F B Γ d) f p (point (live t L) M (rows (annotate full-style B Γ t L) ++ rs))
 
   -- of a line before the tree k
   abbrev pub LineRight : ℕ → C.Line → ℕ → Marks → Type 0
   LineRight d l p M = (A : Set) (k : Tree) (rs : List Row) →
       line-walk F B Γ (tree-walk F B Γ d) p (p + line-extent l) (line-at (F .operands) (F .rows) p)
       (point A (line-marks l p M) (rows k ++ rs))
-      ≡ point (live-before l A) M (rows (annotate-line B Γ l A k) ++ rs)
+      ≡ point (live-before l A) M (rows (annotate-line full-style B Γ l A k) ++ rs)
 
   -- ---- a tree by its lines
 

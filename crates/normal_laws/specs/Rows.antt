@@ -8,7 +8,7 @@ use Rattle.semantics.specs.Kinds.{Leaf, leaf-hands, leaf-reads, is-pending, Loo
 use Rattle.semantics.specs.Code.{Atom, number, name, Line, leaf, if-else, loop, Tree, end, line}
 use Rattle.semantics.specs.Code.{retain-all, release-all, Row, row, atom-row, rows, line-rows}
 use Rattle.semantics.specs.Live.{Set, empty, only, among, _∪_}
-use Rattle.semantics.specs.Annotate.{NameDepths, is-array, dying, handed-again, annotate, annotate-line}
+use Rattle.semantics.specs.Annotate.{NameDepths, is-array, dying, handed-again, full-style, annotate, annotate-line}
 use Rattle.normal_code.specs.Parts.{retain-rows, release-rows, handed-one, leaf-part, loop-own, ending}
 
 -- ---- retains and releases before a tree
@@ -72,7 +72,7 @@ loop-shape x j ps us hs ns ds os ws t k rs =
 
 module _ (B : Borrowing) (Γ : NameDepths) where
   pub leaf-rows : (x : ℕ) (l : Leaf) (us : List Atom) (A : Set) (k : Tree) (rs : List Row) →
-      leaf-part B Γ x l us A ++ (rows k ++ rs) ≡ rows (annotate-line B Γ (leaf x l us) A k) ++ rs
+      leaf-part B Γ x l us A ++ (rows k ++ rs) ≡ rows (annotate-line full-style B Γ (leaf x l us) A k) ++ rs
   unfolding annotate rows
   leaf-rows x l us A k rs =
       sym (append-assoc (leaf-part B Γ x l us A) (rows k) rs)
@@ -86,7 +86,8 @@ module _ (B : Borrowing) (Γ : NameDepths) where
   handed-alone (number z) L = refl
   handed-alone (name x) L = refl
 
-  pub end-rows : (a : Atom) (L : Set) (rs : List Row) → ending Γ a L ++ rs ≡ rows (annotate B Γ (end a) L) ++ rs
+  pub end-rows : (a : Atom) (L : Set) (rs : List Row) → ending Γ a L ++ rs ≡ rows (annotate full-style B Γ (end
+      a) L) ++ rs
   unfolding annotate rows
   end-rows a L rs =
       ap (λ (xs : List ℕ). (retain-rows xs ++ rows (end a)) ++ rs) (handed-alone a L)

@@ -8,7 +8,7 @@ use Rattle.semantics.specs.Kinds.{mapping, reducing, Borrowing}
 use Rattle.semantics.specs.Code.{rows}
 use Rattle.semantics.specs.Live.{empty, uses}
 use Rattle.semantics.specs.Normal.{normal, normal-body, parameter-names, lines, atom, fresh}
-use Rattle.semantics.specs.Annotate.{NameDepths, annotate}
+use Rattle.semantics.specs.Annotate.{NameDepths, full-style, annotate}
 use Rattle.normal_code.specs.Plain.{Plain, plain, placed, line-at}
 use Rattle.normal_code.specs.Marks.{marked, marked-all, extent, marks}
 use Rattle.normal_code.specs.Stands.{Stands, line-with}
@@ -49,7 +49,7 @@ sample-stands = (
 -- the walk of it, from the row of its last end on
 pub sample-walk : (B : Borrowing) (Γ : NameDepths) →
     tree-walk sample-code B Γ 3 10 (point empty (marks (normal-body sample) 0 (λ _. 0)) [])
-    ≡ point (uses (normal-body sample)) (λ _. 0) (rows (annotate B Γ (normal-body sample) empty) ++ [])
+    ≡ point (uses (normal-body sample)) (λ _. 0) (rows (annotate full-style B Γ (normal-body sample) empty) ++ [])
 unfolding sample normal-body normal lines atom fresh extent
 sample-walk B Γ = body-walk sample-code B Γ sample 2 sample-stands (omega arith) empty []
 
@@ -79,6 +79,6 @@ reduced-stands = (
 
 pub reduced-walk : (B : Borrowing) (Γ : NameDepths) →
     tree-walk reduced-code B Γ 2 5 (point empty (marks (normal-body reduced) 0 (λ _. 0)) [])
-    ≡ point (uses (normal-body reduced)) (λ _. 0) (rows (annotate B Γ (normal-body reduced) empty) ++ [])
+    ≡ point (uses (normal-body reduced)) (λ _. 0) (rows (annotate full-style B Γ (normal-body reduced) empty) ++ [])
 unfolding reduced normal-body normal lines atom fresh extent
 reduced-walk B Γ = body-walk reduced-code B Γ reduced 1 reduced-stands (omega arith) empty []

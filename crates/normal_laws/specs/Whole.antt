@@ -6,16 +6,18 @@ use Prim.Native.Nat.{ℕ, suc, _+_, _-_, _≤_}
 use native.Mathlib.Omega.{arith}
 use lib.ListN.{length}
 use borrow.Author.Tests.{lt-ltb}
-use Rattle.semantics.specs.Kinds.{Loop, loop-hands, loop-reads, element-name, Borrowing}
+use Rattle.semantics.specs.Kinds.{Loop, mapping, filtering, reducing, rewriting}
+use Rattle.semantics.specs.Kinds.{loop-hands, loop-reads, element-name, Borrowing}
 use Rattle.semantics.specs.Code as C
 use Rattle.semantics.specs.Code.{Tree, end, line, Row, row, atom-row, rows}
 use Rattle.semantics.specs.Code.{retain-all, release-all}
 use Rattle.semantics.specs.Syntax.{Function}
 use Rattle.semantics.specs.Normal.{normal-body}
 use Rattle.semantics.specs.Live.{Set, empty, only, just, among, _∪_, _∖_, _∖∖_, live, uses, after-pass}
-use Rattle.semantics.specs.Annotate.{NameDepths, arrays, dying, handed-again, annotate, annotate-line}
+use Rattle.semantics.specs.Annotate.{NameDepths, arrays, dying, handed-again}
+use Rattle.semantics.specs.Annotate.{full-style, written, annotate, annotate-line}
 use Rattle.normal_code.specs.Plain.{Plain, note}
-use Rattle.normal_code.specs.Parts.{below, retain-rows, release-rows, loop-own, pass-opening, loop-closing}
+use Rattle.normal_code.specs.Parts.{below, retain-rows, release-rows, loop-own, pass-opening, loop-closing, written-as}
 use Rattle.normal_code.specs.Marks.{Marks, marked, marked-all, extent, line-extent, marks, line-marks}
 use Rattle.normal_code.specs.Stands.{LineAt, Begins, Linked, LinkedAll, Stands, StandsLine}
 use Rattle.normal_code.specs.Walk.{since, then-end, Point, point, then-walk, if-head, if-trees}
@@ -47,7 +49,7 @@ module _ (F : Plain) (B : Borrowing) (Γ : NameDepths) where
     then-right : (L : Set) (rs : List Row) →
         then-walk F B Γ (tree-walk F B Γ d) p x L (point (live e L) (marks t (p + 2) (marked g (p + 1) M)) rs)
         ≡ point (live t L) (marked g (p + 1) M)
-        (rows (annotate B Γ t L) ++ (release-rows (dying Γ (uses t) (live e L)) ++ rs))
+        (rows (annotate full-style B Γ t L) ++ (release-rows (dying Γ (uses t) (live e L)) ++ rs))
     unfolding then-walk
     then-right L rs =
         ap (λ (U : Set). tree-walk F B Γ d (then-end (F .notes) p) (point L (marks t (p + 2) (marked g (p + 1) M))
@@ -59,23 +61,24 @@ module _ (F : Plain) (B : Borrowing) (Γ : NameDepths) where
     if-rows : (A : Set) (k : Tree) (rs : List Row) →
         (row 12 x ∷ (atom-row g ∷ []))
         ++ (release-rows (dying Γ (below x (live e (A ∖ x))) (live t (A ∖ x)))
-        ++ (rows (annotate B Γ t (A ∖ x)) ++ (release-rows (dying Γ (uses t) (live e (A ∖ x)))
-        ++ (rows (annotate B Γ e (A ∖ x)) ++ (release-rows (dying Γ (only x) A) ++ (rows k ++ rs))))))
-        ≡ rows (annotate-line B Γ (C.if-else x g t e) A k) ++ rs
+        ++ (rows (annotate full-style B Γ t (A ∖ x)) ++ (release-rows (dying Γ (uses t) (live e (A ∖ x)))
+        ++ (rows (annotate full-style B Γ e (A ∖ x)) ++ (release-rows (dying Γ (only x) A) ++ (rows k ++ rs))))))
+        ≡ rows (annotate-line full-style B Γ (C.if-else x g t e) A k) ++ rs
     unfolding annotate
     if-rows A k rs =
         let L = A ∖ x in
         if-shape x g (dying Γ (below x (live e L)) (live t L)) (dying Γ (uses t) (live e L)) (dying Γ (only x) A)
-        (annotate B Γ t L) (annotate B Γ e L) k rs
-        ∙ ap (λ (ts : List ℕ). rows (line (C.if-else x g (release-all ts (annotate B Γ t L))
-        (release-all (dying Γ (uses t) (live e L)) (annotate B Γ e L))) (release-all (dying Γ (only x) A) k)) ++ rs)
+        (annotate full-style B Γ t L) (annotate full-style B Γ e L) k rs
+        ∙ ap (λ (ts : List ℕ). rows (line (C.if-else x g (release-all ts (annotate full-style B Γ t L))
+        (release-all (dying Γ (uses t) (live e L)) (annotate full-style B Γ e L))) (release-all (dying Γ (only
+        x) A) k)) ++ rs)
         (branch-releases Γ x t e L i j)
 
     pub if-right : LineRight F B Γ d (C.if-else x g t e) p M
     unfolding walk-over if-walk if-trees marks extent live among marked-all
     if-right A k rs =
         let W = tree-walk F B Γ d in
-        let after = rows (annotate B Γ e (A ∖ x)) ++ (release-rows (dying Γ (only x) A) ++ (rows k ++ rs)) in
+        let after = rows (annotate full-style B Γ e (A ∖ x)) ++ (release-rows (dying Γ (only x) A) ++ (rows k ++ rs)) in
         at-line F B Γ W p _ t e (C.if-else x g t e) _ h
         ∙ ap (λ (E : Point). if-head F B Γ W p x g E (then-walk F B Γ W p x (A ∖ x) E))
         (re (p + (2 + extent t + extent e) - 2) (omega arith) (A ∖ x) (release-rows (dying Γ (only x) A) ++ (rows k
@@ -86,8 +89,18 @@ module _ (F : Plain) (B : Borrowing) (Γ : NameDepths) where
 
   -- ---- a loop
 
-  module _ (d x : ℕ) (j : Loop) (ps : List ℕ) (us : List C.Atom) (t : Tree) (p : ℕ) (M : Marks)
-      (h : LineAt F p t t (C.loop x j ps us t)) (n : LinkedAll F us (p + 1) M)
+  -- the loop that is written, by the outer names that its tree uses
+  written-is : (i : Loop) (x : ℕ) (ps : List ℕ) (us : List C.Atom) (t : Tree) (A : Set) →
+      written-as Γ x i us (uses t ∖∖ ps) A ≡ written full-style B Γ i x ps us t A
+  written-is mapping x ps [] t A = refl
+  written-is mapping x ps (C.number z ∷ us) t A = refl
+  written-is mapping x ps (C.name y ∷ us) t A = refl
+  written-is filtering x ps us t A = refl
+  written-is reducing x ps us t A = refl
+  written-is rewriting x ps us t A = refl
+
+  module _ (d x : ℕ) (i : Loop) (ps : List ℕ) (us : List C.Atom) (t : Tree) (p : ℕ) (M : Marks)
+      (h : LineAt F p t t (C.loop x i ps us t)) (n : LinkedAll F us (p + 1) M)
       (inner : Inner x (among us empty ∪ uses t ∖∖ ps) (just ps ∪ binds t)) (low : Low M p)
       (rt : TreeRight F B Γ d t (p + 1 + length us) (marked-all us (p + 1) M)) where
     -- the rows of last uses tell the outer names that the tree uses
@@ -97,33 +110,39 @@ module _ (F : Plain) (B : Borrowing) (Γ : NameDepths) where
 
     -- the loop's own rows and its tree's, before some others
     loop-rows-are : (A : Set) (k : Tree) (rs : List Row) →
+        let j = written full-style B Γ i x ps us t A in
         let L = after-pass x ps t A in
         retain-rows (handed-again Γ (loop-hands j us) (among (loop-reads j us) L))
         ++ (loop-own x j ps us ++ (pass-opening Γ j ps (live t L)
-        ++ (rows (annotate B Γ t L) ++ (loop-closing Γ x j us (uses t ∖∖ ps) A ++ (rows k ++ rs)))))
-        ≡ rows (annotate-line B Γ (C.loop x j ps us t) A k) ++ rs
+        ++ (rows (annotate full-style B Γ t L) ++ (loop-closing Γ x j us (uses t ∖∖ ps) A ++ (rows k ++ rs)))))
+        ≡ rows (annotate-line full-style B Γ (C.loop x i ps us t) A k) ++ rs
     unfolding annotate
     loop-rows-are A k rs =
+        let j = written full-style B Γ i x ps us t A in
         let L = after-pass x ps t A in
         let R = among (loop-reads j us) (uses t ∖∖ ps) in
         let hs = handed-again Γ (loop-hands j us) (among (loop-reads j us) L) in
         let ds = dying Γ (just ps) (live t L) in
         loop-shape x j ps us hs (arrays Γ (element-name j ps)) ds (dying Γ (below x R) A) (dying Γ (only x) A)
-        (annotate B Γ t L) k rs
-        ∙ (λ i. rows (retain-all (hands-live Γ x j us (uses t ∖∖ ps) A _ inner i) (line (C.loop x j ps us
-        (retain-all (arrays Γ (element-name j ps)) (release-all ds (annotate B Γ t L))))
-        (release-all (loop-releases Γ x R A (reads-below x j ps us t inner) i) k))) ++ rs)
+        (annotate full-style B Γ t L) k rs
+        ∙ (λ e. rows (retain-all (hands-live Γ x j us (uses t ∖∖ ps) A _ inner e) (line (C.loop x j ps us
+        (retain-all (arrays Γ (element-name j ps)) (release-all ds (annotate full-style B Γ t L))))
+        (release-all (loop-releases Γ x R A (reads-below x j ps us t inner) e) k))) ++ rs)
 
-    pub loop-right : LineRight F B Γ d (C.loop x j ps us t) p M
+    pub loop-right : LineRight F B Γ d (C.loop x i ps us t) p M
     unfolding walk-over loop-walk loop-tree marks extent live
     loop-right A k rs =
         let W = tree-walk F B Γ d in
         let q = p + (1 + length us + extent t) in
+        let j = written full-style B Γ i x ps us t A in
         let L = after-pass x ps t A in
-        at-line F B Γ W p _ t t (C.loop x j ps us t) _ h
-        ∙ ap (λ (O : Set). loop-head F B Γ W p x j ps us (O ∪ A ∖ x) (W (q - 2) (point (O ∪ A ∖ x)
-        (marks t (p + 1 + length us) (marked-all us (p + 1) M)) (loop-closing Γ x j us O A ++ (rows k ++
-        rs))))) outer-is
+        let N = marks t (p + 1 + length us) (marked-all us (p + 1) M) in
+        at-line F B Γ W p _ t t (C.loop x i ps us t) _ h
+        ∙ ap (λ (O : Set). loop-head F B Γ W p x (written-as Γ x i us O A) ps us (O ∪ A ∖ x)
+        (W (q - 2) (point (O ∪ A ∖ x) N
+        (loop-closing Γ x (written-as Γ x i us O A) us O A ++ (rows k ++ rs))))) outer-is
+        ∙ ap (λ (l : Loop). loop-head F B Γ W p x l ps us L
+        (W (q - 2) (point L N (loop-closing Γ x l us (uses t ∖∖ ps) A ++ (rows k ++ rs))))) (written-is i x ps us t A)
         ∙ ap (loop-head F B Γ W p x j ps us L) (rt (q - 2) (omega arith) L
         (loop-closing Γ x j us (uses t ∖∖ ps) A ++ (rows k ++ rs)))
         ∙ same-point refl (back-all F us (p + 1) M n) (loop-rows-are A k rs)
@@ -145,7 +164,7 @@ module _ (F : Plain) (B : Borrowing) (Γ : NameDepths) where
         e (suc f) (omega arith) L rs
         ∙ back-goes F B Γ (tree-walk F B Γ d) f (p + line-extent l) p _ (s .1) (omega (arith, line-some l))
         ∙ ap (back-walk F B Γ (tree-walk F B Γ d) f p)
-        (line-right l d p M (s .0) (n .0) low (omega arith) (live t L) (annotate B Γ t L) rs)
+        (line-right l d p M (s .0) (n .0) low (omega arith) (live t L) (annotate full-style B Γ t L) rs)
 
     -- a line that stands from row p on
     line-right : (l : C.Line) (d p : ℕ) (M : Marks) → StandsLine F d l p M → NestedLine l → Low M p →
@@ -173,7 +192,7 @@ module _ (F : Plain) (B : Borrowing) (Γ : NameDepths) where
   pub walk-right : (t : Tree) (d p : ℕ) (M : Marks) → Stands F d t p M → Nested t → Low M p → p + extent t ≤ 4096 →
       Begins F p → (L : Set) (rs : List Row) →
       tree-walk F B Γ (suc d) (p + extent t - 2) (point L (marks t p M) rs)
-      ≡ point (live t L) M (rows (annotate B Γ t L) ++ rs)
+      ≡ point (live t L) M (rows (annotate full-style B Γ t L) ++ rs)
   walk-right t d p M s n low h g L rs =
       tree-from F B Γ d t p M g (omega arith) (back-right t d p M s n low h) (p + extent t - 2) refl L rs
 
@@ -181,7 +200,7 @@ module _ (F : Plain) (B : Borrowing) (Γ : NameDepths) where
   pub body-walk : (g : Function) (d : ℕ) → Stands F d (normal-body g) 0 (λ _. 0) → extent (normal-body g) ≤ 4096 →
       (L : Set) (rs : List Row) →
       tree-walk F B Γ (suc d) (extent (normal-body g) - 2) (point L (marks (normal-body g) 0 (λ _. 0)) rs)
-      ≡ point (live (normal-body g) L) (λ _. 0) (rows (annotate B Γ (normal-body g) L) ++ rs)
+      ≡ point (live (normal-body g) L) (λ _. 0) (rows (annotate full-style B Γ (normal-body g) L) ++ rs)
   body-walk g d s h L rs =
       tree-from F B Γ d (normal-body g) 0 (λ _. 0) (omega arith) h
       (back-right (normal-body g) d 0 (λ _. 0) s (body-nested g) (record { at = λ y. omega arith }) (omega arith))

@@ -1,12 +1,14 @@
 -- Laws of laying rows and noting uses, one for each way of the code, and of what stands where after it.
 use mathlib.Core.Path.{_≡_, refl, ap, _∙_}
+use mathlib.Core.Bool.{Bool, true, false, cond}
 use mathlib.Core.List.{List, [], _∷_}
 use Prim.Native.Nat.{ℕ, zero, suc, pred, _+_, _-_, _<_, _≤_}
 use native.Mathlib.Omega.{arith}
 use lib.ListN.{length, getD, set, length-set}
 use lib.Seq.{getD-set-same, getD-set-other}
+use lib.Dec.{eqb}
 use borrow.Author.Tests.{lt-ltb, le-ltb, ne-eqb}
-use Rattle.semantics.specs.Kinds.{Loop, mapping, filtering, reducing}
+use Rattle.semantics.specs.Kinds.{Loop, mapping, filtering, reducing, rewriting}
 use Rattle.script_read.proofs.Limits.{NoneOf}
 use Rattle.normal_code.specs.Plain.{loop-of, loop-size}
 use Rattle.normal_code.proofs.Rows.{no-reduce}
@@ -148,6 +150,7 @@ module _ (kind : ℕ) where
       by mapping = omega arith
       by filtering = omega arith
       by reducing = omega arith
+      by rewriting = omega arith
 
   module _ (ds : List ℕ) (n v u : ℕ) where
     -- the depths of the names of a pass, laid
@@ -163,10 +166,14 @@ module _ (kind : ℕ) where
     unfolding laid
     pass-other b e f =
         no-reduce (λ k. set ds (n + 1) b ≡ laid ds (n + 1) (pass-places k ds v u)) kind e
-        (ap (set ds (n + 1)) f) (ap (set ds (n + 1)) f)
+        (ap (set ds (n + 1)) f) (ap (set ds (n + 1)) f) (ap (set ds (n + 1)) f)
 
   -- the depth of the name that a loop binds
   pub loop-map : (ds : List ℕ) (v t d : ℕ) → (kind ≡ 19 → ⊥) → (kind ≡ 20 → ⊥) → d ≡ place-depth ds t →
       d + 1 ≡ loop-place (loop-of kind) ds v t
   loop-map ds v t d m r e =
-      rw (ne-eqb kind 20 r, ne-eqb kind 19 m) (let f : d + 1 ≡ suc (place-depth ds t) = omega (arith, e) in f)
+      rw (ne-eqb kind 20 r, ne-eqb kind 19 m) (by (eqb kind 21))
+    where
+      by : (b : Bool) → d + 1 ≡ loop-place (cond b rewriting mapping) ds v t
+      by true = let f : d + 1 ≡ suc (place-depth ds t) = omega (arith, e) in f
+      by false = let f : d + 1 ≡ suc (place-depth ds t) = omega (arith, e) in f

@@ -6,8 +6,8 @@ use Prim.Native.Nat.{ℕ, suc, pred, _+_, _-_, _<_, _≤_}
 use native.Mathlib.Omega.{arith}
 use lib.Dec.{eqb}
 use lib.ListN.{length, getD, set, length-set}
-use borrow.Author.Tests.{eqb-true, ne-eqb}
-use Rattle.semantics.specs.Kinds.{Loop, mapping, filtering, reducing}
+use borrow.Author.Tests.{eqb-true}
+use Rattle.semantics.specs.Kinds.{Loop, mapping, filtering, reducing, rewriting}
 use Rattle.semantics.specs.Syntax.{Expr}
 use Rattle.semantics.specs.Code as C
 use Rattle.semantics.specs.Code.{Atom, Tree, line}
@@ -70,6 +70,7 @@ own-names : (k : Loop) (low high n : ℕ) → of-loop k (n + 1) (third-of k n) �
 own-names mapping low high n = refl
 own-names filtering low high n = refl
 own-names reducing low high n = let e : n + 2 ≡ suc (n + 1) = omega arith in rw e
+own-names rewriting low high n = refl
 
 own-atoms : (k : Loop) (w rows : List ℕ) (p : ℕ) →
     of-loop k (meant (placed w (getD rows (p + 1) 0))) (meant (placed w (getD rows (p + 2) 0)))
@@ -78,11 +79,13 @@ unfolding atoms-at
 own-atoms mapping w rows p = refl
 own-atoms filtering w rows p = refl
 own-atoms reducing w rows p = let e : p + 2 ≡ p + 1 + 1 = omega arith in rw e
+own-atoms rewriting w rows p = refl
 
 third-low : (k : Loop) (n : ℕ) → n + loop-size k < 256 → third-of k n < 256
 third-low mapping n h = omega arith
 third-low filtering n h = omega arith
 third-low reducing n h = omega arith
+third-low rewriting n h = omega arith
 
 module _ (w ds vs : List ℕ) where
   abbrev us-of : Loop → List Atom
@@ -93,6 +96,7 @@ module _ (w ds vs : List ℕ) where
   passes-are mapping = rw (place-atom w ds (getD vs 0 0))
   passes-are filtering = rw (place-atom w ds (getD vs 0 0))
   passes-are reducing = rw (place-atom w ds (getD vs 0 0), place-atom w ds (getD vs 1 0))
+  passes-are rewriting = rw (place-atom w ds (getD vs 0 0))
 
   loop-deep : (k : Loop) (t : ℕ) →
       loop-place k ds (getD vs 0 0) t ≡ loop-depth k (depth-in ds) (us-of k) (meant (placed w t))
@@ -100,6 +104,7 @@ module _ (w ds vs : List ℕ) where
   loop-deep mapping t = ap suc (place-atom w ds t)
   loop-deep filtering t = place-atom w ds (getD vs 0 0)
   loop-deep reducing t = place-atom w ds (getD vs 0 0)
+  loop-deep rewriting t = ap suc (place-atom w ds t)
 
 -- the depths of the names of a pass, as they are laid
 depths-laid : (k : Loop) (ds : List ℕ) (n v u : ℕ) (es : List ℕ) → n + loop-size k < length es →
@@ -113,6 +118,7 @@ depths-laid reducing ds n v u es h =
     rw e (table-set (set es (n + 1) (place-depth ds v)) 0 (n + 1 + 1) (pred (place-depth ds u))
     (omega (arith, length-set es (n + 1) (place-depth ds v)))
     ∙ rw (table-set es 0 (n + 1) (place-depth ds v) (omega arith)))
+depths-laid rewriting ds n v u es h = table-set es 0 (n + 1) (pred (place-depth ds v)) h
 
 same-loop : {x : ℕ} {k : Loop} {ps qs : List ℕ} {us ws : List Atom} {t : Tree} → ps ≡ qs → us ≡ ws →
     C.loop x k ps us t ≡ C.loop x k qs ws t
@@ -201,7 +207,8 @@ module _ (w : List ℕ) (res : ℕ → ℕ) (kind low high : ℕ) (vs : List ℕ
     loop-shallow f g =
         given-shallow k
         (rw (inner-depths, normal-ending b ν (n + 1 + m), ← T .gives) at (shallow-line .1))
-        (rw (ne-eqb kind 20 g, ne-eqb kind 19 f))
+        (each-loop (λ i. (i ≡ 19 → ⊥) → (i ≡ 20 → ⊥) → loop-of i ≡ mapping) kind looping (λ a b. refl)
+        (λ a b. absurd (a refl)) (λ a b. absurd (b refl)) f g)
 
     module _ {Y : State} {v : ℕ} (s : Sets X₄ Y (rt .p) q n v)
         (ve : v ≡ loop-place k (X₄ .depths) (getD vs 0 0) (rt .place)) where

@@ -1,6 +1,6 @@
 -- Laws of the tree at a node: one for each kind of node that the code tells apart.
 use mathlib.Core.Path.{_≡_, refl, sym, ap, _∙_}
-use mathlib.Core.Bool.{false, false≢true}
+use mathlib.Core.Bool.{true, false, false≢true}
 use mathlib.Core.Logic.{_⊎_, inl, inr, ⊎-elim}
 use mathlib.Core.List.{List, [], _∷_}
 use Prim.Native.Nat.{ℕ, zero, suc, _+_, _-_, _*_, _<_, _≤_}
@@ -10,19 +10,19 @@ use lib.ListN.{length, getD}
 use borrow.Author.Tests.{le-ltb, le-leb, lt-leb}
 use Rattle.semantics.specs.Number.{Operation, sum, difference, less, signed, bytes-at}
 use Rattle.semantics.specs.Kinds.{Leaf, operation, call, literal, index, length-of, iota, replicate, leaf-kind}
-use Rattle.semantics.specs.Kinds.{Loop, mapping, filtering, reducing, loop-kind}
+use Rattle.semantics.specs.Kinds.{Loop, mapping, filtering, reducing, rewriting, loop-kind}
 use Rattle.semantics.specs.Syntax.{Expr, number, name, let-in, leaf, if-else, loop, Exprs, none, more, size, sizes}
 use Rattle.semantics.specs.Code as C
 use Rattle.semantics.specs.File as S
 use Rattle.semantics.specs.File.{at-part, look, node-at, node-of, part-count, low-limits, high-limits, leaf-of}
 use Rattle.semantics.specs.File.{shape-of}
-use Rattle.script_read.specs.Told.{Parts, node-outcome, parted}
+use Rattle.script_read.specs.Told.{Parts, node-outcome, parted, loops}
 use Rattle.script_read.specs.declared.Node.{Node}
 use Rattle.script_read.specs.declared.Node.the-variants.{Fits, WrongKind, WrongOperand}
 use Rattle.script_read.proofs.Limits.{NoneOf}
 use Rattle.script_read.proofs.Nodes.{Seen, seen, HeadFits, head-fits, unfit}
 use Rattle.script_read.proofs.Sorts as K
-use Rattle.script_read.proofs.Sorts.{Sort, sort-of, kind-of-leaf, kind-of-loop}
+use Rattle.script_read.proofs.Sorts.{Sort, sort-of, kind-of-leaf, kind-of-loop, is-a-loop}
 use Rattle.script_read.proofs.Written.{Written, AllWritten, amount}
 use Rattle.normal_code.specs.Plain.{meant, placed, number-at, is-looping}
 use Rattle.normal_code.proofs.Atoms.{pred-suc}
@@ -126,19 +126,20 @@ module _ (h : S.Head) {kind low high : ℕ} (same-kind : h .kind ≡ kind) (same
       counted = record { leaf = λ f. l .parts };
     }
 
-    loop-compound : (k : Loop) → kind ≡ loop-kind k → CompoundNode h kind low high
-    loop-compound mapping e = record {
+    loop-compound : (k : Loop) → kind ≡ loop-kind k → loops kind ≡ true → CompoundNode h kind low high
+    loop-compound mapping e i = record {
       tree = λ R p. rw (same-kind ∙ e, e, same-low);
       counted = record { leaf = λ f. absurd (false≢true (sym (rw e at f))) };
     }
-    loop-compound filtering e = record {
+    loop-compound filtering e i = record {
       tree = λ R p. rw (same-kind ∙ e, e, same-low);
       counted = record { leaf = λ f. absurd (false≢true (sym (rw e at f))) };
     }
-    loop-compound reducing e = record {
+    loop-compound reducing e i = record {
       tree = λ R p. rw (same-kind ∙ e, e, same-low, same-high);
       counted = record { leaf = λ f. absurd (false≢true (sym (rw e at f))) };
     }
+    loop-compound rewriting e i = absurd (false≢true (rw e at i))
 
 -- a node whose kind is none of the others is a leaf or a loop
 pub compound-as : {k w : List ℕ} {p kind low high : ℕ} (s : Seen k w at-part p kind low high) →
@@ -160,6 +161,7 @@ compound-as {k} {w} {p} {kind} {low} {high} s n = go (sort-of (s .node) (fit .st
     go (K.loop j xs c e) =
         loop-compound (s .node) (s .same-kind) (s .same-low) (s .same-high) (s .lowest) (s .highest) j
         (sym (s .same-kind) ∙ kind-of-loop (s .node) j xs c e)
+        (ap loops (sym (s .same-kind)) ∙ is-a-loop (s .node) j xs c e)
 
 -- what stands at a node that fits
 pub fits-seen : {k w : List ℕ} {d p kind low high : ℕ} → NodeFits k w d p kind low high →

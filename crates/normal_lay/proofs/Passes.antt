@@ -60,7 +60,7 @@ module _ (w ps : List ℕ) (low high n : ℕ) (long : length ps ≡ 256) (low-in
           ∙ ap (λ (μ : Meanings). updated μ high (C.name (suc (n + 1)))) (first-bound (omega arith)))
       go (no f) =
           no-reduce (λ k. n + loop-size k < 256 → meanings w (set (set ps low (n + 1)) (second-name kind low high)
-          (n + loop-size k)) ≡ meaning-names (of-loop k low high) (n + 1) (meanings w ps)) kind f once once h
+          (n + loop-size k)) ≡ meaning-names (of-loop k low high) (n + 1) (meanings w ps)) kind f once once once h
         where
           once : n + 1 < 256 → meanings w (set (set ps low (n + 1)) (second-name kind low high) (n + 1))
               ≡ updated (meanings w ps) low (C.name (n + 1))

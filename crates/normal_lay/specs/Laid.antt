@@ -6,7 +6,7 @@ use mathlib.Core.List.{List, [], _∷_}
 use Prim.Native.Nat.{ℕ, zero, suc, pred, _+_}
 use lib.Dec.{ltb, eqb}
 use lib.ListN.{getD, set}
-use Rattle.semantics.specs.Kinds.{Loop, mapping, filtering, reducing}
+use Rattle.semantics.specs.Kinds.{Loop, mapping, filtering, reducing, rewriting}
 use Rattle.semantics.specs.Code as C
 use Rattle.semantics.specs.Normal.{Meanings}
 use Rattle.normal_code.specs.Plain.{meant, placed}
@@ -80,18 +80,21 @@ abbrev pub pass-places : Loop → List ℕ → ℕ → ℕ → List ℕ
 pass-places mapping depths v u = pred (place-depth depths v) ∷ []
 pass-places filtering depths v u = pred (place-depth depths v) ∷ []
 pass-places reducing depths v u = place-depth depths v ∷ (pred (place-depth depths u) ∷ [])
+pass-places rewriting depths v u = pred (place-depth depths v) ∷ []
 
 -- the depth of the name that a loop binds: v is the place of its first atom, t that of the atom that its tree gives
 abbrev pub loop-place : Loop → List ℕ → ℕ → ℕ → ℕ
 loop-place mapping depths v t = suc (place-depth depths t)
 loop-place filtering depths v t = place-depth depths v
 loop-place reducing depths v t = place-depth depths v
+loop-place rewriting depths v t = suc (place-depth depths t)
 
 -- the third number of a loop's row, whose name is n: a reduce's second name of a pass
 abbrev pub third-of : Loop → ℕ → ℕ
 third-of mapping n = 0
 third-of filtering n = 0
 third-of reducing n = n + 2
+third-of rewriting n = 0
 
 -- the first m of a list
 unfoldable pub firsts : List ℕ → ℕ → ℕ → List ℕ

@@ -3,7 +3,7 @@
 use mathlib.Core.List.{List}
 use Prim.Native.Nat.{ℕ, _≤_}
 use Rattle.semantics.specs.Kinds.{Leaf, operation, call, literal, index, length-of, iota, replicate}
-use Rattle.semantics.specs.Kinds.{Loop, mapping, filtering, reducing}
+use Rattle.semantics.specs.Kinds.{Loop, mapping, filtering, reducing, rewriting}
 use Rattle.semantics.specs.Code as C
 use Rattle.semantics.specs.Code.{Atom, Tree, end, line, ending}
 use Rattle.semantics.specs.Annotate.{NameDepths, atom-depth, depth-of, pass-depths, with-depths, tree-depths, line-depths}
@@ -21,6 +21,7 @@ abbrev pub ShallowLoop : Loop → NameDepths → Atom → Type 0
 ShallowLoop mapping Γ a = atom-depth Γ a ≤ 3
 ShallowLoop filtering Γ a = Unit {0}
 ShallowLoop reducing Γ a = Unit {0}
+ShallowLoop rewriting Γ a = atom-depth Γ a ≤ 3
 
 -- over the results of the functions: Γ are the depths of the names before a tree or a line
 module _ (results : ℕ → ℕ) where

@@ -2,18 +2,18 @@
 use Prim.Native.Nat.{ℕ, zero, suc, _+_, _≤_}
 use native.Mathlib.Omega.{arith}
 use mathlib.Core.Path.{_≡_, refl, sym, ap, _∙_, subst}
-use mathlib.Core.Bool.{false}
+use mathlib.Core.Bool.{false, _&&_}
 use mathlib.Core.List.{List, [], _∷_, _++_, map}
 use mathlib.Core.Option.{some}
-use lib.Dec.{leb}
+use lib.Dec.{eqb, leb}
 use lib.ListN.{length, getD}
-use borrow.Author.Tests.{leb-true}
+use borrow.Author.Tests.{leb-true, eqb-true}
 use Rattle.laws.specs.Routines.{length-routines}
 use Rattle.laws.specs.Endings.{ending-lines}
-use Rattle.laws.specs.Tests.{not-some, some-if-holds}
+use Rattle.laws.specs.Tests.{both-hold, not-some, some-if-holds}
 use Rattle.semantics.specs.Basics.{updated}
 use Rattle.semantics.specs.Kinds.{Leaf, operation, call, literal, index, length-of, iota, replicate, Loop, mapping}
-use Rattle.semantics.specs.Kinds.{filtering, reducing}
+use Rattle.semantics.specs.Kinds.{filtering, reducing, rewriting}
 use Rattle.semantics.specs.Syntax as S
 use Rattle.semantics.specs.Syntax.{Expr, Exprs, Function, Script, function-at}
 use Rattle.semantics.specs.Names.{name-faults}
@@ -23,7 +23,7 @@ use Rattle.semantics.specs.Code as C
 use Rattle.semantics.specs.Code.{Atom, Tree, end, line, ending}
 use Rattle.semantics.specs.Normal.{Meanings, fresh, fresh-all, atom, atoms, numbered, meaning-names, lines, all-lines}
 use Rattle.semantics.specs.Normal.{normal, parameter-names, normal-body}
-use Rattle.semantics.specs.Machine.{program}
+use Rattle.semantics.specs.Machine.{program-in}
 use Rattle.semantics.specs.Annotate.{NameDepths, atom-depth, with-depths, pass-depths, loop-depth, tree-depths}
 use Rattle.semantics.specs.Annotate.{line-depths, parameter-depths-from, result-of}
 use Rattle.soundness.specs.machine.Discipline.{loop-arity}
@@ -66,11 +66,18 @@ map-shallow [] e d h r = absurd (omega arith)
 map-shallow (c ∷ []) e d h r = omega (arith, leb-true (suc e) 4 (some-if-holds (leb (suc e) 4) (suc e) d r .0))
 map-shallow (c ∷ b ∷ ds) e d h r = absurd (omega arith)
 
+rewrite-shallow : (ds : List ℕ) (e d : ℕ) → length ds ≡ 1 → loop-rule rewriting (ds ++ (e ∷ [])) ≡ some d → e ≤ 3
+rewrite-shallow [] e d h r = absurd (omega arith)
+rewrite-shallow (c ∷ []) e d h r =
+    omega (arith, eqb-true e 0 (both-hold (eqb c 1) (eqb e 0) (some-if-holds (eqb c 1 && eqb e 0) 1 d r .0) .1))
+rewrite-shallow (c ∷ b ∷ ds) e d h r = absurd (omega arith)
+
 loop-shallow : (k : Loop) (Γ : NameDepths) (a : Atom) (ds : List ℕ) (e d : ℕ) → atom-depth Γ a ≡ e →
     length ds ≡ loop-arity k → loop-rule k (ds ++ (e ∷ [])) ≡ some d → ShallowLoop k Γ a
 loop-shallow mapping Γ a ds e d f h r = omega (arith, map-shallow ds e d h r)
 loop-shallow filtering Γ a ds e d f h r = tt
 loop-shallow reducing Γ a ds e d f h r = tt
+loop-shallow rewriting Γ a ds e d f h r = omega (arith, rewrite-shallow ds e d h r)
 
 -- ---- trees
 
@@ -242,7 +249,7 @@ module _ (F : Functions) where
 -- the body of an accepted function
 pub body-shallow : (fs : Script) (g : Function) → Accepted fs g →
     Shallow (result-of fs) (normal-body g) (parameter-depths-from (g .parameters) 0)
-unfolding normal-body normal program
+unfolding normal-body normal program-in
 body-shallow fs g ok =
     let μ = parameter-names (g .parameters) 0 in
     let arity = length (g .parameters) in
@@ -255,7 +262,7 @@ body-shallow fs g ok =
 
 -- each function of a script without fault is accepted
 pub clean-accepted : (fs : Script) → Clean fs → (f : ℕ) → Accepted fs (function-at fs f)
-unfolding name-faults type-faults program
+unfolding name-faults type-faults program-in
 clean-accepted fs c f =
     accepted-at fs (length fs) (sym (length-routines fs)) (main-shape (signatures-of fs 0)) fs 0 f
     (c .limits .1) (record { names = c .names; types = c .types; roomy = c .roomy })

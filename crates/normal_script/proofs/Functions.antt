@@ -9,7 +9,7 @@ use lib.Seq.{drop-cons}
 use Rattle.semantics.specs.Syntax.{Function, Script, function-at, no-function}
 use Rattle.semantics.specs.Code.{Row}
 use Rattle.semantics.specs.Borrow.{Table, borrowed}
-use Rattle.semantics.specs.Annotate.{result-of, depths-of, owned-depths, annotated-body, function-rows, functions-rows}
+use Rattle.semantics.specs.Annotate.{result-of, depths-of, owned-depths, annotated-in, function-rows, functions-rows}
 use Rattle.semantics.specs.Annotate.{code}
 use Rattle.normal_write.specs.Wrote.{Wrote}
 use Rattle.normal_write.proofs.Rows.{wrote-none, wrote-then, wrote-as}
@@ -20,7 +20,7 @@ use Rattle.normal_script.specs.Rows.{head-rows, owned-by, rows-by}
 
 rows-same : (fs : Script) (T : Table) (f : ℕ) (g : Function) →
     rows-by (result-of fs) T f g ≡ function-rows fs T f g
-unfolding rows-by owned-by depths-by function-rows annotated-body owned-depths depths-of head-rows
+unfolding rows-by owned-by depths-by function-rows annotated-in owned-depths depths-of head-rows
 rows-same fs T f g = refl
 
 depths-same : (fs : Script) (g : Function) → depths-by (result-of fs) g ≡ depths-of fs g

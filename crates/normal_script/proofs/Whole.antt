@@ -15,7 +15,7 @@ use Rattle.semantics.specs.Code.{Row, rows, release-all}
 use Rattle.semantics.specs.Normal.{normal-body}
 use Rattle.semantics.specs.Live.{Set, empty, uses}
 use Rattle.semantics.specs.Borrow.{Table, borrows}
-use Rattle.semantics.specs.Annotate.{NameDepths, dying, annotate}
+use Rattle.semantics.specs.Annotate.{NameDepths, dying, full-style, annotate}
 use Rattle.script_read.specs.Told.{low-at}
 use Rattle.script_read.proofs.Tables.{none-set}
 use Rattle.normal_code.specs.Plain.{plain, set-of}
@@ -85,7 +85,8 @@ module _ (k w results : List ℕ) (T : Table) (f at : ℕ) (fit : Fitting k w re
         head)
       where
         seen : point (set-of s′) (marks-of c′) (walk .added ++ [])
-            ≡ point (uses (normal-body here)) (λ _. 0) (rows (annotate (borrows T) Γ (normal-body here) empty) ++ [])
+            ≡ point (uses (normal-body here)) (λ _. 0) (rows (annotate full-style (borrows T) Γ (normal-body
+            here) empty) ++ [])
         seen =
             sym (walk .is [])
             ∙ ap (λ (L : Set). tree-walk (plain w rs ns) (borrows T) (depth-in os) 65 (p - 2)
@@ -102,12 +103,12 @@ module _ (k w results : List ℕ) (T : Table) (f at : ℕ) (fit : Fitting k w re
 
         body : release-rows (dying (depth-in os) (below c (set-of (replicate 256 true))) (set-of s′)) ++ walk .added
             ≡ rows (release-all (dying Γ (λ x. ltb x (length (here .parameters))) (uses (normal-body here)))
-            (annotate (borrows T) Γ (normal-body here) empty))
+            (annotate full-style (borrows T) Γ (normal-body here) empty))
         body =
             rw (depths-owned, names-below c (omega (arith, fit .few)), ap (λ (P : Point). P .names) seen)
             (ap (λ (l : List Row). release-rows (dying Γ (λ x. ltb x c) (uses (normal-body here))) ++ l)
             (sym (append-nil (walk .added)) ∙ ap (λ (P : Point). P .rows) seen ∙ append-nil _)
             ∙ ap (λ (n : ℕ). release-rows (dying Γ (λ x. ltb x n) (uses (normal-body here)))
-            ++ rows (annotate (borrows T) Γ (normal-body here) empty)) count-is
+            ++ rows (annotate full-style (borrows T) Γ (normal-body here) empty)) count-is
             ∙ sym (rows-releases (dying Γ (λ x. ltb x (length (here .parameters))) (uses (normal-body here)))
-            (annotate (borrows T) Γ (normal-body here) empty)))
+            (annotate full-style (borrows T) Γ (normal-body here) empty)))

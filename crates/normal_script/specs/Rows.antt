@@ -9,7 +9,7 @@ use Rattle.semantics.specs.Code.{Row, row, rows, release-all}
 use Rattle.semantics.specs.Normal.{normal-body}
 use Rattle.semantics.specs.Live.{empty, uses}
 use Rattle.semantics.specs.Borrow.{Table, borrows}
-use Rattle.semantics.specs.Annotate.{NameDepths, parameter-rows, dying, annotate}
+use Rattle.semantics.specs.Annotate.{NameDepths, parameter-rows, dying, full-style, annotate}
 use Rattle.normal_plain.specs.Read.{depths-by}
 
 -- the depths of names, but 0 for those of the first n that function f borrows
@@ -30,4 +30,4 @@ rows-by results T f g =
     head-rows g
     ++ rows (release-all
     (dying (owned-by results T f g) (λ x. ltb x (length (g .parameters))) (uses (normal-body g)))
-    (annotate (borrows T) (owned-by results T f g) (normal-body g) empty))
+    (annotate full-style (borrows T) (owned-by results T f g) (normal-body g) empty))

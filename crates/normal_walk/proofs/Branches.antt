@@ -6,7 +6,7 @@ use Prim.Native.Nat.{ℕ, _+_, _-_}
 use native.Mathlib.Omega.{arith}
 use lib.IntN.{ℤ}
 use lib.ListN.{length}
-use Rattle.semantics.specs.Kinds.{Loop, mapping, filtering, reducing, loop-hands, loop-reads, Borrowing}
+use Rattle.semantics.specs.Kinds.{Loop, mapping, filtering, reducing, rewriting, loop-hands, loop-reads, Borrowing}
 use Rattle.semantics.specs.Code as C
 use Rattle.semantics.specs.Code.{Row, row, atom-row}
 use Rattle.semantics.specs.Live.{Set, is, among, _∪_, _∖_}
@@ -87,6 +87,7 @@ module _ (j : Loop) (a b : C.Atom) where
       by mapping = refl
       by filtering = refl
       by reducing = refl
+      by rewriting = refl
 
   marks-are : (notes : List ℕ) (p : ℕ) (M : Marks) →
       unmarked notes (p + 1) a (unmarked notes (p + 2) (second-of j b) M) ≡ unmarked-all notes (p + 1) (of-loop j a
@@ -100,6 +101,7 @@ module _ (j : Loop) (a b : C.Atom) where
       by filtering = refl
       by reducing = ap (λ (r : ℕ). unmarked notes (p + 1) a (unmarked notes r b M))
           (let e : p + 2 ≡ p + 1 + 1 = omega arith in e)
+      by rewriting = refl
 
   -- what is retained before it: a start that its array or its tree uses too, or what follows
   hands-are : (Γ : NameDepths) (A : Set) →
@@ -113,6 +115,7 @@ module _ (j : Loop) (a b : C.Atom) where
       by mapping = refl
       by filtering = refl
       by reducing = refl
+      by rewriting = refl
 
 module _ (F : Plain) (B : Borrowing) (Γ : NameDepths) (W : ℕ → Point → Point) (p q x kind y z : ℕ) (a b b₁ : Atom)
     (s₀ i t s₁ s : List Bool) {c c₁ c₂ c₃ k k₁ k₂ k₃ : List ℕ} {o o₁ o₂ o₃ : List ℤ} {w u v v₁ : ℕ} {l : Line} (n e

@@ -9,13 +9,14 @@ use lib.IntN.{ℤ}
 use lib.ListN.{length, set}
 use denote.Enum.Declared.{tagOf}
 use types.Run.{OneOf}
-use Rattle.semantics.specs.Kinds.{Leaf, call, literal, Loop, Borrowing}
+use Rattle.semantics.specs.Kinds.{Leaf, call, literal, Loop, loop-kind}
+use Rattle.semantics.specs.Kinds.{Borrowing}
 use Rattle.semantics.specs.Code as C
 use Rattle.semantics.specs.Code.{Row, row}
 use Rattle.semantics.specs.Live.{Set, is, only, among, _∪_, _∖_}
 use Rattle.semantics.specs.Annotate.{NameDepths, dying}
 use Rattle.normal_code.specs.Plain.{Plain, set-of, meant, atoms-at, unary-of, binary-of, loop-of, loop-size, of-loop}
-use Rattle.normal_code.specs.Parts.{below, release-rows, leaf-part, handing, loop-closing}
+use Rattle.normal_code.specs.Parts.{below, release-rows, leaf-part, handing, written-as, loop-closing}
 use Rattle.normal_code.specs.Marks.{Marks, marked, marks-of}
 use Rattle.normal_code.specs.Walk.{since, Point, point, unmarked, unmarked-all}
 use Rattle.normal_code.specs.Walk.{if-trees, if-walk, loop-tree, loop-walk, leaf-walk, line-walk}
@@ -24,10 +25,11 @@ use Rattle.normal_code.specs.declared.Line.{Line}
 use Rattle.normal_code.specs.declared.Line.the-variants as L
 use Rattle.normal_write.specs.Wrote.{Wrote}
 use Rattle.normal_write.specs.Took.{Took}
-use Rattle.normal_write.specs.Loops.{closing-of}
+use Rattle.normal_write.specs.Loops.{written-line, closing-of}
 use Rattle.normal_code.proofs.Line.{the-type}
 use Rattle.normal_code.proofs.Atoms.{length-atoms}
 use Rattle.normal_code.proofs.Rows.{of-size}
+use Rattle.normal_code.proofs.Loops.{loop-again, same-parts, same-size}
 use Rattle.normal_code.proofs.Sets.{without-in}
 use Rattle.normal_write.proofs.Rows.{wrote-as, wrote-then}
 use Rattle.normal_write.proofs.Leaves.{literal-rows}
@@ -61,6 +63,16 @@ loop-is (L.Call x f m) h = absurd (omega arith)
 loop-is (L.Literal x d m) h = absurd (omega arith)
 loop-is (L.If x g) h = absurd (omega arith)
 loop-is (L.Loop x kind y z a b) h = refl
+
+pub written-loop : (Γ : NameDepths) (p : ℕ) (M : Marks) (A : Set) (l : Line) → is-loop l ≡ true →
+    is-loop (written-line Γ p M A l) ≡ true
+unfolding is-loop written-line
+written-loop Γ p M A (L.Unary x kind a) e = e
+written-loop Γ p M A (L.Binary x kind a b) e = e
+written-loop Γ p M A (L.Call x f m) e = e
+written-loop Γ p M A (L.Literal x d m) e = e
+written-loop Γ p M A (L.If x g) e = e
+written-loop Γ p M A (L.Loop x kind y z a b) e = refl
 
 pub not-loop : (l : Line) → OneOf (0 ∷ 1 ∷ 2 ∷ 3 ∷ 4 ∷ []) (tagOf the-type l) → is-loop l ≡ true → ⊥
 unfolding is-loop
@@ -189,29 +201,38 @@ module _ (F : Plain) (B : Borrowing) (Γ : NameDepths) (W : ℕ → Point → Po
       long = d .long;
     }
 
-    -- what follows a loop, and its tree
-    pub loop-line : (l : Line) → is-loop l ≡ true →
-        Wrote k o k₁ o₁ w w₁ (closing-of Γ p (marks-of c) (set-of s) l) →
-        Walks (loop-tree-of F B Γ W p q l) s c k₁ o₁ w₁ s₁ c₁ k₂ o₂ w₂ →
+    -- what follows a loop, and its tree, as it is written
+    pub loop-line : (l m : Line) → is-loop l ≡ true → m ≡ written-line Γ p (marks-of c) (set-of s) l →
+        Wrote k o k₁ o₁ w w₁ (closing-of Γ p (marks-of c) (set-of s) m) →
+        Walks (loop-tree-of F B Γ W p q m) s c k₁ o₁ w₁ s₁ c₁ k₂ o₂ w₂ →
         Walks (line-walk F B Γ W p q l) s c k o w s₁ c₁ k₂ o₂ w₂
-    unfolding is-loop line-walk loop-walk loop-tree-of closing-of
-    loop-line (L.Loop x kind y z a b) e v d =
-        let j = loop-of kind in
-        let us = of-loop j (meant a) (meant b) in
-        let closing : ℕ → List Row =
-        λ n. loop-closing Γ x j us (below x (since (p + 1 + n) (marks-of c))) (set-of s) in
+    unfolding is-loop line-walk loop-walk loop-tree-of closing-of written-line
+    loop-line (L.Loop x kind y z a b) m e f v d =
+        let i = loop-of kind in
+        let us = of-loop i (meant a) (meant b) in
+        let M = marks-of c in
+        let A = set-of s in
+        let O : ℕ → Set = λ n. below x (since (p + 1 + n) M) in
+        let j = written-as Γ x i us (O (loop-size i)) A in
+        let h = loop-of (loop-kind j) in
+        let closing = closing-of Γ p M A m in
         record {
-          added = d .added ++ closing (loop-size j);
+          added = d .added ++ closing;
           is = λ rs.
-              ap (λ (n : ℕ). loop-tree F B Γ W p q x j (of-loop j y z) us (point (set-of s) (marks-of c)
-              (closing n ++ rs))) (of-size j (meant a) (meant b))
-              ∙ d .is (closing (loop-size j) ++ rs)
+              ap (λ (n : ℕ). loop-tree F B Γ W p q x (written-as Γ x i us (O n) A) (of-loop i y z) us (point A M
+              (loop-closing Γ x (written-as Γ x i us (O n) A) us (O n) A ++ rs))) (of-size i (meant a) (meant b))
+              ∙ (λ r. loop-tree F B Γ W p q x (loop-again j r) (same-parts Γ x i us (O (loop-size i)) A y z r)
+              (same-parts Γ x i us (O (loop-size i)) A (meant a) (meant b) r) (point A M
+              (loop-closing Γ x (loop-again j r) (same-parts Γ x i us (O (loop-size i)) A (meant a) (meant b) r)
+              (O (same-size Γ x i us (O (loop-size i)) A r)) A ++ rs)))
+              ∙ ap (λ (n : Line). loop-tree-of F B Γ W p q n (point A M (closing-of Γ p M A n ++ rs))) (sym f)
+              ∙ d .is (closing ++ rs)
               ∙ ap (point (set-of s₁) (marks-of c₁)) (sym (append-assoc (d .added) _ rs));
           wrote = wrote-then v (d .wrote);
           long = d .long;
         }
-    loop-line (L.Unary x kind a) e v d = absurd (false-true e)
-    loop-line (L.Binary x kind a b) e v d = absurd (false-true e)
-    loop-line (L.Call x f m) e v d = absurd (false-true e)
-    loop-line (L.Literal x f m) e v d = absurd (false-true e)
-    loop-line (L.If x g) e v d = absurd (false-true e)
+    loop-line (L.Unary x kind a) m e f v d = absurd (false-true e)
+    loop-line (L.Binary x kind a b) m e f v d = absurd (false-true e)
+    loop-line (L.Call x i n) m e f v d = absurd (false-true e)
+    loop-line (L.Literal x i n) m e f v d = absurd (false-true e)
+    loop-line (L.If x g) m e f v d = absurd (false-true e)

@@ -7,7 +7,7 @@ use normal_write::lines::put_binary;
 use normal_write::lines::put_end;
 use normal_write::loops::close_loop;
 use normal_write::loops::open_loop;
-use normal_write::loops::retain_start;
+use normal_write::loops::retain_handed;
 use normal_write::loops::second_of;
 use normal_write::marks::less_two;
 use normal_write::marks::take_pair;
@@ -17,6 +17,7 @@ use normal_write::put_atom;
 use normal_write::put_release;
 use normal_write::put_releases;
 use normal_write::put_row;
+use normal_write::rewrites::written_line;
 use normal_write::uses::pass_names;
 use normal_write::uses::put_used;
 ghost use mathlib.Core.Path.{_≡_};
@@ -113,7 +114,8 @@ pub fn walk_tree(
             }
             Line::Loop(_, _, _, _, _, _) => {
                 let w = *at;
-                let v = close_loop(ks, os, depths, cur, l, p, &s, w);
+                let m = written_line(depths, cur, l, p, &s);
+                let v = close_loop(ks, os, depths, cur, m, p, &s, w);
                 *at = v;
                 let t = walk_loop(
                     ks,
@@ -124,7 +126,7 @@ pub fn walk_tree(
                     cur,
                     depths,
                     table,
-                    l,
+                    m,
                     here,
                     at,
                     s,
@@ -291,7 +293,7 @@ fn walk_loop(
             let mut s = inner;
             let u = take_use(notes, cur, p + 2, second, &s);
             s[u.name as usize] = u.live;
-            let v1 = retain_start(ks, os, depths, kind, a, &s, v);
+            let v1 = retain_handed(ks, os, depths, kind, a, &s, v);
             *at = v1;
             let u1 = take_use(notes, cur, p + 1, a, &s);
             s[u1.name as usize] = u1.live;

@@ -1,5 +1,5 @@
 -- Laws of the rows of loops: one for each way out of what writes them.
-use mathlib.Core.Path.{_≡_, refl, ap, fun-ext}
+use mathlib.Core.Path.{_≡_, refl, ap, _∙_, fun-ext}
 use mathlib.Core.Bool.{Bool, true, false, _&&_, _||_}
 use mathlib.Core.Logic.{⊎-elim}
 use mathlib.Core.List.{[], _∷_, _++_}
@@ -9,12 +9,13 @@ use lib.Dec.{eqb, ltb}
 use denote.Enum.Declared.{tagOf}
 use types.Run.{OneOf}
 use Rattle.semantics.specs.Basics.{with-if}
-use Rattle.semantics.specs.Kinds.{Loop, mapping, filtering, reducing}
+use Rattle.semantics.specs.Kinds.{Loop, mapping, filtering, reducing, rewriting, loop-kind, loop-reads}
 use Rattle.semantics.specs.Code as C
 use Rattle.semantics.specs.Live.{Set, is, only, just, among, _∪_}
 use Rattle.semantics.specs.Annotate.{NameDepths, is-array, arrays, dying, handed-again}
-use Rattle.normal_code.specs.Plain.{meant, loop-of, loop-size, of-loop, last-of}
+use Rattle.normal_code.specs.Plain.{meant, loop-of, loop-size, of-loop}
 use Rattle.normal_code.specs.Parts.{below, retain-rows, release-rows, handed-one, pass-opening, loop-closing}
+use Rattle.normal_code.specs.Parts.{written-as}
 use Rattle.normal_code.specs.Marks.{Marks}
 use Rattle.normal_code.specs.Walk.{since}
 use Rattle.normal_code.specs.declared.Atom.{Atom}
@@ -22,7 +23,7 @@ use Rattle.normal_code.specs.declared.Line.{Line}
 use Rattle.normal_code.specs.declared.Line.the-variants as L
 use Rattle.normal_code.proofs.Line.{the-type}
 use Rattle.normal_code.proofs.Rows.{no-reduce}
-use Rattle.normal_write.specs.Loops.{opening-of, closing-of}
+use Rattle.normal_write.specs.Loops.{read-of, written-line, opening-of, closing-of}
 
 -- ---- lines that are no loops
 
@@ -69,7 +70,7 @@ module _ (Γ : NameDepths) (T : Set) where
   unfolding arrays
   opening-one kind y z n =
       no-reduce (λ k. retain-rows (with-if (is-array Γ y) y []) ++ release-rows (dying Γ (only y) T)
-      ≡ pass-opening Γ k (of-loop k y z) T) kind n (opening-of-one y) (opening-of-one y)
+      ≡ pass-opening Γ k (of-loop k y z) T) kind n (opening-of-one y) (opening-of-one y) (opening-of-one y)
 
   pub opening-two : (y z : ℕ) →
       retain-rows (with-if (is-array Γ z) z []) ++ release-rows (dying Γ (only y ∪ only z) T)
@@ -94,14 +95,47 @@ used-below x A S = fun-ext (λ y. go (ltb y x) (A y) (S y))
     go false a s = refl
 
 module _ (Γ : NameDepths) (p x : ℕ) (M : Marks) (A : Set) where
-  pub closing-rows : (k : Loop) (a b c : Atom) (row n : ℕ) → c ≡ last-of k a b → n ≡ loop-size k → row ≡ p + 1 + n →
+  pub closing-rows : (k : Loop) (a b c : Atom) (row n : ℕ) → meant c ≡ read-of k (meant a) (meant b) →
+      n ≡ loop-size k → row ≡ p + 1 + n →
       release-rows (dying Γ (below x (is (meant c) ∪ since row M)) A) ++ release-rows (dying Γ (only x) A)
       ≡ loop-closing Γ x k (of-loop k (meant a) (meant b))
       (below x (since (p + 1 + loop-size k) M)) A
   unfolding among
-  closing-rows mapping a b c row n e f g = rw (e, g, f) (ap (λ (S : Set). release-rows (dying Γ S A) ++ release-rows
-      (dying Γ (only x) A)) (used-below x (is (meant a)) (since (p + 1 + 1) M)))
-  closing-rows filtering a b c row n e f g = rw (e, g, f) (ap (λ (S : Set). release-rows (dying Γ S A) ++ release-rows
-      (dying Γ (only x) A)) (used-below x (is (meant a)) (since (p + 1 + 1) M)))
-  closing-rows reducing a b c row n e f g = rw (e, g, f) (ap (λ (S : Set). release-rows (dying Γ S A) ++ release-rows
-      (dying Γ (only x) A)) (used-below x (is (meant b)) (since (p + 1 + 2) M)))
+  closing-rows k a b c row n e f g =
+      rw (e, g, f)
+      (ap (λ (S : Set). release-rows (dying Γ S A) ++ release-rows (dying Γ (only x) A))
+      (used-below x (is (read-of k (meant a) (meant b))) (since (p + 1 + loop-size k) M) ∙ by k))
+    where
+      by : (k : Loop) → below x (is (read-of k (meant a) (meant b)) ∪ below x (since (p + 1 + loop-size k) M))
+          ≡ below x (among (loop-reads k (of-loop k (meant a) (meant b))) (below x (since (p + 1 + loop-size k) M)))
+      by mapping = refl
+      by filtering = refl
+      by reducing = refl
+      by rewriting = refl
+
+-- ---- the loop that is written
+
+-- only a map's array matters
+by-array : (Γ : NameDepths) (x : ℕ) (k : Loop) (a b : C.Atom) (O A : Set) →
+    written-as Γ x k (a ∷ []) O A ≡ written-as Γ x k (of-loop k a b) O A
+by-array Γ x mapping a b O A = refl
+by-array Γ x filtering a b O A = refl
+by-array Γ x reducing a b O A = refl
+by-array Γ x rewriting a b O A = refl
+
+module _ (Γ : NameDepths) (p : ℕ) (M : Marks) (A : Set) where
+  pub line-written : (x kind y z : ℕ) (a b : Atom) (n row k : ℕ) → n ≡ loop-size (loop-of kind) → row ≡ p + 1 + n →
+      k ≡ loop-kind (written-as Γ x (loop-of kind) (meant a ∷ []) (below x (since row M)) A) →
+      L.Loop x k y z a b ≡ written-line Γ p M A (L.Loop x kind y z a b)
+  unfolding written-line
+  line-written x kind y z a b n row k e f g =
+      ap (λ (i : ℕ). L.Loop x i y z a b)
+      (g ∙ ap (λ (r : ℕ). loop-kind (written-as Γ x (loop-of kind) (meant a ∷ []) (below x (since r M)) A))
+      (f ∙ ap (λ (m : ℕ). p + 1 + m) e)
+      ∙ ap loop-kind (by-array Γ x (loop-of kind) (meant a) (meant b) _ A))
+
+  pub others-written : (l : Line) → OneOf (0 ∷ 1 ∷ 2 ∷ 3 ∷ 4 ∷ []) (tagOf the-type l) → l ≡ written-line Γ p M A l
+  unfolding written-line
+  others-written l h =
+      not-loop l h (λ i. i ≡ written-line Γ p M A i) (λ x kind a. refl) (λ x kind a b. refl) (λ x f m. refl)
+      (λ x d m. refl) (λ x g. refl)

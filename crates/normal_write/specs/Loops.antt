@@ -2,13 +2,13 @@
 use mathlib.Core.List.{List, [], _++_}
 use Prim.Native.Nat.{ℕ, _+_}
 use lib.IntN.{pos}
-use Rattle.semantics.specs.Kinds.{Loop, mapping, filtering, reducing}
+use Rattle.semantics.specs.Kinds.{Loop, mapping, filtering, reducing, rewriting, loop-kind}
 use Rattle.semantics.specs.Code as C
 use Rattle.semantics.specs.Code.{Row}
 use Rattle.semantics.specs.Live.{Set}
 use Rattle.semantics.specs.Annotate.{NameDepths}
 use Rattle.normal_code.specs.Plain.{meant, loop-of, loop-size, of-loop}
-use Rattle.normal_code.specs.Parts.{below, loop-own, pass-opening, loop-closing}
+use Rattle.normal_code.specs.Parts.{below, written-as, loop-own, pass-opening, loop-closing}
 use Rattle.normal_code.specs.Marks.{Marks}
 use Rattle.normal_code.specs.Walk.{since}
 use Rattle.normal_code.specs.declared.Line.{Line}
@@ -19,8 +19,28 @@ abbrev pub second-of : Loop → C.Atom → C.Atom
 second-of mapping b = C.number (pos 0)
 second-of filtering b = C.number (pos 0)
 second-of reducing b = b
+second-of rewriting b = C.number (pos 0)
+
+-- the array that a loop reads; where it is handed over the number 0
+abbrev pub read-of : Loop → C.Atom → C.Atom → C.Atom
+read-of mapping a b = a
+read-of filtering a b = a
+read-of reducing a b = b
+read-of rewriting a b = C.number (pos 0)
 
 module _ (Γ : NameDepths) where
+  -- the line that is written for a loop at row p: M are the last uses and A is live after it
+  unfoldable pub written-line : ℕ → Marks → Set → Line → Line
+  written-line p M A (L.Unary x kind a) = L.Unary x kind a
+  written-line p M A (L.Binary x kind a b) = L.Binary x kind a b
+  written-line p M A (L.Call x f m) = L.Call x f m
+  written-line p M A (L.Literal x d m) = L.Literal x d m
+  written-line p M A (L.If x g) = L.If x g
+  written-line p M A (L.Loop x kind y z a b) =
+      let k = loop-of kind in
+      let us = of-loop k (meant a) (meant b) in
+      L.Loop x (loop-kind (written-as Γ x k us (below x (since (p + 1 + loop-size k) M)) A)) y z a b
+
   -- its own row and atoms, and the opening of its tree, at whose start T is live
   unfoldable pub opening-of : Set → Line → List Row
   opening-of T (L.Unary x kind a) = []

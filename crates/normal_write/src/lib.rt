@@ -18,6 +18,7 @@ pub mod calls;
 pub mod lines;
 pub mod loops;
 pub mod marks;
+pub mod rewrites;
 pub mod uses;
 
 // Writes a row before place w; the answer is its place.
@@ -56,7 +57,7 @@ pub fn put_atom(ks: &mut [u8], os: &mut [i64], w: usize, a: Atom) -> usize
 }
 
 // The depth of a name.
-fn depth_at(depths: &[u8; 256], x: usize) -> u8
+pub fn depth_at(depths: &[u8; 256], x: usize) -> u8
     requires { ⌜ x < 256 ⌝ }
     ensures { λ r. ⌜ r ≡ depth-in (now (depths .entry)) x ⌝ }
 {

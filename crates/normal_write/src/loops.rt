@@ -14,17 +14,23 @@ ghost use Prim.Native.Nat.{_+_, _*_, _≤_};
 ghost use Rattle.semantics.specs.Kinds.{loop-kind, loop-hands, packed-names};
 ghost use Rattle.semantics.specs.Code.{row, atom-row};
 ghost use Rattle.semantics.specs.Annotate.{handed-again};
-ghost use Rattle.normal_code.specs.Plain.{set-of, meant, loop-of, of-loop, last-of};
+ghost use Rattle.normal_code.specs.Plain.{set-of, meant, loop-of, of-loop};
 ghost use Rattle.normal_code.specs.Parts.{depth-in, retain-rows, pass-opening};
 ghost use Rattle.normal_code.specs.Marks.{marks-of};
 ghost use Rattle.normal_write.specs.Wrote.{Wrote, Room};
-ghost use Rattle.normal_write.specs.Loops.{second-of, opening-of, closing-of};
+ghost use Rattle.normal_write.specs.Loops.{second-of, read-of, opening-of, closing-of};
 
-// The array that a loop goes over.
-fn array_of(kind: u8, a: Atom, b: Atom) -> Atom
-    ensures { λ r. ⌜ r ≡ last-of (loop-of kind) a b ⌝ }
+// The array that a loop reads, or a number where it is handed over.
+fn read_of(kind: u8, a: Atom, b: Atom) -> Atom
+    ensures { λ r. ⌜ meant r ≡ read-of (loop-of kind) (meant a) (meant b) ⌝ }
 {
-    if kind == 20 { b } else { a }
+    if kind == 20 {
+        return b;
+    }
+    if kind == 21 {
+        return Atom::Number(0);
+    }
+    a
 }
 
 // The second atom of a loop, or a number where it has none.
@@ -53,7 +59,7 @@ pub fn close_loop(
     match l {
         Line::Loop(x, kind, _, _, a, b) => {
             let v = put_release(ks, os, depths, x, live, w);
-            let array = array_of(kind, a, b);
+            let array = read_of(kind, a, b);
             let row = p + 1 + normal_code::loop_size(kind);
             put_used(ks, os, depths, cur, row, x as usize, array, live, v)
         }
@@ -111,6 +117,9 @@ fn put_own(ks: &mut [u8], os: &mut [i64], kind: u8, n: u32, a: Atom, b: Atom, w:
     if kind == 19 {
         return put_row(ks, os, v, 19, n);
     }
+    if kind == 21 {
+        return put_row(ks, os, v, 21, n);
+    }
     put_row(ks, os, v, 13, n)
 }
 
@@ -137,8 +146,8 @@ pub fn open_loop(
     }
 }
 
-// The retain of a reduce's start, which it is handed, if it is an array that is used later.
-pub fn retain_start(
+// The retain of what a loop is handed, a reduce's start or an array to be rewritten, if it is an array used later.
+pub fn retain_handed(
     ks: &mut [u8],
     os: &mut [i64],
     depths: &[u8; 256],
@@ -153,6 +162,9 @@ pub fn retain_start(
         (set-of (now (later .entry))))) ⌝ }
 {
     if kind == 20 {
+        return retain_atom(ks, os, depths, a, later, w);
+    }
+    if kind == 21 {
         return retain_atom(ks, os, depths, a, later, w);
     }
     w

@@ -20,7 +20,7 @@ fn wide(v: u16) -> usize
 }
 
 // Whether the last use of a name lies past a row.
-fn is_since(cur: &[u16; 256], row: usize, i: usize) -> bool
+pub fn is_since(cur: &[u16; 256], row: usize, i: usize) -> bool
     requires { ⌜ i < 256 ⌝ }
     ensures { λ r. ⌜ r ≡ since row (marks-of (now (cur .entry))) i ⌝ }
 {

@@ -1,7 +1,7 @@
 -- The walk for depths gives a tree's depth, or the first of its nodes that break the rule.
 use Prim.Native.Nat.{ℕ, zero, suc, _+_}
 use native.Mathlib.Omega.{arith}
-use mathlib.Core.Bool.{Bool, true, false, cond}
+use mathlib.Core.Bool.{Bool, true, false, cond, false≢true}
 use mathlib.Core.List.{List, [], _∷_, _++_, map}
 use mathlib.Core.Option.{Option, none, some}
 use mathlib.Core.Path.{_≡_, refl, sym, ap, _∙_, subst, fun-ext}
@@ -11,7 +11,7 @@ use borrow.Author.Tests.{eq-eqb, ne-eqb, eqb-true, eqb-false}
 use Rattle.semantics.specs.Basics.{updated}
 use Rattle.semantics.specs.Number.{sum, difference, less}
 use Rattle.semantics.specs.Kinds.{Leaf, operation, call, literal, index, length-of, iota, replicate, leaf-kind, Loop}
-use Rattle.semantics.specs.Kinds.{mapping, filtering, reducing, loop-kind}
+use Rattle.semantics.specs.Kinds.{mapping, filtering, reducing, rewriting, loop-kind}
 use Rattle.semantics.specs.Syntax as T
 use Rattle.semantics.specs.Syntax.{Expr, number, name, let-in, leaf, if-else, loop, Exprs, size, sizes}
 use Rattle.semantics.specs.File as S
@@ -22,7 +22,7 @@ use Rattle.semantics.specs.Types.{pass-depths, depths-with, check, checks}
 use Rattle.semantics.specs.Annotate.{with-depths}
 use Rattle.script_read.proofs.Sorts.{kind-of-leaf, kind-of-loop, is-a-loop, pass-names, names-of-loop}
 use Rattle.script_read.proofs.Sorts.{parts-before, count-of-loop, other-kind, loop-some}
-use Rattle.script_read.specs.Told.{second-name}
+use Rattle.script_read.specs.Told.{second-name, loops}
 use Rattle.script_read.proofs.Tables.{updated-twice}
 use Rattle.script_read.proofs.Written.{amount, Written, AllWritten}
 use Rattle.script_depths.specs.declared.Typed.{Typed}
@@ -233,11 +233,12 @@ module _ (k w s : List ℕ) where
         λ u d f g. rw i at (body (u ∷ d ∷ []) (rw (f, g))))
     two-names i (a ∷ a′ ∷ a″ ∷ cs) l b q r t body = absurd (omega (arith, rw i at l))
 
-    by-loop : (c : Loop) → h .kind ≡ loop-kind c → (cs : List Checked) → length cs ≡ parts-before (h .kind) →
-        LoopTold c (pass-names (h .kind) (h .low) (h .high)) cs
-    by-loop mapping i = one-name mapping (rw i) (λ a. refl) (λ a. refl) (λ d e. rw i)
-    by-loop filtering i = one-name filtering (rw i) (λ a. refl) (λ a. refl) (λ d e. rw i)
-    by-loop reducing i = two-names i
+    by-loop : (c : Loop) → h .kind ≡ loop-kind c → loops (h .kind) ≡ true → (cs : List Checked) →
+        length cs ≡ parts-before (h .kind) → LoopTold c (pass-names (h .kind) (h .low) (h .high)) cs
+    by-loop mapping i l = one-name mapping (rw i) (λ a. refl) (λ a. refl) (λ d e. rw i)
+    by-loop filtering i l = one-name filtering (rw i) (λ a. refl) (λ a. refl) (λ d e. rw i)
+    by-loop reducing i l = two-names i
+    by-loop rewriting i l = absurd (false≢true (rw i at l))
 
     loop-tells : (c : Loop) (xs : List ℕ) (n : ℕ) → shape-of h ≡ loop-of c xs n →
         (cs : List Checked) (b : Checked) (q r : ℕ) → length cs ≡ n → Chain cs (m γ) (p + 1) q →
@@ -245,7 +246,7 @@ module _ (k w s : List ℕ) where
     loop-tells c xs n e cs b q r l t body =
         let other : shape-of h ≡ S.none → ⊥ = λ i. loop-some (sym e ∙ i) in
         rw (other-kind h 2 other, other-kind h 3 other, other-kind h 7 other, is-a-loop h c xs n e)
-        (by-loop c (kind-of-loop h c xs n e) cs (l ∙ count-of-loop h c xs n e) b q r t
+        (by-loop c (kind-of-loop h c xs n e) (is-a-loop h c xs n e) cs (l ∙ count-of-loop h c xs n e) b q r t
         (rw (names-of-loop h c xs n e) at body))
 
   checks-length : (es : Exprs) (Γ : Depths) (p : ℕ) → length (checks signatures es Γ p) ≡ amount es

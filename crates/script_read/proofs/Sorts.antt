@@ -8,7 +8,7 @@ use lib.Dec.{eqb}
 use lib.ListN.{getD}
 use borrow.Author.Tests.{eqb-true, ne-eqb}
 use Rattle.laws.specs.Tests.{both-hold}
-use Rattle.semantics.specs.Kinds.{Leaf, leaf-kind, Loop, mapping, filtering, reducing, loop-kind}
+use Rattle.semantics.specs.Kinds.{Leaf, leaf-kind, Loop, mapping, filtering, reducing, rewriting, loop-kind}
 use Rattle.semantics.specs.Syntax.{Expr}
 use Rattle.semantics.specs.File as S
 use Rattle.semantics.specs.File.{Shape, none, leaf-of, loop-of, shapes, shape-of, shaped, parts, part-kinds, part-count}
@@ -43,10 +43,12 @@ module _ {A : Type 0} (test : ℕ → A → Shape → Bool) (a : A) where
 abbrev pub pass-names : ℕ → ℕ → ℕ → List ℕ
 pass-names kind low high = cond (eqb kind 20) (low ∷ high ∷ []) (low ∷ [])
 
-loop-kinds : (k : Loop) → loops (loop-kind k) ≡ true
-loop-kinds mapping = refl
-loop-kinds filtering = refl
-loop-kinds reducing = refl
+loop-kinds : (h : S.Head) (k : Loop) (xs : List ℕ) (c : ℕ) → h .kind ≡ loop-kind k → shape-of h ≡ loop-of k xs c →
+    loops (loop-kind k) ≡ true
+loop-kinds h mapping xs c i e = refl
+loop-kinds h filtering xs c i e = refl
+loop-kinds h reducing xs c i e = refl
+loop-kinds h rewriting xs c i e = let f = rw i at e in cc
 
 -- and how many parts come before the body: the array, and a reduce's start
 abbrev pub parts-before : ℕ → ℕ
@@ -68,6 +70,7 @@ pass-by-kind : (h : S.Head) (k : Loop) (xs : List ℕ) (c : ℕ) → h .kind ≡
 pass-by-kind h mapping xs c i e = let f = rw i at e in rw i (cc, cc)
 pass-by-kind h filtering xs c i e = let f = rw i at e in rw i (cc, cc)
 pass-by-kind h reducing xs c i e = let f = rw i at e in rw i (cc, cc)
+pass-by-kind h rewriting xs c i e = let f = rw i at e in rw i (cc, cc)
 
 module _ (h : S.Head) where
   -- the shape for kind i, which a part may have or not
@@ -91,7 +94,7 @@ module _ (h : S.Head) where
     kind-of-loop = eqb-true (h .kind) (loop-kind k) (of-loop .0)
 
     pub is-a-loop : loops (h .kind) ≡ true
-    is-a-loop = ap loops kind-of-loop ∙ loop-kinds k
+    is-a-loop = ap loops kind-of-loop ∙ loop-kinds h k xs c kind-of-loop e
 
     pub names-of-loop : xs ≡ pass-names (h .kind) (h .low) (h .high)
     names-of-loop = pass-by-kind h k xs c kind-of-loop e .0

@@ -1,14 +1,14 @@
 -- Document 01, "The code": the retains and releases that the live sets require, and the code of a script; with
--- document 02's order 7.
+-- document 02's orders 7 and 8.
 use Prim.Native.Nat.{ℕ, zero, suc, _+_, _*_, pred}
-use mathlib.Core.Bool.{Bool, cond, not, _&&_}
+use mathlib.Core.Bool.{Bool, true, false, cond, not, _&&_}
 use mathlib.Core.List.{List, [], _∷_, _++_}
 use lib.ListN.{length}
-use lib.Dec.{ltb}
+use lib.Dec.{eqb, ltb}
 use Rattle.semantics.specs.Basics.{with-if, updated}
 use Rattle.semantics.specs.Syntax.{Parameter, Function, Script, function-at}
 use Rattle.semantics.specs.Kinds.{Leaf, operation, call, literal, index, length-of, iota, replicate, Loop}
-use Rattle.semantics.specs.Kinds.{mapping, filtering, reducing, Borrowing}
+use Rattle.semantics.specs.Kinds.{mapping, filtering, reducing, rewriting, Borrowing}
 use Rattle.semantics.specs.Kinds.{leaf-hands, leaf-reads, loop-hands, loop-reads, element-name, is-pending}
 use Rattle.semantics.specs.Code.{Atom, number, name, Line, leaf, if-else, loop, retain, release, Tree, end, line}
 use Rattle.semantics.specs.Code.{ending, retain-all, release-all}
@@ -40,6 +40,7 @@ abbrev pub pass-depths : Loop → NameDepths → List Atom → List ℕ
 pass-depths mapping Γ us = pred (depth-of Γ us 0) ∷ []
 pass-depths filtering Γ us = pred (depth-of Γ us 0) ∷ []
 pass-depths reducing Γ us = depth-of Γ us 0 ∷ pred (depth-of Γ us 1) ∷ []
+pass-depths rewriting Γ us = pred (depth-of Γ us 0) ∷ []
 
 abbrev pub with-depths : List ℕ → List ℕ → NameDepths → NameDepths
 with-depths [] ds Γ = Γ
@@ -51,6 +52,7 @@ abbrev pub loop-depth : Loop → NameDepths → List Atom → Atom → ℕ
 loop-depth mapping Γ us a = suc (atom-depth Γ a)
 loop-depth filtering Γ us a = depth-of Γ us 0
 loop-depth reducing Γ us a = depth-of Γ us 0
+loop-depth rewriting Γ us a = suc (atom-depth Γ a)
 
 -- over the result depths of the script's functions
 module _ (results : ℕ → ℕ) where
@@ -114,8 +116,31 @@ module _ (Γ : NameDepths) where
   handed-again (number z ∷ us) A = handed-again us A
   handed-again (name x ∷ us) A = with-if (is-array x && among us A x) x (handed-again us A)
 
+-- Which of document 02's later orders an annotation follows: all, but where it is compared with one that does not.
+pub record Style : Type 0 where
+  -- order 8: maps rewrite arrays of numbers that die there
+  pub rewrites : Bool
+
+abbrev pub full-style : Style
+full-style = record { rewrites = true }
+
 -- over the places that are borrowed
-module _ (B : Borrowing) (Γ : NameDepths) where
+module _ (style : Style) (B : Borrowing) (Γ : NameDepths) where
+  -- Whether a map that binds x, after which A is live, rewrites its array: a name that is annotated, with numbers, for
+  -- numbers, not live afterwards and not used in the map's tree.
+  abbrev pub rewritable : ℕ → List ℕ → List Atom → Tree → Set → Bool
+  rewritable x ps [] t A = false
+  rewritable x ps (number z ∷ us) t A = false
+  rewritable x ps (name y ∷ us) t A =
+      style .rewrites && (eqb (Γ y) 1 && (eqb (Γ x) 1 && (not (A y) && not ((uses t ∖∖ ps) y))))
+
+  -- the loop that is written
+  abbrev pub written : Loop → ℕ → List ℕ → List Atom → Tree → Set → Loop
+  written mapping x ps us t A = cond (rewritable x ps us t A) rewriting mapping
+  written filtering x ps us t A = filtering
+  written reducing x ps us t A = reducing
+  written rewriting x ps us t A = rewriting
+
   unfoldable mutual
     -- a tree, after which L is live
     pub annotate : Tree → Set → Tree
@@ -134,7 +159,8 @@ module _ (B : Borrowing) (Γ : NameDepths) where
         let t′ = release-all (dying Γ (uses e) (live t L)) (annotate t L) in
         let e′ = release-all (dying Γ (uses t) (live e L)) (annotate e L) in
         line (if-else x g t′ e′) (release-all (dying Γ (only x) A) k)
-    annotate-line (loop x j ps us t) A k =
+    annotate-line (loop x i ps us t) A k =
+        let j = written i x ps us t A in
         let L = after-pass x ps t A in
         let R = among (loop-reads j us) (uses t ∖∖ ps) in
         let opened = release-all (dying Γ (just ps) (live t L)) (annotate t L) in
@@ -150,11 +176,14 @@ unfoldable pub owned-depths : Script → Table → ℕ → Function → NameDept
 owned-depths fs T f g = λ x. cond (ltb x (length (g .parameters)) && borrows T f x) 0 (depths-of fs g x)
 
 -- the annotated tree of function f: it opens by releasing the unused parameters
-unfoldable pub annotated-body : Script → Table → ℕ → Function → Tree
-annotated-body fs T f g =
+unfoldable pub annotated-in : Style → Script → Table → ℕ → Function → Tree
+annotated-in style fs T f g =
     let Γ = owned-depths fs T f g in
     let t = normal-body g in
-    release-all (dying Γ (λ x. ltb x (length (g .parameters))) (uses t)) (annotate (borrows T) Γ t empty)
+    release-all (dying Γ (λ x. ltb x (length (g .parameters))) (uses t)) (annotate style (borrows T) Γ t empty)
+
+abbrev pub annotated-body : Script → Table → ℕ → Function → Tree
+annotated-body = annotated-in full-style
 
 -- ---- the code
 

@@ -12,8 +12,9 @@ pub data Leaf : Type 0 where
   literal : ℕ → Leaf
   index length-of iota replicate : Leaf
 
+-- A map that rewrites (document 02, order 8) stands in code only: in a script it is a map.
 pub data Loop : Type 0 where
-  mapping filtering reducing : Loop
+  mapping filtering reducing rewriting : Loop
 
 abbrev pub operation-kind : Operation → ℕ
 operation-kind sum = 4
@@ -33,6 +34,7 @@ abbrev pub loop-kind : Loop → ℕ
 loop-kind mapping = 13
 loop-kind filtering = 19
 loop-kind reducing = 20
+loop-kind rewriting = 21
 
 -- the operand of a leaf's line that binds x and has n atoms
 abbrev pub leaf-operand : Leaf → ℕ → ℕ → ℕ
@@ -87,28 +89,33 @@ module _ {A : Type 0} where
   leaf-reads B iota us = us
   leaf-reads B replicate us = us
 
-  -- of a loop's parts before its body those that are handed over, a reduce's start; it reads the others, its array
+  -- of a loop's parts before its body those that are handed over: a reduce's start, and the array of a map that
+  -- rewrites it; the others, its array, are read
   abbrev pub loop-hands : Loop → List A → List A
   loop-hands mapping us = []
   loop-hands filtering us = []
   loop-hands reducing us = first-part us
+  loop-hands rewriting us = us
 
   abbrev pub loop-reads : Loop → List A → List A
   loop-reads mapping us = us
   loop-reads filtering us = us
   loop-reads reducing us = later-parts us
+  loop-reads rewriting us = []
 
   -- the element's name among the names of a pass; a reduce's first is the running value's
   abbrev pub element-name : Loop → List A → List A
   element-name mapping ps = ps
   element-name filtering ps = ps
   element-name reducing ps = later-parts ps
+  element-name rewriting ps = ps
 
--- a loop that takes a cell for its result before its passes
+-- a loop that may take a cell for its result before its passes
 abbrev pub takes-cell : Loop → Bool
 takes-cell mapping = true
 takes-cell filtering = true
 takes-cell reducing = false
+takes-cell rewriting = true
 
 -- an index gives a word that holds nothing yet
 abbrev pub is-pending : Leaf → Bool

@@ -31,5 +31,6 @@ pub mod Levels
 pub mod Lowest
 pub mod Guards
 pub mod Borrows
+pub mod Rewriting
 pub mod Watched
 pub mod Carried

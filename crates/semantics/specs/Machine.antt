@@ -7,20 +7,20 @@ use mathlib.Core.List.{List, [], _∷_, _++_, map}
 use lib.IntN.{ℤ, pos, natAbs}
 use lib.ListN as List
 use lib.ListN.{length, getD}
-use lib.Dec.{ltb}
+use lib.Dec.{eqb, ltb}
 use Rattle.semantics.specs.Basics.{tabulate, with-if, occurrences, updated}
 use Rattle.semantics.specs.Outcome.{Outcome, done, stop, Run, _>>=_, _>>_, give, halt, require, passes}
 use Rattle.semantics.specs.Number.{exact, fits, inside, is-zero, is-answer}
 use Rattle.semantics.specs.Syntax.{Function, Script, main-depth}
 use Rattle.semantics.specs.Types.{Signature, signatures-of}
 use Rattle.semantics.specs.Kinds.{Leaf, operation, call, literal, index, length-of, iota, replicate, Loop}
-use Rattle.semantics.specs.Kinds.{mapping, filtering, reducing, later-parts, Borrowing, leaf-reads}
+use Rattle.semantics.specs.Kinds.{mapping, filtering, reducing, rewriting, later-parts, Borrowing, leaf-reads}
 use Rattle.semantics.specs.Code.{Atom, number, name, Line, leaf, if-else, loop, retain, release, Tree, end, line}
 use Rattle.semantics.specs.Live.{Set, empty, _∖_, among, members, live, after-branch, after-pass}
 use Rattle.semantics.specs.Borrow.{Table, borrows, borrowed}
-use Rattle.semantics.specs.Annotate.{NameDepths, depth-of, is-array, depths-of, annotated-body}
-use Rattle.semantics.specs.Store.{Store, cell, cell-of, elements, inner, named-by, with-totals, has-free}
-use Rattle.semantics.specs.Store.{acquired, retained, released, freed, appended, relinked, deepest, free-cells}
+use Rattle.semantics.specs.Annotate.{NameDepths, depth-of, is-array, depths-of, Style, full-style, annotated-in}
+use Rattle.semantics.specs.Store.{Store, cell, cell-of, elements, inner, named-by, with-totals, has-free, acquired}
+use Rattle.semantics.specs.Store.{retained, released, freed, appended, overwritten, relinked, deepest, free-cells}
 use Rattle.semantics.specs.Sound.{free-list}
 
 -- ---- the log
@@ -119,6 +119,16 @@ release-word w s =
 unfoldable pub append-word : ℤ → ℤ → Work (Unit {0})
 append-word a w s = done tt (with-store s (appended (cell-of a) w (s .store)) (touching (s .store) (cell-of a)))
 
+-- another word in a slot of a cell
+unfoldable pub overwrite-word : ℤ → ℕ → ℤ → Work (Unit {0})
+overwrite-word a i w s =
+    done tt (with-store s (overwritten (cell-of a) i w (s .store)) (touching (s .store) (cell-of a)))
+
+-- whether the cell that a word names has one reference
+unfoldable pub is-alone : ℤ → Work Bool
+is-alone w s =
+    done (eqb (cell (s .store) (cell-of w) .count) 1) (with-store s (s .store) (touching (s .store) (cell-of w)))
+
 -- ---- lines and trees
 
 -- the words of the names of a call
@@ -186,31 +196,49 @@ abbrev pub looped-over : Loop → List ℤ → ℤ
 looped-over mapping ws = argument ws 0
 looped-over filtering ws = argument ws 0
 looped-over reducing ws = argument ws 1
+looped-over rewriting ws = argument ws 0
 
--- what is carried into the first pass: a new cell for the result, or a reduce's start
+-- what is carried into the first pass: a new cell for the result, a reduce's start, or an array to be rewritten, if
+-- nothing else refers to it
 abbrev pub carried-first : Loop → List ℕ → ℕ → List ℤ → Work ℤ
 carried-first mapping R d ws = acquire R d []
 carried-first filtering R d ws = acquire R d []
 carried-first reducing R d ws = give (argument ws 0)
+carried-first rewriting R d ws = do
+  alone ← is-alone (argument ws 0)
+  cond alone (give (argument ws 0)) (acquire R d [])
 
 abbrev pub pass-words : Loop → ℤ → ℤ → List ℤ
 pass-words mapping c w = w ∷ []
 pass-words filtering c w = w ∷ []
 pass-words reducing c w = c ∷ w ∷ []
+pass-words rewriting c w = w ∷ []
 
 -- whether a loop takes what the tree of a pass gave: a filter takes an answer
 abbrev pub taken-by : Loop → ℤ → Bool
 taken-by mapping r = true
 taken-by filtering r = is-answer r
 taken-by reducing r = true
+taken-by rewriting r = true
 
--- What a pass over w carries on, by what its tree gave; d is the depth of the elements of the loop's result. A filter
--- retains each element that it keeps.
-abbrev pub carried-on : Loop → ℕ → ℤ → ℤ → ℤ → Work ℤ
-carried-on mapping d c w r = do append-word c r; give c
-carried-on filtering d c w r =
-    cond (is-zero r) (give c) (do if-array d (retain-word w); append-word c w; give c)
-carried-on reducing d c w r = give r
+-- the word c is that of the array a itself
+abbrev pub in-place : ℤ → ℤ → Bool
+in-place a c = eqb (cell-of c) (cell-of a)
+
+-- What a pass over w, element i of the array a, carries on, by what its tree gave; the result's elements have depth d.
+-- A filter retains each element that it keeps; a map in place overwrites the element.
+abbrev pub carried-on : Loop → ℕ → ℤ → ℕ → ℤ → ℤ → ℤ → Work ℤ
+carried-on mapping d a i c w r = do append-word c r; give c
+carried-on filtering d a i c w r = cond (is-zero r) (give c) (do if-array d (retain-word w); append-word c w; give c)
+carried-on reducing d a i c w r = give r
+carried-on rewriting d a i c w r = do cond (in-place a c) (overwrite-word c i r) (append-word c r); give c
+
+-- what a loop over the array a does after its passes: an array that was to be rewritten and was not is released
+abbrev pub loop-ends : Loop → ℤ → ℤ → Work (Unit {0})
+loop-ends mapping a c = give tt
+loop-ends filtering a c = give tt
+loop-ends reducing a c = give tt
+loop-ends rewriting a c = cond (in-place a c) (give tt) (release-word a)
 
 -- one pass over element i of the array a
 unfoldable pub work-pass : Loop → ℕ → (List ℤ → Work ℤ) → ℤ → ℤ → ℕ → Work ℤ
@@ -220,13 +248,14 @@ work-pass k d body a c i = do
   let w = getD ws i (pos 0)
   r ← body (pass-words k c w)
   require (taken-by k r) 28
-  carried-on k d c w r
+  carried-on k d a i c w r
 
 -- the result of a loop in progress; a reduce's running value is the first name of its pass
 abbrev pub in-progress : Loop → ℤ → List ℕ
 in-progress mapping c = cell-of c ∷ []
 in-progress filtering c = cell-of c ∷ []
 in-progress reducing c = []
+in-progress rewriting c = cell-of c ∷ []
 
 -- names bound to values in turn
 abbrev pub binding : List ℕ → List ℤ → Frame → Frame
@@ -268,6 +297,7 @@ module _ (callee : Callee) (B : Borrowing) (Γ : NameDepths) where
       c ← carried-first k R′ (element-depth Γ x) (map (word ρ) us)
       w ← passes (work-pass k (element-depth Γ x) (λ vs. work t L (R′ ++ in-progress k c) (binding ps vs ρ)) a)
           c (tabulate 0 (length ws) (λ i. i))
+      loop-ends k a w
       give (updated ρ x w)
     work-line (retain x) A R ρ = do
       retain-word (ρ x)
@@ -284,10 +314,10 @@ pub record Routine : Type 0 where
   pub depths : NameDepths
 
 -- those of some functions of a script, the first of which has number f
-unfoldable pub routines-from : Script → Table → ℕ → List Function → List Routine
-routines-from fs T f [] = []
-routines-from fs T f (g ∷ gs) =
-    record { tree = annotated-body fs T f g; depths = depths-of fs g } ∷ routines-from fs T (suc f) gs
+unfoldable pub routines-from : Style → Script → Table → ℕ → List Function → List Routine
+routines-from style fs T f [] = []
+routines-from style fs T f (g ∷ gs) =
+    record { tree = annotated-in style fs T f g; depths = depths-of fs g } ∷ routines-from style fs T (suc f) gs
 
 abbrev pub no-routine : Routine
 no-routine = record { tree = end (number (pos 0)); depths = λ _. 0 }
@@ -300,15 +330,18 @@ pub record Program : Type 0 where
   pub borrowing : Borrowing
   pub depth : ℕ
 
-unfoldable pub program : Script → Program
-program fs =
+unfoldable pub program-in : Style → Script → Program
+program-in style fs =
     let T = borrowed fs in
     record {
-      routines = routines-from fs T 0 fs;
+      routines = routines-from style fs T 0 fs;
       signatures = signatures-of fs;
       borrowing = borrows T;
       depth = main-depth fs;
     }
+
+abbrev pub program : Script → Program
+program = program-in full-style
 
 -- the routine of a number
 abbrev pub routine-of : Program → ℕ → Routine

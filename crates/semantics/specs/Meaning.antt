@@ -13,7 +13,7 @@ use Rattle.semantics.specs.Number.{Operation, exact, fits, inside, is-ze
 use Rattle.semantics.specs.Value.{Value, num, items, number-in, list}
 use Rattle.semantics.specs.Syntax as S
 use Rattle.semantics.specs.Kinds.{Leaf, operation, call, literal, index, length-of, iota, replicate, Loop}
-use Rattle.semantics.specs.Kinds.{mapping, filtering, reducing, takes-cell, later-parts}
+use Rattle.semantics.specs.Kinds.{mapping, filtering, reducing, rewriting, takes-cell, later-parts}
 use Rattle.semantics.specs.Syntax.{Expr, number, name, let-in, leaf, if-else, loop, Exprs, Parameter, Script}
 use Rattle.semantics.specs.Syntax.{function-at}
 
@@ -107,29 +107,34 @@ abbrev pub carried-first : Loop → List Value → Value
 carried-first mapping vs = list []
 carried-first filtering vs = list []
 carried-first reducing vs = argument vs 0
+carried-first rewriting vs = list []
 
 abbrev pub looped-over : Loop → List Value → Value
 looped-over mapping vs = argument vs 0
 looped-over filtering vs = argument vs 0
 looped-over reducing vs = argument vs 1
+looped-over rewriting vs = argument vs 0
 
 -- the values of the names of a pass
 abbrev pub pass-values : Loop → Value → Value → List Value
 pass-values mapping c v = v ∷ []
 pass-values filtering c v = v ∷ []
 pass-values reducing c v = c ∷ v ∷ []
+pass-values rewriting c v = v ∷ []
 
 -- whether a loop takes what the body of a pass gave: a filter takes an answer
 abbrev pub taken-by : Loop → Value → Bool
 taken-by mapping r = true
 taken-by filtering r = is-answer (number-in r)
 taken-by reducing r = true
+taken-by rewriting r = true
 
 -- what a pass over v carries on, by what its body gave; a filter's 0 leaves the element out
 abbrev pub carried-on : Loop → Value → Value → Value → Value
 carried-on mapping c v r = with-item c r
 carried-on filtering c v r = cond (is-zero (number-in r)) c (with-item c v)
 carried-on reducing c v r = r
+carried-on rewriting c v r = with-item c r
 
 -- one pass: its step, then the body
 unfoldable pub do-pass : Loop → (List Value → Work Value) → Value → Value → Work Value

@@ -92,11 +92,12 @@ pub second-code :
     row 16 0 ∷ row 3 3 ∷ []) ∷
     (row 0 258 ∷ row 1 256 ∷ row 1 257 ∷ row 9 65794 ∷ row 3 1 ∷ row 20 328707 ∷ row 3 0 ∷ row 3 2 ∷ row 14 5 ∷
     row 15 4 ∷ row 16 0 ∷ row 3 5 ∷ row 15 2 ∷ row 16 0 ∷ row 3 3 ∷ []) ∷
-    (row 0 258 ∷ row 1 256 ∷ row 1 257 ∷ row 15 0 ∷ row 17 2 ∷ row 2 3 ∷ row 13 1027 ∷ row 3 2 ∷ row 20 460293 ∷
+    (row 0 258 ∷ row 1 256 ∷ row 1 257 ∷ row 15 0 ∷ row 17 2 ∷ row 2 3 ∷ row 21 1027 ∷ row 3 2 ∷ row 20 460293 ∷
     row 3 4 ∷ row 3 1 ∷ row 4 8 ∷ row 3 6 ∷ row 3 7 ∷ row 16 0 ∷ row 3 8 ∷ row 16 0 ∷ row 3 5 ∷ row 15 1 ∷
-    row 15 2 ∷ row 19 2569 ∷ row 3 3 ∷ row 6 11 ∷ row 3 10 ∷ row 2 7 ∷ row 16 0 ∷ row 3 11 ∷ row 15 3 ∷ row 16 0 ∷
-    row 3 9 ∷ []) ∷ []
-unfolding computing low-first operand-bytes file-of code-of coded repeating folding start-in-the-tree hidden-first nested
+    row 19 2569 ∷ row 3 3 ∷ row 6 11 ∷ row 3 10 ∷ row 2 7 ∷ row 16 0 ∷ row 3 11 ∷ row 15 3 ∷ row 16 0 ∷ row 3 9 ∷ [])
+    ∷ []
+unfolding computing low-first operand-bytes file-of code-of coded repeating folding start-in-the-tree hidden-first
+    nested
 second-code = refl
 
 -- ---- their deliveries
@@ -120,7 +121,7 @@ pub second :
     as-told (packed 0 4 6 2 ∷ packed 0 4 5 2 ∷ packed 0 3 6 2 ∷ []) (list (numbers (pos 7 ∷ []) ∷ [])) ∷
     as-told (packed 0 5 4 1 ∷ packed 0 5 4 1 ∷ []) (numbers (pos 5 ∷ [])) ∷
     as-told (packed 0 5 3 1 ∷ packed 0 5 3 1 ∷ []) (numbers (pos 5 ∷ [])) ∷
-    as-told (packed 0 4 21 1 ∷ packed 0 4 27 1 ∷ []) (numbers (pos 6 ∷ [])) ∷ []
+    as-told (packed 0 5 21 1 ∷ packed 0 5 27 1 ∷ []) (numbers (pos 6 ∷ [])) ∷ []
 unfolding computing low-first operand-bytes file-of seen-from seen-of seeing counting repeating sieving summing folding
     start-in-the-tree hidden-first nested
 second = refl
@@ -143,8 +144,8 @@ may-be-dry (refused n p) v readings steps = false
 unfoldable pub dry-at : List Row → Value → List ℤ → ℕ → Bool
 dry-at nodes v readings steps = may-be-dry (judged (file-of 1 nodes)) v readings steps
 
--- With no cell free a count out of range is 26, and one in range 25; a filter wants its cell after its array's; a reduce
--- wants none.
+-- With no cell free a count out of range is 26, and one in range 25; a filter wants its cell after its array's; a
+-- reduce wants none.
 pub second-dry :
     answer-on 2 (file-of 1 counting-beside) (pos 17 ∷ []) ∷ answer-on 2 (file-of 1 counting-beside) (pos 3 ∷ []) ∷
     answer-on 2 (file-of 1 repeating) (pos 17 ∷ []) ∷ answer-on 2 (file-of 1 repeating) (pos 16 ∷ []) ∷
@@ -154,8 +155,8 @@ pub second-dry :
 unfolding computing low-first operand-bytes file-of answer-on counting-beside repeating sieving summing
 second-dry = refl
 
--- The own steps of an iota and a replicate with a count in range and of a filter want a cell; not so with another count,
--- at a pass, and at a reduce.
+-- The own steps of an iota and a replicate with a count in range and of a filter want a cell; not so with another
+-- count, at a pass, and at a reduce.
 pub second-wants :
     dry-at counting (numbers []) (pos 3 ∷ []) 2 ∷ dry-at counting (numbers []) (pos 17 ∷ []) 2 ∷
     dry-at repeating (list []) (pos 3 ∷ []) 2 ∷ dry-at repeating (list []) (pos 17 ∷ []) 2 ∷
@@ -180,9 +181,9 @@ found-in (stop n p) = unread n p
 unfoldable pub found : List Row → Found
 found nodes = found-in (read-file (file-of 1 (row 0 2 ∷ row 1 0 ∷ row 1 257 ∷ nodes)))
 
--- Kinds 16 and 21 are no parts; an iota has no operand, a filter one name. The names of a reduce do not reach its start.
--- A replicate of depth 4, a guard that is an array, a body of another depth than the start's and a reduce over a number
--- break 7, the last whatever its body; but it is not judged where its start has no depth.
+-- Kinds 16 and 21 are no parts; an iota has no operand, a filter one name. The names of a reduce do not reach its
+-- start. A replicate of depth 4, a guard that is an array, a body of another depth than the start's and a reduce over
+-- a number break 7, the last whatever its body; but it is not judged where its start has no depth.
 pub second-refusals :
     found (row 16 0 ∷ []) ∷ found (row 21 0 ∷ []) ∷ found (row 17 1 ∷ row 2 0 ∷ []) ∷
     found (row 19 256 ∷ row 3 1 ∷ row 2 0 ∷ []) ∷

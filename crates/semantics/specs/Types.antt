@@ -8,7 +8,7 @@ use lib.Dec.{eqb, leb}
 use Rattle.semantics.specs.Basics.{with-if, updated}
 use Rattle.semantics.specs.Syntax as S
 use Rattle.semantics.specs.Kinds.{Leaf, operation, call, literal, index, length-of, iota, replicate, Loop}
-use Rattle.semantics.specs.Kinds.{mapping, filtering, reducing}
+use Rattle.semantics.specs.Kinds.{mapping, filtering, reducing, rewriting}
 use Rattle.semantics.specs.Syntax.{Expr, number, name, let-in, leaf, if-else, loop, Exprs, size, sizes, Parameter}
 use Rattle.semantics.specs.Syntax.{Function, Script, function-at}
 use Rattle.semantics.specs.Syntax.{function-size}
@@ -143,6 +143,9 @@ loop-rule reducing (s ∷ d ∷ e ∷ ds) = some-if (eqb s e) s
 loop-rule reducing (s ∷ d ∷ []) = none
 loop-rule reducing (s ∷ []) = none
 loop-rule reducing [] = none
+loop-rule rewriting (d ∷ e ∷ ds) = some-if (eqb d 1 && eqb e 0) 1
+loop-rule rewriting (d ∷ []) = none
+loop-rule rewriting [] = none
 
 -- the depth of an array's element
 abbrev pub element : Option ℕ → Option ℕ
@@ -170,12 +173,14 @@ abbrev pub array-depth : Loop → List Checked → Option ℕ
 array-depth mapping cs = depth-at cs 0
 array-depth filtering cs = depth-at cs 0
 array-depth reducing cs = and-then (depth-at cs 0) (depth-at cs 1)
+array-depth rewriting cs = depth-at cs 0
 
 -- the depths of the names of a pass
 abbrev pub pass-depths : Loop → List Checked → List (Option ℕ)
 pass-depths mapping cs = element (depth-at cs 0) ∷ []
 pass-depths filtering cs = element (depth-at cs 0) ∷ []
 pass-depths reducing cs = depth-at cs 0 ∷ element (depth-at cs 1) ∷ []
+pass-depths rewriting cs = element (depth-at cs 0) ∷ []
 
 abbrev pub depths-with : List ℕ → List (Option ℕ) → Depths → Depths
 depths-with [] ds Γ = Γ

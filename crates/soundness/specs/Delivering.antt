@@ -16,7 +16,7 @@ use Rattle.semantics.specs.Store.{Store, cell-count, free-cells}
 use Rattle.semantics.specs.Words.{store-of}
 use Rattle.semantics.specs.Sound.{sound-words}
 use Rattle.semantics.specs.Annotate.{code}
-use Rattle.semantics.specs.Machine.{State, program, delivery, starting, state-of}
+use Rattle.semantics.specs.Machine.{State, program-in, program, delivery, starting, state-of}
 use Rattle.semantics.specs.Calls.{accepted, judged, code-fits, request-fits}
 use Rattle.semantics.specs.Demands.{value-of}
 use Rattle.laws.specs.Tests.{both-hold}
@@ -33,7 +33,7 @@ pub few-lines : (fs : Script) (lines : ℕ) → lines ≤ 4096 → code-fits fs 
 unfolding code-fits
 few-lines fs lines h e = omega (arith, leb-true (length (code fs)) lines e)
 
-few-readings : (readings : List ℤ) (budget : ℕ) → request-fits readings budget ≡ true → length readings ≤ 16
+pub few-readings : (readings : List ℤ) (budget : ℕ) → request-fits readings budget ≡ true → length readings ≤ 16
 unfolding request-fits
 few-readings readings budget e =
     leb-true (length readings) 16 (both-hold (leb (length readings) 16) (leb budget 1000000) e .0)
@@ -57,7 +57,7 @@ module _ (file : List ℕ) (fs : Script) (ok : judged file ≡ accepted fs)
       request-fits readings budget ≡ true →
       Delivers (start-of budget σ) (main-depth fs) (delivery (program fs) readings (starting budget σ))
       (main-meaning fs v (numbers readings) budget)
-  unfolding program
+  unfolding program-in
   delivers {σ} {v} settled readings budget fits =
       subst (λ w. Delivers (start-of budget σ) (main-depth fs) (delivery (program fs) readings (starting budget σ))
       (main-meaning fs w (numbers readings) budget)) (settled .value)

@@ -1,16 +1,17 @@
--- The demands' hypotheses can be met: the theorems at the printed script, at a script with a map and a call, and at one
--- with all kinds of the second edition.
+-- The demands' hypotheses can be met: the theorems at the printed script, at a script with a map and a call, at one
+-- with all kinds of the second edition, and at one whose map rewrites its array.
 use Prim.Native.Nat.{ℕ, _+_, _*_}
 use mathlib.Core.Path.{_≡_, refl, sym, subst, _∙_}
 use mathlib.Core.List.{List, [], _∷_}
 use lib.IntN.{ℤ, pos}
-use lib.ListN.{replicate}
+use lib.ListN.{getD, replicate}
 use Rattle.semantics.specs.Number.{sum}
 use Rattle.semantics.specs.Kinds.{operation, call, literal, index, length-of, iota, replicate as repeat, mapping}
 use Rattle.semantics.specs.Kinds.{filtering, reducing}
 use Rattle.semantics.specs.Syntax.{number, name, leaf, if-else, loop, none, more, Expr, Script, main-depth}
 use Rattle.semantics.specs.Value.{first-totals}
 use Rattle.semantics.specs.Code.{Row, row}
+use Rattle.semantics.specs.Annotate.{code}
 use Rattle.semantics.specs.Calls.{accepted, judged, number-of, StoreReply, engine-open}
 use Rattle.semantics.specs.Demands.{Call, InTurn, Kept, defined}
 use Rattle.semantics.specs.Computing.{computing}
@@ -86,6 +87,26 @@ folded-accepted : judged (file-of 1 folded-nodes) ≡ accepted folded-script
 unfolding computing file-of low-first operand-bytes folded-nodes folded-script
 folded-accepted = refl
 
+-- main(t: 1, r: 1): 1 = map x over r: x + 1
+unfoldable pub rewritten-nodes : List Row
+rewritten-nodes = row 0 258 ∷ row 1 256 ∷ row 1 257 ∷ row 13 2 ∷ row 3 1 ∷ row 4 0 ∷ row 3 2 ∷ row 2 1 ∷ []
+
+unfoldable pub rewritten-script : Script
+rewritten-script = record {
+  parameters = record { id = 0; depth = 1 } ∷ record { id = 1; depth = 1 } ∷ [];
+  result = 1;
+  body = loop mapping (2 ∷ []) (more (name 1) none) (leaf (operation sum) (more (name 2) (more (number (pos 1)) none)));
+} ∷ []
+
+rewritten-accepted : judged (file-of 1 rewritten-nodes) ≡ accepted rewritten-script
+unfolding computing file-of low-first operand-bytes rewritten-nodes rewritten-script
+rewritten-accepted = refl
+
+-- its map is written as one that rewrites
+rewritten-map : getD (code rewritten-script) 4 (row 0 0) ≡ row 21 (2 + 256 * 3)
+unfolding computing rewritten-script
+rewritten-map = refl
+
 same-script : {fs gs : Script} → accepted fs ≡ accepted gs → fs ≡ gs
 same-script e = cc
 
@@ -123,3 +144,9 @@ pub folded-history : (kinds : List ℕ) (operands slots : List ℤ) (heads : Lis
     Keeps (file-of 1 folded-nodes) kinds operands slots heads folded-script
 folded-history kinds operands slots heads z =
     keeps (file-of 1 folded-nodes) kinds operands slots heads folded-script folded-accepted z
+
+pub rewritten-history : (kinds : List ℕ) (operands slots : List ℤ) (heads : List ℕ) →
+    number-of (engine-open (file-of 1 rewritten-nodes) kinds operands slots heads .answer) ≡ 0 →
+    Keeps (file-of 1 rewritten-nodes) kinds operands slots heads rewritten-script
+rewritten-history kinds operands slots heads z =
+    keeps (file-of 1 rewritten-nodes) kinds operands slots heads rewritten-script rewritten-accepted z

@@ -8,6 +8,7 @@ pub mod Sets
 pub mod Formed
 pub mod NormalFormed
 pub mod Members
+pub mod Written
 pub mod Unchanged
 pub mod Held
 pub mod Moves
@@ -21,6 +22,7 @@ pub mod Scopes
 pub mod Parameters
 pub mod Calling
 pub mod Reader
+pub mod Sizes
 pub mod Functions
 pub mod Accepting
 pub mod Programs

@@ -29,9 +29,11 @@ pub mod Sites
 pub mod Filling
 pub mod Bodies
 pub mod Filled
+pub mod Rewritten
 pub mod Mapping
 pub mod Filtering
 pub mod Reducing
+pub mod Rewriting
 pub mod Trees
 pub mod Parameters
 pub mod Calls

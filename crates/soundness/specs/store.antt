@@ -10,6 +10,7 @@ pub mod Retain
 pub mod Acquire
 pub mod Order
 pub mod Append
+pub mod Overwrite
 pub mod Release
 pub mod LowestLevel
 pub mod Tests

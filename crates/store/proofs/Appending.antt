@@ -28,7 +28,7 @@ module _ (slots : List ℤ) (heads : List ℕ) (c : ℕ) (w : ℤ) where
       e : wider (cell (store-of slots heads) c) w ≡ cell (store-of slots heads) c
       e = rw (le-ltb (cell (store-of slots heads) c .size) 16 (omega (arith, size-is slots heads c h)))
 
-  slots-here : (n : ℕ) → n < 16 → 16 * c + 16 < length slots →
+  pub slots-here : (n : ℕ) → n < 16 → 16 * c + 16 < length slots →
       slots-at (set slots (1 + 16 * c + n) w) c ≡ set (slots-at slots c) n w
   unfolding slots-at
   slots-here n b h = set-tabulate 16 (λ i. getD slots (1 + 16 * c + i) (pos 0))
@@ -36,7 +36,7 @@ module _ (slots : List ℤ) (heads : List ℕ) (c : ℕ) (w : ℤ) where
       (getD-set-same slots (1 + 16 * c + n) w (pos 0) (omega arith))
       (λ i l f. getD-set-other slots (1 + 16 * c + n) (1 + 16 * c + i) w (pos 0) (λ q. f (omega arith)))
 
-  slots-other : (n : ℕ) → n < 16 → (d : ℕ) → d ≢ c → slots-at (set slots (1 + 16 * c + n) w) d ≡ slots-at slots d
+  pub slots-other : (n : ℕ) → n < 16 → (d : ℕ) → d ≢ c → slots-at (set slots (1 + 16 * c + n) w) d ≡ slots-at slots d
   unfolding slots-at
   slots-other n b d f = tabulate-same 16 _ _
       (λ k l. getD-set-other slots (1 + 16 * c + n) (1 + 16 * d + k) w (pos 0) (λ q. f (omega arith)))

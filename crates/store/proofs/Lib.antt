@@ -1,5 +1,6 @@
 pub mod Retaining
 pub mod Acquiring
 pub mod Appending
+mod Overwriting
 pub mod Filling
 pub mod Releasing

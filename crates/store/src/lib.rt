@@ -4,7 +4,8 @@ ghost use mathlib.Core.Path.{_≡_};
 ghost use Prim.Native.Nat.{_+_, _-_, _*_, _<_};
 ghost use mathlib.Core.List.{[]};
 ghost use lib.ListN.{length};
-ghost use Rattle.semantics.specs.Store.{retained, acquired, appended, freed};
+ghost use lib.Dec.{eqb};
+ghost use Rattle.semantics.specs.Store.{cell, retained, acquired, appended, overwritten, freed};
 ghost use Rattle.semantics.specs.Words.{slots-at, store-of};
 ghost use Rattle.store.specs.Acquiring.{acquired-outcome, next-cell, Releases, appended-all};
 
@@ -75,6 +76,29 @@ pub fn append(slots: &mut [i64], heads: &mut [u32], c: usize, w: i64)
     if store_words::is_cell(slots, heads, c) {
         append_within(slots, heads, c, w);
     }
+}
+
+// Another word for an element of a cell that is there.
+pub fn overwrite_within(slots: &mut [i64], heads: &[u32], c: usize, i: usize, w: i64)
+    requires { ⌜ (c < 256) × (4 * c + 4 < length (now heads)) × (16 * c + 16 < length (now slots)) ⌝ }
+    ensures { λ _. ⌜ store-of (now (slots .exit)) (now (heads .entry))
+        ≡ overwritten c i w (store-of (now (slots .entry)) (now (heads .entry))) ⌝ }
+{
+    if i < heads[2 + 4 * c] as usize {
+        if i < 16 {
+            slots[1 + 16 * c + i] = w;
+        }
+    }
+}
+
+// Whether a cell has one reference.
+pub fn is_alone(slots: &[i64], heads: &[u32], c: usize) -> bool
+    ensures { λ r. ⌜ r ≡ eqb (cell (store-of (now (slots .entry)) (now (heads .entry))) c .count) 1 ⌝ }
+{
+    if !store_words::is_cell(slots, heads, c) {
+        return false;
+    }
+    heads[1 + 4 * c] == 1
 }
 
 // These elements more in a cell, as far as it has room.

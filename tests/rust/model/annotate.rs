@@ -3,6 +3,7 @@
 use super::borrow::Borrowed;
 use super::code::{Atom, Line, Operation, Tree};
 use super::names::Names;
+use super::script::Loop;
 
 /// The body of a function with its retains and releases, by the depths of all names. It opens by releasing the
 /// parameters that it owns and does not use.
@@ -138,15 +139,28 @@ impl Annotation<'_> {
             }
             Line::Loop(name, kind, in_pass, atoms, tree) => {
                 let (array, start) = atoms.split_last().unwrap();
-                let read = named(&[*array]) | inner_uses(line);
+                let rewrites = *kind == Loop::Map && self.rewrites(*array, *name, after | inner_uses(line));
+                let kind = if rewrites { Loop::Rewriting } else { *kind };
+                let read = if rewrites { inner_uses(line) } else { named(&[*array]) | inner_uses(line) };
                 self.retain_handed(start, after | read, lines);
                 let annotated = self.pass(in_pass, tree, after.without(*name) | inner_uses(line));
-                lines.push(Line::Loop(*name, *kind, in_pass.clone(), atoms.clone(), annotated));
+                lines.push(Line::Loop(*name, kind, in_pass.clone(), atoms.clone(), annotated));
                 done_with = done_with | read;
             }
             Line::Retain(_) | Line::Release(_) => lines.push(line.clone()),
         }
         lines.extend(self.releases(done_with - after));
+    }
+
+    /// Whether a map that binds a name rewrites its array: both are of numbers, the array holds, and nothing needs it
+    /// besides the map; `needed` has what its tree uses and what is live afterwards.
+    fn rewrites(&self, array: Atom, name: usize, needed: Names) -> bool {
+        match array {
+            Atom::Number(_) => false,
+            Atom::Name(array) => {
+                self.holds(array) && self.depths[array] == 1 && self.depths[name] == 1 && !needed.has(array)
+            }
+        }
     }
 
     /// A branch opens by releasing what only the other one uses.

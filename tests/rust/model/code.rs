@@ -184,7 +184,7 @@ impl Lowering<'_> {
         }
         let tree = self.tree(body, &inner);
         self.depths[name] = match kind {
-            Loop::Map => self.depth(tree.end) + 1,
+            Loop::Map | Loop::Rewriting => self.depth(tree.end) + 1,
             Loop::Filter | Loop::Reduce => self.depth(atoms[0]),
         };
         lines.push(Line::Loop(name, kind, in_pass, atoms, tree));
@@ -233,6 +233,7 @@ fn loop_kind(kind: Loop) -> u8 {
         Loop::Map => 13,
         Loop::Filter => 19,
         Loop::Reduce => 20,
+        Loop::Rewriting => 21,
     }
 }
 

@@ -98,13 +98,26 @@ impl Machine<'_> {
                 self.step()?;
                 let atoms: Vec<i64> = atoms.iter().map(|atom| value(atom, names)).collect();
                 let depth = coded.depths[*name];
-                let mut carried = if *kind == Loop::Reduce { atoms[0] } else { self.acquire(depth - 1, &[])? };
-                for element in self.store.elements(atoms[atoms.len() - 1] as usize).to_vec() {
+                let array = atoms[atoms.len() - 1];
+                let mut carried = match kind {
+                    Loop::Reduce => atoms[0],
+                    Loop::Rewriting if self.store.cells[array as usize].count == 1 => array,
+                    _ => self.acquire(depth - 1, &[])?,
+                };
+                for i in 0..self.store.elements(array as usize).len() {
+                    let element = self.store.elements(array as usize)[i];
                     self.step()?;
                     names[in_pass[0]] = carried; // a reduce's first name; for the others the element comes in its place
                     names[in_pass[in_pass.len() - 1]] = element;
                     let result = self.tree(coded, tree, names, call_depth)?;
-                    carried = self.carry(*kind, depth, carried, element, result)?;
+                    if *kind == Loop::Rewriting && carried == array {
+                        self.store.overwrite(array as usize, i, result);
+                    } else {
+                        carried = self.carry(*kind, depth, carried, element, result)?;
+                    }
+                }
+                if *kind == Loop::Rewriting && carried != array {
+                    self.store.release(array as usize);
                 }
                 (*name, carried)
             }
@@ -123,7 +136,7 @@ impl Machine<'_> {
     fn carry(&mut self, kind: Loop, depth: usize, carried: i64, element: i64, result: i64) -> Result<i64, u64> {
         match kind {
             Loop::Reduce => return Ok(result),
-            Loop::Map => self.store.append(carried as usize, result),
+            Loop::Map | Loop::Rewriting => self.store.append(carried as usize, result),
             Loop::Filter => {
                 if answer(result)? {
                     if depth > 1 {

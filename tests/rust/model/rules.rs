@@ -164,7 +164,7 @@ impl Depths<'_> {
         }
         let body = body?;
         match kind {
-            Loop::Map => self.expect(node, body < DEPTH_MAX, body + 1),
+            Loop::Map | Loop::Rewriting => self.expect(node, body < DEPTH_MAX, body + 1),
             Loop::Filter => self.expect(node, body == 0, array),
             Loop::Reduce => self.expect(node, body == depths[0], body),
         }

@@ -1,6 +1,5 @@
 //! The script file as a tree, and refusals 1 to 5.
 
-
 pub const FUNCTIONS_MAX: usize = 32;
 pub const NODES_MAX: usize = 1024;
 pub const LEVELS_MAX: usize = 64;
@@ -12,12 +11,14 @@ pub enum Arithmetic {
     Less,
 }
 
-/// A node whose last part is worked once for each element of an array.
+/// A node whose last part is worked once for each element of an array. A rewriting map stands in code only: in a script
+/// it is a map.
 #[derive(Clone, Copy, PartialEq, Eq, Debug)]
 pub enum Loop {
     Map,
     Filter,
     Reduce,
+    Rewriting,
 }
 
 /// A node of a function's body, with its number in the file.

@@ -93,6 +93,10 @@ impl Store {
         cell.length += 1;
     }
 
+    pub fn overwrite(&mut self, c: usize, i: usize, element: i64) {
+        self.cells[c].slots[i] = element;
+    }
+
     pub fn elements(&self, c: usize) -> &[i64] {
         &self.cells[c].slots[..self.cells[c].length as usize]
     }

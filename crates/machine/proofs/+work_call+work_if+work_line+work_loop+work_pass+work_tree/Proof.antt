@@ -129,7 +129,7 @@ pub +work-call+work-if+work-line+work-loop+work-pass+work-tree-spec : {M : Type 
     (λ c. search needs)
     (of-loop.work-loop-work-pass-requires t)
     (λ c κs. search needs)
-    (of-loop.work-loop-bind-result-requires t)
+    (of-loop.work-loop-end-loop-requires t)
     (λ c. search needs)
     (λ c. search needs)
     (λ c κs. search needs)

@@ -71,24 +71,28 @@ returns-13 c =
     read (c .before .before) 20 (c .atom-at3 .result) (sym (c .before .match .keys12)) (c .atom-at3 .ensures)
 
 returns-14 : tie.Need-returns-14
-returns-14 c =
+returns-14 c = read (c .before) 21 _ (sym (c .match .keys13)) refl
+
+returns-15 : tie.Need-returns-15
+returns-15 c =
     let n = c .before .before .low-bits in
     let first = c .before .before .before .before .before .atom-within in
     let r = c .before .match .rest in
     operation-of-kind _ (n .result) (first .result) (c .atom-at4 .result) (record {
-      k8 = r .0 .0 .0 .0 .0 .0 .0 .0 .0 .0 .0 .1;
-      k9 = r .0 .0 .0 .0 .0 .0 .0 .0 .0 .0 .1;
-      k10 = r .0 .0 .0 .0 .0 .0 .0 .0 .0 .1;
-      k11 = r .0 .0 .0 .0 .0 .0 .0 .0 .1;
-      k12 = r .0 .0 .0 .0 .0 .0 .0 .1;
-      k13 = r .0 .0 .0 .0 .0 .0 .1;
-      k14 = r .0 .0 .0 .0 .0 .1;
-      k15 = r .0 .0 .0 .0 .1;
+      k8 = r .0 .0 .0 .0 .0 .0 .0 .0 .0 .0 .0 .0 .1;
+      k9 = r .0 .0 .0 .0 .0 .0 .0 .0 .0 .0 .0 .1;
+      k10 = r .0 .0 .0 .0 .0 .0 .0 .0 .0 .0 .1;
+      k11 = r .0 .0 .0 .0 .0 .0 .0 .0 .0 .1;
+      k12 = r .0 .0 .0 .0 .0 .0 .0 .0 .1;
+      k13 = r .0 .0 .0 .0 .0 .0 .0 .1;
+      k14 = r .0 .0 .0 .0 .0 .0 .1;
+      k15 = r .0 .0 .0 .0 .0 .1;
       k16 = c .before .before .before .before .if1 .left;
-      k17 = r .0 .0 .0 .1;
-      k18 = r .0 .0 .1;
-      k19 = r .0 .1;
-      k20 = r .1;
+      k17 = r .0 .0 .0 .0 .1;
+      k18 = r .0 .0 .0 .1;
+      k19 = r .0 .0 .1;
+      k20 = r .0 .1;
+      k21 = r .1;
     })
     ∙ read (c .before .before) _ (c .atom-at4 .result) refl (c .atom-at4 .ensures)
 
@@ -100,4 +104,4 @@ line-at-spec =
     (λ c. search needs) (λ c κs. search needs) (λ c. search needs) (λ c κs. search needs) (λ c. search needs)
     (λ c. search needs) (λ c κs. search needs) (λ c. search needs) (λ c κs. search needs) returns-2 returns-3
     returns-4 returns-5 returns-6 returns-7 returns-8 returns-9 returns-10 returns-11 returns-12 returns-13
-    returns-14)
+    returns-14 returns-15)

@@ -35,7 +35,10 @@ returns c =
     (readied k (first-name (a .l)) (second-name (a .l))
     (element-depth (a .table .now) (a .calls) (a .x) (a .env .now)) ws (a .slots .now) (first .last .0) (a .heads .now)
     (first .last .1 .0) (a .env .now) (first .last .1 .1 .0) (first .kept .0) (first .kept .1 .0)
-    (depth .result) (depth .ensures) _ (c .way-of .ensures) (at-first-name .first-name .ensures)
+    (depth .result) (depth .ensures) _
+    (rw (toZ-ofZ {z = carried .0 .0} (record { sfits = at-known-told .known-told .given .0 .1 })) at
+    (c .way-of .ensures))
+    (at-first-name .first-name .ensures)
     (at-second-name .second-name .ensures)
     ((rw (toZ-ofZ {z = word .result} (record { sfits = word .ok })) at (cell .ensures))
     ∙ ap cell-of (word .ensures ∙ ap (word-of (a .calls) (a .env .now)) (at-array-of .array-of .ensures)

@@ -1,11 +1,10 @@
 -- `machine_loops::carry_first` meets its contract.
-use native.Mathlib.Omega.{arith}
 use mir.Facts.{toZ-ofZ}
 use borrow.Author.Needs.{needs}
 use Rattle.semantics.specs.Words.{store-of}
-use Rattle.machine_loops.proofs.Beginning.{words, within-kept, cell-within, start-carried, cell-carried}
-use Rattle.machine_loops.proofs.Beginning.{none-carried}
-use Rattle.machine_loops.specs.Loops.{Within}
+use Rattle.machine_lines.specs.Lines.{memory}
+use Rattle.machine_loops.proofs.Beginning.{words, start-carried, new-carries, alone-told, alone-carried}
+use Rattle.machine_loops.proofs.Beginning.{shared-carried}
 use Rattle.machine_loops.proofs.carry_first.Statement.{statement}
 use Rattle.machine_loops.proofs.carry_first.Tie as tie
 
@@ -18,55 +17,53 @@ returns c =
     (start-carried (a .calls) (a .env .now) (a .l) (read .0 .0) (read .0 .1 .0) (read .0 .1 .1 .0) (read .0 .1 .1 .1 .0)
     (read .1) (a .depth) (a .slots .now) (a .heads .now) (c .word-of .result) (c .word-of .ensures))
 
--- the cell that was acquired
-inside : (c : tie.After-c) →
-    let a = c .before .before .before .before .before .before .before .before .before .before .before .before .args in
-    Within (a .slots .now) (a .heads .now) (c .c .given .0 .0)
-inside c =
-    let at-acquire-empty = c .before .before .before .before .before in
-    let at-level = at-acquire-empty .before in
-    let a = at-level .before .before .before .before .before .before .args in
-    let taken = at-acquire-empty .acquire-empty in
-    cell-within (a .slots .now) (a .heads .now) (at-level .level .result) (taken .result) (c .c .given .0 .0)
-    (c .c .given .0 .1 .0) (taken .ensures .0) (c .c .given .1)
-
-word-from-requires : tie.Need-word-from-requires
-word-from-requires c κs = omega (arith, inside (c .before .before .before) .0)
-
 returns-2 : tie.Need-returns-2
 returns-2 c =
-    let noted = c .before .note-level in
-    let at-c = c .before .before .before .before in
-    let at-acquire-empty = at-c .before .before .before .before .before in
-    let at-level = at-acquire-empty .before in
-    let at-match = at-level .before .before .before .before in
-    let a = at-match .before .before .args in
-    let taken = at-acquire-empty .acquire-empty in
-    let read = at-c .c .given in
-    let number = c .word-from in
-    rw (toZ-ofZ {z = number .result} (record { sfits = number .ok }))
-    (cell-carried (a .l) (at-match .match .keys2) (a .depth) (words (a .calls) (a .env .now) (a .l) (a .l))
-    (store-of (a .slots .now) (a .heads .now)) (a .env .now) (at-level .level .result) (at-level .level .ensures .0)
-    (taken .last .0) (taken .last .1 .0) (taken .result) (taken .ensures .0) (taken .ensures .1) (read .0 .0)
-    (read .0 .1 .0) (read .1) (noted .last .0) (noted .ensures)
-    (within-kept (a .slots .now) (taken .last .0) (a .heads .now) (taken .last .1 .0) (read .0 .0)
-    (taken .kept .0) (taken .kept .1 .0) (inside at-c)) (number .result) (number .ensures))
+    let at-alone = c .before in
+    let at-cell = at-alone .before in
+    let at-word = at-cell .before .before .before in
+    let at-l = at-word .before .before .before in
+    let a = at-l .before .before .before .args in
+    let read = at-l .l2 .given in
+    let word = at-word .word-of2 in
+    rw (toZ-ofZ {z = word .result} (record { sfits = word .ok }))
+    (alone-carried (a .calls) (a .env .now) (a .l) (read .0 .0) (read .0 .1 .0) (read .1) (a .depth) (a .slots .now)
+    (a .heads .now) (word .result) (word .ensures)
+    (alone-told (store-of (a .slots .now) (a .heads .now)) (word .result) (at-cell .named-cell .result)
+    (rw (toZ-ofZ {z = word .result} (record { sfits = word .ok })) at (at-cell .named-cell .ensures)) _ _
+    (at-alone .is-alone .ensures) (c .if1 .taken)))
 
 returns-3 : tie.Need-returns-3
 returns-3 c =
-    let at-acquire-empty = c .before .before .before .before .before in
-    let at-level = at-acquire-empty .before in
-    let at-match = at-level .before .before .before .before in
+    let new = c .before .before .before .acquire-result in
+    let at-if1 = c .before .before .before .before .before .before .before in
+    let at-alone = at-if1 .before in
+    let at-cell = at-alone .before in
+    let at-word = at-cell .before .before .before in
+    let at-l = at-word .before .before .before in
+    let a = at-l .before .before .before .args in
+    let read = at-l .l2 .given in
+    let word = at-word .word-of2 in
+    shared-carried (a .calls) (a .env .now) (a .l) (read .0 .0) (read .0 .1 .0) (read .1) (a .depth) (a .slots .now)
+    (a .heads .now) (word .result) (word .ensures)
+    (alone-told (store-of (a .slots .now) (a .heads .now)) (word .result) (at-cell .named-cell .result)
+    (rw (toZ-ofZ {z = word .result} (record { sfits = word .ok })) at (at-cell .named-cell .ensures)) _ _
+    (at-alone .is-alone .ensures) (at-if1 .if1 .left)) (new .last .0) (new .last .1 .0) (new .last .1 .1 .0)
+    (new .result) (new .ensures)
+
+returns-4 : tie.Need-returns-4
+returns-4 c =
+    let new = c .before .before .before .acquire-result2 in
+    let at-match = c .before .before .before .before .before .before .before in
     let a = at-match .before .before .args in
-    let taken = at-acquire-empty .acquire-empty in
-    none-carried (a .l) (at-match .match .keys2) (a .depth) (words (a .calls) (a .env .now) (a .l) (a .l))
-    (store-of (a .slots .now) (a .heads .now)) (a .env .now) (at-level .level .result) (at-level .level .ensures .0)
-    (taken .last .0) (taken .last .1 .0) (taken .result) (taken .ensures .0) (taken .ensures .1)
-    (c .enum-told .given .1)
+    new-carries (a .l) (a .depth) (words (a .calls) (a .env .now) (a .l) (a .l))
+    (memory (store-of (a .slots .now) (a .heads .now)) (a .env .now)) (new .last .0) (new .last .1 .0)
+    (new .last .1 .1 .0) (at-match .match .keys3) (new .result) (new .ensures)
 
 pub carry-first-spec : {M : Type 1} → statement M
 carry-first-spec =
     tie.close
-    (tie.spec (λ c. search needs) (λ c κs. search needs) returns (λ c κs. search needs) (λ c κs. search needs)
-    (λ c. search needs) (λ c κs. search needs) word-from-requires (λ c. search needs) (λ c. search needs)
-    (λ c. search needs) returns-2 (λ c. search needs) (λ c. search needs) returns-3)
+    (tie.spec (λ c. search needs) (λ c κs. search needs) (λ c. search needs) (λ c κs. search needs)
+    (λ c κs. search needs) (λ c κs. search needs) (λ c κs. search needs) (λ c κs. search needs) returns
+    (λ c. search needs) (λ c. search needs) returns-2 (λ c. search needs) (λ c. search needs) returns-3
+    (λ c. search needs) (λ c. search needs) returns-4)

@@ -9,7 +9,8 @@ use Rattle.semantics.specs.Number.{is-answer}
 use Rattle.semantics.specs.Store.{cell-of}
 use Rattle.semantics.specs.Words.{store-of}
 use Rattle.machine_lines.specs.Frames.{place}
-use Rattle.machine_loops.proofs.Ending.{fills, keeps-on, doubts, hands, fills-within, keeps-within}
+use Rattle.machine_loops.proofs.Ending.{fills, keeps-on, doubts, hands, overwrites, fills-within}
+use Rattle.machine_loops.proofs.Ending.{keeps-within, overwrites-within}
 use Rattle.machine_loops.proofs.end_pass.Statement.{statement}
 use Rattle.machine_loops.proofs.end_pass.Tie as tie
 
@@ -27,7 +28,7 @@ append-within-requires c κs =
     let start = at-named-cell .before .before .before in
     let a = start .args in
     fills-within (a .l .way) (a .slots .now) (a .heads .now) (at-named-cell .named-cell .result) (a .l .carried)
-    (into at-named-cell) (start .pre .2) (at-enum-told .enum-told .given .1)
+    (into at-named-cell) (start .pre .2) (at-enum-told .enum-told .given .0 .0) (at-enum-told .enum-told .given .1)
 
 -- where what a filter's tree gave was looked at
 answered : (c : tie.After-is-answer) →
@@ -44,7 +45,7 @@ returns c =
     let at-named-cell = at-way .before .before in
     let start = at-named-cell .before .before .before in
     let a = start .args in
-    doubts (a .l .way) (at-named-cell .named-cell .result) (a .l .carried) (into at-named-cell) (a .v)
+    doubts (a .l .way) (at-named-cell .named-cell .result) (a .l .carried) (into at-named-cell) (a .v) (a .i)
     (getD (a .env .now) (place (a .calls) (a .l .second)) (pos 0)) (a .r) (store-of (a .slots .now) (a .heads .now))
     (store-of (a .slots .now) (a .heads .now)) (at-way .way .given .0 .0) (at-way .way .given .1)
     (sym (answered at-is-answer) ∙ not-true (at-is-answer .is-answer .result) (c .if1 .taken)) refl
@@ -67,9 +68,10 @@ returns-2 c =
     let a = start .args in
     let put = at-append-within .append-within in
     rw (toZ-ofZ {z = a .v} (start .fits .v))
-    (fills (a .l .way) (at-named-cell .named-cell .result) (a .l .carried) (into at-named-cell) (a .v)
+    (fills (a .l .way) (at-named-cell .named-cell .result) (a .l .carried) (into at-named-cell) (a .v) (a .i)
     (getD (a .env .now) (place (a .calls) (a .l .second)) (pos 0)) (a .r) (store-of (a .slots .now) (a .heads .now))
-    (store-of (put .last .0) (put .last .1 .0)) (at-enum-told .enum-told .given .1)
+    (store-of (put .last .0) (put .last .1 .0)) (at-enum-told .enum-told .given .0 .0)
+    (at-enum-told .enum-told .given .1)
     (rw (toZ-ofZ {z = a .r} (start .fits .r)) at (put .ensures)))
 
 returns-3 : tie.Need-returns-3
@@ -85,7 +87,7 @@ returns-3 c =
     let word = at-word-of .word-of in
     let put = at-keep .keep in
     rw (toZ-ofZ {z = a .v} (start .fits .v))
-    (keeps-on (a .l .way) (at-named-cell .named-cell .result) (a .l .carried) (into at-named-cell) (a .v)
+    (keeps-on (a .l .way) (at-named-cell .named-cell .result) (a .l .carried) (into at-named-cell) (a .v) (a .i)
     (getD (a .env .now) (place (a .calls) (a .l .second)) (pos 0)) (a .r) (store-of (a .slots .now) (a .heads .now))
     (store-of (put .last .0) (put .last .1 .0)) (at-way .way .given .0 .0) (at-way .way .given .1)
     (sym (answered at-is-answer) ∙ not-false (at-is-answer .is-answer .result) (at-if1 .if1 .left)) (word .result)
@@ -99,13 +101,37 @@ returns-4 c =
     let start = at-named-cell .before .before .before in
     let a = start .args in
     rw (toZ-ofZ {z = a .r} (start .fits .r))
-    (hands (a .l .way) (at-named-cell .named-cell .result) (a .l .carried) (into at-named-cell) (a .v)
+    (hands (a .l .way) (at-named-cell .named-cell .result) (a .l .carried) (into at-named-cell) (a .v) (a .i)
     (getD (a .env .now) (place (a .calls) (a .l .second)) (pos 0)) (a .r) (store-of (a .slots .now) (a .heads .now))
     (store-of (a .slots .now) (a .heads .now)) (c .enum-told2 .given .1) refl)
+
+overwrite-within-requires : tie.Need-overwrite-within-requires
+overwrite-within-requires c κs =
+    let at-enum-told = c .before .before in
+    let at-named-cell = at-enum-told .before .before in
+    let start = at-named-cell .before .before .before in
+    let a = start .args in
+    overwrites-within (a .l .way) (a .slots .now) (a .heads .now) (at-named-cell .named-cell .result) (a .l .carried)
+    (into at-named-cell) (start .pre .2) (at-enum-told .enum-told3 .given .1)
+
+returns-5 : tie.Need-returns-5
+returns-5 c =
+    let at-put = c .before in
+    let at-enum-told = at-put .before .before .before in
+    let at-named-cell = at-enum-told .before .before in
+    let start = at-named-cell .before .before .before in
+    let a = start .args in
+    let put = at-put .overwrite-within in
+    rw (toZ-ofZ {z = a .v} (start .fits .v))
+    (overwrites (a .l .way) (at-named-cell .named-cell .result) (a .l .carried) (into at-named-cell) (a .v) (a .i)
+    (getD (a .env .now) (place (a .calls) (a .l .second)) (pos 0)) (a .r) (store-of (a .slots .now) (a .heads .now))
+    (store-of (put .last .0) (a .heads .now)) (at-enum-told .enum-told3 .given .1)
+    (rw (toZ-ofZ {z = a .r} (start .fits .r)) at (put .ensures)))
 
 pub end-pass-spec : {M : Type 1} → statement M
 end-pass-spec =
     tie.close
     (tie.spec (λ c κs. search needs) (λ c. search needs) append-within-requires (λ c. search needs)
     (λ c κs. search needs) returns (λ c κs. search needs) keep-requires (λ c. search needs) (λ c. search needs)
-    (λ c. search needs) returns-2 (λ c. search needs) (λ c. search needs) returns-3 returns-4)
+    overwrite-within-requires (λ c. search needs) (λ c. search needs) returns-2 (λ c. search needs)
+    (λ c. search needs) returns-3 returns-4 (λ c. search needs) (λ c. search needs) returns-5)

@@ -12,4 +12,4 @@ pub first-name-spec : {M : Type 1} → statement M
 first-name-spec =
     tie.close
     (tie.spec (λ c. search needs) (λ c. search needs) (λ c. search needs) (λ c. search needs) (λ c. search needs)
-    returns-3)
+    (λ c. search needs) returns-3 (λ c. search needs))

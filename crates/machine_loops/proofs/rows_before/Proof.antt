@@ -18,7 +18,11 @@ returns-2 c = (ap (λ (l : Loop). 1 + length (atoms-of l)) (sym (c .enum-told2 .
 returns-3 : tie.Need-returns-3
 returns-3 c = (ap (λ (l : Loop). 1 + length (atoms-of l)) (sym (c .enum-told3 .given .1)), omega arith)
 
+returns-4 : tie.Need-returns-4
+returns-4 c = (ap (λ (l : Loop). 1 + length (atoms-of l)) (sym (c .enum-told4 .given .1)), omega arith)
+
 pub rows-before-spec : {M : Type 1} → statement M
 rows-before-spec =
     tie.close
-    (tie.spec (λ c. search needs) (λ c. search needs) (λ c. search needs) returns returns-2 returns-3)
+    (tie.spec (λ c. search needs) (λ c. search needs) (λ c. search needs) (λ c. search needs) returns returns-2
+    returns-3 returns-4)

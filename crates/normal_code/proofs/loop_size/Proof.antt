@@ -8,7 +8,7 @@ returns : tie.Need-returns
 returns c = rw (c .if1 .taken)
 
 returns-2 : tie.Need-returns-2
-returns-2 c = no-reduce (λ k. 1 ≡ loop-size k) (c .before .args .kind) (c .if1 .left) refl refl
+returns-2 c = no-reduce (λ k. 1 ≡ loop-size k) (c .before .args .kind) (c .if1 .left) refl refl refl
 
 pub loop-size-spec : {M : Type 1} → statement M
 loop-size-spec = tie.close (tie.spec returns returns-2)

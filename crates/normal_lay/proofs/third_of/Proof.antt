@@ -18,7 +18,7 @@ returns c = rw (c .if1 .taken)
 returns-2 : tie.Need-returns-2
 returns-2 c =
     let a = c .before .args in
-    no-reduce (λ k. 0 ≡ third-of k (a .n)) (a .kind) (c .if1 .left) refl refl
+    no-reduce (λ k. 0 ≡ third-of k (a .n)) (a .kind) (c .if1 .left) refl refl refl
 
 pub third-of-spec : {M : Type 1} → statement M
 third-of-spec = tie.close (tie.spec (λ c. search needs) cast-result returns returns-2)

@@ -1,5 +1,5 @@
--- `functions-disciplined`, `functions-frugal`: every function of an accepted script is so. `main-shape-of`: main has
--- main's shape.
+-- `functions-in-disciplined`, `functions-in-frugal`: every function of an accepted script is so, in every style.
+-- `main-shape-of`: main has main's shape.
 use Prim.Native.Nat.{ℕ, zero, suc, _+_, _≤_}
 use native.Mathlib.Omega.{arith}
 use mathlib.Core.Path.{_≡_, refl, sym, ap, subst}
@@ -19,7 +19,8 @@ use Rattle.semantics.specs.Types.{all-are, check, parameter-depths, result-rule
 use Rattle.semantics.specs.Types.{signatures-of, main-shape, type-faults}
 use Rattle.semantics.specs.Normal.{fresh, too-many-names-from, too-many-names}
 use Rattle.semantics.specs.Calls.{Verdict, accepted, refused, judged-script, judged-read, judged}
-use Rattle.semantics.specs.Machine.{program}
+use Rattle.semantics.specs.Annotate.{Style, full-style}
+use Rattle.semantics.specs.Machine.{program-in, program}
 use Rattle.laws.specs.Tests.{not-some, some-if-holds, all-equal, same-lists}
 use Rattle.soundness.specs.machine.Discipline.{FunctionDisciplined, FunctionFrugal}
 use Rattle.soundness.specs.annotation.Typed.{Limited, Called, Functions, Typed}
@@ -113,7 +114,7 @@ pub record Faultless (fs : Script) (functions : ℕ) (shape : Bool) (gs : List F
 module _ (fs : Script) (functions : ℕ) where
   first-accepted : functions ≡ functions-in fs .number → (shape : Bool) (g : Function) (gs : List Function) (p : ℕ) →
       FunctionLimits g → Faultless fs functions shape (g ∷ gs) p → Accepted fs g
-  unfolding unknown-in function-faults too-many-names-from program
+  unfolding unknown-in function-faults too-many-names-from program-in
   first-accepted same shape g gs p l h =
       let crowd = length (g .parameters) + fresh (g .body) in
       let called = body-called functions (g .parameters) (λ _. false) (p + 1) (g .body)
@@ -147,9 +148,9 @@ module _ (fs : Script) (functions : ℕ) where
 
 -- ---- accepted scripts
 
-all-accepted : (file : List ℕ) (fs : Script) → judged file ≡ accepted fs → (f : ℕ) →
+pub all-accepted : (file : List ℕ) (fs : Script) → judged file ≡ accepted fs → (f : ℕ) →
     Accepted fs (getD fs f no-function)
-unfolding name-faults type-faults program
+unfolding name-faults type-faults program-in
 all-accepted file fs e f =
     let clean = judged-clean file fs e in
     let shape = main-shape (signatures-of fs 0) in
@@ -157,15 +158,19 @@ all-accepted file fs e f =
     record { names = clean .names; types = clean .types; roomy = clean .roomy } in
     accepted-at fs (length fs) (sym (length-routines fs)) shape fs 0 f (clean .limits .1) faultless
 
+pub functions-in-disciplined : (style : Style) (file : List ℕ) (fs : Script) → judged file ≡ accepted fs → (f : ℕ) →
+    FunctionDisciplined (program-in style fs) f
+unfolding program-in
+functions-in-disciplined style file fs e f = all-disciplined style fs (all-accepted file fs e) f
+
+pub functions-in-frugal : (style : Style) (file : List ℕ) (fs : Script) → judged file ≡ accepted fs → (f : ℕ) →
+    FunctionFrugal (program-in style fs) f
+unfolding program-in
+functions-in-frugal style file fs e f = all-frugal style fs (all-accepted file fs e) f
+
 pub functions-disciplined : (file : List ℕ) (fs : Script) → judged file ≡ accepted fs → (f : ℕ) →
     FunctionDisciplined (program fs) f
-unfolding program
-functions-disciplined file fs e f = all-disciplined fs (all-accepted file fs e) f
-
-pub functions-frugal : (file : List ℕ) (fs : Script) → judged file ≡ accepted fs → (f : ℕ) →
-    FunctionFrugal (program fs) f
-unfolding program
-functions-frugal file fs e f = all-frugal fs (all-accepted file fs e) f
+functions-disciplined = functions-in-disciplined full-style
 
 -- a script has a first function
 shaped : (fs : Script) (shape : Bool) (gs : List Function) → 1 ≤ length gs →

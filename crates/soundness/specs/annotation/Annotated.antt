@@ -11,7 +11,8 @@ use Rattle.semantics.specs.Basics.{occurrences, _∈_}
 use Rattle.semantics.specs.Kinds.{Borrowing, Loop, leaf-hands, leaf-reads, loop-hands, loop-reads}
 use Rattle.semantics.specs.Code.{Atom, Line, leaf, if-else, loop, retain, release, Tree, end, line, ending}
 use Rattle.semantics.specs.Live.{Set, empty, _∪_, _∖_, _∖∖_, only, just, is, among, live, live-before, uses, after-pass}
-use Rattle.semantics.specs.Annotate.{NameDepths, atom-depth, handed-again, annotate, annotate-line}
+use Rattle.semantics.specs.Annotate.{NameDepths, atom-depth, handed-again, Style, written, annotate}
+use Rattle.semantics.specs.Annotate.{annotate-line}
 use Rattle.laws.specs.Tests.{or-cases}
 use Rattle.laws.specs.Lists.{hits, occurrences-append}
 use Rattle.soundness.specs.machine.Discipline.{handed, pass-lent}
@@ -25,14 +26,15 @@ use Rattle.soundness.specs.annotation.Formed.{Within, within-up, within-
 use Rattle.soundness.specs.annotation.Formed.{Shallower, shallow-number, Formed, LineFormed, LoopForm, live-seen}
 use Rattle.soundness.specs.annotation.Formed.{line-stays}
 use Rattle.soundness.specs.annotation.Unchanged.{live-annotate}
+use Rattle.soundness.specs.annotation.Written.{written-arity}
 use Rattle.soundness.specs.annotation.Counts.{Lower, lower-up, free-most, outside, unseen, Steady, needs, Apart}
 use Rattle.soundness.specs.annotation.Lines.{leaf-parts, leaf-line, if-line}
 use Rattle.soundness.specs.annotation.Trees.{loop-parts, Passing, pass-steady, loop-line}
 
 -- The tree is formed over the depths Θ and annotated by Γ, which is nowhere deeper.
-module _ (F : Functions) (β : Borrowing) (Θ Γ : NameDepths) (under : Shallower Γ Θ) (few : Few Γ) where
+module _ (style : Style) (F : Functions) (β : Borrowing) (Θ Γ : NameDepths) (under : Shallower Γ Θ) (few : Few Γ) where
   end-sound : (B : List ℕ) (a : Atom) (L : Set) → Steady Γ B (is a ∪ L) L →
-      Sound β Γ B (annotate β Γ (end a) L) (names Γ B (is a ∪ L)) [] (names Γ B L) L
+      Sound β Γ B (annotate style β Γ (end a) L) (names Γ B (is a ∪ L)) [] (names Γ B L) L
   unfolding annotate
   end-sound B a L steady =
       retains β Γ B again (end a) (names Γ B (is a ∪ L)) (names Γ B L) L
@@ -145,9 +147,13 @@ module _ (F : Functions) (β : Borrowing) (Θ Γ : NameDepths) (under : Shallowe
     }
 
     -- the names of a loop's pass
-    module _ (x : ℕ) (k : Loop) (ps : List ℕ) (us : List Atom) (t : Tree) (A : Set) (e d : ℕ) (above : c ≤ x)
-        (i : Inside A (S ∪ only x) L) (form : LoopForm F Θ x k ps us d S e)
+    module _ (x : ℕ) (o : Loop) (ps : List ℕ) (us : List Atom) (t : Tree) (A : Set) (e d : ℕ) (above : c ≤ x)
+        (i : Inside A (S ∪ only x) L) (form : LoopForm F Θ x o ps us d S e)
         (tree : Formed F Θ t (S ∪ just ps) e d) where
+      -- the loop that is written
+      abbrev k : Loop
+      k = written style β Γ o x ps us t A
+
       later : (n : ℕ) → n ∈ ps → suc x ≤ n
       later n h = elim (decLt n (suc x)) [
         | yes g ↦ absurd (omega (arith, rising-off Γ ps (suc x) e n (form .rising) g))
@@ -170,7 +176,7 @@ module _ (F : Functions) (β : Borrowing) (Θ Γ : NameDepths) (under : Shallowe
           Passing Γ few B x k ps us t A apart (suc x) e
       passing apart = record {
         rising = form .rising;
-        named = form .fits .named;
+        named = form .fits .named ∙ sym (written-arity style β Γ o x ps us t A);
         unlent = λ n h. inner-free n (omega (arith, later n h));
         unused = λ n h. outside Γ (after-pass x ps t A) c n (pass-within x ps t A e d i tree) (omega
             (arith, later n h));
@@ -193,7 +199,7 @@ module _ (F : Functions) (β : Borrowing) (Θ Γ : NameDepths) (under : Shallowe
 
     pub annotated-sound : (t : Tree) (B : List ℕ) (S L : Set) (c d : ℕ) → Formed F Θ t S c d → Within S c → Within L c →
         Lower B c → Steady Γ B (live t L) L →
-        Sound β Γ B (annotate β Γ t L) (names Γ B (live t L)) [] (names Γ B L) L
+        Sound β Γ B (annotate style β Γ t L) (names Γ B (live t L)) [] (names Γ B L) L
     annotated-sound (end a) B S L c d f v w b steady = end-sound B a L steady
     annotated-sound (line l t) B S L c d f v w b steady =
         let x = bound-by l in
@@ -209,12 +215,12 @@ module _ (F : Functions) (β : Borrowing) (Θ Γ : NameDepths) (under : Shallowe
     annotated-line : (l : Line) (t : Tree) (B : List ℕ) (S L : Set) (c : ℕ) → c ≤ bound-by l → LineFormed F Θ l S →
         Inside (live t L) (S ∪ only (bound-by l)) L → Within S c → Within L c → Lower B c →
         Steady Γ B (live-before l (live t L)) (live t L) →
-        Sound β Γ B (annotate β Γ t L) (names Γ B (live t L)) [] (names Γ B L) L →
-        Sound β Γ B (annotate-line β Γ l (live t L) (annotate β Γ t L)) (names Γ B (live-before l (live t L))) []
-        (names Γ B L) L
+        Sound β Γ B (annotate style β Γ t L) (names Γ B (live t L)) [] (names Γ B L) L →
+        Sound β Γ B (annotate-line style β Γ l (live t L) (annotate style β Γ t L))
+        (names Γ B (live-before l (live t L))) [] (names Γ B L) L
     annotated-line (leaf x l us) t B S L c above f i v w b steady s =
         let A = live t L in
-        leaf-line β Γ few B L A (annotate β Γ t L) (live-annotate β Γ t L L) s x l us
+        leaf-line β Γ style few B L A (annotate style β Γ t L) (live-annotate style β Γ t L L) s x l us
         (line-apart B S L c v w b x us (leaf-hands β l us) (leaf-reads β l us) empty A above
         (unseen Γ us S c x (f .seen) v above) (record { below = λ n e. absurd (false≢true e) })
         (leaf-parts β Γ l us) steady)
@@ -233,7 +239,8 @@ module _ (F : Functions) (β : Borrowing) (Θ Γ : NameDepths) (under : Shallowe
         (live t₂ A′) n) in
         let steady₁ = steady-branch B S L c v w b x A (live t₁ A′) N above steady (λ n. omega (arith, joined n)) in
         let steady₂ = steady-branch B S L c v w b x A (live t₂ A′) N above steady (λ n. omega (arith, joined n)) in
-        if-line β Γ few B L A (annotate β Γ t L) (live-annotate β Γ t L L) s x g t₁ t₂ (b .free-from x above)
+        if-line β Γ style few B L A (annotate style β Γ t L) (live-annotate style β Γ t L L) s x g t₁ t₂
+        (b .free-from x above)
         (shallow-number g under (f .0 .guard))
         (needs Γ F Θ t₁ S A′ c₁ (Θ x) (f .1 .2) (within-up A′ c c₁ le₁ within))
         (needs Γ F Θ t₂ S A′ c₂ (Θ x) (f .2 .2) (within-up A′ c c₂ le₂ within)) steady₁ steady₂
@@ -241,8 +248,9 @@ module _ (F : Functions) (β : Borrowing) (Θ Γ : NameDepths) (under : Shallowe
         (lower-up B c c₁ le₁ b) steady₁)
         (annotated-sound t₂ B S A′ c₂ (Θ x) (f .2 .2) (within-up S c c₂ le₂ v) (within-up A′ c c₂ le₂ within)
         (lower-up B c c₂ le₂ b) steady₂)
-    annotated-line (loop x k ps us t₁) t B S L c above f i v w b steady s =
+    annotated-line (loop x o ps us t₁) t B S L c above f i v w b steady s =
         let A = live t L in
+        let k = written style β Γ o x ps us t₁ A in
         let d = atom-depth Θ (ending t₁) in
         let e = f .0 in
         let form = f .1 in
@@ -251,13 +259,13 @@ module _ (F : Functions) (β : Borrowing) (Θ Γ : NameDepths) (under : Shallowe
         let apart = line-apart B S L c v w b x us (loop-hands k us) (loop-reads k us) (uses t₁ ∖∖ ps) A above
         (unseen Γ us S c x (form .seen) v above) (uses-within B S L c v w b ps t₁ e d (f .2))
         (loop-parts Γ k us) steady in
-        loop-line Γ few B x k ps us t₁ A apart (suc x) e (passing B S L c v w b x k ps us t₁ A e d above i form
+        loop-line Γ few B x k ps us t₁ A apart (suc x) e (passing B S L c v w b x o ps us t₁ A e d above i form
         (f .2) apart)
-        β L (annotate β Γ t L) (live-annotate β Γ t L L)
+        style β L (annotate style β Γ t L) (live-annotate style β Γ t L L)
         (annotated-sound t₁ (pass-lent Γ B k us) (S ∪ just ps) after e d (f .2)
         (within-pass S ps c (suc x) e (omega arith) (form .rising) v)
         (within-up after c e up (pass-within B S L c v w b x ps t₁ A e d i (f .2)))
-        (record { free-from = λ n h. inner-free B S L c v w b x k ps us t₁ A e d above i form (f .2) n (omega arith) })
-        (inner-steady B S L c v w b x k ps us t₁ A e d above i form (f .2) apart)) s
+        (record { free-from = λ n h. inner-free B S L c v w b x o ps us t₁ A e d above i form (f .2) n (omega arith) })
+        (inner-steady B S L c v w b x o ps us t₁ A e d above i form (f .2) apart)) s
     annotated-line (retain x) t B S L c above f i v w b steady s = absurd f
     annotated-line (release x) t B S L c above f i v w b steady s = absurd f

@@ -143,7 +143,7 @@ module _ (F : Functions) where
           (
             ds,
             fb .0,
-            record { named = l .0; parted = l .1; array = found .0; rule = whole .2 },
+            record { named = l .0; parted = l .1; plain = l .4; array = found .0; rule = whole .2 },
             fs .2,
             fb .2,
           ),

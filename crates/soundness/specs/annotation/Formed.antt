@@ -88,9 +88,10 @@ bound-by (release x) = x
 
 -- ---- depths
 
--- no name is deeper in Γ than in Θ
+-- no name is deeper in Γ than in Θ, and an array has the same depth
 pub record Shallower (Γ Θ : NameDepths) : Type 0 where
   pub most : (n : ℕ) → Γ n ≤ Θ n
+  pub same : (n : ℕ) → 0 < Γ n → Θ n ≡ Γ n
 
 pub shallow-number : {Γ Θ : NameDepths} (a : Atom) → Shallower Γ Θ → atom-depth Θ a ≡ 0 → atom-depth Γ a ≡ 0
 shallow-number (number z) under e = refl

@@ -1,5 +1,5 @@
--- A function that the checks accept is disciplined and frugal: with the array parameters lent that it borrows, from one
--- hold for each other to none.
+-- A function that the checks accept is disciplined and frugal, in every style: with the array parameters lent that it
+-- borrows, from one hold for each other to none.
 use Prim.Native.Nat.{ℕ, zero, suc, _+_, _-_, _≤_, _<_, min}
 use native.Mathlib.Omega.{arith}
 use native.Mathlib.Decide.{decLt}
@@ -13,16 +13,16 @@ use borrow.Author.Tests.{ltb-true, lt-ltb}
 use Rattle.semantics.specs.Basics.{occurrences, _∈_}
 use Rattle.semantics.specs.Syntax.{Function, Script, function-at, no-function}
 use Rattle.semantics.specs.Kinds.{Borrowing}
-use Rattle.semantics.specs.Types.{signature}
+use Rattle.semantics.specs.Types.{signature, signatures-of}
 use Rattle.semantics.specs.Code.{Atom, number, name, Tree, end}
 use Rattle.semantics.specs.Normal.{Meanings, fresh, atom, normal, normal-body, parameter-names}
 use Rattle.semantics.specs.Live.{Set, empty, uses}
 use Rattle.semantics.specs.Borrow.{spent, Table, borrows, borrowed}
-use Rattle.semantics.specs.Annotate.{NameDepths, atom-depth, dying, annotate, tree-depths, parameter-depths-from}
-use Rattle.semantics.specs.Annotate.{result-of, depths-of, owned-depths, annotated-body}
-use Rattle.semantics.specs.Machine.{Routine, no-routine, Program, program, routine-of}
+use Rattle.semantics.specs.Annotate.{NameDepths, atom-depth, dying, Style, annotate, tree-depths}
+use Rattle.semantics.specs.Annotate.{parameter-depths-from, result-of, depths-of, owned-depths, annotated-in}
+use Rattle.semantics.specs.Machine.{Routine, no-routine, Program, program-in, program, routine-of}
 use Rattle.laws.specs.Tests.{both-hold, say-and}
-use Rattle.laws.specs.Routines.{routine-at, length-routines, routine-is}
+use Rattle.laws.specs.Routines.{routine-in, length-routines-in, length-routines, routine-in-is}
 use Rattle.soundness.specs.borrowing.Stable.{stable}
 use Rattle.soundness.specs.machine.Discipline as D
 use Rattle.soundness.specs.machine.Discipline.{arrays-at, lent-parameters, parameter-holds, Known}
@@ -148,7 +148,7 @@ module _ (fs : Script) (g : Function) (ok : Accepted fs g) where
   }
 
   fitted : Fitted F Γ (g .body) δ (g .result) arity
-  unfolding program
+  unfolding program-in
   fitted =
       typed-fitted F (g .body) μ δ (g .result) arity Γ₀ Γ (ok .typed) meanings-first
       (record { same = λ y p q i. depths-table i y })
@@ -173,7 +173,7 @@ module _ (fs : Script) (g : Function) (ok : Accepted fs g) where
 
   -- ---- the annotated tree is disciplined: g has number f and spends none of the parameters that it borrows
 
-  module _ (f : ℕ)
+  module _ (style : Style) (f : ℕ)
       (kept : (i : ℕ) → borrows (borrowed fs) f i ≡ true →
       spent (borrows (borrowed fs)) (normal-body g) i ≡ false) where
     abbrev T : Table
@@ -190,7 +190,7 @@ module _ (fs : Script) (g : Function) (ok : Accepted fs g) where
     Γ′ = owned-depths fs T f g
 
     abbrev body : Tree
-    body = annotated-body fs T f g
+    body = annotated-in style fs T f g
 
     lent-within : Within lent arity
     lent-within = record { below = λ y e. ltb-true y arity (both-hold (given y) (β f y) e .0) }
@@ -203,21 +203,25 @@ module _ (fs : Script) (g : Function) (ok : Accepted fs g) where
     }
 
     under : Shallower Γ′ Γ
-    under = record { most = λ y. by y (lent y) refl }
+    under = record { most = λ y. by y (lent y) refl; same = λ y h. alike y h (lent y) refl }
       where
         by : (y : ℕ) (b : Bool) → lent y ≡ b → Γ′ y ≤ Γ y
         by y true e = omega (arith, owned .numbers y e)
         by y false e = omega (arith, owned .others y e)
 
+        alike : (y : ℕ) → 0 < Γ′ y → (b : Bool) → lent y ≡ b → Γ y ≡ Γ′ y
+        alike y h true e = absurd (omega (arith, h, owned .numbers y e))
+        alike y h false e = sym (owned .others y e)
+
     few-owned : Few Γ′
     few-owned y h = omega (arith, under .most y, few-names y h)
 
     spares : Spares β lent body
-    unfolding annotated-body
+    unfolding annotated-in
     spares =
         let t = normal-body g in
-        spares-releases β lent (dying Γ′ given (uses t)) (annotate β Γ′ t empty)
-        (annotated-spares β lent Γ′ t empty
+        spares-releases β lent (dying Γ′ given (uses t)) (annotate style β Γ′ t empty)
+        (annotated-spares β lent style Γ′ (owned .numbers) t empty
         (formed-spares β lent F Γ t given arity (g .result) formed lent-within (λ y e. by y (lent y) refl e)))
       where
         by : (y : ℕ) (b : Bool) → lent y ≡ b → spent β (normal-body g) y ≡ true → b ≡ false
@@ -274,16 +278,17 @@ module _ (fs : Script) (g : Function) (ok : Accepted fs g) where
 
     -- by the depths that it is annotated by
     owned-sound : Sound β Γ′ [] body (parameter-holds (β f) depths) [] [] empty
-    unfolding annotated-body occurrences
+    unfolding annotated-in occurrences
     owned-sound =
         let t = normal-body g in
-        let tree = annotated-sound F β Γ Γ′ under few-owned t [] given empty arity (g .result) formed given-within
+        let tree = annotated-sound style F β Γ Γ′ under few-owned t [] given empty arity (g .result) formed given-within
         (record { below = λ y e. absurd (false≢true e) }) (record { free-from = λ n h. none-lent n })
         (λ n. omega (arith, none-lent n, held-most Γ′ (uses t) n)) in
         sound-same β Γ′ [] body (parameter-holds (β f) depths) (parameter-holds (β f) depths) []
         (names Γ′ [] empty) [] empty (λ n. refl)
         (λ n. omega (arith, names-held Γ′ few-owned [] empty n, held-empty Γ′ n))
-        (releasing β Γ′ few-owned [] given (uses t) (annotate β Γ′ t empty) (parameter-holds (β f) depths) [] empty
+        (releasing β Γ′ few-owned [] given (uses t) (annotate style β Γ′ t empty) (parameter-holds (β f) depths) []
+        empty
         (λ n. omega (
           arith,
           given-held n,
@@ -292,16 +297,28 @@ module _ (fs : Script) (g : Function) (ok : Accepted fs g) where
           held-most Γ′ (uses t) n,
         )) tree)
 
-    body-fits : Fits (program fs) Γ body (g .result) given
-    unfolding annotated-body
+    abbrev p : Program
+    p = program-in style fs
+
+    -- the program has the same functions in every style
+    same-functions : F ≡ functions-of p
+    unfolding program-in
+    same-functions = λ i. record {
+      number = (length-routines fs ∙ sym (length-routines-in style fs)) i;
+      signatures = signatures-of fs;
+    }
+
+    body-fits : Fits p Γ body (g .result) given
+    unfolding annotated-in
     body-fits =
         let t = normal-body g in
-        fits-releases (program fs) Γ (dying Γ′ given (uses t)) (annotate β Γ′ t empty) (g .result) given
-        (dying-in (program fs) Γ β Γ′ under given (uses t) given (λ n e. e))
-        (annotated-fits (program fs) Γ β Γ′ under t given empty arity (g .result) formed given-within)
+        fits-releases p Γ (dying Γ′ given (uses t)) (annotate style β Γ′ t empty) (g .result) given
+        (dying-in p Γ style β Γ′ under given (uses t) given (λ n e. e))
+        (annotated-fits p Γ style β Γ′ under t given empty arity (g .result)
+        (subst (λ (G : Functions). Formed G Γ t given arity (g .result)) same-functions formed) given-within)
 
-    pub routine-disciplined : RoutineDisciplined (program fs) (β f) (routine-at fs T f g) (signature g)
-    unfolding program
+    pub routine-disciplined : RoutineDisciplined p (β f) (routine-in style fs T f g) (signature g)
+    unfolding program-in
     routine-disciplined = record {
       parameters = λ i h. parameters-fit i (omega (arith, length-map (g .parameters) (λ x. x .depth)));
       fits = body-fits .0;
@@ -310,7 +327,7 @@ module _ (fs : Script) (g : Function) (ok : Accepted fs g) where
           [] [] lends spares (owned-sound .0);
     }
 
-    pub routine-frugal : RoutineFrugal β (β f) (routine-at fs T f g) (signature g)
+    pub routine-frugal : RoutineFrugal β (β f) (routine-in style fs T f g) (signature g)
     routine-frugal =
         frugal-lent β lent Γ Γ′ owned body [] (lent-parameters (β f) depths) (parameter-holds (β f) depths) empty
         lends spares (owned-sound .1)
@@ -327,37 +344,38 @@ no-disciplined p b = record {
   holds = λ n. refl;
 }
 
-module _ (fs : Script) (ok : (f : ℕ) → Accepted fs (function-at fs f)) where
-  abbrev p : Program
-  p = program fs
+module _ (style : Style) (fs : Script) (ok : (f : ℕ) → Accepted fs (function-at fs f)) where
+  abbrev q : Program
+  q = program-in style fs
 
   no-function-past : (f : ℕ) → length fs ≤ f → function-at fs f ≡ no-function
   no-function-past f h = List·getD-eq-default fs no-function {n = f} h
 
-  no-routine-past : (f : ℕ) → length fs ≤ f → routine-of p f ≡ no-routine
+  no-routine-past : (f : ℕ) → length fs ≤ f → routine-of q f ≡ no-routine
   no-routine-past f h =
-      List·getD-eq-default (p .routines) no-routine {n = f} (omega (arith, length-routines fs))
+      List·getD-eq-default (q .routines) no-routine {n = f} (omega (arith, length-routines-in style fs))
 
-  pub all-disciplined : (f : ℕ) → FunctionDisciplined p f
-  unfolding program
+  pub all-disciplined : (f : ℕ) → FunctionDisciplined q f
+  unfolding program-in
   all-disciplined f = elim (decLt f (length fs)) [
     | yes h ↦
-        subst (λ (r : Routine). RoutineDisciplined p (p .borrowing f) r (signature (function-at fs f)))
-        (sym (routine-is fs f h)) (routine-disciplined fs (function-at fs f) (ok f) f (stable fs .kept f))
+        subst (λ (r : Routine). RoutineDisciplined q (q .borrowing f) r (signature (function-at fs f)))
+        (sym (routine-in-is style fs f h))
+        (routine-disciplined fs (function-at fs f) (ok f) style f (stable fs .kept f))
     | no h ↦
-        subst (λ (r : Routine). RoutineDisciplined p (p .borrowing f) r (signature (function-at fs f)))
+        subst (λ (r : Routine). RoutineDisciplined q (q .borrowing f) r (signature (function-at fs f)))
         (sym (no-routine-past f (omega arith)))
-        (subst (λ (g : Function). RoutineDisciplined p (p .borrowing f) no-routine (signature g))
-        (sym (no-function-past f (omega arith))) (no-disciplined p (p .borrowing f)))
+        (subst (λ (g : Function). RoutineDisciplined q (q .borrowing f) no-routine (signature g))
+        (sym (no-function-past f (omega arith))) (no-disciplined q (q .borrowing f)))
   ]
 
-  pub all-frugal : (f : ℕ) → FunctionFrugal p f
-  unfolding program
+  pub all-frugal : (f : ℕ) → FunctionFrugal q f
+  unfolding program-in
   all-frugal f = elim (decLt f (length fs)) [
     | yes h ↦
-        subst (λ (r : Routine). RoutineFrugal (p .borrowing) (p .borrowing f) r (signature (function-at fs f)))
-        (sym (routine-is fs f h)) (routine-frugal fs (function-at fs f) (ok f) f (stable fs .kept f))
+        subst (λ (r : Routine). RoutineFrugal (q .borrowing) (q .borrowing f) r (signature (function-at fs f)))
+        (sym (routine-in-is style fs f h)) (routine-frugal fs (function-at fs f) (ok f) style f (stable fs .kept f))
     | no h ↦
-        subst (λ (r : Routine). RoutineFrugal (p .borrowing) (p .borrowing f) r (signature (function-at fs f)))
+        subst (λ (r : Routine). RoutineFrugal (q .borrowing) (q .borrowing f) r (signature (function-at fs f)))
         (sym (no-routine-past f (omega arith))) tt
   ]

@@ -10,7 +10,8 @@ use mathlib.Core.List.{List, [], _∷_, _++_}
 use lib.Dec.{eqb, ltb}
 use borrow.Author.Tests.{eq-eqb, ne-eqb, le-ltb, ltb-true}
 use Rattle.semantics.specs.Basics.{with-if, occurrences, _∈_}
-use Rattle.semantics.specs.Kinds.{Borrowing, Loop, mapping, filtering, reducing, leaf-hands, leaf-reads, loop-hands}
+use Rattle.semantics.specs.Kinds.{Borrowing, Loop, mapping, filtering, reducing, rewriting, leaf-hands}
+use Rattle.semantics.specs.Kinds.{leaf-reads, loop-hands}
 use Rattle.semantics.specs.Kinds.{loop-reads, element-name, is-pending}
 use Rattle.semantics.specs.Code.{Atom, number, name, Line, leaf, if-else, loop, retain, release, Tree, end, line}
 use Rattle.semantics.specs.Live.{Set, empty, _∖_, among, live, after-branch, after-pass}
@@ -76,6 +77,7 @@ module _ (β : Borrowing) (lent : Set) (Θ Γ : NameDepths) (without : Without l
   element-same filtering ps h = holds-same ps h
   element-same reducing [] h = refl
   element-same reducing (p ∷ ps) h = holds-same ps (h .1)
+  element-same rewriting ps h = holds-same ps h
 
   carried-same : (k : Loop) (ps : List ℕ) → NoneLent lent ps →
       holds-of Γ (carried-name k ps) ≡ holds-of Θ (carried-name k ps)
@@ -83,6 +85,7 @@ module _ (β : Borrowing) (lent : Set) (Θ Γ : NameDepths) (without : Without l
   carried-same filtering ps h = refl
   carried-same reducing [] h = refl
   carried-same reducing (p ∷ ps) h = holds-same (p ∷ []) (h .0, tt)
+  carried-same rewriting ps h = refl
 
   mutual
     unfolding left-by

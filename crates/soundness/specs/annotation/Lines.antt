@@ -11,7 +11,7 @@ use Rattle.semantics.specs.Kinds.{Leaf, operation, call, literal, index, length
 use Rattle.semantics.specs.Kinds.{leaf-reads, is-pending, Borrowing, picked}
 use Rattle.semantics.specs.Code.{Atom, leaf, if-else, Tree, line, retain-all, release-all}
 use Rattle.semantics.specs.Live.{Set, empty, _∪_, _∖_, only, is, among, live, live-before, uses}
-use Rattle.semantics.specs.Annotate.{NameDepths, atom-depth, is-array, dying, annotate, annotate-line}
+use Rattle.semantics.specs.Annotate.{NameDepths, atom-depth, is-array, dying, Style, annotate, annotate-line}
 use Rattle.laws.specs.Lists.{hits}
 use Rattle.soundness.specs.machine.Discipline.{hold-of, handed, less, left-by, Covered, Frugal}
 use Rattle.soundness.specs.machine.Spending.{same-append, holding-left, holding-same}
@@ -58,11 +58,12 @@ module _ (β : Borrowing) (Γ : NameDepths) where
   leaf-parts iota us n = omega arith
   leaf-parts replicate us n = omega arith
 
-  module _ (few : Few Γ) (B : List ℕ) (L A : Set) (k : Tree) (same : live k L ≡ A)
+  module _ (style : Style) (few : Few Γ) (B : List ℕ) (L A : Set) (k : Tree) (same : live k L ≡ A)
       (sound : Sound β Γ B k (names Γ B A) [] (names Γ B L) L) where
     pub leaf-line : (x : ℕ) (l : Leaf) (us : List Atom) →
         Apart Γ few B x us (leaf-hands β l us) (leaf-reads β l us) empty A →
-        Sound β Γ B (annotate-line β Γ (leaf x l us) A k) (names Γ B (live-before (leaf x l us) A)) [] (names Γ B L) L
+        Sound β Γ B (annotate-line style β Γ (leaf x l us) A k) (names Γ B (live-before (leaf x l us) A)) []
+        (names Γ B L) L
     unfolding annotate live left-by
     leaf-line x l us apart =
         let hands = leaf-hands β l us in
@@ -101,10 +102,10 @@ module _ (β : Borrowing) (Γ : NameDepths) where
     branch-sound : (x : ℕ) (t e : Tree) (H : List ℕ) → let A′ = A ∖ x in
         ((n : ℕ) → Needs Γ t A′ n) → ((n : ℕ) → Needs Γ e A′ n) → Steady Γ B (live e A′) A′ →
         ((n : ℕ) → occurrences n H ≡ min (free B n) (max (held Γ (live t A′) n) (held Γ (live e A′) n))) →
-        Sound β Γ B (annotate β Γ t A′) (names Γ B (live t A′)) [] (names Γ B A′) A′ →
-        Sound β Γ B (branch β Γ x t e A) H [] (names Γ B A′) A′
+        Sound β Γ B (annotate style β Γ t A′) (names Γ B (live t A′)) [] (names Γ B A′) A′ →
+        Sound β Γ B (branch style β Γ x t e A) H [] (names Γ B A′) A′
     branch-sound x t e H first second steady count s =
-        releasing β Γ few B (uses e) (live t (A ∖ x)) (annotate β Γ t (A ∖ x)) H [] (A ∖ x)
+        releasing β Γ few B (uses e) (live t (A ∖ x)) (annotate style β Γ t (A ∖ x)) H [] (A ∖ x)
         (λ n. omega (
           arith,
           count n,
@@ -136,9 +137,9 @@ module _ (β : Borrowing) (Γ : NameDepths) where
     pub if-line : (x : ℕ) (g : Atom) (t e : Tree) → let A′ = A ∖ x in
         free B x ≡ 1 → atom-depth Γ g ≡ 0 → ((n : ℕ) → Needs Γ t A′ n) → ((n : ℕ) → Needs Γ e A′ n) →
         Steady Γ B (live t A′) A′ → Steady Γ B (live e A′) A′ →
-        Sound β Γ B (annotate β Γ t A′) (names Γ B (live t A′)) [] (names Γ B A′) A′ →
-        Sound β Γ B (annotate β Γ e A′) (names Γ B (live e A′)) [] (names Γ B A′) A′ →
-        Sound β Γ B (annotate-line β Γ (if-else x g t e) A k) (names Γ B (live-before (if-else x g t e) A)) []
+        Sound β Γ B (annotate style β Γ t A′) (names Γ B (live t A′)) [] (names Γ B A′) A′ →
+        Sound β Γ B (annotate style β Γ e A′) (names Γ B (live e A′)) [] (names Γ B A′) A′ →
+        Sound β Γ B (annotate-line style β Γ (if-else x g t e) A k) (names Γ B (live-before (if-else x g t e) A)) []
         (names Γ B L) L
     unfolding annotate live left-by
     if-line x g t e unlent guard first second steady₁ steady₂ s₁ s₂ =
@@ -160,8 +161,8 @@ module _ (β : Borrowing) (Γ : NameDepths) where
         λ n. omega (arith, count n) in
         let b₁ = branch-sound x t e H first second steady₂ count s₁ in
         let b₂ = branch-sound x e t H second first steady₁ swapped s₂ in
-        let t′ = branch β Γ x t e A in
-        let e′ = branch β Γ x e t A in
+        let t′ = branch style β Γ x t e A in
+        let e′ = branch style β Γ x e t A in
         let end = holding-left β Γ B t′ H [] (names Γ B A′) (b₁ .0) in
         let Δ = left-by β Γ t′ H in
         let rest = releasing β Γ few B (only x) A k _ [] L (λ n. bound-if x n unlent) sound in

@@ -18,7 +18,7 @@ use Rattle.semantics.specs.File.{Shape, none, leaf-of, loop-of, shapes, shape-o
 use Rattle.semantics.specs.File.{parameter, function, finish, script, read-file}
 use Rattle.soundness.specs.machine.Discipline.{LeafLimits, loop-arity}
 use Rattle.laws.specs.Files.{of-file}
-use Rattle.soundness.specs.annotation.Typed.{count, Limited, AllLimited}
+use Rattle.soundness.specs.annotation.Typed.{count, in-scripts, Limited, AllLimited}
 
 -- ---- facts of answers
 
@@ -121,7 +121,7 @@ Limits m = Answers Limited m
 abbrev ShapeLimits : ℕ → Shape → Type 0
 ShapeLimits n none = Unit {0}
 ShapeLimits n (leaf-of l) = LeafLimits l n
-ShapeLimits n (loop-of k xs c) = (length xs ≡ loop-arity k) × (c ≡ loop-arity k)
+ShapeLimits n (loop-of k xs c) = (length xs ≡ loop-arity k) × (c ≡ loop-arity k) × (in-scripts k ≡ true)
 
 module _ (h : Head) (head : HeadFits at-part h) where
   abbrev parts-of : ℕ
@@ -156,8 +156,8 @@ module _ (h : Head) (head : HeadFits at-part h) where
   free k = tt
 
   -- a loop's shape has as many names and parts as it should
-  looped : {i n : ℕ} → h .kind ≡ i → (n ≡ n) × (n ≡ n)
-  looped k = (refl, refl)
+  looped : {i n : ℕ} → h .kind ≡ i → (n ≡ n) × (n ≡ n) × (true ≡ true)
+  looped k = (refl, refl, refl)
 
   shape-limits : ShapeLimits parts-of (shape-of h)
   unfolding part-count
@@ -177,7 +177,7 @@ module _ (m : Read Expr) (inner : Limits m) where
       answers-then (answers-times Limited m c inner) λ es p.
       answers-then inner λ b q.
       answers-give (S.loop k xs (exprs-of es) b)
-      (l .0, exprs-count es ∙ p .0 ∙ l .1, exprs-limited es (p .1), q)
+      (l .0, exprs-count es ∙ p .0 ∙ l .1, exprs-limited es (p .1), q, l .2)
 
   parts-limited : (h : Head) → HeadFits at-part h → Limits (parts m h)
   unfolding parts

@@ -11,7 +11,7 @@ use borrow.Author.Tests.{eqb-true}
 use Rattle.laws.specs.Lists.{append-empty}
 use Rattle.semantics.specs.Basics.{with-if}
 use Rattle.semantics.specs.Kinds.{Leaf, operation, call, literal, index, length-of, iota, replicate, Loop, mapping}
-use Rattle.semantics.specs.Kinds.{filtering, reducing}
+use Rattle.semantics.specs.Kinds.{filtering, reducing, rewriting}
 use Rattle.semantics.specs.Types as T
 use Rattle.semantics.specs.Types.{Checked, and-more, part-depths, part-faults, Rule, ruled, is-none, breaks, node}
 use Rattle.semantics.specs.Types.{all-are, same, if-rule, index-rule, replicate-rule, Signature, leaf-rule, loop-rule}
@@ -79,17 +79,25 @@ loop-gives reducing Γ (u ∷ []) a d h e = absurd (omega arith)
 loop-gives reducing Γ (u ∷ v ∷ []) a d h e =
     some-if-holds (eqb (atom-depth Γ u) (atom-depth Γ a)) (atom-depth Γ u) d e .1
 loop-gives reducing Γ (u ∷ v ∷ w ∷ us) a d h e = absurd (omega arith)
+loop-gives rewriting Γ [] a d h e = absurd (omega arith)
+loop-gives rewriting Γ (u ∷ []) a d h e =
+    let holds = some-if-holds (eqb (atom-depth Γ u) 1 && eqb (atom-depth Γ a) 0) 1 d e in
+    let both = both-hold (eqb (atom-depth Γ u) 1) (eqb (atom-depth Γ a) 0) (holds .0) in
+    ap suc (eqb-true (atom-depth Γ a) 0 (both .1)) ∙ holds .1
+loop-gives rewriting Γ (u ∷ v ∷ us) a d h e = absurd (omega arith)
 
 pub pass-gives : (k : Loop) (Γ : NameDepths) (us : List Atom) →
     pass-depths k Γ us ≡ element-depths k (map (atom-depth Γ) us)
 pass-gives mapping Γ us = λ i. pred (depth-of-map Γ us 0 i) ∷ []
 pass-gives filtering Γ us = λ i. pred (depth-of-map Γ us 0 i) ∷ []
 pass-gives reducing Γ us = λ i. depth-of-map Γ us 0 i ∷ pred (depth-of-map Γ us 1 i) ∷ []
+pass-gives rewriting Γ us = λ i. pred (depth-of-map Γ us 0 i) ∷ []
 
 pub element-count : (k : Loop) (ds : List ℕ) → length (element-depths k ds) ≡ loop-arity k
 element-count mapping ds = refl
 element-count filtering ds = refl
 element-count reducing ds = refl
+element-count rewriting ds = refl
 
 -- ---- parts that have depths
 
@@ -217,3 +225,4 @@ pass-found reducing cs ds h n e =
     let over = ap (λ (o : Option ℕ). is-number (and-then o (depth-at cs 1))) (sym start) ∙ e in
     let array = array-found cs ds 1 h (omega arith) over in
     (array .0, (λ i. start i ∷ array .1 i ∷ []))
+pass-found rewriting cs ds h n e = one-found cs ds h n e

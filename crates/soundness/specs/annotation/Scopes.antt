@@ -5,19 +5,22 @@ use mathlib.Core.Path.{_≡_, refl, sym, ap, _∙_, subst}
 use mathlib.Core.Logic.{inl, inr}
 use mathlib.Core.Bool.{Bool, true, false, _&&_, not, false≢true}
 use mathlib.Core.List.{List, [], _∷_}
+use mathlib.Core.Option.{some}
+use lib.Dec.{leb}
 use lib.ListN.{length}
 use borrow.Author.Tests.{eq-eqb, ltb-true}
 use Rattle.semantics.specs.Basics.{with-if, occurrences, _∈_}
 use Rattle.semantics.specs.Kinds.{Leaf, operation, call, literal, index, length-of, iota, replicate, leaf-hands}
-use Rattle.semantics.specs.Kinds.{leaf-reads, Loop, mapping, filtering, reducing, loop-hands, loop-reads, element-name}
-use Rattle.semantics.specs.Kinds.{is-pending, Borrowing, picked}
-use Rattle.semantics.specs.Code.{Atom, Line, leaf, if-else, loop, retain, release, Tree, end, line, ending, retain-all}
-use Rattle.semantics.specs.Code.{release-all}
+use Rattle.semantics.specs.Kinds.{leaf-reads, Loop, mapping, filtering, reducing, rewriting, loop-hands, loop-reads}
+use Rattle.semantics.specs.Kinds.{element-name, is-pending, Borrowing, picked}
+use Rattle.semantics.specs.Types.{loop-rule}
+use Rattle.semantics.specs.Code.{Atom, name, Line, leaf, if-else, loop, retain, release, Tree, end, line, ending}
+use Rattle.semantics.specs.Code.{retain-all, release-all}
 use Rattle.semantics.specs.Live.{Set, empty, _∪_, _∖_, _∖∖_, only, just, among, live, uses, after-branch, after-pass}
-use Rattle.semantics.specs.Annotate.{NameDepths, atom-depth, is-array, arrays, dying, handed-again, annotate}
-use Rattle.semantics.specs.Annotate.{annotate-line}
+use Rattle.semantics.specs.Annotate.{NameDepths, atom-depth, is-array, arrays, dying, handed-again, Style}
+use Rattle.semantics.specs.Annotate.{written, annotate, annotate-line}
 use Rattle.semantics.specs.Machine.{Program}
-use Rattle.laws.specs.Tests.{both-hold, or-cases, or-left, or-right}
+use Rattle.laws.specs.Tests.{both-hold, some-if-holds, or-cases, or-left, or-right}
 use Rattle.laws.specs.Lists.{hits}
 use Rattle.soundness.specs.machine.Discipline.{array-place, LoopFits, Fitting, AllNew, AllKnown, Scoped}
 use Rattle.soundness.specs.annotation.Typed.{Functions}
@@ -28,6 +31,7 @@ use Rattle.soundness.specs.annotation.Sets.{Inside, inside-pass}
 use Rattle.soundness.specs.annotation.Formed.{Within, not-within, within-up, within-bound, Rising, rising-up}
 use Rattle.soundness.specs.annotation.Formed.{bound-by, Placed, Formed, LineFormed, LoopForm, seen-among}
 use Rattle.soundness.specs.annotation.Formed.{within-pass, Shallower, live-seen}
+use Rattle.soundness.specs.annotation.Written.{written-as}
 use Rattle.soundness.specs.annotation.Unchanged.{pass, ending-pass}
 
 -- ---- names
@@ -53,6 +57,7 @@ element-in mapping ps n h = h
 element-in filtering ps n h = h
 element-in reducing [] n h = h
 element-in reducing (p ∷ ps) n h = omega arith
+element-in rewriting ps n h = h
 
 with-if-in : (b : Bool) (x n : ℕ) → n ∈ with-if b x [] → (n ≡ x) × (b ≡ true)
 unfolding occurrences
@@ -78,6 +83,23 @@ module _ (p : Program) (Θ : NameDepths) where
     names = f .depths ∙ sym (pass-gives k Θ us);
     gives = f .fits .rule;
   }
+
+  -- a map of numbers to numbers may rewrite its array
+  rewrite-fits : (x y : ℕ) (ps : List ℕ) (d : ℕ) (S : Set) (c : ℕ) → Θ y ≡ 1 → Θ x ≡ 1 →
+      LoopForm (functions-of p) Θ x mapping ps (name y ∷ []) d S c → LoopFits p Θ x rewriting ps (name y ∷ []) d
+  rewrite-fits x y ps d S c array result f =
+      let map-fits = loop-fits x mapping ps (name y ∷ []) d S c f in
+      let shallow : d ≡ 0 = omega (
+        arith,
+        result,
+        some-if-holds (leb (suc d) 4) (suc d) (Θ x) (map-fits .gives) .1,
+      ) in
+      record {
+        limits = map-fits .limits;
+        deep = map-fits .deep;
+        names = map-fits .names;
+        gives = (λ i. loop-rule rewriting (array i ∷ shallow i ∷ [])) ∙ ap some (sym result);
+      }
 
   -- a tree that gives depth d, before which the names S are known
   abbrev pub Fits : Tree → ℕ → Set → Type 0
@@ -112,7 +134,7 @@ module _ (p : Program) (Θ : NameDepths) where
       ((here .0, rest .0), (here .1, rest .1))
 
   -- annotated by depths Γ, which are nowhere deeper
-  module _ (β : Borrowing) (Γ : NameDepths) (under : Shallower Γ Θ) where
+  module _ (style : Style) (β : Borrowing) (Γ : NameDepths) (under : Shallower Γ Θ) where
     -- ---- what is retained and released is an array, and known
 
     -- an array of the one is an array of the other
@@ -194,6 +216,7 @@ module _ (p : Program) (Θ : NameDepths) where
     loop-known filtering us S h = (tt, h)
     loop-known reducing [] S h = (tt, tt)
     loop-known reducing (u ∷ us) S h = ((h .0, tt), h .1)
+    loop-known rewriting us S h = (h, tt)
 
     -- the outer names that a tree uses are known
     uses-known : (t : Tree) (S : Set) (c d : ℕ) → Formed (functions-of p) Θ t S c d → (n : ℕ) →
@@ -208,23 +231,37 @@ module _ (p : Program) (Θ : NameDepths) where
         inside-pass ps (live-seen (functions-of p) Θ t (S ∪ just ps) empty c d f) in
         elim (inside .either n e) [ inl q ↦ q | inr q ↦ absurd (false≢true q) ]
 
+    written-fits : (x : ℕ) (o : Loop) (ps : List ℕ) (us : List Atom) (d : ℕ) (S : Set) (c : ℕ) (t : Tree) (A : Set) →
+        LoopForm (functions-of p) Θ x o ps us d S c → LoopFits p Θ x (written style β Γ o x ps us t A) ps us d
+    written-fits x o ps us d S c t A f = elim (written-as style β Γ o x ps us t A (f .fits .parted)) [
+      | inl e ↦ subst (λ (k : Loop). LoopFits p Θ x k ps us d) (sym e) (loop-fits x o ps us d S c f)
+      | inr r ↦
+          subst (λ (k : Loop). LoopFits p Θ x k ps us d) (sym (r .is))
+          (subst (λ (vs : List Atom). LoopFits p Θ x rewriting ps vs d) (sym (r .atoms))
+          (rewrite-fits x (r .over) ps d S c
+          (under .same (r .over) (omega (arith, r .array)) ∙ r .array)
+          (under .same x (omega (arith, r .result)) ∙ r .result)
+          (subst (λ (vs : List Atom). LoopForm (functions-of p) Θ x mapping ps vs d S c) (r .atoms)
+          (subst (λ (k : Loop). LoopForm (functions-of p) Θ x k ps us d S c) (r .was) f))))
+    ]
+
     mutual
       unfolding annotate
 
       pub annotated-fits : (t : Tree) (S L : Set) (c d : ℕ) → Formed (functions-of p) Θ t S c d → Within S c →
-          Fits (annotate β Γ t L) d S
+          Fits (annotate style β Γ t L) d S
       annotated-fits (end a) S L c d f w =
           fits-retains (handed-again Γ (a ∷ []) L) (end a) d S (again-in (a ∷ []) L S (f .0, tt)) (f .1, f .0)
       annotated-fits (line l t) S L c d f w =
           let x = bound-by l in
           let c′ = f .0 in
           let up : c ≤ c′ = omega (arith, f .1 .above, f .1 .below) in
-          annotated-line-fits l (live t L) (annotate β Γ t L) S c c′ d (f .1) (f .2) w
+          annotated-line-fits l (live t L) (annotate style β Γ t L) S c c′ d (f .1) (f .2) w
           (annotated-fits t (S ∪ only x) L c′ d (f .3) (within-bound S x c c′ up (f .1 .below) w))
 
       annotated-line-fits : (l : Line) (A : Set) (k : Tree) (S : Set) (c c′ d : ℕ) → Placed (bound-by l) c c′ →
           LineFormed (functions-of p) Θ l S → Within S c → Fits k d (S ∪ only (bound-by l)) →
-          Fits (annotate-line β Γ l A k) d S
+          Fits (annotate-line style β Γ l A k) d S
       annotated-line-fits (leaf x l us) A k S c c′ d place f w s =
           let parts = leaf-known l us S (f .seen) in
           let R = among (leaf-reads β l us) empty in
@@ -254,10 +291,10 @@ module _ (p : Program) (Θ : NameDepths) where
           let S′ = S ∪ only x in
           let c₁ = f .1 .0 in
           let c₂ = f .2 .0 in
-          let t₁ = fits-releases (dying Γ (uses e) (live t A′)) (annotate β Γ t A′) (Θ x) S
+          let t₁ = fits-releases (dying Γ (uses e) (live t A′)) (annotate style β Γ t A′) (Θ x) S
           (dying-in (uses e) (live t A′) S (uses-known e S c₂ (Θ x) (f .2 .2)))
           (annotated-fits t S A′ c₁ (Θ x) (f .1 .2) (within-up S c c₁ (omega (arith, place .above, f .1 .1)) w)) in
-          let e₁ = fits-releases (dying Γ (uses t) (live e A′)) (annotate β Γ e A′) (Θ x) S
+          let e₁ = fits-releases (dying Γ (uses t) (live e A′)) (annotate style β Γ e A′) (Θ x) S
           (dying-in (uses t) (live e A′) S (uses-known t S c₁ (Θ x) (f .1 .2)))
           (annotated-fits e S A′ c₂ (Θ x) (f .2 .2) (within-up S c c₂ (omega (arith, place .above, f .2 .1)) w)) in
           let rest = fits-releases (dying Γ (only x) A) k d S′ (dying-in (only x) A S′ (only-known S x)) s in (
@@ -272,8 +309,9 @@ module _ (p : Program) (Θ : NameDepths) where
               rest .1,
             ),
           )
-      annotated-line-fits (loop x j ps us t) A k S c c′ d place f w s =
+      annotated-line-fits (loop x o ps us t) A k S c c′ d place f w s =
           let i = f .0 in
+          let j = written style β Γ o x ps us t A in
           let form = f .1 in
           let r = atom-depth Θ (ending t) in
           let parts = loop-known j us S (form .seen) in
@@ -283,15 +321,15 @@ module _ (p : Program) (Θ : NameDepths) where
           let S′ = S ∪ only x in
           let Q = S ∪ just ps in
           let free = dying Γ (just ps) (live t B) in
-          let t₀ = release-all free (annotate β Γ t B) in
-          let t′ = pass β Γ x j ps t A in
+          let t₀ = release-all free (annotate style β Γ t B) in
+          let t′ = pass style β Γ x j ps t A in
           let same : atom-depth Θ (ending t) ≡ atom-depth Θ (ending t′) =
-          ap (atom-depth Θ) (sym (ending-pass β Γ x j ps t A)) in
+          ap (atom-depth Θ) (sym (ending-pass style β Γ x j ps t A)) in
           let inside : Fits t′ r Q = fits-retains (arrays Γ (element-name j ps)) t₀ r Q
           (λ n h.
           let here = arrays-in (element-name j ps) n h in
           (here .0, or-right (S n) (just ps n) (just-in ps n (element-in j ps n (here .1)))))
-          (fits-releases free (annotate β Γ t B) r Q
+          (fits-releases free (annotate style β Γ t B) r Q
           (dying-in (just ps) (live t B) Q (λ n q. or-right (S n) (just ps n) q))
           (annotated-fits t Q B i r (f .2) (within-pass S ps c (suc x) i (omega (arith, place .above))
           (form .rising) w))) in
@@ -303,7 +341,7 @@ module _ (p : Program) (Θ : NameDepths) where
           (again-in (loop-hands j us) (R ∪ A) S (parts .0)) (
             (
               (
-                subst (LoopFits p Θ x j ps us) same (loop-fits x j ps us r S i form),
+                subst (LoopFits p Θ x j ps us) same (written-fits x o ps us r S i t A form),
                 subst (Fitting p Θ t′) same (inside .0),
               ),
               rest .0,

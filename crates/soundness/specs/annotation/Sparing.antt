@@ -1,23 +1,29 @@
 -- Trees that spare the names that are lent: they bind none of them and hand none over. A plain tree that does not spend
--- them is one, and annotation keeps it so.
-use Prim.Native.Nat.{ℕ, suc, _≤_}
+-- them is one, and annotation by depths in which they are numbers keeps it so.
+use Prim.Native.Nat.{ℕ, suc, _≤_, _<_}
 use native.Mathlib.Omega.{arith}
-use mathlib.Core.Path.{_≡_, refl}
-use mathlib.Core.Bool.{true, false, _&&_}
+use mathlib.Core.Path.{_≡_, refl, sym, _∙_, subst}
+use mathlib.Core.Logic.{inl, inr}
+use mathlib.Core.Bool.{Bool, true, false, _&&_}
 use mathlib.Core.List.{List, [], _∷_}
+use lib.ListN.{length}
 use borrow.Author.Tests.{eq-eqb}
 use Rattle.semantics.specs.Basics.{with-if}
-use Rattle.semantics.specs.Kinds.{Borrowing, leaf-hands, leaf-reads, loop-hands, loop-reads, is-pending, element-name}
+use Rattle.semantics.specs.Kinds.{Borrowing, Loop, leaf-hands, leaf-reads, loop-hands, loop-reads, is-pending}
+use Rattle.semantics.specs.Kinds.{element-name}
 use Rattle.semantics.specs.Code.{Atom, number, name, Line, leaf, if-else, loop, retain, release, Tree, end, line}
 use Rattle.semantics.specs.Code.{ending, retain-all, release-all}
 use Rattle.semantics.specs.Live.{Set, empty, _∪_, _∖∖_, only, just, is, among, live, uses, after-branch, after-pass}
 use Rattle.semantics.specs.Borrow.{spent, line-spent}
-use Rattle.semantics.specs.Annotate.{NameDepths, atom-depth, is-array, dying, arrays, handed-again, annotate}
+use Rattle.semantics.specs.Annotate.{NameDepths, atom-depth, is-array, dying, arrays, handed-again, Style}
+use Rattle.semantics.specs.Annotate.{written, annotate}
 use Rattle.semantics.specs.Annotate.{annotate-line}
 use Rattle.laws.specs.Tests.{or-left, or-right}
+use Rattle.soundness.specs.machine.Discipline.{loop-arity}
 use Rattle.soundness.specs.annotation.Typed.{Functions}
 use Rattle.soundness.specs.annotation.Formed.{Within, within-up, not-within, Rising, rising-up, bound-by, Formed}
 use Rattle.soundness.specs.annotation.Formed.{LineFormed}
+use Rattle.soundness.specs.annotation.Written.{written-as, written-arity}
 
 -- over the names that are lent
 module _ (lent : Set) where
@@ -44,7 +50,8 @@ module _ (β : Borrowing) (lent : Set) where
     pub LineSpares : Line → Type 0
     LineSpares (leaf x l us) = (lent x ≡ false) × AllOwned lent (leaf-hands β l us)
     LineSpares (if-else x g t e) = (lent x ≡ false) × Spares t × Spares e
-    LineSpares (loop x k ps us t) = (lent x ≡ false) × AllOwned lent (loop-hands k us) × NoneLent lent ps × Spares t
+    LineSpares (loop x k ps us t) =
+        (lent x ≡ false) × AllOwned lent (loop-hands k us) × NoneLent lent ps × Spares t × (length us ≡ loop-arity k)
     LineSpares (retain x) = Unit {0}
     LineSpares (release x) = Unit {0}
 
@@ -104,6 +111,7 @@ module _ (β : Borrowing) (lent : Set) where
             formed-spares t (S ∪ just ps) (f .0) (atom-depth Θ (ending t)) (f .2)
                 (within-up lent c (f .0) (omega (arith, rising-up ps (suc x) (f .0) rising)) w)
                 (λ n q. h n (or-right (hands n) (spent β t n) q)),
+            f .1 .fits .parted,
           )
       line-spares (retain x) S c f above w h = absurd f
       line-spares (release x) S c f above w h = absurd f
@@ -118,17 +126,34 @@ module _ (β : Borrowing) (lent : Set) where
   spares-releases [] t s = s
   spares-releases (x ∷ xs) t s = (tt, spares-releases xs t s)
 
-  module _ (Γ : NameDepths) where
+  module _ (style : Style) (Γ : NameDepths) (numbers : (n : ℕ) → lent n ≡ true → Γ n ≡ 0) where
+    -- an array by Γ is not lent
+    array-owned : (y : ℕ) → 0 < Γ y → lent y ≡ false
+    array-owned y h = go (lent y) refl
+      where
+        go : (b : Bool) → lent y ≡ b → b ≡ false
+        go true e = absurd (omega (arith, h, numbers y e))
+        go false e = refl
+
+    written-owned : (i : Loop) (x : ℕ) (ps : List ℕ) (us : List Atom) (t : Tree) (A : Set) → length us ≡ loop-arity i →
+        AllOwned lent (loop-hands i us) → AllOwned lent (loop-hands (written style β Γ i x ps us t A) us)
+    written-owned i x ps us t A h owns = elim (written-as style β Γ i x ps us t A h) [
+      | inl e ↦ subst (λ (k : Loop). AllOwned lent (loop-hands k us)) (sym e) owns
+      | inr r ↦
+          subst (λ (k : Loop). AllOwned lent (loop-hands k us)) (sym (r .is))
+          (subst (AllOwned lent) (sym (r .atoms)) (array-owned (r .over) (omega (arith, r .array)), tt))
+    ]
+
     mutual
       unfolding annotate
 
-      pub annotated-spares : (t : Tree) (L : Set) → Spares t → Spares (annotate β Γ t L)
+      pub annotated-spares : (t : Tree) (L : Set) → Spares t → Spares (annotate style β Γ t L)
       annotated-spares (end a) L s = spares-retains (handed-again Γ (a ∷ []) L) (end a) s
       annotated-spares (line l t) L s =
-          annotated-line-spares l (live t L) (annotate β Γ t L) (s .0) (annotated-spares t L (s .1))
+          annotated-line-spares l (live t L) (annotate style β Γ t L) (s .0) (annotated-spares t L (s .1))
 
       annotated-line-spares : (l : Line) (A : Set) (k : Tree) → LineSpares l → Spares k →
-          Spares (annotate-line β Γ l A k)
+          Spares (annotate-line style β Γ l A k)
       annotated-line-spares (leaf x l us) A k h s =
           let R = among (leaf-reads β l us) empty in
           let free = dying Γ (R ∪ only x) A in
@@ -140,22 +165,31 @@ module _ (β : Borrowing) (lent : Set) where
           let L = after-branch x A in (
             (
               h .0,
-              spares-releases (dying Γ (uses e) (live t L)) (annotate β Γ t L) (annotated-spares t L (h .1)),
-              spares-releases (dying Γ (uses t) (live e L)) (annotate β Γ e L) (annotated-spares e L (h .2)),
+              spares-releases (dying Γ (uses e) (live t L)) (annotate style β Γ t L) (annotated-spares t L (h .1)),
+              spares-releases (dying Γ (uses t) (live e L)) (annotate style β Γ e L) (annotated-spares e L (h .2)),
             ),
             spares-releases (dying Γ (only x) A) k s,
           )
-      annotated-line-spares (loop x j ps us t) A k h s =
+      annotated-line-spares (loop x i ps us t) A k h s =
+          let j = written style β Γ i x ps us t A in
           let L = after-pass x ps t A in
           let R = among (loop-reads j us) (uses t ∖∖ ps) in
           let free = dying Γ (R ∪ only x) A in
           let unused = dying Γ (just ps) (live t L) in
-          let t₁ = annotate β Γ t L in
+          let t₁ = annotate style β Γ t L in
           let t₂ = release-all unused t₁ in
           let t₃ = retain-all (arrays Γ (element-name j ps)) t₂ in
           let inside : Spares t₃ =
           spares-retains (arrays Γ (element-name j ps)) t₂ (spares-releases unused t₁ (annotated-spares t L (h .3))) in
-          spares-retains (handed-again Γ (loop-hands j us) (R ∪ A)) (line (loop x j ps us t₃) (release-all free k))
-          ((h .0, h .1, h .2, inside), spares-releases free k s)
+          spares-retains (handed-again Γ (loop-hands j us) (R ∪ A)) (line (loop x j ps us t₃) (release-all free k)) (
+            (
+              h .0,
+              written-owned i x ps us t A (h .4) (h .1),
+              h .2,
+              inside,
+              h .4 ∙ sym (written-arity style β Γ i x ps us t A),
+            ),
+            spares-releases free k s,
+          )
       annotated-line-spares (retain x) A k h s = (tt, s)
       annotated-line-spares (release x) A k h s = (tt, s)

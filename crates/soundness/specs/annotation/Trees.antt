@@ -1,4 +1,4 @@
--- `loop-line`: an annotated loop before a sound tree. The loop lends its array to its tree.
+-- `loop-line`: a loop, as it is written, before a sound tree. It lends the array that it reads to its tree.
 use Prim.Native.Nat.{ℕ, _+_, _-_, _≤_, _<_, min}
 use native.Mathlib.Omega.{arith}
 use native.Mathlib.Decide.{decLt}
@@ -7,10 +7,11 @@ use mathlib.Core.Logic.{inl, inr}
 use mathlib.Core.List.{List, [], _∷_, _++_}
 use lib.ListN.{length}
 use Rattle.semantics.specs.Basics.{occurrences, _∈_}
-use Rattle.semantics.specs.Kinds.{Borrowing, Loop, mapping, filtering, reducing, loop-hands, loop-reads, element-name}
+use Rattle.semantics.specs.Kinds.{Borrowing, Loop, mapping, filtering, reducing, rewriting, loop-hands, loop-reads}
+use Rattle.semantics.specs.Kinds.{element-name}
 use Rattle.semantics.specs.Code.{Atom, loop, Tree, line, retain-all, release-all}
 use Rattle.semantics.specs.Live.{Set, empty, _∪_, _∖_, _∖∖_, only, just, among, live, live-before, uses, after-pass}
-use Rattle.semantics.specs.Annotate.{NameDepths, arrays, dying, annotate, annotate-line}
+use Rattle.semantics.specs.Annotate.{NameDepths, arrays, dying, Style, annotate}
 use Rattle.soundness.specs.machine.Discipline.{loop-arity, hold-of, holds-of, handed, less, unlent, left-by}
 use Rattle.soundness.specs.machine.Discipline.{carried-name}
 use Rattle.soundness.specs.machine.Discipline.{outer-holds, pass-lent, pass-holds, aside, Covered, Frugal}
@@ -21,7 +22,7 @@ use Rattle.soundness.specs.annotation.Held.{append-held, held-pass, just
 use Rattle.soundness.specs.annotation.Held.{handed-first}
 use Rattle.soundness.specs.annotation.Formed.{Rising}
 use Rattle.soundness.specs.annotation.Moves.{Sound, sound-same, retains, retains-element}
-use Rattle.soundness.specs.annotation.Unchanged.{live-release-all, pass, live-pass}
+use Rattle.soundness.specs.annotation.Unchanged.{live-release-all, pass, written-loop, live-pass}
 use Rattle.soundness.specs.annotation.Counts.{Needs, releasing, Apart, before, behind, again, retainable}
 use Rattle.soundness.specs.annotation.Counts.{handable}
 use Rattle.soundness.specs.annotation.Counts.{left, readable, bound, covered-before}
@@ -37,6 +38,7 @@ element-one mapping ps h = only-one ps h
 element-one filtering ps h = only-one ps h
 element-one reducing [] h = absurd (omega arith)
 element-one reducing (p ∷ ps) h = only-one ps (omega arith)
+element-one rewriting ps h = only-one ps h
 
 module _ (Γ : NameDepths) where
   -- each atom of a loop is handed over or read
@@ -47,6 +49,7 @@ module _ (Γ : NameDepths) where
   loop-parts filtering us n = omega arith
   loop-parts reducing [] n = omega arith
   loop-parts reducing (u ∷ us) n = handed-first Γ u us n
+  loop-parts rewriting us n = omega arith
 
   -- each name of a pass holds what is carried, or is the element
   pass-parts : (k : Loop) (ps : List ℕ) (n : ℕ) → occurrences n (holds-of Γ ps)
@@ -60,6 +63,7 @@ module _ (Γ : NameDepths) where
     occurrences-append n (hold-of Γ p) (holds-of Γ ps),
     occurrences-append n (hold-of Γ p) [],
   )
+  pass-parts rewriting ps n = omega arith
 
   module _ (few : Few Γ) (B : List ℕ) (x : ℕ) (k : Loop) (ps : List ℕ) (us : List Atom) (t : Tree) (A : Set) where
     -- its atoms that are handed over, those that are read, and the outer names that its tree uses
@@ -166,16 +170,16 @@ module _ (Γ : NameDepths) where
                 let none : occurrences n ps ≡ 0 = omega arith in
                 omega (arith, just-none Γ ps n none, pass-steady n none)
 
-        pass-sound : (β : Borrowing) →
-            Sound β Γ inner (annotate β Γ t after) (names Γ inner (live t after)) [] (names Γ inner after) after →
-            Sound β Γ inner (pass β Γ x k ps t A) (pass-holds Γ B k ps us start) (holds-of Γ (element-name k ps))
+        pass-sound : (style : Style) (β : Borrowing) →
+            Sound β Γ inner (annotate style β Γ t after) (names Γ inner (live t after)) [] (names Γ inner after) after →
+            Sound β Γ inner (pass style β Γ x k ps t A) (pass-holds Γ B k ps us start) (holds-of Γ (element-name k ps))
             (outer-holds Γ B k us start) after
-        pass-sound β s =
-            let t′ = release-all (dying Γ (just ps) (live t after)) (annotate β Γ t after) in
+        pass-sound style β s =
+            let t′ = release-all (dying Γ (just ps) (live t after)) (annotate style β Γ t after) in
             let H = pass-holds Γ B k ps us start in
             let E = element-name k ps in
             let rest : Sound β Γ inner t′ (holds-of Γ ps ++ names Γ inner after) [] (names Γ inner after) after =
-            releasing β Γ few inner (just ps) (live t after) (annotate β Γ t after) _ [] after given s in
+            releasing β Γ few inner (just ps) (live t after) (annotate style β Γ t after) _ [] after given s in
             let here : Sound β Γ inner t′ (holds-of Γ E ++ H) [] (outer-holds Γ B k us start) after =
             sound-same β Γ inner t′ (holds-of Γ ps ++ names Γ inner after) (holds-of Γ E ++ H) []
             (names Γ inner after) (outer-holds Γ B k us start) after
@@ -195,21 +199,21 @@ module _ (Γ : NameDepths) where
             (retains-element β Γ inner (one .0) t′ H (outer-holds Γ B k us start) after
             (subst (λ es. Sound β Γ inner t′ (holds-of Γ es ++ H) [] (outer-holds Γ B k us start) after) (one .1) here))
 
-        pub loop-line : (β : Borrowing) (L : Set) (j : Tree) → live j L ≡ A →
-            Sound β Γ inner (annotate β Γ t after) (names Γ inner (live t after)) [] (names Γ inner after) after →
+        pub loop-line : (style : Style) (β : Borrowing) (L : Set) (j : Tree) → live j L ≡ A →
+            Sound β Γ inner (annotate style β Γ t after) (names Γ inner (live t after)) [] (names Γ inner after) after →
             Sound β Γ B j (names Γ B A) [] (names Γ B L) L →
-            Sound β Γ B (annotate-line β Γ (loop x k ps us t) A j) (names Γ B (live-before (loop x k ps us t) A)) []
+            Sound β Γ B (written-loop style β Γ x k ps us t A j) (names Γ B (live-before (loop x k ps us t) A)) []
             (names Γ B L) L
         unfolding annotate live left-by
-        loop-line β L j same s sound =
+        loop-line style β L j same s sound =
             let free = dying Γ (among reads used ∪ only x) A in
             let j′ = release-all free j in
-            let t′ = pass β Γ x k ps t A in
+            let t′ = pass style β Γ x k ps t A in
             let rest = less (handed Γ hands) start in
             let q : live j′ L ≡ A = live-release-all free j L ∙ same in
             let pass-same : after-pass x ps t′ (live j′ L) ≡ after =
-            λ i. live-pass β Γ x k ps t A empty i ∖∖ ps ∪ q i ∖ x in
-            let inside = pass-sound β s in
+            λ i. live-pass style β Γ x k ps t A empty i ∖∖ ps ∪ q i ∖ x in
+            let inside = pass-sound style β s in
             let s′ : Sound β Γ B j′ (hold-of Γ x ++ rest) [] (names Γ B L) L =
             sound-same β Γ B j′ (hold-of Γ x ++ names Γ B (behind Γ few B x us hands reads used A))
             (hold-of Γ x ++ rest) [] (names Γ B L) (names Γ B L) L

@@ -2,12 +2,12 @@
 -- records here serve the written nodes and the lines alike.
 use Prim.Native.Nat.{ℕ, suc, _<_, pred}
 use mathlib.Core.Path.{_≡_}
-use mathlib.Core.Bool.{false}
+use mathlib.Core.Bool.{Bool, true, false}
 use mathlib.Core.List.{List, [], _∷_, _++_}
 use mathlib.Core.Option.{some}
 use lib.ListN.{length, getD}
 use Rattle.semantics.specs.Basics.{updated}
-use Rattle.semantics.specs.Kinds.{Leaf, Loop, mapping, filtering, reducing}
+use Rattle.semantics.specs.Kinds.{Leaf, Loop, mapping, filtering, reducing, rewriting}
 use Rattle.semantics.specs.Syntax as S
 use Rattle.semantics.specs.Syntax.{Expr, number, name, let-in, leaf, if-else, loop, Exprs}
 use Rattle.semantics.specs.Names.{calls-none}
@@ -21,6 +21,13 @@ abbrev pub count : Exprs → ℕ
 count S.none = 0
 count (S.more e es) = suc (count es)
 
+-- the loops that a script may have: a map that rewrites stands in code only
+abbrev pub in-scripts : Loop → Bool
+in-scripts mapping = true
+in-scripts filtering = true
+in-scripts reducing = true
+in-scripts rewriting = false
+
 abbrev mutual
   pub Limited : Expr → Type 0
   Limited (number z) = Unit {0}
@@ -29,7 +36,7 @@ abbrev mutual
   Limited (leaf l es) = LeafLimits l (count es) × AllLimited es
   Limited (if-else a b c) = Limited a × Limited b × Limited c
   Limited (loop k xs es b) =
-      (length xs ≡ loop-arity k) × (count es ≡ loop-arity k) × AllLimited es × Limited b
+      (length xs ≡ loop-arity k) × (count es ≡ loop-arity k) × AllLimited es × Limited b × (in-scripts k ≡ true)
 
   pub AllLimited : Exprs → Type 0
   AllLimited S.none = Unit {0}
@@ -59,11 +66,13 @@ abbrev pub element-depths : Loop → List ℕ → List ℕ
 element-depths mapping ds = pred (getD ds 0 0) ∷ []
 element-depths filtering ds = pred (getD ds 0 0) ∷ []
 element-depths reducing ds = getD ds 0 0 ∷ pred (getD ds 1 0) ∷ []
+element-depths rewriting ds = pred (getD ds 0 0) ∷ []
 
 -- a loop with so many names and parts, over parts of the depths ds and a body of depth e
 pub record LoopType (k : Loop) (names parts : ℕ) (ds : List ℕ) (e d : ℕ) : Type 0 where
   pub named : names ≡ loop-arity k
   pub parted : parts ≡ loop-arity k
+  pub plain : in-scripts k ≡ true
   pub array : 0 < array-among k ds
   pub rule : loop-rule k (ds ++ (e ∷ [])) ≡ some d
 

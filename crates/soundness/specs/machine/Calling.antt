@@ -1,5 +1,5 @@
 -- The leaf of a call: it hands over the arguments that its function owns, and lends those that it borrows.
-use Prim.Native.Nat.{ℕ, _+_, _<_}
+use Prim.Native.Nat.{ℕ, _+_, _<_, _≤_}
 use native.Mathlib.Omega.{arith}
 use native.Mathlib.Decide.{decLt}
 use mathlib.Core.Path.{_≡_, refl, sym, ap, ap₂, _∙_, subst}
@@ -10,8 +10,9 @@ use lib.IntN.{ℤ}
 use lib.ListN.{length}
 use borrow.Author.Tests.{leb-false}
 use Rattle.semantics.specs.Basics.{occurrences, _∈_}
-use Rattle.semantics.specs.Kinds.{call, picked}
-use Rattle.semantics.specs.Code.{Atom}
+use Rattle.semantics.specs.Value.{Value}
+use Rattle.semantics.specs.Kinds.{call, picked, leaf-hands}
+use Rattle.semantics.specs.Code.{Atom, leaf}
 use Rattle.semantics.specs.Live.{Set, _∖_, among}
 use Rattle.semantics.specs.Annotate.{atom-depth}
 use Rattle.semantics.specs.Meaning.{Env, do-leaf, do-call}
@@ -22,7 +23,7 @@ use Rattle.soundness.specs.normal.Plain.{value}
 use Rattle.soundness.specs.store.Invariant.{Invariant}
 use Rattle.soundness.specs.store.Counting.{append-cases, in-append-left, in-append-right}
 use Rattle.soundness.specs.normal.Trace.{CalleeGrows}
-use Rattle.soundness.specs.machine.Discipline.{less, _⊑_}
+use Rattle.soundness.specs.machine.Discipline.{LeafFits, LineHolding, less, _⊑_}
 use Rattle.soundness.specs.machine.Spending.{spend-split, less-counts}
 use Rattle.soundness.specs.machine.Growth.{grown}
 use Rattle.soundness.specs.machine.Agreement.{agree-map}
@@ -62,7 +63,7 @@ module _ (C : Setting) (f : ℕ) (us : List Atom) where
     H′ = less (given C (picked owns 0 us)) H
 
     -- so every atom may be read
-    all-readable : given C us ⊆ (B ++ H)
+    pub all-readable : given C us ⊆ (B ++ H)
     all-readable y h = elim (decLt 0 (occurrences y (given C (picked lends 0 us)))) [
       | yes g ↦ omega (
         arith,
@@ -86,33 +87,46 @@ module _ (C : Setting) (f : ℕ) (us : List Atom) where
           | inr g ↦ in-append-left (cell-of (ρ y)) (hold ρ H′) F (image-in (λ z. cell-of (ρ z)) y H′ g)
         ])
 
-module _ (C : Setting) (grows : CalleeGrows (C .meant)) where
-  pub leaf-call : CallClaim C → (f : ℕ) → LeafClaim C (call f)
-  unfolding work-leaf do-leaf do-call
-  leaf-call claim f x us A B H P fit rule frugal Z F R ρ δ n s m t S need =
-      begin-step C (λ σ. Gave C (call f) x σ Z rest) false t S
-      (λ u. grown (grows f (map (value δ) us)))
-      (λ u v s′ m′ t′ S′ w. agree-map (λ r s″ v″ m″ q. gave C (C .program .signatures f .result) refl
-      (depths .1) q)
-      (claim f ws (map (value δ) us) Z rest (R ++ held (C .depths) live ρ) s′ m′ there t′
-      (arguments S′) (lent-cells C f us B H (rule .0) (rule .1) S′ (depths .0)) (handed-over S′) (room S′)
-      (λ g. roots-cover C Z F R spared live ρ (S′ .rooted g) (frugal g .1))))
-    where
-      there : f < length (C .program .routines)
-      there = leb-false (length (C .program .routines)) f (fit .calls)
+-- what a call of f is given: words that stand for values, beside the references F of others
+pub record CallReady (C : Setting) (f : ℕ) (ws : List ℤ) (vs : List Value) (Z F : List ℕ) (σ : Store) : Type 0 where
+  pub there : f < length (C .program .routines)
+  pub arguments : Arguments σ (C .program .signatures f .parameters) ws vs
+  pub lent : borrowed-cells (C .program) f ws ⊆ F
+  pub holds : Invariant σ Z (owned-cells (C .program) f ws ++ F)
+  pub room : Room Z (owned-cells (C .program) f ws ++ F) (C .need)
 
+module _ (C : Setting) (f x : ℕ) (us : List Atom) where
+  -- the caller's holds while the call is worked
+  abbrev pub spared : List ℕ → List ℕ
+  spared H = less (given C (leaf-hands (C .program .borrowing) (call f) us)) H
+
+  pub call-depths : LeafFits (C .program) (C .depths) x (call f) us →
+      (map (atom-depth (C .depths)) us ≡ ds C f us) × (C .depths x ≡ C .program .signatures f .result)
+  call-depths fit = call-fits C us (C .program .signatures f) (C .depths x) (fit .gives)
+
+  pub call-ready : {σ : Store} {Z F R B H P : List ℕ} {ρ : Frame} {δ : Env} {n : ℕ} →
+      LeafFits (C .program) (C .depths) x (call f) us →
+      LineHolding (C .program .borrowing) (C .depths) B (leaf x (call f) us) H P →
+      Situation C σ Z F R B H P ρ δ (leaf-adds + n) → C .need ≤ n →
+      CallReady C f (map (word ρ) us) (map (value δ) us) Z (hold ρ (spared H) ++ F) σ
+  call-ready {σ} {Z} {F} {R} {B} {H} {P} {ρ} {δ} {n} fit rule S need = record {
+    there = leb-false (length (C .program .routines)) f (fit .calls);
+    arguments = subst (λ (l : List ℕ). Arguments σ l ws (map (value δ) us)) (depths .0)
+        (atoms-stand C (B ++ H) (S .numbers) (readable C S) us (all-readable C f us B H (rule .0) (rule .1)));
+    lent = lent-cells C f us B H (rule .0) (rule .1) S (depths .0);
+    holds = hand-over C ρ handed-on H (spared H) F cells split given-holds (S .invariant);
+    room = record {
+      few = λ c. omega (
+        arith,
+        S .room .few c,
+        need,
+        handed-same C ρ handed-on H (spared H) F cells split given-holds c,
+      );
+    };
+  }
+    where
       handed-on : List Atom
       handed-on = picked (owns C f us) 0 us
-
-      -- the caller's holds while the call is worked, and the references beside the call's
-      spared : List ℕ
-      spared = less (given C handed-on) H
-
-      rest : List ℕ
-      rest = hold ρ spared ++ F
-
-      live : Set
-      live = among (picked (lends C f us) 0 us) (A ∖ x)
 
       ws : List ℤ
       ws = map (word ρ) us
@@ -120,29 +134,32 @@ module _ (C : Setting) (grows : CalleeGrows (C .meant)) where
       cells : List ℕ
       cells = owned-cells (C .program) f ws
 
-      split : H ≈ given C handed-on ++ spared
+      split : H ≈ given C handed-on ++ spared H
       split = spend-split (given C handed-on) H (rule .0)
 
       depths : (map (atom-depth (C .depths)) us ≡ ds C f us) × (C .depths x ≡ C .program .signatures f .result)
-      depths = call-fits C us (C .program .signatures f) (C .depths x) (fit .gives)
+      depths = call-depths fit
 
       given-holds : hold ρ (given C handed-on) ≡ cells
       given-holds = cells-at C f us ρ (owns C f us) (depths .0)
 
-      arguments : {σ : Store} {k : ℕ} → Situation C σ Z F R B H P ρ δ k →
-          Arguments σ (ds C f us) ws (map (value δ) us)
-      arguments {σ} S′ = subst (λ (l : List ℕ). Arguments σ l ws (map (value δ) us)) (depths .0)
-          (atoms-stand C (B ++ H) (S′ .numbers) (readable C S′) us (all-readable C f us B H (rule .0) (rule .1)))
+module _ (C : Setting) (grows : CalleeGrows (C .meant)) where
+  pub leaf-call : CallClaim C → (f : ℕ) → LeafClaim C (call f)
+  unfolding work-leaf do-leaf do-call
+  leaf-call claim f x us A B H P fit rule frugal Z F R ρ δ n s m t S need =
+      begin-step C (λ σ. Gave C (call f) x σ Z rest) false t S
+      (λ u. grown (grows f (map (value δ) us)))
+      (λ u v s′ m′ t′ S′ w.
+      let ready = call-ready C f x us fit rule S′ need in
+      agree-map (λ r s″ v″ m″ q. gave C (C .program .signatures f .result) refl
+      (call-depths C f x us fit .1) q)
+      (claim f (map (word ρ) us) (map (value δ) us) Z rest (R ++ held (C .depths) live ρ) s′ m′ (ready .there) t′
+      (ready .arguments) (ready .lent) (ready .holds) (ready .room)
+      (λ g. roots-cover C Z F R (spared C f x us H) live ρ (S′ .rooted g) (frugal g .1))))
+    where
+      -- the references beside the call's
+      rest : List ℕ
+      rest = hold ρ (spared C f x us H) ++ F
 
-      handed-over : {σ : Store} {k : ℕ} → Situation C σ Z F R B H P ρ δ k → Invariant σ Z (cells ++ rest)
-      handed-over S′ = hand-over C ρ handed-on H spared F cells split given-holds (S′ .invariant)
-
-      room : {σ : Store} → Situation C σ Z F R B H P ρ δ (leaf-adds + n) → Room Z (cells ++ rest) (C .need)
-      room S′ = record {
-        few = λ c. omega (
-          arith,
-          S′ .room .few c,
-          need,
-          handed-same C ρ handed-on H spared F cells split given-holds c,
-        );
-      }
+      live : Set
+      live = among (picked (lends C f us) 0 us) (A ∖ x)

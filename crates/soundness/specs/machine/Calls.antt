@@ -13,6 +13,7 @@ use Rattle.semantics.specs.Live.{empty}
 use Rattle.semantics.specs.Annotate.{NameDepths}
 use Rattle.semantics.specs.Meaning.{Meter}
 use Rattle.semantics.specs.Machine.{State, Routine, Program, routine-of, frame-from, machine, work}
+use Rattle.semantics.specs.Store.{Store}
 use Rattle.laws.specs.Lists.{_⊆_}
 use Rattle.soundness.specs.normal.Plain.{run, running, values-from}
 use Rattle.soundness.specs.store.Invariant.{Invariant}
@@ -73,9 +74,60 @@ pub record ProgramDisciplined (p : Program) : Type 0 where
 abbrev pub ProgramFrugal : Program → Type 0
 ProgramFrugal p = (f : ℕ) → f < length (p .routines) → FunctionFrugal p f
 
+-- ---- the body of a function
+
+module _ (p : Program) (disciplined : ProgramDisciplined p) (start : Start)
+    (frugal : start .frugal ≡ true → ProgramFrugal p) (f : ℕ) (there : f < length (p .routines)) where
+  abbrev r : Routine
+  r = routine-of p f
+
+  abbrev ds : List ℕ
+  ds = p .signatures f .parameters
+
+  -- the parameters that are lent, and those that hold
+  abbrev pub body-lent : List ℕ
+  body-lent = lent-parameters (p .borrowing f) ds
+
+  abbrev pub body-held : List ℕ
+  body-held = parameter-holds (p .borrowing f) ds
+
+  pub body-rules : (n : ℕ) → TreeRules (setting p start n (r .depths)) (r .tree) body-lent (parameter-names ds) empty
+      body-held [] [] (p .signatures f .result)
+  body-rules n = record {
+    fits = disciplined .functions f there .fits;
+    scoped = disciplined .functions f there .scoped;
+    names = record {
+      lent = λ y h. lt-ltb y (length ds) (omega (arith, arrays-range (p .borrowing f) ds 0 y h));
+      held = λ y h. lt-ltb y (length ds) (omega (arith, arrays-range (λ i. not (p .borrowing f i)) ds 0 y h));
+      left = λ y h. absurd (none-in y h);
+    };
+    holds = disciplined .functions f there .holds;
+    frugal = λ q. frugal q f there;
+  }
+
+  -- on arguments that stand for values
+  pub body-situation : (n : ℕ) {ws : List ℤ} {vs : List Value} {Z F R : List ℕ} {σ : Store} → Arguments σ ds ws vs →
+      borrowed-cells p f ws ⊆ F → Invariant σ Z (owned-cells p f ws ++ F) →
+      Room Z (owned-cells p f ws ++ F) (call-adds * suc n) → (start .frugal ≡ true → (Z ++ F) ⊆ R) →
+      Situation (setting p start n (r .depths)) σ Z F R body-lent body-held [] (frame-from ws 0) (values-from vs 0)
+      (tree-adds (r .tree) + call-adds * n)
+  body-situation n {Z = Z} {F} {σ = σ} args kept inv room rooted = record {
+    invariant = subst (λ (l : List ℕ). Invariant σ Z (l ++ F)) (sym (parameters-hold owns args 0)) inv;
+    numbers = parameter-numbers args (r .depths) (disciplined .functions f there .parameters);
+    arrays = parameter-arrays args (r .depths) (disciplined .functions f there .parameters) owns;
+    pending = λ y h. absurd (none-in y h);
+    lent = parameters-lent args (r .depths) (disciplined .functions f there .parameters) (p .borrowing f) F kept;
+    room = subst (λ (l : List ℕ). Room Z (l ++ F) (tree-adds (r .tree) + call-adds * n))
+        (sym (parameters-hold owns args 0))
+        (record { few = λ c. omega (arith, room .few c, disciplined .short f there) });
+    rooted = rooted;
+  }
+    where
+      owns : ℕ → Bool
+      owns = λ i. not (p .borrowing f i)
+
 module _ (p : Program) (disciplined : ProgramDisciplined p) (start : Start)
     (frugal : start .frugal ≡ true → ProgramFrugal p) where
-  -- the body of a function, on arguments that stand for values
   body-sound : (n : ℕ) → ((Γ : NameDepths) → CallClaim (setting p start n Γ)) →
       (f : ℕ) (ws : List ℤ) (vs : List Value) (Z F R : List ℕ) (s : State) (m : Meter) → f < length (p .routines) →
       Together start s m → Arguments (s .store) (p .signatures f .parameters) ws vs →
@@ -87,57 +139,13 @@ module _ (p : Program) (disciplined : ProgramDisciplined p) (start : Start)
       (run (running p n) (routine-of p f .tree) (values-from vs 0) m)
   body-sound n calls f ws vs Z F R s m there tog args kept inv room rooted =
       agree-map (λ w s′ v m′ e. record { answered = e .answered; keeps = e .keeps })
-      (tree-sound C (running-grows p n) (leaf-sound C (running-grows p n) (calls (r .depths))) (r .tree)
-      lent (parameter-names ds) empty held [] [] (p .signatures f .result) rules Z F R
-      (frame-from ws 0) (values-from vs 0) (call-adds * n) s m tog situation (omega arith))
+      (tree-sound C (running-grows p n) (leaf-sound C (running-grows p n) (calls (C .depths))) (routine-of p f .tree)
+      _ _ empty _ [] [] (p .signatures f .result) (body-rules p disciplined start frugal f there n) Z F R
+      (frame-from ws 0) (values-from vs 0) (call-adds * n) s m tog
+      (body-situation p disciplined start frugal f there n args kept inv room rooted) (omega arith))
     where
-      r : Routine
-      r = routine-of p f
-
       C : Setting
-      C = setting p start n (r .depths)
-
-      ds : List ℕ
-      ds = p .signatures f .parameters
-
-      lends : ℕ → Bool
-      lends = p .borrowing f
-
-      owns : ℕ → Bool
-      owns = λ i. not (lends i)
-
-      lent : List ℕ
-      lent = lent-parameters lends ds
-
-      held : List ℕ
-      held = parameter-holds lends ds
-
-      rules : TreeRules C (r .tree) lent (parameter-names ds) empty held [] [] (p .signatures f .result)
-      rules = record {
-        fits = disciplined .functions f there .fits;
-        scoped = disciplined .functions f there .scoped;
-        names = record {
-          lent = λ y h. lt-ltb y (length ds) (omega (arith, arrays-range lends ds 0 y h));
-          held = λ y h. lt-ltb y (length ds) (omega (arith, arrays-range owns ds 0 y h));
-          left = λ y h. absurd (none-in y h);
-        };
-        holds = disciplined .functions f there .holds;
-        frugal = λ q. frugal q f there;
-      }
-
-      situation : Situation C (s .store) Z F R lent held [] (frame-from ws 0) (values-from vs 0)
-          (tree-adds (r .tree) + call-adds * n)
-      situation = record {
-        invariant = subst (λ (l : List ℕ). Invariant (s .store) Z (l ++ F)) (sym (parameters-hold owns args 0)) inv;
-        numbers = parameter-numbers args (r .depths) (disciplined .functions f there .parameters);
-        arrays = parameter-arrays args (r .depths) (disciplined .functions f there .parameters) owns;
-        pending = λ y h. absurd (none-in y h);
-        lent = parameters-lent args (r .depths) (disciplined .functions f there .parameters) lends F kept;
-        room = subst (λ (l : List ℕ). Room Z (l ++ F) (tree-adds (r .tree) + call-adds * n))
-            (sym (parameters-hold owns args 0))
-            (record { few = λ c. omega (arith, room .few c, disciplined .short f there) });
-        rooted = rooted;
-      }
+      C = setting p start n (routine-of p f .depths)
 
   pub call-sound : (n : ℕ) (Γ : NameDepths) → CallClaim (setting p start n Γ)
   unfolding machine running

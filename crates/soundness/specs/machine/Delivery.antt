@@ -39,7 +39,8 @@ use Rattle.soundness.specs.machine.Acquiring.{after-acquire, acquire-tog
 use Rattle.soundness.specs.machine.Acquiring.{cell-stands}
 use Rattle.soundness.specs.machine.Retaining.{retained-array, retains-array, WordRetained, word-retained}
 use Rattle.soundness.specs.machine.Totals.{Finished, releases-totals, with-result, put-result, result-put}
-use Rattle.soundness.specs.machine.Calls.{call-adds, ProgramDisciplined, ProgramFrugal, call-sound}
+use Rattle.soundness.specs.machine.Calling.{CallReady}
+use Rattle.soundness.specs.machine.Calls.{call-adds, setting, ProgramDisciplined, ProgramFrugal, call-sound}
 
 -- The delivery ends as main does, or stops as main does, or is out of cells just where main wants one.
 pub data Delivers (start : Start) (d : ℕ) : Outcome State (Unit {0}) → Outcome Meter Value → Type 0 where
@@ -78,26 +79,26 @@ module _ (p : Program) (disciplined : ProgramDisciplined p) (careful : Bool)
   abbrev d : ℕ
   d = p .depth
 
-  abbrev old : ℤ
+  abbrev pub old : ℤ
   old = σ .totals
 
   -- the reference of the totals' place
-  abbrev held : List ℕ
+  abbrev pub held : List ℕ
   held = named-by d (old ∷ [])
 
-  abbrev values : List Value
+  abbrev pub values : List Value
   values = value-of σ d old ∷ (numbers readings ∷ [])
 
-  abbrev meter : Meter
+  abbrev pub meter : Meter
   meter = record { left = budget; trace = [] }
 
-  abbrev meant : Outcome Meter Value
+  abbrev pub meant : Outcome Meter Value
   meant = running p 32 0 values meter
 
   abbrev pub start : Start
   start = record { budget = budget; store = σ; frugal = careful }
 
-  begun : Together start (starting budget σ) meter
+  pub begun : Together start (starting budget σ) meter
   unfolding starting touched replayed
   begun = record {
     left = refl;
@@ -122,15 +123,15 @@ module _ (p : Program) (disciplined : ProgramDisciplined p) (careful : Bool)
     abbrev c : ℕ
     c = σ .first
 
-    acquires : Acquires σ (acquired 0 readings σ) 0 readings [] held
+    pub acquires : Acquires σ (acquired 0 readings σ) 0 readings [] held
     acquires = Store-acquire.acquire 0 readings (rests .holds) free (omega (arith, short)) (omega arith)
         (λ r h. absurd (none-in r h))
 
     -- the state before main
-    abbrev ready : State
+    abbrev pub ready : State
     ready = retained-array d old (after-acquire 0 readings (starting budget σ))
 
-    main-begins : WordRetained start d old [] (c ∷ held) (after-acquire 0 readings (starting budget σ)) ready meter
+    pub main-begins : WordRetained start d old [] (c ∷ held) (after-acquire 0 readings (starting budget σ)) ready meter
     unfolding starting with-store
     main-begins = word-retained d old (acquire-together 0 readings (acquires .taken) begun) (acquires .holds)
         (λ h. omega (arith, names-one d old h, one-more (cell-of old) c held))
@@ -175,28 +176,32 @@ module _ (p : Program) (disciplined : ProgramDisciplined p) (careful : Bool)
         ∙ ap (λ (l : List ℕ). named-all l (old ∷ (pos c ∷ [])) ++ held) (disciplined .takes)
         ∙ append-assoc held (c ∷ []) held
 
-    main-sound : Agree start (Returned start d (ready .store) [] held) (machine p 32 held 0 (old ∷ (pos c ∷ [])) ready)
-        meant
+    -- main may be called
+    pub main-ready : CallReady (setting p start 32 (λ _. 0)) 0 (old ∷ (pos c ∷ [])) values [] held (ready .store)
+    main-ready = record {
+      there = disciplined .some;
+      arguments = subst (λ (l : List ℕ). Arguments (ready .store) l (old ∷ (pos c ∷ [])) values)
+          (sym (disciplined .takes)) (more totals-stand (more readings-stand none));
+      lent = none-borrowed;
+      holds = subst (λ (l : List ℕ). Invariant (ready .store) [] l) (sym holds) (main-begins .invariant);
+      room = subst (λ (l : List ℕ). Room [] l (call-adds * 32)) (sym holds) (record {
+        few = λ k. omega (
+          arith,
+          none-here k,
+          one-more k c held,
+          named-few k d old,
+          occurrences-append k held (c ∷ held),
+        );
+      });
+    }
+
+    pub main-sound : Agree start (Returned start d (ready .store) [] held)
+        (machine p 32 held 0 (old ∷ (pos c ∷ [])) ready) meant
     main-sound = subst (λ (k : ℕ). Agree start (Returned start k (ready .store) [] held)
         (machine p 32 held 0 (old ∷ (pos c ∷ [])) ready) meant) (disciplined .gives)
         (call-sound p disciplined start frugal 32 (λ _. 0) 0 (old ∷ (pos c ∷ [])) values [] held held
-        ready meter (disciplined .some) (main-begins .together)
-        (subst (λ (l : List ℕ). Arguments (ready .store) l (old ∷ (pos c ∷ [])) values) (sym (disciplined .takes))
-        (more totals-stand (more readings-stand none))) none-borrowed
-        (subst (λ (l : List ℕ). Invariant (ready .store) [] l) (sym holds) (main-begins .invariant))
-        (subst (λ (l : List ℕ). Room [] l (call-adds * 32)) (sym holds) room)
-        (λ f r h. h))
-      where
-        room : Room [] (held ++ (c ∷ held)) (call-adds * 32)
-        room = record {
-          few = λ k. omega (
-            arith,
-            none-here k,
-            one-more k c held,
-            named-few k d old,
-            occurrences-append k held (c ∷ held),
-          );
-        }
+        ready meter (main-ready .there) (main-begins .together) (main-ready .arguments) (main-ready .lent)
+        (main-ready .holds) (main-ready .room) (λ f r h. h))
 
   -- what follows once the readings have a cell
   abbrev after-readings : ℤ → Work (Unit {0})

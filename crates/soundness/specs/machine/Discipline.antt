@@ -3,8 +3,8 @@
 -- no hold outlives its name.
 -- A hold is a name in a list, once for each reference. What a line hands over or releases it spends. A name that is
 -- pending holds nothing yet, and may be retained by the very next line. A name that is lent holds nothing, but another
--- holds its cell meanwhile: it may be read and retained. A loop lends its array to its tree, and a call lends the
--- arguments that its function borrows.
+-- holds its cell meanwhile: it may be read and retained. A loop lends its array to its tree, unless it rewrites it and
+-- so has it handed over; and a call lends the arguments that its function borrows.
 -- The holds after a line are computed from those before it, so that every rule is a test of the holds.
 use Prim.Native.Nat.{ℕ, zero, suc, _<_, _≤_}
 use mathlib.Core.Bool.{Bool, true, false, cond, not}
@@ -15,8 +15,8 @@ use lib.Dec.{eqb, ltb}
 use lib.ListN.{length, getD}
 use Rattle.semantics.specs.Basics.{with-if, occurrences, _∈_}
 use Rattle.semantics.specs.Kinds.{Leaf, operation, call, literal, index, length-of, iota, replicate, Loop, mapping}
-use Rattle.semantics.specs.Kinds.{filtering, reducing, first-part, leaf-hands, leaf-reads, loop-hands, loop-reads}
-use Rattle.semantics.specs.Kinds.{element-name, is-pending, Borrowing}
+use Rattle.semantics.specs.Kinds.{filtering, reducing, rewriting, first-part, leaf-hands, leaf-reads, loop-hands}
+use Rattle.semantics.specs.Kinds.{loop-reads, element-name, is-pending, Borrowing}
 use Rattle.semantics.specs.Names.{calls-none}
 use Rattle.semantics.specs.Types.{Signature, leaf-rule, loop-rule}
 use Rattle.semantics.specs.Code.{Atom, number, name, Line, leaf, if-else, loop, retain, release, Tree, end, line}
@@ -43,6 +43,7 @@ abbrev pub array-place : Loop → ℕ
 array-place mapping = 0
 array-place filtering = 0
 array-place reducing = 1
+array-place rewriting = 0
 
 abbrev pub loop-arity : Loop → ℕ
 loop-arity k = suc (array-place k)
@@ -146,6 +147,7 @@ abbrev pub carried-name : Loop → List ℕ → List ℕ
 carried-name mapping ps = []
 carried-name filtering ps = []
 carried-name reducing ps = first-part ps
+carried-name rewriting ps = []
 
 -- over the depths of a function's names
 module _ (Γ : NameDepths) where

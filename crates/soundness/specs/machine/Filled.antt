@@ -37,7 +37,7 @@ use Rattle.soundness.specs.machine.Passes.{Item, passes-agree, kept-asid
 use Rattle.soundness.specs.machine.Passes.{lend-rooted}
 use Rattle.soundness.specs.machine.Sites.{Site, site-reads, site-names, site-tree}
 use Rattle.soundness.specs.machine.Filling.{Passing, pass-done, pass-together, pass-kept, reserves, first-pass}
-use Rattle.soundness.specs.machine.Filling.{passed-ended}
+use Rattle.soundness.specs.machine.Filling.{filled-ended, lending, lent-back}
 use Rattle.soundness.specs.machine.Bodies.{pass-begins}
 
 -- A loop that fills a cell with elements of depth d: it hands over nothing, and no name of a pass holds what is
@@ -174,20 +174,20 @@ module _ (C : Setting) {x : ℕ} {k : Loop} {ps : List ℕ} {us : List Atom} {t 
           acquire-agrees roots d [] _ _ (bind-grows all-grow (λ v. give-grows _)) t″ (w refl)
           (out-of-cells (with-store s′ (s′ .store) (touching (s′ .store) (cell-of (word ρ a)))) want S′ covered)
           (λ free.
-          let r = reserves C d a B start-holds (site-reads C (f .site)) (j + n) S′ free shallow in
+          let lends = lending C a B start-holds (site-reads C (f .site)) roots
+          (λ q. lend-rooted C a B start-holds (site-reads C (f .site)) Z F R ρ start-holds want (λ i. omega arith)
+          (S′ .rooted q) (covered q)) S′ in
           agree-bind
           (passes-agree (Carried (roots ++ (s′ .store .first ∷ [])) (s′ .store)) (g (pos (s′ .store .first))) h
           (items (value δ a)) grow (pass (s′ .store .first) (s′ .store))
           (length (words-of (s′ .store) (word ρ a))) (pos (s′ .store .first)) (list []) _ m′ (array-length stands) (
-            acquire-together d [] (r .taken) t″,
-            first-pass C d a B start-holds (site-reads C (f .site)) (j + n) S′ free shallow roots
-                (λ q. lend-rooted C a B start-holds (site-reads C (f .site)) Z F R ρ start-holds want (λ i. omega arith)
-                (S′ .rooted q) (covered q)),
+            acquire-together d [] (reserves C d (j + n) lends free shallow .taken) t″,
+            first-pass C d (j + n) lends free shallow,
           ))
           (λ v. give-grows _)
           (λ w s″ v m″ q. both (name-bound C (loop x k ps us t) start-holds refl refl (loop-fresh C (f .site .rules)) S′
-          (ended-depth C (f .result) (ended-less C n (omega arith)
-          (passed-ended C d a B start-holds (site-reads C (f .site)) (q .0) (q .1)))))))))
+          (ended-depth C (f .result) (ended-less C n (omega arith) (lent-back C a B start-holds
+          (site-reads C (f .site)) (q .1 .situation .lent) (filled-ended C d (q .0) (q .1))))))))))
         where
           all-grow : Grows (passes h (list []) (items (value δ a)))
           all-grow = passes-grow h grow (list []) (items (value δ a))

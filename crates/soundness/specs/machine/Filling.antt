@@ -32,6 +32,13 @@ use Rattle.soundness.specs.machine.Situations.{touch-together}
 use Rattle.soundness.specs.machine.Spending.{less-in}
 use Rattle.soundness.specs.machine.Passes.{kept-aside, outer, lent-names, lend-split, lend, lend-back}
 
+-- a cell is one root more
+pub one-root : (c : ℕ) (Z F R : List ℕ) → (Z ++ F) ⊆ R → ((c ∷ Z) ++ F) ⊆ (R ++ (c ∷ []))
+one-root c Z F R rooted q h = elim (first-or-later q c (Z ++ F) h) [
+  | inl e ↦ in-append-right q R (c ∷ []) (subst (λ (k : ℕ). k ∈ (c ∷ [])) (sym e) (occurs-first c []))
+  | inr g ↦ in-append-left q R (c ∷ []) (rooted q g)
+]
+
 -- The result has elements of depth d. F are the references of others, that of the array among them; the names L are
 -- lent and the names I hold; n references more may come.
 module _ (C : Setting) (d : ℕ) (Z F R L I : List ℕ) (ρ : Frame) (δ : Env) (n : ℕ) where
@@ -50,14 +57,27 @@ module _ (C : Setting) (d : ℕ) (Z F R L I : List ℕ) (ρ : Frame) (δ : Env) 
     abbrev c : ℕ
     c = cell-of w
 
-    inv : Invariant υ (c ∷ Z) (named-by e (r ∷ []) ++ (hold ρ I ++ F))
+    pub inv : Invariant υ (c ∷ Z) (named-by e (r ∷ []) ++ (hold ρ I ++ F))
     inv = E .answered .invariant
 
-    filling : c ∈ (c ∷ Z)
+    pub filling : c ∈ (c ∷ Z)
     filling = occurs-first c Z
 
-    once : cell υ c .count ≡ 1
+    pub once : cell υ c .count ≡ 1
     once = inv .alone c filling
+
+    -- the result is referred to nowhere else
+    pub apart-result : (q : ℕ) → q ∈ (Z ++ (named-by e (r ∷ []) ++ (hold ρ I ++ F))) → q ≢ c
+    unfolding occurrences
+    apart-result q h g = omega (
+      arith,
+      h,
+      once,
+      inv .counts c,
+      occurs-first c [],
+      ap (λ (k : ℕ). occurrences k (Z ++ (named-by e (r ∷ []) ++ (hold ρ I ++ F)))) g,
+      occurrences-append c Z (named-by e (r ∷ []) ++ (hold ρ I ++ F)),
+    )
 
     pub still-filled : StandsFor υ (suc d) w x
     still-filled = stands-kept (P .filled) (λ q h.
@@ -75,6 +95,32 @@ module _ (C : Setting) (d : ℕ) (Z F R L I : List ℕ) (ρ : Frame) (δ : Env) 
     pub still-lent : (y : ℕ) → y ∈ L → Lent υ F (C .depths y) (ρ y) (δ y)
     still-lent y h = lent-kept Z F others-kept (λ q g. held-used inv q (in-append-right q (named-by e (r ∷ []))
         (hold ρ I ++ F) (in-append-right q (hold ρ I) F g))) (P .situation .lent y h)
+
+    -- once the result's cell is written, and it alone, what others hold is as it was
+    module _ {after : Store} (holds : Invariant after (c ∷ Z) (hold ρ I ++ F))
+        (alike : (q : ℕ) → q ≢ c → Alike υ after q) where
+      kept : (q : ℕ) → q ∈ (Z ++ (hold ρ I ++ F)) → Alike υ after q
+      kept q h = alike q (apart-result q (without-middle Z (named-by e (r ∷ [])) (hold ρ I ++ F) q h))
+
+      still-kept : Keeps υ after (Z ++ F)
+      still-kept = record { keep = λ q h. kept q (without-middle Z (hold ρ I) F q h) }
+
+      pub written-situation : Situation C after (c ∷ Z) F R L I [] ρ δ n
+      written-situation = record {
+        invariant = holds;
+        numbers = P .situation .numbers;
+        arrays = λ y h. stands-held ρ y I h (E .arrays y h)
+            (λ q g. kept q (in-append-right q Z (hold ρ I ++ F) (in-append-left q (hold ρ I) F g)))
+            (λ q g. held-used holds q (in-append-left q (hold ρ I) F g));
+        pending = λ y h. absurd (none-in y h);
+        lent = λ y h. lent-kept Z F still-kept (λ q g. held-used holds q (in-append-right q (hold ρ I) F g))
+            (still-lent y h);
+        room = P .situation .room;
+        rooted = P .situation .rooted;
+      }
+
+      pub written-keeps : Keeps σ after (Z ++ F)
+      written-keeps = keeps-trans (P .keeps) (keeps-trans others-kept still-kept)
 
   -- ---- a pass that puts nothing into the cell
 
@@ -105,19 +151,6 @@ module _ (C : Setting) (d : ℕ) (Z F R L I : List ℕ) (ρ : Frame) (δ : Env) 
     abbrev refs : List ℕ
     refs = named-by d (r ∷ []) ++ (hold ρ I ++ F)
 
-    -- the result is referred to nowhere else
-    other : (q : ℕ) → q ∈ (Z ++ refs) → q ≢ cell-of w
-    unfolding occurrences
-    other q h g = omega (
-      arith,
-      h,
-      once P E,
-      E .answered .invariant .counts (cell-of w),
-      occurs-first (cell-of w) [],
-      ap (λ (k : ℕ). occurrences k (Z ++ refs)) g,
-      occurrences-append (cell-of w) Z refs,
-    )
-
     deep : cell (s .store) (cell-of w) .depth ≡ d
     deep = array-depth (still-filled P E)
 
@@ -138,10 +171,6 @@ module _ (C : Setting) (d : ℕ) (Z F R L I : List ℕ) (ρ : Frame) (δ : Env) 
         (filling P E) small
         (λ q h. deep ∙ E .answered .stands .fits q (subst (λ (k : ℕ). q ∈ named-by k (r ∷ [])) deep h) .1)
 
-    -- what others hold is as it was
-    kept : (q : ℕ) → q ∈ (Z ++ (hold ρ I ++ F)) → Alike (s .store) after q
-    kept q h = appends .alike q (other q (without-middle Z (named-by d (r ∷ [])) (hold ρ I ++ F) q h))
-
     inner-kept : (q : ℕ) → q ∈ inner (cell (s .store) (cell-of w)) →
         Alike (s .store) after q × (d ≡ suc (cell (s .store) q .depth))
     inner-kept q h =
@@ -159,7 +188,7 @@ module _ (C : Setting) (d : ℕ) (Z F R L I : List ℕ) (ρ : Frame) (δ : Env) 
       | no g ↦
           let j : q ∈ named-by d (r ∷ []) =
           omega (arith, named-by-append q d (elements (cell (s .store) (cell-of w))) (r ∷ [])) in (
-            appends .alike q (other q (in-append-right q Z refs
+            appends .alike q (apart-result P E q (in-append-right q Z refs
                 (in-append-left q (named-by d (r ∷ [])) (hold ρ I ++ F) j))),
             E .answered .stands .fits q j .1,
           )
@@ -180,26 +209,12 @@ module _ (C : Setting) (d : ℕ) (Z F R L I : List ℕ) (ρ : Frame) (δ : Env) 
 
     pub pass-done : Passing σ (suc i) w (with-item x v) after
     pass-done = record {
-      situation = record {
-        invariant = appends .holds;
-        numbers = P .situation .numbers;
-        arrays = λ y h. stands-held ρ y I h (E .arrays y h)
-            (λ q g. kept q (in-append-right q Z (hold ρ I ++ F) (in-append-left q (hold ρ I) F g)))
-            (λ q g. held-used (appends .holds) q (in-append-left q (hold ρ I) F g));
-        pending = λ y h. absurd (none-in y h);
-        lent = λ y h. lent-kept Z F others
-            (λ q g. held-used (appends .holds) q (in-append-right q (hold ρ I) F g)) (still-lent P E y h);
-        room = P .situation .room;
-        rooted = P .situation .rooted;
-      };
+      situation = written-situation P E (appends .holds) (appends .alike);
       filled = cell-stands d w (with-item x v) value-now (omega (arith, once P E, appends .new .count))
           (appends .new .depth ∙ deep);
       size = one-longer;
-      keeps = keeps-trans (P .keeps) (keeps-trans (others-kept P E) others);
+      keeps = written-keeps P E (appends .holds) (appends .alike);
     }
-      where
-        others : Keeps (s .store) after (Z ++ F)
-        others = record { keep = λ q h. kept q (without-middle Z (hold ρ I) F q h) }
 
     pub pass-together : Together (C .start) (with-store s after (touching (s .store) (cell-of w))) m
     pass-together = touch-together (cell-of w) after (E .answered .invariant) (omega (arith, once P E)) (appends .free)
@@ -207,59 +222,35 @@ module _ (C : Setting) (d : ℕ) (Z F R L I : List ℕ) (ρ : Frame) (δ : Env) 
 
 -- ---- before the first pass and after the last
 
--- the array a is lent to the passes; the holds at the line's beginning are H
-module _ (C : Setting) (d : ℕ) (a : Atom) (B H : List ℕ) (reads : given C (a ∷ []) ⊆ (B ++ H)) where
-  abbrev others : List ℕ → Frame → List ℕ
-  others F ρ = hold ρ (kept-aside C a B H) ++ F
-
-  abbrev inside : List ℕ
-  inside = outer C a B H
-
-  module _ (n : ℕ) {σ : Store} {Z F R P : List ℕ} {ρ : Frame} {δ : Env} (S : Situation C σ Z F R B H P ρ δ (suc n))
-      (free : has-free σ ≡ true) (shallow : d ≤ 3) where
+module _ (C : Setting) (d : ℕ) {Z F R L I : List ℕ} {ρ : Frame} {δ : Env} where
+  -- a cell is reserved where a pass may begin
+  module _ (n : ℕ) {σ : Store} {P : List ℕ} (S : Situation C σ Z F R L I P ρ δ (suc n)) (free : has-free σ ≡ true)
+      (shallow : d ≤ 3) where
     abbrev began : Store
     began = acquired d [] σ
 
-    before : Invariant σ Z (hold ρ inside ++ others F ρ)
-    before = permute Z (hold ρ inside ++ others F ρ) (S .invariant) (λ k. refl)
-        (hold-aside ρ H (kept-aside C a B H) inside F (lend-split C a B H reads))
-
-    pub reserves : Reserves σ began d Z (hold ρ inside ++ others F ρ)
-    reserves = reserve d before free shallow
+    pub reserves : Reserves σ began d Z (hold ρ I ++ F)
+    reserves = reserve d (S .invariant) free shallow
 
     empty-value : value-of began (suc d) (pos (σ .first)) ≡ list []
     unfolding value-of cell-of
     empty-value = ap (λ (y : Cell). list (map (value-of began d) (elements y))) (reserves .new)
         ∙ ap (λ (l : List ℤ). list (map (value-of began d) l)) (filled-elements d [] (omega arith))
 
-    pub first-pass : (Q : List ℕ) → (C .start .frugal ≡ true → (Z ++ others F ρ) ⊆ Q) →
-        Passing C d Z (others F ρ) (Q ++ (σ .first ∷ [])) (lent-names C a B H) inside ρ δ n σ 0 (pos (σ .first))
-        (list []) began
+    pub first-pass : Passing C d Z F (R ++ (σ .first ∷ [])) L I ρ δ n σ 0 (pos (σ .first)) (list []) began
     unfolding cell-of
-    first-pass Q rooted = record {
+    first-pass = record {
       situation = record {
         invariant = reserves .holds;
         numbers = S .numbers;
-        arrays = λ y h. stands-held ρ y inside h (S .arrays y (less-in (kept-aside C a B H) H y h))
-            (λ q g. reserves .alike q (held-used before q (in-append-left q (hold ρ inside) (others F ρ) g)))
-            (λ q g. held-used (reserves .holds) q (in-append-left q (hold ρ inside) (others F ρ) g));
+        arrays = λ y h. stands-held ρ y I h (S .arrays y h)
+            (λ q g. reserves .alike q (held-used (S .invariant) q (in-append-left q (hold ρ I) F g)))
+            (λ q g. held-used (reserves .holds) q (in-append-left q (hold ρ I) F g));
         pending = λ y h. absurd (none-in y h);
-        lent = λ y h. lent-kept Z (others F ρ) kept
-            (λ q g. held-used (reserves .holds) q (in-append-right q (hold ρ inside) (others F ρ) g))
-            (lend C a B H reads (S .arrays) (S .lent) y h);
-        room = record {
-          few = λ k. omega (
-            arith,
-            S .room .few k,
-            hold-aside ρ H (kept-aside C a B H) inside F (lend-split C a B H reads) k,
-            one-more k (σ .first) Z,
-          );
-        };
-        rooted = λ f q h. elim (first-or-later q (σ .first) (Z ++ others F ρ) h) [
-          | inl e ↦ in-append-right q Q (σ .first ∷ [])
-              (subst (λ (k : ℕ). k ∈ (σ .first ∷ [])) (sym e) (occurs-first (σ .first) []))
-          | inr g ↦ in-append-left q Q (σ .first ∷ []) (rooted f q g)
-        ];
+        lent = λ y h. lent-kept Z F kept
+            (λ q g. held-used (reserves .holds) q (in-append-right q (hold ρ I) F g)) (S .lent y h);
+        room = record { few = λ k. omega (arith, S .room .few k, one-more k (σ .first) Z) };
+        rooted = λ f. one-root (σ .first) Z F R (S .rooted f);
       };
       filled = cell-stands d (pos (σ .first)) (list []) empty-value (rw (reserves .new) (filled-count d []))
           (ap (λ (y : Cell). y .depth) (reserves .new) ∙ filled-depth d []);
@@ -267,30 +258,70 @@ module _ (C : Setting) (d : ℕ) (a : Atom) (B H : List ℕ) (reads : given C (a
       keeps = kept;
     }
       where
-        kept : Keeps σ began (Z ++ others F ρ)
-        kept = keeps-fewer (Z ++ (hold ρ inside ++ others F ρ)) (Z ++ others F ρ)
-            (without-middle Z (hold ρ inside) (others F ρ)) (reserves .keeps)
+        kept : Keeps σ began (Z ++ F)
+        kept = keeps-fewer (Z ++ (hold ρ I ++ F)) (Z ++ F) (without-middle Z (hold ρ I) F) (reserves .keeps)
 
-  -- after the last pass the result is an array like any other, and the array's hold is back
-  pub passed-ended : {Z F R : List ℕ} {ρ : Frame} {δ : Env} {n i : ℕ} {σ : Store} {w : ℤ} {v : Value} {s : State}
-      {m : Meter} → Together (C .start) s m →
-      Passing C d Z (others F ρ) R (lent-names C a B H) inside ρ δ n σ i w v (s .store) →
-      Ended C (suc d) σ Z F H ρ δ n w s v m
+  -- after the last pass the result is an array like any other
+  pub filled-ended : {n i : ℕ} {σ : Store} {w : ℤ} {v : Value} {s : State} {m : Meter} → Together (C .start) s m →
+      Passing C d Z F R L I ρ δ n σ i w v (s .store) → Ended C (suc d) σ Z F I ρ δ n w s v m
   unfolding occurrences
-  passed-ended {Z} {F} {ρ = ρ} {w = w} {s = s} tog P = record {
-    answered = record {
-      together = tog;
-      invariant = permute Z (cell-of w ∷ (hold ρ H ++ F)) (commit (P .situation .invariant)) (λ k. refl)
-          (λ k. omega (arith, hold-aside ρ H (kept-aside C a B H) inside F (lend-split C a B H reads) k));
-      stands = P .filled;
-    };
+  filled-ended tog P = record {
+    answered = record { together = tog; invariant = commit (P .situation .invariant); stands = P .filled };
+    room = record { few = λ k. omega (arith, P .situation .room .few k) };
+    arrays = P .situation .arrays;
+    keeps = P .keeps;
+  }
+
+-- the array a is lent to the passes; the holds at the line's beginning are H
+module _ (C : Setting) (a : Atom) (B H : List ℕ) (reads : given C (a ∷ []) ⊆ (B ++ H)) where
+  abbrev others : List ℕ → Frame → List ℕ
+  others F ρ = hold ρ (kept-aside C a B H) ++ F
+
+  abbrev inside : List ℕ
+  inside = outer C a B H
+
+  -- the array's hold is with those of others
+  pub lending : {σ : Store} {Z F R P : List ℕ} {ρ : Frame} {δ : Env} {n : ℕ} (Q : List ℕ) →
+      (C .start .frugal ≡ true → (Z ++ others F ρ) ⊆ Q) → Situation C σ Z F R B H P ρ δ n →
+      Situation C σ Z (others F ρ) Q (lent-names C a B H) inside [] ρ δ n
+  lending {Z = Z} {F} {ρ = ρ} Q rooted S = record {
+    invariant = permute Z (hold ρ inside ++ others F ρ) (S .invariant) (λ k. refl)
+        (hold-aside ρ H (kept-aside C a B H) inside F (lend-split C a B H reads));
+    numbers = S .numbers;
+    arrays = λ y h. S .arrays y (less-in (kept-aside C a B H) H y h);
+    pending = λ y h. absurd (none-in y h);
+    lent = lend C a B H reads (S .arrays) (S .lent);
     room = record {
       few = λ k. omega (
         arith,
-        P .situation .room .few k,
+        S .room .few k,
         hold-aside ρ H (kept-aside C a B H) inside F (lend-split C a B H reads) k,
       );
     };
-    arrays = lend-back C a B H reads (P .situation .lent) (P .situation .arrays);
-    keeps = keeps-fewer (Z ++ others F ρ) (Z ++ F) (without-middle Z (hold ρ (kept-aside C a B H)) F) (P .keeps);
+    rooted = rooted;
   }
+
+  -- and back
+  pub lent-back : {e : ℕ} {σ : Store} {Z F : List ℕ} {ρ : Frame} {δ : Env} {n : ℕ} {w : ℤ} {s : State} {v : Value}
+      {m : Meter} → ((y : ℕ) → y ∈ lent-names C a B H → Lent (s .store) (others F ρ) (C .depths y) (ρ y) (δ y)) →
+      Ended C e σ Z (others F ρ) inside ρ δ n w s v m → Ended C e σ Z F H ρ δ n w s v m
+  lent-back {e} {Z = Z} {F} {ρ} {w = w} lent E = record {
+    answered = record {
+      together = E .answered .together;
+      invariant = permute Z (named-by e (w ∷ []) ++ (hold ρ H ++ F)) (E .answered .invariant) (λ k. refl)
+          (λ k. sym (same k));
+      stands = E .answered .stands;
+    };
+    room = record { few = λ k. omega (arith, E .room .few k, same k) };
+    arrays = lend-back C a B H reads lent (E .arrays);
+    keeps = keeps-fewer (Z ++ others F ρ) (Z ++ F) (without-middle Z (hold ρ (kept-aside C a B H)) F) (E .keeps);
+  }
+    where
+      same : (k : ℕ) → occurrences k (named-by e (w ∷ []) ++ (hold ρ H ++ F)) ≡
+          occurrences k (named-by e (w ∷ []) ++ (hold ρ inside ++ others F ρ))
+      same k = omega (
+        arith,
+        occurrences-append k (named-by e (w ∷ [])) (hold ρ H ++ F),
+        occurrences-append k (named-by e (w ∷ [])) (hold ρ inside ++ others F ρ),
+        hold-aside ρ H (kept-aside C a B H) inside F (lend-split C a B H reads) k,
+      )

@@ -96,7 +96,7 @@ module _ (C : Setting) {x p : ℕ} {a : Atom} {t : Tree} {B : List ℕ} {T A : S
   element-depth : C .depths p ≡ d
   element-depth = sym (ap pred (fits .1 ∙ site .array))
 
-  filter-fills : Fills C x filtering (p ∷ []) (a ∷ []) t a p B T A H P Δ d
+  pub filter-fills : Fills C x filtering (p ∷ []) (a ∷ []) t a p B T A H P Δ d
   filter-fills = record {
     site = site;
     claim = claim;
@@ -131,7 +131,7 @@ module _ (C : Setting) {x p : ℕ} {a : Atom} {t : Tree} {B : List ℕ} {T A : S
       abbrev meant-element : Value
       meant-element = getD (items (value δ a)) i (num (pos 0))
 
-      words-same : words-of (s .store) array ≡ words-of τ array
+      pub words-same : words-of (s .store) array ≡ words-of τ array
       words-same = agree-elements (cell (s .store) (cell-of array)) (cell τ (cell-of array))
           (E .keeps .keep (cell-of array) (in-append-right (cell-of array) (cell-of w ∷ Z) O
           (lent-cell C a B (start-holds C filter-fills) (between .situation .lent) (rules .fits .0 .deep)))
@@ -151,7 +151,7 @@ module _ (C : Setting) {x p : ℕ} {a : Atom} {t : Tree} {B : List ℕ} {T A : S
       named h = subst (λ (ws : List ℤ). cell-of (getD ws i (pos 0)) ∈ all-inner (s .store .cells)) words-same
           (item .named (omega (arith, h, element-depth)))
 
-      kept : Ended C d τ (cell-of w ∷ Z) O I ρ δ n element (retained-array d element s) meant-element m
+      pub kept : Ended C d τ (cell-of w ∷ Z) O I ρ δ n element (retained-array d element s) meant-element m
       kept = element-kept C d E (room-less (suc n) (between .situation .room) (omega arith)) element meant-element
           stands named
 
@@ -176,7 +176,7 @@ module _ (C : Setting) {x p : ℕ} {a : Atom} {t : Tree} {B : List ℕ} {T A : S
     unfolding work-pass do-pass
     filter-pass grows need σ i w v s m within q =
         filling-pass C filter-fills Z F ρ δ (suc (tree-adds t)) n grows R (omega arith) need
-        (λ e r. require (is-answer r) 28 >> Machine.carried-on filtering d w e r)
+        (λ e r. require (is-answer r) 28 >> Machine.carried-on filtering d array i w e r)
         (λ r. require (is-answer (number-in r)) 28 >>
         give (Meaning.carried-on filtering v (getD (items (value δ a)) i (num (pos 0))) r))
         (λ r. bind-grows (require-grows (is-answer (number-in r)) 28) (λ _. give-grows _)) within q
@@ -189,7 +189,7 @@ module _ (C : Setting) {x p : ℕ} {a : Atom} {t : Tree} {B : List ℕ} {T A : S
 
 module _ (C : Setting) (grows : CalleeGrows (C .meant)) where
   filter-line : (x p : ℕ) (a : Atom) (t : Tree) → TreeClaim C t → LineClaim C (loop x filtering (p ∷ []) (a ∷ []) t)
-  unfolding work-line run-line do-loop line-adds cell-of less
+  unfolding work-line run-line do-loop line-adds cell-of less onward
   filter-line x p a t claim B T A H P Δ rules Z F R ρ δ n s m tog S need =
       filling-line C (filter-fills C rules claim) Z F ρ δ (suc (tree-adds t)) n R _ _
       (pass-grows filtering _ (λ vs. tree-grows (C .meant) grows t _)) shallow

@@ -3,16 +3,17 @@ use Prim.Native.Nat.{ℕ, zero, suc, _<_, _≤_, pred}
 use native.Mathlib.Omega.{arith}
 use mathlib.Core.Option.{some}
 use mathlib.Core.Path.{_≡_, refl, sym, ap}
+use mathlib.Core.Bool.{_&&_}
 use mathlib.Core.List.{List, [], _∷_, map}
 use lib.ListN.{getD}
 use lib.Dec.{eqb, leb}
 use borrow.Author.Tests.{eqb-true, leb-true}
-use Rattle.semantics.specs.Kinds.{mapping, filtering, reducing}
+use Rattle.semantics.specs.Kinds.{mapping, filtering, reducing, rewriting}
 use Rattle.semantics.specs.Types.{some-if, all-are, same, call-rule, literal-rule, index-rule, length-rule}
 use Rattle.semantics.specs.Types.{replicate-rule, loop-rule, Signature}
 use Rattle.semantics.specs.Code.{Atom}
 use Rattle.semantics.specs.Annotate.{atom-depth}
-use Rattle.laws.specs.Tests.{some-same, not-some, some-if-holds, all-equal, same-lists}
+use Rattle.laws.specs.Tests.{both-hold, some-same, not-some, some-if-holds, all-equal, same-lists}
 use Rattle.soundness.specs.machine.Frames.{Setting}
 use Rattle.soundness.specs.machine.Atoms.{AllOfDepth}
 
@@ -74,6 +75,12 @@ pub reduce-fits : (s a e d : ℕ) → loop-rule reducing (s ∷ (a ∷ (e ∷ []
 reduce-fits s a e d h =
     let holds = some-if-holds (eqb s e) s d h in
     (eqb-true s e (holds .0), sym (holds .1))
+
+pub rewrite-fits : (a e d : ℕ) → loop-rule rewriting (a ∷ (e ∷ [])) ≡ some d → (a ≡ 1) × (e ≡ 0) × (d ≡ 1)
+rewrite-fits a e d h =
+    let holds = some-if-holds (eqb a 1 && eqb e 0) 1 d h in
+    let both = both-hold (eqb a 1) (eqb e 0) (holds .0) in
+    (eqb-true a 1 (both .0), eqb-true e 0 (both .1), sym (holds .1))
 
 -- the name of an element, over an array of this depth
 pub element-fits : (p a : ℕ) → p ≡ pred a → 0 < a → a ≡ suc p

@@ -1,29 +1,31 @@
--- The lines that retain and release.
-use Prim.Native.Nat.{ℕ, suc, _+_, _<_}
+-- The lines that retain and release, and a reference of others that is released.
+use Prim.Native.Nat.{ℕ, suc, _+_, _<_, _≤_}
 use native.Mathlib.Omega.{arith}
-use mathlib.Core.Path.{refl, sym, subst}
+use mathlib.Core.Path.{_≡_, refl, sym, subst}
 use mathlib.Core.Logic.{inl, inr}
 use mathlib.Core.List.{List, [], _∷_, _++_}
-use Rattle.semantics.specs.Basics.{_∈_}
+use lib.IntN.{ℤ}
+use Rattle.semantics.specs.Basics.{occurrences, _∈_}
 use Rattle.semantics.specs.Outcome.{onward}
+use Rattle.semantics.specs.Value.{Value}
 use Rattle.semantics.specs.Code.{retain, release}
-use Rattle.semantics.specs.Meaning.{Env}
-use Rattle.semantics.specs.Machine.{Frame, with-store, release-events, work-line, retain-word, release-word}
-use Rattle.semantics.specs.Store.{Store, cell, cell-of, retained, released, deepest}
+use Rattle.semantics.specs.Meaning.{Meter, Env}
+use Rattle.semantics.specs.Machine.{State, Frame, with-store, release-events, work-line, retain-word, release-word}
+use Rattle.semantics.specs.Store.{Store, cell, cell-of, named-by, retained, released, deepest}
 use Rattle.laws.specs.Levels.{release-no-higher}
 use Rattle.soundness.specs.normal.Plain.{run-line}
 use Rattle.soundness.specs.store.Invariant.{Invariant, Keeps, StandsFor}
 use Rattle.soundness.specs.store.Counting.{in-append-left, in-append-right, append-cases}
 use Rattle.soundness.specs.store.Change.{permute, held-used}
-use Rattle.soundness.specs.store.Kept.{keeps-fewer}
+use Rattle.soundness.specs.store.Kept.{keeps-trans, keeps-fewer, stands-kept}
 use Rattle.soundness.specs.store.Retain.{Retains}
 use Rattle.soundness.specs.store.Retain as Store-retain
 use Rattle.soundness.specs.store.Release.{Releases, releases-keep}
 use Rattle.soundness.specs.store.Release as Store-release
-use Rattle.laws.specs.Lists.{_≈_}
+use Rattle.laws.specs.Lists.{_≈_, occurrences-append}
 use Rattle.soundness.specs.machine.Images.{without-middle, first-or-later}
 use Rattle.soundness.specs.machine.Agreement.{both, with-store-together}
-use Rattle.soundness.specs.machine.Frames.{hold, Setting, Situation}
+use Rattle.soundness.specs.machine.Frames.{hold, Setting, Situation, Ended}
 use Rattle.soundness.specs.machine.Standing.{none-in, stands-held, hold-split, readable, name-held, lent-kept}
 use Rattle.soundness.specs.machine.Retaining.{Counted}
 use Rattle.soundness.specs.machine.Size.{line-adds}
@@ -132,3 +134,59 @@ module _ (C : Setting) where
 
       kept : Keeps σ (released deepest c σ) (Z ++ F)
       kept = keeps-fewer (Z ++ (hold ρ H′ ++ F)) (Z ++ F) (without-middle Z (hold ρ H′) F) keeps
+
+-- ---- what others hold
+
+-- the state once the cell c is released
+abbrev pub released-state : ℕ → State → State
+released-state c s = with-store s (released deepest c (s .store)) (release-events deepest c (s .store))
+
+-- a reference of others is released after a tree
+pub ended-released : (C : Setting) {e : ℕ} {σ : Store} {Z F Δ : List ℕ} {ρ : Frame} {δ : Env} {n : ℕ} {w : ℤ}
+    {s : State} {v : Value} {m : Meter} (c : ℕ) → Ended C e σ Z (c ∷ F) Δ ρ δ n w s v m →
+    Ended C e σ Z F Δ ρ δ n w (released-state c s) v m
+unfolding with-store occurrences
+ended-released C {e} {Z = Z} {F} {Δ} {ρ} {w = w} {s} c E = record {
+  answered = record {
+    together = with-store-together (released deepest c (s .store)) (release-events deepest c (s .store))
+        (release-no-higher deepest c (s .store)) (r .untouched) (r .replays) (r .cells) (E .answered .together);
+    invariant = r .holds;
+    stands = stands-kept (E .answered .stands) (λ q h.
+        let i = in-append-left q (named-by e (w ∷ [])) (hold ρ Δ ++ F) h in
+        (keeps .keep q (in-append-right q Z others i), held-used (r .holds) q i));
+  };
+  room = record { few = λ q. omega (arith, E .room .few q, same q, one-fewer q) };
+  arrays = λ y h. stands-held ρ y Δ h (E .arrays y h)
+      (λ q g. keeps .keep q (in-append-right q Z others (among-others q g)))
+      (λ q g. held-used (r .holds) q (among-others q g));
+  keeps = keeps-trans (keeps-fewer (Z ++ (c ∷ F)) (Z ++ F) (without-middle Z (c ∷ []) F) (E .keeps))
+      (keeps-fewer (Z ++ others) (Z ++ F) (λ q h. without-middle Z (named-by e (w ∷ [])) (hold ρ Δ ++ F) q
+      (without-middle Z (hold ρ Δ) F q h)) keeps);
+}
+  where
+    others : List ℕ
+    others = named-by e (w ∷ []) ++ (hold ρ Δ ++ F)
+
+    among-others : (q : ℕ) → q ∈ hold ρ Δ → q ∈ others
+    among-others q g = in-append-right q (named-by e (w ∷ [])) (hold ρ Δ ++ F) (in-append-left q (hold ρ Δ) F g)
+
+    same : (q : ℕ) → occurrences q (named-by e (w ∷ []) ++ (hold ρ Δ ++ (c ∷ F))) ≡ occurrences q (c ∷ others)
+    same q = omega (
+      arith,
+      occurrences-append q (named-by e (w ∷ [])) (hold ρ Δ ++ (c ∷ F)),
+      occurrences-append q (hold ρ Δ) (c ∷ F),
+      occurrences-append q (named-by e (w ∷ [])) (hold ρ Δ ++ F),
+      occurrences-append q (hold ρ Δ) F,
+    )
+
+    one-fewer : (q : ℕ) → occurrences q others ≤ occurrences q (c ∷ others)
+    one-fewer q = omega arith
+
+    before : Invariant (s .store) Z (c ∷ others)
+    before = permute Z (c ∷ others) (E .answered .invariant) (λ q. refl) same
+
+    r : Releases (s .store) (released deepest c (s .store)) (release-events deepest c (s .store)) Z others
+    r = Store-release.release c before
+
+    keeps : Keeps (s .store) (released deepest c (s .store)) (Z ++ others)
+    keeps = releases-keep before r

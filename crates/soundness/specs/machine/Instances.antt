@@ -1,17 +1,19 @@
--- A small program that is disciplined: main(t: 1, r: 1): 1 = map (p in r) p + size(r); size(a: 1): 0 = length(a). Its
--- map lends r to its tree, which lends it to `size`, which borrows it.
+-- Two small programs that are disciplined. The first is main(t: 1, r: 1): 1 = map (p in r) p + size(r);
+-- size(a: 1): 0 = length(a). Its map lends r to its tree, which lends it to `size`, which borrows it. The second is
+-- main(t: 1, r: 1): 1 = map (p in r) p + 1, whose map rewrites r.
 use Prim.Native.Nat.{ℕ, zero, suc, _<_, _≤_}
 use native.Mathlib.Omega.{arith}
 use mathlib.Core.Path.{_≡_, refl}
 use mathlib.Core.Bool.{true, false}
 use mathlib.Core.List.{[], _∷_}
+use lib.IntN.{pos}
 use lib.Dec.{eqb, ltb}
 use lib.ListN.{getD}
 use Rattle.semantics.specs.Basics.{occurrences}
 use Rattle.semantics.specs.Number.{sum}
-use Rattle.semantics.specs.Kinds.{operation, call, length-of, mapping}
+use Rattle.semantics.specs.Kinds.{operation, call, length-of, mapping, rewriting}
 use Rattle.semantics.specs.Types.{Signature}
-use Rattle.semantics.specs.Code.{name, leaf, loop, release, Tree, end, line, ending}
+use Rattle.semantics.specs.Code.{number, name, leaf, loop, release, Tree, end, line, ending}
 use Rattle.semantics.specs.Live.{Set, _∪_, just, live, among}
 use Rattle.semantics.specs.Annotate.{NameDepths, is-array}
 use Rattle.semantics.specs.Machine.{Routine, Program, routine-of}
@@ -73,6 +75,11 @@ pass-holds : Holding (small .borrowing) depths (1 ∷ []) pass [] [] []
 unfolding less without occurrences left-by
 pass-holds = (((λ n. omega arith), λ n h. h), (((λ n. omega arith), λ n h. absurd (omega arith)), λ n. refl))
 
+given : (i : ℕ) → i < 2 → depths i ≡ getD (1 ∷ (1 ∷ [])) i 0
+given zero h = refl
+given (suc zero) h = refl
+given (suc (suc i)) h = absurd (omega arith)
+
 main-disciplined : FunctionDisciplined small 0
 unfolding ending without less unlent left-by arrays-at occurrences
 main-disciplined = record {
@@ -90,11 +97,6 @@ main-disciplined = record {
   );
   holds = (omega arith, (((λ n. omega arith), (λ n h. h), pass-holds), (omega arith, λ n. refl)));
 }
-  where
-    given : (i : ℕ) → i < 2 → depths i ≡ getD (1 ∷ (1 ∷ [])) i 0
-    given zero h = refl
-    given (suc zero) h = refl
-    given (suc (suc i)) h = absurd (omega arith)
 
 -- its parameter is lent and holds nothing
 size-disciplined : FunctionDisciplined small 1
@@ -158,3 +160,83 @@ pub small-frugal : ProgramFrugal small
 small-frugal zero h = main-frugal
 small-frugal (suc zero) h = size-frugal
 small-frugal (suc (suc f)) h = absurd (omega (arith, h))
+
+-- ---- a map that rewrites its array
+
+abbrev raised : Tree
+raised = line (leaf 4 (operation sum) (name 3 ∷ (number (pos 1) ∷ []))) (end (name 4))
+
+-- it hands the array over, so that no release follows
+abbrev rewriting-body : Tree
+rewriting-body = line (release 0) (line (loop 2 rewriting (3 ∷ []) (name 1 ∷ []) raised) (end (name 2)))
+
+abbrev rewriter : Program
+rewriter = record {
+  routines = record { tree = rewriting-body; depths = depths } ∷ [];
+  signatures = λ f. shape;
+  borrowing = λ f i. false;
+  depth = 1;
+}
+
+rewriter-main : FunctionDisciplined rewriter 0
+unfolding ending without less unlent left-by arrays-at occurrences
+rewriter-main = record {
+  parameters = given;
+  fits = (
+    omega arith,
+    (
+      (
+        record { limits = refl; deep = omega arith; names = refl; gives = refl },
+        (record { limits = refl; calls = refl; gives = refl }, refl),
+      ),
+      refl,
+    ),
+  );
+  scoped = (
+    refl,
+    (
+      (
+        (refl, tt),
+        new 2 _ refl (omega arith),
+        (new 3 _ refl (omega arith), tt),
+        (((refl, (tt, tt)), new 4 _ refl (omega arith)), refl),
+      ),
+      refl,
+    ),
+  );
+  holds = (
+    omega arith,
+    (
+      (
+        (λ n. omega arith),
+        (λ n h. absurd (omega arith)),
+        (((λ n. omega arith), λ n h. absurd (omega arith)), λ n. refl),
+      ),
+      λ n. refl,
+    ),
+  );
+}
+
+pub rewriter-disciplined : ProgramDisciplined rewriter
+unfolding tree-adds
+rewriter-disciplined = record {
+  functions = λ f h. one f h;
+  short = λ f h. few f h;
+  some = omega arith;
+  owns = λ i. refl;
+  takes = refl;
+  gives = refl;
+}
+  where
+    one : (f : ℕ) → f < 1 → FunctionDisciplined rewriter f
+    one zero h = rewriter-main
+    one (suc f) h = absurd (omega (arith, h))
+
+    few : (f : ℕ) → f < 1 → tree-adds (routine-of rewriter f .tree) ≤ call-adds
+    few zero h = omega arith
+    few (suc f) h = absurd (omega (arith, h))
+
+pub rewriter-frugal : ProgramFrugal rewriter
+unfolding without less unlent left-by arrays-at occurrences live among
+rewriter-frugal zero h = (tt, ((one-name 1 _ refl (omega arith) refl, ((no-name _, no-name _), tt)), tt))
+rewriter-frugal (suc f) h = absurd (omega (arith, h))

@@ -67,14 +67,15 @@ module _ (C : Setting) {x p : ℕ} {a : Atom} {t : Tree} {B : List ℕ} {T A : S
   unfolding work-pass do-pass append-word onward require
   map-pass grows Z F R ρ δ n need σ i w v s m within q =
       filling-pass C map-fills Z F ρ δ (tree-adds t) n grows R (omega arith) need
-      (λ e r. require true 28 >> Machine.carried-on mapping d w e r) (λ r. require true 28 >> give (with-item v r))
+      (λ e r. require true 28 >> Machine.carried-on mapping d (word ρ a) i w e r)
+      (λ r. require true 28 >> give (with-item v r))
       (λ r. bind-grows (require-grows true 28) (λ _. give-grows (with-item v r))) within q
       (λ τ r s′ y m′ between item E.
       both (put-behind C map-fills Z F ρ δ (tree-adds t) n between (item .few) (ended-depth C given-depth E)))
 
 module _ (C : Setting) (grows : CalleeGrows (C .meant)) where
   map-line : (x p : ℕ) (a : Atom) (t : Tree) → TreeClaim C t → LineClaim C (loop x mapping (p ∷ []) (a ∷ []) t)
-  unfolding work-line run-line do-loop line-adds cell-of
+  unfolding work-line run-line do-loop line-adds cell-of onward
   map-line x p a t claim B T A H P Δ rules Z F R ρ δ n s m tog S need =
       filling-line C (map-fills C rules claim) Z F ρ δ (tree-adds t) n R _ _
       (pass-grows mapping _ (λ vs. tree-grows (C .meant) grows t _)) (shallow C rules claim)

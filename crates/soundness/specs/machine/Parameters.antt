@@ -23,11 +23,11 @@ use Rattle.soundness.specs.machine.Frames.{hold, named-all, Arguments, n
 use Rattle.soundness.specs.machine.Standing.{none-in, number-stands, stands-number, hold-updated}
 
 -- the depths of the parameters from name n on
-unfoldable depths-from : List ℕ → ℕ → ℕ → ℕ
+unfoldable pub depths-from : List ℕ → ℕ → ℕ → ℕ
 depths-from [] n = λ _. 0
 depths-from (d ∷ ds) n = updated (depths-from ds (suc n)) n d
 
-depths-at : (ds : List ℕ) (n i : ℕ) → depths-from ds n (n + i) ≡ getD ds i 0
+pub depths-at : (ds : List ℕ) (n i : ℕ) → depths-from ds n (n + i) ≡ getD ds i 0
 unfolding depths-from
 depths-at [] n i = refl
 depths-at (d ∷ ds) n zero = ap (updated (depths-from ds (suc n)) n d) (omega arith) ∙ updated-same

@@ -109,7 +109,7 @@ module _ (C : Setting) (a : Atom) (B H : List ℕ) where
   once true x n = elim (hits n x) [ inl g ↦ omega (arith, g .1) | inr g ↦ omega (arith, g .1) ]
   once false x n = omega arith
 
-  given-few : (a : Atom) (n : ℕ) → occurrences n (given C (a ∷ [])) ≤ 1
+  pub given-few : (a : Atom) (n : ℕ) → occurrences n (given C (a ∷ [])) ≤ 1
   unfolding occurrences
   given-few (number z) n = omega arith
   given-few (name x) n = once (is-array (C .depths) x) x n

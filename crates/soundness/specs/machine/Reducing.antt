@@ -68,34 +68,34 @@ module _ (C : Setting) {x q p : ℕ} {b a : Atom} {t : Tree} {B : List ℕ} {T A
   abbrev after : Set
   after = after-pass x (q ∷ (p ∷ [])) t A
 
-  fits : (atom-depth (C .depths) b ≡ atom-depth (C .depths) (ending t)) × (C .depths x ≡ atom-depth (C .depths) b)
+  pub fits : (atom-depth (C .depths) b ≡ atom-depth (C .depths) (ending t)) × (C .depths x ≡ atom-depth (C .depths) b)
   fits = reduce-fits (atom-depth (C .depths) b) (atom-depth (C .depths) a) (atom-depth (C .depths) (ending t))
       (C .depths x) (rules .fits .0 .gives)
 
-  start-depth : atom-depth (C .depths) b ≡ d
+  pub start-depth : atom-depth (C .depths) b ≡ d
   start-depth = sym (first-same (rules .fits .0 .names))
 
-  tree-depth : atom-depth (C .depths) (ending t) ≡ d
+  pub tree-depth : atom-depth (C .depths) (ending t) ≡ d
   tree-depth = sym (fits .0) ∙ start-depth
 
-  result-depth : d ≡ C .depths x
+  pub result-depth : d ≡ C .depths x
   result-depth = sym start-depth ∙ sym (fits .1)
 
-  site : Site C x reducing (q ∷ (p ∷ [])) (b ∷ (a ∷ [])) t a p B T A H P Δ
+  pub site : Site C x reducing (q ∷ (p ∷ [])) (b ∷ (a ∷ [])) t a p B T A H P Δ
   site = loop-site C rules refl refl (second-same (rules .fits .0 .names)) (rules .fits .0 .deep)
 
   split : H ≈ given C (b ∷ []) ++ H′
   split = spend-split (given C (b ∷ [])) H (rules .holds .0)
 
-  tree-rules : TreeRules C t L (T ∪ just (q ∷ (p ∷ []))) after (own C q ++ I) (own C p) I
+  pub tree-rules : TreeRules C t L (T ∪ just (q ∷ (p ∷ []))) after (own C q ++ I) (own C p) I
       (atom-depth (C .depths) (ending t))
   tree-rules = subst (λ (l : List ℕ). TreeRules C t L (T ∪ just (q ∷ (p ∷ []))) after (l ++ I) (own C p) I
       (atom-depth (C .depths) (ending t))) (append-nil (own C q)) (site-tree C site)
 
-  new-carried : Fresh q L I I
+  pub new-carried : Fresh q L I I
   new-carried = fresh q (rules .scoped .2 .0 .unknown) (site-names C site)
 
-  new-element : Fresh p L (own C q ++ I) I
+  pub new-element : Fresh p L (own C q ++ I) I
   new-element = fresh p (rules .scoped .2 .1 .0 .unknown) (names-bound C q (site-names C site))
 
   -- at the line's beginning; n references more may come after it
@@ -111,7 +111,7 @@ module _ (C : Setting) {x q p : ℕ} {b a : Atom} {t : Tree} {B : List ℕ} {T A
     abbrev Carried : ℤ → State → Value → Meter → Type 0
     Carried w s v m = Ended C d σ Z others I ρ δ (tree-adds t + n) w s v m
 
-    lent-before : (y : ℕ) → y ∈ L → Lent σ others (C .depths y) (ρ y) (δ y)
+    pub lent-before : (y : ℕ) → y ∈ L → Lent σ others (C .depths y) (ρ y) (δ y)
     lent-before = lend C a B H′ (site-reads C site) (λ y h. S .arrays y (less-in (given C (b ∷ [])) H y h)) (S .lent)
 
     rooted : C .start .frugal ≡ true → (Z ++ others) ⊆ (roots ++ [])
@@ -153,7 +153,7 @@ module _ (C : Setting) {x q p : ℕ} {b a : Atom} {t : Tree} {B : List ℕ} {T A
 
     -- ---- before the first pass
 
-    first-carried : {s : State} {m : Meter} → s .store ≡ σ → Together (C .start) s m →
+    pub first-carried : {s : State} {m : Meter} → s .store ≡ σ → Together (C .start) s m →
         Carried (word ρ b) s (value δ b) m
     first-carried {s} {m} e tog = record {
       answered = record {
@@ -172,20 +172,20 @@ module _ (C : Setting) {x q p : ℕ} {b a : Atom} {t : Tree} {B : List ℕ} {T A
 
     -- ---- a pass
 
-    lent-now : {w : ℤ} {s : State} {v : Value} {m : Meter} → Carried w s v m →
+    pub lent-now : {w : ℤ} {s : State} {v : Value} {m : Meter} → Carried w s v m →
         (y : ℕ) → y ∈ L → Lent (s .store) others (C .depths y) (ρ y) (δ y)
     lent-now {w = w} E y h = lent-kept Z others (E .keeps) (λ r g. held-used (E .answered .invariant) r
         (in-append-right r (named-by d (w ∷ [])) (hold ρ I ++ others)
         (in-append-right r (hold ρ I) others g))) (lent-before y h)
 
     -- before a pass's tree, once the running value is bound
-    record Bound (w : ℤ) (v : Value) (τ : Store) : Type 0 where
+    pub record Bound (w : ℤ) (v : Value) (τ : Store) : Type 0 where
       pub situation : Situation C τ Z others (roots ++ []) L (own C q ++ I) [] (updated ρ q w) (updated δ q v)
           (tree-adds t + n)
       pub array : StandsFor τ (suc (C .depths p)) (word ρ a) (value δ a)
       pub keeps : Keeps σ τ (Z ++ others)
 
-    bound : {w : ℤ} {s : State} {v : Value} {m : Meter} → Carried w s v m → Bound w v (s .store)
+    pub bound : {w : ℤ} {s : State} {v : Value} {m : Meter} → Carried w s v m → Bound w v (s .store)
     bound E = record {
       situation = bound-situation C (roots ++ []) L (new-carried .lent) (new-carried .before) (S .numbers) lent-before
           rooted E;
@@ -194,7 +194,7 @@ module _ (C : Setting) {x q p : ℕ} {b a : Atom} {t : Tree} {B : List ℕ} {T A
     }
 
     -- what its tree gives is carried on
-    given-on : {w r : ℤ} {s : State} {v y : Value} {m : Meter} {τ : Store} → Bound w v τ →
+    pub given-on : {w r : ℤ} {s : State} {v y : Value} {m : Meter} {τ : Store} → Bound w v τ →
         Ended C (atom-depth (C .depths) (ending t)) τ Z others I (updated ρ q w) (updated δ q v) n r s y m →
         Carried r s y m
     given-on {w} {r} {v = v} now E =
@@ -213,7 +213,7 @@ module _ (C : Setting) {x q p : ℕ} {b a : Atom} {t : Tree} {B : List ℕ} {T A
     reduce-pass grows claim need i w v s m within E =
         pass-begins C grows p claim tree-rules new-element Z others (roots ++ []) (updated ρ q w) (updated δ q v) n need
         (word ρ a) (value δ a) (Bound w v) (λ τ B′. B′ .situation) (λ τ B′. B′ .array)
-        (λ e r. require true 28 >> Machine.carried-on reducing (pred (C .depths x)) w e r)
+        (λ e r. require true 28 >> Machine.carried-on reducing (pred (C .depths x)) (word ρ a) i w e r)
         (λ r. require true 28 >> give r) (λ r. bind-grows (require-grows true 28) (λ _. give-grows r)) within
         (E .answered .together)
         (bound E) (λ τ r s′ y m′ B′ item E′. both (given-on B′ E′))

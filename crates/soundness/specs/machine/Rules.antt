@@ -10,8 +10,8 @@ use mathlib.Core.List.{List, [], _∷_, _++_}
 use lib.Dec.{eqb}
 use borrow.Author.Tests.{eq-eqb}
 use Rattle.semantics.specs.Basics.{occurrences, _∈_}
-use Rattle.semantics.specs.Kinds.{Loop, mapping, filtering, reducing, leaf-hands, loop-hands, loop-reads, element-name}
-use Rattle.semantics.specs.Kinds.{is-pending}
+use Rattle.semantics.specs.Kinds.{Loop, mapping, filtering, reducing, rewriting, leaf-hands, loop-hands, loop-reads}
+use Rattle.semantics.specs.Kinds.{element-name, is-pending}
 use Rattle.semantics.specs.Code.{Atom, Line, leaf, if-else, loop, retain, release, Tree, line, ending}
 use Rattle.semantics.specs.Live.{Set, _∪_, only, just, live, after-branch, after-pass}
 use Rattle.semantics.specs.Annotate.{atom-depth}
@@ -233,6 +233,7 @@ module _ (C : Setting) where
       | yes e ↦ or-left (eqb p n) (just ps n) (eq-eqb p n (sym e))
       | no e ↦ absurd (none-in n (hold-of-other C p n [] e h))
     ]
+    carried-known rewriting ps n h = absurd (none-in n h)
 
     pub pass-rules : TreeRules t (pass-lent (C .depths) B k us) (S ∪ just ps) (after-pass x ps t A)
         (pass-holds (C .depths) B k ps us H) (holds-of (C .depths) (element-name k ps))

@@ -26,7 +26,7 @@ unfoldable mutual
   line-adds (if-else x g t e) = 1 + tree-adds t + tree-adds e
   line-adds (loop x k ps us t) = 2 + tree-adds t
   line-adds (retain x) = 1
-  line-adds (release x) = 1
+  line-adds (release x) = 0
 
 mutual
   unfolding tree-adds rows

@@ -4,7 +4,7 @@ use native.Mathlib.Omega.{arith}
 use mathlib.Core.Path.{_≡_, ap, _∙_}
 use mathlib.Core.List.{List, [], _∷_, _++_}
 use Rattle.semantics.specs.Basics.{occurrences}
-use Rattle.semantics.specs.Kinds.{Leaf, Loop, mapping, filtering, reducing}
+use Rattle.semantics.specs.Kinds.{Leaf, Loop, mapping, filtering, reducing, rewriting}
 use Rattle.semantics.specs.Code.{Atom, Line, leaf, if-else, loop, retain, release, Tree, end, line}
 use Rattle.semantics.specs.Live.{live}
 use Rattle.semantics.specs.Machine.{word, work}
@@ -30,6 +30,7 @@ use Rattle.soundness.specs.machine.Branches.{line-if}
 use Rattle.soundness.specs.machine.Mapping.{line-mapping}
 use Rattle.soundness.specs.machine.Filtering.{line-filtering}
 use Rattle.soundness.specs.machine.Reducing.{line-reducing}
+use Rattle.soundness.specs.machine.Rewriting.{line-rewriting}
 
 module _ (C : Setting) where
   -- a tree's end hands its atom over
@@ -76,6 +77,7 @@ module _ (C : Setting) where
     line-loop x mapping ps us t claim = line-mapping C grows x ps us t claim
     line-loop x filtering ps us t claim = line-filtering C grows x ps us t claim
     line-loop x reducing ps us t claim = line-reducing C grows x ps us t claim
+    line-loop x rewriting ps us t claim = line-rewriting C grows x ps us t claim
 
     module _ (leaves : (l : Leaf) → LeafClaim C l) where
       mutual

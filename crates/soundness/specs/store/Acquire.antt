@@ -30,7 +30,7 @@ pub filled-elements : (d : ℕ) (ws : List ℤ) → length ws ≤ 16 → element
 unfolding filled elements
 filled-elements d ws h = take-padded ws h
 
-filled-inner : (d : ℕ) (ws : List ℤ) → length ws ≤ 16 → inner (filled d ws) ≡ named-by d ws
+pub filled-inner : (d : ℕ) (ws : List ℤ) → length ws ≤ 16 → inner (filled d ws) ≡ named-by d ws
 unfolding filled inner
 filled-inner d ws h = ap (named-by d) (filled-elements d ws h)
 

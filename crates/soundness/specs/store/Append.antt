@@ -32,7 +32,7 @@ pub record Wider (x y : Cell) (w : ℤ) : Type 0 where
   pub elements : elements y ≡ elements x ++ (w ∷ [])
   pub tidy : Tidy y
 
-widened : (x : Cell) (w : ℤ) → x .size < 16 → Tidy x → Wider x (wider x w) w
+pub widened : (x : Cell) (w : ℤ) → x .size < 16 → Tidy x → Wider x (wider x w) w
 unfolding elements
 widened x w h t = rw (wider-is x w h) (record {
   count = refl;

@@ -25,7 +25,6 @@ use Rattle.machine_code.proofs.line_at.Reads as line-at-reads
 use Rattle.machine_code.proofs.start_in.Reads as start-in-reads
 use Rattle.machine_code.proofs.two_rows.Reads as two-rows-reads
 use Rattle.machine_lines.proofs.bind.Reads as bind-reads
-use Rattle.machine_lines.proofs.bind_result.Reads as bind-result-reads
 use Rattle.machine_lines.proofs.done.Reads as done-reads
 use Rattle.machine_lines.proofs.guards.branch_end.Reads as branch-end-reads
 use Rattle.machine_lines.proofs.guards.branch_start.Reads as branch-start-reads
@@ -37,6 +36,7 @@ use Rattle.machine_lines.proofs.word_of.Reads as word-of-reads
 use Rattle.machine_lines.proofs.work_leaf.Reads as work-leaf-reads
 use Rattle.machine_loops.proofs.begin_loop.Reads as begin-loop-reads
 use Rattle.machine_loops.proofs.begin_pass.Reads as begin-pass-reads
+use Rattle.machine_loops.proofs.end_loop.Reads as end-loop-reads
 use Rattle.machine_loops.proofs.end_pass.Reads as end-pass-reads
 use Rattle.machine_loops.proofs.rows_before.Reads as rows-before-reads
 
@@ -161,8 +161,8 @@ work-loop-claims t = (
   work-pass.Post,
   end-in-reads.Asked,
   end-in-reads.Learnt,
-  bind-result-reads.Asked,
-  bind-result-reads.Learnt,
+  end-loop-reads.Asked,
+  end-loop-reads.Learnt,
 )
 
 abbrev pub work-pass-claims : ℕ → work-pass-lts.Claims

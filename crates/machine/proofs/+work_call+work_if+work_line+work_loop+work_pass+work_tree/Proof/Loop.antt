@@ -8,7 +8,7 @@ use Rattle.machine_lines.specs.Frames.{word-of, element-depth}
 use Rattle.machine_lines.specs.Lines.{memory, kind-of, first-name, second-name, atoms-of}
 use Rattle.machine_loops.specs.Loops.{Readied, Begins}
 use Rattle.machine_positions.specs.Machine.{code, tree-on, call-on}
-use Rattle.machine_positions.specs.LineLaws.{loop-spent, loop-dry, loop-bound}
+use Rattle.machine_positions.specs.LineLaws.{loop-spent, loop-dry, loop-goes}
 use Rattle.machine_positions.specs.Lengths.{readied-long, passes-long}
 use Rattle.machine.proofs.work_loop.Reads as work-loop
 use Rattle.machine.proofs.+work_call+work_if+work_line+work_loop+work_pass+work_tree.Lts-work_loop as work-loop-lts
@@ -67,10 +67,10 @@ work-loop-work-pass-requires t c κs =
       ),
     )
 
-pub work-loop-bind-result-requires : (t : ℕ) → work-loop-lts.Need-bind-result-requires (work-loop-claims t)
+pub work-loop-end-loop-requires : (t : ℕ) → work-loop-lts.Need-end-loop-requires (work-loop-claims t)
     (work-loop-at t) work-loop.Post
-work-loop-bind-result-requires t c κs =
-    let at-work-pass = c .before .before .before .before .before .before in
+work-loop-end-loop-requires t c κs =
+    let at-work-pass = c .before .before .before .before .before .before .before .before in
     let at-rows-before = at-work-pass .before .before .before .before in
     let at-passes = at-rows-before .before .before in
     let begin = at-passes .before .before .before .before .before in
@@ -89,22 +89,25 @@ work-loop-bind-result-requires t c κs =
 pub work-loop-same-length : (t : ℕ) → work-loop-lts.Need-same-length (work-loop-claims t) (work-loop-at t)
     work-loop.Post
 work-loop-same-length t c =
-    let at-work-pass = c .before .before .before .before .before .before .before in
+    let at-end-loop = c .before .before .before in
+    let at-work-pass = at-end-loop .before .before .before .before .before .before .before .before .before in
     let at-passes = at-work-pass .before .before .before .before .before .before in
     let begin = at-passes .before .before .before .before .before in
-    at-work-pass .work-pass .kept .1 .1 .1 .0 ∙ begin .begin-loop .kept .1 .0
+    at-end-loop .end-loop .kept .0 ∙ at-work-pass .work-pass .kept .1 .1 .1 .0 ∙ begin .begin-loop .kept .1 .0
 
 pub work-loop-same-length-2 : (t : ℕ) → work-loop-lts.Need-same-length-2 (work-loop-claims t) (work-loop-at t)
     work-loop.Post
 work-loop-same-length-2 t c =
-    let at-work-pass = c .before .before .before .before .before .before .before in
+    let at-end-loop = c .before .before .before in
+    let at-work-pass = at-end-loop .before .before .before .before .before .before .before .before .before in
     let at-passes = at-work-pass .before .before .before .before .before .before in
     let begin = at-passes .before .before .before .before .before in
-    at-work-pass .work-pass .kept .1 .1 .1 .1 .0 ∙ begin .begin-loop .kept .1 .1 .0
+    at-end-loop .end-loop .kept .1 .0 ∙ at-work-pass .work-pass .kept .1 .1 .1 .1 .0 ∙ begin .begin-loop .kept .1 .1 .0
 
 pub work-loop-returns-2 : (t : ℕ) → work-loop-lts.Need-returns-2 (work-loop-claims t) (work-loop-at t) work-loop.Post
 work-loop-returns-2 t c =
-    let at-end-in = c .before .before in
+    let at-end-loop = c .before .before .before in
+    let at-end-in = at-end-loop .before .before .before .before in
     let at-work-pass = at-end-in .before .before .before .before .before in
     let at-rows-before = at-work-pass .before .before .before .before in
     let at-passes = at-rows-before .before .before in
@@ -114,14 +117,15 @@ work-loop-returns-2 t c =
     let k = code (a .kinds .now .now) (a .operands .now .now) (a .table .now) in
     let passes = at-work-pass .work-pass in
     let rows = at-rows-before .rows-before in
-    loop-bound (tree-on (a .lines) (call-on (a .calls) k) k (a .calls)) k (a .calls) (a .x) (kind-of (a .l))
+    let ended = at-end-loop .end-loop in
+    loop-goes (tree-on (a .lines) (call-on (a .calls) k) k (a .calls)) k (a .calls) (a .x) (kind-of (a .l))
     (first-name (a .l)) (second-name (a .l)) (atoms-of (a .l)) (a .at) (a .steps) (a .slots .now) (a .heads .now)
     (a .env .now) (at-if1 .if1 .left) (begin .begin-loop .last .1 .0) (begin .begin-loop .last .1 .1 .0)
     (begin .begin-loop .last .1 .1 .1 .0) (at-passes .passes .given .0 .0) (readied t at-passes) (a .at + rows .result)
     (ap (λ (n : ℕ). a .at + n) (rows .ensures .0) ∙ omega arith)
     (passes .result) (passes .last .1 .1 .1 .0) (passes .last .1 .1 .1 .1 .0) (passes .last .1 .1 .1 .1 .1 .0)
-    (passes .ensures) (at-end-in .end-in .result) (at-end-in .end-in .ensures .0) (c .bind-result .result)
-    (c .bind-result .last .0) (c .bind-result .ensures)
+    (passes .ensures) (at-end-in .end-in .result) (at-end-in .end-in .ensures .0) (ended .result)
+    (ended .last .0) (ended .last .1 .0) (ended .last .1 .1 .0) (ended .ensures)
 
 pub work-loop-returns-3 : (t : ℕ) → work-loop-lts.Need-returns-3 (work-loop-claims t) (work-loop-at t) work-loop.Post
 work-loop-returns-3 t c =

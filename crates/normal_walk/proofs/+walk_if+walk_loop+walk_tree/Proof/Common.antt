@@ -22,7 +22,7 @@ use Rattle.normal_write.proofs.lines.put_end.Reads as put-end-reads
 use Rattle.normal_write.proofs.loops.close_loop.Reads as close-loop-reads
 use Rattle.normal_code.proofs.loop_size.Reads as loop-size-reads
 use Rattle.normal_write.proofs.loops.open_loop.Reads as open-loop-reads
-use Rattle.normal_write.proofs.loops.retain_start.Reads as retain-start-reads
+use Rattle.normal_write.proofs.loops.retain_handed.Reads as retain-handed-reads
 use Rattle.normal_write.proofs.loops.second_of.Reads as second-of-reads
 use Rattle.normal_write.proofs.marks.less_two.Reads as less-two-reads
 use Rattle.normal_write.proofs.marks.take_pair.Reads as take-pair-reads
@@ -32,6 +32,7 @@ use Rattle.normal_write.proofs.put_atom.Reads as put-atom-reads
 use Rattle.normal_write.proofs.put_release.Reads as put-release-reads
 use Rattle.normal_write.proofs.put_releases.Reads as put-releases-reads
 use Rattle.normal_write.proofs.put_row.Reads as put-row-reads
+use Rattle.normal_write.proofs.rewrites.written_line.Reads as written-line-reads
 use Rattle.normal_write.proofs.uses.pass_names.Reads as pass-names-reads
 use Rattle.normal_write.proofs.uses.put_used.Reads as put-used-reads
 use Prim.Native.Nat.{ℕ, _+_, _*_, _<_}
@@ -103,8 +104,8 @@ walk-loop-claims t = (
   second-of-reads.Learnt,
   take-use-reads.Asked,
   take-use-reads.Learnt,
-  retain-start-reads.Asked,
-  retain-start-reads.Learnt,
+  retain-handed-reads.Asked,
+  retain-handed-reads.Learnt,
 )
 
 abbrev pub walk-tree-claims : ℕ → walk-tree-lts.Claims
@@ -125,6 +126,8 @@ walk-tree-claims t = (
   put-release-reads.Learnt,
   walk-if-below t,
   walk-if.Post,
+  written-line-reads.Asked,
+  written-line-reads.Learnt,
   close-loop-reads.Asked,
   close-loop-reads.Learnt,
   walk-loop-below t,

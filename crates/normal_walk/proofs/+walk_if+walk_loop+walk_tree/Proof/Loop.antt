@@ -81,9 +81,9 @@ walk-loop-take-use-requires t c κs =
       ),
     )
 
-pub walk-loop-retain-start-requires : (t : ℕ) →
-    walk-loop-lts.Need-retain-start-requires (walk-loop-claims t) (walk-loop-at t) walk-loop.Post
-walk-loop-retain-start-requires t c κs =
+pub walk-loop-retain-handed-requires : (t : ℕ) →
+    walk-loop-lts.Need-retain-handed-requires (walk-loop-claims t) (walk-loop-at t) walk-loop.Post
+walk-loop-retain-handed-requires t c κs =
     let at-open-loop = c .before .before .before .before .before .before .before .before .before .before
     .before .open-loop in
     let at-walk-tree = c .before .before .before .before .before .before .before .before .before .before
@@ -124,31 +124,31 @@ walk-loop-take-use-requires-2 t c κs =
 pub walk-loop-same-length : (t : ℕ) →
     walk-loop-lts.Need-same-length (walk-loop-claims t) (walk-loop-at t) walk-loop.Post
 walk-loop-same-length t c =
-    let at-retain-start = c .before .before .before .before .before .before .before .retain-start in
+    let at-retain-handed = c .before .before .before .before .before .before .before .retain-handed in
     let at-open-loop = c .before .before .before .before .before .before .before .before .before .before
     .before .before .before .before .before .before .before .before .before .open-loop in
     let at-walk-tree = c .before .before .before .before .before .before .before .before .before .before
     .before .before .before .before .before .before .before .before .before .before .before .before .before
     .before .before .before .before .walk-tree in
-    at-retain-start .ensures .long-kinds ∙ at-open-loop .ensures .long-kinds ∙ at-walk-tree .ensures .wrote
+    at-retain-handed .ensures .long-kinds ∙ at-open-loop .ensures .long-kinds ∙ at-walk-tree .ensures .wrote
     .long-kinds
 
 pub walk-loop-same-length-2 : (t : ℕ) →
     walk-loop-lts.Need-same-length-2 (walk-loop-claims t) (walk-loop-at t) walk-loop.Post
 walk-loop-same-length-2 t c =
-    let at-retain-start = c .before .before .before .before .before .before .before .retain-start in
+    let at-retain-handed = c .before .before .before .before .before .before .before .retain-handed in
     let at-open-loop = c .before .before .before .before .before .before .before .before .before .before
     .before .before .before .before .before .before .before .before .before .open-loop in
     let at-walk-tree = c .before .before .before .before .before .before .before .before .before .before
     .before .before .before .before .before .before .before .before .before .before .before .before .before
     .before .before .before .before .walk-tree in
-    at-retain-start .ensures .long-operands ∙ at-open-loop .ensures .long-operands ∙ at-walk-tree .ensures
+    at-retain-handed .ensures .long-operands ∙ at-open-loop .ensures .long-operands ∙ at-walk-tree .ensures
     .wrote .long-operands
 
 pub walk-loop-returns : (t : ℕ) →
     walk-loop-lts.Need-returns (walk-loop-claims t) (walk-loop-at t) walk-loop.Post
 walk-loop-returns t c =
-    let at-retain-start = c .before .before .before .before .before .before .before .retain-start in
+    let at-retain-handed = c .before .before .before .before .before .before .before .retain-handed in
     let at-take-use = c .before .before .before .before .before .before .before .before .before .before
     .before .before .take-use in
     let at-second-of = c .before .before .before .before .before .before .before .before .before .before
@@ -183,7 +183,7 @@ walk-loop-returns t c =
     .1 .1 .0) (at-second-of .result) (a .after) (at-pass-names .result) (at-walk-tree .result) _ _
     (at-loop-size .result) (at-less-two .result)
     (at-loop-size .ensures) (at-less-two .ensures) (at-pass-names .ensures) (at-walk-tree .ensures) (at-l
-    .given .1) (at-open-loop .ensures) (at-second-of .ensures) (at-take-use .ensures) (at-retain-start
+    .given .1) (at-open-loop .ensures) (at-second-of .ensures) (at-take-use .ensures) (at-retain-handed
     .ensures) (c .before .take-use2 .ensures))
 
 pub walk-loop-returns-2 : (t : ℕ) →

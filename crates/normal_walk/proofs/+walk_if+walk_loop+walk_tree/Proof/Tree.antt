@@ -1,9 +1,8 @@
 -- What `walk_tree` has to show.
-use Prim.Native.Nat.{ℕ, _<_}
 use Rattle.normal_walk.proofs.walk_tree.Reads as walk-tree
 use Rattle.normal_walk.proofs.+walk_if+walk_loop+walk_tree.Lts-walk_tree as walk-tree-lts
 use Prim.Native.Nat.{ℕ, _-_, _<_}
-use mathlib.Core.Path.{_≡_, sym, _∙_}
+use mathlib.Core.Path.{_≡_, sym, ap, _∙_}
 use lib.ListN.{length, length-set}
 use native.Mathlib.Omega.{arith}
 use Rattle.semantics.specs.Borrow.{borrows}
@@ -11,12 +10,12 @@ use Rattle.normal_code.specs.Plain.{plain}
 use Rattle.normal_code.specs.Parts.{depth-in}
 use Rattle.normal_code.specs.Walk.{tree-walk}
 use Rattle.normal_write.proofs.Rows.{lower}
-use Rattle.normal_walk.proofs.Lines.{leaf-line, binary-line, if-line, loop-line, loop-is}
+use Rattle.normal_walk.specs.Walks.{is-loop}
+use Rattle.normal_walk.proofs.Lines.{leaf-line, binary-line, if-line, loop-line, loop-is, written-loop}
 use Rattle.normal_walk.proofs.Trees.{Going, leaf-is, end-done, none-done, going-none, going-more, going-stops}
 use Rattle.normal_walk.proofs.Trees.{going-ends, tree-done}
 use borrow.Author.Needs.{needs}
-use Rattle.normal_walk.proofs.+walk_if+walk_loop+walk_tree.Proof.Common.{walk-tree-at}
-use Rattle.normal_walk.proofs.+walk_if+walk_loop+walk_tree.Proof.Common.{walk-tree-claims}
+use Rattle.normal_walk.proofs.+walk_if+walk_loop+walk_tree.Proof.Common.{walk-tree-at, walk-tree-claims}
 
 abbrev pub walk-tree-Inv-loop : walk-tree-lts.InvT-loop
 walk-tree-Inv-loop ks₀ os₀ operands rows notes cur₀ depths table e levels at₀ place w s₀ v q₀ left₀ ks os cur at s q
@@ -181,12 +180,21 @@ walk-tree-loop-again t c =
           (at-put-release .ensures) (c .before .before .before .walk-if .ensures)),
     )
 
+pub walk-tree-written-line-requires : (t : ℕ) →
+    walk-tree-lts.Need-written-line-requires (walk-tree-claims t) (walk-tree-at t) walk-tree.Post
+    walk-tree-Inv-loop walk-tree-μ-loop
+walk-tree-written-line-requires t c κs =
+    let at-if2 = c .before .before .before .before .before .before .if2 in
+    let at-loop = c .before .before .before .before .before .before .before .before .before .loop in
+    omega (arith, at-loop .inv .1 .near, at-if2 .left)
+
 pub walk-tree-close-loop-requires : (t : ℕ) →
     walk-tree-lts.Need-close-loop-requires (walk-tree-claims t) (walk-tree-at t) walk-tree.Post
     walk-tree-Inv-loop walk-tree-μ-loop
 walk-tree-close-loop-requires t c κs =
-    let at-if2 = c .before .before .before .before .before .before .before .before .if2 in
-    let at-loop = c .before .before .before .before .before .before .before .before .before .before .before .loop in
+    let at-if2 = c .before .before .before .before .before .before .before .before .before .before .before .if2 in
+    let at-loop = c .before .before .before .before .before .before .before .before .before .before .before
+    .before .before .before .loop in
     (omega (arith, at-loop .inv .1 .near, at-if2 .left), at-loop .inv .1 .room)
 
 pub walk-tree-walk-loop-requires : (t : ℕ) →
@@ -194,56 +202,78 @@ pub walk-tree-walk-loop-requires : (t : ℕ) →
     walk-tree-Inv-loop walk-tree-μ-loop
 walk-tree-walk-loop-requires t c κs =
     let at-close-loop = c .before .before .before .before .before .before .before .close-loop in
+    let at-written-line = c .before .before .before .before .before .before .before .before .before .before
+    .before .before .written-line in
     let at-match = c .before .before .before .before .before .before .before .before .before .before .before
-    .before .before .before .match in
+    .before .before .before .before .before .before .match in
     let at-line-at = c .before .before .before .before .before .before .before .before .before .before .before
-    .before .before .before .before .line-at in
+    .before .before .before .before .before .before .before .line-at in
     let at-if2 = c .before .before .before .before .before .before .before .before .before .before .before
-    .before .before .before .before .before .if2 in
+    .before .before .before .before .before .before .before .before .if2 in
     let at-loop = c .before .before .before .before .before .before .before .before .before .before .before
-    .before .before .before .before .before .before .before .before .loop in
+    .before .before .before .before .before .before .before .before .before .before .before .loop in
     let at-if1 = c .before .before .before .before .before .before .before .before .before .before .before
-    .before .before .before .before .before .before .before .before .before .if1 in
+    .before .before .before .before .before .before .before .before .before .before .before .before .if1 in
     let at-pre = c .before .before .before .before .before .before .before .before .before .before .before
     .before .before .before .before .before .before .before .before .before .before .before .before .before
-    .before .before .before .before .before .before .before .before .before .before .before .before .before .pre in (
+    .before .before .before .before .before .before .before .before .before .before .before .before .before
+    .before .before .before .pre in (
       omega (arith, at-pre .0, at-if1 .left),
       (
-        loop-is (at-line-at .result) (at-match .keys2),
-        omega (
-          arith,
-          at-loop .inv .1 .near,
-          at-if2 .left,
-        ),
+        ap is-loop (at-written-line .ensures)
+            ∙ written-loop _ _ _ _ (at-line-at .result) (loop-is (at-line-at .result) (at-match .keys2)),
+        omega (arith, at-loop .inv .1 .near, at-if2 .left),
         omega (arith, at-loop .inv .1 .near),
         at-loop .inv .1 .long,
-        lower
-            (at-close-loop .ensures) (at-loop .inv .1 .room),
+        lower (at-close-loop .ensures) (at-loop .inv .1 .room),
       ),
     )
 
+pub walk-tree-sub-left-2 : (t : ℕ) →
+    walk-tree-lts.Need-sub-left-2 (walk-tree-claims t) (walk-tree-at t) walk-tree.Post
+    walk-tree-Inv-loop walk-tree-μ-loop
+walk-tree-sub-left-2 t c =
+    let at-loop-test = c .before .before .before .before .before .before .before .before .before .before
+    .before .before .before .before .before .before .before .before .before .before .before .before .before
+    .before .before .loop-test in
+    omega (arith, at-loop-test .taken)
+
+pub walk-tree-loop-less-2 : (t : ℕ) →
+    walk-tree-lts.Need-loop-less-2 (walk-tree-claims t) (walk-tree-at t) walk-tree.Post
+    walk-tree-Inv-loop walk-tree-μ-loop
+walk-tree-loop-less-2 t c =
+    let at-loop-test = c .before .before .before .before .before .before .before .before .before .before
+    .before .before .before .before .before .before .before .before .before .before .before .before .before
+    .before .before .loop-test in
+    omega (arith, at-loop-test .taken)
+
 pub walk-tree-loop-again-2 : (t : ℕ) →
-    walk-tree-lts.Need-loop-again-2 (walk-tree-claims t) (walk-tree-at t) walk-tree.Post walk-tree-Inv-loop
-    walk-tree-μ-loop
+    walk-tree-lts.Need-loop-again-2 (walk-tree-claims t) (walk-tree-at t) walk-tree.Post
+    walk-tree-Inv-loop walk-tree-μ-loop
 walk-tree-loop-again-2 t c =
     let at-close-loop = c .before .before .before .before .before .before .before .before .before .before
     .before .close-loop in
+    let at-written-line = c .before .before .before .before .before .before .before .before .before .before
+    .before .before .before .before .before .before .written-line in
     let at-match = c .before .before .before .before .before .before .before .before .before .before .before
-    .before .before .before .before .before .before .before .match in
+    .before .before .before .before .before .before .before .before .before .before .match in
     let at-line-at = c .before .before .before .before .before .before .before .before .before .before .before
-    .before .before .before .before .before .before .before .before .line-at in
+    .before .before .before .before .before .before .before .before .before .before .before .line-at in
     let at-if2 = c .before .before .before .before .before .before .before .before .before .before .before
-    .before .before .before .before .before .before .before .before .before .if2 in
+    .before .before .before .before .before .before .before .before .before .before .before .before .if2 in
     let at-note-at = c .before .before .before .before .before .before .before .before .before .before .before
-    .before .before .before .before .before .before .before .before .before .before .note-at in
+    .before .before .before .before .before .before .before .before .before .before .before .before .before
+    .note-at in
     let at-loop-test = c .before .before .before .before .before .before .before .before .before .before
-    .before .before .before .before .before .before .before .before .before .before .before .before .loop-test in
+    .before .before .before .before .before .before .before .before .before .before .before .before .before
+    .before .before .loop-test in
     let at-loop = c .before .before .before .before .before .before .before .before .before .before .before
-    .before .before .before .before .before .before .before .before .before .before .before .before .loop in
+    .before .before .before .before .before .before .before .before .before .before .before .before .before
+    .before .before .loop in
     let a = c .before .before .before .before .before .before .before .before .before .before .before .before
     .before .before .before .before .before .before .before .before .before .before .before .before .before
     .before .before .before .before .before .before .before .before .before .before .before .before .before
-    .before .before .before .args in
+    .before .before .before .before .before .before .args in
     let code = plain (a .operands .now) (a .rows .now) (a .notes .now) in
     let borrowing = borrows (a .table .now) in
     let depths = depth-in (a .depths .now) in
@@ -252,8 +282,8 @@ walk-tree-loop-again-2 t c =
       going-more code borrowing depths walk (at-loop .inv .1) (at-note-at .result) (at-line-at .result)
           (at-loop-test .taken) (at-note-at .ensures) (at-if2 .left) (at-line-at .ensures)
           (loop-line code borrowing depths walk (at-note-at .result) (at-loop .q) (at-line-at .result)
-          (loop-is (at-line-at .result) (at-match .keys2)) (at-close-loop .ensures)
-          (c .before .before .before .walk-loop .ensures)),
+          (at-written-line .result) (loop-is (at-line-at .result) (at-match .keys2)) (at-written-line .ensures)
+          (at-close-loop .ensures) (c .before .before .before .walk-loop .ensures)),
     )
 
 pub walk-tree-put-binary-requires : (t : ℕ) →

@@ -38,8 +38,10 @@ returns c =
     .before .before .l .given .0 in rw (c .before .before .before .before .before .before .before .before
     .before .before .before .before .before .before .before .l .given .1) (wrote-as
     (closing-rows (depth-in (a .depths .now)) (a .p) (g .0) (marks-of (a .cur .now)) (set-of (a .live .now))
-    (loop-of (g .1 .0)) (g .1 .1 .1 .1 .0) (g .1 .1 .1 .1 .1 .0) _ _ _ (c .before .before .before .before .before
-    .before .before .array-of .ensures) (c .before .before .before .before .before .before .loop-size .ensures) refl)
+    (loop-of (g .1 .0)) (g .1 .1 .1 .1 .0) (g .1 .1 .1 .1 .1 .0)
+    (c .before .before .before .before .before .before .before .read-of .result) _ _ (c .before .before .before
+    .before .before
+    .before .before .read-of .ensures) (c .before .before .before .before .before .before .loop-size .ensures) refl)
     (wrote-then (c .before .before .before .before .before .before .before .before .before .before .before
     .put-release .ensures) (c .before .before .before .put-used .ensures)))
 

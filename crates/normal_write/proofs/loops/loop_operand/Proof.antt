@@ -14,7 +14,7 @@ returns c = rw (c .if1 .taken) (omega arith)
 returns-2 : tie.Need-returns-2
 returns-2 c =
     let a = c .before .args in no-reduce (λ k. a .x + 256 * a .y ≡ a .x + 256 * packed-names (of-loop k (a .y) (a
-    .z))) (a .kind) (c .if1 .left) (omega arith) (omega arith)
+    .z))) (a .kind) (c .if1 .left) (omega arith) (omega arith) (omega arith)
 
 pub loop-operand-spec : {M : Type 1} → statement M
 loop-operand-spec =

@@ -30,18 +30,34 @@ returns-2 c =
     .put-row2 .ensures))
 
 put-row-requires-3 : tie.Need-put-row-requires-3
-put-row-requires-3 c κs = lower (c .before .before .before .before .before .before .put-atom3 .ensures) (search needs)
+put-row-requires-3 c κs = lower (c .before .before .before .before .before .before .before .put-atom3 .ensures)
+    (search needs)
 
 returns-3 : tie.Need-returns-3
 returns-3 c =
+    let at-put-atom = c .before .before .before .before .before .before .before .before .before .before .before
+    .put-atom3 in
+    rw (c .before .before .before .before .before .before .if3 .taken) (wrote-then (at-put-atom .ensures) (c
+    .before .before .before .put-row3 .ensures))
+
+put-row-requires-4 : tie.Need-put-row-requires-4
+put-row-requires-4 c κs = lower (c .before .before .before .before .before .before .before .put-atom3 .ensures)
+    (search needs)
+
+returns-4 : tie.Need-returns-4
+returns-4 c =
+    let at-if1 = c .before .before .before .before .before .before .before .before .before .before .before
+    .before .before .before .if1 in
     let k = c .before .before .before .before .before .before .before .before .before .before .before .before
-    .before .before .before .args .kind in rw (
-      ne-eqb k 20 (c .before .before .before .before .before .before
-          .before .before .before .before .before .before .before .if1 .left),
-      ne-eqb k 19 (c .before .before .before
-          .before .before .before .if2 .left),
-    ) (wrote-then (c .before .before .before .before .before .before .before
-    .before .before .before .put-atom3 .ensures) (c .before .before .before .put-row3 .ensures))
+    .before .before .before .before .args .kind in
+    rw (
+      ne-eqb k 20 (at-if1 .left),
+      ne-eqb k 19 (c .before .before .before .before .before .before .before .if2
+          .left),
+      ne-eqb k 21 (c .before .before .before .before .before .before .if3 .left),
+    )
+    (wrote-then (c .before .before .before .before .before .before .before .before .before .before .before
+    .put-atom3 .ensures) (c .before .before .before .put-row4 .ensures))
 
 pub put-own-spec : {M : Type 1} → statement M
 put-own-spec =
@@ -61,4 +77,8 @@ put-own-spec =
     put-row-requires-3
     (λ c. search needs)
     (λ c. search needs)
-    returns-3)
+    returns-3
+    put-row-requires-4
+    (λ c. search needs)
+    (λ c. search needs)
+    returns-4)

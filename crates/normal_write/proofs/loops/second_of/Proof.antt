@@ -13,7 +13,7 @@ returns c = rw (c .if1 .taken)
 returns-2 : tie.Need-returns-2
 returns-2 c =
     let a = c .before .args in no-reduce (λ k. number (pos 0) ≡ second-of k (meant (a .b))) (a .kind) (c .if1 .left)
-    refl refl
+    refl refl refl
 
 pub second-of-spec : {M : Type 1} → statement M
 second-of-spec = tie.close (tie.spec returns returns-2)

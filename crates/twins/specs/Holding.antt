@@ -1,0 +1,138 @@
+-- The lines that retain and release, of both runs or of the first alone.
+use Prim.Native.Nat.{ℕ, _+_, _<_}
+use native.Mathlib.Omega.{arith}
+use mathlib.Core.Path.{refl, sym, subst}
+use mathlib.Core.Logic.{inl, inr}
+use mathlib.Core.List.{List, [], _∷_, _++_}
+use Rattle.semantics.specs.Basics.{_∈_}
+use Rattle.semantics.specs.Outcome.{onward}
+use Rattle.semantics.specs.Code.{Line, retain, release, Tree, line}
+use Rattle.semantics.specs.Annotate.{NameDepths}
+use Rattle.semantics.specs.Meaning.{Env}
+use Rattle.semantics.specs.Machine.{Frame, Routine, Program, work, work-line, with-store, touching, release-events}
+use Rattle.semantics.specs.Machine.{retain-word, release-word}
+use Rattle.semantics.specs.Store.{Store, cell, cell-of, released, deepest}
+use Rattle.laws.specs.Lists.{_⊆_}
+use Rattle.soundness.specs.store.Change.{permute, named-used, held-used}
+use Rattle.soundness.specs.store.Counting.{append-cases, in-append-left, in-append-right}
+use Rattle.soundness.specs.store.Release.{Releases}
+use Rattle.soundness.specs.store.Release as Store-release
+use Rattle.soundness.specs.machine.Discipline.{less, holds-after}
+use Rattle.soundness.specs.machine.Spending.{spend-split, spend-one, less-in}
+use Rattle.soundness.specs.machine.Images.{first-or-later}
+use Rattle.soundness.specs.machine.Frames.{hold, Setting, Situation}
+use Rattle.soundness.specs.machine.Standing.{hold-split, name-held}
+use Rattle.soundness.specs.machine.Size.{tree-adds, line-adds}
+use Rattle.soundness.specs.machine.Rules.{line-rules, rest-rules}
+use Rattle.soundness.specs.machine.Claims.{LineClaim}
+use Rattle.twins.specs.Leaner.{leaner-retained, leaner-other-retained}
+use Rattle.twins.specs.Released.{leaner-released, leaner-other-freed}
+use Rattle.twins.specs.Runs.{Race, both, level-quiet, touching-quiet}
+use Rattle.twins.specs.Runs.{release-quiet, level-first}
+use Rattle.twins.specs.Beside.{here-less, framed-fewer, images-held, Owes}
+use Rattle.twins.specs.Claims.{first-setting, leaner-setting, TreeTwins, LineTwins}
+use Rattle.twins.specs.Owing.{owes-less, owes-in, owes-spared}
+use Rattle.twins.specs.Binding.{known-left}
+use Rattle.twins.specs.Trees.{WentOn, goes-on}
+
+-- a name that is held is released
+pub name-released : {C : Setting} {σ : Store} {Z F R B H P : List ℕ} {ρ : Frame} {δ : Env} {n : ℕ} (y : ℕ) →
+    Situation C σ Z F R B H P ρ δ n → y ∈ H →
+    Releases σ (released deepest (cell-of (ρ y)) σ) (release-events deepest (cell-of (ρ y)) σ) Z
+    (hold ρ (less (y ∷ []) H) ++ F)
+name-released {Z = Z} {F} {H = H} {ρ = ρ} y S h = Store-release.release (cell-of (ρ y))
+    (permute Z (hold ρ (y ∷ less (y ∷ []) H) ++ F) (S .invariant) (λ k. refl)
+    (hold-split ρ H (y ∷ []) (less (y ∷ []) H) F (spend-split (y ∷ []) H (spend-one y H h))))
+
+-- a name that may be retained has a cell in use
+retainable-used : {C : Setting} {σ : Store} {Z F R B H P : List ℕ} {ρ : Frame} {δ : Env} {n : ℕ} (y : ℕ) →
+    Situation C σ Z F R B H P ρ δ n → y ∈ (P ++ (B ++ H)) → 0 < cell σ (cell-of (ρ y)) .count
+retainable-used {C} {B = B} {H} {P} {ρ} y S h = elim (append-cases y P (B ++ H) h) [
+  | inl g ↦ named-used (S .invariant) (cell-of (ρ y)) (S .pending y g .named)
+  | inr g ↦ held-used (S .invariant) (cell-of (ρ y)) (name-held C S y g)
+]
+
+module _ (r : Race) (p : Program) (rs : List Routine) (n : ℕ) (Γ : NameDepths) where
+  abbrev C : Setting
+  C = first-setting r p n Γ
+
+  abbrev C′ : Setting
+  C′ = leaner-setting r p rs n Γ
+
+  pub twin-release : (X : List ℕ) (y : ℕ) → LineTwins r p rs n Γ X (release y) (release y)
+  unfolding work-line release-word onward with-store holds-after
+  twin-release X y S S′ A A′ H H′ P P′ Δ Δ′ E π a a′ ρ ρ′ k k′ s s′ rules rules′ q need need′ = both record {
+    cells = π;
+    tied = record {
+      level = level-quiet r _ _ (release-events deepest (cell-of (ρ y)) (s .store))
+          (release-events deepest (cell-of (ρ′ y)) (s′ .store)) (release-quiet deepest (cell-of (ρ y)) (s .store))
+          (release-quiet deepest (cell-of (ρ′ y)) (s′ .store)) (q .tied .level);
+      stores = leaner-released (q .tied .stores) (name-released y (q .leaner .situation) (rules′ .holds))
+          (name-released y (q .first .situation) (rules .holds))
+          (images-held (less (y ∷ []) H) (less (y ∷ []) H′) (q .images) (q .framed)
+          (λ z h. in-append-right z P′ (a′ .lent ++ H′) (in-append-right z (a′ .lent) H′ (less-in (y ∷ []) H′ z h)))
+          (owes-in X (less (y ∷ []) H) (less (y ∷ []) H′)
+          (owes-less X (y ∷ []) H H′ (spend-one y H′ (rules′ .holds)) (q .owes))));
+    };
+    framed = framed-fewer (P′ ++ (a′ .lent ++ H′)) (a′ .lent ++ less (y ∷ []) H′)
+        (known-left P′ (a′ .lent) H′ (less (y ∷ []) H′) (less-in (y ∷ []) H′)) (q .framed);
+    stays = λ c h. refl;
+  }
+
+  pub twin-retain : (X : List ℕ) (y : ℕ) → LineTwins r p rs n Γ X (retain y) (retain y)
+  unfolding work-line retain-word onward with-store holds-after
+  twin-retain X y S S′ A A′ H H′ P P′ Δ Δ′ E π a a′ ρ ρ′ k k′ s s′ rules rules′ q need need′ = both record {
+    cells = π;
+    tied = record {
+      level = level-quiet r _ _ (touching (s .store) (cell-of (ρ y))) (touching (s′ .store) (cell-of (ρ′ y)))
+          (touching-quiet (s .store) (cell-of (ρ y))) (touching-quiet (s′ .store) (cell-of (ρ′ y))) (q .tied .level);
+      stores = leaner-retained (cell-of (ρ′ y)) (retainable-used y (q .leaner .situation) (rules′ .holds))
+          (leaner-other-retained (cell-of (ρ y)) (retainable-used y (q .first .situation) (rules .holds))
+          (q .tied .stores));
+    };
+    framed = framed-fewer (P′ ++ (a′ .lent ++ H′)) (a′ .lent ++ (y ∷ H′)) names (q .framed);
+    stays = λ c h. refl;
+  }
+    where
+      names : (a′ .lent ++ (y ∷ H′)) ⊆ (P′ ++ (a′ .lent ++ H′))
+      names z h = elim (append-cases z (a′ .lent) (y ∷ H′) h) [
+        | inl g ↦ in-append-right z P′ (a′ .lent ++ H′) (in-append-left z (a′ .lent) H′ g)
+        | inr g ↦ elim (first-or-later z y H′ g) [
+          | inl e ↦ subst (λ (x : ℕ). x ∈ (P′ ++ (a′ .lent ++ H′))) (sym e) (rules′ .holds)
+          | inr e ↦ in-append-right z P′ (a′ .lent ++ H′) (in-append-right z (a′ .lent) H′ e)
+        ]
+      ]
+
+  module _ (lines : (l : Line) → LineClaim C l) (lines′ : (l : Line) → LineClaim C′ l) where
+    -- the first alone releases a name that the leaner has handed over
+    pub twin-spared : {X : List ℕ} (y : ℕ) (t t′ : Tree) → y ∈ X → TreeTwins r p rs n Γ (less (y ∷ []) X) t t′ →
+        TreeTwins r p rs n Γ X (line (release y) t) t′
+    unfolding work work-line tree-adds release-word onward with-store holds-after
+    twin-spared {X} y t t′ owed rest S S′ L L′ H H′ P P′ Δ Δ′ d E π a a′ ρ ρ′ k k′ s s′ rules rules′ fewer q need
+        need′ =
+        rest _ _ L L′ _ _ _ _ Δ Δ′ d E π a a′ ρ ρ′ k k′ _ s′ (rest-rules C (release y) rules) rules′ fewer record {
+          first = on .here;
+          leaner = q .leaner;
+          tied = record {
+            level = level-first r _ (release-events deepest (cell-of (ρ y)) (s .store))
+                (release-quiet deepest (cell-of (ρ y)) (s .store)) (q .tied .level);
+            stores = leaner-other-freed (q .tied .stores) (q .leaner .situation .invariant)
+                (name-released y (q .first .situation) (rules .holds .0))
+                (images-held (less (y ∷ []) H) H′ (q .images) (q .framed)
+                (λ z h. in-append-right z P′ (a′ .lent ++ H′) (in-append-right z (a′ .lent) H′ h))
+                (owes-in (less (y ∷ []) X) (less (y ∷ []) H) H′ owes));
+          };
+          framed = q .framed;
+          images = q .images;
+          owes = owes;
+          exempt = q .exempt;
+        } need need′
+      where
+        owes : Owes (less (y ∷ []) X) (less (y ∷ []) H) H′
+        owes = owes-spared X y H H′ owed (q .owes)
+
+        on : WentOn C a (release y) H Δ ρ (tree-adds t + k) ρ
+            (with-store s (released deepest (cell-of (ρ y)) (s .store))
+            (release-events deepest (cell-of (ρ y)) (s .store)))
+        on = goes-on (lines (release y)) (line-rules C rules)
+            (here-less (line-adds (release y) + (tree-adds t + k)) (omega arith) (q .first)) (omega arith) refl

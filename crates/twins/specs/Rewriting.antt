@@ -1,0 +1,128 @@
+-- The line of a map beside one that rewrites its array.
+use Prim.Native.Nat.{ℕ, suc, _+_, _<_, pred}
+use native.Mathlib.Omega.{arith}
+use mathlib.Core.Bool.{Bool, true, false, cond}
+use mathlib.Core.Path.{_≡_, refl}
+use mathlib.Core.List.{List, [], _∷_, _++_}
+use lib.ListN.{length}
+use lib.Dec.{eqb}
+use borrow.Author.Tests.{eqb-true}
+use Rattle.semantics.specs.Basics.{tabulate, updated}
+use Rattle.semantics.specs.Outcome.{onward, _>>=_, _>>_, give, passes}
+use Rattle.semantics.specs.Kinds.{mapping, rewriting}
+use Rattle.semantics.specs.Code.{Atom, loop, Tree}
+use Rattle.semantics.specs.Live.{_∪_, just, among, after-pass}
+use Rattle.semantics.specs.Annotate.{NameDepths}
+use Rattle.semantics.specs.Machine.{State, Frame, Routine, Program, word, with-store, with-left, touching, held, work}
+use Rattle.semantics.specs.Machine.{work-line, work-pass, acquire, elements-of, is-alone, binding}
+use Rattle.semantics.specs.Machine as Machine
+use Rattle.semantics.specs.Store.{cell, cell-of}
+use Rattle.laws.specs.Lists.{_⊆_}
+use Rattle.soundness.specs.normal.Trace.{CalleeGrows}
+use Rattle.soundness.specs.machine.Discipline.{less, holds-after}
+use Rattle.soundness.specs.machine.Frames.{Setting, given, own}
+use Rattle.soundness.specs.machine.Elements.{words-of}
+use Rattle.soundness.specs.machine.Size.{tree-adds, line-adds}
+use Rattle.soundness.specs.machine.Situations.{touch-together}
+use Rattle.soundness.specs.machine.Claims.{TreeClaim}
+use Rattle.soundness.specs.machine.Rewriting.{looked-at}
+use Rattle.soundness.specs.store.Counting.{in-append-right}
+use Rattle.twins.specs.Runs.{Race, Starts, Twins, after-step, level-leaner, touching-quiet}
+use Rattle.twins.specs.Beside.{Around, here-less}
+use Rattle.twins.specs.Claims.{first-setting, leaner-setting, Before, LineEnded, TreeTwins, LineTwins}
+use Rattle.twins.specs.Sites.{PassSite, map-site}
+use Rattle.twins.specs.Reading.{read-used}
+use Rattle.twins.specs.Passes.{at-element}
+use Rattle.twins.specs.Filled.{read-before}
+use Rattle.twins.specs.Copied.{copied}
+use Rattle.twins.specs.InPlace.{in-place}
+
+module _ {r : Race} (starts : Starts r) (p : Program) (rs : List Routine) (n : ℕ) (Γ : NameDepths) where
+  abbrev C : Setting
+  C = first-setting r p n Γ
+
+  abbrev C′ : Setting
+  C′ = leaner-setting r p rs n Γ
+
+  -- the leaner run looks at a cell in use
+  before-looked : {X E : List ℕ} {π : ℕ → ℕ} {a a′ : Around} {H H′ P P′ : List ℕ} {ρ ρ′ : Frame} {k k′ : ℕ}
+      {s s′ : State} (c : ℕ) → Before r p rs n Γ X E π a a′ H H′ P P′ ρ ρ′ k k′ s s′ → 0 < cell (s′ .store) c .count →
+      Before r p rs n Γ X E π a a′ H H′ P P′ ρ ρ′ k k′ s (looked-at c s′)
+  unfolding with-store
+  before-looked {s′ = s′} c q used = record {
+    first = q .first;
+    leaner = record {
+      values = q .leaner .values;
+      meter = q .leaner .meter;
+      together = touch-together c (s′ .store) (q .leaner .situation .invariant) used refl refl (q .leaner .together);
+      situation = q .leaner .situation;
+    };
+    tied = record {
+      level = level-leaner r (s′ .store) (touching (s′ .store) c) (touching-quiet (s′ .store) c) (q .tied .level);
+      stores = q .tied .stores;
+    };
+    framed = q .framed;
+    images = q .images;
+    owes = q .owes;
+    exempt = q .exempt;
+  }
+
+  module _ (grows : CalleeGrows (C′ .meant)) (trees : (t : Tree) → TreeClaim C t) (trees′ : (t : Tree) → TreeClaim C′ t)
+    where
+      pub rewrite-twins : (X : List ℕ) (x z : ℕ) (v : Atom) (t t′ : Tree) → TreeTwins r p rs n Γ [] t t′ →
+          LineTwins r p rs n Γ X (loop x mapping (z ∷ []) (v ∷ []) t) (loop x rewriting (z ∷ []) (v ∷ []) t′)
+      unfolding work-line line-adds holds-after onward elements-of is-alone with-store with-left
+      rewrite-twins X x z v t t′ claim S S′ A A′ H H′ P P′ Δ Δ′ E π a a′ ρ ρ′ k k′ s s′ rules rules′ q need need′ =
+          after-step r _ _ (q .tied) (λ j j′ f f′ tied.
+          let q₁ = before-looked (cell-of (word ρ′ v)) (read-before starts p rs n Γ v (site .reads) reads q′ (Γ z)
+          (site .array) j j′ f f′ tied) (read-used r p rs n Γ q v reads (omega (arith, site .array))) in
+          chosen j j′ q₁ (eqb (cell (s′ .store) (cell-of (word ρ′ v)) .count) 1) refl)
+        where
+          d : ℕ
+          d = pred (Γ x)
+
+          J : List ℕ
+          J = less (given C (v ∷ [])) H′
+
+          Q : List ℕ
+          Q = a .roots ++ held Γ (among (v ∷ []) (after-pass x (z ∷ []) t A)) ρ
+
+          Q′ : List ℕ
+          Q′ = a′ .roots ++ held Γ (among (v ∷ []) (after-pass x (z ∷ []) t′ A′)) ρ′
+
+          site : PassSite C z v t (a .lent) (S ∪ just (z ∷ [])) (after-pass x (z ∷ []) t A) H d
+          site = map-site C rules
+
+          reads : given C (v ∷ []) ⊆ (a′ .lent ++ H′)
+          reads y h = in-append-right y (a′ .lent) H′ (omega (arith, h, rules′ .holds .0 y))
+
+          q′ : Before r p rs n Γ X E π a a′ H H′ P P′ ρ ρ′ (suc (tree-adds t + k)) (suc (tree-adds t′ + k′)) s s′
+          q′ = record {
+            first = here-less (suc (tree-adds t + k)) (omega arith) (q .first);
+            leaner = here-less (suc (tree-adds t′ + k′)) (omega arith) (q .leaner);
+            tied = q .tied;
+            framed = q .framed;
+            images = q .images;
+            owes = q .owes;
+            exempt = q .exempt;
+          }
+
+          -- nothing else refers to the array, or something does
+          chosen : (j j′ : ℕ) →
+              Before r p rs n Γ X E π a a′ H H′ P P′ ρ ρ′ (suc (tree-adds t + k)) (suc (tree-adds t′ + k′))
+              (at-element s j (word ρ v)) (looked-at (cell-of (word ρ′ v)) (at-element s′ j′ (word ρ′ v))) →
+              (g : Bool) → eqb (cell (s′ .store) (cell-of (word ρ′ v)) .count) 1 ≡ g →
+              Twins r (LineEnded r p rs n Γ E π a′ (own C x ++ J) [])
+              (onward (λ c. (passes (work-pass mapping d (λ us. work (C .callee) (p .borrowing) Γ t
+              (after-pass x (z ∷ []) t A) (Q ++ (cell-of c ∷ [])) (binding (z ∷ []) us ρ)) (word ρ v)) c
+              (tabulate 0 (length (words-of (s .store) (word ρ v))) (λ i. i))) >>= λ w. give (updated ρ x w))
+              (acquire Q d [] (at-element s j (word ρ v))))
+              (onward (λ c. (passes (work-pass rewriting d (λ us. work (C′ .callee) (p .borrowing) Γ t′
+              (after-pass x (z ∷ []) t′ A′) (Q′ ++ (cell-of c ∷ [])) (binding (z ∷ []) us ρ′)) (word ρ′ v)) c
+              (tabulate 0 (length (words-of (s′ .store) (word ρ′ v))) (λ i. i))) >>= λ w.
+              Machine.loop-ends rewriting (word ρ′ v) w >>= λ _. give (updated ρ′ x w))
+              (cond g (give (word ρ′ v)) (acquire Q′ d []) (looked-at (cell-of (word ρ′ v))
+              (at-element s′ j′ (word ρ′ v)))))
+          chosen j j′ q₁ true e = in-place starts p rs n Γ grows trees trees′ claim rules rules′ need need′ q₁ Q
+              (eqb-true (cell (s′ .store) (cell-of (word ρ′ v)) .count) 1 e)
+          chosen j j′ q₁ false e = copied starts p rs n Γ grows trees trees′ claim rules rules′ need need′ q₁ Q

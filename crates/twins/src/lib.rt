@@ -1,0 +1,1 @@
+// Laws only: of two runs, one never has more cells in use than the other.
