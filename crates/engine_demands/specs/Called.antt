@@ -1,6 +1,6 @@
--- Demand 3 of the compiled calls, and order 4 of document 02: the ledger after a restore, and the swap. Of a call no
--- more is known than its own contract (`Reads.Post`), which holds of what it was lent, what it answered and what it
--- left; and of a save, that the words of the lent slots are of 64 bits.
+-- Demand 3 of the compiled calls, and of document 02 order 4, the ledger after a restore and the swap, and order 9, the
+-- larger store. Of a call no more is known than its own contract (`Reads.Post`), which holds of what it was lent, what
+-- it answered and what it left; and of a save, that the words of the lent slots are of 64 bits.
 use Prim.Native.Nat.{ℕ}
 use mathlib.Core.List.{List}
 use lib.IntN.{ℤ}
@@ -12,11 +12,13 @@ use Rattle.semantics.specs.Calls.{StoreReply}
 use Rattle.semantics.specs.Ledger.{Delivery}
 use Rattle.semantics.specs.Demands.{Engine, Demand3, defined}
 use Rattle.semantics.specs.SaveCalls.{SaveReply}
+use Rattle.semantics.specs.Larger.{Larger}
 use Rattle.semantics.specs.Swap.{SavingEngine, Words64, Restored, Swap, defined-saving}
 use Rattle.soundness.specs.Demand3.{demand-3, demand-3-within}
 use Rattle.soundness.specs.saved.Restoring.{restored}
 use Rattle.soundness.specs.saved.Swapping.{swap}
 use Rattle.soundness.specs.saved.Within.{Within, restored-within, swap-within}
+use Rattle.larger.specs.Larger.{larger, larger-within}
 use Rattle.engine.proofs.engine_open.Kinds as O
 use Rattle.engine.proofs.engine_open.Reads as opening
 use Rattle.engine.proofs.engine_deliver.Kinds as D
@@ -77,6 +79,11 @@ delivers-defined file slots heads δ r (delivers κs a q s h) = h
 -- For every opening that answered 0, and every list of calls of `engine_deliver` after it, on its file and store.
 pub demand-3-of-calls : Demand3 compiled
 demand-3-of-calls = demand-3-within opens-defined delivers-defined demand-3
+
+-- For every two openings of one file that answered 0, the second on a store of at least as many cells, and every list
+-- of calls of `engine_deliver` after them, on that file and those stores.
+pub larger-of-calls : Larger compiled
+larger-of-calls = larger-within opens-defined delivers-defined larger
 
 -- ---- save and restore
 

@@ -23,6 +23,7 @@ pub mod Demands
 pub mod Saved
 pub mod SaveCalls
 pub mod Swap
+pub mod Larger
 pub mod Computing
 pub mod Trials
 pub mod Slips

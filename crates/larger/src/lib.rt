@@ -1,0 +1,1 @@
+// Laws only: a larger store and larger budgets tell the same story.
