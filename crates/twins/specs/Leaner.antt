@@ -12,6 +12,7 @@ use Rattle.semantics.specs.Basics.{occurrences, _∈_}
 use Rattle.semantics.specs.Store.{Store, cell, cell-of, elements, inner, named-by, with-count, one-more, retained}
 use Rattle.laws.specs.Lists.{_⊆_, hits, occurs-first}
 use Rattle.laws.specs.Releases.{count-with}
+use Rattle.soundness.specs.machine.Elements.{getD-mapped}
 use Rattle.soundness.specs.store.Invariant.{Invariant}
 use Rattle.soundness.specs.store.Counting.{named-by-none, named-at}
 use Rattle.soundness.specs.store.Cells.{in-range, CellsAgree, agree-elements, agree-inner, Put, put-cases, put-agree}
@@ -37,14 +38,6 @@ pub record Matching (π : ℕ → ℕ) (τ : Store) (d : ℕ) (ws vs : List ℤ)
   pub numbers : d ≡ 0 → vs ≡ ws
   pub names : named-by d vs ≡ map π (named-by d ws)
   pub used : (r : ℕ) → r ∈ named-by d ws → 0 < cell τ r .count
-
--- ---- lists
-
-mapped-at : {A B : Type 0} (f : A → B) (l : List A) (i : ℕ) (a : A) (b : B) → i < length l →
-    getD (map f l) i b ≡ f (getD l i a)
-mapped-at f [] i a b h = absurd (omega arith)
-mapped-at f (x ∷ l) zero a b h = refl
-mapped-at f (x ∷ l) (suc i) a b h = mapped-at f l i a b (omega arith)
 
 -- the members of a longer list of words are named too
 pub named-first : (d : ℕ) (w : ℤ) (ws : List ℤ) (r : ℕ) → r ∈ named-by d (w ∷ []) → r ∈ named-by d (w ∷ ws)
@@ -156,9 +149,9 @@ at-names : (π : ℕ → ℕ) (d : ℕ) (ws vs : List ℤ) (i : ℕ) → i < len
     named-by d (getD vs i (pos 0) ∷ []) ≡ map π (named-by d (getD ws i (pos 0) ∷ []))
 at-names π zero ws vs i h g e = refl
 at-names π (suc d) ws vs i h g e = ap (λ (c : ℕ). c ∷ [])
-    (sym (mapped-at cell-of vs i (pos 0) 0 g) ∙ ap (λ (l : List ℕ). getD l i 0) e
-    ∙ mapped-at π (map cell-of ws) i 0 0 (omega (arith, h, length-map ws cell-of))
-    ∙ ap π (mapped-at cell-of ws i (pos 0) 0 h))
+    (sym (getD-mapped cell-of vs i (pos 0) 0 g) ∙ ap (λ (l : List ℕ). getD l i 0) e
+    ∙ getD-mapped π (map cell-of ws) i 0 0 (omega (arith, h, length-map ws cell-of))
+    ∙ ap π (getD-mapped cell-of ws i (pos 0) 0 h))
 
 at-named : (d : ℕ) (ws : List ℤ) (i : ℕ) → i < length ws → (r : ℕ) → r ∈ named-by d (getD ws i (pos 0) ∷ []) →
     r ∈ named-by d ws
