@@ -2,7 +2,7 @@
 -- seen of their deliveries, and a stop 25 with what a caller keeps.
 use Prim.Native.Nat.{ℕ}
 use mathlib.Core.Bool.{true, false}
-use mathlib.Core.Path.{_≡_, refl}
+use mathlib.Core.Path.{_≡_}
 use mathlib.Core.List.{List, [], _∷_}
 use lib.IntN.{pos}
 use lib.ListN.{length, take}
@@ -11,10 +11,9 @@ use Rattle.semantics.specs.Syntax.{Function}
 use Rattle.semantics.specs.Code.{Row, row}
 use Rattle.semantics.specs.Borrow.{Table, all-borrowed, reworked, borrowed}
 use Rattle.semantics.specs.Calls.{packed, Verdict, accepted, refused, judged}
-use Rattle.semantics.specs.Slips.{low-first, operand-bytes, file-of, seen-from, seen-of, seeing, as-told}
+use Rattle.semantics.specs.Slips.{file-of, seeing, as-told}
 use Rattle.semantics.specs.Second.{code-of}
-use Rattle.semantics.specs.Watched.{reached-from, lost, without, dry-of, dry-in}
-use Rattle.semantics.specs.Computing.{computing}
+use Rattle.semantics.specs.Watched.{dry-in}
 
 -- ---- tables
 
@@ -57,7 +56,8 @@ tables-of (refused n p) = []
 -- Of f and g only g's a is owned at once; through it f's b, then g's b, then f's a. A reduce's start, a literal's
 -- element and an end's atom are owned; what is only read and what is not used are borrowed. Main owns both of its
 -- parameters, so what it is called with is owned.
-pub borrowed-tables :
+unfoldable pub borrowed-tables : Type 0
+borrowed-tables =
     tables-of (judged (file-of 3 to-and-fro)) ∷ tables-of (judged (file-of 2 handing-over)) ∷
     tables-of (judged (file-of 2 calling-main)) ∷ []
     ≡
@@ -66,8 +66,6 @@ pub borrowed-tables :
     (((false ∷ false ∷ []) ∷ (false ∷ false ∷ false ∷ true ∷ true ∷ []) ∷ []) ∷
     ((false ∷ false ∷ []) ∷ (false ∷ false ∷ false ∷ true ∷ true ∷ []) ∷ []) ∷ []) ∷
     (((false ∷ false ∷ []) ∷ (false ∷ []) ∷ []) ∷ ((false ∷ false ∷ []) ∷ (true ∷ []) ∷ []) ∷ []) ∷ []
-unfolding computing low-first operand-bytes file-of of-parameters tables-of to-and-fro handing-over calling-main
-borrowed-tables = refl
 
 -- ---- code
 
@@ -107,7 +105,8 @@ code-in n nodes = code-of (judged (file-of n nodes))
 -- released after the call; at borrowed places alone it is not retained, and released once. No branch releases what is
 -- borrowed. A name past the parameters is released, whatever the table has at its place. An array that is passed down
 -- five calls is nowhere retained.
-pub borrowed-code :
+unfoldable pub borrowed-code : Type 0
+borrowed-code =
     code-in 2 not-used ∷ code-in 2 owned-and-borrowed ∷ code-in 2 both-borrowed ∷ code-in 2 own-literal ∷
     code-in 6 five-down ∷ []
     ≡
@@ -128,22 +127,18 @@ pub borrowed-code :
     row 0 1 ∷ row 1 256 ∷ row 8 1025 ∷ row 3 0 ∷ row 16 0 ∷ row 3 1 ∷
     row 0 1 ∷ row 1 256 ∷ row 8 1281 ∷ row 3 0 ∷ row 16 0 ∷ row 3 1 ∷
     row 0 1 ∷ row 1 256 ∷ row 11 1 ∷ row 3 0 ∷ row 16 0 ∷ row 3 1 ∷ []) ∷ []
-unfolding computing low-first operand-bytes file-of code-of code-in not-used owned-and-borrowed both-borrowed
-    own-literal five-down
-borrowed-code = refl
 
 -- ---- deliveries
 
 -- The readings are freed after the calls that read them: the literal of the second script's second delivery takes its
 -- cell while they are there.
-pub borrowed-deliveries :
+unfoldable pub borrowed-deliveries : Type 0
+borrowed-deliveries =
     seeing 6 five-down ((pos 5 ∷ pos 6 ∷ []) ∷ []) ∷
     seeing 2 owned-and-borrowed ((pos 5 ∷ []) ∷ (pos 5 ∷ pos 6 ∷ []) ∷ []) ∷ []
     ≡
     as-told (packed 0 7 6 0 ∷ []) (num (pos 2)) ∷
     as-told (packed 0 6 4 1 ∷ packed 0 5 5 1 ∷ []) (numbers []) ∷ []
-unfolding computing low-first operand-bytes file-of seen-from seen-of seeing owned-and-borrowed five-down
-borrowed-deliveries = refl
 
 -- ---- a stop 25
 
@@ -156,7 +151,8 @@ kept-by-the-caller =
 -- The fourth pass's literal wants a cell. In use are the old totals (cell 0), the map's array (2), its result so far
 -- (3, with 4, 5 and 6 below it), and the caller's {9} (1): the function is done with it, and so is the rest of the
 -- caller, which only keeps it for the call's time.
-pub borrowed-dry :
+unfoldable pub borrowed-dry : Type 0
+borrowed-dry =
     dry-in (file-of 2 kept-by-the-caller) (judged (file-of 2 kept-by-the-caller))
     ≡ record {
       number = 25;
@@ -165,5 +161,3 @@ pub borrowed-dry :
       missed = 0;
       missed-without = 1 ∷ 1 ∷ 1 ∷ 4 ∷ 0 ∷ [];
     }
-unfolding computing file-of low-first operand-bytes kept-by-the-caller reached-from lost without dry-of dry-in
-borrowed-dry = refl

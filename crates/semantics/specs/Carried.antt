@@ -1,6 +1,6 @@
 -- Document 02, order 4, as computed rows: totals saved and restored, and files and buffers that are refused.
 use Prim.Native.Nat.{ℕ, _+_, _*_}
-use mathlib.Core.Path.{_≡_, refl}
+use mathlib.Core.Path.{_≡_}
 use mathlib.Core.Bool.{true, false}
 use mathlib.Core.List.{List, [], _∷_, _++_, map}
 use mathlib.Core.Option.{none, some}
@@ -13,8 +13,7 @@ use Rattle.semantics.specs.Calls.{packed, number-of, StoreReply, engine-
 use Rattle.semantics.specs.Saved.{Entry, file-bytes, save-fits, labelled, read-saved}
 use Rattle.semantics.specs.SaveCalls.{SaveReply, totals-value, engine-save, engine-restore}
 use Rattle.semantics.specs.Swap.{file-in}
-use Rattle.semantics.specs.Slips.{file-of, low-first, operand-bytes}
-use Rattle.semantics.specs.Computing.{computing}
+use Rattle.semantics.specs.Slips.{file-of}
 
 -- ---- a swap, seen
 
@@ -98,7 +97,8 @@ lost number taken buffer restore = record {
 
 -- Saved from 2 cells and restored into 3; the same into 2, where no cell is free for the third array; and into a buffer
 -- with one byte too few. Empty totals of depth 1 and of depth 4, and the number 0.
-pub carries :
+unfoldable pub carries : Type 0
+carries =
     carrying twice-named 2 (pos 5 ∷ negsuc 0 ∷ []) 68 3 ∷
     carrying twice-named 2 (pos 5 ∷ negsuc 0 ∷ []) 66 2 ∷
     carrying twice-named 2 (pos 5 ∷ negsuc 0 ∷ []) 65 3 ∷
@@ -112,13 +112,12 @@ pub carries :
     arrived 1 (1 ∷ 1 ∷ 0 ∷ 1 ∷ replicate 9 0) 1 (list []) ∷
     arrived 1 (4 ∷ 1 ∷ 0 ∷ 1 ∷ replicate 8 0) 1 (list []) ∷
     arrived 0 (0 ∷ 1 ∷ 0 ∷ 0 ∷ replicate 8 0) 0 (num (pos 0)) ∷ []
-unfolding computing low-first operand-bytes file-of twice-named unchanged carrying twice-bytes twice-value
-carries = refl
 
 -- ---- words after a restore
 
 -- cells 0, 1 and 2 in prefix order, each of count 1, though the saved arrays were one; the rest is linked upwards
-pub restored-words :
+unfoldable pub restored-words : Type 0
+restored-words =
     engine-restore (unchanged 2) code-kinds code-operands (old-slots 5) (old-heads 5) twice-bytes
     ≡ record {
       answer = packed 0 0 0 3;
@@ -130,11 +129,10 @@ pub restored-words :
       heads =
           3 ∷ 1 ∷ 2 ∷ 1 ∷ 0 ∷ 1 ∷ 2 ∷ 0 ∷ 0 ∷ 1 ∷ 2 ∷ 0 ∷ 0 ∷ 0 ∷ 0 ∷ 0 ∷ 4 ∷ 0 ∷ 0 ∷ 0 ∷ 5 ∷ [];
     }
-unfolding computing low-first operand-bytes file-of unchanged twice-bytes
-restored-words = refl
 
 -- where no cell is left all words of the store are zero, and the code stands
-pub dry-restore :
+unfoldable pub dry-restore : Type 0
+dry-restore =
     engine-restore (unchanged 2) code-kinds code-operands (old-slots 2) (old-heads 2) twice-bytes
     ≡ record {
       answer = packed 25 0 0 0;
@@ -143,8 +141,6 @@ pub dry-restore :
       slots = replicate 33 (pos 0);
       heads = replicate 9 0;
     }
-unfolding computing low-first operand-bytes file-of unchanged twice-bytes
-dry-restore = refl
 
 -- ---- files refused
 
@@ -154,7 +150,8 @@ entry m n = record { mark = m; number = pos n }
 -- the array {3}, first well formed. Then: no bytes, no entry, two bytes, another depth, a byte more, an entry more, an
 -- entry less than the mark says, a mark of 18, a number where an array is due, an array where a number is due, a number
 -- other than 0 at an array.
-pub refused-files :
+unfoldable pub refused-files : Type 0
+refused-files =
     map (read-saved 1) (
     file-bytes 1 (entry 2 0 ∷ entry 0 3 ∷ []) ∷
     [] ∷
@@ -169,46 +166,42 @@ pub refused-files :
     file-bytes 1 (entry 2 0 ∷ entry 1 0 ∷ []) ∷
     file-bytes 1 (entry 2 1 ∷ entry 0 3 ∷ []) ∷ [])
     ≡ some (numbers (pos 3 ∷ [])) ∷ replicate 11 none
-unfolding computing
-refused-files = refl
 
 -- ---- limits and the order of tests
 
 -- Files of 4,096 and of 4,097 entries; buffers for 4,096 with just enough bytes and with one too few; and 4,097
 -- entries, whatever the buffer.
-pub limits :
+unfoldable pub limits : Type 0
+limits =
     labelled 1 (1 ∷ 0 ∷ 16 ∷ replicate 36864 0) ∷ labelled 1 (1 ∷ 1 ∷ 16 ∷ replicate 36873 0) ∷
     save-fits 4096 36867 ∷ save-fits 4096 36866 ∷ save-fits 4097 100000 ∷ []
     ≡ true ∷ false ∷ true ∷ false ∷ false ∷ []
-unfolding computing
-limits = refl
 
 -- the number of a save, and the buffer after it
 abbrev pub save-told : SaveReply → ℕ × List ℕ
 save-told r = (number-of (r .answer), r .saved)
 
 -- Code that does not fit before an unsound store, and that before a buffer too short: both zero it.
-pub refused-saves :
+unfoldable pub refused-saves : Type 0
+refused-saves =
     save-told (engine-save (unchanged 1) [] [] (old-slots 2) (old-heads 2) (7 ∷ [])) ∷
     save-told (engine-save (unchanged 1) code-kinds code-operands (old-slots 2) (old-heads 2) (7 ∷ [])) ∷ []
     ≡ (9, 0 ∷ []) ∷ (11, 0 ∷ []) ∷ []
-unfolding computing low-first operand-bytes file-of unchanged
-refused-saves = refl
 
 -- Code that does not fit before lengths that do not, and those before a file of another depth; that before a cell too
 -- few.
-pub refused-restores :
+unfoldable pub refused-restores : Type 0
+refused-restores =
     map (λ r. number-of (r .answer)) (
     engine-restore (unchanged 2) [] [] (old-slots 1) (old-heads 2) [] ∷
     engine-restore (unchanged 2) code-kinds code-operands (old-slots 1) (old-heads 2) [] ∷
     engine-restore (unchanged 1) code-kinds code-operands (old-slots 1) (old-heads 1) twice-bytes ∷
     engine-restore (unchanged 2) code-kinds code-operands (old-slots 1) (old-heads 1) twice-bytes ∷ [])
     ≡ 9 ∷ 11 ∷ 27 ∷ 25 ∷ []
-unfolding computing low-first operand-bytes file-of unchanged twice-bytes
-refused-restores = refl
 
 -- a refusal leaves the store as it was
-pub store-left :
+unfoldable pub store-left : Type 0
+store-left =
     engine-restore (unchanged 1) code-kinds code-operands (old-slots 1) (old-heads 1) twice-bytes
     ≡ record {
       answer = packed 27 0 0 0;
@@ -217,5 +210,3 @@ pub store-left :
       slots = old-slots 1;
       heads = old-heads 1;
     }
-unfolding computing low-first operand-bytes file-of unchanged twice-bytes
-store-left = refl

@@ -1,15 +1,14 @@
 -- Document 02, order 5: a guard is 1 or 0, as computed rows: an if's guard, a filter's, and a cell wanted in the body
 -- of a filter whose guard is neither.
 use mathlib.Core.Bool.{true, false}
-use mathlib.Core.Path.{_≡_, refl}
+use mathlib.Core.Path.{_≡_}
 use mathlib.Core.List.{List, [], _∷_}
 use lib.IntN.{pos, negsuc}
 use Rattle.semantics.specs.Value.{list, numbers}
 use Rattle.semantics.specs.Code.{Row, row}
 use Rattle.semantics.specs.Calls.{packed}
-use Rattle.semantics.specs.Slips.{low-first, operand-bytes, file-of, seen-from, seen-of, seeing, as-told}
-use Rattle.semantics.specs.Second.{answer-on, may-be-dry, dry-at}
-use Rattle.semantics.specs.Computing.{computing}
+use Rattle.semantics.specs.Slips.{file-of, seeing, as-told}
+use Rattle.semantics.specs.Second.{answer-on, dry-at}
 
 -- ---- the scripts
 
@@ -43,18 +42,18 @@ wanting =
 
 -- 1 takes the then part, whatever guard the other part has; 2, -1 and the greatest number of 64 bits are 28 after the
 -- if's step; 0 takes the else part, whose own guard is then looked at.
-pub guard-of-an-if :
+unfoldable pub guard-of-an-if : Type 0
+guard-of-an-if =
     seeing 1 deciding
     ((pos 1 ∷ []) ∷ (pos 2 ∷ []) ∷ (negsuc 0 ∷ []) ∷ (pos 9223372036854775807 ∷ []) ∷ (pos 0 ∷ []) ∷ []) ∷ []
     ≡
     as-told (packed 0 6 3 1 ∷ packed 28 6 2 1 ∷ packed 28 6 2 1 ∷ packed 28 6 2 1 ∷ packed 28 6 3 1 ∷ [])
     (numbers (pos 9 ∷ [])) ∷ []
-unfolding computing low-first operand-bytes file-of seen-from seen-of seeing deciding
-guard-of-an-if = refl
 
 -- 1 keeps an element and 0 leaves it out; another number is 28 with the steps so far, and a stop in the body comes
 -- first. What was kept before a 28 is given back.
-pub guard-of-a-filter :
+unfoldable pub guard-of-a-filter : Type 0
+guard-of-a-filter =
     seeing 1 keeping-itself
     ((pos 1 ∷ pos 0 ∷ pos 1 ∷ []) ∷ (pos 0 ∷ pos 1 ∷ pos 2 ∷ pos 1 ∷ []) ∷ (negsuc 0 ∷ []) ∷ [] ∷ []) ∷
     seeing 1 pointing ((pos 1 ∷ pos 0 ∷ []) ∷ (pos 0 ∷ pos 2 ∷ pos 3 ∷ []) ∷ (pos 5 ∷ []) ∷ []) ∷
@@ -63,23 +62,19 @@ pub guard-of-a-filter :
     as-told (packed 0 5 4 1 ∷ packed 28 5 4 1 ∷ packed 28 5 2 1 ∷ packed 0 5 1 1 ∷ []) (numbers []) ∷
     as-told (packed 0 5 5 1 ∷ packed 28 5 5 1 ∷ packed 23 5 3 1 ∷ []) (numbers (pos 0 ∷ [])) ∷
     as-told (packed 28 3 7 1 ∷ packed 28 3 7 1 ∷ []) (list []) ∷ []
-unfolding computing low-first operand-bytes file-of seen-from seen-of seeing keeping-itself pointing sorting-out
-guard-of-a-filter = refl
 
 -- ---- a cell wanted in the body
 
 -- With three cells the third step's literal finds none free, with four the guard is then 28 at the same steps; the
 -- ledger lets the 25 be there, but not at the pass. An if's guard is 28 where its parts would find no cell free.
-pub guard-and-cell :
+unfoldable pub guard-and-cell : Type 0
+guard-and-cell =
     answer-on 3 (file-of 1 wanting) (pos 7 ∷ []) ∷ answer-on 4 (file-of 1 wanting) (pos 7 ∷ []) ∷
     answer-on 2 (file-of 1 deciding) (pos 1 ∷ []) ∷ answer-on 2 (file-of 1 deciding) (pos 2 ∷ []) ∷ []
     ≡ packed 25 0 3 1 ∷ packed 28 0 3 1 ∷ packed 0 0 3 1 ∷ packed 28 0 2 1 ∷ []
-unfolding computing low-first operand-bytes file-of answer-on deciding wanting
-guard-and-cell = refl
 
-pub dry-before-the-guard :
+unfoldable pub dry-before-the-guard : Type 0
+dry-before-the-guard =
     dry-at wanting (numbers []) (pos 7 ∷ []) 3 ∷ dry-at wanting (numbers []) (pos 7 ∷ []) 2 ∷
     dry-at deciding (numbers []) (pos 2 ∷ []) 2 ∷ []
     ≡ true ∷ false ∷ false ∷ []
-unfolding computing low-first operand-bytes file-of may-be-dry dry-at deciding wanting
-dry-before-the-guard = refl

@@ -1,24 +1,22 @@
 -- Document 02, order 2: the lowest level, as computed rows: of some logs, and in the answers of first deliveries.
-use mathlib.Core.Path.{_≡_, refl}
+use mathlib.Core.Path.{_≡_}
 use mathlib.Core.List.{List, [], _∷_}
 use lib.IntN.{pos}
 use Rattle.semantics.specs.Code.{Row, row}
 use Rattle.semantics.specs.Machine.{acquires, frees, touches, level-after, lowest-over}
 use Rattle.semantics.specs.Calls.{packed}
-use Rattle.semantics.specs.Slips.{low-first, operand-bytes, file-of}
+use Rattle.semantics.specs.Slips.{file-of}
 use Rattle.semantics.specs.Second.{answer-on}
-use Rattle.semantics.specs.Computing.{computing}
 
 -- ---- logs
 
 -- The level before a log counts, and so does each one inside it; what is freed counts again, and a touch changes none.
-pub levels-of-logs :
+unfoldable pub levels-of-logs : Type 0
+levels-of-logs =
     lowest-over [] 5 ∷ lowest-over (frees 1 ∷ []) 2 ∷ lowest-over (touches 1 ∷ []) 2 ∷
     lowest-over (acquires 0 ∷ acquires 1 ∷ frees 0 ∷ []) 5 ∷ level-after (acquires 0 ∷ acquires 1 ∷ frees 0 ∷ []) 5 ∷
     lowest-over (acquires 0 ∷ frees 0 ∷ acquires 0 ∷ frees 0 ∷ []) 1 ∷ []
     ≡ 5 ∷ 2 ∷ 2 ∷ 3 ∷ 4 ∷ 0 ∷ []
-unfolding level-after lowest-over
-levels-of-logs = refl
 
 -- ---- the scripts
 
@@ -50,7 +48,8 @@ nesting =
 -- The least is there while the readings have their cell, for totals that are an array and that are a number; inside,
 -- before a release brings one cell back, or three; it is 0 at a stop 25, for the readings and later; and at an index
 -- off the end it is what it was before a release.
-pub lowest-levels :
+unfoldable pub lowest-levels : Type 0
+lowest-levels =
     answer-on 3 (file-of 1 keeping) (pos 5 ∷ []) ∷ answer-on 2 (file-of 1 measuring) (pos 5 ∷ []) ∷
     answer-on 4 (file-of 1 forgetting) (pos 5 ∷ []) ∷ answer-on 6 (file-of 1 nesting) (pos 5 ∷ []) ∷
     answer-on 1 (file-of 1 forgetting) (pos 5 ∷ []) ∷ answer-on 2 (file-of 1 forgetting) (pos 5 ∷ []) ∷
@@ -58,5 +57,3 @@ pub lowest-levels :
     ≡
     packed 0 1 0 1 ∷ packed 0 1 1 0 ∷ packed 0 1 1 1 ∷ packed 0 2 5 1 ∷ packed 25 0 0 1 ∷ packed 25 0 1 1 ∷
     packed 23 1 2 1 ∷ []
-unfolding computing low-first operand-bytes file-of answer-on keeping measuring forgetting indexing nesting
-lowest-levels = refl

@@ -35,3 +35,4 @@ pub mod Borrows
 pub mod Rewriting
 pub mod Watched
 pub mod Carried
+pub mod Rows

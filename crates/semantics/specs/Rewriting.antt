@@ -2,7 +2,7 @@
 -- their deliveries, their lowest levels with and without rewriting, and what stops 25 leave in the cells.
 use Prim.Native.Nat.{ℕ}
 use mathlib.Core.Bool.{Bool, true, false}
-use mathlib.Core.Path.{_≡_, refl}
+use mathlib.Core.Path.{_≡_}
 use mathlib.Core.List.{List, [], _∷_, map}
 use lib.IntN.{ℤ, pos}
 use Rattle.semantics.specs.Value.{list, numbers}
@@ -12,10 +12,8 @@ use Rattle.semantics.specs.Store.{Store, cell, elements, opened}
 use Rattle.semantics.specs.Machine.{Program, program, program-in, delivery, starting, delivered}
 use Rattle.semantics.specs.Machine.{state-of}
 use Rattle.semantics.specs.Calls.{packed, Verdict, accepted, refused, judged}
-use Rattle.semantics.specs.Slips.{low-first, operand-bytes, file-of, seen-from, seen-of, seeing, as-told}
-use Rattle.semantics.specs.Second.{code-of}
+use Rattle.semantics.specs.Slips.{file-of, seeing, as-told}
 use Rattle.semantics.specs.Borrows.{code-in}
-use Rattle.semantics.specs.Computing.{computing}
 
 -- ---- code
 
@@ -70,7 +68,8 @@ outer-array-of-passes =
 -- An array that dies at a map of numbers is rewritten, and no release follows: the readings, the result of another map,
 -- an empty literal, an if's result, an index result. One that is live afterwards, is used in the map's tree, is
 -- borrowed or is an outer array of a pass is not.
-pub rewritten-code :
+unfoldable pub rewritten-code : Type 0
+rewritten-code =
     code-in 1 dying-array ∷ code-in 1 map-of-a-map ∷ code-in 1 empty-array ∷ code-in 1 totals-or-readings ∷
     code-in 1 kept-beside ∷ code-in 1 live-afterwards ∷ code-in 1 in-its-own-tree ∷ code-in 2 borrowed-array ∷
     code-in 1 outer-array-of-passes ∷ []
@@ -96,16 +95,14 @@ pub rewritten-code :
     (row 0 514 ∷ row 1 512 ∷ row 1 257 ∷ row 15 0 ∷ row 17 2 ∷ row 2 2 ∷ row 13 1027 ∷ row 3 2 ∷ row 13 1541 ∷
     row 3 1 ∷ row 4 7 ∷ row 3 6 ∷ row 3 4 ∷ row 16 0 ∷ row 3 7 ∷ row 16 0 ∷ row 3 5 ∷ row 15 1 ∷ row 15 2 ∷
     row 16 0 ∷ row 3 3 ∷ []) ∷ []
-unfolding computing low-first operand-bytes file-of code-of code-in dying-array map-of-a-map empty-array
-    totals-or-readings kept-beside live-afterwards in-its-own-tree borrowed-array outer-array-of-passes
-rewritten-code = refl
 
 -- ---- deliveries
 
 -- The readings are rewritten, by two maps too, and their cell becomes the totals'. Totals that were delivered before
 -- have two references, the store's and the parameter's, so a new cell is taken; so has an array that an element names,
 -- and it stays as it was.
-pub rewritten-deliveries :
+unfoldable pub rewritten-deliveries : Type 0
+rewritten-deliveries =
     seeing 1 dying-array ((pos 1 ∷ pos 2 ∷ pos 3 ∷ []) ∷ (pos 7 ∷ pos 8 ∷ []) ∷ []) ∷
     seeing 1 map-of-a-map ((pos 1 ∷ pos 2 ∷ []) ∷ []) ∷ seeing 1 empty-array ((pos 1 ∷ []) ∷ []) ∷
     seeing 1 totals-or-readings ((pos 1 ∷ pos 2 ∷ []) ∷ (pos 9 ∷ []) ∷ []) ∷
@@ -117,9 +114,6 @@ pub rewritten-deliveries :
     as-told (packed 0 6 8 1 ∷ packed 0 6 8 1 ∷ []) (numbers (pos 3 ∷ pos 4 ∷ [])) ∷
     as-told (packed 0 4 9 3 ∷ packed 0 2 7 3 ∷ []) (list (numbers (pos 8 ∷ []) ∷ numbers (pos 7 ∷ []) ∷ [])) ∷
     as-told (packed 0 5 7 1 ∷ []) (numbers (pos 7 ∷ pos 8 ∷ [])) ∷ []
-unfolding computing low-first operand-bytes file-of seen-from seen-of seeing dying-array map-of-a-map empty-array
-    totals-or-readings kept-beside in-its-own-tree
-rewritten-deliveries = refl
 
 -- ---- lowest levels
 
@@ -139,7 +133,8 @@ both-levels cells readings nodes =
 -- Rewriting saves the cell of a result, for an empty array too, and may save a delivery from a stop 25; it saves one
 -- cell for two maps, of which one result is there at a time. Where the array has two references, or the map does not
 -- rewrite, the level is the same.
-pub rewritten-levels :
+unfoldable pub rewritten-levels : Type 0
+rewritten-levels =
     both-levels 4 (pos 1 ∷ pos 2 ∷ []) dying-array ∷ both-levels 2 (pos 1 ∷ pos 2 ∷ []) dying-array ∷
     both-levels 4 [] empty-array ∷ both-levels 4 (pos 1 ∷ pos 2 ∷ []) map-of-a-map ∷
     both-levels 6 (pos 5 ∷ []) kept-beside ∷ both-levels 8 (pos 5 ∷ []) outer-array-of-passes ∷ []
@@ -147,9 +142,6 @@ pub rewritten-levels :
     ((0 ∷ 2 ∷ 5 ∷ []) ∷ (0 ∷ 1 ∷ 5 ∷ []) ∷ []) ∷ ((0 ∷ 0 ∷ 5 ∷ []) ∷ (25 ∷ 0 ∷ 1 ∷ []) ∷ []) ∷
     ((0 ∷ 2 ∷ 2 ∷ []) ∷ (0 ∷ 1 ∷ 2 ∷ []) ∷ []) ∷ ((0 ∷ 2 ∷ 10 ∷ []) ∷ (0 ∷ 1 ∷ 10 ∷ []) ∷ []) ∷
     ((0 ∷ 2 ∷ 7 ∷ []) ∷ (0 ∷ 2 ∷ 7 ∷ []) ∷ []) ∷ ((0 ∷ 2 ∷ 10 ∷ []) ∷ (0 ∷ 2 ∷ 10 ∷ []) ∷ []) ∷ []
-unfolding computing low-first operand-bytes file-of levels-by both-levels dying-array empty-array map-of-a-map
-    kept-beside outer-array-of-passes
-rewritten-levels = refl
 
 -- ---- a stop 25 in the tree
 
@@ -179,20 +171,18 @@ cells-left cs before readings (refused n p) = []
 
 -- Both stop in the second pass. The readings (cell 0) are rewritten so far, and the totals (1) are as they were; or the
 -- totals (0) are mapped, and the results so far stand in a new cell (1).
-pub rewritten-stops :
+unfoldable pub rewritten-stops : Type 0
+rewritten-stops =
     seeing 1 cells-in-the-tree ((pos 1 ∷ pos 2 ∷ []) ∷ (pos 1 ∷ pos 5 ∷ []) ∷ []) ∷
     seeing 1 cells-beside-the-totals ((pos 1 ∷ pos 2 ∷ []) ∷ (pos 9 ∷ []) ∷ (pos 9 ∷ []) ∷ []) ∷ []
     ≡
     as-told (packed 0 2 17 1 ∷ packed 25 0 21 1 ∷ []) (numbers (pos 2 ∷ pos 4 ∷ [])) ∷
     as-told (packed 0 2 20 1 ∷ packed 0 0 26 1 ∷ packed 25 0 30 1 ∷ []) (numbers (pos 4 ∷ pos 8 ∷ [])) ∷ []
-unfolding computing low-first operand-bytes file-of seen-from seen-of seeing cells-in-the-tree cells-beside-the-totals
-rewritten-stops = refl
 
-pub rewritten-so-far :
+unfoldable pub rewritten-so-far : Type 0
+rewritten-so-far =
     cells-left (0 ∷ 1 ∷ []) ((pos 1 ∷ pos 2 ∷ []) ∷ []) (pos 1 ∷ pos 5 ∷ []) (judged (file-of 1 cells-in-the-tree)) ∷
     cells-left (0 ∷ 1 ∷ []) ((pos 1 ∷ pos 2 ∷ []) ∷ (pos 9 ∷ []) ∷ []) (pos 9 ∷ [])
     (judged (file-of 1 cells-beside-the-totals)) ∷ []
     ≡
     ((pos 2 ∷ pos 5 ∷ []) ∷ (pos 2 ∷ pos 4 ∷ []) ∷ []) ∷ ((pos 4 ∷ pos 8 ∷ []) ∷ (pos 8 ∷ []) ∷ []) ∷ []
-unfolding computing low-first operand-bytes file-of store-after cells-left cells-in-the-tree cells-beside-the-totals
-rewritten-so-far = refl

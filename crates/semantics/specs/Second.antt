@@ -2,7 +2,7 @@
 -- their deliveries, where a cell is wanted, and refusals.
 use Prim.Native.Nat.{ℕ, _+_, _*_}
 use mathlib.Core.Bool.{Bool, true, false}
-use mathlib.Core.Path.{_≡_, refl}
+use mathlib.Core.Path.{_≡_}
 use mathlib.Core.List.{List, [], _∷_}
 use lib.IntN.{ℤ, pos}
 use lib.ListN.{replicate}
@@ -17,8 +17,7 @@ use Rattle.semantics.specs.Annotate.{code}
 use Rattle.semantics.specs.Meaning.{main-meaning}
 use Rattle.semantics.specs.Calls.{packed, Verdict, accepted, refused, judged, engine-open, engine-deliver}
 use Rattle.semantics.specs.Ledger.{wants-cell}
-use Rattle.semantics.specs.Slips.{low-first, operand-bytes, file-of, seen-from, seen-of, seeing, as-told}
-use Rattle.semantics.specs.Computing.{computing}
+use Rattle.semantics.specs.Slips.{file-of, seeing, as-told}
 
 -- ---- the scripts
 
@@ -79,7 +78,8 @@ code-of (refused n p) = row n p ∷ []
 unfoldable pub coded : List Row → List Row
 coded nodes = code-of (judged (file-of 1 nodes))
 
-pub second-code :
+unfoldable pub second-code : Type 0
+second-code =
     coded repeating ∷ coded folding ∷ coded start-in-the-tree ∷ coded hidden-first ∷ coded nested ∷ []
     ≡
     (row 0 514 ∷ row 1 512 ∷ row 1 257 ∷ row 15 0 ∷ row 10 2 ∷ row 3 1 ∷ row 2 0 ∷ row 18 3 ∷ row 3 2 ∷ row 3 1 ∷
@@ -96,13 +96,11 @@ pub second-code :
     row 3 4 ∷ row 3 1 ∷ row 4 8 ∷ row 3 6 ∷ row 3 7 ∷ row 16 0 ∷ row 3 8 ∷ row 16 0 ∷ row 3 5 ∷ row 15 1 ∷
     row 19 2569 ∷ row 3 3 ∷ row 6 11 ∷ row 3 10 ∷ row 2 7 ∷ row 16 0 ∷ row 3 11 ∷ row 15 3 ∷ row 16 0 ∷ row 3 9 ∷ [])
     ∷ []
-unfolding computing low-first operand-bytes file-of code-of coded repeating folding start-in-the-tree hidden-first
-    nested
-second-code = refl
 
 -- ---- their deliveries
 
-pub second :
+unfoldable pub second : Type 0
+second =
     seeing 1 counting ((pos 3 ∷ []) ∷ (pos 17 ∷ []) ∷ (pos 0 ∷ []) ∷ []) ∷
     seeing 1 repeating ((pos 2 ∷ []) ∷ (pos 0 ∷ []) ∷ (pos 3 ∷ []) ∷ []) ∷
     seeing 1 sieving ((pos 2 ∷ []) ∷ (pos 7 ∷ []) ∷ (pos 3 ∷ []) ∷ []) ∷
@@ -122,9 +120,6 @@ pub second :
     as-told (packed 0 5 4 1 ∷ packed 0 5 4 1 ∷ []) (numbers (pos 5 ∷ [])) ∷
     as-told (packed 0 5 3 1 ∷ packed 0 5 3 1 ∷ []) (numbers (pos 5 ∷ [])) ∷
     as-told (packed 0 5 21 1 ∷ packed 0 5 27 1 ∷ []) (numbers (pos 6 ∷ [])) ∷ []
-unfolding computing low-first operand-bytes file-of seen-from seen-of seeing counting repeating sieving summing folding
-    start-in-the-tree hidden-first nested
-second = refl
 
 -- ---- where a cell is wanted
 
@@ -146,25 +141,23 @@ dry-at nodes v readings steps = may-be-dry (judged (file-of 1 nodes)) v readings
 
 -- With no cell free a count out of range is 26, and one in range 25; a filter wants its cell after its array's; a
 -- reduce wants none.
-pub second-dry :
+unfoldable pub second-dry : Type 0
+second-dry =
     answer-on 2 (file-of 1 counting-beside) (pos 17 ∷ []) ∷ answer-on 2 (file-of 1 counting-beside) (pos 3 ∷ []) ∷
     answer-on 2 (file-of 1 repeating) (pos 17 ∷ []) ∷ answer-on 2 (file-of 1 repeating) (pos 16 ∷ []) ∷
     answer-on 3 (file-of 1 sieving) (pos 3 ∷ []) ∷ answer-on 1 (file-of 1 summing) (pos 3 ∷ []) ∷ []
     ≡
     packed 26 0 2 1 ∷ packed 25 0 2 1 ∷ packed 26 0 2 1 ∷ packed 25 0 2 1 ∷ packed 25 0 2 1 ∷ packed 0 0 3 0 ∷ []
-unfolding computing low-first operand-bytes file-of answer-on counting-beside repeating sieving summing
-second-dry = refl
 
 -- The own steps of an iota and a replicate with a count in range and of a filter want a cell; not so with another
 -- count, at a pass, and at a reduce.
-pub second-wants :
+unfoldable pub second-wants : Type 0
+second-wants =
     dry-at counting (numbers []) (pos 3 ∷ []) 2 ∷ dry-at counting (numbers []) (pos 17 ∷ []) 2 ∷
     dry-at repeating (list []) (pos 3 ∷ []) 2 ∷ dry-at repeating (list []) (pos 17 ∷ []) 2 ∷
     dry-at sieving (list []) (pos 3 ∷ []) 2 ∷ dry-at sieving (list []) (pos 3 ∷ []) 3 ∷
     dry-at summing (num (pos 0)) (pos 3 ∷ []) 1 ∷ []
     ≡ true ∷ false ∷ true ∷ false ∷ true ∷ false ∷ false ∷ []
-unfolding computing low-first operand-bytes file-of may-be-dry dry-at counting repeating sieving summing
-second-wants = refl
 
 -- ---- refusals
 
@@ -184,7 +177,8 @@ found nodes = found-in (read-file (file-of 1 (row 0 2 ∷ row 1 0 ∷ row 1 257 
 -- Kinds 16 and 21 are no parts; an iota has no operand, a filter one name. The names of a reduce do not reach its
 -- start. A replicate of depth 4, a guard that is an array, a body of another depth than the start's and a reduce over
 -- a number break 7, the last whatever its body; but it is not judged where its start has no depth.
-pub second-refusals :
+unfoldable pub second-refusals : Type 0
+second-refusals =
     found (row 16 0 ∷ []) ∷ found (row 21 0 ∷ []) ∷ found (row 17 1 ∷ row 2 0 ∷ []) ∷
     found (row 19 256 ∷ row 3 1 ∷ row 2 0 ∷ []) ∷
     found (row 20 (5 + 256 * 6) ∷ row 3 5 ∷ row 3 1 ∷ row 3 6 ∷ []) ∷
@@ -196,5 +190,3 @@ pub second-refusals :
     ≡
     unread 3 3 ∷ unread 3 3 ∷ unread 4 3 ∷ unread 4 3 ∷ faulty (4 ∷ []) [] ∷ faulty [] (4 ∷ []) ∷ faulty [] (4 ∷ []) ∷
     faulty [] (3 ∷ []) ∷ faulty [] (3 ∷ 6 ∷ []) ∷ faulty [] (4 ∷ []) ∷ []
-unfolding computing low-first operand-bytes file-of found-in found
-second-refusals = refl

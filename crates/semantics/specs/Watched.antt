@@ -2,7 +2,7 @@
 -- its log, and a stop 25 inside a map inside a call, with its roots.
 use Prim.Native.Nat.{ℕ, zero, suc, _+_}
 use mathlib.Core.Bool.{cond, false}
-use mathlib.Core.Path.{_≡_, refl}
+use mathlib.Core.Path.{_≡_}
 use mathlib.Core.List.{List, [], _∷_, _++_}
 use lib.IntN.{pos}
 use lib.ListN.{replicate}
@@ -17,8 +17,7 @@ use Rattle.semantics.specs.Words.{store-of}
 use Rattle.semantics.specs.Machine.{Frame, State, work, starting, state-of, program, delivery}
 use Rattle.semantics.specs.Calls.{Verdict, accepted, refused, judged, engine-open}
 use Rattle.semantics.specs.Demands.{touched}
-use Rattle.semantics.specs.Computing.{computing}
-use Rattle.semantics.specs.Slips.{file-of, low-first, operand-bytes}
+use Rattle.semantics.specs.Slips.{file-of}
 
 -- ---- touches
 
@@ -44,7 +43,8 @@ then-ends = end (number (pos 0))
 
 -- A length, an index and a map read the free cell; it is retained; it is released, by its name and as an element of
 -- cell 0; and a map's tree releases the cell of its own result, which is then filled while free.
-pub touches-logged :
+unfoldable pub touches-logged : Type 0
+touches-logged =
     touched-by (line (leaf 2 length-of (name 1 ∷ [])) then-ends) ∷
     touched-by (line (leaf 2 index (name 1 ∷ number (pos 0) ∷ [])) then-ends) ∷
     touched-by (line (loop 2 mapping (3 ∷ []) (name 1 ∷ []) then-ends) then-ends) ∷
@@ -54,8 +54,6 @@ pub touches-logged :
     touched-by (line (loop 2 mapping (3 ∷ []) (name 0 ∷ []) (line (release 1) then-ends)) then-ends) ∷
     touched-by (line (retain 0) (line (leaf 2 length-of (name 0 ∷ [])) then-ends)) ∷ []
     ≡ (1 ∷ []) ∷ (1 ∷ []) ∷ (1 ∷ []) ∷ (1 ∷ []) ∷ (1 ∷ []) ∷ (1 ∷ []) ∷ (1 ∷ []) ∷ [] ∷ []
-unfolding computing half-free stale touched-by
-touches-logged = refl
 
 -- ---- the roots of a stop 25
 
@@ -73,13 +71,14 @@ reached-from (suc n) σ [] = []
 reached-from (suc n) σ (c ∷ cs) = reached-from n σ (c ∷ inner (cell σ c)) ++ reached-from (suc n) σ cs
 
 -- how many of the taken cells up to c are not among some
-unfoldable pub lost : Store → List ℕ → ℕ → ℕ
-lost σ cs zero = 0
-lost σ cs (suc c) = cond (ltb 0 (cell σ c .count)) (cond (eqb (occurrences c cs) 0) 1 0) 0 + lost σ cs c
+unfoldable pub unreached-below : Store → List ℕ → ℕ → ℕ
+unreached-below σ cs zero = 0
+unreached-below σ cs (suc c) =
+    cond (ltb 0 (cell σ c .count)) (cond (eqb (occurrences c cs) 0) 1 0) 0 + unreached-below σ cs c
 
 -- how many taken cells of a store are not reached from some roots
 abbrev pub unreached : Store → List ℕ → ℕ
-unreached σ roots = lost σ (reached-from 4 σ roots) (cell-count σ)
+unreached σ roots = unreached-below σ (reached-from 4 σ roots) (cell-count σ)
 
 -- a list without its element i
 unfoldable pub without : ℕ → List ℕ → List ℕ
@@ -119,7 +118,8 @@ dry-in file (refused n p) = record { number = n; left = 0; roots = []; missed = 
 -- The eleventh step's literal wants a cell. In use are the old totals (cell 0), the caller's a (2), the map's array
 -- (1), its result so far (3, with 4 and 5 below it) and the literal's atom (6); without any one of these starts a taken
 -- cell is reached from none.
-pub dry-roots :
+unfoldable pub dry-roots : Type 0
+dry-roots =
     dry-in (file-of 2 map-in-a-call) (judged (file-of 2 map-in-a-call))
     ≡ record {
       number = 25;
@@ -128,5 +128,3 @@ pub dry-roots :
       missed = 0;
       missed-without = 1 ∷ 1 ∷ 1 ∷ 3 ∷ 1 ∷ [];
     }
-unfolding computing file-of low-first operand-bytes map-in-a-call reached-from lost without dry-of dry-in
-dry-roots = refl
