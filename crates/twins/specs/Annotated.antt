@@ -28,14 +28,14 @@ use Rattle.semantics.specs.Demands.{mapping-only}
 use Rattle.laws.specs.Lists.{occurs-first}
 use Rattle.laws.specs.Routines.{routine-in, length-routines-in, length-routines, routine-in-is, routine-is}
 use Rattle.soundness.specs.machine.Discipline.{less, without, AllKnown}
-use Rattle.soundness.specs.annotation.Typed.{in-scripts, Functions}
+use Rattle.soundness.specs.annotation.Typed.{Functions}
 use Rattle.soundness.specs.annotation.Formed.{Within, within-up, within-bound, within-pass, bound-by}
 use Rattle.soundness.specs.annotation.Formed.{Placed, Formed, LineFormed}
 use Rattle.soundness.specs.annotation.Unchanged.{pass, written-loop}
 use Rattle.soundness.specs.annotation.Written.{written-as}
 use Rattle.soundness.specs.annotation.Functions.{functions-in, Accepted, given-within, formed}
 use Rattle.soundness.specs.annotation.Accepting.{all-accepted}
-use Rattle.twins.specs.Twin.{keeps-its-array, Twin, same-end, same-leaf, same-if, same-loop, same-retain}
+use Rattle.twins.specs.Twin.{Twin, same-end, same-leaf, same-if, same-loop, same-retain}
 use Rattle.twins.specs.Twin.{same-release, spared, rewritten, TwinRoutine, TwinPrograms}
 
 -- ---- retains and releases
@@ -102,12 +102,6 @@ module _ (y : ℕ) (D D′ : Set) (alike : (n : ℕ) → n ≢ y → D n ≡ D�
 
 -- ---- the trees
 
-keeps : (k : Loop) → in-scripts k ≡ true → keeps-its-array k ≡ true
-keeps mapping e = refl
-keeps filtering e = refl
-keeps reducing e = refl
-keeps rewriting e = e
-
 module _ (β : Borrowing) (Γ : NameDepths) where
   -- no loop is written anew
   written-kept : (i : Loop) (x : ℕ) (ps : List ℕ) (us : List Atom) (t : Tree) (A : Set) →
@@ -131,12 +125,12 @@ module _ (β : Borrowing) (Γ : NameDepths) where
         twin-retains (arrays Γ (element-name j ps))
         (twin-releases (dying Γ (just ps) (live t (after-pass x ps t A))) inner)
 
-    loop-twin : (j : Loop) (us : List Atom) → keeps-its-array j ≡ true →
+    loop-twin : (j : Loop) (us : List Atom) →
         Twin [] (written-loop mapping-only β Γ x j ps us t A k) (written-loop full-style β Γ x j ps us t A k′)
-    loop-twin j us e =
+    loop-twin j us =
         let R = among (loop-reads j us) (uses t ∖∖ ps) in
         twin-retains (handed-again Γ (loop-hands j us) (R ∪ A))
-        (same-loop e (pass-twin j) (twin-releases (dying Γ (R ∪ only x) A) rest))
+        (same-loop (pass-twin j) (twin-releases (dying Γ (R ∪ only x) A) rest))
 
     -- a map whose array y dies there
     module _ (y : ℕ) (small : y < 256) (other : x ≢ y) (array : Γ y ≡ 1) (dead : A y ≡ false)
@@ -211,7 +205,7 @@ module _ (β : Borrowing) (Γ : NameDepths) where
           (sym (written-kept i x ps us t A)) (elim (written-as full-style β Γ i x ps us t A (form .fits .parted)) [
             | inl e ↦
                 subst (λ (o : Loop). Twin [] (first i) (written-loop full-style β Γ x o ps us t A k′)) (sym e)
-                (loop-twin x ps t A rest inner i us (keeps i (form .fits .plain)))
+                (loop-twin x ps t A rest inner i us)
             | inr r ↦
                 let y = r .over in
                 let seen = subst (λ (vs : List Atom). AllKnown vs S) (r .atoms) (form .seen) in

@@ -95,6 +95,10 @@ pub record Same (d : ℕ) (π : ℕ → ℕ) (w w′ : ℤ) : Type 0 where
   pub number : d ≡ 0 → w ≡ w′
   pub cell : 0 < d → cell-of w ≡ π (cell-of w′)
 
+-- an array's words, by its cell
+pub array-same : {d : ℕ} {π : ℕ → ℕ} {w w′ : ℤ} → 0 < d → cell-of w ≡ π (cell-of w′) → Same d π w w′
+array-same deep e = record { number = λ z. absurd (omega (arith, z, deep)); cell = λ h. e }
+
 -- all names of numbers have the same words, and the cells of the names K correspond
 pub record Framed (Γ : NameDepths) (π : ℕ → ℕ) (ρ ρ′ : Frame) (K : List ℕ) : Type 0 where
   pub numbers : (y : ℕ) → Γ y ≡ 0 → ρ y ≡ ρ′ y

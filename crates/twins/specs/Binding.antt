@@ -4,18 +4,21 @@ use native.Mathlib.Omega.{arith}
 use native.Mathlib.Decide.{decLt}
 use mathlib.Core.Path.{_≡_, refl, sym, _∙_, subst}
 use mathlib.Core.Logic.{inl, inr}
-use mathlib.Core.List.{List, _++_}
+use mathlib.Core.List.{List, [], _++_}
 use lib.IntN.{ℤ}
 use Rattle.semantics.specs.Basics.{occurrences, _∈_, updated}
 use Rattle.semantics.specs.Annotate.{NameDepths}
-use Rattle.semantics.specs.Machine.{Frame}
+use Rattle.semantics.specs.Machine.{State, Frame, Routine, Program}
 use Rattle.semantics.specs.Store.{cell-of}
-use Rattle.laws.specs.Lists.{_⊆_}
+use Rattle.laws.specs.Lists.{_⊆_, occurrences-append}
 use Rattle.soundness.specs.store.Counting.{append-cases, in-append-left, in-append-right}
 use Rattle.soundness.specs.machine.Images.{image-in}
 use Rattle.soundness.specs.machine.Frames.{hold, Setting, own}
 use Rattle.soundness.specs.machine.Standing.{none-in, hold-of-number, hold-of-other}
+use Rattle.soundness.specs.machine.Rules.{Fresh}
+use Rattle.twins.specs.Runs.{Race, Tied}
 use Rattle.twins.specs.Beside.{Around, Same, Framed, framed-bound, Stays}
+use Rattle.twins.specs.Claims.{first-setting, LineEnded}
 
 -- a name that holds is an array's
 own-array : (C : Setting) (x : ℕ) → x ∈ own C x → 0 < C .depths x
@@ -54,3 +57,29 @@ known-left P B H I f y h = in-append-right y P (B ++ H) (elim (append-cases y B 
   | inl g ↦ in-append-left y B H g
   | inr g ↦ in-append-right y B H (f y g)
 ])
+
+-- in another order
+pub behind : (B l H : List ℕ) → (B ++ (l ++ H)) ⊆ (l ++ (B ++ H))
+behind B l H y h = omega (
+  arith,
+  h,
+  occurrences-append y B (l ++ H),
+  occurrences-append y l H,
+  occurrences-append y l (B ++ H),
+  occurrences-append y B H,
+)
+
+-- a line that binds x has ended
+pub line-bound : (r : Race) (p : Program) (rs : List Routine) (n : ℕ) (Γ : NameDepths) {E : List ℕ} {π cells : ℕ → ℕ}
+    {a′ : Around} {J Δ : List ℕ} {ρ ρ′ : Frame} {w w′ : ℤ} {s s′ : State} (x : ℕ) → Fresh x (a′ .lent) J Δ →
+    Same (Γ x) cells w w′ → Framed Γ cells ρ ρ′ (a′ .lent ++ J) → Stays π cells (a′ .aside ++ a′ .others) →
+    Tied r E cells s s′ →
+    LineEnded r p rs n Γ E π a′ (own (first-setting r p n Γ) x ++ J) [] (updated ρ x w) s (updated ρ′ x w′) s′
+line-bound r p rs n Γ {cells = cells} {a′} {J} {w = w} {w′} x new same framed stays tied = record {
+  cells = cells;
+  tied = tied;
+  framed = bound-framed (first-setting r p n Γ) (a′ .lent ++ J) x w w′ framed
+      (omega (arith, new .lent, new .before, occurrences-append x (a′ .lent) J)) same
+      (behind (a′ .lent) (own (first-setting r p n Γ) x) J);
+  stays = stays;
+}

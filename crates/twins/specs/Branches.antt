@@ -12,28 +12,18 @@ use Rattle.semantics.specs.Live.{after-branch}
 use Rattle.semantics.specs.Annotate.{NameDepths}
 use Rattle.semantics.specs.Machine.{State, Routine, Program, word, work, work-line}
 use Rattle.semantics.specs.Store.{cell-of}
-use Rattle.laws.specs.Lists.{_⊆_, occurrences-append}
+use Rattle.laws.specs.Lists.{_⊆_}
 use Rattle.soundness.specs.store.Counting.{append-cases, in-append-left, in-append-right}
 use Rattle.soundness.specs.machine.Discipline.{left-by, holds-after}
-use Rattle.soundness.specs.machine.Frames.{Setting, own}
+use Rattle.soundness.specs.machine.Frames.{Setting}
 use Rattle.soundness.specs.machine.Size.{tree-adds, line-adds}
 use Rattle.soundness.specs.machine.Rules.{then-rules, else-rules, if-fresh}
 use Rattle.twins.specs.Runs.{Race, Twins, both, twins-bind, twin-step, twin-test}
-use Rattle.twins.specs.Beside.{here-less, here-stepped, here-settled, Framed, framed-fewer, atom-number}
+use Rattle.twins.specs.Beside.{here-stepped, here-settled, Framed, framed-fewer, atom-number}
 use Rattle.twins.specs.Owing.{owes-in, TreeOwes}
-use Rattle.twins.specs.Claims.{first-setting, leaner-setting, Before, TreeEnded, TreeTwins, LineTwins}
-use Rattle.twins.specs.Binding.{bound-framed}
-
--- in another order
-pub behind : (B l H : List ℕ) → (B ++ (l ++ H)) ⊆ (l ++ (B ++ H))
-behind B l H y h = omega (
-  arith,
-  h,
-  occurrences-append y B (l ++ H),
-  occurrences-append y l H,
-  occurrences-append y l (B ++ H),
-  occurrences-append y B H,
-)
+use Rattle.twins.specs.Claims.{first-setting, leaner-setting, Before, before-less, TreeEnded, TreeTwins}
+use Rattle.twins.specs.Claims.{LineTwins}
+use Rattle.twins.specs.Binding.{line-bound}
 
 module _ (r : Race) (p : Program) (rs : List Routine) (n : ℕ) (Γ : NameDepths) where
   abbrev C : Setting
@@ -60,14 +50,8 @@ module _ (r : Race) (p : Program) (rs : List Routine) (n : ℕ) (Γ : NameDepths
         owes = q .owes;
         exempt = q .exempt;
       })
-      (λ w s₂ w′ s₂′ _ _ h. both record {
-        cells = h .cells;
-        tied = h .tied;
-        framed = bound-framed C (a′ .lent ++ left′) x w w′ (framed-left h)
-            (omega (arith, if-fresh C′ rules′ .lent, if-fresh C′ rules′ .before, occurrences-append x (a′ .lent) left′))
-            (h .result) (behind (a′ .lent) (own C x) left′);
-        stays = h .stays;
-      }))))
+      (λ w s₂ w′ s₂′ _ _ h. both (line-bound r p rs n Γ x (if-fresh C′ rules′) (h .result) (framed-left h) (h .stays)
+      (h .tied))))))
     where
       left′ : List ℕ
       left′ = left-by (p .borrowing) Γ t′ H′
@@ -85,25 +69,9 @@ module _ (r : Race) (p : Program) (rs : List Routine) (n : ℕ) (Γ : NameDepths
           (cond b (work (C′ .callee) (p .borrowing) Γ e′ (after-branch x A′) (a′ .roots) ρ′)
           (work (C′ .callee) (p .borrowing) Γ t′ (after-branch x A′) (a′ .roots) ρ′) s₁′)
       branch true s₁ s₁′ b = else S S′ _ _ H H′ [] [] _ left′ (Γ x) E π a a′ ρ ρ′ k k′ s₁ s₁′ (else-rules C rules)
-          (else-rules C′ rules′) fewer record {
-            first = here-less (tree-adds e + k) (omega arith) (b .first);
-            leaner = here-less (tree-adds e′ + k′) (omega arith) (b .leaner);
-            tied = b .tied;
-            framed = b .framed;
-            images = b .images;
-            owes = b .owes;
-            exempt = b .exempt;
-          } need need′
+          (else-rules C′ rules′) fewer (before-less r p rs n Γ (omega arith) (omega arith) b) need need′
       branch false s₁ s₁′ b = then S S′ _ _ H H′ [] [] _ left′ (Γ x) E π a a′ ρ ρ′ k k′ s₁ s₁′ (then-rules C rules)
-          (then-rules C′ rules′) fewer record {
-            first = here-less (tree-adds t + k) (omega arith) (b .first);
-            leaner = here-less (tree-adds t′ + k′) (omega arith) (b .leaner);
-            tied = b .tied;
-            framed = b .framed;
-            images = b .images;
-            owes = b .owes;
-            exempt = b .exempt;
-          } need need′
+          (then-rules C′ rules′) fewer (before-less r p rs n Γ (omega arith) (omega arith) b) need need′
 
       framed-left : {w w′ : ℤ} {s₂ s₂′ : State} → (h : TreeEnded r p rs n Γ (Γ x) E π a′ left′ ρ ρ′ w s₂ w′ s₂′) →
           Framed Γ (h .cells) ρ ρ′ (a′ .lent ++ left′)

@@ -17,7 +17,7 @@ use Rattle.soundness.specs.machine.Rules.{TreeRules, LineRules}
 use Rattle.soundness.specs.machine.Calls.{setting}
 use Rattle.twins.specs.Twin.{with-routines}
 use Rattle.twins.specs.Runs.{Race, Tied, Twins}
-use Rattle.twins.specs.Beside.{Around, Here, Same, Framed, Images, Stays, Owes}
+use Rattle.twins.specs.Beside.{Around, Here, here-less, Same, Framed, Images, Stays, Owes}
 
 -- the settings of the two runs, with the same call depth left, in functions whose names have the same depths
 abbrev pub first-setting : Race → Program → ℕ → NameDepths → Setting
@@ -52,6 +52,21 @@ module _ (r : Race) (p : Program) (rs : List Routine) (n : ℕ) (Γ : NameDepths
     pub images : Images π a a′
     pub owes : Owes X H H′
     pub exempt : E ⊆ (a′ .aside)
+
+  -- fewer references may come
+  unfoldable pub before-less : {X E : List ℕ} {π : ℕ → ℕ} {a a′ : Around} {H H′ P P′ : List ℕ} {ρ ρ′ : Frame}
+      {k k′ m m′ : ℕ} {s s′ : State} → m ≤ k → m′ ≤ k′ → Before X E π a a′ H H′ P P′ ρ ρ′ k k′ s s′ →
+      Before X E π a a′ H H′ P P′ ρ ρ′ m m′ s s′
+  unfolding here-less
+  before-less h h′ q = record {
+    first = here-less _ h (q .first);
+    leaner = here-less _ h′ (q .leaner);
+    tied = q .tied;
+    framed = q .framed;
+    images = q .images;
+    owes = q .owes;
+    exempt = q .exempt;
+  }
 
   -- After a tree that leaves the names Δ: what both gave is the same, by a correspondence that is the old one for what
   -- others hold.

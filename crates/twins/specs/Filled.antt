@@ -6,9 +6,8 @@ use mathlib.Core.Path.{_≡_, refl, sym, subst}
 use mathlib.Core.List.{List, [], _∷_, _++_}
 use lib.IntN.{ℤ, pos}
 use lib.ListN.{length}
-use Rattle.semantics.specs.Basics.{tabulate, occurrences, updated}
+use Rattle.semantics.specs.Basics.{tabulate, updated}
 use Rattle.semantics.specs.Outcome.{Run, done, onward, _>>=_, _>>_, give, passes}
-use Rattle.semantics.specs.Value.{list}
 use Rattle.semantics.specs.Code.{Atom}
 use Rattle.semantics.specs.Annotate.{NameDepths, atom-depth}
 use Rattle.semantics.specs.Machine.{State, Frame, Routine, Program, word, with-store, with-left, step}
@@ -21,21 +20,20 @@ use Rattle.soundness.specs.machine.Frames.{hold, Setting, given, own}
 use Rattle.soundness.specs.machine.Standing.{none-in}
 use Rattle.soundness.specs.machine.Situations.{touch-together}
 use Rattle.soundness.specs.machine.Elements.{words-of}
-use Rattle.soundness.specs.machine.Acquiring.{after-acquire, acquire-together}
+use Rattle.soundness.specs.machine.Acquiring.{after-acquire}
+use Rattle.soundness.specs.machine.Rules.{Fresh}
 use Rattle.soundness.specs.machine.Passes.{kept-aside, outer, lent-names}
-use Rattle.soundness.specs.machine.Filling.{reserves, first-pass}
 use Rattle.twins.specs.Leaner.{matching-none}
 use Rattle.twins.specs.Runs.{Race, Starts, Tied, Twins, both, twins-bind, after-step}
-use Rattle.twins.specs.Beside.{Around, Here, here-stepped, framed-fewer}
+use Rattle.twins.specs.Beside.{Around, Here, here-stepped, array-same, framed-fewer}
 use Rattle.twins.specs.Claims.{first-setting, leaner-setting, Before, LineEnded}
-use Rattle.twins.specs.Binding.{framed-stays, bound-framed}
+use Rattle.twins.specs.Binding.{framed-stays, line-bound}
 use Rattle.twins.specs.Acquiring.{both-free, with-new, tied-acquired, acquire-twins}
 use Rattle.twins.specs.Reading.{array-matching, read-used, read-same, touched-tied}
 use Rattle.twins.specs.Making.{stored, held-stays}
-use Rattle.twins.specs.Branches.{behind}
 use Rattle.twins.specs.Passes.{at-element, passes-twins}
-use Rattle.twins.specs.Filling.{Filling}
-use Rattle.twins.specs.Lending.{around-passes, lend-before, lend-back}
+use Rattle.twins.specs.Filling.{around-new, fill-begins, Filling}
+use Rattle.twins.specs.Lending.{lend-before, lend-back}
 
 -- a cell in use is touched after a step
 unfoldable pub here-read : {C : Setting} {a : Around} {H P : List ℕ} {ρ : Frame} {n : ℕ} {s : State} (j : ℕ) (w : ℤ) →
@@ -52,15 +50,6 @@ here-read {C} {a} {H} {P} {ρ} {n} {s} j w q e used = record {
     stepped : Here C a H P ρ n (with-left s j)
     stepped = here-stepped q e
 
--- one root more
-abbrev pub around-new : ℕ → Around → Around
-around-new c b = record {
-  aside = b .aside;
-  others = b .others;
-  roots = b .roots ++ (c ∷ []);
-  lent = b .lent;
-}
-
 module _ {r : Race} (starts : Starts r) (p : Program) (rs : List Routine) (n : ℕ) (Γ : NameDepths) where
   abbrev C : Setting
   C = first-setting r p n Γ
@@ -68,31 +57,22 @@ module _ {r : Race} (starts : Starts r) (p : Program) (rs : List Routine) (n : �
   abbrev C′ : Setting
   C′ = leaner-setting r p rs n Γ
 
-  -- ---- before the first pass
+  -- ---- the passes, and what follows them
 
   module _ {E : List ℕ} {π : ℕ → ℕ} {b b′ : Around} {I I′ : List ℕ} {ρ ρ′ : Frame} {m m′ : ℕ} {s s′ : State}
-      (q : Before r p rs n Γ [] E π b b′ I I′ [] [] ρ ρ′ (suc m) (suc m′) s s′)
-      (free : has-free (s .store) ≡ true) where
-    pub filling-begins : (d : ℕ) → d ≤ 3 → has-free (s′ .store) ≡ true →
-        Filling r p rs n Γ d E π (around-new (s .store .first) b) (around-new (s′ .store .first) b′) I I′ ρ ρ′
-        (q .first .values) (q .leaner .values) m m′ (s .store) (s′ .store) 0 (pos (s .store .first))
-        (after-acquire d [] s) (pos (s′ .store .first)) (after-acquire d [] s′)
+      (q : Before r p rs n Γ [] E π b b′ I I′ [] [] ρ ρ′ (suc m) (suc m′) s s′) (d : ℕ) where
+    -- i passes are done, and filled the cells c and c′
+    abbrev pub Passed : (c c′ i : ℕ) (w : ℤ) (t : State) (w′ : ℤ) (t′ : State) → Type 0
+    Passed c c′ i = Filling r p rs n Γ d E π (around-new c b) (around-new c′ b′) I I′ ρ ρ′ (q .first .values)
+        (q .leaner .values) m m′ (s .store) (s′ .store) i
+
+    filling-begins : d ≤ 3 → has-free (s .store) ≡ true → has-free (s′ .store) ≡ true →
+        Passed (s .store .first) (s′ .store .first) 0 (pos (s .store .first)) (after-acquire d [] s)
+        (pos (s′ .store .first)) (after-acquire d [] s′)
     unfolding with-store cell-of
-    filling-begins d shallow free′ = record {
-      first = record {
-        value = list [];
-        meter = q .first .meter;
-        together = acquire-together d [] (reserves C d m (q .first .situation) free shallow .taken)
-            (q .first .together);
-        passing = first-pass C d m (q .first .situation) free shallow;
-      };
-      leaner = record {
-        value = list [];
-        meter = q .leaner .meter;
-        together = acquire-together d [] (reserves C′ d m′ (q .leaner .situation) free′ shallow .taken)
-            (q .leaner .together);
-        passing = first-pass C′ d m′ (q .leaner .situation) free′ shallow;
-      };
+    filling-begins shallow free free′ = record {
+      first = fill-begins d shallow free (q .first);
+      leaner = fill-begins d shallow free′ (q .leaner);
       cells = with-new starts (stored starts p rs n Γ q) (q .tied);
       tied = tied-acquired starts (stored starts p rs n Γ q) (q .tied) d [] [] free (omega arith)
           (matching-none π (s′ .store) d);
@@ -102,7 +82,23 @@ module _ {r : Race} (starts : Starts r) (p : Program) (rs : List Routine) (n : �
       stays = held-stays starts p rs n Γ q [] (λ y h. absurd (none-in y h)) free;
     }
 
-  -- ---- the line
+    pub filled-passes : d ≤ 3 → (k k′ : ℕ) → k ≡ k′ → (g g′ : ℤ → ℤ → ℕ → Run State ℤ) {A : Type 0}
+        {Q : A → State → A → State → Type 0} (finish finish′ : ℤ → Run State A) →
+        ((c c′ i : ℕ) (w : ℤ) (t : State) (w′ : ℤ) (t′ : State) → i < k′ → Passed c c′ i w t w′ t′ →
+        Twins r (Passed c c′ (suc i)) (g (pos c) w i t) (g′ (pos c′) w′ i t′)) →
+        ((c c′ : ℕ) (w : ℤ) (t : State) (w′ : ℤ) (t′ : State) → Passed c c′ k′ w t w′ t′ →
+        Twins r Q (finish w t) (finish′ w′ t′)) →
+        Twins r Q
+        (onward (λ c. passes (g c) c (tabulate 0 k (λ i. i)) >>= finish) (acquire (b .roots) d [] s))
+        (onward (λ c. passes (g′ c) c (tabulate 0 k′ (λ i. i)) >>= finish′) (acquire (b′ .roots) d [] s′))
+    filled-passes shallow k k′ e g g′ finish finish′ pass next = rw e
+        (acquire-twins starts (stored starts p rs n Γ q) (q .tied) _ _ (b .roots) (b′ .roots) d [] [] (λ free.
+        twins-bind r (passes-twins r (Passed (s .store .first) (s′ .store .first)) _ _ k′ _ _ _ _
+        (pass (s .store .first) (s′ .store .first))
+        (filling-begins shallow free (both-free starts (stored starts p rs n Γ q) (q .tied) free)))
+        (λ w t w′ t′ _ _ z. next (s .store .first) (s′ .store .first) w t w′ t′ z)))
+
+  -- ---- the line of a loop that lends its array
 
   module _ {X E : List ℕ} {π : ℕ → ℕ} {a a′ : Around} {H H′ P P′ : List ℕ} {ρ ρ′ : Frame} {m m′ : ℕ} {s s′ : State}
       (v : Atom) (reads : given C (v ∷ []) ⊆ (a .lent ++ H)) (reads′ : given C (v ∷ []) ⊆ (a′ .lent ++ H′))
@@ -133,17 +129,13 @@ module _ {r : Race} (starts : Starts r) (p : Program) (rs : List Routine) (n : �
               (q .tied .stores .used (cell-of (word ρ′ v)) used′)
 
     -- over the roots Q; after the passes the cell is bound to x
-    module _ (x d : ℕ) (deep : Γ x ≡ suc d) (shallow : d ≤ 3) (new : occurrences x (a′ .lent ++ H′) ≡ 0)
+    module _ {Δ : List ℕ} (x d : ℕ) (deep : Γ x ≡ suc d) (shallow : d ≤ 3) (new : Fresh x (a′ .lent) H′ Δ)
         (Q Q′ : List ℕ) where
-      -- between two passes
-      abbrev pub Passed : ℕ → ℕ → ℕ → ℤ → State → ℤ → State → Type 0
-      Passed c c′ i = Filling r p rs n Γ d E π (around-new c (around-passes C v H ρ Q a))
-          (around-new c′ (around-passes C′ v H′ ρ′ Q′ a′)) (outer C v (a .lent) H) (outer C′ v (a′ .lent) H′) ρ ρ′
-          (q .first .values) (q .leaner .values) m m′ (s .store) (s′ .store) i
-
       pub filling-line : (g g′ : ℤ → ℤ → ℕ → Run State ℤ) →
           ((c c′ i : ℕ) (w : ℤ) (t : State) (w′ : ℤ) (t′ : State) → i < length (words-of (s′ .store) (word ρ′ v)) →
-          Passed c c′ i w t w′ t′ → Twins r (Passed c c′ (suc i)) (g (pos c) w i t) (g′ (pos c′) w′ i t′)) →
+          Passed (lend-before starts p rs n Γ v reads reads′ q Q Q′) d c c′ i w t w′ t′ →
+          Twins r (Passed (lend-before starts p rs n Γ v reads reads′ q Q Q′) d c c′ (suc i)) (g (pos c) w i t)
+          (g′ (pos c′) w′ i t′)) →
           Twins r (LineEnded r p rs n Γ E π a′ (own C x ++ H′) [])
           ((do
             step
@@ -159,21 +151,11 @@ module _ {r : Race} (starts : Starts r) (p : Program) (rs : List Routine) (n : �
             give (updated ρ′ x w)) s′)
       unfolding elements-of onward with-store with-left lend-before read-before here-read
       filling-line g g′ pass = after-step r _ _ (q .tied) (λ j j′ f f′ tied.
-          let q₁ = read-before j j′ f f′ tied in
-          let lent = lend-before starts p rs n Γ v reads reads′ q₁ Q Q′ in
-          acquire-twins starts (stored starts p rs n Γ q₁) (q₁ .tied) _ _ Q Q′ d [] [] (λ free.
-          rw (array-matching r p rs n Γ q v reads′ e array .size)
-          (twins-bind r (passes-twins r (Passed (s .store .first) (s′ .store .first)) _ _
-          (length (words-of (s′ .store) (word ρ′ v))) _ _ _ _ (pass (s .store .first) (s′ .store .first))
-          (filling-begins lent free d shallow (both-free starts (stored starts p rs n Γ q₁) (q₁ .tied) free)))
-          (λ w t w′ t′ _ _ z. both record {
-            cells = z .cells;
-            tied = z .tied;
-            framed = bound-framed C (a′ .lent ++ H′) x w w′
-                (framed-fewer (lent-names C′ v (a′ .lent) H′ ++ outer C′ v (a′ .lent) H′) (a′ .lent ++ H′)
-                (lend-back starts p rs n Γ v reads reads′ q₁ Q Q′) (z .framed)) new
-                (record { number = λ h. absurd (omega (arith, h, deep)); cell = λ h. z .result })
-                (behind (a′ .lent) (own C x) H′);
-            stays = λ c h. z .stays c (without-middle (a′ .aside) (hold ρ′ (kept-aside C′ v (a′ .lent) H′))
-                (a′ .others) c h);
-          }))))
+          filled-passes (lend-before starts p rs n Γ v reads reads′ (read-before j j′ f f′ tied) Q Q′) d shallow _ _
+          (array-matching r p rs n Γ q v reads′ e array .size) g g′ (λ w. give (updated ρ x w))
+          (λ w. give (updated ρ′ x w)) pass
+          (λ c c′ w t w′ t′ z. both (line-bound r p rs n Γ x new (array-same (omega (arith, deep)) (z .result))
+          (framed-fewer (lent-names C′ v (a′ .lent) H′ ++ outer C′ v (a′ .lent) H′) (a′ .lent ++ H′)
+          (lend-back starts p rs n Γ v reads reads′ q Q Q′) (z .framed))
+          (λ y h. z .stays y (without-middle (a′ .aside) (hold ρ′ (kept-aside C′ v (a′ .lent) H′)) (a′ .others) y h))
+          (z .tied))))

@@ -6,20 +6,20 @@ use mathlib.Core.Path.{_≡_, refl, sym, ap, _∙_, subst}
 use mathlib.Core.List.{List, [], _∷_, _++_}
 use lib.IntN.{ℤ, pos}
 use lib.ListN.{length, getD}
-use Rattle.semantics.specs.Basics.{occurrences, _∈_}
+use Rattle.semantics.specs.Basics.{_∈_}
 use Rattle.semantics.specs.Number.{is-zero, is-answer}
 use Rattle.semantics.specs.Outcome.{onward, _>>=_, _>>_, give, require}
 use Rattle.semantics.specs.Value.{items}
 use Rattle.semantics.specs.Kinds.{filtering}
 use Rattle.semantics.specs.Code.{Atom, loop, Tree}
-use Rattle.semantics.specs.Live.{Set, _∪_, just, among, after-pass}
+use Rattle.semantics.specs.Live.{Set, _∪_, just, after-pass}
 use Rattle.semantics.specs.Annotate.{NameDepths}
 use Rattle.semantics.specs.Meaning.{Env}
-use Rattle.semantics.specs.Machine.{State, Frame, Routine, Program, word, with-store, touching, held, work-line}
+use Rattle.semantics.specs.Machine.{State, Frame, Routine, Program, word, with-store, touching, work-line}
 use Rattle.semantics.specs.Machine.{work-pass, retain-word, append-word, if-array}
 use Rattle.semantics.specs.Machine as Machine
 use Rattle.semantics.specs.Store.{Store, cell, cell-of, elements}
-use Rattle.laws.specs.Lists.{_⊆_, occurrences-append}
+use Rattle.laws.specs.Lists.{_⊆_}
 use Rattle.soundness.specs.normal.Plain.{value}
 use Rattle.soundness.specs.store.Invariant.{StandsFor}
 use Rattle.soundness.specs.store.Counting.{in-append-left, in-append-right}
@@ -37,13 +37,15 @@ use Rattle.soundness.specs.machine.Filtering.{words-same, kept}
 use Rattle.twins.specs.Leaner.{Matching, matching-at, matching-elements, leaner-retained}
 use Rattle.twins.specs.Leaner.{leaner-other-retained}
 use Rattle.twins.specs.Runs.{Race, Starts, Tied, Twins, both, twin-test, level-quiet, touching-quiet}
-use Rattle.twins.specs.Beside.{Around, here-less, Known, Same, atom-same}
-use Rattle.twins.specs.Claims.{first-setting, leaner-setting, Before, TreeEnded, TreeTwins, LineTwins}
-use Rattle.twins.specs.Reading.{array-matching, matching-same, not-exempt}
+use Rattle.twins.specs.Beside.{Around, Known, Same, atom-same}
+use Rattle.twins.specs.Claims.{first-setting, leaner-setting, Before, before-less, TreeEnded, TreeTwins}
+use Rattle.twins.specs.Claims.{LineTwins}
+use Rattle.twins.specs.Reading.{array-matching, matching-same, read-same, not-exempt}
 use Rattle.twins.specs.Sites.{PassSite, filter-site, filter-depths}
 use Rattle.twins.specs.Filling.{Fill, Filling, around-filling, filling-on, both-appended}
-use Rattle.twins.specs.Lending.{around-passes}
+use Rattle.twins.specs.Lending.{around-passes, lend-before}
 use Rattle.twins.specs.Filled.{filling-line}
+use Rattle.twins.specs.Copiers.{lending-reader, line-roots}
 use Rattle.twins.specs.Mapping.{reading-pass}
 
 -- words that are the same, retained where they stand for arrays
@@ -202,13 +204,16 @@ module _ {r : Race} (starts : Starts r) (p : Program) (rs : List Routine) (n : �
   module _ (trees : (t : Tree) → TreeClaim C t) (trees′ : (t : Tree) → TreeClaim C′ t) where
     pub filter-twins : (X : List ℕ) (x z : ℕ) (v : Atom) (t t′ : Tree) → TreeTwins r p rs n Γ [] t t′ →
         LineTwins r p rs n Γ X (loop x filtering (z ∷ []) (v ∷ []) t) (loop x filtering (z ∷ []) (v ∷ []) t′)
-    unfolding work-line line-adds holds-after less cell-of onward work-pass here-less
+    unfolding work-line line-adds holds-after less cell-of onward work-pass before-less lend-before
     filter-twins X x z v t t′ claim S S′ A A′ H H′ P P′ Δ Δ′ E π a a′ ρ ρ′ k k′ s s′ rules rules′ q need need′ =
         filling-line starts p rs n Γ v (site .reads) (site′ .reads) q′ (Γ z) (site .array) x d
-        (deep ∙ ap suc (sym (ap pred deep))) shallow new Q Q′ _ _
+        (deep ∙ ap suc (sym (ap pred deep))) shallow (loop-fresh C′ rules′) Q Q′ _ _
         (λ c c′ i w t₁ w′ t₁′ within f.
-        reading-pass starts p rs n Γ trees trees′ claim q′ v z 0 site site′ k k′ (omega arith) (omega arith) need need′
-        d Q Q′ c c′ i w t₁ w′ t₁′ within f
+        reading-pass starts p rs n Γ trees trees′ claim
+        (lend-before starts p rs n Γ v (site .reads) (site′ .reads) q′ Q Q′)
+        (lending-reader site Q (q′ .first)) (lending-reader site′ Q′ (q′ .leaner))
+        (read-same r p rs n Γ q v (site′ .reads) .cell (omega (arith, site .array)))
+        k k′ (omega arith) (omega arith) need need′ d c c′ i w t₁ w′ t₁′ within f
         (λ e u. require (is-answer u) 28 >> Machine.carried-on filtering d (word ρ v) i w e u)
         (λ e u. require (is-answer u) 28 >> Machine.carried-on filtering d (word ρ′ v) i w′ e u)
         (λ u s₁ u′ s₁′ few h known known′.
@@ -222,10 +227,10 @@ module _ {r : Race} (starts : Starts r) (p : Program) (rs : List Routine) (n : �
         d = pred (Γ x)
 
         Q : List ℕ
-        Q = a .roots ++ held Γ (among (v ∷ []) (after-pass x (z ∷ []) t A)) ρ
+        Q = line-roots Γ x z v t A a ρ
 
         Q′ : List ℕ
-        Q′ = a′ .roots ++ held Γ (among (v ∷ []) (after-pass x (z ∷ []) t′ A′)) ρ′
+        Q′ = line-roots Γ x z v t′ A′ a′ ρ′
 
         site : PassSite C z v t (a .lent) (S ∪ just (z ∷ [])) (after-pass x (z ∷ []) t A) H 0
         site = filter-site C rules
@@ -266,20 +271,4 @@ module _ {r : Race} (starts : Starts r) (p : Program) (rs : List Routine) (n : �
 
         q′ : Before r p rs n Γ X E π a a′ H H′ P P′ ρ ρ′ (suc (suc (tree-adds t) + k))
             (suc (suc (tree-adds t′) + k′)) s s′
-        q′ = record {
-          first = here-less (suc (suc (tree-adds t) + k)) (omega arith) (q .first);
-          leaner = here-less (suc (suc (tree-adds t′) + k′)) (omega arith) (q .leaner);
-          tied = q .tied;
-          framed = q .framed;
-          images = q .images;
-          owes = q .owes;
-          exempt = q .exempt;
-        }
-
-        new : occurrences x (a′ .lent ++ H′) ≡ 0
-        new = omega (
-          arith,
-          loop-fresh C′ rules′ .lent,
-          loop-fresh C′ rules′ .before,
-          occurrences-append x (a′ .lent) H′,
-        )
+        q′ = before-less r p rs n Γ (omega arith) (omega arith) q

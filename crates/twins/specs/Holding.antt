@@ -1,17 +1,18 @@
 -- The lines that retain and release, of both runs or of the first alone.
 use Prim.Native.Nat.{ℕ, _+_, _<_}
 use native.Mathlib.Omega.{arith}
-use mathlib.Core.Path.{refl, sym, subst}
+use mathlib.Core.Path.{_≡_, refl, sym, subst}
 use mathlib.Core.Logic.{inl, inr}
 use mathlib.Core.List.{List, [], _∷_, _++_}
 use Rattle.semantics.specs.Basics.{_∈_}
-use Rattle.semantics.specs.Outcome.{onward}
+use Rattle.semantics.specs.Outcome.{Outcome, done, onward}
 use Rattle.semantics.specs.Code.{Line, retain, release, Tree, line}
+use Rattle.semantics.specs.Live.{Set, live}
 use Rattle.semantics.specs.Annotate.{NameDepths}
 use Rattle.semantics.specs.Meaning.{Env}
-use Rattle.semantics.specs.Machine.{Frame, Routine, Program, work, work-line, with-store, touching, release-events}
-use Rattle.semantics.specs.Machine.{retain-word, release-word}
-use Rattle.semantics.specs.Store.{Store, cell, cell-of, released, deepest}
+use Rattle.semantics.specs.Machine.{State, Frame, Routine, Program, work, work-line, with-store, touching}
+use Rattle.semantics.specs.Machine.{release-events, retain-word, release-word}
+use Rattle.semantics.specs.Store.{Store, cell, cell-of, retained, released, deepest}
 use Rattle.laws.specs.Lists.{_⊆_}
 use Rattle.soundness.specs.store.Change.{permute, named-used, held-used}
 use Rattle.soundness.specs.store.Counting.{append-cases, in-append-left, in-append-right}
@@ -23,17 +24,17 @@ use Rattle.soundness.specs.machine.Images.{first-or-later}
 use Rattle.soundness.specs.machine.Frames.{hold, Setting, Situation}
 use Rattle.soundness.specs.machine.Standing.{hold-split, name-held}
 use Rattle.soundness.specs.machine.Size.{tree-adds, line-adds}
-use Rattle.soundness.specs.machine.Rules.{line-rules, rest-rules}
+use Rattle.soundness.specs.machine.Rules.{LineRules, line-rules, rest-rules}
 use Rattle.soundness.specs.machine.Claims.{LineClaim}
 use Rattle.twins.specs.Leaner.{leaner-retained, leaner-other-retained}
-use Rattle.twins.specs.Released.{leaner-released, leaner-other-freed}
-use Rattle.twins.specs.Runs.{Race, both, level-quiet, touching-quiet}
+use Rattle.twins.specs.Released.{leaner-released, first-released}
+use Rattle.twins.specs.Runs.{Race, Tied, both, level-quiet, touching-quiet}
 use Rattle.twins.specs.Runs.{release-quiet, level-first}
-use Rattle.twins.specs.Beside.{here-less, framed-fewer, images-held, Owes}
-use Rattle.twins.specs.Claims.{first-setting, leaner-setting, TreeTwins, LineTwins}
-use Rattle.twins.specs.Owing.{owes-less, owes-in, owes-spared}
+use Rattle.twins.specs.Beside.{Around, here-less, framed-fewer, images-held, Owes}
+use Rattle.twins.specs.Claims.{first-setting, leaner-setting, Before, TreeTwins, LineTwins}
+use Rattle.twins.specs.Owing.{owes-less, owes-in, owes-raised, owes-spared}
 use Rattle.twins.specs.Binding.{known-left}
-use Rattle.twins.specs.Trees.{WentOn, goes-on}
+use Rattle.twins.specs.Trees.{goes-on}
 
 -- a name that is held is released
 pub name-released : {C : Setting} {σ : Store} {Z F R B H P : List ℕ} {ρ : Frame} {δ : Env} {n : ℕ} (y : ℕ) →
@@ -103,36 +104,80 @@ module _ (r : Race) (p : Program) (rs : List Routine) (n : ℕ) (Γ : NameDepths
         ]
       ]
 
-  module _ (lines : (l : Line) → LineClaim C l) (lines′ : (l : Line) → LineClaim C′ l) where
-    -- the first alone releases a name that the leaner has handed over
-    pub twin-spared : {X : List ℕ} (y : ℕ) (t t′ : Tree) → y ∈ X → TreeTwins r p rs n Γ (less (y ∷ []) X) t t′ →
-        TreeTwins r p rs n Γ X (line (release y) t) t′
-    unfolding work work-line tree-adds release-word onward with-store holds-after
-    twin-spared {X} y t t′ owed rest S S′ L L′ H H′ P P′ Δ Δ′ d E π a a′ ρ ρ′ k k′ s s′ rules rules′ fewer q need
+  -- ---- lines of the first run alone, which bind no name
+
+  -- after it the stores correspond as before, and the first, which then holds H, holds the names X beside
+  record AloneEnded (X E : List ℕ) (π : ℕ → ℕ) (H H′ : List ℕ) (ρ : Frame) (s′ : State) (o : Outcome State Frame) :
+      Type 0 where
+    now : State
+    is : o ≡ done ρ now
+    tied : Tied r E π now s′
+    owes : Owes X H H′
+
+  abbrev LineAlone : List ℕ → List ℕ → Line → Type 0
+  LineAlone X X′ l = (S A : Set) (H H′ P P′ Δ E : List ℕ) (π : ℕ → ℕ) (a a′ : Around) (ρ ρ′ : Frame) (k k′ : ℕ)
+      (s s′ : State) → LineRules C l (a .lent) S A H P Δ → Before r p rs n Γ X E π a a′ H H′ P P′ ρ ρ′ k k′ s s′ →
+      AloneEnded X′ E π (holds-after (p .borrowing) Γ l H) H′ ρ s′
+      (work-line (C .callee) (p .borrowing) Γ l A (a .roots) ρ s)
+
+  alone-release : (X : List ℕ) (y : ℕ) → y ∈ X → LineAlone X (less (y ∷ []) X) (release y)
+  unfolding work-line release-word onward with-store holds-after
+  alone-release X y owed S A H H′ P P′ Δ E π a a′ ρ ρ′ k k′ s s′ rules q = record {
+    now = with-store s (released deepest (cell-of (ρ y)) (s .store))
+        (release-events deepest (cell-of (ρ y)) (s .store));
+    is = refl;
+    tied = first-released (cell-of (ρ y)) (q .tied) (q .leaner .situation .invariant)
+        (name-released y (q .first .situation) (rules .holds))
+        (images-held (less (y ∷ []) H) H′ (q .images) (q .framed)
+        (λ z h. in-append-right z P′ (a′ .lent ++ H′) (in-append-right z (a′ .lent) H′ h))
+        (owes-in (less (y ∷ []) X) (less (y ∷ []) H) H′ (owes-spared X y H H′ owed (q .owes))));
+    owes = owes-spared X y H H′ owed (q .owes);
+  }
+
+  alone-retain : (X : List ℕ) (y : ℕ) → LineAlone X (y ∷ X) (retain y)
+  unfolding work-line retain-word onward with-store holds-after
+  alone-retain X y S A H H′ P P′ Δ E π a a′ ρ ρ′ k k′ s s′ rules q = record {
+    now = with-store s (retained (cell-of (ρ y)) (s .store)) (touching (s .store) (cell-of (ρ y)));
+    is = refl;
+    tied = record {
+      level = level-first r _ (touching (s .store) (cell-of (ρ y))) (touching-quiet (s .store) (cell-of (ρ y)))
+          (q .tied .level);
+      stores = leaner-other-retained (cell-of (ρ y)) (retainable-used y (q .first .situation) (rules .holds))
+          (q .tied .stores);
+    };
+    owes = owes-raised X y H H′ (q .owes);
+  }
+
+  module _ (lines : (l : Line) → LineClaim C l) where
+    -- then the rest of the first tree goes on beside the whole of the leaner's
+    alone-line : (X X′ : List ℕ) (l : Line) (t t′ : Tree) → LineAlone X X′ l → TreeTwins r p rs n Γ X′ t t′ →
+        TreeTwins r p rs n Γ X (line l t) t′
+    unfolding work tree-adds onward
+    alone-line X X′ l t t′ alone rest S S′ L L′ H H′ P P′ Δ Δ′ d E π a a′ ρ ρ′ k k′ s s′ rules rules′ fewer q need
         need′ =
-        rest _ _ L L′ _ _ _ _ Δ Δ′ d E π a a′ ρ ρ′ k k′ _ s′ (rest-rules C (release y) rules) rules′ fewer record {
-          first = on .here;
+        rw (after .is) (rest _ _ L L′ _ H′ _ P′ Δ Δ′ d E π a a′ ρ ρ′ k k′ (after .now) s′ (rest-rules C l rules) rules′
+        fewer record {
+          first = goes-on (lines l) (line-rules C rules)
+              (here-less (line-adds l + (tree-adds t + k)) (omega arith) (q .first)) (omega arith) (after .is) .here;
           leaner = q .leaner;
-          tied = record {
-            level = level-first r _ (release-events deepest (cell-of (ρ y)) (s .store))
-                (release-quiet deepest (cell-of (ρ y)) (s .store)) (q .tied .level);
-            stores = leaner-other-freed (q .tied .stores) (q .leaner .situation .invariant)
-                (name-released y (q .first .situation) (rules .holds .0))
-                (images-held (less (y ∷ []) H) H′ (q .images) (q .framed)
-                (λ z h. in-append-right z P′ (a′ .lent ++ H′) (in-append-right z (a′ .lent) H′ h))
-                (owes-in (less (y ∷ []) X) (less (y ∷ []) H) H′ owes));
-          };
+          tied = after .tied;
           framed = q .framed;
           images = q .images;
-          owes = owes;
+          owes = after .owes;
           exempt = q .exempt;
-        } need need′
+        } need need′)
       where
-        owes : Owes (less (y ∷ []) X) (less (y ∷ []) H) H′
-        owes = owes-spared X y H H′ owed (q .owes)
+        after : AloneEnded X′ E π (holds-after (p .borrowing) Γ l H) H′ ρ s′
+            (work-line (C .callee) (p .borrowing) Γ l (live t L) (a .roots) ρ s)
+        after = alone S (live t L) H H′ P P′ Δ E π a a′ ρ ρ′ (tree-adds (line l t) + k) (tree-adds t′ + k′) s s′
+            (line-rules C rules) q
 
-        on : WentOn C a (release y) H Δ ρ (tree-adds t + k) ρ
-            (with-store s (released deepest (cell-of (ρ y)) (s .store))
-            (release-events deepest (cell-of (ρ y)) (s .store)))
-        on = goes-on (lines (release y)) (line-rules C rules)
-            (here-less (line-adds (release y) + (tree-adds t + k)) (omega arith) (q .first)) (omega arith) refl
+    -- the first alone releases a name that it holds beside
+    pub twin-spared : {X : List ℕ} (y : ℕ) (t t′ : Tree) → y ∈ X → TreeTwins r p rs n Γ (less (y ∷ []) X) t t′ →
+        TreeTwins r p rs n Γ X (line (release y) t) t′
+    twin-spared {X} y t t′ owed = alone-line X (less (y ∷ []) X) (release y) t t′ (alone-release X y owed)
+
+    -- the first alone retains a name
+    pub twin-raised : {X : List ℕ} (y : ℕ) (t t′ : Tree) → TreeTwins r p rs n Γ (y ∷ X) t t′ →
+        TreeTwins r p rs n Γ X (line (retain y) t) t′
+    twin-raised {X} y t t′ = alone-line X (y ∷ X) (retain y) t t′ (alone-retain X y)

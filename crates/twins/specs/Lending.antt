@@ -3,7 +3,7 @@ use Prim.Native.Nat.{ℕ, _+_, _≤_}
 use native.Mathlib.Omega.{arith}
 use native.Mathlib.Decide.{decLt}
 use mathlib.Core.Bool.{true, false, false≢true}
-use mathlib.Core.Path.{sym, ap, _∙_, subst}
+use mathlib.Core.Path.{_≡_, sym, ap, _∙_, subst}
 use mathlib.Core.Logic.{inl, inr}
 use mathlib.Core.List.{List, [], _∷_, _++_}
 use Rattle.semantics.specs.Basics.{occurrences, _∈_}
@@ -20,7 +20,7 @@ use Rattle.soundness.specs.machine.Frames.{hold, Setting, given}
 use Rattle.soundness.specs.machine.Passes.{kept-aside, outer, lent-names, lend-split, given-few}
 use Rattle.soundness.specs.machine.Filling.{lending}
 use Rattle.twins.specs.Runs.{Race, Starts}
-use Rattle.twins.specs.Beside.{Around, Framed, framed-fewer, Images, Owes}
+use Rattle.twins.specs.Beside.{Around, Here, Framed, framed-fewer, Images, Owes}
 use Rattle.twins.specs.Claims.{first-setting, leaner-setting, Before}
 
 -- the array v lent to passes with the roots Q; before them the names H are held
@@ -30,6 +30,16 @@ around-passes C v H ρ Q a = record {
   others = hold ρ (kept-aside C v (a .lent) H) ++ a .others;
   roots = Q;
   lent = lent-names C v (a .lent) H;
+}
+
+unfoldable pub here-lending : {C : Setting} {a : Around} {H P : List ℕ} {ρ : Frame} {n : ℕ} {s : State} (v : Atom)
+    (Q : List ℕ) → C .start .frugal ≡ false → given C (v ∷ []) ⊆ (a .lent ++ H) → Here C a H P ρ n s →
+    Here C (around-passes C v H ρ Q a) (outer C v (a .lent) H) [] ρ n s
+here-lending {C} {a} {H} v Q careless reads q = record {
+  values = q .values;
+  meter = q .meter;
+  together = q .together;
+  situation = lending C v (a .lent) H reads Q (λ f. absurd (false≢true (sym careless ∙ f))) (q .situation);
 }
 
 -- what the leaner run sets aside is set aside in the first, or lent there
@@ -147,21 +157,10 @@ module _ {r : Race} (starts : Starts r) (p : Program) (rs : List Routine) (n : �
         (λ y h. in-append-right y P′ (a′ .lent ++ H′) (reads′ y h)) (λ y h. q .first .situation .lent y h .kept)
 
     unfoldable pub lend-before : Before r p rs n Γ [] E π b b′ I I′ [] [] ρ ρ′ k k′ s s′
+    unfolding here-lending
     lend-before = record {
-      first = record {
-        values = q .first .values;
-        meter = q .first .meter;
-        together = q .first .together;
-        situation = lending C v (a .lent) H reads Q (λ f. absurd (false≢true (sym (starts .careless) ∙ f)))
-            (q .first .situation);
-      };
-      leaner = record {
-        values = q .leaner .values;
-        meter = q .leaner .meter;
-        together = q .leaner .together;
-        situation = lending C′ v (a′ .lent) H′ reads′ Q′
-            (λ f. absurd (false≢true (sym (starts .leaner-careless) ∙ f))) (q .leaner .situation);
-      };
+      first = here-lending v Q (starts .careless) reads (q .first);
+      leaner = here-lending v Q′ (starts .leaner-careless) reads′ (q .leaner);
       tied = q .tied;
       framed = framed-fewer (P′ ++ (a′ .lent ++ H′)) (b′ .lent ++ I′) (λ y h. in-append-right y P′ (a′ .lent ++ H′)
           (elim (append-cases y (b′ .lent) I′ h) [

@@ -3,6 +3,7 @@ pub mod Placed
 pub mod Acquired
 pub mod Released
 pub mod Written
+pub mod Alone
 pub mod Levels
 pub mod Words
 pub mod Twin
@@ -24,12 +25,15 @@ pub mod Filling
 pub mod Lending
 pub mod Filled
 pub mod Sites
+pub mod Copiers
 pub mod Mapping
 pub mod Filtering
 pub mod Copied
-pub mod InPlaceBetween
+pub mod Overwriting
 pub mod InPlace
 pub mod Rewriting
+pub mod BothInPlace
+pub mod Rewritings
 pub mod Reducing
 pub mod Lines
 pub mod Calls
@@ -37,3 +41,4 @@ pub mod Annotated
 pub mod Delivering
 pub mod Rises
 pub mod Order8
+pub mod SameCode

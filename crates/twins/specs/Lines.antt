@@ -1,7 +1,6 @@
 -- Every pair of twin trees, by induction; calls are taken for granted.
 use Prim.Native.Nat.{ℕ}
 use native.Mathlib.Omega.{arith}
-use mathlib.Core.Bool.{true, false, false≢true}
 use mathlib.Core.Path.{_≡_, refl, ap}
 use mathlib.Core.List.{List, [], _∷_}
 use lib.ListN.{length}
@@ -15,13 +14,12 @@ use Rattle.soundness.specs.machine.Discipline.{loop-arity}
 use Rattle.soundness.specs.machine.Frames.{Setting}
 use Rattle.soundness.specs.machine.Claims.{TreeClaim, LineClaim}
 use Rattle.twins.specs.Twin.{Twin, same-end, same-leaf, same-if, same-loop, same-retain}
-use Rattle.twins.specs.Twin.{same-release, spared, rewritten}
-use Rattle.twins.specs.Twin.{keeps-its-array}
+use Rattle.twins.specs.Twin.{same-release, raised, spared, rewritten}
 use Rattle.twins.specs.Runs.{Race, Starts}
 use Rattle.twins.specs.Claims.{first-setting, leaner-setting, TreeTwins, LineTwins}
 use Rattle.twins.specs.Owing.{owes-leaf, owes-if, owes-loop, owes-retain, owes-release, owes-rewritten, twin-owes}
 use Rattle.twins.specs.Trees.{twin-end, twin-line}
-use Rattle.twins.specs.Holding.{twin-retain, twin-release, twin-spared}
+use Rattle.twins.specs.Holding.{twin-retain, twin-release, twin-raised, twin-spared}
 use Rattle.twins.specs.Leaves.{LeafTwins, twin-leaf}
 use Rattle.twins.specs.Reading.{twin-operation, twin-length, twin-index}
 use Rattle.twins.specs.Making.{twin-literal, twin-iota, twin-replicate}
@@ -31,6 +29,7 @@ use Rattle.twins.specs.Mapping.{map-twins}
 use Rattle.twins.specs.Filtering.{filter-twins}
 use Rattle.twins.specs.Reducing.{reduce-twins}
 use Rattle.twins.specs.Rewriting.{rewrite-twins}
+use Rattle.twins.specs.Rewritings.{rewritings-twins}
 
 module _ {r : Race} (starts : Starts r) (p : Program) (rs : List Routine) (n : ℕ) (Γ : NameDepths) where
   abbrev C : Setting
@@ -74,16 +73,17 @@ module _ {r : Race} (starts : Starts r) (p : Program) (rs : List Routine) (n : �
       two-parts {X} {x} (y ∷ (z ∷ [])) (o ∷ (v ∷ [])) t t′ claim =
           reduce-twins starts p rs n Γ trees trees′ X x y z o v t t′ claim
 
-      -- a loop of the same kind on both sides, which does not rewrite
+      -- a loop of the same kind on both sides
       twin-loop : (X : List ℕ) (x : ℕ) (i : Loop) (ps : List ℕ) (us : List Atom) (t t′ : Tree) →
-          keeps-its-array i ≡ true → TreeTwins r p rs n Γ [] t t′ →
+          TreeTwins r p rs n Γ [] t t′ →
           LineTwins r p rs n Γ X (loop x i ps us t) (loop x i ps us t′)
-      twin-loop X x mapping ps us t t′ e claim = one-part mapping mapping ps us t t′ refl (λ Δ vs. refl)
+      twin-loop X x mapping ps us t t′ claim = one-part mapping mapping ps us t t′ refl (λ Δ vs. refl)
           (λ z v. map-twins starts p rs n Γ trees trees′ X x z v t t′ claim)
-      twin-loop X x filtering ps us t t′ e claim = one-part filtering filtering ps us t t′ refl (λ Δ vs. refl)
+      twin-loop X x filtering ps us t t′ claim = one-part filtering filtering ps us t t′ refl (λ Δ vs. refl)
           (λ z v. filter-twins starts p rs n Γ trees trees′ X x z v t t′ claim)
-      twin-loop X x reducing ps us t t′ e claim = two-parts ps us t t′ claim
-      twin-loop X x rewriting ps us t t′ e claim = absurd (false≢true e)
+      twin-loop X x reducing ps us t t′ claim = two-parts ps us t t′ claim
+      twin-loop X x rewriting ps us t t′ claim = one-part rewriting rewriting ps us t t′ refl (λ Δ vs. refl)
+          (λ z v. rewritings-twins starts p rs n Γ grows trees trees′ X x z v t t′ claim)
 
       module _ (lines : (l : Line) → LineClaim C l) (lines′ : (l : Line) → LineClaim C′ l)
           (calls : CallTwins r p rs n Γ) where
@@ -105,16 +105,17 @@ module _ {r : Race} (starts : Starts r) (p : Program) (rs : List Routine) (n : �
             twin-line r p rs n Γ lines lines′ [] [] (if-else x g a b) (if-else x g a′ b′) t t′
             (twin-if r p rs n Γ x g a a′ b b′ (twin-trees u) (twin-trees v) (twin-owes C′ u))
             (owes-if C′ x g a a′ b b′ (twin-owes C′ u)) (twin-trees w)
-        twin-trees (same-loop {X} {x} {k} {ps} {us} {b} {b′} {t} {t′} e v w) =
+        twin-trees (same-loop {X} {x} {k} {ps} {us} {b} {b′} {t} {t′} v w) =
             twin-line r p rs n Γ lines lines′ X X (loop x k ps us b) (loop x k ps us b′) t t′
-            (twin-loop X x k ps us b b′ e (twin-trees v)) (owes-loop C′ X x k ps us b b′) (twin-trees w)
+            (twin-loop X x k ps us b b′ (twin-trees v)) (owes-loop C′ X x k ps us b b′) (twin-trees w)
         twin-trees (same-retain {X} {y} {t} {t′} w) =
             twin-line r p rs n Γ lines lines′ X X (retain y) (retain y) t t′ (twin-retain r p rs n Γ X y)
             (owes-retain C′ X y) (twin-trees w)
         twin-trees (same-release {X} {y} {t} {t′} w) =
             twin-line r p rs n Γ lines lines′ X X (release y) (release y) t t′ (twin-release r p rs n Γ X y)
             (owes-release C′ X y) (twin-trees w)
-        twin-trees (spared {X} {y} {t} {t′} h w) = twin-spared r p rs n Γ lines lines′ y t t′ h (twin-trees w)
+        twin-trees (raised {X} {y} {t} {t′} w) = twin-raised r p rs n Γ lines y t t′ (twin-trees w)
+        twin-trees (spared {X} {y} {t} {t′} h w) = twin-spared r p rs n Γ lines y t t′ h (twin-trees w)
         twin-trees (rewritten {X} {x} {y} {ps} {b} {b′} {t} {t′} v w) =
             twin-line r p rs n Γ lines lines′ X (y ∷ X) (loop x mapping ps (name y ∷ []) b)
             (loop x rewriting ps (name y ∷ []) b′) t t′

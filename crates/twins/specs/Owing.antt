@@ -3,7 +3,7 @@ use Prim.Native.Nat.{ℕ, _+_}
 use native.Mathlib.Omega.{arith}
 use mathlib.Core.Path.{_≡_, sym, ap, subst}
 use mathlib.Core.List.{List, [], _∷_, _++_}
-use Rattle.semantics.specs.Basics.{_∈_}
+use Rattle.semantics.specs.Basics.{occurrences, _∈_}
 use Rattle.semantics.specs.Kinds.{Leaf, Loop, mapping, rewriting, leaf-hands, loop-hands}
 use Rattle.semantics.specs.Code.{Atom, name, Line, leaf, if-else, loop, retain, release, Tree, line}
 use Rattle.semantics.specs.Live.{Set}
@@ -14,7 +14,7 @@ use Rattle.soundness.specs.machine.Frames.{Setting, own, given}
 use Rattle.soundness.specs.machine.Standing.{hold-of-array}
 use Rattle.soundness.specs.machine.Rules.{TreeRules, LineRules, line-rules, rest-rules, then-rules}
 use Rattle.twins.specs.Twin.{Twin, same-end, same-leaf, same-if, same-loop, same-retain}
-use Rattle.twins.specs.Twin.{same-release, spared, rewritten}
+use Rattle.twins.specs.Twin.{same-release, raised, spared, rewritten}
 use Rattle.twins.specs.Beside.{Owes}
 
 -- what is owed stays so once both have spent the same
@@ -32,6 +32,11 @@ owes-less X l H H′ spends q n = omega (
 -- and the first has what the leaner holds
 pub owes-in : (X H H′ : List ℕ) → Owes X H H′ → H′ ⊆ H
 owes-in X H H′ q n h = omega (arith, h, q n, occurrences-append n X H′)
+
+-- the first alone holds a name more
+pub owes-raised : (X : List ℕ) (y : ℕ) (H H′ : List ℕ) → Owes X H H′ → Owes (y ∷ X) (y ∷ H) H′
+unfolding occurrences
+owes-raised X y H H′ q z = omega (arith, q z)
 
 -- the first alone spends what it owes
 pub owes-spared : (X : List ℕ) (y : ℕ) (H H′ : List ℕ) → y ∈ X → Owes X H H′ →
@@ -145,11 +150,13 @@ module _ (C : Setting) where
       (owes-leaf X x l us) (twin-owes w)
   twin-owes (same-if {x} {g} {a} {a′} {b} {b′} {t} {t′} u v w) =
       owes-rest [] [] (if-else x g a b) (if-else x g a′ b′) t t′ (owes-if x g a a′ b b′ (twin-owes u)) (twin-owes w)
-  twin-owes (same-loop {X} {x} {k} {ps} {us} {b} {b′} {t} {t′} e v w) =
+  twin-owes (same-loop {X} {x} {k} {ps} {us} {b} {b′} {t} {t′} v w) =
       owes-rest X X (loop x k ps us b) (loop x k ps us b′) t t′ (owes-loop X x k ps us b b′) (twin-owes w)
   twin-owes (same-retain {X} {y} {t} {t′} w) = owes-rest X X (retain y) (retain y) t t′ (owes-retain X y) (twin-owes w)
   twin-owes (same-release {X} {y} {t} {t′} w) = owes-rest X X (release y) (release y) t t′ (owes-release X y)
       (twin-owes w)
+  twin-owes (raised {X} {y} {t} {t′} w) = λ B S L H H′ P Δ d rules q.
+      twin-owes w B S L (y ∷ H) H′ P Δ d rules (owes-raised X y H H′ q)
   twin-owes (spared {X} {y} {t} {t′} h w) = λ B S L H H′ P Δ d rules q.
       twin-owes w B S L (less (y ∷ []) H) H′ P Δ d rules (owes-spared X y H H′ h q)
   twin-owes (rewritten {X} {x} {y} {ps} {b} {b′} {t} {t′} v w) =

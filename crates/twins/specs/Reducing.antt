@@ -39,12 +39,12 @@ use Rattle.soundness.specs.machine.Reducing.{site, start-depth, tree-depth, res
 use Rattle.soundness.specs.machine.Reducing.{new-element, Bound, bound, first-carried, given-on, lent-before}
 use Rattle.twins.specs.Leaner.{matching-at}
 use Rattle.twins.specs.Runs.{Race, Starts, Tied, Twins, both, twins-bind, after-step}
-use Rattle.twins.specs.Beside.{Around, here-less, Known, Same, Framed, framed-fewer, Images, images-stay}
+use Rattle.twins.specs.Beside.{Around, Known, Same, Framed, framed-fewer, Images, images-stay}
 use Rattle.twins.specs.Beside.{Stays, Owes, atom-same}
 use Rattle.twins.specs.Owing.{owes-less, owes-more, owes-in}
-use Rattle.twins.specs.Claims.{first-setting, leaner-setting, Before, TreeEnded, LineEnded, TreeTwins, LineTwins}
-use Rattle.twins.specs.Binding.{bound-framed, known-left}
-use Rattle.twins.specs.Branches.{behind}
+use Rattle.twins.specs.Claims.{first-setting, leaner-setting, Before, before-less, TreeEnded, LineEnded}
+use Rattle.twins.specs.Claims.{TreeTwins, LineTwins}
+use Rattle.twins.specs.Binding.{bound-framed, known-left, behind, line-bound}
 use Rattle.twins.specs.Reading.{array-words, matching-same}
 use Rattle.twins.specs.Passes.{twin-pass, passes-twins}
 use Rattle.twins.specs.Filled.{read-before}
@@ -288,22 +288,11 @@ module _ {r : Race} (starts : Starts r) (p : Program) (rs : List Routine) (n : �
           (twins-bind r (passes-twins r Reduces _ _ (length (words-of (s′ .store) (word ρ′ v))) (word ρ o) (word ρ′ o)
           s s′ (λ i w t₁ w′ t₁′ within f. reduce-pass i w t₁ w′ t₁′ (omega (arith, within, array-length array′))
           (omega (arith, within, array-length array, size)) f) begun)
-          (λ w t₁ w′ t₁′ _ _ f. both record {
-            cells = f .cells;
-            tied = f .tied;
-            framed = bound-framed C (a′ .lent ++ K′) x w w′
-                (framed-fewer (b′ .lent ++ I′) (a′ .lent ++ K′) (passes-back C′ (a′ .lent) K′ v reads′) (f .framed))
-                (omega (
-                  arith,
-                  loop-fresh C′ rules′ .lent,
-                  loop-fresh C′ rules′ .before,
-                  occurrences-append x (a′ .lent) K′,
-                ))
-                (subst (λ (e : ℕ). Same e (f .cells) w w′) (result-depth C rules) (f .result))
-                (behind (a′ .lent) (own C x) K′);
-            stays = λ c h. f .stays c (without-middle (a′ .aside) (hold ρ′ (kept-aside C′ v (a′ .lent) K′))
-                (a′ .others) c h);
-          }))
+          (λ w t₁ w′ t₁′ _ _ f. both (line-bound r p rs n Γ x (loop-fresh C′ rules′)
+          (subst (λ (e : ℕ). Same e (f .cells) w w′) (result-depth C rules) (f .result))
+          (framed-fewer (b′ .lent ++ I′) (a′ .lent ++ K′) (passes-back C′ (a′ .lent) K′ v reads′) (f .framed))
+          (λ c h. f .stays c (without-middle (a′ .aside) (hold ρ′ (kept-aside C′ v (a′ .lent) K′)) (a′ .others) c h))
+          (f .tied))))
         where
           size : length (words-of (s .store) (word ρ v)) ≡ length (words-of (s′ .store) (word ρ′ v))
           size = array-words (word ρ v) (word ρ′ v) (q .tied .stores) (q .leaner .situation .invariant) (q .exempt)
@@ -325,12 +314,4 @@ module _ {r : Race} (starts : Starts r) (p : Program) (rs : List Routine) (n : �
       where
         q′ : Before r p rs n Γ X E π a a′ H H′ P P′ ρ ρ′ (suc (suc (tree-adds t + k)))
             (suc (suc (tree-adds t′ + k′))) s s′
-        q′ = record {
-          first = here-less (suc (suc (tree-adds t + k))) (omega arith) (q .first);
-          leaner = here-less (suc (suc (tree-adds t′ + k′))) (omega arith) (q .leaner);
-          tied = q .tied;
-          framed = q .framed;
-          images = q .images;
-          owes = q .owes;
-          exempt = q .exempt;
-        }
+        q′ = before-less r p rs n Γ (omega arith) (omega arith) q

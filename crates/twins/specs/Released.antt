@@ -5,15 +5,17 @@ use native.Mathlib.Decide.{decLt}
 use mathlib.Core.Path.{refl, sym, _∙_, subst}
 use mathlib.Core.List.{List, _++_}
 use Rattle.semantics.specs.Basics.{occurrences, _∈_}
-use Rattle.semantics.specs.Store.{Store, cell, inner}
-use Rattle.semantics.specs.Machine.{Event}
+use Rattle.semantics.specs.Store.{Store, cell, inner, released, deepest}
+use Rattle.semantics.specs.Machine.{Event, State, with-store, release-events}
 use Rattle.laws.specs.Lists.{occurrences-append}
 use Rattle.soundness.specs.store.Invariant.{Invariant}
 use Rattle.soundness.specs.store.Cells.{agree-inner, namer}
 use Rattle.soundness.specs.store.Change.{root-used, inner-used, namer-used}
 use Rattle.soundness.specs.store.Release.{Releases}
 use Rattle.soundness.specs.machine.Images.{image-in}
+use Rattle.soundness.specs.machine.Holding.{released-state}
 use Rattle.twins.specs.Leaner.{Leaner, leaner-kept}
+use Rattle.twins.specs.Runs.{Race, Tied, level-first, release-quiet}
 
 -- in the leaner store alone
 pub leaner-freed : {E : List ℕ} {π : ℕ → ℕ} {τ τ′ σ : Store} {log : List Event} {Z R : List ℕ} → Leaner E π τ σ →
@@ -53,3 +55,14 @@ pub leaner-released : {E : List ℕ} {π : ℕ → ℕ} {τ τ′ σ σ′ : Sto
     Leaner E π τ σ → Releases τ τ′ a Z′ R′ → Releases σ σ′ b Z R → ((c : ℕ) → c ∈ (Z′ ++ R′) → π c ∈ (Z ++ R)) →
     Leaner E π τ′ σ′
 leaner-released l p q f = leaner-other-freed (leaner-freed l p) (p .holds) q f
+
+-- the first run alone releases a cell
+pub first-released : {r : Race} {E : List ℕ} {π : ℕ → ℕ} {s s′ : State} {Z′ R′ Z R : List ℕ} (c : ℕ) → Tied r E π s s′ →
+    Invariant (s′ .store) Z′ R′ →
+    Releases (s .store) (released deepest c (s .store)) (release-events deepest c (s .store)) Z R →
+    ((b : ℕ) → b ∈ (Z′ ++ R′) → π b ∈ (Z ++ R)) → Tied r E π (released-state c s) s′
+unfolding with-store
+first-released {r} {s = s} c t u p held = record {
+  level = level-first r _ (release-events deepest c (s .store)) (release-quiet deepest c (s .store)) (t .level);
+  stores = leaner-other-freed (t .stores) u p held;
+}

@@ -4,38 +4,52 @@ use native.Mathlib.Omega.{arith}
 use mathlib.Core.Bool.{Bool, true, false, cond}
 use mathlib.Core.Path.{_≡_, refl}
 use mathlib.Core.List.{List, [], _∷_, _++_}
-use lib.ListN.{length}
+use lib.IntN.{ℤ}
 use lib.Dec.{eqb}
 use borrow.Author.Tests.{eqb-true}
-use Rattle.semantics.specs.Basics.{tabulate, updated}
-use Rattle.semantics.specs.Outcome.{onward, _>>=_, _>>_, give, passes}
+use Rattle.semantics.specs.Basics.{updated}
+use Rattle.semantics.specs.Outcome.{done, onward, give}
 use Rattle.semantics.specs.Kinds.{mapping, rewriting}
 use Rattle.semantics.specs.Code.{Atom, loop, Tree}
-use Rattle.semantics.specs.Live.{_∪_, just, among, after-pass}
+use Rattle.semantics.specs.Live.{_∪_, just, after-pass}
 use Rattle.semantics.specs.Annotate.{NameDepths}
-use Rattle.semantics.specs.Machine.{State, Frame, Routine, Program, word, with-store, with-left, touching, held, work}
-use Rattle.semantics.specs.Machine.{work-line, work-pass, acquire, elements-of, is-alone, binding}
-use Rattle.semantics.specs.Machine as Machine
-use Rattle.semantics.specs.Store.{cell, cell-of}
+use Rattle.semantics.specs.Meaning.{Env}
+use Rattle.semantics.specs.Machine.{State, Frame, Routine, Program, word, with-store, with-left, touching}
+use Rattle.semantics.specs.Machine.{work-line, acquire, elements-of, is-alone}
+use Rattle.semantics.specs.Store.{Store, cell, cell-of}
 use Rattle.laws.specs.Lists.{_⊆_}
 use Rattle.soundness.specs.normal.Trace.{CalleeGrows}
 use Rattle.soundness.specs.machine.Discipline.{less, holds-after}
 use Rattle.soundness.specs.machine.Frames.{Setting, given, own}
-use Rattle.soundness.specs.machine.Elements.{words-of}
 use Rattle.soundness.specs.machine.Size.{tree-adds, line-adds}
 use Rattle.soundness.specs.machine.Situations.{touch-together}
 use Rattle.soundness.specs.machine.Claims.{TreeClaim}
-use Rattle.soundness.specs.machine.Rewriting.{looked-at}
-use Rattle.soundness.specs.store.Counting.{in-append-right}
-use Rattle.twins.specs.Runs.{Race, Starts, Twins, after-step, level-leaner, touching-quiet}
-use Rattle.twins.specs.Beside.{Around, here-less}
-use Rattle.twins.specs.Claims.{first-setting, leaner-setting, Before, LineEnded, TreeTwins, LineTwins}
+use Rattle.soundness.specs.machine.Rules.{loop-fresh}
+use Rattle.soundness.specs.machine.Rewriting.{looked-at, fits}
+use Rattle.twins.specs.Runs.{Race, Starts, Twins, both, after-step, level-leaner, touching-quiet}
+use Rattle.twins.specs.Beside.{Around, Here, array-same}
+use Rattle.twins.specs.Claims.{first-setting, leaner-setting, Before, before-less, LineEnded, TreeTwins}
+use Rattle.twins.specs.Claims.{LineTwins}
 use Rattle.twins.specs.Sites.{PassSite, map-site}
 use Rattle.twins.specs.Reading.{read-used}
 use Rattle.twins.specs.Passes.{at-element}
+use Rattle.twins.specs.Binding.{line-bound}
+use Rattle.twins.specs.Filling.{PassesDone}
 use Rattle.twins.specs.Filled.{read-before}
 use Rattle.twins.specs.Copied.{copied}
+use Rattle.twins.specs.Copiers.{lending-copier, handed-reads, line-roots, loop-rest, mapping-fills}
 use Rattle.twins.specs.InPlace.{in-place}
+
+-- a run looks at a cell in use
+pub here-looked : {C : Setting} {a : Around} {H P : List ℕ} {ρ : Frame} {n : ℕ} {s : State} (c : ℕ) →
+    Here C a H P ρ n s → 0 < cell (s .store) c .count → Here C a H P ρ n (looked-at c s)
+unfolding with-store
+here-looked {s = s} c q used = record {
+  values = q .values;
+  meter = q .meter;
+  together = touch-together c (s .store) (q .situation .invariant) used refl refl (q .together);
+  situation = q .situation;
+}
 
 module _ {r : Race} (starts : Starts r) (p : Program) (rs : List Routine) (n : ℕ) (Γ : NameDepths) where
   abbrev C : Setting
@@ -51,12 +65,7 @@ module _ {r : Race} (starts : Starts r) (p : Program) (rs : List Routine) (n : �
   unfolding with-store
   before-looked {s′ = s′} c q used = record {
     first = q .first;
-    leaner = record {
-      values = q .leaner .values;
-      meter = q .leaner .meter;
-      together = touch-together c (s′ .store) (q .leaner .situation .invariant) used refl refl (q .leaner .together);
-      situation = q .leaner .situation;
-    };
+    leaner = here-looked c (q .leaner) used;
     tied = record {
       level = level-leaner r (s′ .store) (touching (s′ .store) c) (touching-quiet (s′ .store) c) (q .tied .level);
       stores = q .tied .stores;
@@ -85,27 +94,29 @@ module _ {r : Race} (starts : Starts r) (p : Program) (rs : List Routine) (n : �
           J = less (given C (v ∷ [])) H′
 
           Q : List ℕ
-          Q = a .roots ++ held Γ (among (v ∷ []) (after-pass x (z ∷ []) t A)) ρ
+          Q = line-roots Γ x z v t A a ρ
 
           Q′ : List ℕ
-          Q′ = a′ .roots ++ held Γ (among (v ∷ []) (after-pass x (z ∷ []) t′ A′)) ρ′
+          Q′ = line-roots Γ x z v t′ A′ a′ ρ′
 
           site : PassSite C z v t (a .lent) (S ∪ just (z ∷ [])) (after-pass x (z ∷ []) t A) H d
           site = map-site C rules
 
           reads : given C (v ∷ []) ⊆ (a′ .lent ++ H′)
-          reads y h = in-append-right y (a′ .lent) H′ (omega (arith, h, rules′ .holds .0 y))
+          reads = handed-reads (a′ .lent) (given C (v ∷ [])) H′ (rules′ .holds .0)
 
           q′ : Before r p rs n Γ X E π a a′ H H′ P P′ ρ ρ′ (suc (tree-adds t + k)) (suc (tree-adds t′ + k′)) s s′
-          q′ = record {
-            first = here-less (suc (tree-adds t + k)) (omega arith) (q .first);
-            leaner = here-less (suc (tree-adds t′ + k′)) (omega arith) (q .leaner);
-            tied = q .tied;
-            framed = q .framed;
-            images = q .images;
-            owes = q .owes;
-            exempt = q .exempt;
-          }
+          q′ = before-less r p rs n Γ (omega arith) (omega arith) q
+
+          -- the first has nothing more to do after its passes
+          ended : {b : Around} {I : List ℕ} {δ : Env} {m i : ℕ} {σ : Store} {w : ℤ} {t₁ : State} {w′ : ℤ}
+              {t₁′ : State} →
+              PassesDone r p rs n Γ d b I ρ δ m σ E π a′ J ρ′ i w t₁ w′ t₁′ →
+              Twins r (LineEnded r p rs n Γ E π a′ (own C x ++ J) []) (done (updated ρ x w) t₁)
+              (done (updated ρ′ x w′) t₁′)
+          ended f = both (line-bound r p rs n Γ x (loop-fresh C′ rules′)
+              (array-same (omega (arith, fits C′ grows rules′ (trees′ t′) .2)) (f .result)) (f .framed) (f .stays)
+              (f .tied))
 
           -- nothing else refers to the array, or something does
           chosen : (j j′ : ℕ) →
@@ -113,16 +124,14 @@ module _ {r : Race} (starts : Starts r) (p : Program) (rs : List Routine) (n : �
               (at-element s j (word ρ v)) (looked-at (cell-of (word ρ′ v)) (at-element s′ j′ (word ρ′ v))) →
               (g : Bool) → eqb (cell (s′ .store) (cell-of (word ρ′ v)) .count) 1 ≡ g →
               Twins r (LineEnded r p rs n Γ E π a′ (own C x ++ J) [])
-              (onward (λ c. (passes (work-pass mapping d (λ us. work (C .callee) (p .borrowing) Γ t
-              (after-pass x (z ∷ []) t A) (Q ++ (cell-of c ∷ [])) (binding (z ∷ []) us ρ)) (word ρ v)) c
-              (tabulate 0 (length (words-of (s .store) (word ρ v))) (λ i. i))) >>= λ w. give (updated ρ x w))
+              (onward (loop-rest C mapping x z v t (after-pass x (z ∷ []) t A) Q ρ (s .store))
               (acquire Q d [] (at-element s j (word ρ v))))
-              (onward (λ c. (passes (work-pass rewriting d (λ us. work (C′ .callee) (p .borrowing) Γ t′
-              (after-pass x (z ∷ []) t′ A′) (Q′ ++ (cell-of c ∷ [])) (binding (z ∷ []) us ρ′)) (word ρ′ v)) c
-              (tabulate 0 (length (words-of (s′ .store) (word ρ′ v))) (λ i. i))) >>= λ w.
-              Machine.loop-ends rewriting (word ρ′ v) w >>= λ _. give (updated ρ′ x w))
+              (onward (loop-rest C′ rewriting x z v t′ (after-pass x (z ∷ []) t′ A′) Q′ ρ′ (s′ .store))
               (cond g (give (word ρ′ v)) (acquire Q′ d []) (looked-at (cell-of (word ρ′ v))
               (at-element s′ j′ (word ρ′ v)))))
-          chosen j j′ q₁ true e = in-place starts p rs n Γ grows trees trees′ claim rules rules′ need need′ q₁ Q
-              (eqb-true (cell (s′ .store) (cell-of (word ρ′ v)) .count) 1 e)
-          chosen j j′ q₁ false e = copied starts p rs n Γ grows trees trees′ claim rules rules′ need need′ q₁ Q
+          chosen j j′ q₁ true e = in-place starts p rs n Γ grows trees trees′ claim rules′ need need′ q₁
+              (lending-copier site Q (starts .careless) (q₁ .first))
+              (eqb-true (cell (s′ .store) (cell-of (word ρ′ v)) .count) 1 e) mapping mapping-fills
+              (λ c w t₁ w′ t₁′ f. ended f)
+          chosen j j′ q₁ false e = copied starts p rs n Γ grows trees trees′ claim rules′ need need′ q₁
+              (lending-copier site Q (starts .careless) (q₁ .first)) mapping mapping-fills (λ c w t₁ w′ t₁′ f. ended f)

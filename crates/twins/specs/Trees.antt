@@ -18,10 +18,11 @@ use Rattle.soundness.specs.machine.Size.{tree-adds, line-adds}
 use Rattle.soundness.specs.machine.Rules.{LineRules, line-rules, rest-rules}
 use Rattle.soundness.specs.machine.Claims.{LineClaim}
 use Rattle.twins.specs.Runs.{Race, both, twins-map, twins-bind}
-use Rattle.twins.specs.Beside.{Around, Here, here-less, Known, known, Same, images-stay, Stays}
+use Rattle.twins.specs.Beside.{Around, Here, Known, known, Same, images-stay, Stays}
 use Rattle.twins.specs.Beside.{atom-same}
 use Rattle.twins.specs.Owing.{LineOwes}
-use Rattle.twins.specs.Claims.{first-setting, leaner-setting, Before, TreeEnded, TreeTwins, LineTwins}
+use Rattle.twins.specs.Claims.{first-setting, leaner-setting, Before, before-less, TreeEnded, TreeTwins}
+use Rattle.twins.specs.Claims.{LineTwins}
 
 -- ---- one run goes on
 
@@ -113,12 +114,4 @@ module _ (r : Race) (p : Program) (rs : List Routine) (n : ℕ) (Γ : NameDepths
       where
         q′ : Before r p rs n Γ X E π a a′ H H′ P P′ ρ ρ′ (line-adds l + (tree-adds t + k))
             (line-adds l′ + (tree-adds t′ + k′)) s s′
-        q′ = record {
-          first = here-less (line-adds l + (tree-adds t + k)) (omega arith) (q .first);
-          leaner = here-less (line-adds l′ + (tree-adds t′ + k′)) (omega arith) (q .leaner);
-          tied = q .tied;
-          framed = q .framed;
-          images = q .images;
-          owes = q .owes;
-          exempt = q .exempt;
-        }
+        q′ = before-less r p rs n Γ (omega arith) (omega arith) q

@@ -1,10 +1,12 @@
--- A cell written: an element more in both stores or in one, or an element of the leaner store overwritten.
+-- A cell written: an element more in both stores or in one, or an element overwritten in both or in the leaner one.
 use Prim.Native.Nat.{ℕ, zero, suc, _<_, _≤_}
 use native.Mathlib.Omega.{arith}
 use native.Mathlib.Decide.{decLt}
 use mathlib.Core.Path.{_≡_, refl, sym, ap, ap₂, _∙_}
 use mathlib.Core.List.{List, [], _∷_, _++_, map, map-append}
 use lib.IntN.{ℤ}
+use lib.ListN.{set}
+use lib.Seq.{take-set-lt}
 use borrow.Author.Tests.{lt-ltb, le-ltb}
 use Rattle.semantics.specs.Basics.{_∈_}
 use Rattle.semantics.specs.Store.{Cell, Store, cell, cell-of, elements, inner, named-by, wider, appended, with-slot}
@@ -111,32 +113,54 @@ module _ {E : List ℕ} {π : ℕ → ℕ} {τ σ : Store} {Z′ R′ Z R : List
   leaner-appended = leaner-placed l (put-placed (appended-put τ c w h))
       (put-placed (appended-put σ (π c) v (l .used c h))) new (same-images c h l) (λ d i. i)
 
--- ---- in one store, where the numbers may differ
+-- ---- an array of numbers, in one store or in both
 
-module _ {E : List ℕ} {π : ℕ → ℕ} {τ σ : Store} (c : ℕ) (l : Leaner E π τ σ) (h : 0 < cell τ c .count) (e : c ∈ E)
+-- the same word in the same slot of cells with the same elements
+same-slot : (x y : Cell) (i : ℕ) (w : ℤ) → y .size ≡ x .size → elements y ≡ elements x →
+    (elements (with-slot y i w) ≡ elements (with-slot x i w)) × (with-slot y i w .size ≡ with-slot x i w .size)
+unfolding elements with-slot
+same-slot x y i w s e = elim (decLt i (x .size)) [
+  | yes h ↦ rw (lt-ltb i (x .size) h, lt-ltb i (y .size) (omega (arith, h, s))) (
+    take-set-lt (y .size) (y .slots) i w (omega (arith, h, s)) ∙ ap (λ (l : List ℤ). set l i w) e
+        ∙ sym (take-set-lt (x .size) (x .slots) i w h),
+    s,
+  )
+  | no h ↦ rw (le-ltb i (x .size) (omega (arith, h)), le-ltb i (y .size) (omega (arith, h, s))) (e, s)
+]
+
+module _ {E : List ℕ} {π : ℕ → ℕ} {τ σ : Store} (c : ℕ) (l : Leaner E π τ σ) (h : 0 < cell τ c .count)
     (z : cell τ c .depth ≡ 0) where
-  differing : (x y : Cell) → SameHead (cell τ c) x → SameHead (cell σ (π c)) y → Corresponds E π c x y
-  differing x y p q = record {
+  -- the cells written have the same numbers, unless these may differ
+  rewritten : (x y : Cell) → SameHead (cell τ c) x → SameHead (cell σ (π c)) y →
+      ((c ∈ E → ⊥) → (elements y ≡ elements x) × (y .size ≡ x .size)) → Corresponds E π c x y
+  rewritten x y p q same = record {
     used = omega (arith, q .count, l .used c h);
     depth = q .depth ∙ l .depth c h ∙ sym (p .depth);
     names = no-names y (q .depth ∙ l .depth c h ∙ z) ∙ ap (map π) (sym (no-names x (p .depth ∙ z)));
-    numbers = λ i d. absurd (i e);
-    sizes = λ i. absurd (i e);
+    numbers = λ f d. same f .0;
+    sizes = λ f. same f .1;
   }
 
--- a number appended in the other store, to the image of a cell that is exempt
-pub leaner-other-appended : {E : List ℕ} {π : ℕ → ℕ} {τ σ : Store} (c : ℕ) (v : ℤ) → Leaner E π τ σ →
-    0 < cell τ c .count → c ∈ E → cell τ c .depth ≡ 0 → Leaner E π τ (appended (π c) v σ)
-leaner-other-appended {π = π} {τ} {σ} c v l h e z =
-    leaner-placed l (none-placed τ c) (put-placed (appended-put σ (π c) v (l .used c h)))
-    (differing c l h e z (cell τ c) (wider (cell σ (π c)) v) (same-head (cell τ c)) (wider-head (cell σ (π c)) v))
-    (same-images c h l) (λ d i. i)
+  -- a number appended in the other store, to the image of a cell that is exempt
+  pub leaner-other-appended : (v : ℤ) → c ∈ E → Leaner E π τ (appended (π c) v σ)
+  leaner-other-appended v e = leaner-placed l (none-placed τ c) (put-placed (appended-put σ (π c) v (l .used c h)))
+      (rewritten (cell τ c) (wider (cell σ (π c)) v) (same-head (cell τ c)) (wider-head (cell σ (π c)) v)
+      (λ f. absurd (f e)))
+      (same-images c h l) (λ d i. i)
 
--- a number of such a cell overwritten
-pub leaner-overwritten : {E : List ℕ} {π : ℕ → ℕ} {τ σ : Store} (c i : ℕ) (w : ℤ) → Leaner E π τ σ →
-    0 < cell τ c .count → c ∈ E → cell τ c .depth ≡ 0 → Leaner E π (overwritten c i w τ) σ
-leaner-overwritten {π = π} {τ} {σ} c i w l h e z =
-    leaner-placed l (put-placed (overwritten-put τ c i w h)) (none-placed σ (π c))
-    (differing c l h e z (with-slot (cell τ c) i w) (cell σ (π c)) (slot-head (cell τ c) i w)
-    (same-head (cell σ (π c))))
-    (same-images c h l) (λ d j. j)
+  -- a number of such a cell overwritten
+  pub leaner-overwritten : (i : ℕ) (w : ℤ) → c ∈ E → Leaner E π (overwritten c i w τ) σ
+  leaner-overwritten i w e = leaner-placed l (put-placed (overwritten-put τ c i w h)) (none-placed σ (π c))
+      (rewritten (with-slot (cell τ c) i w) (cell σ (π c)) (slot-head (cell τ c) i w) (same-head (cell σ (π c)))
+      (λ f. absurd (f e)))
+      (same-images c h l) (λ d j. j)
+
+  -- the same number overwritten in both
+  pub leaner-both-overwritten : (i : ℕ) (w : ℤ) → (c ∈ E → ⊥) →
+      Leaner E π (overwritten c i w τ) (overwritten (π c) i w σ)
+  leaner-both-overwritten i w f = leaner-placed l (put-placed (overwritten-put τ c i w h))
+      (put-placed (overwritten-put σ (π c) i w (l .used c h)))
+      (rewritten (with-slot (cell τ c) i w) (with-slot (cell σ (π c)) i w) (slot-head (cell τ c) i w)
+      (slot-head (cell σ (π c)) i w)
+      (λ g. same-slot (cell τ c) (cell σ (π c)) i w (l .sizes c h f) (l .numbers c h f z)))
+      (same-images c h l) (λ d j. j)
