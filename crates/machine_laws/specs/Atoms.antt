@@ -11,7 +11,7 @@ use Rattle.semantics.specs.Code.{atom-row}
 use Rattle.semantics.specs.Live.{Set}
 use Rattle.semantics.specs.Machine.{Frame, word}
 use Rattle.semantics.specs.Machine.{argument}
-use Rattle.soundness.specs.machine.Discipline.{AllKnown}
+use Rattle.working.specs.machine.Discipline.{AllKnown}
 use Rattle.machine_code.specs.Reading.{atom-at, is-atom}
 use Rattle.machine_code.specs.declared.Atom.{Atom}
 use Rattle.machine_lines.specs.Frames.{word-of, words-at}

@@ -14,7 +14,7 @@ use Rattle.semantics.specs.Outcome.{stop}
 use Rattle.semantics.specs.Code.{rows}
 use Rattle.semantics.specs.Live.{Set, empty}
 use Rattle.semantics.specs.Machine.{Event, State, Program, routine-of, frame-from, machine}
-use Rattle.soundness.specs.machine.Discipline.{Fitting, Scoped, parameter-names}
+use Rattle.working.specs.machine.Discipline.{Fitting, Scoped, parameter-names}
 use Rattle.machine_code.specs.Reading.{low-bits, depth-in, start-in}
 use Rattle.machine_lines.specs.Frames.{place, function-place, put-all, called, level-place}
 use Rattle.machine_lines.specs.Lines.{memory}

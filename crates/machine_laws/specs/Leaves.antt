@@ -24,9 +24,9 @@ use Rattle.semantics.specs.Machine as M
 use Rattle.semantics.specs.Machine.{State, Frame, Program, word, with-left, work-leaf, work-line, acquire, acquire-if}
 use Rattle.semantics.specs.Machine.{elements-of, retain-word, held, argument, touching, is-count}
 use Rattle.semantics.specs.Machine.{if-array, retain-times, acquires}
-use Rattle.soundness.specs.machine.Fits.{replicate-fits}
+use Rattle.working.specs.machine.Fits.{replicate-fits}
 use Rattle.laws.specs.Tests.{some-if-holds, same-lists}
-use Rattle.soundness.specs.machine.Discipline.{AllKnown, New, LeafFits}
+use Rattle.working.specs.machine.Discipline.{AllKnown, New, LeafFits}
 use Rattle.words.specs.Words.{checked}
 use Rattle.store.specs.Acquiring.{Gained, gained, next-cell}
 use Rattle.machine_code.specs.Reading.{atom-at, is-atom, line-of, line-at, depth-in}

@@ -19,7 +19,7 @@ use Rattle.semantics.specs.Machine.{State, Frame, Program, word, step, stepped,
 use Rattle.semantics.specs.Machine.{elements-of, held, touching, looped-over}
 use Rattle.semantics.specs.Machine.{carried-first, pass-words, in-progress, loop-ends}
 use Rattle.laws.specs.Tests.{or-left}
-use Rattle.soundness.specs.machine.Discipline.{AllKnown, New, AllNew, LoopFits, Fitting, Scoped}
+use Rattle.working.specs.machine.Discipline.{AllKnown, New, AllNew, LoopFits, Fitting, Scoped}
 use Rattle.machine_code.specs.Reading.{atom-at, line-of, line-at, depth-in, end-in}
 use Rattle.machine_code.specs.declared.Atom.{Atom}
 use Rattle.machine_code.specs.declared.Line.{Line}

@@ -22,7 +22,7 @@ use Rattle.semantics.specs.Machine.{touching, release-events, acquire, append-w
 use Rattle.semantics.specs.Machine.{argument, carried-first, pass-words, taken-by, in-place, carried-on, loop-ends}
 use Rattle.semantics.specs.Machine.{if-array, retain-word}
 use Rattle.laws.specs.Tests.{or-right}
-use Rattle.soundness.specs.machine.Discipline.{New, AllNew}
+use Rattle.working.specs.machine.Discipline.{New, AllNew}
 use Rattle.machine_lines.specs.Frames.{place, raised}
 use Rattle.machine_lines.specs.Lines.{memory, Ran, ran, out, halted, bound, acquired-given, cell-from}
 use Rattle.machine_lines.specs.Lines.{acquired-memory, released-memory}

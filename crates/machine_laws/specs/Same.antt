@@ -14,7 +14,7 @@ use Rattle.semantics.specs.Live.{Set, _∪_, only}
 use Rattle.semantics.specs.Store.{Store}
 use Rattle.semantics.specs.Machine as M
 use Rattle.semantics.specs.Machine.{State, Frame, Program, step, stepped, with-left}
-use Rattle.soundness.specs.machine.Discipline.{New}
+use Rattle.working.specs.machine.Discipline.{New}
 use Rattle.machine_lines.specs.Frames.{place, function-place}
 use Rattle.machine_lines.specs.Lines.{Memory, memory, Ran, ran, out, halted, stepping, Given, gave}
 use Rattle.machine_positions.specs.Machine.{Callee, and-then, binding}

@@ -6,7 +6,7 @@ use mathlib.Core.Bool.{true}
 use mathlib.Core.List.{List, [], _∷_, _++_, map, append-assoc}
 use lib.IntN.{ℤ, pos}
 use lib.ListN.{getD, length, length-append}
-use Rattle.soundness.specs.machine.Size.{function-within}
+use Rattle.working.specs.machine.Size.{function-within}
 use Rattle.soundness.specs.Delivering.{levels-bounded}
 use Rattle.semantics.specs.Syntax.{Parameter, Function, Script, function-at, no-function, main-depth}
 use Rattle.semantics.specs.Code.{Row, rows}

@@ -18,7 +18,7 @@ use Rattle.semantics.specs.Live.{Set, _∪_, only, live, after-branch}
 use Rattle.semantics.specs.Annotate.{NameDepths, atom-depth}
 use Rattle.semantics.specs.Machine as M
 use Rattle.semantics.specs.Machine.{State, Frame, Program, word, with-left, work, work-line}
-use Rattle.soundness.specs.machine.Discipline.{Known, New, known-after, LineFitting, Fitting, LineScoped, Scoped}
+use Rattle.working.specs.machine.Discipline.{Known, New, known-after, LineFitting, Fitting, LineScoped, Scoped}
 use Rattle.machine_code.specs.Reading.{is-atom, atom-at, line-of, line-at, depth-in, end-in}
 use Rattle.machine_code.specs.declared.Atom.{Atom}
 use Rattle.machine_lines.specs.Frames.{word-of}

@@ -26,9 +26,9 @@ use Rattle.semantics.specs.Normal.{normal, parameter-names, normal-body}
 use Rattle.semantics.specs.Machine.{program-in}
 use Rattle.semantics.specs.Annotate.{NameDepths, atom-depth, with-depths, pass-depths, loop-depth, tree-depths}
 use Rattle.semantics.specs.Annotate.{line-depths, parameter-depths-from, result-of}
-use Rattle.soundness.specs.machine.Discipline.{loop-arity}
-use Rattle.soundness.specs.normal.Agree.{below-more, atom-below}
-use Rattle.soundness.specs.normal.Parameters.{parameters-below}
+use Rattle.working.specs.machine.Discipline.{loop-arity}
+use Rattle.working.specs.normal.Agree.{below-more, atom-below}
+use Rattle.working.specs.normal.Parameters.{parameters-below}
 use Rattle.soundness.specs.annotation.Typed.{count, element-depths, Functions, Typed, AllTyped}
 use Rattle.soundness.specs.annotation.Rules.{depth-of-map, pass-gives, element-count}
 use Rattle.soundness.specs.annotation.Tables.{with-off, with-same, table, tables, lines-table, table-off, tables-off}

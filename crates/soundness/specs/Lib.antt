@@ -1,6 +1,3 @@
-pub mod store
-pub mod normal
-pub mod machine
 pub mod annotation
 pub mod borrowing
 pub mod Answers

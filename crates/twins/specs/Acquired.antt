@@ -14,10 +14,10 @@ use Rattle.semantics.specs.Store.{has-free, acquired}
 use Rattle.semantics.specs.Sound.{all-inner}
 use Rattle.laws.specs.Lists.{occurs-first}
 use Rattle.laws.specs.Updates.{updated-same, updated-there}
-use Rattle.soundness.specs.store.Invariant.{Invariant}
-use Rattle.soundness.specs.store.Cells.{Put, put-same, put-other, with-first-put, inner-in-all}
-use Rattle.soundness.specs.store.Acquire.{acquire-takes, filled-elements, filled-inner}
-use Rattle.soundness.specs.machine.Images.{image-alike}
+use Rattle.working.specs.store.Invariant.{Invariant}
+use Rattle.working.specs.store.Cells.{Put, put-same, put-other, with-first-put, inner-in-all}
+use Rattle.working.specs.store.Acquire.{acquire-takes, filled-elements, filled-inner}
+use Rattle.working.specs.machine.Images.{image-alike}
 use Rattle.twins.specs.Leaner.{Leaner, Matching, matching-cell, matching-kept}
 use Rattle.twins.specs.Placed.{Placed, put-placed, none-placed, Corresponds, OthersStay, leaner-placed}
 

@@ -11,12 +11,12 @@ use Rattle.semantics.specs.Outcome.{Outcome, Run, onward}
 use Rattle.semantics.specs.Machine.{State, with-store, acquire, acquire-if}
 use Rattle.semantics.specs.Store.{cell, cell-count, free-cells, has-free, acquired}
 use Rattle.laws.specs.Updates.{updated-there}
-use Rattle.soundness.specs.store.Invariant.{Invariant}
-use Rattle.soundness.specs.store.Change.{root-used}
-use Rattle.soundness.specs.store.Acquire.{acquire-takes}
-use Rattle.soundness.specs.store.LowestLevel.{free-cells-listed}
-use Rattle.soundness.specs.machine.Agreement.{Clean}
-use Rattle.soundness.specs.machine.Acquiring.{after-acquire}
+use Rattle.working.specs.store.Invariant.{Invariant}
+use Rattle.working.specs.store.Change.{root-used}
+use Rattle.working.specs.store.Acquire.{acquire-takes}
+use Rattle.working.specs.store.LowestLevel.{free-cells-listed}
+use Rattle.working.specs.machine.Agreement.{Clean}
+use Rattle.working.specs.machine.Acquiring.{after-acquire}
 use Rattle.twins.specs.Leaner.{Matching}
 use Rattle.twins.specs.Acquired.{leaner-acquired}
 use Rattle.twins.specs.Levels.{leaner-levels, leaner-has-free}

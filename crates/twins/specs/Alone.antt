@@ -8,11 +8,11 @@ use Rattle.semantics.specs.Basics.{occurrences, _∈_}
 use Rattle.semantics.specs.Store.{Store, cell, inner}
 use Rattle.semantics.specs.Sound.{all-inner}
 use Rattle.laws.specs.Lists.{occurrences-append}
-use Rattle.soundness.specs.store.Invariant.{Invariant}
-use Rattle.soundness.specs.store.Counting.{hits-itself}
-use Rattle.soundness.specs.store.Cells.{namer, inner-in-all}
-use Rattle.soundness.specs.store.Change.{namer-used}
-use Rattle.soundness.specs.machine.Images.{image-in}
+use Rattle.working.specs.store.Invariant.{Invariant}
+use Rattle.working.specs.store.Counting.{hits-itself}
+use Rattle.working.specs.store.Cells.{namer, inner-in-all}
+use Rattle.working.specs.store.Change.{namer-used}
+use Rattle.working.specs.machine.Images.{image-in}
 use Rattle.twins.specs.Leaner.{Leaner}
 
 -- what else is held in the leaner store has its image held beside the reference to the cell's image

@@ -27,7 +27,7 @@ use Rattle.semantics.specs.Calls.{accepted, judged}
 use Rattle.semantics.specs.Demands.{mapping-only}
 use Rattle.laws.specs.Lists.{occurs-first}
 use Rattle.laws.specs.Routines.{routine-in, length-routines-in, length-routines, routine-in-is, routine-is}
-use Rattle.soundness.specs.machine.Discipline.{less, without, AllKnown}
+use Rattle.working.specs.machine.Discipline.{less, without, AllKnown}
 use Rattle.soundness.specs.annotation.Typed.{Functions}
 use Rattle.soundness.specs.annotation.Formed.{Within, within-up, within-bound, within-pass, bound-by}
 use Rattle.soundness.specs.annotation.Formed.{Placed, Formed, LineFormed}

@@ -17,13 +17,13 @@ use Rattle.semantics.specs.Machine.{State, Frame, word, step}
 use Rattle.semantics.specs.Store.{Store, cell, cell-of}
 use Rattle.laws.specs.Lists.{_⊆_, occurs-first}
 use Rattle.laws.specs.Updates.{updated-same, updated-there}
-use Rattle.soundness.specs.store.Counting.{append-cases, in-append-left, in-append-right}
-use Rattle.soundness.specs.machine.Images.{image-in, source, without-middle}
-use Rattle.soundness.specs.machine.Agreement.{Start, Together, Agree, Stepped, step-agrees}
-use Rattle.soundness.specs.machine.Agreement as Agreement
-use Rattle.soundness.specs.machine.Frames.{hold, Setting, Situation, given}
-use Rattle.soundness.specs.machine.Standing.{hold-of-array}
-use Rattle.soundness.specs.machine.Situations.{situation-less, settled}
+use Rattle.working.specs.store.Counting.{append-cases, in-append-left, in-append-right}
+use Rattle.working.specs.machine.Images.{image-in, source, without-middle}
+use Rattle.working.specs.machine.Agreement.{Start, Together, Agree, Stepped, step-agrees}
+use Rattle.working.specs.machine.Agreement as Agreement
+use Rattle.working.specs.machine.Frames.{hold, Setting, Situation, given}
+use Rattle.working.specs.machine.Standing.{hold-of-array}
+use Rattle.working.specs.machine.Situations.{situation-less, settled}
 
 -- ---- one run
 

@@ -11,11 +11,11 @@ use Rattle.semantics.specs.Annotate.{NameDepths}
 use Rattle.semantics.specs.Machine.{State, Frame, Routine, Program}
 use Rattle.semantics.specs.Store.{cell-of}
 use Rattle.laws.specs.Lists.{_⊆_, occurrences-append}
-use Rattle.soundness.specs.store.Counting.{append-cases, in-append-left, in-append-right}
-use Rattle.soundness.specs.machine.Images.{image-in}
-use Rattle.soundness.specs.machine.Frames.{hold, Setting, own}
-use Rattle.soundness.specs.machine.Standing.{none-in, hold-of-number, hold-of-other}
-use Rattle.soundness.specs.machine.Rules.{Fresh}
+use Rattle.working.specs.store.Counting.{append-cases, in-append-left, in-append-right}
+use Rattle.working.specs.machine.Images.{image-in}
+use Rattle.working.specs.machine.Frames.{hold, Setting, own}
+use Rattle.working.specs.machine.Standing.{none-in, hold-of-number, hold-of-other}
+use Rattle.working.specs.machine.Rules.{Fresh}
 use Rattle.twins.specs.Runs.{Race, Tied}
 use Rattle.twins.specs.Beside.{Around, Same, Framed, framed-bound, Stays}
 use Rattle.twins.specs.Claims.{first-setting, LineEnded}

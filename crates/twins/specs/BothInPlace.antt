@@ -19,18 +19,18 @@ use Rattle.semantics.specs.Machine.{overwrite-word}
 use Rattle.semantics.specs.Machine as Machine
 use Rattle.semantics.specs.Store.{Store, cell, cell-of, elements, overwritten}
 use Rattle.laws.specs.Lists.{_⊆_}
-use Rattle.soundness.specs.normal.Plain.{value}
-use Rattle.soundness.specs.normal.Trace.{CalleeGrows, running-grows}
-use Rattle.soundness.specs.store.Invariant.{StandsFor}
-use Rattle.soundness.specs.store.Counting.{in-append-right}
-use Rattle.soundness.specs.machine.Discipline.{less}
-use Rattle.soundness.specs.machine.Spending.{less-in}
-use Rattle.soundness.specs.machine.Frames.{Setting, Ended, given, own}
-use Rattle.soundness.specs.machine.Elements.{words-of, array-length, array-depth, array-used}
-use Rattle.soundness.specs.machine.Size.{tree-adds}
-use Rattle.soundness.specs.machine.Rules.{LineRules, loop-fresh}
-use Rattle.soundness.specs.machine.Claims.{TreeClaim}
-use Rattle.soundness.specs.machine.Rewriting.{fits, element-depth, new-element, stands}
+use Rattle.working.specs.normal.Plain.{value}
+use Rattle.working.specs.normal.Trace.{CalleeGrows, running-grows}
+use Rattle.working.specs.store.Invariant.{StandsFor}
+use Rattle.working.specs.store.Counting.{in-append-right}
+use Rattle.working.specs.machine.Discipline.{less}
+use Rattle.working.specs.machine.Spending.{less-in}
+use Rattle.working.specs.machine.Frames.{Setting, Ended, given, own}
+use Rattle.working.specs.machine.Elements.{words-of, array-length, array-depth, array-used}
+use Rattle.working.specs.machine.Size.{tree-adds}
+use Rattle.working.specs.machine.Rules.{LineRules, loop-fresh}
+use Rattle.working.specs.machine.Claims.{TreeClaim}
+use Rattle.working.specs.machine.Rewriting.{fits, element-depth, new-element, stands}
 use Rattle.twins.specs.Leaner.{Leaner}
 use Rattle.twins.specs.Written.{leaner-both-overwritten}
 use Rattle.twins.specs.Runs.{Race, Starts, Twins, both, twins-bind, level-quiet, touching-quiet}

@@ -13,11 +13,11 @@ use Rattle.semantics.specs.Annotate.{NameDepths}
 use Rattle.semantics.specs.Machine.{State, Routine, Program, word, work, work-line}
 use Rattle.semantics.specs.Store.{cell-of}
 use Rattle.laws.specs.Lists.{_⊆_}
-use Rattle.soundness.specs.store.Counting.{append-cases, in-append-left, in-append-right}
-use Rattle.soundness.specs.machine.Discipline.{left-by, holds-after}
-use Rattle.soundness.specs.machine.Frames.{Setting}
-use Rattle.soundness.specs.machine.Size.{tree-adds, line-adds}
-use Rattle.soundness.specs.machine.Rules.{then-rules, else-rules, if-fresh}
+use Rattle.working.specs.store.Counting.{append-cases, in-append-left, in-append-right}
+use Rattle.working.specs.machine.Discipline.{left-by, holds-after}
+use Rattle.working.specs.machine.Frames.{Setting}
+use Rattle.working.specs.machine.Size.{tree-adds, line-adds}
+use Rattle.working.specs.machine.Rules.{then-rules, else-rules, if-fresh}
 use Rattle.twins.specs.Runs.{Race, Twins, both, twins-bind, twin-step, twin-test}
 use Rattle.twins.specs.Beside.{here-stepped, here-settled, Framed, framed-fewer, atom-number}
 use Rattle.twins.specs.Owing.{owes-in, TreeOwes}

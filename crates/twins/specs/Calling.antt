@@ -17,17 +17,17 @@ use Rattle.semantics.specs.Meaning.{Meter}
 use Rattle.semantics.specs.Machine.{State, Frame, Routine, Program, word, work-leaf, frame-from}
 use Rattle.laws.specs.Lists.{_⊆_}
 use Rattle.laws.specs.Updates.{updated-same, updated-there}
-use Rattle.soundness.specs.normal.Plain.{value}
-use Rattle.soundness.specs.store.Counting.{in-append-right}
-use Rattle.soundness.specs.machine.Discipline.{arrays-at, less}
-use Rattle.soundness.specs.machine.Spending.{less-in}
-use Rattle.soundness.specs.machine.Images.{first-or-later}
-use Rattle.soundness.specs.machine.Agreement.{Together}
-use Rattle.soundness.specs.machine.Frames.{hold, Setting, given}
-use Rattle.soundness.specs.machine.Standing.{none-in}
-use Rattle.soundness.specs.machine.Atoms.{handed-first, handed-rest}
-use Rattle.soundness.specs.machine.Calling.{CallReady, call-depths, call-ready, all-readable}
-use Rattle.soundness.specs.machine.Parameters.{depths-from, depths-at, arrays-range}
+use Rattle.working.specs.normal.Plain.{value}
+use Rattle.working.specs.store.Counting.{in-append-right}
+use Rattle.working.specs.machine.Discipline.{arrays-at, less}
+use Rattle.working.specs.machine.Spending.{less-in}
+use Rattle.working.specs.machine.Images.{first-or-later}
+use Rattle.working.specs.machine.Agreement.{Together}
+use Rattle.working.specs.machine.Frames.{hold, Setting, given}
+use Rattle.working.specs.machine.Standing.{none-in}
+use Rattle.working.specs.machine.Atoms.{handed-first, handed-rest}
+use Rattle.working.specs.machine.Calling.{CallReady, call-depths, call-ready, all-readable}
+use Rattle.working.specs.machine.Parameters.{depths-from, depths-at, arrays-range}
 use Rattle.twins.specs.Runs.{Race, Tied, Twins}
 use Rattle.twins.specs.Beside.{Around, Same, Framed, images-held}
 use Rattle.twins.specs.Owing.{owes-less, owes-in}

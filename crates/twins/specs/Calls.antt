@@ -13,18 +13,18 @@ use Rattle.semantics.specs.Live.{empty}
 use Rattle.semantics.specs.Annotate.{NameDepths}
 use Rattle.semantics.specs.Machine.{State, Routine, Program, routine-of, frame-from, machine, work}
 use Rattle.laws.specs.Lists.{_⊆_}
-use Rattle.soundness.specs.normal.Plain.{values-from}
-use Rattle.soundness.specs.normal.Trace.{running-grows}
-use Rattle.soundness.specs.store.Counting.{append-cases}
-use Rattle.soundness.specs.machine.Discipline.{parameter-names}
-use Rattle.soundness.specs.machine.Agreement.{Start}
-use Rattle.soundness.specs.machine.Frames.{Situation}
-use Rattle.soundness.specs.machine.Size.{tree-adds}
-use Rattle.soundness.specs.machine.Rules.{TreeRules}
-use Rattle.soundness.specs.machine.Claims.{TreeClaim, LineClaim}
-use Rattle.soundness.specs.machine.Trees.{tree-sound, line-sound}
-use Rattle.soundness.specs.machine.Calls.{call-adds, setting, leaf-sound, call-sound, ProgramDisciplined}
-use Rattle.soundness.specs.machine.Calls.{body-lent, body-held, body-rules, body-situation}
+use Rattle.working.specs.normal.Plain.{values-from}
+use Rattle.working.specs.normal.Trace.{running-grows}
+use Rattle.working.specs.store.Counting.{append-cases}
+use Rattle.working.specs.machine.Discipline.{parameter-names}
+use Rattle.working.specs.machine.Agreement.{Start}
+use Rattle.working.specs.machine.Frames.{Situation}
+use Rattle.working.specs.machine.Size.{tree-adds}
+use Rattle.working.specs.machine.Rules.{TreeRules}
+use Rattle.working.specs.machine.Claims.{TreeClaim, LineClaim}
+use Rattle.working.specs.machine.Trees.{tree-sound, line-sound}
+use Rattle.working.specs.machine.Calls.{call-adds, setting, leaf-sound, call-sound, ProgramDisciplined}
+use Rattle.working.specs.machine.Calls.{body-lent, body-held, body-rules, body-situation}
 use Rattle.twins.specs.Twin.{TwinPrograms, TwinRoutine, with-routines}
 use Rattle.twins.specs.Runs.{Race, Starts, Tied, Twins, stops, twins-map}
 use Rattle.twins.specs.Beside.{Around}

@@ -10,11 +10,11 @@ use Rattle.semantics.specs.Annotate.{NameDepths}
 use Rattle.semantics.specs.Machine.{State, Frame, Routine, Program, work, work-line}
 use Rattle.semantics.specs.Store.{cell-of}
 use Rattle.laws.specs.Lists.{_⊆_}
-use Rattle.soundness.specs.machine.Discipline.{holds-after, waits-after}
-use Rattle.soundness.specs.machine.Frames.{Setting}
-use Rattle.soundness.specs.machine.Size.{tree-adds, line-adds}
-use Rattle.soundness.specs.machine.Rules.{TreeRules, LineRules}
-use Rattle.soundness.specs.machine.Calls.{setting}
+use Rattle.working.specs.machine.Discipline.{holds-after, waits-after}
+use Rattle.working.specs.machine.Frames.{Setting}
+use Rattle.working.specs.machine.Size.{tree-adds, line-adds}
+use Rattle.working.specs.machine.Rules.{TreeRules, LineRules}
+use Rattle.working.specs.machine.Calls.{setting}
 use Rattle.twins.specs.Twin.{with-routines}
 use Rattle.twins.specs.Runs.{Race, Tied, Twins}
 use Rattle.twins.specs.Beside.{Around, Here, here-less, Same, Framed, Images, Stays, Owes}

@@ -20,22 +20,22 @@ use Rattle.semantics.specs.Machine.{release-word, release-events, append-word}
 use Rattle.semantics.specs.Machine as Machine
 use Rattle.semantics.specs.Store.{Store, cell-of, released, deepest}
 use Rattle.laws.specs.Lists.{_⊆_, occurrences-append}
-use Rattle.soundness.specs.normal.Trace.{CalleeGrows}
-use Rattle.soundness.specs.store.Invariant.{Invariant}
-use Rattle.soundness.specs.store.Change.{permute}
-use Rattle.soundness.specs.store.Release.{Releases}
-use Rattle.soundness.specs.store.Release as Store-release
-use Rattle.soundness.specs.store.Counting.{append-cases, in-append-left, in-append-right}
-use Rattle.soundness.specs.machine.Discipline.{less}
-use Rattle.soundness.specs.machine.Spending.{less-in}
-use Rattle.soundness.specs.machine.Images.{first-or-later, without-middle}
-use Rattle.soundness.specs.machine.Frames.{hold, Setting, given}
-use Rattle.soundness.specs.machine.Elements.{words-of}
-use Rattle.soundness.specs.machine.Size.{tree-adds}
-use Rattle.soundness.specs.machine.Rules.{LineRules}
-use Rattle.soundness.specs.machine.Claims.{TreeClaim}
-use Rattle.soundness.specs.machine.Holding.{released-state}
-use Rattle.soundness.specs.machine.Rewriting.{fits}
+use Rattle.working.specs.normal.Trace.{CalleeGrows}
+use Rattle.working.specs.store.Invariant.{Invariant}
+use Rattle.working.specs.store.Change.{permute}
+use Rattle.working.specs.store.Release.{Releases}
+use Rattle.working.specs.store.Release as Store-release
+use Rattle.working.specs.store.Counting.{append-cases, in-append-left, in-append-right}
+use Rattle.working.specs.machine.Discipline.{less}
+use Rattle.working.specs.machine.Spending.{less-in}
+use Rattle.working.specs.machine.Images.{first-or-later, without-middle}
+use Rattle.working.specs.machine.Frames.{hold, Setting, given}
+use Rattle.working.specs.machine.Elements.{words-of}
+use Rattle.working.specs.machine.Size.{tree-adds}
+use Rattle.working.specs.machine.Rules.{LineRules}
+use Rattle.working.specs.machine.Claims.{TreeClaim}
+use Rattle.working.specs.machine.Holding.{released-state}
+use Rattle.working.specs.machine.Rewriting.{fits}
 use Rattle.twins.specs.Released.{leaner-freed}
 use Rattle.twins.specs.Runs.{Race, Starts, Twins, both, level-leaner, release-quiet}
 use Rattle.twins.specs.Beside.{Around, framed-fewer, Images}

@@ -20,24 +20,24 @@ use Rattle.semantics.specs.Machine.{State, Frame, Work, word, held, work, work-
 use Rattle.semantics.specs.Machine as Machine
 use Rattle.semantics.specs.Store.{Store, cell-of}
 use Rattle.laws.specs.Lists.{_⊆_, occurrences-append, occurs-first}
-use Rattle.soundness.specs.normal.Plain.{value}
-use Rattle.soundness.specs.normal.Trace.{CalleeGrows}
-use Rattle.soundness.specs.store.Invariant.{StandsFor}
-use Rattle.soundness.specs.store.Change.{held-used}
-use Rattle.soundness.specs.store.Counting.{in-append-right}
-use Rattle.soundness.specs.store.Kept.{stands-kept}
-use Rattle.soundness.specs.machine.Discipline.{_⊑_, less}
-use Rattle.soundness.specs.machine.Spending.{less-counts, unlent-few}
-use Rattle.soundness.specs.machine.Images.{without-middle}
-use Rattle.soundness.specs.machine.Frames.{hold, Setting, given, own}
-use Rattle.soundness.specs.machine.Standing.{atom-read, named-one}
-use Rattle.soundness.specs.machine.Elements.{words-of}
-use Rattle.soundness.specs.machine.Size.{tree-adds}
-use Rattle.soundness.specs.machine.Rules.{LineRules, TreeRules, Fresh}
-use Rattle.soundness.specs.machine.Claims.{TreeClaim}
-use Rattle.soundness.specs.machine.Passes.{kept-aside, outer, lent-cell, lend}
-use Rattle.soundness.specs.machine.Rewriting.{apart-aside, fits, element-depth, tree-rules, new-element, stands}
-use Rattle.soundness.specs.machine.Rewriting.{kept-situation}
+use Rattle.working.specs.normal.Plain.{value}
+use Rattle.working.specs.normal.Trace.{CalleeGrows}
+use Rattle.working.specs.store.Invariant.{StandsFor}
+use Rattle.working.specs.store.Change.{held-used}
+use Rattle.working.specs.store.Counting.{in-append-right}
+use Rattle.working.specs.store.Kept.{stands-kept}
+use Rattle.working.specs.machine.Discipline.{_⊑_, less}
+use Rattle.working.specs.machine.Spending.{less-counts, unlent-few}
+use Rattle.working.specs.machine.Images.{without-middle}
+use Rattle.working.specs.machine.Frames.{hold, Setting, given, own}
+use Rattle.working.specs.machine.Standing.{atom-read, named-one}
+use Rattle.working.specs.machine.Elements.{words-of}
+use Rattle.working.specs.machine.Size.{tree-adds}
+use Rattle.working.specs.machine.Rules.{LineRules, TreeRules, Fresh}
+use Rattle.working.specs.machine.Claims.{TreeClaim}
+use Rattle.working.specs.machine.Passes.{kept-aside, outer, lent-cell, lend}
+use Rattle.working.specs.machine.Rewriting.{apart-aside, fits, element-depth, tree-rules, new-element, stands}
+use Rattle.working.specs.machine.Rewriting.{kept-situation}
 use Rattle.twins.specs.Beside.{Around, Here, Owes}
 use Rattle.twins.specs.Sites.{PassSite}
 use Rattle.twins.specs.Filling.{Fill, around-roots}

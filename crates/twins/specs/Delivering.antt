@@ -13,21 +13,21 @@ use Rattle.semantics.specs.Machine.{retain-word, machine, if-array, delivery, s
 use Rattle.semantics.specs.Store.{Store, cell, cell-of, cell-count, named-by, with-totals, has-free, released, deepest}
 use Rattle.laws.specs.Lists.{occurs-first}
 use Rattle.laws.specs.Updates.{updated-same}
-use Rattle.soundness.specs.store.Invariant.{Invariant}
-use Rattle.soundness.specs.store.Change.{permute, held-used}
-use Rattle.soundness.specs.store.Kept.{only}
-use Rattle.soundness.specs.store.Retain.{rewrite-totals}
-use Rattle.soundness.specs.store.Release.{Releases, release}
-use Rattle.soundness.specs.store.Rest.{Rests}
-use Rattle.soundness.specs.store.LowestLevel.{free-cells-listed}
-use Rattle.soundness.specs.machine.Images.{one-more}
-use Rattle.soundness.specs.machine.Frames.{Returned}
-use Rattle.soundness.specs.machine.Standing.{none-in, names-one}
-use Rattle.soundness.specs.machine.Acquiring.{after-acquire}
-use Rattle.soundness.specs.machine.Retaining.{retained-array, retains-array}
-use Rattle.soundness.specs.machine.Totals.{totals-released, releases-totals, with-result, put-result}
-use Rattle.soundness.specs.machine.Calls.{ProgramDisciplined}
-use Rattle.soundness.specs.machine.Delivery as Delivery
+use Rattle.working.specs.store.Invariant.{Invariant}
+use Rattle.working.specs.store.Change.{permute, held-used}
+use Rattle.working.specs.store.Kept.{only}
+use Rattle.working.specs.store.Retain.{rewrite-totals}
+use Rattle.working.specs.store.Release.{Releases, release}
+use Rattle.working.specs.store.Rest.{Rests}
+use Rattle.working.specs.store.LowestLevel.{free-cells-listed}
+use Rattle.working.specs.machine.Images.{one-more}
+use Rattle.working.specs.machine.Frames.{Returned}
+use Rattle.working.specs.machine.Standing.{none-in, names-one}
+use Rattle.working.specs.machine.Acquiring.{after-acquire}
+use Rattle.working.specs.machine.Retaining.{retained-array, retains-array}
+use Rattle.working.specs.machine.Totals.{totals-released, releases-totals, with-result, put-result}
+use Rattle.working.specs.machine.Calls.{ProgramDisciplined}
+use Rattle.working.specs.machine.Delivery as Delivery
 use Rattle.twins.specs.Leaner.{Leaner, leaner-kept, leaner-retained, leaner-other-retained}
 use Rattle.twins.specs.Released.{leaner-released}
 use Rattle.twins.specs.Levels.{leaner-levels}

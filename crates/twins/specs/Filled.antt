@@ -15,14 +15,14 @@ use Rattle.semantics.specs.Machine.{elements-of, acquire}
 use Rattle.semantics.specs.Store.{cell, cell-of, has-free}
 use Rattle.laws.specs.Lists.{_⊆_}
 use Rattle.laws.specs.Updates.{updated-same}
-use Rattle.soundness.specs.machine.Images.{without-middle}
-use Rattle.soundness.specs.machine.Frames.{hold, Setting, given, own}
-use Rattle.soundness.specs.machine.Standing.{none-in}
-use Rattle.soundness.specs.machine.Situations.{touch-together}
-use Rattle.soundness.specs.machine.Elements.{words-of}
-use Rattle.soundness.specs.machine.Acquiring.{after-acquire}
-use Rattle.soundness.specs.machine.Rules.{Fresh}
-use Rattle.soundness.specs.machine.Passes.{kept-aside, outer, lent-names}
+use Rattle.working.specs.machine.Images.{without-middle}
+use Rattle.working.specs.machine.Frames.{hold, Setting, given, own}
+use Rattle.working.specs.machine.Standing.{none-in}
+use Rattle.working.specs.machine.Situations.{touch-together}
+use Rattle.working.specs.machine.Elements.{words-of}
+use Rattle.working.specs.machine.Acquiring.{after-acquire}
+use Rattle.working.specs.machine.Rules.{Fresh}
+use Rattle.working.specs.machine.Passes.{kept-aside, outer, lent-names}
 use Rattle.twins.specs.Leaner.{matching-none}
 use Rattle.twins.specs.Runs.{Race, Starts, Tied, Twins, both, twins-bind, after-step}
 use Rattle.twins.specs.Beside.{Around, Here, here-stepped, array-same, framed-fewer}

@@ -13,16 +13,16 @@ use Rattle.semantics.specs.Meaning.{Meter, Env}
 use Rattle.semantics.specs.Machine.{State, Frame, Routine, Program, with-store, touching}
 use Rattle.semantics.specs.Store.{Store, cell, cell-of, has-free, appended}
 use Rattle.laws.specs.Lists.{_⊆_, occurs-first}
-use Rattle.soundness.specs.store.Invariant.{Invariant}
-use Rattle.soundness.specs.store.Counting.{hits-itself, append-cases, in-append-right}
-use Rattle.soundness.specs.store.Change.{root-used}
-use Rattle.soundness.specs.machine.Agreement.{Together}
-use Rattle.soundness.specs.machine.Frames.{hold, Setting, Ended}
-use Rattle.soundness.specs.machine.Standing.{names-one}
-use Rattle.soundness.specs.machine.Images.{first-or-later}
-use Rattle.soundness.specs.machine.Elements.{array-depth}
-use Rattle.soundness.specs.machine.Acquiring.{after-acquire, acquire-together}
-use Rattle.soundness.specs.machine.Filling.{Passing, still-filled, pass-done, pass-together, reserves, first-pass}
+use Rattle.working.specs.store.Invariant.{Invariant}
+use Rattle.working.specs.store.Counting.{hits-itself, append-cases, in-append-right}
+use Rattle.working.specs.store.Change.{root-used}
+use Rattle.working.specs.machine.Agreement.{Together}
+use Rattle.working.specs.machine.Frames.{hold, Setting, Ended}
+use Rattle.working.specs.machine.Standing.{names-one}
+use Rattle.working.specs.machine.Images.{first-or-later}
+use Rattle.working.specs.machine.Elements.{array-depth}
+use Rattle.working.specs.machine.Acquiring.{after-acquire, acquire-together}
+use Rattle.working.specs.machine.Filling.{Passing, still-filled, pass-done, pass-together, reserves, first-pass}
 use Rattle.twins.specs.Leaner.{Leaner, Matching}
 use Rattle.twins.specs.Written.{leaner-appended}
 use Rattle.twins.specs.Runs.{Race, Tied, level-quiet, touching-quiet}

@@ -20,20 +20,20 @@ use Rattle.semantics.specs.Machine.{work-pass, retain-word, append-word, if-arr
 use Rattle.semantics.specs.Machine as Machine
 use Rattle.semantics.specs.Store.{Store, cell, cell-of, elements}
 use Rattle.laws.specs.Lists.{_⊆_}
-use Rattle.soundness.specs.normal.Plain.{value}
-use Rattle.soundness.specs.store.Invariant.{StandsFor}
-use Rattle.soundness.specs.store.Counting.{in-append-left, in-append-right}
-use Rattle.soundness.specs.machine.Discipline.{less, holds-after}
-use Rattle.soundness.specs.machine.Frames.{hold, Setting, Ended, given}
-use Rattle.soundness.specs.machine.Standing.{atom-read, names-one}
-use Rattle.soundness.specs.machine.Elements.{words-of, array-length, array-used, array-depth}
-use Rattle.soundness.specs.machine.Retaining.{retained-array, retains-array}
-use Rattle.soundness.specs.machine.Size.{tree-adds, line-adds}
-use Rattle.soundness.specs.machine.Rules.{LineRules, loop-fresh}
-use Rattle.soundness.specs.machine.Claims.{TreeClaim}
-use Rattle.soundness.specs.machine.Passes.{outer, lent-cell, lent-array}
-use Rattle.soundness.specs.machine.Filling.{pass-kept, still-lent}
-use Rattle.soundness.specs.machine.Filtering.{words-same, kept}
+use Rattle.working.specs.normal.Plain.{value}
+use Rattle.working.specs.store.Invariant.{StandsFor}
+use Rattle.working.specs.store.Counting.{in-append-left, in-append-right}
+use Rattle.working.specs.machine.Discipline.{less, holds-after}
+use Rattle.working.specs.machine.Frames.{hold, Setting, Ended, given}
+use Rattle.working.specs.machine.Standing.{atom-read, names-one}
+use Rattle.working.specs.machine.Elements.{words-of, array-length, array-used, array-depth}
+use Rattle.working.specs.machine.Retaining.{retained-array, retains-array}
+use Rattle.working.specs.machine.Size.{tree-adds, line-adds}
+use Rattle.working.specs.machine.Rules.{LineRules, loop-fresh}
+use Rattle.working.specs.machine.Claims.{TreeClaim}
+use Rattle.working.specs.machine.Passes.{outer, lent-cell, lent-array}
+use Rattle.working.specs.machine.Filling.{pass-kept, still-lent}
+use Rattle.working.specs.machine.Filtering.{words-same, kept}
 use Rattle.twins.specs.Leaner.{Matching, matching-at, matching-elements, leaner-retained}
 use Rattle.twins.specs.Leaner.{leaner-other-retained}
 use Rattle.twins.specs.Runs.{Race, Starts, Tied, Twins, both, twin-test, level-quiet, touching-quiet}

@@ -14,18 +14,18 @@ use Rattle.semantics.specs.Machine.{State, Frame, Routine, Program, work, work-
 use Rattle.semantics.specs.Machine.{release-events, retain-word, release-word}
 use Rattle.semantics.specs.Store.{Store, cell, cell-of, retained, released, deepest}
 use Rattle.laws.specs.Lists.{_⊆_}
-use Rattle.soundness.specs.store.Change.{permute, named-used, held-used}
-use Rattle.soundness.specs.store.Counting.{append-cases, in-append-left, in-append-right}
-use Rattle.soundness.specs.store.Release.{Releases}
-use Rattle.soundness.specs.store.Release as Store-release
-use Rattle.soundness.specs.machine.Discipline.{less, holds-after}
-use Rattle.soundness.specs.machine.Spending.{spend-split, spend-one, less-in}
-use Rattle.soundness.specs.machine.Images.{first-or-later}
-use Rattle.soundness.specs.machine.Frames.{hold, Setting, Situation}
-use Rattle.soundness.specs.machine.Standing.{hold-split, name-held}
-use Rattle.soundness.specs.machine.Size.{tree-adds, line-adds}
-use Rattle.soundness.specs.machine.Rules.{LineRules, line-rules, rest-rules}
-use Rattle.soundness.specs.machine.Claims.{LineClaim}
+use Rattle.working.specs.store.Change.{permute, named-used, held-used}
+use Rattle.working.specs.store.Counting.{append-cases, in-append-left, in-append-right}
+use Rattle.working.specs.store.Release.{Releases}
+use Rattle.working.specs.store.Release as Store-release
+use Rattle.working.specs.machine.Discipline.{less, holds-after}
+use Rattle.working.specs.machine.Spending.{spend-split, spend-one, less-in}
+use Rattle.working.specs.machine.Images.{first-or-later}
+use Rattle.working.specs.machine.Frames.{hold, Setting, Situation}
+use Rattle.working.specs.machine.Standing.{hold-split, name-held}
+use Rattle.working.specs.machine.Size.{tree-adds, line-adds}
+use Rattle.working.specs.machine.Rules.{LineRules, line-rules, rest-rules}
+use Rattle.working.specs.machine.Claims.{LineClaim}
 use Rattle.twins.specs.Leaner.{leaner-retained, leaner-other-retained}
 use Rattle.twins.specs.Released.{leaner-released, first-released}
 use Rattle.twins.specs.Runs.{Race, Tied, both, level-quiet, touching-quiet}

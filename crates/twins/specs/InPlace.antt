@@ -25,24 +25,24 @@ use Rattle.semantics.specs.Store.{Store, cell, cell-of, elements, has-free, acq
 use Rattle.semantics.specs.Demands.{value-of}
 use Rattle.laws.specs.Lists.{_⊆_, occurrences-append, occurs-first}
 use Rattle.laws.specs.Updates.{updated-same, updated-there}
-use Rattle.soundness.specs.normal.Plain.{value}
-use Rattle.soundness.specs.normal.Trace.{CalleeGrows}
-use Rattle.soundness.specs.store.Invariant.{StandsFor}
-use Rattle.soundness.specs.store.Counting.{hits-itself, in-append-right}
-use Rattle.soundness.specs.machine.Discipline.{less}
-use Rattle.soundness.specs.machine.Spending.{less-in}
-use Rattle.soundness.specs.machine.Images.{first-or-later, without-middle}
-use Rattle.soundness.specs.machine.Frames.{hold, Setting, Ended, given}
-use Rattle.soundness.specs.machine.Standing.{stands-number}
-use Rattle.soundness.specs.machine.Elements.{words-of, array-length, array-depth, array-items, items-list}
-use Rattle.soundness.specs.machine.Elements.{array-used, elements-length}
-use Rattle.soundness.specs.machine.Size.{tree-adds}
-use Rattle.soundness.specs.machine.Rules.{LineRules}
-use Rattle.soundness.specs.machine.Claims.{TreeClaim}
-use Rattle.soundness.specs.machine.Passes.{Item, element-at-pass}
-use Rattle.soundness.specs.machine.Acquiring.{after-acquire}
-use Rattle.soundness.specs.machine.Rewriting.{fits, element-depth, new-element}
-use Rattle.soundness.specs.machine.Rewriting as Rewriting-line
+use Rattle.working.specs.normal.Plain.{value}
+use Rattle.working.specs.normal.Trace.{CalleeGrows}
+use Rattle.working.specs.store.Invariant.{StandsFor}
+use Rattle.working.specs.store.Counting.{hits-itself, in-append-right}
+use Rattle.working.specs.machine.Discipline.{less}
+use Rattle.working.specs.machine.Spending.{less-in}
+use Rattle.working.specs.machine.Images.{first-or-later, without-middle}
+use Rattle.working.specs.machine.Frames.{hold, Setting, Ended, given}
+use Rattle.working.specs.machine.Standing.{stands-number}
+use Rattle.working.specs.machine.Elements.{words-of, array-length, array-depth, array-items, items-list}
+use Rattle.working.specs.machine.Elements.{array-used, elements-length}
+use Rattle.working.specs.machine.Size.{tree-adds}
+use Rattle.working.specs.machine.Rules.{LineRules}
+use Rattle.working.specs.machine.Claims.{TreeClaim}
+use Rattle.working.specs.machine.Passes.{Item, element-at-pass}
+use Rattle.working.specs.machine.Acquiring.{after-acquire}
+use Rattle.working.specs.machine.Rewriting.{fits, element-depth, new-element}
+use Rattle.working.specs.machine.Rewriting as Rewriting-line
 use Rattle.twins.specs.Leaner.{Leaner, leaner-finished}
 use Rattle.twins.specs.Acquired.{leaner-alone}
 use Rattle.twins.specs.Written.{leaner-other-appended, leaner-overwritten}

@@ -12,15 +12,15 @@ use Rattle.semantics.specs.Basics.{occurrences, _∈_}
 use Rattle.semantics.specs.Store.{Store, cell, cell-of, elements, inner, named-by, with-count, one-more, retained}
 use Rattle.laws.specs.Lists.{_⊆_, hits, occurs-first}
 use Rattle.laws.specs.Releases.{count-with}
-use Rattle.soundness.specs.machine.Elements.{getD-mapped}
-use Rattle.soundness.specs.store.Invariant.{Invariant}
-use Rattle.soundness.specs.store.Counting.{named-by-none, named-at}
-use Rattle.soundness.specs.store.Cells.{in-range, CellsAgree, agree-elements, agree-inner, Put, put-cases, put-agree}
-use Rattle.soundness.specs.store.Cells.{with-cell-put}
-use Rattle.soundness.specs.store.Change.{inner-used}
-use Rattle.soundness.specs.store.Kept.{only}
-use Rattle.soundness.specs.store.Retain.{count-agree}
-use Rattle.soundness.specs.machine.Images.{image-alike}
+use Rattle.working.specs.machine.Elements.{getD-mapped}
+use Rattle.working.specs.store.Invariant.{Invariant}
+use Rattle.working.specs.store.Counting.{named-by-none, named-at}
+use Rattle.working.specs.store.Cells.{in-range, CellsAgree, agree-elements, agree-inner, Put, put-cases, put-agree}
+use Rattle.working.specs.store.Cells.{with-cell-put}
+use Rattle.working.specs.store.Change.{inner-used}
+use Rattle.working.specs.store.Kept.{only}
+use Rattle.working.specs.store.Retain.{count-agree}
+use Rattle.working.specs.machine.Images.{image-alike}
 
 -- each cell in use in τ corresponds by π to a cell in use in σ; of the cells E the numbers may differ meanwhile
 pub record Leaner (E : List ℕ) (π : ℕ → ℕ) (τ σ : Store) : Type 0 where

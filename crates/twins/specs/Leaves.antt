@@ -8,12 +8,12 @@ use Rattle.semantics.specs.Code.{Atom, leaf}
 use Rattle.semantics.specs.Annotate.{NameDepths, depth-of}
 use Rattle.semantics.specs.Machine.{State, Frame, Routine, Program, word, work-leaf, work-line}
 use Rattle.laws.specs.Lists.{_⊆_, occurrences-append}
-use Rattle.soundness.specs.machine.Discipline.{LeafFits, LineHolding, handed, less, holds-after}
-use Rattle.soundness.specs.machine.Spending.{less-in, less-counts}
-use Rattle.soundness.specs.machine.Images.{without-middle}
-use Rattle.soundness.specs.machine.Frames.{hold, Setting, own}
-use Rattle.soundness.specs.machine.Size.{leaf-adds, line-adds}
-use Rattle.soundness.specs.machine.Rules.{Fresh, fresh}
+use Rattle.working.specs.machine.Discipline.{LeafFits, LineHolding, handed, less, holds-after}
+use Rattle.working.specs.machine.Spending.{less-in, less-counts}
+use Rattle.working.specs.machine.Images.{without-middle}
+use Rattle.working.specs.machine.Frames.{hold, Setting, own}
+use Rattle.working.specs.machine.Size.{leaf-adds, line-adds}
+use Rattle.working.specs.machine.Rules.{Fresh, fresh}
 use Rattle.twins.specs.Twin.{with-routines}
 use Rattle.twins.specs.Runs.{Race, Twins, both, twins-bind, twin-step}
 use Rattle.twins.specs.Beside.{Around, here-stepped}

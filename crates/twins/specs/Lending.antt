@@ -12,13 +12,13 @@ use Rattle.semantics.specs.Annotate.{NameDepths}
 use Rattle.semantics.specs.Machine.{State, Frame, Routine, Program}
 use Rattle.semantics.specs.Store.{cell-of}
 use Rattle.laws.specs.Lists.{_⊆_, occurrences-append}
-use Rattle.soundness.specs.store.Counting.{append-cases, in-append-left, in-append-right}
-use Rattle.soundness.specs.machine.Discipline.{unlent}
-use Rattle.soundness.specs.machine.Spending.{less-in, less-counts, unlent-few, lent-or-not, unlent-not-lent}
-use Rattle.soundness.specs.machine.Images.{image-in, source}
-use Rattle.soundness.specs.machine.Frames.{hold, Setting, given}
-use Rattle.soundness.specs.machine.Passes.{kept-aside, outer, lent-names, lend-split, given-few}
-use Rattle.soundness.specs.machine.Filling.{lending}
+use Rattle.working.specs.store.Counting.{append-cases, in-append-left, in-append-right}
+use Rattle.working.specs.machine.Discipline.{unlent}
+use Rattle.working.specs.machine.Spending.{less-in, less-counts, unlent-few, lent-or-not, unlent-not-lent}
+use Rattle.working.specs.machine.Images.{image-in, source}
+use Rattle.working.specs.machine.Frames.{hold, Setting, given}
+use Rattle.working.specs.machine.Passes.{kept-aside, outer, lent-names, lend-split, given-few}
+use Rattle.working.specs.machine.Filling.{lending}
 use Rattle.twins.specs.Runs.{Race, Starts}
 use Rattle.twins.specs.Beside.{Around, Here, Framed, framed-fewer, Images, Owes}
 use Rattle.twins.specs.Claims.{first-setting, leaner-setting, Before}

@@ -11,11 +11,11 @@ use Rattle.semantics.specs.Basics.{occurrences, _∈_}
 use Rattle.semantics.specs.Store.{Cell, Store, cell, cell-count, clear, one-if-used, used-cells, cells-taken}
 use Rattle.semantics.specs.Store.{free-cells, has-free}
 use Rattle.laws.specs.Lists.{_⊆_, hits, occurs-first}
-use Rattle.soundness.specs.store.Invariant.{Invariant}
-use Rattle.soundness.specs.store.Counting.{hits-itself, without, without-length, without-other}
-use Rattle.soundness.specs.store.Acquire.{none-free, acquire-takes}
-use Rattle.soundness.specs.store.LowestLevel.{listed-or-taken}
-use Rattle.soundness.specs.machine.Images.{source}
+use Rattle.working.specs.store.Invariant.{Invariant}
+use Rattle.working.specs.store.Counting.{hits-itself, without, without-length, without-other}
+use Rattle.working.specs.store.Acquire.{none-free, acquire-takes}
+use Rattle.working.specs.store.LowestLevel.{listed-or-taken}
+use Rattle.working.specs.machine.Images.{source}
 use Rattle.twins.specs.Leaner.{Leaner}
 
 -- ---- lists of distinct numbers

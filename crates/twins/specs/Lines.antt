@@ -9,10 +9,10 @@ use Rattle.semantics.specs.Kinds.{filtering, reducing, rewriting}
 use Rattle.semantics.specs.Code.{Atom, name, Line, leaf, if-else, loop, retain, release, Tree}
 use Rattle.semantics.specs.Annotate.{NameDepths, pass-depths}
 use Rattle.semantics.specs.Machine.{Routine, Program}
-use Rattle.soundness.specs.normal.Trace.{CalleeGrows}
-use Rattle.soundness.specs.machine.Discipline.{loop-arity}
-use Rattle.soundness.specs.machine.Frames.{Setting}
-use Rattle.soundness.specs.machine.Claims.{TreeClaim, LineClaim}
+use Rattle.working.specs.normal.Trace.{CalleeGrows}
+use Rattle.working.specs.machine.Discipline.{loop-arity}
+use Rattle.working.specs.machine.Frames.{Setting}
+use Rattle.working.specs.machine.Claims.{TreeClaim, LineClaim}
 use Rattle.twins.specs.Twin.{Twin, same-end, same-leaf, same-if, same-loop, same-retain}
 use Rattle.twins.specs.Twin.{same-release, raised, spared, rewritten}
 use Rattle.twins.specs.Runs.{Race, Starts}

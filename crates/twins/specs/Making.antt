@@ -18,16 +18,16 @@ use Rattle.semantics.specs.Machine.{if-array, retain-word, retain-times, is-cou
 use Rattle.semantics.specs.Store.{Store, cell, cell-of, has-free}
 use Rattle.laws.specs.Lists.{_⊆_, tabulate-length}
 use Rattle.laws.specs.Updates.{updated-same}
-use Rattle.soundness.specs.store.Change.{root-used}
-use Rattle.soundness.specs.store.Counting.{append-cases, in-append-left, in-append-right}
-use Rattle.soundness.specs.machine.Discipline.{less}
-use Rattle.soundness.specs.machine.Spending.{less-in}
-use Rattle.soundness.specs.machine.Images.{image-subset}
-use Rattle.soundness.specs.machine.Frames.{hold, Setting, given}
-use Rattle.soundness.specs.machine.Standing.{none-in}
-use Rattle.soundness.specs.machine.Atoms.{AllOfDepth, handed-first, handed-rest}
-use Rattle.soundness.specs.machine.Elements.{inside-below}
-use Rattle.soundness.specs.machine.Fits.{numbers-fit, literal-fits, replicate-fits}
+use Rattle.working.specs.store.Change.{root-used}
+use Rattle.working.specs.store.Counting.{append-cases, in-append-left, in-append-right}
+use Rattle.working.specs.machine.Discipline.{less}
+use Rattle.working.specs.machine.Spending.{less-in}
+use Rattle.working.specs.machine.Images.{image-subset}
+use Rattle.working.specs.machine.Frames.{hold, Setting, given}
+use Rattle.working.specs.machine.Standing.{none-in}
+use Rattle.working.specs.machine.Atoms.{AllOfDepth, handed-first, handed-rest}
+use Rattle.working.specs.machine.Elements.{inside-below}
+use Rattle.working.specs.machine.Fits.{numbers-fit, literal-fits, replicate-fits}
 use Rattle.twins.specs.Leaner.{Matching, matching-none, matching-more, leaner-retained}
 use Rattle.twins.specs.Leaner.{leaner-other-retained, retained-used, image-cell, cell-used}
 use Rattle.twins.specs.Acquired.{matching-acquired}

@@ -17,16 +17,16 @@ use Rattle.semantics.specs.Machine.{State, Frame, Routine, Program, word, held,
 use Rattle.semantics.specs.Machine.{Work, step, elements-of, append-word}
 use Rattle.semantics.specs.Machine as Machine
 use Rattle.semantics.specs.Store.{cell-of}
-use Rattle.soundness.specs.normal.Plain.{value}
-use Rattle.soundness.specs.store.Invariant.{StandsFor}
-use Rattle.soundness.specs.store.Counting.{in-append-right}
-use Rattle.soundness.specs.machine.Discipline.{less, holds-after}
-use Rattle.soundness.specs.machine.Frames.{hold, Setting, Ended}
-use Rattle.soundness.specs.machine.Elements.{words-of, array-length}
-use Rattle.soundness.specs.machine.Size.{tree-adds, line-adds}
-use Rattle.soundness.specs.machine.Rules.{loop-fresh}
-use Rattle.soundness.specs.machine.Claims.{TreeClaim}
-use Rattle.soundness.specs.machine.Passes.{element-at-pass}
+use Rattle.working.specs.normal.Plain.{value}
+use Rattle.working.specs.store.Invariant.{StandsFor}
+use Rattle.working.specs.store.Counting.{in-append-right}
+use Rattle.working.specs.machine.Discipline.{less, holds-after}
+use Rattle.working.specs.machine.Frames.{hold, Setting, Ended}
+use Rattle.working.specs.machine.Elements.{words-of, array-length}
+use Rattle.working.specs.machine.Size.{tree-adds, line-adds}
+use Rattle.working.specs.machine.Rules.{loop-fresh}
+use Rattle.working.specs.machine.Claims.{TreeClaim}
+use Rattle.working.specs.machine.Passes.{element-at-pass}
 use Rattle.twins.specs.Leaner.{Matching, matching-at}
 use Rattle.twins.specs.Runs.{Race, Starts, Twins, both}
 use Rattle.twins.specs.Beside.{Around, here-less, Known}

@@ -12,21 +12,21 @@ use Rattle.semantics.specs.Live.{Set}
 use Rattle.semantics.specs.Meaning.{Meter, Env, with-item}
 use Rattle.semantics.specs.Machine.{State, Frame, word, with-store, touching}
 use Rattle.semantics.specs.Store.{Store, cell, cell-of, overwritten}
-use Rattle.soundness.specs.normal.Plain.{value}
-use Rattle.soundness.specs.normal.Trace.{CalleeGrows}
-use Rattle.soundness.specs.store.Invariant.{StandsFor}
-use Rattle.soundness.specs.machine.Discipline.{less}
-use Rattle.soundness.specs.machine.Agreement.{Together}
-use Rattle.soundness.specs.machine.Frames.{Setting, Ended, given}
-use Rattle.soundness.specs.machine.Elements.{array-depth, items-list}
-use Rattle.soundness.specs.machine.Size.{tree-adds}
-use Rattle.soundness.specs.machine.Rules.{LineRules}
-use Rattle.soundness.specs.machine.Claims.{TreeClaim}
-use Rattle.soundness.specs.machine.Filling.{once, still-filled}
-use Rattle.soundness.specs.machine.Binding.{ended-depth}
-use Rattle.soundness.specs.machine.Rewriting.{first-in-place}
-use Rattle.soundness.specs.machine.Rewritten.{mixed-length, element-to-come, Rewriting, pass-rewritten}
-use Rattle.soundness.specs.machine.Rewritten.{rewritten-together}
+use Rattle.working.specs.normal.Plain.{value}
+use Rattle.working.specs.normal.Trace.{CalleeGrows}
+use Rattle.working.specs.store.Invariant.{StandsFor}
+use Rattle.working.specs.machine.Discipline.{less}
+use Rattle.working.specs.machine.Agreement.{Together}
+use Rattle.working.specs.machine.Frames.{Setting, Ended, given}
+use Rattle.working.specs.machine.Elements.{array-depth, items-list}
+use Rattle.working.specs.machine.Size.{tree-adds}
+use Rattle.working.specs.machine.Rules.{LineRules}
+use Rattle.working.specs.machine.Claims.{TreeClaim}
+use Rattle.working.specs.machine.Filling.{once, still-filled}
+use Rattle.working.specs.machine.Binding.{ended-depth}
+use Rattle.working.specs.machine.Rewriting.{first-in-place}
+use Rattle.working.specs.machine.Rewritten.{mixed-length, element-to-come, Rewriting, pass-rewritten}
+use Rattle.working.specs.machine.Rewritten.{rewritten-together}
 use Rattle.twins.specs.Beside.{Around, Here, Known}
 use Rattle.twins.specs.Filling.{around-filling, around-roots, around-new}
 use Rattle.twins.specs.Copiers.{line-roots}

@@ -8,11 +8,11 @@ use Rattle.semantics.specs.Kinds.{Leaf, Loop, mapping, rewriting, leaf-hands, l
 use Rattle.semantics.specs.Code.{Atom, name, Line, leaf, if-else, loop, retain, release, Tree, line}
 use Rattle.semantics.specs.Live.{Set}
 use Rattle.laws.specs.Lists.{_⊆_, occurrences-append}
-use Rattle.soundness.specs.machine.Discipline.{_⊑_, less, leaf-holds, left-by, holds-after}
-use Rattle.soundness.specs.machine.Spending.{spend-one, less-counts, less-spends}
-use Rattle.soundness.specs.machine.Frames.{Setting, own, given}
-use Rattle.soundness.specs.machine.Standing.{hold-of-array}
-use Rattle.soundness.specs.machine.Rules.{TreeRules, LineRules, line-rules, rest-rules, then-rules}
+use Rattle.working.specs.machine.Discipline.{_⊑_, less, leaf-holds, left-by, holds-after}
+use Rattle.working.specs.machine.Spending.{spend-one, less-counts, less-spends}
+use Rattle.working.specs.machine.Frames.{Setting, own, given}
+use Rattle.working.specs.machine.Standing.{hold-of-array}
+use Rattle.working.specs.machine.Rules.{TreeRules, LineRules, line-rules, rest-rules, then-rules}
 use Rattle.twins.specs.Twin.{Twin, same-end, same-leaf, same-if, same-loop, same-retain}
 use Rattle.twins.specs.Twin.{same-release, raised, spared, rewritten}
 use Rattle.twins.specs.Beside.{Owes}

@@ -17,17 +17,17 @@ use Rattle.semantics.specs.Machine.{elements-of, work}
 use Rattle.semantics.specs.Store.{cell-of}
 use Rattle.laws.specs.Lists.{_⊆_, occurrences-append}
 use Rattle.laws.specs.Updates.{updated-there}
-use Rattle.soundness.specs.store.Invariant.{StandsFor}
-use Rattle.soundness.specs.store.Kept.{keeps-self}
-use Rattle.soundness.specs.machine.Images.{apart}
-use Rattle.soundness.specs.machine.Frames.{Setting, Ended, own}
-use Rattle.soundness.specs.machine.Elements.{words-of}
-use Rattle.soundness.specs.machine.Situations.{touch-together}
-use Rattle.soundness.specs.machine.Binding.{pending-situation, ended-back}
-use Rattle.soundness.specs.machine.Size.{tree-adds}
-use Rattle.soundness.specs.machine.Rules.{TreeRules, Fresh}
-use Rattle.soundness.specs.machine.Claims.{TreeClaim}
-use Rattle.soundness.specs.machine.Passes.{Item, element-at-pass}
+use Rattle.working.specs.store.Invariant.{StandsFor}
+use Rattle.working.specs.store.Kept.{keeps-self}
+use Rattle.working.specs.machine.Images.{apart}
+use Rattle.working.specs.machine.Frames.{Setting, Ended, own}
+use Rattle.working.specs.machine.Elements.{words-of}
+use Rattle.working.specs.machine.Situations.{touch-together}
+use Rattle.working.specs.machine.Binding.{pending-situation, ended-back}
+use Rattle.working.specs.machine.Size.{tree-adds}
+use Rattle.working.specs.machine.Rules.{TreeRules, Fresh}
+use Rattle.working.specs.machine.Claims.{TreeClaim}
+use Rattle.working.specs.machine.Passes.{Item, element-at-pass}
 use Rattle.twins.specs.Runs.{Race, Twins, both, twins-bind, after-step}
 use Rattle.twins.specs.Beside.{Around, Here, here-stepped, Known, known, Same}
 use Rattle.twins.specs.Claims.{first-setting, leaner-setting, Before, TreeEnded, TreeTwins}

@@ -7,8 +7,8 @@ use mathlib.Core.List.{List, map}
 use Rattle.semantics.specs.Basics.{_∈_}
 use Rattle.semantics.specs.Store.{Cell, Store, cell, elements, inner}
 use Rattle.laws.specs.Lists.{_⊆_}
-use Rattle.soundness.specs.store.Cells.{Put, put-same, put-other}
-use Rattle.soundness.specs.machine.Images.{image-alike}
+use Rattle.working.specs.store.Cells.{Put, put-same, put-other}
+use Rattle.working.specs.machine.Images.{image-alike}
 use Rattle.twins.specs.Leaner.{Leaner}
 
 -- σ′ has the cells of σ but for cell c, which is x

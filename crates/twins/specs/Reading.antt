@@ -15,15 +15,15 @@ use Rattle.semantics.specs.Machine.{State, Frame, Routine, Program, word, with-
 use Rattle.semantics.specs.Store.{Store, cell, cell-of, elements}
 use Rattle.laws.specs.Lists.{_⊆_}
 use Rattle.semantics.specs.Value.{Value}
-use Rattle.soundness.specs.normal.Plain.{value}
-use Rattle.soundness.specs.store.Invariant.{Invariant, StandsFor}
-use Rattle.soundness.specs.store.Counting.{in-append-right}
-use Rattle.soundness.specs.machine.Discipline.{less}
-use Rattle.soundness.specs.machine.Frames.{hold, Setting, given}
-use Rattle.soundness.specs.machine.Standing.{atom-read, array-cell, name-held}
-use Rattle.soundness.specs.machine.Atoms.{handed-first, handed-rest}
-use Rattle.soundness.specs.machine.Elements.{words-of, array-used, array-depth, inside-below}
-use Rattle.soundness.specs.machine.Fits.{numbers-fit, index-fits, length-fits}
+use Rattle.working.specs.normal.Plain.{value}
+use Rattle.working.specs.store.Invariant.{Invariant, StandsFor}
+use Rattle.working.specs.store.Counting.{in-append-right}
+use Rattle.working.specs.machine.Discipline.{less}
+use Rattle.working.specs.machine.Frames.{hold, Setting, given}
+use Rattle.working.specs.machine.Standing.{atom-read, array-cell, name-held}
+use Rattle.working.specs.machine.Atoms.{handed-first, handed-rest}
+use Rattle.working.specs.machine.Elements.{words-of, array-used, array-depth, inside-below}
+use Rattle.working.specs.machine.Fits.{numbers-fit, index-fits, length-fits}
 use Rattle.twins.specs.Leaner.{Leaner, Matching, matching-number, matching-cell, matching-at, matching-elements}
 use Rattle.twins.specs.Leaner.{image-cell}
 use Rattle.twins.specs.Runs.{Race, Tied, both, twin-test, level-quiet, touching-quiet}

@@ -20,23 +20,23 @@ use Rattle.semantics.specs.Machine as Machine
 use Rattle.semantics.specs.Store.{cell, cell-of}
 use Rattle.laws.specs.Lists.{_⊆_, occurrences-append}
 use Rattle.laws.specs.Updates.{updated-there}
-use Rattle.soundness.specs.normal.Plain.{value}
-use Rattle.soundness.specs.store.Invariant.{StandsFor}
-use Rattle.soundness.specs.store.Counting.{append-cases, in-append-left, in-append-right}
-use Rattle.soundness.specs.machine.Discipline.{less, holds-after}
-use Rattle.soundness.specs.machine.Spending.{less-in}
-use Rattle.soundness.specs.machine.Images.{apart, without-middle}
-use Rattle.soundness.specs.machine.Frames.{hold, Setting, Ended, given, own}
-use Rattle.soundness.specs.machine.Standing.{array-cell, name-held}
-use Rattle.soundness.specs.machine.Elements.{words-of, array-length}
-use Rattle.soundness.specs.machine.Binding.{ended-depth}
-use Rattle.soundness.specs.machine.Size.{tree-adds, line-adds}
-use Rattle.soundness.specs.machine.Rules.{LineRules, TreeRules, loop-fresh}
-use Rattle.soundness.specs.machine.Claims.{TreeClaim}
-use Rattle.soundness.specs.machine.Passes.{outer, lent-array, lent-cell, kept-aside}
-use Rattle.soundness.specs.machine.Sites.{site-reads}
-use Rattle.soundness.specs.machine.Reducing.{site, start-depth, tree-depth, result-depth, tree-rules, new-carried}
-use Rattle.soundness.specs.machine.Reducing.{new-element, Bound, bound, first-carried, given-on, lent-before}
+use Rattle.working.specs.normal.Plain.{value}
+use Rattle.working.specs.store.Invariant.{StandsFor}
+use Rattle.working.specs.store.Counting.{append-cases, in-append-left, in-append-right}
+use Rattle.working.specs.machine.Discipline.{less, holds-after}
+use Rattle.working.specs.machine.Spending.{less-in}
+use Rattle.working.specs.machine.Images.{apart, without-middle}
+use Rattle.working.specs.machine.Frames.{hold, Setting, Ended, given, own}
+use Rattle.working.specs.machine.Standing.{array-cell, name-held}
+use Rattle.working.specs.machine.Elements.{words-of, array-length}
+use Rattle.working.specs.machine.Binding.{ended-depth}
+use Rattle.working.specs.machine.Size.{tree-adds, line-adds}
+use Rattle.working.specs.machine.Rules.{LineRules, TreeRules, loop-fresh}
+use Rattle.working.specs.machine.Claims.{TreeClaim}
+use Rattle.working.specs.machine.Passes.{outer, lent-array, lent-cell, kept-aside}
+use Rattle.working.specs.machine.Sites.{site-reads}
+use Rattle.working.specs.machine.Reducing.{site, start-depth, tree-depth, result-depth, tree-rules, new-carried}
+use Rattle.working.specs.machine.Reducing.{new-element, Bound, bound, first-carried, given-on, lent-before}
 use Rattle.twins.specs.Leaner.{matching-at}
 use Rattle.twins.specs.Runs.{Race, Starts, Tied, Twins, both, twins-bind, after-step}
 use Rattle.twins.specs.Beside.{Around, Known, Same, Framed, framed-fewer, Images, images-stay}

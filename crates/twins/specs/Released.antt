@@ -8,12 +8,12 @@ use Rattle.semantics.specs.Basics.{occurrences, _∈_}
 use Rattle.semantics.specs.Store.{Store, cell, inner, released, deepest}
 use Rattle.semantics.specs.Machine.{Event, State, with-store, release-events}
 use Rattle.laws.specs.Lists.{occurrences-append}
-use Rattle.soundness.specs.store.Invariant.{Invariant}
-use Rattle.soundness.specs.store.Cells.{agree-inner, namer}
-use Rattle.soundness.specs.store.Change.{root-used, inner-used, namer-used}
-use Rattle.soundness.specs.store.Release.{Releases}
-use Rattle.soundness.specs.machine.Images.{image-in}
-use Rattle.soundness.specs.machine.Holding.{released-state}
+use Rattle.working.specs.store.Invariant.{Invariant}
+use Rattle.working.specs.store.Cells.{agree-inner, namer}
+use Rattle.working.specs.store.Change.{root-used, inner-used, namer-used}
+use Rattle.working.specs.store.Release.{Releases}
+use Rattle.working.specs.machine.Images.{image-in}
+use Rattle.working.specs.machine.Holding.{released-state}
 use Rattle.twins.specs.Leaner.{Leaner, leaner-kept}
 use Rattle.twins.specs.Runs.{Race, Tied, level-first, release-quiet}
 

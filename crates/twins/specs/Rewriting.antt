@@ -18,14 +18,14 @@ use Rattle.semantics.specs.Machine.{State, Frame, Routine, Program, word, with-
 use Rattle.semantics.specs.Machine.{work-line, acquire, elements-of, is-alone}
 use Rattle.semantics.specs.Store.{Store, cell, cell-of}
 use Rattle.laws.specs.Lists.{_⊆_}
-use Rattle.soundness.specs.normal.Trace.{CalleeGrows}
-use Rattle.soundness.specs.machine.Discipline.{less, holds-after}
-use Rattle.soundness.specs.machine.Frames.{Setting, given, own}
-use Rattle.soundness.specs.machine.Size.{tree-adds, line-adds}
-use Rattle.soundness.specs.machine.Situations.{touch-together}
-use Rattle.soundness.specs.machine.Claims.{TreeClaim}
-use Rattle.soundness.specs.machine.Rules.{loop-fresh}
-use Rattle.soundness.specs.machine.Rewriting.{looked-at, fits}
+use Rattle.working.specs.normal.Trace.{CalleeGrows}
+use Rattle.working.specs.machine.Discipline.{less, holds-after}
+use Rattle.working.specs.machine.Frames.{Setting, given, own}
+use Rattle.working.specs.machine.Size.{tree-adds, line-adds}
+use Rattle.working.specs.machine.Situations.{touch-together}
+use Rattle.working.specs.machine.Claims.{TreeClaim}
+use Rattle.working.specs.machine.Rules.{loop-fresh}
+use Rattle.working.specs.machine.Rewriting.{looked-at, fits}
 use Rattle.twins.specs.Runs.{Race, Starts, Twins, both, after-step, level-leaner, touching-quiet}
 use Rattle.twins.specs.Beside.{Around, Here, array-same}
 use Rattle.twins.specs.Claims.{first-setting, leaner-setting, Before, before-less, LineEnded, TreeTwins}

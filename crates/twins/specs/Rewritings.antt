@@ -19,19 +19,19 @@ use Rattle.semantics.specs.Machine.{elements-of, acquire, release-word, is-alon
 use Rattle.semantics.specs.Machine as Machine
 use Rattle.semantics.specs.Store.{cell, cell-of}
 use Rattle.laws.specs.Lists.{_⊆_}
-use Rattle.soundness.specs.normal.Trace.{CalleeGrows, running-grows}
-use Rattle.soundness.specs.store.Invariant.{Invariant}
-use Rattle.soundness.specs.store.Release as Store-release
-use Rattle.soundness.specs.store.Counting.{in-append-right}
-use Rattle.soundness.specs.machine.Discipline.{less, holds-after}
-use Rattle.soundness.specs.machine.Spending.{less-in}
-use Rattle.soundness.specs.machine.Frames.{hold, Setting, given, own}
-use Rattle.soundness.specs.machine.Standing.{atom-read}
-use Rattle.soundness.specs.machine.Elements.{array-used}
-use Rattle.soundness.specs.machine.Size.{tree-adds, line-adds}
-use Rattle.soundness.specs.machine.Rules.{LineRules, loop-fresh}
-use Rattle.soundness.specs.machine.Claims.{TreeClaim}
-use Rattle.soundness.specs.machine.Rewriting.{looked-at, fits, before}
+use Rattle.working.specs.normal.Trace.{CalleeGrows, running-grows}
+use Rattle.working.specs.store.Invariant.{Invariant}
+use Rattle.working.specs.store.Release as Store-release
+use Rattle.working.specs.store.Counting.{in-append-right}
+use Rattle.working.specs.machine.Discipline.{less, holds-after}
+use Rattle.working.specs.machine.Spending.{less-in}
+use Rattle.working.specs.machine.Frames.{hold, Setting, given, own}
+use Rattle.working.specs.machine.Standing.{atom-read}
+use Rattle.working.specs.machine.Elements.{array-used}
+use Rattle.working.specs.machine.Size.{tree-adds, line-adds}
+use Rattle.working.specs.machine.Rules.{LineRules, loop-fresh}
+use Rattle.working.specs.machine.Claims.{TreeClaim}
+use Rattle.working.specs.machine.Rewriting.{looked-at, fits, before}
 use Rattle.twins.specs.Alone.{leaner-alone-too}
 use Rattle.twins.specs.Released.{first-released}
 use Rattle.twins.specs.Runs.{Race, Starts, Twins, both, after-step}

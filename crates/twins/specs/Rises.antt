@@ -13,11 +13,11 @@ use Rattle.semantics.specs.Machine.{State, Routine, Program, lowest-level, leve
 use Rattle.semantics.specs.Machine.{starting, delivered}
 use Rattle.semantics.specs.Store.{Store, free-cells, has-free}
 use Rattle.semantics.specs.Sound.{free-from, free-list}
-use Rattle.soundness.specs.store.Rest.{Rests}
-use Rattle.soundness.specs.store.LowestLevel.{level-replayed, free-cells-listed}
-use Rattle.soundness.specs.machine.Agreement.{Start, Clean}
-use Rattle.soundness.specs.machine.Calls.{ProgramDisciplined}
-use Rattle.soundness.specs.machine.Delivery.{Delivers, finishes, stops, runs-dry, delivery-sound}
+use Rattle.working.specs.store.Rest.{Rests}
+use Rattle.working.specs.store.LowestLevel.{level-replayed, free-cells-listed}
+use Rattle.working.specs.machine.Agreement.{Start, Clean}
+use Rattle.working.specs.machine.Calls.{ProgramDisciplined}
+use Rattle.working.specs.machine.Delivery.{Delivers, finishes, stops, runs-dry, delivery-sound}
 use Rattle.twins.specs.Leaner.{leaner-self}
 use Rattle.twins.specs.Twin.{with-routines}
 use Rattle.twins.specs.Runs as Runs

@@ -11,9 +11,9 @@ use Rattle.semantics.specs.Machine.{level-after, lowest-over, lowest-level, tou
 use Rattle.semantics.specs.Store.{Store, cell-count, free-cells}
 use Rattle.semantics.specs.Sound.{free-list}
 use Rattle.laws.specs.Levels.{lowest-append, touching-lowest, release-lowest}
-use Rattle.soundness.specs.store.Invariant.{Invariant}
-use Rattle.soundness.specs.store.LowestLevel.{level-replayed, free-cells-listed}
-use Rattle.soundness.specs.machine.Agreement.{Start, Clean}
+use Rattle.working.specs.store.Invariant.{Invariant}
+use Rattle.working.specs.store.LowestLevel.{level-replayed, free-cells-listed}
+use Rattle.working.specs.machine.Agreement.{Start, Clean}
 use Rattle.twins.specs.Leaner.{Leaner}
 
 -- ---- logs

@@ -23,14 +23,14 @@ use Rattle.soundness.specs.annotation.Accepting.{main-shape-of}
 use Rattle.soundness.specs.annotation.Programs.{program-disciplined}
 use Rattle.soundness.specs.Delivering.{few-lines, few-readings}
 use Rattle.soundness.specs.saved.Shape.{to-of}
-use Rattle.soundness.specs.store.Invariant.{Tidy}
-use Rattle.soundness.specs.store.Counting.{named-by-none}
-use Rattle.soundness.specs.store.Change.{held-used}
-use Rattle.soundness.specs.store.Kept.{only, reached-within, reached}
-use Rattle.soundness.specs.store.Opening.{open-rests}
-use Rattle.soundness.specs.store.Rest.{Rests}
-use Rattle.soundness.specs.machine.Calls.{ProgramDisciplined}
-use Rattle.soundness.specs.machine.Standing.{none-in, names-one}
+use Rattle.working.specs.store.Invariant.{Tidy}
+use Rattle.working.specs.store.Counting.{named-by-none}
+use Rattle.working.specs.store.Change.{held-used}
+use Rattle.working.specs.store.Kept.{only, reached-within, reached}
+use Rattle.working.specs.store.Opening.{open-rests}
+use Rattle.working.specs.store.Rest.{Rests}
+use Rattle.working.specs.machine.Calls.{ProgramDisciplined}
+use Rattle.working.specs.machine.Standing.{none-in, names-one}
 use Rattle.twins.specs.Leaner.{Leaner}
 use Rattle.twins.specs.Twin.{Twin, same-end, same-leaf, same-if, same-loop, same-retain, same-release}
 use Rattle.twins.specs.Twin.{TwinPrograms}

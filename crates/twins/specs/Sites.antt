@@ -7,12 +7,12 @@ use Rattle.semantics.specs.Code.{Atom, loop, Tree, ending}
 use Rattle.semantics.specs.Live.{Set, _∪_, just, after-pass}
 use Rattle.semantics.specs.Annotate.{atom-depth}
 use Rattle.laws.specs.Lists.{_⊆_}
-use Rattle.soundness.specs.machine.Discipline.{less}
-use Rattle.soundness.specs.machine.Frames.{Setting, given, own}
-use Rattle.soundness.specs.machine.Fits.{map-fits, filter-fits, first-same}
-use Rattle.soundness.specs.machine.Rules.{LineRules, TreeRules, Fresh, fresh}
-use Rattle.soundness.specs.machine.Passes.{outer, lent-names}
-use Rattle.soundness.specs.machine.Sites.{Site, loop-site, site-reads, site-names, site-tree}
+use Rattle.working.specs.machine.Discipline.{less}
+use Rattle.working.specs.machine.Frames.{Setting, given, own}
+use Rattle.working.specs.machine.Fits.{map-fits, filter-fits, first-same}
+use Rattle.working.specs.machine.Rules.{LineRules, TreeRules, Fresh, fresh}
+use Rattle.working.specs.machine.Passes.{outer, lent-names}
+use Rattle.working.specs.machine.Sites.{Site, loop-site, site-reads, site-names, site-tree}
 
 -- A pass over the array v names its element z, and its tree gives depth e; the names S are known in it, and L is live
 -- after it. Before the loop B is lent and H held.

@@ -11,12 +11,12 @@ use Rattle.semantics.specs.Live.{Set, live}
 use Rattle.semantics.specs.Annotate.{NameDepths}
 use Rattle.semantics.specs.Machine.{State, Frame, Routine, Program, word, work, work-line}
 use Rattle.laws.specs.Lists.{occurrences-append}
-use Rattle.soundness.specs.store.Counting.{in-append-right}
-use Rattle.soundness.specs.machine.Discipline.{holds-after, waits-after}
-use Rattle.soundness.specs.machine.Frames.{Setting, Going, given}
-use Rattle.soundness.specs.machine.Size.{tree-adds, line-adds}
-use Rattle.soundness.specs.machine.Rules.{LineRules, line-rules, rest-rules}
-use Rattle.soundness.specs.machine.Claims.{LineClaim}
+use Rattle.working.specs.store.Counting.{in-append-right}
+use Rattle.working.specs.machine.Discipline.{holds-after, waits-after}
+use Rattle.working.specs.machine.Frames.{Setting, Going, given}
+use Rattle.working.specs.machine.Size.{tree-adds, line-adds}
+use Rattle.working.specs.machine.Rules.{LineRules, line-rules, rest-rules}
+use Rattle.working.specs.machine.Claims.{LineClaim}
 use Rattle.twins.specs.Runs.{Race, both, twins-map, twins-bind}
 use Rattle.twins.specs.Beside.{Around, Here, Known, known, Same, images-stay, Stays}
 use Rattle.twins.specs.Beside.{atom-same}

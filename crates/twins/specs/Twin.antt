@@ -8,7 +8,7 @@ use Rattle.semantics.specs.Basics.{_∈_}
 use Rattle.semantics.specs.Kinds.{Leaf, Loop, mapping, rewriting}
 use Rattle.semantics.specs.Code.{Atom, name, leaf, if-else, loop, retain, release, Tree, end, line}
 use Rattle.semantics.specs.Machine.{Routine, Program, routine-of}
-use Rattle.soundness.specs.machine.Discipline.{less}
+use Rattle.working.specs.machine.Discipline.{less}
 
 -- Before the trees the first holds the names X, which the second has handed over already or never held.
 pub data Twin : List ℕ → Tree → Tree → Type 0 where

@@ -9,8 +9,8 @@ use Rattle.semantics.specs.Value.{Value, num, list}
 use Rattle.semantics.specs.Store.{Store, cell, cell-of, elements, inner, named-by}
 use Rattle.semantics.specs.Demands.{value-of}
 use Rattle.laws.specs.Lists.{_⊆_, occurs-first}
-use Rattle.soundness.specs.store.Invariant.{Invariant}
-use Rattle.soundness.specs.store.Cells.{inner-in-all}
+use Rattle.working.specs.store.Invariant.{Invariant}
+use Rattle.working.specs.store.Cells.{inner-in-all}
 use Rattle.twins.specs.Leaner.{Leaner, Matching, matching-elements, matching-head, matching-tail, named-first}
 use Rattle.twins.specs.Leaner.{named-later, same-number, image-cell, cell-used}
 

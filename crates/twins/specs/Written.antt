@@ -11,9 +11,9 @@ use borrow.Author.Tests.{lt-ltb, le-ltb}
 use Rattle.semantics.specs.Basics.{_∈_}
 use Rattle.semantics.specs.Store.{Cell, Store, cell, cell-of, elements, inner, named-by, wider, appended, with-slot}
 use Rattle.semantics.specs.Store.{overwritten}
-use Rattle.soundness.specs.store.Invariant.{Invariant}
-use Rattle.soundness.specs.store.Cells.{in-range, Put, with-cell-put}
-use Rattle.soundness.specs.store.Append.{Wider, widened}
+use Rattle.working.specs.store.Invariant.{Invariant}
+use Rattle.working.specs.store.Cells.{in-range, Put, with-cell-put}
+use Rattle.working.specs.store.Append.{Wider, widened}
 use Rattle.twins.specs.Leaner.{Leaner, Matching}
 use Rattle.twins.specs.Placed.{put-placed, none-placed, Corresponds, leaner-placed, same-images}
 

@@ -22,7 +22,7 @@ use Rattle.semantics.specs.Calls.{Verdict, accepted, refused, judged-script, ju
 use Rattle.semantics.specs.Annotate.{Style, full-style}
 use Rattle.semantics.specs.Machine.{program-in, program}
 use Rattle.laws.specs.Tests.{not-some, some-if-holds, all-equal, same-lists}
-use Rattle.soundness.specs.machine.Discipline.{FunctionDisciplined, FunctionFrugal}
+use Rattle.working.specs.machine.Discipline.{FunctionDisciplined, FunctionFrugal}
 use Rattle.soundness.specs.annotation.Typed.{Limited, Called, Functions, Typed}
 use Rattle.laws.specs.Lists.{append-empty}
 use Rattle.laws.specs.Routines.{length-routines}

@@ -23,12 +23,12 @@ use Rattle.semantics.specs.Saved.{read-saved, load-value, load-totals, loaded}
 use Rattle.semantics.specs.SaveCalls.{restore-in, restore-value, restore-for, engine-restore}
 use Rattle.semantics.specs.Swap.{Restored, defined-saving}
 use Rattle.laws.specs.Lists.{tabulate-length}
-use Rattle.soundness.specs.store.Invariant.{Invariant, StandsFor}
-use Rattle.soundness.specs.store.Change.{held-used}
-use Rattle.soundness.specs.store.Kept.{stands-kept}
-use Rattle.soundness.specs.store.LowestLevel.{listed-or-taken}
-use Rattle.soundness.specs.store.Retain.{Rewrites, rewrite-totals}
-use Rattle.soundness.specs.store.Opening.{open-rests}
+use Rattle.working.specs.store.Invariant.{Invariant, StandsFor}
+use Rattle.working.specs.store.Change.{held-used}
+use Rattle.working.specs.store.Kept.{stands-kept}
+use Rattle.working.specs.store.LowestLevel.{listed-or-taken}
+use Rattle.working.specs.store.Retain.{Rewrites, rewrite-totals}
+use Rattle.working.specs.store.Opening.{open-rests}
 use Rattle.soundness.specs.annotation.Accepting.{main-shape-of}
 use Rattle.soundness.specs.Settled.{Settled}
 use Rattle.soundness.specs.Step.{Standing, settled-standing}
