@@ -5,9 +5,9 @@ use cross_values::stops;
 use libc::STDOUT_FILENO;
 ghost use Prim.Native.Nat.{_≤_};
 
-// The deliveries stand at their numbers, and those that differ after them. Then come the scripts that were opened, those
-// refused and those that come to level 64; and two regions: the scripts by the depth of their totals, and the nodes by
-// kind.
+// The deliveries stand at their numbers, and those that differ after them. Then come the scripts that were opened,
+// those refused and those that come to level 64; and two regions: the scripts by the depth of their totals, and the
+// nodes by kind.
 const OPENED: usize = 33;
 
 pub const REFUSED: usize = 34;

@@ -5,7 +5,7 @@ use mathlib.Core.Bool.{Bool, true, false, cond}
 use mathlib.Core.Path.{_≡_, refl, sym, ap, _∙_}
 use mathlib.Core.List.{List}
 use lib.IntN.{ℤ, pos}
-use lib.ListN.{length, replicate}
+use lib.ListN.{length, replicate, take, length-take}
 use Rattle.semantics.specs.Syntax.{Script, main-depth}
 use Rattle.semantics.specs.Annotate.{code}
 use Rattle.semantics.specs.Store.{opened}
@@ -18,6 +18,8 @@ use borrow.Author.Tests.{leb-true}
 use Rattle.semantics.specs.Calls.{engine-translate, request-fits, deliver-in, deliver-for}
 use Rattle.semantics.specs.Machine.{program, delivered}
 use Rattle.soundness.specs.annotation.Accepting.{main-shape-of}
+use Rattle.machine_code.specs.Reading.{Cut}
+use Rattle.machine_laws.specs.Script.{code-some}
 use Rattle.engine_store.specs.declared.Ended.{Ended}
 use Rattle.engine_store.specs.declared.Ended.the-variants as E
 use Rattle.engine_store.specs.Left.{StoreLeft, left, left-by, opened-left, checked-left, SmallAnswer}
@@ -86,12 +88,22 @@ module _ {file kinds : List ℕ} {operands : List ℤ} {l d : ℕ} {kinds′ : L
           fit true f g = record { script = fs; judges = q; fits = f; lines = cc; depth = cc }
           fit false f g = absurd (let z : _≡_ {A = ℕ} 0 1 = cc in omega arith)
 
-  -- its lines are at most 4,096
-  pub few-lines : l ≤ 4096
+  -- it has a line, and no more than there is room for
+  pub lines-fit : (0 < l) × (l ≤ room kinds operands)
   unfolding code-fits
-  few-lines =
-      let s = loaded-script in
-      omega (arith, s .lines, leb-true (length (code (s .script))) (room kinds operands) (s .fits))
+  lines-fit =
+      let s = loaded-script in (
+        omega (arith, s .lines, code-some file (s .script) (s .judges)),
+        omega (arith, s .lines, leb-true (length (code (s .script))) (room kinds operands) (s .fits)),
+      )
+
+  -- the arrays, cut to its lines
+  pub lines-cut : length kinds′ ≡ length kinds → length operands′ ≡ length operands →
+      Cut (take l kinds′) (take l operands′)
+  lines-cut k o = omega (arith, k, o, lines-fit, length-take l kinds′, length-take l operands′)
+
+  pub lines-are : (fs : Script) → admitted file (room kinds operands) ≡ accepted fs → l ≡ length (code fs)
+  lines-are fs q = let e : Ready l d ≡ told-load (accepted fs) = rw q at (h .is) in cc
 
   -- its totals are of depth 4 at most
   pub shallow : d ≤ 4

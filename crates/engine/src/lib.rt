@@ -85,7 +85,7 @@ pub extern "C" fn engine_check(
     }
 }
 
-// Delivers readings to a script on its store, within a budget of steps.
+// Delivers readings to a script on its store, within a budget of steps. The machine is lent the code cut to its lines.
 #[no_mangle]
 pub extern "C" fn engine_deliver(
     file: &[u8],
@@ -103,10 +103,10 @@ pub extern "C" fn engine_deliver(
 {
     let mut table = [0u8; 16448];
     match engine_load::load_with(file, kinds, operands, &mut table) {
-        Loaded::Ready(_, depth) => {
+        Loaded::Ready(lines, depth) => {
             let ended = engine_delivery::deliver_words(
-                kinds,
-                operands,
+                &kinds[..lines],
+                &operands[..lines],
                 &table,
                 slots,
                 heads,

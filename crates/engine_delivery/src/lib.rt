@@ -2,6 +2,7 @@
 use engine_store::Ended;
 ghost use mathlib.Core.Path.{_≡_};
 ghost use Rattle.semantics.specs.Calls.{request-fits};
+ghost use Rattle.machine_code.specs.Reading.{Cut};
 ghost use Rattle.engine_delivery.specs.Delivered.{DeliversWords};
 
 // Whether there are at most 16 readings and 1,000,000 steps.
@@ -14,7 +15,7 @@ fn request_fits(readings: &[i64], budget: u64) -> bool
     budget <= 1000000
 }
 
-// Works a delivery on the code of a script, of which the table has the depths and the positions.
+// Works a delivery on the code of a script, cut to its lines, of which the table has the depths and the positions.
 pub fn deliver_words(
     kinds: &[u8],
     operands: &[i64],
@@ -25,6 +26,7 @@ pub fn deliver_words(
     depth: u32,
     budget: u64,
 ) -> Ended
+    requires { ⌜ Cut (now kinds) (now operands) ⌝ }
     ensures { λ r. ⌜ DeliversWords (now (kinds .entry)) (now (operands .entry)) (now (table .entry))
         (now (slots .entry)) (now (heads .entry)) (now (readings .entry)) depth budget
         r (now (slots .exit)) (now (heads .exit)) ⌝ }

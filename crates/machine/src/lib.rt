@@ -1,6 +1,6 @@
 // The machine: workers for a tree, a line and the passes of a loop that call each other. What falls is the steps left,
-// and where no step is taken the lines left. `calls` is the call depth left. The code's slices are lent by a reference
-// to each: a frame then has no copy of them.
+// and where no step is taken the lines left. `calls` is the call depth left. The code's slices are cut to its lines,
+// and lent by a reference to each: a frame then has no copy of them.
 use machine_code::Atom;
 use machine_code::Line;
 use machine_code::Loop;
@@ -12,10 +12,11 @@ ghost use mathlib.Core.Path.{_≡_};
 ghost use Prim.Native.Nat.{_<_};
 ghost use lib.ListN.{length};
 ghost use Rattle.semantics.specs.Words.{store-of};
+ghost use Rattle.machine_code.specs.Reading.{Cut};
 ghost use Rattle.machine_lines.specs.Lines.{memory, kind-of, first-name, second-name, atoms-of};
 ghost use Rattle.machine_loops.specs.Loops.{Usable};
 ghost use Rattle.machine_positions.specs.Machine.{code, Ended, if-line, call-line, loop-line, looped, passes-on};
-ghost use Rattle.machine_positions.specs.Machine.{line-on, tree-on, call-on, Short};
+ghost use Rattle.machine_positions.specs.Machine.{line-on, tree-on, call-on};
 
 // Works the tree at a position.
 pub fn work_tree(
@@ -30,7 +31,7 @@ pub fn work_tree(
     calls: usize,
     at: usize,
 ) -> Out
-    requires { ⌜ (calls < 32) × (length (now env) ≡ 8226) × Short (now (now kinds)) ⌝ }
+    requires { ⌜ (calls < 32) × (length (now env) ≡ 8226) × Cut (now (now kinds)) (now (now operands)) ⌝ }
     ensures { λ r. ⌜ Ended (tree-on lines
         (call-on calls (code (now (now (kinds .entry))) (now (now (operands .entry))) (now (table .entry))))
         (code (now (now (kinds .entry))) (now (now (operands .entry))) (now (table .entry))) calls at steps
@@ -94,7 +95,7 @@ fn work_line(
     l: Line,
 ) -> Out
     requires { ⌜ (at < length (now (now kinds))) × (calls < 32) × (length (now env) ≡ 8226)
-        × Short (now (now kinds)) ⌝ }
+        × Cut (now (now kinds)) (now (now operands)) ⌝ }
     ensures { λ r. ⌜ Ended (line-on
         (tree-on lines
         (call-on calls (code (now (now (kinds .entry))) (now (now (operands .entry))) (now (table .entry))))
@@ -177,7 +178,7 @@ fn work_if(
     g: Atom,
 ) -> Out
     requires { ⌜ (at < length (now (now kinds))) × (calls < 32) × (length (now env) ≡ 8226)
-        × Short (now (now kinds)) ⌝ }
+        × Cut (now (now kinds)) (now (now operands)) ⌝ }
     ensures { λ r. ⌜ Ended (if-line
         (tree-on lines
         (call-on calls (code (now (now (kinds .entry))) (now (now (operands .entry))) (now (table .entry))))
@@ -231,7 +232,7 @@ fn work_call(
     g: u8,
 ) -> Out
     requires { ⌜ (at < length (now (now kinds))) × (calls < 32) × (length (now env) ≡ 8226)
-        × Short (now (now kinds)) ⌝ }
+        × Cut (now (now kinds)) (now (now operands)) ⌝ }
     ensures { λ r. ⌜ Ended (call-line
         (call-on calls (code (now (now (kinds .entry))) (now (now (operands .entry))) (now (table .entry))))
         (code (now (now (kinds .entry))) (now (now (operands .entry))) (now (table .entry))) calls x g at steps
@@ -285,7 +286,7 @@ fn work_loop(
     l: Loop,
 ) -> Out
     requires { ⌜ (at < length (now (now kinds))) × (calls < 32) × (length (now env) ≡ 8226)
-        × Short (now (now kinds)) ⌝ }
+        × Cut (now (now kinds)) (now (now operands)) ⌝ }
     ensures { λ r. ⌜ Ended (loop-line
         (tree-on lines
         (call-on calls (code (now (now (kinds .entry))) (now (now (operands .entry))) (now (table .entry))))
@@ -335,7 +336,7 @@ fn work_pass(
     at: usize,
     l: Passes,
 ) -> Out
-    requires { ⌜ (calls < 32) × (length (now env) ≡ 8226) × Short (now (now kinds))
+    requires { ⌜ (calls < 32) × (length (now env) ≡ 8226) × Cut (now (now kinds)) (now (now operands))
         × Usable (now slots) (now heads) l ⌝ }
     ensures { λ r. ⌜ Ended (passes-on (looped (l .way)
         (tree-on lines

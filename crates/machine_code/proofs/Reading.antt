@@ -1,6 +1,6 @@
 -- Laws of the readers, in the terms of the code.
 use mathlib.Core.Path.{_≡_, refl}
-use mathlib.Core.Bool.{true, false}
+use mathlib.Core.Bool.{Bool, true, false}
 use mathlib.Core.List.{List}
 use Prim.Native.Nat.{ℕ, zero, suc, _+_, _-_, _%_, _<_, _≤_}
 use native.Mathlib.Omega.{arith}
@@ -8,10 +8,10 @@ use lib.IntN.{ℤ, pos, negsuc, natAbs}
 use lib.Bits.{bitAnd, and-mask}
 use lib.Dec.{T, ltb}
 use lib.Signed.{nonNeg}
-use lib.ListN.{getD, length}
+use lib.ListN.{getD, length, List·getD-eq-default}
 use mir.Syntax.{w64}
 use mir.Val.{Fits, ofZ, toZ}
-use borrow.Author.Tests.{ne-eqb, lt-ltb, le-ltb}
+use borrow.Author.Tests.{ltb-true, ltb-false, ne-eqb, lt-ltb, le-ltb}
 use Rattle.machine_code.specs.Reading.{low-bits, atom-at, two-rows, line-of, line-at}
 use Rattle.machine_code.specs.declared.Atom.{Atom}
 use Rattle.machine_code.specs.declared.Atom.the-variants.{Number, Name}
@@ -52,6 +52,11 @@ module _ (kinds : List ℕ) (operands : List ℤ) (at : ℕ) where
   unfolding atom-at
   name-here kind x e f g = rw (← e, ne-eqb kind 2 f, g)
 
+  -- past the end of both arrays
+  pub name-past : length kinds ≤ at → length operands ≤ at → Name 0 ≡ atom-at kinds operands at
+  unfolding atom-at
+  name-past h g = rw (List·getD-eq-default kinds 0 h, List·getD-eq-default operands (pos 0) g) refl
+
   -- the line of a kind, an operand and two atoms
   pub line-here : (kind n : ℕ) (a b : Atom) → kind ≡ getD kinds at 0 → n ≡ low-bits (getD operands at (pos 0)) →
       a ≡ atom-at kinds operands (at + 1) → b ≡ atom-at kinds operands (at + 2) →
@@ -59,16 +64,18 @@ module _ (kinds : List ℕ) (operands : List ℤ) (at : ℕ) where
   unfolding line-at
   line-here kind n a b e f g h = rw (e, f, g, h)
 
--- two rows are not within the code, or they are if they are within the second array
-pub rows-out : (kinds : List ℕ) (operands : List ℤ) (at : ℕ) → length kinds ≤ at + 1 →
-    false ≡ two-rows kinds operands at
+-- two rows are within arrays of one length if a row is before the last
+pub rows-within : (kinds : List ℕ) (operands : List ℤ) (at : ℕ) → length kinds ≡ length operands → 0 < length kinds →
+    ltb at (length kinds - 1) ≡ two-rows kinds operands at
 unfolding two-rows
-rows-out kinds operands at h = rw (le-ltb (at + 1) (length kinds) h) refl
-
-pub rows-in : (kinds : List ℕ) (operands : List ℤ) (at : ℕ) → at + 1 < length kinds →
-    ltb (at + 1) (length operands) ≡ two-rows kinds operands at
-unfolding two-rows
-rows-in kinds operands at h = rw (lt-ltb (at + 1) (length kinds) h) refl
+rows-within kinds operands at same some = by (ltb at (length kinds - 1)) refl
+  where
+    by : (t : Bool) → ltb at (length kinds - 1) ≡ t → t ≡ two-rows kinds operands at
+    by true e =
+        let h = ltb-true at (length kinds - 1) e in
+        let f : at + 1 < length kinds = omega (arith, h) in
+        rw (lt-ltb (at + 1) (length kinds) f, lt-ltb (at + 1) (length operands) (omega arith)) refl
+    by false e = rw (le-ltb (at + 1) (length kinds) (omega (arith, ltb-false at (length kinds - 1) e))) refl
 
 -- a kind that is none of the others
 pub record NotNamed (kind : ℕ) : Type 0 where
@@ -86,6 +93,25 @@ pub record NotNamed (kind : ℕ) : Type 0 where
   pub k19 : kind ≡ 19 → ⊥
   pub k20 : kind ≡ 20 → ⊥
   pub k21 : kind ≡ 21 → ⊥
+
+-- the kinds of operations and all below are such
+pub kind-below-7 : (kind : ℕ) → kind < 7 → NotNamed kind
+kind-below-7 kind h = record {
+  k8 = λ e. omega (arith, h, e);
+  k9 = λ e. omega (arith, h, e);
+  k10 = λ e. omega (arith, h, e);
+  k11 = λ e. omega (arith, h, e);
+  k12 = λ e. omega (arith, h, e);
+  k13 = λ e. omega (arith, h, e);
+  k14 = λ e. omega (arith, h, e);
+  k15 = λ e. omega (arith, h, e);
+  k16 = λ e. omega (arith, h, e);
+  k17 = λ e. omega (arith, h, e);
+  k18 = λ e. omega (arith, h, e);
+  k19 = λ e. omega (arith, h, e);
+  k20 = λ e. omega (arith, h, e);
+  k21 = λ e. omega (arith, h, e);
+}
 
 pub operation-of-kind : (kind n : ℕ) (a b : Atom) → NotNamed kind → Operation kind (n % 256) a b ≡ line-of kind n a
     b

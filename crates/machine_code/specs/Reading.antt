@@ -1,7 +1,8 @@
 -- The code read at a position: what stands past the end is 0.
+use mathlib.Core.Path.{_≡_}
 use mathlib.Core.Bool.{Bool, cond, _||_, _&&_}
 use mathlib.Core.List.{List}
-use Prim.Native.Nat.{ℕ, suc, _+_, _-_, _*_, _/_, _%_}
+use Prim.Native.Nat.{ℕ, suc, _+_, _-_, _*_, _/_, _%_, _<_, _≤_}
 use lib.IntN.{ℤ, pos, negsuc}
 use lib.Dec.{eqb, ltb}
 use lib.ListN.{getD, length}
@@ -11,6 +12,11 @@ use Rattle.machine_code.specs.declared.Loop.the-variants as P
 use Rattle.machine_code.specs.declared.Line.{Line}
 use Rattle.machine_code.specs.declared.Line.the-variants.{Operation, Call, Literal, Index, Length}
 use Rattle.machine_code.specs.declared.Line.the-variants.{Iota, Replicate, If, Loop, Retain, Release, End}
+
+-- code arrays that are cut to the lines: as many operands as kinds, at least one, and no more than a slice can have
+abbrev pub Cut : List ℕ → List ℤ → Type 0
+Cut kinds operands =
+    (length kinds ≡ length operands) × (0 < length kinds) × (length kinds ≤ 9223372036854775807)
 
 -- the low 24 bits of a word, which are up to three bytes of an operand
 abbrev pub low-bits : ℤ → ℕ

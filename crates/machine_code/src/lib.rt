@@ -1,11 +1,11 @@
 // Reading the code: atoms, lines, and the table of a script's functions and of the positions after its trees.
-// Every reader is total: what stands past the end of an array is 0.
+// What stands past the end of an array is 0. Lines and atoms are read from arrays that are cut to the code's lines.
 ghost use mathlib.Core.Path.{_≡_};
 ghost use Prim.Native.Nat.{_+_, _-_, _*_, _<_};
 ghost use lib.IntN.{pos};
 ghost use lib.ListN.{length, getD};
-ghost use Rattle.machine_code.specs.Reading.{low-bits, atom-at, line-at, is-atom, two-rows, depth-in};
-ghost use Rattle.machine_code.specs.Reading.{start-in, end-in};
+ghost use Rattle.machine_code.specs.Reading.{low-bits, Cut, atom-at, line-at, is-atom, two-rows};
+ghost use Rattle.machine_code.specs.Reading.{depth-in, start-in, end-in};
 
 // An atom: a number or a name.
 pub enum Atom {
@@ -60,14 +60,15 @@ pub fn low_bits(w: i64) -> u64
     (w & 16777215) as u64
 }
 
-// The atom at a position.
+// The atom at a position; past the end it is name 0.
 pub fn atom_at(kinds: &[u8], operands: &[i64], at: usize) -> Atom
+    requires { ⌜ Cut (now kinds) (now operands) ⌝ }
     ensures { λ r. ⌜ r ≡ atom-at (now (kinds .entry)) (now (operands .entry)) at ⌝ }
 {
-    if kind_at(kinds, at) == 2 {
-        Atom::Number(operand_at(operands, at))
+    if at < kinds.len() {
+        atom_within(kinds, operands, at)
     } else {
-        Atom::Name((low_bits(operand_at(operands, at)) % 256) as u8)
+        Atom::Name(0)
     }
 }
 
@@ -93,20 +94,15 @@ fn atom_within(kinds: &[u8], operands: &[i64], at: usize) -> Atom
 
 // Whether two rows are within the code from a position on, as they are where a line of a tree begins.
 pub fn two_rows(kinds: &[u8], operands: &[i64], at: usize) -> bool
+    requires { ⌜ Cut (now kinds) (now operands) ⌝ }
     ensures { λ r. ⌜ r ≡ two-rows (now (kinds .entry)) (now (operands .entry)) at ⌝ }
 {
-    if kinds.len() <= at {
-        return false;
-    }
-    if kinds.len() <= at + 1 {
-        return false;
-    }
-    at + 1 < operands.len()
+    at < kinds.len() - 1
 }
 
 // The line that begins at a position, where its first two rows are within the code.
 pub fn line_at(kinds: &[u8], operands: &[i64], at: usize) -> Line
-    requires { ⌜ (at + 1 < length (now kinds)) × (at + 1 < length (now operands)) ⌝ }
+    requires { ⌜ (at + 1 < length (now kinds)) × Cut (now kinds) (now operands) ⌝ }
     ensures { λ r. ⌜ r ≡ line-at (now (kinds .entry)) (now (operands .entry)) at ⌝ }
 {
     let kind = kinds[at];
@@ -116,6 +112,9 @@ pub fn line_at(kinds: &[u8], operands: &[i64], at: usize) -> Line
     }
     let n = low_bits(operands[at]);
     let x = (n % 256) as u8;
+    if kind < 7 {
+        return Line::Operation(kind, x, a, atom_at(kinds, operands, at + 2));
+    }
     let y = (n / 256 % 256) as u8;
     match kind {
         8 => Line::Call(x, y),

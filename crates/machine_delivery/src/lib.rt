@@ -1,5 +1,5 @@
-// A delivery on the code of a script and a store: the readings' cell, main, the result in the totals' place; and after
-// a stop the old store, linked anew.
+// A delivery on the code of a script, cut to its lines, and a store: the readings' cell, main, the result in the
+// totals' place; and after a stop the old store, linked anew.
 use store::Acquired;
 ghost use mathlib.Core.Path.{_≡_};
 ghost use mathlib.Core.Bool.{true};
@@ -7,6 +7,7 @@ ghost use Prim.Native.Nat.{ℕ, _<_, _≤_};
 ghost use lib.IntN.{pos};
 ghost use lib.ListN.{length};
 ghost use Rattle.semantics.specs.Words.{store-of, shaped};
+ghost use Rattle.machine_code.specs.Reading.{Cut};
 ghost use Rattle.machine_positions.specs.Machine.{code};
 ghost use Rattle.machine_positions.specs.Delivery.{retained-totals, released-totals, main-on, attempt-on, delivered-on};
 ghost use Rattle.machine_delivery.specs.Promises.{Tries, DeliversOn};
@@ -58,7 +59,7 @@ fn work_main(
     free: u32,
     budget: u64,
 ) -> Attempted
-    requires { ⌜ 0 < length (now slots) ⌝ }
+    requires { ⌜ (0 < length (now slots)) × Cut (now kinds) (now operands) ⌝ }
     ensures { λ r. ⌜ ((k : ℕ) → readings ≡ pos k → Tries
         (main-on (code (now (kinds .entry)) (now (operands .entry)) (now (table .entry))) depth old k free budget
         (store-of (now (slots .entry)) (now (heads .entry))))
@@ -108,7 +109,7 @@ fn attempt(
     depth: u32,
     budget: u64,
 ) -> Attempted
-    requires { ⌜ 0 < length (now slots) ⌝ }
+    requires { ⌜ (0 < length (now slots)) × Cut (now kinds) (now operands) ⌝ }
     ensures { λ r. ⌜ Tries
         (attempt-on (code (now (kinds .entry)) (now (operands .entry)) (now (table .entry)))
         (now (readings .entry)) depth budget (store-of (now (slots .entry)) (now (heads .entry))))
@@ -155,7 +156,7 @@ fn deliver_kept(
     old_heads: &mut [u32],
 ) -> Delivery
     requires { ⌜ (0 < length (now slots)) × (length (now slots) ≤ length (now «old_slots»))
-        × (length (now heads) ≤ length (now «old_heads»)) ⌝ }
+        × (length (now heads) ≤ length (now «old_heads»)) × Cut (now kinds) (now operands) ⌝ }
     ensures { λ r. ⌜ DeliversOn
         (delivered-on (code (now (kinds .entry)) (now (operands .entry)) (now (table .entry)))
         (now (readings .entry)) depth budget (store-of (now (slots .entry)) (now (heads .entry))))
@@ -198,7 +199,7 @@ pub fn deliver_on(
     depth: u32,
     budget: u64,
 ) -> Delivery
-    requires { ⌜ shaped (now slots) (now heads) ≡ true ⌝ }
+    requires { ⌜ (shaped (now slots) (now heads) ≡ true) × Cut (now kinds) (now operands) ⌝ }
     ensures { λ r. ⌜ DeliversOn
         (delivered-on (code (now (kinds .entry)) (now (operands .entry)) (now (table .entry)))
         (now (readings .entry)) depth budget (store-of (now (slots .entry)) (now (heads .entry))))

@@ -1,5 +1,5 @@
 -- Rows that stand in the code arrays from a position on, and what is read there.
-use mathlib.Core.Path.{_≡_, refl, ap, subst, _∙_}
+use mathlib.Core.Path.{_≡_, refl, sym, ap, subst, _∙_}
 use mathlib.Core.Bool.{true, false, not, _&&_}
 use mathlib.Core.Logic.{inl, inr}
 use mathlib.Core.List.{List, [], _∷_, _++_}
@@ -7,7 +7,8 @@ use Prim.Native.Nat.{ℕ, suc, _+_, _%_, _<_, _≤_}
 use native.Mathlib.Omega.{arith}
 use lib.IntN.{ℤ, pos}
 use lib.Dec.{T, ltb}
-use lib.ListN.{getD, length, length-append}
+use lib.ListN.{getD, length, take, length-append, length-take}
+use lib.Seq.{getD-take}
 use mir.Val.{hasKey}
 use types.Run.{miss}
 use borrow.Author.Tests.{ne-eqb, lt-ltb}
@@ -44,6 +45,34 @@ module _ (kinds : List ℕ) (operands : List ℤ) where
   at-second at (x ∷ xs) ys h =
       let z : at + 1 + length xs ≡ at + suc (length xs) = omega arith in
       subst (λ (p : ℕ). At kinds operands p ys) z (at-second (at + 1) xs ys (h .1))
+
+-- rows within the first n of the code stand there, and what stands there stands in the code
+module _ (kinds : List ℕ) (operands : List ℤ) (n : ℕ) where
+  pub at-cut : (at : ℕ) (rs : List Row) → at + length rs ≤ n → At kinds operands at rs →
+      At (take n kinds) (take n operands) at rs
+  at-cut at [] l h = tt
+  at-cut at (r ∷ rs) l h = (
+    record {
+      kind = getD-take n kinds at 0 (omega arith) ∙ h .0 .kind;
+      operand = getD-take n operands at (pos 0) (omega arith) ∙ h .0 .operand;
+      within = omega (arith, length-take n kinds, h .0 .within);
+      held = omega (arith, length-take n operands, h .0 .held);
+    },
+    at-cut (at + 1) rs (omega arith) (h .1),
+  )
+
+  pub at-whole : (at : ℕ) (rs : List Row) → At (take n kinds) (take n operands) at rs → At kinds operands at rs
+  at-whole at [] h = tt
+  at-whole at (r ∷ rs) h =
+      let l : at < n = omega (arith, length-take n kinds, h .0 .within) in (
+        record {
+          kind = sym (getD-take n kinds at 0 l) ∙ h .0 .kind;
+          operand = sym (getD-take n operands at (pos 0) l) ∙ h .0 .operand;
+          within = omega (arith, length-take n kinds, h .0 .within);
+          held = omega (arith, length-take n operands, h .0 .held);
+        },
+        at-whole (at + 1) rs (h .1),
+      )
 
 -- the table has the position after each tree that stands in the code
 abbrev pub Jumps : Code → Type 0

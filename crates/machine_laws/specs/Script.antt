@@ -5,7 +5,7 @@ use mathlib.Core.Path.{_≡_, refl, sym, ap, subst, _∙_}
 use mathlib.Core.Bool.{true}
 use mathlib.Core.List.{List, [], _∷_, _++_, map, append-assoc}
 use lib.IntN.{ℤ, pos}
-use lib.ListN.{getD, length, length-append}
+use lib.ListN.{getD, length, take, length-append}
 use Rattle.working.specs.machine.Size.{function-within}
 use Rattle.soundness.specs.Delivering.{levels-bounded}
 use Rattle.semantics.specs.Syntax.{Parameter, Function, Script, function-at, no-function, main-depth}
@@ -20,9 +20,10 @@ use Rattle.soundness.specs.annotation.Reader.{AllOf, FunctionLimits}
 use Rattle.soundness.specs.annotation.Accepting.{Clean, judged-clean, functions-disciplined, main-shape-of}
 use Rattle.laws.specs.Routines.{length-routines, routine-is}
 use Rattle.machine_code.specs.Reading.{depth-in, start-in}
+use Rattle.machine_positions.specs.Machine as M
 use Rattle.machine_positions.specs.Machine.{Code}
 use Rattle.machine_positions.specs.Delivery.{delivered-on}
-use Rattle.machine_laws.specs.Rows.{At, Jumps, at-first, at-second}
+use Rattle.machine_laws.specs.Rows.{At, Jumps, at-first, at-second, at-cut, at-whole, rows-some}
 use Rattle.machine_laws.specs.Calls.{FunctionStands}
 use Rattle.machine_laws.specs.Delivery.{delivered-same}
 
@@ -104,6 +105,17 @@ pub record Coded (fs : Script) (c : Code) : Type 0 where
   pub depths : (g x : ℕ) → g < length fs → x < 256 → depth-in (c .table) g x ≡ depths-of fs (function-at fs g) x
   pub ends : Jumps c
 
+-- the arrays may be cut behind the code
+pub cut-coded : (fs : Script) (kinds : List ℕ) (operands : List ℤ) (table : List ℕ) (n : ℕ) → length (code fs) ≤ n →
+    Coded fs (M.code kinds operands table) → Coded fs (M.code (take n kinds) (take n operands) table)
+cut-coded fs kinds operands table n l h = record {
+  written = at-cut kinds operands n 0 (code fs) (omega arith) (h .written);
+  short = h .short;
+  starts = h .starts;
+  depths = h .depths;
+  ends = λ t p w. h .ends t p (at-whole kinds operands n p (rows t) w);
+}
+
 length-depths : (xs : List Parameter) → length (map (λ x. x .depth) xs) ≡ length xs
 length-depths [] = refl
 length-depths (x ∷ xs) = ap suc (length-depths xs)
@@ -113,6 +125,17 @@ few-parameters : (gs : List Function) (g : ℕ) → AllOf FunctionLimits gs → 
 few-parameters [] g h = omega arith
 few-parameters (f ∷ gs) zero h = h .0 .parameters
 few-parameters (f ∷ gs) (suc g) h = few-parameters gs g (h .1)
+
+-- the code of an accepted script has rows, those of main among them
+pub code-some : (file : List ℕ) (fs : Script) → judged file ≡ accepted fs → 0 < length (code fs)
+unfolding code
+code-some file fs ok =
+    let T = borrowed fs in
+    omega (
+      arith,
+      rows-some (annotated-body fs T (0 + 0) (getD fs 0 no-function)),
+      function-within fs T 0 fs 0 (omega (arith, judged-clean file fs ok .limits .0)),
+    )
 
 module _ (file : List ℕ) (fs : Script) (ok : judged file ≡ accepted fs) (few : length fs ≤ 32) where
   clean : Clean fs

@@ -14,6 +14,7 @@ ghost use lib.ListN.{length, getD};
 ghost use Rattle.semantics.specs.Machine.{is-count};
 ghost use Rattle.semantics.specs.Words.{store-of};
 ghost use Rattle.store.specs.Acquiring.{appended-all};
+ghost use Rattle.machine_code.specs.Reading.{Cut};
 ghost use Rattle.machine_lines.specs.Frames.{word-of, words-at, Appended, element-depth};
 ghost use Rattle.machine_lines.specs.Lines.{memory, elements-by, retained-times, retained-copies};
 ghost use Rattle.machine_lines.specs.Lines.{literal-line, array-made, array-line, Ends};
@@ -29,7 +30,8 @@ fn append_atoms(
     c: usize,
     at: usize,
 ) -> usize
-    requires { ⌜ (at ≤ length (now kinds)) × (calls < 32) × (length (now env) ≡ 8226) ⌝ }
+    requires { ⌜ (at ≤ length (now kinds)) × (calls < 32) × (length (now env) ≡ 8226)
+        × Cut (now kinds) (now operands) ⌝ }
     ensures { λ r. ⌜ Appended (words-at 16 (now (kinds .entry)) (now (operands .entry)) calls (now (env .entry)) at) c r
         (store-of (now (slots .entry)) (now (heads .entry))) (store-of (now (slots .exit)) (now (heads .exit))) ⌝ }
 {
@@ -59,7 +61,8 @@ pub fn work_literal(
     at: usize,
     steps: u64,
 ) -> Out
-    requires { ⌜ (at < length (now kinds)) × (calls < 32) × (length (now env) ≡ 8226) ⌝ }
+    requires { ⌜ (at < length (now kinds)) × (calls < 32) × (length (now env) ≡ 8226)
+        × Cut (now kinds) (now operands) ⌝ }
     ensures { λ r. ⌜ Ends (literal-line (now (kinds .entry)) (now (operands .entry)) calls x depth at steps
         (memory (store-of (now (slots .entry)) (now (heads .entry))) (now (env .entry))))
         r (now (slots .exit)) (now (heads .exit)) (now (env .exit)) ⌝ }

@@ -14,6 +14,7 @@ ghost use lib.ListN.{length, set};
 ghost use Rattle.semantics.specs.Number.{exact};
 ghost use Rattle.semantics.specs.Words.{store-of};
 ghost use Rattle.words.specs.Words.{exact-outcome, checked};
+ghost use Rattle.machine_code.specs.Reading.{Cut};
 ghost use Rattle.machine_lines.specs.Frames.{place, word-of, words-at, Passed};
 ghost use Rattle.machine_lines.specs.Frames.{function-place, function-of, element-depth, level-of, lowest-of};
 ghost use Rattle.machine_lines.specs.Frames.{levelled, noted, raised};
@@ -191,7 +192,8 @@ pub fn pass_arguments(
     below: usize,
     at: usize,
 ) -> usize
-    requires { ⌜ (at ≤ length (now kinds)) × (below < calls) × (calls < 32) × (length (now env) ≡ 8226) ⌝ }
+    requires { ⌜ (at ≤ length (now kinds)) × (below < calls) × (calls < 32) × (length (now env) ≡ 8226)
+        × Cut (now kinds) (now operands) ⌝ }
     ensures { λ r. ⌜ Passed (words-at 16 (now (kinds .entry)) (now (operands .entry)) calls (now (env .entry)) at)
         below r (now (env .entry)) (now (env .exit)) ⌝ }
 {
@@ -328,7 +330,8 @@ pub fn work_leaf(
     at: usize,
     steps: u64,
 ) -> Out
-    requires { ⌜ (at < length (now kinds)) × (calls < 32) × (length (now env) ≡ 8226) ⌝ }
+    requires { ⌜ (at < length (now kinds)) × (calls < 32) × (length (now env) ≡ 8226)
+        × Cut (now kinds) (now operands) ⌝ }
     ensures { λ r. ⌜ Ends (leaf (now (kinds .entry)) (now (operands .entry)) (now (table .entry)) calls at steps
         (memory (store-of (now (slots .entry)) (now (heads .entry))) (now (env .entry))) l)
         r (now (slots .exit)) (now (heads .exit)) (now (env .exit)) ⌝ }

@@ -32,10 +32,6 @@ pub record Code : Type 0 where
 abbrev pub code : List ℕ → List ℤ → List ℕ → Code
 code kinds operands table = record { kinds = kinds; operands = operands; table = table }
 
--- a code array as long as a slice can be
-abbrev pub Short : List ℕ → Type 0
-Short kinds = length kinds ≤ 9223372036854775807
-
 -- a tree worked, by its position and the steps left
 abbrev pub Work : Type 0
 Work = ℕ → ℕ → Memory → Ran

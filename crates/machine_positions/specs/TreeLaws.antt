@@ -60,13 +60,13 @@ tree-here n C c calls at s m h = rw h
 
 -- two rows that are within the code
 pub rows-there : (kinds : List ℕ) (operands : List ℤ) (at : ℕ) → two-rows kinds operands at ≡ true →
-    (at + 1 < length kinds) × (at + 1 < length operands)
+    at + 1 < length kinds
 unfolding two-rows
 rows-there kinds operands at h = go (ltb (at + 1) (length kinds)) refl h
   where
     go : (t : Bool) → ltb (at + 1) (length kinds) ≡ t → (t && ltb (at + 1) (length operands)) ≡ true →
-        (at + 1 < length kinds) × (at + 1 < length operands)
-    go true e f = (ltb-true (at + 1) (length kinds) e, ltb-true (at + 1) (length operands) f)
+        at + 1 < length kinds
+    go true e f = ltb-true (at + 1) (length kinds) e
     go false e f = no-bool (sym f)
 
 tree-some : (n : ℕ) (C : Callee) (c : Code) (calls at s : ℕ) (m : Memory) (l : Line) → 0 < n →

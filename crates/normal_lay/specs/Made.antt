@@ -139,8 +139,8 @@ module _ (results : ℕ → ℕ) (μ : Meanings) where
 
 -- over the file's operands w and the results of the functions
 module _ (w : List ℕ) (results : ℕ → ℕ) where
-  -- from X to Y the rows from p to before q are laid: those of what f puts before a tree, whose trees are of d₀ levels at
-  -- most
+  -- from X to Y the rows from p to before q are laid: those of what f puts before a tree, whose trees are of d₀ levels
+  -- at most
   pub record Adds (f : Tree → Tree) (X Y : State) (p q d₀ : ℕ) : Type 0 where
     pub on : p ≤ q
     pub sized : Sized Y

@@ -1,5 +1,5 @@
--- Arrays are made of what has a depth of 3 at most, so that no name of a tree has a depth above 4. Only a replicate and a
--- map make an array deeper than all that they are given.
+-- Arrays are made of what has a depth of 3 at most, so that no name of a tree has a depth above 4. Only a replicate and
+-- a map make an array deeper than all that they are given.
 use mathlib.Core.List.{List}
 use Prim.Native.Nat.{ℕ, _≤_}
 use Rattle.semantics.specs.Kinds.{Leaf, operation, call, literal, index, length-of, iota, replicate}

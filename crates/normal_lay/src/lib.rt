@@ -192,8 +192,8 @@ fn note_pass(depths: &mut [u8; 256], kind: u8, n: usize, places: &[u16; 16])
     depths[n + 1] = element;
 }
 
-// Opens a loop after its parts, whose places stand in a table: its row, the first row of its tree, and the depths of the
-// names of a pass. The answer is where its tree begins.
+// Opens a loop after its parts, whose places stand in a table: its row, the first row of its tree, and the depths of
+// the names of a pass. The answer is where its tree begins.
 pub fn open_loop(
     rows: &mut [u32; 2048],
     notes: &mut [u16; 2048],
@@ -241,8 +241,8 @@ pub struct Meant {
     pub second: u16,
 }
 
-// The written names of a pass mean the new names after n; a second name hides an equal first, and where there is one name
-// it is both.
+// The written names of a pass mean the new names after n; a second name hides an equal first, and where there is one
+// name it is both.
 pub fn bind_pass(places: &mut [u16; 256], kind: u8, low: u8, high: u8, n: usize) -> Meant
     requires { ⌜ (n + loop-size (loop-of kind) < 256) × (length (now places) ≡ 256) ⌝ }
     ensures { λ r. ⌜ now (places .exit)

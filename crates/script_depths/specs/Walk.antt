@@ -102,7 +102,8 @@ abbrev pub let-typed : ((ℕ → ℕ) → ℕ → Typed) → (ℕ → ℕ) → �
 let-typed m γ x (Depth d q) = m (updated γ x d) q
 let-typed m γ x (Fault n) = Fault n
 
--- a reduce's start at p, which f walks over; a map and a filter have none: it counts as a number, and the array is there
+-- a reduce's start at p, which f walks over; a map and a filter have none: it counts as a number, and the array is
+-- there
 abbrev pub start-typed : ℕ → (ℕ → Typed) → ℕ → Typed
 start-typed kind f p = cond (eqb kind 20) (f p) (Depth 0 p)
 

@@ -5,7 +5,7 @@ use Rattle.semantics.specs.Calls.{engine-translate}
 use Rattle.words.proofs.Packing.{packed-small}
 use Rattle.engine_load.specs.Loading.{Loads}
 use Rattle.engine.specs.Promises.{Translates}
-use Rattle.engine.proofs.Laws.{translates, translates-not, few-lines}
+use Rattle.engine.proofs.Laws.{translates, translates-not, lines-fit}
 use borrow.Author.Needs.{needs}
 use Rattle.engine.proofs.engine_translate.Statement.{statement}
 use Rattle.engine.proofs.engine_translate.Tie as tie
@@ -18,7 +18,7 @@ returns c =
     (loaded .last .1 .1 .0))
     (c .before .before .lines .given .1) (loaded .ensures) in
     let small = packed-small {number = 0} {node = 0} {count = c .before .before .lines .given .0 .0} {cells = 0}
-    (omega arith) (omega arith) (omega (arith, few-lines h)) (omega arith) in
+    (omega arith) (omega arith) (omega (arith, lines-fit h)) (omega arith) in
     subst (λ x. Translates (engine-translate (a .file .now) (a .kinds .now) (a .operands .now)) x (loaded .last .1 .0)
     (loaded .last .1 .1 .0))
     (sym (c .pack .ensures ∙ small)) (translates h)

@@ -33,10 +33,13 @@ returns-2 c =
 
 deliver-on-requires : tie.Need-deliver-on-requires
 deliver-on-requires c κs =
-    let a = c .before .before .before .before .before .before .before .before .before .before .args in
-    let test = c .before .before .before .is-sound in
-    sound-fits (a .depth) (a .slots .now) (a .heads .now)
-    (sym (test .ensures) ∙ not-false (test .result) (c .before .before .if2 .left))
+    let start = c .before .before .before .before .before .before .before .before .before .before in
+    let a = start .args in
+    let test = c .before .before .before .is-sound in (
+      sound-fits (a .depth) (a .slots .now) (a .heads .now)
+          (sym (test .ensures) ∙ not-false (test .result) (c .before .before .if2 .left)),
+      start .pre,
+    )
 
 returns-3 : tie.Need-returns-3
 returns-3 c =

@@ -1,12 +1,13 @@
 -- `machine_code::line_at` meets its contract: the line of a kind, an operand and the atoms after it.
 use mathlib.Core.Path.{_≡_, refl, sym, _∙_}
 use Prim.Native.Nat.{ℕ, _+_}
+use native.Mathlib.Omega.{arith}
 use lib.IntN.{pos}
 use lib.ListN.{getD}
 use mir.Facts.{toZ-ofZ}
 use Rattle.machine_code.specs.Reading.{atom-at, line-of, line-at}
 use Rattle.machine_code.specs.declared.Atom.{Atom}
-use Rattle.machine_code.proofs.Reading.{line-here, operation-of-kind}
+use Rattle.machine_code.proofs.Reading.{line-here, operation-of-kind, kind-below-7}
 use borrow.Author.Needs.{needs}
 use Rattle.machine_code.proofs.line_at.Statement.{statement}
 use Rattle.machine_code.proofs.line_at.Tie as tie
@@ -33,52 +34,61 @@ read c kind b k e =
     (first .ensures) e
 
 returns-2 : tie.Need-returns-2
-returns-2 c = read (c .before) 8 _ (sym (c .match .keys1)) refl
-
-returns-3 : tie.Need-returns-3
-returns-3 c = read (c .before) 9 _ (sym (c .match .keys2)) refl
-
-returns-4 : tie.Need-returns-4
-returns-4 c = read (c .before .before) 10 (c .atom-at .result) (sym (c .before .match .keys3)) (c .atom-at .ensures)
-
-returns-5 : tie.Need-returns-5
-returns-5 c = read (c .before) 11 _ (sym (c .match .keys4)) refl
-
-returns-6 : tie.Need-returns-6
-returns-6 c = read (c .before) 12 _ (sym (c .match .keys5)) refl
-
-returns-7 : tie.Need-returns-7
-returns-7 c = read (c .before) 13 _ (sym (c .match .keys6)) refl
-
-returns-8 : tie.Need-returns-8
-returns-8 c = read (c .before) 14 _ (sym (c .match .keys7)) refl
-
-returns-9 : tie.Need-returns-9
-returns-9 c = read (c .before) 15 _ (sym (c .match .keys8)) refl
-
-returns-10 : tie.Need-returns-10
-returns-10 c = read (c .before) 17 _ (sym (c .match .keys9)) refl
-
-returns-11 : tie.Need-returns-11
-returns-11 c =
-    read (c .before .before) 18 (c .atom-at2 .result) (sym (c .before .match .keys10)) (c .atom-at2 .ensures)
-
-returns-12 : tie.Need-returns-12
-returns-12 c = read (c .before) 19 _ (sym (c .match .keys11)) refl
-
-returns-13 : tie.Need-returns-13
-returns-13 c =
-    read (c .before .before) 20 (c .atom-at3 .result) (sym (c .before .match .keys12)) (c .atom-at3 .ensures)
-
-returns-14 : tie.Need-returns-14
-returns-14 c = read (c .before) 21 _ (sym (c .match .keys13)) refl
-
-returns-15 : tie.Need-returns-15
-returns-15 c =
+returns-2 c =
     let n = c .before .before .low-bits in
     let first = c .before .before .before .before .before .atom-within in
+    operation-of-kind _ (n .result) (first .result) (c .atom-at .result)
+    (kind-below-7 _ (omega (arith, c .before .if2 .taken)))
+    ∙ read (c .before .before) _ (c .atom-at .result) refl (c .atom-at .ensures)
+
+returns-3 : tie.Need-returns-3
+returns-3 c = read (c .before .before) 8 _ (sym (c .match .keys1)) refl
+
+returns-4 : tie.Need-returns-4
+returns-4 c = read (c .before .before) 9 _ (sym (c .match .keys2)) refl
+
+returns-5 : tie.Need-returns-5
+returns-5 c =
+    read (c .before .before .before) 10 (c .atom-at2 .result) (sym (c .before .match .keys3)) (c .atom-at2 .ensures)
+
+returns-6 : tie.Need-returns-6
+returns-6 c = read (c .before .before) 11 _ (sym (c .match .keys4)) refl
+
+returns-7 : tie.Need-returns-7
+returns-7 c = read (c .before .before) 12 _ (sym (c .match .keys5)) refl
+
+returns-8 : tie.Need-returns-8
+returns-8 c = read (c .before .before) 13 _ (sym (c .match .keys6)) refl
+
+returns-9 : tie.Need-returns-9
+returns-9 c = read (c .before .before) 14 _ (sym (c .match .keys7)) refl
+
+returns-10 : tie.Need-returns-10
+returns-10 c = read (c .before .before) 15 _ (sym (c .match .keys8)) refl
+
+returns-11 : tie.Need-returns-11
+returns-11 c = read (c .before .before) 17 _ (sym (c .match .keys9)) refl
+
+returns-12 : tie.Need-returns-12
+returns-12 c =
+    read (c .before .before .before) 18 (c .atom-at3 .result) (sym (c .before .match .keys10)) (c .atom-at3 .ensures)
+
+returns-13 : tie.Need-returns-13
+returns-13 c = read (c .before .before) 19 _ (sym (c .match .keys11)) refl
+
+returns-14 : tie.Need-returns-14
+returns-14 c =
+    read (c .before .before .before) 20 (c .atom-at4 .result) (sym (c .before .match .keys12)) (c .atom-at4 .ensures)
+
+returns-15 : tie.Need-returns-15
+returns-15 c = read (c .before .before) 21 _ (sym (c .match .keys13)) refl
+
+returns-16 : tie.Need-returns-16
+returns-16 c =
+    let n = c .before .before .before .low-bits in
+    let first = c .before .before .before .before .before .before .atom-within in
     let r = c .before .match .rest in
-    operation-of-kind _ (n .result) (first .result) (c .atom-at4 .result) (record {
+    operation-of-kind _ (n .result) (first .result) (c .atom-at5 .result) (record {
       k8 = r .0 .0 .0 .0 .0 .0 .0 .0 .0 .0 .0 .0 .1;
       k9 = r .0 .0 .0 .0 .0 .0 .0 .0 .0 .0 .0 .1;
       k10 = r .0 .0 .0 .0 .0 .0 .0 .0 .0 .0 .1;
@@ -87,21 +97,21 @@ returns-15 c =
       k13 = r .0 .0 .0 .0 .0 .0 .0 .1;
       k14 = r .0 .0 .0 .0 .0 .0 .1;
       k15 = r .0 .0 .0 .0 .0 .1;
-      k16 = c .before .before .before .before .if1 .left;
+      k16 = c .before .before .before .before .before .if1 .left;
       k17 = r .0 .0 .0 .0 .1;
       k18 = r .0 .0 .0 .1;
       k19 = r .0 .0 .1;
       k20 = r .0 .1;
       k21 = r .1;
     })
-    ∙ read (c .before .before) _ (c .atom-at4 .result) refl (c .atom-at4 .ensures)
+    ∙ read (c .before .before .before) _ (c .atom-at5 .result) refl (c .atom-at5 .ensures)
 
 pub line-at-spec : {M : Type 1} → statement M
 line-at-spec =
     tie.close
     (tie.spec (λ c. search needs) (λ c. search needs) (λ c κs. search needs) returns (λ c. search needs)
-    (λ c. search needs) (λ c κs. search needs) (λ c. search needs) (λ c. search needs) (λ c. search needs)
-    (λ c. search needs) (λ c κs. search needs) (λ c. search needs) (λ c κs. search needs) (λ c. search needs)
-    (λ c. search needs) (λ c κs. search needs) (λ c. search needs) (λ c κs. search needs) returns-2 returns-3
-    returns-4 returns-5 returns-6 returns-7 returns-8 returns-9 returns-10 returns-11 returns-12 returns-13
-    returns-14 returns-15)
+    (λ c. search needs) (λ c κs. search needs) (λ c. search needs) (λ c. search needs) (λ c κs. search needs)
+    returns-2 (λ c. search needs) (λ c. search needs) (λ c. search needs) (λ c κs. search needs)
+    (λ c. search needs) (λ c κs. search needs) (λ c. search needs) (λ c. search needs) (λ c κs. search needs)
+    (λ c. search needs) (λ c κs. search needs) returns-3 returns-4 returns-5 returns-6 returns-7 returns-8
+    returns-9 returns-10 returns-11 returns-12 returns-13 returns-14 returns-15 returns-16)

@@ -11,9 +11,9 @@ use Rattle.machine_delivery.proofs.deliver_on.Tie as tie
 
 deliver-kept-requires : tie.Need-deliver-kept-requires
 deliver-kept-requires c κs =
-    let a = c .before .before .before .before .before .before .before .args in
-    let fit = shaped-means (a .slots .now) (a .heads .now) (c .before .before .before .before .before .before .before
-    .pre) in (
+    let start = c .before .before .before .before .before .before .before in
+    let a = start .args in
+    let fit = shaped-means (a .slots .now) (a .heads .now) (start .pre .0) in (
       omega (arith, fit .slots-long),
       omega (
         arith,
@@ -32,13 +32,14 @@ deliver-kept-requires c κs =
         length-replicate {A = ℕ} 65 0,
         c .before .before .before .before .if1 .taken,
       ),
+      start .pre .1,
     )
 
 deliver-kept-requires-2 : tie.Need-deliver-kept-requires-2
 deliver-kept-requires-2 c κs =
-    let a = c .before .before .before .before .before .before .before .args in
-    let fit = shaped-means (a .slots .now) (a .heads .now) (c .before .before .before .before .before .before .before
-    .pre) in (
+    let start = c .before .before .before .before .before .before .before in
+    let a = start .args in
+    let fit = shaped-means (a .slots .now) (a .heads .now) (start .pre .0) in (
       omega (arith, fit .slots-long),
       omega (
         arith,
@@ -55,6 +56,7 @@ deliver-kept-requires-2 c κs =
             (a .heads .now),
         length-replicate {A = ℕ} 1025 0,
       ),
+      start .pre .1,
     )
 
 pub deliver-on-spec : {M : Type 1} → statement M

@@ -73,11 +73,8 @@ work-tree-requires c κs =
     let at-set-function = c .before .before .before .before .before .before .before in (
       omega arith,
       function-long at-set-function,
-      omega (
-        arith,
-        at-set-function .before .before .before .before
-            .before .before .before .before .before .before .before .before .before .before .before .good .0,
-      ),
+      at-set-function .before .before .before .before
+          .before .before .before .before .before .before .before .before .before .before .before .pre .1,
     )
 
 lowest-requires : tie.Need-lowest-requires
@@ -146,7 +143,7 @@ returns c =
     ∙ ap (released-totals (a .depth) (a .old)) (ap (λ (l : List ℤ). store-of l heads)
     (rw (toZ-ofZ {z = tree .result .value} (record { sfits = at-struct-told .struct-told .given .1 .0 .1 }))
     at (at-set-totals .set-totals .ensures))
-    ∙ totals-store slots heads (tree .result .value) (omega (arith, start .pre, tree .kept .1 .1 .1 .0))))
+    ∙ totals-store slots heads (tree .result .value) (omega (arith, start .pre .0, tree .kept .1 .1 .1 .0))))
 
 same-length-4 : tie.Need-same-length-4
 same-length-4 c =

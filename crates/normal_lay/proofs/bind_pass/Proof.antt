@@ -4,7 +4,9 @@ use Rattle.normal_lay.proofs.bind_pass.Statement.{statement}
 use Rattle.normal_lay.proofs.bind_pass.Tie as tie
 
 returns : tie.Need-returns
-returns c = (rw (c .loop-size .ensures, c .before .before .before .second-name .ensures), (refl, rw (c .before .before .before .second-name .ensures)))
+returns c =
+    let second = c .before .before .before .second-name .ensures in
+    (rw (c .loop-size .ensures, second), (refl, rw second))
 
 pub bind-pass-spec : {M : Type 1} → statement M
 bind-pass-spec =

@@ -36,8 +36,9 @@ element-write-notes c =
 
 returns : tie.Need-returns
 returns c =
-    let size = c .before .before .before .before .before .before .before .before .before .before .before .loop-size .ensures in
-    let third = c .before .before .before .before .before .before .before .before .before .before .third-of .ensures in
+    let parts = c .before .before .before .before .before .before .before .before .before .before in
+    let size = parts .before .loop-size .ensures in
+    let third = parts .third-of .ensures in
     let lay = c .before .before .before .before .lay-atoms .ensures in (
       (rw size, rw (lay .notes, size)),
       (

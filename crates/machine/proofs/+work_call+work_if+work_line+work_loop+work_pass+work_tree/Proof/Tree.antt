@@ -51,10 +51,13 @@ work-tree-line-at-requires t c κs =
     let at-if1 = c .before .before in
     let at-two-rows = at-if1 .before in
     let at-loop = at-two-rows .before .before .before .before in
-    let a = at-loop .before .before .args in
-    let rows = at-two-rows .two-rows in
-    rows-there (a .kinds .now .now) (a .operands .now .now) (at-loop .loop .p)
-    (sym (rows .ensures) ∙ not-false (rows .result) (at-if1 .if1 .left))
+    let start = at-loop .before .before in
+    let a = start .args in
+    let rows = at-two-rows .two-rows in (
+      rows-there (a .kinds .now .now) (a .operands .now .now) (at-loop .loop .p)
+          (sym (rows .ensures) ∙ not-false (rows .result) (at-if1 .if1 .left)),
+      start .pre .1 .2,
+    )
 
 pub work-tree-add-done : (t : ℕ) → work-tree-lts.Need-add-done (work-tree-claims t) (work-tree-at t)
     work-tree.Post
@@ -70,7 +73,7 @@ work-tree-add-done t c =
       arith,
       start .pre .1 .2,
       rows-there (a .kinds .now .now) (a .operands .now .now) (at-loop .loop .p)
-          (sym (rows .ensures) ∙ not-false (rows .result) (at-if1 .if1 .left)) .0,
+          (sym (rows .ensures) ∙ not-false (rows .result) (at-if1 .if1 .left)),
     )
 
 pub work-tree-work-line-requires : (t : ℕ) → work-tree-lts.Need-work-line-requires (work-tree-claims t)
@@ -88,7 +91,7 @@ work-tree-work-line-requires t c κs =
     let there = rows-there (a .kinds .now .now) (a .operands .now .now) (o .p)
     (sym (rows .ensures) ∙ not-false (rows .result) (at-if1 .if1 .left)) in (
       omega (arith, start .pre .0, o .inv .fewer, o .inv .under, at-loop-test .loop-test .taken),
-      (omega (arith, there .0), start .pre .1 .0, o .inv .sized .env-long ∙ start .pre .1 .1, start .pre .1 .2),
+      (omega (arith, there), start .pre .1 .0, o .inv .sized .env-long ∙ start .pre .1 .1, start .pre .1 .2),
     )
 
 pub work-tree-returns-2 : (t : ℕ) → work-tree-lts.Need-returns-2 (work-tree-claims t) (work-tree-at t) work-tree.Post
