@@ -49,6 +49,10 @@ module _ (l : List ℕ) (i : ℕ) where
       let q : r < 256 ^ n = rw o at m in
       (omega arith, omega arith)
 
+  pub two : (a b : ℕ) → a ≡ getD l i 0 → b ≡ getD l (i + 1) 0 → a + 256 * b ≡ bytes-at 2 l i
+  unfolding bytes-at
+  two a b e f = omega arith
+
   pub four : (a b c d : ℕ) → a ≡ getD l i 0 → b ≡ getD l (i + 1) 0 → c ≡ getD l (i + 2) 0 → d ≡ getD l (i + 3) 0 →
       a + 256 * b + 65536 * c + 16777216 * d ≡ bytes-at 4 l i
   unfolding bytes-at

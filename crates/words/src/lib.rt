@@ -1,7 +1,7 @@
 // Numbers: exact sums and differences, numbers in bytes, and the packed answer of a call.
 ghost use mathlib.Core.Path.{_≡_};
 ghost use Prim.Native.Nat.{_+_, _*_, _^_, _<_, _≤_, _%_};
-ghost use lib.ListN.{length};
+ghost use lib.ListN.{length, getD};
 ghost use Rattle.semantics.specs.Number.{exact, sum, difference, less, bytes-at, signed};
 ghost use Rattle.semantics.specs.Calls.{packed};
 ghost use Rattle.words.specs.Words.{exact-outcome, checked, Unpacked};
@@ -74,11 +74,23 @@ fn bytes_from(bytes: &[u8], i: usize, count: u64) -> u64
     wide(bytes[i]) + 256 * bytes_from(bytes, i + 1, count - 1)
 }
 
+// The byte at i; past the end it is 0.
+fn byte_at(bytes: &[u8], i: usize) -> u64
+    ensures { λ r. ⌜ (r ≡ getD (now (bytes .entry)) i 0) × (r < 256) ⌝ }
+{
+    if i < bytes.len() { wide(bytes[i]) } else { 0 }
+}
+
 // Two bytes at i, low byte first.
 pub fn short_at(bytes: &[u8], i: usize) -> usize
     ensures { λ r. ⌜ (r ≡ bytes-at 2 (now (bytes .entry)) i) × (r < 65536) ⌝ }
 {
-    bytes_from(bytes, i, 2) as usize
+    if bytes.len() <= i {
+        return 0;
+    }
+    let low = byte_at(bytes, i);
+    let high = byte_at(bytes, i + 1);
+    (low + 256 * high) as usize
 }
 
 // Four bytes at i, low byte first.
