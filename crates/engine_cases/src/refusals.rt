@@ -5,7 +5,11 @@ use libc::STDOUT_FILENO;
 fn print_file(name: &[u8]) {
     let mut buffer = io::large_buffer();
     let n = cases::read_text(name, &mut buffer);
-    printing::print_script(STDOUT_FILENO, &buffer[..n]);
+    let mut kinds = [0u8; 4096];
+    let mut operands = [0i64; 4096];
+    let file = &buffer[..n];
+    let answer = engine::engine_translate(file, &mut kinds, &mut operands);
+    printing::print_translated(STDOUT_FILENO, file, answer, &kinds, &operands);
 }
 
 // Prints what translating each file gives.

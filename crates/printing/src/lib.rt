@@ -1,4 +1,4 @@
-// Prints what translating a script file gives: its code, or its refusal.
+// Prints what translating a script file gave: its code, or its refusal.
 ghost use mathlib.Core.Path.{_≡_};
 ghost use lib.IntN.{natAbs};
 
@@ -40,17 +40,21 @@ fn function_count(file: &[u8]) -> u64 {
     words::short_at(file, 0) as u64
 }
 
-// Translates the file and prints the number of functions and of code lines, then the code; or `refused`, number and
-// node. The code arrays have 4,096 lines, the most that any code has.
-pub fn print_script(fd: i32, file: &[u8]) {
-    let mut kinds = [0u8; 4096];
-    let mut operands = [0i64; 4096];
-    let answer = words::unpack(engine::engine_translate(file, &mut kinds, &mut operands));
-    if answer.number == 0 {
-        print_pair(fd, function_count(file), answer.count as i64);
-        print_code(fd, &kinds, &operands, answer.count);
+// Prints what translating the file gave, by the answer and the two code arrays: the number of functions and of code
+// lines, then the code; or `refused`, number and node.
+pub fn print_translated(
+    fd: i32,
+    file: &[u8],
+    answer: u64,
+    kinds: &[u8; 4096],
+    operands: &[i64; 4096],
+) {
+    let parts = words::unpack(answer);
+    if parts.number == 0 {
+        print_pair(fd, function_count(file), parts.count as i64);
+        print_code(fd, kinds, operands, parts.count);
     } else {
         io::write_all(fd, b"refused ");
-        print_pair(fd, answer.number, answer.node as i64);
+        print_pair(fd, parts.number, parts.node as i64);
     }
 }
