@@ -171,7 +171,7 @@ void skipped_branch_script(struct script *script)
 }
 
 /* 24 empty arrays, and 25 ifs in the else parts of one another; the innermost else part uses all the arrays, so that
- * each then part begins with 24 releases. */
+ * each then part, which is long, begins with 24 releases. */
 void skipped_release_script(struct script *script)
 {
     enum { ARRAYS = 24, IFS = 25, FIRST = 3, LITERAL = ARRAYS / 2 };
@@ -185,7 +185,8 @@ void skipped_release_script(struct script *script)
     for (int i = 0; i < IFS; i++) {
         if_then_else(&w);
         number(&w, 0);
-        number(&w, i);
+        length_of(&w);
+        sixteen_by_literal(&w);
     }
     sum(&w);
     for (int i = 0; i < ARRAYS; i++) {
