@@ -28,3 +28,12 @@ pub fn clear_words(words: &mut [i64], from: usize)
         i = i + 1;
     }
 }
+
+// Both code arrays all zero, as every refusal leaves them.
+pub fn clear_code(kinds: &mut [u8], operands: &mut [i64])
+    ensures { λ _. ⌜ (now (kinds .exit) ≡ replicate (length (now (kinds .entry))) 0)
+        × (now (operands .exit) ≡ replicate (length (now (operands .entry))) (pos 0)) ⌝ }
+{
+    clear_bytes(kinds, 0);
+    clear_words(operands, 0);
+}

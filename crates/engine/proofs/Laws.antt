@@ -27,7 +27,7 @@ use Rattle.engine_delivery.specs.Delivered.{left-of, delivered-left}
 use Rattle.engine_load.specs.declared.Loaded.the-variants.{Ready, Refused}
 use Rattle.engine_load.specs.Loading.{told-load, kinds-after, operands-after, Loads}
 use Rattle.engine.specs.Promises.{Translates, Replies}
-use Rattle.engine.specs.Told.{Tells}
+use Rattle.engine_store.specs.Told.{Tells}
 
 -- ---- translate
 
@@ -179,18 +179,7 @@ module _ (kinds : List ℕ) (operands : List ℤ) where
 
 -- ---- the ways out of such a call
 
--- a number, and nothing else, as an answer
-pub packed-alone : (number : ℕ) → number ≡ packed number 0 0 0
-unfolding packed
-packed-alone number = omega arith
-
 -- parts that have room in an answer are packed as they are
-pub packed-number : (number lowest steps cells : ℕ) → number < 2 ^ 8 →
-    packed (number % 2 ^ 8) (lowest % 2 ^ 16) (steps % 2 ^ 24) (cells % 2 ^ 16)
-    ≡ packed number (lowest % 2 ^ 16) (steps % 2 ^ 24) (cells % 2 ^ 16)
-unfolding packed
-packed-number number lowest steps cells f = omega arith
-
 pub packed-counts : (number lowest steps cells : ℕ) → lowest ≤ 256 → steps ≤ 1000000 → cells ≤ 256 →
     packed number (lowest % 2 ^ 16) (steps % 2 ^ 24) (cells % 2 ^ 16) ≡ packed number lowest steps cells
 unfolding packed

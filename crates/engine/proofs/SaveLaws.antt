@@ -27,7 +27,7 @@ use Rattle.saved_write.specs.Writing.{saving, totals-saved}
 use Rattle.engine_load.specs.declared.Loaded.the-variants.{Ready, Refused}
 use Rattle.engine_load.specs.Loading.{told-load, kinds-after, operands-after, Loads}
 use Rattle.engine.specs.Promises.{Saves}
-use Rattle.engine.specs.Told.{Tells}
+use Rattle.engine_store.specs.Told.{Tells}
 use Rattle.engine.proofs.Laws.{reply-for, Serves, packed-counts}
 
 -- ---- restore

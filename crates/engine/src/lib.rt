@@ -1,30 +1,9 @@
 // The calls for C. Each takes the script file and the two code arrays, translates afresh, and answers one packed
 // number.
 use engine_load::Loaded;
-use engine_store::Ended;
 ghost use Rattle.semantics.specs.Calls.{engine-translate, engine-open, engine-check, engine-deliver};
 ghost use Rattle.semantics.specs.SaveCalls.{engine-save, engine-restore};
 ghost use Rattle.engine.specs.Promises.{Translates, Replies, Saves};
-ghost use Rattle.engine.specs.Told.{Tells};
-
-// The packed answer to how the store's part of a call ended; a refusal zeroes both code arrays.
-fn tell(ended: Ended, kinds: &mut [u8], operands: &mut [i64]) -> u64
-    ensures { λ r. ⌜ Tells ended (now (kinds .entry)) (now (operands .entry)) r
-        (now (kinds .exit)) (now (operands .exit)) ⌝ }
-{
-    match ended {
-        Ended::Answered(number, lowest, steps, cells) => words::pack(
-            number as u64,
-            lowest as u64,
-            steps,
-            cells as u64,
-        ),
-        Ended::Refused(number) => {
-            normal::refuse(kinds, operands);
-            number as u64
-        }
-    }
-}
 
 // Translates a script: its code in the two arrays, and its lines in the answer.
 #[no_mangle]
@@ -56,7 +35,7 @@ pub extern "C" fn engine_open(
     match engine_load::load(file, kinds, operands) {
         Loaded::Ready(_, depth) => {
             let ended = engine_store::open_words(slots, heads, depth);
-            tell(ended, kinds, operands)
+            engine_store::tell(ended, kinds, operands)
         }
         Loaded::Refused(answer) => answer,
     }
@@ -79,7 +58,7 @@ pub extern "C" fn engine_check(
     match engine_load::load(file, kinds, operands) {
         Loaded::Ready(_, depth) => {
             let ended = engine_store::check_words(slots, heads, depth);
-            tell(ended, kinds, operands)
+            engine_store::tell(ended, kinds, operands)
         }
         Loaded::Refused(answer) => answer,
     }
@@ -114,7 +93,7 @@ pub extern "C" fn engine_deliver(
                 depth,
                 budget,
             );
-            tell(ended, kinds, operands)
+            engine_store::tell(ended, kinds, operands)
         }
         Loaded::Refused(answer) => answer,
     }
@@ -138,7 +117,7 @@ pub extern "C" fn engine_save(
     match engine_load::load(file, kinds, operands) {
         Loaded::Ready(_, depth) => {
             let ended = engine_saved::save_words(slots, heads, saved, depth);
-            tell(ended, kinds, operands)
+            engine_store::tell(ended, kinds, operands)
         }
         Loaded::Refused(answer) => {
             clearing::clear_bytes(saved, 0);
@@ -165,7 +144,7 @@ pub extern "C" fn engine_restore(
     match engine_load::load(file, kinds, operands) {
         Loaded::Ready(_, depth) => {
             let ended = engine_saved::restore_words(slots, heads, saved, depth);
-            tell(ended, kinds, operands)
+            engine_store::tell(ended, kinds, operands)
         }
         Loaded::Refused(answer) => answer,
     }

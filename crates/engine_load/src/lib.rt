@@ -40,7 +40,7 @@ pub fn load_with(file: &[u8], kinds: &mut [u8], operands: &mut [i64], table: &mu
             }
         }
         Verdict::Refused(number, node) => {
-            normal::refuse(kinds, operands);
+            clearing::clear_code(kinds, operands);
             Loaded::Refused(words::pack(number as u64, node as u64, 0, 0))
         }
     }

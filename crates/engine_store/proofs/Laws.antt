@@ -1,5 +1,6 @@
 -- One law for each way out of the store's part of a call.
-use Prim.Native.Nat.{ℕ}
+use Prim.Native.Nat.{ℕ, _^_, _%_, _<_}
+use native.Mathlib.Omega.{arith}
 use mathlib.Core.Bool.{true, false}
 use mathlib.Core.Path.{_≡_, refl}
 use mathlib.Core.List.{List}
@@ -7,6 +8,7 @@ use lib.IntN.{ℤ}
 use Rattle.semantics.specs.Store.{Store, opened, cells-taken}
 use Rattle.semantics.specs.Words.{cells-in, store-of, shaped}
 use Rattle.semantics.specs.Sound.{sound, sound-words}
+use Rattle.semantics.specs.Calls.{packed}
 use Rattle.laws.specs.Tests.{both-hold}
 use Rattle.store_words.proofs.Puts.{LengthsKept}
 use Rattle.store_words.proofs.Spelling.{shaped-means, words-are}
@@ -46,3 +48,17 @@ unfolding checked-left sound-words
 checks d slots heads n e counted =
     let fit = both-hold (shaped slots heads) (sound d (store-of slots heads)) e .0 in
     rw e (words-left (record { slots-long = refl; heads-long = refl }) fit refl counted)
+
+-- ---- how it is told
+
+-- a number, and nothing else, as an answer
+pub packed-alone : (number : ℕ) → number ≡ packed number 0 0 0
+unfolding packed
+packed-alone number = omega arith
+
+-- parts that have room in an answer are packed as they are
+pub packed-number : (number lowest steps cells : ℕ) → number < 2 ^ 8 →
+    packed (number % 2 ^ 8) (lowest % 2 ^ 16) (steps % 2 ^ 24) (cells % 2 ^ 16)
+    ≡ packed number (lowest % 2 ^ 16) (steps % 2 ^ 24) (cells % 2 ^ 16)
+unfolding packed
+packed-number number lowest steps cells f = omega arith

@@ -41,15 +41,6 @@ fn move_operands(os: &mut [i64], at: usize, n: usize)
     }
 }
 
-// Makes both arrays all zero, as every refusal leaves them.
-pub fn refuse(ks: &mut [u8], os: &mut [i64])
-    ensures { λ _. ⌜ (now (ks .exit) ≡ replicate (length (now (ks .entry))) 0)
-        × (now (os .exit) ≡ replicate (length (now (os .entry))) (pos 0)) ⌝ }
-{
-    clearing::clear_bytes(ks, 0);
-    clearing::clear_words(os, 0);
-}
-
 // Brings the n lines that stand from `at` on to the front of both arrays, and clears what is behind them.
 fn settle(ks: &mut [u8], os: &mut [i64], at: usize, n: usize)
     requires { ⌜ (at + n ≤ length (now ks)) × (at + n ≤ length (now os)) ⌝ }
@@ -94,7 +85,7 @@ pub fn translate_accepted(
     let most = lesser(4096, both);
     let w = normal_script::script_code(kinds, operands, starts, functions, table, ks, os, most + 1);
     if w == 0 {
-        refuse(ks, os);
+        clearing::clear_code(ks, os);
         return Laid::TooLong;
     }
     let at = w - 1;

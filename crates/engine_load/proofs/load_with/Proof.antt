@@ -120,7 +120,7 @@ returns-3 c =
     let a = c .before .before .before .before .before .before .before .before .before .before .before .before
     .before .before .before .args in
     let told = c .before .before .before .before .before .before .before .known-told3 in let parts = at-number
-    .given .0 in let cleared = c .before .before .before .before .refuse in let refused = subst (Judges (a
+    .given .0 in let cleared = c .before .before .before .before .clear-code in let refused = subst (Judges (a
     .file .now)) (at-number .given .1) (at-judge .ensures .0) in let small = packed-small {number = parts .0}
     {node = parts .1 .0} {count = 0} {cells = 0} (omega (arith, told .given .0 .1)) (omega (
       arith,

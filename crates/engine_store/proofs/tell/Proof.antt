@@ -1,11 +1,11 @@
--- `engine::tell` meets its contract.
+-- `engine_store::tell` meets its contract.
 use native.Mathlib.Omega.{arith}
 use mathlib.Core.Path.{refl, sym, subst, _∙_}
-use Rattle.engine.proofs.Laws.{packed-alone, packed-number}
-use Rattle.engine.specs.Told.{Tells}
+use Rattle.engine_store.proofs.Laws.{packed-alone, packed-number}
+use Rattle.engine_store.specs.Told.{Tells}
 use borrow.Author.Needs.{needs}
-use Rattle.engine.proofs.tell.Statement.{statement}
-use Rattle.engine.proofs.tell.Tie as tie
+use Rattle.engine_store.proofs.tell.Statement.{statement}
+use Rattle.engine_store.proofs.tell.Tie as tie
 
 returns : tie.Need-returns
 returns c =
@@ -22,7 +22,7 @@ returns-2 : tie.Need-returns-2
 returns-2 c =
     let a = c .before .before .before .before .before .before .before .before .before .before .args in
     let number = c .before .before .before .before .before .before .before .ended2 .given .0 .0 in
-    let cleared = c .before .before .before .refuse in
+    let cleared = c .before .before .before .clear-code in
     subst (λ e. Tells e (a .kinds .now) (a .operands .now) number (cleared .last .0) (cleared .last .1 .0))
     (sym (c .before .before .before .before .before .before .before .ended2 .given .1))
     (packed-alone number, cleared .ensures)

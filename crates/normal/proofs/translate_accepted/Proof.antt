@@ -12,7 +12,7 @@ use Rattle.normal.proofs.translate_accepted.Tie as tie
 
 returns : tie.Need-returns
 returns c =
-    let at-refuse = c .before .before .before .refuse in
+    let at-clear = c .before .before .before .clear-code in
     let at-if1 = c .before .before .before .before .before .before .if1 in
     let at-script-code = c .before .before .before .before .before .before .before .before .before .before .before
     .before .script-code in
@@ -27,8 +27,8 @@ returns c =
     let e : at-lesser2 .result ≡ room (a .ks .now) (a .os .now) = at-lesser2 .ensures ∙ ap (min 4096)
     (at-lesser .ensures) in let coded = at-script-code .ensures in let wrote = rw (t .reads) at (coded .0) in
     rw (t .reads) (
-      refused-is (t .tree) (a .ks .now) (a .os .now) _ _ e wrote (at-if1 .taken) _ _ (at-refuse
-          .ensures .0 ∙ ap (λ n. replicate n 0) (wrote .long-kinds)) (at-refuse .ensures .1 ∙ ap (λ n. replicate n
+      refused-is (t .tree) (a .ks .now) (a .os .now) _ _ e wrote (at-if1 .taken) _ _ (at-clear
+          .ensures .0 ∙ ap (λ n. replicate n 0) (wrote .long-kinds)) (at-clear .ensures .1 ∙ ap (λ n. replicate n
           (pos 0)) (wrote .long-operands)),
       rw (t .reads) at (coded .1),
     )
