@@ -4,7 +4,7 @@
 use machine_code::Atom;
 use machine_code::Line;
 use machine_code::Loop;
-use machine_lines::Out;
+use machine_frames::Out;
 use machine_loops::Begun;
 use machine_loops::Next;
 use machine_loops::Passes;
@@ -13,7 +13,8 @@ ghost use Prim.Native.Nat.{_<_};
 ghost use lib.ListN.{length};
 ghost use Rattle.semantics.specs.Words.{store-of};
 ghost use Rattle.machine_code.specs.Reading.{Cut};
-ghost use Rattle.machine_lines.specs.Lines.{memory, kind-of, first-name, second-name, atoms-of};
+ghost use Rattle.machine_frames.specs.Work.{memory};
+ghost use Rattle.machine_lines.specs.Lines.{kind-of, first-name, second-name, atoms-of};
 ghost use Rattle.machine_loops.specs.Loops.{Usable};
 ghost use Rattle.machine_positions.specs.Machine.{code, Ended, if-line, call-line, loop-line, looped, passes-on};
 ghost use Rattle.machine_positions.specs.Machine.{line-on, tree-on, call-on};
@@ -43,12 +44,12 @@ pub fn work_tree(
     let mut left = lines;
     while 0 < left {
         if !machine_code::two_rows(*kinds, *operands, p) {
-            return machine_lines::halted(machine_lines::NO_LINE, s);
+            return machine_frames::halted(machine_frames::NO_LINE, s);
         }
         let l = machine_code::line_at(*kinds, *operands, p);
         if let Line::End(a) = l {
-            let w = machine_lines::word_of(env, calls, a);
-            return machine_lines::done(w, p + 2, s);
+            let w = machine_frames::word_of(env, calls, a);
+            return machine_frames::done(w, p + 2, s);
         }
         let r = work_line(
             kinds,
@@ -77,7 +78,7 @@ pub fn work_tree(
         s = r.steps;
         left = left - 1;
     }
-    machine_lines::halted(machine_lines::NO_LINE, s)
+    machine_frames::halted(machine_frames::NO_LINE, s)
 }
 
 // Works a line that stands at a position.
@@ -188,13 +189,13 @@ fn work_if(
         steps r (now (slots .exit)) (now (heads .exit)) (now (env .exit)) ⌝ }
 {
     if steps == 0 {
-        return machine_lines::halted(machine_lines::OUT_OF_STEPS, steps);
+        return machine_frames::halted(machine_frames::OUT_OF_STEPS, steps);
     }
-    let guard = machine_lines::word_of(env, calls, g);
-    if !machine_lines::guards::is_answer(guard) {
-        return machine_lines::halted(machine_lines::BAD_GUARD, steps - 1);
+    let guard = machine_frames::word_of(env, calls, g);
+    if !machine_frames::guards::is_answer(guard) {
+        return machine_frames::halted(machine_frames::BAD_GUARD, steps - 1);
     }
-    let start = machine_lines::guards::branch_start(table, guard, at + 2);
+    let start = machine_frames::guards::branch_start(table, guard, at + 2);
     let r = work_tree(
         kinds,
         operands,
@@ -212,9 +213,9 @@ fn work_if(
         return r;
     }
     let w = r.value;
-    let next = machine_lines::guards::branch_end(table, guard, r.next);
-    machine_lines::bind(env, calls, x, w);
-    machine_lines::done(w, next, r.steps)
+    let next = machine_frames::guards::branch_end(table, guard, r.next);
+    machine_frames::bind(env, calls, x, w);
+    machine_frames::done(w, next, r.steps)
 }
 
 // Works the tree of a function that is called.
@@ -240,14 +241,14 @@ fn work_call(
         steps r (now (slots .exit)) (now (heads .exit)) (now (env .exit)) ⌝ }
 {
     if steps == 0 {
-        return machine_lines::halted(machine_lines::OUT_OF_STEPS, steps);
+        return machine_frames::halted(machine_frames::OUT_OF_STEPS, steps);
     }
     if calls == 0 {
-        return machine_lines::halted(machine_lines::CALL_TOO_DEEP, steps - 1);
+        return machine_frames::halted(machine_frames::CALL_TOO_DEEP, steps - 1);
     }
     let below = calls - 1;
-    let n = machine_lines::pass_arguments(*kinds, *operands, env, calls, below, at + 1);
-    machine_lines::set_function(env, below, g);
+    let n = machine_frames::pass_arguments(*kinds, *operands, env, calls, below, at + 1);
+    machine_frames::set_function(env, below, g);
     let start = machine_code::start_in(table, g);
     let r = work_tree(
         kinds,
@@ -266,8 +267,8 @@ fn work_call(
         return r;
     }
     let w = r.value;
-    machine_lines::bind(env, calls, x, w);
-    machine_lines::done(w, at + 1 + n, r.steps)
+    machine_frames::bind(env, calls, x, w);
+    machine_frames::done(w, at + 1 + n, r.steps)
 }
 
 // Works a loop: what it begins with, its passes, and what it ends with.
@@ -297,7 +298,7 @@ fn work_loop(
         steps r (now (slots .exit)) (now (heads .exit)) (now (env .exit)) ⌝ }
 {
     if steps == 0 {
-        return machine_lines::halted(machine_lines::OUT_OF_STEPS, steps);
+        return machine_frames::halted(machine_frames::OUT_OF_STEPS, steps);
     }
     match machine_loops::begin_loop(table, slots, heads, env, calls, x, l) {
         Begun::Ready(passes) => {
@@ -318,7 +319,7 @@ fn work_loop(
             let next = machine_code::end_in(table, start);
             machine_loops::end_loop(slots, heads, env, calls, x, passes, r, next)
         }
-        Begun::NoneFree => machine_lines::halted(machine_lines::OUT_OF_CELLS, steps - 1),
+        Begun::NoneFree => machine_frames::halted(machine_frames::OUT_OF_CELLS, steps - 1),
     }
 }
 
@@ -352,7 +353,7 @@ fn work_pass(
     let mut i: usize = 0;
     while i < count {
         if s == 0 {
-            return machine_lines::halted(machine_lines::OUT_OF_STEPS, s);
+            return machine_frames::halted(machine_frames::OUT_OF_STEPS, s);
         }
         machine_loops::begin_pass(slots, heads, env, calls, l, v, i);
         let r = work_tree(
@@ -373,12 +374,12 @@ fn work_pass(
         }
         let next = machine_loops::end_pass(slots, heads, env, calls, l, v, i, r.value);
         let Next::Word(u) = next else {
-            return machine_lines::halted(machine_lines::BAD_GUARD, r.steps);
+            return machine_frames::halted(machine_frames::BAD_GUARD, r.steps);
         };
         v = u;
         let rest = r.steps;
         s = rest;
         i = i + 1;
     }
-    machine_lines::done(v, 0, s)
+    machine_frames::done(v, 0, s)
 }

@@ -15,9 +15,9 @@ use Rattle.store.specs.Acquiring.{acquired-outcome, next-cell}
 use Rattle.store.specs.declared.Acquired.{Acquired}
 use Rattle.store.specs.declared.Acquired.the-variants.{Cell, NoneFree}
 use Rattle.machine_code.specs.Reading.{start-in}
-use Rattle.machine_lines.specs.declared.Out.{Out}
-use Rattle.machine_lines.specs.Frames.{place, function-place, put-all, lowest-of, levelled}
-use Rattle.machine_lines.specs.Lines.{memory, ran}
+use Rattle.machine_frames.specs.declared.Out.{Out}
+use Rattle.machine_frames.specs.Frames.{place, function-place, put-all, lowest-of, levelled}
+use Rattle.machine_frames.specs.Work.{memory, ran}
 use Rattle.machine_positions.specs.Machine.{Code, tree-on, call-on, Ended}
 use Rattle.machine_positions.specs.Delivery.{Tried, tried, retained-totals, released-totals, finished}
 use Rattle.machine_positions.specs.Delivery.{main-on, attempt-with, attempt-on, settled, delivered-on}

@@ -67,10 +67,10 @@ fn work_main(
 {
     retain_totals(slots, heads, depth, old);
     let mut env = [0i64; 8226];
-    machine_lines::set_level(&mut env, free);
-    machine_lines::bind(&mut env, 31, 0, old);
-    machine_lines::bind(&mut env, 31, 1, readings);
-    machine_lines::set_function(&mut env, 31, 0);
+    machine_frames::set_level(&mut env, free);
+    machine_frames::bind(&mut env, 31, 0, old);
+    machine_frames::bind(&mut env, 31, 1, readings);
+    machine_frames::set_function(&mut env, 31, 0);
     let start = machine_code::start_in(table, 0);
     let r = machine::work_tree(
         &kinds,
@@ -85,7 +85,7 @@ fn work_main(
         start,
     );
     let stop = r.stop;
-    let lowest = machine_lines::lowest(&env);
+    let lowest = machine_frames::lowest(&env);
     if stop == 0 {
         let w = r.value;
         store_words::set_totals(slots, w);
@@ -119,7 +119,7 @@ fn attempt(
     let free = store_words::cells_free(slots, heads);
     match store::acquire(slots, heads, 0, readings, free) {
         Acquired::Cell(c, left) => {
-            let w = machine_lines::word_from(c);
+            let w = machine_frames::word_from(c);
             work_main(
                 kinds,
                 operands,
@@ -134,7 +134,7 @@ fn attempt(
             )
         }
         Acquired::NoneFree => Attempted {
-            stop: machine_lines::OUT_OF_CELLS,
+            stop: machine_frames::OUT_OF_CELLS,
             lowest: free,
             steps: budget,
         },

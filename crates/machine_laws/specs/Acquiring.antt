@@ -11,8 +11,9 @@ use Rattle.semantics.specs.Live.{Set}
 use Rattle.semantics.specs.Machine as M
 use Rattle.semantics.specs.Machine.{State, acquire, acquire-if}
 use Rattle.store.specs.Acquiring.{Gained, gained, next-cell}
-use Rattle.machine_lines.specs.Frames.{level-of, noted-by}
-use Rattle.machine_lines.specs.Lines.{memory, acquired-given, cell-from, acquired-memory}
+use Rattle.machine_frames.specs.Frames.{level-of}
+use Rattle.machine_frames.specs.Work.{memory}
+use Rattle.machine_lines.specs.Lines.{noted-by, acquired-given, cell-from, acquired-memory}
 use Rattle.machine_laws.specs.Frames.{Bounded, Framed}
 use Rattle.machine_laws.specs.Levels.{LevelsAgree, levels-acquired, kept-noted}
 use Rattle.machine_laws.specs.Same.{Gives}

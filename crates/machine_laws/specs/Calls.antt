@@ -16,8 +16,8 @@ use Rattle.semantics.specs.Live.{Set, empty}
 use Rattle.semantics.specs.Machine.{Event, State, Program, routine-of, frame-from, machine}
 use Rattle.working.specs.machine.Discipline.{Fitting, Scoped, parameter-names}
 use Rattle.machine_code.specs.Reading.{low-bits, depth-in, start-in}
-use Rattle.machine_lines.specs.Frames.{place, function-place, put-all, called, level-place}
-use Rattle.machine_lines.specs.Lines.{memory}
+use Rattle.machine_frames.specs.Frames.{place, function-place, put-all, called, level-place}
+use Rattle.machine_frames.specs.Work.{memory}
 use Rattle.machine_positions.specs.Machine.{Code, call-on, tree-on}
 use Rattle.machine_positions.specs.Lengths.{put-keeps, called-keeps}
 use Rattle.machine_laws.specs.Rows.{At, Jumps}

@@ -18,8 +18,8 @@ use Rattle.semantics.specs.Machine.{lowest-over}
 use Rattle.laws.specs.Levels.{LevelsUpTo, release-lowest}
 use Rattle.store.specs.Acquiring.{gained, next-cell}
 use Rattle.machine_code.specs.Reading.{start-in}
-use Rattle.machine_lines.specs.Frames.{levelled, level-place, lowest-place}
-use Rattle.machine_lines.specs.Lines.{memory, Ran}
+use Rattle.machine_frames.specs.Frames.{levelled, level-place, lowest-place}
+use Rattle.machine_frames.specs.Work.{memory, Ran}
 use Rattle.machine_positions.specs.Machine.{Code, tree-on, call-on}
 use Rattle.machine_positions.specs.Delivery.{finished, main-frame, main-on}
 use Rattle.machine_positions.specs.Delivery.{attempt-with, attempt-on, settled, delivered-on}

@@ -20,8 +20,8 @@ use Rattle.laws.specs.Tests.{or-cases, or-left}
 use Rattle.working.specs.machine.Discipline.{Known, AllNew, known-after, LineScoped}
 use Rattle.machine_code.specs.Reading.{low-bits}
 use Rattle.machine_code.proofs.Reading.{no-bool}
-use Rattle.machine_lines.specs.Frames.{place, function-place, function-of, word-of}
-use Rattle.machine_lines.specs.Lines.{bound}
+use Rattle.machine_frames.specs.Frames.{place, function-place, function-of, word-of}
+use Rattle.machine_frames.specs.Work.{bound}
 use Rattle.machine_laws.specs.Rows.{coded, SmallAtom}
 
 -- every known name fits a byte

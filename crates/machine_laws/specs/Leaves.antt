@@ -32,12 +32,12 @@ use Rattle.store.specs.Acquiring.{Gained, gained, next-cell}
 use Rattle.machine_code.specs.Reading.{atom-at, is-atom, line-of, line-at, depth-in}
 use Rattle.machine_code.specs.declared.Atom.{Atom}
 use Rattle.machine_code.specs.declared.Line.the-variants as L
-use Rattle.machine_lines.specs.Frames.{word-of, words-at, element-depth, level-of, noted}
-use Rattle.machine_lines.specs.Lines.{Memory, memory, Ran, ran, out, with-store, Given, given, operation-of}
-use Rattle.machine_lines.specs.Lines.{operation-given, array-of, index-given, length-given, acquired-given, Doing}
-use Rattle.machine_lines.specs.Lines.{elements-by, retained-times, made-store, made-memory, array-memory, array-given}
-use Rattle.machine_lines.specs.Lines.{acquired-memory, cell-from, giving}
-use Rattle.machine_lines.specs.Lines.{calling, doing, giving-line, leaf-done}
+use Rattle.machine_frames.specs.Frames.{word-of, words-at, element-depth, level-of, noted}
+use Rattle.machine_frames.specs.Work.{Memory, memory, Ran, ran, out, with-store}
+use Rattle.machine_lines.specs.Lines.{Given, given, operation-of, operation-given, array-of, index-given, length-given}
+use Rattle.machine_lines.specs.Lines.{acquired-given, Doing, elements-by, retained-times, made-store, made-memory}
+use Rattle.machine_lines.specs.Lines.{array-memory, array-given, acquired-memory, cell-from, giving, calling, doing}
+use Rattle.machine_lines.specs.Lines.{giving-line, leaf-done}
 use Rattle.machine_lines.proofs.Counts.{counted-bad}
 use Rattle.machine_positions.specs.Machine.{Code, Work, Callee, binding, call-worked, call-line, line-done}
 use Rattle.machine_laws.specs.Rows.{Here, At, line-read}

@@ -15,7 +15,7 @@ use Rattle.semantics.specs.Machine.{Event, acquires, touching, release-events, 
 use Rattle.laws.specs.Levels.{LevelsUpTo, level-append, lowest-append, up-to-first, up-to-last}
 use Rattle.laws.specs.Levels.{touching-level, touching-lowest, release-level, release-lowest}
 use Rattle.machine_code.specs.Reading.{low-bits}
-use Rattle.machine_lines.specs.Frames.{level-place, lowest-place, level-of, lowest-of, levelled, noted, raised}
+use Rattle.machine_frames.specs.Frames.{level-place, lowest-place, level-of, lowest-of, levelled, noted, raised}
 use Rattle.machine_laws.specs.Frames.{Bounded, FrameKept, kept-then}
 
 -- the least level is at most the last

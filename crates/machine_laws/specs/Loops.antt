@@ -23,9 +23,9 @@ use Rattle.working.specs.machine.Discipline.{AllKnown, New, AllNew, LoopFits, F
 use Rattle.machine_code.specs.Reading.{atom-at, line-of, line-at, depth-in, end-in}
 use Rattle.machine_code.specs.declared.Atom.{Atom}
 use Rattle.machine_code.specs.declared.Line.{Line}
-use Rattle.machine_lines.specs.Frames.{place, word-of, element-depth, level-place}
-use Rattle.machine_lines.specs.Lines.{Memory, memory, Ran, out, bound, array-of, Doing, looping}
-use Rattle.machine_lines.specs.Lines.{doing}
+use Rattle.machine_frames.specs.Frames.{place, word-of, element-depth, level-place}
+use Rattle.machine_frames.specs.Work.{Memory, memory, Ran, out, bound}
+use Rattle.machine_lines.specs.Lines.{array-of, Doing, looping, doing}
 use Rattle.machine_loops.specs.declared.Way.{Way}
 use Rattle.machine_loops.specs.Loops.{way-of, carry-first}
 use Rattle.machine_positions.specs.Machine.{Code, Callee, and-then, binding-passed, Looped, looped, carry-by, carry-on}

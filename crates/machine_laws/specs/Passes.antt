@@ -23,9 +23,9 @@ use Rattle.semantics.specs.Machine.{argument, carried-first, pass-words, taken-
 use Rattle.semantics.specs.Machine.{if-array, retain-word}
 use Rattle.laws.specs.Tests.{or-right}
 use Rattle.working.specs.machine.Discipline.{New, AllNew}
-use Rattle.machine_lines.specs.Frames.{place, raised}
-use Rattle.machine_lines.specs.Lines.{memory, Ran, ran, out, halted, bound, acquired-given, cell-from}
-use Rattle.machine_lines.specs.Lines.{acquired-memory, released-memory}
+use Rattle.machine_frames.specs.Frames.{place, raised}
+use Rattle.machine_frames.specs.Work.{memory, Ran, ran, out, halted, bound}
+use Rattle.machine_lines.specs.Lines.{acquired-given, cell-from, acquired-memory, released-memory}
 use Rattle.machine_loops.specs.declared.Way.{Way}
 use Rattle.machine_loops.specs.declared.Way.the-variants.{Fill, Overwrite}
 use Rattle.machine_loops.specs.Loops.{way-of, new-carried, is-alone, carry-first, retained-if}

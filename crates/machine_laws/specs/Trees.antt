@@ -21,8 +21,9 @@ use Rattle.semantics.specs.Machine.{State, Frame, Program, word, with-left, wor
 use Rattle.working.specs.machine.Discipline.{Known, New, known-after, LineFitting, Fitting, LineScoped, Scoped}
 use Rattle.machine_code.specs.Reading.{is-atom, atom-at, line-of, line-at, depth-in, end-in}
 use Rattle.machine_code.specs.declared.Atom.{Atom}
-use Rattle.machine_lines.specs.Frames.{word-of}
-use Rattle.machine_lines.specs.Lines.{Memory, memory, Ran, halted, Doing, branching, doing}
+use Rattle.machine_frames.specs.Frames.{word-of}
+use Rattle.machine_frames.specs.Work.{Memory, memory, Ran, halted}
+use Rattle.machine_lines.specs.Lines.{Doing, branching, doing}
 use Rattle.machine_positions.specs.Machine.{Code, Work, Callee, and-then, binding, branch-worked, if-worked, if-line}
 use Rattle.machine_positions.specs.Machine.{line-done, line-on}
 use Rattle.machine_positions.specs.Machine.{is-end, tree-from, tree-on}

@@ -1,4 +1,4 @@
--- Laws of the arrays of a count of elements, and of a result that is bound to a name.
+-- Laws of the arrays of a count of elements.
 use mathlib.Core.Path.{_≡_, refl, sym, ap, ap₂, _∙_}
 use mathlib.Core.Bool.{Bool, true, false, cond}
 use mathlib.Core.List.{List}
@@ -9,8 +9,8 @@ use lib.Dec.{T}
 use lib.Signed.{nonNeg}
 use mir.Syntax.{w64}
 use mir.Val.{Fits}
-use lib.ListN.{getD, set, length, length-replicate, getD-replicate}
-use borrow.Author.Tests.{eq-eqb, ne-eqb, ltb-true}
+use lib.ListN.{getD, length, length-replicate, getD-replicate}
+use borrow.Author.Tests.{ltb-true}
 use Rattle.semantics.specs.Outcome.{Outcome, done, stop}
 use Rattle.semantics.specs.Machine.{is-count}
 use Rattle.semantics.specs.Store.{Store, cell-of, has-free, acquired, retained}
@@ -19,22 +19,13 @@ use Rattle.store.specs.Acquiring.{Gained, gained, acquired-outcome, next-cell}
 use Rattle.store.specs.declared.Acquired.{Acquired}
 use Rattle.store.specs.declared.Acquired.the-variants.{Cell, NoneFree}
 use Rattle.machine_code.proofs.Reading.{no-bool, less-one}
-use Rattle.machine_lines.specs.declared.Out.{Out}
-use Rattle.machine_lines.specs.Frames.{place, level-of, noted}
-use Rattle.machine_lines.specs.Lines.{Memory, memory, Ran, ran, left, out, with-store, stepping, cell-from}
+use Rattle.machine_frames.specs.declared.Out.{Out}
+use Rattle.machine_frames.specs.Frames.{level-of, noted}
+use Rattle.machine_frames.specs.Work.{Memory, memory, Ran, ran, left, out, with-store, stepping, bound-result}
+use Rattle.machine_frames.proofs.Results.{bound-stop}
 use Rattle.machine_lines.specs.Lines.{Given, given, gave, acquired-given, elements-by, retained-times}
 use Rattle.machine_lines.specs.Lines.{retained-copies, made-memory, array-memory, counted-given, array-given}
-use Rattle.machine_lines.specs.Lines.{array-made, bound-result, giving-line, array-line}
-
--- ---- a result that is bound
-
-module _ (calls x next : ℕ) (r : Out) (env : List ℤ) where
-  pub bound-stop : (r .stop ≡ 0 → ⊥) → left r env ≡ bound-result calls x next r env
-  bound-stop h = rw (ne-eqb (r .stop) 0 h)
-
-  pub bound-goes : r .stop ≡ 0 → (env′ : List ℤ) → env′ ≡ set env (place calls x) (r .value) → (q : Out) →
-      q ≡ out 0 (r .value) next (r .steps) → left q env′ ≡ bound-result calls x next r env
-  bound-goes h env′ e q g = rw (eq-eqb (r .stop) 0 h) (ap₂ left g e)
+use Rattle.machine_lines.specs.Lines.{cell-from, array-made, giving-line, array-line}
 
 -- ---- the elements
 

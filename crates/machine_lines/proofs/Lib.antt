@@ -1,4 +1,4 @@
+pub mod Appending
 pub mod Counts
-pub mod Gathering
 pub mod Levels
 pub mod Lines

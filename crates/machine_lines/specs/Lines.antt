@@ -2,82 +2,27 @@
 use mathlib.Core.Path.{_≡_}
 use mathlib.Core.Bool.{Bool, true, false, cond}
 use mathlib.Core.List.{List, [], _∷_}
-use Prim.Native.Nat.{ℕ, zero, suc, _+_, _-_}
+use Prim.Native.Nat.{ℕ, zero, suc, _+_, _-_, _≤_}
 use lib.IntN.{ℤ, pos, natAbs}
 use lib.Dec.{eqb}
-use lib.ListN.{getD, set, length, replicate}
+use lib.ListN.{getD, length, replicate}
 use Rattle.semantics.specs.Basics.{tabulate}
 use Rattle.semantics.specs.Outcome.{Outcome, done, stop}
 use Rattle.semantics.specs.Kinds.{Loop, mapping, filtering, reducing, rewriting}
 use Rattle.semantics.specs.Number.{Operation, sum, difference, less, exact, inside}
 use Rattle.semantics.specs.Store.{Store, cell, cell-of, elements, acquired, retained, released, deepest, cells-taken}
 use Rattle.semantics.specs.Machine.{is-count}
-use Rattle.semantics.specs.Words.{store-of}
 use Rattle.words.specs.Words.{checked}
-use Rattle.store.specs.Acquiring.{Gained, next-cell}
+use Rattle.store.specs.Acquiring.{Gained, next-cell, appended-all}
 use Rattle.machine_code.specs.declared.Atom.{Atom}
 use Rattle.machine_code.specs.declared.Atom.the-variants.{Name}
 use Rattle.machine_code.specs.declared.Loop as P
 use Rattle.machine_code.specs.declared.Loop.the-variants.{Map, Filter, Reduce, Rewrite}
 use Rattle.machine_code.specs.declared.Line.{Line}
 use Rattle.machine_code.specs.declared.Line.the-variants as L
-use Rattle.machine_lines.specs.declared.Out.{Out}
-use Rattle.machine_lines.specs.Frames.{place, word-of, words-at, element-depth, level-of, noted-by, raised}
-
--- what the machine changes: the store, and the words of the frames
-pub record Memory : Type 0 where
-  pub store : Store
-  pub env : List ℤ
-
-abbrev pub memory : Store → List ℤ → Memory
-memory σ env = record { store = σ; env = env }
-
--- how a piece of work ends, and the memory that it leaves
-pub record Ran : Type 0 where
-  pub out : Out
-  pub memory : Memory
-
--- the same for work that leaves the store alone
-pub record FrameLeft : Type 0 where
-  pub out : Out
-  pub env : List ℤ
-
-abbrev pub out : ℕ → ℤ → ℕ → ℕ → Out
-out number value next steps = record { stop = number; value = value; next = next; steps = steps }
-
-abbrev pub left : Out → List ℤ → FrameLeft
-left r env = record { out = r; env = env }
-
-abbrev pub ran : Out → Memory → Ran
-ran r m = record { out = r; memory = m }
-
-abbrev pub with-store : Store → FrameLeft → Ran
-with-store σ l = ran (l .out) (memory σ (l .env))
-
--- the stop of work that comes to no line that it can do: the code of an accepted script never does
-abbrev pub no-line : ℕ
-no-line = 99
-
--- a stop with some steps left
-abbrev pub halted : ℕ → ℕ → Memory → Ran
-halted n s m = ran (out n (pos 0) 0 s) m
-
--- a name bound in the frame of a call
-abbrev pub bound : ℕ → ℕ → ℤ → List ℤ → List ℤ
-bound calls x w env = set env (place calls x) w
-
--- a word bound to a name, with the code going on at a position
-abbrev pub goes-on : ℕ → ℕ → ℤ → ℕ → ℕ → Memory → Ran
-goes-on calls x w next s m = ran (out 0 w next s) (memory (m .store) (bound calls x w (m .env)))
-
--- a step taken, if one is left
-unfoldable pub stepping : {A : Type 0} → ℕ → A → (ℕ → A) → A
-stepping zero spent f = spent
-stepping (suc s) spent f = f s
-
--- a function worked what it says, with every word that it may change
-abbrev pub Ends : Ran → Out → List ℤ → List ℕ → List ℤ → Type 0
-Ends w r slots heads env = ran r (memory (store-of slots heads) env) ≡ w
+use Rattle.machine_frames.specs.Frames.{word-of, words-at, element-depth, level-of, noted, raised}
+use Rattle.machine_frames.specs.Work.{Memory, memory, Ran, ran, FrameLeft, left, out, with-store, no-line, halted}
+use Rattle.machine_frames.specs.Work.{bound, stepping}
 
 -- ---- small works: each gives a word, or a stop
 
@@ -117,6 +62,11 @@ acquired-given (stop n u) = stop n tt
 -- what an acquire answers, by the number of free cells among the frames
 abbrev pub cell-from : Memory → Outcome (Unit {0}) Gained
 cell-from m = next-cell (level-of (m .env)) (m .store)
+
+-- the level noted by what an acquire answers
+abbrev pub noted-by : Outcome (Unit {0}) Gained → List ℤ → List ℤ
+noted-by (done g u) env = noted (g .left) env
+noted-by (stop n u) env = env
 
 -- what a small work gave, not bound to a name
 abbrev pub gave : ℕ → Memory → Given → Ran
@@ -178,11 +128,6 @@ unfoldable pub array-made : Bool → ℤ → ℕ → ℤ → ℕ → Memory → 
 array-made counting w d n steps m = stepping steps (halted 21 0 m)
     (λ s. gave s (array-memory counting w d n m) (array-given n m))
 
--- the word of work that was not stopped, bound to a name
-abbrev pub bound-result : ℕ → ℕ → ℕ → Out → List ℤ → FrameLeft
-bound-result calls x next r env =
-    cond (eqb (r .stop) 0) (left (out 0 (r .value) next (r .steps)) (bound calls x (r .value) env)) (left r env)
-
 -- how a line is worked: `giving` binds the word of a small work that leaves a memory to a name, and the code goes on at
 -- a position; `changing` leaves a memory; the others end a tree or work one. A loop has the name of its running value,
 -- its element's and its atoms; where it has no running value both names are the element's.
@@ -203,6 +148,12 @@ abbrev pub released-memory : ℕ → Memory → Memory
 released-memory c m =
     let σ = released deepest c (m .store) in
     memory σ (raised (cells-taken (m .store) - cells-taken σ) (m .env))
+
+-- the words ws were appended to a cell
+pub record Appended (ws : List ℤ) (c n : ℕ) (σ σ′ : Store) : Type 0 where
+  pub store : σ′ ≡ appended-all c ws σ
+  pub count : n ≡ length ws
+  pub few : n ≤ 16
 
 abbrev pub literal-doing : ℕ → ℕ → ℕ → Memory → List ℤ → Doing
 literal-doing x depth at m ws =

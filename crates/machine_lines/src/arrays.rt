@@ -1,10 +1,10 @@
 // The lines that make an array: a literal's elements are its atoms, an iota's count from 0, a replicate's are copies of
 // a word.
-use crate::BAD_COUNT;
-use crate::OUT_OF_CELLS;
-use crate::OUT_OF_STEPS;
-use crate::Out;
 use machine_code::Atom;
+use machine_frames::BAD_COUNT;
+use machine_frames::OUT_OF_CELLS;
+use machine_frames::OUT_OF_STEPS;
+use machine_frames::Out;
 use store::Acquired;
 ghost use mathlib.Core.Path.{_≡_};
 ghost use mathlib.Core.Bool.{true, false};
@@ -15,9 +15,10 @@ ghost use Rattle.semantics.specs.Machine.{is-count};
 ghost use Rattle.semantics.specs.Words.{store-of};
 ghost use Rattle.store.specs.Acquiring.{appended-all};
 ghost use Rattle.machine_code.specs.Reading.{Cut};
-ghost use Rattle.machine_lines.specs.Frames.{word-of, words-at, Appended, element-depth};
-ghost use Rattle.machine_lines.specs.Lines.{memory, elements-by, retained-times, retained-copies};
-ghost use Rattle.machine_lines.specs.Lines.{literal-line, array-made, array-line, Ends};
+ghost use Rattle.machine_frames.specs.Frames.{word-of, words-at, element-depth};
+ghost use Rattle.machine_frames.specs.Work.{memory, Ends};
+ghost use Rattle.machine_lines.specs.Lines.{Appended, elements-by, retained-times, retained-copies};
+ghost use Rattle.machine_lines.specs.Lines.{literal-line, array-made, array-line};
 
 // Appends the words of the atoms that stand from a position on, at most 16, to a cell; how many they are.
 fn append_atoms(
@@ -41,7 +42,7 @@ fn append_atoms(
             return n;
         }
         let a = machine_code::atom_at(kinds, operands, at + n);
-        let w = crate::word_of(env, calls, a);
+        let w = machine_frames::word_of(env, calls, a);
         store::append(slots, heads, c, w);
         n = n + 1;
     }
@@ -68,17 +69,17 @@ pub fn work_literal(
         r (now (slots .exit)) (now (heads .exit)) (now (env .exit)) ⌝ }
 {
     if steps == 0 {
-        return crate::halted(OUT_OF_STEPS, steps);
+        return machine_frames::halted(OUT_OF_STEPS, steps);
     }
-    match store::acquire_empty(slots, heads, depth as u32, crate::level(env)) {
+    match store::acquire_empty(slots, heads, depth as u32, machine_frames::level(env)) {
         Acquired::Cell(c, left) => {
             let n = append_atoms(kinds, operands, slots, heads, env, calls, c, at + 1);
-            crate::note_level(env, left);
-            let w = crate::word_from(c);
-            crate::bind(env, calls, x, w);
-            crate::done(w, at + 1 + n, steps - 1)
+            machine_frames::note_level(env, left);
+            let w = machine_frames::word_from(c);
+            machine_frames::bind(env, calls, x, w);
+            machine_frames::done(w, at + 1 + n, steps - 1)
         }
-        Acquired::NoneFree => crate::halted(OUT_OF_CELLS, steps - 1),
+        Acquired::NoneFree => machine_frames::halted(OUT_OF_CELLS, steps - 1),
     }
 }
 
@@ -94,7 +95,11 @@ fn element(counting: bool, w: i64, n: usize, i: usize) -> i64
     requires { ⌜ (i < n) × (n < 17) ⌝ }
     ensures { λ r. ⌜ r ≡ getD (elements-by counting w n) i (pos 0) ⌝ }
 {
-    if counting { crate::word_from(i) } else { w }
+    if counting {
+        machine_frames::word_from(i)
+    } else {
+        w
+    }
 }
 
 // Appends so many elements to a cell.
@@ -150,20 +155,20 @@ fn make_array(
         r (now (slots .exit)) (now (heads .exit)) (now (env .exit)) ⌝ }
 {
     if steps == 0 {
-        return crate::halted(OUT_OF_STEPS, steps);
+        return machine_frames::halted(OUT_OF_STEPS, steps);
     }
     if !is_count(count) {
-        return crate::halted(BAD_COUNT, steps - 1);
+        return machine_frames::halted(BAD_COUNT, steps - 1);
     }
     let n = count as usize;
-    match store::acquire_empty(slots, heads, depth, crate::level(env)) {
+    match store::acquire_empty(slots, heads, depth, machine_frames::level(env)) {
         Acquired::Cell(c, left) => {
-            crate::note_level(env, left);
+            machine_frames::note_level(env, left);
             append_elements(slots, heads, c, counting, w, n);
             retain_copies(slots, heads, depth, w, n);
-            crate::done(crate::word_from(c), 0, steps - 1)
+            machine_frames::done(machine_frames::word_from(c), 0, steps - 1)
         }
-        Acquired::NoneFree => crate::halted(OUT_OF_CELLS, steps - 1),
+        Acquired::NoneFree => machine_frames::halted(OUT_OF_CELLS, steps - 1),
     }
 }
 
@@ -183,9 +188,9 @@ pub fn work_iota(
         (memory (store-of (now (slots .entry)) (now (heads .entry))) (now (env .entry))))
         r (now (slots .exit)) (now (heads .exit)) (now (env .exit)) ⌝ }
 {
-    let n = crate::word_of(env, calls, a);
+    let n = machine_frames::word_of(env, calls, a);
     let made = make_array(slots, heads, env, true, 0, 0, n, steps);
-    crate::bind_result(env, calls, x, made, next)
+    machine_frames::bind_result(env, calls, x, made, next)
 }
 
 // An array of copies of a word.
@@ -207,9 +212,9 @@ pub fn work_replicate(
         (memory (store-of (now (slots .entry)) (now (heads .entry))) (now (env .entry))))
         r (now (slots .exit)) (now (heads .exit)) (now (env .exit)) ⌝ }
 {
-    let n = crate::word_of(env, calls, a);
-    let w = crate::word_of(env, calls, b);
-    let depth = crate::element_depth(table, env, calls, x);
+    let n = machine_frames::word_of(env, calls, a);
+    let w = machine_frames::word_of(env, calls, b);
+    let depth = machine_frames::element_depth(table, env, calls, x);
     let made = make_array(slots, heads, env, false, w, depth, n, steps);
-    crate::bind_result(env, calls, x, made, next)
+    machine_frames::bind_result(env, calls, x, made, next)
 }

@@ -23,8 +23,9 @@ use Rattle.machine_code.specs.declared.Atom.{Atom}
 use Rattle.machine_code.specs.declared.Loop as P
 use Rattle.machine_code.specs.declared.Loop.the-variants.{Map, Filter, Reduce, Rewrite}
 use Rattle.machine_code.proofs.Loop.{the-type}
-use Rattle.machine_lines.specs.Frames.{word-of, level-of, noted, noted-by}
-use Rattle.machine_lines.specs.Lines.{Memory, memory, ran, out, acquired-given, gave, kind-of, atoms-of}
+use Rattle.machine_frames.specs.Frames.{word-of, level-of, noted}
+use Rattle.machine_frames.specs.Work.{Memory, memory, ran, out}
+use Rattle.machine_lines.specs.Lines.{noted-by, acquired-given, gave, kind-of, atoms-of}
 use Rattle.machine_loops.specs.declared.Way.{Way}
 use Rattle.machine_loops.specs.declared.Way.the-variants.{Fill, Keep, Hand, Overwrite}
 use Rattle.machine_loops.specs.declared.Passes.{Passes}

@@ -15,11 +15,11 @@ use Rattle.semantics.specs.Number.{is-answer}
 use Rattle.semantics.specs.Store.{Store, cell-of, appended, overwritten, retained, cells-taken}
 use Rattle.semantics.specs.Words.{store-of}
 use Rattle.store.specs.Acquiring.{Releases}
-use Rattle.machine_lines.specs.declared.Out.{Out}
-use Rattle.machine_lines.specs.Frames.{raised}
-use Rattle.machine_lines.specs.Lines.{Memory, memory, ran, out, bound}
-use Rattle.machine_lines.proofs.Levels.{raised-long}
-use Rattle.machine_lines.proofs.Gathering.{guard-zero, guard-not}
+use Rattle.machine_frames.specs.declared.Out.{Out}
+use Rattle.machine_frames.specs.Frames.{raised}
+use Rattle.machine_frames.specs.Work.{Memory, memory, ran, out, bound}
+use Rattle.machine_frames.proofs.Levels.{raised-long}
+use Rattle.machine_frames.proofs.Tests.{guard-zero, guard-not}
 use Rattle.machine_loops.specs.declared.Way.{Way}
 use Rattle.machine_loops.specs.declared.Way.the-variants.{Fill, Keep, Hand, Overwrite}
 use Rattle.machine_loops.specs.declared.Next.{Next}

@@ -14,9 +14,9 @@ use Rattle.semantics.specs.Words.{store-of}
 use Rattle.machine_code.specs.declared.Atom.{Atom}
 use Rattle.machine_code.specs.declared.Loop as P
 use Rattle.machine_code.specs.declared.Loop.the-variants.{Map, Filter, Reduce, Rewrite}
-use Rattle.machine_lines.specs.declared.Out.{Out}
-use Rattle.machine_lines.specs.Lines.{Memory, memory, Ran, ran, out, halted, bound, acquired-given, cell-from, gave}
-use Rattle.machine_lines.specs.Lines.{goes-on, acquired-memory, released-memory, array-of}
+use Rattle.machine_frames.specs.declared.Out.{Out}
+use Rattle.machine_frames.specs.Work.{Memory, memory, Ran, ran, out, halted, bound, goes-on}
+use Rattle.machine_lines.specs.Lines.{acquired-given, cell-from, gave, acquired-memory, released-memory, array-of}
 use Rattle.machine_loops.specs.declared.Way.{Way}
 use Rattle.machine_loops.specs.declared.Way.the-variants.{Fill, Keep, Hand, Overwrite}
 use Rattle.machine_loops.specs.declared.Passes.{Passes}

@@ -2,7 +2,7 @@
 // next, and what it ends with. A map, a filter and a reduce differ in nothing else.
 use machine_code::Atom;
 use machine_code::Loop;
-use machine_lines::Out;
+use machine_frames::Out;
 use store::Acquired;
 ghost use mathlib.Core.Path.{_≡_};
 ghost use mathlib.Core.List.{map};
@@ -11,8 +11,9 @@ ghost use lib.IntN.{pos};
 ghost use lib.ListN.{getD, length};
 ghost use Rattle.semantics.specs.Store.{cell, cell-of, elements};
 ghost use Rattle.semantics.specs.Words.{store-of};
-ghost use Rattle.machine_lines.specs.Frames.{place, word-of, element-depth};
-ghost use Rattle.machine_lines.specs.Lines.{memory, kind-of, first-name, second-name, atoms-of, Ends};
+ghost use Rattle.machine_frames.specs.Frames.{place, word-of, element-depth};
+ghost use Rattle.machine_frames.specs.Work.{memory, Ends};
+ghost use Rattle.machine_lines.specs.Lines.{kind-of, first-name, second-name, atoms-of};
 ghost use Rattle.machine_loops.specs.Loops.{array-atom, way-of, begun-frames, retained-if, kept};
 ghost use Rattle.machine_loops.specs.Loops.{loop-ended, loop-bound, Within, ResultWithin, NewCarries, Carries};
 ghost use Rattle.machine_loops.specs.Loops.{CarriesOn, Begins};
@@ -131,10 +132,10 @@ fn acquire_result(slots: &mut [i64], heads: &mut [u32], env: &mut [i64; 8226], d
         (memory (store-of (now (slots .entry)) (now (heads .entry))) (now (env .entry)))
         (now (slots .exit)) (now (heads .exit)) (now (env .exit)) r ⌝ }
 {
-    match store::acquire_empty(slots, heads, depth, machine_lines::level(env)) {
+    match store::acquire_empty(slots, heads, depth, machine_frames::level(env)) {
         Acquired::Cell(c, left) => {
-            machine_lines::note_level(env, left);
-            First::Word(machine_lines::word_from(c))
+            machine_frames::note_level(env, left);
+            First::Word(machine_frames::word_from(c))
         }
         Acquired::NoneFree => First::NoneFree,
     }
@@ -155,9 +156,9 @@ fn carry_first(
         (now (slots .exit)) (now (heads .exit)) (now (env .exit)) r ⌝ }
 {
     match l {
-        Loop::Reduce(_, _, a, _) => First::Word(machine_lines::word_of(env, calls, a)),
+        Loop::Reduce(_, _, a, _) => First::Word(machine_frames::word_of(env, calls, a)),
         Loop::Rewrite(_, a) => {
-            let w = machine_lines::word_of(env, calls, a);
+            let w = machine_frames::word_of(env, calls, a);
             if store::is_alone(slots, heads, store_words::named_cell(w)) {
                 First::Word(w)
             } else {
@@ -187,9 +188,9 @@ pub fn begin_loop(
 {
     let first = first_name(l);
     let second = second_name(l);
-    let from = store_words::named_cell(machine_lines::word_of(env, calls, array_of(l)));
+    let from = store_words::named_cell(machine_frames::word_of(env, calls, array_of(l)));
     let count = store_words::read_length(slots, heads, from);
-    let depth = machine_lines::element_depth(table, env, calls, x);
+    let depth = machine_frames::element_depth(table, env, calls, x);
     match carry_first(slots, heads, env, calls, l, depth) {
         First::Word(carried) => {
             let way = way_of(l, depth, from, carried);
@@ -223,8 +224,8 @@ pub fn begin_pass(
 {
     let from = l.from;
     let w = store_words::read_slot_within(slots, heads, from, i);
-    machine_lines::bind(env, calls, l.first, v);
-    machine_lines::bind(env, calls, l.second, w);
+    machine_frames::bind(env, calls, l.first, v);
+    machine_frames::bind(env, calls, l.second, w);
 }
 
 // One reference more to the cell that a word names, if asked for.
@@ -275,10 +276,10 @@ pub fn end_pass(
             Next::Word(v)
         }
         Way::Keep(arrays) => {
-            if !machine_lines::guards::is_answer(r) {
+            if !machine_frames::guards::is_answer(r) {
                 return Next::BadGuard;
             }
-            let w = machine_lines::word_of(env, calls, Atom::Name(l.second));
+            let w = machine_frames::word_of(env, calls, Atom::Name(l.second));
             keep(slots, heads, arrays, into, w, r);
             Next::Word(v)
         }
@@ -301,7 +302,7 @@ fn release_array(slots: &mut [i64], heads: &mut [u32], env: &mut [i64; 8226], l:
     if let Way::Fill(releases) = way {
         if releases {
             let freed = store::release(slots, heads, l.from, 4);
-            machine_lines::raise_level(env, freed);
+            machine_frames::raise_level(env, freed);
         }
     }
 }
@@ -328,6 +329,6 @@ pub fn end_loop(
     }
     release_array(slots, heads, env, l);
     let w = r.value;
-    machine_lines::bind(env, calls, x, w);
-    machine_lines::done(w, next, r.steps)
+    machine_frames::bind(env, calls, x, w);
+    machine_frames::done(w, next, r.steps)
 }

@@ -11,8 +11,8 @@ use Rattle.semantics.specs.Store.{free-cells}
 use Rattle.semantics.specs.Machine.{Delivered}
 use Rattle.store.specs.Acquiring.{Gained, next-cell}
 use Rattle.machine_code.specs.Reading.{start-in}
-use Rattle.machine_lines.specs.Frames.{called, lowest-of, levelled}
-use Rattle.machine_lines.specs.Lines.{memory, Ran}
+use Rattle.machine_frames.specs.Frames.{called, lowest-of, levelled}
+use Rattle.machine_frames.specs.Work.{memory, Ran}
 use Rattle.machine_positions.specs.Machine.{Code, tree-on, call-on}
 
 -- how an attempt at a delivery ends: its number, the least number of free cells over it, the steps left, and the store

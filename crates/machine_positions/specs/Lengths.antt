@@ -15,14 +15,15 @@ use Rattle.machine_code.specs.Reading.{line-at, two-rows, start-in, end-in}
 use Rattle.machine_code.specs.declared.Atom.{Atom}
 use Rattle.machine_code.specs.declared.Line.{Line}
 use Rattle.machine_code.specs.declared.Line.the-variants as L
-use Rattle.machine_lines.specs.declared.Out.{Out}
-use Rattle.machine_lines.specs.Frames.{place, function-place, word-of, words-at, put-all, called, Passed}
-use Rattle.machine_lines.specs.Frames.{element-depth, branch-start, branch-end, level-place, lowest-place}
-use Rattle.machine_lines.specs.Frames.{levelled}
-use Rattle.machine_lines.specs.Lines.{Memory, memory, Ran, bound, with-store, stepping, Given, given, array-of}
-use Rattle.machine_lines.specs.Lines.{acquired-given, Doing, giving, changing, ending, calling, branching, looping}
-use Rattle.machine_lines.specs.Lines.{doing, giving-line, leaf-done, cell-from, gave, acquired-memory}
-use Rattle.machine_lines.proofs.Levels.{noted-by-long, raised-long, array-long}
+use Rattle.machine_frames.specs.declared.Out.{Out}
+use Rattle.machine_frames.specs.Frames.{place, function-place, word-of, words-at, put-all, called, Passed}
+use Rattle.machine_frames.specs.Frames.{element-depth, branch-start, branch-end, level-place, lowest-place, levelled}
+use Rattle.machine_frames.specs.Work.{Memory, memory, Ran, bound, with-store, stepping}
+use Rattle.machine_frames.proofs.Levels.{raised-long}
+use Rattle.machine_lines.specs.Lines.{Given, given, array-of, acquired-given, Doing, giving, changing, ending, calling}
+use Rattle.machine_lines.specs.Lines.{branching, looping, doing, giving-line, leaf-done, cell-from, gave}
+use Rattle.machine_lines.specs.Lines.{acquired-memory}
+use Rattle.machine_lines.proofs.Levels.{noted-by-long, array-long}
 use Rattle.machine_loops.specs.declared.Way.{Way}
 use Rattle.machine_loops.specs.declared.Passes.{Passes}
 use Rattle.machine_loops.specs.Loops.{way-of, is-alone, carry-first, is-taken, loop-ended, Readied}

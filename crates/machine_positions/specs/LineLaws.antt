@@ -21,12 +21,12 @@ use Rattle.machine_code.specs.declared.Line.{Line}
 use Rattle.machine_code.specs.declared.Line.the-variants as L
 use Rattle.machine_code.proofs.Line.{the-type}
 use Rattle.machine_code.proofs.Reading.{less-one}
-use Rattle.machine_lines.specs.declared.Out.{Out}
-use Rattle.machine_lines.specs.Frames.{place, function-place, word-of, words-at, Passed, branch-start}
-use Rattle.machine_lines.specs.Frames.{branch-end, element-depth}
-use Rattle.machine_lines.specs.Lines.{Memory, memory, Ran, ran, out, halted, goes-on, stepping, array-of}
-use Rattle.machine_lines.specs.Lines.{Doing, giving, changing, ending, calling, branching, looping}
-use Rattle.machine_lines.specs.Lines.{kind-of, first-name, second-name, atoms-of, doing, leaf-done, leaf, Ends}
+use Rattle.machine_frames.specs.declared.Out.{Out}
+use Rattle.machine_frames.specs.Frames.{place, function-place, word-of, words-at, Passed, branch-start, branch-end}
+use Rattle.machine_frames.specs.Frames.{element-depth}
+use Rattle.machine_frames.specs.Work.{Memory, memory, Ran, ran, out, halted, goes-on, stepping, Ends}
+use Rattle.machine_lines.specs.Lines.{array-of, Doing, giving, changing, ending, calling, branching, looping, kind-of}
+use Rattle.machine_lines.specs.Lines.{first-name, second-name, atoms-of, doing, leaf-done, leaf}
 use Rattle.machine_lines.proofs.Lines.{Told, told, leaf-fewer}
 use Rattle.machine_loops.specs.declared.Way.{Way}
 use Rattle.machine_loops.specs.declared.Passes.{Passes}

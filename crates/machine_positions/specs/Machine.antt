@@ -15,10 +15,11 @@ use Rattle.machine_code.specs.Reading.{line-at, two-rows, start-in, end-in}
 use Rattle.machine_code.specs.declared.Atom.{Atom}
 use Rattle.machine_code.specs.declared.Line.{Line}
 use Rattle.machine_code.specs.declared.Line.the-variants as L
-use Rattle.machine_lines.specs.declared.Out.{Out}
-use Rattle.machine_lines.specs.Frames.{place, word-of, words-at, called, element-depth, branch-start, branch-end}
-use Rattle.machine_lines.specs.Lines.{no-line, Memory, memory, Ran, ran, out, halted, goes-on, stepping, array-of}
-use Rattle.machine_lines.specs.Lines.{Doing, giving, changing, ending, calling, branching, looping, doing, leaf-done}
+use Rattle.machine_frames.specs.declared.Out.{Out}
+use Rattle.machine_frames.specs.Frames.{place, word-of, words-at, called, element-depth, branch-start, branch-end}
+use Rattle.machine_frames.specs.Work.{no-line, Memory, memory, Ran, ran, out, halted, goes-on, stepping}
+use Rattle.machine_lines.specs.Lines.{array-of, Doing, giving, changing, ending, calling, branching, looping, doing}
+use Rattle.machine_lines.specs.Lines.{leaf-done}
 use Rattle.machine_loops.specs.declared.Way.{Way}
 use Rattle.machine_loops.specs.Loops.{way-of, carry-first, begun-frames, is-taken, carried-word, carried-store}
 use Rattle.machine_loops.specs.Loops.{loop-ended}

@@ -10,8 +10,8 @@ use borrow.Author.Tests.{eq-eqb, ne-eqb}
 use Rattle.semantics.specs.Store.{Store, cell-of, appended, overwritten}
 use Rattle.semantics.specs.Words.{store-of}
 use Rattle.machine_code.proofs.Reading.{less-one}
-use Rattle.machine_lines.specs.declared.Out.{Out}
-use Rattle.machine_lines.specs.Lines.{Memory, memory, Ran, ran, out, halted}
+use Rattle.machine_frames.specs.declared.Out.{Out}
+use Rattle.machine_frames.specs.Work.{Memory, memory, Ran, ran, out, halted}
 use Rattle.machine_loops.specs.declared.Way.{Way}
 use Rattle.machine_loops.specs.declared.Way.the-variants.{Fill, Keep, Hand, Overwrite}
 use Rattle.machine_loops.specs.Loops.{is-taken, carried-word, kept, carried-store}

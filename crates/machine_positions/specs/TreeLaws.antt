@@ -18,9 +18,9 @@ use Rattle.machine_code.specs.declared.Atom.{Atom}
 use Rattle.machine_code.specs.declared.Line.{Line}
 use Rattle.machine_code.specs.declared.Line.the-variants as L
 use Rattle.machine_code.proofs.Reading.{less-one, no-bool}
-use Rattle.machine_lines.specs.declared.Out.{Out}
-use Rattle.machine_lines.specs.Frames.{word-of}
-use Rattle.machine_lines.specs.Lines.{no-line, Memory, memory, Ran, ran, out, halted}
+use Rattle.machine_frames.specs.declared.Out.{Out}
+use Rattle.machine_frames.specs.Frames.{word-of}
+use Rattle.machine_frames.specs.Work.{no-line, Memory, memory, Ran, ran, out, halted}
 use Rattle.machine_positions.specs.Machine.{Work, Callee, Code, and-then, is-end, line-on}
 use Rattle.machine_positions.specs.Machine.{tree-from, tree-on, Ended}
 use Rattle.machine_positions.specs.Parts.{then-go, Sized, part-stops}

@@ -8,8 +8,8 @@ use lib.IntN.{ℤ, pos}
 use lib.ListN.{length, replicate, length-replicate}
 use Rattle.semantics.specs.Words.{store-of}
 use Rattle.store_words.proofs.Puts.{totals-store}
-use Rattle.machine_lines.specs.Frames.{place, function-place}
-use Rattle.machine_lines.specs.Lines.{memory}
+use Rattle.machine_frames.specs.Frames.{place, function-place}
+use Rattle.machine_frames.specs.Work.{memory}
 use Rattle.machine_positions.specs.Machine.{code}
 use Rattle.machine_positions.specs.Lengths.{levelled-keeps, bound-long, tree-long}
 use Rattle.machine_positions.specs.Delivery.{released-totals, main-on}

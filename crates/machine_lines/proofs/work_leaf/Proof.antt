@@ -1,7 +1,7 @@
 -- `machine_lines::work_leaf` meets its contract: one law for each kind of leaf.
 use mir.Facts.{toZ-ofZ}
 use Rattle.semantics.specs.Words.{store-of}
-use Rattle.machine_lines.specs.Lines.{memory}
+use Rattle.machine_frames.specs.Work.{memory}
 use Rattle.machine_lines.proofs.Lines.{leaf-operation, leaf-index, leaf-length, leaf-literal, leaf-iota}
 use Rattle.machine_lines.proofs.Lines.{leaf-replicate, leaf-retain, leaf-release, leaf-other}
 use borrow.Author.Needs.{needs}

@@ -4,8 +4,9 @@ use mir.Facts.{toZ-ofZ}
 use borrow.Author.Needs.{needs}
 use Rattle.semantics.specs.Store.{cell-of}
 use Rattle.semantics.specs.Words.{store-of}
-use Rattle.machine_lines.specs.Frames.{word-of, element-depth}
-use Rattle.machine_lines.specs.Lines.{memory, kind-of, first-name, second-name}
+use Rattle.machine_frames.specs.Frames.{word-of, element-depth}
+use Rattle.machine_frames.specs.Work.{memory}
+use Rattle.machine_lines.specs.Lines.{kind-of, first-name, second-name}
 use Rattle.machine_loops.specs.Loops.{Carries}
 use Rattle.machine_loops.proofs.Beginning.{words, array-word, readied, dry-begun}
 use Rattle.machine_loops.proofs.begin_loop.Statement.{statement}

@@ -5,7 +5,7 @@ use lib.IntN.{ℤ}
 use lib.ListN.{length, set, length-set}
 use mir.Facts.{toZ-ofZ}
 use borrow.Author.Needs.{needs}
-use Rattle.machine_lines.specs.Frames.{place}
+use Rattle.machine_frames.specs.Frames.{place}
 use Rattle.machine_loops.proofs.begin_pass.Statement.{statement}
 use Rattle.machine_loops.proofs.begin_pass.Tie as tie
 

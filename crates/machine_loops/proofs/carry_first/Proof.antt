@@ -2,7 +2,7 @@
 use mir.Facts.{toZ-ofZ}
 use borrow.Author.Needs.{needs}
 use Rattle.semantics.specs.Words.{store-of}
-use Rattle.machine_lines.specs.Lines.{memory}
+use Rattle.machine_frames.specs.Work.{memory}
 use Rattle.machine_loops.proofs.Beginning.{words, start-carried, new-carries, alone-told, alone-carried}
 use Rattle.machine_loops.proofs.Beginning.{shared-carried}
 use Rattle.machine_loops.proofs.carry_first.Statement.{statement}

@@ -6,7 +6,7 @@ use mir.Val.{SFits}
 use mir.Facts.{toZ-ofZ}
 use borrow.Author.Needs.{needs}
 use Rattle.semantics.specs.Words.{store-of}
-use Rattle.machine_lines.specs.Lines.{Memory, memory}
+use Rattle.machine_frames.specs.Work.{Memory, memory}
 use Rattle.machine_loops.proofs.Ending.{loop-stopped, loop-given, ended-long}
 use Rattle.machine_loops.proofs.end_loop.Statement.{statement}
 use Rattle.machine_loops.proofs.end_loop.Tie as tie

@@ -8,7 +8,7 @@ use borrow.Author.Tests.{not-true, not-false}
 use Rattle.semantics.specs.Number.{is-answer}
 use Rattle.semantics.specs.Store.{cell-of}
 use Rattle.semantics.specs.Words.{store-of}
-use Rattle.machine_lines.specs.Frames.{place}
+use Rattle.machine_frames.specs.Frames.{place}
 use Rattle.machine_loops.proofs.Ending.{fills, keeps-on, doubts, hands, overwrites, fills-within}
 use Rattle.machine_loops.proofs.Ending.{keeps-within, overwrites-within}
 use Rattle.machine_loops.proofs.end_pass.Statement.{statement}

@@ -4,8 +4,9 @@ use Prim.Native.Nat.{_+_, _-_, ℕ}
 use native.Mathlib.Omega.{arith}
 use mathlib.Core.List.{map}
 use Rattle.semantics.specs.Words.{store-of}
-use Rattle.machine_lines.specs.Frames.{word-of, element-depth}
-use Rattle.machine_lines.specs.Lines.{memory, kind-of, first-name, second-name, atoms-of}
+use Rattle.machine_frames.specs.Frames.{word-of, element-depth}
+use Rattle.machine_frames.specs.Work.{memory}
+use Rattle.machine_lines.specs.Lines.{kind-of, first-name, second-name, atoms-of}
 use Rattle.machine_loops.specs.Loops.{Readied, Begins}
 use Rattle.machine_positions.specs.Machine.{code, tree-on, call-on}
 use Rattle.machine_positions.specs.LineLaws.{loop-spent, loop-dry, loop-goes}

@@ -9,8 +9,8 @@ use mir.Facts.{toZ-ofZ}
 use mir.Val.{SFits, toZ}
 use Rattle.semantics.specs.Store.{cell-of}
 use Rattle.semantics.specs.Words.{store-of}
-use Rattle.machine_lines.specs.Frames.{place}
-use Rattle.machine_lines.specs.Lines.{memory}
+use Rattle.machine_frames.specs.Frames.{place}
+use Rattle.machine_frames.specs.Work.{memory}
 use Rattle.machine_loops.specs.declared.Next.{Next}
 use Rattle.machine_loops.specs.Loops.{CarriesOn}
 use Rattle.machine_loops.proofs.Beginning.{within-kept, result-kept}

@@ -9,7 +9,7 @@ use Rattle.machine_positions.specs.Machine.{code, call-on}
 use Rattle.machine_positions.specs.TreeLaws.{Working, working-starts, not-end, tree-out, tree-closed, tree-stops}
 use Rattle.machine_positions.specs.TreeLaws.{tree-goes, rows-there}
 use Rattle.semantics.specs.Words.{store-of}
-use Rattle.machine_lines.specs.Lines.{memory}
+use Rattle.machine_frames.specs.Work.{memory}
 use Rattle.machine_positions.specs.Lengths.{line-long}
 use Rattle.machine.proofs.work_tree.Reads as work-tree
 use Rattle.machine.proofs.+work_call+work_if+work_line+work_loop+work_pass+work_tree.Lts-work_tree as work-tree-lts

@@ -7,8 +7,8 @@ use mir.Facts.{toZ-ofZ}
 use borrow.Author.Tests.{not-true, not-false}
 use borrow.Author.Needs.{needs}
 use Rattle.semantics.specs.Words.{store-of}
-use Rattle.machine_lines.proofs.Gathering.{Appending, appending-none, appending-more, appended-end}
-use Rattle.machine_lines.proofs.Gathering.{appended-full}
+use Rattle.machine_lines.proofs.Appending.{Appending, appending-none, appending-more, appended-end}
+use Rattle.machine_lines.proofs.Appending.{appended-full}
 use Rattle.machine_lines.proofs.arrays.append_atoms.Statement.{statement}
 use Rattle.machine_lines.proofs.arrays.append_atoms.Tie as tie
 

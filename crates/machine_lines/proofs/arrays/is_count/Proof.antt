@@ -1,7 +1,7 @@
 -- `machine_lines::arrays::is_count` meets its contract.
 use mathlib.Core.Path.{sym}
 use mir.Facts.{toZ-ofZ}
-use Rattle.machine_lines.proofs.Lines.{inside-negative, inside-at-most}
+use Rattle.machine_frames.proofs.Tests.{inside-negative, inside-at-most}
 use Rattle.machine_lines.proofs.arrays.is_count.Statement.{statement}
 use Rattle.machine_lines.proofs.arrays.is_count.Tie as tie
 

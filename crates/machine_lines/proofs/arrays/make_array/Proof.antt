@@ -11,9 +11,10 @@ use Rattle.semantics.specs.Machine.{is-count}
 use Rattle.semantics.specs.Words.{store-of}
 use Rattle.store.specs.Acquiring.{gained, acquired-outcome, next-cell, appended-all}
 use Rattle.store.proofs.Filling.{filled-by-appending, none-given}
-use Rattle.machine_lines.specs.Lines.{memory, elements-by, retained-copies}
-use Rattle.machine_lines.proofs.Lines.{next-small}
+use Rattle.machine_frames.specs.Work.{memory}
+use Rattle.machine_lines.specs.Lines.{elements-by, retained-copies}
 use Rattle.machine_lines.proofs.Counts.{count-fits, array-spent, array-bad, array-cell, array-none}
+use Rattle.machine_lines.proofs.Lines.{next-small}
 use Rattle.machine_lines.proofs.arrays.make_array.Statement.{statement}
 use Rattle.machine_lines.proofs.arrays.make_array.Tie as tie
 

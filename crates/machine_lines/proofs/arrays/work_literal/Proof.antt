@@ -7,9 +7,9 @@ use lib.ListN.{length}
 use Rattle.semantics.specs.Words.{store-of}
 use Rattle.store.specs.Acquiring.{gained, acquired-outcome, next-cell, appended-all}
 use Rattle.store.proofs.Filling.{filled-by-appending, none-given}
-use Rattle.machine_lines.specs.Frames.{words-at}
-use Rattle.machine_lines.specs.Lines.{memory}
-use Rattle.machine_lines.proofs.Levels.{noted-long}
+use Rattle.machine_frames.specs.Frames.{words-at}
+use Rattle.machine_frames.specs.Work.{memory}
+use Rattle.machine_frames.proofs.Levels.{noted-long}
 use Rattle.machine_lines.proofs.Lines.{literal-spent, literal-cell, literal-none, next-small}
 use borrow.Author.Needs.{needs}
 use Rattle.machine_lines.proofs.arrays.work_literal.Statement.{statement}

@@ -1,0 +1,4 @@
+pub mod Gathering
+pub mod Levels
+pub mod Results
+pub mod Tests

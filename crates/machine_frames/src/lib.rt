@@ -1,0 +1,213 @@
+// The frames and how work ends. The frames are one array: 256 words for each call in progress, main's last, a word for
+// each with the number of its function, and two words for levels: how many cells are free, and the least number that
+// was. `calls` is the call depth left, 31 in main.
+pub mod guards;
+
+use machine_code::Atom;
+ghost use mathlib.Core.Path.{_≡_};
+ghost use Prim.Native.Nat.{_+_, _≤_, _<_};
+ghost use lib.IntN.{pos};
+ghost use lib.ListN.{length, set};
+ghost use Rattle.machine_code.specs.Reading.{Cut};
+ghost use Rattle.machine_frames.specs.Frames.{place, word-of, words-at, Passed};
+ghost use Rattle.machine_frames.specs.Frames.{function-place, function-of, element-depth, level-of, lowest-of};
+ghost use Rattle.machine_frames.specs.Frames.{levelled, noted, raised};
+ghost use Rattle.machine_frames.specs.Work.{out, left, bound-result};
+
+// How work ends: the number of its stop or 0, its value, the position where the code goes on, the steps left.
+pub struct Out {
+    pub stop: u8,
+    pub value: i64,
+    pub next: usize,
+    pub steps: u64,
+}
+
+// The stops, by the numbers of documents 01 and 02.
+pub const OUT_OF_STEPS: u8 = 21;
+
+pub const CALL_TOO_DEEP: u8 = 22;
+
+pub const INDEX_OUT_OF_RANGE: u8 = 23;
+
+pub const OVERFLOW: u8 = 24;
+
+pub const OUT_OF_CELLS: u8 = 25;
+
+pub const BAD_COUNT: u8 = 26;
+
+pub const BAD_GUARD: u8 = 28;
+
+// The stop of work that comes to no line that it can do: the code of an accepted script never does.
+pub const NO_LINE: u8 = 99;
+
+// A stop.
+pub fn halted(stop: u8, steps: u64) -> Out
+    ensures { λ r. ⌜ r ≡ out stop (pos 0) 0 steps ⌝ }
+{
+    Out {
+        stop,
+        value: 0,
+        next: 0,
+        steps,
+    }
+}
+
+// Work that goes on.
+pub fn done(value: i64, next: usize, steps: u64) -> Out
+    ensures { λ r. ⌜ r ≡ out 0 value next steps ⌝ }
+{
+    Out {
+        stop: 0,
+        value,
+        next,
+        steps,
+    }
+}
+
+// The place of a name's word among the frames.
+pub fn place(calls: usize, x: u8) -> usize
+    requires { ⌜ calls < 32 ⌝ }
+    ensures { λ r. ⌜ (r ≡ place calls x) × (r < 8226) ⌝ }
+{
+    256 * calls + x as usize
+}
+
+// The word of an atom.
+pub fn word_of(env: &[i64; 8226], calls: usize, a: Atom) -> i64
+    requires { ⌜ (calls < 32) × (length (now env) ≡ 8226) ⌝ }
+    ensures { λ r. ⌜ r ≡ word-of calls (now (env .entry)) a ⌝ }
+{
+    match a {
+        Atom::Number(z) => z,
+        Atom::Name(x) => env[place(calls, x)],
+    }
+}
+
+// Binds a name.
+pub fn bind(env: &mut [i64; 8226], calls: usize, x: u8, w: i64)
+    requires { ⌜ (calls < 32) × (length (now env) ≡ 8226) ⌝ }
+    ensures { λ _. ⌜ now (env .exit) ≡ set (now (env .entry)) (place calls x) w ⌝ }
+{
+    env[place(calls, x)] = w;
+}
+
+// Binds the word of work that was not stopped to a name, with the code going on at a position.
+pub fn bind_result(env: &mut [i64; 8226], calls: usize, x: u8, r: Out, next: usize) -> Out
+    requires { ⌜ (calls < 32) × (length (now env) ≡ 8226) ⌝ }
+    ensures { λ q. ⌜ left q (now (env .exit)) ≡ bound-result calls x next r (now (env .entry)) ⌝ }
+{
+    let stop = r.stop;
+    if stop != 0 {
+        return r;
+    }
+    let w = r.value;
+    bind(env, calls, x, w);
+    done(w, next, r.steps)
+}
+
+// The number of the function that is worked in a frame.
+pub fn function_of(env: &[i64; 8226], calls: usize) -> u8
+    requires { ⌜ (calls < 32) × (length (now env) ≡ 8226) ⌝ }
+    ensures { λ r. ⌜ r ≡ function-of calls (now (env .entry)) ⌝ }
+{
+    (machine_code::low_bits(env[8192 + calls]) % 256) as u8
+}
+
+// The element depth of an array by its name, in the function that is worked.
+pub fn element_depth(table: &[u8], env: &[i64; 8226], calls: usize, x: u8) -> u32
+    requires { ⌜ (calls < 32) × (length (now env) ≡ 8226) ⌝ }
+    ensures { λ r. ⌜ r ≡ element-depth (now (table .entry)) calls x (now (env .entry)) ⌝ }
+{
+    machine_code::element_depth(table, function_of(env, calls), x)
+}
+
+// Says which function is worked in a frame.
+pub fn set_function(env: &mut [i64; 8226], calls: usize, f: u8)
+    requires { ⌜ (calls < 32) × (length (now env) ≡ 8226) ⌝ }
+    ensures { λ _. ⌜ now (env .exit) ≡ set (now (env .entry)) (function-place calls) (pos f) ⌝ }
+{
+    env[8192 + calls] = f as i64;
+}
+
+// How many cells are free.
+pub fn level(env: &[i64; 8226]) -> u32
+    requires { ⌜ length (now env) ≡ 8226 ⌝ }
+    ensures { λ r. ⌜ (r ≡ level-of (now (env .entry))) × (r < 16777216) ⌝ }
+{
+    machine_code::low_bits(env[8224]) as u32
+}
+
+// The least number of free cells so far.
+pub fn lowest(env: &[i64; 8226]) -> u32
+    requires { ⌜ length (now env) ≡ 8226 ⌝ }
+    ensures { λ r. ⌜ (r ≡ lowest-of (now (env .entry))) × (r < 16777216) ⌝ }
+{
+    machine_code::low_bits(env[8225]) as u32
+}
+
+// Says how many cells are free, as never fewer were.
+pub fn set_level(env: &mut [i64; 8226], n: u32)
+    requires { ⌜ length (now env) ≡ 8226 ⌝ }
+    ensures { λ _. ⌜ now (env .exit) ≡ levelled n (now (env .entry)) ⌝ }
+{
+    env[8224] = n as i64;
+    env[8225] = n as i64;
+}
+
+// Says how many cells are free after an acquire.
+pub fn note_level(env: &mut [i64; 8226], n: u32)
+    requires { ⌜ length (now env) ≡ 8226 ⌝ }
+    ensures { λ _. ⌜ now (env .exit) ≡ noted n (now (env .entry)) ⌝ }
+{
+    let least = lowest(env);
+    env[8224] = n as i64;
+    if n < least {
+        env[8225] = n as i64;
+    }
+}
+
+// Says that a release freed so many cells.
+pub fn raise_level(env: &mut [i64; 8226], freed: u32)
+    requires { ⌜ (freed ≤ 256) × (length (now env) ≡ 8226) ⌝ }
+    ensures { λ _. ⌜ now (env .exit) ≡ raised freed (now (env .entry)) ⌝ }
+{
+    let n = level(env);
+    env[8224] = (n + freed) as i64;
+}
+
+// A small number as a word.
+pub fn word_from(n: usize) -> i64
+    requires { ⌜ n < 9223372036854775808 ⌝ }
+    ensures { λ r. ⌜ r ≡ pos n ⌝ }
+{
+    n as i64
+}
+
+// Copies the words of the atoms that stand from a position on, at most 16, to the first words of the frame of a call
+// `below` the one in progress; how many they are.
+pub fn pass_arguments(
+    kinds: &[u8],
+    operands: &[i64],
+    env: &mut [i64; 8226],
+    calls: usize,
+    below: usize,
+    at: usize,
+) -> usize
+    requires { ⌜ (at ≤ length (now kinds)) × (below < calls) × (calls < 32) × (length (now env) ≡ 8226)
+        × Cut (now kinds) (now operands) ⌝ }
+    ensures { λ r. ⌜ Passed (words-at 16 (now (kinds .entry)) (now (operands .entry)) calls (now (env .entry)) at)
+        below r (now (env .entry)) (now (env .exit)) ⌝ }
+{
+    let first = place(below, 0);
+    let mut i: usize = 0;
+    while i < 16 {
+        if !machine_code::atom_stands(kinds, at + i) {
+            return i;
+        }
+        let a = machine_code::atom_at(kinds, operands, at + i);
+        let w = word_of(env, calls, a);
+        env[first + i] = w;
+        i = i + 1;
+    }
+    i
+}
