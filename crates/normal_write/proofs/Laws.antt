@@ -1,8 +1,8 @@
 -- Laws of the rows of last uses in an array, and of sets that are read from them.
 use mathlib.Core.Path.{_≡_, refl, sym, ap, _∙_, fun-ext}
 use mathlib.Core.Bool.{Bool, true, false, cond, _&&_, _||_}
-use mathlib.Core.List.{List, [], _∷_}
-use Prim.Native.Nat.{ℕ, zero, suc, _+_, _-_, _<_, _≤_}
+use mathlib.Core.List.{List, _∷_}
+use Prim.Native.Nat.{ℕ, _+_, _-_, _<_, _≤_}
 use native.Mathlib.Omega.{arith}
 use native.Mathlib.Decide.{ℕ-discrete, decLt}
 use lib.Dec.{eqb, ltb}
@@ -16,7 +16,7 @@ use Rattle.semantics.specs.Live.{Set, is, _∪_, _∖_, among}
 use Rattle.normal_code.specs.Plain.{set-of, meant, placed, atoms-at, note}
 use Rattle.normal_code.specs.declared.Atom.{Atom}
 use Rattle.normal_code.proofs.Atoms.{atoms-more, atoms-none, atoms-all}
-use Rattle.normal_code.proofs.Sets.{Making, making-none, making-set, with-in, without-in}
+use Rattle.normal_code.proofs.Sets.{Making, making-none, making-set, set-same, with-in, without-in}
 use Rattle.normal_code.specs.Marks.{Marks, marked, marks-of}
 use Rattle.normal_code.specs.Parts.{below}
 use Rattle.normal_code.specs.Walk.{since, then-end, unmarked, unmarked-all}
@@ -40,11 +40,6 @@ pub took-none : (z : _) (notes : List ℕ) (r : ℕ) (s : List Bool) (c : List �
 took-none z notes r s c l = record { names = refl; marks = sym (number-none z (note notes r) (marks-of c)); long = l }
 
 -- a name written as it is
-set-same : (s : List Bool) (i : ℕ) → set s i (getD s i false) ≡ s
-set-same [] i = refl
-set-same (b ∷ s) zero = refl
-set-same (b ∷ s) (suc i) = ap (λ (t : List Bool). b ∷ t) (set-same s i)
-
 pub took-same : {A : Set} {N : Marks} {c : List ℕ} (s : List Bool) (i : ℕ) → Took A N s c →
     Took A N (set s i (getD s i false)) c
 took-same s i t = rw (set-same s i) t

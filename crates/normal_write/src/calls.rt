@@ -76,8 +76,8 @@ fn with_read(
     while 0 < i {
         i = i - 1;
         let a = read_at(operands, rows, table, f, at, i);
-        let s = normal_code::add(names, a);
-        names = s;
+        let u = normal_code::member_of(a, &names);
+        names[u.name as usize] = u.member;
     }
     names
 }
@@ -188,8 +188,8 @@ fn retain_owned(
         i = i - 1;
         let a = owned_at(operands, rows, table, f, at, i);
         let n = retain_atom(ks, os, depths, a, &later, v);
-        let s = normal_code::add(later, a);
-        later = s;
+        let u = normal_code::member_of(a, &later);
+        later[u.name as usize] = u.member;
         v = n;
     }
     v

@@ -68,8 +68,8 @@ fn put_retains(
         let place = normal_code::row_at(rows, at + i);
         let a = normal_code::atom_of(operands, place);
         let n = retain_atom(ks, os, depths, a, &later, v);
-        let s = normal_code::add(later, a);
-        later = s;
+        let u = normal_code::member_of(a, &later);
+        later[u.name as usize] = u.member;
         v = n;
     }
     v

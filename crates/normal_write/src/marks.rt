@@ -30,28 +30,6 @@ pub fn then_end_at(notes: &[u16; 2048], p: usize) -> usize
     0
 }
 
-// The use of an atom's name at row r is taken back: the name is live before.
-pub fn take_back(
-    notes: &[u16; 2048],
-    cur: &mut [u16; 256],
-    r: usize,
-    a: Atom,
-    live: [bool; 256],
-) -> [bool; 256]
-    requires { ⌜ (r < 65536) × (length (now cur) ≡ 256) ⌝ }
-    ensures { λ s. ⌜ Took (is (meant a) ∪ set-of live)
-        (unmarked (now (notes .entry)) r (meant a) (marks-of (now (cur .entry)))) s (now (cur .exit)) ⌝ }
-{
-    match a {
-        Atom::Number(_) => live,
-        Atom::Name(x) => {
-            let v = normal_code::mark_at(notes, r);
-            cur[x as usize] = v;
-            normal_code::with(live, x)
-        }
-    }
-}
-
 // A name, and whether it is live.
 pub struct Use {
     pub name: u8,
@@ -108,8 +86,8 @@ fn take_atoms(
         i = i - 1;
         let place = normal_code::row_at(rows, at + i);
         let a = normal_code::atom_of(operands, place);
-        let t = take_back(notes, cur, at + i, a, names);
-        names = t;
+        let u = take_use(notes, cur, at + i, a, &names);
+        names[u.name as usize] = u.live;
     }
     names
 }
@@ -221,6 +199,7 @@ pub fn take_handed(
         (atoms-at (now (operands .entry)) (now (rows .entry)) (p + 1) m) (marks-of (now (cur .entry))))
         s (now (cur .exit)) ⌝ }
 {
-    let t = normal_code::without(live, x);
+    let mut t = live;
+    t[x as usize] = false;
     take_atoms(operands, rows, notes, cur, p + 1, m, t)
 }

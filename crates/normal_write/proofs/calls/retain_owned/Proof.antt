@@ -2,6 +2,7 @@ use mathlib.Core.Path.{_≡_}
 use mathlib.Core.Bool.{Bool, not}
 use Prim.Native.Nat.{ℕ, _<_, _≤_}
 use native.Mathlib.Omega.{arith}
+use lib.ListN.{length, length-set}
 use Rattle.semantics.specs.Borrow.{Table, borrows}
 use Rattle.semantics.specs.Live.{among}
 use Rattle.semantics.specs.Annotate.{handed-again}
@@ -22,7 +23,7 @@ Inv-loop ks₀ os₀ depths operands rows table f at m w later₀ v₀ i₀ ks o
     (i ≤ m) × (m < 256) × Room ks os v
     × Wrote ks₀ os₀ ks os w v
     (retain-rows (handed-again (depth-in depths) (picked-at operands rows (owned table f) at i m) (set-of later₀)))
-    × (set-of later ≡ among (picked-at operands rows (owned table f) at i m) (set-of later₀))
+    × (set-of later ≡ among (picked-at operands rows (owned table f) at i m) (set-of later₀)) × (length later ≡ 256)
 
 abbrev μ-loop : tie.MeasureT-loop
 μ-loop ks₀ os₀ depths operands rows table f at m w later₀ v₀ i₀ ks os later v i = i
@@ -36,16 +37,18 @@ loop-holds c =
       owned-none (a .operands .now) (a .rows .now) (owned (a .table .now) (a .f)) (a .at) (depth-in (a .depths .now))
           (set-of (a .live)) (a .m),
       joins-none (a .operands .now) (a .rows .now) (owned (a .table .now) (a .f)) (a .at) (a .m) (set-of (a .live)),
+      search needs,
     )
 
 loop-again : tie.Need-loop-again Inv-loop μ-loop
 loop-again c =
-    let at-retain-atom = c .before .before .before .before .retain-atom in
-    let at-owned-at = c .before .before .before .before .before .before .before .before .owned-at in
-    let at-loop-test = c .before .before .before .before .before .before .before .before .before .loop-test in
-    let at-loop = c .before .before .before .before .before .before .before .before .before .before .loop in
-    let a = c .before .before .before .before .before .before .before .before .before .before .before .before
-    .before .args in
+    let retained = c .before .before .before .before .before .before in
+    let taken = retained .before .before .before .before in
+    let at-retain-atom = retained .retain-atom in
+    let at-owned-at = taken .owned-at in
+    let at-loop-test = taken .before .loop-test in
+    let at-loop = taken .before .before .loop in
+    let a = taken .before .before .before .before .before .args in
     let v = at-loop .inv in (
       omega arith,
       v .1,
@@ -55,7 +58,8 @@ loop-again c =
           (at-retain-atom .ensures),
       joins-more (a .operands .now) (a .rows .now) (owned (a .table .now) (a .f)) (a .at) (at-loop .i) (a .m)
           (set-of (a .live)) (set-of (at-loop .later)) _ _ (at-loop-test .taken) (v .0) (v .4) (at-owned-at .ensures)
-          (c .add .ensures),
+          (c .before .member-of .ensures),
+      simp length-set (v .5),
     )
 
 returns : tie.Need-returns Inv-loop μ-loop
@@ -69,4 +73,5 @@ pub retain-owned-spec : {M : Type 1} → statement M
 retain-owned-spec =
     tie.close
     (tie.spec Inv-loop μ-loop loop-holds (λ c. search needs) (λ c κs. search needs) (λ c κs. search needs)
-    (λ c κs. search needs) (λ c. search needs) loop-again (λ c. search needs) (λ c. search needs) returns)
+    (λ c κs. search needs) (λ c. search needs) (λ c. search needs) (λ c. search needs) loop-again
+    (λ c. search needs) (λ c. search needs) returns)

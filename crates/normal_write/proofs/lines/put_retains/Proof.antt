@@ -1,6 +1,7 @@
 use mathlib.Core.Path.{_≡_}
 use Prim.Native.Nat.{_+_, _-_, _<_, _≤_}
 use native.Mathlib.Omega.{arith}
+use lib.ListN.{length, length-set}
 use Rattle.semantics.specs.Live.{among}
 use Rattle.normal_code.specs.Plain.{atoms-at, set-of}
 use Rattle.normal_code.specs.Parts.{depth-in}
@@ -16,7 +17,7 @@ abbrev Inv-loop : tie.InvT-loop
 Inv-loop ks₀ os₀ depths operands rows at m w later₀ v₀ i₀ ks os later v i =
     (i ≤ m) × (m < 256) × Room ks os v
     × Wrote ks₀ os₀ ks os w v (retains-at operands rows at (depth-in depths) (set-of later₀) i m)
-    × (set-of later ≡ among (atoms-at operands rows (at + i) (m - i)) (set-of later₀))
+    × (set-of later ≡ among (atoms-at operands rows (at + i) (m - i)) (set-of later₀)) × (length later ≡ 256)
 
 abbrev μ-loop : tie.MeasureT-loop
 μ-loop ks₀ os₀ depths operands rows at m w later₀ v₀ i₀ ks os later v i = i
@@ -31,17 +32,19 @@ loop-holds c =
           .depths .now)) (set-of (a .live)) (a .m),
       among-none (a .operands .now) (a .rows .now) (a .at) (a .m)
           (set-of (a .live)),
+      search needs,
     )
 
 loop-again : tie.Need-loop-again Inv-loop μ-loop
 loop-again c =
-    let at-retain-atom = c .before .before .before .before .retain-atom in
-    let at-atom-of = c .before .before .before .before .before .before .before .before .atom-of in
-    let at-row-at = c .before .before .before .before .before .before .before .before .before .row-at in
-    let at-loop-test = c .before .before .before .before .before .before .before .before .before .before .loop-test in
-    let at-loop = c .before .before .before .before .before .before .before .before .before .before .before .loop in
-    let a = c .before .before .before .before .before .before .before .before .before .before .before .before
-    .before .before .args in
+    let retained = c .before .before .before .before .before .before in
+    let taken = retained .before .before .before .before in
+    let at-retain-atom = retained .retain-atom in
+    let at-atom-of = taken .atom-of in
+    let at-row-at = taken .before .row-at in
+    let at-loop-test = taken .before .before .loop-test in
+    let at-loop = taken .before .before .before .loop in
+    let a = taken .before .before .before .before .before .before .args in
     let v = at-loop .inv in (
       omega arith,
       v .1,
@@ -52,7 +55,9 @@ loop-again c =
           .4) (v .3) (at-retain-atom .ensures),
       among-more (a .operands .now) (a .rows .now) (a .at) (at-loop .i) (a
           .m) (at-row-at .result) (set-of (a .live)) (set-of (at-loop .later)) _ (at-atom-of .result) (at-loop-test
-          .taken) (v .0) (v .4) (at-row-at .ensures) (at-atom-of .ensures) (c .add .ensures),
+          .taken) (v .0) (v .4) (at-row-at .ensures) (at-atom-of .ensures) (c .before
+          .member-of .ensures),
+      simp length-set (v .5),
     )
 
 returns : tie.Need-returns Inv-loop μ-loop
@@ -66,5 +71,5 @@ pub put-retains-spec : {M : Type 1} → statement M
 put-retains-spec =
     tie.close
     (tie.spec Inv-loop μ-loop loop-holds (λ c. search needs) (λ c. search needs) (λ c κs. search needs)
-    (λ c κs. search needs) (λ c κs. search needs) (λ c κs. search needs) (λ c. search needs) loop-again
-    (λ c. search needs) (λ c. search needs) returns)
+    (λ c κs. search needs) (λ c κs. search needs) (λ c κs. search needs) (λ c. search needs) (λ c. search needs)
+    (λ c. search needs) loop-again (λ c. search needs) (λ c. search needs) returns)

@@ -1,3 +1,4 @@
+use Rattle.normal_code.proofs.Sets.{without-in}
 use Rattle.normal_write.proofs.Laws.{took-all}
 use borrow.Author.Needs.{needs}
 use Rattle.normal_write.proofs.marks.take_handed.Statement.{statement}
@@ -5,9 +6,10 @@ use Rattle.normal_write.proofs.marks.take_handed.Tie as tie
 
 returns : tie.Need-returns
 returns c =
-    took-all _ (c .take-atoms .ensures) (c .before .before .without .ensures)
+    let a = c .before .before .before .args in
+    took-all _ (c .take-atoms .ensures) (without-in (a .live) (a .x) (search needs))
 
 pub take-handed-spec : {M : Type 1} → statement M
 take-handed-spec =
     tie.close
-    (tie.spec (λ c κs. search needs) (λ c. search needs) (λ c κs. search needs) returns)
+    (tie.spec (λ c. search needs) (λ c. search needs) (λ c κs. search needs) returns)
