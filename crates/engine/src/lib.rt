@@ -1,6 +1,7 @@
 // The calls for C. Each takes the script file and the two code arrays, translates afresh, and answers one packed
 // number.
 use engine_load::Loaded;
+use machine_code::TABLE_BYTES;
 ghost use Rattle.semantics.specs.Calls.{engine-translate, engine-open, engine-check, engine-deliver};
 ghost use Rattle.semantics.specs.SaveCalls.{engine-save, engine-restore};
 ghost use Rattle.engine.specs.Promises.{Translates, Replies, Saves};
@@ -80,7 +81,7 @@ pub extern "C" fn engine_deliver(
         (now (slots .entry)) (now (heads .entry)) (now (readings .entry)) budget)
         r (now (kinds .exit)) (now (operands .exit)) (now (slots .exit)) (now (heads .exit)) ⌝ }
 {
-    let mut table = [0u8; 16448];
+    let mut table = [0u8; TABLE_BYTES];
     match engine_load::load_with(file, kinds, operands, &mut table) {
         Loaded::Ready(lines, depth) => {
             let ended = engine_delivery::deliver_words(

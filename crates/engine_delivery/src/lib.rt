@@ -1,5 +1,6 @@
 // The store's part of a delivery: refusals 10 and 11, the delivery itself, and every word of the two lent arrays.
 use engine_store::Ended;
+use machine_code::TABLE_BYTES;
 ghost use mathlib.Core.Path.{_≡_};
 ghost use Rattle.semantics.specs.Calls.{request-fits};
 ghost use Rattle.machine_code.specs.Reading.{Cut};
@@ -19,7 +20,7 @@ fn request_fits(readings: &[i64], budget: u64) -> bool
 pub fn deliver_words(
     kinds: &[u8],
     operands: &[i64],
-    table: &[u8; 16448],
+    table: &[u8; TABLE_BYTES],
     slots: &mut [i64],
     heads: &mut [u32],
     readings: &[i64],

@@ -22,7 +22,7 @@ use Rattle.script.specs.Verdicts.{Judges}
 use Rattle.script.proofs.Whole.{kinds-of, operands-of}
 use Rattle.script_nodes.specs.Admitted.{no-script, admitted-judged}
 use Rattle.soundness.specs.annotation.Accepting.{judged-clean}
-use Rattle.machine_code.specs.Reading.{depth-in, start-in}
+use Rattle.machine_code.specs.Reading.{table-bytes, depth-in, start-in}
 use Rattle.machine_positions.specs.Machine as M
 use Rattle.machine_laws.specs.Rows.{At}
 use Rattle.machine_table.specs.Positions.{ends-from, starts-from, filled}
@@ -190,7 +190,7 @@ module _ {file kinds : List ℕ} {operands : List ℤ} {table kinds′ : List �
 
       by : (gs : Script) → (gs ≡ a .tree) × (code-fits (a .tree) (room kinds operands) ≡ true) →
           record { answer = r; kinds = kinds′; operands = operands′ } ≡ left-of (a .tree) kinds operands →
-          DepthsFrom 0 (a .tree) table table′ → 16448 ≤ length table →
+          DepthsFrom 0 (a .tree) table table′ → table-bytes ≤ length table →
           (length gs ≤ 32) × Coded gs (M.code kinds′ operands′ (table-after f kinds′ operands′ r table′))
       by gs g l h long =
           let s = rw (g .1) at l in

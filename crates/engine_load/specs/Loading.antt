@@ -4,6 +4,7 @@ use mathlib.Core.Path.{_≡_}
 use mathlib.Core.List.{List}
 use lib.IntN.{ℤ, pos}
 use lib.ListN.{length, replicate}
+use Rattle.machine_code.specs.Reading.{table-bytes}
 use Rattle.semantics.specs.Syntax.{Script, main-depth}
 use Rattle.semantics.specs.Annotate.{code}
 use Rattle.semantics.specs.Calls.{Verdict, accepted, refused, packed, admitted, room, code-kinds, code-operands}
@@ -38,4 +39,4 @@ pub record LoadsWith (file kinds : List ℕ) (operands : List ℤ) (table : List
     (operands′ : List ℤ) (table′ : List ℕ) : Type 0 where
   pub loads : Loads file kinds operands r kinds′ operands′
   pub coded : (fs : Script) → admitted file (room kinds operands) ≡ accepted fs →
-      16448 ≤ length table → (length fs ≤ 32) × Coded fs (M.code kinds′ operands′ table′)
+      table-bytes ≤ length table → (length fs ≤ 32) × Coded fs (M.code kinds′ operands′ table′)

@@ -4,6 +4,8 @@
 use machine_code::Atom;
 use machine_code::Line;
 use machine_code::Loop;
+use machine_code::TABLE_BYTES;
+use machine_frames::FRAME_WORDS;
 use machine_frames::Out;
 use machine_loops::Begun;
 use machine_loops::Next;
@@ -12,6 +14,7 @@ ghost use mathlib.Core.Path.{_≡_};
 ghost use Prim.Native.Nat.{_<_};
 ghost use lib.ListN.{length};
 ghost use Rattle.semantics.specs.Words.{store-of};
+ghost use Rattle.machine_frames.specs.Frames.{frame-words};
 ghost use Rattle.machine_code.specs.Reading.{Cut};
 ghost use Rattle.machine_frames.specs.Work.{memory};
 ghost use Rattle.machine_lines.specs.Lines.{kind-of, first-name, second-name, atoms-of};
@@ -23,16 +26,16 @@ ghost use Rattle.machine_positions.specs.Machine.{line-on, tree-on, call-on};
 pub fn work_tree(
     kinds: &&[u8],
     operands: &&[i64],
-    table: &[u8; 16448],
+    table: &[u8; TABLE_BYTES],
     slots: &mut [i64],
     heads: &mut [u32],
-    env: &mut [i64; 8226],
+    env: &mut [i64; FRAME_WORDS],
     steps: u64,
     lines: u64,
     calls: usize,
     at: usize,
 ) -> Out
-    requires { ⌜ (calls < 32) × (length (now env) ≡ 8226) × Cut (now (now kinds)) (now (now operands)) ⌝ }
+    requires { ⌜ (calls < 32) × (length (now env) ≡ frame-words) × Cut (now (now kinds)) (now (now operands)) ⌝ }
     ensures { λ r. ⌜ Ended (tree-on lines
         (call-on calls (code (now (now (kinds .entry))) (now (now (operands .entry))) (now (table .entry))))
         (code (now (now (kinds .entry))) (now (now (operands .entry))) (now (table .entry))) calls at steps
@@ -85,17 +88,17 @@ pub fn work_tree(
 fn work_line(
     kinds: &&[u8],
     operands: &&[i64],
-    table: &[u8; 16448],
+    table: &[u8; TABLE_BYTES],
     slots: &mut [i64],
     heads: &mut [u32],
-    env: &mut [i64; 8226],
+    env: &mut [i64; FRAME_WORDS],
     steps: u64,
     lines: u64,
     calls: usize,
     at: usize,
     l: Line,
 ) -> Out
-    requires { ⌜ (at < length (now (now kinds))) × (calls < 32) × (length (now env) ≡ 8226)
+    requires { ⌜ (at < length (now (now kinds))) × (calls < 32) × (length (now env) ≡ frame-words)
         × Cut (now (now kinds)) (now (now operands)) ⌝ }
     ensures { λ r. ⌜ Ended (line-on
         (tree-on lines
@@ -167,10 +170,10 @@ fn work_line(
 fn work_if(
     kinds: &&[u8],
     operands: &&[i64],
-    table: &[u8; 16448],
+    table: &[u8; TABLE_BYTES],
     slots: &mut [i64],
     heads: &mut [u32],
-    env: &mut [i64; 8226],
+    env: &mut [i64; FRAME_WORDS],
     steps: u64,
     lines: u64,
     calls: usize,
@@ -178,7 +181,7 @@ fn work_if(
     x: u8,
     g: Atom,
 ) -> Out
-    requires { ⌜ (at < length (now (now kinds))) × (calls < 32) × (length (now env) ≡ 8226)
+    requires { ⌜ (at < length (now (now kinds))) × (calls < 32) × (length (now env) ≡ frame-words)
         × Cut (now (now kinds)) (now (now operands)) ⌝ }
     ensures { λ r. ⌜ Ended (if-line
         (tree-on lines
@@ -222,17 +225,17 @@ fn work_if(
 fn work_call(
     kinds: &&[u8],
     operands: &&[i64],
-    table: &[u8; 16448],
+    table: &[u8; TABLE_BYTES],
     slots: &mut [i64],
     heads: &mut [u32],
-    env: &mut [i64; 8226],
+    env: &mut [i64; FRAME_WORDS],
     steps: u64,
     calls: usize,
     at: usize,
     x: u8,
     g: u8,
 ) -> Out
-    requires { ⌜ (at < length (now (now kinds))) × (calls < 32) × (length (now env) ≡ 8226)
+    requires { ⌜ (at < length (now (now kinds))) × (calls < 32) × (length (now env) ≡ frame-words)
         × Cut (now (now kinds)) (now (now operands)) ⌝ }
     ensures { λ r. ⌜ Ended (call-line
         (call-on calls (code (now (now (kinds .entry))) (now (now (operands .entry))) (now (table .entry))))
@@ -275,10 +278,10 @@ fn work_call(
 fn work_loop(
     kinds: &&[u8],
     operands: &&[i64],
-    table: &[u8; 16448],
+    table: &[u8; TABLE_BYTES],
     slots: &mut [i64],
     heads: &mut [u32],
-    env: &mut [i64; 8226],
+    env: &mut [i64; FRAME_WORDS],
     steps: u64,
     lines: u64,
     calls: usize,
@@ -286,7 +289,7 @@ fn work_loop(
     x: u8,
     l: Loop,
 ) -> Out
-    requires { ⌜ (at < length (now (now kinds))) × (calls < 32) × (length (now env) ≡ 8226)
+    requires { ⌜ (at < length (now (now kinds))) × (calls < 32) × (length (now env) ≡ frame-words)
         × Cut (now (now kinds)) (now (now operands)) ⌝ }
     ensures { λ r. ⌜ Ended (loop-line
         (tree-on lines
@@ -327,17 +330,17 @@ fn work_loop(
 fn work_pass(
     kinds: &&[u8],
     operands: &&[i64],
-    table: &[u8; 16448],
+    table: &[u8; TABLE_BYTES],
     slots: &mut [i64],
     heads: &mut [u32],
-    env: &mut [i64; 8226],
+    env: &mut [i64; FRAME_WORDS],
     steps: u64,
     lines: u64,
     calls: usize,
     at: usize,
     l: Passes,
 ) -> Out
-    requires { ⌜ (calls < 32) × (length (now env) ≡ 8226) × Cut (now (now kinds)) (now (now operands))
+    requires { ⌜ (calls < 32) × (length (now env) ≡ frame-words) × Cut (now (now kinds)) (now (now operands))
         × Usable (now slots) (now heads) l ⌝ }
     ensures { λ r. ⌜ Ended (passes-on (looped (l .way)
         (tree-on lines

@@ -63,11 +63,21 @@ line-at kinds operands at =
 -- trees, and then, for each of 4,096 rows, the position after the tree that begins there; a position has two bytes, low
 -- byte first
 
+-- how many bytes there are, and where the two kinds of positions begin
+abbrev pub table-bytes : ℕ
+table-bytes = 16448
+
+abbrev pub starts-place : ℕ
+starts-place = 8192
+
+abbrev pub ends-place : ℕ
+ends-place = 8256
+
 unfoldable pub depth-in : List ℕ → ℕ → ℕ → ℕ
 depth-in table f x = getD table (256 * f + x) 0
 
 unfoldable pub start-in : List ℕ → ℕ → ℕ
-start-in table f = getD table (8192 + 2 * f) 0 + 256 * getD table (8192 + 2 * f + 1) 0
+start-in table f = getD table (starts-place + 2 * f) 0 + 256 * getD table (starts-place + 2 * f + 1) 0
 
 unfoldable pub end-in : List ℕ → ℕ → ℕ
-end-in table at = getD table (8256 + 2 * at) 0 + 256 * getD table (8256 + 2 * at + 1) 0
+end-in table at = getD table (ends-place + 2 * at) 0 + 256 * getD table (ends-place + 2 * at + 1) 0

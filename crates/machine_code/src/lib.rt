@@ -39,6 +39,14 @@ pub enum Line {
     End(Atom),
 }
 
+// The table of a script's functions and trees: how many bytes it has, and where the positions of the functions' trees
+// and those after trees begin behind the depths of names.
+pub const TABLE_BYTES: usize = 16448;
+
+pub const STARTS: usize = 8192;
+
+pub const ENDS: usize = 8256;
+
 // The kind at a position.
 pub fn kind_at(kinds: &[u8], at: usize) -> u8
     ensures { λ r. ⌜ r ≡ getD (now (kinds .entry)) at 0 ⌝ }
@@ -172,7 +180,7 @@ pub fn element_depth(table: &[u8], f: u8, x: u8) -> u32
 pub fn start_in(table: &[u8], f: u8) -> usize
     ensures { λ r. ⌜ r ≡ start-in (now (table .entry)) f ⌝ }
 {
-    let at = 8192 + 2 * (f as usize);
+    let at = STARTS + 2 * (f as usize);
     byte_at(table, at) + 256 * byte_at(table, at + 1)
 }
 
@@ -183,6 +191,6 @@ pub fn end_in(table: &[u8], at: usize) -> usize
     if table.len() / 2 <= at {
         return 0;
     }
-    let place = 8256 + 2 * at;
+    let place = ENDS + 2 * at;
     byte_at(table, place) + 256 * byte_at(table, place + 1)
 }

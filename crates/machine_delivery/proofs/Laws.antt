@@ -16,7 +16,7 @@ use Rattle.store.specs.declared.Acquired.{Acquired}
 use Rattle.store.specs.declared.Acquired.the-variants.{Cell, NoneFree}
 use Rattle.machine_code.specs.Reading.{start-in}
 use Rattle.machine_frames.specs.declared.Out.{Out}
-use Rattle.machine_frames.specs.Frames.{place, function-place, put-all, lowest-of, levelled}
+use Rattle.machine_frames.specs.Frames.{frame-words, place, function-place, put-all, lowest-of, levelled}
 use Rattle.machine_frames.specs.Work.{memory, ran}
 use Rattle.machine_positions.specs.Machine.{Code, tree-on, call-on, Ended}
 use Rattle.machine_positions.specs.Delivery.{Tried, tried, retained-totals, released-totals, finished}
@@ -59,7 +59,7 @@ pub record MainEnds (t : Tried) (budget d : ℕ) (old : ℤ) (r : Out) (least : 
 
 module _ (c : Code) (d : ℕ) (old : ℤ) (k n budget : ℕ) (slots : List ℤ) (heads heads₁ : List ℕ)
     (σe : store-of slots heads₁ ≡ retained-totals d old (store-of slots heads)) (z : ℤ) (ze : z ≡ pos k)
-    (env₀ env₁ env₂ env₃ : List ℤ) (e₀ : env₀ ≡ levelled n (replicate 8226 (pos 0)))
+    (env₀ env₁ env₂ env₃ : List ℤ) (e₀ : env₀ ≡ levelled n (replicate frame-words (pos 0)))
     (e₁ : env₁ ≡ set env₀ (place 31 0) old) (e₂ : env₂ ≡ set env₁ (place 31 1) z)
     (e₃ : env₃ ≡ set env₂ (function-place 31) (pos 0)) (start : ℕ)
     (se : start ≡ start-in (c .table) 0) (r : Out) (sl : List ℤ) (he : List ℕ) (en : List ℤ)

@@ -1,5 +1,7 @@
 // A delivery on the code of a script, cut to its lines, and a store: the readings' cell, main, the result in the
 // totals' place; and after a stop the old store, linked anew.
+use machine_code::TABLE_BYTES;
+use machine_frames::FRAME_WORDS;
 use store::Acquired;
 ghost use mathlib.Core.Path.{_≡_};
 ghost use mathlib.Core.Bool.{true};
@@ -50,7 +52,7 @@ fn release_totals(slots: &mut [i64], heads: &mut [u32], depth: u32, old: i64)
 fn work_main(
     kinds: &[u8],
     operands: &[i64],
-    table: &[u8; 16448],
+    table: &[u8; TABLE_BYTES],
     slots: &mut [i64],
     heads: &mut [u32],
     depth: u32,
@@ -66,7 +68,7 @@ fn work_main(
         budget r (now (slots .exit)) (now (heads .exit))) ⌝ }
 {
     retain_totals(slots, heads, depth, old);
-    let mut env = [0i64; 8226];
+    let mut env = [0i64; FRAME_WORDS];
     machine_frames::set_level(&mut env, free);
     machine_frames::bind(&mut env, 31, 0, old);
     machine_frames::bind(&mut env, 31, 1, readings);
@@ -102,7 +104,7 @@ fn work_main(
 fn attempt(
     kinds: &[u8],
     operands: &[i64],
-    table: &[u8; 16448],
+    table: &[u8; TABLE_BYTES],
     slots: &mut [i64],
     heads: &mut [u32],
     readings: &[i64],
@@ -146,7 +148,7 @@ fn attempt(
 fn deliver_kept(
     kinds: &[u8],
     operands: &[i64],
-    table: &[u8; 16448],
+    table: &[u8; TABLE_BYTES],
     slots: &mut [i64],
     heads: &mut [u32],
     readings: &[i64],
@@ -192,7 +194,7 @@ fn deliver_kept(
 pub fn deliver_on(
     kinds: &[u8],
     operands: &[i64],
-    table: &[u8; 16448],
+    table: &[u8; TABLE_BYTES],
     slots: &mut [i64],
     heads: &mut [u32],
     readings: &[i64],

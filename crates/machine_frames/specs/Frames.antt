@@ -12,6 +12,10 @@ use Rattle.machine_code.specs.Reading.{low-bits, atom-at, is-atom, depth-in, en
 use Rattle.machine_code.specs.declared.Atom.{Atom}
 use Rattle.machine_code.specs.declared.Atom.the-variants.{Number, Name}
 
+-- how many words there are
+abbrev pub frame-words : ℕ
+frame-words = 8226
+
 -- the place of a name's word, in the frame of a call below which so many more can be nested
 abbrev pub place : ℕ → ℕ → ℕ
 place calls x = 256 * calls + x

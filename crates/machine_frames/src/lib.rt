@@ -9,10 +9,21 @@ ghost use Prim.Native.Nat.{_+_, _≤_, _<_};
 ghost use lib.IntN.{pos};
 ghost use lib.ListN.{length, set};
 ghost use Rattle.machine_code.specs.Reading.{Cut};
-ghost use Rattle.machine_frames.specs.Frames.{place, word-of, words-at, Passed};
+ghost use Rattle.machine_frames.specs.Frames.{frame-words, place, word-of, words-at, Passed};
 ghost use Rattle.machine_frames.specs.Frames.{function-place, function-of, element-depth, level-of, lowest-of};
 ghost use Rattle.machine_frames.specs.Frames.{levelled, noted, raised};
 ghost use Rattle.machine_frames.specs.Work.{out, left, bound-result};
+
+// How many words the frames have.
+pub const FRAME_WORDS: usize = 8226;
+
+// The place of the number of the function that is worked in the first frame; those of the others follow.
+const FUNCTIONS: usize = 8192;
+
+// The places of the number of free cells, and of the least such number.
+const LEVEL: usize = 8224;
+
+const LOWEST: usize = 8225;
 
 // How work ends: the number of its stop or 0, its value, the position where the code goes on, the steps left.
 pub struct Out {
@@ -67,14 +78,14 @@ pub fn done(value: i64, next: usize, steps: u64) -> Out
 // The place of a name's word among the frames.
 pub fn place(calls: usize, x: u8) -> usize
     requires { ⌜ calls < 32 ⌝ }
-    ensures { λ r. ⌜ (r ≡ place calls x) × (r < 8226) ⌝ }
+    ensures { λ r. ⌜ (r ≡ place calls x) × (r < frame-words) ⌝ }
 {
     256 * calls + x as usize
 }
 
 // The word of an atom.
-pub fn word_of(env: &[i64; 8226], calls: usize, a: Atom) -> i64
-    requires { ⌜ (calls < 32) × (length (now env) ≡ 8226) ⌝ }
+pub fn word_of(env: &[i64; FRAME_WORDS], calls: usize, a: Atom) -> i64
+    requires { ⌜ (calls < 32) × (length (now env) ≡ frame-words) ⌝ }
     ensures { λ r. ⌜ r ≡ word-of calls (now (env .entry)) a ⌝ }
 {
     match a {
@@ -84,16 +95,16 @@ pub fn word_of(env: &[i64; 8226], calls: usize, a: Atom) -> i64
 }
 
 // Binds a name.
-pub fn bind(env: &mut [i64; 8226], calls: usize, x: u8, w: i64)
-    requires { ⌜ (calls < 32) × (length (now env) ≡ 8226) ⌝ }
+pub fn bind(env: &mut [i64; FRAME_WORDS], calls: usize, x: u8, w: i64)
+    requires { ⌜ (calls < 32) × (length (now env) ≡ frame-words) ⌝ }
     ensures { λ _. ⌜ now (env .exit) ≡ set (now (env .entry)) (place calls x) w ⌝ }
 {
     env[place(calls, x)] = w;
 }
 
 // Binds the word of work that was not stopped to a name, with the code going on at a position.
-pub fn bind_result(env: &mut [i64; 8226], calls: usize, x: u8, r: Out, next: usize) -> Out
-    requires { ⌜ (calls < 32) × (length (now env) ≡ 8226) ⌝ }
+pub fn bind_result(env: &mut [i64; FRAME_WORDS], calls: usize, x: u8, r: Out, next: usize) -> Out
+    requires { ⌜ (calls < 32) × (length (now env) ≡ frame-words) ⌝ }
     ensures { λ q. ⌜ left q (now (env .exit)) ≡ bound-result calls x next r (now (env .entry)) ⌝ }
 {
     let stop = r.stop;
@@ -106,73 +117,73 @@ pub fn bind_result(env: &mut [i64; 8226], calls: usize, x: u8, r: Out, next: usi
 }
 
 // The number of the function that is worked in a frame.
-pub fn function_of(env: &[i64; 8226], calls: usize) -> u8
-    requires { ⌜ (calls < 32) × (length (now env) ≡ 8226) ⌝ }
+pub fn function_of(env: &[i64; FRAME_WORDS], calls: usize) -> u8
+    requires { ⌜ (calls < 32) × (length (now env) ≡ frame-words) ⌝ }
     ensures { λ r. ⌜ r ≡ function-of calls (now (env .entry)) ⌝ }
 {
-    (machine_code::low_bits(env[8192 + calls]) % 256) as u8
+    (machine_code::low_bits(env[FUNCTIONS + calls]) % 256) as u8
 }
 
 // The element depth of an array by its name, in the function that is worked.
-pub fn element_depth(table: &[u8], env: &[i64; 8226], calls: usize, x: u8) -> u32
-    requires { ⌜ (calls < 32) × (length (now env) ≡ 8226) ⌝ }
+pub fn element_depth(table: &[u8], env: &[i64; FRAME_WORDS], calls: usize, x: u8) -> u32
+    requires { ⌜ (calls < 32) × (length (now env) ≡ frame-words) ⌝ }
     ensures { λ r. ⌜ r ≡ element-depth (now (table .entry)) calls x (now (env .entry)) ⌝ }
 {
     machine_code::element_depth(table, function_of(env, calls), x)
 }
 
 // Says which function is worked in a frame.
-pub fn set_function(env: &mut [i64; 8226], calls: usize, f: u8)
-    requires { ⌜ (calls < 32) × (length (now env) ≡ 8226) ⌝ }
+pub fn set_function(env: &mut [i64; FRAME_WORDS], calls: usize, f: u8)
+    requires { ⌜ (calls < 32) × (length (now env) ≡ frame-words) ⌝ }
     ensures { λ _. ⌜ now (env .exit) ≡ set (now (env .entry)) (function-place calls) (pos f) ⌝ }
 {
-    env[8192 + calls] = f as i64;
+    env[FUNCTIONS + calls] = f as i64;
 }
 
 // How many cells are free.
-pub fn level(env: &[i64; 8226]) -> u32
-    requires { ⌜ length (now env) ≡ 8226 ⌝ }
+pub fn level(env: &[i64; FRAME_WORDS]) -> u32
+    requires { ⌜ length (now env) ≡ frame-words ⌝ }
     ensures { λ r. ⌜ (r ≡ level-of (now (env .entry))) × (r < 16777216) ⌝ }
 {
-    machine_code::low_bits(env[8224]) as u32
+    machine_code::low_bits(env[LEVEL]) as u32
 }
 
 // The least number of free cells so far.
-pub fn lowest(env: &[i64; 8226]) -> u32
-    requires { ⌜ length (now env) ≡ 8226 ⌝ }
+pub fn lowest(env: &[i64; FRAME_WORDS]) -> u32
+    requires { ⌜ length (now env) ≡ frame-words ⌝ }
     ensures { λ r. ⌜ (r ≡ lowest-of (now (env .entry))) × (r < 16777216) ⌝ }
 {
-    machine_code::low_bits(env[8225]) as u32
+    machine_code::low_bits(env[LOWEST]) as u32
 }
 
 // Says how many cells are free, as never fewer were.
-pub fn set_level(env: &mut [i64; 8226], n: u32)
-    requires { ⌜ length (now env) ≡ 8226 ⌝ }
+pub fn set_level(env: &mut [i64; FRAME_WORDS], n: u32)
+    requires { ⌜ length (now env) ≡ frame-words ⌝ }
     ensures { λ _. ⌜ now (env .exit) ≡ levelled n (now (env .entry)) ⌝ }
 {
-    env[8224] = n as i64;
-    env[8225] = n as i64;
+    env[LEVEL] = n as i64;
+    env[LOWEST] = n as i64;
 }
 
 // Says how many cells are free after an acquire.
-pub fn note_level(env: &mut [i64; 8226], n: u32)
-    requires { ⌜ length (now env) ≡ 8226 ⌝ }
+pub fn note_level(env: &mut [i64; FRAME_WORDS], n: u32)
+    requires { ⌜ length (now env) ≡ frame-words ⌝ }
     ensures { λ _. ⌜ now (env .exit) ≡ noted n (now (env .entry)) ⌝ }
 {
     let least = lowest(env);
-    env[8224] = n as i64;
+    env[LEVEL] = n as i64;
     if n < least {
-        env[8225] = n as i64;
+        env[LOWEST] = n as i64;
     }
 }
 
 // Says that a release freed so many cells.
-pub fn raise_level(env: &mut [i64; 8226], freed: u32)
-    requires { ⌜ (freed ≤ 256) × (length (now env) ≡ 8226) ⌝ }
+pub fn raise_level(env: &mut [i64; FRAME_WORDS], freed: u32)
+    requires { ⌜ (freed ≤ 256) × (length (now env) ≡ frame-words) ⌝ }
     ensures { λ _. ⌜ now (env .exit) ≡ raised freed (now (env .entry)) ⌝ }
 {
     let n = level(env);
-    env[8224] = (n + freed) as i64;
+    env[LEVEL] = (n + freed) as i64;
 }
 
 // A small number as a word.
@@ -188,12 +199,12 @@ pub fn word_from(n: usize) -> i64
 pub fn pass_arguments(
     kinds: &[u8],
     operands: &[i64],
-    env: &mut [i64; 8226],
+    env: &mut [i64; FRAME_WORDS],
     calls: usize,
     below: usize,
     at: usize,
 ) -> usize
-    requires { ⌜ (at ≤ length (now kinds)) × (below < calls) × (calls < 32) × (length (now env) ≡ 8226)
+    requires { ⌜ (at ≤ length (now kinds)) × (below < calls) × (calls < 32) × (length (now env) ≡ frame-words)
         × Cut (now kinds) (now operands) ⌝ }
     ensures { λ r. ⌜ Passed (words-at 16 (now (kinds .entry)) (now (operands .entry)) calls (now (env .entry)) at)
         below r (now (env .entry)) (now (env .exit)) ⌝ }

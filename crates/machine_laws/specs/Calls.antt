@@ -16,7 +16,7 @@ use Rattle.semantics.specs.Live.{Set, empty}
 use Rattle.semantics.specs.Machine.{Event, State, Program, routine-of, frame-from, machine}
 use Rattle.working.specs.machine.Discipline.{Fitting, Scoped, parameter-names}
 use Rattle.machine_code.specs.Reading.{low-bits, depth-in, start-in}
-use Rattle.machine_frames.specs.Frames.{place, function-place, put-all, called, level-place}
+use Rattle.machine_frames.specs.Frames.{frame-words, place, function-place, put-all, called, level-place}
 use Rattle.machine_frames.specs.Work.{memory}
 use Rattle.machine_positions.specs.Machine.{Code, call-on, tree-on}
 use Rattle.machine_positions.specs.Lengths.{put-keeps, called-keeps}
@@ -74,7 +74,7 @@ parameters n = λ x. ltb x n
 pub bounded-parameters : (n : ℕ) → n ≤ 16 → Bounded (parameters n)
 bounded-parameters n h = record { below = λ x e. omega (arith, h, ltb-true x n e) }
 
-pub arguments-agree : (calls f : ℕ) (ws : List ℤ) (env : List ℤ) → calls ≤ 31 → length ws ≤ 16 → 8226 ≤ length env →
+pub arguments-agree : (calls f : ℕ) (ws : List ℤ) (env : List ℤ) → calls ≤ 31 → length ws ≤ 16 → frame-words ≤ length env →
     FrameAgrees calls (called calls f ws env) (frame-from ws 0) (parameters (length ws))
 arguments-agree calls f ws env small few long = record {
   agree = λ x e.
@@ -87,7 +87,7 @@ arguments-agree calls f ws env small few long = record {
       e));
 }
 
-framed-called : (calls f : ℕ) (ws : List ℤ) (env : List ℤ) → calls ≤ 31 → f < 256 → 8226 ≤ length env →
+framed-called : (calls f : ℕ) (ws : List ℤ) (env : List ℤ) → calls ≤ 31 → f < 256 → frame-words ≤ length env →
     Framed calls f (called calls f ws env)
 framed-called calls f ws env small h long = record {
   few = small;
@@ -128,7 +128,7 @@ module _ (free : ℕ) (p : Program) (enough : length (p .routines) ≤ 32) (c : 
   -- a routine's tree, with some call depth left
   pub function-same : (n : ℕ) → n ≤ 31 → CalleeSame free p n (call-on n c) (machine p n) → (R : List ℕ) (g : ℕ)
       (ws : List ℤ) (env : List ℤ) (s : State) → g < length (p .routines) →
-      length ws ≡ length (p .signatures g .parameters) → 8226 ≤ length env →
+      length ws ≡ length (p .signatures g .parameters) → frame-words ≤ length env →
       LevelsAgree free (s .log) env → Rel free (TreeDone free (start-in (c .table) g + length (rows (routine-of p g
       .tree))) n
       (called n g ws env) (parameters (length ws)))

@@ -18,7 +18,7 @@ use Rattle.semantics.specs.Machine.{lowest-over}
 use Rattle.laws.specs.Levels.{LevelsUpTo, release-lowest}
 use Rattle.store.specs.Acquiring.{gained, next-cell}
 use Rattle.machine_code.specs.Reading.{start-in}
-use Rattle.machine_frames.specs.Frames.{levelled, level-place, lowest-place}
+use Rattle.machine_frames.specs.Frames.{frame-words, levelled, level-place, lowest-place}
 use Rattle.machine_frames.specs.Work.{memory, Ran}
 use Rattle.machine_positions.specs.Machine.{Code, tree-on, call-on}
 use Rattle.machine_positions.specs.Delivery.{finished, main-frame, main-on}
@@ -76,7 +76,7 @@ finish-same d old budget σ next calls env S w (stop n s) h up =
 
 -- no word of any frame
 abbrev no-words : List ℤ
-no-words = replicate 8226 (pos 0)
+no-words = replicate frame-words (pos 0)
 
 module _ (p : Program) (enough : length (p .routines) ≤ 32) (c : Code) (some : 0 < length (p .routines))
     (two : 2 ≡ length (p .signatures 0 .parameters)) (all : (g : ℕ) → g < length (p .routines) → FunctionStands p c g)
@@ -104,9 +104,9 @@ module _ (p : Program) (enough : length (p .routines) ≤ 32) (c : Code) (some :
         (calls-same (free-cells σ) p enough c all jumps 31 (omega arith)) R 0 (old ∷ pos k ∷ []) (levelled n no-words)
         s some two (omega (arith, long)) levels) up)
       where
-        long : length (levelled n no-words) ≡ 8226
+        long : length (levelled n no-words) ≡ frame-words
         long = length-set (set no-words level-place (pos n)) lowest-place (pos n)
-            ∙ length-set no-words level-place (pos n) ∙ length-replicate 8226 (pos 0)
+            ∙ length-set no-words level-place (pos n) ∙ length-replicate frame-words (pos 0)
 
   main-same : (d : ℕ) (old : ℤ) (k n budget : ℕ) (σ : Store) (R : List ℕ) (s : State) → s .left ≡ budget →
       LevelsAgree (free-cells σ) (s .log) (levelled n no-words) →
@@ -153,4 +153,4 @@ module _ (p : Program) (enough : length (p .routines) ≤ 32) (c : Code) (some :
           ≡ delivered-by budget σ (onward then-main (acquire-if (has-free σ) R 0 readings before))
       by-cell false e = rw e (λ up. refl)
       by-cell true e = rw e (λ up. main-same d old (σ .first) n budget σ R _ refl
-          (levels-started (free-cells σ) (σ .first) no-words (omega (arith, length-replicate 8226 (pos 0)))) up)
+          (levels-started (free-cells σ) (σ .first) no-words (omega (arith, length-replicate frame-words (pos 0)))) up)

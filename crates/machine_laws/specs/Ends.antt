@@ -14,14 +14,14 @@ use borrow.Author.Tests.{ne-eqb, ltb-true, ltb-false}
 use Rattle.semantics.specs.Kinds.{Leaf, Loop, mapping, filtering, reducing, rewriting, leaf-kind, loop-kind, packed-names}
 use Rattle.semantics.specs.Code as C
 use Rattle.semantics.specs.Code.{Row, row, atom-row, rows, line-rows}
-use Rattle.machine_code.specs.Reading.{end-in}
+use Rattle.machine_code.specs.Reading.{table-bytes, ends-place, end-in}
 use Rattle.machine_table.specs.Positions.{with-position, with-end, trees-of, end-of, ends-from}
 use Rattle.machine_table.proofs.Filling.{length-position}
 use Rattle.machine_laws.specs.Rows.{Here, At, at-first, at-second, not-leaves, leaf-apart}
 
 -- a table with room for the positions of 32 functions and 4,096 rows
 abbrev pub Roomy : List ℕ → Type 0
-Roomy table = 16448 ≤ length table
+Roomy table = table-bytes ≤ length table
 
 -- ---- a position that was written
 
@@ -46,19 +46,19 @@ module _ (table : List ℕ) (place position : ℕ) where
       ∙ getD-set-other table place i (position % 256) 0 f
 
 -- what is written below a row's own position leaves it
-pub end-kept : (table : List ℕ) (place position at : ℕ) → place + 1 < 8256 + 2 * at →
+pub end-kept : (table : List ℕ) (place position at : ℕ) → place + 1 < ends-place + 2 * at →
     end-in (with-position table place position) at ≡ end-in table at
 unfolding end-in
 end-kept table place position at h = omega (
   arith,
-  position-other table place position (8256 + 2 * at) (λ e. omega (arith, e, h)) (λ e. omega (arith, e, h)),
-  position-other table place position (8256 + 2 * at + 1) (λ e. omega (arith, e, h)) (λ e. omega (arith, e, h)),
+  position-other table place position (ends-place + 2 * at) (λ e. omega (arith, e, h)) (λ e. omega (arith, e, h)),
+  position-other table place position (ends-place + 2 * at + 1) (λ e. omega (arith, e, h)) (λ e. omega (arith, e, h)),
 )
 
 end-read : (table : List ℕ) (at end : ℕ) → Roomy table → at < 4096 → end < 65536 → end-in
     (with-end table at end) at ≡ end
 unfolding end-in
-end-read table at end long h small = position-read table (8256 + 2 * at) end (omega (arith, long, h)) small
+end-read table at end long h small = position-read table (ends-place + 2 * at) end (omega (arith, long, h)) small
 
 -- ---- the pass
 
@@ -70,22 +70,22 @@ module _ (kinds : List ℕ) where
   ends-above (suc n) table q h =
       let end = end-of (getD kinds n 0) table n in
       ends-above n (with-end table n end) q (omega arith)
-      ∙ end-kept table (8256 + 2 * n) end q (omega (arith, h))
+      ∙ end-kept table (ends-place + 2 * n) end q (omega (arith, h))
 
-  pub ends-below : (n : ℕ) (table : List ℕ) (i : ℕ) → i < 8256 → getD (ends-from n kinds table) i 0 ≡ getD table i 0
+  pub ends-below : (n : ℕ) (table : List ℕ) (i : ℕ) → i < ends-place → getD (ends-from n kinds table) i 0 ≡ getD table i 0
   unfolding ends-from
   ends-below zero table i h = refl
   ends-below (suc n) table i h =
       let end = end-of (getD kinds n 0) table n in
       ends-below n (with-end table n end) i h
-      ∙ position-other table (8256 + 2 * n) end i (λ e. omega (arith, e, h)) (λ e. omega (arith, e, h))
+      ∙ position-other table (ends-place + 2 * n) end i (λ e. omega (arith, e, h)) (λ e. omega (arith, e, h))
 
   pub ends-long : (n : ℕ) (table : List ℕ) → length (ends-from n kinds table) ≡ length table
   unfolding ends-from
   ends-long zero table = refl
   ends-long (suc n) table =
       let end = end-of (getD kinds n 0) table n in
-      ends-long n (with-end table n end) ∙ length-position table (8256 + 2 * n) end
+      ends-long n (with-end table n end) ∙ length-position table (ends-place + 2 * n) end
 
   -- a row's position was found on a table that has those of the rows behind it
   record Found (T : List ℕ) (q : ℕ) : Type 0 where
@@ -98,7 +98,7 @@ module _ (kinds : List ℕ) where
   found zero table long few q h = absurd (omega arith)
   found (suc n) table long few q h = by (ltb q n) refl
       (λ l. found n (with-end table n (end-of (getD kinds n 0) table n))
-      (omega (arith, long, length-position table (8256 + 2 * n) (end-of (getD kinds n 0) table n))) (omega (arith, few))
+      (omega (arith, long, length-position table (ends-place + 2 * n) (end-of (getD kinds n 0) table n))) (omega (arith, few))
       q l)
     where
       end : ℕ
@@ -111,7 +111,7 @@ module _ (kinds : List ℕ) where
           (let z : n ≡ q = omega (arith, h, ltb-false q n e) in z) (record {
             before = table;
             behind = λ i l. ends-above n (with-end table n end) i (omega arith)
-                ∙ end-kept table (8256 + 2 * n) end i (omega (arith, l));
+                ∙ end-kept table (ends-place + 2 * n) end i (omega (arith, l));
             is = λ small. ends-above n (with-end table n end) n (omega arith)
                 ∙ end-read table n end long (omega (arith, few)) small;
           })

@@ -20,7 +20,7 @@ use Rattle.laws.specs.Tests.{or-cases, or-left}
 use Rattle.working.specs.machine.Discipline.{Known, AllNew, known-after, LineScoped}
 use Rattle.machine_code.specs.Reading.{low-bits}
 use Rattle.machine_code.proofs.Reading.{no-bool}
-use Rattle.machine_frames.specs.Frames.{place, function-place, function-of, word-of}
+use Rattle.machine_frames.specs.Frames.{frame-words, place, function-place, function-of, word-of}
 use Rattle.machine_frames.specs.Work.{bound}
 use Rattle.machine_laws.specs.Rows.{coded, SmallAtom}
 
@@ -43,7 +43,7 @@ pub record FrameKept (calls : ℕ) (env env′ : List ℤ) (S : Set) : Type 0 wh
 -- the frame of a call of function f is there
 pub record Framed (calls f : ℕ) (env : List ℤ) : Type 0 where
   pub few : calls ≤ 31
-  pub long : 8226 ≤ length env
+  pub long : frame-words ≤ length env
   pub function : function-of calls env ≡ f
 
 pub framed-kept : {calls f : ℕ} {e₀ e₁ : List ℤ} {S : Set} → FrameKept calls e₀ e₁ S → Framed calls f e₀ →

@@ -15,6 +15,7 @@ use Rattle.semantics.specs.Machine.{Event, acquires, touching, release-events, 
 use Rattle.laws.specs.Levels.{LevelsUpTo, level-append, lowest-append, up-to-first, up-to-last}
 use Rattle.laws.specs.Levels.{touching-level, touching-lowest, release-level, release-lowest}
 use Rattle.machine_code.specs.Reading.{low-bits}
+use Rattle.machine_frames.specs.Frames.{frame-words}
 use Rattle.machine_frames.specs.Frames.{level-place, lowest-place, level-of, lowest-of, levelled, noted, raised}
 use Rattle.machine_laws.specs.Frames.{Bounded, FrameKept, kept-then}
 
@@ -59,7 +60,7 @@ module _ {n : ℕ} {log : List Event} {env : List ℤ} (h : LevelsAgree n log en
   }
 
   -- a cell is acquired
-  pub levels-acquired : (c : ℕ) → 8226 ≤ length env →
+  pub levels-acquired : (c : ℕ) → frame-words ≤ length env →
       LevelsAgree n (log ++ (acquires c ∷ [])) (noted (level-of env - 1) env)
   unfolding noted level-after lowest-over
   levels-acquired c long = record { level = λ up. by-level up; lowest = λ up. by-lowest up }
@@ -112,7 +113,7 @@ module _ {n : ℕ} {log : List Event} {env : List ℤ} (h : LevelsAgree n log en
           omega (arith, e) in z)
 
   -- a cell is released down to its last element
-  pub levels-released : (c : ℕ) (σ : Store) → 8226 ≤ length env →
+  pub levels-released : (c : ℕ) (σ : Store) → frame-words ≤ length env →
       LevelsAgree n (log ++ release-events deepest c σ)
       (raised (cells-taken σ - cells-taken (released deepest c σ)) env)
   unfolding raised
@@ -144,7 +145,7 @@ module _ {n : ℕ} {log : List Event} {env : List ℤ} (h : LevelsAgree n log en
           ∙ lowest-kept events (release-lowest deepest c σ) up
 
 -- the readings' cell is acquired
-pub levels-started : (n c : ℕ) (env : List ℤ) → 8226 ≤ length env →
+pub levels-started : (n c : ℕ) (env : List ℤ) → frame-words ≤ length env →
     LevelsAgree n (acquires c ∷ []) (levelled (n - 1) env)
 unfolding level-after lowest-over
 levels-started n c env long = record {

@@ -15,7 +15,7 @@ use Rattle.semantics.specs.Store.{Store}
 use Rattle.semantics.specs.Machine as M
 use Rattle.semantics.specs.Machine.{State, Frame, Program, step, stepped, with-left}
 use Rattle.working.specs.machine.Discipline.{New}
-use Rattle.machine_frames.specs.Frames.{place, function-place}
+use Rattle.machine_frames.specs.Frames.{frame-words, place, function-place}
 use Rattle.machine_frames.specs.Work.{Memory, memory, Ran, ran, out, halted, stepping}
 use Rattle.machine_lines.specs.Lines.{Given, gave}
 use Rattle.machine_positions.specs.Machine.{Callee, and-then, binding}
@@ -70,7 +70,7 @@ pub record CallDone (free calls : ℕ) (env : List ℤ) (w : Ran) (v : ℤ) (s :
 pub record CalleeSame (free : ℕ) (p : Program) (calls : ℕ) (C : Callee) (callee : M.Callee) : Type 0 where
   pub few : (g : ℕ) → g < length (p .routines) → length (p .signatures g .parameters) ≤ 16
   pub same : (R : List ℕ) (g : ℕ) (ws : List ℤ) (env : List ℤ) (s : State) → g < length (p .routines) →
-      length ws ≡ length (p .signatures g .parameters) → 8226 ≤ length env →
+      length ws ≡ length (p .signatures g .parameters) → frame-words ≤ length env →
       LevelsAgree free (s .log) env →
       Rel free (CallDone free calls env) (C g ws (s .left) (memory (s .store) env)) (callee R g ws s)
 

@@ -12,7 +12,7 @@ use Rattle.semantics.specs.Code.{Row, Tree, rows}
 use Rattle.semantics.specs.Borrow.{Table}
 use Rattle.semantics.specs.Annotate.{annotated-body, parameter-rows, function-rows, functions-rows}
 use Rattle.soundness.specs.annotation.Reader.{AllOf, FunctionLimits}
-use Rattle.machine_code.specs.Reading.{start-in, end-in}
+use Rattle.machine_code.specs.Reading.{starts-place, start-in, end-in}
 use Rattle.machine_table.specs.Positions.{with-start, tree-start, starts-from}
 use Rattle.machine_table.proofs.Filling.{length-position, from-more}
 use Rattle.machine_laws.specs.Rows.{At, at-first, at-second}
@@ -20,23 +20,23 @@ use Rattle.machine_laws.specs.Script.{body-at, length-parameters}
 use Rattle.machine_laws.specs.Ends.{Roomy, position-read, position-other, end-kept}
 
 -- what stands before a function's position stays
-start-below : (table : List ℕ) (f start i : ℕ) → i < 8192 + 2 * f → getD (with-start table f start) i 0 ≡ getD table
+start-below : (table : List ℕ) (f start i : ℕ) → i < starts-place + 2 * f → getD (with-start table f start) i 0 ≡ getD table
     i 0
 start-below table f start i h =
-    position-other table (8192 + 2 * f) start i (λ e. omega (arith, e, h)) (λ e. omega (arith, e, h))
+    position-other table (starts-place + 2 * f) start i (λ e. omega (arith, e, h)) (λ e. omega (arith, e, h))
 
 start-read : (table : List ℕ) (f start : ℕ) → Roomy table → f < 32 → start < 65536 →
     start-in (with-start table f start) f ≡ start
 unfolding start-in
-start-read table f start long h small = position-read table (8192 + 2 * f) start (omega (arith, long, h)) small
+start-read table f start long h small = position-read table (starts-place + 2 * f) start (omega (arith, long, h)) small
 
 -- the positions after trees stay
 start-ends : (table : List ℕ) (f start q : ℕ) → f < 32 → end-in (with-start table f start) q ≡ end-in table q
-start-ends table f start q h = end-kept table (8192 + 2 * f) start q (omega (arith, h))
+start-ends table f start q h = end-kept table (starts-place + 2 * f) start q (omega (arith, h))
 
 module _ (kinds : List ℕ) (operands : List ℤ) where
   -- what stands before the first position stays
-  pub starts-below : (n f p : ℕ) (table : List ℕ) (i : ℕ) → i < 8192 + 2 * f →
+  pub starts-below : (n f p : ℕ) (table : List ℕ) (i : ℕ) → i < starts-place + 2 * f →
       getD (starts-from n kinds operands f p table) i 0 ≡ getD table i 0
   unfolding starts-from
   starts-below zero f p table i h = refl
@@ -75,11 +75,11 @@ module _ (kinds : List ℕ) (operands : List ℤ) where
       go true e = e ∙ start-ends table f (tree-start operands p) q (omega arith)
       go false e = refl
 
-  start-same : (a b : List ℕ) (f : ℕ) → ((i : ℕ) → i < 8192 + 2 * (f + 1) → getD a i 0 ≡ getD b i 0) →
+  start-same : (a b : List ℕ) (f : ℕ) → ((i : ℕ) → i < starts-place + 2 * (f + 1) → getD a i 0 ≡ getD b i 0) →
       start-in a f ≡ start-in b f
   unfolding start-in
   start-same a b f h =
-      ap₂ (λ (x : ℕ) (y : ℕ). x + 256 * y) (h (8192 + 2 * f) (omega arith)) (h (8192 + 2 * f + 1) (omega arith))
+      ap₂ (λ (x : ℕ) (y : ℕ). x + 256 * y) (h (starts-place + 2 * f) (omega arith)) (h (starts-place + 2 * f + 1) (omega arith))
 
   -- the table has the position after each tree
   abbrev pub Jumping : List ℕ → Type 0
@@ -132,7 +132,7 @@ module _ (kinds : List ℕ) (operands : List ℤ) (fs : Script) (T : Table) wher
       in z) (next-is f k p after jumps-after here (few .0 .parameters)))
       ∙ by g l
       (λ j m. starts-stand gs (suc f) (p + length mine) after (at-second kinds operands p mine rest h) (few .1)
-      (omega (arith, long, length-position table (8192 + 2 * f) start)) jumps-after (omega arith)
+      (omega (arith, long, length-position table (starts-place + 2 * f) start)) jumps-after (omega arith)
       (omega (arith, length-append mine rest, short)) j m)
     where
       mine : List Row

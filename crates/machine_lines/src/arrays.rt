@@ -2,6 +2,7 @@
 // a word.
 use machine_code::Atom;
 use machine_frames::BAD_COUNT;
+use machine_frames::FRAME_WORDS;
 use machine_frames::OUT_OF_CELLS;
 use machine_frames::OUT_OF_STEPS;
 use machine_frames::Out;
@@ -15,7 +16,7 @@ ghost use Rattle.semantics.specs.Machine.{is-count};
 ghost use Rattle.semantics.specs.Words.{store-of};
 ghost use Rattle.store.specs.Acquiring.{appended-all};
 ghost use Rattle.machine_code.specs.Reading.{Cut};
-ghost use Rattle.machine_frames.specs.Frames.{word-of, words-at, element-depth};
+ghost use Rattle.machine_frames.specs.Frames.{frame-words, word-of, words-at, element-depth};
 ghost use Rattle.machine_frames.specs.Work.{memory, Ends};
 ghost use Rattle.machine_lines.specs.Lines.{Appended, elements-by, retained-times, retained-copies};
 ghost use Rattle.machine_lines.specs.Lines.{literal-line, array-made, array-line};
@@ -26,12 +27,12 @@ fn append_atoms(
     operands: &[i64],
     slots: &mut [i64],
     heads: &mut [u32],
-    env: &[i64; 8226],
+    env: &[i64; FRAME_WORDS],
     calls: usize,
     c: usize,
     at: usize,
 ) -> usize
-    requires { ⌜ (at ≤ length (now kinds)) × (calls < 32) × (length (now env) ≡ 8226)
+    requires { ⌜ (at ≤ length (now kinds)) × (calls < 32) × (length (now env) ≡ frame-words)
         × Cut (now kinds) (now operands) ⌝ }
     ensures { λ r. ⌜ Appended (words-at 16 (now (kinds .entry)) (now (operands .entry)) calls (now (env .entry)) at) c r
         (store-of (now (slots .entry)) (now (heads .entry))) (store-of (now (slots .exit)) (now (heads .exit))) ⌝ }
@@ -55,14 +56,14 @@ pub fn work_literal(
     operands: &[i64],
     slots: &mut [i64],
     heads: &mut [u32],
-    env: &mut [i64; 8226],
+    env: &mut [i64; FRAME_WORDS],
     calls: usize,
     x: u8,
     depth: u8,
     at: usize,
     steps: u64,
 ) -> Out
-    requires { ⌜ (at < length (now kinds)) × (calls < 32) × (length (now env) ≡ 8226)
+    requires { ⌜ (at < length (now kinds)) × (calls < 32) × (length (now env) ≡ frame-words)
         × Cut (now kinds) (now operands) ⌝ }
     ensures { λ r. ⌜ Ends (literal-line (now (kinds .entry)) (now (operands .entry)) calls x depth at steps
         (memory (store-of (now (slots .entry)) (now (heads .entry))) (now (env .entry))))
@@ -142,14 +143,14 @@ fn retain_copies(slots: &[i64], heads: &mut [u32], depth: u32, w: i64, n: usize)
 fn make_array(
     slots: &mut [i64],
     heads: &mut [u32],
-    env: &mut [i64; 8226],
+    env: &mut [i64; FRAME_WORDS],
     counting: bool,
     w: i64,
     depth: u32,
     count: i64,
     steps: u64,
 ) -> Out
-    requires { ⌜ length (now env) ≡ 8226 ⌝ }
+    requires { ⌜ length (now env) ≡ frame-words ⌝ }
     ensures { λ r. ⌜ Ends (array-made counting w depth count steps
         (memory (store-of (now (slots .entry)) (now (heads .entry))) (now (env .entry))))
         r (now (slots .exit)) (now (heads .exit)) (now (env .exit)) ⌝ }
@@ -176,14 +177,14 @@ fn make_array(
 pub fn work_iota(
     slots: &mut [i64],
     heads: &mut [u32],
-    env: &mut [i64; 8226],
+    env: &mut [i64; FRAME_WORDS],
     calls: usize,
     x: u8,
     a: Atom,
     next: usize,
     steps: u64,
 ) -> Out
-    requires { ⌜ (calls < 32) × (length (now env) ≡ 8226) ⌝ }
+    requires { ⌜ (calls < 32) × (length (now env) ≡ frame-words) ⌝ }
     ensures { λ r. ⌜ Ends (array-line calls x next true (pos 0) 0 (word-of calls (now (env .entry)) a) steps
         (memory (store-of (now (slots .entry)) (now (heads .entry))) (now (env .entry))))
         r (now (slots .exit)) (now (heads .exit)) (now (env .exit)) ⌝ }
@@ -198,7 +199,7 @@ pub fn work_replicate(
     table: &[u8],
     slots: &mut [i64],
     heads: &mut [u32],
-    env: &mut [i64; 8226],
+    env: &mut [i64; FRAME_WORDS],
     calls: usize,
     x: u8,
     a: Atom,
@@ -206,7 +207,7 @@ pub fn work_replicate(
     next: usize,
     steps: u64,
 ) -> Out
-    requires { ⌜ (calls < 32) × (length (now env) ≡ 8226) ⌝ }
+    requires { ⌜ (calls < 32) × (length (now env) ≡ frame-words) ⌝ }
     ensures { λ r. ⌜ Ends (array-line calls x next false (word-of calls (now (env .entry)) b)
         (element-depth (now (table .entry)) calls x (now (env .entry))) (word-of calls (now (env .entry)) a) steps
         (memory (store-of (now (slots .entry)) (now (heads .entry))) (now (env .entry))))

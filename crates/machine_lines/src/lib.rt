@@ -4,6 +4,7 @@ mod arrays;
 
 use machine_code::Atom;
 use machine_code::Line;
+use machine_frames::FRAME_WORDS;
 use machine_frames::INDEX_OUT_OF_RANGE;
 use machine_frames::NO_LINE;
 use machine_frames::OUT_OF_STEPS;
@@ -16,6 +17,7 @@ ghost use lib.ListN.{length};
 ghost use Rattle.semantics.specs.Number.{exact};
 ghost use Rattle.semantics.specs.Words.{store-of};
 ghost use Rattle.words.specs.Words.{exact-outcome, checked};
+ghost use Rattle.machine_frames.specs.Frames.{frame-words};
 ghost use Rattle.machine_code.specs.Reading.{Cut};
 ghost use Rattle.machine_frames.specs.Work.{left, memory, Ends};
 ghost use Rattle.machine_lines.specs.Lines.{operation-of, operation-line, index-line, length-line, leaf};
@@ -35,7 +37,7 @@ fn operate(kind: u8, a: i64, b: i64) -> Exact
 
 // A sum, a difference or a comparison.
 fn work_operation(
-    env: &mut [i64; 8226],
+    env: &mut [i64; FRAME_WORDS],
     calls: usize,
     kind: u8,
     x: u8,
@@ -44,7 +46,7 @@ fn work_operation(
     next: usize,
     steps: u64,
 ) -> Out
-    requires { ⌜ (calls < 32) × (length (now env) ≡ 8226) ⌝ }
+    requires { ⌜ (calls < 32) × (length (now env) ≡ frame-words) ⌝ }
     ensures { λ r. ⌜ left r (now (env .exit)) ≡ operation-line calls kind x a b next steps (now (env .entry)) ⌝ }
 {
     if steps == 0 {
@@ -65,7 +67,7 @@ fn work_operation(
 fn work_index(
     slots: &[i64],
     heads: &[u32],
-    env: &mut [i64; 8226],
+    env: &mut [i64; FRAME_WORDS],
     calls: usize,
     x: u8,
     a: Atom,
@@ -73,7 +75,7 @@ fn work_index(
     next: usize,
     steps: u64,
 ) -> Out
-    requires { ⌜ (calls < 32) × (length (now env) ≡ 8226) ⌝ }
+    requires { ⌜ (calls < 32) × (length (now env) ≡ frame-words) ⌝ }
     ensures { λ r. ⌜ left r (now (env .exit))
         ≡ index-line (store-of (now (slots .entry)) (now (heads .entry))) calls x a b next steps (now (env .entry)) ⌝ }
 {
@@ -98,14 +100,14 @@ fn work_index(
 fn work_length(
     slots: &[i64],
     heads: &[u32],
-    env: &mut [i64; 8226],
+    env: &mut [i64; FRAME_WORDS],
     calls: usize,
     x: u8,
     a: Atom,
     next: usize,
     steps: u64,
 ) -> Out
-    requires { ⌜ (calls < 32) × (length (now env) ≡ 8226) ⌝ }
+    requires { ⌜ (calls < 32) × (length (now env) ≡ frame-words) ⌝ }
     ensures { λ r. ⌜ left r (now (env .exit))
         ≡ length-line (store-of (now (slots .entry)) (now (heads .entry))) calls x a next steps (now (env .entry)) ⌝ }
 {
@@ -125,13 +127,13 @@ pub fn work_leaf(
     table: &[u8],
     slots: &mut [i64],
     heads: &mut [u32],
-    env: &mut [i64; 8226],
+    env: &mut [i64; FRAME_WORDS],
     l: Line,
     calls: usize,
     at: usize,
     steps: u64,
 ) -> Out
-    requires { ⌜ (at < length (now kinds)) × (calls < 32) × (length (now env) ≡ 8226)
+    requires { ⌜ (at < length (now kinds)) × (calls < 32) × (length (now env) ≡ frame-words)
         × Cut (now kinds) (now operands) ⌝ }
     ensures { λ r. ⌜ Ends (leaf (now (kinds .entry)) (now (operands .entry)) (now (table .entry)) calls at steps
         (memory (store-of (now (slots .entry)) (now (heads .entry))) (now (env .entry))) l)

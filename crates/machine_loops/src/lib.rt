@@ -2,6 +2,7 @@
 // next, and what it ends with. A map, a filter and a reduce differ in nothing else.
 use machine_code::Atom;
 use machine_code::Loop;
+use machine_frames::FRAME_WORDS;
 use machine_frames::Out;
 use store::Acquired;
 ghost use mathlib.Core.Path.{_≡_};
@@ -11,7 +12,7 @@ ghost use lib.IntN.{pos};
 ghost use lib.ListN.{getD, length};
 ghost use Rattle.semantics.specs.Store.{cell, cell-of, elements};
 ghost use Rattle.semantics.specs.Words.{store-of};
-ghost use Rattle.machine_frames.specs.Frames.{place, word-of, element-depth};
+ghost use Rattle.machine_frames.specs.Frames.{frame-words, place, word-of, element-depth};
 ghost use Rattle.machine_frames.specs.Work.{memory, Ends};
 ghost use Rattle.machine_lines.specs.Lines.{kind-of, first-name, second-name, atoms-of};
 ghost use Rattle.machine_loops.specs.Loops.{array-atom, way-of, begun-frames, retained-if, kept};
@@ -126,8 +127,13 @@ pub fn rows_before(l: Loop) -> usize
 }
 
 // A new cell of this element depth for the result.
-fn acquire_result(slots: &mut [i64], heads: &mut [u32], env: &mut [i64; 8226], depth: u32) -> First
-    requires { ⌜ length (now env) ≡ 8226 ⌝ }
+fn acquire_result(
+    slots: &mut [i64],
+    heads: &mut [u32],
+    env: &mut [i64; FRAME_WORDS],
+    depth: u32,
+) -> First
+    requires { ⌜ length (now env) ≡ frame-words ⌝ }
     ensures { λ r. ⌜ NewCarries depth
         (memory (store-of (now (slots .entry)) (now (heads .entry))) (now (env .entry)))
         (now (slots .exit)) (now (heads .exit)) (now (env .exit)) r ⌝ }
@@ -145,12 +151,12 @@ fn acquire_result(slots: &mut [i64], heads: &mut [u32], env: &mut [i64; 8226], d
 fn carry_first(
     slots: &mut [i64],
     heads: &mut [u32],
-    env: &mut [i64; 8226],
+    env: &mut [i64; FRAME_WORDS],
     calls: usize,
     l: Loop,
     depth: u32,
 ) -> First
-    requires { ⌜ (calls < 32) × (length (now env) ≡ 8226) ⌝ }
+    requires { ⌜ (calls < 32) × (length (now env) ≡ frame-words) ⌝ }
     ensures { λ r. ⌜ Carries (kind-of l) depth (map (word-of calls (now (env .entry))) (atoms-of l))
         (memory (store-of (now (slots .entry)) (now (heads .entry))) (now (env .entry)))
         (now (slots .exit)) (now (heads .exit)) (now (env .exit)) r ⌝ }
@@ -174,12 +180,12 @@ pub fn begin_loop(
     table: &[u8],
     slots: &mut [i64],
     heads: &mut [u32],
-    env: &mut [i64; 8226],
+    env: &mut [i64; FRAME_WORDS],
     calls: usize,
     x: u8,
     l: Loop,
 ) -> Begun
-    requires { ⌜ (calls < 32) × (length (now env) ≡ 8226) ⌝ }
+    requires { ⌜ (calls < 32) × (length (now env) ≡ frame-words) ⌝ }
     ensures { λ r. ⌜ Begins (kind-of l) (first-name l) (second-name l)
         (element-depth (now (table .entry)) calls x (now (env .entry)))
         (map (word-of calls (now (env .entry))) (atoms-of l))
@@ -211,13 +217,13 @@ pub fn begin_loop(
 pub fn begin_pass(
     slots: &[i64],
     heads: &[u32],
-    env: &mut [i64; 8226],
+    env: &mut [i64; FRAME_WORDS],
     calls: usize,
     l: Passes,
     v: i64,
     i: usize,
 )
-    requires { ⌜ (calls < 32) × (length (now env) ≡ 8226) × Within (now slots) (now heads) (l .from) ⌝ }
+    requires { ⌜ (calls < 32) × (length (now env) ≡ frame-words) × Within (now slots) (now heads) (l .from) ⌝ }
     ensures { λ _. ⌜ now (env .exit) ≡ begun-frames calls (l .first) (l .second) v
         (getD (elements (cell (store-of (now (slots .entry)) (now (heads .entry))) (l .from))) i (pos 0))
         (now (env .entry)) ⌝ }
@@ -255,14 +261,14 @@ fn keep(slots: &mut [i64], heads: &mut [u32], arrays: bool, c: usize, w: i64, r:
 pub fn end_pass(
     slots: &mut [i64],
     heads: &mut [u32],
-    env: &[i64; 8226],
+    env: &[i64; FRAME_WORDS],
     calls: usize,
     l: Passes,
     v: i64,
     i: usize,
     r: i64,
 ) -> Next
-    requires { ⌜ (calls < 32) × (length (now env) ≡ 8226)
+    requires { ⌜ (calls < 32) × (length (now env) ≡ frame-words)
         × ResultWithin (l .way) (now slots) (now heads) (cell-of (l .carried)) ⌝ }
     ensures { λ u. ⌜ CarriesOn (l .way) (cell-of (l .carried)) v i
         (getD (now (env .entry)) (place calls (l .second)) (pos 0)) r
@@ -292,8 +298,8 @@ pub fn end_pass(
 }
 
 // Releases the array of a loop after its passes, if the way says so.
-fn release_array(slots: &mut [i64], heads: &mut [u32], env: &mut [i64; 8226], l: Passes)
-    requires { ⌜ length (now env) ≡ 8226 ⌝ }
+fn release_array(slots: &mut [i64], heads: &mut [u32], env: &mut [i64; FRAME_WORDS], l: Passes)
+    requires { ⌜ length (now env) ≡ frame-words ⌝ }
     ensures { λ _. ⌜ memory (store-of (now (slots .exit)) (now (heads .exit))) (now (env .exit))
         ≡ loop-ended (l .way) (l .from)
         (memory (store-of (now (slots .entry)) (now (heads .entry))) (now (env .entry))) ⌝ }
@@ -311,14 +317,14 @@ fn release_array(slots: &mut [i64], heads: &mut [u32], env: &mut [i64; 8226], l:
 pub fn end_loop(
     slots: &mut [i64],
     heads: &mut [u32],
-    env: &mut [i64; 8226],
+    env: &mut [i64; FRAME_WORDS],
     calls: usize,
     x: u8,
     l: Passes,
     r: Out,
     next: usize,
 ) -> Out
-    requires { ⌜ (calls < 32) × (length (now env) ≡ 8226) ⌝ }
+    requires { ⌜ (calls < 32) × (length (now env) ≡ frame-words) ⌝ }
     ensures { λ q. ⌜ Ends (loop-bound (l .way) (l .from) calls x next r
         (memory (store-of (now (slots .entry)) (now (heads .entry))) (now (env .entry))))
         q (now (slots .exit)) (now (heads .exit)) (now (env .exit)) ⌝ }

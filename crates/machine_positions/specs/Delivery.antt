@@ -11,7 +11,7 @@ use Rattle.semantics.specs.Store.{free-cells}
 use Rattle.semantics.specs.Machine.{Delivered}
 use Rattle.store.specs.Acquiring.{Gained, next-cell}
 use Rattle.machine_code.specs.Reading.{start-in}
-use Rattle.machine_frames.specs.Frames.{called, lowest-of, levelled}
+use Rattle.machine_frames.specs.Frames.{frame-words, called, lowest-of, levelled}
 use Rattle.machine_frames.specs.Work.{memory, Ran}
 use Rattle.machine_positions.specs.Machine.{Code, tree-on, call-on}
 
@@ -47,7 +47,7 @@ finished d old w =
 
 -- main's frame, while n cells are free
 abbrev pub main-frame : ℤ → ℤ → ℕ → List ℤ
-main-frame old readings n = called 31 0 (old ∷ readings ∷ []) (levelled n (replicate 8226 (pos 0)))
+main-frame old readings n = called 31 0 (old ∷ readings ∷ []) (levelled n (replicate frame-words (pos 0)))
 
 -- main worked on the totals and the readings' cell, beside which n cells are free
 unfoldable pub main-on : Code → ℕ → ℤ → ℕ → ℕ → ℕ → Store → Tried

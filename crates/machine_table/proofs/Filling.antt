@@ -8,7 +8,7 @@ use lib.IntN.{ℤ, pos}
 use lib.Dec.{eqb}
 use lib.ListN.{getD, set, length, length-set}
 use borrow.Author.Tests.{lt-ltb, le-ltb, ne-eqb}
-use Rattle.machine_code.specs.Reading.{low-bits, end-in}
+use Rattle.machine_code.specs.Reading.{table-bytes, ends-place, starts-place, low-bits, end-in}
 use Rattle.machine_code.proofs.Reading.{less-one}
 use Rattle.machine_table.specs.Positions.{with-position, trees-of, past-trees, with-end, end-of, ends-from}
 use Rattle.machine_table.specs.Positions.{with-start, tree-start, starts-from, filled}
@@ -62,7 +62,7 @@ module _ {kinds : List ℕ} {rows : ℕ} {table₀ table : List ℕ} {at : ℕ} 
     same = inv .same ∙ ap (λ (n : ℕ). ends-from n kinds table) (less-one at h)
         ∙ ap (ends-from (at - 1) kinds) (ap (with-end table (at - 1)) (sym e) ∙ sym te);
     few = omega (arith, inv .few);
-    long = ap length te ∙ length-position table (8256 + 2 * (at - 1)) end ∙ inv .long;
+    long = ap length te ∙ length-position table (ends-place + 2 * (at - 1)) end ∙ inv .long;
   }
 
 -- ---- the loop over the functions: f of them are done
@@ -124,17 +124,17 @@ module _ {kinds : List ℕ} {operands : List ℤ} {functions : ℕ} {table₀ ta
         (end-in u (p + 1 + count % 256)) u) (sym te)
         ∙ ap (λ (k : ℕ). starts-from (functions - (f + 1)) kinds operands (f + 1) k t) (sym qe);
     few = omega arith;
-    long = ap length te ∙ length-position table (8192 + 2 * f) (p + 1 + count % 256) ∙ inv .long;
+    long = ap length te ∙ length-position table (starts-place + 2 * f) (p + 1 + count % 256) ∙ inv .long;
   }
 
 -- ---- both
 
 module _ (functions rows : ℕ) (kinds : List ℕ) (operands : List ℤ) (table : List ℕ) where
-  pub filled-short : length table < 16448 → table ≡ filled functions rows kinds operands table
+  pub filled-short : length table < table-bytes → table ≡ filled functions rows kinds operands table
   unfolding filled
-  filled-short h = rw (lt-ltb (length table) 16448 h)
+  filled-short h = rw (lt-ltb (length table) table-bytes h)
 
-  pub filled-long : 16448 ≤ length table → (t u : List ℕ) → t ≡ ends-from rows kinds table →
+  pub filled-long : table-bytes ≤ length table → (t u : List ℕ) → t ≡ ends-from rows kinds table →
       u ≡ starts-from functions kinds operands 0 0 t → u ≡ filled functions rows kinds operands table
   unfolding filled
-  filled-long h t u te ue = ue ∙ ap (starts-from functions kinds operands 0 0) te ∙ rw (le-ltb (length table) 16448 h)
+  filled-long h t u te ue = ue ∙ ap (starts-from functions kinds operands 0 0) te ∙ rw (le-ltb (length table) table-bytes h)

@@ -5,7 +5,7 @@ use Prim.Native.Nat.{ℕ, zero, suc, _+_, _*_, _/_, _%_}
 use lib.IntN.{ℤ, pos}
 use lib.Dec.{ltb, eqb}
 use lib.ListN.{getD, set, length}
-use Rattle.machine_code.specs.Reading.{low-bits, end-in}
+use Rattle.machine_code.specs.Reading.{table-bytes, starts-place, ends-place, low-bits, end-in}
 
 -- a position at a place, low byte first
 abbrev pub with-position : List ℕ → ℕ → ℕ → List ℕ
@@ -14,7 +14,7 @@ with-position table place position = set (set table place (position % 256)) (pla
 -- ---- the position after the tree that begins at a row
 
 abbrev pub with-end : List ℕ → ℕ → ℕ → List ℕ
-with-end table at end = with-position table (8256 + 2 * at) end
+with-end table at end = with-position table (ends-place + 2 * at) end
 
 -- how many trees a line of a kind has behind its atoms: an if two, a loop one
 abbrev pub trees-of : ℕ → ℕ
@@ -39,7 +39,7 @@ ends-from (suc at) kinds table = ends-from at kinds (with-end table at (end-of (
 -- ---- where the functions' trees begin
 
 abbrev pub with-start : List ℕ → ℕ → ℕ → List ℕ
-with-start table f start = with-position table (8192 + 2 * f) start
+with-start table f start = with-position table (starts-place + 2 * f) start
 
 -- the tree of a function that begins at p: behind its own line and those of its parameters
 abbrev pub tree-start : List ℤ → ℕ → ℕ
@@ -59,4 +59,4 @@ starts-from (suc n) kinds operands f p table =
 
 unfoldable pub filled : ℕ → ℕ → List ℕ → List ℤ → List ℕ → List ℕ
 filled functions rows kinds operands table =
-    cond (ltb (length table) 16448) table (starts-from functions kinds operands 0 0 (ends-from rows kinds table))
+    cond (ltb (length table) table-bytes) table (starts-from functions kinds operands 0 0 (ends-from rows kinds table))

@@ -65,7 +65,7 @@ fn fill_ends(kinds: &[u8], rows: usize, table: &mut [u8])
     while 0 < at {
         at = at - 1;
         let end = end_of(kinds[at], table, at);
-        put_position(table, 8256 + 2 * at, end);
+        put_position(table, machine_code::ENDS + 2 * at, end);
     }
 }
 
@@ -83,7 +83,7 @@ fn fill_starts(kinds: &[u8], operands: &[i64], functions: usize, table: &mut [u8
         }
         let count = machine_code::low_bits(machine_code::operand_at(operands, p)) % 256;
         let start = p + 1 + count as usize;
-        put_position(table, 8192 + 2 * f, start);
+        put_position(table, machine_code::STARTS + 2 * f, start);
         p = machine_code::end_in(table, start);
         f = f + 1;
     }
@@ -95,7 +95,7 @@ pub fn fill(kinds: &[u8], operands: &[i64], functions: usize, rows: usize, table
     ensures { λ _. ⌜ now (table .exit)
         ≡ filled functions rows (now (kinds .entry)) (now (operands .entry)) (now (table .entry)) ⌝ }
 {
-    if table.len() < 16448 {
+    if table.len() < machine_code::TABLE_BYTES {
         return;
     }
     fill_ends(kinds, rows, table);

@@ -4,6 +4,7 @@ use Prim.Native.Nat.{_≤_}
 use lib.ListN.{length, replicate}
 use lib.Seq.{length-take-le}
 use mathlib.Core.Path.{sym}
+use Rattle.machine_code.specs.Reading.{table-bytes}
 use Rattle.semantics.specs.Calls.{room, engine-deliver}
 use Rattle.script_nodes.specs.Admitted.{admitted-judged}
 use Rattle.machine_laws.specs.Script.{cut-coded}
@@ -20,7 +21,7 @@ loads : (c : tie.After-lines) →
     let a = c .before .before .before .before .before .before .before .before .before .before .before .before .before
     .args in
     let code = c .before .before .before .before .before .before .load-with .last .1 in
-    LoadsWith (a .file .now) (a .kinds .now) (a .operands .now) (replicate 16448 0)
+    LoadsWith (a .file .now) (a .kinds .now) (a .operands .now) (replicate table-bytes 0)
     (Ready (c .lines .given .0 .0) (c .lines .given .0 .1 .0)) (code .0) (code .1 .0) (code .1 .1 .0)
 loads c = rw (c .lines .given .1) at (c .before .before .before .before .before .before .load-with .ensures)
 

@@ -3,7 +3,7 @@ use Prim.Native.Nat.{_+_, _*_}
 use native.Mathlib.Omega.{arith}
 use mathlib.Core.Path.{_≡_}
 use lib.ListN.{getD, List·getD-eq-default}
-use Rattle.machine_code.specs.Reading.{end-in}
+use Rattle.machine_code.specs.Reading.{ends-place, end-in}
 use borrow.Author.Needs.{needs}
 use Rattle.machine_code.proofs.end_in.Statement.{statement}
 use Rattle.machine_code.proofs.end_in.Tie as tie
@@ -12,9 +12,9 @@ returns : tie.Need-returns
 unfolding end-in
 returns c =
     let a = c .before .before .args in
-    let low : getD (a .table .now) (8256 + 2 * a .at) 0 ≡ 0 =
+    let low : getD (a .table .now) (ends-place + 2 * a .at) 0 ≡ 0 =
     List·getD-eq-default (a .table .now) 0 (omega (arith, c .if1 .taken)) in
-    let high : getD (a .table .now) (8256 + 2 * a .at + 1) 0 ≡ 0 =
+    let high : getD (a .table .now) (ends-place + 2 * a .at + 1) 0 ≡ 0 =
     List·getD-eq-default (a .table .now) 0 (omega (arith, c .if1 .taken)) in
     (omega (arith, low, high), omega arith)
 

@@ -8,7 +8,7 @@ use lib.IntN.{ℤ, pos}
 use lib.ListN.{length, replicate, length-replicate}
 use Rattle.semantics.specs.Words.{store-of}
 use Rattle.store_words.proofs.Puts.{totals-store}
-use Rattle.machine_frames.specs.Frames.{place, function-place}
+use Rattle.machine_frames.specs.Frames.{frame-words, place, function-place}
 use Rattle.machine_frames.specs.Work.{memory}
 use Rattle.machine_positions.specs.Machine.{code}
 use Rattle.machine_positions.specs.Lengths.{levelled-keeps, bound-long, tree-long}
@@ -20,13 +20,13 @@ use Rattle.machine_delivery.proofs.work_main.Tie as tie
 
 -- ---- the lengths of main's frames
 
-levelled-long : (c : tie.After-set-level) → length (c .set-level .last .0) ≡ 8226
+levelled-long : (c : tie.After-set-level) → length (c .set-level .last .0) ≡ frame-words
 levelled-long c =
     let a = c .before .before .before .before .before .before .before .before .before .args in
-    ap length (c .set-level .ensures) ∙ levelled-keeps (a .free) (replicate 8226 (pos 0))
-    ∙ length-replicate 8226 (pos 0)
+    ap length (c .set-level .ensures) ∙ levelled-keeps (a .free) (replicate frame-words (pos 0))
+    ∙ length-replicate frame-words (pos 0)
 
-totals-long : (c : tie.After-bind) → length (c .bind .last .0) ≡ 8226
+totals-long : (c : tie.After-bind) → length (c .bind .last .0) ≡ frame-words
 totals-long c =
     let at-set-level = c .before .before in
     let start = at-set-level .before .before .before .before .before .before .before .before .before in
@@ -34,7 +34,7 @@ totals-long c =
     bound-long (at-set-level .set-level .last .0) (place 31 0) old
     (rw (toZ-ofZ {z = old} (start .fits .old)) at (c .bind .ensures)) ∙ levelled-long at-set-level
 
-readings-long : (c : tie.After-bind2) → length (c .bind2 .last .0) ≡ 8226
+readings-long : (c : tie.After-bind2) → length (c .bind2 .last .0) ≡ frame-words
 readings-long c =
     let at-bind = c .before .before in
     let start = at-bind .before .before .before .before .before .before .before .before .before .before .before in
@@ -42,13 +42,13 @@ readings-long c =
     bound-long (at-bind .bind .last .0) (place 31 1) readings
     (rw (toZ-ofZ {z = readings} (start .fits .readings)) at (c .bind2 .ensures)) ∙ totals-long at-bind
 
-function-long : (c : tie.After-set-function) → length (c .set-function .last .0) ≡ 8226
+function-long : (c : tie.After-set-function) → length (c .set-function .last .0) ≡ frame-words
 function-long c =
     let at-bind2 = c .before .before in
     bound-long (at-bind2 .bind2 .last .0) (function-place 31) (pos 0) (c .set-function .ensures)
     ∙ readings-long at-bind2
 
-worked-long : (c : tie.After-work-tree) → length (c .work-tree .last .1 .1 .1 .1 .1 .0) ≡ 8226
+worked-long : (c : tie.After-work-tree) → length (c .work-tree .last .1 .1 .1 .1 .1 .0) ≡ frame-words
 worked-long c =
     let at-start-in = c .before .before .before .before .before .before in
     let at-set-function = at-start-in .before .before in

@@ -9,7 +9,7 @@ use mir.Facts.{toZ-ofZ}
 use mir.Val.{SFits, toZ}
 use Rattle.semantics.specs.Store.{cell-of}
 use Rattle.semantics.specs.Words.{store-of}
-use Rattle.machine_frames.specs.Frames.{place}
+use Rattle.machine_frames.specs.Frames.{frame-words, place}
 use Rattle.machine_frames.specs.Work.{memory}
 use Rattle.machine_loops.specs.declared.Next.{Next}
 use Rattle.machine_loops.specs.Loops.{CarriesOn}
@@ -97,7 +97,7 @@ abbrev Entered : ℕ → Type 0
 Entered t = work-pass-lts.After-begin-pass (work-pass-claims t) (work-pass-at t) work-pass.Post work-pass-Inv-loop
     work-pass-μ-loop
 
-entered-long : (t : ℕ) (c : Entered t) → length (c .begin-pass .last .1 .1 .0) ≡ 8226
+entered-long : (t : ℕ) (c : Entered t) → length (c .begin-pass .last .1 .1 .0) ≡ frame-words
 entered-long t c =
     let at-loop = c .before .before .before .before .before .before in
     let start = at-loop .before .before .before in
@@ -134,7 +134,7 @@ abbrev Worked : ℕ → Type 0
 Worked t = work-pass-lts.After-work-tree (work-pass-claims t) (work-pass-at t) work-pass.Post work-pass-Inv-loop
     work-pass-μ-loop
 
-worked-long : (t : ℕ) (c : Worked t) → length (c .work-tree .last .1 .1 .1 .1 .1 .0) ≡ 8226
+worked-long : (t : ℕ) (c : Worked t) → length (c .work-tree .last .1 .1 .1 .1 .1 .0) ≡ frame-words
 worked-long t c =
     let at-begin-pass = c .before .before .before .before in
     let at-loop = at-begin-pass .before .before .before .before .before .before in
