@@ -57,6 +57,11 @@ bound calls x w env = set env (place calls x) w
 abbrev pub goes-on : ℕ → ℕ → ℤ → ℕ → ℕ → Memory → Ran
 goes-on calls x w next s m = ran (out 0 w next s) (memory (m .store) (bound calls x w (m .env)))
 
+-- the word of work that was not stopped, bound to a name
+abbrev pub bound-result : ℕ → ℕ → ℕ → Out → List ℤ → FrameLeft
+bound-result calls x next r env =
+    cond (eqb (r .stop) 0) (left (out 0 (r .value) next (r .steps)) (bound calls x (r .value) env)) (left r env)
+
 -- a step taken, if one is left
 unfoldable pub stepping : {A : Type 0} → ℕ → A → (ℕ → A) → A
 stepping zero spent f = spent
@@ -65,8 +70,3 @@ stepping (suc s) spent f = f s
 -- a function worked what it says, with every word that it may change
 abbrev pub Ends : Ran → Out → List ℤ → List ℕ → List ℤ → Type 0
 Ends w r slots heads env = ran r (memory (store-of slots heads) env) ≡ w
-
--- the word of work that was not stopped, bound to a name
-abbrev pub bound-result : ℕ → ℕ → ℕ → Out → List ℤ → FrameLeft
-bound-result calls x next r env =
-    cond (eqb (r .stop) 0) (left (out 0 (r .value) next (r .steps)) (bound calls x (r .value) env)) (left r env)

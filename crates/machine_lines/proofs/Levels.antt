@@ -1,4 +1,4 @@
--- How many words the frames have after an array is made.
+-- How many words the frames have after a cell is acquired, and after an array is made.
 use mathlib.Core.Path.{_≡_, refl, _∙_}
 use mathlib.Core.Bool.{Bool, true, false, cond}
 use mathlib.Core.List.{List}
