@@ -85,7 +85,11 @@ pub fn atom_stands(kinds: &[u8], at: usize) -> bool
     ensures { λ r. ⌜ r ≡ is-atom (getD (now (kinds .entry)) at 0) ⌝ }
 {
     let kind = kind_at(kinds, at);
-    if kind == 2 { true } else { kind == 3 }
+    if kind == node_kinds::NUMBER {
+        true
+    } else {
+        kind == node_kinds::NAME
+    }
 }
 
 // The atom at a position within the code.
@@ -93,7 +97,7 @@ fn atom_within(kinds: &[u8], operands: &[i64], at: usize) -> Atom
     requires { ⌜ (at < length (now kinds)) × (at < length (now operands)) ⌝ }
     ensures { λ r. ⌜ r ≡ atom-at (now (kinds .entry)) (now (operands .entry)) at ⌝ }
 {
-    if kinds[at] == 2 {
+    if kinds[at] == node_kinds::NUMBER {
         Atom::Number(operands[at])
     } else {
         Atom::Name((low_bits(operands[at]) % 256) as u8)
@@ -115,7 +119,7 @@ pub fn line_at(kinds: &[u8], operands: &[i64], at: usize) -> Line
 {
     let kind = kinds[at];
     let a = atom_within(kinds, operands, at + 1);
-    if kind == 16 {
+    if kind == node_kinds::END {
         return Line::End(a);
     }
     let n = low_bits(operands[at]);
@@ -125,18 +129,18 @@ pub fn line_at(kinds: &[u8], operands: &[i64], at: usize) -> Line
     }
     let y = (n / 256 % 256) as u8;
     match kind {
-        8 => Line::Call(x, y),
-        9 => Line::Literal(x, (n / 65536 % 256) as u8),
-        10 => Line::Index(x, a, atom_at(kinds, operands, at + 2)),
-        11 => Line::Length(x, a),
-        12 => Line::If(x, a),
-        13 => Line::Loop(x, Loop::Map(y, a)),
-        14 => Line::Retain(x),
-        15 => Line::Release(x),
-        17 => Line::Iota(x, a),
-        18 => Line::Replicate(x, a, atom_at(kinds, operands, at + 2)),
-        19 => Line::Loop(x, Loop::Filter(y, a)),
-        20 => Line::Loop(
+        node_kinds::CALL => Line::Call(x, y),
+        node_kinds::LITERAL => Line::Literal(x, (n / 65536 % 256) as u8),
+        node_kinds::INDEX => Line::Index(x, a, atom_at(kinds, operands, at + 2)),
+        node_kinds::LENGTH => Line::Length(x, a),
+        node_kinds::IF => Line::If(x, a),
+        node_kinds::MAP => Line::Loop(x, Loop::Map(y, a)),
+        node_kinds::RETAIN => Line::Retain(x),
+        node_kinds::RELEASE => Line::Release(x),
+        node_kinds::IOTA => Line::Iota(x, a),
+        node_kinds::REPLICATE => Line::Replicate(x, a, atom_at(kinds, operands, at + 2)),
+        node_kinds::FILTER => Line::Loop(x, Loop::Filter(y, a)),
+        node_kinds::REDUCE => Line::Loop(
             x,
             Loop::Reduce(
                 y,
@@ -145,7 +149,7 @@ pub fn line_at(kinds: &[u8], operands: &[i64], at: usize) -> Line
                 atom_at(kinds, operands, at + 2),
             ),
         ),
-        21 => Line::Loop(x, Loop::Rewrite(y, a)),
+        node_kinds::REWRITE => Line::Loop(x, Loop::Rewrite(y, a)),
         _ => Line::Operation(kind, x, a, atom_at(kinds, operands, at + 2)),
     }
 }
