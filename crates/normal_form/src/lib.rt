@@ -226,24 +226,31 @@ fn lay_compound(
     let mut n = spot.n;
     let mut p = spot.p;
     while i < count {
-        let part = Spot { node, n, p };
-        let r = lay_part(
-            kinds,
-            operands,
-            results,
-            places,
-            last,
-            rows,
-            notes,
-            depths,
-            part,
-            levels,
-        );
-        atoms[i] = r.place;
-        node = r.next;
-        n = r.n;
-        p = r.p;
-        i = i + 1;
+        let place = normal_lay::atom_place(kinds, operands, places, node, levels);
+        if place < 65535 {
+            atoms[i] = place;
+            node = node + 1;
+            i = i + 1;
+        } else {
+            let part = Spot { node, n, p };
+            let r = lay_part(
+                kinds,
+                operands,
+                results,
+                places,
+                last,
+                rows,
+                notes,
+                depths,
+                part,
+                levels,
+            );
+            atoms[i] = r.place;
+            node = r.next;
+            n = r.n;
+            p = r.p;
+            i = i + 1;
+        }
     }
     let after = Spot { node, n, p };
     if script_read::is_loop(shape.kind) {

@@ -23,6 +23,7 @@ use Rattle.normal_lay.specs.Laid.{LineLaid, nowhere, meanings, place-dep
 use Rattle.normal_lay.specs.Source.{let-from, if-from, two-after, three-after, laid-rows}
 use Rattle.normal_lay.specs.Shallow.{Shallow}
 use Rattle.normal_lay.specs.Made.{State, Lays, Splits, state, Sized, Given, Ready, Made, TreeMade, out}
+use Rattle.normal_lay.specs.Made.{AtomPlaced}
 use Rattle.normal_lay.specs.declared.Out.{Out}
 use Rattle.normal_lay.proofs.Stays.{sized-lays, sized-splits}
 use Rattle.normal_lay.proofs.Trees.{made-number, made-name, made-let, tree-made}
@@ -72,6 +73,16 @@ pub name-laid : (w : List ℕ) (res : ℕ → ℕ) {e : Expr} (ps : List ℕ) {X
 unfolding size
 name-laid w res {e} ps {X} {n} {p} d at v x q g s =
     rw q (made-name w res x (meanings w ps) X n p d (at + 1) v s (ap (λ (i : ℕ). meant (placed w i)) g))
+
+-- an atom, by its place
+pub atom-laid : (w : List ℕ) (res : ℕ → ℕ) (e : Expr) (ps : List ℕ) {X : State} {n p : ℕ} (d at v : ℕ) →
+    AtomPlaced w ps e v → Sized X → Made w res e (meanings w ps) X X n p d (at + size e) (out v (at + 1) n p)
+atom-laid w res (S.number z) ps d at v h s = number-laid w res d at v z refl h s
+atom-laid w res (S.name x) ps d at v h s = name-laid w res ps d at v x refl h s
+atom-laid w res (S.let-in x a b) ps d at v h s = absurd h
+atom-laid w res (S.leaf l es) ps d at v h s = absurd h
+atom-laid w res (S.if-else a b c) ps d at v h s = absurd h
+atom-laid w res (S.loop k xs es b) ps d at v h s = absurd h
 
 pub one-node : (e : Expr) → 1 ≤ size e
 unfolding size

@@ -5,6 +5,7 @@ use mathlib.Core.List.{List}
 use mathlib.Core.Bool.{false}
 use Prim.Native.Nat.{ℕ, _+_, _<_, _≤_}
 use lib.ListN.{length, getD, set}
+use Rattle.semantics.specs.Syntax as S
 use Rattle.semantics.specs.Syntax.{Expr}
 use Rattle.semantics.specs.Kinds.{Loop}
 use Rattle.semantics.specs.File.{part-count}
@@ -19,7 +20,7 @@ use Rattle.normal_code.specs.Marks.{marks-of, marks, extent}
 use Rattle.normal_code.specs.Stands.{Stands}
 use Rattle.normal_lay.specs.Source.{second-part, laid-rows}
 use Rattle.normal_lay.specs.Shallow.{Shallow, ShallowLine}
-use Rattle.normal_lay.specs.Laid.{laid, LineLaid}
+use Rattle.normal_lay.specs.Laid.{laid, LineLaid, nowhere}
 use Rattle.normal_lay.specs.declared.Out.{Out}
 use Rattle.normal_lay.specs.declared.Spot.{Spot}
 
@@ -94,6 +95,15 @@ pub record Same (X Y : State) (p top : ℕ) : Type 0 where
 pub record Given (kinds operands places : List ℕ) : Type 0 where
   pub parts : Parts kinds operands
   pub long : length places ≡ 256
+
+-- e is an atom and v its place: of its number, or what its name means
+abbrev pub AtomPlaced : List ℕ → List ℕ → Expr → ℕ → Type 0
+AtomPlaced operands places (S.number z) v = meant (placed operands v) ≡ C.number z
+AtomPlaced operands places (S.name x) v = v ≡ getD places x nowhere
+AtomPlaced operands places (S.let-in x a b) v = ⊥
+AtomPlaced operands places (S.leaf l es) v = ⊥
+AtomPlaced operands places (S.if-else a b c) v = ⊥
+AtomPlaced operands places (S.loop k xs es b) v = ⊥
 
 -- how many parts a leaf of a kind may have
 abbrev pub PartsFit : ℕ → ℕ → Type 0

@@ -26,6 +26,7 @@ use Rattle.normal_form.proofs.+lay_compound+lay_if+lay_let+lay_node+lay
 use Rattle.normal_form.proofs.atom_out.Reads as atom-out-reads
 use Rattle.normal_form.proofs.lay_leaf.Reads as lay-leaf-reads
 use Rattle.normal_form.proofs.parts_before.Reads as parts-before-reads
+use Rattle.normal_lay.proofs.atom_place.Reads as atom-place-reads
 use Rattle.normal_lay.proofs.bind_pass.Reads as bind-pass-reads
 use Rattle.normal_lay.proofs.close_line.Reads as close-line-reads
 use Rattle.normal_lay.proofs.depth_of.Reads as depth-of-reads
@@ -117,6 +118,8 @@ abbrev pub lay-compound-claims : ℕ → lay-compound-lts.Claims
 lay-compound-claims t = (
   parts-before-reads.Asked,
   parts-before-reads.Learnt,
+  atom-place-reads.Asked,
+  atom-place-reads.Learnt,
   lay-part-below t,
   lay-part.Post,
   is-loop-reads.Asked,

@@ -2,7 +2,7 @@
 use Prim.Native.Nat.{ℕ}
 use Rattle.normal_form.proofs.lay_compound.Reads as lay-compound
 use Rattle.normal_form.proofs.+lay_compound+lay_if+lay_let+lay_node+lay_part+lay_pass+lay_tree.Lts-lay_compound as lay-compound-lts
-use Prim.Native.Nat.{ℕ, _-_}
+use Prim.Native.Nat.{ℕ, _-_, _<_, _≤_}
 use mathlib.Core.Path.{_≡_, refl, sym, _∙_}
 use native.Mathlib.Omega.{arith}
 use lib.ListN.{getD}
@@ -10,6 +10,7 @@ use Rattle.normal_lay.specs.Laid.{meanings}
 use Rattle.normal_lay.specs.Source.{tree-at, parts-before}
 use Rattle.normal_lay.specs.Made.{state}
 use Rattle.normal_lay.proofs.Lists.{Listing, listing-begins, listing-goes}
+use Rattle.normal_lay.proofs.Members.{atom-laid}
 use Rattle.normal_lay.proofs.Compounds.{parts-ready, parts-few, part-ready, leaf-ready, leaf-laid, pass-ready, loop-laid}
 use borrow.Author.Needs.{needs}
 use Rattle.normal_form.proofs.+lay_compound+lay_if+lay_let+lay_node+lay_part+lay_pass+lay_tree.Proof.Common.{lay-compound-at}
@@ -42,103 +43,139 @@ lay-compound-loop-holds t c = (
   refl,
 )
 
-pub lay-compound-lay-part-requires : (t : ℕ) →
-    lay-compound-lts.Need-lay-part-requires (lay-compound-claims t) (lay-compound-at t) lay-compound.Post
+-- in a turn of the loop
+abbrev Turn : ℕ → Type 0
+Turn t =
+    lay-compound-lts.In-loop (lay-compound-claims t) (lay-compound-at t) lay-compound.Post lay-compound-Inv-loop
+    lay-compound-μ-loop
+
+-- how many parts there are
+abbrev all-parts : (t : ℕ) → Turn t → ℕ
+all-parts t c =
+    let shape = c .before .before .before .before .before .before .args .shape in
+    parts-before (shape .kind) (shape .low) (shape .high)
+
+part-left : (t : ℕ) (c : Turn t) → c .before .loop .i < all-parts t c
+part-left t c = omega (arith, c .loop-test .taken, c .before .before .before .parts-before .ensures)
+
+parts-fit : (t : ℕ) (c : Turn t) → all-parts t c ≤ 16
+parts-fit t c =
+    let shape = c .before .before .before .before .before .before .args .shape in
+    parts-few (shape .kind) (shape .low) (shape .high) (c .before .before .before .before .before .before .pre .1 .0)
+
+pub lay-compound-atom-place-requires : (t : ℕ) →
+    lay-compound-lts.Need-atom-place-requires (lay-compound-claims t) (lay-compound-at t) lay-compound.Post
     lay-compound-Inv-loop lay-compound-μ-loop
-lay-compound-lay-part-requires t c κs =
-    let at-loop-test = c .before .before .before .before .before .loop-test in
-    let at-loop = c .before .before .before .before .before .before .loop in
-    let at-parts-before = c .before .before .before .before .before .before .before .before .parts-before in
-    let a = c .before .before .before .before .before .before .before .before .before .before .before .args in
-    let at-pre = c .before .before .before .before .before .before .before .before .before .before .before .pre in
-    let tree = tree-at (a .kinds .now) (a .operands .now) (a .levels) in
-    let node = a .spot .node in
-    let kind = a .shape .kind in
-    let low = a .shape .low in
-    let high = a .shape .high in
-    rw (at-loop .inv .1) (
-      omega (arith, at-pre .0),
-      (
-        at-pre .1 .1 .0,
-        part-ready (parts-ready tree node kind
-            low high (at-pre .1 .1 .1)) (at-loop .inv .0) (omega (arith, at-loop-test .taken, at-parts-before .ensures)),
-      ),
-    )
+lay-compound-atom-place-requires t c κs =
+    rw (c .before .before .loop .inv .1) (c .before .before .before .before .before .before .before .pre .1 .1 .0)
 
 pub lay-compound-mul-atoms : (t : ℕ) →
     lay-compound-lts.Need-mul-atoms (lay-compound-claims t) (lay-compound-at t) lay-compound.Post
     lay-compound-Inv-loop lay-compound-μ-loop
 lay-compound-mul-atoms t c =
-    let at-loop-test = c .before .before .before .before .before .before .loop-test in
-    let at-parts-before = c .before .before .before .before .before .before .before .before .before .parts-before in
-    let a = c .before .before .before .before .before .before .before .before .before .before .before .before .args in
-    let at-pre = c .before .before .before .before .before .before .before .before .before .before .before
-    .before .pre in
-    let kind = a .shape .kind in
-    let low = a .shape .low in
-    let high = a .shape .high in
-    omega (arith, at-loop-test .taken, at-parts-before .ensures, parts-few kind low high (at-pre .1 .0))
+    let turn = c .before .before .before in
+    omega (arith, part-left t turn, parts-fit t turn)
 
 pub lay-compound-array-write-atoms : (t : ℕ) →
     lay-compound-lts.Need-array-write-atoms (lay-compound-claims t) (lay-compound-at t) lay-compound.Post
     lay-compound-Inv-loop lay-compound-μ-loop
 lay-compound-array-write-atoms t c =
-    let at-loop-test = c .before .before .before .before .before .before .loop-test in
-    let at-loop = c .before .before .before .before .before .before .before .loop in
-    let at-parts-before = c .before .before .before .before .before .before .before .before .before .parts-before in
-    let a = c .before .before .before .before .before .before .before .before .before .before .before .before .args in
-    let at-pre = c .before .before .before .before .before .before .before .before .before .before .before
-    .before .pre in
-    let kind = a .shape .kind in
-    let low = a .shape .low in
-    let high = a .shape .high in
-    omega (
-      arith,
-      at-loop-test .taken,
-      at-parts-before .ensures,
-      at-loop .inv .0 .long,
-      parts-few kind low
-          high (at-pre .1 .0),
-    )
+    let turn = c .before .before .before in
+    omega (arith, part-left t turn, parts-fit t turn, turn .before .loop .inv .0 .long)
+
+pub lay-compound-add-node-2 : (t : ℕ) →
+    lay-compound-lts.Need-add-node-2 (lay-compound-claims t) (lay-compound-at t) lay-compound.Post
+    lay-compound-Inv-loop lay-compound-μ-loop
+lay-compound-add-node-2 t c =
+    let turn = c .before .before .before in
+    let a = turn .before .before .before .before .before .before .args in
+    let at-pre = turn .before .before .before .before .before .before .pre in
+    let tree = tree-at (a .kinds .now) (a .operands .now) (a .levels) in
+    let room = parts-ready tree (a .spot .node) (a .shape .kind) (a .shape .low) (a .shape .high) (at-pre .1 .1 .1) in
+    omega (arith, part-ready room (turn .before .loop .inv .0) (part-left t turn) .nodes)
 
 pub lay-compound-add-i : (t : ℕ) →
     lay-compound-lts.Need-add-i (lay-compound-claims t) (lay-compound-at t) lay-compound.Post
     lay-compound-Inv-loop lay-compound-μ-loop
-lay-compound-add-i t c =
-    let at-loop-test = c .before .before .before .before .before .before .loop-test in
-    omega (arith, at-loop-test .taken)
+lay-compound-add-i t c = omega (arith, c .before .before .before .loop-test .taken)
 
 pub lay-compound-loop-less : (t : ℕ) →
     lay-compound-lts.Need-loop-less (lay-compound-claims t) (lay-compound-at t) lay-compound.Post
     lay-compound-Inv-loop lay-compound-μ-loop
-lay-compound-loop-less t c =
-    let at-loop-test = c .before .before .before .before .before .before .loop-test in
-    omega (arith, at-loop-test .taken)
+lay-compound-loop-less t c = omega (arith, c .before .before .before .loop-test .taken)
 
 pub lay-compound-loop-again : (t : ℕ) →
     lay-compound-lts.Need-loop-again (lay-compound-claims t) (lay-compound-at t) lay-compound.Post
     lay-compound-Inv-loop lay-compound-μ-loop
 lay-compound-loop-again t c =
-    let at-loop-test = c .before .before .before .before .before .before .loop-test in
-    let at-loop = c .before .before .before .before .before .before .before .loop in
-    let at-parts-before = c .before .before .before .before .before .before .before .before .before .parts-before in
-    let a = c .before .before .before .before .before .before .before .before .before .before .before .before .args in
-    let at-pre = c .before .before .before .before .before .before .before .before .before .before .before
-    .before .pre in
-    let kind = a .shape .kind in
-    let low = a .shape .low in
-    let high = a .shape .high in (
-      listing-goes (at-loop .inv .0) (omega (arith, at-loop-test .taken, at-parts-before .ensures)) (rw
-          (at-loop .inv .1) at (c .lay-part .ensures .0)) (parts-few kind low high (at-pre .1 .0)),
-      c .lay-part
-          .ensures .1 ∙ at-loop .inv .1,
+    let turn = c .before .before .before in
+    let a = turn .before .before .before .before .before .before .args in
+    let listing = turn .before .loop .inv .0 in
+    let same = turn .before .loop .inv .1 in (
+      listing-goes listing (part-left t turn) (atom-laid (a .operands .now) _ _ (a .places .now) (a .levels)
+          (turn .before .loop .node) (c .before .atom-place .result)
+          (rw same at (c .before .atom-place .ensures (c .if1 .taken))) (listing .adds .sized)) (parts-fit t turn),
+      same,
+    )
+
+pub lay-compound-lay-part-requires : (t : ℕ) →
+    lay-compound-lts.Need-lay-part-requires (lay-compound-claims t) (lay-compound-at t) lay-compound.Post
+    lay-compound-Inv-loop lay-compound-μ-loop
+lay-compound-lay-part-requires t c κs =
+    let turn = c .before .before .before .before .before .before .before .before in
+    let a = turn .before .before .before .before .before .before .args in
+    let at-pre = turn .before .before .before .before .before .before .pre in
+    let tree = tree-at (a .kinds .now) (a .operands .now) (a .levels) in
+    let room = parts-ready tree (a .spot .node) (a .shape .kind) (a .shape .low) (a .shape .high) (at-pre .1 .1 .1) in
+    rw (turn .before .loop .inv .1) (
+      omega (arith, at-pre .0),
+      (at-pre .1 .1 .0, part-ready room (turn .before .loop .inv .0) (part-left t turn)),
+    )
+
+pub lay-compound-mul-atoms-2 : (t : ℕ) →
+    lay-compound-lts.Need-mul-atoms-2 (lay-compound-claims t) (lay-compound-at t) lay-compound.Post
+    lay-compound-Inv-loop lay-compound-μ-loop
+lay-compound-mul-atoms-2 t c =
+    let turn = c .before .before .before .before .before .before .before .before .before in
+    omega (arith, part-left t turn, parts-fit t turn)
+
+pub lay-compound-array-write-atoms-2 : (t : ℕ) →
+    lay-compound-lts.Need-array-write-atoms-2 (lay-compound-claims t) (lay-compound-at t) lay-compound.Post
+    lay-compound-Inv-loop lay-compound-μ-loop
+lay-compound-array-write-atoms-2 t c =
+    let turn = c .before .before .before .before .before .before .before .before .before in
+    omega (arith, part-left t turn, parts-fit t turn, turn .before .loop .inv .0 .long)
+
+pub lay-compound-add-i-2 : (t : ℕ) →
+    lay-compound-lts.Need-add-i-2 (lay-compound-claims t) (lay-compound-at t) lay-compound.Post
+    lay-compound-Inv-loop lay-compound-μ-loop
+lay-compound-add-i-2 t c =
+    let turn = c .before .before .before .before .before .before .before .before .before in
+    omega (arith, turn .loop-test .taken)
+
+pub lay-compound-loop-less-2 : (t : ℕ) →
+    lay-compound-lts.Need-loop-less-2 (lay-compound-claims t) (lay-compound-at t) lay-compound.Post
+    lay-compound-Inv-loop lay-compound-μ-loop
+lay-compound-loop-less-2 t c =
+    let turn = c .before .before .before .before .before .before .before .before .before in
+    omega (arith, turn .loop-test .taken)
+
+pub lay-compound-loop-again-2 : (t : ℕ) →
+    lay-compound-lts.Need-loop-again-2 (lay-compound-claims t) (lay-compound-at t) lay-compound.Post
+    lay-compound-Inv-loop lay-compound-μ-loop
+lay-compound-loop-again-2 t c =
+    let turn = c .before .before .before .before .before .before .before .before .before in
+    let same = turn .before .loop .inv .1 in (
+      listing-goes (turn .before .loop .inv .0) (part-left t turn) (rw same at (c .lay-part .ensures .0))
+          (parts-fit t turn),
+      c .lay-part .ensures .1 ∙ same,
     )
 
 pub lay-compound-lay-pass-requires : (t : ℕ) →
     lay-compound-lts.Need-lay-pass-requires (lay-compound-claims t) (lay-compound-at t) lay-compound.Post
     lay-compound-Inv-loop lay-compound-μ-loop
 lay-compound-lay-pass-requires t c κs =
-    let at-if1 = c .before .before .before .before .before .before .if1 in
+    let at-if2 = c .before .before .before .before .before .before .if2 in
     let at-is-loop = c .before .before .before .before .before .before .before .is-loop in
     let at-loop-test = c .before .before .before .before .before .before .before .before .loop-test in
     let at-loop = c .before .before .before .before .before .before .before .before .before .loop in
@@ -157,12 +194,12 @@ lay-compound-lay-pass-requires t c κs =
     rw (at-loop .inv .1) (
       omega (arith, at-pre .0),
       (
-        sym (at-is-loop .ensures) ∙ at-if1 .taken,
+        sym (at-is-loop .ensures) ∙ at-if2 .taken,
         (
           at-pre .1 .1
               .0,
           pass-ready file (a .results .now) tree node kind low high (at-pre .1 .1 .1) (at-loop .inv .0) (omega
-              (arith, at-loop-test .left, at-parts-before .ensures)) (sym (at-is-loop .ensures) ∙ at-if1 .taken),
+              (arith, at-loop-test .left, at-parts-before .ensures)) (sym (at-is-loop .ensures) ∙ at-if2 .taken),
         ),
       ),
     )
@@ -171,7 +208,7 @@ pub lay-compound-returns : (t : ℕ) →
     lay-compound-lts.Need-returns (lay-compound-claims t) (lay-compound-at t) lay-compound.Post
     lay-compound-Inv-loop lay-compound-μ-loop
 lay-compound-returns t c =
-    let at-if1 = c .before .before .before .before .before .before .before .if1 in
+    let at-if2 = c .before .before .before .before .before .before .before .if2 in
     let at-is-loop = c .before .before .before .before .before .before .before .before .is-loop in
     let at-loop-test = c .before .before .before .before .before .before .before .before .before .loop-test in
     let at-loop = c .before .before .before .before .before .before .before .before .before .before .loop in
@@ -189,7 +226,7 @@ lay-compound-returns t c =
     let high = a .shape .high in (
       rw (c .lay-pass .ensures .0) (loop-laid file (a .results .now) tree node kind low high (at-pre .1 .1 .1)
           (at-loop .inv .0) (omega (arith, at-loop-test .left, at-parts-before .ensures)) (sym (at-is-loop .ensures)
-          ∙ at-if1 .taken) (rw (at-loop .inv .1) at (c .lay-pass .ensures .1 .0))),
+          ∙ at-if2 .taken) (rw (at-loop .inv .1) at (c .lay-pass .ensures .1 .0))),
       c .lay-pass .ensures .1 .1 ∙
           at-loop .inv .1,
     )
@@ -198,7 +235,7 @@ pub lay-compound-lay-leaf-requires : (t : ℕ) →
     lay-compound-lts.Need-lay-leaf-requires (lay-compound-claims t) (lay-compound-at t) lay-compound.Post
     lay-compound-Inv-loop lay-compound-μ-loop
 lay-compound-lay-leaf-requires t c κs =
-    let at-if1 = c .before .before .before .before .before .if1 in
+    let at-if2 = c .before .before .before .before .before .if2 in
     let at-is-loop = c .before .before .before .before .before .before .is-loop in
     let at-loop-test = c .before .before .before .before .before .before .before .loop-test in
     let at-loop = c .before .before .before .before .before .before .before .before .loop in
@@ -215,13 +252,13 @@ lay-compound-lay-leaf-requires t c κs =
     let low = a .shape .low in
     let high = a .shape .high in
     leaf-ready file (a .results .now) tree node kind low high (at-pre .1 .1 .1) (at-loop .inv .0) (omega
-    (arith, at-loop-test .left, at-parts-before .ensures)) (sym (at-is-loop .ensures) ∙ at-if1 .left) (at-pre .1 .0)
+    (arith, at-loop-test .left, at-parts-before .ensures)) (sym (at-is-loop .ensures) ∙ at-if2 .left) (at-pre .1 .0)
 
 pub lay-compound-returns-2 : (t : ℕ) →
     lay-compound-lts.Need-returns-2 (lay-compound-claims t) (lay-compound-at t) lay-compound.Post
     lay-compound-Inv-loop lay-compound-μ-loop
 lay-compound-returns-2 t c =
-    let at-if1 = c .before .before .before .before .before .before .if1 in
+    let at-if2 = c .before .before .before .before .before .before .if2 in
     let at-is-loop = c .before .before .before .before .before .before .before .is-loop in
     let at-loop-test = c .before .before .before .before .before .before .before .before .loop-test in
     let at-loop = c .before .before .before .before .before .before .before .before .before .loop in
@@ -239,7 +276,7 @@ lay-compound-returns-2 t c =
     let high = a .shape .high in (
       rw (c .lay-leaf .ensures .0 .0) (leaf-laid file (a .results .now) tree node kind low high (at-pre .1 .1
           .1) (at-loop .inv .0) (omega (arith, at-loop-test .left, at-parts-before .ensures)) (sym (at-is-loop
-          .ensures) ∙ at-if1 .left) (at-pre .1 .0) (rw (c .lay-leaf .ensures .0 .0) at (c .lay-leaf .ensures .0 .1))
+          .ensures) ∙ at-if2 .left) (at-pre .1 .0) (rw (c .lay-leaf .ensures .0 .0) at (c .lay-leaf .ensures .0 .1))
           (c .lay-leaf .ensures .1 .0) (c .lay-leaf .ensures .1 .1)),
       at-loop .inv .1,
     )
