@@ -1,7 +1,7 @@
 -- What `lay_node` has to show.
 use Prim.Native.Nat.{ℕ}
 use Rattle.normal_form.proofs.lay_node.Reads as lay-node
-use Rattle.normal_form.proofs.+lay_compound+lay_if+lay_let+lay_node+lay_part+lay_pass+lay_tree.Lts-lay_node as lay-node-lts
+use Rattle.normal_form.proofs.+lay_compound+lay_let+lay_node+lay_part+lay_tree+trees-lay_if+trees-lay_pass.Lts-lay_node as lay-node-lts
 use Prim.Native.Nat.{ℕ, _-_}
 use mathlib.Core.Path.{_∙_, refl}
 use native.Mathlib.Omega.{arith}
@@ -13,8 +13,8 @@ use Rattle.normal_lay.proofs.Nodes.{fits-seen, compound-as, compound-is, any-de
 use Rattle.normal_lay.proofs.Nodes.{number-placed, let-after, if-after}
 use Rattle.normal_lay.proofs.Members.{ready-as, ready-made, number-laid, name-laid, one-node}
 use borrow.Author.Needs.{needs}
-use Rattle.normal_form.proofs.+lay_compound+lay_if+lay_let+lay_node+lay_part+lay_pass+lay_tree.Proof.Common.{lay-node-at}
-use Rattle.normal_form.proofs.+lay_compound+lay_if+lay_let+lay_node+lay_part+lay_pass+lay_tree.Proof.Common.{lay-node-claims}
+use Rattle.normal_form.proofs.+lay_compound+lay_let+lay_node+lay_part+lay_tree+trees-lay_if+trees-lay_pass.Proof.Common.{lay-node-at}
+use Rattle.normal_form.proofs.+lay_compound+lay_let+lay_node+lay_part+lay_tree+trees-lay_if+trees-lay_pass.Proof.Common.{lay-node-claims}
 
 pub lay-node-add-atom-out : (t : ℕ) →
     lay-node-lts.Need-add-atom-out (lay-node-claims t) (lay-node-at t) lay-node.Post

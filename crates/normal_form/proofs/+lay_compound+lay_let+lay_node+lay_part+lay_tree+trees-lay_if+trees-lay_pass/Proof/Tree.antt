@@ -1,13 +1,13 @@
 -- What `lay_tree` has to show.
 use Prim.Native.Nat.{ℕ}
 use Rattle.normal_form.proofs.lay_tree.Reads as lay-tree
-use Rattle.normal_form.proofs.+lay_compound+lay_if+lay_let+lay_node+lay_part+lay_pass+lay_tree.Lts-lay_tree as lay-tree-lts
+use Rattle.normal_form.proofs.+lay_compound+lay_let+lay_node+lay_part+lay_tree+trees-lay_if+trees-lay_pass.Lts-lay_tree as lay-tree-lts
 use native.Mathlib.Omega.{arith}
 use lib.ListN.{getD}
 use Rattle.normal_lay.specs.Source.{tree-at}
 use Rattle.normal_lay.proofs.Members.{tree-laid}
-use Rattle.normal_form.proofs.+lay_compound+lay_if+lay_let+lay_node+lay_part+lay_pass+lay_tree.Proof.Common.{lay-tree-at}
-use Rattle.normal_form.proofs.+lay_compound+lay_if+lay_let+lay_node+lay_part+lay_pass+lay_tree.Proof.Common.{lay-tree-claims}
+use Rattle.normal_form.proofs.+lay_compound+lay_let+lay_node+lay_part+lay_tree+trees-lay_if+trees-lay_pass.Proof.Common.{lay-tree-at}
+use Rattle.normal_form.proofs.+lay_compound+lay_let+lay_node+lay_part+lay_tree+trees-lay_if+trees-lay_pass.Proof.Common.{lay-tree-claims}
 
 pub lay-tree-lay-part-requires : (t : ℕ) →
     lay-tree-lts.Need-lay-part-requires (lay-tree-claims t) (lay-tree-at t) lay-tree.Post

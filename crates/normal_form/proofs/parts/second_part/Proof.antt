@@ -1,6 +1,6 @@
 use borrow.Author.Tests.{ne-eqb}
-use Rattle.normal_form.proofs.second_part.Statement.{statement}
-use Rattle.normal_form.proofs.second_part.Tie as tie
+use Rattle.normal_form.proofs.parts.second_part.Statement.{statement}
+use Rattle.normal_form.proofs.parts.second_part.Tie as tie
 
 returns : tie.Need-returns
 returns c = rw (c .if1 .taken)

@@ -1,7 +1,7 @@
 use mathlib.Core.Path.{sym, _∙_}
 use borrow.Author.Needs.{needs}
-use Rattle.normal_form.proofs.parts_before.Statement.{statement}
-use Rattle.normal_form.proofs.parts_before.Tie as tie
+use Rattle.normal_form.proofs.parts.parts_before.Statement.{statement}
+use Rattle.normal_form.proofs.parts.parts_before.Tie as tie
 
 returns : tie.Need-returns
 returns c = rw (sym (c .before .before .is-loop .ensures) ∙ c .before .if1 .taken) (c .loop-size .ensures)

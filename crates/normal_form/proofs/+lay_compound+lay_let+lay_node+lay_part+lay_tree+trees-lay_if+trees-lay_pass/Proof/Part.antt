@@ -1,7 +1,7 @@
 -- What `lay_part` has to show.
 use Prim.Native.Nat.{ℕ}
 use Rattle.normal_form.proofs.lay_part.Reads as lay-part
-use Rattle.normal_form.proofs.+lay_compound+lay_if+lay_let+lay_node+lay_part+lay_pass+lay_tree.Lts-lay_part as lay-part-lts
+use Rattle.normal_form.proofs.+lay_compound+lay_let+lay_node+lay_part+lay_tree+trees-lay_if+trees-lay_pass.Lts-lay_part as lay-part-lts
 use mathlib.Core.Path.{refl}
 use mathlib.Core.Logic.{inl, inr}
 use native.Mathlib.Omega.{arith}
@@ -10,8 +10,8 @@ use lib.ListN.{getD}
 use Rattle.normal_lay.specs.Source.{tree-at}
 use Rattle.normal_lay.proofs.Nodes.{none-tree, wrong-tree, nowhere-placed}
 use Rattle.normal_lay.proofs.Members.{number-laid, one-node}
-use Rattle.normal_form.proofs.+lay_compound+lay_if+lay_let+lay_node+lay_part+lay_pass+lay_tree.Proof.Common.{lay-part-at}
-use Rattle.normal_form.proofs.+lay_compound+lay_if+lay_let+lay_node+lay_part+lay_pass+lay_tree.Proof.Common.{lay-part-claims}
+use Rattle.normal_form.proofs.+lay_compound+lay_let+lay_node+lay_part+lay_tree+trees-lay_if+trees-lay_pass.Proof.Common.{lay-part-at}
+use Rattle.normal_form.proofs.+lay_compound+lay_let+lay_node+lay_part+lay_tree+trees-lay_if+trees-lay_pass.Proof.Common.{lay-part-claims}
 
 pub lay-part-atom-out-requires : (t : ℕ) →
     lay-part-lts.Need-atom-out-requires (lay-part-claims t) (lay-part-at t) lay-part.Post

@@ -1,14 +1,14 @@
 -- What `lay_if` has to show.
 use Prim.Native.Nat.{ℕ}
-use Rattle.normal_form.proofs.lay_if.Reads as lay-if
-use Rattle.normal_form.proofs.+lay_compound+lay_if+lay_let+lay_node+lay_part+lay_pass+lay_tree.Lts-lay_if as lay-if-lts
+use Rattle.normal_form.proofs.trees.lay_if.Reads as lay-if
+use Rattle.normal_form.proofs.+lay_compound+lay_let+lay_node+lay_part+lay_tree+trees-lay_if+trees-lay_pass.Lts-trees-lay_if as lay-if-lts
 use mathlib.Core.Path.{_∙_}
 use native.Mathlib.Omega.{arith}
 use lib.ListN.{getD}
 use Rattle.normal_lay.specs.Source.{tree-at}
 use Rattle.normal_lay.proofs.Members.{given-same, if-first, if-place, if-own, if-middle, if-other, if-end, if-laid}
-use Rattle.normal_form.proofs.+lay_compound+lay_if+lay_let+lay_node+lay_part+lay_pass+lay_tree.Proof.Common.{lay-if-at}
-use Rattle.normal_form.proofs.+lay_compound+lay_if+lay_let+lay_node+lay_part+lay_pass+lay_tree.Proof.Common.{lay-if-claims}
+use Rattle.normal_form.proofs.+lay_compound+lay_let+lay_node+lay_part+lay_tree+trees-lay_if+trees-lay_pass.Proof.Common.{lay-if-at}
+use Rattle.normal_form.proofs.+lay_compound+lay_let+lay_node+lay_part+lay_tree+trees-lay_if+trees-lay_pass.Proof.Common.{lay-if-claims}
 
 pub lay-if-lay-part-requires : (t : ℕ) →
     lay-if-lts.Need-lay-part-requires (lay-if-claims t) (lay-if-at t) lay-if.Post

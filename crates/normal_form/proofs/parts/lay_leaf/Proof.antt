@@ -1,6 +1,6 @@
 use borrow.Author.Needs.{needs}
-use Rattle.normal_form.proofs.lay_leaf.Statement.{statement}
-use Rattle.normal_form.proofs.lay_leaf.Tie as tie
+use Rattle.normal_form.proofs.parts.lay_leaf.Statement.{statement}
+use Rattle.normal_form.proofs.parts.lay_leaf.Tie as tie
 
 returns : tie.Need-returns
 returns c =

@@ -1,14 +1,14 @@
 -- What `lay_pass` has to show.
 use Prim.Native.Nat.{ℕ}
-use Rattle.normal_form.proofs.lay_pass.Reads as lay-pass
-use Rattle.normal_form.proofs.+lay_compound+lay_if+lay_let+lay_node+lay_part+lay_pass+lay_tree.Lts-lay_pass as lay-pass-lts
+use Rattle.normal_form.proofs.trees.lay_pass.Reads as lay-pass
+use Rattle.normal_form.proofs.+lay_compound+lay_let+lay_node+lay_part+lay_tree+trees-lay_if+trees-lay_pass.Lts-trees-lay_pass as lay-pass-lts
 use mathlib.Core.Path.{refl, ap, _∙_}
 use native.Mathlib.Omega.{arith}
 use lib.ListN.{length, getD}
 use Rattle.script_read.proofs.Tables.{put-back-two}
 use Rattle.normal_lay.proofs.Passes.{given-bound-twice, pass-place, pass-tree, pass-end, pass-deep, pass-laid}
-use Rattle.normal_form.proofs.+lay_compound+lay_if+lay_let+lay_node+lay_part+lay_pass+lay_tree.Proof.Common.{lay-pass-at}
-use Rattle.normal_form.proofs.+lay_compound+lay_if+lay_let+lay_node+lay_part+lay_pass+lay_tree.Proof.Common.{lay-pass-claims}
+use Rattle.normal_form.proofs.+lay_compound+lay_let+lay_node+lay_part+lay_tree+trees-lay_if+trees-lay_pass.Proof.Common.{lay-pass-at}
+use Rattle.normal_form.proofs.+lay_compound+lay_let+lay_node+lay_part+lay_tree+trees-lay_if+trees-lay_pass.Proof.Common.{lay-pass-claims}
 
 pub lay-pass-open-loop-requires : (t : ℕ) →
     lay-pass-lts.Need-open-loop-requires (lay-pass-claims t) (lay-pass-at t) lay-pass.Post

@@ -1,15 +1,15 @@
 -- What `lay_let` has to show.
 use Prim.Native.Nat.{ℕ}
 use Rattle.normal_form.proofs.lay_let.Reads as lay-let
-use Rattle.normal_form.proofs.+lay_compound+lay_if+lay_let+lay_node+lay_part+lay_pass+lay_tree.Lts-lay_let as lay-let-lts
+use Rattle.normal_form.proofs.+lay_compound+lay_let+lay_node+lay_part+lay_tree+trees-lay_if+trees-lay_pass.Lts-lay_let as lay-let-lts
 use mathlib.Core.Path.{refl}
 use native.Mathlib.Omega.{arith}
 use lib.ListN.{getD}
 use Rattle.script_read.proofs.Tables.{put-back}
 use Rattle.normal_lay.specs.Source.{tree-at}
 use Rattle.normal_lay.proofs.Members.{given-bound, given-same, let-first, let-second, let-laid}
-use Rattle.normal_form.proofs.+lay_compound+lay_if+lay_let+lay_node+lay_part+lay_pass+lay_tree.Proof.Common.{lay-let-at}
-use Rattle.normal_form.proofs.+lay_compound+lay_if+lay_let+lay_node+lay_part+lay_pass+lay_tree.Proof.Common.{lay-let-claims}
+use Rattle.normal_form.proofs.+lay_compound+lay_let+lay_node+lay_part+lay_tree+trees-lay_if+trees-lay_pass.Proof.Common.{lay-let-at}
+use Rattle.normal_form.proofs.+lay_compound+lay_let+lay_node+lay_part+lay_tree+trees-lay_if+trees-lay_pass.Proof.Common.{lay-let-claims}
 
 pub lay-let-lay-part-requires : (t : ℕ) →
     lay-let-lts.Need-lay-part-requires (lay-let-claims t) (lay-let-at t) lay-let.Post

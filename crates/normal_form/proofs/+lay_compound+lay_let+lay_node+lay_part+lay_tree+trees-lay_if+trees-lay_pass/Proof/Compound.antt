@@ -1,7 +1,7 @@
 -- What `lay_compound` has to show.
 use Prim.Native.Nat.{ℕ}
 use Rattle.normal_form.proofs.lay_compound.Reads as lay-compound
-use Rattle.normal_form.proofs.+lay_compound+lay_if+lay_let+lay_node+lay_part+lay_pass+lay_tree.Lts-lay_compound as lay-compound-lts
+use Rattle.normal_form.proofs.+lay_compound+lay_let+lay_node+lay_part+lay_tree+trees-lay_if+trees-lay_pass.Lts-lay_compound as lay-compound-lts
 use Prim.Native.Nat.{ℕ, _-_, _<_, _≤_}
 use mathlib.Core.Path.{_≡_, refl, sym, _∙_}
 use native.Mathlib.Omega.{arith}
@@ -13,8 +13,8 @@ use Rattle.normal_lay.proofs.Lists.{Listing, listing-begins, listing-goes}
 use Rattle.normal_lay.proofs.Members.{atom-laid}
 use Rattle.normal_lay.proofs.Compounds.{parts-ready, parts-few, part-ready, leaf-ready, leaf-laid, pass-ready, loop-laid}
 use borrow.Author.Needs.{needs}
-use Rattle.normal_form.proofs.+lay_compound+lay_if+lay_let+lay_node+lay_part+lay_pass+lay_tree.Proof.Common.{lay-compound-at}
-use Rattle.normal_form.proofs.+lay_compound+lay_if+lay_let+lay_node+lay_part+lay_pass+lay_tree.Proof.Common.{lay-compound-claims}
+use Rattle.normal_form.proofs.+lay_compound+lay_let+lay_node+lay_part+lay_tree+trees-lay_if+trees-lay_pass.Proof.Common.{lay-compound-at}
+use Rattle.normal_form.proofs.+lay_compound+lay_let+lay_node+lay_part+lay_tree+trees-lay_if+trees-lay_pass.Proof.Common.{lay-compound-claims}
 
 abbrev pub lay-compound-Inv-loop : lay-compound-lts.InvT-loop
 lay-compound-Inv-loop kinds operands results places₀ last₀ rows₀ notes₀ depths₀ shape levels count atoms₀ i₀ node₀
