@@ -26,10 +26,10 @@ ghost use Rattle.machine_lines.specs.Lines.{operation-of, operation-line
 fn operate(kind: u8, a: i64, b: i64) -> Exact
     ensures { λ r. ⌜ exact-outcome r ≡ checked (exact (operation-of kind) a b) ⌝ }
 {
-    if kind == 4 {
+    if kind == node_kinds::SUM {
         return words::exact_sum(a, b);
     }
-    if kind == 5 {
+    if kind == node_kinds::DIFFERENCE {
         return words::exact_difference(a, b);
     }
     Exact::Value(words::is_less(a, b))

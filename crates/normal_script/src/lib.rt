@@ -33,7 +33,13 @@ fn put_parameters(
     while 0 < i {
         i = i - 1;
         let d = script_read::high_at(kinds, operands, at + i, Place::Parameter);
-        let n = normal_write::put_row(ks, os, v, 1, i as u32 + 256 * (d as u32));
+        let n = normal_write::put_row(
+            ks,
+            os,
+            v,
+            node_kinds::PARAMETER,
+            i as u32 + 256 * (d as u32),
+        );
         v = n;
     }
     v
@@ -55,7 +61,13 @@ fn put_head(
     let count = script_read::low_at(kinds, operands, at, Place::Function);
     let result = script_read::high_at(kinds, operands, at, Place::Function);
     let v = put_parameters(ks, os, kinds, operands, at + 1, count, w);
-    normal_write::put_row(ks, os, v, 0, count as u32 + 256 * (result as u32))
+    normal_write::put_row(
+        ks,
+        os,
+        v,
+        node_kinds::FUNCTION,
+        count as u32 + 256 * (result as u32),
+    )
 }
 
 // The depths of the names of function f, but 0 for those of its n parameters that it borrows.

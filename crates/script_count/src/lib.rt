@@ -1,19 +1,4 @@
 // Refusal 8: the first function with over 256 new names, in one pass over the kinds.
-use script_read::KIND_CALL;
-use script_read::KIND_DIFFERENCE;
-use script_read::KIND_FILTER;
-use script_read::KIND_FUNCTION;
-use script_read::KIND_IF;
-use script_read::KIND_INDEX;
-use script_read::KIND_IOTA;
-use script_read::KIND_LENGTH;
-use script_read::KIND_LESS;
-use script_read::KIND_LITERAL;
-use script_read::KIND_MAP;
-use script_read::KIND_PARAMETER;
-use script_read::KIND_REDUCE;
-use script_read::KIND_REPLICATE;
-use script_read::KIND_SUM;
 ghost use mathlib.Core.Path.{_≡_};
 ghost use Prim.Native.Nat.{_+_, _<_};
 ghost use lib.ListN.{length, getD};
@@ -31,20 +16,20 @@ fn new_names(kind: u8) -> u8
     ensures { λ r. ⌜ r ≡ getD new-names kind 0 ⌝ }
 {
     match kind {
-        KIND_PARAMETER => 1,
-        KIND_SUM => 1,
-        KIND_DIFFERENCE => 1,
-        KIND_LESS => 1,
-        KIND_CALL => 1,
-        KIND_LITERAL => 1,
-        KIND_INDEX => 1,
-        KIND_LENGTH => 1,
-        KIND_IF => 1,
-        KIND_MAP => 2,
-        KIND_IOTA => 1,
-        KIND_REPLICATE => 1,
-        KIND_FILTER => 2,
-        KIND_REDUCE => 3,
+        node_kinds::PARAMETER => 1,
+        node_kinds::SUM => 1,
+        node_kinds::DIFFERENCE => 1,
+        node_kinds::LESS => 1,
+        node_kinds::CALL => 1,
+        node_kinds::LITERAL => 1,
+        node_kinds::INDEX => 1,
+        node_kinds::LENGTH => 1,
+        node_kinds::IF => 1,
+        node_kinds::MAP => 2,
+        node_kinds::IOTA => 1,
+        node_kinds::REPLICATE => 1,
+        node_kinds::FILTER => 2,
+        node_kinds::REDUCE => 3,
         _ => 0,
     }
 }
@@ -53,7 +38,7 @@ fn new_names(kind: u8) -> u8
 fn crowd_ends(kind: u8, count: u64) -> bool
     ensures { λ r. ⌜ r ≡ crowd-ends kind count ⌝ }
 {
-    if kind == KIND_FUNCTION {
+    if kind == node_kinds::FUNCTION {
         return 256 < count;
     }
     false
@@ -63,14 +48,18 @@ fn crowd_ends(kind: u8, count: u64) -> bool
 fn start_after(kind: u8, p: usize, start: usize) -> usize
     ensures { λ r. ⌜ r ≡ start-after kind p start ⌝ }
 {
-    if kind == KIND_FUNCTION { p } else { start }
+    if kind == node_kinds::FUNCTION {
+        p
+    } else {
+        start
+    }
 }
 
 // The present function's new names, after a node of this kind; over 256 the count stands still.
 fn count_after(kind: u8, count: u64) -> u64
     ensures { λ r. ⌜ r ≡ counted-on kind count ⌝ }
 {
-    if kind == KIND_FUNCTION {
+    if kind == node_kinds::FUNCTION {
         return 0;
     }
     if 256 < count {

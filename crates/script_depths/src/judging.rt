@@ -1,15 +1,6 @@
 // The rules of depths: what a node has by the depths of its parts, if it breaks no rule.
 use crate::Head;
 use crate::Judged;
-use script_read::KIND_CALL;
-use script_read::KIND_FILTER;
-use script_read::KIND_IF;
-use script_read::KIND_INDEX;
-use script_read::KIND_IOTA;
-use script_read::KIND_LENGTH;
-use script_read::KIND_LITERAL;
-use script_read::KIND_MAP;
-use script_read::KIND_REPLICATE;
 use script_read::Place;
 ghost use mathlib.Core.Path.{_≡_};
 ghost use mathlib.Core.List.{[], _∷_};
@@ -162,13 +153,13 @@ pub fn judge(
     let low = node.low;
     let high = node.high;
     match kind {
-        KIND_CALL => judge_call(kinds, operands, starts[low as usize], ds, high),
-        KIND_LITERAL => judge_all(ds, low as usize, high, high + 1),
-        KIND_INDEX => judge_index(ds[0], ds[1]),
-        KIND_LENGTH => judge_length(ds[0]),
-        KIND_IF => judge_if(ds[0], ds[1], ds[2]),
-        KIND_IOTA => judge_all(ds, 1, 0, 1),
-        KIND_REPLICATE => judge_replicate(ds[0], ds[1]),
+        node_kinds::CALL => judge_call(kinds, operands, starts[low as usize], ds, high),
+        node_kinds::LITERAL => judge_all(ds, low as usize, high, high + 1),
+        node_kinds::INDEX => judge_index(ds[0], ds[1]),
+        node_kinds::LENGTH => judge_length(ds[0]),
+        node_kinds::IF => judge_if(ds[0], ds[1], ds[2]),
+        node_kinds::IOTA => judge_all(ds, 1, 0, 1),
+        node_kinds::REPLICATE => judge_replicate(ds[0], ds[1]),
         _ => judge_all(ds, script_read::parts_of(kind, low, high) as usize, 0, 0),
     }
 }
@@ -178,13 +169,13 @@ pub fn judge(
 pub fn judge_loop(kind: u8, start: u8, array: u8, body: u8) -> Judged
     ensures { λ r. ⌜ r ≡ told-rule (loop-ruled kind start array body) ⌝ }
 {
-    if kind == KIND_MAP {
+    if kind == node_kinds::MAP {
         return judge_array(body);
     }
     if body != start {
         return Judged::Broken;
     }
-    if kind == KIND_FILTER {
+    if kind == node_kinds::FILTER {
         Judged::Has(array)
     } else {
         Judged::Has(start)

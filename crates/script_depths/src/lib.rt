@@ -1,10 +1,6 @@
 // Refusals 6 and 7 of a part: its depth, or a node that breaks one of the rules.
 // One table of the depths of the 256 names is changed at a let or a loop and put back after it; a name that is not
 // known has the entry UNKNOWN, which is no depth.
-use script_read::KIND_LET;
-use script_read::KIND_NAME;
-use script_read::KIND_NUMBER;
-use script_read::KIND_REDUCE;
 use script_read::Node;
 use script_read::Place;
 ghost use mathlib.Core.Path.{_≡_};
@@ -71,17 +67,17 @@ fn type_part(
     }
     match script_read::node_at(kinds, operands, at, Place::Part) {
         Node::Fits(kind, low, high) => {
-            if kind == KIND_NUMBER {
+            if kind == node_kinds::NUMBER {
                 return Typed::Depth(0, at + 1);
             }
-            if kind == KIND_NAME {
+            if kind == node_kinds::NAME {
                 let d = table[low as usize];
                 if d == UNKNOWN {
                     return Typed::Fault(at);
                 }
                 return Typed::Depth(d, at + 1);
             }
-            if kind == KIND_LET {
+            if kind == node_kinds::LET {
                 return type_let(kinds, operands, starts, table, at + 1, low, levels - 1);
             }
             let node = Head { kind, low, high };
@@ -142,7 +138,7 @@ fn type_start(
         (depths (now (table .entry)))) at)
         × (now (table .exit) ≡ now (table .entry)) ⌝ }
 {
-    if kind == KIND_REDUCE {
+    if kind == node_kinds::REDUCE {
         return type_part(kinds, operands, starts, table, at, levels);
     }
     Typed::Depth(0, at)

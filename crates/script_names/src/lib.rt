@@ -1,8 +1,5 @@
 // Refusal 6: a node that names nothing known, or a parameter name that is repeated.
 // One table of the 256 names is changed at a binding and put back after it.
-use script_read::KIND_CALL;
-use script_read::KIND_LET;
-use script_read::KIND_NAME;
 use script_read::Node;
 use script_read::Place;
 use script_read::Read;
@@ -24,7 +21,7 @@ struct Binding {
 fn is_binding(kind: u8) -> bool
     ensures { λ r. ⌜ r ≡ binds kind ⌝ }
 {
-    if kind == KIND_LET {
+    if kind == node_kinds::LET {
         return true;
     }
     script_read::is_loop(kind)
@@ -34,7 +31,7 @@ fn is_binding(kind: u8) -> bool
 fn calls_none(functions: u8, kind: u8, f: u8) -> bool
     ensures { λ r. ⌜ r ≡ calls-none functions kind f ⌝ }
 {
-    if kind == KIND_CALL {
+    if kind == node_kinds::CALL {
         return functions <= f;
     }
     false
@@ -59,7 +56,7 @@ fn name_part(
     }
     match script_read::node_at(kinds, operands, at, Place::Part) {
         Node::Fits(kind, low, high) => {
-            if kind == KIND_NAME {
+            if kind == node_kinds::NAME {
                 if known[low as usize] {
                     return Read::Next(at + 1);
                 }

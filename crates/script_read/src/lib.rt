@@ -29,43 +29,6 @@ pub enum Read {
     Refused(u8, usize),
 }
 
-// The kinds of nodes.
-pub const KIND_FUNCTION: u8 = 0;
-
-pub const KIND_PARAMETER: u8 = 1;
-
-pub const KIND_NUMBER: u8 = 2;
-
-pub const KIND_NAME: u8 = 3;
-
-pub const KIND_SUM: u8 = 4;
-
-pub const KIND_DIFFERENCE: u8 = 5;
-
-pub const KIND_LESS: u8 = 6;
-
-pub const KIND_LET: u8 = 7;
-
-pub const KIND_CALL: u8 = 8;
-
-pub const KIND_LITERAL: u8 = 9;
-
-pub const KIND_INDEX: u8 = 10;
-
-pub const KIND_LENGTH: u8 = 11;
-
-pub const KIND_IF: u8 = 12;
-
-pub const KIND_MAP: u8 = 13;
-
-pub const KIND_IOTA: u8 = 17;
-
-pub const KIND_REPLICATE: u8 = 18;
-
-pub const KIND_FILTER: u8 = 19;
-
-pub const KIND_REDUCE: u8 = 20;
-
 // The entry of a function that is not there, in a table of the functions' nodes: it is past every file.
 pub const NO_FUNCTION: usize = 1024;
 
@@ -77,22 +40,22 @@ fn part_limits(kind: u8) -> u64
     ensures { λ r. ⌜ r ≡ limits-at at-part kind ⌝ }
 {
     match kind {
-        KIND_NUMBER => 0,
-        KIND_NAME => 255,
-        KIND_SUM => 0,
-        KIND_DIFFERENCE => 0,
-        KIND_LESS => 0,
-        KIND_LET => 255,
-        KIND_CALL => 31 + 256 * 8,
-        KIND_LITERAL => 16 + 256 * 3,
-        KIND_INDEX => 0,
-        KIND_LENGTH => 0,
-        KIND_IF => 0,
-        KIND_MAP => 255,
-        KIND_IOTA => 0,
-        KIND_REPLICATE => 0,
-        KIND_FILTER => 255,
-        KIND_REDUCE => 255 + 256 * 255,
+        node_kinds::NUMBER => 0,
+        node_kinds::NAME => 255,
+        node_kinds::SUM => 0,
+        node_kinds::DIFFERENCE => 0,
+        node_kinds::LESS => 0,
+        node_kinds::LET => 255,
+        node_kinds::CALL => 31 + 256 * 8,
+        node_kinds::LITERAL => 16 + 256 * 3,
+        node_kinds::INDEX => 0,
+        node_kinds::LENGTH => 0,
+        node_kinds::IF => 0,
+        node_kinds::MAP => 255,
+        node_kinds::IOTA => 0,
+        node_kinds::REPLICATE => 0,
+        node_kinds::FILTER => 255,
+        node_kinds::REDUCE => 255 + 256 * 255,
         _ => NOT_ALLOWED,
     }
 }
@@ -103,13 +66,13 @@ fn limits_at(place: Place, kind: u8) -> u64
 {
     match place {
         Place::Function => {
-            if kind == KIND_FUNCTION {
+            if kind == node_kinds::FUNCTION {
                 return 8 + 256 * 4;
             }
             NOT_ALLOWED
         }
         Place::Parameter => {
-            if kind == KIND_PARAMETER {
+            if kind == node_kinds::PARAMETER {
                 return 255 + 256 * 4;
             }
             NOT_ALLOWED
@@ -135,8 +98,8 @@ pub fn node_at(kinds: &[u8], operands: &[u8], at: usize, place: Place) -> Node
     if most == NOT_ALLOWED {
         return Node::WrongKind;
     }
-    if kind == KIND_NUMBER {
-        return Node::Fits(KIND_NUMBER, 0, 0);
+    if kind == node_kinds::NUMBER {
+        return Node::Fits(node_kinds::NUMBER, 0, 0);
     }
     let n = words::nth_word(operands, at);
     let low = n % 256;
@@ -177,18 +140,18 @@ fn fixed_parts(kind: u8) -> u8
     ensures { λ r. ⌜ r ≡ getD part-counts kind 0 ⌝ }
 {
     match kind {
-        KIND_SUM => 2,
-        KIND_DIFFERENCE => 2,
-        KIND_LESS => 2,
-        KIND_LET => 2,
-        KIND_INDEX => 2,
-        KIND_LENGTH => 1,
-        KIND_IF => 3,
-        KIND_MAP => 2,
-        KIND_IOTA => 1,
-        KIND_REPLICATE => 2,
-        KIND_FILTER => 2,
-        KIND_REDUCE => 3,
+        node_kinds::SUM => 2,
+        node_kinds::DIFFERENCE => 2,
+        node_kinds::LESS => 2,
+        node_kinds::LET => 2,
+        node_kinds::INDEX => 2,
+        node_kinds::LENGTH => 1,
+        node_kinds::IF => 3,
+        node_kinds::MAP => 2,
+        node_kinds::IOTA => 1,
+        node_kinds::REPLICATE => 2,
+        node_kinds::FILTER => 2,
+        node_kinds::REDUCE => 3,
         _ => 0,
     }
 }
@@ -197,10 +160,10 @@ fn fixed_parts(kind: u8) -> u8
 fn said_parts(kind: u8, low: u8, high: u8) -> u8
     ensures { λ r. ⌜ r ≡ said-parts kind low high ⌝ }
 {
-    if kind == KIND_CALL {
+    if kind == node_kinds::CALL {
         return high;
     }
-    if kind == KIND_LITERAL {
+    if kind == node_kinds::LITERAL {
         return low;
     }
     0
@@ -218,9 +181,9 @@ pub fn is_loop(kind: u8) -> bool
     ensures { λ r. ⌜ r ≡ loops kind ⌝ }
 {
     match kind {
-        KIND_MAP => true,
-        KIND_FILTER => true,
-        KIND_REDUCE => true,
+        node_kinds::MAP => true,
+        node_kinds::FILTER => true,
+        node_kinds::REDUCE => true,
         _ => false,
     }
 }
@@ -229,7 +192,11 @@ pub fn is_loop(kind: u8) -> bool
 pub fn second_name(kind: u8, low: u8, high: u8) -> u8
     ensures { λ r. ⌜ r ≡ second-name kind low high ⌝ }
 {
-    if kind == KIND_REDUCE { high } else { low }
+    if kind == node_kinds::REDUCE {
+        high
+    } else {
+        low
+    }
 }
 
 // A part, with so many levels left.
