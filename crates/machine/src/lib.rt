@@ -1,7 +1,7 @@
 // The machine: workers for a tree, a line and the passes of a loop that call each other. What falls is the steps left,
 // and where no step is taken the lines left. `calls` is the call depth left. The code's slices are cut to its lines,
 // and lent by a reference to each: a frame then has no copy of them.
-use machine_code::Atom;
+use code::Atom;
 use machine_code::Line;
 use machine_code::Loop;
 use machine_code::TABLE_BYTES;

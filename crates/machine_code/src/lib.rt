@@ -1,17 +1,12 @@
 // Reading the code: atoms, lines, and the table of a script's functions and of the positions after its trees.
 // What stands past the end of an array is 0. Lines and atoms are read from arrays that are cut to the code's lines.
+use code::Atom;
 ghost use mathlib.Core.Path.{_≡_};
 ghost use Prim.Native.Nat.{_+_, _-_, _*_, _<_};
 ghost use lib.IntN.{pos};
 ghost use lib.ListN.{length, getD};
 ghost use Rattle.machine_code.specs.Reading.{low-bits, Cut, atom-at, line-at, is-atom, two-rows};
 ghost use Rattle.machine_code.specs.Reading.{depth-in, start-in, end-in};
-
-// An atom: a number or a name.
-pub enum Atom {
-    Number(i64),
-    Name(u8),
-}
 
 // A loop without its tree: the names of a pass, and the atoms. A reduce has the name of its running value before the
 // element's, and its start before its array. A rewrite is a map in the cell of its array.
@@ -85,10 +80,10 @@ pub fn atom_stands(kinds: &[u8], at: usize) -> bool
     ensures { λ r. ⌜ r ≡ is-atom (getD (now (kinds .entry)) at 0) ⌝ }
 {
     let kind = kind_at(kinds, at);
-    if kind == node_kinds::NUMBER {
+    if kind == code::NUMBER {
         true
     } else {
-        kind == node_kinds::NAME
+        kind == code::NAME
     }
 }
 
@@ -97,7 +92,7 @@ fn atom_within(kinds: &[u8], operands: &[i64], at: usize) -> Atom
     requires { ⌜ (at < length (now kinds)) × (at < length (now operands)) ⌝ }
     ensures { λ r. ⌜ r ≡ atom-at (now (kinds .entry)) (now (operands .entry)) at ⌝ }
 {
-    if kinds[at] == node_kinds::NUMBER {
+    if kinds[at] == code::NUMBER {
         Atom::Number(operands[at])
     } else {
         Atom::Name((low_bits(operands[at]) % 256) as u8)
@@ -119,7 +114,7 @@ pub fn line_at(kinds: &[u8], operands: &[i64], at: usize) -> Line
 {
     let kind = kinds[at];
     let a = atom_within(kinds, operands, at + 1);
-    if kind == node_kinds::END {
+    if kind == code::END {
         return Line::End(a);
     }
     let n = low_bits(operands[at]);
@@ -129,18 +124,18 @@ pub fn line_at(kinds: &[u8], operands: &[i64], at: usize) -> Line
     }
     let y = (n / 256 % 256) as u8;
     match kind {
-        node_kinds::CALL => Line::Call(x, y),
-        node_kinds::LITERAL => Line::Literal(x, (n / 65536 % 256) as u8),
-        node_kinds::INDEX => Line::Index(x, a, atom_at(kinds, operands, at + 2)),
-        node_kinds::LENGTH => Line::Length(x, a),
-        node_kinds::IF => Line::If(x, a),
-        node_kinds::MAP => Line::Loop(x, Loop::Map(y, a)),
-        node_kinds::RETAIN => Line::Retain(x),
-        node_kinds::RELEASE => Line::Release(x),
-        node_kinds::IOTA => Line::Iota(x, a),
-        node_kinds::REPLICATE => Line::Replicate(x, a, atom_at(kinds, operands, at + 2)),
-        node_kinds::FILTER => Line::Loop(x, Loop::Filter(y, a)),
-        node_kinds::REDUCE => Line::Loop(
+        code::CALL => Line::Call(x, y),
+        code::LITERAL => Line::Literal(x, (n / 65536 % 256) as u8),
+        code::INDEX => Line::Index(x, a, atom_at(kinds, operands, at + 2)),
+        code::LENGTH => Line::Length(x, a),
+        code::IF => Line::If(x, a),
+        code::MAP => Line::Loop(x, Loop::Map(y, a)),
+        code::RETAIN => Line::Retain(x),
+        code::RELEASE => Line::Release(x),
+        code::IOTA => Line::Iota(x, a),
+        code::REPLICATE => Line::Replicate(x, a, atom_at(kinds, operands, at + 2)),
+        code::FILTER => Line::Loop(x, Loop::Filter(y, a)),
+        code::REDUCE => Line::Loop(
             x,
             Loop::Reduce(
                 y,
@@ -149,7 +144,7 @@ pub fn line_at(kinds: &[u8], operands: &[i64], at: usize) -> Line
                 atom_at(kinds, operands, at + 2),
             ),
         ),
-        node_kinds::REWRITE => Line::Loop(x, Loop::Rewrite(y, a)),
+        code::REWRITE => Line::Loop(x, Loop::Rewrite(y, a)),
         _ => Line::Operation(kind, x, a, atom_at(kinds, operands, at + 2)),
     }
 }

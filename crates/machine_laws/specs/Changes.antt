@@ -16,7 +16,7 @@ use Rattle.semantics.specs.Machine as M
 use Rattle.semantics.specs.Machine.{State, Frame, work-line}
 use Rattle.semantics.specs.Machine.{retain-word, release-word}
 use Rattle.machine_code.specs.Reading.{atom-at, line-of, line-at}
-use Rattle.machine_code.specs.declared.Atom.the-variants.{Name}
+use Rattle.code.specs.declared.Atom.the-variants.{Name}
 use Rattle.machine_code.specs.declared.Line.{Line}
 use Rattle.machine_code.specs.declared.Line.the-variants as L
 use Rattle.machine_frames.specs.Frames.{word-of}

@@ -30,7 +30,7 @@ use Rattle.working.specs.machine.Discipline.{AllKnown, New, LeafFits}
 use Rattle.words.specs.Words.{checked}
 use Rattle.store.specs.Acquiring.{Gained, gained, next-cell}
 use Rattle.machine_code.specs.Reading.{atom-at, is-atom, line-of, line-at, depth-in}
-use Rattle.machine_code.specs.declared.Atom.{Atom}
+use Rattle.code.specs.declared.Atom.{Atom}
 use Rattle.machine_code.specs.declared.Line.the-variants as L
 use Rattle.machine_frames.specs.Frames.{word-of, words-at, element-depth, level-of, noted}
 use Rattle.machine_frames.specs.Work.{Memory, memory, Ran, ran, out, with-store}

@@ -21,7 +21,7 @@ use Rattle.semantics.specs.Machine.{carried-first, pass-words, in-progress, loo
 use Rattle.laws.specs.Tests.{or-left}
 use Rattle.working.specs.machine.Discipline.{AllKnown, New, AllNew, LoopFits, Fitting, Scoped}
 use Rattle.machine_code.specs.Reading.{atom-at, line-of, line-at, depth-in, end-in}
-use Rattle.machine_code.specs.declared.Atom.{Atom}
+use Rattle.code.specs.declared.Atom.{Atom}
 use Rattle.machine_code.specs.declared.Line.{Line}
 use Rattle.machine_frames.specs.Frames.{place, word-of, element-depth, level-place}
 use Rattle.machine_frames.specs.Work.{Memory, memory, Ran, out, bound}

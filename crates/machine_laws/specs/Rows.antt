@@ -18,8 +18,8 @@ use Rattle.semantics.specs.Kinds.{Loop, mapping, filtering, reducing, rewriting
 use Rattle.semantics.specs.Code as C
 use Rattle.semantics.specs.Code.{Row, atom-row, rows, line-rows}
 use Rattle.machine_code.specs.Reading.{atom-at, is-atom, two-rows, line-of, line-at, end-in}
-use Rattle.machine_code.specs.declared.Atom.{Atom}
-use Rattle.machine_code.specs.declared.Atom.the-variants.{Number, Name}
+use Rattle.code.specs.declared.Atom.{Atom}
+use Rattle.code.specs.declared.Atom.the-variants.{Number, Name}
 use Rattle.machine_positions.specs.Machine.{Code}
 
 -- a row stands at a position

@@ -20,7 +20,7 @@ use Rattle.semantics.specs.Machine as M
 use Rattle.semantics.specs.Machine.{State, Frame, Program, word, with-left, work, work-line}
 use Rattle.working.specs.machine.Discipline.{Known, New, known-after, LineFitting, Fitting, LineScoped, Scoped}
 use Rattle.machine_code.specs.Reading.{is-atom, atom-at, line-of, line-at, depth-in, end-in}
-use Rattle.machine_code.specs.declared.Atom.{Atom}
+use Rattle.code.specs.declared.Atom.{Atom}
 use Rattle.machine_frames.specs.Frames.{word-of}
 use Rattle.machine_frames.specs.Work.{Memory, memory, Ran, halted}
 use Rattle.machine_lines.specs.Lines.{Doing, branching, doing}

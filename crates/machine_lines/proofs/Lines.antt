@@ -26,8 +26,8 @@ use Rattle.store.specs.declared.Acquired.{Acquired}
 use Rattle.store.specs.declared.Acquired.the-variants.{Cell, NoneFree}
 use Rattle.store.proofs.Filling.{cell-given}
 use Rattle.store_words.proofs.CellWords.{few-cells, store-size, length-in, length-out}
-use Rattle.machine_code.specs.declared.Atom.{Atom}
-use Rattle.machine_code.specs.declared.Atom.the-variants.{Name}
+use Rattle.code.specs.declared.Atom.{Atom}
+use Rattle.code.specs.declared.Atom.the-variants.{Name}
 use Rattle.machine_code.specs.declared.Line.{Line}
 use Rattle.machine_code.specs.declared.Line.the-variants as L
 use Rattle.machine_code.proofs.Reading.{no-bool, less-one}

@@ -12,7 +12,7 @@ use Rattle.semantics.specs.Kinds.{Loop, mapping, filtering, reducing, rewriting
 use Rattle.semantics.specs.Machine.{argument, looped-over}
 use Rattle.semantics.specs.Store.{cell-of}
 use Rattle.machine_code.specs.Reading.{line-at, two-rows, start-in, end-in}
-use Rattle.machine_code.specs.declared.Atom.{Atom}
+use Rattle.code.specs.declared.Atom.{Atom}
 use Rattle.machine_code.specs.declared.Line.{Line}
 use Rattle.machine_code.specs.declared.Line.the-variants as L
 use Rattle.machine_frames.specs.declared.Out.{Out}

@@ -15,7 +15,7 @@ use Rattle.semantics.specs.Machine.{looped-over}
 use Rattle.semantics.specs.Store.{cell-of}
 use Rattle.semantics.specs.Words.{store-of}
 use Rattle.machine_code.specs.Reading.{start-in, end-in}
-use Rattle.machine_code.specs.declared.Atom.{Atom}
+use Rattle.code.specs.declared.Atom.{Atom}
 use Rattle.machine_code.specs.declared.Loop as P
 use Rattle.machine_code.specs.declared.Line.{Line}
 use Rattle.machine_code.specs.declared.Line.the-variants as L

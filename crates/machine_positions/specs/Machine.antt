@@ -12,7 +12,7 @@ use Rattle.semantics.specs.Machine.{looped-over}
 use Rattle.semantics.specs.Store.{cell, cell-of, elements}
 use Rattle.semantics.specs.Words.{store-of}
 use Rattle.machine_code.specs.Reading.{line-at, two-rows, start-in, end-in}
-use Rattle.machine_code.specs.declared.Atom.{Atom}
+use Rattle.code.specs.declared.Atom.{Atom}
 use Rattle.machine_code.specs.declared.Line.{Line}
 use Rattle.machine_code.specs.declared.Line.the-variants as L
 use Rattle.machine_frames.specs.declared.Out.{Out}

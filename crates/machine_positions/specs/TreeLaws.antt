@@ -14,7 +14,7 @@ use Rattle.machine_code.proofs.Line.{the-type}
 use borrow.Author.Tests.{ltb-true}
 use Rattle.semantics.specs.Words.{store-of}
 use Rattle.machine_code.specs.Reading.{line-at, two-rows}
-use Rattle.machine_code.specs.declared.Atom.{Atom}
+use Rattle.code.specs.declared.Atom.{Atom}
 use Rattle.machine_code.specs.declared.Line.{Line}
 use Rattle.machine_code.specs.declared.Line.the-variants as L
 use Rattle.machine_code.proofs.Reading.{less-one, no-bool}

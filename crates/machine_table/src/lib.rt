@@ -27,11 +27,11 @@ fn trees_of(kind: u8) -> u8
     ensures { λ r. ⌜ r ≡ trees-of kind ⌝ }
 {
     match kind {
-        node_kinds::IF => 2,
-        node_kinds::MAP => 1,
-        node_kinds::FILTER => 1,
-        node_kinds::REDUCE => 1,
-        node_kinds::REWRITE => 1,
+        code::IF => 2,
+        code::MAP => 1,
+        code::FILTER => 1,
+        code::REDUCE => 1,
+        code::REWRITE => 1,
         _ => 0,
     }
 }
@@ -41,7 +41,7 @@ fn end_of(kind: u8, table: &[u8], at: usize) -> usize
     requires { ⌜ at < 4096 ⌝ }
     ensures { λ r. ⌜ r ≡ end-of kind (now (table .entry)) at ⌝ }
 {
-    if kind == node_kinds::END {
+    if kind == code::END {
         return at + 2;
     }
     let next = machine_code::end_in(table, at + 1);

@@ -101,9 +101,9 @@ fn lay_node(
     let kind = shape.kind;
     let low = shape.low;
     match kind {
-        node_kinds::NUMBER => parts::atom_out((256 + spot.node) as u16, spot),
-        node_kinds::NAME => parts::atom_out(places[low as usize], spot),
-        node_kinds::LET => lay_let(
+        code::NUMBER => parts::atom_out((256 + spot.node) as u16, spot),
+        code::NAME => parts::atom_out(places[low as usize], spot),
+        code::LET => lay_let(
             kinds,
             operands,
             results,
@@ -116,7 +116,7 @@ fn lay_node(
             normal_lay::spot_at(spot.node + 1, spot.n, spot.p),
             levels - 1,
         ),
-        node_kinds::IF => trees::lay_if(
+        code::IF => trees::lay_if(
             kinds,
             operands,
             results,
@@ -329,7 +329,7 @@ pub fn lay_tree(
         levels,
     );
     let head = Head {
-        kind: node_kinds::END,
+        kind: code::END,
         name: 0,
         second: 0,
         third: 0,

@@ -22,10 +22,10 @@ pub struct Shape {
 fn second_part(kind: u8, low: u8, high: u8) -> u8
     ensures { λ r. ⌜ r ≡ second-part kind low high ⌝ }
 {
-    if kind == node_kinds::CALL {
+    if kind == code::CALL {
         return low;
     }
-    if kind == node_kinds::LITERAL { high } else { 0 }
+    if kind == code::LITERAL { high } else { 0 }
 }
 
 // How many parts a node has before its tree, if it is a loop's, or all in all.

@@ -51,10 +51,10 @@ pub fn atom_place(
         return 65535;
     }
     let kind = kinds[node];
-    if kind == node_kinds::NUMBER {
+    if kind == code::NUMBER {
         return (256 + node) as u16;
     }
-    if kind == node_kinds::NAME {
+    if kind == code::NAME {
         let name = words::nth_word(operands, node);
         if name < 256 {
             return places[name as usize];
@@ -190,7 +190,7 @@ pub fn open_if(rows: &mut [u32; 2048], notes: &mut [u16; 2048], last: &mut [u16;
         (now (notes .exit)) (now (last .exit)) (guard .p) (packed-row 12 (guard .n) 0 0) (guard .place ∷ []) ⌝ }
 {
     let head = Head {
-        kind: node_kinds::IF,
+        kind: code::IF,
         name: guard.n as u8,
         second: 0,
         third: 0,
@@ -203,7 +203,7 @@ fn third_of(kind: u8, n: usize) -> u8
     requires { ⌜ n + loop-size (loop-of kind) < 256 ⌝ }
     ensures { λ r. ⌜ r ≡ third-of (loop-of kind) n ⌝ }
 {
-    if kind == node_kinds::REDUCE {
+    if kind == code::REDUCE {
         (n + 2) as u8
     } else {
         0
@@ -217,7 +217,7 @@ fn note_pass(depths: &mut [u8; 256], kind: u8, n: usize, places: &[u16; 16])
         (pass-places (loop-of kind) (now (depths .entry)) (getD (now (places .entry)) 0 0)
         (getD (now (places .entry)) 1 0)) ⌝ }
 {
-    if kind == node_kinds::REDUCE {
+    if kind == code::REDUCE {
         let start = depth_of(depths, places[0]);
         let element = element_depth(depths, places[1]);
         depths[n + 1] = start;
@@ -373,11 +373,11 @@ pub fn depth_of_line(
         (getD (now (places .entry)) 1 0) ⌝ }
 {
     match kind {
-        node_kinds::CALL => results[y as usize],
-        node_kinds::LITERAL => y + 1,
-        node_kinds::INDEX => element_depth(depths, places[0]),
-        node_kinds::IOTA => 1,
-        node_kinds::REPLICATE => {
+        code::CALL => results[y as usize],
+        code::LITERAL => y + 1,
+        code::INDEX => element_depth(depths, places[0]),
+        code::IOTA => 1,
+        code::REPLICATE => {
             let d = depth_of(depths, places[1]);
             d + 1
         }
@@ -391,8 +391,8 @@ pub fn depth_of_loop(depths: &[u8; 256], kind: u8, first: u16, given: u16) -> u8
     ensures { λ r. ⌜ r ≡ loop-place (loop-of kind) (now (depths .entry)) first given ⌝ }
 {
     match kind {
-        node_kinds::FILTER => depth_of(depths, first),
-        node_kinds::REDUCE => depth_of(depths, first),
+        code::FILTER => depth_of(depths, first),
+        code::REDUCE => depth_of(depths, first),
         _ => {
             let d = depth_of(depths, given);
             d + 1

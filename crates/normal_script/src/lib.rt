@@ -33,13 +33,7 @@ fn put_parameters(
     while 0 < i {
         i = i - 1;
         let d = script_read::high_at(kinds, operands, at + i, Place::Parameter);
-        let n = normal_write::put_row(
-            ks,
-            os,
-            v,
-            node_kinds::PARAMETER,
-            i as u32 + 256 * (d as u32),
-        );
+        let n = normal_write::put_row(ks, os, v, code::PARAMETER, i as u32 + 256 * (d as u32));
         v = n;
     }
     v
@@ -65,7 +59,7 @@ fn put_head(
         ks,
         os,
         v,
-        node_kinds::FUNCTION,
+        code::FUNCTION,
         count as u32 + 256 * (result as u32),
     )
 }

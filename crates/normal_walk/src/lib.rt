@@ -234,7 +234,7 @@ fn walk_if(
     let u2 = *at;
     let v2 = put_releases(ks, os, depths, n, &s1, &s2, u2);
     let w2 = put_atom(ks, os, v2, g);
-    let w3 = put_row(ks, os, w2, node_kinds::IF, x as u32);
+    let w3 = put_row(ks, os, w2, code::IF, x as u32);
     *at = w3;
     let mut j = normal_code::joined(s2, s1);
     let u = take_use(notes, cur, p + 1, g, &j);

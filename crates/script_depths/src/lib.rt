@@ -67,17 +67,17 @@ fn type_part(
     }
     match script_read::node_at(kinds, operands, at, Place::Part) {
         Node::Fits(kind, low, high) => {
-            if kind == node_kinds::NUMBER {
+            if kind == code::NUMBER {
                 return Typed::Depth(0, at + 1);
             }
-            if kind == node_kinds::NAME {
+            if kind == code::NAME {
                 let d = table[low as usize];
                 if d == UNKNOWN {
                     return Typed::Fault(at);
                 }
                 return Typed::Depth(d, at + 1);
             }
-            if kind == node_kinds::LET {
+            if kind == code::LET {
                 return type_let(kinds, operands, starts, table, at + 1, low, levels - 1);
             }
             let node = Head { kind, low, high };
@@ -138,7 +138,7 @@ fn type_start(
         (depths (now (table .entry)))) at)
         × (now (table .exit) ≡ now (table .entry)) ⌝ }
 {
-    if kind == node_kinds::REDUCE {
+    if kind == code::REDUCE {
         return type_part(kinds, operands, starts, table, at, levels);
     }
     Typed::Depth(0, at)

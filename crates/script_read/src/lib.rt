@@ -40,22 +40,22 @@ fn part_limits(kind: u8) -> u64
     ensures { λ r. ⌜ r ≡ limits-at at-part kind ⌝ }
 {
     match kind {
-        node_kinds::NUMBER => 0,
-        node_kinds::NAME => 255,
-        node_kinds::SUM => 0,
-        node_kinds::DIFFERENCE => 0,
-        node_kinds::LESS => 0,
-        node_kinds::LET => 255,
-        node_kinds::CALL => 31 + 256 * 8,
-        node_kinds::LITERAL => 16 + 256 * 3,
-        node_kinds::INDEX => 0,
-        node_kinds::LENGTH => 0,
-        node_kinds::IF => 0,
-        node_kinds::MAP => 255,
-        node_kinds::IOTA => 0,
-        node_kinds::REPLICATE => 0,
-        node_kinds::FILTER => 255,
-        node_kinds::REDUCE => 255 + 256 * 255,
+        code::NUMBER => 0,
+        code::NAME => 255,
+        code::SUM => 0,
+        code::DIFFERENCE => 0,
+        code::LESS => 0,
+        code::LET => 255,
+        code::CALL => 31 + 256 * 8,
+        code::LITERAL => 16 + 256 * 3,
+        code::INDEX => 0,
+        code::LENGTH => 0,
+        code::IF => 0,
+        code::MAP => 255,
+        code::IOTA => 0,
+        code::REPLICATE => 0,
+        code::FILTER => 255,
+        code::REDUCE => 255 + 256 * 255,
         _ => NOT_ALLOWED,
     }
 }
@@ -66,13 +66,13 @@ fn limits_at(place: Place, kind: u8) -> u64
 {
     match place {
         Place::Function => {
-            if kind == node_kinds::FUNCTION {
+            if kind == code::FUNCTION {
                 return 8 + 256 * 4;
             }
             NOT_ALLOWED
         }
         Place::Parameter => {
-            if kind == node_kinds::PARAMETER {
+            if kind == code::PARAMETER {
                 return 255 + 256 * 4;
             }
             NOT_ALLOWED
@@ -98,8 +98,8 @@ pub fn node_at(kinds: &[u8], operands: &[u8], at: usize, place: Place) -> Node
     if most == NOT_ALLOWED {
         return Node::WrongKind;
     }
-    if kind == node_kinds::NUMBER {
-        return Node::Fits(node_kinds::NUMBER, 0, 0);
+    if kind == code::NUMBER {
+        return Node::Fits(code::NUMBER, 0, 0);
     }
     let n = words::nth_word(operands, at);
     let low = n % 256;
@@ -140,18 +140,18 @@ fn fixed_parts(kind: u8) -> u8
     ensures { λ r. ⌜ r ≡ getD part-counts kind 0 ⌝ }
 {
     match kind {
-        node_kinds::SUM => 2,
-        node_kinds::DIFFERENCE => 2,
-        node_kinds::LESS => 2,
-        node_kinds::LET => 2,
-        node_kinds::INDEX => 2,
-        node_kinds::LENGTH => 1,
-        node_kinds::IF => 3,
-        node_kinds::MAP => 2,
-        node_kinds::IOTA => 1,
-        node_kinds::REPLICATE => 2,
-        node_kinds::FILTER => 2,
-        node_kinds::REDUCE => 3,
+        code::SUM => 2,
+        code::DIFFERENCE => 2,
+        code::LESS => 2,
+        code::LET => 2,
+        code::INDEX => 2,
+        code::LENGTH => 1,
+        code::IF => 3,
+        code::MAP => 2,
+        code::IOTA => 1,
+        code::REPLICATE => 2,
+        code::FILTER => 2,
+        code::REDUCE => 3,
         _ => 0,
     }
 }
@@ -160,10 +160,10 @@ fn fixed_parts(kind: u8) -> u8
 fn said_parts(kind: u8, low: u8, high: u8) -> u8
     ensures { λ r. ⌜ r ≡ said-parts kind low high ⌝ }
 {
-    if kind == node_kinds::CALL {
+    if kind == code::CALL {
         return high;
     }
-    if kind == node_kinds::LITERAL {
+    if kind == code::LITERAL {
         return low;
     }
     0
@@ -181,9 +181,9 @@ pub fn is_loop(kind: u8) -> bool
     ensures { λ r. ⌜ r ≡ loops kind ⌝ }
 {
     match kind {
-        node_kinds::MAP => true,
-        node_kinds::FILTER => true,
-        node_kinds::REDUCE => true,
+        code::MAP => true,
+        code::FILTER => true,
+        code::REDUCE => true,
         _ => false,
     }
 }
@@ -192,11 +192,7 @@ pub fn is_loop(kind: u8) -> bool
 pub fn second_name(kind: u8, low: u8, high: u8) -> u8
     ensures { λ r. ⌜ r ≡ second-name kind low high ⌝ }
 {
-    if kind == node_kinds::REDUCE {
-        high
-    } else {
-        low
-    }
+    if kind == code::REDUCE { high } else { low }
 }
 
 // A part, with so many levels left.

@@ -1,4 +1,12 @@
-// The kinds of nodes and of code lines, by the numbers of documents 01 and 02.
+// The atoms of code lines; and the kinds of nodes and of code lines, by the numbers of documents 01 and 02.
+
+// An atom: a number or a name.
+pub enum Atom {
+    Number(i64),
+    Name(u8),
+}
+
+// The kinds of nodes, most of which code lines have too.
 pub const FUNCTION: u8 = 0;
 
 pub const PARAMETER: u8 = 1;
@@ -27,7 +35,7 @@ pub const IF: u8 = 12;
 
 pub const MAP: u8 = 13;
 
-// Code lines alone.
+// Of code lines alone.
 pub const RETAIN: u8 = 14;
 
 pub const RELEASE: u8 = 15;
@@ -43,5 +51,5 @@ pub const FILTER: u8 = 19;
 
 pub const REDUCE: u8 = 20;
 
-// A code line alone: a map in the cell of its array.
+// Of a code line alone: a map in the cell of its array.
 pub const REWRITE: u8 = 21;
