@@ -16,12 +16,12 @@ use Rattle.normal_code.specs.Parts.{below, retain-rows, release-rows, loop-own,
 use Rattle.normal_code.specs.Marks.{Marks, marked, marks-of}
 use Rattle.normal_code.specs.Walk.{Point, point, since, then-end, unmarked, unmarked-all, then-walk, if-head, if-trees}
 use Rattle.normal_code.specs.Walk.{loop-head, loop-tree}
-use Rattle.normal_code.specs.declared.Atom.{Atom}
+use Rattle.code.specs.declared.Atom.{Atom}
 use Rattle.normal_code.specs.declared.Line.{Line}
 use Rattle.normal_code.specs.declared.Line.the-variants as L
 use Rattle.normal_write.specs.Wrote.{Wrote}
-use Rattle.normal_write.specs.Took.{Took}
-use Rattle.normal_write.specs.Loops.{second-of, opening-of}
+use Rattle.normal_marks.specs.Took.{Took}
+use Rattle.normal_loops.specs.Loops.{second-of, opening-of}
 use Rattle.normal_write.proofs.Rows.{wrote-then}
 use Rattle.normal_walk.specs.Walks.{Walks, loop-tree-of}
 use Rattle.normal_code.proofs.Rows.{of-size}

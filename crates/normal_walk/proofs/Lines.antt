@@ -20,19 +20,19 @@ use Rattle.normal_code.specs.Parts.{below, release-rows, leaf-part, handing, wr
 use Rattle.normal_code.specs.Marks.{Marks, marked, marks-of}
 use Rattle.normal_code.specs.Walk.{since, Point, point, unmarked, unmarked-all}
 use Rattle.normal_code.specs.Walk.{if-trees, if-walk, loop-tree, loop-walk, leaf-walk, line-walk}
-use Rattle.normal_code.specs.declared.Atom.{Atom}
+use Rattle.code.specs.declared.Atom.{Atom}
 use Rattle.normal_code.specs.declared.Line.{Line}
 use Rattle.normal_code.specs.declared.Line.the-variants as L
 use Rattle.normal_write.specs.Wrote.{Wrote}
-use Rattle.normal_write.specs.Took.{Took}
-use Rattle.normal_write.specs.Loops.{written-line, closing-of}
+use Rattle.normal_marks.specs.Took.{Took}
+use Rattle.normal_loops.specs.Loops.{written-line, closing-of}
 use Rattle.normal_code.proofs.Line.{the-type}
 use Rattle.normal_code.proofs.Atoms.{length-atoms}
 use Rattle.normal_code.proofs.Rows.{of-size}
 use Rattle.normal_code.proofs.Loops.{loop-again, same-parts, same-size}
 use Rattle.normal_code.proofs.Sets.{without-in}
 use Rattle.normal_write.proofs.Rows.{wrote-as, wrote-then}
-use Rattle.normal_write.proofs.Leaves.{literal-rows}
+use Rattle.normal_lines.proofs.Leaves.{literal-rows}
 use Rattle.normal_walk.specs.Walks.{Walks, is-leaf, is-loop, no-tree, loop-tree-of}
 
 pub same-point : {A B : Set} {M N : Marks} {rs qs : List Row} → A ≡ B → M ≡ N → rs ≡ qs → point A M rs ≡ point B N qs

@@ -18,13 +18,13 @@ use Rattle.normal_code.specs.Plain.{Plain, set-of, meant, placed, line-at, note
 use Rattle.normal_code.specs.Parts.{ending}
 use Rattle.normal_code.specs.Marks.{marks-of}
 use Rattle.normal_code.specs.Walk.{Point, point, unmarked, unmarked-all, line-walk, back-walk, end-walk, tree-walk}
-use Rattle.normal_code.specs.declared.Atom.{Atom}
+use Rattle.code.specs.declared.Atom.{Atom}
 use Rattle.normal_code.specs.declared.Line.{Line}
 use Rattle.normal_code.specs.declared.Line.the-variants as L
 use Rattle.normal_code.proofs.Line.{the-type}
 use Rattle.normal_code.proofs.Atoms.{pred-suc}
 use Rattle.normal_write.specs.Wrote.{Wrote, Room}
-use Rattle.normal_write.specs.Took.{Took}
+use Rattle.normal_marks.specs.Took.{Took}
 use Rattle.normal_write.proofs.Rows.{wrote-none, wrote-then, lower}
 use Rattle.normal_walk.specs.Walks.{Walks, is-leaf}
 use Rattle.normal_walk.proofs.Lines.{same-point}

@@ -1,12 +1,12 @@
 // A line without trees, walked backwards.
-use normal_code::Atom;
+use code::Atom;
 use normal_code::Line;
-use normal_write::calls::put_call;
-use normal_write::lines::put_binary;
-use normal_write::lines::put_handing;
-use normal_write::lines::put_unary;
-use normal_write::marks::take_handed;
-use normal_write::marks::take_two;
+use normal_lines::calls::put_call;
+use normal_lines::put_binary;
+use normal_lines::put_handing;
+use normal_lines::put_unary;
+use normal_marks::take_handed;
+use normal_marks::take_two;
 ghost use mathlib.Core.Path.{_≡_};
 ghost use mathlib.Core.Bool.{true};
 ghost use Prim.Native.Nat.{_+_, _*_, _<_};

@@ -1,23 +1,23 @@
 // The annotation: one walk of the plain code backwards, tree by tree, that writes annotated rows straight into the lent
 // arrays. `cur` holds the row of each name's last use before the present one: what a tree uses is read from it.
+use code::Atom;
 use leaf::walk_leaf;
-use normal_code::Atom;
 use normal_code::Line;
-use normal_write::lines::put_binary;
-use normal_write::lines::put_end;
-use normal_write::loops::close_loop;
-use normal_write::loops::open_loop;
-use normal_write::loops::retain_handed;
-use normal_write::loops::second_of;
-use normal_write::marks::less_two;
-use normal_write::marks::take_pair;
-use normal_write::marks::take_use;
-use normal_write::marks::then_end_at;
+use normal_lines::put_binary;
+use normal_lines::put_end;
+use normal_loops::close_loop;
+use normal_loops::open_loop;
+use normal_loops::retain_handed;
+use normal_loops::rewrites::written_line;
+use normal_loops::second_of;
+use normal_marks::less_two;
+use normal_marks::take_pair;
+use normal_marks::take_use;
+use normal_marks::then_end_at;
 use normal_write::put_atom;
 use normal_write::put_release;
 use normal_write::put_releases;
 use normal_write::put_row;
-use normal_write::rewrites::written_line;
 use normal_write::uses::pass_names;
 use normal_write::uses::put_used;
 ghost use mathlib.Core.Path.{_≡_};

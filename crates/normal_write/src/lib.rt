@@ -1,6 +1,6 @@
 // Writes annotated rows straight into the two lent arrays, towards their front.
 // A place w says that the rows from position w - 1 on are written; at place 0 a row did not fit.
-use normal_code::Atom;
+use code::Atom;
 ghost use mathlib.Core.Path.{_≡_};
 ghost use mathlib.Core.Bool.{_&&_, not};
 ghost use mathlib.Core.List.{[], _∷_};
@@ -9,16 +9,11 @@ ghost use lib.Dec.{ltb};
 ghost use Rattle.semantics.specs.Basics.{with-if};
 ghost use Rattle.semantics.specs.Code.{row, atom-row};
 ghost use Rattle.semantics.specs.Live.{only, is, _∪_};
-ghost use Rattle.semantics.specs.Annotate.{atom-depth, dying};
+ghost use Rattle.semantics.specs.Annotate.{dying};
 ghost use Rattle.normal_code.specs.Plain.{set-of, meant};
-ghost use Rattle.normal_code.specs.Parts.{below, depth-in, retain-rows, release-rows};
+ghost use Rattle.normal_code.specs.Parts.{below, depth-in, handed-one, retain-rows, release-rows};
 ghost use Rattle.normal_write.specs.Wrote.{Wrote, Room};
 
-pub mod calls;
-pub mod lines;
-pub mod loops;
-pub mod marks;
-pub mod rewrites;
 pub mod uses;
 
 // Writes a row before place w; the answer is its place.
@@ -51,8 +46,8 @@ pub fn put_atom(ks: &mut [u8], os: &mut [i64], w: usize, a: Atom) -> usize
         (meant a) ∷ []) ⌝ }
 {
     match a {
-        Atom::Number(z) => put_back(ks, os, w, 2, z),
-        Atom::Name(x) => put_row(ks, os, w, 3, x as u32),
+        Atom::Number(z) => put_back(ks, os, w, code::NUMBER, z),
+        Atom::Name(x) => put_row(ks, os, w, code::NAME, x as u32),
     }
 }
 
@@ -62,16 +57,6 @@ pub fn depth_at(depths: &[u8; 256], x: usize) -> u8
     ensures { λ r. ⌜ r ≡ depth-in (now (depths .entry)) x ⌝ }
 {
     depths[x]
-}
-
-// The depth of an atom; a number has 0.
-fn depth_of_atom(depths: &[u8; 256], a: Atom) -> u8
-    ensures { λ r. ⌜ r ≡ atom-depth (depth-in (now (depths .entry))) (meant a) ⌝ }
-{
-    match a {
-        Atom::Number(_) => 0,
-        Atom::Name(x) => depth_at(depths, x as usize),
-    }
 }
 
 // A release of x, if it is used, an array and not live.
@@ -94,7 +79,7 @@ pub fn release_one(
             if live {
                 return w;
             }
-            return put_row(ks, os, w, 15, x as u32);
+            return put_row(ks, os, w, code::RELEASE, x as u32);
         }
         return w;
     }
@@ -147,7 +132,7 @@ pub fn put_release(
 }
 
 // Releases, lowest first, of two names.
-fn release_pair(
+pub fn release_pair(
     ks: &mut [u8],
     os: &mut [i64],
     depths: &[u8; 256],
@@ -192,33 +177,6 @@ pub fn release_both(
     }
 }
 
-// Releases, lowest first, of a name and of the names of two atoms.
-pub fn put_reads(
-    ks: &mut [u8],
-    os: &mut [i64],
-    depths: &[u8; 256],
-    x: u8,
-    a: Atom,
-    b: Atom,
-    live: &[bool; 256],
-    w: usize,
-) -> usize
-    requires { ⌜ Room (now ks) (now os) w ⌝ }
-    ensures { λ r. ⌜ Wrote (now (ks .entry)) (now (os .entry)) (now (ks .exit)) (now (os .exit)) w r
-        (release-rows (dying (depth-in (now (depths .entry))) (is (meant a) ∪ is (meant b) ∪ only x)
-        (set-of (now (live .entry))))) ⌝ }
-{
-    let d = depth_of_atom(depths, b);
-    if d == 0 {
-        return release_both(ks, os, depths, x, a, live, w);
-    }
-    let none = normal_code::none();
-    let one = normal_code::with(none, x);
-    let two = normal_code::add(one, b);
-    let used = normal_code::add(two, a);
-    put_releases(ks, os, depths, 256, &used, live, w)
-}
-
 // A retain of x, if it is an array.
 pub fn put_retain(ks: &mut [u8], os: &mut [i64], depths: &[u8; 256], x: u8, w: usize) -> usize
     requires { ⌜ Room (now ks) (now os) w ⌝ }
@@ -227,7 +185,31 @@ pub fn put_retain(ks: &mut [u8], os: &mut [i64], depths: &[u8; 256], x: u8, w: u
 {
     let d = depth_at(depths, x as usize);
     if 0 < d {
-        return put_row(ks, os, w, 14, x as u32);
+        return put_row(ks, os, w, code::RETAIN, x as u32);
     }
     w
+}
+
+// A retain of an atom that is handed over, if it is an array that is used later.
+pub fn retain_atom(
+    ks: &mut [u8],
+    os: &mut [i64],
+    depths: &[u8; 256],
+    a: Atom,
+    later: &[bool; 256],
+    w: usize,
+) -> usize
+    requires { ⌜ Room (now ks) (now os) w ⌝ }
+    ensures { λ r. ⌜ Wrote (now (ks .entry)) (now (os .entry)) (now (ks .exit)) (now (os .exit)) w r
+        (retain-rows (handed-one (depth-in (now (depths .entry))) (meant a) (set-of (now (later .entry))))) ⌝ }
+{
+    match a {
+        Atom::Number(_) => w,
+        Atom::Name(x) => {
+            if later[x as usize] {
+                return put_retain(ks, os, depths, x, w);
+            }
+            w
+        }
+    }
 }

@@ -1,6 +1,6 @@
 // The names that a tree uses from outside, read from the rows of last uses.
 use crate::release_one;
-use normal_code::Atom;
+use code::Atom;
 ghost use mathlib.Core.Path.{_≡_};
 ghost use mathlib.Core.Bool.{_||_};
 ghost use Prim.Native.Nat.{_<_, _≤_};

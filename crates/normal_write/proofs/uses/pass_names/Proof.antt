@@ -3,7 +3,7 @@ use Prim.Native.Nat.{_≤_, _<_, _-_}
 use native.Mathlib.Omega.{arith}
 use lib.ListN.{length}
 use Rattle.normal_code.specs.Marks.{marks-of}
-use Rattle.normal_write.proofs.Laws.{Passing, passing-none, passing-more, passing-all}
+use Rattle.normal_write.proofs.UsedPast.{Passing, passing-none, passing-more, passing-all}
 use borrow.Author.Needs.{needs}
 use Rattle.normal_write.proofs.uses.pass_names.Statement.{statement}
 use Rattle.normal_write.proofs.uses.pass_names.Tie as tie

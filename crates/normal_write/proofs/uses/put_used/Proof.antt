@@ -8,7 +8,7 @@ use Rattle.normal_write.proofs.Rows.{wrote-then, wrote-as, lower}
 use Rattle.normal_write.proofs.Names.{releases-from, release-none, release-used, release-all}
 use Rattle.semantics.specs.Live.{is, _∪_}
 use Rattle.normal_code.specs.Marks.{marks-of}
-use Rattle.normal_write.proofs.Laws.{used-is}
+use Rattle.normal_write.proofs.UsedPast.{used-is}
 use borrow.Author.Needs.{needs}
 use Rattle.normal_write.proofs.uses.put_used.Statement.{statement}
 use Rattle.normal_write.proofs.uses.put_used.Tie as tie
