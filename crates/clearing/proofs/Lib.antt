@@ -1,1 +1,2 @@
+-- The laws that the proofs of `clearing` share.
 pub mod Clearing

@@ -1,1 +1,2 @@
+-- The modules of `engine`'s specs.
 pub mod Promises

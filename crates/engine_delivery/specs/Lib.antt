@@ -1,1 +1,2 @@
+-- The modules of `engine_delivery`'s specs.
 pub mod Delivered

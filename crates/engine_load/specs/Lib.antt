@@ -1,1 +1,2 @@
+-- The modules of `engine_load`'s specs.
 pub mod Loading

@@ -1,2 +1,3 @@
+-- The laws that the proofs of `engine_saved` share.
 pub mod Laws
 pub mod SaveLaws

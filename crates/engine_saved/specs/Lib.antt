@@ -1,1 +1,2 @@
+-- The modules of `engine_saved`'s specs.
 pub mod Left

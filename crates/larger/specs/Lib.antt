@@ -1,3 +1,4 @@
+-- The modules of `larger`'s specs.
 pub mod Extended
 pub mod Runs
 pub mod Work

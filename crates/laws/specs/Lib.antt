@@ -1,3 +1,4 @@
+-- The modules of `laws`' specs.
 pub mod Cells
 pub mod Counts
 pub mod Endings

@@ -1,1 +1,2 @@
+-- The laws that the proofs of `machine_code` share.
 pub mod Reading

@@ -1,1 +1,2 @@
+-- The modules of `machine_code`'s specs.
 pub mod Reading

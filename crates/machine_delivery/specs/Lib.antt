@@ -1,1 +1,2 @@
+-- The modules of `machine_delivery`'s specs.
 pub mod Promises

@@ -1,2 +1,3 @@
+-- The modules of `machine_frames`' specs.
 pub mod Frames
 pub mod Work

@@ -1,3 +1,4 @@
+-- The modules of `machine_laws`' specs.
 pub mod Rows
 pub mod Frames
 pub mod Levels

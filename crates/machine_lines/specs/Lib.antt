@@ -1,1 +1,2 @@
+-- The modules of `machine_lines`' specs.
 pub mod Lines

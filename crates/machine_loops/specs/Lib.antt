@@ -1,1 +1,2 @@
+-- The modules of `machine_loops`' specs.
 pub mod Loops

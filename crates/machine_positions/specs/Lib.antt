@@ -1,3 +1,4 @@
+-- The modules of `machine_positions`' specs.
 pub mod Machine
 pub mod Parts
 pub mod TreeLaws

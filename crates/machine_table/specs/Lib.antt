@@ -1,1 +1,2 @@
+-- The modules of `machine_table`'s specs.
 pub mod Positions

@@ -1,1 +1,2 @@
+-- The modules of `normal`'s specs.
 pub mod Left

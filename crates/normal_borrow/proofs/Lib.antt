@@ -1,3 +1,4 @@
+-- The laws that the proofs of `normal_borrow` share.
 pub mod Gathering
 pub mod Links
 pub mod Own

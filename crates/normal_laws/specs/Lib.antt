@@ -1,3 +1,4 @@
+-- The modules of `normal_laws`' specs.
 pub mod Uses
 pub mod Marks
 pub mod Members

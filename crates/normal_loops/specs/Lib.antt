@@ -1,1 +1,2 @@
+-- The modules of `normal_loops`' specs.
 pub mod Loops

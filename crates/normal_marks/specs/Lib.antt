@@ -1,1 +1,2 @@
+-- The modules of `normal_marks`' specs.
 pub mod Took

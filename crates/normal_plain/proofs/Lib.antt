@@ -1,3 +1,4 @@
+-- The laws that the proofs of `normal_plain` share.
 pub mod Parameters
 pub mod Typed
 pub mod Accepted

@@ -1,3 +1,4 @@
+-- The laws that the proofs of `normal_script` share.
 pub mod Owned
 pub mod Whole
 pub mod Depths

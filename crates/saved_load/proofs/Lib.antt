@@ -1,2 +1,3 @@
+-- The laws that the proofs of `saved_load` share.
 pub mod Laws
 pub mod Agreement

@@ -1,1 +1,2 @@
+-- The modules of `saved_load`'s specs.
 pub mod Entries

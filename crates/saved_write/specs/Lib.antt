@@ -1,1 +1,2 @@
+-- The modules of `saved_write`'s specs.
 pub mod Writing

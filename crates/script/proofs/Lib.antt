@@ -1,3 +1,4 @@
+-- The laws that the proofs of `script` share.
 pub mod Bounds
 pub mod Joint
 pub mod Both

@@ -1,1 +1,2 @@
+-- The modules of `script`'s specs.
 pub mod Verdicts

@@ -1,1 +1,2 @@
+-- The modules of `script_count`'s specs.
 pub mod Count

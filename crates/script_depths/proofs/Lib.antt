@@ -1,3 +1,4 @@
+-- The laws that the proofs of `script_depths` share.
 pub mod Rules
 pub mod Laws
 pub mod Tree

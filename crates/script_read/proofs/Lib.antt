@@ -1,3 +1,4 @@
+-- The laws that the proofs of `script_read` share.
 pub mod Nodes
 pub mod Sorts
 pub mod Limits

@@ -1,1 +1,2 @@
+-- The modules of `script_types`' specs.
 pub mod Functions

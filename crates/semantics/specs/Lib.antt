@@ -1,3 +1,4 @@
+-- The modules of `semantics`' specs.
 pub mod Basics
 pub mod Outcome
 pub mod Number

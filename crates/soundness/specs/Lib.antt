@@ -1,3 +1,4 @@
+-- The modules of `soundness`' specs.
 pub mod annotation
 pub mod borrowing
 pub mod Answers

@@ -1,3 +1,4 @@
+-- The laws that the proofs of `store` share.
 pub mod Retaining
 pub mod Acquiring
 pub mod Appending

@@ -1,1 +1,2 @@
+-- The modules of `store`'s specs.
 pub mod Acquiring

@@ -1,3 +1,4 @@
+-- The laws that the proofs of `store_check` share.
 pub mod Ranges
 pub mod Tallying
 pub mod Gathering

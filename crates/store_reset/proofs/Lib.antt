@@ -1,3 +1,4 @@
+-- The laws that the proofs of `store_reset` share.
 pub mod Copying
 pub mod Linking
 pub mod Opening

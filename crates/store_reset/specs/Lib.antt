@@ -1,1 +1,2 @@
+-- The modules of `store_reset`'s specs.
 pub mod Resetting

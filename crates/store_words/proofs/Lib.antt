@@ -1,3 +1,4 @@
+-- The laws that the proofs of `store_words` share.
 pub mod Tables
 pub mod Each
 pub mod CellWords

@@ -1,3 +1,4 @@
+-- The modules of `twins`' specs.
 pub mod Leaner
 pub mod Placed
 pub mod Acquired

@@ -1,1 +1,2 @@
+-- The modules of `words`' specs.
 pub mod Words

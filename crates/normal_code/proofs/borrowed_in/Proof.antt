@@ -1,3 +1,4 @@
+-- `normal_code::borrowed_in` meets its contract.
 use mathlib.Core.Path.{sym, ap}
 use mathlib.Core.Bool.{Bool, false}
 use mathlib.Core.List.{List, []}

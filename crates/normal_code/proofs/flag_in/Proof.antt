@@ -1,3 +1,4 @@
+-- `normal_code::flag_in` meets its contract.
 use mathlib.Core.Path.{sym}
 use mathlib.Core.Bool.{false}
 use lib.ListN.{List·getD-eq-default}

@@ -1,3 +1,4 @@
+-- `normal_code::line_of` meets its contract.
 use Rattle.normal_code.proofs.Rows.{line-is, unary-is, loop-is, binary-is}
 use mathlib.Core.Logic.{inl, inr}
 use Rattle.normal_code.proofs.line_of.Statement.{statement}

@@ -1,3 +1,4 @@
+-- `normal_code::loop_size` meets its contract.
 use mathlib.Core.Path.{_≡_, refl}
 use Rattle.normal_code.specs.Plain.{loop-size}
 use Rattle.normal_code.proofs.Rows.{no-reduce}

@@ -1,3 +1,4 @@
+-- `normal_code::mark_in` meets its contract.
 use mathlib.Core.Path.{sym}
 use borrow.Author.Needs.{needs}
 use lib.ListN.{List·getD-eq-default}

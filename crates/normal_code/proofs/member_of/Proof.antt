@@ -1,3 +1,4 @@
+-- `normal_code::member_of` meets its contract.
 use native.Mathlib.Omega.{arith}
 use Rattle.normal_code.proofs.Sets.{set-same, with-in}
 use borrow.Author.Needs.{needs}

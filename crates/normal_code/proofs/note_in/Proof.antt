@@ -1,3 +1,4 @@
+-- `normal_code::note_in` meets its contract.
 use native.Mathlib.Omega.{arith}
 use mathlib.Core.Path.{sym}
 use lib.ListN.{List·getD-eq-default}

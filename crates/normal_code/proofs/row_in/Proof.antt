@@ -1,3 +1,4 @@
+-- `normal_code::row_in` meets its contract.
 use mathlib.Core.Path.{sym}
 use lib.ListN.{List·getD-eq-default}
 use borrow.Author.Needs.{needs}

@@ -1,3 +1,4 @@
+-- `normal_lay::bind_pass` meets its contract.
 use mathlib.Core.Path.{refl}
 use borrow.Author.Needs.{needs}
 use Rattle.normal_lay.proofs.bind_pass.Statement.{statement}

@@ -1,3 +1,4 @@
+-- `normal_lay::depth_of` meets its contract.
 use Rattle.normal_lay.proofs.Laws.{depth-name, depth-number}
 use Prim.Native.Nat.{_-_}
 use borrow.Author.Needs.{needs}

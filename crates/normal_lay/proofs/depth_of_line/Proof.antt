@@ -1,3 +1,4 @@
+-- `normal_lay::depth_of_line` meets its contract.
 use mathlib.Core.Path.{refl}
 use native.Mathlib.Omega.{arith}
 use lib.ListN.{getD}

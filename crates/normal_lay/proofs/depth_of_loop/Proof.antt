@@ -1,3 +1,4 @@
+-- `normal_lay::depth_of_loop` meets its contract.
 use native.Mathlib.Omega.{arith}
 use Rattle.normal_lay.proofs.Laws.{loop-map}
 use borrow.Author.Needs.{needs}

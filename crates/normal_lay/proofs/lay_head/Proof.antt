@@ -1,3 +1,4 @@
+-- `normal_lay::lay_head` meets its contract.
 use Rattle.normal_lay.proofs.Laws.{line-laid}
 use borrow.Author.Needs.{needs}
 use Rattle.normal_lay.proofs.lay_head.Statement.{statement}

@@ -1,3 +1,4 @@
+-- `normal_lay::lay_line` meets its contract.
 use mathlib.Core.Path.{refl}
 use borrow.Author.Needs.{needs}
 use Rattle.normal_lay.proofs.lay_line.Statement.{statement}

@@ -1,3 +1,4 @@
+-- `normal_lay::lay_places` meets its contract.
 use Prim.Native.Nat.{_-_}
 use Rattle.normal_lay.proofs.Laws.{Placing, placing-begins, placing-goes, placing-ends}
 use borrow.Author.Needs.{needs}

@@ -1,3 +1,4 @@
+-- `normal_lay::note_pass` meets its contract.
 use native.Mathlib.Omega.{arith}
 use lib.ListN.{getD}
 use Rattle.normal_lay.proofs.Laws.{reduce-size, some-size, pass-reduce, pass-other}

@@ -1,3 +1,4 @@
+-- `normal_lay::open_loop` meets its contract.
 use mathlib.Core.Path.{refl}
 use native.Mathlib.Omega.{arith}
 use Rattle.normal_code.specs.Plain.{loop-of}

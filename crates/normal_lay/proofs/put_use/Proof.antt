@@ -1,3 +1,4 @@
+-- `normal_lay::put_use` meets its contract.
 use Rattle.normal_lay.proofs.Laws.{use-name, use-number}
 use borrow.Author.Needs.{needs}
 use Rattle.normal_lay.proofs.put_use.Statement.{statement}

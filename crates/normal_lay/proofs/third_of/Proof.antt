@@ -1,3 +1,4 @@
+-- `normal_lay::third_of` meets its contract.
 use mathlib.Core.Path.{_≡_, refl}
 use native.Mathlib.Omega.{arith}
 use Rattle.normal_code.proofs.Rows.{no-reduce}

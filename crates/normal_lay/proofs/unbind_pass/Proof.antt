@@ -1,3 +1,4 @@
+-- `normal_lay::unbind_pass` meets its contract.
 use borrow.Author.Needs.{needs}
 use Rattle.normal_lay.proofs.unbind_pass.Statement.{statement}
 use Rattle.normal_lay.proofs.unbind_pass.Tie as tie

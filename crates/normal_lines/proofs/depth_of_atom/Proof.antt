@@ -1,3 +1,4 @@
+-- `normal_lines::depth_of_atom` meets its contract.
 use borrow.Author.Needs.{needs}
 use Rattle.normal_lines.proofs.depth_of_atom.Statement.{statement}
 use Rattle.normal_lines.proofs.depth_of_atom.Tie as tie

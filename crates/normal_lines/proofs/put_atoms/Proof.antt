@@ -1,3 +1,4 @@
+-- `normal_lines::put_atoms` meets its contract.
 use mathlib.Core.List.{map}
 use Prim.Native.Nat.{_+_, _-_, _<_, _≤_}
 use native.Mathlib.Omega.{arith}

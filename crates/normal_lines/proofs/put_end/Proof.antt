@@ -1,3 +1,4 @@
+-- `normal_lines::put_end` meets its contract.
 use Rattle.normal_write.proofs.Rows.{wrote-then, lower}
 use borrow.Author.Needs.{needs}
 use Rattle.normal_lines.proofs.put_end.Statement.{statement}

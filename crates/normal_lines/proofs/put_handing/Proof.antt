@@ -1,3 +1,4 @@
+-- `normal_lines::put_handing` meets its contract.
 use native.Mathlib.Omega.{arith}
 use Rattle.normal_write.proofs.Rows.{wrote-then, lower}
 use borrow.Author.Needs.{needs}

@@ -1,3 +1,4 @@
+-- `normal_lines::retain_indexed` meets its contract.
 use Rattle.normal_code.specs.Parts.{depth-in}
 use Rattle.normal_write.proofs.Rows.{wrote-as, wrote-none}
 use Rattle.normal_lines.proofs.Leaves.{no-pending}

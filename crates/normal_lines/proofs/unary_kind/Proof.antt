@@ -1,3 +1,4 @@
+-- `normal_lines::unary_kind` meets its contract.
 use borrow.Author.Tests.{ne-eqb}
 use Rattle.normal_lines.proofs.unary_kind.Statement.{statement}
 use Rattle.normal_lines.proofs.unary_kind.Tie as tie

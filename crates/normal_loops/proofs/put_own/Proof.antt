@@ -1,3 +1,4 @@
+-- `normal_loops::put_own` meets its contract.
 use borrow.Author.Tests.{ne-eqb}
 use Rattle.normal_write.proofs.Rows.{wrote-then, lower}
 use borrow.Author.Needs.{needs}

@@ -1,3 +1,4 @@
+-- `normal_loops::read_of` meets its contract.
 use mathlib.Core.Path.{_≡_, refl}
 use Rattle.normal_code.specs.Plain.{meant}
 use Rattle.normal_code.proofs.Rows.{no-hands}

@@ -1,3 +1,4 @@
+-- `normal_loops::retain_handed` meets its contract.
 use mathlib.Core.Path.{ap}
 use mathlib.Core.List.{List, [], _∷_}
 use Prim.Native.Nat.{ℕ}

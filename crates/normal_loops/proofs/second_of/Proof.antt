@@ -1,3 +1,4 @@
+-- `normal_loops::second_of` meets its contract.
 use mathlib.Core.Path.{_≡_, refl}
 use lib.IntN.{pos}
 use Rattle.semantics.specs.Code.{number}

@@ -1,3 +1,4 @@
+-- `normal_marks::take_handed` meets its contract.
 use Rattle.normal_code.proofs.Sets.{without-in}
 use Rattle.normal_marks.proofs.Laws.{took-all}
 use borrow.Author.Needs.{needs}

@@ -1,3 +1,4 @@
+-- `normal_marks::take_pair` meets its contract.
 use mathlib.Core.Bool.{true, false}
 use Prim.Native.Nat.{_+_}
 use native.Mathlib.Omega.{arith}

@@ -1,3 +1,4 @@
+-- `normal_marks::take_two` meets its contract.
 use borrow.Author.Needs.{needs}
 use Rattle.normal_marks.proofs.take_two.Statement.{statement}
 use Rattle.normal_marks.proofs.take_two.Tie as tie

@@ -1,3 +1,4 @@
+-- `normal_marks::take_use` meets its contract.
 use native.Mathlib.Omega.{arith}
 use lib.ListN.{length-set}
 use Rattle.normal_code.proofs.Sets.{with-in}

@@ -1,3 +1,4 @@
+-- `normal_marks::then_end_at` meets its contract.
 use native.Mathlib.Omega.{arith}
 use Rattle.normal_marks.proofs.Laws.{then-near, then-far}
 use borrow.Author.Needs.{needs}

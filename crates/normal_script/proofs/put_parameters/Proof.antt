@@ -1,3 +1,4 @@
+-- `normal_script::put_parameters` meets its contract.
 use Rattle.semantics.specs.Annotate.{parameter-rows}
 use Rattle.normal_write.specs.Wrote.{Wrote, Room}
 use Rattle.normal_write.proofs.Rows.{lower}

@@ -1,3 +1,4 @@
+-- `normal_write::put_atom` meets its contract.
 use mir.Facts.{toZ-ofZ}
 use Prim.Native.Nat.{_-_}
 use borrow.Author.Needs.{needs}

@@ -1,3 +1,4 @@
+-- `normal_write::put_back` meets its contract.
 use mir.Facts.{toZ-ofZ}
 use mathlib.Core.Path.{refl}
 use borrow.Author.Needs.{needs}

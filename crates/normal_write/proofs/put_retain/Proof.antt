@@ -1,3 +1,4 @@
+-- `normal_write::put_retain` meets its contract.
 use Rattle.normal_write.proofs.Rows.{wrote-none, wrote-as}
 use Rattle.normal_write.proofs.Names.{retain-on, retain-off}
 use Prim.Native.Nat.{_-_}

@@ -1,3 +1,4 @@
+-- `normal_write::put_row` meets its contract.
 use mir.Facts.{toZ-ofZ}
 use mir.Syntax.{w64}
 use lib.IntN.{pos}

@@ -1,3 +1,4 @@
+-- `normal_write::release_both` meets its contract.
 use borrow.Author.Needs.{needs}
 use Rattle.normal_write.proofs.release_both.Statement.{statement}
 use Rattle.normal_write.proofs.release_both.Tie as tie

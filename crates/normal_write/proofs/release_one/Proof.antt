@@ -1,3 +1,4 @@
+-- `normal_write::release_one` meets its contract.
 use Rattle.normal_code.specs.Parts.{depth-in}
 use Rattle.normal_write.proofs.Rows.{wrote-none, wrote-as}
 use Rattle.normal_write.proofs.Names.{release-unused, release-number, release-live, release-on}

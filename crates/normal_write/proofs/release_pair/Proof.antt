@@ -1,3 +1,4 @@
+-- `normal_write::release_pair` meets its contract.
 use mathlib.Core.Path.{_∙_}
 use native.Mathlib.Omega.{arith}
 use borrow.Author.Needs.{needs}

@@ -1,3 +1,4 @@
+-- `normal_form::parts::lay_leaf` meets its contract.
 use borrow.Author.Needs.{needs}
 use Rattle.normal_form.proofs.parts.lay_leaf.Statement.{statement}
 use Rattle.normal_form.proofs.parts.lay_leaf.Tie as tie

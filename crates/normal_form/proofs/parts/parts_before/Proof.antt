@@ -1,3 +1,4 @@
+-- `normal_form::parts::parts_before` meets its contract.
 use mathlib.Core.Path.{sym, _∙_}
 use borrow.Author.Needs.{needs}
 use Rattle.normal_form.proofs.parts.parts_before.Statement.{statement}

@@ -1,3 +1,4 @@
+-- `normal_form::parts::second_part` meets its contract.
 use borrow.Author.Tests.{ne-eqb}
 use Rattle.normal_form.proofs.parts.second_part.Statement.{statement}
 use Rattle.normal_form.proofs.parts.second_part.Tie as tie

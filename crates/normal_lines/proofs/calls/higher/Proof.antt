@@ -1,3 +1,4 @@
+-- `normal_lines::calls::higher` meets its contract.
 use Rattle.normal_lines.proofs.Arguments.{higher-far, higher-past, higher-taken, higher-number}
 use borrow.Author.Needs.{needs}
 use Rattle.normal_lines.proofs.calls.higher.Statement.{statement}

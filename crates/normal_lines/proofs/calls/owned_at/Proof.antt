@@ -1,3 +1,4 @@
+-- `normal_lines::calls::owned_at` meets its contract.
 use mathlib.Core.Bool.{not}
 use mathlib.Core.Path.{sym, ap, _∙_}
 use Rattle.normal_code.specs.Plain.{meant, placed}

@@ -1,3 +1,4 @@
+-- `normal_lines::calls::put_call` meets its contract.
 use native.Mathlib.Omega.{arith}
 use Rattle.semantics.specs.Borrow.{borrows}
 use Rattle.normal_code.specs.Plain.{set-of, atoms-at}

@@ -1,3 +1,4 @@
+-- `normal_lines::calls::read_at` meets its contract.
 use mathlib.Core.Path.{sym, ap, _∙_}
 use Rattle.normal_code.specs.Plain.{meant, placed}
 use Rattle.normal_lines.proofs.Arguments.{counts, counts-not}

@@ -1,3 +1,4 @@
+-- `normal_lines::calls::release_read` meets its contract.
 use mathlib.Core.Path.{_≡_}
 use mathlib.Core.Bool.{true}
 use mathlib.Core.List.{List}

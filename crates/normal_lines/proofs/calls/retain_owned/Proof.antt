@@ -1,3 +1,4 @@
+-- `normal_lines::calls::retain_owned` meets its contract.
 use mathlib.Core.Path.{_≡_}
 use mathlib.Core.Bool.{Bool, not}
 use Prim.Native.Nat.{ℕ, _<_, _≤_}

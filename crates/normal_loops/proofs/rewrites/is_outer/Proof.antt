@@ -1,3 +1,4 @@
+-- `normal_loops::rewrites::is_outer` meets its contract.
 use borrow.Author.Tests.{lt-ltb, le-ltb}
 use borrow.Author.Needs.{needs}
 use Rattle.normal_loops.proofs.rewrites.is_outer.Statement.{statement}

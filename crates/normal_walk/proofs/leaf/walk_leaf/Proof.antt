@@ -1,3 +1,4 @@
+-- `normal_walk::leaf::walk_leaf` meets its contract.
 use Rattle.semantics.specs.Borrow.{borrows}
 use Rattle.normal_code.specs.Plain.{plain}
 use Rattle.normal_code.specs.Parts.{depth-in}

@@ -1,3 +1,4 @@
+-- `normal_write::uses::is_name` meets its contract.
 use borrow.Author.Needs.{needs}
 use Rattle.normal_write.proofs.uses.is_name.Statement.{statement}
 use Rattle.normal_write.proofs.uses.is_name.Tie as tie

@@ -1,3 +1,4 @@
+-- `normal_write::uses::is_since` meets its contract.
 use mathlib.Core.Path.{ap}
 use lib.Dec.{ltb}
 use borrow.Author.Needs.{needs}
