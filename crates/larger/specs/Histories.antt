@@ -14,6 +14,7 @@ use Rattle.semantics.specs.Demands.{Call, InTurn, defined}
 use Rattle.semantics.specs.Swap.{NeverDry, value-in, SameStory}
 use Rattle.semantics.specs.Larger.{Twice, pairs-of, calls-first, calls-second, BudgetsGrow, NeverSpent}
 use Rattle.laws.specs.Lists.{hits}
+use Rattle.laws.specs.Files.{same-script}
 use Rattle.larger.specs.Larger.{larger}
 
 -- a delivery to be worked on both stores: its readings, and its budget on the first and on the second
@@ -130,9 +131,6 @@ same-shown fs (t ∷ ts) r q h = ap₂ {C = List Shown} _∷_ one
     one = all-alike (h .1 .0) (h .1 .1 .0) (same-totals fs ts (t .pair .reply) (t .pair .other) (h .1 .1 .1))
 
 -- ---- the theorem at a history
-
-same-script : {fs gs : Script} → accepted fs ≡ accepted gs → fs ≡ gs
-same-script e = cc
 
 -- a file, the arrays of two openings with answer 0, the second of at least as many cells, and deliveries of which none
 -- is answered 25 or 21 on the first

@@ -1,4 +1,4 @@
--- What holds of all that a file may read as.
+-- What holds of all that a file may read as, and that a file is accepted as one script.
 use Prim.Native.Nat.{ℕ, _+_, _*_, _≤_}
 use mathlib.Core.Bool.{Bool, true, false, cond, _&&_}
 use mathlib.Core.Path.{_≡_, refl}
@@ -10,7 +10,12 @@ use Rattle.semantics.specs.Outcome.{Outcome, stop}
 use Rattle.semantics.specs.Number.{bytes-at}
 use Rattle.semantics.specs.Syntax.{Script}
 use Rattle.semantics.specs.File.{script, between, read-file}
+use Rattle.semantics.specs.Calls.{accepted}
 use Rattle.laws.specs.Tests.{both-hold}
+
+-- a file is accepted as one script
+pub same-script : {fs gs : Script} → accepted fs ≡ accepted gs → fs ≡ gs
+same-script e = cc
 
 pub between-is : (low high n : ℕ) → between low high n ≡ true → (low ≤ n) × (n ≤ high)
 between-is low high n e =

@@ -1,4 +1,4 @@
--- Laws of levels: how many cells are free over a log.
+-- How many cells are in use, how many the free list has, and laws of levels: how many cells are free over a log.
 use Prim.Native.Nat.{ℕ, zero, suc, _+_, _-_, _≤_, _<_, min}
 use native.Mathlib.Omega.{arith}
 use mathlib.Core.Bool.{Bool, true, false}
@@ -7,11 +7,43 @@ use mathlib.Core.List.{List, [], _∷_, _++_}
 use lib.Dec.{ltb}
 use lib.ListN.{length, getD, set}
 use Rattle.semantics.specs.Basics.{with-if, occurrences, each}
-use Rattle.semantics.specs.Sound.{free-list}
+use Rattle.semantics.specs.Sound.{free-from, free-list}
 use Rattle.semantics.specs.Store.{Cell, Store, cell, cell-count, inner, clear, with-cell, with-count, with-first, freed}
-use Rattle.semantics.specs.Store.{lowered, released, one-if-used, used-cells, cells-taken}
+use Rattle.semantics.specs.Store.{lowered, released, one-if-used, used-cells, cells-taken, zeroed}
 use Rattle.semantics.specs.Machine.{Event, acquires, frees, touches, touching, each-events, lower-events}
 use Rattle.semantics.specs.Machine.{release-events, level-by, level-after, lowest-over}
+
+-- ---- cells in use, and the free list
+
+-- a cell counts at most once
+pub one-at-most : (n : ℕ) → one-if-used n ≤ 1
+one-at-most zero = omega arith
+one-at-most (suc n) = omega arith
+
+-- no more cells are in use than there are
+pub used-few : (l : List Cell) → used-cells l ≤ length l
+unfolding used-cells
+used-few [] = omega arith
+used-few (x ∷ l) = omega (arith, used-few l, one-at-most (x .count))
+
+-- of a store of zeros no cell is in use
+pub none-taken : (n : ℕ) → cells-taken (zeroed n) ≡ 0
+unfolding zeroed used-cells clear
+none-taken zero = refl
+none-taken (suc n) = omega (arith, none-taken n)
+
+-- the walk of the free list meets no more cells than it takes steps
+pub free-from-length : (σ : Store) (n c : ℕ) → length (free-from σ c n) ≤ n
+unfolding free-from
+free-from-length σ zero c = omega arith
+free-from-length σ (suc n) c = go (λ d. free-from-length σ n d) (ltb c (cell-count σ)) refl
+  where
+    go : ((d : ℕ) → length (free-from σ d n) ≤ n) → (t : Bool) → ltb c (cell-count σ) ≡ t →
+        length (free-from σ c (suc n)) ≤ suc n
+    go ih true q = rw (q, free-from) (omega (arith, ih (cell σ c .next)))
+    go ih false q = rw (q, free-from) (omega arith)
+
+-- ---- levels over a log
 
 -- after every beginning of a log no more than N cells are free
 abbrev pub LevelsUpTo : ℕ → List Event → ℕ → Type 0
@@ -27,6 +59,12 @@ pub lowest-most : (a : List Event) (n : ℕ) → lowest-over a n ≤ n
 unfolding lowest-over
 lowest-most [] n = omega arith
 lowest-most (e ∷ a) n = omega arith
+
+-- the least level is at most the last
+pub lowest-last : (a : List Event) (n : ℕ) → lowest-over a n ≤ level-after a n
+unfolding lowest-over level-after
+lowest-last [] n = omega arith
+lowest-last (e ∷ a) n = omega (arith, lowest-last a (level-by e n))
 
 pub lowest-append : (a b : List Event) (n : ℕ) →
     lowest-over (a ++ b) n ≡ min (lowest-over a n) (lowest-over b (level-after a n))

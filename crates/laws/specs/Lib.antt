@@ -11,3 +11,4 @@ pub mod Routines
 pub mod SavedFiles
 pub mod Tests
 pub mod Updates
+pub mod Values

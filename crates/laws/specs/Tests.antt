@@ -1,9 +1,10 @@
--- What it says that a test holds, and that a test of depths gives one.
+-- What it says that a test holds, and that a test of depths gives one; and an equation that cannot be.
 use Prim.Native.Nat.{ℕ}
+use native.Mathlib.Omega.{arith}
 use mathlib.Core.Bool.{Bool, true, false, not, _&&_, _||_, false≢true}
-use mathlib.Core.Path.{_≡_, refl, sym, ap, _∙_, subst}
+use mathlib.Core.Path.{_≡_, refl, sym, _∙_}
 use mathlib.Core.Logic.{_⊎_, inl, inr}
-use mathlib.Core.Option.{Option, none, some}
+use mathlib.Core.Option.{none, some}
 use mathlib.Core.List.{List, [], _∷_}
 use lib.Dec.{eqb}
 use borrow.Author.Tests.{eqb-true, not-true, not-false}
@@ -39,22 +40,19 @@ passed {r} e h = sym e ∙ not-false r h
 pub failed : {r t : Bool} → r ≡ t → not r ≡ true → t ≡ false
 failed {r} e h = sym e ∙ not-true r h
 
+-- ---- an equation that cannot be
+
+-- `cc` proves this one from any equation of two different constructors
+pub no-equation : {A : Type 0} → _≡_ {A = ℕ} 0 1 → A
+no-equation e = absurd (omega arith)
+
 -- ---- a depth that is given, if any
 
-abbrev is-some : Option ℕ → Type 0
-is-some (some d) = Unit {0}
-is-some none = ⊥
-
-value-or-0 : Option ℕ → ℕ
-value-or-0 (some d) = d
-value-or-0 none = 0
-
-pub some-same : (c d : ℕ) → some c ≡ some d → c ≡ d
-unfolding value-or-0
-some-same c d e = ap value-or-0 e
+pub some-same : {A : Type 0} (c d : A) → some c ≡ some d → c ≡ d
+some-same c d e = cc
 
 pub not-some : {A : Type 0} (d : ℕ) → none ≡ some d → A
-not-some d e = absurd (subst is-some (sym e) tt)
+not-some d e = no-equation cc
 
 pub some-if-holds : (b : Bool) (c d : ℕ) → some-if b c ≡ some d → (b ≡ true) × (c ≡ d)
 some-if-holds true c d e = (refl, some-same c d e)

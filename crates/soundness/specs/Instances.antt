@@ -17,6 +17,7 @@ use Rattle.semantics.specs.Demands.{Call, InTurn, Kept, defined}
 use Rattle.semantics.specs.Computing.{computing}
 use Rattle.semantics.specs.Trials.{printed-file}
 use Rattle.semantics.specs.Slips.{file-of, low-first, operand-bytes}
+use Rattle.laws.specs.Files.{same-script}
 use Rattle.soundness.specs.Demand3.{demand-3}
 
 -- the first element of an array, by its name
@@ -106,9 +107,6 @@ rewritten-accepted = refl
 rewritten-map : getD (code rewritten-script) 4 (row 0 0) ≡ row 21 (2 + 256 * 3)
 unfolding computing rewritten-script
 rewritten-map = refl
-
-same-script : {fs gs : Script} → accepted fs ≡ accepted gs → fs ≡ gs
-same-script e = cc
 
 -- demand 3 for a file of this script, on a store that opens
 module _ (file kinds : List ℕ) (operands slots : List ℤ) (heads : List ℕ) where

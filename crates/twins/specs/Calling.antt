@@ -3,7 +3,7 @@ use Prim.Native.Nat.{ℕ, zero, suc, _+_, _<_}
 use native.Mathlib.Omega.{arith}
 use native.Mathlib.Decide.{ℕ-discrete, decLt}
 use mathlib.Core.Bool.{Bool, true, false}
-use mathlib.Core.Path.{_≡_, refl, sym, ap, _∙_, subst}
+use mathlib.Core.Path.{_≡_, refl, sym, _∙_, subst}
 use mathlib.Core.Logic.{_≢_, inl, inr}
 use mathlib.Core.List.{List, [], _∷_, _++_, map}
 use lib.IntN.{ℤ}
@@ -27,7 +27,7 @@ use Rattle.working.specs.machine.Frames.{hold, Setting, given}
 use Rattle.working.specs.machine.Standing.{none-in}
 use Rattle.working.specs.machine.Atoms.{handed-first, handed-rest}
 use Rattle.working.specs.machine.Calling.{CallReady, call-depths, call-ready, all-readable}
-use Rattle.working.specs.machine.Parameters.{depths-from, depths-at, arrays-range}
+use Rattle.working.specs.machine.Parameters.{depths-from, arrays-range, parameter-depth}
 use Rattle.twins.specs.Runs.{Race, Tied, Twins}
 use Rattle.twins.specs.Beside.{Around, Same, Framed, images-held}
 use Rattle.twins.specs.Owing.{owes-less, owes-in}
@@ -93,11 +93,8 @@ parameters-framed {ds = ds} Γ K q depths deep = record {
   cells = λ y h. frames-same q 0 y .cell (deep y h);
 }
   where
-    depth-of : (y : ℕ) → depths-from ds 0 y ≡ getD ds y 0
-    depth-of y = ap (depths-from ds 0) (omega arith) ∙ depths-at ds 0 y
-
     zero-depth : (y : ℕ) → Γ y ≡ 0 → depths-from ds 0 y ≡ 0
-    zero-depth y e = depth-of y ∙ elim (decLt y (length ds)) [
+    zero-depth y e = parameter-depth ds y ∙ elim (decLt y (length ds)) [
       | yes h ↦ sym (depths y h) ∙ e
       | no f ↦ List·getD-eq-default ds 0 {n = y} (omega (arith, f))
     ]

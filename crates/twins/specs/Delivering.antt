@@ -6,13 +6,14 @@ use mathlib.Core.Path.{_≡_, refl, sym, ap, _∙_, subst}
 use mathlib.Core.List.{List, [], _∷_, _++_}
 use lib.IntN.{ℤ, pos}
 use lib.ListN.{length}
-use Rattle.semantics.specs.Basics.{occurrences, _∈_}
+use Rattle.semantics.specs.Basics.{_∈_}
 use Rattle.semantics.specs.Outcome.{Outcome, done, onward, _>>=_, _>>_}
 use Rattle.semantics.specs.Machine.{State, Work, Routine, Program, with-store, touching, release-events, lowest-over}
 use Rattle.semantics.specs.Machine.{retain-word, machine, if-array, delivery, starting}
 use Rattle.semantics.specs.Store.{Store, cell, cell-of, cell-count, named-by, with-totals, has-free, released, deepest}
 use Rattle.laws.specs.Lists.{occurs-first}
 use Rattle.laws.specs.Updates.{updated-same}
+use Rattle.laws.specs.Counts.{swapped}
 use Rattle.working.specs.store.Invariant.{Invariant}
 use Rattle.working.specs.store.Change.{permute, held-used}
 use Rattle.working.specs.store.Kept.{only}
@@ -77,10 +78,6 @@ result-tied {r} {s = s} {s′} w w′ t = record {
   level = level-quiet r (with-totals (s .store) w) (with-totals (s′ .store) w′) [] [] none-quiet none-quiet (t .level);
   stores = leaner-kept (t .stores) (λ c h. (h, (refl, refl, refl))) (λ c h. (t .stores .used c h, (refl, refl, refl)));
 }
-
-swapped : (a b c : ℕ) → occurrences c (a ∷ (b ∷ [])) ≡ occurrences c (b ∷ (a ∷ []))
-unfolding occurrences
-swapped a b c = omega arith
 
 -- the old totals are released from a store whose totals are the result
 old-released : (old w : ℤ) (σ : Store) → Invariant σ [] (cell-of w ∷ (cell-of old ∷ [])) →

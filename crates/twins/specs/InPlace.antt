@@ -25,6 +25,7 @@ use Rattle.semantics.specs.Store.{Store, cell, cell-of, elements, has-free, acq
 use Rattle.semantics.specs.Demands.{value-of}
 use Rattle.laws.specs.Lists.{_⊆_, occurrences-append, occurs-first}
 use Rattle.laws.specs.Updates.{updated-same, updated-there}
+use Rattle.laws.specs.Values.{items-list}
 use Rattle.working.specs.normal.Plain.{value}
 use Rattle.working.specs.normal.Trace.{CalleeGrows}
 use Rattle.working.specs.store.Invariant.{StandsFor}
@@ -34,7 +35,7 @@ use Rattle.working.specs.machine.Spending.{less-in}
 use Rattle.working.specs.machine.Images.{first-or-later, without-middle}
 use Rattle.working.specs.machine.Frames.{hold, Setting, Ended, given}
 use Rattle.working.specs.machine.Standing.{stands-number}
-use Rattle.working.specs.machine.Elements.{words-of, array-length, array-depth, array-items, items-list}
+use Rattle.working.specs.machine.Elements.{words-of, array-length, array-depth, array-items}
 use Rattle.working.specs.machine.Elements.{array-used, elements-length}
 use Rattle.working.specs.machine.Size.{tree-adds}
 use Rattle.working.specs.machine.Rules.{LineRules}

@@ -12,9 +12,10 @@ use Rattle.semantics.specs.Basics.{occurrences, _∈_}
 use Rattle.semantics.specs.Store.{Store, cell, cell-of, elements, inner, named-by, with-count, one-more, retained}
 use Rattle.laws.specs.Lists.{_⊆_, hits, occurs-first}
 use Rattle.laws.specs.Releases.{count-with}
+use Rattle.laws.specs.Cells.{named-by-none}
 use Rattle.working.specs.machine.Elements.{getD-mapped}
 use Rattle.working.specs.store.Invariant.{Invariant}
-use Rattle.working.specs.store.Counting.{named-by-none, named-at}
+use Rattle.working.specs.store.Counting.{named-at}
 use Rattle.working.specs.store.Cells.{in-range, CellsAgree, agree-elements, agree-inner, Put, put-cases, put-agree}
 use Rattle.working.specs.store.Cells.{with-cell-put}
 use Rattle.working.specs.store.Change.{inner-used}

@@ -11,6 +11,7 @@ use Rattle.semantics.specs.Basics.{occurrences, _∈_}
 use Rattle.semantics.specs.Store.{Cell, Store, cell, cell-count, clear, one-if-used, used-cells, cells-taken}
 use Rattle.semantics.specs.Store.{free-cells, has-free}
 use Rattle.laws.specs.Lists.{_⊆_, hits, occurs-first}
+use Rattle.laws.specs.Levels.{one-at-most, used-few}
 use Rattle.working.specs.store.Invariant.{Invariant}
 use Rattle.working.specs.store.Counting.{hits-itself, without, without-length, without-other}
 use Rattle.working.specs.store.Acquire.{none-free, acquire-takes}
@@ -111,10 +112,6 @@ used-at : (σ : Store) (c : ℕ) → occurrences c (cells-used σ) ≡ one-if-us
 unfolding cell
 used-at σ c = ap (λ (k : ℕ). occurrences k (cells-used σ)) (omega arith) ∙ used-from-at c 0 (σ .cells)
 
-once-if-used : (n : ℕ) → one-if-used n ≤ 1
-once-if-used zero = omega arith
-once-if-used (suc n) = omega arith
-
 counted-used : (n : ℕ) → 0 < one-if-used n → 0 < n
 counted-used zero h = h
 counted-used (suc n) h = omega arith
@@ -138,7 +135,7 @@ leaner-taken {π = π} {τ} {σ} l =
     )
   where
     once : (n : ℕ) → occurrences n (cells-used τ) ≤ 1
-    once n = omega (arith, used-at τ n, once-if-used (cell τ n .count))
+    once n = omega (arith, used-at τ n, one-at-most (cell τ n .count))
 
     is-used : (c : ℕ) → c ∈ cells-used τ → 0 < cell τ c .count
     is-used c h = counted-used (cell τ c .count) (omega (arith, h, used-at τ c))
@@ -150,15 +147,10 @@ leaner-taken {π = π} {τ} {σ} l =
         (l .used (q .from) (is-used (q .from) (q .member))) in
         omega (arith, image, used-at σ (π (q .from)), ap (λ (k : ℕ). occurrences k (cells-used σ)) (q .is))
 
-taken-within : (l : List Cell) → used-cells l ≤ length l
-unfolding used-cells
-taken-within [] = omega arith
-taken-within (x ∷ l) = omega (arith, taken-within l, once-if-used (x .count))
-
 -- with g cells more
 pub leaner-levels : {E : List ℕ} {π : ℕ → ℕ} {τ σ : Store} (g : ℕ) → Leaner E π τ σ →
     cell-count τ ≡ cell-count σ + g → free-cells σ + g ≤ free-cells τ
-leaner-levels {τ = τ} {σ} g l e = omega (arith, leaner-taken l, e, taken-within (σ .cells), taken-within (τ .cells))
+leaner-levels {τ = τ} {σ} g l e = omega (arith, leaner-taken l, e, used-few (σ .cells), used-few (τ .cells))
 
 -- so where a cell of the other store is free, one of the leaner is
 pub leaner-has-free : {E : List ℕ} {π : ℕ → ℕ} {τ σ : Store} {Z′ R′ Z R : List ℕ} (g : ℕ) → Leaner E π τ σ →

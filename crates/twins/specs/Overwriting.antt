@@ -12,13 +12,14 @@ use Rattle.semantics.specs.Live.{Set}
 use Rattle.semantics.specs.Meaning.{Meter, Env, with-item}
 use Rattle.semantics.specs.Machine.{State, Frame, word, with-store, touching}
 use Rattle.semantics.specs.Store.{Store, cell, cell-of, overwritten}
+use Rattle.laws.specs.Values.{items-list}
 use Rattle.working.specs.normal.Plain.{value}
 use Rattle.working.specs.normal.Trace.{CalleeGrows}
 use Rattle.working.specs.store.Invariant.{StandsFor}
 use Rattle.working.specs.machine.Discipline.{less}
 use Rattle.working.specs.machine.Agreement.{Together}
 use Rattle.working.specs.machine.Frames.{Setting, Ended, given}
-use Rattle.working.specs.machine.Elements.{array-depth, items-list}
+use Rattle.working.specs.machine.Elements.{array-depth}
 use Rattle.working.specs.machine.Size.{tree-adds}
 use Rattle.working.specs.machine.Rules.{LineRules}
 use Rattle.working.specs.machine.Claims.{TreeClaim}

@@ -13,6 +13,7 @@ use Rattle.semantics.specs.Machine.{State, Routine, Program, lowest-level, leve
 use Rattle.semantics.specs.Machine.{starting, delivered}
 use Rattle.semantics.specs.Store.{Store, free-cells, has-free}
 use Rattle.semantics.specs.Sound.{free-from, free-list}
+use Rattle.laws.specs.Levels.{lowest-last}
 use Rattle.working.specs.store.Rest.{Rests}
 use Rattle.working.specs.store.LowestLevel.{level-replayed, free-cells-listed}
 use Rattle.working.specs.machine.Agreement.{Start, Clean}
@@ -21,7 +22,7 @@ use Rattle.working.specs.machine.Delivery.{Delivers, finishes, stops, runs-dry,
 use Rattle.twins.specs.Leaner.{leaner-self}
 use Rattle.twins.specs.Twin.{with-routines}
 use Rattle.twins.specs.Runs as Runs
-use Rattle.twins.specs.Runs.{Race, Twins, lowest-last}
+use Rattle.twins.specs.Runs.{Race, Twins}
 use Rattle.twins.specs.Calling.{CallTwins}
 use Rattle.twins.specs.Delivering.{careless, Over, race, delivery-twins}
 

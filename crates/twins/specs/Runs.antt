@@ -6,22 +6,17 @@ use mathlib.Core.Path.{_≡_, refl, sym, ap, _∙_, subst}
 use mathlib.Core.List.{List, [], _∷_}
 use lib.ListN.{length}
 use Rattle.semantics.specs.Outcome.{Outcome, done, stop, Run, onward, require}
-use Rattle.semantics.specs.Machine.{Event, acquires, State, with-store, with-left, step, stepped, level-by}
+use Rattle.semantics.specs.Machine.{Event, acquires, State, with-store, with-left, step, stepped}
 use Rattle.semantics.specs.Machine.{level-after, lowest-over, lowest-level, touching, release-events}
 use Rattle.semantics.specs.Store.{Store, cell-count, free-cells}
 use Rattle.semantics.specs.Sound.{free-list}
-use Rattle.laws.specs.Levels.{lowest-append, touching-lowest, release-lowest}
+use Rattle.laws.specs.Levels.{lowest-append, touching-lowest, release-lowest, lowest-last}
 use Rattle.working.specs.store.Invariant.{Invariant}
 use Rattle.working.specs.store.LowestLevel.{level-replayed, free-cells-listed}
 use Rattle.working.specs.machine.Agreement.{Start, Clean}
 use Rattle.twins.specs.Leaner.{Leaner}
 
 -- ---- logs
-
-pub lowest-last : (a : List Event) (n : ℕ) → lowest-over a n ≤ level-after a n
-unfolding lowest-over level-after
-lowest-last [] n = omega arith
-lowest-last (e ∷ a) n = omega (arith, lowest-last a (level-by e n))
 
 -- events that never lower the level
 abbrev pub Quiet : List Event → Type 0

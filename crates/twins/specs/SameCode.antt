@@ -19,12 +19,12 @@ use Rattle.semantics.specs.Store.{Cell, Store, cell, cell-of, cell-count, eleme
 use Rattle.semantics.specs.Calls.{accepted, judged, code-fits, request-fits}
 use Rattle.semantics.specs.Demands.{value-of}
 use Rattle.laws.specs.Lists.{occurs-first}
+use Rattle.laws.specs.Values.{items-list}
+use Rattle.laws.specs.Cells.{named-by-none}
 use Rattle.soundness.specs.annotation.Accepting.{main-shape-of}
 use Rattle.soundness.specs.annotation.Programs.{program-disciplined}
 use Rattle.soundness.specs.Delivering.{few-lines, few-readings}
-use Rattle.soundness.specs.saved.Shape.{to-of}
 use Rattle.working.specs.store.Invariant.{Tidy}
-use Rattle.working.specs.store.Counting.{named-by-none}
 use Rattle.working.specs.store.Change.{held-used}
 use Rattle.working.specs.store.Kept.{only, reached-within, reached}
 use Rattle.working.specs.store.Opening.{open-rests}
@@ -127,7 +127,7 @@ empty-list d σ w tidy e =
       tidy .size,
       length-take (x .size) (x .slots),
       length-map (elements x) (value-of σ d),
-      ap length (sym (to-of (map (value-of σ d) (elements x))) ∙ ap items e),
+      ap length (sym (items-list (map (value-of σ d) (elements x))) ∙ ap items e),
     )
 
 number-totals : (d : ℕ) (σ : Store) → d ≡ 0 → value-of σ d (σ .totals) ≡ first-totals d → σ .totals ≡ pos 0

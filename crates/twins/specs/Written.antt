@@ -11,6 +11,7 @@ use borrow.Author.Tests.{lt-ltb, le-ltb}
 use Rattle.semantics.specs.Basics.{_∈_}
 use Rattle.semantics.specs.Store.{Cell, Store, cell, cell-of, elements, inner, named-by, wider, appended, with-slot}
 use Rattle.semantics.specs.Store.{overwritten}
+use Rattle.laws.specs.Cells.{inner-flat}
 use Rattle.working.specs.store.Invariant.{Invariant}
 use Rattle.working.specs.store.Cells.{in-range, Put, with-cell-put}
 use Rattle.working.specs.store.Append.{Wider, widened}
@@ -31,11 +32,6 @@ wider-inner x y w k = ap₂ named-by (k .depth) (k .elements) ∙ named-append (
 wider-full : (x : Cell) (w : ℤ) → 16 ≤ x .size → wider x w ≡ x
 unfolding wider
 wider-full x w h = rw (le-ltb (x .size) 16 h) refl
-
--- a cell without names
-no-names : (x : Cell) → x .depth ≡ 0 → inner x ≡ []
-unfolding inner
-no-names x e = ap (λ (d : ℕ). named-by d (elements x)) e
 
 -- what a cell written in place keeps
 record SameHead (x y : Cell) : Type 0 where
@@ -136,7 +132,7 @@ module _ {E : List ℕ} {π : ℕ → ℕ} {τ σ : Store} (c : ℕ) (l : Leaner
   rewritten x y p q same = record {
     used = omega (arith, q .count, l .used c h);
     depth = q .depth ∙ l .depth c h ∙ sym (p .depth);
-    names = no-names y (q .depth ∙ l .depth c h ∙ z) ∙ ap (map π) (sym (no-names x (p .depth ∙ z)));
+    names = inner-flat y (q .depth ∙ l .depth c h ∙ z) ∙ ap (map π) (sym (inner-flat x (p .depth ∙ z)));
     numbers = λ f d. same f .0;
     sizes = λ f. same f .1;
   }

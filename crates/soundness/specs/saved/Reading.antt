@@ -14,7 +14,8 @@ use Rattle.semantics.specs.Value.{Value, num, of-list, list}
 use Rattle.semantics.specs.Saved.{mark-at, number-at, is-array, is-number, value-at, all-read, stated-count, labelled}
 use Rattle.semantics.specs.Saved.{read-saved}
 use Rattle.laws.specs.Tests.{both-hold}
-use Rattle.soundness.specs.saved.Shape.{OfDepth, AllOfDepth, size-of-list}
+use Rattle.laws.specs.Values.{size-of-list}
+use Rattle.soundness.specs.saved.Shape.{OfDepth, AllOfDepth}
 
 abbrev Gives : ℕ → Outcome ℕ Value → Type 0
 Gives d (done v p) = OfDepth v d

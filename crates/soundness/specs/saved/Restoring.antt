@@ -1,6 +1,6 @@
 -- A restore that answers 0 leaves a store at rest with the value of the file, from which demand 3 holds. It ends in 25
 -- just where the value has more arrays than there are cells.
-use Prim.Native.Nat.{ℕ, zero, suc, _+_, _<_, _≤_}
+use Prim.Native.Nat.{ℕ, _+_, _<_, _≤_}
 use native.Mathlib.Omega.{arith}
 use mathlib.Core.Bool.{Bool, true, false, cond}
 use mathlib.Core.Path.{_≡_, sym, refl, ap, ap₂, _∙_, subst}
@@ -14,8 +14,8 @@ use Rattle.semantics.specs.Basics.{tabulate, _∈_}
 use Rattle.semantics.specs.Outcome.{Outcome, done, stop, onward}
 use Rattle.semantics.specs.Syntax.{Script, main-depth}
 use Rattle.semantics.specs.Value.{Value}
-use Rattle.semantics.specs.Store.{Store, cell, cell-count, named-by, with-totals, relinked, zeroed, opened, clear}
-use Rattle.semantics.specs.Store.{cells-taken, used-cells}
+use Rattle.semantics.specs.Store.{Store, cell, cell-count, named-by, with-totals, relinked, zeroed, opened}
+use Rattle.semantics.specs.Store.{cells-taken}
 use Rattle.semantics.specs.Words.{cells-in, shaped}
 use Rattle.semantics.specs.Sound.{free-list}
 use Rattle.semantics.specs.Calls.{number-of, accepted, judged, room, code-fits, StoreReply, refusing, answering, packed}
@@ -23,6 +23,7 @@ use Rattle.semantics.specs.Saved.{read-saved, load-value, load-totals, loaded}
 use Rattle.semantics.specs.SaveCalls.{restore-in, restore-value, restore-for, engine-restore}
 use Rattle.semantics.specs.Swap.{Restored, defined-saving}
 use Rattle.laws.specs.Lists.{tabulate-length}
+use Rattle.laws.specs.Levels.{none-taken}
 use Rattle.working.specs.store.Invariant.{Invariant, StandsFor}
 use Rattle.working.specs.store.Change.{held-used}
 use Rattle.working.specs.store.Kept.{stands-kept}
@@ -130,11 +131,6 @@ module _ (n d : ℕ) (some-cell : 1 ≤ n) (few : n ≤ 256) (shallow : d ≤ 4)
       by (stop k τ) L = (L .0, omega (arith, L .1, all-free))
 
 -- ---- the call
-
-none-taken : (n : ℕ) → cells-taken (zeroed n) ≡ 0
-unfolding zeroed used-cells clear
-none-taken zero = refl
-none-taken (suc n) = omega (arith, none-taken n)
 
 -- what was read, and the store at rest with it
 pub record Stood (fs : Script) (saved : List ℕ) (r : StoreReply) : Type 0 where

@@ -4,7 +4,6 @@ use native.Mathlib.Omega.{arith}
 use mathlib.Core.Bool.{true}
 use mathlib.Core.Path.{_≡_, refl, ap}
 use mathlib.Core.List.{List, [], _∷_, _++_}
-use lib.ListN.{length}
 use Rattle.semantics.specs.Number.{fits}
 use Rattle.semantics.specs.Value.{Value, num, array, Values, nil, cons, of-list, to-list}
 use Rattle.semantics.specs.Saved.{size-of}
@@ -31,17 +30,9 @@ abbrev mutual
   AllFits nil = Unit {0}
   AllFits (cons v vs) = Fits v × AllFits vs
 
-pub size-of-list : (l : List Value) → size-of (of-list l) ≡ length l
-size-of-list [] = refl
-size-of-list (v ∷ l) = ap suc (size-of-list l)
-
 pub of-to : (vs : Values) → of-list (to-list vs) ≡ vs
 of-to nil = refl
 of-to (cons v vs) = ap (λ (l : Values). cons v l) (of-to vs)
-
-pub to-of : (l : List Value) → to-list (of-list l) ≡ l
-to-of [] = refl
-to-of (v ∷ l) = ap {B = List Value} (λ r. v ∷ r) (to-of l)
 
 -- ---- arrays
 

@@ -24,8 +24,9 @@ use Rattle.semantics.specs.SaveCalls.{SaveReply, totals-value, in-buffer, refus
 use Rattle.semantics.specs.SaveCalls.{engine-save}
 use Rattle.semantics.specs.Swap.{defined-saving, Begins, by-open, by-restore, last-reply, Pair}
 use Rattle.semantics.specs.Swap.{calls-here, calls-there, NeverDry, value-in, SameStory, file-in, Swap}
-use Rattle.laws.specs.Tests.{both-hold}
+use Rattle.laws.specs.Tests.{both-hold, some-same}
 use Rattle.laws.specs.SavedFiles.{file-length}
+use Rattle.laws.specs.Files.{same-script}
 use Rattle.soundness.specs.Step.{Standing, Stepped, entry-number, entry-steps}
 use Rattle.soundness.specs.Demand3.{no-refusal, admitted-is, opening-stands, open-accepts, call-steps}
 use Rattle.soundness.specs.saved.Bytes.{read-bytes}
@@ -181,12 +182,6 @@ begun file r (by-restore kinds operands slots heads saved called answered) =
 
 -- ---- the theorem
 
-same-value : (v w : Value) → some v ≡ some w → v ≡ w
-same-value v w e = cc
-
-same-script : (fs gs : Script) → accepted fs ≡ accepted gs → fs ≡ gs
-same-script fs gs e = cc
-
 module _ (file : List ℕ) (fs : Script) (ok : judged file ≡ accepted fs) (old : StoreReply)
     (kinds : List ℕ) (operands : List ℤ) (buffer : List ℕ) (saving : SaveReply)
     (saves : defined-saving .saves file kinds operands (old .slots) (old .heads) buffer saving)
@@ -216,8 +211,8 @@ swap file start begins before turns kinds operands buffer saving saves saved kin
     let stands = stands-after file fs ok before start (b .value) (b .stands) turns in
     let r = restored-from file kinds′ operands′ slots′ heads′ (file-in (saving .saved)) new restores answered in
     let stood = subst (λ g. Stood g (file-in (saving .saved)) new)
-    (same-script (r .script) fs (sym (r .is-accepted) ∙ ok)) (r .stood) in
-    let same : stood .value ≡ v = same-value (stood .value) v (sym (stood .is-read)
+    (same-script (sym (r .is-accepted) ∙ ok)) (r .stood) in
+    let same : stood .value ≡ v = some-same (stood .value) v (sym (stood .is-read)
     ∙ saved-reads file fs ok old kinds operands buffer saving saves saved) in
     record {
       script = fs;

@@ -15,9 +15,10 @@ use Rattle.semantics.specs.Store.{Store, cell, cell-of, named-by}
 use Rattle.semantics.specs.Demands.{value-of}
 use Rattle.laws.specs.Lists.{_≈_, _⊆_, occurrences-append}
 use Rattle.laws.specs.Tests.{AllEqual}
+use Rattle.laws.specs.Cells.{named-by-none}
 use Rattle.working.specs.normal.Plain.{value}
 use Rattle.working.specs.store.Invariant.{Invariant, StandsFor}
-use Rattle.working.specs.store.Counting.{append-cases, named-by-none}
+use Rattle.working.specs.store.Counting.{append-cases}
 use Rattle.working.specs.store.Change.{permute}
 use Rattle.working.specs.machine.Frames.{hold, named-all, Arguments, none, more, Setting, given}
 use Rattle.working.specs.machine.Standing.{none-in, atom-stands, handed-split, handed-named, hold-split}

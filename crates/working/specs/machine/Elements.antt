@@ -9,19 +9,16 @@ use lib.ListN.{length, getD, length-map, length-take}
 use borrow.Author.Tests.{ltb-true}
 use Rattle.semantics.specs.Basics.{_∈_}
 use Rattle.semantics.specs.Number.{inside}
-use Rattle.semantics.specs.Value.{Value, list, items}
+use Rattle.semantics.specs.Value.{Value, items}
 use Rattle.semantics.specs.Store.{Store, Cell, cell, cell-of, elements, inner, named-by}
 use Rattle.semantics.specs.Sound.{all-inner}
 use Rattle.semantics.specs.Demands.{value-of}
+use Rattle.laws.specs.Values.{items-list}
 use Rattle.working.specs.store.Invariant.{Invariant, StandsFor, Tidy}
 use Rattle.working.specs.store.Counting.{named-at}
 use Rattle.working.specs.store.Cells.{inner-in-all}
 use Rattle.working.specs.store.Change.{inner-used}
 use Rattle.working.specs.machine.Standing.{none-in, named-one, names-one}
-
-pub items-list : (l : List Value) → items (list l) ≡ l
-items-list [] = refl
-items-list (v ∷ l) = ap {B = List Value} (λ r. v ∷ r) (items-list l)
 
 -- the words of the array that a word names
 abbrev pub words-of : Store → ℤ → List ℤ

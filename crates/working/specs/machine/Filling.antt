@@ -16,6 +16,7 @@ use Rattle.semantics.specs.Machine.{State, Frame, with-store, touching}
 use Rattle.semantics.specs.Store.{Store, Cell, cell, cell-of, elements, inner, named-by, has-free, acquired, appended}
 use Rattle.semantics.specs.Demands.{value-of}
 use Rattle.laws.specs.Lists.{_⊆_, occurrences-append, occurs-first}
+use Rattle.laws.specs.Values.{items-list}
 use Rattle.working.specs.store.Invariant.{Invariant, Alike, Keeps, StandsFor}
 use Rattle.working.specs.store.Counting.{in-append-left, in-append-right, named-by-append}
 use Rattle.working.specs.store.Change.{permute, commit, held-used}
@@ -26,7 +27,7 @@ use Rattle.working.specs.machine.Images.{without-middle, first-or-later,
 use Rattle.working.specs.machine.Agreement.{Together}
 use Rattle.working.specs.machine.Frames.{hold, Setting, Situation, Lent, Ended, given}
 use Rattle.working.specs.machine.Standing.{hold-aside, none-in, named-one, stands-held, lent-kept}
-use Rattle.working.specs.machine.Elements.{items-list, array-items, array-length, array-depth, elements-length}
+use Rattle.working.specs.machine.Elements.{array-items, array-length, array-depth, elements-length}
 use Rattle.working.specs.machine.Acquiring.{filled-count, filled-depth, cell-stands}
 use Rattle.working.specs.machine.Situations.{touch-together}
 use Rattle.working.specs.machine.Spending.{less-in}

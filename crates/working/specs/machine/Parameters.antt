@@ -36,6 +36,10 @@ depths-at (d ∷ ds) n (suc i) =
     updated-there (depths-from ds (suc n)) n d (n + suc i) (λ e. omega arith)
     ∙ ap (depths-from ds (suc n)) (omega arith) ∙ depths-at ds (suc n) i
 
+-- the depth of parameter y
+pub parameter-depth : (ds : List ℕ) (y : ℕ) → depths-from ds 0 y ≡ getD ds y 0
+parameter-depth ds y = ap (depths-from ds 0) (omega arith) ∙ depths-at ds 0 y
+
 names-stand : {σ : Store} {ds : List ℕ} {ws : List ℤ} {vs : List Value} → Arguments σ ds ws vs → (n y : ℕ) →
     StandsFor σ (depths-from ds n y) (frame-from ws n y) (values-from vs n y)
 unfolding depths-from frame-from values-from
@@ -109,12 +113,9 @@ module _ (at : ℕ → Bool) where
 
 module _ {σ : Store} {ds : List ℕ} {ws : List ℤ} {vs : List Value} (args : Arguments σ ds ws vs) (Γ : ℕ → ℕ)
     (depths : (i : ℕ) → i < length ds → Γ i ≡ getD ds i 0) where
-  depth-of : (y : ℕ) → depths-from ds 0 y ≡ getD ds y 0
-  depth-of y = ap (depths-from ds 0) (omega arith) ∙ depths-at ds 0 y
-
   below-stand : (y : ℕ) → y < length ds → StandsFor σ (Γ y) (frame-from ws 0 y) (values-from vs 0 y)
   below-stand y h = subst (λ (d : ℕ). StandsFor σ d (frame-from ws 0 y) (values-from vs 0 y))
-      (depth-of y ∙ sym (depths y h)) (names-stand args 0 y)
+      (parameter-depth ds y ∙ sym (depths y h)) (names-stand args 0 y)
 
   pub parameter-arrays : (at : ℕ → Bool) (y : ℕ) → y ∈ arrays-at at ds 0 →
       StandsFor σ (Γ y) (frame-from ws 0 y) (values-from vs 0 y)
@@ -133,7 +134,7 @@ module _ {σ : Store} {ds : List ℕ} {ws : List ℤ} {vs : List Value} (args : 
   parameter-numbers y e = stands-number zero-depth (names-stand args 0 y)
     where
       zero-depth : depths-from ds 0 y ≡ 0
-      zero-depth = depth-of y ∙ elim (decLt y (length ds)) [
+      zero-depth = parameter-depth ds y ∙ elim (decLt y (length ds)) [
         | yes h ↦ sym (depths y h) ∙ e
         | no f ↦ List·getD-eq-default ds 0 {n = y} (omega (arith, f))
       ]

@@ -26,6 +26,7 @@ use Rattle.semantics.specs.Machine as Machine
 use Rattle.semantics.specs.Store.{Store, cell, cell-of, named-by}
 use Rattle.semantics.specs.Demands.{value-of}
 use Rattle.laws.specs.Lists.{_≈_, occurrences-append, occurs-first}
+use Rattle.laws.specs.Values.{items-list}
 use Rattle.working.specs.normal.Plain.{value, run, run-line}
 use Rattle.working.specs.normal.Trace.{CalleeGrows}
 use Rattle.working.specs.store.Invariant.{Invariant, StandsFor}
@@ -41,7 +42,7 @@ use Rattle.working.specs.machine.Frames.{hold, Setting, Situation, Ended
 use Rattle.working.specs.machine.Standing.{none-in, named-one, atom-stands, handed-named}
 use Rattle.working.specs.machine.Atoms.{handed-same}
 use Rattle.working.specs.machine.Binding.{name-bound, ended-less, ended-depth}
-use Rattle.working.specs.machine.Elements.{words-of, items-list, array-items, array-length, array-used}
+use Rattle.working.specs.machine.Elements.{words-of, array-items, array-length, array-used}
 use Rattle.working.specs.machine.Acquiring.{roots-cover, out-of-cells, acquire-together, acquire-agrees}
 use Rattle.working.specs.machine.Size.{tree-adds, line-adds}
 use Rattle.working.specs.machine.Situations.{situation-less, touch-together}

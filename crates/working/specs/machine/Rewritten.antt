@@ -12,12 +12,13 @@ use Rattle.semantics.specs.Meaning.{Meter, Env, with-item}
 use Rattle.semantics.specs.Machine.{State, Frame, with-store, touching}
 use Rattle.semantics.specs.Store.{Store, cell, cell-of, elements, overwritten}
 use Rattle.semantics.specs.Demands.{value-of}
+use Rattle.laws.specs.Values.{items-list}
 use Rattle.working.specs.store.Invariant.{StandsFor}
 use Rattle.working.specs.store.Overwrite.{Overwrites, overwrite}
 use Rattle.working.specs.machine.Agreement.{Together}
 use Rattle.working.specs.machine.Frames.{hold, Setting, Ended}
 use Rattle.working.specs.machine.Standing.{stands-number}
-use Rattle.working.specs.machine.Elements.{items-list, array-items, array-length, array-depth, elements-length}
+use Rattle.working.specs.machine.Elements.{array-items, array-length, array-depth, elements-length}
 use Rattle.working.specs.machine.Acquiring.{cell-stands}
 use Rattle.working.specs.machine.Situations.{touch-together}
 use Rattle.working.specs.machine.Filling.{Passing, filling, once, still-filled, written-situation}

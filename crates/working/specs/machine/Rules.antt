@@ -58,6 +58,14 @@ known-more S x n e = or-left (S n) (eqb x n) e
 known-now : (S : Set) (x n : ℕ) → n ≡ x → (S ∪ only x) n ≡ true
 known-now S x n e = or-right (S n) (eqb x n) (eq-eqb x n (sym e))
 
+-- a known name stays known
+pub known-stays : (l : Line) (S : Set) (n : ℕ) → S n ≡ true → known-after l S n ≡ true
+known-stays (leaf x l us) S n e = known-more S x n e
+known-stays (if-else x g t f) S n e = known-more S x n e
+known-stays (loop x k ps us t) S n e = known-more S x n e
+known-stays (retain x) S n e = e
+known-stays (release x) S n e = e
+
 -- ---- the rules together
 
 module _ (C : Setting) where
@@ -126,13 +134,6 @@ module _ (C : Setting) where
   ]
   after-known (release x) H r = λ n h. r .names .held n (less-in (x ∷ []) H n h)
 
-  more-known : (l : Line) (S : Set) (n : ℕ) → S n ≡ true → known-after l S n ≡ true
-  more-known (leaf x l us) S n e = known-more S x n e
-  more-known (if-else x g t f) S n e = known-more S x n e
-  more-known (loop x k ps us t) S n e = known-more S x n e
-  more-known (retain x) S n e = e
-  more-known (release x) S n e = e
-
   -- the rest of a tree
   pub rest-rules : {t : Tree} {B : List ℕ} {S L : Set} {H P Δ : List ℕ} {d : ℕ} (l : Line) →
       TreeRules (line l t) B S L H P Δ d →
@@ -142,9 +143,9 @@ module _ (C : Setting) where
     fits = r .fits .1;
     scoped = r .scoped .1;
     names = record {
-      lent = λ n h. more-known l S n (r .names .lent n h);
+      lent = λ n h. known-stays l S n (r .names .lent n h);
       held = after-known l H (line-rules r);
-      left = λ n h. more-known l S n (r .names .left n h);
+      left = λ n h. known-stays l S n (r .names .left n h);
     };
     holds = r .holds .1;
     frugal = λ f. r .frugal f .1;

@@ -1,11 +1,9 @@
 -- The totals after main: replaced by the result, and the old ones released.
 use Prim.Native.Nat.{ℕ, zero, suc}
-use native.Mathlib.Omega.{arith}
 use mathlib.Core.Path.{ap, _≡_, refl, sym, _∙_, subst}
 use mathlib.Core.Option.{some}
 use mathlib.Core.List.{[], _∷_, _++_}
 use lib.IntN.{ℤ}
-use Rattle.semantics.specs.Basics.{occurrences}
 use Rattle.semantics.specs.Outcome.{done, _>>_}
 use Rattle.semantics.specs.Value.{Value}
 use Rattle.semantics.specs.Meaning.{Meter}
@@ -14,6 +12,7 @@ use Rattle.semantics.specs.Machine.{if-array}
 use Rattle.semantics.specs.Store.{Store, cell-of, named-by, with-totals, released, deepest}
 use Rattle.semantics.specs.Demands.{value-of, touched, replayed}
 use Rattle.laws.specs.Levels.{none-higher, release-no-higher}
+use Rattle.laws.specs.Counts.{swapped}
 use Rattle.working.specs.store.Invariant.{Invariant, StandsFor}
 use Rattle.working.specs.store.Counting.{in-append-left}
 use Rattle.working.specs.store.Change.{permute, held-used}
@@ -58,10 +57,6 @@ settled {start} {d} {s} {v} w is tog inv stands = record {
   where
     now : StandsFor (s .store) d (s .store .totals) v
     now = subst (λ (z : ℤ). StandsFor (s .store) d z v) (sym is) stands
-
-swapped : (a b c : ℕ) → occurrences c (a ∷ (b ∷ [])) ≡ occurrences c (b ∷ (a ∷ []))
-unfolding occurrences
-swapped a b c = omega arith
 
 finished : {start : Start} {s : State} {v : Value} {m : Meter} (d : ℕ) (old w : ℤ) → Together start s m →
     Invariant (s .store) [] (named-by d (w ∷ []) ++ named-by d (old ∷ [])) → s .store .totals ≡ w →

@@ -15,8 +15,9 @@ use Rattle.semantics.specs.Store.{acquired, with-cell, with-first}
 use Rattle.semantics.specs.Sound.{free-list, free-from, due, all-inner}
 use Rattle.semantics.specs.Demands.{value-of}
 use Rattle.laws.specs.Lists.{occurrences-append}
+use Rattle.laws.specs.Cells.{named-by-none}
 use Rattle.working.specs.store.Invariant.{Tidy, Invariant, Alike, Keeps}
-use Rattle.working.specs.store.Counting.{hits-itself, named-by-none}
+use Rattle.working.specs.store.Counting.{hits-itself}
 use Rattle.working.specs.store.Tabulate.{padded-length, padded-at, take-padded}
 use Rattle.working.specs.store.Cells.{same-agree, Put, put-size, put-cases, put-inner, put-same, put-other}
 use Rattle.working.specs.store.Cells.{with-first-put}

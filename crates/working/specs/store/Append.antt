@@ -16,11 +16,11 @@ use Rattle.laws.specs.Cells.{wider-is}
 use Rattle.laws.specs.Lists.{occurrences-append}
 use Rattle.working.specs.store.Invariant.{Tidy, Invariant, Alike}
 use Rattle.working.specs.store.Counting.{named-by-append}
-use Rattle.working.specs.store.Cells.{in-range, inner-in-all, same-agree, Put, put-size, put-cases, put-inner}
-use Rattle.working.specs.store.Cells.{put-same, put-other, with-cell-put}
+use Rattle.working.specs.store.Cells.{in-range, Put, put-size, put-cases, put-inner, put-counts}
+use Rattle.working.specs.store.Cells.{put-same, with-cell-put}
 use Rattle.working.specs.store.FreeList.{listed, listed-used}
 use Rattle.working.specs.store.Change.{Change, changed, changed-list}
-use Rattle.working.specs.store.Kept.{alike-on}
+use Rattle.working.specs.store.Kept.{alike-others}
 
 -- ---- the wider cell
 
@@ -89,12 +89,6 @@ module _ {σ : Store} {Z : List ℕ} (R : List ℕ) (c : ℕ) (w : ℤ)
   wide-put : Put σ τ c x
   wide-put = with-cell-put σ c x (in-range σ c (omega (arith, used)))
 
-  same-count : (n : ℕ) → cell τ n .count ≡ cell σ n .count
-  same-count n = elim (put-cases wide-put n) [
-    | inl g ↦ omega (arith, g .new-count, g .old-count, wide .count)
-    | inr g ↦ g .count
-  ]
-
   same-depth : (n : ℕ) → cell τ n .depth ≡ cell σ n .depth
   same-depth n = elim (put-cases wide-put n) [
     | inl g ↦ ap (λ (y : Cell). y .depth) (g .new) ∙ wide .depth ∙ sym (ap (λ (y : Cell). y .depth) (g .old))
@@ -113,13 +107,13 @@ module _ {σ : Store} {Z : List ℕ} (R : List ℕ) (c : ℕ) (w : ℤ)
     put = wide-put;
     counts = λ n. omega (
       arith,
-      same-count n,
+      put-counts wide-put (wide .count) n,
       v .counts n,
       put-inner wide-put n,
       wider-names n (cell σ c) x w wide,
       occurrences-append n (named-by (cell σ c .depth) (w ∷ [])) R,
     );
-    alone = λ n h. same-count n ∙ v .alone n h;
+    alone = λ n h. put-counts wide-put (wide .count) n ∙ v .alone n h;
     typed = wide-typed;
     depth = λ h. wide .depth;
     tidy = λ h. wide .tidy;
@@ -131,12 +125,8 @@ module _ {σ : Store} {Z : List ℕ} (R : List ℕ) (c : ℕ) (w : ℤ)
   unfolding appended
   append = record {
     holds = changed v wide-change;
-    alike = alike-on σ τ (λ n. n ≢ c) others (v .typed)
-        (λ n g. same-agree (cell τ n) (cell σ n) (put-other wide-put n g));
+    alike = alike-others v wide-put lone;
     new = subst (λ (y : Cell). Wider (cell σ c) y w) (sym (put-same wide-put)) wide;
     free = changed-list v wide-change;
     cells = put-size wide-put;
   }
-    where
-      others : (b n : ℕ) → b ≢ c → n ∈ inner (cell σ b) → n ≢ c
-      others b n f h e = omega (arith, lone, inner-in-all n σ b, ap (λ (k : ℕ). occurrences k (all-inner (σ .cells))) e)

@@ -14,7 +14,7 @@ use Rattle.semantics.specs.Store.{Cell, Store, cell, cell-count, clear, element
 use Rattle.semantics.specs.Store.{with-first}
 use Rattle.semantics.specs.Sound.{all-inner}
 use Rattle.laws.specs.Lists.{hits, occurrences-append}
-use Rattle.working.specs.store.Counting.{named-by-length}
+use Rattle.laws.specs.Cells.{named-by-length}
 
 -- ---- cells by number
 
@@ -184,6 +184,10 @@ module _ {σ τ : Store} {c : ℕ} {x : Cell} (p : Put σ τ c x) where
         let same : cell τ d ≡ cell σ d = put-other d (g .0) in
         inr (record { other = g .0; hit = g .1; same = same; count = ap (λ y. y .count) same })
   ]
+
+  -- a cell written with the same count
+  pub put-counts : x .count ≡ cell σ c .count → (d : ℕ) → cell τ d .count ≡ cell σ d .count
+  put-counts e d = elim (put-cases d) [ inl g ↦ omega (arith, g .new-count, g .old-count, e) | inr g ↦ g .count ]
 
   -- a cell written with the same words
   pub put-agree : CellsAgree x (cell σ c) → (d : ℕ) → CellsAgree (cell τ d) (cell σ d)

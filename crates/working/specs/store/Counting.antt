@@ -39,21 +39,12 @@ append-cases n l m h = elim (decLt 0 (occurrences n l)) [
 
 -- ---- what words name
 
-pub named-by-none : (d : ℕ) → named-by d [] ≡ []
-named-by-none zero = refl
-named-by-none (suc d) = refl
-
 pub named-by-append : (n d : ℕ) (ws vs : List ℤ) →
     occurrences n (named-by d (ws ++ vs)) ≡ occurrences n (named-by d ws) + occurrences n (named-by d vs)
 unfolding occurrences
 named-by-append n zero ws vs = refl
 named-by-append n (suc d) [] vs = omega arith
 named-by-append n (suc d) (w ∷ ws) vs = omega (arith, named-by-append n (suc d) ws vs)
-
-pub named-by-length : (d : ℕ) (ws : List ℤ) → length (named-by d ws) ≤ length ws
-named-by-length zero ws = omega arith
-named-by-length (suc d) [] = omega arith
-named-by-length (suc d) (w ∷ ws) = omega (arith, named-by-length (suc d) ws)
 
 -- a number that words name is named by one of them
 pub record Namer (r : ℕ) (ws : List ℤ) : Type 0 where

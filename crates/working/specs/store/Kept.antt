@@ -3,16 +3,18 @@ use Prim.Native.Nat.{ℕ, zero, suc, _+_, _<_}
 use native.Mathlib.Omega.{arith}
 use native.Mathlib.Decide.{decLt}
 use mathlib.Core.Path.{_≡_, refl, sym, ap, ap₂, _∙_, subst}
-use mathlib.Core.Logic.{inl, inr}
+use mathlib.Core.Logic.{_≢_, inl, inr}
 use mathlib.Core.List.{List, [], _∷_, _++_, map}
 use lib.IntN.{ℤ}
 use Rattle.semantics.specs.Basics.{occurrences, _∈_}
 use Rattle.semantics.specs.Value.{Value, num, list}
-use Rattle.semantics.specs.Store.{Store, cell, cell-of, elements, inner, named-by}
+use Rattle.semantics.specs.Store.{Cell, Store, cell, cell-of, elements, inner, named-by}
+use Rattle.semantics.specs.Sound.{all-inner}
 use Rattle.semantics.specs.Demands.{value-of, Reached, root, slot}
 use Rattle.laws.specs.Lists.{_⊆_, hits, occurs-first, occurrences-append}
 use Rattle.working.specs.store.Invariant.{Invariant, Alike, Keeps, StandsFor}
-use Rattle.working.specs.store.Cells.{CellsAgree, agree-elements, agree-inner, agree-trans, namer}
+use Rattle.working.specs.store.Cells.{CellsAgree, agree-elements, agree-inner, same-agree, agree-trans, namer}
+use Rattle.working.specs.store.Cells.{inner-in-all, Put, put-other}
 use Rattle.working.specs.store.Change.{root-used, inner-used, namer-used}
 
 -- ---- reached cells
@@ -84,6 +86,15 @@ module _ (σ τ : Store) (P : ℕ → Type 0) (closed : (b c : ℕ) → P b → 
         ∙ value-same (cell σ r .depth) w (subst P (sym e) p) (ap (λ (k : ℕ). cell σ k .depth) (sym e))
         ∙ sym (ap (λ (k : ℕ). value-of σ k w) f);
   }
+
+-- a cell written that nothing names leaves all others alike
+pub alike-others : {σ τ : Store} {c : ℕ} {x : Cell} {Z R : List ℕ} → Invariant σ Z R → Put σ τ c x →
+    occurrences c (all-inner (σ .cells)) ≡ 0 → (r : ℕ) → r ≢ c → Alike σ τ r
+alike-others {σ} {τ} {c} v p lone =
+    alike-on σ τ (λ n. n ≢ c) others (v .typed) (λ n g. same-agree (cell τ n) (cell σ n) (put-other p n g))
+  where
+    others : (b n : ℕ) → b ≢ c → n ∈ inner (cell σ b) → n ≢ c
+    others b n f h e = omega (arith, lone, inner-in-all n σ b, ap (λ (k : ℕ). occurrences k (all-inner (σ .cells))) e)
 
 -- ---- Alike and Keeps
 

@@ -7,30 +7,21 @@ use mathlib.Core.Bool.{Bool, true, false, cond}
 use mathlib.Core.Option.{Option, none, some}
 use mathlib.Core.List.{List, [], _∷_}
 use lib.ListN.{length, getD}
-use lib.Dec.{ltb, eqb}
+use lib.Dec.{eqb}
 use Rattle.semantics.specs.Basics.{occurrences, _∈_}
-use Rattle.semantics.specs.Store.{Cell, Store, cell, cell-count, clear, one-if-used, used-cells, free-cells, cells-taken}
-use Rattle.semantics.specs.Sound.{free-from, free-list, due}
+use Rattle.semantics.specs.Store.{Cell, Store, cell, cell-count, clear, one-if-used, used-cells, free-cells}
+use Rattle.semantics.specs.Store.{cells-taken}
+use Rattle.semantics.specs.Sound.{free-list, due}
 use Rattle.semantics.specs.Machine.{Event, acquires, frees, touches, level-by, level-after, lowest-over}
 use Rattle.semantics.specs.Demands.{replayed, FreeAfter, BeginsWith, Least}
 use Rattle.laws.specs.Lists.{occurs-first}
-use Rattle.laws.specs.Levels.{lowest-append, lowest-most}
+use Rattle.laws.specs.Levels.{lowest-append, lowest-most, free-from-length}
 use Rattle.working.specs.store.Invariant.{Invariant}
 use Rattle.working.specs.store.Counting.{without, without-length, without-fewer, without-other}
 use Rattle.working.specs.store.FreeList.{links-in-range, listed}
 use Rattle.working.specs.store.Release.{replayed-append}
 
 -- ---- the length of the free list
-
-free-from-length : (σ : Store) (n c : ℕ) → length (free-from σ c n) ≤ n
-unfolding free-from
-free-from-length σ zero c = omega arith
-free-from-length σ (suc n) c = go (λ d. free-from-length σ n d) (ltb c (cell-count σ)) refl
-  where
-    go : ((d : ℕ) → length (free-from σ d n) ≤ n) → (t : Bool) → ltb c (cell-count σ) ≡ t →
-        length (free-from σ c (suc n)) ≤ suc n
-    go ih true q = rw (q, free-from) (omega (arith, ih (cell σ c .next)))
-    go ih false q = rw (q, free-from) (omega arith)
 
 -- the walk takes no more cells than there are
 pub free-list-length : (σ : Store) → length (free-list σ) ≤ cell-count σ

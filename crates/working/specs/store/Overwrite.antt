@@ -2,22 +2,23 @@
 use Prim.Native.Nat.{ℕ, _<_}
 use native.Mathlib.Omega.{arith}
 use mathlib.Core.Path.{_≡_, refl, sym, ap, _∙_, subst}
-use mathlib.Core.Logic.{_≢_, inl, inr}
-use mathlib.Core.List.{List, []}
+use mathlib.Core.Logic.{_≢_}
+use mathlib.Core.List.{List}
 use lib.IntN.{ℤ, pos}
 use lib.ListN.{set, length-set}
 use lib.Seq.{take-set-lt, getD-set-other}
 use borrow.Author.Tests.{lt-ltb}
 use Rattle.semantics.specs.Basics.{occurrences, _∈_}
-use Rattle.semantics.specs.Store.{Cell, Store, cell, cell-count, inner, elements, named-by, with-slot, overwritten}
+use Rattle.semantics.specs.Store.{Cell, Store, cell, cell-count, inner, elements, with-slot, overwritten}
 use Rattle.semantics.specs.Store.{with-cell}
 use Rattle.semantics.specs.Sound.{free-list, all-inner}
+use Rattle.laws.specs.Cells.{inner-flat}
 use Rattle.working.specs.store.Invariant.{Tidy, Invariant, Alike}
-use Rattle.working.specs.store.Cells.{in-range, inner-in-all, same-agree, Put, put-size, put-cases, put-inner}
-use Rattle.working.specs.store.Cells.{put-same, put-other, with-cell-put}
+use Rattle.working.specs.store.Cells.{in-range, Put, put-size, put-inner, put-counts}
+use Rattle.working.specs.store.Cells.{put-same, with-cell-put}
 use Rattle.working.specs.store.FreeList.{listed, listed-used}
 use Rattle.working.specs.store.Change.{Change, changed, changed-list}
-use Rattle.working.specs.store.Kept.{alike-on}
+use Rattle.working.specs.store.Kept.{alike-others}
 
 -- ---- the cell
 
@@ -42,11 +43,6 @@ slotted x i w h t = rw (lt-ltb i (x .size) h) (record {
     zeros = λ j a b. getD-set-other (x .slots) i j w (pos 0) (λ e. omega arith) ∙ t .zeros j a b;
   };
 })
-
--- an array of numbers names nothing
-names-none : (x : Cell) → x .depth ≡ 0 → inner x ≡ []
-unfolding inner
-names-none x e = ap (λ (d : ℕ). named-by d (elements x)) e
 
 -- ---- overwrite
 
@@ -79,26 +75,27 @@ module _ {σ : Store} {Z R : List ℕ} (c i : ℕ) (w : ℤ) (v : Invariant σ Z
   new-put : Put σ τ c x
   new-put = with-cell-put σ c x (in-range σ c (omega (arith, used)))
 
-  same-count : (n : ℕ) → cell τ n .count ≡ cell σ n .count
-  same-count n = elim (put-cases new-put n) [
-    | inl g ↦ omega (arith, g .new-count, g .old-count, new .count)
-    | inr g ↦ g .count
-  ]
-
   old-names : (n : ℕ) → occurrences n (inner (cell σ c)) ≡ 0
   unfolding occurrences
-  old-names n = ap (occurrences n) (names-none (cell σ c) numbers)
+  old-names n = ap (occurrences n) (inner-flat (cell σ c) numbers)
 
   new-names : (n : ℕ) → occurrences n (inner x) ≡ 0
   unfolding occurrences
-  new-names n = ap (occurrences n) (names-none x (new .depth ∙ numbers))
+  new-names n = ap (occurrences n) (inner-flat x (new .depth ∙ numbers))
 
   new-change : Change σ τ c x Z R (free-list σ)
   unfolding with-cell
   new-change = record {
     put = new-put;
-    counts = λ n. omega (arith, same-count n, v .counts n, put-inner new-put n, old-names n, new-names n);
-    alone = λ n h. same-count n ∙ v .alone n h;
+    counts = λ n. omega (
+      arith,
+      put-counts new-put (new .count) n,
+      v .counts n,
+      put-inner new-put n,
+      old-names n,
+      new-names n,
+    );
+    alone = λ n h. put-counts new-put (new .count) n ∙ v .alone n h;
     typed = λ r h. absurd (omega (arith, h, new-names r));
     depth = λ h. new .depth;
     tidy = λ h. new .tidy;
@@ -110,12 +107,8 @@ module _ {σ : Store} {Z R : List ℕ} (c i : ℕ) (w : ℤ) (v : Invariant σ Z
   unfolding overwritten
   overwrite = record {
     holds = changed v new-change;
-    alike = alike-on σ τ (λ n. n ≢ c) others (v .typed)
-        (λ n g. same-agree (cell τ n) (cell σ n) (put-other new-put n g));
+    alike = alike-others v new-put lone;
     new = subst (λ (y : Cell). Slotted (cell σ c) y i w) (sym (put-same new-put)) new;
     free = changed-list v new-change;
     cells = put-size new-put;
   }
-    where
-      others : (b n : ℕ) → b ≢ c → n ∈ inner (cell σ b) → n ≢ c
-      others b n f h e = omega (arith, lone, inner-in-all n σ b, ap (λ (k : ℕ). occurrences k (all-inner (σ .cells))) e)
