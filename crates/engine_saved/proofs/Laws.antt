@@ -1,21 +1,22 @@
 -- One law for each way out of the store's part of a restore.
-use Prim.Native.Nat.{ℕ, zero, suc, _≤_}
+use Prim.Native.Nat.{ℕ, _≤_}
 use native.Mathlib.Omega.{arith}
 use mathlib.Core.Bool.{Bool, true, false, cond, _&&_}
 use mathlib.Core.Path.{_≡_, refl, sym, ap, _∙_, subst}
 use mathlib.Core.List.{List}
 use mathlib.Core.Option.{Option, none, some}
 use lib.IntN.{ℤ}
-use lib.ListN.{length, set, getD, replicate, length-set}
+use lib.ListN.{length, set, getD, length-set}
 use lib.Dec.{eqb, leb}
 use borrow.Author.Tests.{eqb-true, leb-true}
 use Rattle.semantics.specs.Outcome.{Outcome, done, stop, onward}
 use Rattle.semantics.specs.Value.{Value}
-use Rattle.semantics.specs.Store.{Store, clear, zeroed, relinked, opened, with-totals, used-cells, cells-taken}
+use Rattle.semantics.specs.Store.{Store, zeroed, relinked, opened, with-totals, cells-taken}
 use Rattle.semantics.specs.Words.{cells-in, store-of, shaped}
 use Rattle.semantics.specs.Saved.{saved-length, stated-count, labelled, value-at, all-read, read-saved, load-value}
 use Rattle.semantics.specs.Saved.{load-totals, loaded}
 use Rattle.laws.specs.Tests.{both-hold}
+use Rattle.laws.specs.Levels.{none-taken}
 use Rattle.store_words.proofs.Puts.{LengthsKept, cells-kept, totals-store}
 use Rattle.store_words.proofs.Spelling.{shaped-means}
 use Rattle.saved_read.specs.Told.{is-there, readable}
@@ -106,14 +107,6 @@ pub record Loads (d : ℕ) (saved : List ℕ) (slots : List ℤ) (heads : List �
 abbrev finished : ℤ → Store → Outcome Store (Unit {0})
 finished w σ = done tt (with-totals σ w)
 
-none-used : (n : ℕ) → cells-taken (zeroed n) ≡ 0
-unfolding zeroed clear used-cells
-none-used n = by n
-  where
-    by : (m : ℕ) → used-cells (replicate m (clear 0)) ≡ 0
-    by zero = refl
-    by (suc m) = omega (arith, by m)
-
 module _ {d : ℕ} {saved : List ℕ} {slots : List ℤ} {heads : List ℕ} {f : ℕ} {σ : Store} {r : Loaded} {slots′ : List ℤ}
     {heads′ : List ℕ} (l : Loads d saved slots heads f σ r slots′ heads′) where
   abbrev n : ℕ
@@ -187,5 +180,5 @@ module _ {d : ℕ} {saved : List ℕ} {slots : List ℤ} {heads : List ℕ} {f :
         slots-long = kept .slots-long ∙ l .kept .slots-long;
         heads-long = kept .heads-long ∙ l .kept .heads-long;
       })
-      (l .fit) zeros (sym (ap cells-taken zeros ∙ none-used n))
+      (l .fit) zeros (sym (ap cells-taken zeros ∙ none-taken n))
       ∙ sym (restored-is ∙ runs-dry (ended-none run r (store-of slots′ heads′) (l .ended) e))

@@ -8,16 +8,13 @@ use lib.IntN.{ℤ, pos}
 use lib.Dec.{eqb, ltb, leb}
 use Rattle.semantics.specs.Outcome.{Outcome, done, stop, Run, give, onward, times, passes}
 use Rattle.semantics.specs.Number.{is-zero}
-use Rattle.semantics.specs.Value.{Value, num, list, items}
+use Rattle.semantics.specs.Value.{Value, num, list}
 use Rattle.semantics.specs.Store.{Store, has-free, acquired, appended}
 use Rattle.semantics.specs.Saved.{mark-at, number-at, is-number, is-array, value-at, acquire-cell, load-element}
 use Rattle.semantics.specs.Saved.{load-value}
 use Rattle.laws.specs.Tests.{both-hold}
+use Rattle.laws.specs.Values.{items-list}
 use Rattle.saved_load.specs.Entries.{Place, place, appended-at, acquired-at, fill, load-at}
-
-items-list : (l : List Value) → items (list l) ≡ l
-items-list [] = refl
-items-list (v ∷ l) = ap {B = List Value} (λ r. v ∷ r) (items-list l)
 
 -- ---- what a value read says of its entries
 

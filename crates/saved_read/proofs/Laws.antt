@@ -2,7 +2,7 @@
 use Prim.Native.Nat.{ℕ, zero, suc, _+_, _-_, _*_, _<_, _≤_, _^_}
 use native.Mathlib.Omega.{arith}
 use native.Mathlib.Decide.{decLt}
-use mathlib.Core.Bool.{Bool, true, false, cond, _&&_}
+use mathlib.Core.Bool.{Bool, true, false, cond, _&&_, and-false}
 use mathlib.Core.Path.{_≡_, refl, sym, ap, _∙_}
 use mathlib.Core.Logic.{_≢_}
 use mathlib.Core.List.{List, _∷_}
@@ -26,10 +26,6 @@ signed-other (suc u) h = elim (decLt (suc u) (2 ^ 63)) [
   | yes g ↦ rw (lt-ltb (suc u) (2 ^ 63) g) refl
   | no g ↦ rw (le-ltb (suc u) (2 ^ 63) (omega (arith, g))) refl
 ]
-
-&&-false : (a : Bool) → (a && false) ≡ false
-&&-false true = refl
-&&-false false = refl
 
 -- ---- one value
 
@@ -144,12 +140,13 @@ module _ (d : ℕ) (file : List ℕ) where
 
   pub other-depth : getD file 0 0 ≢ d → false ≡ readable d file
   unfolding labelled
-  other-depth h = unlabelled (rw (ne-eqb (getD file 0 0) d h) (&&-false (leb 3 (length file))))
+  other-depth h = unlabelled (rw (ne-eqb (getD file 0 0) d h) (and-false (leb 3 (length file))))
 
   pub many : 4096 < stated-count file → false ≡ readable d file
   unfolding labelled
   many h = unlabelled (rw (lt-leb (stated-count file) 4096 h)
-      (ap (λ (b : Bool). leb 3 (length file) && b) (&&-false (eqb (getD file 0 0) d)) ∙ &&-false (leb 3 (length file))))
+      (ap (λ (b : Bool). leb 3 (length file) && b) (and-false (eqb (getD file 0 0) d))
+      ∙ and-false (leb 3 (length file))))
 
   module _ (k : ℕ) (is : k ≡ stated-count file) where
     pub other-length : length file ≢ 3 + 9 * k → false ≡ readable d file
@@ -157,10 +154,10 @@ module _ (d : ℕ) (file : List ℕ) where
     other-length h =
         let f : length file ≢ saved-length (stated-count file) = λ e. h (e ∙ ap saved-length (sym is)) in
         unlabelled (rw (ne-eqb (length file) (saved-length (stated-count file)) f)
-        (ap (λ (b : Bool). leb 3 (length file) && (eqb (getD file 0 0) d && b)) (&&-false (leb (stated-count file)
-        4096))
-        ∙ ap (λ (b : Bool). leb 3 (length file) && b) (&&-false (eqb (getD file 0 0) d)) ∙ &&-false (leb 3 (length
-        file))))
+        (ap (λ (b : Bool). leb 3 (length file) && (eqb (getD file 0 0) d && b))
+        (and-false (leb (stated-count file) 4096))
+        ∙ ap (λ (b : Bool). leb 3 (length file) && b) (and-false (eqb (getD file 0 0) d))
+        ∙ and-false (leb 3 (length file))))
 
     module _ (long : 3 ≤ length file) (deep : getD file 0 0 ≡ d) (few : k ≤ 4096) (whole : length file ≡ 3 + 9 * k)
       where

@@ -1,7 +1,6 @@
 -- The ways out of writing.
 use Prim.Native.Nat.{ℕ, suc, _+_, _-_, _*_, _/_, _%_, _<_, _≤_, min}
 use native.Mathlib.Omega.{arith}
-use native.Mathlib.Decide.{decLt}
 use mathlib.Core.Path.{_≡_, refl, sym, ap, _∙_}
 use mathlib.Core.Logic.{_≢_}
 use mathlib.Core.List.{List, [], _∷_, _++_}
@@ -11,8 +10,6 @@ use lib.Seq.{sets, drop-cons}
 use borrow.Author.Tests.{lt-ltb, le-ltb}
 use Rattle.semantics.specs.Store.{Store, cell, cell-of, elements}
 use Rattle.semantics.specs.Saved.{Entry, unsigned, low-bytes}
-use Rattle.semantics.specs.Words.{cells-in, store-of}
-use Rattle.store_words.proofs.CellWords.{length-in, length-out}
 use Rattle.saved_write.specs.Writing.{entry, gather, entries-at, Written, written, put-entry, put-entries}
 
 -- ---- bytes
@@ -137,10 +134,3 @@ module _ (σ : Store) (d : ℕ) (w : ℤ) (k : ℕ) (s : Written) where
       sym (inv ∙ ap (λ (es : List Entry). put-entries k es t) (gather-end below elements-of i g))
       ∙ ap (put-entries k (gather below elements-of)) (f ∙ ap (λ (m : ℕ). put-entry k (entry m (pos 0)) s) next)
       ∙ sym (ap (λ (es : List Entry). put-entries k es s) (array-entries σ d w h))
-
--- a cell has at most 16 elements
-pub few-elements : (slots : List ℤ) (heads : List ℕ) (c : ℕ) → length (elements (cell (store-of slots heads) c)) ≤ 16
-few-elements slots heads c = elim (decLt c (cells-in slots heads)) [
-  | yes h ↦ omega (arith, length-in slots heads c h)
-  | no h ↦ omega (arith, length-out slots heads c (omega (arith, h)))
-]

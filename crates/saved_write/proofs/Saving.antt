@@ -1,7 +1,7 @@
 -- The ways out of saving totals: too many entries, no room, and the file.
 use Prim.Native.Nat.{ℕ, _+_, _-_, _*_, _/_, _%_, _<_, _≤_, min}
 use native.Mathlib.Omega.{arith}
-use mathlib.Core.Bool.{Bool, true, false, _&&_}
+use mathlib.Core.Bool.{true, false, and-false}
 use mathlib.Core.Path.{_≡_, refl, sym, ap, _∙_}
 use mathlib.Core.List.{List, [], _∷_, _++_, append-assoc}
 use lib.IntN.{ℤ, pos}
@@ -89,11 +89,7 @@ module _ {d : ℕ} {slots : List ℤ} {heads buffer : List ℕ} {w : ℤ} {k : �
     narrow h =
         let short : length buffer < saved-length count =
         omega (arith, h, ap length (begun .clear), length-replicate {A = ℕ} (length buffer) 0, counts) in
-        refused (rw (lt-leb (saved-length count) (length buffer) short) (by (leb count 4096)))
-      where
-        by : (b : Bool) → (b && false) ≡ false
-        by true = refl
-        by false = refl
+        refused (rw (lt-leb (saved-length count) (length buffer) short) (and-false (leb count 4096)))
 
     module _ (long : 3 + 9 * k ≤ length cleared) (one two r : List ℕ) (q : ℕ) (p : one ≡ set cleared 0 d)
         (o : two ≡ sets one 1 (low-bytes 2 k))

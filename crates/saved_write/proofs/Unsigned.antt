@@ -2,7 +2,7 @@
 use Prim.Native.Nat.{ℕ, suc, _-_, _^_, _<_, _≤_}
 use native.Mathlib.Omega.{arith}
 use mathlib.Core.Path.{_≡_, refl, sym, ap, _∙_}
-use mathlib.Core.Bool.{true, false}
+use mathlib.Core.Bool.{true, false, true≢false}
 use lib.IntN.{ℤ, pos, negsuc, natAbs, _-ℤ_}
 use lib.Dec.{T}
 use lib.Signed.{mag, ltZ, nonNeg}
@@ -12,17 +12,10 @@ use mir.Facts.{toZ-ofZ}
 use borrow.Author.Tests.{ltb-true, le-ltb}
 use Rattle.semantics.specs.Saved.{unsigned}
 
-no-bool : {A : Type 0} → true ≡ false → A
-no-bool e = let z : _≡_ {A = ℕ} 0 1 = cc in absurd (let f : ⊥ = omega arith in f)
-
 pub not-negative : (z : ℤ) → mag z < 2 ^ 63 → ltZ z (pos 0) ≡ false →
     (T (nonNeg z) × Fits w64 (natAbs z)) × (natAbs z ≡ unsigned z)
 not-negative (pos n) h e = ((tt, record { fits = omega arith }), refl)
-not-negative (negsuc n) h e = no-bool e
-
--- -1 less a negative number
-minus : (n : ℕ) → negsuc 0 -ℤ negsuc n ≡ pos n
-minus n = rw (le-ltb (suc n) 1 (omega arith)) (ap pos (omega arith))
+not-negative (negsuc n) h e = absurd (true≢false e)
 
 -- how far a negative number is below -1
 pub record Below (z : ℤ) : Type 0 where
@@ -33,7 +26,12 @@ pub record Below (z : ℤ) : Type 0 where
 
 pub negative : (z : ℤ) → mag z < 2 ^ 63 → ltZ z (pos 0) ≡ true → Below z
 negative (pos n) h e = let f = ltb-true n 0 e in absurd (omega arith)
-negative (negsuc n) h e = record { by = n; is = refl; small = omega (arith, h); less = minus n }
+negative (negsuc n) h e = record {
+  by = n;
+  is = refl;
+  small = omega (arith, h);
+  less = rw (le-ltb (suc n) 1 (omega arith)) (ap pos (omega arith));
+}
 
 module _ (z : ℤ) (h : mag z < 2 ^ 63) (e : ltZ z (pos 0) ≡ true) where
   b : Below z

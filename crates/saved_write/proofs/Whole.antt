@@ -10,15 +10,12 @@ use borrow.Author.Tests.{lt-ltb}
 use Rattle.semantics.specs.Value.{Value, of-list}
 use Rattle.semantics.specs.Store.{Store, cell, cell-of, elements}
 use Rattle.semantics.specs.Demands.{value-of}
-use Rattle.semantics.specs.Saved.{Entry, entries, entries-all, size-of, unsigned, low-bytes, marks, number-bytes}
+use Rattle.semantics.specs.Saved.{Entry, entries, entries-all, unsigned, low-bytes, marks, number-bytes}
 use Rattle.laws.specs.SavedFiles.{low-bytes-length}
+use Rattle.laws.specs.Values.{size-of-list}
 use Rattle.saved_write.specs.Writing.{entry, gather, entries-at, Written, written, put-entry, put-entries}
 
 -- ---- the entries of a value in a store
-
-size-of-list : (l : List Value) → size-of (of-list l) ≡ length l
-size-of-list [] = refl
-size-of-list (v ∷ l) = ap suc (size-of-list l)
 
 gathered : (f : ℤ → Value) (g : ℤ → List Entry) → ((w : ℤ) → entries (f w) ≡ g w) → (ws : List ℤ) →
     entries-all (of-list (map f ws)) ≡ gather g ws

@@ -12,8 +12,9 @@ use Rattle.semantics.specs.Store.{freed, released, cells-taken}
 use Rattle.semantics.specs.Words.{cells-in, slots-at, store-of}
 use Rattle.laws.specs.Releases.{released-none, released-one, released-last}
 use Rattle.laws.specs.Levels.{freed-taken, counted-taken}
+use Rattle.laws.specs.Cells.{inner-flat}
 use Rattle.store_words.proofs.CellWords.{cell-out, count-is, depth-is}
-use Rattle.store_words.proofs.Naming.{inner-flat, inner-are}
+use Rattle.store_words.proofs.Naming.{inner-are}
 use Rattle.store_words.proofs.Each.{Doing, doing-none, doing-more, doing-all}
 use Rattle.store_words.proofs.Puts.{count-store}
 use Rattle.store_words.proofs.Counting.{taken-few}

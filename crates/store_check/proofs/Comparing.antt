@@ -1,6 +1,6 @@
 -- Comparing a cell with what was gathered: a law for each way out of the code.
 use mathlib.Core.Path.{_≡_, refl, sym, ap, _∙_}
-use mathlib.Core.Bool.{Bool, true, false, _&&_}
+use mathlib.Core.Bool.{Bool, true, false, _&&_, and-true}
 use mathlib.Core.List.{List}
 use Prim.Native.Nat.{ℕ, zero, suc, _+_, _-_, _*_, _<_, _≤_}
 use native.Mathlib.Omega.{arith}
@@ -73,10 +73,6 @@ elements-are σ slots c n zero h = refl
 elements-are σ slots c n (suc d) h = all-same _ _ 0 n (λ i l. ap (names-used σ d) (slot-is slots c i (omega arith)))
 
 -- ---- a head
-
-pub and-true : (a : Bool) → a && true ≡ a
-and-true true = refl
-and-true false = refl
 
 -- a test that fails decides
 pub no-second : (a b : Bool) → b ≡ false → a && b ≡ false

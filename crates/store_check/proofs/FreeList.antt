@@ -1,11 +1,8 @@
 -- The free list followed.
 use mathlib.Core.Path.{_≡_, refl, sym, ap, ap₂, _∙_}
-use mathlib.Core.Bool.{Bool, true, false}
 use mathlib.Core.List.{List, [], _∷_}
 use Prim.Native.Nat.{ℕ, zero, suc, _-_, _<_, _≤_}
 use native.Mathlib.Omega.{arith}
-use lib.Dec.{ltb}
-use lib.ListN.{length}
 use borrow.Author.Tests.{lt-ltb, le-ltb}
 use Rattle.semantics.specs.Basics.{each}
 use Rattle.semantics.specs.Store.{Store, cell, cell-count}
@@ -31,17 +28,6 @@ end-in σ c n h = rw (lt-ltb c (cell-count σ) h, end-from)
 free-in : (σ : Store) (c n : ℕ) → c < cell-count σ → free-from σ c (suc n) ≡ c ∷ free-from σ (cell σ c .next) n
 unfolding free-from
 free-in σ c n h = rw (lt-ltb c (cell-count σ) h, free-from)
-
--- no more cells than steps
-pub free-length : (σ : Store) (n c : ℕ) → length (free-from σ c n) ≤ n
-unfolding free-from
-free-length σ zero c = omega arith
-free-length σ (suc n) c = go (λ d. free-length σ n d) (ltb c (cell-count σ)) refl
-  where
-    go : ((d : ℕ) → length (free-from σ d n) ≤ n) → (t : Bool) → ltb c (cell-count σ) ≡ t →
-        length (free-from σ c (suc n)) ≤ suc n
-    go ih true e = rw (e, free-from) (omega (arith, ih (cell σ c .next)))
-    go ih false e = rw (e, free-from) (omega arith)
 
 -- ---- the loop: what is left of the list gives what the whole gives
 

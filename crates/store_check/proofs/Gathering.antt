@@ -4,10 +4,11 @@ use mathlib.Core.List.{List, [], _∷_, map}
 use Prim.Native.Nat.{ℕ, zero, suc, _+_, _*_, _-_, _<_, _≤_, min}
 use native.Mathlib.Omega.{arith}
 use lib.IntN.{ℤ, pos}
-use lib.ListN.{length, getD, take, length-map, length-take, length-append, replicate}
+use lib.ListN.{length, getD, take, length-take, length-append, replicate}
 use Rattle.semantics.specs.Basics.{each, tabulate}
 use Rattle.semantics.specs.Store.{Cell, cell, cell-of, named-by, elements, inner}
 use Rattle.semantics.specs.Words.{cells-in, slots-at, cell-at, store-of}
+use Rattle.laws.specs.Cells.{named-by-length}
 use Rattle.store_words.proofs.CellWords.{store-size, slots-length, slots-are, few-cells}
 use Rattle.store_check.specs.Holders.{held-as, held, all-held, held-places, holders, Gathered}
 use Rattle.store_check.specs.Holders.{tally, named-from}
@@ -83,14 +84,10 @@ tally-cells (x ∷ l) counts = tally-cells l (tally (held x) counts) ∙ sym (ta
 
 -- at most 16 names a cell, and one of the totals
 
-named-length : (d : ℕ) (ws : List ℤ) → length (named-by d ws) ≤ length ws
-named-length zero ws = omega arith
-named-length (suc d) ws = omega (arith, length-map ws cell-of)
-
 held-length : (x : Cell) (n : ℕ) → length (held-as n x) ≤ length (x .slots)
 unfolding inner elements
 held-length x zero = omega arith
-held-length x (suc n) = omega (arith, named-length (x .depth) (elements x), length-take (x .size) (x .slots))
+held-length x (suc n) = omega (arith, named-by-length (x .depth) (elements x), length-take (x .size) (x .slots))
 
 module _ (slots : List ℤ) (heads : List ℕ) where
   cells-length : (n i : ℕ) → length (all-held (tabulate i n (cell-at slots heads))) ≤ 16 * n
@@ -116,7 +113,7 @@ module _ (slots : List ℤ) (heads : List ℕ) where
       omega (
         arith,
         length-append (named-by d (w ∷ [])) (all-held (tabulate 0 (cells-in slots heads) (cell-at slots heads))),
-        named-length d (w ∷ []),
+        named-by-length d (w ∷ []),
         cells-length (cells-in slots heads) 0,
         few-cells slots heads,
       )

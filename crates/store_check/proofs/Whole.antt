@@ -1,6 +1,6 @@
 -- The whole test: what is compared cell by cell is what a sound store asks for.
 use mathlib.Core.Path.{_≡_, refl, sym, ap, ap₂, _∙_}
-use mathlib.Core.Bool.{Bool, true, false, _&&_, _||_}
+use mathlib.Core.Bool.{Bool, true, false, _&&_, _||_, and-true, and-comm}
 use mathlib.Core.List.{List, [], _∷_, _++_}
 use Prim.Native.Nat.{ℕ, zero, suc, _+_, _<_, _≤_}
 use native.Mathlib.Omega.{arith}
@@ -15,25 +15,21 @@ use Rattle.semantics.specs.Sound.{zeros-from, elements-used, formed-as, formed,
 use Rattle.semantics.specs.Sound.{due, list-sound, names-used, all-inner, places, counted, totals-used, sound}
 use Rattle.semantics.specs.Sound.{sound-words}
 use Rattle.laws.specs.Tests.{both-hold}
+use Rattle.laws.specs.Levels.{free-from-length}
+use Rattle.laws.specs.Cells.{named-by-none}
 use Rattle.store_words.proofs.CellWords.{cell-is, store-size, few-cells}
 use Rattle.store_words.proofs.Spelling.{shaped-means}
 use Rattle.store_check.specs.Holders.{held-as, all-held, held-places, holders, Gathered, tally}
 use Rattle.store_check.specs.Fitting.{head-fits, used-from, cell-fits, fits}
 use Rattle.store_check.proofs.Ranges.{all-same, all-both}
 use Rattle.store_check.proofs.Tallying.{tallied}
-use Rattle.store_check.proofs.FreeList.{free-length}
-use Rattle.store_check.proofs.Comparing.{and-true, no-second}
+use Rattle.store_check.proofs.Comparing.{no-second}
 
 -- ---- tests in another order
 
-swapped : (a b : Bool) → a && b ≡ b && a
-swapped true b = sym (and-true b)
-swapped false true = refl
-swapped false false = refl
-
 -- three tests and two more
 used-swap : (a b c p q : Bool) → (a && (b && (c && p))) && q ≡ (a && (b && (c && q))) && p
-used-swap true true true p q = swapped p q
+used-swap true true true p q = and-comm p q
 used-swap true true false p q = refl
 used-swap true false c p q = refl
 used-swap false b c p q = refl
@@ -71,7 +67,7 @@ module _ (σ : Store) (free : List ℕ) (k : ℕ → ℕ) where
       go : (s d : ℕ) → (eqb s 0 && (eqb d 0 && eqb m 1)) && (zeros-from (x .slots) s
           && elements-used σ d (x .slots) s)
           ≡ (eqb s 0 && (eqb d 0 && zeros-from (x .slots) 0)) && (eqb m 1 && true)
-      go zero zero = rw (and-true, and-true) (swapped (eqb m 1) (zeros-from (x .slots) 0))
+      go zero zero = rw (and-true, and-true) (and-comm (eqb m 1) (zeros-from (x .slots) 0))
       go zero (suc d) = rw (above-zero d) refl
       go (suc s) d = rw (above-zero s) refl
   parts x (suc n) m c = rw (above-zero n) (used-swap (leb (x .size) 16) (leb (x .depth) 3) (eqb (x .next) 0)
@@ -88,11 +84,7 @@ module _ (σ : Store) (free : List ℕ) (k : ℕ → ℕ) where
 -- a free cell then has no element
 held-is : (σ : Store) (x : Cell) (n : ℕ) → formed-as σ n x ≡ true → held-as n x ≡ inner x
 unfolding formed-as inner elements
-held-is σ x zero e = sym (rw (eqb-true (x .size) 0 (both-hold (eqb (x .size) 0) _ e .0)) (go (x .depth)))
-  where
-    go : (d : ℕ) → named-by d [] ≡ []
-    go zero = refl
-    go (suc d) = refl
+held-is σ x zero e = sym (rw (eqb-true (x .size) 0 (both-hold (eqb (x .size) 0) _ e .0)) (named-by-none (x .depth)))
 held-is σ x (suc n) e = refl
 
 module _ (slots : List ℤ) (heads : List ℕ) where
@@ -153,7 +145,7 @@ module _ (slots : List ℤ) (heads : List ℕ) where
     all-fit = all-same _ _ 0 (cells-in slots heads)
         (λ c l. fits-is σ free (holders d σ) met counts c (ap (λ (r : List ℕ). getD r c 0) m
         ∙ tallied free c (omega (arith, few-cells slots heads))
-        (omega (arith, few-cells slots heads, free-length σ (cells-in slots heads) (getD heads 0 0))))
+        (omega (arith, few-cells slots heads, free-from-length σ (cells-in slots heads) (getD heads 0 0))))
         (g .are c (omega (arith, store-size slots heads))))
         ∙ all-both (formed σ) (λ c. as-due σ free c && counted-by σ (holders d σ) c) 0 (cells-in slots heads)
         ∙ ap (λ b. all (formed σ) 0 (cells-in slots heads) && b)

@@ -4,6 +4,7 @@ use mathlib.Core.Bool.{Bool, true, false, not, true≢false, false≢true}
 use mathlib.Core.List.{List, []}
 use Prim.Native.Nat.{ℕ, _+_, _*_, _<_, _≤_, min}
 use native.Mathlib.Omega.{arith}
+use native.Mathlib.Decide.{decLt}
 use lib.IntN.{ℤ, pos}
 use lib.ListN.{length, getD, take, length-take, List·getD-eq-default}
 use lib.Seq.{set-out, set-getD, getD-take}
@@ -129,6 +130,13 @@ module _ (slots : List ℤ) (heads : List ℕ) (c : ℕ) where
 
   pub length-out : cells-in slots heads ≤ c → 0 ≡ length (elements (cell (store-of slots heads) c))
   length-out h = sym (ap length (elements-out h))
+
+  -- a cell has at most 16 elements
+  pub few-elements : length (elements (cell (store-of slots heads) c)) ≤ 16
+  few-elements = elim (decLt c (cells-in slots heads)) [
+    | yes h ↦ omega (arith, length-in h)
+    | no h ↦ omega (arith, length-out (omega (arith, h)))
+  ]
 
   pub element-out : (i : ℕ) → length (elements (cell (store-of slots heads) c)) ≤ i →
       pos 0 ≡ getD (elements (cell (store-of slots heads) c)) i (pos 0)

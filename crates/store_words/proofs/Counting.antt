@@ -1,7 +1,7 @@
 -- Counts: one more, the cells in use, and the test of the lengths.
 use mathlib.Core.Path.{_≡_, refl, sym, ap, _∙_}
 use mathlib.Core.Bool.{false}
-use mathlib.Core.List.{List, [], _∷_}
+use mathlib.Core.List.{List}
 use Prim.Native.Nat.{ℕ, zero, suc, _+_, _*_, _<_, _≤_}
 use native.Mathlib.Omega.{arith}
 use native.Mathlib.Numerals.{add-one}
@@ -13,6 +13,7 @@ use borrow.Author.Tests.{eq-eqb, ne-eqb, lt-ltb, le-ltb}
 use Rattle.semantics.specs.Store.{Cell, Store, cell, cell-count, clear, one-more, one-if-used}
 use Rattle.semantics.specs.Store.{used-cells, cells-taken}
 use Rattle.semantics.specs.Words.{cells-in, store-of, shaped}
+use Rattle.laws.specs.Levels.{one-at-most, used-few}
 use Rattle.store_words.specs.Parts.{Holds}
 use Rattle.store_words.proofs.CellWords.{store-size, count-is}
 
@@ -39,15 +40,6 @@ used-none (suc n) e = absurd (omega arith)
 pub used-some : (n : ℕ) → (n ≡ 0 → ⊥) → 1 ≡ one-if-used n
 used-some zero f = absurd (f refl)
 used-some (suc n) f = refl
-
-one-at-most : (n : ℕ) → one-if-used n ≤ 1
-one-at-most zero = omega arith
-one-at-most (suc n) = omega arith
-
-used-few : (l : List Cell) → used-cells l ≤ length l
-unfolding used-cells
-used-few [] = omega arith
-used-few (x ∷ l) = omega (arith, used-few l, one-at-most (x .count))
 
 -- no more cells are in use than there are, and there are at most 256
 module _ (slots : List ℤ) (heads : List ℕ) where

@@ -27,10 +27,6 @@ cell-negative (negsuc n) e = refl
 
 -- ---- what a cell names
 
-pub inner-flat : (x : Cell) → x .depth ≡ 0 → inner x ≡ []
-unfolding inner
-inner-flat x e = ap (λ (d : ℕ). named-by d (elements x)) e
-
 pub inner-deep : (x : Cell) → (x .depth ≡ 0 → ⊥) → inner x ≡ map cell-of (elements x)
 unfolding inner
 inner-deep x h = go (x .depth) h

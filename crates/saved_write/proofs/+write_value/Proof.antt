@@ -10,7 +10,7 @@ use mir.Syntax.{w64}
 use Rattle.semantics.specs.Store.{cell, elements}
 use Rattle.semantics.specs.Words.{store-of}
 use Rattle.saved_write.specs.Writing.{written}
-use Rattle.saved_write.proofs.Laws.{Going, write-number, write-goes, write-ends, few-elements}
+use Rattle.saved_write.proofs.Laws.{Going, write-number, write-goes, write-ends}
 use borrow.Author.Needs.{needs}
 use Prim.Native.Nat.{ℕ, _<_}
 use borrow.Fn.Kinds.{In}
@@ -22,6 +22,7 @@ use Rattle.saved_write.proofs.put_entry.Reads as put-entry-reads
 use Rattle.store_words.proofs.named_cell.Reads as named-cell-reads
 use Rattle.store_words.proofs.read_length.Reads as read-length-reads
 use Rattle.store_words.proofs.read_slot.Reads as read-slot-reads
+use Rattle.store_words.proofs.CellWords.{few-elements}
 use Rattle.saved_write.proofs.+write_value.{statement}
 use Rattle.saved_write.proofs.+write_value.Tie.{close}
 
