@@ -1,17 +1,11 @@
 -- What the proofs of `cases` share.
-use mathlib.Core.Path.{_≡_, sym, ap, subst, _∙_}
-use mathlib.Core.Bool.{true, false}
+use mathlib.Core.Path.{_≡_, sym, ap, _∙_}
 use Prim.Native.Nat.{_<_, _^_}
-use lib.Dec.{T}
 use lib.IntN.{ℤ}
 use lib.Signed.{mag}
 use mir.Syntax.{w64}
 use mir.Val.{toZ, ofZ}
 use mir.Facts.{toZ-ofZ}
-
--- `false` is not `true`
-pub never : {A : Type 0} → false ≡ true → A
-never e = absurd (subst T (sym e) tt)
 
 -- signed numbers with the same bits are the same
 pub same-bits : {x y : ℤ} → mag x < 2 ^ 63 → mag y < 2 ^ 63 → ofZ w64 x ≡ ofZ w64 y → x ≡ y

@@ -17,6 +17,7 @@ use Rattle.script_read.specs.Told.{Parted, node-outcome, parted, low-at,
 use Rattle.script_read.specs.declared.Node.{Node}
 use Rattle.script_read.specs.declared.Node.the-variants.{Fits, WrongKind, WrongOperand}
 use Rattle.semantics.specs.Number.{signed, bytes-at}
+use Rattle.laws.specs.Tests.{no-equation}
 
 pub getD-any : {A : Type 0} (l : List A) (i : ℕ) (d e : A) → i < length l → getD l i d ≡ getD l i e
 getD-any [] i d e h = absurd (omega arith)
@@ -57,18 +58,15 @@ module _ (k w : List ℕ) (place : Place) (p : ℕ) (n : Node) where
       fitting (done r q) = Fits (r .kind) (r .low) (r .high)
       fitting (stop m q) = WrongKind
 
-      no : {A : Type 0} → _≡_ {A = ℕ} 0 1 → A
-      no z = absurd (omega arith)
-
       go : (m : Node) (v : S.Node) → node-outcome m p ≡ parted (looked v p) → m ≡ told-node v
       go (Fits x y z) (S.fits h) e = ap fitting e
-      go (Fits x y z) S.wrong-kind e = no cc
-      go (Fits x y z) S.wrong-operand e = no cc
-      go WrongKind (S.fits h) e = no cc
+      go (Fits x y z) S.wrong-kind e = no-equation cc
+      go (Fits x y z) S.wrong-operand e = no-equation cc
+      go WrongKind (S.fits h) e = no-equation cc
       go WrongKind S.wrong-kind e = refl
-      go WrongKind S.wrong-operand e = no cc
-      go WrongOperand (S.fits h) e = no cc
-      go WrongOperand S.wrong-kind e = no cc
+      go WrongKind S.wrong-operand e = no-equation cc
+      go WrongOperand (S.fits h) e = no-equation cc
+      go WrongOperand S.wrong-kind e = no-equation cc
       go WrongOperand S.wrong-operand e = refl
 
 -- the parts of an operand that is read as an unsigned number

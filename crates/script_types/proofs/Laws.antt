@@ -1,6 +1,6 @@
 -- The ways out of a function and a script, in the terms of the code.
-use mathlib.Core.Path.{_≡_, refl, sym, ap, _∙_}
-use mathlib.Core.Bool.{Bool, true, false, _&&_}
+use mathlib.Core.Path.{_≡_, sym, ap, _∙_}
+use mathlib.Core.Bool.{Bool, true, false, _&&_, and-true}
 use mathlib.Core.List.{List, [], _∷_}
 use mathlib.Core.Logic.{_⊎_, ⊎-elim}
 use Prim.Native.Nat.{ℕ, _+_, _-_, _<_}
@@ -42,10 +42,6 @@ module _ (k w : List ℕ) (c : ℕ) (ce : c ≡ low-at k w at-function 0) where
 
     pub first-differs : (a ≡ r → ⊥) → false ≡ main-shape (signature-at k w 0)
     first-differs h = sym (two-parameters ∙ rw (ne-eqb a r h))
-
-    and-true : (b : Bool) → (b && true) ≡ b
-    and-true true = refl
-    and-true false = refl
 
     pub by-second : a ≡ r → (b : ℕ) → b ≡ high-at k w at-parameter 2 → eqb b 1 ≡ main-shape (signature-at k w 0)
     by-second h b be = sym (two-parameters ∙ rw (eq-eqb a r h, ← be) (and-true (eqb b 1)))

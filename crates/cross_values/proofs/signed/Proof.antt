@@ -1,24 +1,23 @@
 -- `cross_values::signed` is safe: the least number and one below 2 ^ 63 have a sum that is not positive.
-use mathlib.Core.Path.{_≡_, sym, subst}
+use mathlib.Core.Path.{sym, subst}
 use Prim.Native.Nat.{ℕ, _-_, _<_, _^_}
 use native.Mathlib.Omega.{arith}
 use lib.IntN.{ℤ, pos, negsuc, _+ℤ_}
 use lib.Signed.{mag}
 use mir.Syntax.{w64}
 use mir.Val.{toZ}
+use mir.Facts.{toZ-pos}
 use borrow.Author.Tests.{lt-ltb}
 use borrow.Author.Needs.{needs}
 use Rattle.cross_values.proofs.signed.Statement.{statement}
 use Rattle.cross_values.proofs.signed.Tie as tie
 
-low : (n : ℕ) → n < 2 ^ 63 → toZ w64 n ≡ pos n
-low n h = rw (lt-ltb n (2 ^ 63) h)
-
 above-least : (n : ℕ) → n < 2 ^ 63 → mag (negsuc 9223372036854775807 +ℤ pos n) < 2 ^ 63
 above-least n h = rw (lt-ltb n 9223372036854775808 h) (omega arith)
 
 sum-fits : (n : ℕ) → n < 2 ^ 63 → mag (toZ w64 9223372036854775808 +ℤ toZ w64 n) < 2 ^ 63
-sum-fits n h = subst (λ (z : ℤ). mag (negsuc 9223372036854775807 +ℤ z) < 2 ^ 63) (sym (low n h)) (above-least n h)
+sum-fits n h =
+    subst (λ (z : ℤ). mag (negsuc 9223372036854775807 +ℤ z) < 2 ^ 63) (sym (toZ-pos w64 h)) (above-least n h)
 
 add-result : tie.Need-add-result
 add-result c =

@@ -1,14 +1,14 @@
 -- `cases::compare::same_buffer` meets its contract.
 use mathlib.Core.Path.{sym}
+use mathlib.Core.Bool.{false≢true}
 use native.Mathlib.Omega.{arith}
 use lib.Seq.{length-take-le}
-use Rattle.cases.proofs.Laws.{never}
 use borrow.Author.Needs.{needs}
 use Rattle.cases.proofs.compare.same_buffer.Statement.{statement}
 use Rattle.cases.proofs.compare.same_buffer.Tie as tie
 
 returns : tie.Need-returns
-returns c e = never e
+returns c e = absurd (false≢true e)
 
 slice-aggregate-same : tie.Need-slice-aggregate-same
 slice-aggregate-same c =

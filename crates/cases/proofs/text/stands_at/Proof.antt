@@ -1,10 +1,6 @@
 -- `cases::text::stands_at` meets its contract.
 use mathlib.Core.Path.{_≡_}
-use Prim.Native.Nat.{_+_, _-_}
-use native.Mathlib.Omega.{arith}
-use lib.ListN.{length}
-use Rattle.cases.proofs.Laws.{never}
-use mathlib.Core.Path.{_≡_}
+use mathlib.Core.Bool.{false≢true}
 use Prim.Native.Nat.{_-_, _+_}
 use native.Mathlib.Omega.{arith}
 use lib.ListN.{length}
@@ -13,10 +9,10 @@ use Rattle.cases.proofs.text.stands_at.Statement.{statement}
 use Rattle.cases.proofs.text.stands_at.Tie as tie
 
 returns : tie.Need-returns
-returns c e = never e
+returns c e = absurd (false≢true e)
 
 returns-2 : tie.Need-returns-2
-returns-2 c e = never e
+returns-2 c e = absurd (false≢true e)
 
 returns-3 : tie.Need-returns-3
 returns-3 c e =
