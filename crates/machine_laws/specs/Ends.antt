@@ -11,7 +11,8 @@ use lib.ListN.{getD, set, length, length-append, length-set}
 use lib.Seq.{getD-set-same, getD-set-other}
 use types.Run.{OneOf, miss}
 use borrow.Author.Tests.{ne-eqb, ltb-true, ltb-false}
-use Rattle.semantics.specs.Kinds.{Leaf, Loop, mapping, filtering, reducing, rewriting, leaf-kind, loop-kind, packed-names}
+use Rattle.semantics.specs.Kinds.{Leaf, Loop, mapping, filtering, reducing, rewriting, leaf-kind, loop-kind}
+use Rattle.semantics.specs.Kinds.{packed-names}
 use Rattle.semantics.specs.Code as C
 use Rattle.semantics.specs.Code.{Row, row, atom-row, rows, line-rows}
 use Rattle.machine_code.specs.Reading.{table-bytes, ends-place, end-in}

@@ -1,7 +1,7 @@
 -- Frames that agree with a list of words, and what work in the frame of a call leaves alone.
 use mathlib.Core.Path.{_≡_, refl, sym, ap, subst, _∙_}
 use mathlib.Core.Logic.{_≢_, inl, inr}
-use mathlib.Core.Bool.{Bool, true, false, cond, _||_}
+use mathlib.Core.Bool.{Bool, true, false, cond, or-false, or-assoc}
 use mathlib.Core.List.{List, [], _∷_}
 use Prim.Native.Nat.{ℕ, _+_, _*_, _%_, _<_, _≤_}
 use native.Mathlib.Omega.{arith}
@@ -115,14 +115,6 @@ kept-then calls e₀ e₁ e₂ S T i a b = record {
   long = b .long ∙ a .long;
 }
 
--- a known name stays known
-pub known-stays : (l : C.Line) (S : Set) (x : ℕ) → S x ≡ true → known-after l S x ≡ true
-known-stays (C.leaf y l us) S x e = or-left (S x) (eqb y x) e
-known-stays (C.if-else y g t u) S x e = or-left (S x) (eqb y x) e
-known-stays (C.loop y k ps us t) S x e = or-left (S x) (eqb y x) e
-known-stays (C.retain y) S x e = e
-known-stays (C.release y) S x e = e
-
 pub bounded-after : (l : C.Line) (S : Set) → LineScoped l S → Bounded S → Bounded (known-after l S)
 bounded-after (C.leaf x l us) S h b = bounded-more x S (h .1 .small) b
 bounded-after (C.if-else x g t e) S h b = bounded-more x S (h .1 .small) b
@@ -139,23 +131,15 @@ agrees-kept calls env env′ ρ S g k = record { agree = λ x e. k .names x e �
 
 -- ---- names bound in turn
 
-or-none : (b : Bool) → b ≡ (b || false)
-or-none true = refl
-or-none false = refl
-
-or-either : (a b c : Bool) → ((a || b) || c) ≡ (a || (b || c))
-or-either true b c = refl
-or-either false b c = refl
-
 -- the names of a pass, one known after another
-just-none : (S : Set) → S ≡ S ∪ just []
-just-none S = λ i y. or-none (S y) i
+just-none : (S : Set) → S ∪ just [] ≡ S
+just-none S = λ i y. or-false (S y) i
 
 just-first : (S : Set) (p : ℕ) (ps : List ℕ) → (S ∪ only p) ∪ just ps ≡ S ∪ just (p ∷ ps)
-just-first S p ps = λ i y. or-either (S y) (eqb p y) (just ps y) i
+just-first S p ps = λ i y. or-assoc (S y) (eqb p y) (just ps y) i
 
 pub bounded-all : (ps : List ℕ) (S : Set) → AllNew ps S → Bounded S → Bounded (S ∪ just ps)
-bounded-all [] S h b = subst Bounded (just-none S) b
+bounded-all [] S h b = subst Bounded (sym (just-none S)) b
 bounded-all (p ∷ ps) S h b =
     subst Bounded (just-first S p ps) (bounded-all ps (S ∪ only p) (h .1) (bounded-more p S (h .0 .small) b))
 
@@ -168,7 +152,7 @@ module _ (calls : ℕ) where
   pub agrees-all : {f : ℕ} (ps : List ℕ) (ws env : List ℤ) (ρ : Frame) (S : Set) → AllNew ps S → Framed calls f env →
       Bounded S → FrameAgrees calls env ρ S → FrameAgrees calls (bound-all calls ps ws env) (binding ps ws ρ) (S ∪
       just ps)
-  agrees-all {f} [] ws env ρ S h framed b g = subst (FrameAgrees calls env ρ) (just-none S) g
+  agrees-all {f} [] ws env ρ S h framed b g = subst (FrameAgrees calls env ρ) (sym (just-none S)) g
   agrees-all {f} (p ∷ ps) ws env ρ S h framed b g =
       let v = argument ws 0 in
       subst (FrameAgrees calls (bound-all calls (p ∷ ps) ws env) (binding (p ∷ ps) ws ρ)) (just-first S p ps)

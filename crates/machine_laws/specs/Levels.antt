@@ -11,19 +11,13 @@ use lib.Seq.{getD-set-same, getD-set-other}
 use borrow.Author.Tests.{ltb-true, ltb-false}
 use Rattle.semantics.specs.Store.{Store, released, deepest, cells-taken}
 use Rattle.semantics.specs.Live.{Set}
-use Rattle.semantics.specs.Machine.{Event, acquires, touching, release-events, level-by, level-after, lowest-over}
-use Rattle.laws.specs.Levels.{LevelsUpTo, level-append, lowest-append, up-to-first, up-to-last}
+use Rattle.semantics.specs.Machine.{Event, acquires, touching, release-events, level-after, lowest-over}
+use Rattle.laws.specs.Levels.{LevelsUpTo, level-append, lowest-append, up-to-first, up-to-last, lowest-last}
 use Rattle.laws.specs.Levels.{touching-level, touching-lowest, release-level, release-lowest}
 use Rattle.machine_code.specs.Reading.{low-bits}
 use Rattle.machine_frames.specs.Frames.{frame-words}
 use Rattle.machine_frames.specs.Frames.{level-place, lowest-place, level-of, lowest-of, levelled, noted, raised}
 use Rattle.machine_laws.specs.Frames.{Bounded, FrameKept, kept-then}
-
--- the least level is at most the last
-lowest-last : (a : List Event) (n : ℕ) → lowest-over a n ≤ level-after a n
-unfolding lowest-over level-after
-lowest-last [] n = omega arith
-lowest-last (e ∷ a) n = omega (arith, lowest-last a (level-by e n))
 
 -- n cells were free before the log
 pub record LevelsAgree (n : ℕ) (log : List Event) (env : List ℤ) : Type 0 where

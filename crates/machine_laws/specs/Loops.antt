@@ -3,6 +3,7 @@ use mathlib.Core.Path.{_≡_, refl, sym, ap, ap₂, subst, _∙_}
 use mathlib.Core.List.{List, [], _∷_, _++_, map}
 use Prim.Native.Nat.{ℕ, zero, suc, _+_, _-_, _*_, _/_, _%_, _<_, _≤_, pred}
 use native.Mathlib.Omega.{arith}
+use native.Mathlib.Numerals.{sub-one}
 use lib.IntN.{ℤ, pos}
 use lib.ListN.{getD, length}
 use Rattle.semantics.specs.Basics.{tabulate, updated}
@@ -140,10 +141,6 @@ module _ (p : Program) (Γ : NameDepths) (c : Code) (calls at : ℕ) (m : Memory
   loop-read x rewriting (q ∷ []) (u ∷ v ∷ us) d fits new news known r rs = absurd (omega (arith, fits .limits))
 
 -- ---- all loops
-
-pred-less : (n : ℕ) → n - 1 ≡ pred n
-pred-less zero = refl
-pred-less (suc n) = omega arith
 
 coded-words : (calls : ℕ) (env : List ℤ) (ρ : Frame) (S : Set) → FrameAgrees calls env ρ S → (us : List K.Atom) →
     AllKnown us S → map (word-of calls env) (map coded us) ≡ map (word ρ) us
@@ -372,7 +369,7 @@ module _ (free : ℕ) (p : Program) (callee : M.Callee) (β : Borrowing) (Γ : N
           coded-words calls env ρ S g us known,
           let z : element-depth (c .table) calls x env ≡ pred (Γ x) =
               ap (λ (h : ℕ). depth-in (c .table) h x - 1) (framed .function)
-              ∙ ap (λ (y : ℕ). y - 1) (depths x (new .small)) ∙ pred-less (Γ x) in z,
+              ∙ ap (λ (y : ℕ). y - 1) (depths x (new .small)) ∙ sub-one (Γ x) in z,
         )
         (after-first m (M.with-store (with-left s m) (s .store) (touching (s .store) (cell-of array))) refl refl
         (levels-touched levels (s .store) (cell-of array))))

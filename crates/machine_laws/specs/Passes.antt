@@ -213,7 +213,8 @@ carry-by-same free reducing d a i v e calls S w r s ve f h levels = (
 carry-by-same free rewriting d a i v e calls S w r s ve f h levels = go (in-place a v)
   where
     go : (t : Bool) → Rel free (WordDone free calls (w .memory .env) S)
-        (carry-by (cond t Overwrite (Fill true)) v i e w) ((cond t (overwrite-word v i r) (append-word v r) >> give v) s)
+        (carry-by (cond t Overwrite (Fill true)) v i e w)
+        ((cond t (overwrite-word v i r) (append-word v r) >> give v) s)
     go true = (
       refl,
       record {

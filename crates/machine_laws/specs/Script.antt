@@ -6,6 +6,7 @@ use mathlib.Core.Bool.{true}
 use mathlib.Core.List.{List, [], _∷_, _++_, map, append-assoc}
 use lib.IntN.{ℤ, pos}
 use lib.ListN.{getD, length, take, length-append}
+use lib.Seq.{getD-append-seam}
 use Rattle.working.specs.machine.Size.{function-within}
 use Rattle.soundness.specs.Delivering.{levels-bounded}
 use Rattle.semantics.specs.Syntax.{Parameter, Function, Script, function-at, no-function, main-depth}
@@ -70,9 +71,9 @@ pub front-written : (rs : List Row) (ks ps : List ℕ) (os qs : List ℤ) → le
 front-written [] ks ps os qs e = tt
 front-written (r ∷ rs) ks ps os qs e = (
   record {
-    kind = getD-seam ps (r .kind) (map (λ x. x .kind) rs ++ ks) 0;
+    kind = getD-append-seam ps (r .kind) (map (λ x. x .kind) rs ++ ks) 0;
     operand = ap (λ (n : ℕ). getD (qs ++ (r .operand ∷ (map (λ x. x .operand) rs ++ os))) n (pos 0)) e
-        ∙ getD-seam qs (r .operand) (map (λ x. x .operand) rs ++ os) (pos 0);
+        ∙ getD-append-seam qs (r .operand) (map (λ x. x .operand) rs ++ os) (pos 0);
     within = omega (arith, length-append ps (r .kind ∷ (map (λ x. x .kind) rs ++ ks)));
     held = omega (arith, e, length-append qs (r .operand ∷ (map (λ x. x .operand) rs ++ os)));
   },
@@ -90,10 +91,6 @@ front-written (r ∷ rs) ks ps os qs e = (
       (append-assoc qs (r .operand ∷ []) (map (λ x. x .operand) rs ++ os))
       (front-written rs ks (ps ++ (r .kind ∷ [])) os (qs ++ (r .operand ∷ [])) y))),
 )
-  where
-    getD-seam : {A : Type 0} (ps : List A) (a : A) (l : List A) (d : A) → getD (ps ++ (a ∷ l)) (length ps) d ≡ a
-    getD-seam [] a l d = refl
-    getD-seam (p ∷ ps) a l d = getD-seam ps a l d
 
 -- ---- an accepted script
 

@@ -19,6 +19,7 @@ use Rattle.semantics.specs.Annotate.{NameDepths, atom-depth}
 use Rattle.semantics.specs.Machine as M
 use Rattle.semantics.specs.Machine.{State, Frame, Program, word, with-left, work, work-line}
 use Rattle.working.specs.machine.Discipline.{Known, New, known-after, LineFitting, Fitting, LineScoped, Scoped}
+use Rattle.working.specs.machine.Rules.{known-stays}
 use Rattle.machine_code.specs.Reading.{is-atom, atom-at, line-of, line-at, depth-in, end-in}
 use Rattle.code.specs.declared.Atom.{Atom}
 use Rattle.machine_frames.specs.Frames.{word-of}
@@ -29,7 +30,7 @@ use Rattle.machine_positions.specs.Machine.{line-done, line-on}
 use Rattle.machine_positions.specs.Machine.{is-end, tree-from, tree-on}
 use Rattle.machine_laws.specs.Rows.{At, Jumps, at-first, at-second, coded, atom-here, line-read}
 use Rattle.machine_laws.specs.Rows.{no-atom, tree-within, line-some, rows-some}
-use Rattle.machine_laws.specs.Frames.{Bounded, FrameAgrees, small-known, word-same, kept-none, known-stays}
+use Rattle.machine_laws.specs.Frames.{Bounded, FrameAgrees, small-known, word-same, kept-none}
 use Rattle.machine_laws.specs.Frames.{Framed, framed-kept, bounded-after}
 use Rattle.machine_laws.specs.Levels.{LevelsAgree}
 use Rattle.machine_laws.specs.Same.{CalleeSame, Rel, TreeDone, LineDone, rel-then, rel-step, rel-map, word-kept}
