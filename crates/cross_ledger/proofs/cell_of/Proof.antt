@@ -1,7 +1,6 @@
 -- `cross_ledger::cell_of` is safe: a word that is neither negative nor above 255 is a number to 255.
 use mathlib.Core.Path.{_≡_}
-use mathlib.Core.Bool.{true, false}
-use Prim.Native.Nat.{ℕ}
+use mathlib.Core.Bool.{true, false, true≢false}
 use native.Mathlib.Omega.{arith}
 use lib.Dec.{T}
 use lib.IntN.{ℤ, pos, negsuc, natAbs}
@@ -14,13 +13,10 @@ use borrow.Author.Needs.{needs}
 use Rattle.cross_ledger.proofs.cell_of.Statement.{statement}
 use Rattle.cross_ledger.proofs.cell_of.Tie as tie
 
-no-bool : {A : Type 0} → true ≡ false → A
-no-bool e = let z : _≡_ {A = ℕ} 0 1 = cc in absurd (let f : ⊥ = omega arith in f)
-
 small : (z : ℤ) → ltZ z (pos 0) ≡ false → ltZ (pos 255) z ≡ false →
     T (nonNeg z) × Fits w64 (natAbs z)
 small (pos n) e f = let h = ltb-false 255 n f in (tt, record { fits = omega arith })
-small (negsuc n) e f = no-bool e
+small (negsuc n) e f = absurd (true≢false e)
 
 cast-result : tie.Need-cast-result
 cast-result c =
