@@ -16,6 +16,7 @@ use Rattle.semantics.specs.Types.{type-faults}
 use Rattle.semantics.specs.Normal.{too-many-names}
 use Rattle.semantics.specs.Calls as C
 use Rattle.semantics.specs.Calls.{packed, judged, judged-read, judged-script, admitted, room, code-fits}
+use Rattle.laws.specs.Tests.{no-equation}
 use Rattle.script_read.specs.Told.{high-at}
 use Rattle.script_read.specs.Starts.{Started-by}
 use Rattle.script_read.proofs.Written.{ScriptWritten, script-written}
@@ -29,9 +30,6 @@ use Rattle.normal.specs.Left.{CodeLeft, left-of, Leaves}
 use Rattle.engine_load.specs.declared.Loaded.{Loaded}
 use Rattle.engine_load.specs.declared.Loaded.the-variants as L
 use Rattle.engine_load.specs.Loading.{Loads}
-
-no-equation : {A : Type 0} → _≡_ {A = ℕ} 0 1 → A
-no-equation e = absurd (omega arith)
 
 -- ---- an accepted file
 
@@ -58,15 +56,14 @@ accepted-file file f n h = go (read-file file) refl h
       functions = let z : f ≡ bytes-at 2 file 0 = cc in z;
       nodes = let z : n ≡ bytes-at 2 file 2 = cc in z;
     }
-    by fs q r [] [] (some p) a b c e = no-equation (let z : _≡_ {A = ℕ} 0 1 = cc in z)
-    by fs q r [] (x ∷ m) o a b c e = no-equation (let z : _≡_ {A = ℕ} 0 1 = cc in z)
-    by fs q r (x ∷ l) m o a b c e = no-equation (let z : _≡_ {A = ℕ} 0 1 = cc in z)
+    by fs q r [] [] (some p) a b c e = no-equation cc
+    by fs q r [] (x ∷ m) o a b c e = no-equation cc
+    by fs q r (x ∷ l) m o a b c e = no-equation cc
 
     go : (o : Outcome ℕ Script) → read-file file ≡ o → Accepted f n ≡ told-verdict file (judged-read (read-file file)) →
         AcceptedFile file f n
     go (done fs q) r e = by fs q r (name-faults fs) (type-faults fs) (too-many-names fs) refl refl refl (rw r at e)
-    go (stop m q) r e = no-equation (let s : Accepted f n ≡ Refused m q = rw r at e in let z : _≡_ {A = ℕ} 0 1 = cc
-        in z)
+    go (stop m q) r e = let s : Accepted f n ≡ Refused m q = rw r at e in no-equation cc
 
 module _ {file : List ℕ} {f n : ℕ} (a : AcceptedFile file f n) where
   pub file-taken : FileTaken file f n
@@ -106,7 +103,7 @@ pub refused-so : (file : List ℕ) {n p : ℕ} → Judges file (Refused n p) →
 refused-so file {n} {p} j = go (judged file) j
   where
     go : (v : C.Verdict) → Refused n p ≡ told-verdict file v → v ≡ C.refused n p
-    go (C.accepted fs) e = no-equation (let z : _≡_ {A = ℕ} 0 1 = cc in z)
+    go (C.accepted fs) e = no-equation cc
     go (C.refused m q) e = cc
 
 pub node-fits : (file : List ℕ) {n p : ℕ} → Judges file (Refused n p) → p ≤ 1024
