@@ -199,7 +199,7 @@ fn walk_if(
     let p = here.p;
     let n = x as usize;
     let e = less_two(here.q);
-    let s1 = walk_tree(
+    let second = walk_tree(
         ks,
         os,
         operands,
@@ -213,11 +213,21 @@ fn walk_if(
         at,
         after,
     );
-    let u1 = *at;
-    let v1 = put_used(ks, os, depths, cur, p + 2, n, Atom::Number(0), &s1, u1);
-    *at = v1;
+    let second_at = *at;
+    let second_opened = put_used(
+        ks,
+        os,
+        depths,
+        cur,
+        p + 2,
+        n,
+        Atom::Number(0),
+        &second,
+        second_at,
+    );
+    *at = second_opened;
     let t = then_end_at(notes, p);
-    let s2 = walk_tree(
+    let first = walk_tree(
         ks,
         os,
         operands,
@@ -231,15 +241,15 @@ fn walk_if(
         at,
         after,
     );
-    let u2 = *at;
-    let v2 = put_releases(ks, os, depths, n, &s1, &s2, u2);
-    let w2 = put_atom(ks, os, v2, g);
-    let w3 = put_row(ks, os, w2, code::IF, x as u32);
-    *at = w3;
-    let mut j = normal_code::joined(s2, s1);
-    let u = take_use(notes, cur, p + 1, g, &j);
-    j[u.name as usize] = u.live;
-    j
+    let first_at = *at;
+    let first_opened = put_releases(ks, os, depths, n, &second, &first, first_at);
+    let guarded = put_atom(ks, os, first_opened, g);
+    let headed = put_row(ks, os, guarded, code::IF, x as u32);
+    *at = headed;
+    let mut live = normal_code::joined(first, second);
+    let u = take_use(notes, cur, p + 1, g, &live);
+    live[u.name as usize] = u.live;
+    live
 }
 
 // A loop's tree and its own rows. Another pass may come, so what the tree uses from outside is live after it.
@@ -293,10 +303,10 @@ fn walk_loop(
             let mut s = inner;
             let u = take_use(notes, cur, p + 2, second, &s);
             s[u.name as usize] = u.live;
-            let v1 = retain_handed(ks, os, depths, kind, a, &s, v);
-            *at = v1;
-            let u1 = take_use(notes, cur, p + 1, a, &s);
-            s[u1.name as usize] = u1.live;
+            let retained = retain_handed(ks, os, depths, kind, a, &s, v);
+            *at = retained;
+            let handed = take_use(notes, cur, p + 1, a, &s);
+            s[handed.name as usize] = handed.live;
             s
         }
         _ => after,
