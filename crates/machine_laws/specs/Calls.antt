@@ -74,7 +74,8 @@ parameters n = λ x. ltb x n
 pub bounded-parameters : (n : ℕ) → n ≤ 16 → Bounded (parameters n)
 bounded-parameters n h = record { below = λ x e. omega (arith, h, ltb-true x n e) }
 
-pub arguments-agree : (calls f : ℕ) (ws : List ℤ) (env : List ℤ) → calls ≤ 31 → length ws ≤ 16 → frame-words ≤ length env →
+pub arguments-agree : (calls f : ℕ) (ws : List ℤ) (env : List ℤ) → calls ≤ 31 → length ws ≤ 16 →
+    frame-words ≤ length env →
     FrameAgrees calls (called calls f ws env) (frame-from ws 0) (parameters (length ws))
 arguments-agree calls f ws env small few long = record {
   agree = λ x e.

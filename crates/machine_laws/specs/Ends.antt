@@ -73,7 +73,8 @@ module _ (kinds : List ℕ) where
       ends-above n (with-end table n end) q (omega arith)
       ∙ end-kept table (ends-place + 2 * n) end q (omega (arith, h))
 
-  pub ends-below : (n : ℕ) (table : List ℕ) (i : ℕ) → i < ends-place → getD (ends-from n kinds table) i 0 ≡ getD table i 0
+  pub ends-below : (n : ℕ) (table : List ℕ) (i : ℕ) → i < ends-place →
+      getD (ends-from n kinds table) i 0 ≡ getD table i 0
   unfolding ends-from
   ends-below zero table i h = refl
   ends-below (suc n) table i h =
@@ -99,7 +100,8 @@ module _ (kinds : List ℕ) where
   found zero table long few q h = absurd (omega arith)
   found (suc n) table long few q h = by (ltb q n) refl
       (λ l. found n (with-end table n (end-of (getD kinds n 0) table n))
-      (omega (arith, long, length-position table (ends-place + 2 * n) (end-of (getD kinds n 0) table n))) (omega (arith, few))
+      (omega (arith, long, length-position table (ends-place + 2 * n) (end-of (getD kinds n 0) table n)))
+      (omega (arith, few))
       q l)
     where
       end : ℕ

@@ -20,8 +20,8 @@ use Rattle.machine_laws.specs.Script.{body-at, length-parameters}
 use Rattle.machine_laws.specs.Ends.{Roomy, position-read, position-other, end-kept}
 
 -- what stands before a function's position stays
-start-below : (table : List ℕ) (f start i : ℕ) → i < starts-place + 2 * f → getD (with-start table f start) i 0 ≡ getD table
-    i 0
+start-below : (table : List ℕ) (f start i : ℕ) → i < starts-place + 2 * f →
+    getD (with-start table f start) i 0 ≡ getD table i 0
 start-below table f start i h =
     position-other table (starts-place + 2 * f) start i (λ e. omega (arith, e, h)) (λ e. omega (arith, e, h))
 
@@ -79,7 +79,8 @@ module _ (kinds : List ℕ) (operands : List ℤ) where
       start-in a f ≡ start-in b f
   unfolding start-in
   start-same a b f h =
-      ap₂ (λ (x : ℕ) (y : ℕ). x + 256 * y) (h (starts-place + 2 * f) (omega arith)) (h (starts-place + 2 * f + 1) (omega arith))
+      ap₂ (λ (x : ℕ) (y : ℕ). x + 256 * y) (h (starts-place + 2 * f) (omega arith))
+      (h (starts-place + 2 * f + 1) (omega arith))
 
   -- the table has the position after each tree
   abbrev pub Jumping : List ℕ → Type 0

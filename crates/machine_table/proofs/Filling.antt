@@ -137,4 +137,5 @@ module _ (functions rows : ℕ) (kinds : List ℕ) (operands : List ℤ) (table 
   pub filled-long : table-bytes ≤ length table → (t u : List ℕ) → t ≡ ends-from rows kinds table →
       u ≡ starts-from functions kinds operands 0 0 t → u ≡ filled functions rows kinds operands table
   unfolding filled
-  filled-long h t u te ue = ue ∙ ap (starts-from functions kinds operands 0 0) te ∙ rw (le-ltb (length table) table-bytes h)
+  filled-long h t u te ue =
+      ue ∙ ap (starts-from functions kinds operands 0 0) te ∙ rw (le-ltb (length table) table-bytes h)

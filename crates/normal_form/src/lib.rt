@@ -183,7 +183,7 @@ fn lay_compound(
     let mut n = spot.n;
     let mut p = spot.p;
     while i < count {
-        let place = normal_lay::atom_place(kinds, operands, places, node, levels);
+        let place = normal_lay::atoms::atom_place(kinds, operands, places, node, levels);
         if place < 65535 {
             atoms[i] = place;
             node = node + 1;

@@ -192,7 +192,8 @@ module _ (w : List ℕ) (res : ℕ → ℕ) (kind low high : ℕ) (vs : List ℕ
     end-is : rt .p ≡ q + 1 + m + laid-rows b + 2
     end-is = T .reach
 
-    inner-depths : tree-depths res body (with-depths own (pass-depths k (depth-in (X .depths)) us) (depth-in (X .depths)))
+    inner-depths :
+        tree-depths res body (with-depths own (pass-depths k (depth-in (X .depths)) us) (depth-in (X .depths)))
         ≡ depth-in (X₄ .depths)
     unfolding body
     inner-depths = ap (tree-depths res body) opened ∙ T .depths
@@ -280,7 +281,13 @@ module _ (w : List ℕ) (res : ℕ → ℕ) (kind low high : ℕ) (vs : List ℕ
       loop-depths : line-depths res the-line (depth-in (X .depths)) ≡ depth-in (Y .depths)
       unfolding tree-depths the-line body
       loop-depths =
-          rw (inner-depths, normal-ending b ν (n + 1 + m), ← T .gives, ← loop-deep w (X₄ .depths) vs k (rt .place), ← ve)
+          rw (
+            inner-depths,
+            normal-ending b ν (n + 1 + m),
+            ← T .gives,
+            ← loop-deep w (X₄ .depths) vs k (rt .place),
+            ← ve,
+          )
           (sym (ap depth-in (s .depths) ∙ table-set (X₄ .depths) 0 n v (omega (arith, T .sized .depths, few))))
 
       loop-made : LineMade w res the-line X Y (d + 1) q (rt .p)

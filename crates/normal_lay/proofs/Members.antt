@@ -127,7 +127,8 @@ module _ (w : List ℕ) (res : ℕ → ℕ) (R : ℕ → Expr) where
       second-shallow : Shallow res (lines Second bound (ra .n) (r .after)) (depth-in (Y .depths))
       unfolding lines
       second-shallow =
-          rw (bound-is, A .gives, A .count) (A .adds .shallow (lines Second inner (n + fresh (R at)) (r .after)) (r .shallow))
+          rw (bound-is, A .gives, A .count)
+          (A .adds .shallow (lines Second inner (n + fresh (R at)) (r .after)) (r .shallow))
 
       pub let-second : Ready res bound Y (R (ra .next)) (ra .next + size (R (ra .next))) (ra .n) (ra .p)
       unfolding fresh laid-rows

@@ -47,7 +47,8 @@ module _ (w ps : List ℕ) (low high n : ℕ) (long : length ps ≡ 256) (low-in
   first-bound h = named low (n + 1) low-in h ps long
 
   pub pass-means : (kind : ℕ) → n + loop-size (loop-of kind) < 256 →
-      meanings w (bound-table ps kind low high n) ≡ meaning-names (of-loop (loop-of kind) low high) (n + 1) (meanings w ps)
+      meanings w (bound-table ps kind low high n)
+      ≡ meaning-names (of-loop (loop-of kind) low high) (n + 1) (meanings w ps)
   pass-means kind h = go (ℕ-discrete kind 20)
     where
       go : Dec (kind ≡ 20) → meanings w (bound-table ps kind low high n)

@@ -1,4 +1,6 @@
 // Lays rows of the plain code with the uses of names, and knows the depths of new names.
+pub mod atoms;
+
 ghost use mathlib.Core.Path.{_≡_};
 ghost use mathlib.Core.List.{[], _∷_};
 ghost use Prim.Native.Nat.{pred, _+_, _*_, _<_, _≤_};
@@ -7,8 +9,7 @@ ghost use Rattle.script_read.specs.Told.{second-name};
 ghost use Rattle.normal_code.specs.Plain.{packed-row, loop-of, loop-size};
 ghost use Rattle.normal_lay.specs.Laid.{laid, firsts, noted, UsesLaid, LineLaid, place-depth, line-depth};
 ghost use Rattle.normal_lay.specs.Laid.{pass-places, loop-place, third-of};
-ghost use Rattle.normal_lay.specs.Source.{tree-at};
-ghost use Rattle.normal_lay.specs.Made.{spot, out, Given, AtomPlaced};
+ghost use Rattle.normal_lay.specs.Made.{spot, out};
 
 // Where a descent stands: the node, the next new name and the next row.
 pub struct Spot {
@@ -30,37 +31,6 @@ pub fn spot_at(node: usize, n: usize, p: usize) -> Spot
     ensures { λ r. ⌜ r ≡ spot node n p ⌝ }
 {
     Spot { node, n, p }
-}
-
-// The place of the atom at a node: of its number, or what its name means; 65535 where no atom is found.
-pub fn atom_place(
-    kinds: &[u8],
-    operands: &[u8],
-    places: &[u16; 256],
-    node: usize,
-    levels: u64,
-) -> u16
-    requires { ⌜ Given (now kinds) (now operands) (now places) ⌝ }
-    ensures { λ r. ⌜ (r < 65535 → AtomPlaced (now (operands .entry)) (now (places .entry))
-        (tree-at (now (kinds .entry)) (now (operands .entry)) levels node) r) ⌝ }
-{
-    if levels == 0 {
-        return 65535;
-    }
-    if kinds.len() <= node {
-        return 65535;
-    }
-    let kind = kinds[node];
-    if kind == code::NUMBER {
-        return (256 + node) as u16;
-    }
-    if kind == code::NAME {
-        let name = words::nth_word(operands, node);
-        if name < 256 {
-            return places[name as usize];
-        }
-    }
-    65535
 }
 
 // The first row of a line: its kind, the name that it binds and two numbers more.

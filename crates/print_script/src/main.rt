@@ -2,8 +2,8 @@
 use libc::STDIN_FILENO;
 use libc::STDOUT_FILENO;
 
-// An accepted file has at most 9,220 bytes, so one that the buffer cuts off is refused as it would be whole. No code has
-// more than 4,096 lines.
+// An accepted file has at most 9,220 bytes, so one that the buffer cuts off is refused as it would be whole. No code
+// has more than 4,096 lines.
 fn main() {
     let mut buffer = io::large_buffer();
     let n = io::read_full(STDIN_FILENO, &mut buffer);

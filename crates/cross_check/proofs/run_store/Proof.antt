@@ -5,10 +5,12 @@ use Rattle.cross_check.proofs.run_store.Statement.{statement}
 use Rattle.cross_check.proofs.run_store.Tie as tie
 
 abbrev Inv-loop : tie.InvT-loop
-Inv-loop file end cells desk₀ counts₀ slots₀ heads₀ ledger₀ readings₀ delivery₀ desk counts slots heads ledger readings delivery = delivery ≤ 6
+Inv-loop file end cells desk₀ counts₀ slots₀ heads₀ ledger₀ readings₀ delivery₀ desk counts slots heads ledger readings
+    delivery = delivery ≤ 6
 
 abbrev μ-loop : tie.MeasureT-loop
-μ-loop file end cells desk₀ counts₀ slots₀ heads₀ ledger₀ readings₀ delivery₀ desk counts slots heads ledger readings delivery = 6 - delivery
+μ-loop file end cells desk₀ counts₀ slots₀ heads₀ ledger₀ readings₀ delivery₀ desk counts slots heads ledger readings
+    delivery = 6 - delivery
 
 pub run-store-spec : {M : Type 1} → statement M
 run-store-spec =

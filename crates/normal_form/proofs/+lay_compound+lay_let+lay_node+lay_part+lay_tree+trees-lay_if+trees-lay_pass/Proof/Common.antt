@@ -26,7 +26,7 @@ use Rattle.normal_form.proofs.+lay_compound+lay_let+lay_node+lay_part+l
 use Rattle.normal_form.proofs.parts.atom_out.Reads as atom-out-reads
 use Rattle.normal_form.proofs.parts.lay_leaf.Reads as lay-leaf-reads
 use Rattle.normal_form.proofs.parts.parts_before.Reads as parts-before-reads
-use Rattle.normal_lay.proofs.atom_place.Reads as atom-place-reads
+use Rattle.normal_lay.proofs.atoms.atom_place.Reads as atom-place-reads
 use Rattle.normal_lay.proofs.bind_pass.Reads as bind-pass-reads
 use Rattle.normal_lay.proofs.close_line.Reads as close-line-reads
 use Rattle.normal_lay.proofs.depth_of.Reads as depth-of-reads

@@ -1,9 +1,9 @@
--- `normal_lay::atom_place` meets its contract, by the laws of `Nodes`.
+-- `normal_lay::atoms::atom_place` meets its contract, by the laws of `Nodes`.
 use native.Mathlib.Omega.{arith}
 use borrow.Author.Needs.{needs}
 use Rattle.normal_lay.proofs.Nodes.{number-atom, name-atom}
-use Rattle.normal_lay.proofs.atom_place.Statement.{statement}
-use Rattle.normal_lay.proofs.atom_place.Tie as tie
+use Rattle.normal_lay.proofs.atoms.atom_place.Statement.{statement}
+use Rattle.normal_lay.proofs.atoms.atom_place.Tie as tie
 
 returns : tie.Need-returns
 returns c h = absurd (omega arith)
