@@ -4,6 +4,7 @@ pub mod Sorts
 pub mod Limits
 pub mod Turns
 pub mod Part
+pub mod Atoms
 pub mod Whole
 pub mod Written
 pub mod Tables

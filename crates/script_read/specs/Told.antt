@@ -1,8 +1,8 @@
 -- What the reader's answers say, in the terms of the definitions.
 use mathlib.Core.Path.{_≡_}
 use mathlib.Core.List.{List, [], _∷_}
-use Prim.Native.Nat.{ℕ, zero, suc, _+_, _*_, _≤_}
-use mathlib.Core.Bool.{Bool, cond, _||_}
+use Prim.Native.Nat.{ℕ, zero, suc, _+_, _*_, _<_, _≤_}
+use mathlib.Core.Bool.{Bool, true, cond, _||_}
 use lib.Dec.{eqb}
 use lib.ListN.{length, getD, set}
 use Rattle.semantics.specs.Outcome.{Outcome, done, stop}
@@ -89,6 +89,11 @@ and-next (Refused n p) f = Refused n p
 unfoldable pub repeated : ℕ → (ℕ → Read) → ℕ → Read
 repeated zero f p = Next p
 repeated (suc c) f p = and-next (f p) (repeated c f)
+
+-- where r says that an atom stands at node p, the reader goes on behind it
+abbrev pub Atomic : List ℕ → List ℕ → ℕ → ℕ → Bool → Type 0
+Atomic kinds operands levels p r =
+    r ≡ true → (p < length kinds) × (Next (p + 1) ≡ told (S.part kinds operands levels p))
 
 -- the first of the faulty nodes with a refusal's number, or on to the next node
 abbrev pub found : ℕ → List ℕ → ℕ → Read

@@ -6,7 +6,7 @@ ghost use lib.ListN.{length, getD};
 ghost use Rattle.semantics.specs.File.{at-part, look, part-counts, part-count, part, parameter, function, script};
 ghost use Rattle.semantics.specs.File.{read-file, between};
 ghost use Rattle.script_read.specs.Told.{place-of, limits-at, node-outcome, parted, told, low-at, high-at};
-ghost use Rattle.script_read.specs.Told.{repeated, marked, said-parts, loops, second-name};
+ghost use Rattle.script_read.specs.Told.{repeated, marked, said-parts, loops, second-name, Atomic};
 ghost use Rattle.script_read.specs.Starts.{Blank, Started-by};
 
 // Where a node stands.
@@ -217,13 +217,35 @@ pub fn read_part(kinds: &[u8], operands: &[u8], at: usize, levels: u64) -> Read
     }
 }
 
-// So many parts, one after the other.
+// Whether an atom that fits stands at a node, with so many levels left.
+fn is_atom(kinds: &[u8], operands: &[u8], at: usize, levels: u64) -> bool
+    ensures { λ r. ⌜ Atomic (now (kinds .entry)) (now (operands .entry)) levels at r ⌝ }
+{
+    if levels == 0 {
+        return false;
+    }
+    let kind = kind_at(kinds, at);
+    if kind == code::NUMBER {
+        return true;
+    }
+    if kind == code::NAME {
+        return words::nth_word(operands, at) < 256;
+    }
+    false
+}
+
+// So many parts, one after the other. An atom is one node, and needs no call.
 fn read_parts(kinds: &[u8], operands: &[u8], at: usize, count: u8, levels: u64) -> Read
     ensures { λ r. ⌜ r ≡ repeated count (λ p. told (part (now (kinds .entry)) (now (operands .entry)) levels p)) at ⌝ }
 {
     let mut p = at;
     let mut left = count;
     while 0 < left {
+        if is_atom(kinds, operands, p, levels) {
+            p = p + 1;
+            left = left - 1;
+            continue;
+        }
         match read_part(kinds, operands, p, levels) {
             Read::Next(q) => {
                 p = q;

@@ -5,10 +5,12 @@ use Rattle.script_read.proofs.Nodes.{seen, no-kind, no-operand, inside}
 use Rattle.script_read.proofs.Part.{stopped, deep, goes-down}
 use Rattle.script_read.proofs.Turns.{repeated-goes, repeated-stops, repeated-none}
 use Rattle.script_read.specs.Told.{told, repeated}
+use Rattle.script_read.specs.declared.Read.{Read}
 use Rattle.semantics.specs.File.{at-part, part}
 use Prim.Native.Nat.{_+_, _*_, _-_, _≤_, ℕ, _<_}
 use native.Mathlib.Omega.{arith}
 use mathlib.Core.Path.{_≡_, refl, sym, _∙_}
+use mathlib.Core.List.{List}
 use borrow.Author.Needs.{needs}
 use borrow.Fn.Kinds.{In}
 use borrow.Fn.PlainCycle.{Measures, is, falls, and}
@@ -20,6 +22,7 @@ use Rattle.script_read.proofs.read_parts.Kinds as read-parts-kinds
 use Rattle.script_read.proofs.+read_part+read_parts.Lts-read_parts as read-parts-lts
 use Rattle.script_read.proofs.node_at.Reads as node-at-reads
 use Rattle.script_read.proofs.parts_of.Reads as parts-of-reads
+use Rattle.script_read.proofs.is_atom.Reads as is-atom-reads
 use Rattle.script_read.proofs.+read_part+read_parts.{statement}
 use Rattle.script_read.proofs.+read_part+read_parts.Tie.{close}
 
@@ -55,7 +58,7 @@ read-part-claims t = (
 )
 
 abbrev read-parts-claims : ℕ → read-parts-lts.Claims
-read-parts-claims t = (read-part-below t, read-part.Post)
+read-parts-claims t = (is-atom-reads.Asked, is-atom-reads.Learnt, read-part-below t, read-part.Post)
 
 read-part-returns : (t : ℕ) → read-part-lts.Need-returns (read-part-claims t) (read-part-at t) read-part.Post
 read-part-returns t c = let a = c .before .before .before .before .before .before .before .args in
@@ -105,45 +108,56 @@ read-parts-loop-holds : (t : ℕ) →
     read-parts-μ-loop
 read-parts-loop-holds t c = (omega arith, refl)
 
-read-parts-returns :
-    (t : ℕ) →
-    read-parts-lts.Need-returns
-    (read-part-below t, read-part.Post)
-    (read-parts-at t)
-    read-parts.Post
-    read-parts-Inv-loop
-    read-parts-μ-loop
-read-parts-returns t c = let a = c .before .before .before .before .before .before .before .before .args in
-    repeated-stops (λ q. told (part (a .kinds .now) (a .operands .now) (a .levels) q)) (a .count)
-    (c .before .before .before .before .before .loop .left) (a .at)
-    (c .before .before .before .before .before .loop .p) (c .before .n .given .0 .0) (c .before .n .given .0 .1 .0)
-    (c .before .before .before .read-part .result) (c .before .before .before .before .before .loop .inv .1)
-    (c .before .before .before .before .loop-test .taken) (c .before .before .before .read-part .ensures)
-    (c .before .n .given .1)
+-- what the code reads of the parts from a node on
+abbrev parts-read : List ℕ → List ℕ → ℕ → ℕ → Read
+parts-read kinds operands levels = λ q. told (part kinds operands levels q)
 
+-- an atom
 read-parts-loop-again : (t : ℕ) →
     read-parts-lts.Need-loop-again (read-parts-claims t) (read-parts-at t) read-parts.Post read-parts-Inv-loop
     read-parts-μ-loop
-read-parts-loop-again t c = let a = c .before .before .before .before .before .before .before .before .args in (
-  omega arith,
-  repeated-goes (λ q. told (part (a .kinds .now) (a .operands .now) (a .levels) q)) (a .count)
-      (c .before .before .before .before .before .loop .left) (a .at)
-      (c .before .before .before .before .before .loop .p) (c .before .q .given .0 .0)
-      (c .before .before .before .read-part .result) (c .before .before .before .before .before .loop .inv .1)
-      (c .before .before .before .before .loop-test .taken) (c .before .before .before .read-part .ensures)
-      (c .before .q .given .1),
-)
+read-parts-loop-again t c =
+    let a = c .before .before .before .before .before .before .args in
+    let at-loop = c .before .before .before .loop in
+    let goes = c .before .is-atom .ensures (c .if1 .taken) in (
+      omega arith,
+      repeated-goes (parts-read (a .kinds .now) (a .operands .now) (a .levels)) (a .count) (at-loop .left) (a .at)
+          (at-loop .p) (at-loop .p + 1) _ (at-loop .inv .1) (c .before .before .loop-test .taken) (goes .1) refl,
+    )
 
-read-parts-returns-2 :
-    (t : ℕ) →
-    read-parts-lts.Need-returns-2
-    (read-part-below t, read-part.Post)
-    (read-parts-at t)
-    read-parts.Post
-    read-parts-Inv-loop
+-- any other part
+read-parts-returns : (t : ℕ) →
+    read-parts-lts.Need-returns (read-parts-claims t) (read-parts-at t) read-parts.Post read-parts-Inv-loop
     read-parts-μ-loop
-read-parts-returns-2 t c = let a = c .before .before .before .before .args in
-    repeated-none (λ q. told (part (a .kinds .now) (a .operands .now) (a .levels) q)) (c .before .loop .left)
+read-parts-returns t c =
+    let part-read = c .before .before .before .read-part in
+    let at-test = c .before .before .before .before .before .before in
+    let at-loop = at-test .before .loop in
+    let a = at-test .before .before .before .before .args in
+    repeated-stops (parts-read (a .kinds .now) (a .operands .now) (a .levels)) (a .count) (at-loop .left) (a .at)
+    (at-loop .p) (c .before .n .given .0 .0) (c .before .n .given .0 .1 .0) (part-read .result) (at-loop .inv .1)
+    (at-test .loop-test .taken) (part-read .ensures) (c .before .n .given .1)
+
+read-parts-loop-again-2 : (t : ℕ) →
+    read-parts-lts.Need-loop-again-2 (read-parts-claims t) (read-parts-at t) read-parts.Post read-parts-Inv-loop
+    read-parts-μ-loop
+read-parts-loop-again-2 t c =
+    let part-read = c .before .before .before .read-part in
+    let at-test = c .before .before .before .before .before .before in
+    let at-loop = at-test .before .loop in
+    let a = at-test .before .before .before .before .args in (
+      omega arith,
+      repeated-goes (parts-read (a .kinds .now) (a .operands .now) (a .levels)) (a .count) (at-loop .left) (a .at)
+          (at-loop .p) (c .before .q .given .0 .0) (part-read .result) (at-loop .inv .1) (at-test .loop-test .taken)
+          (part-read .ensures) (c .before .q .given .1),
+    )
+
+read-parts-returns-2 : (t : ℕ) →
+    read-parts-lts.Need-returns-2 (read-parts-claims t) (read-parts-at t) read-parts.Post read-parts-Inv-loop
+    read-parts-μ-loop
+read-parts-returns-2 t c =
+    let a = c .before .before .before .before .args in
+    repeated-none (parts-read (a .kinds .now) (a .operands .now) (a .levels)) (c .before .loop .left)
     (c .before .loop .p) (omega arith) ∙ sym (c .before .loop .inv .1)
 
 pub +read-part+read-parts-spec : {M : Type 1} → statement M
@@ -162,6 +176,8 @@ pub +read-part+read-parts-spec : {M : Type 1} → statement M
     (read-part-returns-2 t)
     (read-part-returns-3 t)
     (read-part-returns-4 t))
-    λ t. read-parts-lts.spec (read-part-below t, read-part.Post) (read-parts-at t) read-parts.Post read-parts-Inv-loop
-    read-parts-μ-loop (read-parts-loop-holds t) (λ c κs. search needs) (λ c. search needs) (λ c. search needs)
-    (read-parts-returns t) (λ c. search needs) (λ c. search needs) (read-parts-loop-again t) (read-parts-returns-2 t)
+    λ t. read-parts-lts.spec (read-parts-claims t) (read-parts-at t) read-parts.Post read-parts-Inv-loop
+    read-parts-μ-loop (read-parts-loop-holds t) (λ c κs. search needs)
+    (λ c. omega (arith, c .before .is-atom .ensures (c .if1 .taken) .0)) (λ c. search needs) (λ c. search needs)
+    (read-parts-loop-again t) (λ c κs. search needs) (λ c. search needs) (λ c. search needs) (read-parts-returns t)
+    (λ c. search needs) (λ c. search needs) (read-parts-loop-again-2 t) (read-parts-returns-2 t)
