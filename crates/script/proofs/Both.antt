@@ -28,9 +28,9 @@ use Rattle.script_read.proofs.Written.{ScriptWritten}
 use Rattle.script_read.proofs.Ends.{node-inside}
 use Rattle.script_names.specs.Walk.{named, named-node, named-parameter, named-head, calls-none, names, names-from}
 use Rattle.script_names.specs.Walk.{names-function}
-use Rattle.script_depths.specs.Walk.{Parts-typed, all, fault, ruled, signature-at, called, rule-of, plain-typed, typed}
-use Rattle.script_depths.specs.Walk.{typed-node, known-name, known-signature, known-types, any-name, any-signature}
-use Rattle.script_depths.specs.Walk.{types}
+use Rattle.script_rules.specs.Rules.{signature-at, called, rule-of, known-signature}
+use Rattle.script_depths.specs.Walk.{Parts-typed, all, fault, ruled, plain-typed, typed, typed-node, known-name}
+use Rattle.script_depths.specs.Walk.{known-types, any-name, any-signature, types}
 use Rattle.script_depths.specs.declared.Typed.{Typed}
 use Rattle.script_types.specs.Functions as F
 use Rattle.script_types.specs.Functions.{ended, typed-parameter, known-from, known-function, known-script, types-from}

@@ -14,7 +14,8 @@ use Rattle.semantics.specs.Types.{some-if, same, all-are, literal-rule, index-r
 use Rattle.semantics.specs.Types.{if-rule, iota-rule, replicate-rule, number-rule}
 use Rattle.script_read.specs.Told.{high-of, high-at}
 use Rattle.script_read.proofs.Nodes.{NodeFits, node-fits}
-use Rattle.script_depths.specs.Walk.{signature-at, called, rule-of, array-rule, loop-ruled, any-signature}
+use Rattle.script_rules.specs.Rules.{signature-at, called, rule-of, array-rule, loop-ruled}
+use Rattle.script_depths.specs.Walk.{any-signature}
 
 -- depths of at most 4
 abbrev pub Shallow : List ℕ → Type 0

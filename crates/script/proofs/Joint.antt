@@ -16,8 +16,9 @@ use Rattle.script_read.specs.declared.Read.{Read}
 use Rattle.script_read.specs.declared.Read.the-variants as R
 use Rattle.script_read.proofs.Sorts.{parts-before, loop-parts}
 use Rattle.script_read.proofs.Turns.{and-none, repeated-last}
-use Rattle.script_depths.specs.Walk.{Parts-typed, all, fault, more, and-parts, collect, by-rule, ruled, loop-ruled}
-use Rattle.script_depths.specs.Walk.{let-typed, start-typed, loop-ended, array-typed, loop-typed, known-name, any-name}
+use Rattle.script_rules.specs.Rules.{loop-ruled}
+use Rattle.script_depths.specs.Walk.{Parts-typed, all, fault, more, and-parts, collect, by-rule, ruled, let-typed}
+use Rattle.script_depths.specs.Walk.{start-typed, loop-ended, array-typed, loop-typed, known-name, any-name}
 use Rattle.script_depths.specs.declared.Typed.{Typed}
 use Rattle.script_depths.specs.declared.Typed.the-variants.{Depth, Fault}
 use Rattle.script.proofs.Bounds.{Shallow, Bounded, loop-bounded}

@@ -2,7 +2,7 @@
 use mathlib.Core.Path.{_≡_, refl, sym, ap, _∙_}
 use mathlib.Core.List.{List, [], _∷_, _++_, append-assoc, append-nil}
 use mathlib.Core.Bool.{true, false}
-use mathlib.Core.Option.{Option}
+use mathlib.Core.Option.{Option, none, some}
 use mathlib.Core.Logic.{_⊎_, ⊎-elim}
 use Prim.Native.Nat.{ℕ, zero, suc, _+_, _-_, _<_, _≤_}
 use native.Mathlib.Omega.{arith}
@@ -18,14 +18,30 @@ use Rattle.script_read.specs.declared.Node.the-variants.{WrongKind, WrongOperan
 use Rattle.script_read.proofs.Nodes.{Seen, unfit, getD-any}
 use Rattle.script_read.proofs.Turns.{less-one}
 use Rattle.script_read.proofs.Tables.{table-set, table-set-two, table-at}
-use Rattle.script_depths.proofs.Rules.{ruled-good, ruled-bad}
 use Rattle.script_depths.specs.declared.Typed.{Typed}
 use Rattle.script_depths.specs.declared.Typed.the-variants.{Depth, Fault}
-use Rattle.script_depths.specs.declared.Judged.{Judged}
-use Rattle.script_depths.specs.declared.Judged.the-variants.{Has, Broken}
-use Rattle.script_depths.specs.Walk.{depths, known-name, known-signature, rule-of, told-rule, Parts-typed, all}
-use Rattle.script_depths.specs.Walk.{fault, more, and-parts, collect, by-rule, let-typed, start-typed, loop-ended}
-use Rattle.script_depths.specs.Walk.{array-typed, loop-typed, typed, known-plain, known-types}
+use Rattle.script_rules.specs.declared.Judged.{Judged}
+use Rattle.script_rules.specs.declared.Judged.the-variants.{Has, Broken}
+use Rattle.script_rules.specs.Rules.{known-signature, rule-of, told-rule}
+use Rattle.script_depths.specs.Walk.{depths, known-name, Parts-typed, all, fault, more, and-parts, collect}
+use Rattle.script_depths.specs.Walk.{by-rule, let-typed, start-typed, loop-ended, array-typed, loop-typed, typed}
+use Rattle.script_depths.specs.Walk.{known-plain, known-types}
+
+-- a judgement says what the rule gives
+module _ (o : Option ℕ) (j : Judged) (e : j ≡ told-rule o) (p q : ℕ) where
+  pub ruled-good : (t : ℕ) → j ≡ Has t → Depth t q ≡ by-rule p q o
+  ruled-good t f = go o (sym f ∙ e)
+    where
+      go : (o : Option ℕ) → Has t ≡ told-rule o → Depth t q ≡ by-rule p q o
+      go (some u) g = let h : t ≡ u = cc in rw h
+      go none g = let z : _≡_ {A = ℕ} 0 1 = cc in absurd (omega arith)
+
+  pub ruled-bad : j ≡ Broken → Fault p ≡ by-rule p q o
+  ruled-bad f = go o (sym f ∙ e)
+    where
+      go : (o : Option ℕ) → Broken ≡ told-rule o → Fault p ≡ by-rule p q o
+      go (some u) g = let z : _≡_ {A = ℕ} 0 1 = cc in absurd (omega arith)
+      go none g = refl
 
 -- the entry of a name
 pub entry : (t : List ℕ) (x : ℕ) → length t ≡ 256 → x < 256 → depths t x ≡ getD t x 0

@@ -1,4 +1,3 @@
 -- The laws that the proofs of `script_depths` share.
-pub mod Rules
 pub mod Laws
 pub mod Tree

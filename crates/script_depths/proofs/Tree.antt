@@ -27,10 +27,10 @@ use Rattle.script_read.proofs.Tables.{updated-twice}
 use Rattle.script_read.proofs.Written.{amount, Written, AllWritten}
 use Rattle.script_depths.specs.declared.Typed.{Typed}
 use Rattle.script_depths.specs.declared.Typed.the-variants.{Depth, Fault}
-use Rattle.script_depths.specs.Walk.{signature-of, rule-of, loop-ruled, Parts-typed, all, fault, more}
-use Rattle.script_depths.specs.Walk.{and-parts, collect, by-rule, ruled, let-typed, start-typed, loop-ended}
-use Rattle.script_depths.specs.Walk.{array-typed, loop-typed, plain-typed, typed, any-name, any-signature}
-use Rattle.script_depths.specs.Walk.{types}
+use Rattle.script_rules.specs.Rules.{signature-of, rule-of, loop-ruled}
+use Rattle.script_depths.specs.Walk.{Parts-typed, all, fault, more, and-parts, collect, by-rule, ruled}
+use Rattle.script_depths.specs.Walk.{let-typed, start-typed, loop-ended, array-typed, loop-typed, plain-typed}
+use Rattle.script_depths.specs.Walk.{typed, any-name, any-signature, types}
 
 -- what the walk tells of a tree is what the check finds
 pub data Tells (c : Checked) (q : ℕ) : Typed → Type 0 where

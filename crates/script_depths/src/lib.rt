@@ -3,6 +3,8 @@
 // known has the entry UNKNOWN, which is no depth.
 use script_read::Node;
 use script_read::Place;
+use script_rules::Head;
+use script_rules::Judged;
 ghost use mathlib.Core.Path.{_≡_};
 ghost use Prim.Native.Nat.{_+_, _<_, _≤_};
 ghost use lib.ListN.{length, getD};
@@ -10,17 +12,8 @@ ghost use Rattle.semantics.specs.File.{low-limits, high-limits};
 ghost use Rattle.script_depths.specs.Walk.{depths, let-typed, start-typed, loop-ended, loop-typed, known-plain};
 ghost use Rattle.script_depths.specs.Walk.{known-types};
 
-mod judging;
-
 // The entry of a name that is not known.
 pub const UNKNOWN: u8 = 255;
-
-// A node: its kind and the two parts of its operand.
-pub struct Head {
-    pub kind: u8,
-    pub low: u8,
-    pub high: u8,
-}
 
 // A depth and the next node, or a node that breaks the rule.
 pub enum Typed {
@@ -28,18 +21,12 @@ pub enum Typed {
     Fault(usize),
 }
 
-// A depth, or none.
-pub enum Judged {
-    Has(u8),
-    Broken,
-}
-
 // A loop at node at, by the depths of its start and its array and by what its body gives.
 fn end_loop(at: usize, kind: u8, start: u8, array: u8, body: Typed) -> Typed
     ensures { λ r. ⌜ r ≡ loop-ended at kind start array body ⌝ }
 {
     match body {
-        Typed::Depth(d, q) => match judging::judge_loop(kind, start, array, d) {
+        Typed::Depth(d, q) => match script_rules::judge_loop(kind, start, array, d) {
             Judged::Has(e) => Typed::Depth(e, q),
             Judged::Broken => Typed::Fault(at),
         },
@@ -221,7 +208,7 @@ fn type_plain(
         }
         i = i + 1;
     }
-    match judging::judge(kinds, operands, starts, node, &ds) {
+    match script_rules::judge(kinds, operands, starts, node, &ds) {
         Judged::Has(d) => Typed::Depth(d, p),
         Judged::Broken => Typed::Fault(at),
     }

@@ -20,10 +20,11 @@ use Rattle.script_read.proofs.Nodes.{Seen, unfit}
 use Rattle.script_read.proofs.Turns.{less-one}
 use Rattle.script_read.proofs.Tables.{table-set, table-fresh}
 use Rattle.script_depths.proofs.Laws.{entry}
-use Rattle.script_depths.specs.Walk.{depths, depths-from, signature-at, known-types}
+use Rattle.script_rules.specs.Rules.{depths-from, signature-at}
+use Rattle.script_depths.specs.Walk.{depths, known-types}
 use Rattle.script_depths.specs.declared.Typed.{Typed}
 use Rattle.script_depths.specs.declared.Typed.the-variants.{Depth, Fault}
-use Rattle.script_depths.proofs.Rules.{counts-differ, depths-length}
+use Rattle.script_rules.proofs.Rules.{counts-differ, depths-length}
 use Rattle.script_types.specs.Functions.{typed-parameter, fresh-name, ended, known-from, known-function}
 use Rattle.script_types.specs.Functions.{known-script}
 

@@ -17,10 +17,11 @@ use Rattle.script_read.specs.declared.Read.the-variants.{Next, Refused}
 use Rattle.script_read.proofs.Written.{Written, HeadAt, ParametersWritten, FunctionWritten, ScriptWritten}
 use Rattle.script_read.proofs.Found.{Finds, follow}
 use Rattle.script_read.specs.Starts.{start-of}
-use Rattle.script_depths.specs.Walk.{depths-from, signature-at, signature-of, all, and-parts, by-rule, ruled}
+use Rattle.script_rules.specs.Rules.{depths-from, signature-at, signature-of}
+use Rattle.script_depths.specs.Walk.{all, and-parts, by-rule, ruled}
 use Rattle.script_depths.specs.declared.Typed.{Typed}
 use Rattle.script_depths.specs.declared.Typed.the-variants.{Depth, Fault}
-use Rattle.script_depths.proofs.Rules.{signature-past}
+use Rattle.script_rules.proofs.Rules.{signature-past}
 use Rattle.script_depths.proofs.Tree.{Tells, good, bad, by-its-rule, next-part, no-parts, known, entered, types-tree}
 use Rattle.script_types.specs.Functions.{types-from, types-function, types-script, ended}
 

@@ -10,7 +10,8 @@ use Rattle.semantics.specs.Types.{main-shape}
 use Rattle.script_read.specs.Told.{repeated}
 use Rattle.script_read.specs.declared.Read.{Read}
 use Rattle.script_read.specs.declared.Read.the-variants.{Next, Refused}
-use Rattle.script_depths.specs.Walk.{types, known-types, signature-at}
+use Rattle.script_rules.specs.Rules.{signature-at}
+use Rattle.script_depths.specs.Walk.{types, known-types}
 use Rattle.script_depths.specs.declared.Typed.{Typed}
 use Rattle.script_depths.specs.declared.Typed.the-variants.{Depth, Fault}
 

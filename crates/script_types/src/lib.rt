@@ -8,7 +8,8 @@ ghost use mathlib.Core.Path.{_≡_};
 ghost use Prim.Native.Nat.{_+_, _<_};
 ghost use Rattle.semantics.specs.Types.{main-shape};
 ghost use lib.ListN.{length};
-ghost use Rattle.script_depths.specs.Walk.{depths, signature-at};
+ghost use Rattle.script_rules.specs.Rules.{signature-at};
+ghost use Rattle.script_depths.specs.Walk.{depths};
 ghost use Rattle.script_types.specs.Functions.{known-from, known-function, known-script};
 
 // Whether main takes the totals and the readings, and gives new totals.

@@ -21,7 +21,7 @@ use Rattle.script_read.proofs.node_at.Reads as node-at-reads
 use Rattle.script_read.proofs.parts_of.Reads as parts-of-reads
 use Rattle.script_read.proofs.is_loop.Reads as is-loop-reads
 use Rattle.script_read.proofs.second_name.Reads as second-name-reads
-use Rattle.script_depths.proofs.judging.judge.Reads as judge-reads
+use Rattle.script_rules.proofs.judge.Reads as judge-reads
 use Rattle.script_depths.proofs.end_loop.Reads as end-loop-reads
 
 abbrev pub μ-let : Measures 4 type-let-kinds.ps ℕ

@@ -5,7 +5,7 @@ use mathlib.Core.Path.{_≡_, refl, ap, _∙_}
 use lib.ListN.{length}
 use Rattle.semantics.specs.File.{part-count}
 use Rattle.script_depths.specs.Walk.{depths, known-types}
-use Rattle.script_depths.proofs.Rules.{few-parts}
+use Rattle.script_rules.proofs.Rules.{few-parts}
 use Rattle.script_depths.proofs.Laws.{Going, going-starts, going-on, part-faulty, judged-good, judged-bad}
 use Rattle.script_depths.proofs.type_plain.Reads as type-plain
 use Rattle.script_depths.proofs.+type_let+type_loop+type_part+type_plain+type_start.Lts-type_plain as plain-lts

@@ -1,0 +1,2 @@
+-- The modules of `script_rules`' specs.
+pub mod Rules
