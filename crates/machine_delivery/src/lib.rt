@@ -44,7 +44,7 @@ fn release_totals(slots: &mut [i64], heads: &mut [u32], depth: u32, old: i64)
         ≡ released-totals depth old (store-of (now (slots .entry)) (now (heads .entry))) ⌝ }
 {
     if depth != 0 {
-        store::release(slots, heads, store_words::named_cell(old), 4);
+        store_release::release(slots, heads, store_words::named_cell(old), 4);
     }
 }
 

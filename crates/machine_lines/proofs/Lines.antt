@@ -21,10 +21,11 @@ use Rattle.semantics.specs.Words.{store-of, cells-in}
 use Rattle.words.specs.Words.{exact-outcome, checked}
 use Rattle.words.specs.declared.Exact.{Exact}
 use Rattle.words.specs.declared.Exact.the-variants.{Value, Overflow}
-use Rattle.store.specs.Acquiring.{Gained, gained, acquired-outcome, next-cell, Releases}
+use Rattle.store.specs.Acquiring.{Gained, gained, acquired-outcome, next-cell}
 use Rattle.store.specs.declared.Acquired.{Acquired}
 use Rattle.store.specs.declared.Acquired.the-variants.{Cell, NoneFree}
 use Rattle.store.proofs.Filling.{cell-given}
+use Rattle.store_release.specs.Releasing.{Releases}
 use Rattle.store_words.proofs.CellWords.{few-cells, store-size, length-in, length-out}
 use Rattle.code.specs.declared.Atom.{Atom}
 use Rattle.code.specs.declared.Atom.the-variants.{Name}

@@ -175,7 +175,7 @@ pub fn work_leaf(
         }
         Line::Release(x) => {
             let cell = store_words::named_cell(machine_frames::word_of(env, calls, Atom::Name(x)));
-            let freed = store::release(slots, heads, cell, 4);
+            let freed = store_release::release(slots, heads, cell, 4);
             machine_frames::raise_level(env, freed);
             machine_frames::done(0, at + 1, steps)
         }

@@ -14,7 +14,7 @@ use borrow.Author.Tests.{eq-eqb, ne-eqb}
 use Rattle.semantics.specs.Number.{is-answer}
 use Rattle.semantics.specs.Store.{Store, cell-of, appended, overwritten, retained, cells-taken}
 use Rattle.semantics.specs.Words.{store-of}
-use Rattle.store.specs.Acquiring.{Releases}
+use Rattle.store_release.specs.Releasing.{Releases}
 use Rattle.machine_frames.specs.declared.Out.{Out}
 use Rattle.machine_frames.specs.Frames.{raised}
 use Rattle.machine_frames.specs.Work.{Memory, memory, ran, out, bound}

@@ -307,7 +307,7 @@ fn release_array(slots: &mut [i64], heads: &mut [u32], env: &mut [i64; FRAME_WOR
     let way = l.way;
     if let Way::Fill(releases) = way {
         if releases {
-            let freed = store::release(slots, heads, l.from, 4);
+            let freed = store_release::release(slots, heads, l.from, 4);
             machine_frames::raise_level(env, freed);
         }
     }

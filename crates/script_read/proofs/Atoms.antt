@@ -7,7 +7,6 @@ use lib.ListN.{length, getD}
 use Rattle.semantics.specs.Number.{bytes-at}
 use Rattle.semantics.specs.File.{at-part, allowed, node-at, part-count, part}
 use Rattle.script_read.specs.Told.{told}
-use Rattle.script_read.specs.declared.Node.{Node}
 use Rattle.script_read.specs.declared.Node.the-variants.{Fits}
 use Rattle.script_read.specs.declared.Read.the-variants.{Next}
 use Rattle.script_read.proofs.Nodes.{told-node, node-says, seen, inside, number, judged, in-range}

@@ -1,4 +1,4 @@
--- Acquiring a cell and freeing one: a law for each way out of the code.
+-- Acquiring a cell: a law for each way out of the code.
 use mathlib.Core.Path.{_≡_, refl, sym}
 use mathlib.Core.Bool.{true, false}
 use mathlib.Core.List.{List, []}
@@ -8,21 +8,11 @@ use lib.IntN.{ℤ}
 use lib.ListN.{getD}
 use borrow.Author.Tests.{lt-ltb, le-ltb}
 use Rattle.semantics.specs.Outcome.{done, stop}
-use Rattle.semantics.specs.Store.{cell-count, with-first, has-free, filled, acquired, freed}
+use Rattle.semantics.specs.Store.{cell-count, with-first, has-free, filled, acquired}
 use Rattle.semantics.specs.Words.{cells-in, store-of}
 use Rattle.store_words.proofs.CellWords.{store-size, first-is, next-is}
-use Rattle.store_words.proofs.Written.{Written, written-store, cleared-store}
+use Rattle.store_words.proofs.Written.{Written, written-store}
 use Rattle.store.specs.Acquiring.{gained, next-cell}
-
--- ---- a cell freed
-
-pub freed-store : {slots : List ℤ} {heads : List ℕ} {c : ℕ} {slots′ : List ℤ} {heads′ : List ℕ} →
-    Written slots heads c c 0 0 0 (getD heads 0 0) slots′ heads′ → c < cells-in slots heads →
-    store-of slots′ heads′ ≡ freed c (store-of slots heads)
-unfolding freed store-of
-freed-store w h = cleared-store w h
-
--- ---- a cell acquired
 
 module _ (slots : List ℤ) (heads : List ℕ) where
   first-in : getD heads 0 0 < cells-in slots heads → has-free (store-of slots heads) ≡ true

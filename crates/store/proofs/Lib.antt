@@ -4,4 +4,3 @@ pub mod Acquiring
 pub mod Appending
 mod Overwriting
 pub mod Filling
-pub mod Releasing

@@ -1,11 +1,10 @@
 -- What an acquire answers, and elements appended one after another.
 use mathlib.Core.Bool.{cond}
-use mathlib.Core.Path.{_≡_}
 use mathlib.Core.List.{List, [], _∷_}
-use Prim.Native.Nat.{ℕ, _+_, _-_, _≤_}
+use Prim.Native.Nat.{ℕ, _-_}
 use lib.IntN.{ℤ}
 use Rattle.semantics.specs.Outcome.{Outcome, done, stop}
-use Rattle.semantics.specs.Store.{Store, has-free, appended, released, cells-taken}
+use Rattle.semantics.specs.Store.{Store, has-free, appended}
 use Rattle.store.specs.declared.Acquired.{Acquired}
 use Rattle.store.specs.declared.Acquired.the-variants.{Cell, NoneFree}
 
@@ -25,12 +24,6 @@ acquired-outcome NoneFree = stop 25 tt
 -- the free list's first cell, before which so many were free, and where there is none 25
 unfoldable pub next-cell : ℕ → Store → Outcome (Unit {0}) Gained
 next-cell free σ = cond (has-free σ) (done (gained (σ .first) (free - 1)) tt) (stop 25 tt)
-
--- a release of a cell down some levels, which freed n cells
-pub record Releases (levels c : ℕ) (σ σ′ : Store) (n : ℕ) : Type 0 where
-  pub store : σ′ ≡ released levels c σ
-  pub freed : n + cells-taken σ′ ≡ cells-taken σ
-  pub few : n ≤ 256
 
 -- words appended to a cell, first to last
 unfoldable pub appended-all : ℕ → List ℤ → Store → Store

@@ -1,12 +1,12 @@
--- `store::free` meets its contract.
+-- `store_release::free` meets its contract.
 use mathlib.Core.Path.{_∙_}
 use native.Mathlib.Omega.{arith}
 use lib.ListN.{length-set}
 use borrow.Author.Needs.{needs}
 use Rattle.store_words.proofs.CellWords.{to-cells}
-use Rattle.store.proofs.Acquiring.{freed-store}
-use Rattle.store.proofs.free.Statement.{statement}
-use Rattle.store.proofs.free.Tie as tie
+use Rattle.store_release.proofs.Releasing.{freed-store}
+use Rattle.store_release.proofs.free.Statement.{statement}
+use Rattle.store_release.proofs.free.Tie as tie
 
 same-length-2 : tie.Need-same-length-2
 same-length-2 c =

@@ -1,4 +1,4 @@
--- `store::slots_of` meets its contract.
+-- `store_release::slots_of` meets its contract.
 use mathlib.Core.Path.{refl}
 use Prim.Native.Nat.{_+_, _*_, _-_, _≤_}
 use native.Mathlib.Omega.{arith}
@@ -7,8 +7,8 @@ use lib.ListN.{getD}
 use mir.Facts.{toZ-ofZ}
 use borrow.Author.Needs.{needs}
 use Rattle.store_words.proofs.SlotLoops.{Reading, reading-none, reading-more, reading-all}
-use Rattle.store.proofs.slots_of.Statement.{statement}
-use Rattle.store.proofs.slots_of.Tie as tie
+use Rattle.store_release.proofs.slots_of.Statement.{statement}
+use Rattle.store_release.proofs.slots_of.Tie as tie
 
 abbrev Inv-loop : tie.InvT-loop
 Inv-loop slots c r₀ i₀ r i = (i ≤ 16) × Reading slots c r i

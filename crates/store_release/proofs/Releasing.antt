@@ -1,4 +1,4 @@
--- Laws of a release, one for each way out of the code, and of the loop over a freed cell's elements.
+-- Laws of a release, one for each way out of the code, of freeing a cell, and of the loop over its elements.
 use mathlib.Core.Path.{_≡_, refl, sym, ap, _∙_}
 use mathlib.Core.List.{List, [], map}
 use Prim.Native.Nat.{ℕ, zero, suc, _+_, _-_, _*_, _<_, _≤_, min}
@@ -18,7 +18,8 @@ use Rattle.store_words.proofs.Naming.{inner-are}
 use Rattle.store_words.proofs.Each.{Doing, doing-none, doing-more, doing-all}
 use Rattle.store_words.proofs.Puts.{count-store}
 use Rattle.store_words.proofs.Counting.{taken-few}
-use Rattle.store.specs.Acquiring.{Releases}
+use Rattle.store_words.proofs.Written.{Written, cleared-store}
+use Rattle.store_release.specs.Releasing.{Releases}
 
 -- ---- nothing to do
 
@@ -71,6 +72,14 @@ released-less slots heads (suc levels) c p h b = record {
         (with-count (cell (store-of slots heads) c) (suc (getD heads (1 + 4 * c) 0 - 2)))
     written = count-store slots heads c (getD heads (1 + 4 * c) 0 - 1) h
         ∙ ap (λ (n : ℕ). with-cell (store-of slots heads) c (with-count (cell (store-of slots heads) c) n)) less
+
+-- ---- a cell freed
+
+pub freed-store : {slots : List ℤ} {heads : List ℕ} {c : ℕ} {slots′ : List ℤ} {heads′ : List ℕ} →
+    Written slots heads c c 0 0 0 (getD heads 0 0) slots′ heads′ → c < cells-in slots heads →
+    store-of slots′ heads′ ≡ freed c (store-of slots heads)
+unfolding freed store-of
+freed-store w h = cleared-store w h
 
 -- ---- the elements of a freed cell, first to last
 

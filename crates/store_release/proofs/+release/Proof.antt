@@ -1,4 +1,4 @@
--- `store::release` meets its contract.
+-- `store_release::release` meets its contract.
 use mathlib.Core.Path.{_≡_, refl, ap, _∙_}
 use Prim.Native.Nat.{_+_, _-_, _*_, _≤_, ℕ, _<_}
 use native.Mathlib.Omega.{arith}
@@ -11,19 +11,19 @@ use borrow.Fn.PlainCycle.{Measures, is, falls, and}
 use Rattle.semantics.specs.Words.{store-of}
 use Rattle.store_words.specs.Parts.{InCells}
 use Rattle.store_words.proofs.CellWords.{told-there, told-gone, slots-length}
-use Rattle.store.proofs.Releasing.{no-levels, released-out, released-free}
-use Rattle.store.proofs.Releasing.{released-less, released-flat, released-all}
-use Rattle.store.proofs.Releasing.{Releasing, releasing-none, releasing-more}
-use Rattle.store.proofs.release.Reads as release
-use Rattle.store.proofs.release.Kinds as release-kinds
-use Rattle.store.proofs.+release.Lts-release as release-lts
+use Rattle.store_release.proofs.Releasing.{no-levels, released-out, released-free}
+use Rattle.store_release.proofs.Releasing.{released-less, released-flat, released-all}
+use Rattle.store_release.proofs.Releasing.{Releasing, releasing-none, releasing-more}
+use Rattle.store_release.proofs.release.Reads as release
+use Rattle.store_release.proofs.release.Kinds as release-kinds
+use Rattle.store_release.proofs.+release.Lts-release as release-lts
 use Rattle.store_words.proofs.at_most.Reads as at-most-reads
 use Rattle.store_words.proofs.is_cell.Reads as is-cell-reads
-use Rattle.store.proofs.free.Reads as free-reads
+use Rattle.store_release.proofs.free.Reads as free-reads
 use Rattle.store_words.proofs.named_cell.Reads as named-cell-reads
-use Rattle.store.proofs.slots_of.Reads as slots-of-reads
-use Rattle.store.proofs.+release.{statement}
-use Rattle.store.proofs.+release.Tie.{close}
+use Rattle.store_release.proofs.slots_of.Reads as slots-of-reads
+use Rattle.store_release.proofs.+release.{statement}
+use Rattle.store_release.proofs.+release.Tie.{close}
 
 abbrev μ-release : Measures 2 release-kinds.ps ℕ
 μ-release κs a = a .1 .1 .1 .0

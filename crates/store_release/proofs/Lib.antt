@@ -1,0 +1,2 @@
+-- The laws that the proofs of `store_release` share.
+mod Releasing

@@ -1,0 +1,2 @@
+-- The modules of `store_release`'s specs.
+pub mod Releasing
