@@ -11,6 +11,8 @@ use Rattle.script_read.specs.declared.Place.{Place}
 use Rattle.script_read.specs.declared.Place.the-variants.{Function, Parameter, Part}
 use Rattle.script_read.specs.declared.Node.{Node}
 use Rattle.script_read.specs.declared.Node.the-variants.{Fits, WrongKind, WrongOperand}
+use Rattle.script_read.specs.declared.Atomic.{Atomic}
+use Rattle.script_read.specs.declared.Atomic.the-variants.{Number, Name, Other}
 use Rattle.script_read.specs.declared.Read.{Read}
 use Rattle.script_read.specs.declared.Read.the-variants.{Next, Refused}
 
@@ -45,6 +47,12 @@ node-outcome WrongOperand p = stop 4 p
 abbrev pub parted : Outcome ℕ S.Head → Outcome ℕ Parted
 parted (done h p) = done (record { kind = h .kind; low = h .low; high = h .high }) p
 parted (stop n p) = stop n p
+
+-- an atom is a number's or a name's node; nothing is said of other nodes
+abbrev pub AtomSeen : List ℕ → List ℕ → ℕ → Atomic → Type 0
+AtomSeen kinds operands p Number = node-outcome (Fits 2 0 0) p ≡ parted (S.look kinds operands S.at-part p)
+AtomSeen kinds operands p (Name x) = node-outcome (Fits 3 x 0) p ≡ parted (S.look kinds operands S.at-part p)
+AtomSeen kinds operands p Other = Unit {0}
 
 -- the two parts of a node's operand; 0 where no node fits
 abbrev pub low-of : S.Node → ℕ
@@ -91,8 +99,8 @@ repeated zero f p = Next p
 repeated (suc c) f p = and-next (f p) (repeated c f)
 
 -- where r says that an atom stands at node p, the reader goes on behind it
-abbrev pub Atomic : List ℕ → List ℕ → ℕ → ℕ → Bool → Type 0
-Atomic kinds operands levels p r =
+abbrev pub Passes : List ℕ → List ℕ → ℕ → ℕ → Bool → Type 0
+Passes kinds operands levels p r =
     r ≡ true → (p < length kinds) × (Next (p + 1) ≡ told (S.part kinds operands levels p))
 
 -- the first of the faulty nodes with a refusal's number, or on to the next node

@@ -6,7 +6,7 @@ ghost use lib.ListN.{length, getD};
 ghost use Rattle.semantics.specs.File.{at-part, look, part-counts, part-count, part, parameter, function, script};
 ghost use Rattle.semantics.specs.File.{read-file, between};
 ghost use Rattle.script_read.specs.Told.{place-of, limits-at, node-outcome, parted, told, low-at, high-at};
-ghost use Rattle.script_read.specs.Told.{repeated, marked, said-parts, loops, second-name, Atomic};
+ghost use Rattle.script_read.specs.Told.{repeated, marked, said-parts, loops, second-name, AtomSeen, Passes};
 ghost use Rattle.script_read.specs.Starts.{Blank, Started-by};
 
 // Where a node stands.
@@ -21,6 +21,13 @@ pub enum Node {
     Fits(u8, u8, u8),
     WrongKind,
     WrongOperand,
+}
+
+// A node that is an atom: a number, or a name; or any other node.
+pub enum Atomic {
+    Number,
+    Name(u8),
+    Other,
 }
 
 // The next node, or a refusal: its number and its node.
@@ -217,21 +224,35 @@ pub fn read_part(kinds: &[u8], operands: &[u8], at: usize, levels: u64) -> Read
     }
 }
 
+// The atom at a node, if one stands there that fits: it is one node, and is looked at in few instructions.
+pub fn atom_at(kinds: &[u8], operands: &[u8], at: usize) -> Atomic
+    ensures { λ r. ⌜ AtomSeen (now (kinds .entry)) (now (operands .entry)) at r ⌝ }
+{
+    let kind = kind_at(kinds, at);
+    if kind == code::NUMBER {
+        return Atomic::Number;
+    }
+    if kind == code::NAME {
+        let name = words::nth_word(operands, at);
+        if name < 256 {
+            return Atomic::Name(name as u8);
+        }
+    }
+    Atomic::Other
+}
+
 // Whether an atom that fits stands at a node, with so many levels left.
 fn is_atom(kinds: &[u8], operands: &[u8], at: usize, levels: u64) -> bool
-    ensures { λ r. ⌜ Atomic (now (kinds .entry)) (now (operands .entry)) levels at r ⌝ }
+    ensures { λ r. ⌜ Passes (now (kinds .entry)) (now (operands .entry)) levels at r ⌝ }
 {
     if levels == 0 {
         return false;
     }
-    let kind = kind_at(kinds, at);
-    if kind == code::NUMBER {
-        return true;
+    match atom_at(kinds, operands, at) {
+        Atomic::Number => true,
+        Atomic::Name(_) => true,
+        Atomic::Other => false,
     }
-    if kind == code::NAME {
-        return words::nth_word(operands, at) < 256;
-    }
-    false
 }
 
 // So many parts, one after the other. An atom is one node, and needs no call.
