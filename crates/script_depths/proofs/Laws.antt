@@ -12,10 +12,11 @@ use lib.Seq.{take-suc-set}
 use borrow.Author.Tests.{eq-eqb, ne-eqb}
 use Rattle.semantics.specs.Basics.{updated}
 use Rattle.semantics.specs.File.{at-part, look, part-count}
-use Rattle.script_read.specs.Told.{node-outcome, parted, loops, second-name}
+use Rattle.script_read.specs.Told.{node-outcome, parted, loops, second-name, AtomSeen}
 use Rattle.script_read.specs.declared.Node.{Node}
-use Rattle.script_read.specs.declared.Node.the-variants.{WrongKind, WrongOperand}
-use Rattle.script_read.proofs.Nodes.{Seen, unfit, getD-any}
+use Rattle.script_read.specs.declared.Node.the-variants.{Fits, WrongKind, WrongOperand}
+use Rattle.script_read.specs.declared.Atomic.the-variants.{Number, Name}
+use Rattle.script_read.proofs.Nodes.{Seen, seen, inside, unfit, getD-any}
 use Rattle.script_read.proofs.Turns.{less-one}
 use Rattle.script_read.proofs.Tables.{table-set, table-set-two, table-at}
 use Rattle.script_depths.specs.declared.Typed.{Typed}
@@ -25,7 +26,7 @@ use Rattle.script_rules.specs.declared.Judged.the-variants.{Has, Broken}
 use Rattle.script_rules.specs.Rules.{known-signature, rule-of, told-rule}
 use Rattle.script_depths.specs.Walk.{depths, known-name, Parts-typed, all, fault, more, and-parts, collect}
 use Rattle.script_depths.specs.Walk.{by-rule, let-typed, start-typed, loop-ended, array-typed, loop-typed, typed}
-use Rattle.script_depths.specs.Walk.{known-plain, known-types}
+use Rattle.script_depths.specs.Walk.{known-plain, known-types, AtomTyped}
 
 -- a judgement says what the rule gives
 module _ (o : Option ℕ) (j : Judged) (e : j ≡ told-rule o) (p q : ℕ) where
@@ -96,6 +97,20 @@ module _ {k w : List ℕ} {p x y z : ℕ} (n : Seen k w at-part p x y z) (s : Li
           r ≡ known-plain k w s (known-types k w s (d - 1) γ) p x y z → Gives r
       unfolding known-plain
       any-other l r g = g ∙ sym (by-kind ∙ rw (ne-eqb x 2 f2, ne-eqb x 3 f3, ne-eqb x 7 f7, l))
+
+-- at an atom, with levels left
+module _ (k w : List ℕ) (d : ℕ) (γ : ℕ → ℕ) (p : ℕ) (deep : d ≡ 0 → ⊥) where
+  pub number-typed : AtomSeen k w p Number → AtomTyped k w d γ p 0
+  number-typed e known = (
+    inside k w at-part p 2 0 0 (Fits 2 0 0) e refl,
+    λ s. a-number (seen k w at-part p (Fits 2 0 0) e 2 0 0 refl) s d γ deep refl,
+  )
+
+  pub name-typed : (x v : ℕ) → AtomSeen k w p (Name x) → v ≡ γ x → AtomTyped k w d γ p v
+  name-typed x v e is known = (
+    inside k w at-part p 3 x 0 (Fits 3 x 0) e refl,
+    λ s. a-name (seen k w at-part p (Fits 3 x 0) e 3 x 0 refl) s d γ deep refl v is known,
+  )
 
 -- the parts of a let and of a loop, where a part is typed by m
 module _ (k w s : List ℕ) (d : ℕ) (t : List ℕ) where

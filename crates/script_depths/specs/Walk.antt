@@ -2,8 +2,10 @@
 use mathlib.Core.Bool.{cond}
 use mathlib.Core.List.{List, [], _∷_}
 use mathlib.Core.Option.{Option, none, some}
-use Prim.Native.Nat.{ℕ, zero, suc, _+_}
+use mathlib.Core.Path.{_≡_}
+use Prim.Native.Nat.{ℕ, zero, suc, _+_, _<_}
 use lib.Dec.{eqb}
+use lib.ListN.{length}
 use Rattle.semantics.specs.Basics.{updated}
 use Rattle.semantics.specs.File as S
 use Rattle.semantics.specs.File.{at-part, node-at, part-count}
@@ -112,6 +114,12 @@ module _ (kinds operands starts : List ℕ) where
   unfolding plain-typed
   known-plain f p kind low high =
       plain-typed known-name (known-signature kinds operands starts) kinds operands f p kind low high
+
+-- where v is no 255, an atom of depth v stands at node p, wherever the functions stand
+abbrev pub AtomTyped : List ℕ → List ℕ → ℕ → (ℕ → ℕ) → ℕ → ℕ → Type 0
+AtomTyped kinds operands d γ p v =
+    (v ≡ 255 → ⊥) →
+    (p < length kinds) × ((starts : List ℕ) → Depth v (p + 1) ≡ known-types kinds operands starts d γ p)
 
 -- The walk for depths alone: every name counts as known and every function as there.
 abbrev pub any-name : ℕ → ℕ → Typed

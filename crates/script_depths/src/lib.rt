@@ -1,6 +1,7 @@
 // Refusals 6 and 7 of a part: its depth, or a node that breaks one of the rules.
 // One table of the depths of the 256 names is changed at a let or a loop and put back after it; a name that is not
 // known has the entry UNKNOWN, which is no depth.
+use script_read::Atomic;
 use script_read::Node;
 use script_read::Place;
 use script_rules::Head;
@@ -10,7 +11,7 @@ ghost use Prim.Native.Nat.{_+_, _<_, _≤_};
 ghost use lib.ListN.{length, getD};
 ghost use Rattle.semantics.specs.File.{low-limits, high-limits};
 ghost use Rattle.script_depths.specs.Walk.{depths, let-typed, start-typed, loop-ended, loop-typed, known-plain};
-ghost use Rattle.script_depths.specs.Walk.{known-types};
+ghost use Rattle.script_depths.specs.Walk.{known-types, AtomTyped};
 
 // The entry of a name that is not known.
 pub const UNKNOWN: u8 = 255;
@@ -31,6 +32,22 @@ fn end_loop(at: usize, kind: u8, start: u8, array: u8, body: Typed) -> Typed
             Judged::Broken => Typed::Fault(at),
         },
         Typed::Fault(n) => Typed::Fault(n),
+    }
+}
+
+// The depth of the atom at a node, with so many levels left; UNKNOWN where there is none, or none is known.
+fn atom_depth(kinds: &[u8], operands: &[u8], table: &[u8; 256], at: usize, levels: u64) -> u8
+    requires { ⌜ length (now table) ≡ 256 ⌝ }
+    ensures { λ r. ⌜
+        AtomTyped (now (kinds .entry)) (now (operands .entry)) levels (depths (now (table .entry))) at r ⌝ }
+{
+    if levels == 0 {
+        return UNKNOWN;
+    }
+    match script_read::atom_at(kinds, operands, at) {
+        Atomic::Number => 0,
+        Atomic::Name(x) => table[x as usize],
+        Atomic::Other => UNKNOWN,
     }
 }
 
@@ -197,6 +214,13 @@ fn type_plain(
     let mut p = at + 1;
     let mut i: usize = 0;
     while i < n {
+        let atom = atom_depth(kinds, operands, table, p, levels);
+        if atom != UNKNOWN {
+            ds[i] = atom;
+            p = p + 1;
+            i = i + 1;
+            continue;
+        }
         match type_part(kinds, operands, starts, table, p, levels) {
             Typed::Depth(d, q) => {
                 ds[i] = d;

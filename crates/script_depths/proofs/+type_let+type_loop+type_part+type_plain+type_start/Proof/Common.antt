@@ -23,6 +23,7 @@ use Rattle.script_read.proofs.is_loop.Reads as is-loop-reads
 use Rattle.script_read.proofs.second_name.Reads as second-name-reads
 use Rattle.script_rules.proofs.judge.Reads as judge-reads
 use Rattle.script_depths.proofs.end_loop.Reads as end-loop-reads
+use Rattle.script_depths.proofs.atom_depth.Reads as atom-depth-reads
 
 abbrev pub μ-let : Measures 4 type-let-kinds.ps ℕ
 μ-let κs a = 3 * a .1 .1 .1 .1 .1 .1 .0 + 1
@@ -105,6 +106,8 @@ abbrev pub plain-claims : ℕ → plain-lts.Claims
 plain-claims t = (
   parts-of-reads.Asked,
   parts-of-reads.Learnt,
+  atom-depth-reads.Asked,
+  atom-depth-reads.Learnt,
   part-below t,
   type-part.Post,
   judge-reads.Asked,
