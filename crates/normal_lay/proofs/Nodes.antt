@@ -3,7 +3,7 @@ use mathlib.Core.Path.{_≡_, refl, sym, ap, _∙_}
 use mathlib.Core.Bool.{true, false, false≢true}
 use mathlib.Core.Logic.{_⊎_, inl, inr, ⊎-elim}
 use mathlib.Core.List.{List, [], _∷_}
-use Prim.Native.Nat.{ℕ, suc, _+_, _-_, _*_, _/_, _%_, _<_, _≤_}
+use Prim.Native.Nat.{ℕ, suc, _+_, _-_, _*_, _<_, _≤_}
 use native.Mathlib.Omega.{arith}
 use lib.IntN.{ℤ, pos}
 use lib.ListN.{length, getD}
@@ -15,13 +15,13 @@ use Rattle.semantics.specs.Syntax.{Expr, number, name, let-in, leaf, if-else, l
 use Rattle.semantics.specs.Code as C
 use Rattle.semantics.specs.File as S
 use Rattle.semantics.specs.File.{at-part, look, node-at, node-of, part-count, low-limits, high-limits, leaf-of}
-use Rattle.semantics.specs.File.{shape-of, allowed}
-use Rattle.script_read.specs.Told.{Parts, node-outcome, parted, loops}
+use Rattle.semantics.specs.File.{shape-of}
+use Rattle.script_read.specs.Told.{Parts, node-outcome, parted, loops, AtomSeen}
 use Rattle.script_read.specs.declared.Node.{Node}
 use Rattle.script_read.specs.declared.Node.the-variants.{Fits, WrongKind, WrongOperand}
+use Rattle.script_read.specs.declared.Atomic.the-variants.{Number, Name}
 use Rattle.script_read.proofs.Limits.{NoneOf}
-use Rattle.script_read.proofs.Nodes as N
-use Rattle.script_read.proofs.Nodes.{Seen, seen, HeadFits, head-fits, unfit, told-node, node-says, judged, in-range}
+use Rattle.script_read.proofs.Nodes.{Seen, seen, inside, HeadFits, head-fits, unfit}
 use Rattle.script_read.proofs.Nodes.{getD-any}
 use Rattle.script_read.proofs.Sorts as K
 use Rattle.script_read.proofs.Sorts.{Sort, sort-of, kind-of-leaf, kind-of-loop, is-a-loop}
@@ -244,29 +244,19 @@ nowhere-placed w h = rw (lt-leb (8 * 65279 + 8) (length w) (omega arith))
 pub any-default : (l : List ℕ) (x : ℕ) → length l ≡ 256 → x < 256 → getD l x 0 ≡ getD l x 65535
 any-default l x h g = getD-any l x 0 65535 (omega arith)
 
-module _ (k w ps : List ℕ) (d p : ℕ) (some : d ≡ 0 → ⊥) (g : p < length k) where
-  -- what is seen of a node, from what the definition tells of it
-  told-seen : (kind low high : ℕ) → Fits kind low high ≡ told-node (node-at k w at-part p) →
-      Seen k w at-part p kind low high
-  told-seen kind low high e =
-      seen k w at-part p (Fits kind low high) (node-says k w at-part p (Fits kind low high) e) kind low high refl
-
-  -- a node of kind 2 is a number, whose place is the node's
-  pub number-atom : Parts k w → getD k p 0 ≡ 2 → AtomPlaced w ps (tree-at k w d p) (256 + p)
+module _ (k w ps : List ℕ) (d p : ℕ) (some : d ≡ 0 → ⊥) where
+  -- a number's place is its node's
+  pub number-atom : Parts k w → AtomSeen k w p Number → AtomPlaced w ps (tree-at k w d p) (256 + p)
   number-atom s e =
-      let is : getD k p 0 ≡ getD k p 255 = getD-any k p 0 255 g in
-      let n = told-seen 2 0 0 (N.number k w at-part p (getD k p 0) is (ap (allowed at-part) e) e) in
-      rw (number-is k w d p some n refl) (number-placed k w p (n .node) s g (n .stands) (n .same-kind))
+      let n = seen k w at-part p (Fits 2 0 0) e 2 0 0 refl in
+      rw (number-is k w d p some n refl)
+      (number-placed k w p (n .node) s (inside k w at-part p 2 0 0 (Fits 2 0 0) e refl) (n .stands) (n .same-kind))
 
-  -- a node of kind 3 whose operand is below 256 is a name, whose place stands in the table
-  pub name-atom : getD k p 0 ≡ 3 → (x : ℕ) → x ≡ bytes-at 8 w (8 * p) → x < 256 → length ps ≡ 256 →
+  -- a name's place stands in the table
+  pub name-atom : (x : ℕ) → AtomSeen k w p (Name x) → x < 256 → length ps ≡ 256 →
       AtomPlaced w ps (tree-at k w d p) (getD ps x 0)
-  name-atom e x f h l =
-      let is : 3 ≡ getD k p 255 = sym e ∙ getD-any k p 0 255 g in
-      let low : x % 256 ≡ x = omega arith in
-      let fits = in-range 3 x (omega arith) (omega arith) (omega arith) in
-      let n = told-seen 3 (x % 256) (x / 256) (judged k w at-part p 3 is refl (λ i. omega arith) x f _ fits) in
-      rw (name-is k w d p some n refl, low) (any-default ps x l h)
+  name-atom x e h l =
+      rw (name-is k w d p some (seen k w at-part p (Fits 3 x 0) e 3 x 0 refl) refl) (any-default ps x l h)
 
 -- ---- what the reader accepts is the tree at its node
 

@@ -1,4 +1,5 @@
 // Atoms, which need no descent.
+use script_read::Atomic;
 ghost use Prim.Native.Nat.{_<_};
 ghost use Rattle.normal_lay.specs.Source.{tree-at};
 ghost use Rattle.normal_lay.specs.Made.{Given, AtomPlaced};
@@ -18,18 +19,9 @@ pub fn atom_place(
     if levels == 0 {
         return 65535;
     }
-    if kinds.len() <= node {
-        return 65535;
+    match script_read::atom_at(kinds, operands, node) {
+        Atomic::Number => (256 + node) as u16,
+        Atomic::Name(x) => places[x as usize],
+        Atomic::Other => 65535,
     }
-    let kind = kinds[node];
-    if kind == code::NUMBER {
-        return (256 + node) as u16;
-    }
-    if kind == code::NAME {
-        let name = words::nth_word(operands, node);
-        if name < 256 {
-            return places[name as usize];
-        }
-    }
-    65535
 }
