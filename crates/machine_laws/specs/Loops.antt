@@ -148,6 +148,16 @@ coded-words calls env ρ S g [] h = refl
 coded-words calls env ρ S g (u ∷ us) h =
     ap₂ {C = List ℤ} _∷_ (word-same calls env ρ S g u (h .0)) (coded-words calls env ρ S g us (h .1))
 
+-- the word of the first name is the element's, or is not asked for
+carried-element : {k : Loop} {ps : List ℕ} {y z : ℕ} → PassNames k ps y z → (e : ℕ) (a v : ℤ) (i : ℕ) (w : Ran)
+    (env : List ℤ) (calls : ℕ) (item : ℤ) → getD env (place calls z) (pos 0) ≡ item →
+    carry-by (way-of k e (cell-of a) v) v i (getD env (place calls y) (pos 0)) w
+    ≡ carry-by (way-of k e (cell-of a) v) v i item w
+carried-element (maps q) e a v i w env calls item h = ap (λ (o : ℤ). carry-by (way-of mapping e (cell-of a) v) v i o w) h
+carried-element (filters q) e a v i w env calls item h = ap (λ (o : ℤ). carry-by (way-of filtering e (cell-of a) v) v i o w) h
+carried-element (reduces q o) e a v i w env calls item h = refl
+carried-element (rewrites q) e a v i w env calls item h = ap (λ (o : ℤ). carry-by (way-of rewriting e (cell-of a) v) v i o w) h
+
 module _ (free : ℕ) (p : Program) (callee : M.Callee) (β : Borrowing) (Γ : NameDepths) (c : Code) (calls f : ℕ)
     (C : Callee) where
   -- a tree at a position is worked as the tree
@@ -236,17 +246,17 @@ module _ (free : ℕ) (p : Program) (callee : M.Callee) (β : Borrowing) (Γ : N
             (onward (λ u. rest count (suc i) u) (after-body k e a i v item r s₂))
         after r s₂ h =
             let w : Ran = W m (memory (s₀ .store) e₁) in
-            let o : ℤ = getD (w .memory .env) (place calls z) (pos 0) in
+            let o : ℤ = getD (w .memory .env) (place calls y) (pos 0) in
             let x : Ran = carry-on l v i w in
             rel-then free (WordDone free calls (w .memory .env) S) (Carried e₀) x (after-body k e a i v item r s₂)
             (λ u. passes-on l count (u .out .value) (i + 1) (u .out .steps) (u .memory)) (λ u. rest count (suc i) u)
             (subst (λ (y : Way). Rel free (WordDone free calls (w .memory .env) S) (carry-by y v i o w)
             (after-body k e a i v item r s₂)) (sym we)
-            (subst (λ (o : ℤ). Rel free (WordDone free calls (w .memory .env) S)
-            (carry-by (way-of k e (cell-of a) v) v i o w) (after-body k e a i v item r s₂))
-            (sym (h .word .kept .names z (element-known calls e₀ ρ S b l₀ v item names)
+            (subst (λ (x : Ran). Rel free (WordDone free calls (w .memory .env) S) x (after-body k e a i v item r s₂))
+            (sym (carried-element names e a v i w (w .memory .env) calls item
+            (h .word .kept .names z (element-known calls e₀ ρ S b l₀ v item names)
             ∙ element-word calls e₀ ρ S b l₀ v item y z (bounded-all ps S new b .below z
-            (element-known calls e₀ ρ S b l₀ v item names))))
+            (element-known calls e₀ ρ S b l₀ v item names)))))
             (carry-by-same free k e a i v item calls S w r s₂ (h .word .value) (h .word .steps) (h .word .store)
             (h .word .levels))))
             (λ u s₃ q.

@@ -257,7 +257,7 @@ fn keep(slots: &mut [i64], heads: &mut [u32], arrays: bool, c: usize, w: i64, r:
 }
 
 // Ends pass i, into which v was carried and whose tree gave r: what it carries on. A filter takes 1 and 0 alone, and
-// reads the element by its name.
+// reads the element by the first name, which is the element's too.
 pub fn end_pass(
     slots: &mut [i64],
     heads: &mut [u32],
@@ -271,7 +271,7 @@ pub fn end_pass(
     requires { ⌜ (calls < 32) × (length (now env) ≡ frame-words)
         × ResultWithin (l .way) (now slots) (now heads) (cell-of (l .carried)) ⌝ }
     ensures { λ u. ⌜ CarriesOn (l .way) (cell-of (l .carried)) v i
-        (getD (now (env .entry)) (place calls (l .second)) (pos 0)) r
+        (getD (now (env .entry)) (place calls (l .first)) (pos 0)) r
         (store-of (now (slots .entry)) (now (heads .entry))) (store-of (now (slots .exit)) (now (heads .exit))) u ⌝ }
 {
     let into = store_words::named_cell(l.carried);
@@ -285,7 +285,7 @@ pub fn end_pass(
             if !machine_frames::guards::is_answer(r) {
                 return Next::BadGuard;
             }
-            let w = machine_frames::word_of(env, calls, Atom::Name(l.second));
+            let w = machine_frames::word_of(env, calls, Atom::Name(l.first));
             keep(slots, heads, arrays, into, w, r);
             Next::Word(v)
         }

@@ -105,9 +105,9 @@ abbrev pub carry-by : Way → ℤ → ℕ → ℤ → Ran → Ran
 carry-by way v i e w =
     cond (is-taken way (w .out .value)) (carried way v i e w) (halted 28 (w .out .steps) (w .memory))
 
--- the element is that of the pass's name
+-- the element is that of the pass's first name: where a way asks for it, both names are the element's
 abbrev pub carry-on : Looped → ℤ → ℕ → Ran → Ran
-carry-on l v i w = carry-by (l .way) v i (getD (w .memory .env) (place (l .calls) (l .second)) (pos 0)) w
+carry-on l v i w = carry-by (l .way) v i (getD (w .memory .env) (place (l .calls) (l .first)) (pos 0)) w
 
 -- n passes from the i-th on
 unfoldable pub passes-on : Looped → ℕ → ℤ → ℕ → ℕ → Memory → Ran

@@ -46,7 +46,7 @@ returns c =
     let start = at-named-cell .before .before .before in
     let a = start .args in
     doubts (a .l .way) (at-named-cell .named-cell .result) (a .l .carried) (into at-named-cell) (a .v) (a .i)
-    (getD (a .env .now) (place (a .calls) (a .l .second)) (pos 0)) (a .r) (store-of (a .slots .now) (a .heads .now))
+    (getD (a .env .now) (place (a .calls) (a .l .first)) (pos 0)) (a .r) (store-of (a .slots .now) (a .heads .now))
     (store-of (a .slots .now) (a .heads .now)) (at-way .way .given .0 .0) (at-way .way .given .1)
     (sym (answered at-is-answer) ∙ not-true (at-is-answer .is-answer .result) (c .if1 .taken)) refl
 
@@ -69,7 +69,7 @@ returns-2 c =
     let put = at-append-within .append-within in
     rw (toZ-ofZ {z = a .v} (start .fits .v))
     (fills (a .l .way) (at-named-cell .named-cell .result) (a .l .carried) (into at-named-cell) (a .v) (a .i)
-    (getD (a .env .now) (place (a .calls) (a .l .second)) (pos 0)) (a .r) (store-of (a .slots .now) (a .heads .now))
+    (getD (a .env .now) (place (a .calls) (a .l .first)) (pos 0)) (a .r) (store-of (a .slots .now) (a .heads .now))
     (store-of (put .last .0) (put .last .1 .0)) (at-enum-told .enum-told .given .0 .0)
     (at-enum-told .enum-told .given .1)
     (rw (toZ-ofZ {z = a .r} (start .fits .r)) at (put .ensures)))
@@ -88,7 +88,7 @@ returns-3 c =
     let put = at-keep .keep in
     rw (toZ-ofZ {z = a .v} (start .fits .v))
     (keeps-on (a .l .way) (at-named-cell .named-cell .result) (a .l .carried) (into at-named-cell) (a .v) (a .i)
-    (getD (a .env .now) (place (a .calls) (a .l .second)) (pos 0)) (a .r) (store-of (a .slots .now) (a .heads .now))
+    (getD (a .env .now) (place (a .calls) (a .l .first)) (pos 0)) (a .r) (store-of (a .slots .now) (a .heads .now))
     (store-of (put .last .0) (put .last .1 .0)) (at-way .way .given .0 .0) (at-way .way .given .1)
     (sym (answered at-is-answer) ∙ not-false (at-is-answer .is-answer .result) (at-if1 .if1 .left)) (word .result)
     (word .ensures)
@@ -102,7 +102,7 @@ returns-4 c =
     let a = start .args in
     rw (toZ-ofZ {z = a .r} (start .fits .r))
     (hands (a .l .way) (at-named-cell .named-cell .result) (a .l .carried) (into at-named-cell) (a .v) (a .i)
-    (getD (a .env .now) (place (a .calls) (a .l .second)) (pos 0)) (a .r) (store-of (a .slots .now) (a .heads .now))
+    (getD (a .env .now) (place (a .calls) (a .l .first)) (pos 0)) (a .r) (store-of (a .slots .now) (a .heads .now))
     (store-of (a .slots .now) (a .heads .now)) (c .enum-told2 .given .1) refl)
 
 overwrite-within-requires : tie.Need-overwrite-within-requires
@@ -124,7 +124,7 @@ returns-5 c =
     let put = at-put .overwrite-within in
     rw (toZ-ofZ {z = a .v} (start .fits .v))
     (overwrites (a .l .way) (at-named-cell .named-cell .result) (a .l .carried) (into at-named-cell) (a .v) (a .i)
-    (getD (a .env .now) (place (a .calls) (a .l .second)) (pos 0)) (a .r) (store-of (a .slots .now) (a .heads .now))
+    (getD (a .env .now) (place (a .calls) (a .l .first)) (pos 0)) (a .r) (store-of (a .slots .now) (a .heads .now))
     (store-of (put .last .0) (a .heads .now)) (at-enum-told .enum-told3 .given .1)
     (rw (toZ-ofZ {z = a .r} (start .fits .r)) at (put .ensures)))
 

@@ -174,7 +174,7 @@ CarriedOn t c =
     let a = at-loop .before .before .before .args in
     let tree = at-work-tree .work-tree in
     CarriesOn (a .l .way) (cell-of (a .l .carried)) (toZ w64 (at-loop .loop .v)) (at-loop .loop .i)
-    (getD (tree .last .1 .1 .1 .1 .1 .0) (place (a .calls) (a .l .second)) (pos 0)) (tree .result .value)
+    (getD (tree .last .1 .1 .1 .1 .1 .0) (place (a .calls) (a .l .first)) (pos 0)) (tree .result .value)
     (store-of (tree .last .1 .1 .1 .0) (tree .last .1 .1 .1 .1 .0))
     (store-of (c .end-pass .last .0) (c .end-pass .last .1 .0))
 
@@ -268,7 +268,7 @@ work-pass-loop-again t c =
           (begin .ensures) (tree .result) (tree .last .1 .1 .1 .0) (tree .last .1 .1 .1 .1 .0)
           (tree .last .1 .1 .1 .1 .1 .0) (tree .ensures) (at-if2 .if2 .left) u (ended .last .0) (ended .last .1 .0)
           (carries-on (a .l .way) (a .l .carried) v (o .i)
-          (getD (tree .last .1 .1 .1 .1 .1 .0) (place (a .calls) (a .l .second)) (pos 0)) (passing t at-loop .1)
+          (getD (tree .last .1 .1 .1 .1 .1 .0) (place (a .calls) (a .l .first)) (pos 0)) (passing t at-loop .1)
           (tree .result) (store-of (tree .last .1 .1 .1 .0) (tree .last .1 .1 .1 .1 .0))
           (store-of (ended .last .0) (ended .last .1 .0)) (tree .last .1 .1 .1 .1 .1 .0) u (says .0) (says .1)
           (says .2))
