@@ -153,10 +153,13 @@ carried-element : {k : Loop} {ps : List ℕ} {y z : ℕ} → PassNames k ps y z 
     (env : List ℤ) (calls : ℕ) (item : ℤ) → getD env (place calls z) (pos 0) ≡ item →
     carry-by (way-of k e (cell-of a) v) v i (getD env (place calls y) (pos 0)) w
     ≡ carry-by (way-of k e (cell-of a) v) v i item w
-carried-element (maps q) e a v i w env calls item h = ap (λ (o : ℤ). carry-by (way-of mapping e (cell-of a) v) v i o w) h
-carried-element (filters q) e a v i w env calls item h = ap (λ (o : ℤ). carry-by (way-of filtering e (cell-of a) v) v i o w) h
+carried-element (maps q) e a v i w env calls item h =
+    ap (λ (o : ℤ). carry-by (way-of mapping e (cell-of a) v) v i o w) h
+carried-element (filters q) e a v i w env calls item h =
+    ap (λ (o : ℤ). carry-by (way-of filtering e (cell-of a) v) v i o w) h
 carried-element (reduces q o) e a v i w env calls item h = refl
-carried-element (rewrites q) e a v i w env calls item h = ap (λ (o : ℤ). carry-by (way-of rewriting e (cell-of a) v) v i o w) h
+carried-element (rewrites q) e a v i w env calls item h =
+    ap (λ (o : ℤ). carry-by (way-of rewriting e (cell-of a) v) v i o w) h
 
 module _ (free : ℕ) (p : Program) (callee : M.Callee) (β : Borrowing) (Γ : NameDepths) (c : Code) (calls f : ℕ)
     (C : Callee) where

@@ -1,4 +1,6 @@
 // The reader: the nodes of a script file in prefix order, refusals 1 to 5.
+mod passing;
+
 ghost use mathlib.Core.Path.{_≡_};
 ghost use mathlib.Core.Bool.{false, _&&_};
 ghost use Prim.Native.Nat.{_+_, _/_, _%_, _≤_};
@@ -6,7 +8,7 @@ ghost use lib.ListN.{length, getD};
 ghost use Rattle.semantics.specs.File.{at-part, look, part-counts, part-count, part, parameter, function, script};
 ghost use Rattle.semantics.specs.File.{read-file, between};
 ghost use Rattle.script_read.specs.Told.{place-of, limits-at, node-outcome, parted, told, low-at, high-at};
-ghost use Rattle.script_read.specs.Told.{repeated, marked, said-parts, loops, second-name, AtomSeen, Passes};
+ghost use Rattle.script_read.specs.Told.{repeated, marked, said-parts, loops, second-name, AtomSeen};
 ghost use Rattle.script_read.specs.Starts.{Blank, Started-by};
 
 // Where a node stands.
@@ -241,20 +243,6 @@ pub fn atom_at(kinds: &[u8], operands: &[u8], at: usize) -> Atomic
     Atomic::Other
 }
 
-// Whether an atom that fits stands at a node, with so many levels left.
-fn is_atom(kinds: &[u8], operands: &[u8], at: usize, levels: u64) -> bool
-    ensures { λ r. ⌜ Passes (now (kinds .entry)) (now (operands .entry)) levels at r ⌝ }
-{
-    if levels == 0 {
-        return false;
-    }
-    match atom_at(kinds, operands, at) {
-        Atomic::Number => true,
-        Atomic::Name(_) => true,
-        Atomic::Other => false,
-    }
-}
-
 // So many parts, one after the other. An atom is one node, and needs no call.
 fn read_parts(kinds: &[u8], operands: &[u8], at: usize, count: u8, levels: u64) -> Read
     ensures { λ r. ⌜ r ≡ repeated count (λ p. told (part (now (kinds .entry)) (now (operands .entry)) levels p)) at ⌝ }
@@ -262,7 +250,7 @@ fn read_parts(kinds: &[u8], operands: &[u8], at: usize, count: u8, levels: u64) 
     let mut p = at;
     let mut left = count;
     while 0 < left {
-        if is_atom(kinds, operands, p, levels) {
+        if passing::is_atom(kinds, operands, p, levels) {
             p = p + 1;
             left = left - 1;
             continue;

@@ -30,5 +30,5 @@ returns-3 c =
 pub atom-depth-spec : {M : Type 1} → statement M
 atom-depth-spec =
     tie.close
-    (tie.spec (λ c f. absurd (f refl)) (λ c κs. search needs) (λ c. search needs) (λ c. search needs) (λ c. search needs)
-    (λ c. search needs) (λ c. search needs) returns-2 returns-3 (λ c f. absurd (f refl)))
+    (tie.spec (λ c f. absurd (f refl)) (λ c κs. search needs) (λ c. search needs) (λ c. search needs)
+    (λ c. search needs) (λ c. search needs) (λ c. search needs) returns-2 returns-3 (λ c f. absurd (f refl)))

@@ -22,7 +22,7 @@ use Rattle.script_read.proofs.read_parts.Kinds as read-parts-kinds
 use Rattle.script_read.proofs.+read_part+read_parts.Lts-read_parts as read-parts-lts
 use Rattle.script_read.proofs.node_at.Reads as node-at-reads
 use Rattle.script_read.proofs.parts_of.Reads as parts-of-reads
-use Rattle.script_read.proofs.is_atom.Reads as is-atom-reads
+use Rattle.script_read.proofs.passing.is_atom.Reads as is-atom-reads
 use Rattle.script_read.proofs.+read_part+read_parts.{statement}
 use Rattle.script_read.proofs.+read_part+read_parts.Tie.{close}
 

@@ -1,11 +1,11 @@
--- `script_read::is_atom` meets its contract, by the laws of `Atoms`.
+-- `script_read::passing::is_atom` meets its contract, by the laws of `Atoms`.
 use mathlib.Core.Path.{subst}
 use borrow.Author.Needs.{needs}
 use Rattle.laws.specs.Tests.{no-equation}
 use Rattle.script_read.specs.Told.{AtomSeen}
 use Rattle.script_read.proofs.Atoms.{number-goes, name-goes}
-use Rattle.script_read.proofs.is_atom.Statement.{statement}
-use Rattle.script_read.proofs.is_atom.Tie as tie
+use Rattle.script_read.proofs.passing.is_atom.Statement.{statement}
+use Rattle.script_read.proofs.passing.is_atom.Tie as tie
 
 returns-2 : tie.Need-returns-2
 returns-2 c h =
