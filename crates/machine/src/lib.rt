@@ -250,7 +250,7 @@ fn work_call(
         return machine_frames::halted(machine_frames::CALL_TOO_DEEP, steps - 1);
     }
     let below = calls - 1;
-    let n = machine_frames::pass_arguments(*kinds, *operands, env, calls, below, at + 1);
+    let n = machine_frames::pass_arguments(*kinds, *operands, env, calls, at + 1);
     machine_frames::set_function(env, below, g);
     let start = machine_code::start_in(table, g);
     let r = work_tree(

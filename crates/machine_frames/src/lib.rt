@@ -5,7 +5,7 @@ pub mod guards;
 
 use code::Atom;
 ghost use mathlib.Core.Path.{_≡_};
-ghost use Prim.Native.Nat.{_+_, _≤_, _<_};
+ghost use Prim.Native.Nat.{_+_, _-_, _≤_, _<_};
 ghost use lib.IntN.{pos};
 ghost use lib.ListN.{length, set};
 ghost use Rattle.machine_code.specs.Reading.{Cut};
@@ -194,22 +194,20 @@ pub fn word_from(n: usize) -> i64
     n as i64
 }
 
-// Copies the words of the atoms that stand from a position on, at most 16, to the first words of the frame of a call
-// `below` the one in progress; how many they are.
+// Copies the words of the atoms that stand from a position on, at most 16, to the first words of the frame of the next
+// call, which lies before that of the call in progress; how many they are.
 pub fn pass_arguments(
     kinds: &[u8],
     operands: &[i64],
     env: &mut [i64; FRAME_WORDS],
     calls: usize,
-    below: usize,
     at: usize,
 ) -> usize
-    requires { ⌜ (at ≤ length (now kinds)) × (below < calls) × (calls < 32) × (length (now env) ≡ frame-words)
+    requires { ⌜ (at ≤ length (now kinds)) × (0 < calls) × (calls < 32) × (length (now env) ≡ frame-words)
         × Cut (now kinds) (now operands) ⌝ }
     ensures { λ r. ⌜ Passed (words-at 16 (now (kinds .entry)) (now (operands .entry)) calls (now (env .entry)) at)
-        below r (now (env .entry)) (now (env .exit)) ⌝ }
+        (calls - 1) r (now (env .entry)) (now (env .exit)) ⌝ }
 {
-    let first = place(below, 0);
     let mut i: usize = 0;
     while i < 16 {
         if !machine_code::atom_stands(kinds, at + i) {
@@ -217,7 +215,7 @@ pub fn pass_arguments(
         }
         let a = machine_code::atom_at(kinds, operands, at + i);
         let w = word_of(env, calls, a);
-        env[first + i] = w;
+        env[256 * calls + i - 256] = w;
         i = i + 1;
     }
     i

@@ -32,7 +32,7 @@ use Rattle.machine_loops.specs.declared.Passes.{Passes}
 use Rattle.machine_loops.specs.declared.First.{First}
 use Rattle.machine_loops.specs.declared.First.the-variants.{Word, NoneFree as NoCell}
 use Rattle.machine_loops.specs.declared.Begun.the-variants.{NoneFree as NoPasses}
-use Rattle.machine_loops.specs.Loops.{array-atom, way-of, new-carried, is-alone, carry-first, Within}
+use Rattle.machine_loops.specs.Loops.{way-of, new-carried, is-alone, carry-first, Within}
 use Rattle.machine_loops.specs.Loops.{ResultWithin, NewCarries, Carries, Readied, Begins}
 
 -- ---- cells that are there
@@ -77,14 +77,10 @@ module _ (calls : ℕ) (env : List ℤ) (l : P.Loop) where
   abbrev pub words : P.Loop → List ℤ
   words m = map (word-of calls env) (atoms-of m)
 
-  pub array-word : word-of calls env (array-atom l) ≡ looped-over (kind-of l) (words l)
-  array-word = go l
-    where
-      go : (m : P.Loop) → word-of calls env (array-atom m) ≡ looped-over (kind-of m) (words m)
-      go (Map p a) = refl
-      go (Filter p a) = refl
-      go (Reduce p q b a) = refl
-      go (Rewrite p a) = refl
+  -- the word of its array, where the loop is known
+  pub array-word : (m : P.Loop) → l ≡ m → (w : ℤ) → w ≡ looped-over (kind-of m) (words m) →
+      w ≡ looped-over (kind-of l) (words l)
+  array-word m e w h = subst (λ (m : P.Loop). w ≡ looped-over (kind-of m) (words m)) (sym e) h
 
   -- a reduce's start
   pub start-carried : (p q : ℕ) (b a : Atom) → l ≡ Reduce p q b a → (d : ℕ) (slots : List ℤ) (heads : List ℕ) (w : ℤ) →

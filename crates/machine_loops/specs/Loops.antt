@@ -11,7 +11,6 @@ use Rattle.semantics.specs.Kinds.{Loop, mapping, filtering, reducing, rewriting
 use Rattle.semantics.specs.Store.{Store, cell, cell-of, appended, overwritten, retained}
 use Rattle.semantics.specs.Machine.{argument, looped-over}
 use Rattle.semantics.specs.Words.{store-of}
-use Rattle.code.specs.declared.Atom.{Atom}
 use Rattle.machine_code.specs.declared.Loop as P
 use Rattle.machine_code.specs.declared.Loop.the-variants.{Map, Filter, Reduce, Rewrite}
 use Rattle.machine_frames.specs.declared.Out.{Out}
@@ -26,13 +25,6 @@ use Rattle.machine_loops.specs.declared.Next.{Next}
 use Rattle.machine_loops.specs.declared.Next.the-variants as N
 use Rattle.machine_loops.specs.declared.First.{First}
 use Rattle.machine_loops.specs.declared.First.the-variants as F
-
--- the array that a loop goes over
-abbrev pub array-atom : P.Loop → Atom
-array-atom (Map p a) = a
-array-atom (Filter p a) = a
-array-atom (Reduce p q b a) = a
-array-atom (Rewrite p a) = a
 
 -- What a pass does with the word that its tree gave; d is the depth of the elements of the loop's result. A map that
 -- rewrites does so if what is carried into its first pass is its own array, the cell c.

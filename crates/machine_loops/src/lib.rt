@@ -12,10 +12,11 @@ ghost use lib.IntN.{pos};
 ghost use lib.ListN.{getD, length};
 ghost use Rattle.semantics.specs.Store.{cell, cell-of, elements};
 ghost use Rattle.semantics.specs.Words.{store-of};
+ghost use Rattle.semantics.specs.Machine.{looped-over};
 ghost use Rattle.machine_frames.specs.Frames.{frame-words, place, word-of, element-depth};
 ghost use Rattle.machine_frames.specs.Work.{memory, Ends};
 ghost use Rattle.machine_lines.specs.Lines.{kind-of, first-name, second-name, atoms-of};
-ghost use Rattle.machine_loops.specs.Loops.{array-atom, way-of, begun-frames, retained-if, kept};
+ghost use Rattle.machine_loops.specs.Loops.{way-of, begun-frames, retained-if, kept};
 ghost use Rattle.machine_loops.specs.Loops.{loop-ended, loop-bound, Within, ResultWithin, NewCarries, Carries};
 ghost use Rattle.machine_loops.specs.Loops.{CarriesOn, Begins};
 
@@ -60,15 +61,16 @@ pub enum Begun {
     NoneFree,
 }
 
-// The array that a loop goes over.
-fn array_of(l: Loop) -> Atom
-    ensures { λ r. ⌜ r ≡ array-atom l ⌝ }
+// The word of the array that a loop goes over.
+fn array_of(env: &[i64; FRAME_WORDS], calls: usize, l: Loop) -> i64
+    requires { ⌜ (calls < 32) × (length (now env) ≡ frame-words) ⌝ }
+    ensures { λ r. ⌜ r ≡ looped-over (kind-of l) (map (word-of calls (now (env .entry))) (atoms-of l)) ⌝ }
 {
     match l {
-        Loop::Map(_, a) => a,
-        Loop::Filter(_, a) => a,
-        Loop::Reduce(_, _, _, a) => a,
-        Loop::Rewrite(_, a) => a,
+        Loop::Map(_, a) => machine_frames::word_of(env, calls, a),
+        Loop::Filter(_, a) => machine_frames::word_of(env, calls, a),
+        Loop::Reduce(_, _, _, a) => machine_frames::word_of(env, calls, a),
+        Loop::Rewrite(_, a) => machine_frames::word_of(env, calls, a),
     }
 }
 
@@ -194,7 +196,7 @@ pub fn begin_loop(
 {
     let first = first_name(l);
     let second = second_name(l);
-    let from = store_words::named_cell(machine_frames::word_of(env, calls, array_of(l)));
+    let from = store_words::named_cell(array_of(env, calls, l));
     let count = store_words::read_length(slots, heads, from);
     let depth = machine_frames::element_depth(table, env, calls, x);
     match carry_first(slots, heads, env, calls, l, depth) {

@@ -56,11 +56,12 @@ pub fn release(slots: &mut [i64], heads: &mut [u32], c: usize, levels: u32) -> u
     }
     let size = heads[2 + 4 * c];
     let depth = heads[3 + 4 * c];
-    let words = slots_of(slots, c);
-    free(slots, heads, c);
     if depth == 0 {
+        free(slots, heads, c);
         return 1;
     }
+    let words = slots_of(slots, c);
+    free(slots, heads, c);
     let k = store_words::at_most(size as usize, 16);
     let mut freed: u32 = 1;
     let mut i: usize = 0;

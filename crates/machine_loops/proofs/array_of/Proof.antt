@@ -1,15 +1,33 @@
 -- `machine_loops::array_of` meets its contract.
-use mathlib.Core.Path.{sym, ap}
+use mir.Facts.{toZ-ofZ}
 use borrow.Author.Needs.{needs}
-use Rattle.machine_loops.specs.Loops.{array-atom}
+use Rattle.machine_loops.proofs.Beginning.{array-word}
 use Rattle.machine_loops.proofs.array_of.Statement.{statement}
 use Rattle.machine_loops.proofs.array_of.Tie as tie
 
+returns : tie.Need-returns
+returns c =
+    rw (toZ-ofZ {z = c .word-of .result} (record { sfits = c .word-of .ok }))
+    (array-word _ _ _ _ (c .before .before .l .given .1) _ (c .word-of .ensures))
+
+returns-2 : tie.Need-returns-2
+returns-2 c =
+    rw (toZ-ofZ {z = c .word-of2 .result} (record { sfits = c .word-of2 .ok }))
+    (array-word _ _ _ _ (c .before .before .l2 .given .1) _ (c .word-of2 .ensures))
+
 returns-3 : tie.Need-returns-3
-returns-3 c = ap array-atom (sym (c .before .l3 .given .1))
+returns-3 c =
+    rw (toZ-ofZ {z = c .word-of3 .result} (record { sfits = c .word-of3 .ok }))
+    (array-word _ _ _ _ (c .before .before .l3 .given .1) _ (c .word-of3 .ensures))
+
+returns-4 : tie.Need-returns-4
+returns-4 c =
+    rw (toZ-ofZ {z = c .word-of4 .result} (record { sfits = c .word-of4 .ok }))
+    (array-word _ _ _ _ (c .before .before .l4 .given .1) _ (c .word-of4 .ensures))
 
 pub array-of-spec : {M : Type 1} → statement M
 array-of-spec =
     tie.close
-    (tie.spec (λ c. search needs) (λ c. search needs) (λ c. search needs) (λ c. search needs) (λ c. search needs)
-    (λ c. search needs) returns-3 (λ c. search needs))
+    (tie.spec (λ c. search needs) (λ c κs. search needs) (λ c. search needs) (λ c κs. search needs)
+    (λ c. search needs) (λ c κs. search needs) (λ c. search needs) (λ c κs. search needs) returns returns-2 returns-3
+    returns-4)

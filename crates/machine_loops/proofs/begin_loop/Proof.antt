@@ -4,11 +4,11 @@ use mir.Facts.{toZ-ofZ}
 use borrow.Author.Needs.{needs}
 use Rattle.semantics.specs.Store.{cell-of}
 use Rattle.semantics.specs.Words.{store-of}
-use Rattle.machine_frames.specs.Frames.{word-of, element-depth}
+use Rattle.machine_frames.specs.Frames.{element-depth}
 use Rattle.machine_frames.specs.Work.{memory}
 use Rattle.machine_lines.specs.Lines.{kind-of, first-name, second-name}
 use Rattle.machine_loops.specs.Loops.{Carries}
-use Rattle.machine_loops.proofs.Beginning.{words, array-word, readied, dry-begun}
+use Rattle.machine_loops.proofs.Beginning.{words, readied, dry-begun}
 use Rattle.machine_loops.proofs.begin_loop.Statement.{statement}
 use Rattle.machine_loops.proofs.begin_loop.Tie as tie
 
@@ -20,14 +20,13 @@ returns c =
     let at-element-depth = at-carry-first .before .before .before .before in
     let at-read-length = at-element-depth .before .before in
     let at-named-cell = at-read-length .before .before .before in
-    let at-word-of = at-named-cell .before in
-    let at-array-of = at-word-of .before in
+    let at-array-of = at-named-cell .before in
     let at-second-name = at-array-of .before .before in
     let at-first-name = at-second-name .before in
     let a = at-first-name .before .before .before .args in
     let k = kind-of (a .l) in
     let ws = words (a .calls) (a .env .now) (a .l) (a .l) in
-    let word = at-word-of .word-of in
+    let word = at-array-of .array-of in
     let cell = at-named-cell .named-cell in
     let depth = at-element-depth .element-depth in
     let first = at-carry-first .carry-first in
@@ -42,8 +41,7 @@ returns c =
     (at-first-name .first-name .ensures)
     (at-second-name .second-name .ensures)
     ((rw (toZ-ofZ {z = word .result} (record { sfits = word .ok })) at (cell .ensures))
-    ∙ ap cell-of (word .ensures ∙ ap (word-of (a .calls) (a .env .now)) (at-array-of .array-of .ensures)
-    ∙ array-word (a .calls) (a .env .now) (a .l))) (at-read-length .read-length .ensures)
+    ∙ ap cell-of (word .ensures)) (at-read-length .read-length .ensures)
     (subst (Carries k (depth .result) ws (memory (store-of (a .slots .now) (a .heads .now)) (a .env .now))
     (first .last .0) (first .last .1 .0) (first .last .1 .1 .0)) (carried .1) (first .ensures)))
 
@@ -51,8 +49,7 @@ returns-2 : tie.Need-returns-2
 returns-2 c =
     let at-carry-first = c .before .before .before .before .before in
     let at-element-depth = at-carry-first .before .before .before .before in
-    let at-first-name = at-element-depth .before .before .before .before .before .before .before .before .before
-    .before in
+    let at-first-name = at-element-depth .before .before .before .before .before .before .before .before .before in
     let a = at-first-name .before .before .before .args in
     let k = kind-of (a .l) in
     let ws = words (a .calls) (a .env .now) (a .l) (a .l) in
@@ -68,6 +65,6 @@ pub begin-loop-spec : {M : Type 1} → statement M
 begin-loop-spec =
     tie.close
     (tie.spec (λ c κs. search needs) (λ c κs. search needs) (λ c κs. search needs) (λ c κs. search needs)
-    (λ c κs. search needs) (λ c κs. search needs) (λ c κs. search needs) (λ c κs. search needs) (λ c. search needs)
+    (λ c κs. search needs) (λ c κs. search needs) (λ c κs. search needs) (λ c. search needs)
     (λ c κs. search needs) (λ c. search needs) (λ c. search needs) (λ c. search needs) returns (λ c. search needs)
     (λ c. search needs) returns-2)

@@ -46,10 +46,10 @@ abbrev release-claims : ℕ → release-lts.Claims
 release-claims t = (
   is-cell-reads.Asked,
   is-cell-reads.Learnt,
-  slots-of-reads.Asked,
-  slots-of-reads.Learnt,
   free-reads.Asked,
   free-reads.Learnt,
+  slots-of-reads.Asked,
+  slots-of-reads.Learnt,
   at-most-reads.Asked,
   at-most-reads.Learnt,
   named-cell-reads.Asked,
@@ -82,10 +82,9 @@ release-returns-4 t c = released-less _ _ _ _ (omega arith) (inside t (c .before
 release-returns-5 : (t : ℕ) → release-lts.Need-returns-5 (release-claims t) (release-at t) release.Post
     release-Inv-loop release-μ-loop
 release-returns-5 t c =
-    let found = c .before .before .before .before .before .before .before .before .before .before .before .before
-    .before .before in
-    released-flat _ _ _ _ (omega arith) (inside t found .0) (omega arith)
-    (c .before .before .before .before .free .ensures) (c .if5 .taken)
+    let flat = c .before .before .before .before .before .before in
+    released-flat _ _ _ _ (omega arith) (inside t (flat .before .before .before .before .before .before) .0) (omega arith)
+    (c .before .before .before .free .ensures) (flat .if5 .taken)
 
 release-cast-at-most : (t : ℕ) → release-lts.Need-cast-at-most (release-claims t) (release-at t) release.Post
     release-Inv-loop release-μ-loop
@@ -94,8 +93,7 @@ release-cast-at-most t c =
     record {
       fits = omega (
         arith,
-        read .slice-known3 .given (2 + 4 * read .before .before .before .before .before
-            .before .before .before .before .before .args .c),
+        read .slice-known3 .given (2 + 4 * read .before .before .before .before .before .before .before .before .before .before .args .c),
       );
     }
 
@@ -105,8 +103,7 @@ release-loop-holds t c = (
   omega arith,
   refl,
   refl,
-  releasing-none _ _ _ _ _ (ap length (c .before .before .before .before .before .before
-      .before .before .slots-of .ensures) ∙ slots-length _ _) (omega arith),
+  releasing-none _ _ _ _ _ (ap length (c .before .before .before .before .before .before .before .slots-of .ensures) ∙ slots-length _ _) (omega arith),
 )
 
 release-add-freed : (t : ℕ) → release-lts.Need-add-freed (release-claims t) (release-at t) release.Post
@@ -120,7 +117,7 @@ release-loop-again : (t : ℕ) → release-lts.Need-loop-again (release-claims t
 release-loop-again t c =
     let turn = c .before .before .before .before .before .before .before .before .before in
     let inv = turn .loop .inv in
-    let words = turn .before .before .before .before .before .before .before .before .before .slots-of .result in
+    let words = turn .before .before .before .before .before .before .before .before .slots-of .result in
     let w = getD words (turn .loop .i) (pos 0) in
     let arg = c .before .before .before .before .before in
     let named = c .before .before .before .before .named-cell in
@@ -136,11 +133,10 @@ release-loop-again t c =
 release-returns-6 : (t : ℕ) → release-lts.Need-returns-6 (release-claims t) (release-at t) release.Post
     release-Inv-loop release-μ-loop
 release-returns-6 t c =
-    let found = c .before .before .before .before .before .before .before .before .before .before .before .before
-    .before .before .before .before .before in
-    released-all _ _ _ _ (omega arith) (inside t found .0) (omega arith) (c .before .before .before .if5 .left)
-    (c .before .before .before .before .before .before .before .before .before .before .slots-of .ensures)
-    (c .before .before .at-most .ensures) (c .before .before .before .before .before .before .before .free .ensures)
+    let nested = c .before .before .before .before .before .before .before .before .before .before .before in
+    released-all _ _ _ _ (omega arith) (inside t (nested .before .before .before .before .before .before) .0) (omega arith) (nested .if5 .left)
+    (c .before .before .before .before .before .before .before .before .before .slots-of .ensures)
+    (c .before .before .at-most .ensures) (c .before .before .before .before .before .before .free2 .ensures)
     (c .before .loop .inv .3) (omega arith)
 
 pub +release-spec : {M : Type 1} → statement M
@@ -161,9 +157,11 @@ pub +release-spec : {M : Type 1} → statement M
     (λ c. search (needs, inside t (c .before .before .before .before)))
     (λ c. search (needs, inside t (c .before .before .before .before)))
     (λ c. search (needs, inside t (c .before .before .before .before .before)))
-    (λ c κs. search (needs, inside t (c .before .before .before .before .before .before)))
-    (λ c κs. search (needs, inside t (c .before .before .before .before .before .before .before .before .before)))
-    (λ c. search needs) (λ c. search needs) (release-returns-5 t) (release-cast-at-most t) (λ c κs. search needs)
+    (λ c κs. search (needs, inside t (c .before .before .before .before .before .before .before .before)))
+    (λ c. search needs) (λ c. search needs) (release-returns-5 t)
+    (λ c κs. search (needs, inside t (c .before .before .before .before .before .before .before)))
+    (λ c κs. search (needs, inside t (c .before .before .before .before .before .before .before .before .before .before)))
+    (release-cast-at-most t) (λ c κs. search needs)
     (release-loop-holds t) (λ c. search needs) (λ c. search needs) (λ c κs. search needs) (λ c. search needs)
     (λ c κs. search needs) (release-add-freed t) (λ c. search needs) (λ c. search needs) (release-loop-again t)
     (λ c. search needs) (λ c. search needs) (release-returns-6 t)
