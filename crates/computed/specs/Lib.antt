@@ -1,0 +1,2 @@
+-- The modules of `computed`'s specs.
+pub mod Rows

@@ -1,0 +1,1 @@
+// Computed rows of the definitions are in specs/; this crate has no code.
