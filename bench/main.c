@@ -1,7 +1,7 @@
 /* Measures the four calls and prints a line for each case: its name and values as KEY=VALUE, for bench/report.
  * Times are of this thread's processor time, in nanoseconds a call: the least of several rounds, many calls each. Where
- * there is a base that knows the script's kinds, its rounds and this library's come in turn. The environment's ROUNDS
- * says how many there are. */
+ * there is a base that knows the script's kinds, its rounds and this library's come in turn, and so do the rounds of
+ * cases that are set beside each other. The environment's ROUNDS says how many there are. */
 #define _POSIX_C_SOURCE 200809L
 #include "engines.h"
 #include "scripts.h"
@@ -13,7 +13,7 @@
 #include <stdlib.h>
 #include <time.h>
 
-enum { ROUNDS = 25, ROUND_NANOSECONDS = 10000000, CALLS = 4 };
+enum { ROUNDS = 25, ROUND_NANOSECONDS = 10000000, CALLS = 4, TURNS_MAX = 3 };
 
 struct bench_case {
     const char *name;
@@ -24,48 +24,60 @@ struct bench_case {
     int64_t reading;     /* each of them */
     unsigned number;     /* that a delivery must answer */
     int timed;           /* how many of the calls: translate, open, check, deliver */
+    bool in_turn;        /* with the case before */
 };
 
 enum { LINES = ENGINE_CODE_LINES_MAX };
 
 static const struct bench_case cases[] = {
-    { "printed_2", printed_script, 2, LINES, 1, 1, ENGINE_DONE, CALLS },
-    { "printed_2_short", printed_script, 2, 0, 1, 1, ENGINE_DONE, CALLS },
-    { "printed_256", printed_script, 256, LINES, 1, 1, ENGINE_DONE, CALLS },
-    { "nodes_1024", large_script, 16, LINES, 1, 1, ENGINE_DONE, CALLS },
-    { "mixed_1024", mixed_script, 16, LINES, 1, 1, ENGINE_DONE, CALLS },
-    { "second_1024", second_script, 16, LINES, 1, 1, ENGINE_DONE, CALLS },
-    { "levels_64", level_script, 16, LINES, 1, 1, ENGINE_DONE, CALLS },
-    { "functions_32", small_functions_script, 16, LINES, 1, 1, ENGINE_DONE, CALLS },
-    { "handed_round", handed_round_script, 16, LINES, 1, 1, ENGINE_DONE, CALLS },
-    { "read_round", read_round_script, 16, LINES, 1, 1, ENGINE_DONE, CALLS },
-    { "balanced_ifs", balanced_if_script, 16, LINES, 1, 1, ENGINE_DONE, CALLS },
-    { "maps", map_script, 16, LINES, 1, 1, ENGINE_DONE, CALLS },
-    { "map_chain", map_chain_script, 16, LINES, 1, 1, ENGINE_DONE, CALLS },
-    { "filters", filter_script, 16, LINES, 1, 1, ENGINE_DONE, CALLS },
-    { "reduces", reduce_script, 16, LINES, 1, 1, ENGINE_DONE, CALLS },
-    { "calls", call_script, 16, LINES, 1, 20, ENGINE_DONE, CALLS },
-    { "passed_down", passed_down_script, 16, LINES, 1, 1, ENGINE_DONE, CALLS },
-    { "size_128", size_128_script, 16, 0, 1, 1, ENGINE_DONE, 1 },
-    { "size_256", size_256_script, 16, 0, 1, 1, ENGINE_DONE, 1 },
-    { "size_512", size_512_script, 16, 0, 1, 1, ENGINE_DONE, 1 },
-    { "size_1024", size_1024_script, 16, 0, 1, 1, ENGINE_DONE, 1 },
-    { "skipped_branch", skipped_branch_script, 256, LINES, 16, 1, ENGINE_OUT_OF_STEPS, CALLS },
-    { "skipped_releases", skipped_release_script, 256, LINES, 16, 1, ENGINE_OUT_OF_STEPS, CALLS },
-    { "skipped_body", skipped_body_script, 256, LINES, 16, 1, ENGINE_DONE, CALLS },
-    { "many_arrays", many_arrays_script, 256, LINES, 16, 1, ENGINE_OUT_OF_STEPS, CALLS },
-    { "many_replicates", many_replicates_script, 256, LINES, 16, 1, ENGINE_OUT_OF_STEPS, CALLS },
-    { "deep_arrays", deep_array_script, 256, LINES, 1, 0, ENGINE_DONE, 0 },
-    { "deep_bodies", deep_body_script, 256, LINES, 1, 0, ENGINE_DONE, 0 },
-    { "deep_reduces", deep_reduce_script, 256, LINES, 1, 0, ENGINE_DONE, 0 },
-    { "deep_ifs", deep_if_script, 256, LINES, 1, 0, ENGINE_CALL_TOO_DEEP, 0 },
-    { "deep_mixed", deep_mixed_script, 256, LINES, 1, 0, ENGINE_CALL_TOO_DEEP, 0 },
-    { "deepest_ifs", deepest_if_script, 256, LINES, 1, 0, ENGINE_CALL_TOO_DEEP, 0 },
-    { "deepest_reduces", deepest_reduce_script, 256, LINES, 1, 0, ENGINE_CALL_TOO_DEEP, 0 },
+    { "printed_2", printed_script, 2, LINES, 1, 1, ENGINE_DONE, CALLS, false },
+    { "printed_2_short", printed_script, 2, 0, 1, 1, ENGINE_DONE, CALLS, false },
+    { "printed_256", printed_script, 256, LINES, 1, 1, ENGINE_DONE, CALLS, false },
+    { "nodes_1024", large_script, 16, LINES, 1, 1, ENGINE_DONE, CALLS, false },
+    { "mixed_1024", mixed_script, 16, LINES, 1, 1, ENGINE_DONE, CALLS, false },
+    { "second_1024", second_script, 16, LINES, 1, 1, ENGINE_DONE, CALLS, false },
+    { "levels_64", level_script, 16, LINES, 1, 1, ENGINE_DONE, CALLS, false },
+    { "functions_32", small_functions_script, 16, LINES, 1, 1, ENGINE_DONE, CALLS, false },
+    { "handed_round", handed_round_script, 16, LINES, 1, 1, ENGINE_DONE, CALLS, false },
+    { "read_round", read_round_script, 16, LINES, 1, 1, ENGINE_DONE, CALLS, false },
+    { "balanced_ifs", balanced_if_script, 16, LINES, 1, 1, ENGINE_DONE, CALLS, false },
+    { "maps", map_script, 16, LINES, 1, 1, ENGINE_DONE, CALLS, false },
+    { "filters", filter_script, 16, LINES, 1, 1, ENGINE_DONE, CALLS, true },
+    { "reduces", reduce_script, 16, LINES, 1, 1, ENGINE_DONE, CALLS, true },
+    { "map_chain", map_chain_script, 16, LINES, 1, 1, ENGINE_DONE, CALLS, false },
+    { "calls", call_script, 16, LINES, 1, 20, ENGINE_DONE, CALLS, false },
+    { "passed_down", passed_down_script, 16, LINES, 1, 1, ENGINE_DONE, CALLS, false },
+    { "size_128", size_128_script, 16, 0, 1, 1, ENGINE_DONE, 1, false },
+    { "size_256", size_256_script, 16, 0, 1, 1, ENGINE_DONE, 1, false },
+    { "size_512", size_512_script, 16, 0, 1, 1, ENGINE_DONE, 1, false },
+    { "size_1024", size_1024_script, 16, 0, 1, 1, ENGINE_DONE, 1, false },
+    { "skipped_branch", skipped_branch_script, 256, LINES, 16, 1, ENGINE_OUT_OF_STEPS, CALLS, false },
+    { "skipped_releases", skipped_release_script, 256, LINES, 16, 1, ENGINE_OUT_OF_STEPS, CALLS, false },
+    { "skipped_body", skipped_body_script, 256, LINES, 16, 1, ENGINE_DONE, CALLS, false },
+    { "many_arrays", many_arrays_script, 256, LINES, 16, 1, ENGINE_OUT_OF_STEPS, CALLS, false },
+    { "many_replicates", many_replicates_script, 256, LINES, 16, 1, ENGINE_OUT_OF_STEPS, CALLS, false },
+    { "deep_arrays", deep_array_script, 256, LINES, 1, 0, ENGINE_DONE, 0, false },
+    { "deep_bodies", deep_body_script, 256, LINES, 1, 0, ENGINE_DONE, 0, false },
+    { "deep_reduces", deep_reduce_script, 256, LINES, 1, 0, ENGINE_DONE, 0, false },
+    { "deep_ifs", deep_if_script, 256, LINES, 1, 0, ENGINE_CALL_TOO_DEEP, 0, false },
+    { "deep_mixed", deep_mixed_script, 256, LINES, 1, 0, ENGINE_CALL_TOO_DEEP, 0, false },
+    { "deepest_ifs", deepest_if_script, 256, LINES, 1, 0, ENGINE_CALL_TOO_DEEP, 0, false },
+    { "deepest_reduces", deepest_reduce_script, 256, LINES, 1, 0, ENGINE_CALL_TOO_DEEP, 0, false },
 };
 
-/* What the calls are lent; all libraries work on the same arrays. */
+/* A call of a library that is timed, in a case. */
+struct timed {
+    const struct call *call;
+    const struct engine *engine;
+    struct bench *bench;
+    uint64_t times;  /* that make a round long enough */
+    uint64_t rounds; /* still to come */
+    uint64_t least;  /* time of a round */
+};
+
+/* A case: what its calls are lent, on which all libraries work, and what was found. */
 struct bench {
+    const struct bench_case *of;
     const struct engine *engine;
     struct script script;
     uint8_t kinds[LINES];
@@ -78,9 +90,13 @@ struct bench {
     size_t readings_length;
     uint64_t answer;
     int knowing; /* how many of the libraries, the first ones, know the script's kinds */
+    struct timed timed[CALLS][ENGINES];
+    uint32_t code_lines;
+    uint32_t steps;
+    unsigned lowest[ENGINES];
 };
 
-static struct bench bench;
+static struct bench benches[TURNS_MAX];
 
 /* ---- The calls ---- */
 
@@ -131,21 +147,12 @@ static uint64_t now(void)
     return (uint64_t)time.tv_sec * 1000000000 + (uint64_t)time.tv_nsec;
 }
 
-/* A call of a library that is timed. */
-struct timed {
-    const struct call *call;
-    const struct engine *engine;
-    uint64_t times;  /* that make a round long enough */
-    uint64_t rounds; /* still to come */
-    uint64_t least;  /* time of a round */
-};
-
 static uint64_t repeated(const struct timed *timed)
 {
-    bench.engine = timed->engine;
+    timed->bench->engine = timed->engine;
     uint64_t start = now();
     for (uint64_t i = 0; i < timed->times; i++)
-        timed->call->work(&bench);
+        timed->call->work(timed->bench);
     return now() - start;
 }
 
@@ -171,43 +178,43 @@ static void time_round(struct timed *timed)
 
 /* ---- Cases ---- */
 
-static void demand(const char *name, const struct timed *timed, unsigned number)
+static void demand(const struct timed *timed, unsigned number)
 {
-    unsigned found = engine_answer_number(bench.answer);
+    unsigned found = engine_answer_number(timed->bench->answer);
     if (found != number) {
-        fprintf(stderr, "%s: %s%s answered %u %s, node %u\n", name, timed->engine->mark, timed->call->name, found,
-                engine_word(found), engine_answer_node(bench.answer));
+        fprintf(stderr, "%s: %s%s answered %u %s, node %u\n", timed->bench->of->name, timed->engine->mark,
+                timed->call->name, found, engine_word(found), engine_answer_node(timed->bench->answer));
         exit(1);
     }
 }
 
 /* Finds how many of the libraries know the script's kinds: a base of the first edition refuses those of the second. */
-static void find_knowing(void)
+static void find_knowing(struct bench *b)
 {
-    for (bench.knowing = 1; bench.knowing < ENGINES; bench.knowing++) {
-        bench.engine = &engines[bench.knowing];
-        translate(&bench);
-        if (engine_answer_number(bench.answer) == ENGINE_MALFORMED)
+    for (b->knowing = 1; b->knowing < ENGINES; b->knowing++) {
+        b->engine = &engines[b->knowing];
+        translate(b);
+        if (engine_answer_number(b->answer) == ENGINE_MALFORMED)
             return;
     }
 }
 
-/* Prepares what is lent, and prints the sizes of the script. */
-static void prepare(const struct bench_case *c)
+/* Prepares what is lent. */
+static void prepare(struct bench *b, const struct bench_case *c)
 {
-    const struct timed first = { &calls[0], &engines[0], 1, 0, 0 };
-    c->script(&bench.script);
-    bench.cells = c->cells;
-    bench.readings_length = c->readings;
+    const struct timed first = { &calls[0], &engines[0], b, 1, 0, 0 };
+    b->of = c;
+    c->script(&b->script);
+    b->cells = c->cells;
+    b->readings_length = c->readings;
     for (size_t i = 0; i < c->readings; i++)
-        bench.readings[i] = c->reading;
-    bench.lines = LINES;
+        b->readings[i] = c->reading;
+    b->lines = LINES;
     repeated(&first);
-    demand(c->name, &first, ENGINE_DONE);
-    uint32_t lines = engine_answer_lines(bench.answer);
-    bench.lines = c->lines == 0 ? lines : c->lines;
-    find_knowing();
-    printf("%s nodes=%zu lines=%" PRIu32 " cells=%zu", c->name, (bench.script.length - 4) / 9, lines, c->cells);
+    demand(&first, ENGINE_DONE);
+    b->code_lines = engine_answer_lines(b->answer);
+    b->lines = c->lines == 0 ? b->code_lines : c->lines;
+    find_knowing(b);
 }
 
 /* The number that call `i` must answer. */
@@ -225,57 +232,69 @@ static bool is_same_answer(int i, uint64_t now, uint64_t before)
            (i == 0 || engine_answer_steps(now) == engine_answer_steps(before));
 }
 
-/* Makes each call of each library that knows the script, and finds the rounds of those that are timed. The libraries
- * must answer the same. */
-static void call_first(const struct bench_case *c, struct timed timed[CALLS][ENGINES], uint64_t rounds)
+/* Makes call `i` of each library that knows the script, and finds the rounds if it is timed. The libraries must answer
+ * the same. */
+static void call_first(struct bench *b, int i, uint64_t rounds)
 {
     uint64_t answer = 0;
-    for (int i = 0; i < CALLS; i++)
-        for (int e = 0; e < bench.knowing; e++) {
-            struct timed *t = &timed[i][e];
-            *t = (struct timed){ &calls[i], &engines[e], 1, 0, 0 };
-            t->least = repeated(t);
-            if (i < c->timed)
-                calibrate(t, rounds);
-            demand(c->name, t, wanted(c, i));
-            if (e > 0 && !is_same_answer(i, answer, bench.answer)) {
-                fprintf(stderr, "%s: the libraries differ in what %s answers\n", c->name, calls[i].name);
-                exit(1);
-            }
-            answer = bench.answer;
-            if (i == CALLS - 1)
-                printf(" %slowest=%u", engines[e].mark, engine_answer_lowest(answer));
+    for (int e = 0; e < b->knowing; e++) {
+        struct timed *t = &b->timed[i][e];
+        *t = (struct timed){ &calls[i], &engines[e], b, 1, 0, 0 };
+        t->least = repeated(t);
+        if (i < b->of->timed)
+            calibrate(t, rounds);
+        demand(t, wanted(b->of, i));
+        if (e > 0 && !is_same_answer(i, answer, b->answer)) {
+            fprintf(stderr, "%s: the libraries differ in what %s answers\n", b->of->name, calls[i].name);
+            exit(1);
         }
-    printf(" steps=%" PRIu32, engine_answer_steps(answer));
+        answer = b->answer;
+        b->steps = engine_answer_steps(answer);
+        b->lowest[e] = engine_answer_lowest(answer);
+    }
 }
 
-/* The other rounds, in turn so that all see the same of the machine. */
-static void time_calls(const struct bench_case *c, struct timed timed[CALLS][ENGINES], uint64_t rounds)
+/* One of the other rounds of a case. */
+static void time_calls(struct bench *b)
 {
-    for (uint64_t round = 0; round < rounds; round++)
-        for (int i = 0; i < CALLS; i++)
-            for (int e = 0; e < bench.knowing; e++)
-                if (timed[i][e].rounds > 0) {
-                    time_round(&timed[i][e]);
-                    demand(c->name, &timed[i][e], wanted(c, i));
-                }
-}
-
-static void measure(const struct bench_case *c, uint64_t rounds)
-{
-    struct timed timed[CALLS][ENGINES];
-    prepare(c);
-    call_first(c, timed, rounds);
-    time_calls(c, timed, rounds);
-    for (int i = 0; i < c->timed; i++)
-        for (int e = 0; e < bench.knowing; e++)
-            printf(" %s%s=%.0f", engines[e].mark, calls[i].name,
-                   (double)timed[i][e].least / (double)timed[i][e].times);
-    bench.engine = &engines[0];
     for (int i = 0; i < CALLS; i++)
-        printf(" %s_stack=%zu", calls[i].name, stack_of(calls[i].work, &bench));
+        for (int e = 0; e < b->knowing; e++)
+            if (b->timed[i][e].rounds > 0) {
+                time_round(&b->timed[i][e]);
+                demand(&b->timed[i][e], wanted(b->of, i));
+            }
+}
+
+static void show(struct bench *b)
+{
+    printf("%s nodes=%zu lines=%" PRIu32 " cells=%zu steps=%" PRIu32, b->of->name, (b->script.length - 4) / 9,
+           b->code_lines, b->cells, b->steps);
+    for (int e = 0; e < b->knowing; e++)
+        printf(" %slowest=%u", engines[e].mark, b->lowest[e]);
+    for (int i = 0; i < b->of->timed; i++)
+        for (int e = 0; e < b->knowing; e++)
+            printf(" %s%s=%.0f", engines[e].mark, calls[i].name,
+                   (double)b->timed[i][e].least / (double)b->timed[i][e].times);
+    b->engine = &engines[0];
+    for (int i = 0; i < CALLS; i++)
+        printf(" %s_stack=%zu", calls[i].name, stack_of(calls[i].work, b));
     printf("\n");
     fflush(stdout);
+}
+
+/* Measures `count` cases, their rounds in turn so that all see the same of the machine. */
+static void measure(const struct bench_case *of, size_t count, uint64_t rounds)
+{
+    for (size_t n = 0; n < count; n++) {
+        prepare(&benches[n], &of[n]);
+        for (int i = 0; i < CALLS; i++)
+            call_first(&benches[n], i, rounds);
+    }
+    for (uint64_t round = 0; round < rounds; round++)
+        for (size_t n = 0; n < count; n++)
+            time_calls(&benches[n]);
+    for (size_t n = 0; n < count; n++)
+        show(&benches[n]);
 }
 
 int main(void)
@@ -286,7 +305,11 @@ int main(void)
         fprintf(stderr, "ROUNDS is 0 or no number\n");
         return 2;
     }
-    for (size_t i = 0; i < sizeof cases / sizeof *cases; i++)
-        measure(&cases[i], rounds);
+    const size_t all = sizeof cases / sizeof *cases;
+    for (size_t first = 0, end; first < all; first = end) {
+        for (end = first + 1; end < all && cases[end].in_turn && end - first < TURNS_MAX; end++)
+            ;
+        measure(&cases[first], end - first, rounds);
+    }
     return 0;
 }
