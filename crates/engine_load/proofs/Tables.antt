@@ -5,14 +5,15 @@ use mathlib.Core.Bool.{Bool, true, false, cond}
 use mathlib.Core.Path.{_≡_, refl, sym, ap, subst, _∙_}
 use mathlib.Core.List.{List, [], _∷_, _++_, map}
 use lib.IntN.{ℤ, pos}
-use lib.ListN.{getD, length, replicate, length-append, length-map}
+use lib.ListN.{getD, length, drop, replicate, length-append, length-map, length-drop}
+use lib.Seq.{drop-cons}
 use borrow.Author.Tests.{leb-true}
 use Rattle.semantics.specs.Outcome.{Outcome, done, stop}
 use Rattle.semantics.specs.Syntax.{Script}
 use Rattle.semantics.specs.File.{at-function, script}
 use Rattle.semantics.specs.Code.{Row}
 use Rattle.semantics.specs.Borrow.{Table, borrowed}
-use Rattle.semantics.specs.Annotate.{code}
+use Rattle.semantics.specs.Annotate.{function-rows, functions-rows, code}
 use Rattle.semantics.specs.Calls as C
 use Rattle.semantics.specs.Calls.{packed, admitted, room, code-fits, code-kinds, code-operands}
 use Rattle.script_read.specs.Told.{high-at}
@@ -24,13 +25,14 @@ use Rattle.script_nodes.specs.Admitted.{no-script, admitted-judged}
 use Rattle.soundness.specs.annotation.Accepting.{judged-clean}
 use Rattle.machine_code.specs.Reading.{table-bytes, depth-in, start-in}
 use Rattle.machine_positions.specs.Machine as M
-use Rattle.machine_laws.specs.Rows.{At}
+use Rattle.machine_laws.specs.Rows.{At, Jumps}
 use Rattle.machine_table.specs.Positions.{ends-from, starts-from, filled}
 use Rattle.machine_table.proofs.Filling.{filled-long}
 use Rattle.machine_laws.specs.Script.{body-at, Coded, code-written}
 use Rattle.machine_laws.specs.Ends.{Roomy, ends-below, ends-long, tree-ends}
-use Rattle.machine_laws.specs.Starts.{Jumping, starts-below, starts-ends, starts-stand}
+use Rattle.machine_laws.specs.Starts.{starts-below, starts-ends, Begin, starts-stand}
 use Rattle.normal_script.specs.Depths.{DepthsFrom, Depths-by}
+use Rattle.normal_script.specs.Places.{PlacesFrom, Places-by}
 use Rattle.normal.specs.Left.{left-of, Leaves}
 use Rattle.engine_load.specs.declared.Loaded.the-variants as L
 use Rattle.engine_load.specs.Loading.{LoadsWith}
@@ -89,53 +91,75 @@ module _ {file : List ℕ} {f n : ℕ} (a : AcceptedFile file f n) where
     past q h = zeros-past (map (λ r. r .kind) (code fs)) (length kinds - length (code fs)) q
         (omega (arith, h, length-map (code fs) (λ (r : Row). r .kind)))
 
-    jumping : (table : List ℕ) → Roomy table → Jumping ks os (ends-from (length (code fs)) ks table)
+    jumping : (table : List ℕ) → Roomy table → Jumps (M.code ks os (ends-from (length (code fs)) ks table))
     jumping table long = tree-ends ks os (length (code fs)) short past table long
 
-    stand : (table : List ℕ) → Roomy table → Jumping ks os table → (g : ℕ) → g < length fs →
-        start-in (starts-from (length fs) ks os 0 0 table) g ≡ body-at fs T 0 fs g
-    unfolding code
-    stand table long jumps g l =
-        let name : 0 + g ≡ g = omega arith in
-        let place : 0 + body-at fs T 0 fs g ≡ body-at fs T 0 fs g = omega arith in
-        subst (λ (m : ℕ). start-in (starts-from (length fs) ks os 0 0 table) m ≡ body-at fs T 0 fs g) name
-        (starts-stand ks os fs T fs 0 0 table written (judged-clean file fs (a .judged-so) .limits .1) long jumps
-        (omega (arith, few)) (omega (arith, short)) g l ∙ place)
+    -- where the table of starts has the places of the functions
+    module _ {starts places : List ℕ} (placed : PlacesFrom 0 fs (room kinds operands + 1) starts places) where
+      -- each of the functions from number f on begins where the rows of those before it end
+      begins : (gs : Script) (f p : ℕ) → drop f fs ≡ gs → p + length (functions-rows fs T f gs) ≡ length (code fs) →
+          Begin fs T places gs f p
+      unfolding functions-rows code code-fits
+      begins [] f p d e = tt
+      begins (k ∷ gs) f p d e = (
+        omega (
+          arith,
+          e,
+          leb-true (length (code fs)) (room kinds operands) fits,
+          placed .there 0 (omega arith) (omega (arith, there)),
+          ap (λ (l : Script). length (functions-rows fs T f l)) d,
+          placed .there f (omega arith) there,
+        ),
+        begins gs (suc f) (p + length (function-rows fs T f k)) (ap (drop 1) (sym (drop-cons fs f k there) ∙ d))
+            (omega (arith, e, length-append (function-rows fs T f k) (functions-rows fs T (suc f) gs))),
+      )
+        where
+          there : f < length fs
+          there = omega (arith, ap length d, length-drop f fs)
 
-    -- the table after the pass over the rows and the one over the functions
-    passed : {table table′ : List ℕ} → DepthsFrom 0 fs table table′ → Roomy table′ → Roomy table →
-        Coded fs (M.code ks os (starts-from f ks os 0 0 (ends-from (length (code fs)) ks table′)))
-    unfolding depth-in
-    passed {table} {table′} h long long₀ =
-        let ends = ends-from (length (code fs)) ks table′ in
-        record {
-          written = written;
-          short = short;
-          starts = λ g l. subst (λ (m : ℕ). start-in (starts-from m ks os 0 0 ends) g ≡ body-at fs T 0 fs g)
-              functions-are
-              (stand ends (omega (arith, long, ends-long ks (length (code fs)) table′)) (jumping table′ long) g l);
-          depths = λ g x l m. starts-below ks os f 0 0 ends (256 * g + x) (omega (arith, few))
-              ∙ ends-below ks (length (code fs)) table′ (256 * g + x) (omega (arith, few))
-              ∙ h .there g x (omega arith) l m (omega (arith, few, long₀));
-          ends = λ t q w. starts-ends ks os f 0 0 ends q (omega (arith, few, functions-are))
-              ∙ jumping table′ long t q w;
-        }
+      stand : (table : List ℕ) → Roomy table → (g : ℕ) → g < length fs →
+          start-in (starts-from (length fs) ks os places 0 table) g ≡ body-at fs T 0 fs g
+      unfolding code
+      stand table long g l =
+          let name : 0 + g ≡ g = omega arith in
+          let place : 0 + body-at fs T 0 fs g ≡ body-at fs T 0 fs g = omega arith in
+          subst (λ (m : ℕ). start-in (starts-from (length fs) ks os places 0 table) m ≡ body-at fs T 0 fs g) name
+          (starts-stand ks os fs T places fs 0 0 table written (judged-clean file fs (a .judged-so) .limits .1) long
+          (omega (arith, few)) (omega (arith, short)) (begins fs 0 0 refl (omega arith)) g l ∙ place)
 
-    pub coded-so : {table table′ : List ℕ} → DepthsFrom 0 fs table table′ → Roomy table →
-        (length fs ≤ 32) × Coded fs (M.code ks os (filled f (length (code fs)) ks os table′))
-    coded-so {table} {table′} h long =
-        let long′ : Roomy table′ = omega (arith, h .long, long) in (
-          few,
-          subst (λ (t : List ℕ). Coded fs (M.code ks os t))
-              (filled-long f (length (code fs)) ks os table′ long′ _ _ refl refl) (passed h long′ long),
-        )
+      -- the table after the pass over the rows and the one over the functions
+      passed : {table table′ : List ℕ} → DepthsFrom 0 fs table table′ → Roomy table′ → Roomy table →
+          Coded fs (M.code ks os (starts-from f ks os places 0 (ends-from (length (code fs)) ks table′)))
+      unfolding depth-in
+      passed {table} {table′} h long long₀ =
+          let ends = ends-from (length (code fs)) ks table′ in
+          record {
+            written = written;
+            short = short;
+            starts = λ g l. subst (λ (m : ℕ). start-in (starts-from m ks os places 0 ends) g ≡ body-at fs T 0 fs g)
+                functions-are (stand ends (omega (arith, long, ends-long ks (length (code fs)) table′)) g l);
+            depths = λ g x l m. starts-below ks os places f 0 ends (256 * g + x) (omega (arith, few))
+                ∙ ends-below ks (length (code fs)) table′ (256 * g + x) (omega (arith, few))
+                ∙ h .there g x (omega arith) l m (omega (arith, few, long₀));
+            ends = λ t q w. starts-ends ks os places f 0 ends q (omega (arith, few, functions-are))
+                ∙ jumping table′ long t q w;
+          }
+
+      pub coded-so : {table table′ : List ℕ} → DepthsFrom 0 fs table table′ → Roomy table →
+          (length fs ≤ 32) × Coded fs (M.code ks os (filled f (length (code fs)) ks os places table′))
+      coded-so {table} {table′} h long =
+          let long′ : Roomy table′ = omega (arith, h .long, long) in (
+            few,
+            subst (λ (t : List ℕ). Coded fs (M.code ks os t))
+                (filled-long f (length (code fs)) ks os places table′ long′ _ _ refl refl) (passed h long′ long),
+          )
 
 -- ---- the ways out of loading
 
 -- the table after the translator's answer
-abbrev pub table-after : ℕ → List ℕ → List ℤ → Outcome (Unit {0}) ℕ → List ℕ → List ℕ
-table-after f kinds operands (done m u) table = filled f m kinds operands table
-table-after f kinds operands (stop n u) table = table
+abbrev pub table-after : ℕ → List ℕ → List ℤ → List ℕ → Outcome (Unit {0}) ℕ → List ℕ → List ℕ
+table-after f kinds operands places (done m u) table = filled f m kinds operands places table
+table-after f kinds operands places (stop n u) table = table
 
 -- the code that the translator left is within its array
 pub laid-within : {file : List ℕ} {f n : ℕ} (a : AcceptedFile file f n) (kinds kinds′ : List ℕ)
@@ -172,17 +196,19 @@ laid-within {file} {f} {n} a kinds kinds′ operands operands′ r m is left =
 
 module _ {file kinds : List ℕ} {operands : List ℤ} {table kinds′ : List ℕ} {operands′ : List ℤ} where
   -- what the translator leaves
-  pub loads-with-laid : {f n : ℕ} (r : Outcome (Unit {0}) ℕ) (d : ℕ) (table′ : List ℕ) → Judges file (Accepted f n) →
+  pub loads-with-laid : {f n : ℕ} (r : Outcome (Unit {0}) ℕ) (d : ℕ) (table′ starts places : List ℕ) →
+      Judges file (Accepted f n) →
       d ≡ high-at (kinds-of file n) (operands-of file n) at-function 0 →
       Leaves (script (kinds-of file n) (operands-of file n) f 0) kinds operands
       (record { answer = r; kinds = kinds′; operands = operands′ }) →
       Depths-by (script (kinds-of file n) (operands-of file n) f 0) table table′ →
-      LoadsWith file kinds operands table (ready d r) kinds′ operands′ (table-after f kinds′ operands′ r table′)
+      Places-by (script (kinds-of file n) (operands-of file n) f 0) (room kinds operands + 1) starts places →
+      LoadsWith file kinds operands table (ready d r) kinds′ operands′ (table-after f kinds′ operands′ places r table′)
   unfolding left-of
-  loads-with-laid {f} {n} r d table′ j e left deep = record {
+  loads-with-laid {f} {n} r d table′ starts places j e left deep placed = record {
     loads = loads-laid r d j e left;
     coded = λ fs g long. by fs (admitted-so a (room kinds operands) fs g) (rw (script-reads a) at left)
-        (rw (script-reads a) at deep) long;
+        (rw (script-reads a) at deep) (rw (script-reads a) at placed) long;
   }
     where
       a : AcceptedFile file f n
@@ -190,12 +216,13 @@ module _ {file kinds : List ℕ} {operands : List ℤ} {table kinds′ : List �
 
       by : (gs : Script) → (gs ≡ a .tree) × (code-fits (a .tree) (room kinds operands) ≡ true) →
           record { answer = r; kinds = kinds′; operands = operands′ } ≡ left-of (a .tree) kinds operands →
-          DepthsFrom 0 (a .tree) table table′ → table-bytes ≤ length table →
-          (length gs ≤ 32) × Coded gs (M.code kinds′ operands′ (table-after f kinds′ operands′ r table′))
-      by gs g l h long =
+          DepthsFrom 0 (a .tree) table table′ → PlacesFrom 0 (a .tree) (room kinds operands + 1) starts places →
+          table-bytes ≤ length table →
+          (length gs ≤ 32) × Coded gs (M.code kinds′ operands′ (table-after f kinds′ operands′ places r table′))
+      by gs g l h placed long =
           let s = rw (g .1) at l in
           rw (g .0, ap (λ x. x .answer) s, ap (λ x. x .kinds) s, ap (λ x. x .operands) s)
-          (coded-so a kinds operands (g .1) h long)
+          (coded-so a kinds operands (g .1) placed h long)
 
   pub loads-with-refusal : {n p m : ℕ} → Judges file (Refused n p) → m ≡ packed n p 0 0 →
       kinds′ ≡ replicate (length kinds) 0 → operands′ ≡ replicate (length operands) (pos 0) →

@@ -11,7 +11,7 @@ pub enum Loaded {
 }
 
 // Judges a file and translates its script; the table gets the depths of the names, the functions' positions and those
-// after trees.
+// after trees. One array has where the functions stand in the file, and then where their code was written.
 pub fn load_with(file: &[u8], kinds: &mut [u8], operands: &mut [i64], table: &mut [u8]) -> Loaded
     ensures { λ r. ⌜ LoadsWith (now (file .entry)) (now (kinds .entry)) (now (operands .entry)) (now (table .entry)) r
         (now (kinds .exit)) (now (operands .exit)) (now (table .exit)) ⌝ }
@@ -26,14 +26,14 @@ pub fn load_with(file: &[u8], kinds: &mut [u8], operands: &mut [i64], table: &mu
             match normal::translate_accepted(
                 file_kinds,
                 file_operands,
-                &starts,
+                &mut starts,
                 functions,
                 table,
                 kinds,
                 operands,
             ) {
                 Laid::Lines(n) => {
-                    machine_table::fill(kinds, operands, functions, n, table);
+                    machine_table::fill(kinds, operands, functions, n, &starts, table);
                     Loaded::Ready(n, depth as u32)
                 }
                 Laid::TooLong => Loaded::Refused(9),

@@ -1,7 +1,7 @@
 -- The positions in the table: where the functions' trees begin, and where the tree at each row ends.
 use mathlib.Core.Bool.{cond}
 use mathlib.Core.List.{List}
-use Prim.Native.Nat.{ℕ, zero, suc, _+_, _*_, _/_, _%_}
+use Prim.Native.Nat.{ℕ, zero, suc, _+_, _-_, _*_, _/_, _%_}
 use lib.IntN.{ℤ, pos}
 use lib.Dec.{ltb, eqb}
 use lib.ListN.{getD, set, length}
@@ -45,18 +45,22 @@ with-start table f start = with-position table (starts-place + 2 * f) start
 abbrev pub tree-start : List ℤ → ℕ → ℕ
 tree-start operands p = p + 1 + low-bits (getD operands p (pos 0)) % 256
 
--- n functions from number f on, the first of which begins at p
-unfoldable pub starts-from : ℕ → List ℕ → List ℤ → ℕ → ℕ → List ℕ → List ℕ
-starts-from zero kinds operands f p table = table
-starts-from (suc n) kinds operands f p table =
-    cond (ltb p (length kinds))
-    (starts-from n kinds operands (f + 1)
-    (end-in (with-start table f (tree-start operands p)) (tree-start operands p))
-    (with-start table f (tree-start operands p)))
+-- where function f begins, by the places where the functions were written; function 0 begins the code
+abbrev pub position-of : List ℕ → ℕ → ℕ
+position-of places f = getD places f 0 - getD places 0 0
+
+-- n functions from number f on
+unfoldable pub starts-from : ℕ → List ℕ → List ℤ → List ℕ → ℕ → List ℕ → List ℕ
+starts-from zero kinds operands places f table = table
+starts-from (suc n) kinds operands places f table =
+    cond (ltb (position-of places f) (length kinds))
+    (starts-from n kinds operands places (f + 1)
+    (with-start table f (tree-start operands (position-of places f))))
     table
 
 -- ---- both, where the table has room for them
 
-unfoldable pub filled : ℕ → ℕ → List ℕ → List ℤ → List ℕ → List ℕ
-filled functions rows kinds operands table =
-    cond (ltb (length table) table-bytes) table (starts-from functions kinds operands 0 0 (ends-from rows kinds table))
+unfoldable pub filled : ℕ → ℕ → List ℕ → List ℤ → List ℕ → List ℕ → List ℕ
+filled functions rows kinds operands places table =
+    cond (ltb (length table) table-bytes) table
+    (starts-from functions kinds operands places 0 (ends-from rows kinds table))

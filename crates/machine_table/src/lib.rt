@@ -2,7 +2,8 @@
 ghost use mathlib.Core.Path.{_≡_};
 ghost use Prim.Native.Nat.{_+_, _≤_, _<_};
 ghost use lib.ListN.{length, set};
-ghost use Rattle.machine_table.specs.Positions.{with-position, trees-of, ends-from, end-of, starts-from, filled};
+ghost use Rattle.machine_table.specs.Positions.{with-position, trees-of, ends-from, end-of};
+ghost use Rattle.machine_table.specs.Positions.{position-of, starts-from, filled};
 
 // Writes a byte where there is such a place.
 fn put(table: &mut [u8], i: usize, byte: u8)
@@ -69,35 +70,60 @@ fn fill_ends(kinds: &[u8], rows: usize, table: &mut [u8])
     }
 }
 
+// Where function f begins in the code, by the places where the functions were written before it came to the front.
+fn position_of(places: &[usize; 32], f: usize) -> usize
+    requires { ⌜ f < 32 ⌝ }
+    ensures { λ r. ⌜ r ≡ position-of (now (places .entry)) f ⌝ }
+{
+    let first = places[0];
+    let place = places[f];
+    if place < first {
+        return 0;
+    }
+    place - first
+}
+
 // Writes the position of the tree of each function.
-fn fill_starts(kinds: &[u8], operands: &[i64], functions: usize, table: &mut [u8])
+fn fill_starts(
+    kinds: &[u8],
+    operands: &[i64],
+    functions: usize,
+    places: &[usize; 32],
+    table: &mut [u8],
+)
     requires { ⌜ functions ≤ 32 ⌝ }
-    ensures { λ _. ⌜ now (table .exit)
-        ≡ starts-from functions (now (kinds .entry)) (now (operands .entry)) 0 0 (now (table .entry)) ⌝ }
+    ensures { λ _. ⌜ now (table .exit) ≡ starts-from functions (now (kinds .entry)) (now (operands .entry))
+        (now (places .entry)) 0 (now (table .entry)) ⌝ }
 {
     let mut f: usize = 0;
-    let mut p: usize = 0;
     while f < functions {
+        let p = position_of(places, f);
         if kinds.len() <= p {
             return;
         }
         let count = machine_code::low_bits(machine_code::operand_at(operands, p)) % 256;
-        let start = p + 1 + count as usize;
-        put_position(table, machine_code::STARTS + 2 * f, start);
-        p = machine_code::end_in(table, start);
+        put_position(table, machine_code::STARTS + 2 * f, p + 1 + count as usize);
         f = f + 1;
     }
 }
 
-// Writes both, for the code of so many functions and rows; a table that is too short for them is left as it is.
-pub fn fill(kinds: &[u8], operands: &[i64], functions: usize, rows: usize, table: &mut [u8])
+// Writes both, for the code of so many functions and rows, by the places where the functions were written; a table that
+// is too short for them is left as it is.
+pub fn fill(
+    kinds: &[u8],
+    operands: &[i64],
+    functions: usize,
+    rows: usize,
+    places: &[usize; 32],
+    table: &mut [u8],
+)
     requires { ⌜ (functions ≤ 32) × ((rows ≤ length (now kinds)) × (rows ≤ 4096)) ⌝ }
-    ensures { λ _. ⌜ now (table .exit)
-        ≡ filled functions rows (now (kinds .entry)) (now (operands .entry)) (now (table .entry)) ⌝ }
+    ensures { λ _. ⌜ now (table .exit) ≡ filled functions rows (now (kinds .entry)) (now (operands .entry))
+        (now (places .entry)) (now (table .entry)) ⌝ }
 {
     if table.len() < machine_code::TABLE_BYTES {
         return;
     }
     fill_ends(kinds, rows, table);
-    fill_starts(kinds, operands, functions, table);
+    fill_starts(kinds, operands, functions, places, table);
 }

@@ -5,8 +5,10 @@ ghost use Prim.Native.Nat.{_+_, _-_, _≤_, min};
 ghost use lib.IntN.{pos};
 ghost use lib.ListN.{length, take, drop, replicate};
 ghost use Rattle.semantics.specs.File.{script};
+ghost use Rattle.semantics.specs.Calls.{room};
 ghost use Rattle.normal_plain.specs.Script.{Translatable};
 ghost use Rattle.normal_script.specs.Depths.{Depths-by};
+ghost use Rattle.normal_script.specs.Places.{Places-by};
 ghost use Rattle.normal.specs.Left.{laid-outcome, Leaves};
 
 // How many lines the code has, or that they do not fit.
@@ -64,11 +66,11 @@ fn lesser(a: usize, b: usize) -> usize
 
 // Translates an accepted script: the file's kinds, its operands, where its functions stand and how many they are. The
 // table gets the depths of the names. The rows are written before the end of the part that both arrays have, and then
-// brought to the front.
+// brought to the front; `starts` gets the places where the functions were written.
 pub fn translate_accepted(
     kinds: &[u8],
     operands: &[u8],
-    starts: &[usize; 32],
+    starts: &mut [usize; 32],
     functions: usize,
     table: &mut [u8],
     ks: &mut [u8],
@@ -80,6 +82,8 @@ pub fn translate_accepted(
         (record { answer = laid-outcome r; kinds = now (ks .exit); operands = now (os .exit) }) ⌝ }
     ensures { λ _. ⌜ Depths-by (script (now (kinds .entry)) (now (operands .entry)) functions 0)
         (now (table .entry)) (now (table .exit)) ⌝ }
+    ensures { λ _. ⌜ Places-by (script (now (kinds .entry)) (now (operands .entry)) functions 0)
+        (room (now (ks .entry)) (now (os .entry)) + 1) (now (starts .entry)) (now (starts .exit)) ⌝ }
 {
     let both = lesser(ks.len(), os.len());
     let most = lesser(4096, both);

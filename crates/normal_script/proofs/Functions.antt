@@ -17,6 +17,7 @@ use Rattle.normal_plain.specs.Read.{read-function, depths-by}
 use Rattle.normal_plain.specs.Script.{Translatable, Resulting}
 use Rattle.normal_plain.proofs.Functions.{known, function-there}
 use Rattle.normal_script.specs.Rows.{head-rows, owned-by, rows-by}
+use Rattle.normal_script.specs.Places.{rows-from}
 
 rows-same : (fs : Script) (T : Table) (f : ℕ) (g : Function) →
     rows-by (result-of fs) T f g ≡ function-rows fs T f g
@@ -26,10 +27,6 @@ rows-same fs T f g = refl
 depths-same : (fs : Script) (g : Function) → depths-by (result-of fs) g ≡ depths-of fs g
 unfolding depths-by depths-of
 depths-same fs g = refl
-
--- the rows of the functions from i on
-abbrev pub rows-from : Script → ℕ → List Row
-rows-from fs i = functions-rows fs (borrowed fs) i (drop i fs)
 
 none-left : (gs : Script) (i : ℕ) → length gs ≤ i → drop i gs ≡ []
 none-left [] zero h = refl

@@ -2,5 +2,6 @@
 pub mod Owned
 pub mod Whole
 pub mod Depths
+pub mod Places
 pub mod Parameters
 pub mod Functions

@@ -2,3 +2,4 @@
 pub mod Rows
 pub mod Script
 pub mod Depths
+pub mod Places

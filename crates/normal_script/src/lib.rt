@@ -13,6 +13,7 @@ ghost use Rattle.normal_plain.specs.Script.{Translatable};
 ghost use Rattle.normal_script.specs.Rows.{owned-of, head-rows, rows-by};
 ghost use Rattle.normal_script.specs.Script.{Coded-by};
 ghost use Rattle.normal_script.specs.Depths.{Noted, Depths-by};
+ghost use Rattle.normal_script.specs.Places.{Places-by};
 
 // The rows of the parameters from a node on.
 fn put_parameters(
@@ -157,11 +158,12 @@ fn note_depths(table: &mut [u8], f: usize, depths: &[u8; 256])
 }
 
 // Writes the code of a script before place w of the two code arrays, and the depths of its names in a table; the answer
-// is the place of the first row, or 0 if the code is too long.
+// is the place of the first row, or 0 if the code is too long. Before, `starts` has where the functions stand in the
+// file; after, the places of their first rows.
 pub fn script_code(
     kinds: &[u8],
     operands: &[u8],
-    starts: &[usize; 32],
+    starts: &mut [usize; 32],
     functions: usize,
     table: &mut [u8],
     ks: &mut [u8],
@@ -173,6 +175,8 @@ pub fn script_code(
         (now (ks .entry)) (now (os .entry)) (now (ks .exit)) (now (os .exit)) w r ⌝ }
     ensures { λ _. ⌜ Depths-by (script (now (kinds .entry)) (now (operands .entry)) functions 0)
         (now (table .entry)) (now (table .exit)) ⌝ }
+    ensures { λ _. ⌜ Places-by (script (now (kinds .entry)) (now (operands .entry)) functions 0)
+        w (now (starts .entry)) (now (starts .exit)) ⌝ }
 {
     let results = normal_plain::results_of(kinds, operands, starts, functions);
     let mut rows = [0u32; 2048];
@@ -206,6 +210,7 @@ pub fn script_code(
             os,
             v,
         );
+        starts[i] = u;
         note_depths(table, i, &depths);
         v = u;
     }

@@ -53,65 +53,61 @@ translate-accepted-requires c κs =
 
 fill-requires : tie.Need-fill-requires
 fill-requires c κs =
-    let at-n = c .before .before .before .before .n in
-    let at-translate-accepted = c .before .before .before .before .before .before .before .before .before .before
-    .before .translate-accepted in
-    let at-functions = c .before .before .before .before .before .before .before .before .before .before .before
-    .before .before .before .before .before .before .before .before .before .functions in
-    let at-judge = c .before .before .before .before .before .before .before .before .before .before .before
-    .before .before .before .before .before .before .before .before .before .before .before .judge in
-    let a = c .before .before .before .before .before .before .before .before .before .before .before .before
-    .before .before .before .before .before .before .before .before .before .before .before .before .before
-    .before .before .args in let laid = at-translate-accepted in let j = subst (Judges (a .file .now))
-    (at-functions .given .1) (at-judge .ensures .0) in let accepted = accepted-file _ _ _ j in (
-      file-taken
-          accepted .readable .few,
-      laid-within accepted (a .kinds .now) (laid .last .1 .1 .1 .1 .1 .0) (a .operands
-          .now) (laid .last .1 .1 .1 .1 .1 .1 .0) (laid-outcome (laid .result)) (at-n .given .0 .0) (ap laid-outcome
-          (at-n .given .1)) (laid .ensures .0),
+    let n = c .before .before .before .before .before .n in
+    let at-laid = c .before .before .before .before .before .before .before .before .before .before .before .before in
+    let at-functions = at-laid .before .before .before .before .before .before .before .before .before in
+    let at-judge = at-functions .before .before in
+    let a = at-judge .before .before .before .before .before .args in
+    let laid = at-laid .translate-accepted in
+    let j = subst (Judges (a .file .now)) (at-functions .functions .given .1) (at-judge .judge .ensures .0) in
+    let accepted = accepted-file _ _ _ j in (
+      file-taken accepted .readable .few,
+      laid-within accepted (a .kinds .now) (laid .last .1 .1 .1 .1 .1 .0) (a .operands .now)
+          (laid .last .1 .1 .1 .1 .1 .1 .0) (laid-outcome (laid .result)) (n .given .0 .0)
+          (ap laid-outcome (n .given .1)) (laid .ensures .0),
     )
 
 returns : tie.Need-returns
 returns c =
-    let at-n = c .before .before .before .before .before .before .before .n in
-    let at-translate-accepted = c .before .before .before .before .before .before .before .before .before .before
-    .before .before .before .before .translate-accepted in
-    let at-high-at = c .before .before .before .before .before .before .before .before .before .before .before
-    .before .before .before .before .before .before .before .before .high-at in
-    let at-functions = c .before .before .before .before .before .before .before .before .before .before .before
-    .before .before .before .before .before .before .before .before .before .before .before .before .functions in
-    let at-judge = c .before .before .before .before .before .before .before .before .before .before .before
-    .before .before .before .before .before .before .before .before .before .before .before .before .before
-    .before .judge in
-    let a = c .before .before .before .before .before .before .before .before .before .before .before .before
-    .before .before .before .before .before .before .before .before .before .before .before .before .before
-    .before .before .before .before .before .args in let laid = at-translate-accepted in let d = at-high-at in
-    let j = subst (Judges (a .file .now)) (at-functions .given .1) (at-judge .ensures .0) in let functions =
-    at-functions .given .0 .0 in let table = laid .last .1 .1 .1 .1 .0 in let kinds = laid .last .1 .1 .1 .1 .1
-    .0 in let operands = laid .last .1 .1 .1 .1 .1 .1 .0 in rw (c .before .before .fill .ensures) (subst (λ r.
-    LoadsWith (a .file .now) (a .kinds .now) (a .operands .now) (a .table .now) (ready (d .result)
-    (laid-outcome r)) kinds operands (table-after functions kinds operands (laid-outcome r) table)) (at-n
-    .given .1) (loads-with-laid (laid-outcome (laid .result)) (d .result) table j (d .ensures) (laid .ensures
-    .0) (laid .ensures .1)))
+    let at-n = c .before .before .before .before .before .before .before .before in
+    let at-laid = at-n .before .before .before .before .before .before .before in
+    let at-functions = at-laid .before .before .before .before .before .before .before .before .before in
+    let at-judge = at-functions .before .before in
+    let a = at-judge .before .before .before .before .before .args in
+    let laid = at-laid .translate-accepted in
+    let d = at-laid .before .before .before .before .before .high-at in
+    let j = subst (Judges (a .file .now)) (at-functions .functions .given .1) (at-judge .judge .ensures .0) in
+    let functions = at-functions .functions .given .0 .0 in
+    let places = laid .last .1 .1 .0 in
+    let table = laid .last .1 .1 .1 .1 .0 in
+    let kinds = laid .last .1 .1 .1 .1 .1 .0 in
+    let operands = laid .last .1 .1 .1 .1 .1 .1 .0 in
+    rw (c .before .before .fill .ensures)
+    (subst (λ r. LoadsWith (a .file .now) (a .kinds .now) (a .operands .now) (a .table .now) (ready (d .result)
+    (laid-outcome r)) kinds operands (table-after functions kinds operands places (laid-outcome r) table))
+    (at-n .n .given .1)
+    (loads-with-laid (laid-outcome (laid .result)) (d .result) table _ places j (d .ensures) (laid .ensures .0)
+    (laid .ensures .1 .0) (laid .ensures .1 .1)))
 
 returns-2 : tie.Need-returns-2
 returns-2 c =
-    let at-translate-accepted = c .before .before .before .before .before .before .before .translate-accepted in
-    let at-high-at = c .before .before .before .before .before .before .before .before .before .before .before
-    .before .high-at in
-    let at-functions = c .before .before .before .before .before .before .before .before .before .before .before
-    .before .before .before .before .before .functions in
-    let at-judge = c .before .before .before .before .before .before .before .before .before .before .before
-    .before .before .before .before .before .before .before .judge in
-    let a = c .before .before .before .before .before .before .before .before .before .before .before .before
-    .before .before .before .before .before .before .before .before .before .before .before .args in let laid =
-    at-translate-accepted in let d = at-high-at in let j = subst (Judges (a .file .now)) (at-functions .given
-    .1) (at-judge .ensures .0) in let functions = at-functions .given .0 .0 in let table = laid .last .1 .1 .1
-    .1 .0 in let kinds = laid .last .1 .1 .1 .1 .1 .0 in let operands = laid .last .1 .1 .1 .1 .1 .1 .0 in
-    subst (λ r. LoadsWith (a .file .now) (a .kinds .now) (a .operands .now) (a .table .now) (ready (d .result)
-    (laid-outcome r)) kinds operands (table-after functions kinds operands (laid-outcome r) table)) (c
-    .enum-told .given .1) (loads-with-laid (laid-outcome (laid .result)) (d .result) table j (d .ensures) (laid
-    .ensures .0) (laid .ensures .1))
+    let at-laid = c .before .before .before .before .before .before .before in
+    let at-functions = at-laid .before .before .before .before .before .before .before .before .before in
+    let at-judge = at-functions .before .before in
+    let a = at-judge .before .before .before .before .before .args in
+    let laid = at-laid .translate-accepted in
+    let d = at-laid .before .before .before .before .before .high-at in
+    let j = subst (Judges (a .file .now)) (at-functions .functions .given .1) (at-judge .judge .ensures .0) in
+    let functions = at-functions .functions .given .0 .0 in
+    let places = laid .last .1 .1 .0 in
+    let table = laid .last .1 .1 .1 .1 .0 in
+    let kinds = laid .last .1 .1 .1 .1 .1 .0 in
+    let operands = laid .last .1 .1 .1 .1 .1 .1 .0 in
+    subst (λ r. LoadsWith (a .file .now) (a .kinds .now) (a .operands .now) (a .table .now)
+    (ready (d .result) (laid-outcome r)) kinds operands
+    (table-after functions kinds operands places (laid-outcome r) table)) (c .enum-told .given .1)
+    (loads-with-laid (laid-outcome (laid .result)) (d .result) table _ places j (d .ensures) (laid .ensures .0)
+    (laid .ensures .1 .0) (laid .ensures .1 .1))
 
 returns-3 : tie.Need-returns-3
 returns-3 c =
