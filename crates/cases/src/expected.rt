@@ -1,6 +1,10 @@
 // The stores that calls must leave, worked out from document 01 and from the words before the call.
+use crate::answer::cells_of;
 use crate::answer::is_refusal;
+use crate::answer::number_of;
 use crate::array::put_head;
+use crate::number::natural;
+use crate::tally::RESTORE;
 ghost use Prim.Native.Nat.{_≤_};
 
 // The words of the greatest store's two arrays.
@@ -117,9 +121,27 @@ pub fn clear_store(slots: &mut [i64], heads: &mut [u32]) {
 
 // The heads of a store after a delivery that did not end with 0, from those before it: after a stop the free cells are
 // linked upwards. Its slots are as before.
-pub fn end_heads(number: usize, heads: &mut [u32], size: usize) {
+fn end_heads(number: usize, heads: &mut [u32], size: usize) {
     if is_refusal(number) {
         return;
     }
     link_free(heads, size);
+}
+
+// The words that a call leaves which did not answer 0, from those before it.
+pub fn end_store(call: usize, number: usize, slots: &mut [i64], heads: &mut [u32], size: usize) {
+    if call == RESTORE && !is_refusal(number) {
+        clear_store(slots, heads);
+    } else {
+        end_heads(number, heads, size);
+    }
+}
+
+// The cells taken after the delivery of a line: those of its answer, or those of the store where it is refused.
+pub fn cells_after_delivery(line: &[u8], heads: &[u32]) -> u64 {
+    let wanted = natural(line, 4);
+    if is_refusal(number_of(wanted)) {
+        return taken(heads);
+    }
+    cells_of(wanted)
 }

@@ -1,15 +1,11 @@
 // The calls that have a store, each named by its part of the tally. A call is lent code arrays that hold something else
 // before it, of the lengths that a line gives as its words 1 and 2. After it both are compared with the code as
 // `engine_translate` gives it.
+use cases::MOST_BYTES;
 use cases::MOST_HEADS;
 use cases::MOST_LINES;
 use cases::MOST_SLOTS;
 use cases::Tally;
-ghost use Prim.Native.Nat.{_≤_};
-ghost use lib.ListN.{length};
-
-// The most bytes that are saved or lent to a restore.
-const MOST_BYTES: usize = 40000;
 
 // What is seen of a call: its answer, and whether both code arrays are right.
 pub struct Seen {
@@ -62,35 +58,6 @@ fn make(
     }
 }
 
-// The bytes that a call is lent, put into an array: for a restore those of its line, for a save a buffer of the length
-// that its line gives, or of 64 bytes where the line is another's. Answers how many.
-fn lend_bytes(call: usize, line: &[u8], bytes: &mut [u8]) -> usize
-    ensures { λ r. ⌜ r ≤ length (now (bytes .exit)) ⌝ }
-{
-    match call {
-        cases::RESTORE => cases::pieces_of(line, 4, bytes),
-        cases::SAVE => buffer_length(line, bytes.len()),
-        _ => 0,
-    }
-}
-
-// The length of a save's buffer, at most `most`.
-fn buffer_length(line: &[u8], most: usize) -> usize
-    ensures { λ r. ⌜ r ≤ most ⌝ }
-{
-    if cases::stands_at(line, 0, b"save") {
-        return cases::length_of(line, 3, most);
-    }
-    if most < 64 { most } else { 64 }
-}
-
-// Compares the buffer of a save with the bytes of its line, and zeros past them.
-fn compare_saved(line: &[u8], saved: &[u8], tally: &mut Tally) {
-    let mut wanted = [0u8; MOST_BYTES];
-    cases::pieces_of(line, 5, &mut wanted);
-    cases::compare_buffer(tally, saved, &wanted);
-}
-
 // Whether the code arrays are as a call on this file with this answer leaves them.
 fn has_right_code(answer: u64, file: &[u8], kinds: &[u8], operands: &[i64]) -> bool {
     let mut code_kinds = [0u8; MOST_LINES];
@@ -113,7 +80,7 @@ fn make_with(
 ) -> Seen {
     let answer = make(call, line, file, kinds, operands, slots, heads, saved);
     if call == cases::SAVE {
-        compare_saved(line, saved, tally);
+        cases::compare_saved(line, saved, tally);
     }
     Seen {
         answer: answer,
@@ -135,7 +102,7 @@ fn lend(
     let mut kinds = [170u8; MOST_LINES];
     let mut operands = [-170i64; MOST_LINES];
     let mut saved = [170u8; MOST_BYTES];
-    let saved_length = lend_bytes(call, line, &mut saved);
+    let saved_length = cases::lend_bytes(call, line, &mut saved);
     let seen = make_with(
         call,
         line,
@@ -150,15 +117,6 @@ fn lend(
     let words = (kinds_length + operands_length) as u64;
     cases::count_code(tally, seen.right_code, words);
     seen.answer
-}
-
-// The words that a call leaves which did not answer 0, from those before it.
-fn end_store(call: usize, number: usize, slots: &mut [i64], heads: &mut [u32], size: usize) {
-    if call == cases::RESTORE && !cases::is_refusal(number) {
-        cases::clear_store(slots, heads);
-    } else {
-        cases::end_heads(number, heads, size);
-    }
 }
 
 // Makes a call of which this number is wanted; its answer. After a refusal or a stop the store is compared with the
@@ -178,9 +136,14 @@ pub fn run(
     cases::copy_heads(heads, &mut kept_heads);
     cases::turn_to(tally, call, number);
     let answer = lend(call, line, file, slots, heads, tally);
-    if call != cases::CHECK && call != cases::SAVE && number != 0 {
-        end_store(call, number, &mut kept_slots, &mut kept_heads, heads.len());
-        cases::compare_store(tally, slots, heads, &kept_slots, &kept_heads);
-    }
+    cases::compare_ended(
+        call,
+        number,
+        slots,
+        heads,
+        &mut kept_slots,
+        &mut kept_heads,
+        tally,
+    );
     answer
 }

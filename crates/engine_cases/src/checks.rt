@@ -31,7 +31,7 @@ fn run_store(case: &[u8], file: &[u8], slots: &mut [i64], heads: &mut [u32], tal
 }
 
 // Runs a case on its file.
-fn run_file(case: &[u8], file: &[u8], tally: &mut Tally) {
+pub fn run_case(case: &[u8], file: &[u8], tally: &mut Tally) {
     let slots_line = cases::line_of(case, b"slots");
     let heads_line = cases::line_of(case, b"heads");
     let slots_length = cases::length_of(slots_line, 1, MOST_SLOTS);
@@ -47,11 +47,4 @@ fn run_file(case: &[u8], file: &[u8], tally: &mut Tally) {
         &mut heads[0..heads_length],
         tally,
     );
-}
-
-// Runs a case.
-pub fn run_case(case: &[u8], tally: &mut Tally) {
-    let mut file = [0u8; 9220];
-    let count = cases::file_of(case, &mut file);
-    run_file(case, &file[0..count], tally);
 }

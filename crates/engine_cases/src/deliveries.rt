@@ -20,30 +20,14 @@ pub fn check(
     cases::count_call(tally, right);
 }
 
-// Compares a store that was opened with the words that it has then.
-fn compare_opened(file: &[u8], slots: &[i64], heads: &[u32], tally: &mut Tally) {
-    let clear_slots = [0i64; MOST_SLOTS];
-    let mut opened_heads = [0u32; MOST_HEADS];
-    cases::open_heads(&mut opened_heads, heads.len(), cases::totals_depth(file));
-    cases::compare_store(tally, slots, heads, &clear_slots, &opened_heads);
-}
-
 // Opens a store by the line of a case.
 pub fn open(line: &[u8], file: &[u8], slots: &mut [i64], heads: &mut [u32], tally: &mut Tally) {
     let wanted = cases::natural(line, 3);
     let number = cases::number_of(wanted);
     let answer = calls::run(cases::OPEN, line, file, slots, heads, number, tally);
     cases::count_call(tally, answer == wanted);
-    compare_opened(file, slots, heads, tally);
+    cases::compare_opened(file, slots, heads, tally);
     check(line, file, slots, heads, cases::cells_of(wanted), tally);
-}
-
-// Whether an answer to a delivery is the one that is wanted, whole or but for its lowest level.
-fn is_wanted(answer: u64, wanted: u64, whole: bool) -> bool {
-    if whole {
-        return answer == wanted;
-    }
-    cases::is_but_for_lowest(answer, wanted)
 }
 
 // Makes the delivery of a line.
@@ -58,16 +42,7 @@ pub fn deliver(
     let wanted = cases::natural(line, 4);
     let number = cases::number_of(wanted);
     let answer = calls::run(cases::DELIVER, line, file, slots, heads, number, tally);
-    cases::count_call(tally, is_wanted(answer, wanted, whole));
-}
-
-// The cells taken after the delivery of a line: those of its answer, or those of the store where it is refused.
-pub fn cells_after(line: &[u8], heads: &[u32]) -> u64 {
-    let wanted = cases::natural(line, 4);
-    if cases::is_refusal(cases::number_of(wanted)) {
-        return cases::taken(heads);
-    }
-    cases::cells_of(wanted)
+    cases::count_call(tally, cases::is_wanted(answer, wanted, whole));
 }
 
 // Makes the delivery of a line, if it is one, and checks the store with code arrays as at its opening.
@@ -82,7 +57,14 @@ fn run_line(
 ) {
     if cases::stands_at(line, 0, b"deliver") {
         deliver(line, file, slots, heads, whole, tally);
-        check(opening, file, slots, heads, cells_after(line, heads), tally);
+        check(
+            opening,
+            file,
+            slots,
+            heads,
+            cases::cells_after_delivery(line, heads),
+            tally,
+        );
     }
 }
 
@@ -104,16 +86,6 @@ fn deliver_all(
     }
 }
 
-// Compares the store after the last delivery with the words of the case.
-pub fn compare_last(case: &[u8], slots: &[i64], heads: &[u32], tally: &mut Tally) {
-    let mut wanted_slots = [0i64; MOST_SLOTS];
-    let mut wanted_heads = [0u32; MOST_HEADS];
-    cases::fill_slots(cases::line_of(case, b"slots"), 1, &mut wanted_slots);
-    cases::fill_heads(cases::line_of(case, b"heads"), 1, &mut wanted_heads);
-    cases::count_last(tally);
-    cases::compare_store(tally, slots, heads, &wanted_slots, &wanted_heads);
-}
-
 // Runs a case on its file and this store.
 fn run_store(
     case: &[u8],
@@ -126,14 +98,12 @@ fn run_store(
     let opening = cases::line_of(case, b"open");
     open(opening, file, slots, heads, tally);
     deliver_all(case, opening, file, slots, heads, whole, tally);
-    compare_last(case, slots, heads, tally);
+    cases::compare_last(case, slots, heads, tally);
 }
 
-// Runs a case, whose answers to deliveries are whole or lack the lowest level. The store holds something else before it
-// is opened.
-pub fn run_case(case: &[u8], whole: bool, tally: &mut Tally) {
-    let mut file = [0u8; 9220];
-    let count = cases::file_of(case, &mut file);
+// Runs a case on its file, whose answers to deliveries are whole or lack the lowest level. The store holds something
+// else before it is opened.
+pub fn run_case(case: &[u8], file: &[u8], whole: bool, tally: &mut Tally) {
     let cells = cases::length_of(cases::line_of(case, b"cells"), 1, 256);
     let slots_length = 1 + 16 * cells;
     let heads_length = 1 + 4 * cells;
@@ -141,7 +111,7 @@ pub fn run_case(case: &[u8], whole: bool, tally: &mut Tally) {
     let mut heads = [170u32; MOST_HEADS];
     run_store(
         case,
-        &file[0..count],
+        file,
         &mut slots[0..slots_length],
         &mut heads[0..heads_length],
         whole,

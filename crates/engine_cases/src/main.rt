@@ -22,12 +22,15 @@ enum Family {
 
 // Runs a case.
 fn run_case(family: Family, case: &[u8], tally: &mut Tally) {
+    let mut bytes = [0u8; 9220];
+    let count = cases::file_of(case, &mut bytes);
+    let file = &bytes[0..count];
     match family {
-        Family::Translate => translations::run_case(case, tally),
-        Family::Check => checks::run_case(case, tally),
-        Family::EarlierDeliver => deliveries::run_case(case, false, tally),
-        Family::Deliver => deliveries::run_case(case, true, tally),
-        Family::Swap => swaps::run_case(case, tally),
+        Family::Translate => translations::run_case(case, file, tally),
+        Family::Check => checks::run_case(case, file, tally),
+        Family::EarlierDeliver => deliveries::run_case(case, file, false, tally),
+        Family::Deliver => deliveries::run_case(case, file, true, tally),
+        Family::Swap => swaps::run_case(case, file, tally),
     }
 }
 

@@ -27,7 +27,7 @@ fn look(
 // Makes the delivery of a line, and checks the store.
 fn deliver(line: &[u8], file: &[u8], slots: &mut [i64], heads: &mut [u32], tally: &mut Tally) {
     deliveries::deliver(line, file, slots, heads, true, tally);
-    let cells = deliveries::cells_after(line, heads);
+    let cells = cases::cells_after_delivery(line, heads);
     deliveries::check(line, file, slots, heads, cells, tally);
 }
 
@@ -84,46 +84,8 @@ fn act_on(
     );
 }
 
-// Compares the first words of two arrays with those that the case ends with.
-fn compare_last(
-    case: &[u8],
-    slots: &[i64],
-    heads: &[u32],
-    slots_length: usize,
-    heads_length: usize,
-    tally: &mut Tally,
-) {
-    if slots.len() < slots_length {
-        return;
-    }
-    if heads.len() < heads_length {
-        return;
-    }
-    deliveries::compare_last(
-        case,
-        &slots[0..slots_length],
-        &heads[0..heads_length],
-        tally,
-    );
-}
-
-// Clears both arrays at a line `store`.
-fn begin_store(line: &[u8], slots: &mut [i64], heads: &mut [u32]) {
-    if cases::stands_at(line, 0, b"store") {
-        cases::clear_store(slots, heads);
-    }
-}
-
-// The length of one of the store's arrays, which a line `store` gives as this word, and any other line leaves.
-fn length_after(line: &[u8], index: usize, before: usize) -> usize {
-    if cases::stands_at(line, 0, b"store") {
-        return cases::natural(line, index) as usize;
-    }
-    before
-}
-
 // Runs a case on its file. A line `store` gives the lengths of the store from there on, all of whose words are zero.
-fn run_acts(case: &[u8], file: &[u8], tally: &mut Tally) {
+pub fn run_case(case: &[u8], file: &[u8], tally: &mut Tally) {
     let mut slots = [0i64; MOST_SLOTS];
     let mut heads = [0u32; MOST_HEADS];
     let mut slots_length = 0;
@@ -131,9 +93,9 @@ fn run_acts(case: &[u8], file: &[u8], tally: &mut Tally) {
     let mut at = 0;
     while at < case.len() {
         let line = cases::line_at(case, at);
-        begin_store(line, &mut slots, &mut heads);
-        slots_length = length_after(line, 1, slots_length);
-        heads_length = length_after(line, 2, heads_length);
+        cases::begin_store(line, &mut slots, &mut heads);
+        slots_length = cases::store_length_after(line, 1, slots_length);
+        heads_length = cases::store_length_after(line, 2, heads_length);
         act_on(
             line,
             file,
@@ -145,12 +107,5 @@ fn run_acts(case: &[u8], file: &[u8], tally: &mut Tally) {
         );
         at = cases::past(case, at, b'\n');
     }
-    compare_last(case, &slots, &heads, slots_length, heads_length, tally);
-}
-
-// Runs a case.
-pub fn run_case(case: &[u8], tally: &mut Tally) {
-    let mut file = [0u8; 9220];
-    let count = cases::file_of(case, &mut file);
-    run_acts(case, &file[0..count], tally);
+    cases::compare_last_within(case, &slots, &heads, slots_length, heads_length, tally);
 }

@@ -45,7 +45,7 @@ fn refuse(call: usize, case: &[u8], file: &[u8], number: usize, tally: &mut Tall
 }
 
 // Runs a case on its file.
-fn run_file(case: &[u8], file: &[u8], tally: &mut Tally) {
+pub fn run_case(case: &[u8], file: &[u8], tally: &mut Tally) {
     let number = cases::number_of(cases::answer_of(case));
     cases::turn_to(tally, cases::TRANSLATE, number);
     translate(case, file, tally);
@@ -56,11 +56,4 @@ fn run_file(case: &[u8], file: &[u8], tally: &mut Tally) {
         refuse(cases::SAVE, case, file, number, tally);
         refuse(cases::RESTORE, case, file, number, tally);
     }
-}
-
-// Runs a case.
-pub fn run_case(case: &[u8], tally: &mut Tally) {
-    let mut file = [0u8; 9220];
-    let count = cases::file_of(case, &mut file);
-    run_file(case, &file[0..count], tally);
 }
