@@ -5,6 +5,25 @@ ghost use Prim.Native.Nat.{_+_, _<_, _≤_, _%_, _/_};
 ghost use lib.ListN.{length};
 ghost use Rattle.normal_borrow.specs.Scan.{atoms-after, atoms-by, hands-by, link-in, links-in, Scanned};
 
+// The kinds of lines as a row has them, in its low 8 bits.
+const CALL: u32 = code::CALL as u32;
+
+const LITERAL: u32 = code::LITERAL as u32;
+
+const LENGTH: u32 = code::LENGTH as u32;
+
+const IF: u32 = code::IF as u32;
+
+const MAP: u32 = code::MAP as u32;
+
+const END: u32 = code::END as u32;
+
+const IOTA: u32 = code::IOTA as u32;
+
+const FILTER: u32 = code::FILTER as u32;
+
+const REDUCE: u32 = code::REDUCE as u32;
+
 // Which of the first eight names a function does not hand over outside of calls, and how many links there are with its
 // own.
 pub struct Found {
@@ -17,28 +36,28 @@ fn atoms_by(kind: u32, m: u32) -> usize
     requires { ⌜ m < 256 ⌝ }
     ensures { λ r. ⌜ r ≡ atoms-by kind m ⌝ }
 {
-    if kind == 8 {
+    if kind == CALL {
         return m as usize;
     }
-    if kind == 9 {
+    if kind == LITERAL {
         return m as usize;
     }
-    if kind == 11 {
+    if kind == LENGTH {
         return 1;
     }
-    if kind == 12 {
+    if kind == IF {
         return 1;
     }
-    if kind == 13 {
+    if kind == MAP {
         return 1;
     }
-    if kind == 16 {
+    if kind == END {
         return 1;
     }
-    if kind == 17 {
+    if kind == IOTA {
         return 1;
     }
-    if kind == 19 {
+    if kind == FILTER {
         return 1;
     }
     2
@@ -55,13 +74,13 @@ fn atoms_after(row: u32) -> usize
 fn hands_by(kind: u32, more: usize) -> bool
     ensures { λ r. ⌜ r ≡ hands-by kind more ⌝ }
 {
-    if kind == 9 {
+    if kind == LITERAL {
         return true;
     }
-    if kind == 16 {
+    if kind == END {
         return true;
     }
-    if kind == 20 {
+    if kind == REDUCE {
         return more == 1;
     }
     false
@@ -102,7 +121,7 @@ pub fn gather(rows: &[u32; 2048], q: usize, f: usize, links: &mut [u32; 1024], n
         if 8 <= v {
             continue;
         }
-        if line % 256 == 8 {
+        if line % 256 == CALL {
             links[count] = link_in(f, line, left, v);
             count = count + 1;
             continue;
