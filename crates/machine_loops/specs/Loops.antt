@@ -11,8 +11,6 @@ use Rattle.semantics.specs.Kinds.{Loop, mapping, filtering, reducing, rewriting
 use Rattle.semantics.specs.Store.{Store, cell, cell-of, appended, overwritten, retained}
 use Rattle.semantics.specs.Machine.{argument, looped-over}
 use Rattle.semantics.specs.Words.{store-of}
-use Rattle.machine_code.specs.declared.Loop as P
-use Rattle.machine_code.specs.declared.Loop.the-variants.{Map, Filter, Reduce, Rewrite}
 use Rattle.machine_frames.specs.declared.Out.{Out}
 use Rattle.machine_frames.specs.Work.{Memory, memory, Ran, ran, out, halted, bound, goes-on}
 use Rattle.machine_lines.specs.Lines.{acquired-given, cell-from, gave, acquired-memory, released-memory, array-of}
