@@ -15,23 +15,15 @@ pub fn is_refusal(number: usize) -> bool {
     number == 27 || (0 < number && number < 12)
 }
 
-// Whether an answer to a delivery is this one but for its lowest level; a refusal has none.
-fn is_but_for_lowest(answer: u64, wanted: u64) -> bool {
-    if is_refusal(number_of(wanted)) {
+// Whether an answer to a delivery is the one that is wanted, whole or but for its lowest level; a refusal has none.
+pub fn is_wanted(answer: u64, wanted: u64, whole: bool) -> bool {
+    if whole || is_refusal(number_of(wanted)) {
         return answer == wanted;
     }
     if number_of(answer) != number_of(wanted) {
         return false;
     }
     answer / 16777216 == wanted / 16777216
-}
-
-// Whether an answer to a delivery is the one that is wanted, whole or but for its lowest level.
-pub fn is_wanted(answer: u64, wanted: u64, whole: bool) -> bool {
-    if whole {
-        return answer == wanted;
-    }
-    is_but_for_lowest(answer, wanted)
 }
 
 // The cells taken as a call ends.

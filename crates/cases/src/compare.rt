@@ -1,6 +1,8 @@
 // Code arrays and stores compared with what a call must leave, word by word over their whole lengths.
 use crate::answer::is_refusal;
 use crate::answer::number_of;
+use crate::array::pieces_of;
+use crate::lent::MOST_BYTES;
 use crate::tally;
 use crate::tally::Tally;
 ghost use mathlib.Core.Path.{_≡_};
@@ -135,10 +137,12 @@ pub fn compare_store(
     }
 }
 
-// Counts the buffer that a save leaves where it is right.
-pub fn compare_buffer(tally: &mut Tally, bytes: &[u8], wanted: &[u8]) {
-    if same_buffer(bytes, wanted) {
+// Compares the buffer of a save with the bytes of its line, and zeros past them. It is counted where it is right.
+pub fn compare_saved(line: &[u8], saved: &[u8], tally: &mut Tally) {
+    let mut wanted = [0u8; MOST_BYTES];
+    pieces_of(line, 5, &mut wanted);
+    if same_buffer(saved, &wanted) {
         tally::count(tally, tally::STORES, 1);
-        tally::count(tally, tally::STORE_WORDS, bytes.len() as u64);
+        tally::count(tally, tally::STORE_WORDS, saved.len() as u64);
     }
 }

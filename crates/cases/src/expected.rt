@@ -119,21 +119,16 @@ pub fn clear_store(slots: &mut [i64], heads: &mut [u32]) {
     copy_heads(&no_heads, heads);
 }
 
-// The heads of a store after a delivery that did not end with 0, from those before it: after a stop the free cells are
-// linked upwards. Its slots are as before.
-fn end_heads(number: usize, heads: &mut [u32], size: usize) {
+// The words that a call leaves which did not answer 0, from those before it: after a refusal the same, after a restore
+// that ended with 25 zeros, and after another stop the free cells are linked upwards.
+pub fn end_store(call: usize, number: usize, slots: &mut [i64], heads: &mut [u32], size: usize) {
     if is_refusal(number) {
         return;
     }
-    link_free(heads, size);
-}
-
-// The words that a call leaves which did not answer 0, from those before it.
-pub fn end_store(call: usize, number: usize, slots: &mut [i64], heads: &mut [u32], size: usize) {
-    if call == RESTORE && !is_refusal(number) {
+    if call == RESTORE {
         clear_store(slots, heads);
     } else {
-        end_heads(number, heads, size);
+        link_free(heads, size);
     }
 }
 

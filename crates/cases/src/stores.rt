@@ -1,28 +1,18 @@
-// What calls leave, compared with what it must be: the store after an opening, a refusal, a stop and at a case's end,
-// and the buffer of a save.
+// The stores that calls leave, compared with what they must be: after an opening, a refusal and a stop, and at the end
+// of a case.
 use crate::array::fill_heads;
 use crate::array::fill_slots;
-use crate::array::pieces_of;
-use crate::compare::compare_buffer;
 use crate::compare::compare_store;
 use crate::expected::MOST_HEADS;
 use crate::expected::MOST_SLOTS;
 use crate::expected::end_store;
 use crate::expected::open_heads;
 use crate::expected::totals_depth;
-use crate::lent::MOST_BYTES;
 use crate::tally::CHECK;
 use crate::tally::SAVE;
 use crate::tally::Tally;
 use crate::tally::count_last;
 use crate::text::line_of;
-
-// Compares the buffer of a save with the bytes of its line, and zeros past them.
-pub fn compare_saved(line: &[u8], saved: &[u8], tally: &mut Tally) {
-    let mut wanted = [0u8; MOST_BYTES];
-    pieces_of(line, 5, &mut wanted);
-    compare_buffer(tally, saved, &wanted);
-}
 
 // Compares a store that was opened with the words that it has then.
 pub fn compare_opened(file: &[u8], slots: &[i64], heads: &[u32], tally: &mut Tally) {
