@@ -13,7 +13,7 @@ use Rattle.semantics.specs.Annotate.{functions-rows}
 abbrev pub rows-from : Script → ℕ → List Row
 rows-from fs i = functions-rows fs (borrowed fs) i (drop i fs)
 
--- the functions from number n on have their places, where the code ends before place w; the other words are as they were
+-- the functions from number n on have their places, where the code ends before place w; the other words stay
 pub record PlacesFrom (n : ℕ) (fs : Script) (w : ℕ) (starts starts′ : List ℕ) : Type 0 where
   pub long : length starts′ ≡ length starts
   pub there : (g : ℕ) → n ≤ g → g < length fs → getD starts′ g 0 ≡ w - length (rows-from fs g)

@@ -83,8 +83,14 @@ release-returns-5 : (t : ℕ) → release-lts.Need-returns-5 (release-claims t) 
     release-Inv-loop release-μ-loop
 release-returns-5 t c =
     let flat = c .before .before .before .before .before .before in
-    released-flat _ _ _ _ (omega arith) (inside t (flat .before .before .before .before .before .before) .0) (omega arith)
+    let found = flat .before .before .before .before .before .before in
+    released-flat _ _ _ _ (omega arith) (inside t found .0) (omega arith)
     (c .before .before .before .free .ensures) (flat .if5 .taken)
+
+release-free-requires-2 : (t : ℕ) → release-lts.Need-free-requires-2 (release-claims t) (release-at t) release.Post
+    release-Inv-loop release-μ-loop
+release-free-requires-2 t c κs =
+    search (needs, inside t (c .before .before .before .before .before .before .before .before .before .before))
 
 release-cast-at-most : (t : ℕ) → release-lts.Need-cast-at-most (release-claims t) (release-at t) release.Post
     release-Inv-loop release-μ-loop
@@ -93,18 +99,20 @@ release-cast-at-most t c =
     record {
       fits = omega (
         arith,
-        read .slice-known3 .given (2 + 4 * read .before .before .before .before .before .before .before .before .before .before .args .c),
+        read .slice-known3 .given (2 + 4 * read .before .before .before .before .before .before .before .before .before
+            .before .args .c),
       );
     }
 
 release-loop-holds : (t : ℕ) → release-lts.Need-loop-holds (release-claims t) (release-at t) release.Post
     release-Inv-loop release-μ-loop
-release-loop-holds t c = (
-  omega arith,
-  refl,
-  refl,
-  releasing-none _ _ _ _ _ (ap length (c .before .before .before .before .before .before .before .slots-of .ensures) ∙ slots-length _ _) (omega arith),
-)
+release-loop-holds t c =
+    let copied = c .before .before .before .before .before .before .before in (
+      omega arith,
+      refl,
+      refl,
+      releasing-none _ _ _ _ _ (ap length (copied .slots-of .ensures) ∙ slots-length _ _) (omega arith),
+    )
 
 release-add-freed : (t : ℕ) → release-lts.Need-add-freed (release-claims t) (release-at t) release.Post
     release-Inv-loop release-μ-loop
@@ -134,7 +142,8 @@ release-returns-6 : (t : ℕ) → release-lts.Need-returns-6 (release-claims t) 
     release-Inv-loop release-μ-loop
 release-returns-6 t c =
     let nested = c .before .before .before .before .before .before .before .before .before .before .before in
-    released-all _ _ _ _ (omega arith) (inside t (nested .before .before .before .before .before .before) .0) (omega arith) (nested .if5 .left)
+    let found = nested .before .before .before .before .before .before in
+    released-all _ _ _ _ (omega arith) (inside t found .0) (omega arith) (nested .if5 .left)
     (c .before .before .before .before .before .before .before .before .before .slots-of .ensures)
     (c .before .before .at-most .ensures) (c .before .before .before .before .before .before .free2 .ensures)
     (c .before .loop .inv .3) (omega arith)
@@ -160,7 +169,7 @@ pub +release-spec : {M : Type 1} → statement M
     (λ c κs. search (needs, inside t (c .before .before .before .before .before .before .before .before)))
     (λ c. search needs) (λ c. search needs) (release-returns-5 t)
     (λ c κs. search (needs, inside t (c .before .before .before .before .before .before .before)))
-    (λ c κs. search (needs, inside t (c .before .before .before .before .before .before .before .before .before .before)))
+    (release-free-requires-2 t)
     (release-cast-at-most t) (λ c κs. search needs)
     (release-loop-holds t) (λ c. search needs) (λ c. search needs) (λ c κs. search needs) (λ c. search needs)
     (λ c κs. search needs) (release-add-freed t) (λ c. search needs) (λ c. search needs) (release-loop-again t)
