@@ -30,7 +30,7 @@ use Rattle.machine_table.specs.Positions.{ends-from, starts-from, filled}
 use Rattle.machine_table.proofs.Filling.{filled-long}
 use Rattle.machine_laws.specs.Script.{body-at, Coded, code-written}
 use Rattle.machine_laws.specs.Ends.{Roomy, ends-below, ends-long, tree-ends}
-use Rattle.machine_laws.specs.Starts.{starts-below, starts-ends, Begin, starts-stand}
+use Rattle.machine_laws.specs.Starts.{starts-below, starts-ends, FunctionsBegin, starts-stand}
 use Rattle.normal_script.specs.Depths.{DepthsFrom, Depths-by}
 use Rattle.normal_script.specs.Places.{PlacesFrom, Places-by}
 use Rattle.normal.specs.Left.{left-of, Leaves}
@@ -98,7 +98,7 @@ module _ {file : List ℕ} {f n : ℕ} (a : AcceptedFile file f n) where
     module _ {starts places : List ℕ} (placed : PlacesFrom 0 fs (room kinds operands + 1) starts places) where
       -- each of the functions from number f on begins where the rows of those before it end
       begins : (gs : Script) (f p : ℕ) → drop f fs ≡ gs → p + length (functions-rows fs T f gs) ≡ length (code fs) →
-          Begin fs T places gs f p
+          FunctionsBegin fs T places gs f p
       unfolding functions-rows code code-fits
       begins [] f p d e = tt
       begins (k ∷ gs) f p d e = (

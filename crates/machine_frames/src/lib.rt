@@ -17,6 +17,9 @@ ghost use Rattle.machine_frames.specs.Work.{out, left, bound-result};
 // How many words the frames have.
 pub const FRAME_WORDS: usize = 8226;
 
+// How many words a frame has, one for each name.
+const NAMES: usize = 256;
+
 // The place of the number of the function that is worked in the first frame; those of the others follow.
 const FUNCTIONS: usize = 8192;
 
@@ -80,7 +83,7 @@ pub fn place(calls: usize, x: u8) -> usize
     requires { ⌜ calls < 32 ⌝ }
     ensures { λ r. ⌜ (r ≡ place calls x) × (r < frame-words) ⌝ }
 {
-    256 * calls + x as usize
+    NAMES * calls + x as usize
 }
 
 // The word of an atom.
@@ -215,7 +218,7 @@ pub fn pass_arguments(
         }
         let a = machine_code::atom_at(kinds, operands, at + i);
         let w = word_of(env, calls, a);
-        env[256 * calls + i - 256] = w;
+        env[NAMES * calls + i - NAMES] = w;
         i = i + 1;
     }
     i

@@ -76,9 +76,9 @@ start-same a b f h =
 
 module _ (fs : Script) (T : Table) (places : List ℕ) where
   -- each of some functions begins where the rows of those before it end; the first has number f and begins at p
-  abbrev pub Begin : List Function → ℕ → ℕ → Type 0
-  Begin [] f p = Unit {0}
-  Begin (g ∷ gs) f p = (position-of places f ≡ p) × Begin gs (suc f) (p + length (function-rows fs T f g))
+  abbrev pub FunctionsBegin : List Function → ℕ → ℕ → Type 0
+  FunctionsBegin [] f p = Unit {0}
+  FunctionsBegin (g ∷ gs) f p = (position-of places f ≡ p) × FunctionsBegin gs (suc f) (p + length (function-rows fs T f g))
 
 module _ (kinds : List ℕ) (operands : List ℤ) (fs : Script) (T : Table) where
   -- the tree of a function that begins at p
@@ -101,7 +101,7 @@ module _ (kinds : List ℕ) (operands : List ℤ) (fs : Script) (T : Table) wher
   -- each position that is written is that of the function's tree; the first function has number f
   pub starts-stand : (places : List ℕ) (gs : List Function) (f p : ℕ) (table : List ℕ) →
       At kinds operands p (functions-rows fs T f gs) → AllOf FunctionLimits gs → Roomy table → f + length gs ≤ 32 →
-      p + length (functions-rows fs T f gs) ≤ 4096 → Begin fs T places gs f p → (g : ℕ) → g < length gs →
+      p + length (functions-rows fs T f gs) ≤ 4096 → FunctionsBegin fs T places gs f p → (g : ℕ) → g < length gs →
       start-in (starts-from (length gs) kinds operands places f table) (f + g) ≡ p + body-at fs T f gs g
   unfolding functions-rows body-at function-rows
   starts-stand places [] f p table h few long room short begin g l = absurd (omega arith)

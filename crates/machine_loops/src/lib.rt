@@ -62,7 +62,7 @@ pub enum Begun {
 }
 
 // The word of the array that a loop goes over.
-fn array_of(env: &[i64; FRAME_WORDS], calls: usize, l: Loop) -> i64
+fn array_word(env: &[i64; FRAME_WORDS], calls: usize, l: Loop) -> i64
     requires { ⌜ (calls < 32) × (length (now env) ≡ frame-words) ⌝ }
     ensures { λ r. ⌜ r ≡ looped-over (kind-of l) (map (word-of calls (now (env .entry))) (atoms-of l)) ⌝ }
 {
@@ -196,7 +196,7 @@ pub fn begin_loop(
 {
     let first = first_name(l);
     let second = second_name(l);
-    let from = store_words::named_cell(array_of(env, calls, l));
+    let from = store_words::named_cell(array_word(env, calls, l));
     let count = store_words::read_length(slots, heads, from);
     let depth = machine_frames::element_depth(table, env, calls, x);
     match carry_first(slots, heads, env, calls, l, depth) {

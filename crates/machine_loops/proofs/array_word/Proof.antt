@@ -1,9 +1,9 @@
--- `machine_loops::array_of` meets its contract.
+-- `machine_loops::array_word` meets its contract.
 use mir.Facts.{toZ-ofZ}
 use borrow.Author.Needs.{needs}
 use Rattle.machine_loops.proofs.Beginning.{array-word}
-use Rattle.machine_loops.proofs.array_of.Statement.{statement}
-use Rattle.machine_loops.proofs.array_of.Tie as tie
+use Rattle.machine_loops.proofs.array_word.Statement.{statement}
+use Rattle.machine_loops.proofs.array_word.Tie as tie
 
 returns : tie.Need-returns
 returns c =
@@ -25,8 +25,8 @@ returns-4 c =
     rw (toZ-ofZ {z = c .word-of4 .result} (record { sfits = c .word-of4 .ok }))
     (array-word _ _ _ _ (c .before .before .l4 .given .1) _ (c .word-of4 .ensures))
 
-pub array-of-spec : {M : Type 1} → statement M
-array-of-spec =
+pub array-word-spec : {M : Type 1} → statement M
+array-word-spec =
     tie.close
     (tie.spec (λ c. search needs) (λ c κs. search needs) (λ c. search needs) (λ c κs. search needs)
     (λ c. search needs) (λ c κs. search needs) (λ c. search needs) (λ c κs. search needs) returns returns-2 returns-3
