@@ -20,14 +20,14 @@ use Rattle.semantics.specs.Machine.{program, delivered}
 use Rattle.soundness.specs.annotation.Accepting.{main-shape-of}
 use Rattle.machine_code.specs.Reading.{Cut}
 use Rattle.machine_laws.specs.Script.{code-some}
-use Rattle.engine_store.specs.declared.Ended.{Ended}
-use Rattle.engine_store.specs.declared.Ended.the-variants as E
-use Rattle.engine_store.specs.Left.{StoreLeft, left, left-by, opened-left, checked-left, SmallAnswer}
-use Rattle.engine_delivery.specs.Delivered.{left-of, delivered-left}
-use Rattle.engine_load.specs.declared.Loaded.the-variants.{Ready, Refused}
-use Rattle.engine_load.specs.Loading.{told-load, kinds-after, operands-after, Loads}
+use Rattle.call_store.specs.declared.Ended.{Ended}
+use Rattle.call_store.specs.declared.Ended.the-variants as E
+use Rattle.call_store.specs.Left.{StoreLeft, left, left-by, opened-left, checked-left, SmallAnswer}
+use Rattle.call_deliver.specs.Delivered.{left-of, delivered-left}
+use Rattle.call_load.specs.declared.Loaded.the-variants.{Ready, Refused}
+use Rattle.call_load.specs.Loading.{told-load, kinds-after, operands-after, Loads}
 use Rattle.engine.specs.Promises.{Translates, Replies}
-use Rattle.engine_store.specs.Told.{Tells}
+use Rattle.call_store.specs.Told.{Tells}
 
 -- ---- translate
 

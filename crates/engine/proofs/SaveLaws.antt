@@ -18,16 +18,16 @@ use Rattle.semantics.specs.Calls.{code-kinds, code-operands, refusing, answerin
 use Rattle.semantics.specs.Saved.{entry-count, saved-bytes, save-fits, read-saved, loaded}
 use Rattle.semantics.specs.SaveCalls.{SaveReply, totals-value, in-buffer, refusing-save, answering-save, save-for}
 use Rattle.semantics.specs.SaveCalls.{restore-in, restore-value, restore-for}
-use Rattle.engine_store.specs.declared.Ended.{Ended}
-use Rattle.engine_store.specs.declared.Ended.the-variants as E
-use Rattle.engine_store.specs.Left.{SmallAnswer, left}
-use Rattle.engine_saved.specs.Left.{restored-by, restored-value, restored-left, SaveLeft, save-left, save-left-by}
-use Rattle.engine_saved.specs.Left.{saved-left}
+use Rattle.call_store.specs.declared.Ended.{Ended}
+use Rattle.call_store.specs.declared.Ended.the-variants as E
+use Rattle.call_store.specs.Left.{SmallAnswer, left}
+use Rattle.call_saved.specs.Left.{restored-by, restored-value, restored-left, SaveLeft, save-left, save-left-by}
+use Rattle.call_saved.specs.Left.{saved-left}
 use Rattle.saved_write.specs.Writing.{saving, totals-saved}
-use Rattle.engine_load.specs.declared.Loaded.the-variants.{Ready, Refused}
-use Rattle.engine_load.specs.Loading.{told-load, kinds-after, operands-after, Loads}
+use Rattle.call_load.specs.declared.Loaded.the-variants.{Ready, Refused}
+use Rattle.call_load.specs.Loading.{told-load, kinds-after, operands-after, Loads}
 use Rattle.engine.specs.Promises.{Saves}
-use Rattle.engine_store.specs.Told.{Tells}
+use Rattle.call_store.specs.Told.{Tells}
 use Rattle.engine.proofs.Laws.{reply-for, Serves, packed-counts}
 
 -- ---- restore

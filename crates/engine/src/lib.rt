@@ -1,6 +1,6 @@
 // The calls for C. Each takes the script file and the two code arrays, translates afresh, and answers one packed
 // number.
-use engine_load::Loaded;
+use call_load::Loaded;
 use machine_code::TABLE_BYTES;
 ghost use Rattle.semantics.specs.Calls.{engine-translate, engine-open, engine-check, engine-deliver};
 ghost use Rattle.semantics.specs.SaveCalls.{engine-save, engine-restore};
@@ -13,7 +13,7 @@ pub extern "C" fn engine_translate(file: &[u8], kinds: &mut [u8], operands: &mut
         (engine-translate (now (file .entry)) (now (kinds .entry)) (now (operands .entry)))
         r (now (kinds .exit)) (now (operands .exit)) ⌝ }
 {
-    match engine_load::load(file, kinds, operands) {
+    match call_load::load(file, kinds, operands) {
         Loaded::Ready(lines, _) => words::pack(0, 0, lines as u64, 0),
         Loaded::Refused(answer) => answer,
     }
@@ -33,10 +33,10 @@ pub extern "C" fn engine_open(
         (now (slots .entry)) (now (heads .entry)))
         r (now (kinds .exit)) (now (operands .exit)) (now (slots .exit)) (now (heads .exit)) ⌝ }
 {
-    match engine_load::load(file, kinds, operands) {
+    match call_load::load(file, kinds, operands) {
         Loaded::Ready(_, depth) => {
-            let ended = engine_store::open_words(slots, heads, depth);
-            engine_store::tell(ended, kinds, operands)
+            let ended = call_store::open_words(slots, heads, depth);
+            call_store::tell(ended, kinds, operands)
         }
         Loaded::Refused(answer) => answer,
     }
@@ -56,10 +56,10 @@ pub extern "C" fn engine_check(
         (now (slots .entry)) (now (heads .entry)))
         r (now (kinds .exit)) (now (operands .exit)) (now (slots .entry)) (now (heads .entry)) ⌝ }
 {
-    match engine_load::load(file, kinds, operands) {
+    match call_load::load(file, kinds, operands) {
         Loaded::Ready(_, depth) => {
-            let ended = engine_store::check_words(slots, heads, depth);
-            engine_store::tell(ended, kinds, operands)
+            let ended = call_store::check_words(slots, heads, depth);
+            call_store::tell(ended, kinds, operands)
         }
         Loaded::Refused(answer) => answer,
     }
@@ -82,9 +82,9 @@ pub extern "C" fn engine_deliver(
         r (now (kinds .exit)) (now (operands .exit)) (now (slots .exit)) (now (heads .exit)) ⌝ }
 {
     let mut table = [0u8; TABLE_BYTES];
-    match engine_load::load_with(file, kinds, operands, &mut table) {
+    match call_load::load_with(file, kinds, operands, &mut table) {
         Loaded::Ready(lines, depth) => {
-            let ended = engine_delivery::deliver_words(
+            let ended = call_deliver::deliver_words(
                 &kinds[..lines],
                 &operands[..lines],
                 &table,
@@ -94,7 +94,7 @@ pub extern "C" fn engine_deliver(
                 depth,
                 budget,
             );
-            engine_store::tell(ended, kinds, operands)
+            call_store::tell(ended, kinds, operands)
         }
         Loaded::Refused(answer) => answer,
     }
@@ -115,10 +115,10 @@ pub extern "C" fn engine_save(
         (now (slots .entry)) (now (heads .entry)) (now (saved .entry)))
         r (now (kinds .exit)) (now (operands .exit)) (now (slots .entry)) (now (heads .entry)) (now (saved .exit)) ⌝ }
 {
-    match engine_load::load(file, kinds, operands) {
+    match call_load::load(file, kinds, operands) {
         Loaded::Ready(_, depth) => {
-            let ended = engine_saved::save_words(slots, heads, saved, depth);
-            engine_store::tell(ended, kinds, operands)
+            let ended = call_saved::save_words(slots, heads, saved, depth);
+            call_store::tell(ended, kinds, operands)
         }
         Loaded::Refused(answer) => {
             clearing::clear_bytes(saved, 0);
@@ -142,10 +142,10 @@ pub extern "C" fn engine_restore(
         (now (slots .entry)) (now (heads .entry)) (now (saved .entry)))
         r (now (kinds .exit)) (now (operands .exit)) (now (slots .exit)) (now (heads .exit)) ⌝ }
 {
-    match engine_load::load(file, kinds, operands) {
+    match call_load::load(file, kinds, operands) {
         Loaded::Ready(_, depth) => {
-            let ended = engine_saved::restore_words(slots, heads, saved, depth);
-            engine_store::tell(ended, kinds, operands)
+            let ended = call_saved::restore_words(slots, heads, saved, depth);
+            call_store::tell(ended, kinds, operands)
         }
         Loaded::Refused(answer) => answer,
     }

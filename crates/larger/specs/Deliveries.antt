@@ -23,9 +23,9 @@ use Rattle.semantics.specs.Calls.{number-of, steps-of, accepted, judged, room, 
 use Rattle.semantics.specs.Ledger.{Delivery, refused, worked, meant, entry, entry-by, dry-steps}
 use Rattle.semantics.specs.Demands.{touched, Call, entered, defined}
 use Rattle.semantics.specs.Larger.{with-budget}
-use Rattle.working.specs.store.FreeList.{listed}
-use Rattle.working.specs.store.Change.{unlisted}
-use Rattle.working.specs.store.Relink.{relink}
+use Rattle.discipline.specs.store.FreeList.{listed}
+use Rattle.discipline.specs.store.Change.{unlisted}
+use Rattle.discipline.specs.store.Relink.{relink}
 use Rattle.soundness.specs.Step.{Standing, standing-settled, Stepped}
 use Rattle.soundness.specs.Demand3.{call-steps}
 use Rattle.larger.specs.Extended.{extended}

@@ -20,8 +20,8 @@ use Rattle.semantics.specs.Sound.{free-list, due}
 use Rattle.semantics.specs.Machine.{touching}
 use Rattle.semantics.specs.Demands.{touched}
 use Rattle.laws.specs.Releases.{count-with}
-use Rattle.working.specs.store.Cells.{out-of-range, in-range, with-cell-put, with-first-put}
-use Rattle.working.specs.store.FreeList.{Listed, listed-is, links-keep, listed-used, listed-freed, listed-taken}
+use Rattle.discipline.specs.store.Cells.{out-of-range, in-range, with-cell-put, with-first-put}
+use Rattle.discipline.specs.store.FreeList.{Listed, listed-is, links-keep, listed-used, listed-freed, listed-taken}
 
 -- so many clear cells from number n on, each before the next
 unfoldable pub clear-from : ℕ → ℕ → List Cell

@@ -1,7 +1,7 @@
 // The machine: workers for a tree, a line and the passes of a loop that call each other. What falls is the steps left,
 // and where no step is taken the lines left. `calls` is the call depth left. The code's slices are cut to its lines,
 // and lent by a reference to each: a frame then has no copy of them.
-use code::Atom;
+use kinds::Atom;
 use machine_code::Line;
 use machine_code::Loop;
 use machine_code::TABLE_BYTES;
@@ -19,8 +19,8 @@ ghost use Rattle.machine_code.specs.Reading.{Cut};
 ghost use Rattle.machine_frames.specs.Work.{memory};
 ghost use Rattle.machine_lines.specs.Lines.{kind-of, first-name, second-name, atoms-of};
 ghost use Rattle.machine_loops.specs.Loops.{Usable};
-ghost use Rattle.machine_positions.specs.Machine.{code, Ended, if-line, call-line, loop-line, looped, passes-on};
-ghost use Rattle.machine_positions.specs.Machine.{line-on, tree-on, call-on};
+ghost use Rattle.machine_spec.specs.Machine.{code, Ended, if-line, call-line, loop-line, looped, passes-on};
+ghost use Rattle.machine_spec.specs.Machine.{line-on, tree-on, call-on};
 
 // Works the tree at a position.
 pub fn work_tree(

@@ -13,8 +13,8 @@ use mir.Syntax.{w64}
 use mir.Val.{Fits, ofZ, toZ}
 use borrow.Author.Tests.{ltb-true, ltb-false, ne-eqb, lt-ltb, le-ltb}
 use Rattle.machine_code.specs.Reading.{low-bits, atom-at, two-rows, line-of, line-at}
-use Rattle.code.specs.declared.Atom.{Atom}
-use Rattle.code.specs.declared.Atom.the-variants.{Number, Name}
+use Rattle.kinds.specs.declared.Atom.{Atom}
+use Rattle.kinds.specs.declared.Atom.the-variants.{Number, Name}
 use Rattle.machine_code.specs.declared.Line.the-variants.{Operation}
 
 -- ---- the low bits of a word

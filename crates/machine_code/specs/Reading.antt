@@ -6,8 +6,8 @@ use Prim.Native.Nat.{ℕ, suc, _+_, _-_, _*_, _/_, _%_, _<_, _≤_}
 use lib.IntN.{ℤ, pos, negsuc}
 use lib.Dec.{eqb, ltb}
 use lib.ListN.{getD, length}
-use Rattle.code.specs.declared.Atom.{Atom}
-use Rattle.code.specs.declared.Atom.the-variants.{Number, Name}
+use Rattle.kinds.specs.declared.Atom.{Atom}
+use Rattle.kinds.specs.declared.Atom.the-variants.{Number, Name}
 use Rattle.machine_code.specs.declared.Loop.the-variants as P
 use Rattle.machine_code.specs.declared.Line.{Line}
 use Rattle.machine_code.specs.declared.Line.the-variants.{Operation, Call, Literal, Index, Length}

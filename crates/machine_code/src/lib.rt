@@ -1,6 +1,6 @@
 // Reading the code: atoms, lines, and the table of a script's functions and of the positions after its trees.
 // What stands past the end of an array is 0. Lines and atoms are read from arrays that are cut to the code's lines.
-use code::Atom;
+use kinds::Atom;
 ghost use mathlib.Core.Path.{_≡_};
 ghost use Prim.Native.Nat.{_+_, _-_, _*_, _<_};
 ghost use lib.IntN.{pos};
@@ -80,10 +80,10 @@ pub fn atom_stands(kinds: &[u8], at: usize) -> bool
     ensures { λ r. ⌜ r ≡ is-atom (getD (now (kinds .entry)) at 0) ⌝ }
 {
     let kind = kind_at(kinds, at);
-    if kind == code::NUMBER {
+    if kind == kinds::NUMBER {
         true
     } else {
-        kind == code::NAME
+        kind == kinds::NAME
     }
 }
 
@@ -92,7 +92,7 @@ fn atom_within(kinds: &[u8], operands: &[i64], at: usize) -> Atom
     requires { ⌜ (at < length (now kinds)) × (at < length (now operands)) ⌝ }
     ensures { λ r. ⌜ r ≡ atom-at (now (kinds .entry)) (now (operands .entry)) at ⌝ }
 {
-    if kinds[at] == code::NUMBER {
+    if kinds[at] == kinds::NUMBER {
         Atom::Number(operands[at])
     } else {
         Atom::Name((low_bits(operands[at]) % 256) as u8)
@@ -114,7 +114,7 @@ pub fn line_at(kinds: &[u8], operands: &[i64], at: usize) -> Line
 {
     let kind = kinds[at];
     let a = atom_within(kinds, operands, at + 1);
-    if kind == code::END {
+    if kind == kinds::END {
         return Line::End(a);
     }
     let n = low_bits(operands[at]);
@@ -124,18 +124,18 @@ pub fn line_at(kinds: &[u8], operands: &[i64], at: usize) -> Line
     }
     let y = (n / 256 % 256) as u8;
     match kind {
-        code::CALL => Line::Call(x, y),
-        code::LITERAL => Line::Literal(x, (n / 65536 % 256) as u8),
-        code::INDEX => Line::Index(x, a, atom_at(kinds, operands, at + 2)),
-        code::LENGTH => Line::Length(x, a),
-        code::IF => Line::If(x, a),
-        code::MAP => Line::Loop(x, Loop::Map(y, a)),
-        code::RETAIN => Line::Retain(x),
-        code::RELEASE => Line::Release(x),
-        code::IOTA => Line::Iota(x, a),
-        code::REPLICATE => Line::Replicate(x, a, atom_at(kinds, operands, at + 2)),
-        code::FILTER => Line::Loop(x, Loop::Filter(y, a)),
-        code::REDUCE => Line::Loop(
+        kinds::CALL => Line::Call(x, y),
+        kinds::LITERAL => Line::Literal(x, (n / 65536 % 256) as u8),
+        kinds::INDEX => Line::Index(x, a, atom_at(kinds, operands, at + 2)),
+        kinds::LENGTH => Line::Length(x, a),
+        kinds::IF => Line::If(x, a),
+        kinds::MAP => Line::Loop(x, Loop::Map(y, a)),
+        kinds::RETAIN => Line::Retain(x),
+        kinds::RELEASE => Line::Release(x),
+        kinds::IOTA => Line::Iota(x, a),
+        kinds::REPLICATE => Line::Replicate(x, a, atom_at(kinds, operands, at + 2)),
+        kinds::FILTER => Line::Loop(x, Loop::Filter(y, a)),
+        kinds::REDUCE => Line::Loop(
             x,
             Loop::Reduce(
                 y,
@@ -144,7 +144,7 @@ pub fn line_at(kinds: &[u8], operands: &[i64], at: usize) -> Line
                 atom_at(kinds, operands, at + 2),
             ),
         ),
-        code::REWRITE => Line::Loop(x, Loop::Rewrite(y, a)),
+        kinds::REWRITE => Line::Loop(x, Loop::Rewrite(y, a)),
         _ => Line::Operation(kind, x, a, atom_at(kinds, operands, at + 2)),
     }
 }

@@ -18,9 +18,9 @@ use Rattle.machine_code.specs.Reading.{start-in}
 use Rattle.machine_frames.specs.declared.Out.{Out}
 use Rattle.machine_frames.specs.Frames.{frame-words, place, function-place, put-all, lowest-of, levelled}
 use Rattle.machine_frames.specs.Work.{memory, ran}
-use Rattle.machine_positions.specs.Machine.{Code, tree-on, call-on, Ended}
-use Rattle.machine_positions.specs.Delivery.{Tried, tried, retained-totals, released-totals, finished}
-use Rattle.machine_positions.specs.Delivery.{main-on, attempt-with, attempt-on, settled, delivered-on}
+use Rattle.machine_spec.specs.Machine.{Code, tree-on, call-on, Ended}
+use Rattle.machine_spec.specs.Delivery.{Tried, tried, retained-totals, released-totals, finished}
+use Rattle.machine_spec.specs.Delivery.{main-on, attempt-with, attempt-on, settled, delivered-on}
 use Rattle.machine_delivery.specs.declared.Attempted.{Attempted}
 use Rattle.machine_delivery.specs.declared.Delivery.{Delivery}
 use Rattle.machine_delivery.specs.Promises.{Tries, DeliversOn}

@@ -5,7 +5,7 @@ use Prim.Native.Nat.{ℕ, _≤_}
 use lib.IntN.{ℤ}
 use Rattle.semantics.specs.Words.{store-of}
 use Rattle.semantics.specs.Machine.{Delivered}
-use Rattle.machine_positions.specs.Delivery.{Tried, tried}
+use Rattle.machine_spec.specs.Delivery.{Tried, tried}
 use Rattle.machine_delivery.specs.declared.Attempted.{Attempted}
 use Rattle.machine_delivery.specs.declared.Delivery.{Delivery}
 

@@ -10,8 +10,8 @@ ghost use lib.IntN.{pos};
 ghost use lib.ListN.{length};
 ghost use Rattle.semantics.specs.Words.{store-of, shaped};
 ghost use Rattle.machine_code.specs.Reading.{Cut};
-ghost use Rattle.machine_positions.specs.Machine.{code};
-ghost use Rattle.machine_positions.specs.Delivery.{retained-totals, released-totals, main-on, attempt-on, delivered-on};
+ghost use Rattle.machine_spec.specs.Machine.{code};
+ghost use Rattle.machine_spec.specs.Delivery.{retained-totals, released-totals, main-on, attempt-on, delivered-on};
 ghost use Rattle.machine_delivery.specs.Promises.{Tries, DeliversOn};
 
 // How a delivery ends: the number of its stop or 0, the least number of free cells over it, and the steps taken.

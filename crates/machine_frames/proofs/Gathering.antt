@@ -9,8 +9,8 @@ use lib.Dec.{eqb}
 use lib.ListN.{getD, set, length, length-set}
 use lib.Seq.{getD-set-other}
 use Rattle.machine_code.specs.Reading.{low-bits, is-atom, atom-at}
-use Rattle.code.specs.declared.Atom.{Atom}
-use Rattle.code.specs.declared.Atom.the-variants.{Number, Name}
+use Rattle.kinds.specs.declared.Atom.{Atom}
+use Rattle.kinds.specs.declared.Atom.the-variants.{Number, Name}
 use Rattle.machine_frames.specs.Frames.{place, word-of, words-at, put-all, Passed}
 
 -- ---- the words that are left after i of them

@@ -9,8 +9,8 @@ use lib.ListN.{getD, set, length}
 use mathlib.Core.Path.{_≡_}
 use Rattle.semantics.specs.Number.{is-zero}
 use Rattle.machine_code.specs.Reading.{low-bits, atom-at, is-atom, depth-in, end-in}
-use Rattle.code.specs.declared.Atom.{Atom}
-use Rattle.code.specs.declared.Atom.the-variants.{Number, Name}
+use Rattle.kinds.specs.declared.Atom.{Atom}
+use Rattle.kinds.specs.declared.Atom.the-variants.{Number, Name}
 
 -- how many words there are
 abbrev pub frame-words : ℕ

@@ -3,7 +3,7 @@
 // was. `calls` is the call depth left, 31 in main.
 pub mod guards;
 
-use code::Atom;
+use kinds::Atom;
 ghost use mathlib.Core.Path.{_≡_};
 ghost use Prim.Native.Nat.{_+_, _-_, _≤_, _<_};
 ghost use lib.IntN.{pos};

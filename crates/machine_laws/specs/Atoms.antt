@@ -11,9 +11,9 @@ use Rattle.semantics.specs.Code.{atom-row}
 use Rattle.semantics.specs.Live.{Set}
 use Rattle.semantics.specs.Machine.{Frame, word}
 use Rattle.semantics.specs.Machine.{argument}
-use Rattle.working.specs.machine.Discipline.{AllKnown}
+use Rattle.discipline.specs.machine.Discipline.{AllKnown}
 use Rattle.machine_code.specs.Reading.{atom-at, is-atom}
-use Rattle.code.specs.declared.Atom.{Atom}
+use Rattle.kinds.specs.declared.Atom.{Atom}
 use Rattle.machine_frames.specs.Frames.{word-of, words-at}
 use Rattle.machine_laws.specs.Rows.{At, atom-here, atom-kind}
 use Rattle.machine_laws.specs.Frames.{Bounded, FrameAgrees, small-known, word-same}

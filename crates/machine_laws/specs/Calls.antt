@@ -14,12 +14,12 @@ use Rattle.semantics.specs.Outcome.{stop}
 use Rattle.semantics.specs.Code.{rows}
 use Rattle.semantics.specs.Live.{Set, empty}
 use Rattle.semantics.specs.Machine.{Event, State, Program, routine-of, frame-from, machine}
-use Rattle.working.specs.machine.Discipline.{Fitting, Scoped, parameter-names}
+use Rattle.discipline.specs.machine.Discipline.{Fitting, Scoped, parameter-names}
 use Rattle.machine_code.specs.Reading.{low-bits, depth-in, start-in}
 use Rattle.machine_frames.specs.Frames.{frame-words, place, function-place, put-all, called, level-place}
 use Rattle.machine_frames.specs.Work.{memory}
-use Rattle.machine_positions.specs.Machine.{Code, call-on, tree-on}
-use Rattle.machine_positions.specs.Lengths.{put-keeps, called-keeps}
+use Rattle.machine_spec.specs.Machine.{Code, call-on, tree-on}
+use Rattle.machine_spec.specs.Lengths.{put-keeps, called-keeps}
 use Rattle.machine_laws.specs.Rows.{At, Jumps}
 use Rattle.machine_laws.specs.Frames.{Bounded, FrameAgrees, Framed}
 use Rattle.machine_laws.specs.Levels.{LevelsAgree, levels-set}

@@ -16,13 +16,13 @@ use Rattle.semantics.specs.Machine as M
 use Rattle.semantics.specs.Machine.{State, Frame, work-line}
 use Rattle.semantics.specs.Machine.{retain-word, release-word}
 use Rattle.machine_code.specs.Reading.{atom-at, line-of, line-at}
-use Rattle.code.specs.declared.Atom.the-variants.{Name}
+use Rattle.kinds.specs.declared.Atom.the-variants.{Name}
 use Rattle.machine_code.specs.declared.Line.{Line}
 use Rattle.machine_code.specs.declared.Line.the-variants as L
 use Rattle.machine_frames.specs.Frames.{word-of}
 use Rattle.machine_frames.specs.Work.{Memory, memory, with-store}
 use Rattle.machine_lines.specs.Lines.{Doing, released-memory, changing, doing, leaf-done}
-use Rattle.machine_positions.specs.Machine.{Code, Work, Callee, line-done}
+use Rattle.machine_spec.specs.Machine.{Code, Work, Callee, line-done}
 use Rattle.machine_laws.specs.Rows.{Here, line-read}
 use Rattle.machine_laws.specs.Frames.{Bounded, FrameAgrees, FrameKept, Framed, kept-none, agrees-kept}
 use Rattle.machine_laws.specs.Levels.{LevelsAgree, levels-touched, levels-released}

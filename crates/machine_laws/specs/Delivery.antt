@@ -20,9 +20,9 @@ use Rattle.store.specs.Acquiring.{gained, next-cell}
 use Rattle.machine_code.specs.Reading.{start-in}
 use Rattle.machine_frames.specs.Frames.{frame-words, levelled, level-place, lowest-place}
 use Rattle.machine_frames.specs.Work.{memory, Ran}
-use Rattle.machine_positions.specs.Machine.{Code, tree-on, call-on}
-use Rattle.machine_positions.specs.Delivery.{finished, main-frame, main-on}
-use Rattle.machine_positions.specs.Delivery.{attempt-with, attempt-on, settled, delivered-on}
+use Rattle.machine_spec.specs.Machine.{Code, tree-on, call-on}
+use Rattle.machine_spec.specs.Delivery.{finished, main-frame, main-on}
+use Rattle.machine_spec.specs.Delivery.{attempt-with, attempt-on, settled, delivered-on}
 use Rattle.machine_laws.specs.Rows.{Jumps}
 use Rattle.machine_laws.specs.Levels.{LevelsAgree, levels-nothing, levels-touched, levels-started, lowest-kept}
 use Rattle.machine_laws.specs.Same.{Rel, TreeDone}

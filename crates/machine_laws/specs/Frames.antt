@@ -17,7 +17,7 @@ use Rattle.semantics.specs.Code as C
 use Rattle.semantics.specs.Live.{Set, _∪_, only, just}
 use Rattle.semantics.specs.Machine.{Frame, word, argument, binding}
 use Rattle.laws.specs.Tests.{or-cases, or-left}
-use Rattle.working.specs.machine.Discipline.{Known, AllNew, known-after, LineScoped}
+use Rattle.discipline.specs.machine.Discipline.{Known, AllNew, known-after, LineScoped}
 use Rattle.machine_code.specs.Reading.{low-bits}
 use Rattle.machine_code.proofs.Reading.{no-bool}
 use Rattle.machine_frames.specs.Frames.{frame-words, place, function-place, function-of, word-of}

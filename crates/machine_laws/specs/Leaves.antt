@@ -24,13 +24,13 @@ use Rattle.semantics.specs.Machine as M
 use Rattle.semantics.specs.Machine.{State, Frame, Program, word, with-left, work-leaf, work-line, acquire, acquire-if}
 use Rattle.semantics.specs.Machine.{elements-of, retain-word, held, argument, touching, is-count}
 use Rattle.semantics.specs.Machine.{if-array, retain-times, acquires}
-use Rattle.working.specs.machine.Fits.{replicate-fits}
+use Rattle.discipline.specs.machine.Fits.{replicate-fits}
 use Rattle.laws.specs.Tests.{some-if-holds, same-lists}
-use Rattle.working.specs.machine.Discipline.{AllKnown, New, LeafFits}
+use Rattle.discipline.specs.machine.Discipline.{AllKnown, New, LeafFits}
 use Rattle.words.specs.Words.{checked}
 use Rattle.store.specs.Acquiring.{Gained, gained, next-cell}
 use Rattle.machine_code.specs.Reading.{atom-at, is-atom, line-of, line-at, depth-in}
-use Rattle.code.specs.declared.Atom.{Atom}
+use Rattle.kinds.specs.declared.Atom.{Atom}
 use Rattle.machine_code.specs.declared.Line.the-variants as L
 use Rattle.machine_frames.specs.Frames.{word-of, words-at, element-depth, level-of, noted}
 use Rattle.machine_frames.specs.Work.{Memory, memory, Ran, ran, out, with-store}
@@ -39,7 +39,7 @@ use Rattle.machine_lines.specs.Lines.{acquired-given, Doing, elements-by, retai
 use Rattle.machine_lines.specs.Lines.{array-memory, array-given, acquired-memory, cell-from, giving, calling, doing}
 use Rattle.machine_lines.specs.Lines.{giving-line, leaf-done}
 use Rattle.machine_lines.proofs.Counts.{counted-bad}
-use Rattle.machine_positions.specs.Machine.{Code, Work, Callee, binding, call-worked, call-line, line-done}
+use Rattle.machine_spec.specs.Machine.{Code, Work, Callee, binding, call-worked, call-line, line-done}
 use Rattle.machine_laws.specs.Rows.{Here, At, line-read}
 use Rattle.machine_laws.specs.Frames.{Bounded, FrameAgrees, FrameKept, Framed, kept-none}
 use Rattle.machine_laws.specs.Levels.{LevelsAgree, levels-touched, levels-acquired, kept-noted}

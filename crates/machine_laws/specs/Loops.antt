@@ -20,17 +20,17 @@ use Rattle.semantics.specs.Machine.{State, Frame, Program, word, step, stepped,
 use Rattle.semantics.specs.Machine.{elements-of, held, touching, looped-over}
 use Rattle.semantics.specs.Machine.{carried-first, pass-words, in-progress, loop-ends}
 use Rattle.laws.specs.Tests.{or-left}
-use Rattle.working.specs.machine.Discipline.{AllKnown, New, AllNew, LoopFits, Fitting, Scoped}
+use Rattle.discipline.specs.machine.Discipline.{AllKnown, New, AllNew, LoopFits, Fitting, Scoped}
 use Rattle.machine_code.specs.Reading.{atom-at, line-of, line-at, depth-in, end-in}
-use Rattle.code.specs.declared.Atom.{Atom}
+use Rattle.kinds.specs.declared.Atom.{Atom}
 use Rattle.machine_code.specs.declared.Line.{Line}
 use Rattle.machine_frames.specs.Frames.{place, word-of, element-depth, level-place}
 use Rattle.machine_frames.specs.Work.{Memory, memory, Ran, out, bound}
 use Rattle.machine_lines.specs.Lines.{array-of, Doing, looping, doing}
 use Rattle.machine_loops.specs.declared.Way.{Way}
 use Rattle.machine_loops.specs.Loops.{way-of, carry-first}
-use Rattle.machine_positions.specs.Machine.{Code, Callee, and-then, binding-passed, Looped, looped, carry-by, carry-on}
-use Rattle.machine_positions.specs.Machine.{passes-on, loop-worked, loop-line, tree-on}
+use Rattle.machine_spec.specs.Machine.{Code, Callee, and-then, binding-passed, Looped, looped, carry-by, carry-on}
+use Rattle.machine_spec.specs.Machine.{passes-on, loop-worked, loop-line, tree-on}
 use Rattle.machine_laws.specs.Rows.{Here, At, Jumps, coded, atom-here, line-read}
 use Rattle.machine_laws.specs.Frames.{Bounded, FrameAgrees, FrameKept, small-known, word-same, kept-none}
 use Rattle.machine_laws.specs.Frames.{Framed, framed-kept, kept-then}

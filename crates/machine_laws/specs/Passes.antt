@@ -22,14 +22,14 @@ use Rattle.semantics.specs.Machine.{touching, release-events, acquire, append-w
 use Rattle.semantics.specs.Machine.{argument, carried-first, pass-words, taken-by, in-place, carried-on, loop-ends}
 use Rattle.semantics.specs.Machine.{if-array, retain-word}
 use Rattle.laws.specs.Tests.{or-right}
-use Rattle.working.specs.machine.Discipline.{New, AllNew}
+use Rattle.discipline.specs.machine.Discipline.{New, AllNew}
 use Rattle.machine_frames.specs.Frames.{place, raised}
 use Rattle.machine_frames.specs.Work.{memory, Ran, ran, out, halted, bound}
 use Rattle.machine_lines.specs.Lines.{acquired-given, cell-from, acquired-memory, released-memory}
 use Rattle.machine_loops.specs.declared.Way.{Way}
 use Rattle.machine_loops.specs.declared.Way.the-variants.{Fill, Overwrite}
 use Rattle.machine_loops.specs.Loops.{way-of, new-carried, is-alone, carry-first, retained-if}
-use Rattle.machine_positions.specs.Machine.{binding, binding-passed, carry-by}
+use Rattle.machine_spec.specs.Machine.{binding, binding-passed, carry-by}
 use Rattle.machine_laws.specs.Frames.{Bounded, FrameAgrees, FrameKept, kept-none}
 use Rattle.machine_laws.specs.Frames.{Framed, framed-kept, kept-then}
 use Rattle.machine_laws.specs.Frames.{agrees-kept, agrees-all, kept-all, kept-more}

@@ -18,9 +18,9 @@ use Rattle.semantics.specs.Kinds.{Loop, mapping, filtering, reducing, rewriting
 use Rattle.semantics.specs.Code as C
 use Rattle.semantics.specs.Code.{Row, atom-row, rows, line-rows}
 use Rattle.machine_code.specs.Reading.{atom-at, is-atom, two-rows, line-of, line-at, end-in}
-use Rattle.code.specs.declared.Atom.{Atom}
-use Rattle.code.specs.declared.Atom.the-variants.{Number, Name}
-use Rattle.machine_positions.specs.Machine.{Code}
+use Rattle.kinds.specs.declared.Atom.{Atom}
+use Rattle.kinds.specs.declared.Atom.the-variants.{Number, Name}
+use Rattle.machine_spec.specs.Machine.{Code}
 
 -- a row stands at a position
 pub record Here (kinds : List ℕ) (operands : List ℤ) (at : ℕ) (r : Row) : Type 0 where

@@ -14,11 +14,11 @@ use Rattle.semantics.specs.Live.{Set, _∪_, only}
 use Rattle.semantics.specs.Store.{Store}
 use Rattle.semantics.specs.Machine as M
 use Rattle.semantics.specs.Machine.{State, Frame, Program, step, stepped, with-left}
-use Rattle.working.specs.machine.Discipline.{New}
+use Rattle.discipline.specs.machine.Discipline.{New}
 use Rattle.machine_frames.specs.Frames.{frame-words, place, function-place}
 use Rattle.machine_frames.specs.Work.{Memory, memory, Ran, ran, out, halted, stepping}
 use Rattle.machine_lines.specs.Lines.{Given, gave}
-use Rattle.machine_positions.specs.Machine.{Callee, and-then, binding}
+use Rattle.machine_spec.specs.Machine.{Callee, and-then, binding}
 use Rattle.machine_laws.specs.Frames.{Bounded, FrameAgrees, FrameKept, Framed, framed-kept, agrees-more}
 use Rattle.machine_laws.specs.Frames.{agrees-kept, kept-more, kept-then}
 use Rattle.machine_laws.specs.Levels.{LevelsAgree, levels-set}

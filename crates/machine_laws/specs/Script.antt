@@ -7,7 +7,7 @@ use mathlib.Core.List.{List, [], _∷_, _++_, map, append-assoc}
 use lib.IntN.{ℤ, pos}
 use lib.ListN.{getD, length, take, length-append}
 use lib.Seq.{getD-append-seam}
-use Rattle.working.specs.machine.Size.{function-within}
+use Rattle.discipline.specs.machine.Size.{function-within}
 use Rattle.soundness.specs.Delivering.{levels-bounded}
 use Rattle.semantics.specs.Syntax.{Parameter, Function, Script, function-at, no-function, main-depth}
 use Rattle.semantics.specs.Code.{Row, rows}
@@ -21,9 +21,9 @@ use Rattle.soundness.specs.annotation.Reader.{AllOf, FunctionLimits}
 use Rattle.soundness.specs.annotation.Accepting.{Clean, judged-clean, functions-disciplined, main-shape-of}
 use Rattle.laws.specs.Routines.{length-routines, routine-is}
 use Rattle.machine_code.specs.Reading.{depth-in, start-in}
-use Rattle.machine_positions.specs.Machine as M
-use Rattle.machine_positions.specs.Machine.{Code}
-use Rattle.machine_positions.specs.Delivery.{delivered-on}
+use Rattle.machine_spec.specs.Machine as M
+use Rattle.machine_spec.specs.Machine.{Code}
+use Rattle.machine_spec.specs.Delivery.{delivered-on}
 use Rattle.machine_laws.specs.Rows.{At, Jumps, at-first, at-second, at-cut, at-whole, rows-some}
 use Rattle.machine_laws.specs.Calls.{FunctionStands}
 use Rattle.machine_laws.specs.Delivery.{delivered-same}

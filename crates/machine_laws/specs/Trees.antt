@@ -18,16 +18,16 @@ use Rattle.semantics.specs.Live.{Set, _∪_, only, live, after-branch}
 use Rattle.semantics.specs.Annotate.{NameDepths, atom-depth}
 use Rattle.semantics.specs.Machine as M
 use Rattle.semantics.specs.Machine.{State, Frame, Program, word, with-left, work, work-line}
-use Rattle.working.specs.machine.Discipline.{Known, New, known-after, LineFitting, Fitting, LineScoped, Scoped}
-use Rattle.working.specs.machine.Rules.{known-stays}
+use Rattle.discipline.specs.machine.Discipline.{Known, New, known-after, LineFitting, Fitting, LineScoped, Scoped}
+use Rattle.discipline.specs.machine.Rules.{known-stays}
 use Rattle.machine_code.specs.Reading.{is-atom, atom-at, line-of, line-at, depth-in, end-in}
-use Rattle.code.specs.declared.Atom.{Atom}
+use Rattle.kinds.specs.declared.Atom.{Atom}
 use Rattle.machine_frames.specs.Frames.{word-of}
 use Rattle.machine_frames.specs.Work.{Memory, memory, Ran, halted}
 use Rattle.machine_lines.specs.Lines.{Doing, branching, doing}
-use Rattle.machine_positions.specs.Machine.{Code, Work, Callee, and-then, binding, branch-worked, if-worked, if-line}
-use Rattle.machine_positions.specs.Machine.{line-done, line-on}
-use Rattle.machine_positions.specs.Machine.{is-end, tree-from, tree-on}
+use Rattle.machine_spec.specs.Machine.{Code, Work, Callee, and-then, binding, branch-worked, if-worked, if-line}
+use Rattle.machine_spec.specs.Machine.{line-done, line-on}
+use Rattle.machine_spec.specs.Machine.{is-end, tree-from, tree-on}
 use Rattle.machine_laws.specs.Rows.{At, Jumps, at-first, at-second, coded, atom-here, line-read}
 use Rattle.machine_laws.specs.Rows.{no-atom, tree-within, line-some, rows-some}
 use Rattle.machine_laws.specs.Frames.{Bounded, FrameAgrees, small-known, word-same, kept-none}

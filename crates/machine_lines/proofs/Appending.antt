@@ -9,7 +9,7 @@ use lib.ListN.{getD, length}
 use Rattle.semantics.specs.Store.{Store, appended}
 use Rattle.store.specs.Acquiring.{appended-all}
 use Rattle.machine_code.specs.Reading.{is-atom, atom-at}
-use Rattle.code.specs.declared.Atom.{Atom}
+use Rattle.kinds.specs.declared.Atom.{Atom}
 use Rattle.machine_frames.specs.Frames.{word-of, words-at}
 use Rattle.machine_frames.proofs.Gathering.{words-left, words-start, words-end, words-full, words-next}
 use Rattle.machine_lines.specs.Lines.{Appended}

@@ -14,8 +14,8 @@ use Rattle.semantics.specs.Store.{Store, cell, cell-of, elements, acquired, ret
 use Rattle.semantics.specs.Machine.{is-count}
 use Rattle.words.specs.Words.{checked}
 use Rattle.store.specs.Acquiring.{Gained, next-cell, appended-all}
-use Rattle.code.specs.declared.Atom.{Atom}
-use Rattle.code.specs.declared.Atom.the-variants.{Name}
+use Rattle.kinds.specs.declared.Atom.{Atom}
+use Rattle.kinds.specs.declared.Atom.the-variants.{Name}
 use Rattle.machine_code.specs.declared.Loop as P
 use Rattle.machine_code.specs.declared.Loop.the-variants.{Map, Filter, Reduce, Rewrite}
 use Rattle.machine_code.specs.declared.Line.{Line}

@@ -1,6 +1,6 @@
 // The lines that make an array: a literal's elements are its atoms, an iota's count from 0, a replicate's are copies of
 // a word.
-use code::Atom;
+use kinds::Atom;
 use machine_frames::BAD_COUNT;
 use machine_frames::FRAME_WORDS;
 use machine_frames::OUT_OF_CELLS;

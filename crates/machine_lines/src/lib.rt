@@ -2,7 +2,7 @@
 // 31 in main.
 mod arrays;
 
-use code::Atom;
+use kinds::Atom;
 use machine_code::Line;
 use machine_frames::FRAME_WORDS;
 use machine_frames::INDEX_OUT_OF_RANGE;
@@ -26,10 +26,10 @@ ghost use Rattle.machine_lines.specs.Lines.{operation-of, operation-line
 fn operate(kind: u8, a: i64, b: i64) -> Exact
     ensures { λ r. ⌜ exact-outcome r ≡ checked (exact (operation-of kind) a b) ⌝ }
 {
-    if kind == code::SUM {
+    if kind == kinds::SUM {
         return words::exact_sum(a, b);
     }
-    if kind == code::DIFFERENCE {
+    if kind == kinds::DIFFERENCE {
         return words::exact_difference(a, b);
     }
     Exact::Value(words::is_less(a, b))

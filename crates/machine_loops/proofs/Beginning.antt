@@ -19,7 +19,7 @@ use Rattle.store.specs.Acquiring.{Gained, gained, acquired-outcome, next-cell}
 use Rattle.store.specs.declared.Acquired.{Acquired}
 use Rattle.store.specs.declared.Acquired.the-variants.{Cell, NoneFree}
 use Rattle.store.proofs.Filling.{cell-given}
-use Rattle.code.specs.declared.Atom.{Atom}
+use Rattle.kinds.specs.declared.Atom.{Atom}
 use Rattle.machine_code.specs.declared.Loop as P
 use Rattle.machine_code.specs.declared.Loop.the-variants.{Map, Filter, Reduce, Rewrite}
 use Rattle.machine_code.proofs.Loop.{the-type}

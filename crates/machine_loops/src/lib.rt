@@ -1,6 +1,6 @@
 // The parts of a loop outside its tree: what it begins with, what a pass begins with, what a pass carries on to the
 // next, and what it ends with. A map, a filter and a reduce differ in nothing else.
-use code::Atom;
+use kinds::Atom;
 use machine_code::Loop;
 use machine_frames::FRAME_WORDS;
 use machine_frames::Out;

@@ -28,11 +28,11 @@ fn trees_of(kind: u8) -> u8
     ensures { λ r. ⌜ r ≡ trees-of kind ⌝ }
 {
     match kind {
-        code::IF => 2,
-        code::MAP => 1,
-        code::FILTER => 1,
-        code::REDUCE => 1,
-        code::REWRITE => 1,
+        kinds::IF => 2,
+        kinds::MAP => 1,
+        kinds::FILTER => 1,
+        kinds::REDUCE => 1,
+        kinds::REWRITE => 1,
         _ => 0,
     }
 }
@@ -42,7 +42,7 @@ fn end_of(kind: u8, table: &[u8], at: usize) -> usize
     requires { ⌜ at < 4096 ⌝ }
     ensures { λ r. ⌜ r ≡ end-of kind (now (table .entry)) at ⌝ }
 {
-    if kind == code::END {
+    if kind == kinds::END {
         return at + 2;
     }
     let next = machine_code::end_in(table, at + 1);

@@ -20,8 +20,8 @@ use Rattle.semantics.specs.Calls.{judged, judged-script}
 use Rattle.script_read.specs.Told.{Parts, told}
 use Rattle.script_read.specs.declared.Read.the-variants as R
 use Rattle.laws.specs.Tests.{both-hold}
-use Rattle.script_nodes.specs.Faults.{Rising}
-use Rattle.script_nodes.specs.Nodes.{names-rise, types-rise, first-least}
+use Rattle.script_laws.specs.Faults.{Rising}
+use Rattle.script_laws.specs.Nodes.{names-rise, types-rise, first-least}
 use Rattle.script.specs.Verdicts.{Readable, told-verdict, Judges, refused-by, listed, checked-as}
 use Rattle.script.specs.declared.Verdict.{Verdict}
 use Rattle.script.specs.declared.Verdict.the-variants.{Accepted, Refused}

@@ -16,20 +16,20 @@ fn new_names(kind: u8) -> u8
     ensures { λ r. ⌜ r ≡ getD new-names kind 0 ⌝ }
 {
     match kind {
-        code::PARAMETER => 1,
-        code::SUM => 1,
-        code::DIFFERENCE => 1,
-        code::LESS => 1,
-        code::CALL => 1,
-        code::LITERAL => 1,
-        code::INDEX => 1,
-        code::LENGTH => 1,
-        code::IF => 1,
-        code::MAP => 2,
-        code::IOTA => 1,
-        code::REPLICATE => 1,
-        code::FILTER => 2,
-        code::REDUCE => 3,
+        kinds::PARAMETER => 1,
+        kinds::SUM => 1,
+        kinds::DIFFERENCE => 1,
+        kinds::LESS => 1,
+        kinds::CALL => 1,
+        kinds::LITERAL => 1,
+        kinds::INDEX => 1,
+        kinds::LENGTH => 1,
+        kinds::IF => 1,
+        kinds::MAP => 2,
+        kinds::IOTA => 1,
+        kinds::REPLICATE => 1,
+        kinds::FILTER => 2,
+        kinds::REDUCE => 3,
         _ => 0,
     }
 }
@@ -38,7 +38,7 @@ fn new_names(kind: u8) -> u8
 fn crowd_ends(kind: u8, count: u64) -> bool
     ensures { λ r. ⌜ r ≡ crowd-ends kind count ⌝ }
 {
-    if kind == code::FUNCTION {
+    if kind == kinds::FUNCTION {
         return 256 < count;
     }
     false
@@ -48,14 +48,14 @@ fn crowd_ends(kind: u8, count: u64) -> bool
 fn start_after(kind: u8, p: usize, start: usize) -> usize
     ensures { λ r. ⌜ r ≡ start-after kind p start ⌝ }
 {
-    if kind == code::FUNCTION { p } else { start }
+    if kind == kinds::FUNCTION { p } else { start }
 }
 
 // The present function's new names, after a node of this kind; over 256 the count stands still.
 fn count_after(kind: u8, count: u64) -> u64
     ensures { λ r. ⌜ r ≡ counted-on kind count ⌝ }
 {
-    if kind == code::FUNCTION {
+    if kind == kinds::FUNCTION {
         return 0;
     }
     if 256 < count {

@@ -71,17 +71,17 @@ fn type_part(
     }
     match script_read::node_at(kinds, operands, at, Place::Part) {
         Node::Fits(kind, low, high) => {
-            if kind == code::NUMBER {
+            if kind == kinds::NUMBER {
                 return Typed::Depth(0, at + 1);
             }
-            if kind == code::NAME {
+            if kind == kinds::NAME {
                 let d = table[low as usize];
                 if d == UNKNOWN {
                     return Typed::Fault(at);
                 }
                 return Typed::Depth(d, at + 1);
             }
-            if kind == code::LET {
+            if kind == kinds::LET {
                 return type_let(kinds, operands, starts, table, at + 1, low, levels - 1);
             }
             let node = Head { kind, low, high };
@@ -142,7 +142,7 @@ fn type_start(
         (depths (now (table .entry)))) at)
         × (now (table .exit) ≡ now (table .entry)) ⌝ }
 {
-    if kind == code::REDUCE {
+    if kind == kinds::REDUCE {
         return type_part(kinds, operands, starts, table, at, levels);
     }
     Typed::Depth(0, at)

@@ -21,7 +21,7 @@ struct Binding {
 fn is_binding(kind: u8) -> bool
     ensures { λ r. ⌜ r ≡ binds kind ⌝ }
 {
-    if kind == code::LET {
+    if kind == kinds::LET {
         return true;
     }
     script_read::is_loop(kind)
@@ -31,7 +31,7 @@ fn is_binding(kind: u8) -> bool
 fn calls_none(functions: u8, kind: u8, f: u8) -> bool
     ensures { λ r. ⌜ r ≡ calls-none functions kind f ⌝ }
 {
-    if kind == code::CALL {
+    if kind == kinds::CALL {
         return functions <= f;
     }
     false
@@ -56,7 +56,7 @@ fn name_part(
     }
     match script_read::node_at(kinds, operands, at, Place::Part) {
         Node::Fits(kind, low, high) => {
-            if kind == code::NAME {
+            if kind == kinds::NAME {
                 if known[low as usize] {
                     return Read::Next(at + 1);
                 }

@@ -49,22 +49,22 @@ fn part_limits(kind: u8) -> u64
     ensures { λ r. ⌜ r ≡ limits-at at-part kind ⌝ }
 {
     match kind {
-        code::NUMBER => 0,
-        code::NAME => 255,
-        code::SUM => 0,
-        code::DIFFERENCE => 0,
-        code::LESS => 0,
-        code::LET => 255,
-        code::CALL => 31 + 256 * 8,
-        code::LITERAL => 16 + 256 * 3,
-        code::INDEX => 0,
-        code::LENGTH => 0,
-        code::IF => 0,
-        code::MAP => 255,
-        code::IOTA => 0,
-        code::REPLICATE => 0,
-        code::FILTER => 255,
-        code::REDUCE => 255 + 256 * 255,
+        kinds::NUMBER => 0,
+        kinds::NAME => 255,
+        kinds::SUM => 0,
+        kinds::DIFFERENCE => 0,
+        kinds::LESS => 0,
+        kinds::LET => 255,
+        kinds::CALL => 31 + 256 * 8,
+        kinds::LITERAL => 16 + 256 * 3,
+        kinds::INDEX => 0,
+        kinds::LENGTH => 0,
+        kinds::IF => 0,
+        kinds::MAP => 255,
+        kinds::IOTA => 0,
+        kinds::REPLICATE => 0,
+        kinds::FILTER => 255,
+        kinds::REDUCE => 255 + 256 * 255,
         _ => NOT_ALLOWED,
     }
 }
@@ -75,13 +75,13 @@ fn limits_at(place: Place, kind: u8) -> u64
 {
     match place {
         Place::Function => {
-            if kind == code::FUNCTION {
+            if kind == kinds::FUNCTION {
                 return 8 + 256 * 4;
             }
             NOT_ALLOWED
         }
         Place::Parameter => {
-            if kind == code::PARAMETER {
+            if kind == kinds::PARAMETER {
                 return 255 + 256 * 4;
             }
             NOT_ALLOWED
@@ -107,8 +107,8 @@ pub fn node_at(kinds: &[u8], operands: &[u8], at: usize, place: Place) -> Node
     if most == NOT_ALLOWED {
         return Node::WrongKind;
     }
-    if kind == code::NUMBER {
-        return Node::Fits(code::NUMBER, 0, 0);
+    if kind == kinds::NUMBER {
+        return Node::Fits(kinds::NUMBER, 0, 0);
     }
     let n = words::nth_word(operands, at);
     let low = n % 256;
@@ -149,18 +149,18 @@ fn fixed_parts(kind: u8) -> u8
     ensures { λ r. ⌜ r ≡ getD part-counts kind 0 ⌝ }
 {
     match kind {
-        code::SUM => 2,
-        code::DIFFERENCE => 2,
-        code::LESS => 2,
-        code::LET => 2,
-        code::INDEX => 2,
-        code::LENGTH => 1,
-        code::IF => 3,
-        code::MAP => 2,
-        code::IOTA => 1,
-        code::REPLICATE => 2,
-        code::FILTER => 2,
-        code::REDUCE => 3,
+        kinds::SUM => 2,
+        kinds::DIFFERENCE => 2,
+        kinds::LESS => 2,
+        kinds::LET => 2,
+        kinds::INDEX => 2,
+        kinds::LENGTH => 1,
+        kinds::IF => 3,
+        kinds::MAP => 2,
+        kinds::IOTA => 1,
+        kinds::REPLICATE => 2,
+        kinds::FILTER => 2,
+        kinds::REDUCE => 3,
         _ => 0,
     }
 }
@@ -169,10 +169,10 @@ fn fixed_parts(kind: u8) -> u8
 fn said_parts(kind: u8, low: u8, high: u8) -> u8
     ensures { λ r. ⌜ r ≡ said-parts kind low high ⌝ }
 {
-    if kind == code::CALL {
+    if kind == kinds::CALL {
         return high;
     }
-    if kind == code::LITERAL {
+    if kind == kinds::LITERAL {
         return low;
     }
     0
@@ -190,9 +190,9 @@ pub fn is_loop(kind: u8) -> bool
     ensures { λ r. ⌜ r ≡ loops kind ⌝ }
 {
     match kind {
-        code::MAP => true,
-        code::FILTER => true,
-        code::REDUCE => true,
+        kinds::MAP => true,
+        kinds::FILTER => true,
+        kinds::REDUCE => true,
         _ => false,
     }
 }
@@ -201,7 +201,7 @@ pub fn is_loop(kind: u8) -> bool
 pub fn second_name(kind: u8, low: u8, high: u8) -> u8
     ensures { λ r. ⌜ r ≡ second-name kind low high ⌝ }
 {
-    if kind == code::REDUCE { high } else { low }
+    if kind == kinds::REDUCE { high } else { low }
 }
 
 // A part, with so many levels left.
@@ -231,10 +231,10 @@ pub fn atom_at(kinds: &[u8], operands: &[u8], at: usize) -> Atomic
     ensures { λ r. ⌜ AtomSeen (now (kinds .entry)) (now (operands .entry)) at r ⌝ }
 {
     let kind = kind_at(kinds, at);
-    if kind == code::NUMBER {
+    if kind == kinds::NUMBER {
         return Atomic::Number;
     }
-    if kind == code::NAME {
+    if kind == kinds::NAME {
         let name = words::nth_word(operands, at);
         if name < 256 {
             return Atomic::Name(name as u8);

@@ -164,13 +164,13 @@ pub fn judge(
     let low = node.low;
     let high = node.high;
     match kind {
-        code::CALL => judge_call(kinds, operands, starts[low as usize], ds, high),
-        code::LITERAL => judge_all(ds, low as usize, high, high + 1),
-        code::INDEX => judge_index(ds[0], ds[1]),
-        code::LENGTH => judge_length(ds[0]),
-        code::IF => judge_if(ds[0], ds[1], ds[2]),
-        code::IOTA => judge_all(ds, 1, 0, 1),
-        code::REPLICATE => judge_replicate(ds[0], ds[1]),
+        kinds::CALL => judge_call(kinds, operands, starts[low as usize], ds, high),
+        kinds::LITERAL => judge_all(ds, low as usize, high, high + 1),
+        kinds::INDEX => judge_index(ds[0], ds[1]),
+        kinds::LENGTH => judge_length(ds[0]),
+        kinds::IF => judge_if(ds[0], ds[1], ds[2]),
+        kinds::IOTA => judge_all(ds, 1, 0, 1),
+        kinds::REPLICATE => judge_replicate(ds[0], ds[1]),
         _ => judge_all(ds, script_read::parts_of(kind, low, high) as usize, 0, 0),
     }
 }
@@ -180,13 +180,13 @@ pub fn judge(
 pub fn judge_loop(kind: u8, start: u8, array: u8, body: u8) -> Judged
     ensures { λ r. ⌜ r ≡ told-rule (loop-ruled kind start array body) ⌝ }
 {
-    if kind == code::MAP {
+    if kind == kinds::MAP {
         return judge_array(body);
     }
     if body != start {
         return Judged::Broken;
     }
-    if kind == code::FILTER {
+    if kind == kinds::FILTER {
         Judged::Has(array)
     } else {
         Judged::Has(start)

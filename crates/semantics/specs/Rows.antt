@@ -1,5 +1,5 @@
 -- The computed rows that the must-fail edits of the definitions break, in one theorem; the statements stand beside
--- their scripts, and the crate `computed` has the other rows. One theorem, because a wrong definition breaks many rows
+-- their scripts, and the crate `semantics_rows` has the other rows. One theorem, because a wrong definition breaks many rows
 -- at once, and the checker spends seconds on what it says of each theorem that fails.
 use mathlib.Core.Path.{refl}
 use Rattle.semantics.specs.Slips.{slips, low-first, operand-bytes, file-of, seen-from, seen-of, seeing}

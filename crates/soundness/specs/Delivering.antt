@@ -21,11 +21,11 @@ use Rattle.semantics.specs.Calls.{accepted, judged, code-fits, request-fits}
 use Rattle.semantics.specs.Demands.{value-of}
 use Rattle.laws.specs.Tests.{both-hold}
 use Rattle.laws.specs.Levels.{LevelsUpTo, up-to-more}
-use Rattle.working.specs.store.LowestLevel.{free-cells-listed}
+use Rattle.discipline.specs.store.LowestLevel.{free-cells-listed}
 use Rattle.soundness.specs.annotation.Programs.{program-disciplined, program-frugal}
-use Rattle.working.specs.machine.Agreement.{Start}
-use Rattle.working.specs.machine.Totals.{Finished}
-use Rattle.working.specs.machine.Delivery.{Delivers, delivery-sound, script-delivery, delivers-clean}
+use Rattle.discipline.specs.machine.Agreement.{Start}
+use Rattle.discipline.specs.machine.Totals.{Finished}
+use Rattle.discipline.specs.machine.Delivery.{Delivers, delivery-sound, script-delivery, delivers-clean}
 use Rattle.soundness.specs.Settled.{Settled, sound-settles}
 
 -- code that fits fewer lines fits 4,096

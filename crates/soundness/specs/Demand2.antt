@@ -8,7 +8,7 @@ use Rattle.semantics.specs.Syntax.{Script, main-depth}
 use Rattle.semantics.specs.Words.{store-of}
 use Rattle.semantics.specs.Calls.{Verdict, accepted, refused, judged, admitted, admitted-if, code-fits}
 use Rattle.semantics.specs.Demands.{Demand2}
-use Rattle.working.specs.machine.Delivery.{delivers-does}
+use Rattle.discipline.specs.machine.Delivery.{delivers-does}
 use Rattle.soundness.specs.Settled.{sound-settles}
 use Rattle.soundness.specs.Delivering.{few-lines, delivers}
 

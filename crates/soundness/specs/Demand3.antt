@@ -17,7 +17,7 @@ use Rattle.semantics.specs.Calls.{engine-open, engine-deliver}
 use Rattle.semantics.specs.Ledger.{Delivery, entry, dry-steps, meant}
 use Rattle.semantics.specs.Demands.{Engine, Call, InTurn, entered, Kept, Demand3, defined}
 use Rattle.laws.specs.Tests.{both-hold}
-use Rattle.script_nodes.specs.Nodes.{Numbered, judged-numbered}
+use Rattle.script_laws.specs.Nodes.{Numbered, judged-numbered}
 use Rattle.soundness.specs.Answers.{number-packed}
 use Rattle.soundness.specs.Settled.{opened-settles}
 use Rattle.soundness.specs.annotation.Accepting.{main-shape-of}

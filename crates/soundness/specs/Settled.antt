@@ -9,11 +9,11 @@ use Rattle.semantics.specs.Store.{Store, cell-count, relinked, opened}
 use Rattle.semantics.specs.Words.{store-of, slot-words, head-words}
 use Rattle.semantics.specs.Sound.{sound-words}
 use Rattle.semantics.specs.Demands.{value-of, AtRest, LeftAlone}
-use Rattle.working.specs.store.Rest.{Rests, at-rest}
-use Rattle.working.specs.store.Words.{whole, store-back, test-says, say-test}
-use Rattle.working.specs.store.Change.{unlisted}
-use Rattle.working.specs.store.Relink.{relink, relinked-rests}
-use Rattle.working.specs.store.Opening.{open-rests}
+use Rattle.discipline.specs.store.Rest.{Rests, at-rest}
+use Rattle.discipline.specs.store.Words.{whole, store-back, test-says, say-test}
+use Rattle.discipline.specs.store.Change.{unlisted}
+use Rattle.discipline.specs.store.Relink.{relink, relinked-rests}
+use Rattle.discipline.specs.store.Opening.{open-rests}
 
 -- the cells in use are those that the totals of depth d reach, each counted; the totals have the value v
 pub record Settled (d : ℕ) (σ : Store) (v : Value) : Type 0 where

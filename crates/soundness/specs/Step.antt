@@ -25,9 +25,9 @@ use Rattle.laws.specs.Levels.{lowest-most}
 use Rattle.soundness.specs.Answers.{number-packed, steps-packed, not-dry, dry-packed}
 use Rattle.soundness.specs.Settled.{Settled, sound-settles, settled-sound, settled-words, settled-rests}
 use Rattle.soundness.specs.Settled.{relinked-settles, relinked-alone}
-use Rattle.working.specs.store.LowestLevel.{free-cells-listed, least-level}
-use Rattle.working.specs.machine.Agreement.{Start, Clean}
-use Rattle.working.specs.machine.Delivery.{Delivers, finishes, stops, runs-dry}
+use Rattle.discipline.specs.store.LowestLevel.{free-cells-listed, least-level}
+use Rattle.discipline.specs.machine.Agreement.{Start, Clean}
+use Rattle.discipline.specs.machine.Delivery.{Delivers, finishes, stops, runs-dry}
 use Rattle.soundness.specs.Delivering.{start-of, finished-settled}
 
 -- the store in two arrays is sound, and its totals have the ledger's value

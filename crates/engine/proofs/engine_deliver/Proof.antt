@@ -6,10 +6,10 @@ use lib.Seq.{length-take-le}
 use mathlib.Core.Path.{sym}
 use Rattle.machine_code.specs.Reading.{table-bytes}
 use Rattle.semantics.specs.Calls.{room, engine-deliver}
-use Rattle.script_nodes.specs.Admitted.{admitted-judged}
+use Rattle.script_laws.specs.Admitted.{admitted-judged}
 use Rattle.machine_laws.specs.Script.{cut-coded}
-use Rattle.engine_load.specs.declared.Loaded.the-variants.{Ready}
-use Rattle.engine_load.specs.Loading.{LoadsWith}
+use Rattle.call_load.specs.declared.Loaded.the-variants.{Ready}
+use Rattle.call_load.specs.Loading.{LoadsWith}
 use Rattle.engine.proofs.Laws.{lines-fit, lines-cut, lines-are, deliver-serves, replies-refused, replies-told}
 use borrow.Author.Needs.{needs}
 use Rattle.engine.proofs.engine_deliver.Statement.{statement}

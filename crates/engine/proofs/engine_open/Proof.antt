@@ -1,8 +1,8 @@
 -- `engine::engine_open` meets its contract.
 use mathlib.Core.Path.{ap, subst, _∙_}
 use Rattle.semantics.specs.Calls.{engine-open}
-use Rattle.engine_load.specs.Loading.{Loads}
-use Rattle.engine_store.specs.Left.{opened-left}
+use Rattle.call_load.specs.Loading.{Loads}
+use Rattle.call_store.specs.Left.{opened-left}
 use Rattle.engine.proofs.Laws.{open-serves, replies-refused, replies-told}
 use borrow.Author.Needs.{needs}
 use Rattle.engine.proofs.engine_open.Statement.{statement}

@@ -1,8 +1,8 @@
 -- `engine::engine_restore` meets its contract.
 use mathlib.Core.Path.{ap, subst, _∙_}
 use Rattle.semantics.specs.SaveCalls.{engine-restore}
-use Rattle.engine_load.specs.Loading.{Loads}
-use Rattle.engine_saved.specs.Left.{restored-left}
+use Rattle.call_load.specs.Loading.{Loads}
+use Rattle.call_saved.specs.Left.{restored-left}
 use Rattle.engine.proofs.Laws.{replies-refused, replies-told}
 use Rattle.engine.proofs.SaveLaws.{restore-serves}
 use borrow.Author.Needs.{needs}

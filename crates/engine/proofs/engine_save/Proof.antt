@@ -1,7 +1,7 @@
 -- `engine::engine_save` meets its contract.
 use mathlib.Core.Path.{subst, _∙_}
 use Rattle.semantics.specs.SaveCalls.{engine-save}
-use Rattle.engine_load.specs.Loading.{Loads}
+use Rattle.call_load.specs.Loading.{Loads}
 use Rattle.clearing.proofs.Clearing.{cleared-whole}
 use Rattle.engine.proofs.Laws.{shallow}
 use Rattle.engine.proofs.SaveLaws.{saves-refused, saves-told}

@@ -3,7 +3,7 @@ use native.Mathlib.Omega.{arith}
 use mathlib.Core.Path.{sym, subst, _∙_}
 use Rattle.semantics.specs.Calls.{engine-translate}
 use Rattle.words.proofs.Packing.{packed-small}
-use Rattle.engine_load.specs.Loading.{Loads}
+use Rattle.call_load.specs.Loading.{Loads}
 use Rattle.engine.specs.Promises.{Translates}
 use Rattle.engine.proofs.Laws.{translates, translates-not, lines-fit}
 use borrow.Author.Needs.{needs}

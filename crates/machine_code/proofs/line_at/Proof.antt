@@ -6,7 +6,7 @@ use lib.IntN.{pos}
 use lib.ListN.{getD}
 use mir.Facts.{toZ-ofZ}
 use Rattle.machine_code.specs.Reading.{atom-at, line-of, line-at}
-use Rattle.code.specs.declared.Atom.{Atom}
+use Rattle.kinds.specs.declared.Atom.{Atom}
 use Rattle.machine_code.proofs.Reading.{line-here, operation-of-kind, kind-below-7}
 use borrow.Author.Needs.{needs}
 use Rattle.machine_code.proofs.line_at.Statement.{statement}

@@ -1,7 +1,7 @@
 -- `machine_delivery::deliver_kept` meets its contract.
 use Rattle.semantics.specs.Words.{store-of}
 use Rattle.store_reset.proofs.Saved.{put-back-is}
-use Rattle.machine_positions.specs.Machine.{code}
+use Rattle.machine_spec.specs.Machine.{code}
 use Rattle.machine_delivery.proofs.Laws.{delivery-stops, delivery-goes}
 use borrow.Author.Needs.{needs}
 use Rattle.machine_delivery.proofs.deliver_kept.Statement.{statement}

@@ -10,9 +10,9 @@ use Rattle.semantics.specs.Words.{store-of}
 use Rattle.store_words.proofs.Puts.{totals-store}
 use Rattle.machine_frames.specs.Frames.{frame-words, place, function-place}
 use Rattle.machine_frames.specs.Work.{memory}
-use Rattle.machine_positions.specs.Machine.{code}
-use Rattle.machine_positions.specs.Lengths.{levelled-keeps, bound-long, tree-long}
-use Rattle.machine_positions.specs.Delivery.{released-totals, main-on}
+use Rattle.machine_spec.specs.Machine.{code}
+use Rattle.machine_spec.specs.Lengths.{levelled-keeps, bound-long, tree-long}
+use Rattle.machine_spec.specs.Delivery.{released-totals, main-on}
 use Rattle.machine_delivery.proofs.Laws.{MainEnds, main-ends, main-stops, main-goes}
 use borrow.Author.Needs.{needs}
 use Rattle.machine_delivery.proofs.work_main.Statement.{statement}

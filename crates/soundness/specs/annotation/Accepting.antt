@@ -9,7 +9,7 @@ use mathlib.Core.Option.{Option, none, some}
 use lib.ListN.{length, getD}
 use lib.Dec.{ltb}
 use borrow.Author.Tests.{ltb-false}
-use Rattle.script_nodes.specs.Admitted.{no-script}
+use Rattle.script_laws.specs.Admitted.{no-script}
 use Rattle.semantics.specs.Basics.{least, updated}
 use Rattle.semantics.specs.Outcome.{Outcome, done, stop}
 use Rattle.semantics.specs.Syntax.{Expr, Parameter, Function, Script, no-function, function-size, main-depth}
@@ -22,7 +22,7 @@ use Rattle.semantics.specs.Calls.{Verdict, accepted, refused, judged-script, ju
 use Rattle.semantics.specs.Annotate.{Style, full-style}
 use Rattle.semantics.specs.Machine.{program-in, program}
 use Rattle.laws.specs.Tests.{not-some, some-if-holds, all-equal, same-lists}
-use Rattle.working.specs.machine.Discipline.{FunctionDisciplined, FunctionFrugal}
+use Rattle.discipline.specs.machine.Discipline.{FunctionDisciplined, FunctionFrugal}
 use Rattle.soundness.specs.annotation.Typed.{Limited, Called, Functions, Typed}
 use Rattle.laws.specs.Lists.{append-empty}
 use Rattle.laws.specs.Routines.{length-routines}

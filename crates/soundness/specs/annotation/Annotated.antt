@@ -15,7 +15,7 @@ use Rattle.semantics.specs.Annotate.{NameDepths, atom-depth, handed-again, Styl
 use Rattle.semantics.specs.Annotate.{annotate-line}
 use Rattle.laws.specs.Tests.{or-cases}
 use Rattle.laws.specs.Lists.{hits, occurrences-append}
-use Rattle.working.specs.machine.Discipline.{handed, pass-lent}
+use Rattle.discipline.specs.machine.Discipline.{handed, pass-lent}
 use Rattle.soundness.specs.annotation.Typed.{Functions}
 use Rattle.soundness.specs.annotation.Held.{Few, free, free-or, held, names, held-most, held-or, held-less}
 use Rattle.soundness.specs.annotation.Held.{held-le}

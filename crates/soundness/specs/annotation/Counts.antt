@@ -13,8 +13,8 @@ use Rattle.semantics.specs.Code.{Atom, number, name, Tree, release-all}
 use Rattle.semantics.specs.Live.{Set, empty, _∪_, _∖_, only, is, among, live, uses}
 use Rattle.semantics.specs.Annotate.{NameDepths, atom-depth, dying, handed-again}
 use Rattle.laws.specs.Lists.{_≈_, _⊆_, hits, occurrences-append}
-use Rattle.working.specs.machine.Discipline.{hold-of, handed, less, _⊑_, AllKnown, Covered}
-use Rattle.working.specs.machine.Spending.{less-is, less-spends}
+use Rattle.discipline.specs.machine.Discipline.{hold-of, handed, less, _⊑_, AllKnown, Covered}
+use Rattle.discipline.specs.machine.Spending.{less-is, less-spends}
 use Rattle.soundness.specs.annotation.Typed.{Functions}
 use Rattle.soundness.specs.annotation.Held.{Few, hit, free, free-or, held, names, held-most, held-or, held-less}
 use Rattle.soundness.specs.annotation.Held.{held-number, held-empty, held-either, held-le, hold-held, only-other}

@@ -17,8 +17,8 @@ use Rattle.semantics.specs.Types.{leaf-rule, loop-rule}
 use Rattle.semantics.specs.Code.{Atom, number, name}
 use Rattle.semantics.specs.Normal.{Meanings, fresh, fresh-all, atom, atoms, numbered, meaning-names}
 use Rattle.semantics.specs.Annotate.{NameDepths, atom-depth, with-depths, pass-depths, leaf-depth, loop-depth}
-use Rattle.working.specs.normal.Agree.{AtomBelow, below-more, below-updated}
-use Rattle.working.specs.normal.Agree.{atom-below}
+use Rattle.discipline.specs.normal.Agree.{AtomBelow, below-more, below-updated}
+use Rattle.discipline.specs.normal.Agree.{atom-below}
 use Rattle.soundness.specs.annotation.Typed.{count, element-depths, Functions, LeafType, LoopType, Typed}
 use Rattle.soundness.specs.annotation.Typed.{AllTyped}
 use Rattle.soundness.specs.annotation.Rules.{leaf-gives, loop-gives, pass-gives, element-count}

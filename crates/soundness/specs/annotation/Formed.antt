@@ -13,7 +13,7 @@ use Rattle.semantics.specs.Code.{ending}
 use Rattle.semantics.specs.Live.{Set, empty, _∪_, _∖_, _∖∖_, only, just, is, among, live, live-before, uses}
 use Rattle.semantics.specs.Annotate.{NameDepths, atom-depth}
 use Rattle.laws.specs.Tests.{or-cases, or-left, or-right}
-use Rattle.working.specs.machine.Discipline.{Known, AllKnown}
+use Rattle.discipline.specs.machine.Discipline.{Known, AllKnown}
 use Rattle.soundness.specs.annotation.Typed.{element-depths, Functions, LeafType, LoopType}
 use Rattle.soundness.specs.annotation.Sets.{less-in, Inside, inside-right, inside-empty, inside-both}
 use Rattle.soundness.specs.annotation.Sets.{inside-trans}

@@ -24,12 +24,12 @@ use Rattle.semantics.specs.Machine.{Routine, no-routine, Program, program-in, p
 use Rattle.laws.specs.Tests.{both-hold, say-and}
 use Rattle.laws.specs.Routines.{routine-in, length-routines-in, length-routines, routine-in-is}
 use Rattle.soundness.specs.borrowing.Stable.{stable}
-use Rattle.working.specs.machine.Discipline as D
-use Rattle.working.specs.machine.Discipline.{arrays-at, lent-parameters, parameter-holds, Known}
-use Rattle.working.specs.machine.Discipline.{RoutineDisciplined, RoutineFrugal, FunctionDisciplined}
-use Rattle.working.specs.machine.Discipline.{FunctionFrugal}
-use Rattle.working.specs.normal.Agree.{AtomBelow, below-more}
-use Rattle.working.specs.normal.Parameters.{parameters-below}
+use Rattle.discipline.specs.machine.Discipline as D
+use Rattle.discipline.specs.machine.Discipline.{arrays-at, lent-parameters, parameter-holds, Known}
+use Rattle.discipline.specs.machine.Discipline.{RoutineDisciplined, RoutineFrugal, FunctionDisciplined}
+use Rattle.discipline.specs.machine.Discipline.{FunctionFrugal}
+use Rattle.discipline.specs.normal.Agree.{AtomBelow, below-more}
+use Rattle.discipline.specs.normal.Parameters.{parameters-below}
 use Rattle.soundness.specs.annotation.Typed.{Functions, Typed}
 use Rattle.soundness.specs.annotation.Held.{Few, free, free-or, held, names, held-most, held-le, held-empty}
 use Rattle.soundness.specs.annotation.Held.{names-held}

@@ -14,7 +14,7 @@ use Rattle.semantics.specs.Code.{Atom, number, name}
 use Rattle.semantics.specs.Live.{Set, empty, _∪_, _∖_, _∖∖_, only, just, is, among, members}
 use Rattle.semantics.specs.Annotate.{NameDepths, is-array, dying, handed-again}
 use Rattle.laws.specs.Lists.{hits, occurrences-append}
-use Rattle.working.specs.machine.Discipline.{hold-of, holds-of, handed, Covered}
+use Rattle.discipline.specs.machine.Discipline.{hold-of, holds-of, handed, Covered}
 use Rattle.soundness.specs.annotation.Members.{with-if-same, with-if-other, members-in, members-out}
 use Rattle.soundness.specs.annotation.Formed.{Rising}
 

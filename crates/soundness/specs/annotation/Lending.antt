@@ -17,9 +17,9 @@ use Rattle.semantics.specs.Code.{Atom, number, name, Line, leaf, if-else, loop,
 use Rattle.semantics.specs.Live.{Set, empty, _∖_, among, live, after-branch, after-pass}
 use Rattle.semantics.specs.Annotate.{NameDepths, is-array}
 use Rattle.laws.specs.Lists.{_≈_, _⊆_, hits, occurrences-append}
-use Rattle.working.specs.machine.Discipline.{hold-of, holds-of, handed, less, unlent, _⊑_, left-by, holds-after}
-use Rattle.working.specs.machine.Discipline.{waits-after, carried-name, outer-holds, pass-lent, pass-holds}
-use Rattle.working.specs.machine.Discipline.{Covered, Holding, LineHolding, Frugal, LineFrugal}
+use Rattle.discipline.specs.machine.Discipline.{hold-of, holds-of, handed, less, unlent, _⊑_, left-by, holds-after}
+use Rattle.discipline.specs.machine.Discipline.{waits-after, carried-name, outer-holds, pass-lent, pass-holds}
+use Rattle.discipline.specs.machine.Discipline.{Covered, Holding, LineHolding, Frugal, LineFrugal}
 use Rattle.soundness.specs.annotation.Held.{held, held-among, held-empty, handed-number}
 use Rattle.soundness.specs.annotation.Sparing.{AllOwned, NoneLent, Spares, LineSpares}
 

@@ -13,8 +13,8 @@ use Rattle.semantics.specs.Code.{Atom, leaf, if-else, Tree, line, retain-all, r
 use Rattle.semantics.specs.Live.{Set, empty, _∪_, _∖_, only, is, among, live, live-before, uses}
 use Rattle.semantics.specs.Annotate.{NameDepths, atom-depth, is-array, dying, Style, annotate, annotate-line}
 use Rattle.laws.specs.Lists.{hits}
-use Rattle.working.specs.machine.Discipline.{hold-of, handed, less, left-by, Covered, Frugal}
-use Rattle.working.specs.machine.Spending.{same-append, holding-left, holding-same}
+use Rattle.discipline.specs.machine.Discipline.{hold-of, handed, less, left-by, Covered, Frugal}
+use Rattle.discipline.specs.machine.Spending.{same-append, holding-left, holding-same}
 use Rattle.soundness.specs.annotation.Held.{Few, free, held, names, held-most, held-or, held-less, held-le}
 use Rattle.soundness.specs.annotation.Held.{hold-held, handed-first}
 use Rattle.soundness.specs.annotation.Held.{only-other, names-held, append-held}

@@ -10,10 +10,10 @@ use Rattle.semantics.specs.Code.{Line, leaf, if-else, loop, retain, release, Tr
 use Rattle.semantics.specs.Live.{Set}
 use Rattle.semantics.specs.Annotate.{NameDepths, is-array, arrays}
 use Rattle.laws.specs.Lists.{_≈_, _⊆_, occurrences-append, occurs-first}
-use Rattle.working.specs.machine.Discipline.{hold-of, holds-of, leaf-holds, leaf-waits, left-by, Holding}
-use Rattle.working.specs.machine.Discipline.{LineHolding}
-use Rattle.working.specs.machine.Discipline.{Frugal}
-use Rattle.working.specs.machine.Spending.{less-is, holding-same, frugal-same}
+use Rattle.discipline.specs.machine.Discipline.{hold-of, holds-of, leaf-holds, leaf-waits, left-by, Holding}
+use Rattle.discipline.specs.machine.Discipline.{LineHolding}
+use Rattle.discipline.specs.machine.Discipline.{Frugal}
+use Rattle.discipline.specs.machine.Spending.{less-is, holding-same, frugal-same}
 
 module _ (β : Borrowing) (Γ : NameDepths) where
   -- with B lent, from the holds H, with P pending, to the holds Δ; after the tree L is live

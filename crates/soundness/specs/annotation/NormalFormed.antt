@@ -16,8 +16,8 @@ use Rattle.semantics.specs.Live.{Set, _∪_, only, just}
 use Rattle.semantics.specs.Normal.{Meanings, fresh, fresh-all, atom, atoms, numbered, meaning-names, lines, all-lines}
 use Rattle.semantics.specs.Annotate.{NameDepths, atom-depth, with-depths}
 use Rattle.laws.specs.Tests.{or-left, or-right}
-use Rattle.working.specs.machine.Discipline.{Known, AllKnown}
-use Rattle.working.specs.normal.Agree.{AtomBelow, atom-below}
+use Rattle.discipline.specs.machine.Discipline.{Known, AllKnown}
+use Rattle.discipline.specs.normal.Agree.{AtomBelow, atom-below}
 use Rattle.soundness.specs.annotation.Formed.{Within, within-up, within-bound, Rising, within-pass, Formed}
 use Rattle.soundness.specs.annotation.Typed.{count, element-depths, Functions, LeafType, LoopType}
 use Rattle.laws.specs.Endings.{ending-lines}

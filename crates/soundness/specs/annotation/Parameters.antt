@@ -16,8 +16,8 @@ use Rattle.semantics.specs.Types.{Signature, Depths, parameter-depths}
 use Rattle.semantics.specs.Code.{Atom, number, name}
 use Rattle.semantics.specs.Normal.{parameter-names}
 use Rattle.semantics.specs.Annotate.{NameDepths, atom-depth, parameter-depths-from}
-use Rattle.working.specs.machine.Discipline.{arrays-at}
-use Rattle.working.specs.normal.Parameters.{From, parameters-from}
+use Rattle.discipline.specs.machine.Discipline.{arrays-at}
+use Rattle.discipline.specs.normal.Parameters.{From, parameters-from}
 use Rattle.soundness.specs.annotation.Members.{with-if-same, with-if-other}
 use Rattle.soundness.specs.annotation.Checking.{Known, known-updated}
 

@@ -13,8 +13,8 @@ use Rattle.semantics.specs.Machine.{Routine, program-in, program}
 use Rattle.semantics.specs.Calls.{accepted, judged}
 use Rattle.laws.specs.Routines.{length-routines-in, routine-in-is}
 use Rattle.soundness.specs.borrowing.Stable.{stable}
-use Rattle.working.specs.machine.Size.{function-adds, tree-adds}
-use Rattle.working.specs.machine.Calls.{ProgramDisciplined, ProgramFrugal}
+use Rattle.discipline.specs.machine.Size.{function-adds, tree-adds}
+use Rattle.discipline.specs.machine.Calls.{ProgramDisciplined, ProgramFrugal}
 use Rattle.soundness.specs.annotation.Accepting.{judged-clean, functions-in-disciplined}
 use Rattle.soundness.specs.annotation.Accepting.{functions-in-frugal, main-shape-of}
 use Rattle.soundness.specs.annotation.Sizes.{annotated-adds}

@@ -16,7 +16,7 @@ use Rattle.semantics.specs.File.{Head, Node, fits, wrong-kind, wrong-operand, l
 use Rattle.semantics.specs.File.{at-function, at-parameter, at-part, allowed, node-of, part-count, Read, next, looked}
 use Rattle.semantics.specs.File.{Shape, none, leaf-of, loop-of, shapes, shape-of, shaped, parts, node-at, look, part}
 use Rattle.semantics.specs.File.{parameter, function, finish, script, read-file}
-use Rattle.working.specs.machine.Discipline.{LeafLimits, loop-arity}
+use Rattle.discipline.specs.machine.Discipline.{LeafLimits, loop-arity}
 use Rattle.laws.specs.Files.{of-file}
 use Rattle.soundness.specs.annotation.Typed.{count, in-scripts, Limited, AllLimited}
 

@@ -18,7 +18,7 @@ use Rattle.semantics.specs.Types.{all-are, same, if-rule, index-rule, replicate
 use Rattle.semantics.specs.Types.{loop-node, is-number, element, depth-at, and-then, array-depth}
 use Rattle.semantics.specs.Code.{Atom}
 use Rattle.semantics.specs.Annotate.{NameDepths, atom-depth, depth-of, pass-depths, leaf-depth, loop-depth}
-use Rattle.working.specs.machine.Discipline.{loop-arity}
+use Rattle.discipline.specs.machine.Discipline.{loop-arity}
 use Rattle.laws.specs.Tests.{both-hold, some-same, not-some, some-if-holds}
 use Rattle.soundness.specs.annotation.Typed.{array-among, element-depths}
 

@@ -22,7 +22,7 @@ use Rattle.semantics.specs.Annotate.{written, annotate, annotate-line}
 use Rattle.semantics.specs.Machine.{Program}
 use Rattle.laws.specs.Tests.{both-hold, some-if-holds, or-cases, or-left, or-right}
 use Rattle.laws.specs.Lists.{hits}
-use Rattle.working.specs.machine.Discipline.{array-place, LoopFits, Fitting, AllNew, AllKnown, Scoped}
+use Rattle.discipline.specs.machine.Discipline.{array-place, LoopFits, Fitting, AllNew, AllKnown, Scoped}
 use Rattle.soundness.specs.annotation.Typed.{Functions}
 use Rattle.soundness.specs.annotation.Rules.{depth-of-map, pass-gives}
 use Rattle.soundness.specs.annotation.Members.{members-true}

@@ -18,7 +18,7 @@ use Rattle.semantics.specs.Borrow.{Table, borrows}
 use Rattle.semantics.specs.Live.{Set, empty, _∪_, _∖∖_, only, just, among, live, uses, after-branch, after-pass}
 use Rattle.semantics.specs.Annotate.{NameDepths, is-array, arrays, dying, handed-again, Style, full-style, rewritable}
 use Rattle.semantics.specs.Annotate.{written, annotate, annotate-line, owned-depths, annotated-in}
-use Rattle.working.specs.machine.Size.{tree-adds}
+use Rattle.discipline.specs.machine.Size.{tree-adds}
 use Rattle.soundness.specs.annotation.Unchanged.{pass, written-loop}
 
 retains-add : (xs : List ℕ) (t : Tree) → tree-adds (retain-all xs t) ≡ length xs + tree-adds t

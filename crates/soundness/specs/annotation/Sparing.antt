@@ -19,7 +19,7 @@ use Rattle.semantics.specs.Annotate.{NameDepths, atom-depth, is-array, dying, a
 use Rattle.semantics.specs.Annotate.{written, annotate}
 use Rattle.semantics.specs.Annotate.{annotate-line}
 use Rattle.laws.specs.Tests.{or-left, or-right}
-use Rattle.working.specs.machine.Discipline.{loop-arity}
+use Rattle.discipline.specs.machine.Discipline.{loop-arity}
 use Rattle.soundness.specs.annotation.Typed.{Functions}
 use Rattle.soundness.specs.annotation.Formed.{Within, within-up, not-within, Rising, rising-up, bound-by, Formed}
 use Rattle.soundness.specs.annotation.Formed.{LineFormed}

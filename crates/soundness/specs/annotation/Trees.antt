@@ -12,11 +12,11 @@ use Rattle.semantics.specs.Kinds.{element-name}
 use Rattle.semantics.specs.Code.{Atom, loop, Tree, line, retain-all, release-all}
 use Rattle.semantics.specs.Live.{Set, empty, _∪_, _∖_, _∖∖_, only, just, among, live, live-before, uses, after-pass}
 use Rattle.semantics.specs.Annotate.{NameDepths, arrays, dying, Style, annotate}
-use Rattle.working.specs.machine.Discipline.{loop-arity, hold-of, holds-of, handed, less, unlent, left-by}
-use Rattle.working.specs.machine.Discipline.{carried-name}
-use Rattle.working.specs.machine.Discipline.{outer-holds, pass-lent, pass-holds, aside, Covered, Frugal}
+use Rattle.discipline.specs.machine.Discipline.{loop-arity, hold-of, holds-of, handed, less, unlent, left-by}
+use Rattle.discipline.specs.machine.Discipline.{carried-name}
+use Rattle.discipline.specs.machine.Discipline.{outer-holds, pass-lent, pass-holds, aside, Covered, Frugal}
 use Rattle.laws.specs.Lists.{_≈_, occurrences-append}
-use Rattle.working.specs.machine.Spending.{less-counts, same-append, unlent-few, lent-or-not}
+use Rattle.discipline.specs.machine.Spending.{less-counts, same-append, unlent-few, lent-or-not}
 use Rattle.soundness.specs.annotation.Held.{Few, free, free-or, held, names, held-most, held-or, names-held}
 use Rattle.soundness.specs.annotation.Held.{append-held, held-pass, just-none, just-most, holds-just, held-among}
 use Rattle.soundness.specs.annotation.Held.{handed-first}

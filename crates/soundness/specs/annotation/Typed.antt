@@ -13,7 +13,7 @@ use Rattle.semantics.specs.Syntax.{Expr, number, name, let-in, leaf, if-else, l
 use Rattle.semantics.specs.Names.{calls-none}
 use Rattle.semantics.specs.Types.{Signature, leaf-rule, loop-rule}
 use Rattle.semantics.specs.Annotate.{with-depths}
-use Rattle.working.specs.machine.Discipline.{LeafLimits, array-place, loop-arity}
+use Rattle.discipline.specs.machine.Discipline.{LeafLimits, array-place, loop-arity}
 
 -- ---- the reader's limits
 

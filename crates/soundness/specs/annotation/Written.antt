@@ -13,7 +13,7 @@ use Rattle.semantics.specs.Code.{Atom, number, name, Tree}
 use Rattle.semantics.specs.Live.{Set, _∖∖_, uses}
 use Rattle.semantics.specs.Annotate.{NameDepths, Style, rewritable, written}
 use Rattle.laws.specs.Tests.{both-hold}
-use Rattle.working.specs.machine.Discipline.{loop-arity}
+use Rattle.discipline.specs.machine.Discipline.{loop-arity}
 
 -- A map i that binds x, after which A is live, is written as the loop j, which rewrites its array.
 pub record Rewritten (Γ : NameDepths) (i j : Loop) (x : ℕ) (ps : List ℕ) (us : List Atom) (t : Tree) (A : Set) :

@@ -19,17 +19,17 @@ use Rattle.semantics.specs.Demands.{value-of, root}
 use Rattle.semantics.specs.Saved.{size-of, acquire-cell, load-element, load-value}
 use Rattle.laws.specs.Lists.{occurrences-append, occurs-first}
 use Rattle.laws.specs.Values.{items-list}
-use Rattle.working.specs.store.Invariant.{Invariant, Alike, StandsFor}
-use Rattle.working.specs.store.Counting.{append-cases, named-by-append}
-use Rattle.working.specs.store.Cells.{agree-elements, in-range, put-cases, put-other, with-cell-put}
-use Rattle.working.specs.store.Cells.{with-first-put}
-use Rattle.working.specs.store.Change.{commit, set-aside, inner-used}
-use Rattle.working.specs.store.Kept.{alike-self, alike-trans, stands-kept, words-alike}
-use Rattle.working.specs.store.Acquire.{Acquires, acquire-empty, filled-elements, none-free}
-use Rattle.working.specs.store.Append.{Appends, append}
-use Rattle.working.specs.machine.Standing.{none-in, named-one}
-use Rattle.working.specs.machine.Elements.{array-items, array-length, array-depth, elements-length}
-use Rattle.working.specs.machine.Acquiring.{filled-depth, cell-stands}
+use Rattle.discipline.specs.store.Invariant.{Invariant, Alike, StandsFor}
+use Rattle.discipline.specs.store.Counting.{append-cases, named-by-append}
+use Rattle.discipline.specs.store.Cells.{agree-elements, in-range, put-cases, put-other, with-cell-put}
+use Rattle.discipline.specs.store.Cells.{with-first-put}
+use Rattle.discipline.specs.store.Change.{commit, set-aside, inner-used}
+use Rattle.discipline.specs.store.Kept.{alike-self, alike-trans, stands-kept, words-alike}
+use Rattle.discipline.specs.store.Acquire.{Acquires, acquire-empty, filled-elements, none-free}
+use Rattle.discipline.specs.store.Append.{Appends, append}
+use Rattle.discipline.specs.machine.Standing.{none-in, named-one}
+use Rattle.discipline.specs.machine.Elements.{array-items, array-length, array-depth, elements-length}
+use Rattle.discipline.specs.machine.Acquiring.{filled-depth, cell-stands}
 use Rattle.soundness.specs.saved.Shape.{OfDepth, AllOfDepth, of-to, arrays-in, arrays-append}
 use Rattle.soundness.specs.saved.Order.{gather, array-cells, gather-append, cells-counted, Kept}
 use Rattle.soundness.specs.saved.Order.{all-cells-alike}

@@ -10,9 +10,9 @@ use Rattle.semantics.specs.Store.{Store, cell, cell-of, elements, inner, named-
 use Rattle.semantics.specs.Value.{of-list}
 use Rattle.semantics.specs.Demands.{value-of, Reached, root, slot}
 use Rattle.laws.specs.Lists.{occurs-first}
-use Rattle.working.specs.store.Invariant.{Invariant, Alike}
-use Rattle.working.specs.store.Cells.{agree-elements}
-use Rattle.working.specs.store.Kept.{reached-within, only, alike-reached}
+use Rattle.discipline.specs.store.Invariant.{Invariant, Alike}
+use Rattle.discipline.specs.store.Cells.{agree-elements}
+use Rattle.discipline.specs.store.Kept.{reached-within, only, alike-reached}
 use Rattle.soundness.specs.saved.Shape.{arrays-in, arrays-among}
 
 -- f's lists for each word, one after another

@@ -24,12 +24,12 @@ use Rattle.semantics.specs.SaveCalls.{restore-in, restore-value, restore-for, e
 use Rattle.semantics.specs.Swap.{Restored, defined-saving}
 use Rattle.laws.specs.Lists.{tabulate-length}
 use Rattle.laws.specs.Levels.{none-taken}
-use Rattle.working.specs.store.Invariant.{Invariant, StandsFor}
-use Rattle.working.specs.store.Change.{held-used}
-use Rattle.working.specs.store.Kept.{stands-kept}
-use Rattle.working.specs.store.LowestLevel.{listed-or-taken}
-use Rattle.working.specs.store.Retain.{Rewrites, rewrite-totals}
-use Rattle.working.specs.store.Opening.{open-rests}
+use Rattle.discipline.specs.store.Invariant.{Invariant, StandsFor}
+use Rattle.discipline.specs.store.Change.{held-used}
+use Rattle.discipline.specs.store.Kept.{stands-kept}
+use Rattle.discipline.specs.store.LowestLevel.{listed-or-taken}
+use Rattle.discipline.specs.store.Retain.{Rewrites, rewrite-totals}
+use Rattle.discipline.specs.store.Opening.{open-rests}
 use Rattle.soundness.specs.annotation.Accepting.{main-shape-of}
 use Rattle.soundness.specs.Settled.{Settled}
 use Rattle.soundness.specs.Step.{Standing, settled-standing}

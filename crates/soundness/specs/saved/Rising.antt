@@ -8,9 +8,9 @@ use lib.ListN.{length, replicate}
 use Rattle.semantics.specs.Basics.{tabulate}
 use Rattle.semantics.specs.Store.{Cell, Store, Linked, cell, cell-count, clear, linked, relinked, zeroed}
 use Rattle.semantics.specs.Sound.{free-list}
-use Rattle.working.specs.store.Invariant.{Invariant}
+use Rattle.discipline.specs.store.Invariant.{Invariant}
 use Rattle.laws.specs.Lists.{tabulate-length, tabulate-at}
-use Rattle.working.specs.store.FreeList.{Links, listed}
+use Rattle.discipline.specs.store.FreeList.{Links, listed}
 
 -- the cells from c on, each before the next
 linked-clear : (m c : ℕ) → linked c (replicate m (clear 0)) ≡

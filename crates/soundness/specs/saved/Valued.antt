@@ -16,7 +16,7 @@ use Rattle.semantics.specs.Demands.{value-of}
 use Rattle.semantics.specs.Swap.{Words64}
 use Rattle.laws.specs.Lists.{tabulate-length, tabulate-at}
 use Rattle.laws.specs.Values.{size-of-list}
-use Rattle.working.specs.store.Tabulate.{padded-length}
+use Rattle.discipline.specs.store.Tabulate.{padded-length}
 use Rattle.soundness.specs.saved.Shape.{OfDepth, AllOfDepth, Fits, AllFits}
 
 -- ---- the words of a cell

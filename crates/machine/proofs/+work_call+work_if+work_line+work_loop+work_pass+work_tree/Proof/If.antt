@@ -3,12 +3,12 @@ use mathlib.Core.Path.{_≡_, sym, _∙_}
 use Prim.Native.Nat.{_-_, ℕ}
 use mir.Facts.{toZ-ofZ}
 use borrow.Author.Tests.{not-true, not-false}
-use Rattle.machine_positions.specs.Machine.{code, tree-on, call-on}
-use Rattle.machine_positions.specs.LineLaws.{if-spent, if-doubts, if-stops, if-goes}
+use Rattle.machine_spec.specs.Machine.{code, tree-on, call-on}
+use Rattle.machine_spec.specs.LineLaws.{if-spent, if-doubts, if-stops, if-goes}
 use Rattle.semantics.specs.Number.{is-answer}
 use Rattle.semantics.specs.Words.{store-of}
 use Rattle.machine_frames.specs.Work.{memory}
-use Rattle.machine_positions.specs.Lengths.{tree-long}
+use Rattle.machine_spec.specs.Lengths.{tree-long}
 use Rattle.machine.proofs.work_if.Reads as work-if
 use Rattle.machine.proofs.+work_call+work_if+work_line+work_loop+work_pass+work_tree.Lts-work_if as work-if-lts
 use Rattle.machine.proofs.+work_call+work_if+work_line+work_loop+work_pass+work_tree.Proof.Common.{work-if-at}

@@ -8,9 +8,9 @@ use Rattle.machine_frames.specs.Frames.{word-of, element-depth}
 use Rattle.machine_frames.specs.Work.{memory}
 use Rattle.machine_lines.specs.Lines.{kind-of, first-name, second-name, atoms-of}
 use Rattle.machine_loops.specs.Loops.{Readied, Begins}
-use Rattle.machine_positions.specs.Machine.{code, tree-on, call-on}
-use Rattle.machine_positions.specs.LineLaws.{loop-spent, loop-dry, loop-goes}
-use Rattle.machine_positions.specs.Lengths.{readied-long, passes-long}
+use Rattle.machine_spec.specs.Machine.{code, tree-on, call-on}
+use Rattle.machine_spec.specs.LineLaws.{loop-spent, loop-dry, loop-goes}
+use Rattle.machine_spec.specs.Lengths.{readied-long, passes-long}
 use Rattle.machine.proofs.work_loop.Reads as work-loop
 use Rattle.machine.proofs.+work_call+work_if+work_line+work_loop+work_pass+work_tree.Lts-work_loop as work-loop-lts
 use Rattle.machine.proofs.+work_call+work_if+work_line+work_loop+work_pass+work_tree.Proof.Common.{work-loop-at}

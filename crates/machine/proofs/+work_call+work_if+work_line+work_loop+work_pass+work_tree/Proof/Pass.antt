@@ -14,10 +14,10 @@ use Rattle.machine_frames.specs.Work.{memory}
 use Rattle.machine_loops.specs.declared.Next.{Next}
 use Rattle.machine_loops.specs.Loops.{CarriesOn}
 use Rattle.machine_loops.proofs.Beginning.{within-kept, result-kept}
-use Rattle.machine_positions.specs.Machine.{code, looped, tree-on, call-on}
-use Rattle.machine_positions.specs.Parts.{Passing, passing-starts, pass-dry, pass-end, pass-stops, pass-doubts}
-use Rattle.machine_positions.specs.Parts.{pass-goes, Stays, stays-first, stays-on, carries-on}
-use Rattle.machine_positions.specs.Lengths.{entered-keeps, tree-long}
+use Rattle.machine_spec.specs.Machine.{code, looped, tree-on, call-on}
+use Rattle.machine_spec.specs.Parts.{Passing, passing-starts, pass-dry, pass-end, pass-stops, pass-doubts}
+use Rattle.machine_spec.specs.Parts.{pass-goes, Stays, stays-first, stays-on, carries-on}
+use Rattle.machine_spec.specs.Lengths.{entered-keeps, tree-long}
 use Rattle.machine.proofs.work_pass.Reads as work-pass
 use Rattle.machine.proofs.+work_call+work_if+work_line+work_loop+work_pass+work_tree.Lts-work_pass as work-pass-lts
 use Rattle.machine.proofs.+work_call+work_if+work_line+work_loop+work_pass+work_tree.Proof.Common.{work-pass-at}

@@ -5,12 +5,12 @@ use Prim.Native.Nat.{_-_, ℕ}
 use native.Mathlib.Omega.{arith}
 use mir.Facts.{toZ-ofZ}
 use borrow.Author.Tests.{not-true, not-false}
-use Rattle.machine_positions.specs.Machine.{code, call-on}
-use Rattle.machine_positions.specs.TreeLaws.{Working, working-starts, not-end, tree-out, tree-closed, tree-stops}
-use Rattle.machine_positions.specs.TreeLaws.{tree-goes, rows-there}
+use Rattle.machine_spec.specs.Machine.{code, call-on}
+use Rattle.machine_spec.specs.TreeLaws.{Working, working-starts, not-end, tree-out, tree-closed, tree-stops}
+use Rattle.machine_spec.specs.TreeLaws.{tree-goes, rows-there}
 use Rattle.semantics.specs.Words.{store-of}
 use Rattle.machine_frames.specs.Work.{memory}
-use Rattle.machine_positions.specs.Lengths.{line-long}
+use Rattle.machine_spec.specs.Lengths.{line-long}
 use Rattle.machine.proofs.work_tree.Reads as work-tree
 use Rattle.machine.proofs.+work_call+work_if+work_line+work_loop+work_pass+work_tree.Lts-work_tree as work-tree-lts
 use Rattle.machine.proofs.+work_call+work_if+work_line+work_loop+work_pass+work_tree.Proof.Common.{work-tree-at}

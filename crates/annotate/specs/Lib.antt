@@ -1,0 +1,2 @@
+-- The modules of `annotate`'s specs.
+pub mod Walks

@@ -1,0 +1,2 @@
+-- The modules of `annotate_loops`' specs.
+pub mod Loops

@@ -1,0 +1,2 @@
+-- The laws that the proofs of `annotate_marks` share.
+pub mod Laws

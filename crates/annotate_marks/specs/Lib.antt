@@ -1,0 +1,2 @@
+-- The modules of `annotate_marks`' specs.
+pub mod Took

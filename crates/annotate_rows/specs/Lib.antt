@@ -1,0 +1,2 @@
+-- The modules of `annotate_rows`'s specs.
+pub mod Wrote

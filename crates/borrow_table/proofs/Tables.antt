@@ -1,0 +1,86 @@
+-- Laws of tables of thirty-two rows of eight: entry by entry.
+use Prim.Native.Nat.{ℕ, _<_}
+use native.Mathlib.Omega.{arith}
+use native.Mathlib.Decide.{ℕ-discrete}
+use mathlib.Core.Path.{_≡_, sym, ap, _∙_}
+use mathlib.Core.Logic.{_≢_}
+use mathlib.Core.Bool.{Bool, false}
+use mathlib.Core.List.{List, []}
+use lib.ListN.{length, getD, set, length-set}
+use lib.Seq.{ext-getD, getD-set-same, getD-set-other}
+use Rattle.laws.specs.Lists.{tabulate-length, tabulate-at}
+use Rattle.semantics.specs.Basics.{tabulate}
+use Rattle.semantics.specs.Borrow.{Table, borrows}
+use Rattle.soundness.specs.borrowing.Rounds.{Shaped}
+use Rattle.borrow_table.specs.Rounds.{table-of}
+
+-- ---- tables made from a rule
+
+module _ (p : ℕ → ℕ → Bool) where
+  row-is : (f : ℕ) → f < 32 → getD (table-of p) f [] ≡ tabulate 0 8 (p f)
+  row-is f h = tabulate-at 32 0 (λ g. tabulate 0 8 (p g)) f [] h ∙ ap (λ (g : ℕ). tabulate 0 8 (p g)) (omega arith)
+
+  pub shaped-of : Shaped (table-of p)
+  shaped-of = record {
+    rows = tabulate-length 32 0 (λ g. tabulate 0 8 (p g));
+    columns = λ f h. ap length (row-is f h) ∙ tabulate-length 8 0 (p f);
+  }
+
+  pub entry-of : (f i : ℕ) → f < 32 → i < 8 → borrows (table-of p) f i ≡ p f i
+  entry-of f i h l =
+      ap (λ (r : List Bool). getD r i false) (row-is f h)
+      ∙ tabulate-at 8 0 (p f) i false l ∙ ap (p f) (omega arith)
+
+-- two tables with the same entries
+pub same-entries : {T U : Table} → Shaped T → Shaped U →
+    ((f i : ℕ) → f < 32 → i < 8 → borrows T f i ≡ borrows U f i) → T ≡ U
+same-entries {T} {U} s t h =
+    ext-getD [] T U (s .rows ∙ sym (t .rows)) (λ f l.
+    let m : f < 32 = omega (arith, s .rows) in
+    ext-getD false (getD T f []) (getD U f []) (s .columns f m ∙ sym (t .columns f m)) (λ i k.
+    h f i m (omega (arith, s .columns f m))))
+
+pub is-table-of : {T : Table} (p : ℕ → ℕ → Bool) → Shaped T →
+    ((f i : ℕ) → f < 32 → i < 8 → borrows T f i ≡ p f i) → T ≡ table-of p
+is-table-of p s h = same-entries s (shaped-of p) (λ f i l m. h f i l m ∙ sym (entry-of p f i l m))
+
+-- ---- one row set
+
+pub shaped-row : {T : Table} → Shaped T → (f : ℕ) (r : List Bool) → f < 32 → length r ≡ 8 → Shaped (set T f r)
+shaped-row {T} s f r hf long = record {
+  rows = length-set T f r ∙ s .rows;
+  columns = λ g h. go g h (ℕ-discrete g f);
+}
+  where
+    go : (g : ℕ) → g < 32 → Dec (g ≡ f) → length (getD (set T f r) g []) ≡ 8
+    go g h (yes e) = rw e (ap length (getD-set-same T f r [] (omega (arith, s .rows))) ∙ long)
+    go g h (no d) = ap length (getD-set-other T f g r [] d) ∙ s .columns g h
+
+-- ---- one entry set
+
+module _ {T : Table} (s : Shaped T) (f i : ℕ) (b : Bool) (hf : f < 32) where
+  abbrev Marked : Table
+  Marked = set T f (set (getD T f []) i b)
+
+  same-row-set : getD Marked f [] ≡ set (getD T f []) i b
+  same-row-set = getD-set-same T f (set (getD T f []) i b) [] (omega (arith, s .rows))
+
+  other-row : (g : ℕ) → g ≢ f → getD Marked g [] ≡ getD T g []
+  other-row g d = getD-set-other T f g (set (getD T f []) i b) [] d
+
+  pub shaped-set : Shaped Marked
+  shaped-set = shaped-row s f (set (getD T f []) i b) hf (length-set (getD T f []) i b ∙ s .columns f hf)
+
+  pub entry-set : i < 8 → borrows Marked f i ≡ b
+  entry-set hi =
+      ap (λ (r : List Bool). getD r i false) same-row-set
+      ∙ getD-set-same (getD T f []) i b false (omega (arith, s .columns f hf))
+
+  pub entry-kept : (g j : ℕ) → (g ≡ f → j ≢ i) → borrows Marked g j ≡ borrows T g j
+  entry-kept g j d = go (ℕ-discrete g f)
+    where
+      go : Dec (g ≡ f) → borrows Marked g j ≡ borrows T g j
+      go (yes e) =
+          rw e (ap (λ (r : List Bool). getD r j false) same-row-set
+          ∙ getD-set-other (getD T f []) i j b false (d e))
+      go (no n) = ap (λ (r : List Bool). getD r j false) (other-row g n)

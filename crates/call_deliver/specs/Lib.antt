@@ -1,0 +1,2 @@
+-- The modules of `call_deliver`'s specs.
+pub mod Delivered

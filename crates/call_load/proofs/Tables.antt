@@ -1,0 +1,234 @@
+-- The table of a loaded script is what the machine needs.
+use Prim.Native.Nat.{ℕ, zero, suc, _+_, _-_, _*_, _<_, _≤_}
+use native.Mathlib.Omega.{arith}
+use mathlib.Core.Bool.{Bool, true, false, cond}
+use mathlib.Core.Path.{_≡_, refl, sym, ap, subst, _∙_}
+use mathlib.Core.List.{List, [], _∷_, _++_, map}
+use lib.IntN.{ℤ, pos}
+use lib.ListN.{getD, length, drop, replicate, length-append, length-map, length-drop}
+use lib.Seq.{drop-cons}
+use borrow.Author.Tests.{leb-true}
+use Rattle.semantics.specs.Outcome.{Outcome, done, stop}
+use Rattle.semantics.specs.Syntax.{Script}
+use Rattle.semantics.specs.File.{at-function, script}
+use Rattle.semantics.specs.Code.{Row}
+use Rattle.semantics.specs.Borrow.{Table, borrowed}
+use Rattle.semantics.specs.Annotate.{function-rows, functions-rows, code}
+use Rattle.semantics.specs.Calls as C
+use Rattle.semantics.specs.Calls.{packed, admitted, room, code-fits, code-kinds, code-operands}
+use Rattle.script_read.specs.Told.{high-at}
+use Rattle.script_read.proofs.Written.{script-written}
+use Rattle.script.specs.declared.Verdict.the-variants.{Accepted, Refused}
+use Rattle.script.specs.Verdicts.{Judges}
+use Rattle.script.proofs.Whole.{kinds-of, operands-of}
+use Rattle.script_laws.specs.Admitted.{no-script, admitted-judged}
+use Rattle.soundness.specs.annotation.Accepting.{judged-clean}
+use Rattle.machine_code.specs.Reading.{table-bytes, depth-in, start-in}
+use Rattle.machine_spec.specs.Machine as M
+use Rattle.machine_laws.specs.Rows.{At, Jumps}
+use Rattle.machine_table.specs.Positions.{ends-from, starts-from, filled}
+use Rattle.machine_table.proofs.Filling.{filled-long}
+use Rattle.machine_laws.specs.Script.{body-at, Coded, code-written}
+use Rattle.machine_laws.specs.Ends.{Roomy, ends-below, ends-long, tree-ends}
+use Rattle.machine_laws.specs.Starts.{starts-below, starts-ends, FunctionsBegin, starts-stand}
+use Rattle.translate_script.specs.Depths.{DepthsFrom, Depths-by}
+use Rattle.translate_script.specs.Places.{PlacesFrom, Places-by}
+use Rattle.translate.specs.Left.{left-of, Leaves}
+use Rattle.call_load.specs.declared.Loaded.the-variants as L
+use Rattle.call_load.specs.Loading.{LoadsWith}
+use Rattle.call_load.proofs.Laws.{AcceptedFile, accepted-file, file-taken, script-reads, ready, refused-so}
+use Rattle.call_load.proofs.Laws.{loads-laid, loads-refusal}
+
+zeros-past : (xs : List ℕ) (k q : ℕ) → length xs ≤ q → getD (xs ++ replicate k 0) q 0 ≡ 0
+zeros-past [] zero q h = refl
+zeros-past [] (suc k) zero h = refl
+zeros-past [] (suc k) (suc q) h = zeros-past [] k q (omega arith)
+zeros-past (x ∷ xs) k zero h = absurd (omega arith)
+zeros-past (x ∷ xs) k (suc q) h = zeros-past xs k q (omega arith)
+
+-- an accepted file is admitted just where its code fits
+module _ {file : List ℕ} {f n : ℕ} (a : AcceptedFile file f n) where
+  pub admitted-so : (lines : ℕ) (fs : Script) → admitted file lines ≡ C.accepted fs →
+      (fs ≡ a .tree) × (code-fits (a .tree) lines ≡ true)
+  unfolding admitted
+  admitted-so lines fs e = by (code-fits (a .tree) lines) refl (rw (a .judged-so) at e)
+    where
+      by : (t : Bool) → code-fits (a .tree) lines ≡ t → cond t (C.accepted (a .tree)) (C.refused 9 0) ≡ C.accepted fs →
+          (fs ≡ a .tree) × (code-fits (a .tree) lines ≡ true)
+      by true q g = (let z : fs ≡ a .tree = cc in z, q)
+      by false q g = absurd (let z : _≡_ {A = ℕ} 0 1 = cc in omega arith)
+
+  functions-are : length (a .tree) ≡ f
+  functions-are = (rw (script-reads a) at (script-written (kinds-of file n) (operands-of file n) f 0)) .1
+
+  -- the code, the positions of the functions and the depths of their names
+  module _ (kinds : List ℕ) (operands : List ℤ) (fits : code-fits (a .tree) (room kinds operands) ≡ true) where
+    abbrev fs : Script
+    fs = a .tree
+
+    abbrev T : Table
+    T = borrowed fs
+
+    abbrev ks : List ℕ
+    ks = code-kinds fs kinds
+
+    abbrev os : List ℤ
+    os = code-operands fs operands
+
+    few : length fs ≤ 32
+    few = omega (arith, functions-are, file-taken a .readable .few)
+
+    short : length (code fs) ≤ 4096
+    unfolding code-fits
+    short = omega (arith, leb-true (length (code fs)) (room kinds operands) fits)
+
+    written : At ks os 0 (code fs)
+    written = code-written fs (replicate (length kinds - length (code fs)) 0)
+        (replicate (length operands - length (code fs)) (pos 0))
+
+    -- no row behind the code
+    past : (q : ℕ) → length (code fs) ≤ q → getD ks q 0 ≡ 0
+    past q h = zeros-past (map (λ r. r .kind) (code fs)) (length kinds - length (code fs)) q
+        (omega (arith, h, length-map (code fs) (λ (r : Row). r .kind)))
+
+    jumping : (table : List ℕ) → Roomy table → Jumps (M.code ks os (ends-from (length (code fs)) ks table))
+    jumping table long = tree-ends ks os (length (code fs)) short past table long
+
+    -- where the table of starts has the places of the functions
+    module _ {starts places : List ℕ} (placed : PlacesFrom 0 fs (room kinds operands + 1) starts places) where
+      -- each of the functions from number f on begins where the rows of those before it end
+      begins : (gs : Script) (f p : ℕ) → drop f fs ≡ gs → p + length (functions-rows fs T f gs) ≡ length (code fs) →
+          FunctionsBegin fs T places gs f p
+      unfolding functions-rows code code-fits
+      begins [] f p d e = tt
+      begins (k ∷ gs) f p d e = (
+        omega (
+          arith,
+          e,
+          leb-true (length (code fs)) (room kinds operands) fits,
+          placed .there 0 (omega arith) (omega (arith, there)),
+          ap (λ (l : Script). length (functions-rows fs T f l)) d,
+          placed .there f (omega arith) there,
+        ),
+        begins gs (suc f) (p + length (function-rows fs T f k)) (ap (drop 1) (sym (drop-cons fs f k there) ∙ d))
+            (omega (arith, e, length-append (function-rows fs T f k) (functions-rows fs T (suc f) gs))),
+      )
+        where
+          there : f < length fs
+          there = omega (arith, ap length d, length-drop f fs)
+
+      stand : (table : List ℕ) → Roomy table → (g : ℕ) → g < length fs →
+          start-in (starts-from (length fs) ks os places 0 table) g ≡ body-at fs T 0 fs g
+      unfolding code
+      stand table long g l =
+          let name : 0 + g ≡ g = omega arith in
+          let place : 0 + body-at fs T 0 fs g ≡ body-at fs T 0 fs g = omega arith in
+          subst (λ (m : ℕ). start-in (starts-from (length fs) ks os places 0 table) m ≡ body-at fs T 0 fs g) name
+          (starts-stand ks os fs T places fs 0 0 table written (judged-clean file fs (a .judged-so) .limits .1) long
+          (omega (arith, few)) (omega (arith, short)) (begins fs 0 0 refl (omega arith)) g l ∙ place)
+
+      -- the table after the pass over the rows and the one over the functions
+      passed : {table table′ : List ℕ} → DepthsFrom 0 fs table table′ → Roomy table′ → Roomy table →
+          Coded fs (M.code ks os (starts-from f ks os places 0 (ends-from (length (code fs)) ks table′)))
+      unfolding depth-in
+      passed {table} {table′} h long long₀ =
+          let ends = ends-from (length (code fs)) ks table′ in
+          record {
+            written = written;
+            short = short;
+            starts = λ g l. subst (λ (m : ℕ). start-in (starts-from m ks os places 0 ends) g ≡ body-at fs T 0 fs g)
+                functions-are (stand ends (omega (arith, long, ends-long ks (length (code fs)) table′)) g l);
+            depths = λ g x l m. starts-below ks os places f 0 ends (256 * g + x) (omega (arith, few))
+                ∙ ends-below ks (length (code fs)) table′ (256 * g + x) (omega (arith, few))
+                ∙ h .there g x (omega arith) l m (omega (arith, few, long₀));
+            ends = λ t q w. starts-ends ks os places f 0 ends q (omega (arith, few, functions-are))
+                ∙ jumping table′ long t q w;
+          }
+
+      pub coded-so : {table table′ : List ℕ} → DepthsFrom 0 fs table table′ → Roomy table →
+          (length fs ≤ 32) × Coded fs (M.code ks os (filled f (length (code fs)) ks os places table′))
+      coded-so {table} {table′} h long =
+          let long′ : Roomy table′ = omega (arith, h .long, long) in (
+            few,
+            subst (λ (t : List ℕ). Coded fs (M.code ks os t))
+                (filled-long f (length (code fs)) ks os places table′ long′ _ _ refl refl) (passed h long′ long),
+          )
+
+-- ---- the ways out of loading
+
+-- the table after the translator's answer
+abbrev pub table-after : ℕ → List ℕ → List ℤ → List ℕ → Outcome (Unit {0}) ℕ → List ℕ → List ℕ
+table-after f kinds operands places (done m u) table = filled f m kinds operands places table
+table-after f kinds operands places (stop n u) table = table
+
+-- the code that the translator left is within its array
+pub laid-within : {file : List ℕ} {f n : ℕ} (a : AcceptedFile file f n) (kinds kinds′ : List ℕ)
+    (operands operands′ : List ℤ) (r : Outcome (Unit {0}) ℕ) (m : ℕ) → r ≡ done m tt →
+    Leaves (script (kinds-of file n) (operands-of file n) f 0) kinds operands
+    (record { answer = r; kinds = kinds′; operands = operands′ }) → (m ≤ length kinds′) × (m ≤ 4096)
+unfolding left-of code-fits
+laid-within {file} {f} {n} a kinds kinds′ operands operands′ r m is left =
+    by (code-fits fs (room kinds operands)) refl (rw (script-reads a) at left)
+  where
+    fs : Script
+    fs = a .tree
+
+    by : (t : Bool) → code-fits fs (room kinds operands) ≡ t →
+        record { answer = r; kinds = kinds′; operands = operands′ } ≡ left-of fs kinds operands →
+        (m ≤ length kinds′) × (m ≤ 4096)
+    by true q g =
+        let s = rw q at g in
+        let lines : m ≡ length (code fs) = let z = sym is ∙ ap (λ x. x .answer) s in cc in
+        let fits = leb-true (length (code fs)) (room kinds operands) q in (
+          omega (
+            arith,
+            lines,
+            ap (λ x. length (x .kinds)) s,
+            length-append (map (λ (r : Row). r .kind) (code fs)) (replicate (length kinds - length (code fs)) 0),
+            length-map (code fs) (λ (r : Row). r .kind),
+          ),
+          omega (arith, lines, fits),
+        )
+    by false q g =
+        let s = rw q at g in
+        let z = sym is ∙ ap (λ x. x .answer) s in
+        let no : _≡_ {A = ℕ} 0 1 = cc in absurd (omega arith)
+
+module _ {file kinds : List ℕ} {operands : List ℤ} {table kinds′ : List ℕ} {operands′ : List ℤ} where
+  -- what the translator leaves
+  pub loads-with-laid : {f n : ℕ} (r : Outcome (Unit {0}) ℕ) (d : ℕ) (table′ starts places : List ℕ) →
+      Judges file (Accepted f n) →
+      d ≡ high-at (kinds-of file n) (operands-of file n) at-function 0 →
+      Leaves (script (kinds-of file n) (operands-of file n) f 0) kinds operands
+      (record { answer = r; kinds = kinds′; operands = operands′ }) →
+      Depths-by (script (kinds-of file n) (operands-of file n) f 0) table table′ →
+      Places-by (script (kinds-of file n) (operands-of file n) f 0) (room kinds operands + 1) starts places →
+      LoadsWith file kinds operands table (ready d r) kinds′ operands′ (table-after f kinds′ operands′ places r table′)
+  unfolding left-of
+  loads-with-laid {f} {n} r d table′ starts places j e left deep placed = record {
+    loads = loads-laid r d j e left;
+    coded = λ fs g long. by fs (admitted-so a (room kinds operands) fs g) (rw (script-reads a) at left)
+        (rw (script-reads a) at deep) (rw (script-reads a) at placed) long;
+  }
+    where
+      a : AcceptedFile file f n
+      a = accepted-file file f n j
+
+      by : (gs : Script) → (gs ≡ a .tree) × (code-fits (a .tree) (room kinds operands) ≡ true) →
+          record { answer = r; kinds = kinds′; operands = operands′ } ≡ left-of (a .tree) kinds operands →
+          DepthsFrom 0 (a .tree) table table′ → PlacesFrom 0 (a .tree) (room kinds operands + 1) starts places →
+          table-bytes ≤ length table →
+          (length gs ≤ 32) × Coded gs (M.code kinds′ operands′ (table-after f kinds′ operands′ places r table′))
+      by gs g l h placed long =
+          let s = rw (g .1) at l in
+          rw (g .0, ap (λ x. x .answer) s, ap (λ x. x .kinds) s, ap (λ x. x .operands) s)
+          (coded-so a kinds operands (g .1) placed h long)
+
+  pub loads-with-refusal : {n p m : ℕ} → Judges file (Refused n p) → m ≡ packed n p 0 0 →
+      kinds′ ≡ replicate (length kinds) 0 → operands′ ≡ replicate (length operands) (pos 0) →
+      LoadsWith file kinds operands table (L.Refused m) kinds′ operands′ table
+  unfolding admitted
+  loads-with-refusal {n} {p} j e k o = record {
+    loads = loads-refusal j e k o;
+    coded = λ fs g long. no-script n p fs (rw (refused-so file j) at (admitted-judged fs file (room kinds operands) g));
+  }

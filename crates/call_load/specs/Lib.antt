@@ -1,0 +1,2 @@
+-- The modules of `call_load`'s specs.
+pub mod Loading

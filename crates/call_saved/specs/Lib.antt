@@ -1,0 +1,2 @@
+-- The modules of `call_saved`'s specs.
+pub mod Left

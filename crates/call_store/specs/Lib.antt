@@ -1,0 +1,3 @@
+-- The modules of `call_store`'s specs.
+pub mod Left
+pub mod Told

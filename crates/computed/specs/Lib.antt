@@ -1,2 +1,0 @@
--- The modules of `computed`'s specs.
-pub mod Rows

@@ -1,0 +1,84 @@
+-- The parameters' names and the arguments: a written name means in the source what its new name is worth in the code.
+use Prim.Native.Nat.{ℕ, suc, _+_, _≤_, _<_}
+use native.Mathlib.Omega.{arith}
+use mathlib.Core.Bool.{Bool, true, false, cond}
+use mathlib.Core.List.{List, [], _∷_}
+use mathlib.Core.Path.{_≡_, refl, _∙_}
+use lib.IntN.{pos}
+use lib.ListN.{length}
+use lib.Dec.{eqb}
+use Rattle.laws.specs.Updates.{updated-other, updated-same}
+use Rattle.semantics.specs.Basics.{updated}
+use Rattle.semantics.specs.Value.{Value, num}
+use Rattle.semantics.specs.Syntax.{Parameter}
+use Rattle.semantics.specs.Meaning.{Env, bound}
+use Rattle.semantics.specs.Code.{Atom, number, name}
+use Rattle.semantics.specs.Normal.{parameter-names}
+use Rattle.discipline.specs.normal.Plain.{value, values-from}
+use Rattle.discipline.specs.normal.Agree.{AtomBelow, NamesAgree, below-more}
+
+pub parameters-below : (xs : List Parameter) (n : ℕ) (y : ℕ) → AtomBelow (parameter-names xs n y) (n + length xs)
+unfolding parameter-names updated
+parameters-below [] n y = tt
+parameters-below (x ∷ xs) n y =
+    elim (eqb (x .id) y) as (λ t. AtomBelow (cond t (name n) (parameter-names xs (suc n) y)) (n + suc (length xs))) [
+      | true ↦ omega arith
+      | false ↦ below-more (parameter-names xs (suc n) y) (omega arith) (parameters-below xs (suc n) y)
+    ]
+
+-- an atom that is a number, or a name from n on
+abbrev pub From : Atom → ℕ → Type 0
+From (number z) n = Unit {0}
+From (name y) n = n ≤ y
+
+from-more : (u : Atom) {n m : ℕ} → m ≤ n → From u n → From u m
+from-more (number z) le from = tt
+from-more (name x) le from = omega arith
+
+pub parameters-from : (xs : List Parameter) (n y : ℕ) → From (parameter-names xs n y) n
+unfolding parameter-names updated
+parameters-from [] n y = tt
+parameters-from (x ∷ xs) n y =
+    elim (eqb (x .id) y) as (λ t. From (cond t (name n) (parameter-names xs (suc n) y)) n) [
+      | true ↦ omega arith
+      | false ↦ from-more (parameter-names xs (suc n) y) (omega arith) (parameters-from xs (suc n) y)
+    ]
+
+-- a binding below an atom is not seen by it
+value-above : (u : Atom) (δ : Env) (i n : ℕ) (v : Value) → i < n → From u n → value (updated δ i v) u ≡ value δ u
+value-above (number z) δ i n v h from = refl
+value-above (name x) δ i n v h from = updated-other δ i v x (λ e. omega arith)
+
+-- with no arguments every name means 0
+parameters-missing : (xs : List Parameter) (n i y : ℕ) → value (values-from [] i) (parameter-names xs n y) ≡ num (pos 0)
+unfolding parameter-names updated values-from
+parameters-missing [] n i y = refl
+parameters-missing (x ∷ xs) n i y =
+    elim (eqb (x .id) y) as (λ t. value (values-from [] i) (cond t (name n) (parameter-names xs (suc n) y))
+    ≡ num (pos 0)) [
+      | true ↦ refl
+      | false ↦ parameters-missing xs (suc n) i y
+    ]
+
+parameters-same : (xs : List Parameter) (vs : List Value) (n y : ℕ) →
+    value (values-from vs n) (parameter-names xs n y) ≡ bound xs vs y
+unfolding parameter-names updated values-from bound
+parameters-same [] vs n y = refl
+parameters-same (x ∷ xs) [] n y = parameters-missing (x ∷ xs) n n y
+parameters-same (x ∷ xs) (v ∷ vs) n y =
+    let at : Bool → Atom = λ t. cond t (name n) (parameter-names xs (suc n) y) in
+    elim (eqb (x .id) y) as (λ t. value (values-from (v ∷ vs) n) (at t) ≡ cond t v (bound xs vs y)) [
+      | true ↦ updated-same (values-from vs (suc n)) n v
+      | false ↦
+          value-above (parameter-names xs (suc n) y) (values-from vs (suc n)) n (suc n) v (omega arith)
+          (parameters-from xs (suc n) y)
+          ∙ parameters-same xs vs (suc n) y
+    ]
+
+-- the arguments are what the parameters' names mean, whatever the number of either
+pub parameters-agree : (xs : List Parameter) (vs : List Value) →
+    NamesAgree (parameter-names xs 0) (values-from vs 0) (bound xs vs) (length xs)
+parameters-agree xs vs = record {
+  same = λ y. parameters-same xs vs 0 y;
+  below = λ y. below-more (parameter-names xs 0 y) (omega arith) (parameters-below xs 0 y);
+}

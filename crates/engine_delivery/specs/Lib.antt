@@ -1,2 +1,0 @@
--- The modules of `engine_delivery`'s specs.
-pub mod Delivered

@@ -1,2 +1,0 @@
--- The modules of `engine_load`'s specs.
-pub mod Loading

@@ -1,2 +1,0 @@
--- The modules of `engine_saved`'s specs.
-pub mod Left

@@ -1,3 +1,0 @@
--- The modules of `engine_store`'s specs.
-pub mod Left
-pub mod Told

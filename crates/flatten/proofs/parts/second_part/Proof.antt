@@ -1,0 +1,20 @@
+-- `flatten::parts::second_part` meets its contract.
+use borrow.Author.Tests.{ne-eqb}
+use Rattle.flatten.proofs.parts.second_part.Statement.{statement}
+use Rattle.flatten.proofs.parts.second_part.Tie as tie
+
+returns : tie.Need-returns
+returns c = rw (c .if1 .taken)
+
+returns-2 : tie.Need-returns-2
+returns-2 c = rw (ne-eqb (c .before .before .args .kind) 8 (c .before .if1 .left), c .if2 .taken)
+
+returns-3 : tie.Need-returns-3
+returns-3 c = rw (
+  ne-eqb (c .before .before .args .kind) 8 (c .before .if1 .left),
+  ne-eqb (c .before .before .args
+      .kind) 9 (c .if2 .left),
+)
+
+pub second-part-spec : {M : Type 1} → statement M
+second-part-spec = tie.close (tie.spec returns returns-2 returns-3)

@@ -1,0 +1,152 @@
+-- A call in twin programs, by induction on the call depth left.
+use Prim.Native.Nat.{ℕ, zero, suc, _+_, _*_, _<_}
+use native.Mathlib.Omega.{arith}
+use mathlib.Core.Bool.{true, false, false≢true, not}
+use mathlib.Core.Path.{_≡_, sym, _∙_, subst}
+use mathlib.Core.Logic.{inl, inr}
+use mathlib.Core.List.{List, [], _++_}
+use lib.IntN.{ℤ}
+use lib.ListN.{length}
+use Rattle.semantics.specs.Basics.{_∈_}
+use Rattle.semantics.specs.Code.{Line, Tree}
+use Rattle.semantics.specs.Live.{empty}
+use Rattle.semantics.specs.Annotate.{NameDepths}
+use Rattle.semantics.specs.Machine.{State, Routine, Program, routine-of, frame-from, machine, work}
+use Rattle.laws.specs.Lists.{_⊆_}
+use Rattle.discipline.specs.normal.Plain.{values-from}
+use Rattle.discipline.specs.normal.Trace.{running-grows}
+use Rattle.discipline.specs.store.Counting.{append-cases}
+use Rattle.discipline.specs.machine.Discipline.{parameter-names}
+use Rattle.discipline.specs.machine.Agreement.{Start}
+use Rattle.discipline.specs.machine.Frames.{Situation}
+use Rattle.discipline.specs.machine.Size.{tree-adds}
+use Rattle.discipline.specs.machine.Rules.{TreeRules}
+use Rattle.discipline.specs.machine.Claims.{TreeClaim, LineClaim}
+use Rattle.discipline.specs.machine.Trees.{tree-sound, line-sound}
+use Rattle.discipline.specs.machine.Calls.{call-adds, setting, leaf-sound, call-sound, ProgramDisciplined}
+use Rattle.discipline.specs.machine.Calls.{body-lent, body-held, body-rules, body-situation}
+use Rattle.leaner.specs.Twin.{TwinPrograms, TwinRoutine, with-routines}
+use Rattle.leaner.specs.Runs.{Race, Starts, Tied, Twins, stops, twins-map}
+use Rattle.leaner.specs.Beside.{Around}
+use Rattle.leaner.specs.Claims.{first-setting, leaner-setting, WordsGiven}
+use Rattle.leaner.specs.Calling.{SameWords, CallTwins, Called, parameters-framed, arrays-deep}
+use Rattle.leaner.specs.Lines.{twin-trees}
+
+-- what was proved of one run of a disciplined program, in a function whose names have the depths Γ
+module _ (p : Program) (disciplined : ProgramDisciplined p) (start : Start) (careless : start .frugal ≡ false) where
+  pub no-frugal : {A : Type 0} → start .frugal ≡ true → A
+  no-frugal f = absurd (false≢true (sym careless ∙ f))
+
+  pub every-tree : (n : ℕ) (Γ : NameDepths) (t : Tree) → TreeClaim (setting p start n Γ) t
+  every-tree n Γ = tree-sound (setting p start n Γ) (running-grows p n)
+      (leaf-sound (setting p start n Γ) (running-grows p n) (call-sound p disciplined start (λ f. no-frugal f) n Γ))
+
+  pub every-line : (n : ℕ) (Γ : NameDepths) (l : Line) → LineClaim (setting p start n Γ) l
+  every-line n Γ = line-sound (setting p start n Γ) (running-grows p n)
+      (leaf-sound (setting p start n Γ) (running-grows p n) (call-sound p disciplined start (λ f. no-frugal f) n Γ))
+
+module _ {r : Race} (starts : Starts r) (p : Program) (rs : List Routine) (twins : TwinPrograms p rs)
+    (disciplined : ProgramDisciplined p) (disciplined′ : ProgramDisciplined (with-routines p rs)) where
+  abbrev p′ : Program
+  p′ = with-routines p rs
+
+  -- the body of a function, where calls in it are twins
+  body-twins : (n : ℕ) → ((Γ : NameDepths) → CallTwins r p rs n Γ) → (Γ₀ : NameDepths) (f : ℕ) (ws ws′ : List ℤ)
+      (E : List ℕ) (π : ℕ → ℕ) (a a′ : Around) (R R′ : List ℕ) (s s′ : State) →
+      Called (first-setting r p (suc n) Γ₀) a f ws s → Called (leaner-setting r p rs (suc n) Γ₀) a′ f ws′ s′ →
+      Tied r E π s s′ → SameWords π (p .signatures f .parameters) ws ws′ →
+      ((c : ℕ) → c ∈ (a′ .aside ++ a′ .others) → π c ∈ (a .aside ++ a .others)) → E ⊆ (a′ .aside) →
+      Twins r (WordsGiven r (p .signatures f .result) E π (a′ .aside ++ a′ .others))
+      (work (machine p n) (p .borrowing) (routine-of p f .depths) (routine-of p f .tree) empty R (frame-from ws 0) s)
+      (work (machine p′ n) (p .borrowing) (routine-of p′ f .depths) (routine-of p′ f .tree) empty R′
+      (frame-from ws′ 0) s′)
+  body-twins n calls Γ₀ f ws ws′ E π a a′ R R′ s s′ call call′ tied words held exempt =
+      subst (λ (j : Routine). Twins r (WordsGiven r (p .signatures f .result) E π (a′ .aside ++ a′ .others))
+      (work (machine p n) (p .borrowing) Γ (routine-of p f .tree) empty R (frame-from ws 0) s)
+      (work (machine p′ n) (p .borrowing) (j .depths) (j .tree) empty R′ (frame-from ws′ 0) s′)) (sym (tw .is))
+      (twins-map r (λ w t w′ t′ z. record {
+        cells = z .cells;
+        tied = z .tied;
+        result = z .result;
+        stays = z .stays;
+      })
+      (twin-trees starts p rs n Γ (running-grows p′ n)
+      (every-tree p disciplined (r .first) (starts .careless) n Γ)
+      (every-tree p′ disciplined′ (r .leaner) (starts .leaner-careless) n Γ)
+      (every-line p disciplined (r .first) (starts .careless) n Γ)
+      (every-line p′ disciplined′ (r .leaner) (starts .leaner-careless) n Γ) (calls Γ) (tw .twin)
+      _ _ empty empty held-names held-names [] [] [] [] (p .signatures f .result) E π b b′ (frame-from ws 0)
+      (frame-from ws′ 0) (call-adds * n) (call-adds * n) s s′
+      (body-rules p disciplined (r .first) (λ g. no-frugal p disciplined (r .first) (starts .careless) g) f there n)
+      rules′ (λ y h. h) record {
+        first = record {
+          values = values-from (call .values) 0;
+          meter = call .meter;
+          together = call .together;
+          situation = body-situation p disciplined (r .first)
+              (λ g. no-frugal p disciplined (r .first) (starts .careless) g) f there n (call .ready .arguments)
+              (call .ready .lent) (call .ready .holds) (call .ready .room)
+              (λ g. no-frugal p disciplined (r .first) (starts .careless) g);
+        };
+        leaner = record {
+          values = values-from (call′ .values) 0;
+          meter = call′ .meter;
+          together = call′ .together;
+          situation = situation′;
+        };
+        tied = tied;
+        framed = parameters-framed Γ (lent-names ++ held-names) words (disciplined .functions f there .parameters)
+            (λ y h. elim (append-cases y lent-names held-names h) [
+              | inl g ↦ arrays-deep (p .borrowing f) (p .signatures f .parameters) 0 y g
+              | inr g ↦ arrays-deep (λ i. not (p .borrowing f i)) (p .signatures f .parameters) 0 y g
+            ]);
+        images = record { lent = λ y h. h; held = held };
+        owes = λ y. omega arith;
+        exempt = exempt;
+      } (omega arith) (omega arith)))
+    where
+      there : f < length (p .routines)
+      there = call .ready .there
+
+      tw : TwinRoutine (routine-of p f) (routine-of p′ f)
+      tw = twins .routine f there
+
+      Γ : NameDepths
+      Γ = routine-of p f .depths
+
+      lent-names : List ℕ
+      lent-names = body-lent p disciplined (r .first)
+          (λ g. no-frugal p disciplined (r .first) (starts .careless) g) f there
+
+      held-names : List ℕ
+      held-names = body-held p disciplined (r .first)
+          (λ g. no-frugal p disciplined (r .first) (starts .careless) g) f there
+
+      b : Around
+      b = record { aside = a .aside; others = a .others; roots = R; lent = lent-names }
+
+      b′ : Around
+      b′ = record { aside = a′ .aside; others = a′ .others; roots = R′; lent = lent-names }
+
+      rules′ : TreeRules (leaner-setting r p rs n Γ) (tw .tree) lent-names
+          (parameter-names (p .signatures f .parameters)) empty held-names [] [] (p .signatures f .result)
+      rules′ = subst (λ (j : Routine). TreeRules (setting p′ (r .leaner) n (j .depths)) (j .tree) lent-names
+          (parameter-names (p .signatures f .parameters)) empty held-names [] [] (p .signatures f .result)) (tw .is)
+          (body-rules p′ disciplined′ (r .leaner)
+          (λ g. no-frugal p′ disciplined′ (r .leaner) (starts .leaner-careless) g) f (call′ .ready .there) n)
+
+      situation′ : Situation (leaner-setting r p rs n Γ) (s′ .store) (a′ .aside) (a′ .others) R′ lent-names held-names
+          [] (frame-from ws′ 0) (values-from (call′ .values) 0) (tree-adds (tw .tree) + call-adds * n)
+      situation′ = subst (λ (j : Routine). Situation (setting p′ (r .leaner) n (j .depths)) (s′ .store) (a′ .aside)
+          (a′ .others) R′ lent-names held-names [] (frame-from ws′ 0) (values-from (call′ .values) 0)
+          (tree-adds (j .tree) + call-adds * n)) (tw .is)
+          (body-situation p′ disciplined′ (r .leaner)
+          (λ g. no-frugal p′ disciplined′ (r .leaner) (starts .leaner-careless) g) f (call′ .ready .there) n
+          (call′ .ready .arguments) (call′ .ready .lent) (call′ .ready .holds) (call′ .ready .room)
+          (λ g. no-frugal p′ disciplined′ (r .leaner) (starts .leaner-careless) g))
+
+  pub call-twins : (n : ℕ) (Γ : NameDepths) → CallTwins r p rs n Γ
+  unfolding machine
+  call-twins zero Γ f ws ws′ E π a a′ R R′ s s′ call call′ tied words held exempt = stops (tied .level)
+  call-twins (suc n) Γ f ws ws′ E π a a′ R R′ s s′ call call′ tied words held exempt =
+      body-twins n (call-twins n) Γ f ws ws′ E π a a′ R R′ s s′ call call′ tied words held exempt

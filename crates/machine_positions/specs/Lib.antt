@@ -1,7 +1,0 @@
--- The modules of `machine_positions`' specs.
-pub mod Machine
-pub mod Parts
-pub mod TreeLaws
-pub mod Lengths
-pub mod LineLaws
-pub mod Delivery

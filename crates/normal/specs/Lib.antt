@@ -1,2 +1,0 @@
--- The modules of `normal`'s specs.
-pub mod Left

@@ -1,2 +1,0 @@
--- The laws that the proofs of `normal_loops` share.
-pub mod LoopRows

@@ -1,2 +1,0 @@
--- The modules of `normal_loops`' specs.
-pub mod Loops

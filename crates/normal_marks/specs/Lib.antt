@@ -1,2 +1,0 @@
--- The modules of `normal_marks`' specs.
-pub mod Took

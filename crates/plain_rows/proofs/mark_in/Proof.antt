@@ -1,0 +1,19 @@
+-- `plain_rows::mark_in` meets its contract.
+use mathlib.Core.Path.{sym}
+use borrow.Author.Needs.{needs}
+use lib.ListN.{List·getD-eq-default}
+use Rattle.plain_rows.proofs.Rows.{getD-any}
+use Rattle.plain_rows.proofs.mark_in.Statement.{statement}
+use Rattle.plain_rows.proofs.mark_in.Tie as tie
+
+returns : tie.Need-returns
+returns c = getD-any (c .before .before .args .notes .now) (c .before .before .args .at) 0 (c .before .before .args
+    .at)
+    (c .before .if1 .taken)
+
+returns-2 : tie.Need-returns-2
+returns-2 c = sym (List·getD-eq-default (c .before .args .notes .now) (c .before .args .at) (c .if1 .left))
+
+pub mark-in-spec : {M : Type 1} → statement M
+mark-in-spec =
+    tie.close (tie.spec (λ c. search needs) (λ c. search needs) returns (λ c. search needs) returns-2)

@@ -1,0 +1,2 @@
+-- The modules of `semantics_rows`'s specs.
+pub mod Rows

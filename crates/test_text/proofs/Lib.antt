@@ -1,0 +1,2 @@
+-- The laws that the proofs of `test_text` share.
+pub mod Laws

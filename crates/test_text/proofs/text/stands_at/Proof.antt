@@ -1,0 +1,28 @@
+-- `test_text::text::stands_at` meets its contract.
+use mathlib.Core.Path.{_≡_}
+use mathlib.Core.Bool.{false≢true}
+use Prim.Native.Nat.{_-_, _+_}
+use native.Mathlib.Omega.{arith}
+use lib.ListN.{length}
+use borrow.Author.Needs.{needs}
+use Rattle.test_text.proofs.text.stands_at.Statement.{statement}
+use Rattle.test_text.proofs.text.stands_at.Tie as tie
+
+returns : tie.Need-returns
+returns c e = absurd (false≢true e)
+
+returns-2 : tie.Need-returns-2
+returns-2 c e = absurd (false≢true e)
+
+returns-3 : tie.Need-returns-3
+returns-3 c e =
+    let a = c .before .before .before .before .before .before .args in
+    let n = length (a .bytes .now) in
+    let count : a .at + n - a .at ≡ n = omega arith in
+    rw count at (c .same .ensures .0 e)
+
+pub stands-at-spec : {M : Type 1} → statement M
+stands-at-spec =
+    tie.close
+    (tie.spec returns (λ c. search needs) returns-2 (λ c. search needs) (λ c. search needs) (λ c. search needs)
+    (λ c. search needs) (λ c κs. search needs) returns-3)

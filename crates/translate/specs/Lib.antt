@@ -1,0 +1,2 @@
+-- The modules of `translate`'s specs.
+pub mod Left
