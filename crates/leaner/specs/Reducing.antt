@@ -95,11 +95,11 @@ module _ {r : Race} (starts : Starts r) (p : Program) (rs : List Routine) (n : �
 
       abbrev b : Around
       b = around-passes C v K ρ
-          ((a .roots ++ held Γ (among (o ∷ (v ∷ [])) (after-pass x (y ∷ (z ∷ [])) t A)) ρ) ++ []) a
+          ((a .roots ++ held Γ (among (v ∷ []) (after-pass x (y ∷ (z ∷ [])) t A)) ρ) ++ []) a
 
       abbrev b′ : Around
       b′ = around-passes C′ v K′ ρ′
-          ((a′ .roots ++ held Γ (among (o ∷ (v ∷ [])) (after-pass x (y ∷ (z ∷ [])) t′ A′)) ρ′) ++ []) a′
+          ((a′ .roots ++ held Γ (among (v ∷ []) (after-pass x (y ∷ (z ∷ [])) t′ A′)) ρ′) ++ []) a′
 
       reads : given C (v ∷ []) ⊆ (a .lent ++ K)
       reads = site-reads C (site C rules)

@@ -13,6 +13,7 @@ use Rattle.semantics.specs.Kinds.{Borrowing}
 use Rattle.semantics.specs.Store.{Store, cell, cell-of, elements}
 use Rattle.semantics.specs.Code as K
 use Rattle.semantics.specs.Code.{row, atom-row, rows}
+use Rattle.semantics.specs.Kinds.{loop-array}
 use Rattle.semantics.specs.Live.{Set, _∪_, only, just, among, after-pass}
 use Rattle.semantics.specs.Annotate.{NameDepths}
 use Rattle.semantics.specs.Machine as M
@@ -313,7 +314,7 @@ module _ (free : ℕ) (p : Program) (callee : M.Callee) (β : Borrowing) (Γ : N
     B = after-pass x ps t A
 
     abbrev R′ : List ℕ
-    R′ = R ++ held Γ (among us B) ρ
+    R′ = R ++ held Γ (among (loop-array k us) B) ρ
 
     abbrev way : ℤ → Way
     way v = way-of k (pred (Γ x)) (cell-of array) v

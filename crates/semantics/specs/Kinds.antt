@@ -103,6 +103,13 @@ module _ {A : Type 0} where
   loop-reads reducing us = later-parts us
   loop-reads rewriting us = []
 
+  -- of a loop's parts before its body its array
+  abbrev pub loop-array : Loop → List A → List A
+  loop-array mapping us = us
+  loop-array filtering us = us
+  loop-array reducing us = later-parts us
+  loop-array rewriting us = us
+
   -- the element's name among the names of a pass; a reduce's first is the running value's
   abbrev pub element-name : Loop → List A → List A
   element-name mapping ps = ps

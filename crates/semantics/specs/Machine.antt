@@ -15,6 +15,7 @@ use Rattle.semantics.specs.Syntax.{Function, Script, main-depth}
 use Rattle.semantics.specs.Types.{Signature, signatures-of}
 use Rattle.semantics.specs.Kinds.{Leaf, operation, call, literal, index, length-of, iota, replicate, Loop}
 use Rattle.semantics.specs.Kinds.{mapping, filtering, reducing, rewriting, later-parts, Borrowing, leaf-reads}
+use Rattle.semantics.specs.Kinds.{loop-array}
 use Rattle.semantics.specs.Code.{Atom, number, name, Line, leaf, if-else, loop, retain, release, Tree, end, line}
 use Rattle.semantics.specs.Live.{Set, empty, _∖_, among, members, live, after-branch, after-pass}
 use Rattle.semantics.specs.Borrow.{Table, borrows, borrowed}
@@ -291,7 +292,7 @@ module _ (callee : Callee) (B : Borrowing) (Γ : NameDepths) where
     work-line (loop x k ps us t) A R ρ = do
       step
       let L = after-pass x ps t A
-      let R′ = R ++ held Γ (among us L) ρ
+      let R′ = R ++ held Γ (among (loop-array k us) L) ρ
       let a = looped-over k (map (word ρ) us)
       ws ← elements-of a
       c ← carried-first k R′ (element-depth Γ x) (map (word ρ) us)

@@ -115,7 +115,7 @@ module _ (C : Setting) (a : Atom) (B H : List ℕ) where
   given-few (name x) n = once (is-array (C .depths) x) x n
 
   module _ (reads : given C (a ∷ []) ⊆ (B ++ H)) where
-    aside-in : kept-aside ⊆ H
+    pub aside-in : kept-aside ⊆ H
     aside-in n h = elim (append-cases n B H (reads n (omega (arith, h, unlent-few B (given C (a ∷ [])) n)))) [
       | inl g ↦ absurd (omega (arith, g, unlent-not-lent B (given C (a ∷ [])) n h))
       | inr g ↦ g

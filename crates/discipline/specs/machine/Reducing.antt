@@ -1,6 +1,11 @@
 -- The line of a reduce: its start is handed over, and each pass carries on what its tree gives.
 use Prim.Native.Nat.{ℕ, suc, _+_, _<_, _≤_, pred}
 use native.Mathlib.Omega.{arith}
+use native.Mathlib.Decide.{ℕ-discrete}
+use lib.Dec.{eqb}
+use borrow.Author.Tests.{eq-eqb}
+use Rattle.laws.specs.Tests.{or-left}
+use Rattle.discipline.specs.machine.Standing.{none-in, hold-of-other}
 use mathlib.Core.Bool.{true, false}
 use mathlib.Core.Path.{_≡_, refl, sym, ap, _∙_, subst}
 use mathlib.Core.List.{List, [], _∷_, _++_, append-nil}
@@ -10,7 +15,7 @@ use Rattle.semantics.specs.Basics.{occurrences, _∈_, updated}
 use Rattle.semantics.specs.Outcome.{onward, _>>=_, _>>_, give, require, passes}
 use Rattle.semantics.specs.Value.{Value, num, items}
 use Rattle.semantics.specs.Kinds.{reducing}
-use Rattle.semantics.specs.Code.{Atom, loop, Tree, ending}
+use Rattle.semantics.specs.Code.{Atom, number, name, loop, Tree, ending}
 use Rattle.semantics.specs.Live.{Set, _∪_, just, among, after-pass}
 use Rattle.semantics.specs.Annotate.{atom-depth}
 use Rattle.semantics.specs.Meaning.{Meter, Env, do-pass, do-loop}
@@ -27,8 +32,9 @@ use Rattle.discipline.specs.store.Invariant.{Invariant, Keeps, StandsFor
 use Rattle.discipline.specs.store.Counting.{in-append-left, in-append-right}
 use Rattle.discipline.specs.store.Change.{permute, held-used}
 use Rattle.discipline.specs.store.Kept.{keeps-self, keeps-fewer}
-use Rattle.discipline.specs.machine.Discipline.{less, holds-after}
-use Rattle.discipline.specs.machine.Spending.{spend-split, less-in, less-counts}
+use Rattle.discipline.specs.machine.Discipline.{less, holds-after, Covered}
+use Rattle.discipline.specs.machine.Acquiring.{roots-cover}
+use Rattle.discipline.specs.machine.Spending.{spend-split, less-in, less-counts, unlent-few}
 use Rattle.discipline.specs.machine.Images.{apart, without-middle}
 use Rattle.discipline.specs.machine.Growth.{Grows, give-grows, require-grows, bind-grows, passes-grow, pass-grows}
 use Rattle.discipline.specs.machine.Growth.{tree-grows}
@@ -44,9 +50,18 @@ use Rattle.discipline.specs.machine.Fits.{reduce-fits, first-same, secon
 use Rattle.discipline.specs.machine.Rules.{LineRules, TreeRules, Fresh, fresh, names-bound, loop-fresh}
 use Rattle.discipline.specs.machine.Claims.{TreeClaim, LineClaim, begin-step}
 use Rattle.discipline.specs.machine.Passes.{passes-agree, kept-aside, outer, lent-names, lend, lend-rooted}
-use Rattle.discipline.specs.machine.Passes.{lend-split, lend-back, lent-array}
+use Rattle.discipline.specs.machine.Passes.{aside-in, lend-split, lend-back, lent-array}
 use Rattle.discipline.specs.machine.Sites.{Site, loop-site, site-reads, site-names, site-tree}
 use Rattle.discipline.specs.machine.Bodies.{pass-begins}
+
+-- an atom that is held is among itself
+given-live : (C : Setting) (a : Atom) (A : Set) (n : ℕ) → n ∈ given C (a ∷ []) → among (a ∷ []) A n ≡ true
+unfolding among
+given-live C (number z) A n h = absurd (none-in n h)
+given-live C (name x) A n h = elim (ℕ-discrete n x) [
+  | yes e ↦ or-left (eqb x n) (A n) (eq-eqb x n (sym e))
+  | no e ↦ absurd (none-in n (hold-of-other C x n [] e h))
+]
 
 -- a pass names the running value q and the element p; the start is b and the array a
 module _ (C : Setting) {x q p : ℕ} {b a : Atom} {t : Tree} {B : List ℕ} {T A : Set} {H P Δ : List ℕ}
@@ -105,7 +120,7 @@ module _ (C : Setting) {x q p : ℕ} {b a : Atom} {t : Tree} {B : List ℕ} {T A
     others = hold ρ (kept-aside C a B H′) ++ F
 
     abbrev roots : List ℕ
-    roots = R ++ held (C .depths) (among (b ∷ (a ∷ [])) after) ρ
+    roots = R ++ held (C .depths) (among (a ∷ []) after) ρ
 
     -- what is carried is a word as a tree gives it, which leaves the outer holds
     abbrev Carried : ℤ → State → Value → Meter → Type 0
@@ -115,9 +130,18 @@ module _ (C : Setting) {x q p : ℕ} {b a : Atom} {t : Tree} {B : List ℕ} {T A
     lent-before = lend C a B H′ (site-reads C site) (λ y h. S .arrays y (less-in (given C (b ∷ [])) H y h)) (S .lent)
 
     rooted : C .start .frugal ≡ true → (Z ++ others) ⊆ (roots ++ [])
-    rooted f r h = in-append-left r roots [] (lend-rooted C a B H′ (site-reads C site) Z F R ρ H
-        (among (b ∷ (a ∷ [])) after) (λ k. omega (arith, less-counts (given C (b ∷ [])) H k)) (S .rooted f)
-        (rules .frugal f .0) r h)
+    rooted f r h = in-append-left r roots [] (roots-cover C Z F R (kept-aside C a B H′) (among (a ∷ []) after) ρ
+        (S .rooted f) (array-covered f) r h)
+      where
+        in-start : (y : ℕ) → y ∈ kept-aside C a B H′ → y ∈ H
+        in-start y g = less-in (given C (b ∷ [])) H y (aside-in C a B H′ (site-reads C site) y g)
+
+        array-covered : C .start .frugal ≡ true → Covered (C .depths) (kept-aside C a B H′) (among (a ∷ []) after)
+        array-covered f = record {
+          live = λ y g. given-live C a after y (omega (arith, g, unlent-few B (given C (a ∷ [])) y));
+          below = λ y g. rules .frugal f .0 .below y (in-start y g);
+          array = λ y g. rules .frugal f .0 .array y (in-start y g);
+        }
 
     -- ---- references
 
