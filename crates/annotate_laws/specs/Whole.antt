@@ -19,7 +19,7 @@ use Rattle.semantics.specs.Annotate.{full-style, written, annotate, annotate-li
 use Rattle.plain_rows.specs.Plain.{Plain, note}
 use Rattle.plain_rows.specs.Parts.{below, retain-rows, release-rows, loop-own, pass-opening, loop-closing, written-as}
 use Rattle.plain_rows.specs.Marks.{Marks, marked, marked-all, extent, line-extent, marks, line-marks}
-use Rattle.plain_rows.specs.Stands.{LineAt, Begins, Linked, LinkedAll, Stands, StandsLine}
+use Rattle.plain_rows.specs.Stands.{LineAt, Linked, LinkedAll, Stands, StandsLine}
 use Rattle.plain_rows.specs.Walk.{since, then-end, Point, point, then-walk, if-head, if-trees}
 use Rattle.plain_rows.specs.Walk.{if-walk, loop-head, loop-tree, loop-walk, back-walk, end-walk, tree-walk}
 use Rattle.annotate_laws.specs.Uses.{binds}
@@ -187,14 +187,6 @@ module _ (F : Plain) (B : Borrowing) (Γ : NameDepths) where
         (omega arith))))
     line-right (C.retain x) d p M s n low h = absurd s
     line-right (C.release x) d p M s n low h = absurd s
-
-  -- The walk of a tree that stands from row p on, M being the last uses before it and L live after it.
-  pub walk-right : (t : Tree) (d p : ℕ) (M : Marks) → Stands F d t p M → Nested t → Low M p → p + extent t ≤ 4096 →
-      Begins F p → (L : Set) (rs : List Row) →
-      tree-walk F B Γ (suc d) (p + extent t - 2) (point L (marks t p M) rs)
-      ≡ point (live t L) M (rows (annotate full-style B Γ t L) ++ rs)
-  walk-right t d p M s n low h g L rs =
-      tree-from F B Γ d t p M g (omega arith) (back-right t d p M s n low h) (p + extent t - 2) refl L rs
 
   -- The walk of a function's body that stands from row 0 on: no name was used before it.
   pub body-walk : (g : Function) (d : ℕ) → Stands F d (normal-body g) 0 (λ _. 0) → extent (normal-body g) ≤ 4096 →

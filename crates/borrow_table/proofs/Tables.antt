@@ -8,28 +8,8 @@ use mathlib.Core.Bool.{Bool, false}
 use mathlib.Core.List.{List, []}
 use lib.ListN.{length, getD, set, length-set}
 use lib.Seq.{ext-getD, getD-set-same, getD-set-other}
-use Rattle.laws.specs.Lists.{tabulate-length, tabulate-at}
-use Rattle.semantics.specs.Basics.{tabulate}
 use Rattle.semantics.specs.Borrow.{Table, borrows}
 use Rattle.soundness.specs.borrowing.Rounds.{Shaped}
-use Rattle.borrow_table.specs.Rounds.{table-of}
-
--- ---- tables made from a rule
-
-module _ (p : ℕ → ℕ → Bool) where
-  row-is : (f : ℕ) → f < 32 → getD (table-of p) f [] ≡ tabulate 0 8 (p f)
-  row-is f h = tabulate-at 32 0 (λ g. tabulate 0 8 (p g)) f [] h ∙ ap (λ (g : ℕ). tabulate 0 8 (p g)) (omega arith)
-
-  pub shaped-of : Shaped (table-of p)
-  shaped-of = record {
-    rows = tabulate-length 32 0 (λ g. tabulate 0 8 (p g));
-    columns = λ f h. ap length (row-is f h) ∙ tabulate-length 8 0 (p f);
-  }
-
-  pub entry-of : (f i : ℕ) → f < 32 → i < 8 → borrows (table-of p) f i ≡ p f i
-  entry-of f i h l =
-      ap (λ (r : List Bool). getD r i false) (row-is f h)
-      ∙ tabulate-at 8 0 (p f) i false l ∙ ap (p f) (omega arith)
 
 -- two tables with the same entries
 pub same-entries : {T U : Table} → Shaped T → Shaped U →
@@ -39,10 +19,6 @@ same-entries {T} {U} s t h =
     let m : f < 32 = omega (arith, s .rows) in
     ext-getD false (getD T f []) (getD U f []) (s .columns f m ∙ sym (t .columns f m)) (λ i k.
     h f i m (omega (arith, s .columns f m))))
-
-pub is-table-of : {T : Table} (p : ℕ → ℕ → Bool) → Shaped T →
-    ((f i : ℕ) → f < 32 → i < 8 → borrows T f i ≡ p f i) → T ≡ table-of p
-is-table-of p s h = same-entries s (shaped-of p) (λ f i l m. h f i l m ∙ sym (entry-of p f i l m))
 
 -- ---- one row set
 

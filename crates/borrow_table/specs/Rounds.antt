@@ -6,14 +6,9 @@ use mathlib.Core.Bool.{Bool, true, false, cond, not, _&&_}
 use mathlib.Core.List.{List, [], _∷_}
 use lib.Dec.{eqb}
 use lib.ListN.{getD, set}
-use Rattle.semantics.specs.Basics.{tabulate}
 use Rattle.semantics.specs.Borrow.{Table, borrows}
 use Rattle.soundness.specs.borrowing.Rounds.{Shaped}
 use Rattle.borrow_table.specs.Gathered.{passed}
-
--- the table with a rule's entries
-abbrev pub table-of : (ℕ → ℕ → Bool) → Table
-table-of p = tabulate 0 32 (λ f. tabulate 0 8 (p f))
 
 -- how many entries are true
 unfoldable pub row-entries : List Bool → ℕ

@@ -11,7 +11,7 @@ use Rattle.semantics.specs.Normal.{fresh, atom, parameter-names, normal, normal
 use Rattle.semantics.specs.Annotate.{NameDepths, parameter-depths-from, tree-depths}
 use Rattle.script_read.specs.Told.{low-at}
 use Rattle.script_read.proofs.Tables.{none-set}
-use Rattle.plain_rows.specs.Plain.{Plain, plain}
+use Rattle.plain_rows.specs.Plain.{plain}
 use Rattle.plain_rows.specs.Parts.{depth-in}
 use Rattle.plain_rows.specs.Marks.{marks-of, marks, extent}
 use Rattle.plain_rows.specs.Stands.{Stands}
@@ -84,9 +84,6 @@ module _ (k w results : List ℕ) (at : ℕ) (fit : Fitting k w results at) wher
         (M₀ : TreeMade w (λ f. getD results f 0) (tree-at k w 64 (at + 1 + c)) (meanings w ps)
         (state rs ns ds ls) (state rs₁ ns₁ ds₁ ls₁) c 0 64
         (at + 1 + c + size (tree-at k w 64 (at + 1 + c))) o) where
-      F : Plain
-      F = plain w rs₁ ns₁
-
       M : TreeMade w (λ f. getD results f 0) (tree-at k w 64 (at + 1 + c))
           (parameter-names (parameters-at k w (at + 1) c) 0) (state rs ns ds ls)
           (state rs₁ ns₁ ds₁ ls₁) c 0 64 (at + 1 + c + size (tree-at k w 64 (at + 1 + c))) o

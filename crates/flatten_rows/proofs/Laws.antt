@@ -32,12 +32,6 @@ pub line-laid : {k k₁ n n₁ l l₁ : List ℕ} (p row : ℕ) (vs : List ℕ) 
 unfolding laid
 line-laid p row vs u = record { rows = u .rows; notes = u .notes; last = u .last }
 
--- the same, over notes of which the last is yet to come
-pub line-opened : {k k₁ n n₁ l l₁ : List ℕ} (p row : ℕ) (vs : List ℕ) →
-    UsesLaid (set k p row) n l k₁ n₁ l₁ (p + 1) vs → LineLaid k n l k₁ (noted n l (p + 1) vs) l₁ p row vs
-unfolding laid
-line-opened p row vs u = record { rows = u .rows; notes = refl; last = u .last }
-
 -- ---- atoms laid one after the other
 
 -- i of the first m places of ws are laid from row p on

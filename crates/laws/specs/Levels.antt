@@ -241,9 +241,6 @@ raises-release (suc k) c σ =
     (lowered (released k) (cell σ c .count) c σ) (raises-touching σ c)
     (raises-lower (released k) (release-events k) (λ c σ. raises-release k c σ) (cell σ c .count) c σ refl)
 
-pub released-fewer : (k c : ℕ) (σ : Store) → cells-taken (released k c σ) ≤ cells-taken σ
-released-fewer k c σ = raises-release k c σ .fewer
-
 pub release-level : (k c : ℕ) (σ : Store) (n : ℕ) →
     level-after (release-events k c σ) n ≡ n + (cells-taken σ - cells-taken (released k c σ))
 release-level k c σ n = raises-release k c σ .level n

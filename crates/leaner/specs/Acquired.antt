@@ -1,24 +1,24 @@
 -- A cell more: in both stores, or in the one that is not the leaner.
-use Prim.Native.Nat.{ℕ, suc, _≤_, min}
+use Prim.Native.Nat.{ℕ, _≤_, min}
 use native.Mathlib.Omega.{arith}
 use mathlib.Core.Path.{_≡_, refl, sym, ap, _∙_, subst}
 use mathlib.Core.Logic.{_≢_}
 use mathlib.Core.Bool.{true}
 use mathlib.Core.List.{List, [], _∷_, map}
-use lib.IntN.{ℤ, pos}
+use lib.IntN.{ℤ}
 use lib.ListN.{length}
 use borrow.Author.Tests.{ltb-true}
 use Rattle.semantics.specs.Basics.{occurrences, _∈_, updated}
-use Rattle.semantics.specs.Store.{Cell, Store, cell, cell-of, cell-count, elements, inner, named-by, filled}
+use Rattle.semantics.specs.Store.{Cell, Store, cell, cell-count, elements, inner, named-by, filled}
 use Rattle.semantics.specs.Store.{has-free, acquired}
 use Rattle.semantics.specs.Sound.{all-inner}
 use Rattle.laws.specs.Lists.{occurs-first}
 use Rattle.laws.specs.Updates.{updated-same, updated-there}
 use Rattle.discipline.specs.store.Invariant.{Invariant}
-use Rattle.discipline.specs.store.Cells.{Put, put-same, put-other, with-first-put, inner-in-all}
+use Rattle.discipline.specs.store.Cells.{Put, put-other, with-first-put, inner-in-all}
 use Rattle.discipline.specs.store.Acquire.{acquire-takes, filled-elements, filled-inner}
 use Rattle.discipline.specs.machine.Images.{image-alike}
-use Rattle.leaner.specs.Leaner.{Leaner, Matching, matching-cell, matching-kept}
+use Rattle.leaner.specs.Leaner.{Leaner, Matching, matching-kept}
 use Rattle.leaner.specs.Placed.{Placed, put-placed, none-placed, Corresponds, OthersStay, leaner-placed}
 
 -- ---- a cell just acquired
@@ -107,15 +107,6 @@ leaner-alone {E} {π} {τ} {σ} a l u v f h z =
 
 -- ---- words that match, after it
 
--- the words of the two new cells
-pub matching-new : (π : ℕ → ℕ) (τ : Store) (d : ℕ) (ws : List ℤ) (b : ℕ) → has-free τ ≡ true →
-    Matching (updated π (τ .first) b) (acquired d ws τ) (suc d) (pos (τ .first) ∷ []) (pos b ∷ [])
-unfolding cell-of filled
-matching-new π τ d ws b f =
-    matching-cell (updated π (τ .first) b) (acquired d ws τ) d (pos (τ .first)) (pos b)
-    (sym (updated-same π (τ .first) b))
-    (omega (arith, ap (λ (x : Cell). x .count) (put-same (acquired-put τ d ws f))))
-
 -- others name no cell that was free
 pub matching-acquired : {π : ℕ → ℕ} {τ : Store} {Z R : List ℕ} {k : ℕ} {us vs : List ℤ} (d : ℕ) (ws : List ℤ) (b : ℕ) →
     Invariant τ Z R → has-free τ ≡ true → Matching π τ k us vs →
@@ -128,11 +119,3 @@ matching-acquired {π} {τ} {k = k} {us} d ws b u f m = matching-kept m (λ r h.
     old : (r : ℕ) → r ∈ named-by k us → r ≢ τ .first
     old r h e =
         omega (arith, m .used r h, acquire-takes d ws u f .was-free, ap (λ (n : ℕ). cell τ n .count) e)
-
--- words that do not name the cell that gets another image
-pub matching-moved : {π : ℕ → ℕ} {τ : Store} {k : ℕ} {us vs : List ℤ} (a b : ℕ) →
-    occurrences a (named-by k us) ≡ 0 → Matching π τ k us vs → Matching (updated π a b) τ k us vs
-matching-moved {π} {k = k} {us} a b none m = matching-kept m (λ r h. (
-  updated-there π a b r (λ e. omega (arith, h, none, ap (λ (n : ℕ). occurrences n (named-by k us)) e)),
-  m .used r h,
-))

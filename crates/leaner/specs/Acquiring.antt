@@ -3,7 +3,7 @@ use Prim.Native.Nat.{ℕ, _+_, _-_, _<_, _≤_}
 use native.Mathlib.Omega.{arith}
 use mathlib.Core.Bool.{Bool, true, false}
 use mathlib.Core.Path.{_≡_, refl, ap}
-use mathlib.Core.List.{List, [], _++_}
+use mathlib.Core.List.{List, []}
 use lib.IntN.{ℤ, pos}
 use lib.ListN.{length}
 use Rattle.semantics.specs.Basics.{updated}
@@ -12,7 +12,6 @@ use Rattle.semantics.specs.Machine.{State, with-store, acquire, acquire-if}
 use Rattle.semantics.specs.Store.{cell, cell-count, free-cells, has-free, acquired}
 use Rattle.laws.specs.Updates.{updated-there}
 use Rattle.discipline.specs.store.Invariant.{Invariant}
-use Rattle.discipline.specs.store.Change.{root-used}
 use Rattle.discipline.specs.store.Acquire.{acquire-takes}
 use Rattle.discipline.specs.store.LowestLevel.{free-cells-listed}
 use Rattle.discipline.specs.machine.Agreement.{Clean}
@@ -21,7 +20,6 @@ use Rattle.leaner.specs.Leaner.{Matching}
 use Rattle.leaner.specs.Acquired.{leaner-acquired}
 use Rattle.leaner.specs.Levels.{leaner-levels, leaner-has-free}
 use Rattle.leaner.specs.Runs.{Race, Starts, Level, Tied, Twins, both, dry, acquire-lowest, level-now}
-use Rattle.leaner.specs.Beside.{Stays}
 
 -- what is known of the store of a run: what it is the work of, and its references
 pub record Stored (r : Race) (Z Z′ R R′ : List ℕ) (s s′ : State) : Type 0 where
@@ -81,9 +79,6 @@ module _ {r : Race} (starts : Starts r) {Z Z′ R R′ E : List ℕ} {π : ℕ �
     ap (λ (k : ℕ). cell (s′ .store) k .count) g,
     acquire-takes 0 [] (q .holds-leaner) (both-free e) .was-free,
   ))
-
-  pub roots-stay : has-free (s .store) ≡ true → Stays π with-new (Z′ ++ R′)
-  roots-stay e c h = new-stays e c (root-used (q .holds-leaner) c h)
 
   pub acquire-twins : {A : Type 0} {Q : A → State → A → State → Type 0} (f f′ : ℤ → Run State A) (O O′ : List ℕ)
       (d : ℕ) (ws vs : List ℤ) →

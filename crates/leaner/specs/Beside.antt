@@ -145,9 +145,6 @@ images-held {π = π} {a} {a′} {ρ} {ρ′} H H′ i f known fewer c h =
 abbrev pub Owes : List ℕ → List ℕ → List ℕ → Type 0
 Owes X H H′ = (n : ℕ) → occurrences n (X ++ H′) ≤ occurrences n H
 
-pub same-stays : {d : ℕ} {π π′ : ℕ → ℕ} {w w′ : ℤ} → Same d π w w′ → π′ (cell-of w′) ≡ π (cell-of w′) → Same d π′ w w′
-same-stays q e = record { number = q .number; cell = λ h. q .cell h ∙ sym e }
-
 -- ---- names
 
 module _ {Γ : NameDepths} {π : ℕ → ℕ} {ρ ρ′ : Frame} where

@@ -31,7 +31,7 @@ use Rattle.leaner.specs.Released.{leaner-released, first-released}
 use Rattle.leaner.specs.Runs.{Race, Tied, both, level-quiet, touching-quiet}
 use Rattle.leaner.specs.Runs.{release-quiet, level-first}
 use Rattle.leaner.specs.Beside.{Around, here-less, framed-fewer, images-held, Owes}
-use Rattle.leaner.specs.Claims.{first-setting, leaner-setting, Before, TreeTwins, LineTwins}
+use Rattle.leaner.specs.Claims.{first-setting, Before, TreeTwins, LineTwins}
 use Rattle.leaner.specs.Owing.{owes-less, owes-in, owes-raised, owes-spared}
 use Rattle.leaner.specs.Binding.{known-left}
 use Rattle.leaner.specs.Trees.{goes-on}
@@ -56,9 +56,6 @@ retainable-used {C} {B = B} {H} {P} {ρ} y S h = elim (append-cases y P (B ++ H)
 module _ (r : Race) (p : Program) (rs : List Routine) (n : ℕ) (Γ : NameDepths) where
   abbrev C : Setting
   C = first-setting r p n Γ
-
-  abbrev C′ : Setting
-  C′ = leaner-setting r p rs n Γ
 
   pub twin-release : (X : List ℕ) (y : ℕ) → LineTwins r p rs n Γ X (release y) (release y)
   unfolding work-line release-word onward with-store holds-after

@@ -6,11 +6,11 @@ use mathlib.Core.Path.{_≡_, refl, sym, ap, ap₂, _∙_, subst}
 use mathlib.Core.Logic.{inl, inr}
 use mathlib.Core.List.{List, [], _∷_, map, map-id}
 use lib.IntN.{ℤ, pos}
-use lib.ListN.{length, getD, drop, length-map}
+use lib.ListN.{length, getD, length-map}
 use borrow.Author.Tests.{lt-ltb, le-ltb}
 use Rattle.semantics.specs.Basics.{occurrences, _∈_}
 use Rattle.semantics.specs.Store.{Store, cell, cell-of, elements, inner, named-by, with-count, one-more, retained}
-use Rattle.laws.specs.Lists.{_⊆_, hits, occurs-first}
+use Rattle.laws.specs.Lists.{hits, occurs-first}
 use Rattle.laws.specs.Releases.{count-with}
 use Rattle.laws.specs.Cells.{named-by-none}
 use Rattle.discipline.specs.machine.Elements.{getD-mapped}
@@ -39,17 +39,6 @@ pub record Matching (π : ℕ → ℕ) (τ : Store) (d : ℕ) (ws vs : List ℤ)
   pub numbers : d ≡ 0 → vs ≡ ws
   pub names : named-by d vs ≡ map π (named-by d ws)
   pub used : (r : ℕ) → r ∈ named-by d ws → 0 < cell τ r .count
-
--- the members of a longer list of words are named too
-pub named-first : (d : ℕ) (w : ℤ) (ws : List ℤ) (r : ℕ) → r ∈ named-by d (w ∷ []) → r ∈ named-by d (w ∷ ws)
-unfolding occurrences
-named-first zero w ws r h = h
-named-first (suc d) w ws r h = omega (arith, h)
-
-pub named-later : (d : ℕ) (w : ℤ) (ws : List ℤ) (r : ℕ) → r ∈ named-by d ws → r ∈ named-by d (w ∷ ws)
-unfolding occurrences
-named-later zero w ws r h = h
-named-later (suc d) w ws r h = omega (arith, h)
 
 -- ---- words one by one
 
@@ -98,34 +87,6 @@ matching-more {π} {τ} {d} {w} {v} {ws} {vs} m n = record {
   names = more-names π d w v ws vs (m .names) (n .names);
   used = more-used τ d w ws (m .used) (n .used);
 }
-
-first-names : (π : ℕ → ℕ) (d : ℕ) (w v : ℤ) (ws vs : List ℤ) → named-by d (v ∷ vs) ≡ map π (named-by d (w ∷ ws)) →
-    (named-by d (v ∷ []) ≡ map π (named-by d (w ∷ []))) × (named-by d vs ≡ map π (named-by d ws))
-first-names π zero w v ws vs e = (refl, refl)
-first-names π (suc d) w v ws vs e =
-    (ap (λ (l : List ℕ). getD l 0 0 ∷ []) e, ap (λ (l : List ℕ). drop 1 l) e)
-
--- the first of some words that match, and the others
-pub matching-head : {π : ℕ → ℕ} {τ : Store} {d : ℕ} {w v : ℤ} {ws vs : List ℤ} →
-    Matching π τ d (w ∷ ws) (v ∷ vs) → Matching π τ d (w ∷ []) (v ∷ [])
-matching-head {π} {τ} {d} {w} {v} {ws} {vs} m = record {
-  size = refl;
-  numbers = λ e. ap (λ (l : List ℤ). getD l 0 (pos 0) ∷ []) (m .numbers e);
-  names = first-names π d w v ws vs (m .names) .0;
-  used = λ r h. m .used r (named-first d w ws r h);
-}
-
-pub matching-tail : {π : ℕ → ℕ} {τ : Store} {d : ℕ} {w v : ℤ} {ws vs : List ℤ} →
-    Matching π τ d (w ∷ ws) (v ∷ vs) → Matching π τ d ws vs
-matching-tail {π} {τ} {d} {w} {v} {ws} {vs} m = record {
-  size = omega (arith, m .size);
-  numbers = λ e. ap (λ (l : List ℤ). drop 1 l) (m .numbers e);
-  names = first-names π d w v ws vs (m .names) .1;
-  used = λ r h. m .used r (named-later d w ws r h);
-}
-
-pub same-number : {π : ℕ → ℕ} {τ : Store} {w v : ℤ} → Matching π τ 0 (w ∷ []) (v ∷ []) → v ≡ w
-same-number m = ap (λ (l : List ℤ). getD l 0 (pos 0)) (m .numbers refl)
 
 pub image-cell : {π : ℕ → ℕ} {τ : Store} {d : ℕ} {w v : ℤ} → Matching π τ (suc d) (w ∷ []) (v ∷ []) →
     cell-of v ≡ π (cell-of w)
@@ -203,17 +164,6 @@ leaner-self σ = record {
   names = λ c h. sym (map-id (inner (cell σ c)));
   numbers = λ c h f e. refl;
   sizes = λ c h f. refl;
-}
-
--- more cells may be exempt
-pub leaner-weaker : {E E′ : List ℕ} {π : ℕ → ℕ} {τ σ : Store} → E ⊆ E′ → Leaner E π τ σ → Leaner E′ π τ σ
-leaner-weaker s l = record {
-  used = l .used;
-  apart = l .apart;
-  depth = l .depth;
-  names = l .names;
-  numbers = λ c h f. l .numbers c h (λ e. f (s c e));
-  sizes = λ c h f. l .sizes c h (λ e. f (s c e));
 }
 
 -- a cell whose numbers are equal again is no longer exempt
@@ -300,11 +250,3 @@ pub leaner-other-retained : {E : List ℕ} {π : ℕ → ℕ} {τ σ : Store} (b
 leaner-other-retained {π = π} {τ} {σ} b h l = leaner-kept l
     (λ d g. (g, (refl, refl, refl)))
     (λ d g. (retained-used σ b h (π d) (l .used d g), retained-agree σ b h (π d)))
-
--- in both
-pub leaner-both-retained : {E : List ℕ} {π : ℕ → ℕ} {τ σ : Store} {d : ℕ} (w v : ℤ) →
-    Matching π τ (suc d) (w ∷ []) (v ∷ []) → Leaner E π τ σ →
-    Leaner E π (retained (cell-of w) τ) (retained (cell-of v) σ)
-leaner-both-retained {σ = σ} w v m l = leaner-retained (cell-of w) (cell-used m)
-    (leaner-other-retained (cell-of v) (subst (λ (c : ℕ). 0 < cell σ c .count) (sym (image-cell m))
-    (l .used (cell-of w) (cell-used m))) l)

@@ -6,7 +6,6 @@ pub mod Released
 pub mod Written
 pub mod Alone
 pub mod Levels
-pub mod Words
 pub mod Twin
 pub mod Runs
 pub mod Beside

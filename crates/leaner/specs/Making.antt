@@ -33,7 +33,7 @@ use Rattle.leaner.specs.Leaner.{leaner-other-retained, retained-used, im
 use Rattle.leaner.specs.Acquired.{matching-acquired}
 use Rattle.leaner.specs.Runs.{Race, Starts, Tied, Twins, both, twin-test, level-quiet, touching-quiet}
 use Rattle.leaner.specs.Beside.{Around, Stays}
-use Rattle.leaner.specs.Claims.{first-setting, leaner-setting, WordsGiven, Before}
+use Rattle.leaner.specs.Claims.{first-setting, WordsGiven, Before}
 use Rattle.leaner.specs.Leaves.{LeafTwins}
 use Rattle.leaner.specs.Reading.{same-matching, read-same, read-used}
 use Rattle.leaner.specs.Acquiring.{Stored, both-free, with-new, tied-acquired, new-stays}
@@ -66,9 +66,6 @@ retain-twins {r} f f′ w w′ (suc n) s s′ used used′ t next = retain-twins
 module _ {r : Race} (starts : Starts r) (p : Program) (rs : List Routine) (n : ℕ) (Γ : NameDepths) where
   abbrev C : Setting
   C = first-setting r p n Γ
-
-  abbrev C′ : Setting
-  C′ = leaner-setting r p rs n Γ
 
   module _ {X E : List ℕ} {π : ℕ → ℕ} {a a′ : Around} {H H′ P P′ : List ℕ} {ρ ρ′ : Frame} {k k′ : ℕ} {s s′ : State}
       (q : Before r p rs n Γ X E π a a′ H H′ P P′ ρ ρ′ k k′ s s′) where

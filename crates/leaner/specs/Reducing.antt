@@ -101,9 +101,6 @@ module _ {r : Race} (starts : Starts r) (p : Program) (rs : List Routine) (n : �
       b′ = around-passes C′ v K′ ρ′
           ((a′ .roots ++ held Γ (among (v ∷ []) (after-pass x (y ∷ (z ∷ [])) t′ A′)) ρ′) ++ []) a′
 
-      reads : given C (v ∷ []) ⊆ (a .lent ++ K)
-      reads = site-reads C (site C rules)
-
       reads′ : given C (v ∷ []) ⊆ (a′ .lent ++ K′)
       reads′ = site-reads C′ (site C′ rules′)
 

@@ -73,17 +73,6 @@ module _ {A : Set} {a r : List Bool} {i : ℕ} (inv : Making A a r i) where
     above = λ k h. getD-set-other r i k v false (λ p. omega arith) ∙ inv .above k (omega arith);
   }
 
-  -- the name stays as it was
-  pub making-keep : getD a i false ≡ A i → Making A a r (i + 1)
-  making-keep e = record {
-    long = inv .long;
-    below = λ k h. ⊎-elim
-        (λ q. rw q (inv .above i (omega arith) ∙ e))
-        (λ q. inv .below k q)
-        (at-or-below k h);
-    above = λ k h. inv .above k (omega arith);
-  }
-
   pub making-all : length a ≤ i → ((k : ℕ) → i ≤ k → A k ≡ false) → set-of r ≡ A
   making-all h none = fun-ext (λ x. go x (decLt x i))
     where

@@ -38,10 +38,6 @@ number-at operands p =
 unfoldable pub placed : List ℕ → ℕ → Atom
 placed operands v = cond (ltb v 256) (Name v) (Number (number-at operands (v - 256)))
 
--- the place of a node's number
-abbrev pub place-of-node : ℕ → ℕ
-place-of-node p = 256 + p
-
 -- the m atoms of the places from a row on
 unfoldable pub atoms-at : List ℕ → List ℕ → ℕ → ℕ → List C.Atom
 atoms-at operands rows at zero = []

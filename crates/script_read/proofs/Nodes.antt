@@ -12,7 +12,7 @@ use borrow.Author.Tests.{ltb-true, ltb-false, leb-true, eqb-true, lt-ltb, le-leb
 use Rattle.semantics.specs.Outcome.{Outcome, done, stop}
 use Rattle.semantics.specs.File as S
 use Rattle.semantics.specs.File.{Place, at-function, at-parameter, at-part, allowed, node-of, node-at, in-parts}
-use Rattle.semantics.specs.File.{low-limits, high-limits, part-count, part-counts, look, looked}
+use Rattle.semantics.specs.File.{low-limits, high-limits, look, looked}
 use Rattle.script_read.specs.Told.{Parted, node-outcome, parted, low-at, high-at}
 use Rattle.script_read.specs.declared.Node.{Node}
 use Rattle.script_read.specs.declared.Node.the-variants.{Fits, WrongKind, WrongOperand}
@@ -280,16 +280,3 @@ inside k w place p a b c n e f = go (ltb p (length k)) refl
         let q : WrongKind ≡ told-node (node-at k w place p) = past k w place p (ltb-false p (length k) g) in
         let t : n ≡ told-node (node-at k w place p) = node-told k w place p n e in
         let z : _≡_ {A = ℕ} 0 1 = cc in absurd (omega arith)
-
-pub no-parts : (d low high : ℕ) → (d ≡ 8 → ⊥) → (d ≡ 9 → ⊥) → (r : ℕ) → r ≡ getD part-counts d 0 →
-    r ≡ part-count d low high
-unfolding part-count
-no-parts d low high f g r e = rw (ne-eqb d 8 f, ne-eqb d 9 g) e
-
-pub call-parts : (d low high : ℕ) → d ≡ 8 → high ≡ part-count d low high
-unfolding part-count
-call-parts d low high e = rw e
-
-pub literal-parts : (d low high : ℕ) → d ≡ 9 → low ≡ part-count d low high
-unfolding part-count
-literal-parts d low high e = rw e

@@ -34,7 +34,7 @@ use Rattle.discipline.specs.store.Change.{permute, held-used}
 use Rattle.discipline.specs.store.Kept.{keeps-self, keeps-fewer}
 use Rattle.discipline.specs.machine.Discipline.{less, holds-after, Covered}
 use Rattle.discipline.specs.machine.Acquiring.{roots-cover}
-use Rattle.discipline.specs.machine.Spending.{spend-split, less-in, less-counts, unlent-few}
+use Rattle.discipline.specs.machine.Spending.{spend-split, less-in, unlent-few}
 use Rattle.discipline.specs.machine.Images.{apart, without-middle}
 use Rattle.discipline.specs.machine.Growth.{Grows, give-grows, require-grows, bind-grows, passes-grow, pass-grows}
 use Rattle.discipline.specs.machine.Growth.{tree-grows}
@@ -49,7 +49,7 @@ use Rattle.discipline.specs.machine.Situations.{situation-less, touch-to
 use Rattle.discipline.specs.machine.Fits.{reduce-fits, first-same, second-same}
 use Rattle.discipline.specs.machine.Rules.{LineRules, TreeRules, Fresh, fresh, names-bound, loop-fresh}
 use Rattle.discipline.specs.machine.Claims.{TreeClaim, LineClaim, begin-step}
-use Rattle.discipline.specs.machine.Passes.{passes-agree, kept-aside, outer, lent-names, lend, lend-rooted}
+use Rattle.discipline.specs.machine.Passes.{passes-agree, kept-aside, outer, lent-names, lend}
 use Rattle.discipline.specs.machine.Passes.{aside-in, lend-split, lend-back, lent-array}
 use Rattle.discipline.specs.machine.Sites.{Site, loop-site, site-reads, site-names, site-tree}
 use Rattle.discipline.specs.machine.Bodies.{pass-begins}

@@ -4,7 +4,7 @@ use Prim.Native.Nat.{ℕ, zero, suc, _+_, _≤_}
 use native.Mathlib.Omega.{arith}
 use mathlib.Core.Bool.{Bool, true, false, cond}
 use mathlib.Core.List.{List, [], _∷_, _++_, map, append-assoc}
-use mathlib.Core.Path.{_≡_, refl, sym, _∙_, ap, subst}
+use mathlib.Core.Path.{_≡_, refl, sym, _∙_, ap}
 use lib.IntN.{pos, natAbs}
 use lib.ListN as List
 use lib.ListN.{length, getD, length-append}
@@ -13,17 +13,15 @@ use Rattle.semantics.specs.Basics.{updated, tabulate}
 use Rattle.semantics.specs.Outcome.{Outcome, done, stop, _>>=_, give, require, passes, onward}
 use Rattle.semantics.specs.Number.{fits, exact, inside, is-zero, is-answer}
 use Rattle.semantics.specs.Value.{Value, num, list, items, number-in}
-use Rattle.semantics.specs.Syntax.{Script}
 use Rattle.semantics.specs.Meaning.{Meter, Work, Callee, Env, stepped, step, do-operation, do-call, do-literal}
 use Rattle.semantics.specs.Meaning.{do-index, do-length, is-count, do-iota, do-replicate, do-leaf, do-if, do-pass}
 use Rattle.semantics.specs.Meaning.{do-loop, binding, carried-first, carried-on, argument, looped-over, pass-values}
 use Rattle.semantics.specs.Meaning.{taken-by}
-use Rattle.semantics.specs.Meaning.{meaning, step-wants, meter-of}
+use Rattle.semantics.specs.Meaning.{step-wants, meter-of}
 use Rattle.semantics.specs.Kinds.{Leaf, operation, call, literal, index, length-of, iota, replicate, Loop, takes-cell}
 use Rattle.semantics.specs.Code.{Line, leaf, if-else, loop, retain, release, Tree, end, line}
-use Rattle.semantics.specs.Machine.{Program, program, routine-of}
+use Rattle.semantics.specs.Machine.{Program, routine-of}
 use Rattle.discipline.specs.normal.Plain.{value, run, run-line, values-from, running}
-use Rattle.discipline.specs.normal.Running.{running-is-meaning}
 
 -- The meter m′ is m after some steps: `more` are the steps, the last one first.
 pub record Later (m m′ : Meter) : Type 0 where
@@ -160,10 +158,6 @@ unfolding running
 running-grows p zero f vs m = later-same m
 running-grows p (suc n) f vs m =
     run-grows (running p n) (running-grows p n) (routine-of p f .tree) (values-from vs 0) m
-
-pub meaning-grows : (fs : Script) (n : ℕ) → CalleeGrows (meaning fs n)
-meaning-grows fs n f vs m =
-    subst (λ o. Later m (meter-of o)) (running-is-meaning fs n f vs m) (running-grows (program fs) n f vs m)
 
 -- ---- the steps of a trace that has grown
 
