@@ -20,7 +20,7 @@ ghost use Rattle.annotate_lines.specs.Calls.{counted, higher, highest};
 // The argument at place i, if function f borrows it; else the number 0.
 fn read_at(
     operands: &[u8],
-    rows: &[u32; 2048],
+    rows: &plain_rows::Rows,
     table: &[[bool; 8]; 32],
     f: u8,
     at: usize,
@@ -40,7 +40,7 @@ fn read_at(
 // The argument at place i, if function f owns it; else the number 0.
 fn owned_at(
     operands: &[u8],
-    rows: &[u32; 2048],
+    rows: &plain_rows::Rows,
     table: &[[bool; 8]; 32],
     f: u8,
     at: usize,
@@ -60,7 +60,7 @@ fn owned_at(
 // A set joined with the names that a call reads.
 fn with_read(
     operands: &[u8],
-    rows: &[u32; 2048],
+    rows: &plain_rows::Rows,
     table: &[[bool; 8]; 32],
     f: u8,
     at: usize,
@@ -104,7 +104,7 @@ fn higher(a: Atom, bound: usize, n: usize) -> usize
 // The highest name below a bound, of x and those that a call reads, and 1; 0 if there is none.
 fn highest_read(
     operands: &[u8],
-    rows: &[u32; 2048],
+    rows: &plain_rows::Rows,
     table: &[[bool; 8]; 32],
     f: u8,
     at: usize,
@@ -133,7 +133,7 @@ fn release_read(
     os: &mut [i64],
     depths: &[u8; 256],
     operands: &[u8],
-    rows: &[u32; 2048],
+    rows: &plain_rows::Rows,
     table: &[[bool; 8]; 32],
     f: u8,
     at: usize,
@@ -167,7 +167,7 @@ fn retain_owned(
     os: &mut [i64],
     depths: &[u8; 256],
     operands: &[u8],
-    rows: &[u32; 2048],
+    rows: &plain_rows::Rows,
     table: &[[bool; 8]; 32],
     f: u8,
     at: usize,
@@ -201,7 +201,7 @@ pub fn put_call(
     os: &mut [i64],
     depths: &[u8; 256],
     operands: &[u8],
-    rows: &[u32; 2048],
+    rows: &plain_rows::Rows,
     table: &[[bool; 8]; 32],
     at: usize,
     x: u8,

@@ -19,7 +19,7 @@ pub fn less_two(q: usize) -> usize
 }
 
 // The end line of the first tree of an if at row p.
-pub fn then_end_at(notes: &[u16; 2048], p: usize) -> usize
+pub fn then_end_at(notes: &plain_rows::Notes, p: usize) -> usize
     requires { ⌜ p ≤ 4096 ⌝ }
     ensures { λ r. ⌜ (r ≡ then-end (now (notes .entry)) p) × (r ≤ 4096) ⌝ }
 {
@@ -38,7 +38,7 @@ pub struct Use {
 
 // The use of an atom's name at row r is taken back; the answer says what becomes of the live set.
 pub fn take_use(
-    notes: &[u16; 2048],
+    notes: &plain_rows::Notes,
     cur: &mut [u16; 256],
     r: usize,
     a: Atom,
@@ -68,8 +68,8 @@ pub fn take_use(
 // The uses of the m atoms from row `at` on are taken back.
 fn take_atoms(
     operands: &[u8],
-    rows: &[u32; 2048],
-    notes: &[u16; 2048],
+    rows: &plain_rows::Rows,
+    notes: &plain_rows::Notes,
     cur: &mut [u16; 256],
     at: usize,
     m: u8,
@@ -102,7 +102,7 @@ pub struct Uses {
 
 // The uses of the atoms of a line at row p that binds x are taken back; the answer says what becomes of the live set.
 pub fn take_pair(
-    notes: &[u16; 2048],
+    notes: &plain_rows::Notes,
     cur: &mut [u16; 256],
     p: usize,
     x: u8,
@@ -161,7 +161,7 @@ pub fn take_pair(
 
 // A line at row p that binds x and uses two atoms.
 pub fn take_two(
-    notes: &[u16; 2048],
+    notes: &plain_rows::Notes,
     cur: &mut [u16; 256],
     p: usize,
     x: u8,
@@ -185,8 +185,8 @@ pub fn take_two(
 // A line at row p that binds x and uses the m atoms after its row.
 pub fn take_handed(
     operands: &[u8],
-    rows: &[u32; 2048],
-    notes: &[u16; 2048],
+    rows: &plain_rows::Rows,
+    notes: &plain_rows::Notes,
     cur: &mut [u16; 256],
     p: usize,
     x: u8,

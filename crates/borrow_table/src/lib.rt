@@ -16,8 +16,8 @@ pub fn borrow_table(
     starts: &[usize; 32],
     functions: usize,
     results: &[u8; 32],
-    rows: &mut [u32; 2048],
-    notes: &mut [u16; 2048],
+    rows: &mut plain_rows::Rows,
+    notes: &mut plain_rows::Notes,
 ) -> [[bool; 8]; 32]
     requires { ⌜ Translatable (now kinds) (now operands) functions (now starts) ⌝ }
     requires { ⌜ Resulting-by (script (now kinds) (now operands) functions 0) (now results) ⌝ }

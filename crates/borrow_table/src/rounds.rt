@@ -64,7 +64,12 @@ fn number_in(numbers: &[u16], at: usize) -> usize {
 
 // One round: every link is followed, and then those that lead to the entries that were taken away; whether there were
 // any. The links that lead to one place are chained: heads has the last one's number, and after the one's before each.
-fn rework(t: &mut [[bool; 8]; 32], links: &[u32; 1024], n: usize, after: &mut [u16; 2048]) -> bool
+fn rework(
+    t: &mut [[bool; 8]; 32],
+    links: &[u32; 1024],
+    n: usize,
+    after: &mut [u16; plain_rows::ROWS],
+) -> bool
     requires { ⌜ Shaped (now t) ⌝ }
     requires { ⌜ (n ≤ 1024) × ((length (now links) ≡ 1024) × (length (now after) ≡ 2048)) ⌝ }
     ensures { λ r. ⌜ Reworked (take n (now (links .entry))) (now (t .entry)) (now (t .exit)) r ⌝ }
@@ -113,7 +118,7 @@ pub fn work_out(
     first: [[bool; 8]; 32],
     links: &[u32; 1024],
     n: usize,
-    after: &mut [u16; 2048],
+    after: &mut [u16; plain_rows::ROWS],
 ) -> [[bool; 8]; 32]
     requires { ⌜ Shaped first ⌝ }
     requires { ⌜ (n ≤ 1024) × ((length (now links) ≡ 1024) × (length (now after) ≡ 2048)) ⌝ }

@@ -96,7 +96,13 @@ fn link_in(f: usize, line: u32, more: usize, v: u32) -> u32
 }
 
 // The first q rows are read; the links of function f are put after the n that there are.
-pub fn gather(rows: &[u32; 2048], q: usize, f: usize, links: &mut [u32; 1024], n: usize) -> Found
+pub fn gather(
+    rows: &plain_rows::Rows,
+    q: usize,
+    f: usize,
+    links: &mut [u32; 1024],
+    n: usize,
+) -> Found
     requires { ⌜ q ≤ 2048 ⌝ }
     requires { ⌜ f < 32 ⌝ }
     requires { ⌜ length (now links) ≡ 1024 ⌝ }

@@ -33,10 +33,10 @@ pub fn deliver_words(
         r (now (slots .exit)) (now (heads .exit)) ⌝ }
 {
     if !request_fits(readings, budget) {
-        return Ended::Refused(10);
+        return Ended::Refused(answers::BAD_REQUEST);
     }
     if !store_check::is_sound(slots, heads, depth) {
-        return Ended::Refused(11);
+        return Ended::Refused(answers::UNSOUND_STORE);
     }
     let end = machine_delivery::deliver_on(
         kinds,

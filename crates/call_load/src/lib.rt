@@ -10,6 +10,9 @@ pub enum Loaded {
     Refused(u64),
 }
 
+// The packed answer of code that does not fit: it has a number and no node.
+const TOO_LONG: u64 = answers::CODE_TOO_LONG as u64;
+
 // Judges a file and translates its script; the table gets the depths of the names, the functions' positions and those
 // after trees. One array has where the functions stand in the file, and then where their code was written.
 pub fn load_with(file: &[u8], kinds: &mut [u8], operands: &mut [i64], table: &mut [u8]) -> Loaded
@@ -36,7 +39,7 @@ pub fn load_with(file: &[u8], kinds: &mut [u8], operands: &mut [i64], table: &mu
                     machine_table::fill(kinds, operands, functions, n, &starts, table);
                     Loaded::Ready(n, depth as u32)
                 }
-                Laid::TooLong => Loaded::Refused(9),
+                Laid::TooLong => Loaded::Refused(TOO_LONG),
             }
         }
         Verdict::Refused(number, node) => {

@@ -13,10 +13,10 @@ pub fn restore_words(slots: &mut [i64], heads: &mut [u32], saved: &[u8], depth: 
     ensures { λ r. ⌜ SmallAnswer r ⌝ }
 {
     if !store_words::lengths_fit(slots, heads) {
-        return Ended::Refused(11);
+        return Ended::Refused(answers::UNSOUND_STORE);
     }
     if !saved_read::is_readable(saved, depth) {
-        return Ended::Refused(27);
+        return Ended::Refused(answers::BAD_SAVE_FILE);
     }
     store_reset::open_store(slots, heads, 0);
     let k = words::short_at(saved, 1);
@@ -42,10 +42,10 @@ pub fn save_words(slots: &[i64], heads: &[u32], saved: &mut [u8], depth: u32) ->
 {
     if !store_check::is_sound(slots, heads, depth) {
         clearing::clear_bytes(saved, 0);
-        return Ended::Refused(11);
+        return Ended::Refused(answers::UNSOUND_STORE);
     }
     if !saved_write::write_totals(slots, heads, saved, depth) {
-        return Ended::Refused(27);
+        return Ended::Refused(answers::BAD_SAVE_FILE);
     }
     Ended::Answered(0, 0, 0, store_words::cells_taken(slots, heads))
 }

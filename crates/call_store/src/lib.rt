@@ -18,7 +18,7 @@ pub fn open_words(slots: &mut [i64], heads: &mut [u32], depth: u32) -> Ended
     ensures { λ r. ⌜ SmallAnswer r ⌝ }
 {
     if !store_words::lengths_fit(slots, heads) {
-        return Ended::Refused(11);
+        return Ended::Refused(answers::UNSOUND_STORE);
     }
     store_reset::open_store(slots, heads, depth);
     Ended::Answered(0, 0, 0, store_words::cells_taken(slots, heads))
@@ -31,7 +31,7 @@ pub fn check_words(slots: &[i64], heads: &[u32], depth: u32) -> Ended
     ensures { λ r. ⌜ SmallAnswer r ⌝ }
 {
     if !store_check::is_sound(slots, heads, depth) {
-        return Ended::Refused(11);
+        return Ended::Refused(answers::UNSOUND_STORE);
     }
     Ended::Answered(0, 0, 0, store_words::cells_taken(slots, heads))
 }

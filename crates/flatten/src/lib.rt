@@ -6,6 +6,7 @@ mod trees;
 use flatten_rows::Head;
 use flatten_rows::Out;
 use flatten_rows::Spot;
+use flatten_rows::atoms::NO_PLACE;
 use parts::Shape;
 use script_read::Node;
 use script_read::Place;
@@ -24,8 +25,8 @@ pub fn lay_part(
     results: &[u8; 32],
     places: &mut [u16; 256],
     last: &mut [u16; 256],
-    rows: &mut [u32; 2048],
-    notes: &mut [u16; 2048],
+    rows: &mut plain_rows::Rows,
+    notes: &mut plain_rows::Notes,
     depths: &mut [u8; 256],
     spot: Spot,
     levels: u64,
@@ -45,7 +46,7 @@ pub fn lay_part(
     ensures { λ _. ⌜ now (places .exit) ≡ now (places .entry) ⌝ }
 {
     if levels == 0 {
-        return parts::atom_out(65535, spot);
+        return parts::atom_out(NO_PLACE, spot);
     }
     match script_read::node_at(kinds, operands, spot.node, Place::Part) {
         Node::Fits(kind, low, high) => {
@@ -64,8 +65,8 @@ pub fn lay_part(
                 levels,
             )
         }
-        Node::WrongKind => parts::atom_out(65535, spot),
-        Node::WrongOperand => parts::atom_out(65535, spot),
+        Node::WrongKind => parts::atom_out(NO_PLACE, spot),
+        Node::WrongOperand => parts::atom_out(NO_PLACE, spot),
     }
 }
 
@@ -76,8 +77,8 @@ fn lay_node(
     results: &[u8; 32],
     places: &mut [u16; 256],
     last: &mut [u16; 256],
-    rows: &mut [u32; 2048],
-    notes: &mut [u16; 2048],
+    rows: &mut plain_rows::Rows,
+    notes: &mut plain_rows::Notes,
     depths: &mut [u8; 256],
     shape: Shape,
     spot: Spot,
@@ -151,8 +152,8 @@ fn lay_compound(
     results: &[u8; 32],
     places: &mut [u16; 256],
     last: &mut [u16; 256],
-    rows: &mut [u32; 2048],
-    notes: &mut [u16; 2048],
+    rows: &mut plain_rows::Rows,
+    notes: &mut plain_rows::Notes,
     depths: &mut [u8; 256],
     shape: Shape,
     spot: Spot,
@@ -184,7 +185,7 @@ fn lay_compound(
     let mut p = spot.p;
     while i < count {
         let place = flatten_rows::atoms::atom_place(kinds, operands, places, node, levels);
-        if place < 65535 {
+        if place < NO_PLACE {
             atoms[i] = place;
             node = node + 1;
             i = i + 1;
@@ -236,8 +237,8 @@ fn lay_let(
     results: &[u8; 32],
     places: &mut [u16; 256],
     last: &mut [u16; 256],
-    rows: &mut [u32; 2048],
-    notes: &mut [u16; 2048],
+    rows: &mut plain_rows::Rows,
+    notes: &mut plain_rows::Notes,
     depths: &mut [u8; 256],
     x: u8,
     spot: Spot,
@@ -296,8 +297,8 @@ pub fn lay_tree(
     results: &[u8; 32],
     places: &mut [u16; 256],
     last: &mut [u16; 256],
-    rows: &mut [u32; 2048],
-    notes: &mut [u16; 2048],
+    rows: &mut plain_rows::Rows,
+    notes: &mut plain_rows::Notes,
     depths: &mut [u8; 256],
     spot: Spot,
     levels: u64,

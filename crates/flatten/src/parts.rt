@@ -55,8 +55,8 @@ pub fn atom_out(place: u16, spot: Spot) -> Out
 pub fn lay_leaf(
     results: &[u8; 32],
     last: &mut [u16; 256],
-    rows: &mut [u32; 2048],
-    notes: &mut [u16; 2048],
+    rows: &mut plain_rows::Rows,
+    notes: &mut plain_rows::Notes,
     depths: &mut [u8; 256],
     shape: Shape,
     spot: Spot,

@@ -1,5 +1,6 @@
 // The plain code of the functions of a script: what their parameters mean, and where their trees stand.
 use flatten_rows::Spot;
+use flatten_rows::atoms::NO_PLACE;
 use script_read::Place;
 ghost use mathlib.Core.Path.{_≡_};
 ghost use Prim.Native.Nat.{_≤_};
@@ -41,8 +42,8 @@ pub fn lay_function(
     operands: &[u8],
     results: &[u8; 32],
     at: usize,
-    rows: &mut [u32; 2048],
-    notes: &mut [u16; 2048],
+    rows: &mut plain_rows::Rows,
+    notes: &mut plain_rows::Notes,
     last: &mut [u16; 256],
     depths: &mut [u8; 256],
 ) -> usize
@@ -54,7 +55,7 @@ pub fn lay_function(
 {
     let count = script_read::low_at(kinds, operands, at, Place::Function);
     let n = count as usize;
-    let mut places = [65535u16; 256];
+    let mut places = [NO_PLACE; 256];
     bind_parameters(kinds, operands, at + 1, count, &mut places, depths);
     let spot = Spot {
         node: at + 1 + n,

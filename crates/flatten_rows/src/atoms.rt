@@ -4,7 +4,10 @@ ghost use Prim.Native.Nat.{_<_};
 ghost use Rattle.flatten_rows.specs.Source.{tree-at};
 ghost use Rattle.flatten_rows.specs.Made.{Given, AtomPlaced};
 
-// The place of the atom at a node: of its number, or what its name means; 65535 where no atom is found.
+// The place that no atom has: it stands where there is none.
+pub const NO_PLACE: u16 = 65535;
+
+// The place of the atom at a node: of its number, or what its name means; none where no atom is found.
 pub fn atom_place(
     kinds: &[u8],
     operands: &[u8],
@@ -17,11 +20,11 @@ pub fn atom_place(
         (tree-at (now (kinds .entry)) (now (operands .entry)) levels node) r) ⌝ }
 {
     if levels == 0 {
-        return 65535;
+        return NO_PLACE;
     }
     match script_read::atom_at(kinds, operands, node) {
         Atomic::Number => (256 + node) as u16,
         Atomic::Name(x) => places[x as usize],
-        Atomic::Other => 65535,
+        Atomic::Other => NO_PLACE,
     }
 }

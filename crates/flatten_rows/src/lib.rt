@@ -54,8 +54,8 @@ fn packed_row(head: Head) -> u32
 
 // The use of an atom at a row: its place, and where its name was used before.
 fn put_use(
-    rows: &mut [u32; 2048],
-    notes: &mut [u16; 2048],
+    rows: &mut plain_rows::Rows,
+    notes: &mut plain_rows::Notes,
     last: &mut [u16; 256],
     row: usize,
     place: u16,
@@ -74,8 +74,8 @@ fn put_use(
 
 // A line of one atom: its head, and the atom's place.
 pub fn lay_head(
-    rows: &mut [u32; 2048],
-    notes: &mut [u16; 2048],
+    rows: &mut plain_rows::Rows,
+    notes: &mut plain_rows::Notes,
     last: &mut [u16; 256],
     p: usize,
     head: Head,
@@ -92,8 +92,8 @@ pub fn lay_head(
 
 // The first m places of a table.
 fn lay_places(
-    rows: &mut [u32; 2048],
-    notes: &mut [u16; 2048],
+    rows: &mut plain_rows::Rows,
+    notes: &mut plain_rows::Notes,
     last: &mut [u16; 256],
     p: usize,
     m: usize,
@@ -112,8 +112,8 @@ fn lay_places(
 
 // A line of m atoms, whose places stand in a table.
 fn lay_atoms(
-    rows: &mut [u32; 2048],
-    notes: &mut [u16; 2048],
+    rows: &mut plain_rows::Rows,
+    notes: &mut plain_rows::Notes,
     last: &mut [u16; 256],
     p: usize,
     head: Head,
@@ -131,8 +131,8 @@ fn lay_atoms(
 
 // The same, of a line without trees; the note after it says where it begins.
 pub fn lay_line(
-    rows: &mut [u32; 2048],
-    notes: &mut [u16; 2048],
+    rows: &mut plain_rows::Rows,
+    notes: &mut plain_rows::Notes,
     last: &mut [u16; 256],
     p: usize,
     head: Head,
@@ -154,7 +154,12 @@ pub fn lay_line(
 }
 
 // Opens an if after its guard: its head.
-pub fn open_if(rows: &mut [u32; 2048], notes: &mut [u16; 2048], last: &mut [u16; 256], guard: Out)
+pub fn open_if(
+    rows: &mut plain_rows::Rows,
+    notes: &mut plain_rows::Notes,
+    last: &mut [u16; 256],
+    guard: Out,
+)
     requires { ⌜ (guard .n < 256) × (guard .p < 2040) ⌝ }
     ensures { λ _. ⌜ LineLaid (now (rows .entry)) (now (notes .entry)) (now (last .entry)) (now (rows .exit))
         (now (notes .exit)) (now (last .exit)) (guard .p) (packed-row 12 (guard .n) 0 0) (guard .place ∷ []) ⌝ }
@@ -201,8 +206,8 @@ fn note_pass(depths: &mut [u8; 256], kind: u8, n: usize, places: &[u16; 16])
 // Opens a loop after its parts, whose places stand in a table: its row, the first row of its tree, and the depths of
 // the names of a pass. The answer is where its tree begins.
 pub fn open_loop(
-    rows: &mut [u32; 2048],
-    notes: &mut [u16; 2048],
+    rows: &mut plain_rows::Rows,
+    notes: &mut plain_rows::Notes,
     last: &mut [u16; 256],
     depths: &mut [u8; 256],
     kind: u8,
@@ -278,7 +283,7 @@ pub fn unbind_pass(places: &mut [u16; 256], kind: u8, low: u8, high: u8, old: Me
 }
 
 // Notes at the first row of an if's first tree where the second begins, and there that it begins.
-pub fn put_middle(notes: &mut [u16; 2048], first: usize, middle: usize)
+pub fn put_middle(notes: &mut plain_rows::Notes, first: usize, middle: usize)
     requires { ⌜ (first < 2048) × (middle < 2048) ⌝ }
     ensures { λ _. ⌜ now (notes .exit) ≡ set (set (now (notes .entry)) first middle) middle middle ⌝ }
 {
@@ -289,7 +294,7 @@ pub fn put_middle(notes: &mut [u16; 2048], first: usize, middle: usize)
 // Closes a line with trees, whose name is n and which begins at row p, after its last tree: the note after it, and the
 // depth of its name.
 pub fn close_line(
-    notes: &mut [u16; 2048],
+    notes: &mut plain_rows::Notes,
     depths: &mut [u8; 256],
     n: usize,
     p: usize,

@@ -4,6 +4,7 @@
 use kinds::Atom;
 use machine_code::Line;
 use machine_code::Loop;
+use machine_code::MOST_LINES;
 use machine_code::TABLE_BYTES;
 use machine_frames::FRAME_WORDS;
 use machine_frames::Out;
@@ -192,11 +193,11 @@ fn work_if(
         steps r (now (slots .exit)) (now (heads .exit)) (now (env .exit)) ⌝ }
 {
     if steps == 0 {
-        return machine_frames::halted(machine_frames::OUT_OF_STEPS, steps);
+        return machine_frames::halted(answers::OUT_OF_STEPS, steps);
     }
     let guard = machine_frames::word_of(env, calls, g);
     if !machine_frames::guards::is_answer(guard) {
-        return machine_frames::halted(machine_frames::BAD_GUARD, steps - 1);
+        return machine_frames::halted(answers::BAD_GUARD, steps - 1);
     }
     let start = machine_frames::guards::branch_start(table, guard, at + 2);
     let r = work_tree(
@@ -244,10 +245,10 @@ fn work_call(
         steps r (now (slots .exit)) (now (heads .exit)) (now (env .exit)) ⌝ }
 {
     if steps == 0 {
-        return machine_frames::halted(machine_frames::OUT_OF_STEPS, steps);
+        return machine_frames::halted(answers::OUT_OF_STEPS, steps);
     }
     if calls == 0 {
-        return machine_frames::halted(machine_frames::CALL_TOO_DEEP, steps - 1);
+        return machine_frames::halted(answers::CALL_TOO_DEEP, steps - 1);
     }
     let below = calls - 1;
     let n = machine_frames::pass_arguments(*kinds, *operands, env, calls, at + 1);
@@ -261,7 +262,7 @@ fn work_call(
         heads,
         env,
         steps - 1,
-        4096,
+        MOST_LINES,
         below,
         start,
     );
@@ -301,7 +302,7 @@ fn work_loop(
         steps r (now (slots .exit)) (now (heads .exit)) (now (env .exit)) ⌝ }
 {
     if steps == 0 {
-        return machine_frames::halted(machine_frames::OUT_OF_STEPS, steps);
+        return machine_frames::halted(answers::OUT_OF_STEPS, steps);
     }
     match machine_loops::begin_loop(table, slots, heads, env, calls, x, l) {
         Begun::Ready(passes) => {
@@ -322,7 +323,7 @@ fn work_loop(
             let next = machine_code::end_in(table, start);
             machine_loops::end_loop(slots, heads, env, calls, x, passes, r, next)
         }
-        Begun::NoneFree => machine_frames::halted(machine_frames::OUT_OF_CELLS, steps - 1),
+        Begun::NoneFree => machine_frames::halted(answers::OUT_OF_CELLS, steps - 1),
     }
 }
 
@@ -356,7 +357,7 @@ fn work_pass(
     let mut i: usize = 0;
     while i < count {
         if s == 0 {
-            return machine_frames::halted(machine_frames::OUT_OF_STEPS, s);
+            return machine_frames::halted(answers::OUT_OF_STEPS, s);
         }
         machine_loops::begin_pass(slots, heads, env, calls, l, v, i);
         let r = work_tree(
@@ -377,7 +378,7 @@ fn work_pass(
         }
         let next = machine_loops::end_pass(slots, heads, env, calls, l, v, i, r.value);
         let Next::Word(u) = next else {
-            return machine_frames::halted(machine_frames::BAD_GUARD, r.steps);
+            return machine_frames::halted(answers::BAD_GUARD, r.steps);
         };
         v = u;
         let rest = r.steps;

@@ -34,6 +34,9 @@ pub enum Line {
     End(Atom),
 }
 
+// How many lines code has at most.
+pub const MOST_LINES: u64 = 4096;
+
 // The table of a script's functions and trees: how many bytes it has, and where the positions of the functions' trees
 // and those after trees begin behind the depths of names.
 pub const TABLE_BYTES: usize = 16448;

@@ -1,7 +1,9 @@
 // A delivery on the code of a script, cut to its lines, and a store: the readings' cell, main, the result in the
 // totals' place; and after a stop the old store, linked anew.
+use machine_code::MOST_LINES;
 use machine_code::TABLE_BYTES;
 use machine_frames::FRAME_WORDS;
+use machine_frames::MAIN_FRAME;
 use store::Acquired;
 ghost use mathlib.Core.Path.{_≡_};
 ghost use mathlib.Core.Bool.{true};
@@ -13,6 +15,15 @@ ghost use Rattle.machine_code.specs.Reading.{Cut};
 ghost use Rattle.machine_spec.specs.Machine.{code};
 ghost use Rattle.machine_spec.specs.Delivery.{retained-totals, released-totals, main-on, attempt-on, delivered-on};
 ghost use Rattle.machine_delivery.specs.Promises.{Tries, DeliversOn};
+
+// How many words a store of 16 cells has, and how many one of 256.
+const FEW_SLOTS: usize = 257;
+
+const FEW_HEADS: usize = 65;
+
+const MOST_SLOTS: usize = 4097;
+
+const MOST_HEADS: usize = 1025;
 
 // How a delivery ends: the number of its stop or 0, the least number of free cells over it, and the steps taken.
 pub struct Delivery {
@@ -70,9 +81,9 @@ fn work_main(
     retain_totals(slots, heads, depth, old);
     let mut env = [0i64; FRAME_WORDS];
     machine_frames::set_level(&mut env, free);
-    machine_frames::bind(&mut env, 31, 0, old);
-    machine_frames::bind(&mut env, 31, 1, readings);
-    machine_frames::set_function(&mut env, 31, 0);
+    machine_frames::bind(&mut env, MAIN_FRAME, 0, old);
+    machine_frames::bind(&mut env, MAIN_FRAME, 1, readings);
+    machine_frames::set_function(&mut env, MAIN_FRAME, 0);
     let start = machine_code::start_in(table, 0);
     let r = machine::work_tree(
         &kinds,
@@ -82,8 +93,8 @@ fn work_main(
         heads,
         &mut env,
         budget,
-        4096,
-        31,
+        MOST_LINES,
+        MAIN_FRAME,
         start,
     );
     let stop = r.stop;
@@ -136,7 +147,7 @@ fn attempt(
             )
         }
         Acquired::NoneFree => Attempted {
-            stop: machine_frames::OUT_OF_CELLS,
+            stop: answers::OUT_OF_CELLS,
             lowest: free,
             steps: budget,
         },
@@ -207,9 +218,9 @@ pub fn deliver_on(
         (now (readings .entry)) depth budget (store-of (now (slots .entry)) (now (heads .entry))))
         r (now (slots .exit)) (now (heads .exit)) ⌝ }
 {
-    if slots.len() <= 257 {
-        let mut few_slots = [0i64; 257];
-        let mut few_heads = [0u32; 65];
+    if slots.len() <= FEW_SLOTS {
+        let mut few_slots = [0i64; FEW_SLOTS];
+        let mut few_heads = [0u32; FEW_HEADS];
         return deliver_kept(
             kinds,
             operands,
@@ -223,8 +234,8 @@ pub fn deliver_on(
             &mut few_heads,
         );
     }
-    let mut old_slots = [0i64; 4097];
-    let mut old_heads = [0u32; 1025];
+    let mut old_slots = [0i64; MOST_SLOTS];
+    let mut old_heads = [0u32; MOST_HEADS];
     deliver_kept(
         kinds,
         operands,

@@ -17,6 +17,9 @@ ghost use Rattle.machine_frames.specs.Work.{out, left, bound-result};
 // How many words the frames have.
 pub const FRAME_WORDS: usize = 8226;
 
+// The call depth that is left to main, and so the number of its frame.
+pub const MAIN_FRAME: usize = 31;
+
 // How many words a frame has, one for each name.
 const NAMES: usize = 256;
 
@@ -35,21 +38,6 @@ pub struct Out {
     pub next: usize,
     pub steps: u64,
 }
-
-// The stops, by the numbers of documents 01 and 02.
-pub const OUT_OF_STEPS: u8 = 21;
-
-pub const CALL_TOO_DEEP: u8 = 22;
-
-pub const INDEX_OUT_OF_RANGE: u8 = 23;
-
-pub const OVERFLOW: u8 = 24;
-
-pub const OUT_OF_CELLS: u8 = 25;
-
-pub const BAD_COUNT: u8 = 26;
-
-pub const BAD_GUARD: u8 = 28;
 
 // The stop of work that comes to no line that it can do: the code of an accepted script never does.
 pub const NO_LINE: u8 = 99;

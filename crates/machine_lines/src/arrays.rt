@@ -1,10 +1,10 @@
 // The lines that make an array: a literal's elements are its atoms, an iota's count from 0, a replicate's are copies of
 // a word.
+use answers::BAD_COUNT;
+use answers::OUT_OF_CELLS;
+use answers::OUT_OF_STEPS;
 use kinds::Atom;
-use machine_frames::BAD_COUNT;
 use machine_frames::FRAME_WORDS;
-use machine_frames::OUT_OF_CELLS;
-use machine_frames::OUT_OF_STEPS;
 use machine_frames::Out;
 use store::Acquired;
 ghost use mathlib.Core.Path.{_≡_};

@@ -2,13 +2,13 @@
 // 31 in main.
 mod arrays;
 
+use answers::INDEX_OUT_OF_RANGE;
+use answers::OUT_OF_STEPS;
+use answers::OVERFLOW;
 use kinds::Atom;
 use machine_code::Line;
 use machine_frames::FRAME_WORDS;
-use machine_frames::INDEX_OUT_OF_RANGE;
 use machine_frames::NO_LINE;
-use machine_frames::OUT_OF_STEPS;
-use machine_frames::OVERFLOW;
 use machine_frames::Out;
 use words::Exact;
 ghost use mathlib.Core.Path.{_≡_};

@@ -10,6 +10,14 @@ ghost use Rattle.semantics.specs.Borrow.{borrows};
 ghost use Rattle.plain_rows.specs.Plain.{number-at, placed, line-of, line-at, loop-of, loop-size};
 ghost use Rattle.plain_rows.specs.Plain.{meant, set-of};
 
+// How many rows there is room for: more than any function has.
+pub const ROWS: usize = 2048;
+
+// The rows of a function, and the note beside each.
+pub type Rows = [u32; ROWS];
+
+pub type Notes = [u16; ROWS];
+
 // A line without its trees; it begins with the name that it binds. One that reads one or two atoms, and a loop, have
 // their kind next. A call has its function, a literal its element depth, and both how many atoms follow in the code.
 // A loop has the names of a pass and its atoms: a reduce two of each, the others only the first.
@@ -30,7 +38,7 @@ fn row_in(rows: &[u32], at: usize) -> u32
 }
 
 // The same of the whole array.
-pub fn row_at(rows: &[u32; 2048], at: usize) -> u32
+pub fn row_at(rows: &Rows, at: usize) -> u32
     ensures { λ r. ⌜ r ≡ getD (now (rows .entry)) at 0 ⌝ }
 {
     row_in(rows, at)
@@ -48,7 +56,7 @@ fn note_in(notes: &[u16], at: usize) -> usize
 }
 
 // The same of the whole array.
-pub fn note_at(notes: &[u16; 2048], at: usize) -> usize
+pub fn note_at(notes: &Notes, at: usize) -> usize
     ensures { λ r. ⌜ r ≡ getD (now (notes .entry)) at at ⌝ }
 {
     note_in(notes, at)
@@ -66,7 +74,7 @@ fn mark_in(notes: &[u16], at: usize) -> u16
 }
 
 // The same of the whole array.
-pub fn mark_at(notes: &[u16; 2048], at: usize) -> u16
+pub fn mark_at(notes: &Notes, at: usize) -> u16
     requires { ⌜ at < 65536 ⌝ }
     ensures { λ r. ⌜ r ≡ getD (now (notes .entry)) at at ⌝ }
 {
@@ -101,15 +109,15 @@ fn line_of(kind: u8, x: u8, y: u8, m: u8, a: Atom, b: Atom) -> Line
     match kind {
         kinds::CALL => Line::Call(x, y, m),
         kinds::LITERAL => Line::Literal(x, y, m),
-        11 | 17 => Line::Unary(x, kind, a),
+        kinds::LENGTH | kinds::IOTA => Line::Unary(x, kind, a),
         kinds::IF => Line::If(x, a),
-        13 | 19 | 20 => Line::Loop(x, kind, y, m, a, b),
+        kinds::MAP | kinds::FILTER | kinds::REDUCE => Line::Loop(x, kind, y, m, a, b),
         _ => Line::Binary(x, kind, a, b),
     }
 }
 
 // The line that begins at a row.
-pub fn line_at(operands: &[u8], rows: &[u32; 2048], at: usize) -> Line
+pub fn line_at(operands: &[u8], rows: &Rows, at: usize) -> Line
     requires { ⌜ at < 4096 ⌝ }
     ensures { λ r. ⌜ r ≡ line-at (now (operands .entry)) (now (rows .entry)) at ⌝ }
 {

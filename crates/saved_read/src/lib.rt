@@ -67,6 +67,9 @@ fn read_values(saved: &[u8], k: usize, depth: u32, count: u8, p: usize) -> Read
     Read::Next(q)
 }
 
+// How many entries a file has at most.
+pub const MOST_ENTRIES: usize = 4096;
+
 // Whether a file holds a value of a depth.
 pub fn is_readable(saved: &[u8], depth: u32) -> bool
     ensures { λ r. ⌜ r ≡ readable depth (now (saved .entry)) ⌝ }
@@ -78,7 +81,7 @@ pub fn is_readable(saved: &[u8], depth: u32) -> bool
         return false;
     }
     let k = words::short_at(saved, 1);
-    if 4096 < k {
+    if MOST_ENTRIES < k {
         return false;
     }
     if saved.len() != 3 + 9 * k {

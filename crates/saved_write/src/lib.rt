@@ -54,13 +54,16 @@ fn put_entry(saved: &mut [u8], k: usize, p: usize, mark: u8, number: i64) -> usi
     p + 1
 }
 
+// How many entries a file has at most.
+const MOST_ENTRIES: usize = 4096;
+
 // The entries of a word of a depth, added to those before; at most 4,097.
 fn count_value(slots: &[i64], heads: &[u32], w: i64, depth: u32, n: usize) -> usize
     requires { ⌜ n ≤ 4097 ⌝ }
     ensures { λ r. ⌜ r
         ≡ min 4097 (n + length (entries-at (store-of (now (slots .entry)) (now (heads .entry))) depth w)) ⌝ }
 {
-    let one = store_words::at_most(n + 1, 4097);
+    let one = store_words::at_most(n + 1, MOST_ENTRIES + 1);
     if depth == 0 {
         return one;
     }
@@ -118,7 +121,7 @@ pub fn write_totals(slots: &[i64], heads: &[u32], saved: &mut [u8], depth: u32) 
     let w = store_words::word_at(slots, 0);
     let k = count_value(slots, heads, w, depth, 0);
     clearing::clear_bytes(saved, 0);
-    if 4096 < k {
+    if MOST_ENTRIES < k {
         return false;
     }
     if saved.len() < 3 + 9 * k {

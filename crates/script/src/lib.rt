@@ -26,7 +26,7 @@ fn check(kinds: &[u8], operands: &[u8], functions: usize, starts: &[usize; 32]) 
     match script_types::type_script(kinds, operands, starts, count) {
         Read::Next(_) => match script_count::count_script(kinds) {
             Counted::Within => Verdict::Accepted(functions, kinds.len()),
-            Counted::Over(p) => Verdict::Refused(8, p),
+            Counted::Over(p) => Verdict::Refused(answers::TOO_MANY_NAMES, p),
         },
         Read::Refused(n, p) => match script_names::name_script(kinds, operands, count) {
             Read::Next(_) => Verdict::Refused(n, p),

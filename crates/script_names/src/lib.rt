@@ -52,7 +52,7 @@ fn name_part(
         × (now (known .exit) ≡ now (known .entry)) ⌝ }
 {
     if levels == 0 {
-        return Read::Refused(6, at);
+        return Read::Refused(answers::UNKNOWN_NAME, at);
     }
     match script_read::node_at(kinds, operands, at, Place::Part) {
         Node::Fits(kind, low, high) => {
@@ -60,7 +60,7 @@ fn name_part(
                 if known[low as usize] {
                     return Read::Next(at + 1);
                 }
-                return Read::Refused(6, at);
+                return Read::Refused(answers::UNKNOWN_NAME, at);
             }
             let count = script_read::parts_of(kind, low, high);
             if is_binding(kind) {
@@ -73,12 +73,12 @@ fn name_part(
                 return name_binding(kinds, operands, functions, known, at + 1, bound, levels - 1);
             }
             if calls_none(functions, kind, low) {
-                return Read::Refused(6, at);
+                return Read::Refused(answers::UNKNOWN_NAME, at);
             }
             name_parts(kinds, operands, functions, known, at + 1, count, levels - 1)
         }
-        Node::WrongKind => Read::Refused(6, at),
-        Node::WrongOperand => Read::Refused(6, at),
+        Node::WrongKind => Read::Refused(answers::UNKNOWN_NAME, at),
+        Node::WrongOperand => Read::Refused(answers::UNKNOWN_NAME, at),
     }
 }
 
@@ -170,16 +170,16 @@ fn name_parameters(
             Node::Fits(_, low, _) => {
                 let x = low as usize;
                 if known[x] {
-                    return Read::Refused(6, p);
+                    return Read::Refused(answers::UNKNOWN_NAME, p);
                 }
                 known[x] = true;
                 p = p + 1;
             }
             Node::WrongKind => {
-                return Read::Refused(6, p);
+                return Read::Refused(answers::UNKNOWN_NAME, p);
             }
             Node::WrongOperand => {
-                return Read::Refused(6, p);
+                return Read::Refused(answers::UNKNOWN_NAME, p);
             }
         }
         left = left - 1;
@@ -196,8 +196,8 @@ fn name_function(kinds: &[u8], operands: &[u8], functions: u8, at: usize) -> Rea
             let mut known = [false; 256];
             name_parameters(kinds, operands, functions, &mut known[..], at + 1, count)
         }
-        Node::WrongKind => Read::Refused(6, at),
-        Node::WrongOperand => Read::Refused(6, at),
+        Node::WrongKind => Read::Refused(answers::UNKNOWN_NAME, at),
+        Node::WrongOperand => Read::Refused(answers::UNKNOWN_NAME, at),
     }
 }
 

@@ -211,7 +211,7 @@ pub fn read_part(kinds: &[u8], operands: &[u8], at: usize, levels: u64) -> Read
     match node_at(kinds, operands, at, Place::Part) {
         Node::Fits(kind, low, high) => {
             if levels == 0 {
-                return Read::Refused(5, at);
+                return Read::Refused(answers::TOO_DEEP, at);
             }
             read_parts(
                 kinds,
@@ -221,8 +221,8 @@ pub fn read_part(kinds: &[u8], operands: &[u8], at: usize, levels: u64) -> Read
                 levels - 1,
             )
         }
-        Node::WrongKind => Read::Refused(3, at),
-        Node::WrongOperand => Read::Refused(4, at),
+        Node::WrongKind => Read::Refused(answers::MALFORMED, at),
+        Node::WrongOperand => Read::Refused(answers::OPERAND_OUT_OF_RANGE, at),
     }
 }
 
@@ -280,10 +280,10 @@ fn read_parameters(kinds: &[u8], operands: &[u8], at: usize, count: u8) -> Read
                 p = p + 1;
             }
             Node::WrongKind => {
-                return Read::Refused(3, p);
+                return Read::Refused(answers::MALFORMED, p);
             }
             Node::WrongOperand => {
-                return Read::Refused(4, p);
+                return Read::Refused(answers::OPERAND_OUT_OF_RANGE, p);
             }
         }
         left = left - 1;
@@ -300,8 +300,8 @@ fn read_function(kinds: &[u8], operands: &[u8], at: usize) -> Read
             Read::Next(q) => read_part(kinds, operands, q, 64),
             Read::Refused(n, q) => Read::Refused(n, q),
         },
-        Node::WrongKind => Read::Refused(3, at),
-        Node::WrongOperand => Read::Refused(4, at),
+        Node::WrongKind => Read::Refused(answers::MALFORMED, at),
+        Node::WrongOperand => Read::Refused(answers::OPERAND_OUT_OF_RANGE, at),
     }
 }
 
@@ -340,7 +340,7 @@ fn read_script(kinds: &[u8], operands: &[u8], functions: usize, starts: &mut [us
         i = i + 1;
     }
     if p < kinds.len() {
-        return Read::Refused(3, p);
+        return Read::Refused(answers::MALFORMED, p);
     }
     Read::Next(p)
 }
@@ -373,15 +373,15 @@ pub fn read_file(bytes: &[u8], starts: &mut [usize; 32]) -> Read
         × Started-by (read-file (now (bytes .entry))) (now (starts .exit)) ⌝ }
 {
     if bytes.len() < 4 {
-        return Read::Refused(1, 0);
+        return Read::Refused(answers::TRUNCATED, 0);
     }
     let functions = words::short_at(bytes, 0);
     let nodes = words::short_at(bytes, 2);
     if !sizes_fit(functions, nodes) {
-        return Read::Refused(2, 0);
+        return Read::Refused(answers::SIZE_OUT_OF_RANGE, 0);
     }
     if bytes.len() != 4 + 9 * nodes {
-        return Read::Refused(1, 0);
+        return Read::Refused(answers::TRUNCATED, 0);
     }
     let end = 4 + nodes;
     let kinds = &bytes[4..end];

@@ -78,14 +78,14 @@ fn type_function(kinds: &[u8], operands: &[u8], starts: &[usize; 32], at: usize)
                     if d == result {
                         Read::Next(q)
                     } else {
-                        Read::Refused(7, at)
+                        Read::Refused(answers::TYPE_MISMATCH, at)
                     }
                 }
-                Typed::Fault(n) => Read::Refused(7, n),
+                Typed::Fault(n) => Read::Refused(answers::TYPE_MISMATCH, n),
             }
         }
-        Node::WrongKind => Read::Refused(7, at),
-        Node::WrongOperand => Read::Refused(7, at),
+        Node::WrongKind => Read::Refused(answers::TYPE_MISMATCH, at),
+        Node::WrongOperand => Read::Refused(answers::TYPE_MISMATCH, at),
     }
 }
 
@@ -95,7 +95,7 @@ pub fn type_script(kinds: &[u8], operands: &[u8], starts: &[usize; 32], function
     ensures { λ r. ⌜ r ≡ known-script (now (kinds .entry)) (now (operands .entry)) (now (starts .entry)) functions ⌝ }
 {
     if !main_fits(kinds, operands) {
-        return Read::Refused(7, 0);
+        return Read::Refused(answers::TYPE_MISMATCH, 0);
     }
     let mut p = 0;
     let mut left = functions;

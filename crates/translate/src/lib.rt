@@ -57,6 +57,9 @@ fn settle(ks: &mut [u8], os: &mut [i64], at: usize, n: usize)
     clearing::clear_words(os, n);
 }
 
+// How many lines code has at most.
+const MOST_LINES: usize = 4096;
+
 // The lesser of two numbers.
 fn lesser(a: usize, b: usize) -> usize
     ensures { λ r. ⌜ r ≡ min a b ⌝ }
@@ -86,7 +89,7 @@ pub fn translate_accepted(
         (room (now (ks .entry)) (now (os .entry)) + 1) (now (starts .entry)) (now (starts .exit)) ⌝ }
 {
     let both = lesser(ks.len(), os.len());
-    let most = lesser(4096, both);
+    let most = lesser(MOST_LINES, both);
     let w = translate_script::script_code(
         kinds,
         operands,

@@ -90,8 +90,8 @@ fn function_code(
     borrowing: &[[bool; 8]; 32],
     f: usize,
     at: usize,
-    rows: &mut [u32; 2048],
-    notes: &mut [u16; 2048],
+    rows: &mut plain_rows::Rows,
+    notes: &mut plain_rows::Notes,
     depths: &mut [u8; 256],
     ks: &mut [u8],
     os: &mut [i64],
@@ -179,8 +179,8 @@ pub fn script_code(
         w (now (starts .entry)) (now (starts .exit)) ⌝ }
 {
     let results = flatten_functions::results_of(kinds, operands, starts, functions);
-    let mut rows = [0u32; 2048];
-    let mut notes = [0u16; 2048];
+    let mut rows = [0u32; plain_rows::ROWS];
+    let mut notes = [0u16; plain_rows::ROWS];
     let borrowing = borrow_table::borrow_table(
         kinds,
         operands,
