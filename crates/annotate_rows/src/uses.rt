@@ -38,13 +38,6 @@ fn is_name(a: Atom, i: usize) -> bool
     }
 }
 
-// One or the other.
-fn either(a: bool, b: bool) -> bool
-    ensures { λ r. ⌜ r ≡ a || b ⌝ }
-{
-    if a { true } else { b }
-}
-
 // Releases, lowest first, of the names below n that are a's or used past a row, arrays and not live.
 pub fn put_used(
     ks: &mut [u8],
@@ -68,7 +61,7 @@ pub fn put_used(
         i = i - 1;
         let s = is_since(cur, row, i);
         let t = is_name(a, i);
-        let u = either(t, s);
+        let u = plain_rows::either(t, s);
         let l = live[i];
         let v = release_one(ks, os, depths, u, l, i, at);
         at = v;
@@ -84,7 +77,7 @@ pub fn pass_names(cur: &[u16; 256], row: usize, x: u8, after: [bool; 256]) -> [b
     let mut i: usize = 0;
     while i < x as usize {
         let s = is_since(cur, row, i);
-        r[i] = either(s, r[i]);
+        r[i] = plain_rows::either(s, r[i]);
         i = i + 1;
     }
     r

@@ -220,7 +220,7 @@ pub fn member_of(a: Atom, s: &[bool; 256]) -> Member
     }
 }
 
-fn either(a: bool, b: bool) -> bool
+pub fn either(a: bool, b: bool) -> bool
     ensures { λ r. ⌜ r ≡ a || b ⌝ }
 {
     if a { true } else { b }

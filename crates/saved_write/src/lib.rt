@@ -63,7 +63,7 @@ fn count_value(slots: &[i64], heads: &[u32], w: i64, depth: u32, n: usize) -> us
     ensures { λ r. ⌜ r
         ≡ min 4097 (n + length (entries-at (store-of (now (slots .entry)) (now (heads .entry))) depth w)) ⌝ }
 {
-    let one = store_words::at_most(n + 1, MOST_ENTRIES + 1);
+    let one = words::at_most(n + 1, MOST_ENTRIES + 1);
     if depth == 0 {
         return one;
     }

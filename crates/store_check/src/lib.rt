@@ -74,7 +74,7 @@ fn count_cell(slots: &[i64], heads: &[u32], c: usize, counts: &mut [u32])
     if h.count == 0 {
         return;
     }
-    let n = store_words::at_most(h.size, 16);
+    let n = words::at_most(h.size, 16);
     count_words(slots, 1 + 16 * c, n, h.depth, counts);
 }
 

@@ -62,7 +62,7 @@ pub fn release(slots: &mut [i64], heads: &mut [u32], c: usize, levels: u32) -> u
     }
     let words = slots_of(slots, c);
     free(slots, heads, c);
-    let k = store_words::at_most(size as usize, 16);
+    let k = words::at_most(size as usize, 16);
     let mut freed: u32 = 1;
     let mut i: usize = 0;
     while i < k {

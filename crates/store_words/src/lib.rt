@@ -9,13 +9,6 @@ ghost use Rattle.semantics.specs.Store.{cell, cell-of, elements, one-if-used, c
 ghost use Rattle.semantics.specs.Words.{store-of, shaped};
 ghost use Rattle.store_words.specs.Parts.{Cleared, Holds, CellThere, with-head};
 
-// The smaller of two numbers.
-pub fn at_most(a: usize, b: usize) -> usize
-    ensures { λ r. ⌜ r ≡ min a b ⌝ }
-{
-    if a < b { a } else { b }
-}
-
 // How many whole cells the two arrays hold, at most 256.
 pub fn cells(slots: &[i64], heads: &[u32]) -> usize
     ensures { λ r. ⌜ Holds (now (slots .entry)) (now (heads .entry)) r ⌝ }
@@ -28,7 +21,7 @@ pub fn cells(slots: &[i64], heads: &[u32]) -> usize
     }
     let in_heads = (heads.len() - 1) / 4;
     let in_slots = (slots.len() - 1) / 16;
-    at_most(256, at_most(in_heads, in_slots))
+    words::at_most(256, words::at_most(in_heads, in_slots))
 }
 
 // Whether a cell is there.
@@ -82,7 +75,7 @@ pub fn read_length(slots: &[i64], heads: &[u32], c: usize) -> usize
     if !is_cell(slots, heads, c) {
         return 0;
     }
-    at_most(heads[2 + 4 * c] as usize, 16)
+    words::at_most(heads[2 + 4 * c] as usize, 16)
 }
 
 // An element of a cell that is there, 0 past its length.

@@ -60,13 +60,6 @@ fn settle(ks: &mut [u8], os: &mut [i64], at: usize, n: usize)
 // How many lines code has at most.
 const MOST_LINES: usize = 4096;
 
-// The lesser of two numbers.
-fn lesser(a: usize, b: usize) -> usize
-    ensures { λ r. ⌜ r ≡ min a b ⌝ }
-{
-    if a < b { a } else { b }
-}
-
 // Translates an accepted script: the file's kinds, its operands, where its functions stand and how many they are. The
 // table gets the depths of the names. The rows are written before the end of the part that both arrays have, and then
 // brought to the front; `starts` gets the places where the functions were written.
@@ -88,8 +81,8 @@ pub fn translate_accepted(
     ensures { λ _. ⌜ Places-by (script (now (kinds .entry)) (now (operands .entry)) functions 0)
         (room (now (ks .entry)) (now (os .entry)) + 1) (now (starts .entry)) (now (starts .exit)) ⌝ }
 {
-    let both = lesser(ks.len(), os.len());
-    let most = lesser(MOST_LINES, both);
+    let both = words::at_most(ks.len(), os.len());
+    let most = words::at_most(MOST_LINES, both);
     let w = translate_script::script_code(
         kinds,
         operands,

@@ -1,6 +1,6 @@
-// Numbers: exact sums and differences, numbers in bytes, and the packed answer of a call.
+// Numbers: the smaller of two, exact sums and differences, numbers in bytes, and the packed answer of a call.
 ghost use mathlib.Core.Path.{_≡_};
-ghost use Prim.Native.Nat.{_+_, _*_, _^_, _<_, _≤_, _%_};
+ghost use Prim.Native.Nat.{_+_, _*_, _^_, _<_, _≤_, _%_, min};
 ghost use lib.ListN.{length, getD};
 ghost use Rattle.semantics.specs.Number.{exact, sum, difference, less, bytes-at, signed};
 ghost use Rattle.semantics.specs.Calls.{packed};
@@ -15,6 +15,13 @@ pub enum Exact {
 const MOST: i64 = 9223372036854775807;
 
 const LEAST: i64 = -9223372036854775808;
+
+// The smaller of two numbers.
+pub fn at_most(a: usize, b: usize) -> usize
+    ensures { λ r. ⌜ r ≡ min a b ⌝ }
+{
+    if a < b { a } else { b }
+}
 
 // The exact sum, if it is in 64 bits.
 pub fn exact_sum(a: i64, b: i64) -> Exact

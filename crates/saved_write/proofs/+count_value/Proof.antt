@@ -17,7 +17,7 @@ use borrow.Fn.PlainCycle.{Measures, is, falls, and}
 use Rattle.saved_write.proofs.count_value.Reads as count-value
 use Rattle.saved_write.proofs.count_value.Kinds as count-value-kinds
 use Rattle.saved_write.proofs.+count_value.Lts-count_value as count-value-lts
-use Rattle.store_words.proofs.at_most.Reads as at-most-reads
+use Rattle.words.proofs.at_most.Reads as at-most-reads
 use Rattle.store_words.proofs.named_cell.Reads as named-cell-reads
 use Rattle.store_words.proofs.read_length.Reads as read-length-reads
 use Rattle.store_words.proofs.read_slot.Reads as read-slot-reads

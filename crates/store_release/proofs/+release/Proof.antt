@@ -17,7 +17,7 @@ use Rattle.store_release.proofs.Releasing.{Releasing, releasing-none, r
 use Rattle.store_release.proofs.release.Reads as release
 use Rattle.store_release.proofs.release.Kinds as release-kinds
 use Rattle.store_release.proofs.+release.Lts-release as release-lts
-use Rattle.store_words.proofs.at_most.Reads as at-most-reads
+use Rattle.words.proofs.at_most.Reads as at-most-reads
 use Rattle.store_words.proofs.is_cell.Reads as is-cell-reads
 use Rattle.store_release.proofs.free.Reads as free-reads
 use Rattle.store_words.proofs.named_cell.Reads as named-cell-reads

@@ -15,13 +15,13 @@ returns c =
     let at-clear = c .before .before .before in
     let at-if1 = at-clear .before .before .before in
     let at-script-code = at-if1 .before .before .before .before .before .before in
-    let at-lesser2 = at-script-code .before .before .before .before .before in
-    let at-lesser = at-lesser2 .before in
-    let start = at-lesser .before .before .before .before .before in
+    let at-most-of2 = at-script-code .before .before .before .before .before in
+    let at-most-of = at-most-of2 .before in
+    let start = at-most-of .before .before .before .before .before in
     let a = start .args in
     let t = start .pre in
-    let e : at-lesser2 .lesser2 .result ≡ room (a .ks .now) (a .os .now) =
-    at-lesser2 .lesser2 .ensures ∙ ap (min 4096) (at-lesser .lesser .ensures) in
+    let e : at-most-of2 .at-most2 .result ≡ room (a .ks .now) (a .os .now) =
+    at-most-of2 .at-most2 .ensures ∙ ap (min 4096) (at-most-of .at-most .ensures) in
     let coded = at-script-code .script-code .ensures in
     let wrote = rw (t .reads) at (coded .0) in
     rw (t .reads) (
@@ -34,20 +34,20 @@ returns c =
 sub-n : tie.Need-sub-n
 sub-n c =
     let at-script-code = c .before .before .before .before .before .before in
-    let at-lesser2 = at-script-code .before .before .before .before .before in
-    let t = at-lesser2 .before .before .before .before .before .before .pre in
+    let at-most-of2 = at-script-code .before .before .before .before .before in
+    let t = at-most-of2 .before .before .before .before .before .before .pre in
     let wrote = rw (t .reads) at (at-script-code .script-code .ensures .0) in
     omega (arith, wrote .at)
 
 settle-requires : tie.Need-settle-requires
 settle-requires c κs =
     let at-script-code = c .before .before .before .before .before .before .before .before in
-    let at-lesser2 = at-script-code .before .before .before .before .before in
-    let at-lesser = at-lesser2 .before in
-    let t = at-lesser .before .before .before .before .before .pre in
+    let at-most-of2 = at-script-code .before .before .before .before .before in
+    let at-most-of = at-most-of2 .before in
+    let t = at-most-of .before .before .before .before .before .pre in
     let wrote = rw (t .reads) at (at-script-code .script-code .ensures .0) in
-    let most = at-lesser2 .lesser2 .ensures in
-    let both = at-lesser .lesser .ensures in (
+    let most = at-most-of2 .at-most2 .ensures in
+    let both = at-most-of .at-most .ensures in (
       omega (arith, wrote .at, wrote .long-kinds, both, most),
       omega (arith, wrote .at, wrote .long-operands, both, most),
     )
@@ -57,13 +57,13 @@ returns-2 c =
     let at-settle = c .before .before .before in
     let at-if1 = at-settle .before .before .before in
     let at-script-code = at-if1 .before .before .before .before .before .before in
-    let at-lesser2 = at-script-code .before .before .before .before .before in
-    let at-lesser = at-lesser2 .before in
-    let start = at-lesser .before .before .before .before .before in
+    let at-most-of2 = at-script-code .before .before .before .before .before in
+    let at-most-of = at-most-of2 .before in
+    let start = at-most-of .before .before .before .before .before in
     let a = start .args in
     let t = start .pre in
-    let e : at-lesser2 .lesser2 .result ≡ room (a .ks .now) (a .os .now) =
-    at-lesser2 .lesser2 .ensures ∙ ap (min 4096) (at-lesser .lesser .ensures) in
+    let e : at-most-of2 .at-most2 .result ≡ room (a .ks .now) (a .os .now) =
+    at-most-of2 .at-most2 .ensures ∙ ap (min 4096) (at-most-of .at-most .ensures) in
     let coded = at-script-code .script-code .ensures in
     rw (t .reads) (
       accepted-is (t .tree) (a .ks .now) (a .os .now) _ _ e (rw (t .reads) at (coded .0))
