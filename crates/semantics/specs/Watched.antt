@@ -1,5 +1,6 @@
 -- Computed rows for the parts of the machine that leave no word in a store: wrong code that touches a free cell, with
--- its log, and a stop 25 inside a map inside a call, with its roots.
+-- its log, and stops 25 with their roots: in passes, in branches and in a call, of code made by hand, and inside a map
+-- inside a call, of a script.
 use Prim.Native.Nat.{ℕ, zero, suc, _+_}
 use mathlib.Core.Bool.{cond, false}
 use mathlib.Core.Path.{_≡_}
@@ -9,12 +10,14 @@ use lib.ListN.{replicate}
 use lib.Dec.{ltb, eqb}
 use Rattle.semantics.specs.Basics.{occurrences, updated}
 use Rattle.semantics.specs.Outcome.{Outcome, done, stop, halt}
-use Rattle.semantics.specs.Kinds.{index, length-of, mapping}
-use Rattle.semantics.specs.Code.{number, name, leaf, loop, retain, release, Tree, end, line, Row, row}
+use Rattle.semantics.specs.Kinds.{call, literal, index, length-of, mapping, filtering, reducing, rewriting}
+use Rattle.semantics.specs.Code.{Atom, number, name, leaf, if-else, loop, retain, release, Tree, end, line}
+use Rattle.semantics.specs.Code.{Row, row}
 use Rattle.semantics.specs.Live.{empty}
 use Rattle.semantics.specs.Store.{Store, cell, cell-count, inner, opened, filled}
 use Rattle.semantics.specs.Words.{store-of}
-use Rattle.semantics.specs.Machine.{Frame, State, work, starting, state-of, program, delivery}
+use Rattle.semantics.specs.Machine.{Frame, State, Callee, acquire, work, starting, state-of, program}
+use Rattle.semantics.specs.Machine.{delivery}
 use Rattle.semantics.specs.Calls.{Verdict, accepted, refused, judged, engine-open}
 use Rattle.semantics.specs.Demands.{touched}
 use Rattle.semantics.specs.Slips.{file-of}
@@ -41,21 +44,75 @@ touched-by t =
 abbrev pub then-ends : Tree
 then-ends = end (number (pos 0))
 
--- A length, an index and a map read the free cell; it is retained; it is released, by its name and as an element of
--- cell 0; and a map's tree releases the cell of its own result, which is then filled while free.
+-- A length, an index and a map read the free cell; a map that would rewrite it reads it and looks at its count; it is
+-- retained; it is released, by its name and as an element of cell 0. A map's tree releases the cell of its own result,
+-- which is then filled while free. The tree of a map in place releases its array (cell 0, and with it cell 1 again),
+-- which is then overwritten while free.
 unfoldable pub touches-logged : Type 0
 touches-logged =
     touched-by (line (leaf 2 length-of (name 1 ∷ [])) then-ends) ∷
     touched-by (line (leaf 2 index (name 1 ∷ number (pos 0) ∷ [])) then-ends) ∷
     touched-by (line (loop 2 mapping (3 ∷ []) (name 1 ∷ []) then-ends) then-ends) ∷
+    touched-by (line (loop 2 rewriting (3 ∷ []) (name 1 ∷ []) then-ends) then-ends) ∷
     touched-by (line (retain 1) then-ends) ∷
     touched-by (line (release 1) then-ends) ∷
     touched-by (line (release 0) then-ends) ∷
     touched-by (line (loop 2 mapping (3 ∷ []) (name 0 ∷ []) (line (release 1) then-ends)) then-ends) ∷
+    touched-by (line (loop 2 rewriting (3 ∷ []) (name 0 ∷ []) (line (release 0) then-ends)) then-ends) ∷
     touched-by (line (retain 0) (line (leaf 2 length-of (name 0 ∷ [])) then-ends)) ∷ []
-    ≡ (1 ∷ []) ∷ (1 ∷ []) ∷ (1 ∷ []) ∷ (1 ∷ []) ∷ (1 ∷ []) ∷ (1 ∷ []) ∷ (1 ∷ []) ∷ [] ∷ []
+    ≡
+    (1 ∷ []) ∷ (1 ∷ []) ∷ (1 ∷ []) ∷ (1 ∷ 1 ∷ []) ∷ (1 ∷ []) ∷ (1 ∷ []) ∷ (1 ∷ []) ∷ (1 ∷ []) ∷ (1 ∷ 0 ∷ []) ∷ [] ∷ []
 
--- ---- the roots of a stop 25
+-- ---- the roots of a stop 25, of code made by hand
+
+-- Two cells, both taken, each with one word. The names 0 and 1 are these arrays.
+unfoldable pub none-free : Store
+none-free = record { totals = pos 0; first = 2; cells = filled 0 (pos 7 ∷ []) ∷ (filled 0 (pos 7 ∷ []) ∷ []) }
+
+-- a call that wants a cell at once
+abbrev pub wanting-call : Callee
+wanting-call R f ws = acquire R 0 ws
+
+-- The roots of the stop 25 of a tree whose names up to 5 are arrays; no other stop has any. A function that it calls
+-- borrows its second argument.
+unfoldable pub roots-in : Tree → List ℕ
+roots-in t =
+    let run = work wanting-call (λ f i. eqb i 1) (λ x. cond (ltb x 6) 1 0) t empty [] (λ x. pos x) in
+    state-of (run (starting 9 none-free)) .roots
+
+-- a cell is wanted for some atoms
+abbrev pub then-wants : List Atom → Tree
+then-wants us = line (leaf 5 (literal 0) us) then-ends
+
+-- In a reduce's pass its array (cell 1) is in use, and its start (0), which was handed over, is not.
+unfoldable pub roots-in-a-reduce : Type 0
+roots-in-a-reduce =
+    roots-in (line (loop 2 reducing (3 ∷ 4 ∷ []) (name 0 ∷ name 1 ∷ []) (then-wants [])) then-ends) ≡ 1 ∷ []
+
+-- In a call what the function borrows (1) is in use, and what it was handed (0) is not.
+unfoldable pub roots-in-a-call : Type 0
+roots-in-a-call = roots-in (line (leaf 2 (call 0) (name 0 ∷ name 1 ∷ [])) then-ends) ≡ 1 ∷ []
+
+-- In both branches of an if what is used after it (1) is in use, and what one branch uses (0) in that one alone.
+unfoldable pub roots-in-branches : Type 0
+roots-in-branches =
+    roots-in (line (if-else 2 (number (pos 1)) (then-wants (name 0 ∷ [])) (then-wants [])) (end (name 1))) ∷
+    roots-in (line (if-else 2 (number (pos 0)) (then-wants (name 0 ∷ [])) (then-wants [])) (end (name 1))) ∷ []
+    ≡ (0 ∷ 1 ∷ []) ∷ (1 ∷ []) ∷ []
+
+-- In a reduce's pass its running value (0, the start) is in use by its name, 3. In a filter's pass its array (0) is,
+-- and its result so far, which has the cell (1) that a release made free. In the pass of a map that rewrites, its
+-- array (0) is, once more as the result in place; where the array has two references the result is a new cell (1).
+unfoldable pub roots-in-passes : Type 0
+roots-in-passes =
+    roots-in (line (loop 2 reducing (3 ∷ 4 ∷ []) (name 0 ∷ name 1 ∷ []) (then-wants (name 3 ∷ []))) then-ends) ∷
+    roots-in (line (release 1) (line (loop 2 filtering (3 ∷ []) (name 0 ∷ []) (then-wants [])) then-ends)) ∷
+    roots-in (line (loop 2 rewriting (3 ∷ []) (name 0 ∷ []) (then-wants [])) then-ends) ∷
+    roots-in (line (release 1) (line (retain 0)
+    (line (loop 2 rewriting (3 ∷ []) (name 0 ∷ []) (then-wants [])) then-ends))) ∷ []
+    ≡ (1 ∷ 0 ∷ []) ∷ (0 ∷ 1 ∷ []) ∷ (0 ∷ 0 ∷ []) ∷ (0 ∷ 1 ∷ []) ∷ []
+
+-- ---- the roots of a stop 25, of a script
 
 -- main(t: 1, r: 1): 1 = let a = {10} in let b = f(r[0]) in {length(b), a[0]}; f(n: 0): 3 = map x over {n, 6}: {{x}}
 unfoldable pub map-in-a-call : List Row
