@@ -54,8 +54,10 @@ fn put_entry(saved: &mut [u8], k: usize, p: usize, mark: u8, number: i64) -> usi
     p + 1
 }
 
-// How many entries a file has at most.
+// How many entries a file has at most, and the number that stands for more.
 const MOST_ENTRIES: usize = 4096;
+
+const TOO_MANY: usize = 4097;
 
 // The entries of a word of a depth, added to those before; at most 4,097.
 fn count_value(slots: &[i64], heads: &[u32], w: i64, depth: u32, n: usize) -> usize
@@ -63,7 +65,7 @@ fn count_value(slots: &[i64], heads: &[u32], w: i64, depth: u32, n: usize) -> us
     ensures { λ r. ⌜ r
         ≡ min 4097 (n + length (entries-at (store-of (now (slots .entry)) (now (heads .entry))) depth w)) ⌝ }
 {
-    let one = words::at_most(n + 1, MOST_ENTRIES + 1);
+    let one = words::at_most(n + 1, TOO_MANY);
     if depth == 0 {
         return one;
     }
