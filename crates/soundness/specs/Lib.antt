@@ -6,6 +6,7 @@ pub mod Settled
 pub mod Delivering
 pub mod Step
 pub mod Demand3
+pub mod LowestLevel
 pub mod saved
 pub mod Demand2
 pub mod Instances
