@@ -11,3 +11,4 @@ pub mod saved
 pub mod Demand2
 pub mod Instances
 pub mod Fixed
+pub mod FixedLevels
