@@ -1,15 +1,14 @@
 -- Histories of the definitions' calls: the same deliveries worked on two stores, and what they tell.
 use Prim.Native.Nat.{ℕ, _≤_}
 use native.Mathlib.Omega.{arith}
-use mathlib.Core.Path.{_≡_, refl, sym, ap, ap₂, _∙_, subst}
+use mathlib.Core.Path.{_≡_, refl, sym, _∙_, subst}
 use mathlib.Core.Logic.{inl, inr}
 use mathlib.Core.List.{List, [], _∷_}
 use lib.IntN.{ℤ}
 use Rattle.semantics.specs.Basics.{occurrences}
 use Rattle.semantics.specs.Syntax.{Script}
-use Rattle.semantics.specs.Value.{Value}
 use Rattle.semantics.specs.Words.{cells-in}
-use Rattle.semantics.specs.Calls.{accepted, judged, number-of, steps-of, StoreReply, engine-open, engine-deliver}
+use Rattle.semantics.specs.Calls.{accepted, judged, number-of, StoreReply, engine-open, engine-deliver}
 use Rattle.semantics.specs.Demands.{Call, InTurn, defined}
 use Rattle.semantics.specs.Larger.{Twice, pairs-of, calls-first, calls-second, BudgetsGrow, NeverSpent}
 use Rattle.laws.specs.Lists.{hits}

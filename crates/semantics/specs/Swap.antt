@@ -145,9 +145,9 @@ SameStory fs r q (p ∷ ps) =
 
 -- ---- the swap
 
--- The script of an accepted file, and the same story at two sites that go on from two replies, once their totals have
--- the same value: over every list of deliveries in which no answer is 25, lent the same but for the store, whatever swaps
--- each site has. They end with the same value too, after the last swap.
+-- The script of an accepted file, and the same story at two sites that go on from two replies, if their totals have the
+-- same value there: over every list of deliveries in which no answer is 25, lent the same but for the store, whatever
+-- swaps each site has. They end with the same value, after the last swap too.
 pub record Alike (E : SavingEngine) (file : List ℕ) (old new : StoreReply) : Type 0 where
   pub script : Script
   pub is-accepted : judged file ≡ accepted script
@@ -156,7 +156,7 @@ pub record Alike (E : SavingEngine) (file : List ℕ) (old new : StoreReply) : T
       NeverDry (calls-here ps) → NeverDry (calls-there ps) →
       SameStory script old new ps × (value-in script there ≡ value-in script here)
 
--- For every two sites with one file; they may be one site with one store, of which from there on one is swapped and the
--- other never, or each is swapped at its own times.
+-- For every two running sites of one file. They may be one site till then, with one store: a site that is swapped after
+-- any of its deliveries, beside itself never swapped.
 abbrev pub Swap : SavingEngine → Type 0
 Swap E = (file : List ℕ) (old new : StoreReply) → Running E file old → Running E file new → Alike E file old new

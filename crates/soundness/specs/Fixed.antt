@@ -1,6 +1,6 @@
 -- The statements leave an engine no choice: a log has one least level, what a delivery answers and leaves is fixed by
--- what it agrees with, and a machine that runs dry while a cell is free, or ends with an unsound store, does not do what
--- is meant. The last two are tried where a wrong engine would tell something else.
+-- what it agrees with, and a machine that runs dry while a cell is free, or ends with an unsound store, does not do
+-- what is meant. The last two are tried where a wrong engine would tell something else.
 use Prim.Native.Nat.{ℕ, _≤_}
 use native.Mathlib.Omega.{arith}
 use mathlib.Core.Bool.{Bool, true, false, cond, false≢true}

@@ -23,14 +23,14 @@ use Rattle.soundness.specs.Instances.{folded-accepted}
 use Rattle.soundness.specs.saved.Restoring.{restored}
 use Rattle.soundness.specs.saved.Stories.{Shown, shown, shown-here, shown-there}
 use Rattle.soundness.specs.saved.Sites.{Planned, all-fit, moved-through, movable, calls-of, end-of, all-movable}
-use Rattle.soundness.specs.saved.Sites.{worked-beside, pairs, end-here, end-there, same-sites}
+use Rattle.soundness.specs.saved.Sites.{worked-beside, pairs, same-sites}
 
 -- at the second site only: swapped into stores of so many cells
 abbrev pub planned : List ℤ → List ℕ → Planned
 planned readings there = record { readings = readings; here = []; there = there }
 
--- ---- the printed script, opened on 2 cells: swapped into 3 cells after the first delivery, into 2 and into 5 after the
--- third, which stops at 23, and into 4 after the last; the fourth is refused
+-- ---- the printed script, opened on 2 cells: swapped into 3 cells after the first delivery, into 2 and into 5 after
+-- the third, which stops at 23, and into 4 after the last; the fourth is refused
 
 unfoldable pub printed-plan : List Planned
 printed-plan =
@@ -130,15 +130,16 @@ unfolding printed-script
 flat = refl
 
 abbrev RestoredKeeps : Script → Value → Type 0
-RestoredKeeps fs v = (cs : List Call) → InTurn (defined .delivers printed-file) (restoring .slots) (restoring .heads) cs →
+RestoredKeeps fs v = (cs : List Call) →
+    InTurn (defined .delivers printed-file) (restoring .slots) (restoring .heads) cs →
     Kept fs (restoring .slots) (restoring .heads) v cs
 
 -- over every list of deliveries after it the ledger begins with {350}
 pub restored-history : RestoredKeeps printed-script (numbers (pos 350 ∷ []))
 unfolding defined-saving
 restored-history =
-    let c = restored printed-file (replicate 40 0) (replicate 40 (pos 0)) (replicate 33 (pos 7)) (replicate 9 7) saved-350
-    restoring refl restored-0 in
+    let c = restored printed-file (replicate 40 0) (replicate 40 (pos 0)) (replicate 33 (pos 7)) (replicate 9 7)
+    saved-350 restoring refl restored-0 in
     let z : c .script ≡ printed-script = same-script (sym (c .is-accepted) ∙ printed-accepted) in
     let depth = ap main-depth z ∙ flat in
     let v : c .value ≡ numbers (pos 350 ∷ []) = some-same (c .value) (numbers (pos 350 ∷ []))
