@@ -1,6 +1,7 @@
--- Demand 3 of the compiled calls, and of document 02 order 4, the ledger after a restore and the swap, and order 9, the
--- larger store. Of a call no more is known than its own contract (`Reads.Post`), which holds of what it was lent, what
--- it answered and what it left; and of a save, that the words of the lent slots are of 64 bits.
+-- Demand 3 of the compiled calls, and of document 02 orders 2 and 8, the lowest level, order 4, the ledger after a
+-- restore and the swap, and order 9, the larger store. Of a call no more is known than its own contract (`Reads.Post`),
+-- which holds of what it was lent, what it answered and what it left; and of a save, that the words of the lent slots
+-- are of 64 bits.
 use Prim.Native.Nat.{ℕ}
 use mathlib.Core.List.{List}
 use lib.IntN.{ℤ}
@@ -10,14 +11,16 @@ use denote.Triple.Clauses.{AtExit}
 use denote.Ref.{now}
 use Rattle.semantics.specs.Calls.{StoreReply}
 use Rattle.semantics.specs.Ledger.{Delivery}
-use Rattle.semantics.specs.Demands.{Engine, Demand3, defined}
+use Rattle.semantics.specs.Demands.{Engine, Demand3, defined, TrueLeast, Rises}
 use Rattle.semantics.specs.SaveCalls.{SaveReply}
 use Rattle.semantics.specs.Larger.{Larger}
 use Rattle.semantics.specs.Swap.{SavingEngine, Words64, Restored, Swap, defined-saving}
 use Rattle.soundness.specs.Demand3.{demand-3, demand-3-within}
+use Rattle.soundness.specs.LowestLevel.{true-least}
 use Rattle.soundness.specs.saved.Restoring.{restored}
 use Rattle.soundness.specs.saved.Swapping.{swap}
 use Rattle.soundness.specs.saved.Within.{Within, restored-within, swap-within}
+use Rattle.leaner.specs.Order8.{rises}
 use Rattle.larger.specs.Larger.{larger, larger-within}
 use Rattle.engine.proofs.engine_open.Kinds as O
 use Rattle.engine.proofs.engine_open.Reads as opening
@@ -85,6 +88,17 @@ demand-3-of-calls = demand-3-within opens-defined delivers-defined demand-3
 pub larger-of-calls : Larger compiled
 larger-of-calls = larger-within opens-defined delivers-defined larger
 
+-- For every call of `engine_deliver` that is not refused, on every sound store: the lowest level in its answer is the
+-- least number of free cells over the run,
+pub true-least-of-calls : TrueLeast compiled
+true-least-of-calls file slots heads δ fs u r called =
+    true-least file slots heads δ fs u r (delivers-defined file slots heads δ r called)
+
+-- and at least that by the code in which every map stays a map.
+pub rises-of-calls : Rises compiled
+rises-of-calls file slots heads δ fs u r called =
+    rises file slots heads δ fs u r (delivers-defined file slots heads δ r called)
+
 -- ---- save and restore
 
 -- a call of `engine_save`: file, two code arrays, two store arrays and a buffer as they were lent; the answer, and the
@@ -145,6 +159,7 @@ within = record {
 pub restored-of-calls : Restored compiled-saving
 restored-of-calls = restored-within within restored
 
--- For every store opened or restored with 0, delivered to, saved with 0 and restored with 0 elsewhere.
+-- For every two sites with one file, each opened or restored with 0, delivered to, and at any times saved with 0 and
+-- restored with 0 elsewhere.
 pub swap-of-calls : Swap compiled-saving
 swap-of-calls = swap-within within swap

@@ -1,20 +1,19 @@
 -- Histories of the definitions' calls: the same deliveries worked on two stores, and what they tell.
 use Prim.Native.Nat.{ℕ, _≤_}
 use native.Mathlib.Omega.{arith}
-use mathlib.Core.Path.{_≡_, refl, sym, ap, ap₂, _∙_, subst}
+use mathlib.Core.Path.{_≡_, refl, sym, _∙_, subst}
 use mathlib.Core.Logic.{inl, inr}
 use mathlib.Core.List.{List, [], _∷_}
 use lib.IntN.{ℤ}
 use Rattle.semantics.specs.Basics.{occurrences}
 use Rattle.semantics.specs.Syntax.{Script}
-use Rattle.semantics.specs.Value.{Value}
 use Rattle.semantics.specs.Words.{cells-in}
-use Rattle.semantics.specs.Calls.{accepted, judged, number-of, steps-of, StoreReply, engine-open, engine-deliver}
+use Rattle.semantics.specs.Calls.{accepted, judged, number-of, StoreReply, engine-open, engine-deliver}
 use Rattle.semantics.specs.Demands.{Call, InTurn, defined}
-use Rattle.semantics.specs.Swap.{NeverDry, value-in, SameStory}
 use Rattle.semantics.specs.Larger.{Twice, pairs-of, calls-first, calls-second, BudgetsGrow, NeverSpent}
 use Rattle.laws.specs.Lists.{hits}
 use Rattle.laws.specs.Files.{same-script}
+use Rattle.soundness.specs.saved.Stories.{numbers-of, never-dry, Shown, shown-here, shown-there, same-shown}
 use Rattle.larger.specs.Larger.{larger}
 
 -- a delivery to be worked on both stores: its readings, and its budget on the first and on the second
@@ -66,19 +65,7 @@ module _ (file kinds : List ℕ) (operands : List ℤ) where
   budgets-grow [] slots heads slots′ heads′ h = tt
   budgets-grow (x ∷ xs) slots heads slots′ heads′ h = (h .0, (h .1 .0, budgets-grow xs _ _ _ _ (h .1 .1)))
 
--- ---- numbers that are never answered
-
-abbrev pub numbers-of : List Call → List ℕ
-numbers-of [] = []
-numbers-of (c ∷ cs) = number-of (c .reply .answer) ∷ numbers-of cs
-
-never-dry : (cs : List Call) → occurrences 25 (numbers-of cs) ≡ 0 → NeverDry cs
-unfolding occurrences
-never-dry [] h = tt
-never-dry (c ∷ cs) h = elim (hits 25 (number-of (c .reply .answer))) [
-  | inl g ↦ absurd (omega (arith, h, g .1))
-  | inr g ↦ (λ e. g .0 (sym e), never-dry cs (omega (arith, h)))
-]
+-- ---- a number that is never answered
 
 never-spent : (cs : List Call) → occurrences 21 (numbers-of cs) ≡ 0 → NeverSpent cs
 unfolding occurrences
@@ -90,45 +77,12 @@ never-spent (c ∷ cs) h = elim (hits 21 (number-of (c .reply .answer))) [
 
 -- ---- what a history shows
 
--- number, steps, and the totals' value after the delivery
-pub record Shown : Type 0 where
-  pub number : ℕ
-  pub steps : ℕ
-  pub totals : Value
-
-abbrev pub shown : ℕ → ℕ → Value → Shown
-shown n k v = record { number = n; steps = k; totals = v }
-
-abbrev shown-by : Script → StoreReply → Shown
-shown-by fs r = shown (number-of (r .answer)) (steps-of (r .answer)) (value-in fs r)
-
 -- on the first store, and on the second
 abbrev pub shown-first : Script → List Twice → List Shown
-shown-first fs [] = []
-shown-first fs (t ∷ ts) = shown-by fs (t .pair .reply) ∷ shown-first fs ts
+shown-first fs ts = shown-here fs (pairs-of ts)
 
 abbrev pub shown-second : Script → List Twice → List Shown
-shown-second fs [] = []
-shown-second fs (t ∷ ts) = shown-by fs (t .pair .other) ∷ shown-second fs ts
-
-same-totals : (fs : Script) (ts : List Twice) (r q : StoreReply) → SameStory fs r q (pairs-of ts) →
-    value-in fs q ≡ value-in fs r
-same-totals fs [] r q h = h
-same-totals fs (t ∷ ts) r q h = h .0
-
-all-alike : {n m k l : ℕ} {v w : Value} → n ≡ m → k ≡ l → v ≡ w → shown n k v ≡ shown m l w
-all-alike {n} {m} {k} {l} {v} {w} e f g =
-    ap (λ (i : ℕ). shown i k v) e ∙ ap (λ (i : ℕ). shown m i v) f ∙ ap (λ (u : Value). shown m l u) g
-
--- the same story shows the same
-pub same-shown : (fs : Script) (ts : List Twice) (r q : StoreReply) → SameStory fs r q (pairs-of ts) →
-    shown-second fs ts ≡ shown-first fs ts
-same-shown fs [] r q h = refl
-same-shown fs (t ∷ ts) r q h = ap₂ {C = List Shown} _∷_ one
-    (same-shown fs ts (t .pair .reply) (t .pair .other) (h .1 .1 .1))
-  where
-    one : shown-by fs (t .pair .other) ≡ shown-by fs (t .pair .reply)
-    one = all-alike (h .1 .0) (h .1 .1 .0) (same-totals fs ts (t .pair .reply) (t .pair .other) (h .1 .1 .1))
+shown-second fs ts = shown-there fs (pairs-of ts)
 
 -- ---- the theorem at a history
 
@@ -158,4 +112,4 @@ module _ (file kinds : List ℕ) (operands slots : List ℤ) (heads : List ℕ) 
       (budgets-grow file kinds operands xs (first .slots) (first .heads) (second .slots) (second .heads) rise)
       (never-dry (calls-first history) f) (never-spent (calls-first history) g) in
       subst (λ (gs : Script). shown-second gs history ≡ shown-first gs history)
-      (same-script (sym (s .is-accepted) ∙ ok)) (same-shown (s .script) history first second story)
+      (same-script (sym (s .is-accepted) ∙ ok)) (same-shown (s .script) (pairs-of history) first second story)

@@ -11,8 +11,9 @@ use Rattle.semantics.specs.Computing.{computing}
 use Rattle.semantics.specs.Trials.{printed-file}
 use Rattle.semantics.specs.Slips.{file-of, low-first, operand-bytes}
 use Rattle.soundness.specs.Instances.{printed-script, rewritten-nodes, rewritten-script}
-use Rattle.larger.specs.Histories.{Planned, PlanGrows, worked-twice, history, Shown, shown, shown-first}
-use Rattle.larger.specs.Histories.{shown-second, same-history}
+use Rattle.soundness.specs.saved.Stories.{Shown, shown}
+use Rattle.larger.specs.Histories.{Planned, PlanGrows, worked-twice, history, shown-first, shown-second}
+use Rattle.larger.specs.Histories.{same-history}
 
 -- deliveries of these readings
 unfoldable pub plan : List (List ℤ) → List Planned

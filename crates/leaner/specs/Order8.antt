@@ -1,28 +1,45 @@
 -- Order 8: on the same store a delivery's lowest level is at least that of the code in which every map stays a map.
+use Prim.Native.Nat.{ℕ, _≤_}
 use native.Mathlib.Omega.{arith}
+use mathlib.Core.Path.{sym, subst}
+use mathlib.Core.List.{List}
+use lib.IntN.{ℤ}
 use Rattle.semantics.specs.Syntax.{Script, main-depth}
 use Rattle.semantics.specs.Words.{store-of}
-use Rattle.semantics.specs.Machine.{program-in, program}
-use Rattle.semantics.specs.Demands.{mapping-only, Rises}
+use Rattle.semantics.specs.Machine.{program-in, program, delivered}
+use Rattle.semantics.specs.Ledger.{Delivery}
+use Rattle.semantics.specs.Demands.{defined, Unrefused, mapping-only, Rises}
 use Rattle.soundness.specs.annotation.Programs.{program-in-disciplined, program-disciplined}
 use Rattle.soundness.specs.Settled.{sound-settles}
 use Rattle.soundness.specs.Delivering.{few-lines, few-readings}
+use Rattle.soundness.specs.LowestLevel.{lowest-told}
 use Rattle.leaner.specs.Annotated.{script-twins}
 use Rattle.leaner.specs.Calls.{call-twins}
 use Rattle.leaner.specs.Delivering.{race-starts}
 use Rattle.leaner.specs.Rises.{lowest-rises}
 
-pub rises : (fs : Script) → Rises fs
+-- of the machine's two runs
+runs-rise : (file : List ℕ) (slots : List ℤ) (heads : List ℕ) (δ : Delivery) (fs : Script) →
+    Unrefused file slots heads δ fs →
+    let σ = store-of slots heads in
+    delivered (program-in mapping-only fs) (δ .readings) (δ .budget) σ .lowest
+    ≤ delivered (program fs) (δ .readings) (δ .budget) σ .lowest
 unfolding program-in
-rises fs file ok fits slots heads sound readings budget asked =
-    let short = few-lines fs 4096 (omega arith) fits in
+runs-rise file slots heads δ fs u =
+    let short = few-lines fs _ (omega arith) (u .code-stands) in
     let p = program-in mapping-only fs in
     let rs = program fs .routines in
     let σ = store-of slots heads in
-    let first = program-in-disciplined mapping-only file fs ok short in
-    let second = program-disciplined file fs ok short in
-    let few = few-readings readings budget asked in
-    let rests = sound-settles (main-depth fs) slots heads sound .rests in
-    let starts = race-starts p rs first second readings few budget 0 0 σ σ rests rests (omega arith) in
-    lowest-rises p rs first second readings few budget σ rests
-    (call-twins starts p rs (script-twins file fs ok) first second 32 (λ _. 0))
+    let first = program-in-disciplined mapping-only file fs (u .is-accepted) short in
+    let second = program-disciplined file fs (u .is-accepted) short in
+    let few = few-readings (δ .readings) (δ .budget) (u .requested) in
+    let rests = sound-settles (main-depth fs) slots heads (u .is-sound) .rests in
+    let starts = race-starts p rs first second (δ .readings) few (δ .budget) 0 0 σ σ rests rests (omega arith) in
+    lowest-rises p rs first second (δ .readings) few (δ .budget) σ rests
+    (call-twins starts p rs (script-twins file fs (u .is-accepted)) first second 32 (λ _. 0))
+
+-- and so of the answer
+pub rises : Rises defined
+rises file slots heads δ fs u r called =
+    subst (λ n. delivered (program-in mapping-only fs) (δ .readings) (δ .budget) (store-of slots heads) .lowest ≤ n)
+    (sym (lowest-told file slots heads δ fs u r called)) (runs-rise file slots heads δ fs u)

@@ -1,4 +1,4 @@
--- Document 02, order 4, as types: the ledger after a restore, and a site whose controller is swapped.
+-- Document 02, order 4, as types: the ledger after a restore, and sites whose controllers are swapped.
 use Prim.Native.Nat.{ℕ}
 use mathlib.Core.Bool.{true}
 use mathlib.Core.Path.{_≡_}
@@ -60,7 +60,7 @@ Restored E =
     E .restores file kinds operands slots heads saved restoring → number-of (restoring .answer) ≡ 0 →
     Continues (E .engine .delivers file) file saved restoring
 
--- ---- two sites
+-- ---- a site
 
 -- a site begins with a store that was opened or restored with answer 0
 pub data Begins (E : SavingEngine) (file : List ℕ) (r : StoreReply) : Type 0 where
@@ -69,10 +69,45 @@ pub data Begins (E : SavingEngine) (file : List ℕ) (r : StoreReply) : Type 0 w
   by-restore : (kinds : List ℕ) (operands slots : List ℤ) (heads saved : List ℕ) →
       E .restores file kinds operands slots heads saved r → number-of (r .answer) ≡ 0 → Begins E file r
 
--- the reply whose store the next call is lent, after some calls in turn
-abbrev pub last-reply : StoreReply → List Call → StoreReply
-last-reply r [] = r
-last-reply r (c ∷ cs) = last-reply (c .reply) cs
+-- the file in a buffer that a save left
+abbrev pub file-in : List ℕ → List ℕ
+file-in buffer = take (saved-length (stated-count buffer)) buffer
+
+-- a swap: a store is saved with answer 0, and the file restored with answer 0 into other arrays
+pub record Swapped (E : SavingEngine) (file : List ℕ) (old new : StoreReply) : Type 0 where
+  -- what the save was lent beside the store, and its reply
+  pub kinds : List ℕ
+  pub operands : List ℤ
+  pub buffer : List ℕ
+  pub saving : SaveReply
+  pub saves : E .saves file kinds operands (old .slots) (old .heads) buffer saving
+  pub saved : number-of (saving .answer) ≡ 0
+  -- what the restore was lent beside the file
+  pub kinds′ : List ℕ
+  pub operands′ : List ℤ
+  pub slots′ : List ℤ
+  pub heads′ : List ℕ
+  pub restores : E .restores file kinds′ operands′ slots′ heads′ (file-in (saving .saved)) new
+  pub restored : number-of (new .answer) ≡ 0
+
+-- A site, from one reply to another: deliveries in turn, each on the store that was left, and before, between and after
+-- them any number of swaps.
+pub data Site (E : SavingEngine) (file : List ℕ) : StoreReply → List Call → StoreReply → Type 0 where
+  rests : {r : StoreReply} → Site E file r [] r
+  works : {r last : StoreReply} {c : Call} {cs : List Call} →
+      E .engine .delivers file (r .slots) (r .heads) (c .lent) (c .reply) → Site E file (c .reply) cs last →
+      Site E file r (c ∷ cs) last
+  swaps : {r new last : StoreReply} {cs : List Call} → Swapped E file r new → Site E file new cs last →
+      Site E file r cs last
+
+-- a site that began, and came to this reply by any deliveries and swaps
+pub record Running (E : SavingEngine) (file : List ℕ) (r : StoreReply) : Type 0 where
+  pub start : StoreReply
+  pub begins : Begins E file start
+  pub before : List Call
+  pub ran : Site E file start before r
+
+-- ---- two sites beside each other
 
 -- one delivery at two sites, lent the same but for the store
 pub record Pair : Type 0 where
@@ -110,29 +145,18 @@ SameStory fs r q (p ∷ ps) =
 
 -- ---- the swap
 
--- the file in a buffer that a save left
-abbrev pub file-in : List ℕ → List ℕ
-file-in buffer = take (saved-length (stated-count buffer)) buffer
-
--- the script of an accepted file, and the same story over every list of deliveries in which no answer is 25: at a site
--- that goes on from one reply, and at a site that goes on from another
-pub record Alike (delivers : List ℤ → List ℕ → Delivery → StoreReply → Type 0) (file : List ℕ) (old new : StoreReply)
-    : Type 0 where
+-- The script of an accepted file, and the same story at two sites that go on from two replies, if their totals have the
+-- same value there: over every list of deliveries in which no answer is 25, lent the same but for the store, whatever
+-- swaps each site has. They end with the same value, after the last swap too.
+pub record Alike (E : SavingEngine) (file : List ℕ) (old new : StoreReply) : Type 0 where
   pub script : Script
   pub is-accepted : judged file ≡ accepted script
-  pub same : (ps : List Pair) → InTurn delivers (old .slots) (old .heads) (calls-here ps) →
-      InTurn delivers (new .slots) (new .heads) (calls-there ps) →
-      NeverDry (calls-here ps) → NeverDry (calls-there ps) → SameStory script old new ps
+  pub same : value-in script new ≡ value-in script old → (ps : List Pair) (here there : StoreReply) →
+      Site E file old (calls-here ps) here → Site E file new (calls-there ps) there →
+      NeverDry (calls-here ps) → NeverDry (calls-there ps) →
+      SameStory script old new ps × (value-in script there ≡ value-in script here)
 
--- A site begins, and some deliveries are made. Its store is saved with answer 0, and the file restored with answer 0
--- into other arrays. The site that goes on from the restored store is like the one that goes on from its own.
+-- For every two running sites of one file. They may be one site till then, with one store: a site that is swapped after
+-- any of its deliveries, beside itself never swapped.
 abbrev pub Swap : SavingEngine → Type 0
-Swap E =
-    (file : List ℕ) (start : StoreReply) → Begins E file start →
-    (before : List Call) → InTurn (E .engine .delivers file) (start .slots) (start .heads) before →
-    let old = last-reply start before in
-    (kinds : List ℕ) (operands : List ℤ) (buffer : List ℕ) (saving : SaveReply) →
-    E .saves file kinds operands (old .slots) (old .heads) buffer saving → number-of (saving .answer) ≡ 0 →
-    (kinds′ : List ℕ) (operands′ slots′ : List ℤ) (heads′ : List ℕ) (new : StoreReply) →
-    E .restores file kinds′ operands′ slots′ heads′ (file-in (saving .saved)) new → number-of (new .answer) ≡ 0 →
-    Alike (E .engine .delivers file) file old new
+Swap E = (file : List ℕ) (old new : StoreReply) → Running E file old → Running E file new → Alike E file old new

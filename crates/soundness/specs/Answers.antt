@@ -5,12 +5,16 @@ use mathlib.Core.Path.{_≡_}
 use mathlib.Core.Logic.{_≢_}
 use mathlib.Core.Option.{none, some}
 use borrow.Author.Tests.{ne-eqb}
-use Rattle.semantics.specs.Calls.{packed, number-of, steps-of}
+use Rattle.semantics.specs.Calls.{packed, number-of, lowest-of, steps-of}
 use Rattle.semantics.specs.Ledger.{dry-steps}
 
 pub number-packed : (n p k c : ℕ) → n < 256 → number-of (packed n p k c) ≡ n
 unfolding packed
 number-packed n p k c h = omega arith
+
+pub lowest-packed : (n p k c : ℕ) → n < 256 → p < 2 ^ 16 → lowest-of (packed n p k c) ≡ p
+unfolding packed
+lowest-packed n p k c h m = omega arith
 
 pub steps-packed : (n p k c : ℕ) → n < 256 → p < 2 ^ 16 → k < 2 ^ 24 → steps-of (packed n p k c) ≡ k
 unfolding packed

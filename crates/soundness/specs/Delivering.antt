@@ -1,6 +1,6 @@
 -- A delivery of an accepted script on a settled store: the discipline, the machine's soundness and the size of the code
 -- put together.
-use Prim.Native.Nat.{ℕ, _≤_}
+use Prim.Native.Nat.{ℕ, _^_, _<_, _≤_}
 use native.Mathlib.Omega.{arith}
 use mathlib.Core.Bool.{true}
 use mathlib.Core.Path.{_≡_, subst, sym}
@@ -14,16 +14,16 @@ use Rattle.semantics.specs.Value.{Value, numbers}
 use Rattle.semantics.specs.Meaning.{Meter, main-meaning}
 use Rattle.semantics.specs.Store.{Store, cell-count, free-cells}
 use Rattle.semantics.specs.Words.{store-of}
-use Rattle.semantics.specs.Sound.{sound-words}
+use Rattle.semantics.specs.Sound.{free-list, sound-words}
 use Rattle.semantics.specs.Annotate.{code}
-use Rattle.semantics.specs.Machine.{State, program-in, program, delivery, starting, state-of}
+use Rattle.semantics.specs.Machine.{State, program-in, program, delivery, starting, state-of, lowest-over, lowest-level}
 use Rattle.semantics.specs.Calls.{accepted, judged, code-fits, request-fits}
-use Rattle.semantics.specs.Demands.{value-of}
+use Rattle.semantics.specs.Demands.{value-of, Least}
 use Rattle.laws.specs.Tests.{both-hold}
-use Rattle.laws.specs.Levels.{LevelsUpTo, up-to-more}
-use Rattle.discipline.specs.store.LowestLevel.{free-cells-listed}
+use Rattle.laws.specs.Levels.{LevelsUpTo, up-to-more, lowest-most}
+use Rattle.discipline.specs.store.LowestLevel.{free-cells-listed, least-level}
 use Rattle.soundness.specs.annotation.Programs.{program-disciplined, program-frugal}
-use Rattle.discipline.specs.machine.Agreement.{Start}
+use Rattle.discipline.specs.machine.Agreement.{Start, Clean}
 use Rattle.discipline.specs.machine.Totals.{Finished}
 use Rattle.discipline.specs.machine.Delivery.{Delivers, delivery-sound, script-delivery, delivers-clean}
 use Rattle.soundness.specs.Settled.{Settled, sound-settles}
@@ -50,6 +50,17 @@ finished-settled settled q = record {
   value = q .value;
   cells = subst (λ n. 1 ≤ n) (sym (q .clean .cells)) (settled .cells);
 }
+
+-- over a run from a settled store the lowest level is the least number of free cells, and has room in an answer
+module _ {d : ℕ} {σ : Store} {v : Value} (settled : Settled d σ v) (s : State) where
+  pub run-least : (budget : ℕ) → Clean (start-of budget σ) s → Least (s .log) (free-list σ) (lowest-level σ s)
+  run-least budget clean =
+      subst (λ n. Least (s .log) (free-list σ) (lowest-over (s .log) n))
+      (sym (free-cells-listed (settled .rests .holds)))
+      (least-level (s .log) (free-list σ) (free-list (s .store)) (sym (clean .replays)))
+
+  pub few-free : lowest-level σ s < 2 ^ 16
+  few-free = omega (arith, lowest-most (s .log) (free-cells σ), settled .rests .holds .few)
 
 module _ (file : List ℕ) (fs : Script) (ok : judged file ≡ accepted fs)
     (short : length (code fs) ≤ 4096) where

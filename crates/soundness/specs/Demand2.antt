@@ -5,10 +5,9 @@ use mathlib.Core.Bool.{Bool, true, false, cond}
 use mathlib.Core.Path.{_≡_, refl, subst, _∙_}
 use mathlib.Core.List.{List}
 use Rattle.semantics.specs.Syntax.{Script, main-depth}
-use Rattle.semantics.specs.Words.{store-of}
 use Rattle.semantics.specs.Calls.{Verdict, accepted, refused, judged, admitted, admitted-if, code-fits}
 use Rattle.semantics.specs.Demands.{Demand2}
-use Rattle.discipline.specs.machine.Delivery.{delivers-does}
+use Rattle.discipline.specs.machine.Delivery.{delivers-clean, delivers-does}
 use Rattle.soundness.specs.Settled.{sound-settles}
 use Rattle.soundness.specs.Delivering.{few-lines, delivers}
 
@@ -36,7 +35,6 @@ admitted-says file lines fs = by (judged file) refl
 pub demand-2 : Demand2
 demand-2 file lines fs short passes slots heads sound readings budget fit =
     let a = admitted-says file lines fs passes in
-    let σ = store-of slots heads in
-    let d = main-depth fs in
-    delivers-does refl (delivers file fs (a .judged-so) (few-lines fs lines short (a .fits))
-    (sound-settles d slots heads sound) readings budget fit)
+    let run = delivers file fs (a .judged-so) (few-lines fs lines short (a .fits))
+    (sound-settles (main-depth fs) slots heads sound) readings budget fit in
+    (delivers-clean run .cells, delivers-does refl run)

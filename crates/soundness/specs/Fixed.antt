@@ -1,10 +1,10 @@
 -- The statements leave an engine no choice: a log has one least level, what a delivery answers and leaves is fixed by
--- what it agrees with, and a machine that runs dry while a cell is free does not do what is meant. The last two are
--- tried where a wrong engine would tell something else.
+-- what it agrees with, and a machine that runs dry while a cell is free, or ends with an unsound store, does not do
+-- what is meant. The last two are tried where a wrong engine would tell something else.
 use Prim.Native.Nat.{ℕ, _≤_}
 use native.Mathlib.Omega.{arith}
-use mathlib.Core.Bool.{Bool, true, false, cond}
-use mathlib.Core.Path.{_≡_, sym, ap, _∙_}
+use mathlib.Core.Bool.{Bool, true, false, cond, false≢true}
+use mathlib.Core.Path.{_≡_, refl, sym, ap, _∙_}
 use mathlib.Core.Option as O
 use mathlib.Core.Option.{Option, some}
 use mathlib.Core.List.{List, [], _∷_}
@@ -16,8 +16,10 @@ use Rattle.semantics.specs.Kinds.{operation, literal}
 use Rattle.semantics.specs.Syntax.{Script, number, let-in, leaf, none, more}
 use Rattle.semantics.specs.Value.{Value, list, numbers}
 use Rattle.semantics.specs.Meaning.{Meter, main-meaning}
-use Rattle.semantics.specs.Store.{Store, opened, cells-taken}
-use Rattle.semantics.specs.Machine.{Event, Delivered, program, delivered, delivered-by, starting}
+use Rattle.semantics.specs.Store.{Cell, Store, cell, cell-of, with-cell, opened, cells-taken}
+use Rattle.semantics.specs.Sound.{sound}
+use Rattle.semantics.specs.Machine.{Event, State, with-store, program, delivery, Delivered, delivered, delivered-by}
+use Rattle.semantics.specs.Machine.{starting, state-of}
 use Rattle.semantics.specs.Calls.{packed, room, code-fits, request-fits}
 use Rattle.semantics.specs.Ledger as L
 use Rattle.semantics.specs.Ledger.{Delivery, Entry, worked, meant, entry, entry-of, entry-by, dry-steps}
@@ -145,3 +147,25 @@ pub never-starts : Does 1 1000 (stop 25 (starting 1000 (opened 2 1)))
     (main-meaning printed-script (list []) (numbers (pos 250 ∷ [])) 1000) → ⊥
 unfolding computing printed-script
 never-starts h = absurd (let z : _≡_ {A = ℕ} 0 1 = cc in omega arith)
+
+-- the totals' cell with another element depth, as a run's last act
+abbrev deeper : Cell → Cell
+deeper x = record { count = x .count; size = x .size; depth = 3; next = x .next; slots = x .slots }
+
+abbrev spoiled : Outcome State (Unit {0}) → Outcome State (Unit {0})
+spoiled (done u s) =
+    let c = cell-of (s .store .totals) in
+    done u (with-store s (with-cell (s .store) c (deeper (cell (s .store) c))) [])
+spoiled (stop n s) = stop n s
+
+abbrev spoiling : Outcome State (Unit {0})
+spoiling = spoiled (delivery (program printed-script) (pos 250 ∷ []) (starting 1000 (opened 2 1)))
+
+left-unsound : sound 1 (state-of spoiling .store) ≡ false
+unfolding computing printed-script
+left-unsound = refl
+
+-- A machine that spoils the store as it ends does not do what is meant, though the totals have the value.
+pub never-spoils : Does 1 1000 spoiling (main-meaning printed-script (list []) (numbers (pos 250 ∷ [])) 1000) → ⊥
+unfolding computing printed-script
+never-spoils h = false≢true (sym left-unsound ∙ h .1 .is-sound)

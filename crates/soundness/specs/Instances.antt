@@ -34,7 +34,7 @@ printed-script = record {
       (leaf (literal 0) (more (first 1) none));
 } ∷ []
 
-printed-accepted : judged printed-file ≡ accepted printed-script
+pub printed-accepted : judged printed-file ≡ accepted printed-script
 unfolding computing printed-file printed-script
 printed-accepted = refl
 
@@ -84,7 +84,7 @@ folded-script = record {
       (leaf length-of (more (name 2) none));
 } ∷ []
 
-folded-accepted : judged (file-of 1 folded-nodes) ≡ accepted folded-script
+pub folded-accepted : judged (file-of 1 folded-nodes) ≡ accepted folded-script
 unfolding computing file-of low-first operand-bytes folded-nodes folded-script
 folded-accepted = refl
 
@@ -99,7 +99,7 @@ rewritten-script = record {
   body = loop mapping (2 ∷ []) (more (name 1) none) (leaf (operation sum) (more (name 2) (more (number (pos 1)) none)));
 } ∷ []
 
-rewritten-accepted : judged (file-of 1 rewritten-nodes) ≡ accepted rewritten-script
+pub rewritten-accepted : judged (file-of 1 rewritten-nodes) ≡ accepted rewritten-script
 unfolding computing file-of low-first operand-bytes rewritten-nodes rewritten-script
 rewritten-accepted = refl
 

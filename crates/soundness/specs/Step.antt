@@ -12,23 +12,21 @@ use Rattle.semantics.specs.Outcome.{Outcome, done, stop}
 use Rattle.semantics.specs.Syntax.{Script, main-depth}
 use Rattle.semantics.specs.Value.{Value}
 use Rattle.semantics.specs.Meaning.{Meter}
-use Rattle.semantics.specs.Store.{Store, cells-taken, free-cells, relinked}
+use Rattle.semantics.specs.Store.{Store, cells-taken, relinked}
 use Rattle.semantics.specs.Words.{store-of, slot-words, head-words}
-use Rattle.semantics.specs.Sound.{free-list, sound-words}
-use Rattle.semantics.specs.Machine.{State, program, delivery, starting, delivered-by, lowest-over, lowest-level}
+use Rattle.semantics.specs.Sound.{sound-words}
+use Rattle.semantics.specs.Machine.{State, program, delivery, starting, delivered-by, lowest-level}
 use Rattle.semantics.specs.Calls.{number-of, steps-of, StoreReply, request-fits, refusing, answering, deliver-in}
 use Rattle.semantics.specs.Ledger as L
 use Rattle.semantics.specs.Ledger.{Delivery, Entry, worked, meant, entry-by, dry-steps, wants-cell, value-after}
-use Rattle.semantics.specs.Demands.{value-of, Agrees, Least, OutOfCells}
+use Rattle.semantics.specs.Demands.{value-of, Agrees, OutOfCells}
 use Rattle.laws.specs.Tests.{both-hold}
-use Rattle.laws.specs.Levels.{lowest-most}
 use Rattle.soundness.specs.Answers.{number-packed, steps-packed, not-dry, dry-packed}
 use Rattle.soundness.specs.Settled.{Settled, sound-settles, settled-sound, settled-words, settled-rests}
 use Rattle.soundness.specs.Settled.{relinked-settles, relinked-alone}
-use Rattle.discipline.specs.store.LowestLevel.{free-cells-listed, least-level}
 use Rattle.discipline.specs.machine.Agreement.{Start, Clean}
 use Rattle.discipline.specs.machine.Delivery.{Delivers, finishes, stops, runs-dry}
-use Rattle.soundness.specs.Delivering.{start-of, finished-settled}
+use Rattle.soundness.specs.Delivering.{start-of, run-least, few-free, finished-settled}
 
 -- the store in two arrays is sound, and its totals have the ledger's value
 pub record Standing (fs : Script) (slots : List ℤ) (heads : List ℕ) (v : Value) : Type 0 where
@@ -88,18 +86,6 @@ module _ (fs : Script) (slots : List ℤ) (heads : List ℕ) (v : Value) (δ : D
     abbrev replied : Outcome State (Unit {0}) → StoreReply
     replied o = deliver-in kinds operands slots heads fs (delivered-by (δ .budget) before o)
 
-    -- the lowest level is the least number of free cells
-    least-shown : (s : State) → Clean start s → Least (s .log) (free-list before) (lowest-level before s)
-    least-shown s clean =
-        let counted = free-cells-listed (standing-settled stood .rests .holds) in
-        subst (λ n. Least (s .log) (free-list before) (lowest-over (s .log) n)) (sym counted)
-        (least-level (s .log) (free-list before) (free-list (s .store)) (sym (clean .replays)))
-
-    -- there are no more than 256 cells
-    few-free : (s : State) → lowest-level before s < 2 ^ 16
-    few-free s =
-        omega (arith, lowest-most (s .log) (free-cells before), standing-settled stood .rests .holds .few)
-
     few-steps : request-fits (δ .readings) (δ .budget) ≡ true → (k : ℕ) → δ .budget - k < 2 ^ 24
     unfolding request-fits
     few-steps requested k =
@@ -122,7 +108,7 @@ module _ (fs : Script) (slots : List ℤ) (heads : List ℕ) (v : Value) (δ : D
               end = done u s;
               ran = e;
               shows = refl;
-              least = least-shown s clean;
+              least = run-least (standing-settled stood) s (δ .budget) clean;
               untouched = clean .untouched;
               unswept = λ z. clean .replays;
               left-alone = λ f. absurd (f refl);
@@ -133,7 +119,7 @@ module _ (fs : Script) (slots : List ℤ) (heads : List ℕ) (v : Value) (δ : D
           stands = settled-standing settled;
           number = number-packed 0 (lowest-level before s) (δ .budget - s .left) (cells-taken (s .store)) (omega arith);
           steps = steps-packed 0 (lowest-level before s) (δ .budget - s .left) (cells-taken (s .store)) (omega arith)
-              (few-free s) (few-steps requested (s .left));
+              (few-free (standing-settled stood) s) (few-steps requested (s .left));
         }
 
     -- a stop leaves them
@@ -154,7 +140,7 @@ module _ (fs : Script) (slots : List ℤ) (heads : List ℕ) (v : Value) (δ : D
               end = stop n s;
               ran = e;
               shows = refl;
-              least = least-shown s clean;
+              least = run-least (standing-settled stood) s (δ .budget) clean;
               untouched = clean .untouched;
               unswept = λ z. absurd (omega (arith, z, positive));
               left-alone = λ f. relinked-alone (standing-settled stood);
@@ -165,7 +151,7 @@ module _ (fs : Script) (slots : List ℤ) (heads : List ℕ) (v : Value) (δ : D
           stands = settled-standing settled;
           number = number-packed n (lowest-level before s) (δ .budget - s .left) (cells-taken (relinked before)) small;
           steps = steps-packed n (lowest-level before s) (δ .budget - s .left) (cells-taken (relinked before)) small
-              (few-free s) (few-steps requested (s .left));
+              (few-free (standing-settled stood) s) (few-steps requested (s .left));
         }
 
     -- the reply, with the entry that the ledger makes of it
@@ -185,6 +171,6 @@ module _ (fs : Script) (slots : List ℤ) (heads : List ℕ) (v : Value) (δ : D
         (stopped-step requested k s (omega (arith, q .stops .low)) (q .stops .high) e (q .clean)
         (λ z. absurd (q .stops .other z)) (λ z. absurd (q .stops .other z)))
     worked-step requested o p e m (runs-dry {s} none-free out clean wants) =
-        rw (dry-packed (lowest-level before s) (δ .budget - s .left) (cells-taken (relinked before)) (few-free s)
-        (few-steps requested (s .left)))
+        rw (dry-packed (lowest-level before s) (δ .budget - s .left) (cells-taken (relinked before))
+        (few-free (standing-settled stood) s) (few-steps requested (s .left)))
         (stopped-step requested 25 s (omega arith) (omega arith) e clean (λ z. rw m wants) (λ z. out refl))

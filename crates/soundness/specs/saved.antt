@@ -10,3 +10,6 @@ pub mod Loading
 pub mod Restoring
 pub mod Swapping
 pub mod Within
+pub mod Stories
+pub mod Sites
+pub mod Instances

@@ -17,12 +17,12 @@ use Rattle.semantics.specs.Machine.{State, Work, with-store, with-roots, acquir
 use Rattle.semantics.specs.Machine.{program, machine, if-array, delivery, starting, state-of}
 use Rattle.semantics.specs.Store.{Store, Cell, cell-of, named-by, has-free, acquired}
 use Rattle.semantics.specs.Ledger.{wants-cell}
-use Rattle.semantics.specs.Demands.{value-of, touched, replayed, OutOfCells, Does}
+use Rattle.semantics.specs.Demands.{value-of, touched, replayed, AtRest, OutOfCells, Does}
 use Rattle.laws.specs.Lists.{_⊆_, occurrences-append}
 use Rattle.discipline.specs.store.Invariant.{Invariant, StandsFor}
 use Rattle.discipline.specs.store.Counting.{in-append-left, in-append-right}
 use Rattle.discipline.specs.store.Change.{held-used}
-use Rattle.discipline.specs.store.Rest.{Rests, rests-stands}
+use Rattle.discipline.specs.store.Rest.{Rests, rests-stands, at-rest}
 use Rattle.discipline.specs.store.Kept.{stands-kept, alike-trans, reached}
 use Rattle.discipline.specs.store.Acquire.{Acquires, none-left}
 use Rattle.discipline.specs.store.Acquire as Store-acquire
@@ -240,7 +240,8 @@ delivers-clean (runs-dry empty out clean wants) = clean
 -- what demand 2 asks of frugal code
 pub delivers-does : {start : Start} {d : ℕ} {o : Outcome State (Unit {0})} {p : Outcome Meter Value} →
     start .frugal ≡ true → Delivers start d o p → Does d (start .budget) o p
-delivers-does f (finishes q) = (q .left, q .value)
+delivers-does {d = d} f (finishes {s = s} q) =
+    (q .left, subst (λ w. AtRest d (s .store) w) (q .value) (at-rest (q .rests)))
 delivers-does f (stops q) = inl (q .number, q .left)
 delivers-does f (runs-dry {p = done v m} empty out clean wants) = (refl, wants, out f)
 delivers-does f (runs-dry {p = stop n m} empty out clean wants) = inr (refl, wants, out f)

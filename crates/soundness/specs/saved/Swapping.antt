@@ -1,4 +1,4 @@
--- The swap: a site that is saved and restored goes on as one never swapped, while neither meets 25.
+-- The swap: sites that are saved and restored at any times go on as one never swapped, while none meets 25.
 use Prim.Native.Nat.{ℕ, _-_, _≤_}
 use native.Mathlib.Omega.{arith}
 use mathlib.Core.Bool.{Bool, true, false}
@@ -15,15 +15,15 @@ use Rattle.semantics.specs.Syntax.{Script, main-depth}
 use Rattle.semantics.specs.Value.{Value, first-totals}
 use Rattle.semantics.specs.Words.{store-of}
 use Rattle.semantics.specs.Sound.{sound-words}
-use Rattle.semantics.specs.Calls.{number-of, accepted, judged, room, code-fits, StoreReply}
+use Rattle.semantics.specs.Calls.{number-of, steps-of, accepted, judged, room, code-fits, StoreReply}
 use Rattle.semantics.specs.Ledger.{Entry, entry, value-after}
-use Rattle.semantics.specs.Demands.{Call, InTurn, entered, defined}
+use Rattle.semantics.specs.Demands.{Call, entered, defined}
 use Rattle.semantics.specs.Saved.{entries, entry-count, low-bytes, marks, number-bytes, file-bytes, saved-bytes}
 use Rattle.semantics.specs.Saved.{saved-length, save-fits, stated-count, read-saved}
 use Rattle.semantics.specs.SaveCalls.{SaveReply, totals-value, in-buffer, refusing-save, answering-save, save-for}
 use Rattle.semantics.specs.SaveCalls.{engine-save}
-use Rattle.semantics.specs.Swap.{defined-saving, Begins, by-open, by-restore, last-reply, Pair}
-use Rattle.semantics.specs.Swap.{calls-here, calls-there, NeverDry, value-in, SameStory, file-in, Swap}
+use Rattle.semantics.specs.Swap.{defined-saving, Begins, by-open, by-restore, file-in, Swapped, Site, rests, works}
+use Rattle.semantics.specs.Swap.{swaps, Running, Pair, calls-here, calls-there, NeverDry, value-in, SameStory, Swap}
 use Rattle.laws.specs.Tests.{both-hold, some-same}
 use Rattle.laws.specs.SavedFiles.{file-length}
 use Rattle.laws.specs.Files.{same-script}
@@ -95,61 +95,6 @@ module _ (file : List ℕ) (fs : Script) (ok : judged file ≡ accepted fs)
       by true e true f true g =
           rw (admitted-is file fs ok lines, e, f, g) (λ z. record { few = few-entries g; saved = refl })
 
--- ---- two sites with the same value
-
-module _ (file : List ℕ) (fs : Script) (ok : judged file ≡ accepted fs) where
-  abbrev Stands : StoreReply → Value → Type 0
-  Stands r v = Standing fs (r .slots) (r .heads) v
-
-  abbrev Turns : StoreReply → List Call → Type 0
-  Turns r cs = InTurn (defined .delivers file) (r .slots) (r .heads) cs
-
-  -- of an answer other than 25 the ledger is fed nothing
-  fed-nothing : (c : Call) (v : Value) → number-of (c .reply .answer) ≢ 25 → entered fs v c ≡ entry fs v (c .lent) none
-  fed-nothing c v f = rw (ne-eqb (number-of (c .reply .answer)) 25 f) refl
-
-  pub same-story : (ps : List Pair) (r q : StoreReply) (v : Value) → Stands r v → Stands q v →
-      Turns r (calls-here ps) → Turns q (calls-there ps) → NeverDry (calls-here ps) → NeverDry (calls-there ps) →
-      SameStory fs r q ps
-  same-story [] r q v hr hq tr tq f g = hq .value ∙ sym (hr .value)
-  same-story (p ∷ ps) r q v hr hq tr tq f g = (
-    hq .value ∙ sym (hr .value),
-    (
-      there .number ∙ ap entry-number same ∙ sym (here .number),
-      (
-        there .steps ∙ ap entry-steps same ∙ sym (here .steps),
-        same-story ps (p .reply) (p .other) (value-after v e) (here .stands)
-            (subst (λ (i : Entry). Stands (p .other) (value-after v i)) same (there .stands)) (tr .1) (tq .1) (f .1)
-            (g .1),
-      ),
-    ),
-  )
-    where
-      c : Call
-      c = record { lent = p .lent; reply = p .reply }
-
-      k : Call
-      k = record { lent = p .lent; reply = p .other }
-
-      e : Entry
-      e = entered fs v c
-
-      here : Stepped fs (r .slots) (r .heads) v (p .lent) (p .reply) (entered fs v c)
-      here = call-steps file fs ok c (r .slots) (r .heads) v hr (tr .0)
-
-      there : Stepped fs (q .slots) (q .heads) v (p .lent) (p .other) (entered fs v k)
-      there = call-steps file fs ok k (q .slots) (q .heads) v hq (tq .0)
-
-      same : entered fs v k ≡ entered fs v c
-      same = fed-nothing k v (g .0) ∙ sym (fed-nothing c v (f .0))
-
-  -- a site stands after any deliveries, with the value of its totals
-  pub stands-after : (cs : List Call) (r : StoreReply) (v : Value) → Stands r v → Turns r cs →
-      Stands (last-reply r cs) (value-in fs (last-reply r cs))
-  stands-after [] r v h turn = record { sound = h .sound; value = refl }
-  stands-after (c ∷ cs) r v h turn =
-      stands-after cs (c .reply) _ (call-steps file fs ok c (r .slots) (r .heads) v h (turn .0) .stands) (turn .1)
-
 -- ---- the beginning
 
 -- the script of an accepted file, and a store with a value of its totals
@@ -180,43 +125,136 @@ begun file r (by-restore kinds operands slots heads saved called answered) =
       stands = s .stood .stands;
     }
 
--- ---- the theorem
+-- ---- the swaps of a site
 
-module _ (file : List ℕ) (fs : Script) (ok : judged file ≡ accepted fs) (old : StoreReply)
-    (kinds : List ℕ) (operands : List ℤ) (buffer : List ℕ) (saving : SaveReply)
-    (saves : defined-saving .saves file kinds operands (old .slots) (old .heads) buffer saving)
-    (saved : number-of (saving .answer) ≡ 0) where
+module _ (file : List ℕ) (fs : Script) (ok : judged file ≡ accepted fs) where
+  abbrev Stands : StoreReply → Value → Type 0
+  Stands r v = Standing fs (r .slots) (r .heads) v
+
+  abbrev SiteOf : StoreReply → List Call → StoreReply → Type 0
+  SiteOf r cs last = Site defined-saving file r cs last
+
   -- the file of a save that answered 0 is read as the value of the totals
-  pub saved-reads : read-saved (main-depth fs) (file-in (saving .saved)) ≡ some (value-in fs old)
+  saved-reads : {old new : StoreReply} (w : Swapped defined-saving file old new) →
+      read-saved (main-depth fs) (file-in (w .saving .saved)) ≡ some (value-in fs old)
   unfolding defined-saving
-  saved-reads =
+  saved-reads {old} w =
       let d = main-depth fs in
       let v = value-in fs old in
-      let z = subst (λ r. number-of (r .answer) ≡ 0) (saves .1) saved in
-      let s = save-says file fs ok kinds operands (old .slots) (old .heads) buffer z in
-      let bytes = ap (λ r. file-in (r .saved)) (saves .1) ∙ ap file-in (s .saved) ∙ file-back d v buffer (s .few) in
+      let z = subst (λ r. number-of (r .answer) ≡ 0) (w .saves .1) (w .saved) in
+      let s = save-says file fs ok (w .kinds) (w .operands) (old .slots) (old .heads) (w .buffer) z in
+      let bytes = ap (λ r. file-in (r .saved)) (w .saves .1) ∙ ap file-in (s .saved)
+      ∙ file-back d v (w .buffer) (s .few) in
       ap (read-saved d) bytes
-      ∙ round-trip d v (totals-of-depth (old .slots) (old .heads) (saves .0) d)
-      (totals-fit (old .slots) (old .heads) (saves .0) d) (s .few)
+      ∙ round-trip d v (totals-of-depth (old .slots) (old .heads) (w .saves .0) d)
+      (totals-fit (old .slots) (old .heads) (w .saves .0) d) (s .few)
+
+  -- a swap keeps the value
+  swap-stands : {old new : StoreReply} {v : Value} → Stands old v → Swapped defined-saving file old new → Stands new v
+  swap-stands {old} {new} {v} s w =
+      let saved = file-in (w .saving .saved) in
+      let r = restored-from file (w .kinds′) (w .operands′) (w .slots′) (w .heads′) saved new (w .restores)
+      (w .restored) in
+      let stood = subst (λ g. Stood g saved new) (same-script (sym (r .is-accepted) ∙ ok)) (r .stood) in
+      let same : stood .value ≡ v = some-same (stood .value) v
+      (sym (stood .is-read) ∙ saved-reads w ∙ ap some (s .value)) in
+      subst (λ u. Stands new u) same (stood .stands)
+
+  -- without a delivery there are swaps alone
+  idle-stands : {r last : StoreReply} (v : Value) → Stands r v → SiteOf r [] last → Stands last v
+  idle-stands v s rests = s
+  idle-stands v s (swaps w rest) = idle-stands v (swap-stands s w) rest
+
+  -- a site up to its next delivery: the store that this is lent
+  record Next (v : Value) (c : Call) (cs : List Call) (last : StoreReply) : Type 0 where
+    lent : StoreReply
+    stands : Stands lent v
+    delivers : defined .delivers file (lent .slots) (lent .heads) (c .lent) (c .reply)
+    rest : SiteOf (c .reply) cs last
+
+  next : {r last : StoreReply} {c : Call} {cs : List Call} (v : Value) → Stands r v → SiteOf r (c ∷ cs) last →
+      Next v c cs last
+  unfolding defined-saving
+  next {r} v s (works called rest) = record { lent = r; stands = s; delivers = called; rest = rest }
+  next v s (swaps w rest) = next v (swap-stands s w) rest
+
+  -- and with it
+  stepped : {v : Value} {c : Call} {cs : List Call} {last : StoreReply} (n : Next v c cs last) →
+      Stepped fs (n .lent .slots) (n .lent .heads) v (c .lent) (c .reply) (entered fs v c)
+  stepped {v} {c} n = call-steps file fs ok c (n .lent .slots) (n .lent .heads) v (n .stands) (n .delivers)
+
+  -- a site stands wherever it came to, with the value of its totals
+  site-stands : (cs : List Call) {r last : StoreReply} (v : Value) → Stands r v → SiteOf r cs last →
+      Stands last (value-in fs last)
+  site-stands [] v s site = record { sound = idle-stands v s site .sound; value = refl }
+  site-stands (c ∷ cs) v s site = let n = next v s site in site-stands cs _ (stepped n .stands) (n .rest)
+
+  -- ---- two sites with the same value
+
+  -- of an answer other than 25 the ledger is fed nothing
+  fed-nothing : (c : Call) (v : Value) → number-of (c .reply .answer) ≢ 25 → entered fs v c ≡ entry fs v (c .lent) none
+  fed-nothing c v f = rw (ne-eqb (number-of (c .reply .answer)) 25 f) refl
+
+  pub same-story : (ps : List Pair) {r q here there : StoreReply} (v : Value) → Stands r v → Stands q v →
+      SiteOf r (calls-here ps) here → SiteOf q (calls-there ps) there →
+      NeverDry (calls-here ps) → NeverDry (calls-there ps) →
+      SameStory fs r q ps × (value-in fs there ≡ value-in fs here)
+  same-story [] v sr sq site other f g =
+      (sq .value ∙ sym (sr .value), idle-stands v sq other .value ∙ sym (idle-stands v sr site .value))
+  same-story (p ∷ ps) {r} {q} {here} {there} v sr sq site other f g =
+      let rest = same-story ps (value-after v (entered fs v c)) (stepped n .stands)
+      (subst (λ (e : Entry). Stands (p .other) (value-after v e)) same (stepped m .stands)) (n .rest) (m .rest) (f .1)
+      (g .1) in
+      ((sq .value ∙ sym (sr .value), (numbers-same, (steps-same, rest .0))), rest .1)
+    where
+      c : Call
+      c = record { lent = p .lent; reply = p .reply }
+
+      k : Call
+      k = record { lent = p .lent; reply = p .other }
+
+      n : Next v c (calls-here ps) here
+      n = next v sr site
+
+      m : Next v k (calls-there ps) there
+      m = next v sq other
+
+      same : entered fs v k ≡ entered fs v c
+      same = fed-nothing k v (g .0) ∙ sym (fed-nothing c v (f .0))
+
+      numbers-same : number-of (p .other .answer) ≡ number-of (p .reply .answer)
+      numbers-same = stepped m .number ∙ ap entry-number same ∙ sym (stepped n .number)
+
+      steps-same : steps-of (p .other .answer) ≡ steps-of (p .reply .answer)
+      steps-same = stepped m .steps ∙ ap entry-steps same ∙ sym (stepped n .steps)
+
+-- ---- the theorem
+
+-- what a running site has come to
+running-stands : (file : List ℕ) (r : StoreReply) → Running defined-saving file r → Started file r
+running-stands file r site =
+    let b = begun file (site .start) (site .begins) in
+    record {
+      script = b .script;
+      is-accepted = b .is-accepted;
+      value = value-in (b .script) r;
+      stands = site-stands file (b .script) (b .is-accepted) (site .before) (b .value) (b .stands) (site .ran);
+    }
 
 pub swap : Swap defined-saving
-unfolding defined-saving
-swap file start begins before turns kinds operands buffer saving saves saved kinds′ operands′ slots′ heads′ new restores
-    answered =
-    let b = begun file start begins in
-    let fs = b .script in
-    let ok = b .is-accepted in
-    let old = last-reply start before in
+swap file old new one other =
+    let a = running-stands file old one in
+    let b = running-stands file new other in
+    let fs = a .script in
     let v = value-in fs old in
-    let stands = stands-after file fs ok before start (b .value) (b .stands) turns in
-    let r = restored-from file kinds′ operands′ slots′ heads′ (file-in (saving .saved)) new restores answered in
-    let stood = subst (λ g. Stood g (file-in (saving .saved)) new)
-    (same-script (sym (r .is-accepted) ∙ ok)) (r .stood) in
-    let same : stood .value ≡ v = some-same (stood .value) v (sym (stood .is-read)
-    ∙ saved-reads file fs ok old kinds operands buffer saving saves saved) in
     record {
       script = fs;
-      is-accepted = ok;
-      same = λ ps here there f g. same-story file fs ok ps old new v stands
-          (subst (λ w. Standing fs (new .slots) (new .heads) w) same (stood .stands)) here there f g;
+      is-accepted = a .is-accepted;
+      same = λ e ps here there site beside f g. same-story file fs (a .is-accepted) ps v
+          (record { sound = a .stands .sound; value = refl })
+          (record {
+            sound = subst (λ gs. sound-words (main-depth gs) (new .slots) (new .heads) ≡ true)
+                (same-script (sym (b .is-accepted) ∙ a .is-accepted)) (b .stands .sound);
+            value = e;
+          }) site beside f g;
     }

@@ -4,7 +4,9 @@ use mathlib.Core.List.{List}
 use lib.IntN.{ℤ}
 use Rattle.semantics.specs.Calls.{StoreReply}
 use Rattle.semantics.specs.SaveCalls.{SaveReply}
-use Rattle.semantics.specs.Swap.{SavingEngine, Begins, by-open, by-restore, calls-here, calls-there, Restored, Swap}
+use Rattle.semantics.specs.Demands.{Call}
+use Rattle.semantics.specs.Swap.{SavingEngine, Restored, Begins, by-open, by-restore, file-in, Swapped, Site, rests}
+use Rattle.semantics.specs.Swap.{works, swaps, Running, Swap}
 use Rattle.soundness.specs.Demand3.{OpensWithin, DeliversWithin, turn-within}
 
 -- calls of one engine are calls of another
@@ -36,17 +38,42 @@ module _ {E F : SavingEngine} (w : Within E F) where
             (restoring .heads) turn);
       }
 
+  swapped-within : {file : List ℕ} {old new : StoreReply} → Swapped E file old new → Swapped F file old new
+  swapped-within {file} {old} {new} s = record {
+    kinds = s .kinds;
+    operands = s .operands;
+    buffer = s .buffer;
+    saving = s .saving;
+    saves = w .saves file (s .kinds) (s .operands) (old .slots) (old .heads) (s .buffer) (s .saving) (s .saves);
+    saved = s .saved;
+    kinds′ = s .kinds′;
+    operands′ = s .operands′;
+    slots′ = s .slots′;
+    heads′ = s .heads′;
+    restores = w .restores file (s .kinds′) (s .operands′) (s .slots′) (s .heads′) (file-in (s .saving .saved)) new
+        (s .restores);
+    restored = s .restored;
+  }
+
+  site-within : {file : List ℕ} {r last : StoreReply} {cs : List Call} → Site E file r cs last → Site F file r cs last
+  site-within rests = rests
+  site-within {file} {r} (works {c = c} called rest) =
+      works (w .delivers file (r .slots) (r .heads) (c .lent) (c .reply) called) (site-within rest)
+  site-within (swaps s rest) = swaps (swapped-within s) (site-within rest)
+
+  running-within : {file : List ℕ} {r : StoreReply} → Running E file r → Running F file r
+  running-within {file} site = record {
+    start = site .start;
+    begins = begins-within file (site .start) (site .begins);
+    before = site .before;
+    ran = site-within (site .ran);
+  }
+
   pub swap-within : Swap F → Swap E
-  swap-within whole file start begins before turns kinds operands buffer saving saves saved kinds′ operands′ slots′
-      heads′ new restores answered =
-      let s = whole file start (begins-within file start begins) before
-      (turn-within (E .engine) (F .engine) (w .delivers) file before (start .slots) (start .heads) turns) kinds operands
-      buffer saving (w .saves file kinds operands _ _ buffer saving saves) saved kinds′ operands′ slots′ heads′ new
-      (w .restores file kinds′ operands′ slots′ heads′ _ new restores) answered in
+  swap-within whole file old new one other =
+      let s = whole file old new (running-within one) (running-within other) in
       record {
         script = s .script;
         is-accepted = s .is-accepted;
-        same = λ ps here there f g. s .same ps
-            (turn-within (E .engine) (F .engine) (w .delivers) file (calls-here ps) _ _ here)
-            (turn-within (E .engine) (F .engine) (w .delivers) file (calls-there ps) _ _ there) f g;
+        same = λ e ps here there site beside. s .same e ps here there (site-within site) (site-within beside);
       }
