@@ -148,7 +148,7 @@ module _ {d : ℕ} {saved : List ℕ} {slots : List ℤ} {heads : List ℕ} {f :
   unfolding loaded load-totals onward
   runs-dry h = by meant (subst (λ (o : Outcome Place ℤ). Same k o meant) (h .is) side)
     where
-      by : (o : Outcome Store ℤ) → Same k (stop (h .number) (h .at)) o →
+      by : (o : Outcome Store ℤ) → Same k (stop 25 (h .at)) o →
           restored-by n (onward finished o) ≡ left-by 25 0 0 (zeroed n)
       by (done u υ) g = absurd g
       by (stop m υ) g = ap (λ (j : ℕ). left-by j 0 0 (zeroed n)) g

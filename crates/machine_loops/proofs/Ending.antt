@@ -1,6 +1,6 @@
 -- Laws of what a pass carries on, and of what a loop ends with.
 use mathlib.Core.Path.{_≡_, refl, sym, ap, ap₂, subst, _∙_}
-use mathlib.Core.Bool.{Bool, true, false}
+use mathlib.Core.Bool.{Bool, true, false, cond}
 use mathlib.Core.List.{List, [], _∷_}
 use Prim.Native.Nat.{ℕ, _-_}
 use native.Mathlib.Omega.{arith}
@@ -11,6 +11,7 @@ use types.Run.{OneOf, miss}
 use mir.Syntax.{w64}
 use mir.Val.{SFits, ofZ}
 use borrow.Author.Tests.{eq-eqb, ne-eqb}
+use Rattle.semantics.specs.Outcome.{done, stop}
 use Rattle.semantics.specs.Number.{is-answer}
 use Rattle.semantics.specs.Store.{Store, cell-of, appended, overwritten, retained, cells-taken}
 use Rattle.semantics.specs.Words.{store-of}
@@ -26,7 +27,7 @@ use Rattle.machine_loops.specs.declared.Next.{Next}
 use Rattle.machine_loops.specs.declared.Next.the-variants.{Word, BadGuard}
 use Rattle.machine_loops.proofs.Way.{the-type}
 use Rattle.machine_loops.specs.Loops.{retained-if, kept, loop-ended, loop-bound, Within, ResultWithin}
-use Rattle.machine_loops.specs.Loops.{CarriesOn}
+use Rattle.machine_loops.specs.Loops.{is-taken, carried-word, carried-store, CarriesOn}
 
 module _ (arrays : Bool) (c : ℕ) (σ : Store) where
   pub retained-asked : arrays ≡ true → retained c σ ≡ retained-if arrays c σ
@@ -52,21 +53,43 @@ module _ (way : Way) (into : ℕ) (carried : ℤ) (ce : into ≡ cell-of carried
 
     pub fills : (releases : Bool) → way ≡ Fill releases → τ ≡ appended into r σ → Ended (Word v) way
     fills releases e h =
-        subst (Ended (Word v)) (sym e) (refl, refl, h ∙ ap (λ (c : ℕ). appended c r σ) ce)
+        subst (Ended (Word v)) (sym e) (record { is = ap (done v) (h ∙ ap (λ (c : ℕ). appended c r σ) ce) })
 
     module _ (arrays : Bool) (g : way ≡ Keep arrays) where
       pub keeps-on : is-answer r ≡ true → (e : ℤ) → e ≡ w → τ ≡ kept arrays into e r σ → Ended (Word v) way
       keeps-on answer e we h = subst (Ended (Word v)) (sym g)
-          (answer, refl, h ∙ ap₂ (λ (c : ℕ) (y : ℤ). kept arrays c y r σ) ce we)
+          (record { is = rw answer (ap (done v) (h ∙ ap₂ (λ (c : ℕ) (y : ℤ). kept arrays c y r σ) ce we)) })
 
       pub doubts : is-answer r ≡ false → τ ≡ σ → Ended BadGuard way
-      doubts none h = subst (Ended BadGuard) (sym g) (none, h)
+      doubts none h = subst (Ended BadGuard) (sym g) (record { is = rw none (ap (stop 28) h) })
 
     pub hands : way ≡ Hand → τ ≡ σ → Ended (Word r) way
-    hands e h = subst (Ended (Word r)) (sym e) (refl, refl, h)
+    hands e h = subst (Ended (Word r)) (sym e) (record { is = ap (done r) h })
 
     pub overwrites : way ≡ Overwrite → τ ≡ overwritten into i r σ → Ended (Word v) way
-    overwrites e h = subst (Ended (Word v)) (sym e) (refl, refl, h ∙ ap (λ (c : ℕ). overwritten c i r σ) ce)
+    overwrites e h =
+        subst (Ended (Word v)) (sym e) (record { is = ap (done v) (h ∙ ap (λ (c : ℕ). overwritten c i r σ) ce) })
+
+-- what the answer says of what the tree gave
+module _ {way : Way} {c : ℕ} {v : ℤ} {i : ℕ} {w r : ℤ} {σ τ : Store} where
+  pub taken : {u : ℤ} → CarriesOn way c v i w r σ τ (Word u) →
+      (is-taken way r ≡ true) × (u ≡ carried-word way v r) × (τ ≡ carried-store way c i w r σ)
+  taken {u} h = go (is-taken way r) refl (h .is)
+    where
+      go : (t : Bool) → is-taken way r ≡ t →
+          done u τ ≡ cond t (done (carried-word way v r) (carried-store way c i w r σ)) (stop 28 σ) →
+          (is-taken way r ≡ true) × (u ≡ carried-word way v r) × (τ ≡ carried-store way c i w r σ)
+      go true e g = (e, cc, cc)
+      go false e g = absurd (let z : _≡_ {A = ℕ} 0 1 = cc in omega arith)
+
+  pub not-taken : CarriesOn way c v i w r σ τ BadGuard → (is-taken way r ≡ false) × (τ ≡ σ)
+  not-taken h = go (is-taken way r) refl (h .is)
+    where
+      go : (t : Bool) → is-taken way r ≡ t →
+          stop 28 τ ≡ cond t (done (carried-word way v r) (carried-store way c i w r σ)) (stop 28 σ) →
+          (is-taken way r ≡ false) × (τ ≡ σ)
+      go true e g = absurd (let z : _≡_ {A = ℕ} 0 1 = cc in omega arith)
+      go false e g = (e, cc)
 
 -- the cell of the result is there
 module _ (way : Way) (slots : List ℤ) (heads : List ℕ) (into : ℕ) (carried : ℤ) (ce : into ≡ cell-of carried)

@@ -6,6 +6,7 @@ use Prim.Native.Nat.{ℕ, _+_, _*_, _<_}
 use lib.IntN.{ℤ}
 use lib.Dec.{eqb}
 use lib.ListN.{length}
+use Rattle.semantics.specs.Outcome.{Outcome, done, stop}
 use Rattle.semantics.specs.Number.{is-zero, is-answer}
 use Rattle.semantics.specs.Kinds.{Loop, mapping, filtering, reducing, rewriting}
 use Rattle.semantics.specs.Store.{Store, cell, cell-of, appended, overwritten, retained}
@@ -134,12 +135,16 @@ Carries k d ws m slots heads env (F.Word w) =
 Carries k d ws m slots heads env F.NoneFree =
     (s : ℕ) → carry-first k d ws s m ≡ halted 25 s (memory (store-of slots heads) env)
 
--- Pass i, over w, into which v was carried and whose tree gave r, carries a word on; or it does not take r, and leaves
--- the store as it is.
-abbrev pub CarriesOn : Way → ℕ → ℤ → ℕ → ℤ → ℤ → Store → Store → Next → Type 0
-CarriesOn way c v i w r σ τ (N.Word u) =
-    (is-taken way r ≡ true) × (u ≡ carried-word way v r) × (τ ≡ carried-store way c i w r σ)
-CarriesOn way c v i w r σ τ N.BadGuard = (is-taken way r ≡ false) × (τ ≡ σ)
+-- document 01's number and values for each case, with the store that a pass leaves: the word that it carries on, or 28
+abbrev pub next-outcome : Next → Store → Outcome Store ℤ
+next-outcome (N.Word u) τ = done u τ
+next-outcome N.BadGuard τ = stop 28 τ
+
+-- Pass i, over w, into which v was carried and whose tree gave r, carries a word on; or it does not take r: then it is
+-- 28, and the store stays as it is.
+pub record CarriesOn (way : Way) (c : ℕ) (v : ℤ) (i : ℕ) (w r : ℤ) (σ τ : Store) (n : Next) : Type 0 where
+  pub is : next-outcome n τ ≡
+      cond (is-taken way r) (done (carried-word way v r) (carried-store way c i w r σ)) (stop 28 σ)
 
 -- the passes of a loop of kind k with the names p and q, whose atoms have the words ws
 pub record Readied (k : Loop) (p q d : ℕ) (ws : List ℤ) (m : Memory) (slots : List ℤ) (heads : List ℕ) (env : List ℤ)

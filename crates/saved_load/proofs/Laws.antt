@@ -16,7 +16,8 @@ use Rattle.store.specs.Acquiring.{Gained, gained, acquired-outcome, next-cell}
 use Rattle.store.specs.declared.Acquired.{Acquired}
 use Rattle.store.specs.declared.Acquired.the-variants.{Cell, NoneFree as NoCell}
 use Rattle.store.proofs.Filling.{cell-given}
-use Rattle.saved_load.specs.Entries.{Place, place, appended-at, fill, elements-at, load-at, Ended, Filled}
+use Rattle.saved_load.specs.Entries.{Place, place, appended-at, fill, elements-at, load-at}
+use Rattle.saved_load.specs.Entries.{ValueLoaded, value-loaded, loaded-outcome, Ended, Filled}
 use Rattle.saved_load.specs.declared.Loaded.{Loaded}
 use Rattle.saved_load.specs.declared.Loaded.the-variants.{Word, NoneFree}
 
@@ -25,22 +26,30 @@ use Rattle.saved_load.specs.declared.Loaded.the-variants.{Word, NoneFree
 pub ended-word : (o : Outcome Place ℤ) (r : Loaded) (τ : Store) → Ended o r τ → (w : ℤ) (n f : ℕ) → r ≡ Word w n f →
     o ≡ done w (place n f τ)
 ended-word (done v s) r τ h w n f e =
-    let same : v ≡ w = cc in
-    let next : s .next ≡ n = cc in
-    let free : s .free ≡ f = cc in
+    let told = sym (h .0) ∙ ap loaded-outcome e in
+    let is : value-loaded v (s .next) (s .free) ≡ value-loaded w n f = cc in
+    let same : v ≡ w = ap (λ (x : ValueLoaded). x .word) is in
+    let next : s .next ≡ n = ap (λ (x : ValueLoaded). x .next) is in
+    let free : s .free ≡ f = ap (λ (x : ValueLoaded). x .free) is in
     ap (λ (u : ℤ). done u s) same
     ∙ (λ i. done w (record { next = next i; free = free i; store = sym (h .1) i }))
-ended-word (stop m s) r τ h w n f e = absurd (let z : _≡_ {A = ℕ} 0 1 = cc in omega arith)
+ended-word (stop m s) r τ h w n f e =
+    let told = sym h ∙ ap loaded-outcome e in
+    absurd (let z : _≡_ {A = ℕ} 0 1 = cc in omega arith)
 
--- a stop
+-- a stop for want of a cell
 pub record Stopped {A : Type 0} (o : Outcome Place A) : Type 0 where
-  pub number : ℕ
   pub at : Place
-  pub is : o ≡ stop number at
+  pub is : o ≡ stop 25 at
 
 pub ended-none : (o : Outcome Place ℤ) (r : Loaded) (τ : Store) → Ended o r τ → r ≡ NoneFree → Stopped o
-ended-none (done v s) r τ h e = absurd (let z : _≡_ {A = ℕ} 0 1 = cc in omega arith)
-ended-none (stop m s) r τ h e = record { number = m; at = s; is = refl }
+ended-none (done v s) r τ h e =
+    let told = sym (h .0) ∙ ap loaded-outcome e in
+    absurd (let z : _≡_ {A = ℕ} 0 1 = cc in omega arith)
+ended-none (stop m s) r τ h e =
+    let told = sym h ∙ ap loaded-outcome e in
+    let number : m ≡ 25 = cc in
+    record { at = s; is = ap (λ (j : ℕ). stop j s) number }
 
 -- ---- the next free cell
 
@@ -98,7 +107,7 @@ module _ (file : List ℕ) (k : ℕ) where
     pub number : d ≡ 0 → (w : ℤ) → w ≡ signed (bytes-at 8 file (3 + k + 8 * p)) →
         Ended (load-at file k d (place p f σ)) (Word w (p + 1) f) σ
     unfolding load-at
-    number e w is = rw (e, load-at, lt-ltb p k within) (ap (λ (z : ℤ). Word z (p + 1) f) is, refl)
+    number e w is = rw (e, load-at, lt-ltb p k within) (ap (λ (z : ℤ). done (value-loaded z (p + 1) f) tt) is, refl)
 
     at-array : d ≢ 0 → load-at file k d (place p f σ) ≡ load-at file k (suc (d - 1)) (place p f σ)
     at-array h = ap (λ (n : ℕ). load-at file k n (place p f σ)) (let e : d ≡ suc (d - 1) = omega (arith, h) in e)
@@ -149,4 +158,7 @@ module _ (load : Run Place ℤ) (c : ℕ) where
     pub all-filled : n ≡ 0 → (w : ℤ) → w ≡ pos c → Filled c (fill load c n₀ s₀) (Word w (s .next) (s .free)) (s .store)
     unfolding fill
     all-filled e w we = subst (λ (o : Outcome Place (Unit {0})). Filled c o (Word w (s .next) (s .free)) (s .store))
-        (sym (inv ∙ ap (λ (j : ℕ). fill load c j s) e)) (ap (λ (z : ℤ). Word z (s .next) (s .free)) we, refl)
+        (sym (inv ∙ ap (λ (j : ℕ). fill load c j s) e)) (
+          ap (λ (z : ℤ). done (value-loaded z (s .next) (s .free)) tt) we,
+          refl,
+        )

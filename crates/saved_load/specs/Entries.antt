@@ -48,12 +48,26 @@ module _ (file : List ℕ) (k : ℕ) where
       (stop 25 s))
       (stop 25 s)
 
--- how a load's answer and the store after it show its outcome
+-- what was loaded: its word, the number of the entry after it and how many free cells remain
+pub record ValueLoaded : Type 0 where
+  pub word : ℤ
+  pub next : ℕ
+  pub free : ℕ
+
+abbrev pub value-loaded : ℤ → ℕ → ℕ → ValueLoaded
+value-loaded w p n = record { word = w; next = p; free = n }
+
+-- document 01's number and values for each case: a value, or 25
+abbrev pub loaded-outcome : Loaded → Outcome (Unit {0}) ValueLoaded
+loaded-outcome (Word w p n) = done (value-loaded w p n) tt
+loaded-outcome NoneFree = stop 25 tt
+
+-- how a load's answer and the store after it show its outcome; after a stop the store is not told
 abbrev pub Ended : Outcome Place ℤ → Loaded → Store → Type 0
-Ended (done w s) r τ = (r ≡ Word w (s .next) (s .free)) × (τ ≡ s .store)
-Ended (stop n s) r τ = r ≡ NoneFree
+Ended (done w s) r τ = (loaded-outcome r ≡ done (value-loaded w (s .next) (s .free)) tt) × (τ ≡ s .store)
+Ended (stop n s) r τ = loaded-outcome r ≡ stop n tt
 
 -- of elements: the word is the cell's
 abbrev pub Filled : ℕ → Outcome Place (Unit {0}) → Loaded → Store → Type 0
-Filled c (done _ s) r τ = (r ≡ Word (pos c) (s .next) (s .free)) × (τ ≡ s .store)
-Filled c (stop n s) r τ = r ≡ NoneFree
+Filled c (done _ s) r τ = (loaded-outcome r ≡ done (value-loaded (pos c) (s .next) (s .free)) tt) × (τ ≡ s .store)
+Filled c (stop n s) r τ = loaded-outcome r ≡ stop n tt

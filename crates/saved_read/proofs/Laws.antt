@@ -16,8 +16,6 @@ use Rattle.semantics.specs.Value.{Value, list}
 use Rattle.semantics.specs.Saved.{value-at, all-read, stated-count, saved-length, labelled}
 use Rattle.semantics.specs.Saved.{read-saved}
 use Rattle.saved_read.specs.Told.{told, is-there, readable}
-use Rattle.saved_read.specs.declared.Read.{Read}
-use Rattle.saved_read.specs.declared.Read.the-variants.{Next, Broken}
 
 -- a number is 0 where its bits are
 signed-other : (u : ℕ) → u ≢ 0 → is-zero (signed u) ≡ false
@@ -30,36 +28,36 @@ signed-other (suc u) h = elim (decLt (suc u) (2 ^ 63)) [
 -- ---- one value
 
 module _ (file : List ℕ) (k : ℕ) where
-  pub past : (d p : ℕ) → k ≤ p → Broken ≡ told (value-at file k d p)
+  pub past : (d p : ℕ) → k ≤ p → stop 27 tt ≡ told (value-at file k d p)
   unfolding value-at
   past zero p h = rw (le-ltb p k h) refl
   past (suc d) p h = rw (le-ltb p k h) refl
 
   -- an entry that is there, with its mark
   module _ (d p mark : ℕ) (within : p < k) (is : mark ≡ getD file (3 + p) 0) where
-    pub number : d ≡ 0 → mark ≡ 0 → Next (p + 1) ≡ told (value-at file k d p)
+    pub number : d ≡ 0 → mark ≡ 0 → done (p + 1) tt ≡ told (value-at file k d p)
     unfolding value-at
-    number e m = rw (e, value-at, lt-ltb p k within, sym is, m) (ap Next (omega arith))
+    number e m = rw (e, value-at, lt-ltb p k within, sym is, m) (ap (λ (q : ℕ). done q tt) (omega arith))
 
-    pub no-number : d ≡ 0 → mark ≢ 0 → Broken ≡ told (value-at file k d p)
+    pub no-number : d ≡ 0 → mark ≢ 0 → stop 27 tt ≡ told (value-at file k d p)
     unfolding value-at
     no-number e m = rw (e, value-at, lt-ltb p k within, sym is, ne-eqb mark 0 m) refl
 
     at-array : d ≢ 0 → told (value-at file k d p) ≡ told (value-at file k (suc (d - 1)) p)
     at-array h = ap (λ (n : ℕ). told (value-at file k n p)) (let e : d ≡ suc (d - 1) = omega (arith, h) in e)
 
-    pub flat : d ≢ 0 → mark ≡ 0 → Broken ≡ told (value-at file k d p)
+    pub flat : d ≢ 0 → mark ≡ 0 → stop 27 tt ≡ told (value-at file k d p)
     unfolding value-at
     flat h m = sym (at-array h ∙ rw (lt-ltb p k within, sym is, m) refl)
 
     module _ (h : d ≢ 0) (some-mark : mark ≢ 0) where
-      pub long : 17 < mark → Broken ≡ told (value-at file k d p)
+      pub long : 17 < mark → stop 27 tt ≡ told (value-at file k d p)
       unfolding value-at
       long g = sym (at-array h ∙ rw (lt-ltb p k within, sym is, lt-ltb 0 mark (omega (arith, g)), lt-leb mark 17 g)
           refl)
 
       module _ (few : mark ≤ 17) (word : ℕ) (reads : word ≡ bytes-at 8 file (3 + k + 8 * p)) where
-        pub numbered : word ≢ 0 → Broken ≡ told (value-at file k d p)
+        pub numbered : word ≢ 0 → stop 27 tt ≡ told (value-at file k d p)
         unfolding value-at
         numbered g = sym (at-array h ∙ rw (
           lt-ltb p k within,
@@ -75,7 +73,8 @@ module _ (file : List ℕ) (k : ℕ) where
         told-list (done vs q) = refl
         told-list (stop n q) = refl
 
-        pub goes-down : word ≡ 0 → (r : Read) → r ≡ told (times (mark - 1) (value-at file k (d - 1)) (p + 1)) →
+        pub goes-down : word ≡ 0 → (r : Outcome (Unit {0}) ℕ) →
+            r ≡ told (times (mark - 1) (value-at file k (d - 1)) (p + 1)) →
             r ≡ told (value-at file k d p)
         unfolding value-at
         goes-down g r e =
@@ -98,9 +97,9 @@ told-more v (done vs q) = refl
 told-more v (stop n q) = refl
 
 module _ (m : Run ℕ Value) where
-  abbrev after : ℕ → Read → Read
-  after n (Next q) = told (times n m q)
-  after n Broken = Broken
+  abbrev after : ℕ → Outcome (Unit {0}) ℕ → Outcome (Unit {0}) ℕ
+  after n (done q u) = told (times n m q)
+  after n (stop j u) = stop j u
 
   times-told : (n p : ℕ) → told (times (suc n) m p) ≡ after n (told (m p))
   unfolding times onward
@@ -115,15 +114,15 @@ module _ (m : Run ℕ Value) where
   times-step n p h = ap (λ (j : ℕ). told (times j m p)) (let e : n ≡ suc (n - 1) = omega (arith, h) in e) ∙
       times-told (n - 1) p
 
-  module _ (n₀ n p₀ p : ℕ) (inv : told (times n₀ m p₀) ≡ told (times n m p)) (left : 0 < n) (r : Read)
+  module _ (n₀ n p₀ p : ℕ) (inv : told (times n₀ m p₀) ≡ told (times n m p)) (left : 0 < n) (r : Outcome (Unit {0}) ℕ)
       (is : r ≡ told (m p)) where
-    pub goes-on : (q : ℕ) → r ≡ Next q → told (times n₀ m p₀) ≡ told (times (n - 1) m q)
+    pub goes-on : (q : ℕ) → r ≡ done q tt → told (times n₀ m p₀) ≡ told (times (n - 1) m q)
     goes-on q e = inv ∙ times-step n p left ∙ ap (after (n - 1)) (sym is ∙ e)
 
-    pub breaks : r ≡ Broken → Broken ≡ told (times n₀ m p₀)
+    pub breaks : r ≡ stop 27 tt → stop 27 tt ≡ told (times n₀ m p₀)
     breaks e = sym (inv ∙ times-step n p left ∙ ap (after (n - 1)) (sym is ∙ e))
 
-  pub none-left : (n₀ n p₀ p : ℕ) → told (times n₀ m p₀) ≡ told (times n m p) → n ≡ 0 → Next p ≡ told (times n₀ m p₀)
+  pub none-left : (n₀ n p₀ p : ℕ) → told (times n₀ m p₀) ≡ told (times n m p) → n ≡ 0 → done p tt ≡ told (times n₀ m p₀)
   unfolding times
   none-left n₀ n p₀ p inv e = sym (inv ∙ ap (λ (j : ℕ). told (times j m p)) e)
 
@@ -175,7 +174,7 @@ module _ (d : ℕ) (file : List ℕ) where
         unfolding readable read-saved
         read = rw (right, sym is) refl
 
-        ends : (o : Outcome ℕ Value) (q : ℕ) → told o ≡ Next q → is-there (all-read file k o) ≡ eqb q k
+        ends : (o : Outcome ℕ Value) (q : ℕ) → told o ≡ done q tt → is-there (all-read file k o) ≡ eqb q k
         ends (done v p) q e = let same : p ≡ q = cc in rw same (by (eqb q k))
           where
             by : (b : Bool) → is-there (cond b (some v) none) ≡ b
@@ -183,13 +182,13 @@ module _ (d : ℕ) (file : List ℕ) where
             by false = refl
         ends (stop n p) q e = absurd (let z : _≡_ {A = ℕ} 0 1 = cc in omega arith)
 
-        broken : (o : Outcome ℕ Value) → told o ≡ Broken → is-there (all-read file k o) ≡ false
+        broken : (o : Outcome ℕ Value) → told o ≡ stop 27 tt → is-there (all-read file k o) ≡ false
         broken (done v p) e = absurd (let z : _≡_ {A = ℕ} 0 1 = cc in omega arith)
         broken (stop n p) e = refl
 
-        module _ (r : Read) (said : r ≡ told (value-at file k d 0)) where
-          pub ended : (q : ℕ) → r ≡ Next q → eqb q k ≡ readable d file
+        module _ (r : Outcome (Unit {0}) ℕ) (said : r ≡ told (value-at file k d 0)) where
+          pub ended : (q : ℕ) → r ≡ done q tt → eqb q k ≡ readable d file
           ended q e = sym (read ∙ ends (value-at file k d 0) q (sym said ∙ e))
 
-          pub refused : r ≡ Broken → false ≡ readable d file
+          pub refused : r ≡ stop 27 tt → false ≡ readable d file
           refused e = sym (read ∙ broken (value-at file k d 0) (sym said ∙ e))

@@ -9,10 +9,15 @@ use Rattle.semantics.specs.Saved.{read-saved}
 use Rattle.saved_read.specs.declared.Read.{Read}
 use Rattle.saved_read.specs.declared.Read.the-variants.{Next, Broken}
 
--- where the entries of what was read end
-abbrev pub told : {A : Type 0} → Outcome ℕ A → Read
-told (done a p) = Next p
-told (stop n p) = Broken
+-- document 01's number and value for each case: the next entry, or 27
+abbrev pub read-outcome : Read → Outcome (Unit {0}) ℕ
+read-outcome (Next p) = done p tt
+read-outcome Broken = stop 27 tt
+
+-- where the entries of what was read end, or the number of its stop
+abbrev pub told : {A : Type 0} → Outcome ℕ A → Outcome (Unit {0}) ℕ
+told (done a p) = done p tt
+told (stop n p) = stop n tt
 
 abbrev pub is-there : Option Value → Bool
 is-there (some v) = true

@@ -4,7 +4,7 @@ ghost use Prim.Native.Nat.{_≤_};
 ghost use lib.ListN.{getD};
 ghost use Rattle.semantics.specs.Outcome.{times};
 ghost use Rattle.semantics.specs.Saved.{value-at};
-ghost use Rattle.saved_read.specs.Told.{told, readable};
+ghost use Rattle.saved_read.specs.Told.{read-outcome, told, readable};
 
 // The number of the entry after a value, or that the form is broken.
 pub enum Read {
@@ -22,7 +22,7 @@ pub fn byte_at(bytes: &[u8], i: usize) -> u8
 // A value of a depth from entry p on, in a file of k entries.
 fn read_value(saved: &[u8], k: usize, depth: u32, p: usize) -> Read
     requires { ⌜ k ≤ 4096 ⌝ }
-    ensures { λ r. ⌜ r ≡ told (value-at (now (saved .entry)) k depth p) ⌝ }
+    ensures { λ r. ⌜ read-outcome r ≡ told (value-at (now (saved .entry)) k depth p) ⌝ }
 {
     if k <= p {
         return Read::Broken;
@@ -49,7 +49,7 @@ fn read_value(saved: &[u8], k: usize, depth: u32, p: usize) -> Read
 // So many values of a depth, one after the other.
 fn read_values(saved: &[u8], k: usize, depth: u32, count: u8, p: usize) -> Read
     requires { ⌜ k ≤ 4096 ⌝ }
-    ensures { λ r. ⌜ r ≡ told (times count (value-at (now (saved .entry)) k depth) p) ⌝ }
+    ensures { λ r. ⌜ read-outcome r ≡ told (times count (value-at (now (saved .entry)) k depth) p) ⌝ }
 {
     let mut q = p;
     let mut left = count;

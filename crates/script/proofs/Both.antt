@@ -12,6 +12,7 @@ use lib.ListN.{length, getD}
 use borrow.Author.Tests.{eqb-true, le-leb, lt-leb, lt-ltb, le-ltb}
 use Rattle.laws.specs.Tests.{both-hold}
 use Rattle.semantics.specs.Basics.{updated}
+use Rattle.semantics.specs.Outcome.{done, stop}
 use Rattle.semantics.specs.Syntax.{Script, function-size}
 use Rattle.semantics.specs.File as S
 use Rattle.semantics.specs.File.{at-function, at-parameter, at-part, node-at, part-count, high-limits}
@@ -29,9 +30,8 @@ use Rattle.script_read.proofs.Ends.{node-inside}
 use Rattle.script_names.specs.Walk.{named, named-node, named-parameter, named-head, calls-none, names, names-from}
 use Rattle.script_names.specs.Walk.{names-function}
 use Rattle.script_rules.specs.Rules.{signature-at, called, rule-of, known-signature}
-use Rattle.script_depths.specs.Walk.{Parts-typed, all, fault, ruled, plain-typed, typed, typed-node, known-name}
+use Rattle.script_depths.specs.Walk.{Walked, AllWalked, ruled, plain-typed, typed, typed-node, known-name}
 use Rattle.script_depths.specs.Walk.{known-types, any-name, any-signature, types}
-use Rattle.script_depths.specs.declared.Typed.{Typed}
 use Rattle.script_types.specs.Functions as F
 use Rattle.script_types.specs.Functions.{ended, typed-parameter, known-from, known-function, known-script, types-from}
 use Rattle.script_types.specs.Functions.{types-function, types-script}
@@ -53,12 +53,12 @@ module _ (k w s : List ℕ) (functions : ℕ) (placed : Placed k s functions) wh
   a-function : (f : ℕ) → leb functions f ≡ false → known-signature k w s f ≡ any-signature k w s f
   a-function f e = rw (placed .at f, e)
 
-  no-rule : (t : Typed) (p : ℕ) (u : Parts-typed) → Joint (R.Refused 6 p) t (ruled p (called none) u)
-  no-rule t p (all l q) = unknown p 6 p refl
-  no-rule t p (fault i) = unknown i 6 p refl
+  no-rule : (t : Walked) (p : ℕ) (u : AllWalked) → Joint (R.Refused 6 p) t (ruled p (called none) u)
+  no-rule t p (done l q) = unknown 7 p 6 p refl
+  no-rule t p (stop a i) = unknown a i 6 p refl
 
   -- a node that binds nothing, by its parts
-  module _ (x y z p : ℕ) (hz : z ≤ getD high-limits x 0) {n : Read} {t u : Parts-typed} (j : JointParts n t u) where
+  module _ (x y z p : ℕ) (hz : z ≤ getD high-limits x 0) {n : Read} {t u : AllWalked} (j : JointParts n t u) where
     same-rule : calls-none functions x y ≡ false →
         rule-of (known-signature k w s) x y z ≡ rule-of (any-signature k w s) x y z
     unfolding rule-of
@@ -84,7 +84,7 @@ module _ (k w s : List ℕ) (functions : ℕ) (placed : Placed k s functions) wh
             (by-rule-joint p (rule-of (any-signature k w s) x y z) (λ l sh. rule-bounded k w s x y z hz l sh) j)
 
   -- a node by its kind and the parts of its operand
-  module _ (N : Scope → ℕ → Read) (f g : (ℕ → ℕ) → ℕ → Typed)
+  module _ (N : Scope → ℕ → Read) (f g : (ℕ → ℕ) → ℕ → Walked)
       (inner : (known : Scope) (γ δ : ℕ → ℕ) → Alike known γ δ → (q : ℕ) → Joint (N known q) (f γ q) (g δ q))
       {known : Scope} {γ δ : ℕ → ℕ} (a : Alike known γ δ) (p : ℕ) where
     node-joint : (x y z : ℕ) → z ≤ getD high-limits x 0 → Joint (named functions N known p x y z)
@@ -117,7 +117,7 @@ module _ (k w s : List ℕ) (functions : ℕ) (placed : Placed k s functions) wh
   joint : (d : ℕ) {known : Scope} {γ δ : ℕ → ℕ} → Alike known γ δ → (p : ℕ) →
       Joint (names k w functions d known p) (types k w s d γ p) (known-types k w s d δ p)
   unfolding names types known-types
-  joint zero a p = broken p refl
+  joint zero a p = broken 7 p refl
   joint (suc d) {known} {γ} {δ} a p = go (node-at k w at-part p) refl (λ _ _ _ b q. joint d b q)
     where
       go : (v : S.Node) → node-at k w at-part p ≡ v →
@@ -129,14 +129,14 @@ module _ (k w s : List ℕ) (functions : ℕ) (placed : Placed k s functions) wh
       go (S.fits h) e inner =
           node-joint (names k w functions d) (types k w s d) (known-types k w s d) inner a p (h .kind) (h .low)
           (h .high) (head-fits k w at-part p h e .high)
-      go S.wrong-kind e inner = broken p refl
-      go S.wrong-operand e inner = broken p refl
+      go S.wrong-kind e inner = broken 7 p refl
+      go S.wrong-operand e inner = broken 7 p refl
 
   -- parameters and the body
-  a-parameter : {b : Bool} {e f : ℕ} {n : Read} {t u : Typed} (p : ℕ) → Entry b e f →
+  a-parameter : {b : Bool} {e f : ℕ} {n : Read} {t u : Walked} (p : ℕ) → Entry b e f →
       (Entry false e 255 → Joint n t u) →
       Joint (cond b (R.Refused 6 p) n) (F.any-name e p t) (F.fresh-name f p u)
-  a-parameter p (is-known d l) j = rw (no-depth d l) (unknown p 6 p refl)
+  a-parameter p (is-known d l) j = rw (no-depth d l) (unknown 7 p 6 p refl)
   a-parameter p (not-known d) j = j (not-known d)
 
   from-joint : (c : ℕ) {known : Scope} {γ δ : ℕ → ℕ} → Alike known γ δ → (p : ℕ) →
@@ -155,8 +155,8 @@ module _ (k w s : List ℕ) (functions : ℕ) (placed : Placed k s functions) wh
           let fit = head-fits k w at-parameter p h e in
           let small : h .high ≤ 4 = rw (eqb-true (h .kind) 1 (fit .stands)) at (fit .high) in
           a-parameter p (a .at (h .low)) λ i. inner _ _ _ (bound-too a (h .low) (h .high) small) (p + 1)
-      go S.wrong-kind e inner = broken p refl
-      go S.wrong-operand e inner = broken p refl
+      go S.wrong-kind e inner = broken 7 p refl
+      go S.wrong-operand e inner = broken 7 p refl
 
 -- ---- functions and the script
 
@@ -165,14 +165,14 @@ pub data JointRead (n t : Read) : Read → Type 0 where
   unknown-name : (a i m j : ℕ) → n ≡ R.Refused m j → JointRead n t (R.Refused a i)
   depths-differ : (a i : ℕ) → t ≡ R.Refused a i → JointRead n t (R.Refused a i)
 
-by-result : {n : Read} {t u : Typed} (p r : ℕ) → Joint n t u → JointRead n (ended p r t) (ended p r u)
+by-result : {n : Read} {t u : Walked} (p r : ℕ) → Joint n t u → JointRead n (ended p r t) (ended p r u)
 by-result {n} p r (fine d q e i l) = rw i (go (eqb d r))
   where
     go : (b : Bool) → JointRead n (cond b (R.Next q) (R.Refused 7 p)) (cond b (R.Next q) (R.Refused 7 p))
     go true = both-go q e refl
     go false = depths-differ 7 p refl
-by-result p r (unknown i m j e) = unknown-name 7 i m j e
-by-result p r (broken i e) = rw e (depths-differ 7 i refl)
+by-result p r (unknown a i m j e) = unknown-name a i m j e
+by-result p r (broken a i e) = rw e (depths-differ a i refl)
 
 then-joint : {n t u : Read} (f g h : ℕ → Read) → JointRead n t u → ((q : ℕ) → JointRead (f q) (g q) (h q)) →
     JointRead (and-next n f) (and-next t g) (and-next u h)

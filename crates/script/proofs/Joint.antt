@@ -8,6 +8,7 @@ use mathlib.Core.Path.{_≡_, refl}
 use lib.Dec.{eqb}
 use borrow.Author.Tests.{ne-eqb}
 use Rattle.semantics.specs.Basics.{updated}
+use Rattle.semantics.specs.Outcome.{done, stop}
 use Rattle.semantics.specs.File.{part-count}
 use Rattle.semantics.specs.Types.{Rule}
 use Rattle.semantics.specs.Names.{Scope}
@@ -17,36 +18,34 @@ use Rattle.script_read.specs.declared.Read.the-variants as R
 use Rattle.script_read.proofs.Sorts.{parts-before, loop-parts}
 use Rattle.script_read.proofs.Turns.{and-none, repeated-last}
 use Rattle.script_rules.specs.Rules.{loop-ruled}
-use Rattle.script_depths.specs.Walk.{Parts-typed, all, fault, more, and-parts, collect, by-rule, ruled, let-typed}
+use Rattle.script_depths.specs.Walk.{Walked, AllWalked, more, and-parts, collect, by-rule, ruled, let-typed}
 use Rattle.script_depths.specs.Walk.{start-typed, loop-ended, array-typed, loop-typed, known-name, any-name}
-use Rattle.script_depths.specs.declared.Typed.{Typed}
-use Rattle.script_depths.specs.declared.Typed.the-variants.{Depth, Fault}
 use Rattle.script.proofs.Bounds.{Shallow, Bounded, loop-bounded}
 
 -- of a part: by names alone, by depths alone, and by both at once
-pub data Joint (n : Read) (t : Typed) : Typed → Type 0 where
-  fine : (d q : ℕ) → n ≡ R.Next q → t ≡ Depth d q → d ≤ 4 → Joint n t (Depth d q)
-  unknown : (i m j : ℕ) → n ≡ R.Refused m j → Joint n t (Fault i)
-  broken : (i : ℕ) → t ≡ Fault i → Joint n t (Fault i)
+pub data Joint (n : Read) (t : Walked) : Walked → Type 0 where
+  fine : (d q : ℕ) → n ≡ R.Next q → t ≡ done d q → d ≤ 4 → Joint n t (done d q)
+  unknown : (a i m j : ℕ) → n ≡ R.Refused m j → Joint n t (stop a i)
+  broken : (a i : ℕ) → t ≡ stop a i → Joint n t (stop a i)
 
 -- of parts one after the other
-pub data JointParts (n : Read) (t : Parts-typed) : Parts-typed → Type 0 where
-  all-fine : (l : List ℕ) (q : ℕ) → n ≡ R.Next q → t ≡ all l q → Shallow l → JointParts n t (all l q)
-  one-unknown : (i m j : ℕ) → n ≡ R.Refused m j → JointParts n t (fault i)
-  one-broken : (i : ℕ) → t ≡ fault i → JointParts n t (fault i)
+pub data JointParts (n : Read) (t : AllWalked) : AllWalked → Type 0 where
+  all-fine : (l : List ℕ) (q : ℕ) → n ≡ R.Next q → t ≡ done l q → Shallow l → JointParts n t (done l q)
+  one-unknown : (a i m j : ℕ) → n ≡ R.Refused m j → JointParts n t (stop a i)
+  one-broken : (a i : ℕ) → t ≡ stop a i → JointParts n t (stop a i)
 
-one-more : {n : Read} {t u : Parts-typed} (d : ℕ) → d ≤ 4 → JointParts n t u → JointParts n (more d t) (more d u)
+one-more : {n : Read} {t u : AllWalked} (d : ℕ) → d ≤ 4 → JointParts n t u → JointParts n (more d t) (more d u)
 one-more d l (all-fine m q e f s) = all-fine (d ∷ m) q e (rw f) (l, s)
-one-more d l (one-unknown i m j e) = one-unknown i m j e
-one-more d l (one-broken i f) = one-broken i (rw f)
+one-more d l (one-unknown a i m j e) = one-unknown a i m j e
+one-more d l (one-broken a i f) = one-broken a i (rw f)
 
-after-part : {n : Read} {t u : Typed} (f : ℕ → Read) (g h : ℕ → Parts-typed) → Joint n t u →
+after-part : {n : Read} {t u : Walked} (f : ℕ → Read) (g h : ℕ → AllWalked) → Joint n t u →
     ((q : ℕ) → JointParts (f q) (g q) (h q)) → JointParts (and-next n f) (and-parts t g) (and-parts u h)
 after-part f g h (fine d q e i l) k = rw (e, i) (one-more d l (k q))
-after-part f g h (unknown i m j e) k = rw e (one-unknown i m j refl)
-after-part f g h (broken i e) k = rw e (one-broken i refl)
+after-part f g h (unknown a i m j e) k = rw e (one-unknown a i m j refl)
+after-part f g h (broken a i e) k = rw e (one-broken a i refl)
 
-pub joint-parts : (c : ℕ) (f : ℕ → Read) (g h : ℕ → Typed) → ((p : ℕ) → Joint (f p) (g p) (h p)) → (p : ℕ) →
+pub joint-parts : (c : ℕ) (f : ℕ → Read) (g h : ℕ → Walked) → ((p : ℕ) → Joint (f p) (g p) (h p)) → (p : ℕ) →
     JointParts (repeated c f p) (collect c g p) (collect c h p)
 unfolding repeated collect
 joint-parts zero f g h j p = all-fine [] p refl refl tt
@@ -56,13 +55,13 @@ joint-parts (suc c) f g h j p =
 -- a node by a rule whose depths are at most 4
 by-option : {n : Read} (p q : ℕ) → n ≡ R.Next q → (o : Option ℕ) → Bounded o → Joint n (by-rule p q o) (by-rule p q o)
 by-option p q e (some d) h = fine d q e refl h
-by-option p q e none h = broken p refl
+by-option p q e none h = broken 7 p refl
 
-pub by-rule-joint : {n : Read} {t u : Parts-typed} (p : ℕ) (r : Rule) → ((l : List ℕ) → Shallow l → Bounded (r l)) →
+pub by-rule-joint : {n : Read} {t u : AllWalked} (p : ℕ) (r : Rule) → ((l : List ℕ) → Shallow l → Bounded (r l)) →
     JointParts n t u → Joint n (ruled p r t) (ruled p r u)
 by-rule-joint p r b (all-fine l q e f s) = rw f (by-option p q e (r l) (b l s))
-by-rule-joint p r b (one-unknown i m j e) = unknown i m j e
-by-rule-joint p r b (one-broken i f) = rw f (broken i refl)
+by-rule-joint p r b (one-unknown a i m j e) = unknown a i m j e
+by-rule-joint p r b (one-broken a i f) = rw f (broken a i refl)
 
 -- ---- names
 
@@ -89,23 +88,23 @@ no-depth d l = ne-eqb d 255 (λ e. absurd (let f : ⊥ = omega arith in f))
 pub a-name : {b : Bool} {d e : ℕ} (p : ℕ) → Entry b d e →
     Joint (cond b (R.Next (p + 1)) (R.Refused 6 p)) (any-name d p) (known-name e p)
 a-name p (is-known d l) = rw (no-depth d l) (fine d (p + 1) refl refl l)
-a-name p (not-known d) = unknown p 6 p refl
+a-name p (not-known d) = unknown 7 p 6 p refl
 
 -- a let, by what is told of the first part
-pub a-let : {n : Read} {t u : Typed} (N : ℕ → Read) (f g : (ℕ → ℕ) → ℕ → Typed) (γ δ : ℕ → ℕ) (x : ℕ) → Joint n t u →
+pub a-let : {n : Read} {t u : Walked} (N : ℕ → Read) (f g : (ℕ → ℕ) → ℕ → Walked) (γ δ : ℕ → ℕ) (x : ℕ) → Joint n t u →
     ((d q : ℕ) → d ≤ 4 → Joint (N q) (f (updated γ x d) q) (g (updated δ x d) q)) →
     Joint (and-next n N) (let-typed f γ x t) (let-typed g δ x u)
 a-let N f g γ δ x (fine d q e i l) k = rw (e, i) (k d q l)
-a-let N f g γ δ x (unknown i m j e) k = rw e (unknown i m j refl)
-a-let N f g γ δ x (broken i e) k = rw e (broken i refl)
+a-let N f g γ δ x (unknown a i m j e) k = rw e (unknown a i m j refl)
+a-let N f g γ δ x (broken a i e) k = rw e (broken a i refl)
 
 -- a loop: M walks over a part before its body and N over its body
-module _ (M N : ℕ → Read) (f g : (ℕ → ℕ) → ℕ → Typed) (γ δ : ℕ → ℕ) (p x y z : ℕ) where
-  body-joint : {n : Read} {t u : Typed} (s d : ℕ) → s ≤ 4 → d ≤ 4 → Joint n t u →
+module _ (M N : ℕ → Read) (f g : (ℕ → ℕ) → ℕ → Walked) (γ δ : ℕ → ℕ) (p x y z : ℕ) where
+  body-joint : {n : Read} {t u : Walked} (s d : ℕ) → s ≤ 4 → d ≤ 4 → Joint n t u →
       Joint n (loop-ended p x s d t) (loop-ended p x s d u)
   body-joint s d hs hd (fine v q e i l) = rw i (by-option p q e (loop-ruled x s d v) (loop-bounded x s d v hs hd))
-  body-joint s d hs hd (unknown i m j e) = unknown i m j e
-  body-joint s d hs hd (broken i e) = rw e (broken i refl)
+  body-joint s d hs hd (unknown a i m j e) = unknown a i m j e
+  body-joint s d hs hd (broken a i e) = rw e (broken a i refl)
 
   -- the body, where the start and an element have these depths
   abbrev Bodies : Type 0
@@ -113,22 +112,22 @@ module _ (M N : ℕ → Read) (f g : (ℕ → ℕ) → ℕ → Typed) (γ δ : �
       (g (updated (updated δ y s) (second-name x y z) d) q)
 
   module _ (bodies : Bodies) (parts : (q : ℕ) → Joint (M q) (f γ q) (g δ q)) where
-    array-joint : {n : Read} {t u : Typed} (s : ℕ) → s ≤ 4 → Joint n t u →
+    array-joint : {n : Read} {t u : Walked} (s : ℕ) → s ≤ 4 → Joint n t u →
         Joint (and-next n N) (array-typed f γ p x y z s t) (array-typed g δ p x y z s u)
-    array-joint s hs (fine zero q e i l) = rw (e, i) (broken p refl)
+    array-joint s hs (fine zero q e i l) = rw (e, i) (broken 7 p refl)
     array-joint s hs (fine (suc d) q e i l) = rw (e, i) (body-joint s (suc d) hs l (bodies s d q hs (omega arith)))
-    array-joint s hs (unknown i m j e) = rw e (unknown i m j refl)
-    array-joint s hs (broken i e) = rw e (broken i refl)
+    array-joint s hs (unknown a i m j e) = rw e (unknown a i m j refl)
+    array-joint s hs (broken a i e) = rw e (broken a i refl)
 
-    by-start : {n : Read} {t u : Typed} → Joint n t u →
+    by-start : {n : Read} {t u : Walked} → Joint n t u →
         Joint (and-next (and-next n M) N) (loop-typed f γ p x y z t) (loop-typed g δ p x y z u)
     by-start (fine s q e i l) = rw (e, i) (array-joint s l (parts q))
-    by-start (unknown i m j e) = rw e (unknown i m j refl)
-    by-start (broken i e) = rw e (broken i refl)
+    by-start (unknown a i m j e) = rw e (unknown a i m j refl)
+    by-start (broken a i e) = rw e (broken a i refl)
 
     -- a reduce has its start before its array
     start-joint : (b : Bool) (q : ℕ) →
-        Joint (repeated (cond b 1 0) M q) (cond b (f γ q) (Depth 0 q)) (cond b (g δ q) (Depth 0 q))
+        Joint (repeated (cond b 1 0) M q) (cond b (f γ q) (done 0 q)) (cond b (g δ q) (done 0 q))
     unfolding repeated
     start-joint true q = rw (and-none (M q)) (parts q)
     start-joint false q = fine 0 q refl refl (omega arith)

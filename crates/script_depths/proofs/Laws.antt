@@ -11,6 +11,7 @@ use lib.ListN.{length, getD, set, take, length-set}
 use lib.Seq.{take-suc-set}
 use borrow.Author.Tests.{eq-eqb, ne-eqb}
 use Rattle.semantics.specs.Basics.{updated}
+use Rattle.semantics.specs.Outcome.{done, stop}
 use Rattle.semantics.specs.File.{at-part, look, part-count}
 use Rattle.script_read.specs.Told.{node-outcome, parted, loops, second-name, AtomSeen}
 use Rattle.script_read.specs.declared.Node.{Node}
@@ -19,28 +20,26 @@ use Rattle.script_read.specs.declared.Atomic.the-variants.{Number, Name}
 use Rattle.script_read.proofs.Nodes.{Seen, seen, inside, unfit, getD-any}
 use Rattle.script_read.proofs.Turns.{less-one}
 use Rattle.script_read.proofs.Tables.{table-set, table-set-two, table-at}
-use Rattle.script_depths.specs.declared.Typed.{Typed}
-use Rattle.script_depths.specs.declared.Typed.the-variants.{Depth, Fault}
 use Rattle.script_rules.specs.declared.Judged.{Judged}
 use Rattle.script_rules.specs.declared.Judged.the-variants.{Has, Broken}
-use Rattle.script_rules.specs.Rules.{known-signature, rule-of, told-rule}
-use Rattle.script_depths.specs.Walk.{depths, known-name, Parts-typed, all, fault, more, and-parts, collect}
+use Rattle.script_rules.specs.Rules.{known-signature, rule-of, judged-outcome, rule-outcome}
+use Rattle.script_depths.specs.Walk.{Walked, AllWalked, depths, known-name, more, and-parts, collect}
 use Rattle.script_depths.specs.Walk.{by-rule, let-typed, start-typed, loop-ended, array-typed, loop-typed, typed}
 use Rattle.script_depths.specs.Walk.{known-plain, known-types, AtomTyped}
 
 -- a judgement says what the rule gives
-module _ (o : Option ℕ) (j : Judged) (e : j ≡ told-rule o) (p q : ℕ) where
-  pub ruled-good : (t : ℕ) → j ≡ Has t → Depth t q ≡ by-rule p q o
-  ruled-good t f = go o (sym f ∙ e)
+module _ (o : Option ℕ) (j : Judged) (e : judged-outcome j ≡ rule-outcome o) (p q : ℕ) where
+  pub ruled-good : (t : ℕ) → j ≡ Has t → done t q ≡ by-rule p q o
+  ruled-good t f = go o (ap judged-outcome (sym f) ∙ e)
     where
-      go : (o : Option ℕ) → Has t ≡ told-rule o → Depth t q ≡ by-rule p q o
+      go : (o : Option ℕ) → done t tt ≡ rule-outcome o → done t q ≡ by-rule p q o
       go (some u) g = let h : t ≡ u = cc in rw h
       go none g = let z : _≡_ {A = ℕ} 0 1 = cc in absurd (omega arith)
 
-  pub ruled-bad : j ≡ Broken → Fault p ≡ by-rule p q o
-  ruled-bad f = go o (sym f ∙ e)
+  pub ruled-bad : j ≡ Broken → stop 7 p ≡ by-rule p q o
+  ruled-bad f = go o (ap judged-outcome (sym f) ∙ e)
     where
-      go : (o : Option ℕ) → Broken ≡ told-rule o → Fault p ≡ by-rule p q o
+      go : (o : Option ℕ) → stop 7 tt ≡ rule-outcome o → stop 7 p ≡ by-rule p q o
       go (some u) g = let z : _≡_ {A = ℕ} 0 1 = cc in absurd (omega arith)
       go none g = refl
 
@@ -49,12 +48,12 @@ pub entry : (t : List ℕ) (x : ℕ) → length t ≡ 256 → x < 256 → depths
 entry t x l h = table-at 255 t x ∙ getD-any t x 255 0 (omega arith)
 
 module _ (k w s : List ℕ) (d : ℕ) (γ : ℕ → ℕ) (p : ℕ) where
-  pub no-levels : d ≡ 0 → Fault p ≡ known-types k w s d γ p
+  pub no-levels : d ≡ 0 → stop 7 p ≡ known-types k w s d γ p
   unfolding known-types
   no-levels e = rw e
 
 pub no-node : (k w s : List ℕ) (d : ℕ) (γ : ℕ → ℕ) (p : ℕ) (n : Node) → node-outcome n p ≡ parted (look k w at-part p) →
-    (n ≡ WrongKind) ⊎ (n ≡ WrongOperand) → Fault p ≡ known-types k w s d γ p
+    (n ≡ WrongKind) ⊎ (n ≡ WrongOperand) → stop 7 p ≡ known-types k w s d γ p
 unfolding known-types
 no-node k w s zero γ p n e f = refl
 no-node k w s (suc d) γ p n e f = ⊎-elim (λ g. rw g) (λ g. rw g) (unfit k w at-part p n e f .is)
@@ -62,7 +61,7 @@ no-node k w s (suc d) γ p n e f = ⊎-elim (λ g. rw g) (λ g. rw g) (unfit k w
 -- at a node that is seen, with levels left
 module _ {k w : List ℕ} {p x y z : ℕ} (n : Seen k w at-part p x y z) (s : List ℕ) (d : ℕ) (γ : ℕ → ℕ) (deep : d ≡ 0 → ⊥)
   where
-    abbrev pub Gives : Typed → Type 0
+    abbrev pub Gives : Walked → Type 0
     Gives r = r ≡ known-types k w s d γ p
 
     by-kind : known-types k w s d γ p ≡
@@ -74,26 +73,26 @@ module _ {k w : List ℕ} {p x y z : ℕ} (n : Seen k w at-part p x y z) (s : Li
             typed known-name (known-signature k w s) k w (known-types k w s m) γ p x y z
         go m = rw (n .stands, ← n .same-kind, ← n .same-low, ← n .same-high)
 
-    pub a-number : x ≡ 2 → Gives (Depth 0 (p + 1))
+    pub a-number : x ≡ 2 → Gives (done 0 (p + 1))
     a-number e = sym (by-kind ∙ rw e)
 
-    pub a-name : x ≡ 3 → (v : ℕ) → v ≡ γ y → (v ≡ 255 → ⊥) → Gives (Depth v (p + 1))
+    pub a-name : x ≡ 3 → (v : ℕ) → v ≡ γ y → (v ≡ 255 → ⊥) → Gives (done v (p + 1))
     a-name e v f g = sym (by-kind ∙ rw (e, ← f, ne-eqb v 255 g))
 
-    pub unknown-name : x ≡ 3 → (v : ℕ) → v ≡ γ y → v ≡ 255 → Gives (Fault p)
+    pub unknown-name : x ≡ 3 → (v : ℕ) → v ≡ γ y → v ≡ 255 → Gives (stop 7 p)
     unknown-name e v f g = sym (by-kind ∙ rw (e, ← f, eq-eqb v 255 g))
 
-    pub a-let : x ≡ 7 → (r : Typed) →
+    pub a-let : x ≡ 7 → (r : Walked) →
         r ≡ let-typed (known-types k w s (d - 1)) γ y (known-types k w s (d - 1) γ (p + 1)) → Gives r
     a-let e r g = g ∙ sym (by-kind ∙ rw e)
 
     module _ (f2 : x ≡ 2 → ⊥) (f3 : x ≡ 3 → ⊥) (f7 : x ≡ 7 → ⊥) where
-      pub a-loop : loops x ≡ true → (r : Typed) →
+      pub a-loop : loops x ≡ true → (r : Walked) →
           r ≡ loop-typed (known-types k w s (d - 1)) γ p x y z (start-typed x (known-types k w s (d - 1) γ) (p + 1)) →
           Gives r
       a-loop l r g = g ∙ sym (by-kind ∙ rw (ne-eqb x 2 f2, ne-eqb x 3 f3, ne-eqb x 7 f7, l))
 
-      pub any-other : loops x ≡ false → (r : Typed) →
+      pub any-other : loops x ≡ false → (r : Walked) →
           r ≡ known-plain k w s (known-types k w s (d - 1) γ) p x y z → Gives r
       unfolding known-plain
       any-other l r g = g ∙ sym (by-kind ∙ rw (ne-eqb x 2 f2, ne-eqb x 3 f3, ne-eqb x 7 f7, l))
@@ -114,18 +113,18 @@ module _ (k w : List ℕ) (d : ℕ) (γ : ℕ → ℕ) (p : ℕ) (deep : d ≡ 0
 
 -- the parts of a let and of a loop, where a part is typed by m
 module _ (k w s : List ℕ) (d : ℕ) (t : List ℕ) where
-  abbrev m : (ℕ → ℕ) → ℕ → Typed
+  abbrev m : (ℕ → ℕ) → ℕ → Walked
   m γ p = known-types k w s d γ p
 
   -- a let by its first part
-  module _ (x p : ℕ) (r₁ : Typed) (g : r₁ ≡ m (depths t) p) where
-    abbrev pub Lets : Typed → Type 0
+  module _ (x p : ℕ) (r₁ : Walked) (g : r₁ ≡ m (depths t) p) where
+    abbrev pub Lets : Walked → Type 0
     Lets r = r ≡ let-typed (known-types k w s d) (depths t) x (known-types k w s d (depths t) p)
 
-    pub let-faulty : (n : ℕ) → r₁ ≡ Fault n → Lets (Fault n)
+    pub let-faulty : (n : ℕ) → r₁ ≡ stop 7 n → Lets (stop 7 n)
     let-faulty n f = rw (← g, f)
 
-    pub let-bound : (t₁ : List ℕ) (q v : ℕ) (r₂ : Typed) → length t ≡ 256 → x < 256 → t₁ ≡ t → r₁ ≡ Depth v q →
+    pub let-bound : (t₁ : List ℕ) (q v : ℕ) (r₂ : Walked) → length t ≡ 256 → x < 256 → t₁ ≡ t → r₁ ≡ done v q →
         r₂ ≡ m (depths (set t₁ x v)) q → Lets r₂
     let-bound t₁ q v r₂ l h e i j =
         rw (← g, i)
@@ -133,32 +132,32 @@ module _ (k w s : List ℕ) (d : ℕ) (t : List ℕ) where
         ∙ ap (λ (γ : ℕ → ℕ). m γ q) (table-set 255 t x v (omega arith)))
 
   -- a loop by its start
-  module _ (at x y z : ℕ) (r₀ : Typed) (g₀ : r₀ ≡ start-typed x (m (depths t)) (at + 1)) where
-    abbrev pub Loops : Typed → Type 0
+  module _ (at x y z : ℕ) (r₀ : Walked) (g₀ : r₀ ≡ start-typed x (m (depths t)) (at + 1)) where
+    abbrev pub Loops : Walked → Type 0
     Loops r = r ≡ loop-typed (known-types k w s d) (depths t) at x y z
         (start-typed x (known-types k w s d (depths t)) (at + 1))
 
-    pub start-faulty : (n : ℕ) → r₀ ≡ Fault n → Loops (Fault n)
+    pub start-faulty : (n : ℕ) → r₀ ≡ stop 7 n → Loops (stop 7 n)
     start-faulty n f = rw (← g₀, f)
 
     -- by its array
-    module _ (t₁ : List ℕ) (u p : ℕ) (i₀ : r₀ ≡ Depth u p) (e₁ : t₁ ≡ t) (r₁ : Typed) (g₁ : r₁ ≡ m (depths t₁) p) where
+    module _ (t₁ : List ℕ) (u p : ℕ) (i₀ : r₀ ≡ done u p) (e₁ : t₁ ≡ t) (r₁ : Walked) (g₁ : r₁ ≡ m (depths t₁) p) where
       by-array : array-typed (known-types k w s d) (depths t) at x y z u r₁ ≡
           loop-typed (known-types k w s d) (depths t) at x y z
           (start-typed x (known-types k w s d (depths t)) (at + 1))
       by-array = rw (← g₀, i₀, g₁, e₁)
 
-      pub array-faulty : (n : ℕ) → r₁ ≡ Fault n → Loops (Fault n)
+      pub array-faulty : (n : ℕ) → r₁ ≡ stop 7 n → Loops (stop 7 n)
       array-faulty n f = rw f at by-array
 
-      pub array-number : (v q : ℕ) → r₁ ≡ Depth v q → v ≡ 0 → Loops (Fault at)
+      pub array-number : (v q : ℕ) → r₁ ≡ done v q → v ≡ 0 → Loops (stop 7 at)
       array-number v q f h = rw (f, h) at by-array
 
-      pub loop-bound : (t₂ : List ℕ) (v q o : ℕ) (r₂ r₃ : Typed) → length t ≡ 256 → y < 256 → o < 256 → t₂ ≡ t₁ →
-          r₁ ≡ Depth v q → (v ≡ 0 → ⊥) → o ≡ second-name x y z →
+      pub loop-bound : (t₂ : List ℕ) (v q o : ℕ) (r₂ r₃ : Walked) → length t ≡ 256 → y < 256 → o < 256 → t₂ ≡ t₁ →
+          r₁ ≡ done v q → (v ≡ 0 → ⊥) → o ≡ second-name x y z →
           r₂ ≡ m (depths (set (set t₂ y u) o (v - 1))) q → r₃ ≡ loop-ended at x u v r₂ → Loops r₃
       loop-bound t₂ v q o r₂ r₃ l hy ho e₂ f pos oe j f₃ =
-          f₃ ∙ ap (λ (a : Typed). loop-ended at x u v a) beneath ∙ go v pos f
+          f₃ ∙ ap (λ (a : Walked). loop-ended at x u v a) beneath ∙ go v pos f
         where
           beneath : r₂ ≡ m (updated (updated (depths t) y u) (second-name x y z) (v - 1)) q
           beneath =
@@ -166,7 +165,7 @@ module _ (k w s : List ℕ) (d : ℕ) (t : List ℕ) where
               ∙ ap (λ (γ : ℕ → ℕ). m γ q) (table-set-two 255 t y o u (v - 1) (omega arith) (omega arith))
               ∙ ap (λ (b : ℕ). m (updated (updated (depths t) y u) b (v - 1)) q) oe
 
-          go : (v : ℕ) → (v ≡ 0 → ⊥) → r₁ ≡ Depth v q →
+          go : (v : ℕ) → (v ≡ 0 → ⊥) → r₁ ≡ done v q →
               loop-ended at x u v (m (updated (updated (depths t) y u) (second-name x y z) (v - 1)) q) ≡
               loop-typed (known-types k w s d) (depths t) at x y z
               (start-typed x (known-types k w s d (depths t)) (at + 1))
@@ -174,42 +173,42 @@ module _ (k w s : List ℕ) (d : ℕ) (t : List ℕ) where
           go (suc v) h i = let n : suc v - 1 ≡ v = omega arith in rw n (rw i at by-array)
 
 -- depths before those of further parts
-abbrev prepend : List ℕ → Parts-typed → Parts-typed
-prepend l (all m q) = all (l ++ m) q
-prepend l (fault n) = fault n
+abbrev prepend : List ℕ → AllWalked → AllWalked
+prepend l (done m q) = done (l ++ m) q
+prepend l (stop n p) = stop n p
 
-prepend-more : (l : List ℕ) (d : ℕ) (c : Parts-typed) → prepend l (more d c) ≡ prepend (l ++ (d ∷ [])) c
-prepend-more l d (all m q) = rw append-assoc
-prepend-more l d (fault n) = refl
+prepend-more : (l : List ℕ) (d : ℕ) (c : AllWalked) → prepend l (more d c) ≡ prepend (l ++ (d ∷ [])) c
+prepend-more l d (done m q) = rw append-assoc
+prepend-more l d (stop n p) = refl
 
-prepend-none : (c : Parts-typed) → c ≡ prepend [] c
-prepend-none (all m q) = refl
-prepend-none (fault n) = refl
+prepend-none : (c : AllWalked) → c ≡ prepend [] c
+prepend-none (done m q) = refl
+prepend-none (stop n p) = refl
 
 -- The loop over the parts of a node: i of n are done, the next is at p, and ds has their depths.
-pub record Going (n : ℕ) (f : ℕ → Typed) (at i p : ℕ) (ds : List ℕ) : Type 0 where
+pub record Going (n : ℕ) (f : ℕ → Walked) (at i p : ℕ) (ds : List ℕ) : Type 0 where
   pub under : i ≤ n
   pub few : n ≤ 16
   pub long : length ds ≡ 16
   pub same : collect n f at ≡ prepend (take i ds) (collect (n - i) f p)
 
-pub going-starts : (n : ℕ) (f : ℕ → Typed) (p : ℕ) (ds : List ℕ) → n ≤ 16 → length ds ≡ 16 → Going n f p 0 p ds
+pub going-starts : (n : ℕ) (f : ℕ → Walked) (p : ℕ) (ds : List ℕ) → n ≤ 16 → length ds ≡ 16 → Going n f p 0 p ds
 going-starts n f p ds b l =
     let e : n - 0 ≡ n = omega arith in
     record { under = omega arith; few = b; long = l; same = rw e (prepend-none (collect n f p)) }
 
-module _ {n : ℕ} {f : ℕ → Typed} {at i p : ℕ} {ds : List ℕ} (g : Going n f at i p ds) where
+module _ {n : ℕ} {f : ℕ → Walked} {at i p : ℕ} {ds : List ℕ} (g : Going n f at i p ds) where
   turn : i < n → collect (n - i) f p ≡ and-parts (f p) (collect (n - (i + 1)) f)
   unfolding collect
   turn h = let e : n - i ≡ suc (n - (i + 1)) = omega arith in ap (λ (m : ℕ). collect m f p) e
 
-  pub going-on : i < n → (r : Typed) → r ≡ f p → (d q : ℕ) → r ≡ Depth d q → Going n f at (i + 1) q (set ds i d)
+  pub going-on : i < n → (r : Walked) → r ≡ f p → (d q : ℕ) → r ≡ done d q → Going n f at (i + 1) q (set ds i d)
   going-on h r e d q j = record {
     under = omega arith;
     few = g .few;
     long = simp length-set (g .long);
     same = g .same
-        ∙ ap (λ (c : Parts-typed). prepend (take i ds) c) (turn h ∙ step)
+        ∙ ap (λ (c : AllWalked). prepend (take i ds) c) (turn h ∙ step)
         ∙ prepend-more (take i ds) d (collect (n - (i + 1)) f q)
         ∙ ap (λ (l : List ℕ). prepend l (collect (n - (i + 1)) f q)) (sym longer);
   }
@@ -220,35 +219,35 @@ module _ {n : ℕ} {f : ℕ → Typed} {at i p : ℕ} {ds : List ℕ} (g : Going
       longer : take (i + 1) (set ds i d) ≡ take i ds ++ (d ∷ [])
       longer = rw add-one (take-suc-set ds i d (omega (arith, g .long, g .few)))
 
-  stopped : i < n → (r : Typed) → r ≡ f p → (m : ℕ) → r ≡ Fault m → collect n f at ≡ fault m
-  stopped h r e m j = g .same ∙ ap (λ (c : Parts-typed). prepend (take i ds) c) (turn h ∙ step)
+  stopped : i < n → (r : Walked) → r ≡ f p → (m : ℕ) → r ≡ stop 7 m → collect n f at ≡ stop 7 m
+  stopped h r e m j = g .same ∙ ap (λ (c : AllWalked). prepend (take i ds) c) (turn h ∙ step)
     where
-      step : and-parts (f p) (collect (n - (i + 1)) f) ≡ fault m
+      step : and-parts (f p) (collect (n - (i + 1)) f) ≡ stop 7 m
       step = rw (← e, j)
 
-  ended : n ≤ i → collect n f at ≡ all (take n ds) p
+  ended : n ≤ i → collect n f at ≡ done (take n ds) p
   unfolding collect
   ended h =
       let z : n - i ≡ 0 = omega arith in
       let j : i ≡ n = omega (arith, g .under) in
       g .same ∙ rw (z, append-nil, j)
 
-module _ (k w s : List ℕ) {f : ℕ → Typed} (at x y z n : ℕ) (ne : n ≡ part-count x y z) {i p : ℕ} {ds : List ℕ}
+module _ (k w s : List ℕ) {f : ℕ → Walked} (at x y z n : ℕ) (ne : n ≡ part-count x y z) {i p : ℕ} {ds : List ℕ}
     (g : Going n f (at + 1) i p ds) where
-  pub part-faulty : i < n → (r : Typed) → r ≡ f p → (m : ℕ) → r ≡ Fault m → Fault m ≡ known-plain k w s f at x y z
+  pub part-faulty : i < n → (r : Walked) → r ≡ f p → (m : ℕ) → r ≡ stop 7 m → stop 7 m ≡ known-plain k w s f at x y z
   unfolding known-plain
   part-faulty h r e m j = rw (← ne, stopped g h r e m j)
 
   abbrev by-its-kind : Option ℕ
   by-its-kind = rule-of (known-signature k w s) x y z (take (part-count x y z) ds)
 
-  module _ (h : n ≤ i) (j : Judged) (je : j ≡ told-rule by-its-kind) where
+  module _ (h : n ≤ i) (j : Judged) (je : judged-outcome j ≡ rule-outcome by-its-kind) where
     plain-ends : by-rule at p by-its-kind ≡ known-plain k w s f at x y z
     unfolding known-plain
     plain-ends = rw (← ne, ended g h)
 
-    pub judged-good : (t : ℕ) → j ≡ Has t → Depth t p ≡ known-plain k w s f at x y z
+    pub judged-good : (t : ℕ) → j ≡ Has t → done t p ≡ known-plain k w s f at x y z
     judged-good t e = ruled-good by-its-kind j je at p t e ∙ plain-ends
 
-    pub judged-bad : j ≡ Broken → Fault at ≡ known-plain k w s f at x y z
+    pub judged-bad : j ≡ Broken → stop 7 at ≡ known-plain k w s f at x y z
     judged-bad e = ruled-bad by-its-kind j je at p e ∙ plain-ends

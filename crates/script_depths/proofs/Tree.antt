@@ -9,6 +9,7 @@ use lib.Dec.{eqb}
 use lib.ListN.{length}
 use borrow.Author.Tests.{eq-eqb, ne-eqb, eqb-true, eqb-false}
 use Rattle.semantics.specs.Basics.{updated}
+use Rattle.semantics.specs.Outcome.{done, stop}
 use Rattle.semantics.specs.Number.{sum, difference, less}
 use Rattle.semantics.specs.Kinds.{Leaf, operation, call, literal, index, length-of, iota, replicate, leaf-kind, Loop}
 use Rattle.semantics.specs.Kinds.{mapping, filtering, reducing, rewriting, loop-kind}
@@ -25,46 +26,44 @@ use Rattle.script_read.proofs.Sorts.{parts-before, count-of-loop, other-kind, l
 use Rattle.script_read.specs.Told.{second-name, loops}
 use Rattle.script_read.proofs.Tables.{updated-twice}
 use Rattle.script_read.proofs.Written.{amount, Written, AllWritten}
-use Rattle.script_depths.specs.declared.Typed.{Typed}
-use Rattle.script_depths.specs.declared.Typed.the-variants.{Depth, Fault}
 use Rattle.script_rules.specs.Rules.{signature-of, rule-of, loop-ruled}
-use Rattle.script_depths.specs.Walk.{Parts-typed, all, fault, more, and-parts, collect, by-rule, ruled}
+use Rattle.script_depths.specs.Walk.{Walked, AllWalked, more, and-parts, collect, by-rule, ruled}
 use Rattle.script_depths.specs.Walk.{let-typed, start-typed, loop-ended, array-typed, loop-typed, plain-typed}
 use Rattle.script_depths.specs.Walk.{typed, any-name, any-signature, types}
 
 -- what the walk tells of a tree is what the check finds
-pub data Tells (c : Checked) (q : ℕ) : Typed → Type 0 where
-  good : (t : ℕ) → c .depth ≡ some t → c .faults ≡ [] → Tells c q (Depth t q)
-  bad : (n : ℕ) (l : List ℕ) → c .depth ≡ none → c .faults ≡ n ∷ l → Tells c q (Fault n)
+pub data Tells (c : Checked) (q : ℕ) : Walked → Type 0 where
+  good : (t : ℕ) → c .depth ≡ some t → c .faults ≡ [] → Tells c q (done t q)
+  bad : (n : ℕ) (l : List ℕ) → c .depth ≡ none → c .faults ≡ n ∷ l → Tells c q (stop 7 n)
 
-pub data TellsAll (cs : List Checked) (q : ℕ) : Parts-typed → Type 0 where
-  all-good : (l : List ℕ) → part-depths cs ≡ some l → part-faults cs ≡ [] → TellsAll cs q (all l q)
-  one-bad : (n : ℕ) (l : List ℕ) → part-depths cs ≡ none → part-faults cs ≡ n ∷ l → TellsAll cs q (fault n)
+pub data TellsAll (cs : List Checked) (q : ℕ) : AllWalked → Type 0 where
+  all-good : (l : List ℕ) → part-depths cs ≡ some l → part-faults cs ≡ [] → TellsAll cs q (done l q)
+  one-bad : (n : ℕ) (l : List ℕ) → part-depths cs ≡ none → part-faults cs ≡ n ∷ l → TellsAll cs q (stop 7 n)
 
-pub no-parts : {q : ℕ} → TellsAll [] q (all [] q)
+pub no-parts : {q : ℕ} → TellsAll [] q (done [] q)
 no-parts = all-good [] refl refl
 
-after-good : {c : Checked} {cs : List Checked} {s t : ℕ} {r : Parts-typed} →
+after-good : {c : Checked} {cs : List Checked} {s t : ℕ} {r : AllWalked} →
     c .depth ≡ some t → c .faults ≡ [] → TellsAll cs s r → TellsAll (c ∷ cs) s (more t r)
 after-good {t = t} e f (all-good l g h) = all-good (t ∷ l) (rw (e, g)) (rw (f, h))
 after-good e f (one-bad n l g h) = one-bad n l (rw (e, g)) (rw (f, h))
 
-pub next-part : {c : Checked} {cs : List Checked} {q s : ℕ} {r : Typed} (g : ℕ → Parts-typed) →
+pub next-part : {c : Checked} {cs : List Checked} {q s : ℕ} {r : Walked} (g : ℕ → AllWalked) →
     Tells c q r → TellsAll cs s (g q) → TellsAll (c ∷ cs) s (and-parts r g)
 next-part g (good t e f) a = after-good e f a
 next-part {cs = cs} g (bad n l e f) a = one-bad n (l ++ part-faults cs) (rw e) (rw f)
 
 -- parts one after the other, from p to q, each told by f
-abbrev pub Chain : List Checked → (ℕ → Typed) → ℕ → ℕ → Type 0
+abbrev pub Chain : List Checked → (ℕ → Walked) → ℕ → ℕ → Type 0
 Chain [] f p q = p ≡ q
 Chain (c ∷ cs) f p q = (r : ℕ) × Tells c r (f p) × Chain cs f r q
 
-chain-tells : (cs : List Checked) (f : ℕ → Typed) (p q : ℕ) → Chain cs f p q → TellsAll cs q (collect (length cs) f p)
+chain-tells : (cs : List Checked) (f : ℕ → Walked) (p q : ℕ) → Chain cs f p q → TellsAll cs q (collect (length cs) f p)
 unfolding collect
 chain-tells [] f p q e = rw e no-parts
 chain-tells (c ∷ cs) f p q h = next-part (collect (length cs) f) (h .1) (chain-tells cs f (h .0) q (h .2))
 
-pub by-its-rule : {cs : List Checked} {q : ℕ} {a : Parts-typed} (p : ℕ) (r : Rule) →
+pub by-its-rule : {cs : List Checked} {q : ℕ} {a : AllWalked} (p : ℕ) (r : Rule) →
     TellsAll cs q a → Tells (node p r cs) q (ruled p r a)
 unfolding node
 by-its-rule {cs} {q} p r (all-good l e f) = go (r l) refl
@@ -74,31 +73,31 @@ by-its-rule {cs} {q} p r (all-good l e f) = go (r l) refl
     go none g = bad p [] (rw (e, g)) (rw (e, g, f))
 by-its-rule {cs} {q} p r (one-bad n l e f) = bad n l (rw e) (rw (e, f))
 
-a-leaf : (t s q : ℕ) → s ≡ q → Tells (record { depth = some t; faults = [] }) q (Depth t s)
+a-leaf : (t s q : ℕ) → s ≡ q → Tells (record { depth = some t; faults = [] }) q (done t s)
 a-leaf t s q e = rw e (good t refl refl)
 
 -- a let
-let-says : (p t : ℕ) (r : Typed) → ruled p let-rule (more t (and-parts r (λ s. all [] s))) ≡ r
-let-says p t (Depth u s) = refl
-let-says p t (Fault n) = refl
+let-says : (p t : ℕ) (r : Walked) → ruled p let-rule (more t (and-parts r (λ s. done [] s))) ≡ r
+let-says p t (done u s) = refl
+let-says p t (stop n i) = refl
 
-a-let : {a : Checked} {q s : ℕ} {r : Typed} (b : Checked) (p : ℕ) (m : (ℕ → ℕ) → ℕ → Typed) (γ : ℕ → ℕ) (x : ℕ) →
+a-let : {a : Checked} {q s : ℕ} {r : Walked} (b : Checked) (p : ℕ) (m : (ℕ → ℕ) → ℕ → Walked) (γ : ℕ → ℕ) (x : ℕ) →
     Tells a q r → ((t : ℕ) → a .depth ≡ some t → Tells b s (m (updated γ x t) q)) →
     Tells (node p let-rule (a ∷ b ∷ [])) s (let-typed m γ x r)
 a-let {a} {q} {s} b p m γ x (good t e f) h =
     rw (← let-says p t (m (updated γ x t) q))
-    (by-its-rule p let-rule (after-good e f (next-part (λ z. all [] z) (h t e) no-parts)))
+    (by-its-rule p let-rule (after-good e f (next-part (λ z. done [] z) (h t e) no-parts)))
 a-let {a} {q} {s} b p m γ x (bad n l e f) h =
     by-its-rule p let-rule (one-bad n (l ++ (b .faults ++ [])) (rw e) (rw f))
 
 -- a loop at p over an array, and over a number
 module _ (p : ℕ) (c : Loop) (cs : List Checked) (b : Checked) where
-  over-array : {r : ℕ} {t : Parts-typed} → is-number (array-depth c cs) ≡ false → TellsAll (cs ++ (b ∷ [])) r t →
+  over-array : {r : ℕ} {t : AllWalked} → is-number (array-depth c cs) ≡ false → TellsAll (cs ++ (b ∷ [])) r t →
       Tells (loop-node p c cs b) r (ruled p (loop-rule c) t)
   unfolding loop-node
   over-array e h = rw e (by-its-rule p (loop-rule c) h)
 
-  over-number : {r : ℕ} → is-number (array-depth c cs) ≡ true → Tells (loop-node p c cs b) r (Fault p)
+  over-number : {r : ℕ} → is-number (array-depth c cs) ≡ true → Tells (loop-node p c cs b) r (stop 7 p)
   unfolding loop-node
   over-number e = rw e (bad p (part-faults cs ++ b .faults) refl refl)
 
@@ -110,46 +109,46 @@ equal-turned a b = go (eqb a b) refl
     go false e = sym (ne-eqb b a λ f. eqb-false a b e (sym f))
 
 -- a body that is told, as the last part
-abbrev body-after : Typed → Parts-typed
-body-after r = and-parts r (λ q. all [] q)
+abbrev body-after : Walked → AllWalked
+body-after r = and-parts r (λ q. done [] q)
 
-module _ (m : (ℕ → ℕ) → ℕ → Typed) (γ : ℕ → ℕ) (p low high : ℕ) where
+module _ (m : (ℕ → ℕ) → ℕ → Walked) (γ : ℕ → ℕ) (p low high : ℕ) where
   -- a loop with one part before its body, its array
   module _ (kind : ℕ) (c : Loop) (over : (a : Checked) → array-depth c (a ∷ []) ≡ a .depth)
       (rule : (d e : ℕ) → loop-rule c (d ∷ e ∷ []) ≡ loop-ruled kind 0 d e) where
-    one-ends : (d : ℕ) (r : Typed) → ruled p (loop-rule c) (more d (body-after r)) ≡ loop-ended p kind 0 d r
-    one-ends d (Depth e q) = ap (by-rule p q) (rule d e)
-    one-ends d (Fault n) = refl
+    one-ends : (d : ℕ) (r : Walked) → ruled p (loop-rule c) (more d (body-after r)) ≡ loop-ended p kind 0 d r
+    one-ends d (done e q) = ap (by-rule p q) (rule d e)
+    one-ends d (stop n i) = refl
 
-    one-tells : {a : Checked} {q s : ℕ} {r : Typed} (b : Checked) → Tells a q r →
+    one-tells : {a : Checked} {q s : ℕ} {r : Walked} (b : Checked) → Tells a q r →
         ((d : ℕ) → a .depth ≡ some (suc d) →
         Tells b s (m (updated (updated γ low 0) (second-name kind low high) d) q)) →
         Tells (loop-node p c (a ∷ []) b) s (array-typed m γ p kind low high 0 r)
     one-tells {a} b (good zero e f) h = over-number p c (a ∷ []) b (rw (over a, e))
     one-tells {a} b (good (suc d) e f) h =
         rw (← one-ends (suc d) _)
-        (over-array p c (a ∷ []) b (rw (over a, e)) (after-good e f (next-part (λ z. all [] z) (h d e) no-parts)))
+        (over-array p c (a ∷ []) b (rw (over a, e)) (after-good e f (next-part (λ z. done [] z) (h d e) no-parts)))
     one-tells {a} b (bad n l e f) h =
         over-array p c (a ∷ []) b (rw (over a, e)) (one-bad n (l ++ (b .faults ++ [])) (rw e) (rw f))
 
   -- a reduce: its start, and its array
-  two-ends : (u d : ℕ) (r : Typed) →
+  two-ends : (u d : ℕ) (r : Walked) →
       ruled p (loop-rule reducing) (more u (more d (body-after r))) ≡ loop-ended p 20 u d r
-  two-ends u d (Depth e q) = ap (λ (b : Bool). by-rule p q (some-if b u)) (equal-turned u e)
-  two-ends u d (Fault n) = refl
+  two-ends u d (done e q) = ap (λ (b : Bool). by-rule p q (some-if b u)) (equal-turned u e)
+  two-ends u d (stop n i) = refl
 
-  two-tells : {a a′ : Checked} {q q′ s : ℕ} {r : Typed} (b : Checked) → Tells a q r → Tells a′ q′ (m γ q) →
+  two-tells : {a a′ : Checked} {q q′ s : ℕ} {r : Walked} (b : Checked) → Tells a q r → Tells a′ q′ (m γ q) →
       ((u d : ℕ) → a .depth ≡ some u → a′ .depth ≡ some (suc d) → Tells b s (m (updated (updated γ low u) high d) q′)) →
       Tells (loop-node p reducing (a ∷ a′ ∷ []) b) s (loop-typed m γ p 20 low high r)
   two-tells {a} {a′} {q} {q′} {s} b (good u e f) t h = go t
     where
-      go : {r : Typed} → Tells a′ q′ r →
+      go : {r : Walked} → Tells a′ q′ r →
           Tells (loop-node p reducing (a ∷ a′ ∷ []) b) s (array-typed m γ p 20 low high u r)
       go (good zero e′ f′) = over-number p reducing (a ∷ a′ ∷ []) b (rw (e, e′))
       go (good (suc d) e′ f′) =
           rw (← two-ends u (suc d) _)
           (over-array p reducing (a ∷ a′ ∷ []) b (rw (e, e′))
-          (after-good e f (after-good e′ f′ (next-part (λ z. all [] z) (h u d e e′) no-parts))))
+          (after-good e f (after-good e′ f′ (next-part (λ z. done [] z) (h u d e e′) no-parts))))
       go (bad n l e′ f′) =
           over-array p reducing (a ∷ a′ ∷ []) b (rw (e, e′))
           (one-bad n (l ++ (b .faults ++ [])) (rw (e, e′)) (rw (f, f′)))
@@ -180,8 +179,8 @@ module _ (k w s : List ℕ) where
   signatures = signature-of k w s
 
   -- a leaf and a loop at p by their shapes
-  module _ (h : S.Head) (m : (ℕ → ℕ) → ℕ → Typed) (γ : ℕ → ℕ) (p : ℕ) where
-    abbrev walked : Typed
+  module _ (h : S.Head) (m : (ℕ → ℕ) → ℕ → Walked) (γ : ℕ → ℕ) (p : ℕ) where
+    abbrev walked : Walked
     walked = typed any-name (any-signature k w s) k w m γ p (h .kind) (h .low) (h .high)
 
     leaf-typed : (l : Leaf) → h .kind ≡ leaf-kind l → shape-of h ≡ leaf-of l →
@@ -202,7 +201,7 @@ module _ (k w s : List ℕ) where
     BodyTold c xs cs b q r =
         (ts : List ℕ) → pass-depths c cs ≡ map (λ t. some t) ts → Tells b r (m (with-depths xs ts γ) q)
 
-    abbrev looped : Typed
+    abbrev looped : Walked
     looped = loop-typed m γ p (h .kind) (h .low) (h .high) (start-typed (h .kind) (m γ) (p + 1))
 
     abbrev LoopTold : Loop → List ℕ → List Checked → Type 0

@@ -7,6 +7,7 @@ use Prim.Native.Nat.{ℕ, zero, suc, _+_, _<_}
 use lib.Dec.{eqb}
 use lib.ListN.{length}
 use Rattle.semantics.specs.Basics.{updated}
+use Rattle.semantics.specs.Outcome.{Outcome, done, stop}
 use Rattle.semantics.specs.File as S
 use Rattle.semantics.specs.File.{at-part, node-at, part-count}
 use Rattle.semantics.specs.Types.{Rule, Signature}
@@ -20,97 +21,104 @@ use Rattle.script_depths.specs.declared.Typed.the-variants.{Depth, Fault
 abbrev pub depths : List ℕ → ℕ → ℕ
 depths t = table 255 t
 
--- the depths of some parts and the next node, or the first fault
-pub data Parts-typed : Type 0 where
-  all : List ℕ → ℕ → Parts-typed
-  fault : ℕ → Parts-typed
+-- document 01's number and values for each case: a depth and the next node, or 7 and the node
+abbrev pub typed-outcome : Typed → Outcome ℕ ℕ
+typed-outcome (Depth d q) = done d q
+typed-outcome (Fault p) = stop 7 p
 
-abbrev pub more : ℕ → Parts-typed → Parts-typed
-more d (all l q) = all (d ∷ l) q
-more d (fault n) = fault n
+-- what a walk over a part gives, and over some parts in turn: the depth or the depths, and the next node
+abbrev pub Walked : Type 0
+Walked = Outcome ℕ ℕ
 
-abbrev pub and-parts : Typed → (ℕ → Parts-typed) → Parts-typed
-and-parts (Depth d q) f = more d (f q)
-and-parts (Fault n) f = fault n
+abbrev pub AllWalked : Type 0
+AllWalked = Outcome ℕ (List ℕ)
 
-unfoldable pub collect : ℕ → (ℕ → Typed) → ℕ → Parts-typed
-collect zero f p = all [] p
+abbrev pub more : ℕ → AllWalked → AllWalked
+more d (done l q) = done (d ∷ l) q
+more d (stop n p) = stop n p
+
+abbrev pub and-parts : Walked → (ℕ → AllWalked) → AllWalked
+and-parts (done d q) f = more d (f q)
+and-parts (stop n p) f = stop n p
+
+unfoldable pub collect : ℕ → (ℕ → Walked) → ℕ → AllWalked
+collect zero f p = done [] p
 collect (suc c) f p = and-parts (f p) (collect c f)
 
-abbrev pub by-rule : ℕ → ℕ → Option ℕ → Typed
-by-rule p q (some d) = Depth d q
-by-rule p q none = Fault p
+abbrev pub by-rule : ℕ → ℕ → Option ℕ → Walked
+by-rule p q (some d) = done d q
+by-rule p q none = stop 7 p
 
 -- node p by its rule and its parts
-abbrev pub ruled : ℕ → Rule → Parts-typed → Typed
-ruled p r (all l q) = by-rule p q (r l)
-ruled p r (fault n) = Fault n
+abbrev pub ruled : ℕ → Rule → AllWalked → Walked
+ruled p r (done l q) = by-rule p q (r l)
+ruled p r (stop n i) = stop n i
 
 -- the second part of a let, after the first; m walks over a part
-abbrev pub let-typed : ((ℕ → ℕ) → ℕ → Typed) → (ℕ → ℕ) → ℕ → Typed → Typed
-let-typed m γ x (Depth d q) = m (updated γ x d) q
-let-typed m γ x (Fault n) = Fault n
+abbrev pub let-typed : ((ℕ → ℕ) → ℕ → Walked) → (ℕ → ℕ) → ℕ → Walked → Walked
+let-typed m γ x (done d q) = m (updated γ x d) q
+let-typed m γ x (stop n i) = stop n i
 
 -- a reduce's start at p, which f walks over; a map and a filter have none: it counts as a number, and the array is
 -- there
-abbrev pub start-typed : ℕ → (ℕ → Typed) → ℕ → Typed
-start-typed kind f p = cond (eqb kind 20) (f p) (Depth 0 p)
+abbrev pub start-typed : ℕ → (ℕ → Walked) → ℕ → Walked
+start-typed kind f p = cond (eqb kind 20) (f p) (done 0 p)
 
 -- a loop at p by the depths of its start and its array, and by its body
-abbrev pub loop-ended : ℕ → ℕ → ℕ → ℕ → Typed → Typed
-loop-ended p kind s d (Depth e q) = by-rule p q (loop-ruled kind s d e)
-loop-ended p kind s d (Fault n) = Fault n
+abbrev pub loop-ended : ℕ → ℕ → ℕ → ℕ → Walked → Walked
+loop-ended p kind s d (done e q) = by-rule p q (loop-ruled kind s d e)
+loop-ended p kind s d (stop n i) = stop n i
 
 -- a loop at p; m walks over a part
-module _ (m : (ℕ → ℕ) → ℕ → Typed) (γ : ℕ → ℕ) (p kind low high : ℕ) where
+module _ (m : (ℕ → ℕ) → ℕ → Walked) (γ : ℕ → ℕ) (p kind low high : ℕ) where
   -- by the depth of its start, and by its array: the names of a pass have the depths of the start and of an element
-  abbrev pub array-typed : ℕ → Typed → Typed
-  array-typed s (Depth zero q) = Fault p
-  array-typed s (Depth (suc d) q) =
+  abbrev pub array-typed : ℕ → Walked → Walked
+  array-typed s (done zero q) = stop 7 p
+  array-typed s (done (suc d) q) =
       loop-ended p kind s (suc d) (m (updated (updated γ low s) (second-name kind low high) d) q)
-  array-typed s (Fault n) = Fault n
+  array-typed s (stop n i) = stop n i
 
   -- by its start
-  abbrev pub loop-typed : Typed → Typed
-  loop-typed (Depth s q) = array-typed s (m γ q)
-  loop-typed (Fault n) = Fault n
+  abbrev pub loop-typed : Walked → Walked
+  loop-typed (done s q) = array-typed s (m γ q)
+  loop-typed (stop n i) = stop n i
 
 -- a walk by what a name's entry tells at its node, and by the signatures of the functions
-module _ (named : ℕ → ℕ → Typed) (signatures : ℕ → Option Signature) (kinds operands : List ℕ) where
+module _ (named : ℕ → ℕ → Walked) (signatures : ℕ → Option Signature) (kinds operands : List ℕ) where
   -- a node that binds nothing; f walks over a part
-  unfoldable pub plain-typed : (ℕ → Typed) → ℕ → ℕ → ℕ → ℕ → Typed
+  unfoldable pub plain-typed : (ℕ → Walked) → ℕ → ℕ → ℕ → ℕ → Walked
   plain-typed f p kind low high =
       ruled p (rule-of signatures kind low high) (collect (part-count kind low high) f (p + 1))
 
-  abbrev pub typed : ((ℕ → ℕ) → ℕ → Typed) → (ℕ → ℕ) → ℕ → ℕ → ℕ → ℕ → Typed
+  abbrev pub typed : ((ℕ → ℕ) → ℕ → Walked) → (ℕ → ℕ) → ℕ → ℕ → ℕ → ℕ → Walked
   typed m γ p kind low high =
-      cond (eqb kind 2) (Depth 0 (p + 1))
+      cond (eqb kind 2) (done 0 (p + 1))
       (cond (eqb kind 3) (named (γ low) p)
       (cond (eqb kind 7) (let-typed m γ low (m γ (p + 1)))
       (cond (loops kind) (loop-typed m γ p kind low high (start-typed kind (m γ) (p + 1)))
       (plain-typed (m γ) p kind low high))))
 
-  abbrev pub typed-node : ((ℕ → ℕ) → ℕ → Typed) → (ℕ → ℕ) → ℕ → S.Node → Typed
+  abbrev pub typed-node : ((ℕ → ℕ) → ℕ → Walked) → (ℕ → ℕ) → ℕ → S.Node → Walked
   typed-node m γ p (S.fits h) = typed m γ p (h .kind) (h .low) (h .high)
-  typed-node m γ p S.wrong-kind = Fault p
-  typed-node m γ p S.wrong-operand = Fault p
+  typed-node m γ p S.wrong-kind = stop 7 p
+  typed-node m γ p S.wrong-operand = stop 7 p
 
   -- a part, with so many levels left
-  unfoldable pub walk : ℕ → (ℕ → ℕ) → ℕ → Typed
-  walk zero γ p = Fault p
+  unfoldable pub walk : ℕ → (ℕ → ℕ) → ℕ → Walked
+  walk zero γ p = stop 7 p
   walk (suc d) γ p = typed-node (walk d) γ p (node-at kinds operands at-part p)
 
 -- a name whose entry is 255 is not known
-abbrev pub known-name : ℕ → ℕ → Typed
-known-name d p = cond (eqb d 255) (Fault p) (Depth d (p + 1))
+abbrev pub known-name : ℕ → ℕ → Walked
+known-name d p = cond (eqb d 255) (stop 7 p) (done d (p + 1))
 
 -- The walk of the code, which asks names and functions to be known: a node that breaks rule 6 is a fault of it too.
 module _ (kinds operands starts : List ℕ) where
-  unfoldable pub known-types : ℕ → (ℕ → ℕ) → ℕ → Typed
+  unfoldable pub known-types : ℕ → (ℕ → ℕ) → ℕ → Walked
   unfolding walk
   known-types d γ p = walk known-name (known-signature kinds operands starts) kinds operands d γ p
 
-  unfoldable pub known-plain : (ℕ → Typed) → ℕ → ℕ → ℕ → ℕ → Typed
+  unfoldable pub known-plain : (ℕ → Walked) → ℕ → ℕ → ℕ → ℕ → Walked
   unfolding plain-typed
   known-plain f p kind low high =
       plain-typed known-name (known-signature kinds operands starts) kinds operands f p kind low high
@@ -119,16 +127,16 @@ module _ (kinds operands starts : List ℕ) where
 abbrev pub AtomTyped : List ℕ → List ℕ → ℕ → (ℕ → ℕ) → ℕ → ℕ → Type 0
 AtomTyped kinds operands d γ p v =
     (v ≡ 255 → ⊥) →
-    (p < length kinds) × ((starts : List ℕ) → Depth v (p + 1) ≡ known-types kinds operands starts d γ p)
+    (p < length kinds) × ((starts : List ℕ) → done v (p + 1) ≡ known-types kinds operands starts d γ p)
 
 -- The walk for depths alone: every name counts as known and every function as there.
-abbrev pub any-name : ℕ → ℕ → Typed
-any-name d p = Depth d (p + 1)
+abbrev pub any-name : ℕ → ℕ → Walked
+any-name d p = done d (p + 1)
 
 module _ (kinds operands starts : List ℕ) where
   abbrev pub any-signature : ℕ → Option Signature
   any-signature f = some (signature-of kinds operands starts f)
 
-  unfoldable pub types : ℕ → (ℕ → ℕ) → ℕ → Typed
+  unfoldable pub types : ℕ → (ℕ → ℕ) → ℕ → Walked
   unfolding walk
   types d γ p = walk any-name any-signature kinds operands d γ p

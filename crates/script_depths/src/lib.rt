@@ -11,7 +11,7 @@ ghost use Prim.Native.Nat.{_+_, _<_, _≤_};
 ghost use lib.ListN.{length, getD};
 ghost use Rattle.semantics.specs.File.{low-limits, high-limits};
 ghost use Rattle.script_depths.specs.Walk.{depths, let-typed, start-typed, loop-ended, loop-typed, known-plain};
-ghost use Rattle.script_depths.specs.Walk.{known-types, AtomTyped};
+ghost use Rattle.script_depths.specs.Walk.{known-types, AtomTyped, typed-outcome};
 
 // The entry of a name that is not known.
 pub const UNKNOWN: u8 = 255;
@@ -24,7 +24,7 @@ pub enum Typed {
 
 // A loop at node at, by the depths of its start and its array and by what its body gives.
 fn end_loop(at: usize, kind: u8, start: u8, array: u8, body: Typed) -> Typed
-    ensures { λ r. ⌜ r ≡ loop-ended at kind start array body ⌝ }
+    ensures { λ r. ⌜ typed-outcome r ≡ loop-ended at kind start array (typed-outcome body) ⌝ }
 {
     match body {
         Typed::Depth(d, q) => match script_rules::judge_loop(kind, start, array, d) {
@@ -62,7 +62,7 @@ fn type_part(
 ) -> Typed
     requires { ⌜ (length (now table) ≡ 256) × (length (now starts) ≡ 32) ⌝ }
     ensures { λ r. ⌜
-        (r ≡ known-types (now (kinds .entry)) (now (operands .entry)) (now (starts .entry)) levels
+        (typed-outcome r ≡ known-types (now (kinds .entry)) (now (operands .entry)) (now (starts .entry)) levels
         (depths (now (table .entry))) at)
         × (now (table .exit) ≡ now (table .entry)) ⌝ }
 {
@@ -107,7 +107,8 @@ fn type_let(
 ) -> Typed
     requires { ⌜ (length (now table) ≡ 256) × (length (now starts) ≡ 32) ⌝ }
     ensures { λ r. ⌜
-        (r ≡ let-typed (known-types (now (kinds .entry)) (now (operands .entry)) (now (starts .entry)) levels)
+        (typed-outcome r
+        ≡ let-typed (known-types (now (kinds .entry)) (now (operands .entry)) (now (starts .entry)) levels)
         (depths (now (table .entry))) x
         (known-types (now (kinds .entry)) (now (operands .entry)) (now (starts .entry)) levels
         (depths (now (table .entry))) at))
@@ -138,7 +139,8 @@ fn type_start(
 ) -> Typed
     requires { ⌜ (length (now table) ≡ 256) × (length (now starts) ≡ 32) ⌝ }
     ensures { λ r. ⌜
-        (r ≡ start-typed kind (known-types (now (kinds .entry)) (now (operands .entry)) (now (starts .entry)) levels
+        (typed-outcome r
+        ≡ start-typed kind (known-types (now (kinds .entry)) (now (operands .entry)) (now (starts .entry)) levels
         (depths (now (table .entry)))) at)
         × (now (table .exit) ≡ now (table .entry)) ⌝ }
 {
@@ -161,7 +163,8 @@ fn type_loop(
 ) -> Typed
     requires { ⌜ (length (now table) ≡ 256) × (length (now starts) ≡ 32) × (at < length (now kinds)) ⌝ }
     ensures { λ r. ⌜
-        (r ≡ loop-typed (known-types (now (kinds .entry)) (now (operands .entry)) (now (starts .entry)) levels)
+        (typed-outcome r
+        ≡ loop-typed (known-types (now (kinds .entry)) (now (operands .entry)) (now (starts .entry)) levels)
         (depths (now (table .entry))) at (node .kind) (node .low) (node .high)
         (start-typed (node .kind) (known-types (now (kinds .entry)) (now (operands .entry)) (now (starts .entry))
         levels (depths (now (table .entry)))) (at + 1)))
@@ -204,7 +207,7 @@ fn type_plain(
         (length (now table) ≡ 256) × (length (now starts) ≡ 32) × (at < length (now kinds))
         × (node .low ≤ getD low-limits (node .kind) 0) × (node .high ≤ getD high-limits (node .kind) 0) ⌝ }
     ensures { λ r. ⌜
-        (r ≡ known-plain (now (kinds .entry)) (now (operands .entry)) (now (starts .entry))
+        (typed-outcome r ≡ known-plain (now (kinds .entry)) (now (operands .entry)) (now (starts .entry))
         (known-types (now (kinds .entry)) (now (operands .entry)) (now (starts .entry)) levels
         (depths (now (table .entry)))) at (node .kind) (node .low) (node .high))
         × (now (table .exit) ≡ now (table .entry)) ⌝ }
@@ -248,7 +251,7 @@ pub fn type_body(
 ) -> Typed
     requires { ⌜ (length (now table) ≡ 256) × (length (now starts) ≡ 32) ⌝ }
     ensures { λ r. ⌜
-        r ≡ known-types (now (kinds .entry)) (now (operands .entry)) (now (starts .entry)) 64
+        typed-outcome r ≡ known-types (now (kinds .entry)) (now (operands .entry)) (now (starts .entry)) 64
         (depths (now (table .entry))) at ⌝ }
 {
     type_part(kinds, operands, starts, table, at, 64)

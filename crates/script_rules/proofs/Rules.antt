@@ -11,6 +11,7 @@ use lib.Dec.{eqb}
 use lib.ListN.{length, getD, take, drop, length-take, drop-of-length-le}
 use lib.Seq.{drop-cons, getD-take}
 use borrow.Author.Tests.{eqb-true, eq-eqb, ne-eqb, le-leb, lt-leb, lt-ltb, le-ltb}
+use Rattle.semantics.specs.Outcome.{Outcome, done, stop}
 use Rattle.semantics.specs.File.{at-function, at-parameter, part-count, part-counts, low-limits, high-limits}
 use Rattle.semantics.specs.Types.{Signature, all-are, same, some-if, index-rule, length-rule, replicate-rule, if-rule}
 use Rattle.script_read.specs.Told.{low-at, high-at}
@@ -19,7 +20,8 @@ use Rattle.script_read.proofs.Limits.{NoneOf, few}
 use Rattle.script_read.proofs.Nodes.{node-says, past, unfit, low-none, high-none}
 use Rattle.script_rules.specs.declared.Judged.{Judged}
 use Rattle.script_rules.specs.declared.Judged.the-variants.{Has, Broken}
-use Rattle.script_rules.specs.Rules.{depths-from, signature-at, there, called, rule-of, array-rule, told-rule}
+use Rattle.script_rules.specs.Rules.{depths-from, signature-at, there, called, rule-of, array-rule}
+use Rattle.script_rules.specs.Rules.{judged-outcome, rule-outcome}
 
 -- all of the first n depths are d
 module _ (d n : ℕ) (ds : List ℕ) (l : n ≤ length ds) where
@@ -99,7 +101,7 @@ depths-length k w (suc n) p = ap suc (depths-length k w n (p + 1))
 
 module _ (k w : List ℕ) (p n : ℕ) (ds : List ℕ) where
   abbrev pub Calls : Judged → Type 0
-  Calls r = r ≡ told-rule (called (there k w p) (take n ds))
+  Calls r = judged-outcome r ≡ rule-outcome (called (there k w p) (take n ds))
 
   pub not-there : length k ≤ p → Calls Broken
   not-there h = rw (le-ltb p (length k) h)
@@ -138,39 +140,43 @@ take-three (x ∷ l) h = ap (λ (m : List ℕ). x ∷ m) (take-two l (omega arit
 
 -- a node of kind x with the parts y and z of its operand
 module _ (signatures : ℕ → Option Signature) (x y z : ℕ) (ds : List ℕ) (l : length ds ≡ 16) where
-  abbrev pub Says : Judged → Type 0
-  Says r = r ≡ told-rule (rule-of signatures x y z (take (part-count x y z) ds))
+  abbrev pub Says : Outcome (Unit {0}) ℕ → Type 0
+  Says r = r ≡ rule-outcome (rule-of signatures x y z (take (part-count x y z) ds))
 
-  pub call-says : x ≡ 8 → (r : Judged) → r ≡ told-rule (called (signatures y) (take z ds)) → Says r
+  pub call-says : x ≡ 8 → (r : Outcome (Unit {0}) ℕ) → r ≡ rule-outcome (called (signatures y) (take z ds)) → Says r
   unfolding rule-of part-count
   call-says e r f = rw e f
 
-  pub literal-says : x ≡ 9 → (r : Judged) → r ≡ told-rule (some-if (all-are z (take y ds)) (z + 1)) → Says r
+  pub literal-says : x ≡ 9 → (r : Outcome (Unit {0}) ℕ) →
+      r ≡ rule-outcome (some-if (all-are z (take y ds)) (z + 1)) → Says r
   unfolding rule-of part-count
   literal-says e r f = rw (e, ← add-one z) f
 
-  pub index-says : x ≡ 10 → (r : Judged) → r ≡ told-rule (index-rule (getD ds 0 0 ∷ getD ds 1 0 ∷ [])) → Says r
+  pub index-says : x ≡ 10 → (r : Outcome (Unit {0}) ℕ) →
+      r ≡ rule-outcome (index-rule (getD ds 0 0 ∷ getD ds 1 0 ∷ [])) → Says r
   unfolding rule-of part-count
   index-says e r f = rw (e, take-two ds (omega arith)) f
 
-  pub length-says : x ≡ 11 → (r : Judged) → r ≡ told-rule (length-rule (getD ds 0 0 ∷ [])) → Says r
+  pub length-says : x ≡ 11 → (r : Outcome (Unit {0}) ℕ) → r ≡ rule-outcome (length-rule (getD ds 0 0 ∷ [])) → Says r
   unfolding rule-of part-count
   length-says e r f = rw (e, take-one ds (omega arith)) f
 
-  pub if-says : x ≡ 12 → (r : Judged) → r ≡ told-rule (if-rule (getD ds 0 0 ∷ getD ds 1 0 ∷ getD ds 2 0 ∷ [])) → Says r
+  pub if-says : x ≡ 12 → (r : Outcome (Unit {0}) ℕ) →
+      r ≡ rule-outcome (if-rule (getD ds 0 0 ∷ getD ds 1 0 ∷ getD ds 2 0 ∷ [])) → Says r
   unfolding rule-of part-count
   if-says e r f = rw (e, take-three ds (omega arith)) f
 
-  pub iota-says : x ≡ 17 → (r : Judged) → r ≡ told-rule (some-if (all-are 0 (take 1 ds)) 1) → Says r
+  pub iota-says : x ≡ 17 → (r : Outcome (Unit {0}) ℕ) → r ≡ rule-outcome (some-if (all-are 0 (take 1 ds)) 1) → Says r
   unfolding rule-of part-count
   iota-says e r f = rw e f
 
-  pub replicate-says : x ≡ 18 → (r : Judged) → r ≡ told-rule (replicate-rule (getD ds 0 0 ∷ getD ds 1 0 ∷ [])) → Says r
+  pub replicate-says : x ≡ 18 → (r : Outcome (Unit {0}) ℕ) →
+      r ≡ rule-outcome (replicate-rule (getD ds 0 0 ∷ getD ds 1 0 ∷ [])) → Says r
   unfolding rule-of part-count
   replicate-says e r f = rw (e, take-two ds (omega arith)) f
 
-  pub numbers-say : NoneOf (18 ∷ 17 ∷ 12 ∷ 11 ∷ 10 ∷ 9 ∷ 8 ∷ []) x → (n : ℕ) → n ≡ part-count x y z → (r : Judged) →
-      r ≡ told-rule (some-if (all-are 0 (take n ds)) 0) → Says r
+  pub numbers-say : NoneOf (18 ∷ 17 ∷ 12 ∷ 11 ∷ 10 ∷ 9 ∷ 8 ∷ []) x → (n : ℕ) → n ≡ part-count x y z →
+      (r : Outcome (Unit {0}) ℕ) → r ≡ rule-outcome (some-if (all-are 0 (take n ds)) 0) → Says r
   unfolding rule-of
   numbers-say f n e r g =
       rw (
@@ -185,27 +191,27 @@ module _ (signatures : ℕ → Option Signature) (x y z : ℕ) (ds : List ℕ) (
       ) g
 
 -- an element's depth
-pub index-good : (a b : ℕ) → (a ≡ 0 → ⊥) → b ≡ 0 → Has (a - 1) ≡ told-rule (index-rule (a ∷ b ∷ []))
+pub index-good : (a b : ℕ) → (a ≡ 0 → ⊥) → b ≡ 0 → done (a - 1) tt ≡ rule-outcome (index-rule (a ∷ b ∷ []))
 index-good zero b f g = absurd (f refl)
-index-good (suc a) b f g = rw g (ap Has (omega arith))
+index-good (suc a) b f g = rw g (ap (λ (n : ℕ). done n tt) (omega arith))
 
-pub index-bad : (a b : ℕ) → (a ≡ 0 → ⊥) → (b ≡ 0 → ⊥) → Broken ≡ told-rule (index-rule (a ∷ b ∷ []))
+pub index-bad : (a b : ℕ) → (a ≡ 0 → ⊥) → (b ≡ 0 → ⊥) → stop 7 tt ≡ rule-outcome (index-rule (a ∷ b ∷ []))
 index-bad zero b f g = absurd (f refl)
 index-bad (suc a) b f g = rw (ne-eqb b 0 g)
 
 -- a length's depth
-pub length-good : (a : ℕ) → (a ≡ 0 → ⊥) → Has 0 ≡ told-rule (length-rule (a ∷ []))
+pub length-good : (a : ℕ) → (a ≡ 0 → ⊥) → done 0 tt ≡ rule-outcome (length-rule (a ∷ []))
 length-good zero f = absurd (f refl)
 length-good (suc a) f = refl
 
 -- an array's depth by its elements'
-pub array-good : (d : ℕ) → d < 4 → Has (d + 1) ≡ told-rule (array-rule d)
+pub array-good : (d : ℕ) → d < 4 → done (d + 1) tt ≡ rule-outcome (array-rule d)
 array-good d h = rw (le-leb (suc d) 4 (omega arith), add-one)
 
-pub array-deep : (d : ℕ) → 4 ≤ d → Broken ≡ told-rule (array-rule d)
+pub array-deep : (d : ℕ) → 4 ≤ d → stop 7 tt ≡ rule-outcome (array-rule d)
 array-deep d h = rw (lt-leb (suc d) 4 (omega arith))
 
-pub replicate-bad : (a b : ℕ) → (a ≡ 0 → ⊥) → Broken ≡ told-rule (replicate-rule (a ∷ b ∷ []))
+pub replicate-bad : (a b : ℕ) → (a ≡ 0 → ⊥) → stop 7 tt ≡ rule-outcome (replicate-rule (a ∷ b ∷ []))
 replicate-bad zero b f = absurd (f refl)
 replicate-bad (suc a) b f = refl
 

@@ -5,6 +5,7 @@ use mathlib.Core.Option.{Option, none, some}
 use Prim.Native.Nat.{ℕ, zero, suc, _+_}
 use lib.Dec.{leb, ltb, eqb}
 use lib.ListN.{length, getD}
+use Rattle.semantics.specs.Outcome.{Outcome, done, stop}
 use Rattle.semantics.specs.File.{at-function, at-parameter}
 use Rattle.semantics.specs.Types.{Rule, Signature, some-if, number-rule, literal-rule, call-rule, index-rule}
 use Rattle.semantics.specs.Types.{length-rule, iota-rule, replicate-rule, if-rule}
@@ -62,6 +63,12 @@ array-rule d = some-if (leb (suc d) 4) (suc d)
 abbrev pub loop-ruled : ℕ → ℕ → ℕ → ℕ → Option ℕ
 loop-ruled kind s d e = cond (eqb kind 13) (array-rule e) (some-if (eqb e s) (cond (eqb kind 19) d s))
 
-abbrev pub told-rule : Option ℕ → Judged
-told-rule (some d) = Has d
-told-rule none = Broken
+-- document 01's number and value for each case: a depth, or 7
+abbrev pub judged-outcome : Judged → Outcome (Unit {0}) ℕ
+judged-outcome (Has d) = done d tt
+judged-outcome Broken = stop 7 tt
+
+-- the depth that a rule gives, and where it gives none 7
+abbrev pub rule-outcome : Option ℕ → Outcome (Unit {0}) ℕ
+rule-outcome (some d) = done d tt
+rule-outcome none = stop 7 tt

@@ -7,7 +7,7 @@ ghost use lib.ListN.{length, getD, take};
 ghost use Rattle.semantics.specs.File.{low-limits, high-limits, part-count};
 ghost use Rattle.semantics.specs.Types.{all-are, same, some-if, index-rule, length-rule, replicate-rule, if-rule};
 ghost use Rattle.script_rules.specs.Rules.{depths-from, there, called, known-signature, rule-of, array-rule};
-ghost use Rattle.script_rules.specs.Rules.{loop-ruled, told-rule};
+ghost use Rattle.script_rules.specs.Rules.{loop-ruled, judged-outcome, rule-outcome};
 
 // A node: its kind and the two parts of its operand.
 pub struct Head {
@@ -16,7 +16,7 @@ pub struct Head {
     pub high: u8,
 }
 
-// A depth, or none.
+// A node's depth, or that it breaks its rule.
 pub enum Judged {
     Has(u8),
     Broken,
@@ -40,7 +40,7 @@ fn all_are(ds: &[u8; 16], n: usize, d: u8) -> bool
 // The depth of a node whose first n parts are to have the depth d.
 fn judge_all(ds: &[u8; 16], n: usize, d: u8, depth: u8) -> Judged
     requires { ⌜ (n ≤ 16) × (length (now ds) ≡ 16) ⌝ }
-    ensures { λ r. ⌜ r ≡ told-rule (some-if (all-are d (take n (now (ds .entry)))) depth) ⌝ }
+    ensures { λ r. ⌜ judged-outcome r ≡ rule-outcome (some-if (all-are d (take n (now (ds .entry)))) depth) ⌝ }
 {
     if all_are(ds, n, d) {
         Judged::Has(depth)
@@ -69,7 +69,7 @@ fn parameters_match(kinds: &[u8], operands: &[u8], at: usize, ds: &[u8; 16], n: 
 fn judge_call(kinds: &[u8], operands: &[u8], start: usize, ds: &[u8; 16], n: u8) -> Judged
     requires { ⌜ (n ≤ 16) × (length (now ds) ≡ 16) ⌝ }
     ensures { λ r. ⌜
-        r ≡ told-rule
+        judged-outcome r ≡ rule-outcome
         (called (there (now (kinds .entry)) (now (operands .entry)) start) (take n (now (ds .entry)))) ⌝ }
 {
     if kinds.len() <= start {
@@ -86,7 +86,7 @@ fn judge_call(kinds: &[u8], operands: &[u8], start: usize, ds: &[u8; 16], n: u8)
 
 // The depth of an element, by those of the array and of the place.
 fn judge_index(a: u8, b: u8) -> Judged
-    ensures { λ r. ⌜ r ≡ told-rule (index-rule (a ∷ b ∷ [])) ⌝ }
+    ensures { λ r. ⌜ judged-outcome r ≡ rule-outcome (index-rule (a ∷ b ∷ [])) ⌝ }
 {
     if a == 0 {
         return Judged::Broken;
@@ -99,7 +99,7 @@ fn judge_index(a: u8, b: u8) -> Judged
 
 // The depth of a length, by that of the array.
 fn judge_length(a: u8) -> Judged
-    ensures { λ r. ⌜ r ≡ told-rule (length-rule (a ∷ [])) ⌝ }
+    ensures { λ r. ⌜ judged-outcome r ≡ rule-outcome (length-rule (a ∷ [])) ⌝ }
 {
     if a == 0 {
         Judged::Broken
@@ -110,7 +110,7 @@ fn judge_length(a: u8) -> Judged
 
 // The depth of an array whose elements have the depth d.
 fn judge_array(d: u8) -> Judged
-    ensures { λ r. ⌜ r ≡ told-rule (array-rule d) ⌝ }
+    ensures { λ r. ⌜ judged-outcome r ≡ rule-outcome (array-rule d) ⌝ }
 {
     if d < 4 {
         Judged::Has(d + 1)
@@ -121,7 +121,7 @@ fn judge_array(d: u8) -> Judged
 
 // The depth of a replicate, by those of the count and of the value.
 fn judge_replicate(a: u8, b: u8) -> Judged
-    ensures { λ r. ⌜ r ≡ told-rule (replicate-rule (a ∷ b ∷ [])) ⌝ }
+    ensures { λ r. ⌜ judged-outcome r ≡ rule-outcome (replicate-rule (a ∷ b ∷ [])) ⌝ }
 {
     if a == 0 {
         judge_array(b)
@@ -132,7 +132,7 @@ fn judge_replicate(a: u8, b: u8) -> Judged
 
 // The depth of an if, by those of the guard and of the two branches.
 fn judge_if(a: u8, b: u8, c: u8) -> Judged
-    ensures { λ r. ⌜ r ≡ told-rule (if-rule (a ∷ b ∷ c ∷ [])) ⌝ }
+    ensures { λ r. ⌜ judged-outcome r ≡ rule-outcome (if-rule (a ∷ b ∷ c ∷ [])) ⌝ }
 {
     if a != 0 {
         return Judged::Broken;
@@ -155,7 +155,7 @@ pub fn judge(
         (length (now ds) ≡ 16) × (node .low ≤ getD low-limits (node .kind) 0)
         × (node .high ≤ getD high-limits (node .kind) 0) × (length (now starts) ≡ 32) ⌝ }
     ensures { λ r. ⌜
-        r ≡ told-rule
+        judged-outcome r ≡ rule-outcome
         (rule-of (known-signature (now (kinds .entry)) (now (operands .entry)) (now (starts .entry)))
         (node .kind) (node .low) (node .high)
         (take (part-count (node .kind) (node .low) (node .high)) (now (ds .entry)))) ⌝ }
@@ -178,7 +178,7 @@ pub fn judge(
 // The depth of a loop, by those of its start, of the array and of the body. A filter's start is told as a number, which
 // its body has to be.
 pub fn judge_loop(kind: u8, start: u8, array: u8, body: u8) -> Judged
-    ensures { λ r. ⌜ r ≡ told-rule (loop-ruled kind start array body) ⌝ }
+    ensures { λ r. ⌜ judged-outcome r ≡ rule-outcome (loop-ruled kind start array body) ⌝ }
 {
     if kind == kinds::MAP {
         return judge_array(body);

@@ -8,6 +8,7 @@ use native.Mathlib.Omega.{arith}
 use lib.Dec.{eqb}
 use lib.ListN.{length, getD, set, replicate}
 use borrow.Author.Tests.{eq-eqb, ne-eqb}
+use Rattle.semantics.specs.Outcome.{done, stop}
 use Rattle.semantics.specs.File as S
 use Rattle.semantics.specs.File.{at-function, at-parameter, look, node-at}
 use Rattle.semantics.specs.Types.{main-shape}
@@ -21,9 +22,7 @@ use Rattle.script_read.proofs.Turns.{less-one}
 use Rattle.script_read.proofs.Tables.{table-set, table-fresh}
 use Rattle.script_depths.proofs.Laws.{entry}
 use Rattle.script_rules.specs.Rules.{depths-from, signature-at}
-use Rattle.script_depths.specs.Walk.{depths, known-types}
-use Rattle.script_depths.specs.declared.Typed.{Typed}
-use Rattle.script_depths.specs.declared.Typed.the-variants.{Depth, Fault}
+use Rattle.script_depths.specs.Walk.{Walked, depths, known-types}
 use Rattle.script_rules.proofs.Rules.{counts-differ, depths-length}
 use Rattle.script_types.specs.Functions.{typed-parameter, fresh-name, ended, known-from, known-function}
 use Rattle.script_types.specs.Functions.{known-script}
@@ -54,7 +53,7 @@ module _ (k w s : List ℕ) where
   from-step c γ p h = ap (λ (n : ℕ). known-from k w s n γ p) (less-one c (omega arith))
 
   -- c parameters are left, from node p on; the whole gives r
-  module _ (r : Typed) (c p : ℕ) (t : List ℕ) (inv : r ≡ known-from k w s c (depths t) p) (h : 0 < c) where
+  module _ (r : Walked) (c p : ℕ) (t : List ℕ) (inv : r ≡ known-from k w s c (depths t) p) (h : 0 < c) where
     pub parameter-goes : {x y z : ℕ} → Seen k w at-parameter p x y z → length t ≡ 256 → y < 256 → getD t y 0 ≡ 255 →
         r ≡ known-from k w s (c - 1) (depths (set t y z)) (p + 1)
     parameter-goes {x} {y} {z} n l b u =
@@ -63,7 +62,7 @@ module _ (k w s : List ℕ) where
         ∙ rw (n .same-low, n .same-high, entry t y l b, eq-eqb (getD t y 0) 255 u, table-set 255 t y z (omega arith))
 
     pub parameter-again : {x y z : ℕ} → Seen k w at-parameter p x y z → length t ≡ 256 → y < 256 →
-        (getD t y 0 ≡ 255 → ⊥) → Fault p ≡ r
+        (getD t y 0 ≡ 255 → ⊥) → stop 7 p ≡ r
     parameter-again {x} {y} {z} n l b u =
         sym (inv ∙ from-step c (depths t) p h
         ∙ ap (λ (v : S.Node). typed-parameter fresh-name (known-from k w s (c - 1)) (depths t) p v) (n .stands)
@@ -71,18 +70,18 @@ module _ (k w s : List ℕ) where
 
     pub parameter-none : (n : Node) → node-outcome n p ≡ parted (look k w at-parameter p) →
         (n ≡ WrongKind) ⊎ (n ≡ WrongOperand) →
-        Fault p ≡ r
+        stop 7 p ≡ r
     parameter-none n e f =
         sym (inv ∙ from-step c (depths t) p h
         ∙ ⊎-elim (λ g. rw g) (λ g. rw g) (unfit k w at-parameter p n e f .is))
 
-  pub body-next : (r : Typed) (c : ℕ) (γ : ℕ → ℕ) (p : ℕ) → c ≡ 0 → r ≡ known-types k w s 64 γ p →
+  pub body-next : (r : Walked) (c : ℕ) (γ : ℕ → ℕ) (p : ℕ) → c ≡ 0 → r ≡ known-types k w s 64 γ p →
       r ≡ known-from k w s c γ p
   unfolding known-from
   body-next r c γ p e f = rw e f
 
   -- a function
-  module _ {p x y z : ℕ} (n : Seen k w at-function p x y z) (b : Typed)
+  module _ {p x y z : ℕ} (n : Seen k w at-function p x y z) (b : Walked)
       (be : b ≡ known-from k w s y (depths (replicate 256 255)) (p + 1)) where
     by-body : known-function k w s p ≡ ended p z b
     unfolding known-function known-from
@@ -91,13 +90,13 @@ module _ (k w s : List ℕ) where
         (ap (λ (γ : ℕ → ℕ). ended p z (known-from k w s y γ (p + 1))) (sym (table-fresh 255 256))
         ∙ ap (ended p z) (sym be))
 
-    pub result-fits : (d q : ℕ) → b ≡ Depth d q → d ≡ z → Next q ≡ known-function k w s p
+    pub result-fits : (d q : ℕ) → b ≡ done d q → d ≡ z → Next q ≡ known-function k w s p
     result-fits d q e f = sym (by-body ∙ rw (e, eq-eqb d z f))
 
-    pub result-differs : (d q : ℕ) → b ≡ Depth d q → (d ≡ z → ⊥) → Refused 7 p ≡ known-function k w s p
+    pub result-differs : (d q : ℕ) → b ≡ done d q → (d ≡ z → ⊥) → Refused 7 p ≡ known-function k w s p
     result-differs d q e f = sym (by-body ∙ rw (e, ne-eqb d z f))
 
-    pub body-faulty : (m : ℕ) → b ≡ Fault m → Refused 7 m ≡ known-function k w s p
+    pub body-faulty : (m : ℕ) → b ≡ stop 7 m → Refused 7 m ≡ known-function k w s p
     body-faulty m e = sym (by-body ∙ rw e)
 
   pub no-function : (p : ℕ) (n : Node) → node-outcome n p ≡ parted (look k w at-function p) →

@@ -7,6 +7,7 @@ use mathlib.Core.Path.{_≡_, refl, sym, ap, _∙_, subst, fun-ext}
 use lib.Dec.{eqb}
 use lib.ListN.{length, getD}
 use Rattle.semantics.specs.Basics.{updated}
+use Rattle.semantics.specs.Outcome.{done, stop}
 use Rattle.semantics.specs.Syntax.{Expr, size, Parameter, Function, Script, function-size, function-at}
 use Rattle.semantics.specs.File.{at-function}
 use Rattle.semantics.specs.Types.{Checked, Signature, signature, check, parameter-depths, result-rule, some-if}
@@ -18,9 +19,7 @@ use Rattle.script_read.proofs.Written.{Written, HeadAt, ParametersWritten, Func
 use Rattle.script_read.proofs.Found.{Finds, follow}
 use Rattle.script_read.specs.Starts.{start-of}
 use Rattle.script_rules.specs.Rules.{depths-from, signature-at, signature-of}
-use Rattle.script_depths.specs.Walk.{all, and-parts, by-rule, ruled}
-use Rattle.script_depths.specs.declared.Typed.{Typed}
-use Rattle.script_depths.specs.declared.Typed.the-variants.{Depth, Fault}
+use Rattle.script_depths.specs.Walk.{Walked, and-parts, by-rule, ruled}
 use Rattle.script_rules.proofs.Rules.{signature-past}
 use Rattle.script_depths.proofs.Tree.{Tells, good, bad, by-its-rule, next-part, no-parts, known, entered, types-tree}
 use Rattle.script_types.specs.Functions.{types-from, types-function, types-script, ended}
@@ -75,21 +74,21 @@ module _ (k w s : List ℕ) where
       (types-parameters xs e (updated γ (x .id) (x .depth)) (p + 1) q (h .1) (rw z at g) (omega arith))
 
   -- a function's answer as that of a node with one part
-  told-end : Typed → Read
-  told-end (Depth d q) = Next q
-  told-end (Fault n) = Refused 7 n
+  told-end : Walked → Read
+  told-end (done d q) = Next q
+  told-end (stop n i) = Refused n i
 
-  by-result : (p r : ℕ) (t : Typed) →
-      ended p r t ≡ told-end (ruled p (result-rule (signature-of k w s) r) (and-parts t (λ q. all [] q)))
+  by-result : (p r : ℕ) (t : Walked) →
+      ended p r t ≡ told-end (ruled p (result-rule (signature-of k w s) r) (and-parts t (λ q. done [] q)))
   unfolding told-end
-  by-result p r (Depth d q) = go (eqb d r)
+  by-result p r (done d q) = go (eqb d r)
     where
       go : (b : Bool) → cond b (Next q) (Refused 7 p) ≡ told-end (by-rule p q (some-if (b && true) r))
       go true = refl
       go false = refl
-  by-result p r (Fault n) = refl
+  by-result p r (stop n i) = refl
 
-  told-faults : {c : Checked} {q : ℕ} {t : Typed} → Tells c q t → Finds 7 (told-end t) (c .faults) q
+  told-faults : {c : Checked} {q : ℕ} {t : Walked} → Tells c q t → Finds 7 (told-end t) (c .faults) q
   unfolding told-end
   told-faults (good t e f) = record { is = rw f }
   told-faults (bad n l e f) = record { is = rw f }
@@ -105,7 +104,7 @@ module _ (k w s : List ℕ) where
         by-result p (g .result) (types-from k w s (length (g .parameters)) (λ _. 0) (p + 1)),
       )
       (told-faults (by-its-rule p (result-rule (signature-of k w s) (g .result))
-      (next-part (λ q. all [] q)
+      (next-part (λ q. done [] q)
       (types-parameters (g .parameters) (g .body) (λ _. 0) (p + 1) (p + function-size g) (h .parameters) (h .body)
       (omega arith))
       no-parts)))

@@ -9,7 +9,7 @@ ghost use Prim.Native.Nat.{_+_, _<_};
 ghost use Rattle.semantics.specs.Types.{main-shape};
 ghost use lib.ListN.{length};
 ghost use Rattle.script_rules.specs.Rules.{signature-at};
-ghost use Rattle.script_depths.specs.Walk.{depths};
+ghost use Rattle.script_depths.specs.Walk.{depths, typed-outcome};
 ghost use Rattle.script_types.specs.Functions.{known-from, known-function, known-script};
 
 // Whether main takes the totals and the readings, and gives new totals.
@@ -37,7 +37,7 @@ fn type_parameters(
 ) -> Typed
     requires { ⌜ (length (now table) ≡ 256) × (length (now starts) ≡ 32) ⌝ }
     ensures { λ r. ⌜
-        r ≡ known-from (now (kinds .entry)) (now (operands .entry)) (now (starts .entry)) count
+        typed-outcome r ≡ known-from (now (kinds .entry)) (now (operands .entry)) (now (starts .entry)) count
         (depths (now (table .entry))) at ⌝ }
 {
     let mut p = at;

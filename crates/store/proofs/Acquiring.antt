@@ -1,18 +1,53 @@
 -- Acquiring a cell: a law for each way out of the code.
-use mathlib.Core.Path.{_≡_, refl, sym}
-use mathlib.Core.Bool.{true, false}
+use mathlib.Core.Path.{_≡_, refl, sym, ap, _∙_}
+use mathlib.Core.Bool.{Bool, true, false}
 use mathlib.Core.List.{List, []}
 use Prim.Native.Nat.{ℕ, _+_, _-_, _*_, _<_, _≤_}
 use native.Mathlib.Omega.{arith}
 use lib.IntN.{ℤ}
-use lib.ListN.{getD}
-use borrow.Author.Tests.{lt-ltb, le-ltb}
-use Rattle.semantics.specs.Outcome.{done, stop}
-use Rattle.semantics.specs.Store.{cell-count, with-first, has-free, filled, acquired}
+use lib.ListN.{getD, length-set}
+use borrow.Author.Tests.{lt-ltb, le-ltb, ltb-true}
+use Rattle.semantics.specs.Outcome.{Outcome, done, stop}
+use Rattle.semantics.specs.Store.{Store, cell, cell-count, with-first, with-cell, has-free, filled, acquired}
+use Rattle.semantics.specs.Store.{free-cells}
 use Rattle.semantics.specs.Words.{cells-in, store-of}
+use Rattle.laws.specs.Levels.{taken-with}
 use Rattle.store_words.proofs.CellWords.{store-size, first-is, next-is}
 use Rattle.store_words.proofs.Written.{Written, written-store}
-use Rattle.store.specs.Acquiring.{gained, next-cell}
+use Rattle.store.specs.Acquiring.{Gained, gained, first-cell, next-cell, Remaining}
+
+-- ---- how many cells remain free
+
+module _ (d : ℕ) (ws : List ℤ) (σ : Store) (free : cell σ (σ .first) .count ≡ 0) where
+  -- one fewer than before, where there is one
+  fewer : has-free σ ≡ true → free-cells σ - 1 ≡ free-cells (acquired d ws σ)
+  unfolding has-free acquired filled with-first with-cell
+  fewer e =
+      let within = ltb-true (σ .first) (cell-count σ) e in
+      let taken = taken-with σ (σ .first) (filled d ws) within in
+      rw e (omega (arith, rw free at taken, length-set (σ .cells) (σ .first) (filled d ws)))
+
+  remain : first-cell σ (free-cells σ - 1) ≡ first-cell σ (free-cells (acquired d ws σ))
+  unfolding first-cell
+  remain = go (has-free σ) refl
+    where
+      go : (t : Bool) → has-free σ ≡ t → first-cell σ (free-cells σ - 1) ≡ first-cell σ (free-cells (acquired d ws σ))
+      go true e = ap (first-cell σ) (fewer e)
+      go false e = rw e refl
+
+-- what an acquire answers and leaves, with the cells that remain free
+pub with-remaining : (free d : ℕ) (ws : List ℤ) (σ : Store) (answer : Outcome (Unit {0}) Gained)
+    (τ : Store) → (answer ≡ next-cell free σ) × (τ ≡ acquired d ws σ) →
+    (answer ≡ next-cell free σ) × (τ ≡ acquired d ws σ) × Remaining free σ answer τ
+unfolding next-cell
+with-remaining free d ws σ answer τ h = (
+  h .0,
+  h .1,
+  λ told first. h .0 ∙ ap (λ (n : ℕ). first-cell σ (n - 1)) told ∙ remain d ws σ first
+      ∙ ap (λ (υ : Store). first-cell σ (free-cells υ)) (sym (h .1)),
+)
+
+-- ---- the ways out
 
 module _ (slots : List ℤ) (heads : List ℕ) where
   first-in : getD heads 0 0 < cells-in slots heads → has-free (store-of slots heads) ≡ true

@@ -7,7 +7,7 @@ ghost use lib.ListN.{length};
 ghost use lib.Dec.{eqb};
 ghost use Rattle.semantics.specs.Store.{cell, retained, acquired, appended, overwritten};
 ghost use Rattle.semantics.specs.Words.{store-of};
-ghost use Rattle.store.specs.Acquiring.{acquired-outcome, next-cell, appended-all};
+ghost use Rattle.store.specs.Acquiring.{acquired-outcome, next-cell, Remaining, appended-all};
 
 // One reference more to a cell.
 pub fn retain(slots: &[i64], heads: &mut [u32], c: usize)
@@ -39,7 +39,9 @@ fn one_fewer(free: u32) -> u32
 pub fn acquire_empty(slots: &mut [i64], heads: &mut [u32], depth: u32, free: u32) -> Acquired
     ensures { λ r. ⌜ (acquired-outcome r ≡ next-cell free (store-of (now (slots .entry)) (now (heads .entry))))
         × (store-of (now (slots .exit)) (now (heads .exit))
-        ≡ acquired depth [] (store-of (now (slots .entry)) (now (heads .entry)))) ⌝ }
+        ≡ acquired depth [] (store-of (now (slots .entry)) (now (heads .entry))))
+        × Remaining free (store-of (now (slots .entry)) (now (heads .entry))) (acquired-outcome r)
+        (store-of (now (slots .exit)) (now (heads .exit))) ⌝ }
 {
     if heads.len() == 0 {
         return Acquired::NoneFree;
@@ -125,7 +127,9 @@ pub fn acquire(
 ) -> Acquired
     ensures { λ r. ⌜ (acquired-outcome r ≡ next-cell free (store-of (now (slots .entry)) (now (heads .entry))))
         × (store-of (now (slots .exit)) (now (heads .exit))
-        ≡ acquired depth (now (words .entry)) (store-of (now (slots .entry)) (now (heads .entry)))) ⌝ }
+        ≡ acquired depth (now (words .entry)) (store-of (now (slots .entry)) (now (heads .entry))))
+        × Remaining free (store-of (now (slots .entry)) (now (heads .entry))) (acquired-outcome r)
+        (store-of (now (slots .exit)) (now (heads .exit))) ⌝ }
 {
     match acquire_empty(slots, heads, depth, free) {
         Acquired::Cell(c, left) => {

@@ -2,10 +2,10 @@
 -- measure is the depth.
 use Prim.Native.Nat.{_+_, _*_, _≤_}
 use native.Mathlib.Omega.{arith}
-use mathlib.Core.Path.{_≡_, refl}
+use mathlib.Core.Path.{_≡_, refl, ap}
 use Rattle.semantics.specs.Outcome.{times}
 use Rattle.semantics.specs.Saved.{value-at}
-use Rattle.saved_read.specs.Told.{told}
+use Rattle.saved_read.specs.Told.{read-outcome, told}
 use Rattle.saved_read.proofs.Laws.{past, number, no-number, flat, long, numbered, goes-down, goes-on, breaks}
 use Rattle.saved_read.proofs.Laws.{none-left}
 use borrow.Author.Needs.{needs}
@@ -95,7 +95,8 @@ read-value-returns-7 t c = let a = c .before .before .before .before .before .be
     .result) (c .before .before .before .before .before .before .before .if1 .left) (c .before .before .before
     .before .before .before .byte-at .ensures) (c .before .before .before .before .before .if2 .left) (c .before
     .before .before .before .if4 .left) (c .before .before .before .if5 .left) (c .before .before .word-at .result)
-    (c .before .before .word-at .ensures) (c .before .if6 .left) (c .read-values .result) (c .read-values .ensures)
+    (c .before .before .word-at .ensures) (c .before .if6 .left) (read-outcome (c .read-values
+    .result)) (c .read-values .ensures)
 
 abbrev read-values-Inv-loop : read-values-lts.InvT-loop
 read-values-Inv-loop saved k depth count p q₀ left₀ q left =
@@ -119,8 +120,8 @@ read-values-returns :
 read-values-returns t c = let a = c .before .before .before .before .before .before .args in breaks (value-at (a
     .saved .now) (a .k) (a .depth)) (a .count) (c .before .before .before .before .loop .left) (a .p) (c .before
     .before .before .before .loop .q) (c .before .before .before .before .loop .inv .1) (c .before .before .before
-    .loop-test .taken) (c .before .before .read-value .result) (c .before .before .read-value .ensures) (c .enum-told
-    .given .1)
+    .loop-test .taken) (read-outcome (c .before .before .read-value .result)) (c .before .before .read-value .ensures)
+    (ap read-outcome (c .enum-told .given .1))
 
 read-values-loop-again : (t : ℕ) → read-values-lts.Need-loop-again (read-values-claims t) (read-values-at t)
     read-values.Post read-values-Inv-loop read-values-μ-loop
@@ -128,9 +129,9 @@ read-values-loop-again t c = let a = c .before .before .before .before .before .
   omega arith,
   goes-on (value-at (a .saved .now) (a .k) (a .depth)) (a .count) (c .before .before .before .before .before .loop
       .left) (a .p) (c .before .before .before .before .before .loop .q) (c .before .before .before .before .before
-      .loop .inv .1) (c .before .before .before .before .loop-test .taken) (c .before .before .before .read-value
-      .result) (c .before .before .before .read-value .ensures) (c .before .next .given .0 .0) (c .before .next .given
-      .1),
+      .loop .inv .1) (c .before .before .before .before .loop-test .taken) (read-outcome (c .before .before .before
+      .read-value .result)) (c .before .before .before .read-value .ensures) (c .before .next .given .0 .0)
+      (ap read-outcome (c .before .next .given .1)),
 )
 
 read-values-returns-2 : (t : ℕ) → read-values-lts.Need-returns-2 (read-values-claims t) (read-values-at t)

@@ -1,5 +1,6 @@
 -- `saved_read::is_readable` meets its contract, by `Laws`.
-use mathlib.Core.Path.{sym, _∙_}
+use mathlib.Core.Path.{sym, ap, _∙_}
+use Rattle.saved_read.specs.Told.{read-outcome}
 use Rattle.saved_read.proofs.Laws.{short, other-depth, many, other-length, ended, refused}
 use native.Mathlib.Omega.{arith}
 use borrow.Author.Needs.{needs}
@@ -27,9 +28,9 @@ returns-5 c = let a = c .before .before .before .before .before .before .before 
     .before .before .before .before .before .before .short-at .ensures .0) (c .before .before .before .before .before
     .before .before .before .before .if1 .left) (sym (c .before .before .before .before .before .before .before
     .before .byte-at .ensures) ∙ c .before .before .before .before .before .before .before .if2 .left) (c .before
-    .before .before .before .before .if3 .left) (c .before .before .before .before .if4 .left) (c .before .before
-    .before .read-value .result) (c .before .before .before .read-value .ensures) (c .before .next .given .0 .0) (c
-    .before .next .given .1)
+    .before .before .before .before .if3 .left) (c .before .before .before .before .if4 .left) (read-outcome (c
+    .before .before .before .read-value .result)) (c .before .before .before .read-value .ensures) (c .before .next
+    .given .0 .0) (ap read-outcome (c .before .next .given .1))
 
 returns-6 : tie.Need-returns-6
 returns-6 c = let a = c .before .before .before .before .before .before .before .before .before .before .args in
@@ -37,8 +38,8 @@ returns-6 c = let a = c .before .before .before .before .before .before .before 
     .before .before .before .before .short-at .ensures .0) (c .before .before .before .before .before .before .before
     .before .if1 .left) (sym (c .before .before .before .before .before .before .before .byte-at .ensures) ∙ c
     .before .before .before .before .before .before .if2 .left) (c .before .before .before .before .if3 .left) (c
-    .before .before .before .if4 .left) (c .before .before .read-value .result) (c .before .before .read-value
-    .ensures) (c .enum-told .given .1)
+    .before .before .before .if4 .left) (read-outcome (c .before .before .read-value .result)) (c .before .before
+    .read-value .ensures) (ap read-outcome (c .enum-told .given .1))
 
 pub is-readable-spec : {M : Type 1} → statement M
 is-readable-spec =

@@ -1,10 +1,12 @@
 -- `script_types::type_function` meets its contract, by the laws of `Laws` and `Nodes`.
 use Rattle.semantics.specs.File.{at-function}
 use native.Mathlib.Omega.{arith}
+use mathlib.Core.Path.{ap}
 use mathlib.Core.Logic.{inl, inr}
 use Prim.Native.Nat.{ℕ}
 use lib.ListN.{length-replicate}
 use Rattle.script_read.proofs.Nodes.{Seen, seen, inside}
+use Rattle.script_depths.specs.Walk.{typed-outcome}
 use Rattle.script_types.proofs.Laws.{result-fits, result-differs, body-faulty, no-function}
 use borrow.Author.Needs.{needs}
 use Rattle.script_types.proofs.type_function.Statement.{statement}
@@ -37,16 +39,16 @@ type-parameters-requires c κs = (
 returns : tie.Need-returns
 returns c =
     result-fits _ _ _ (node-seen (c .before .before .before .before .before)) _ (c .before .before .before .before
-    .type-parameters .ensures) _ _ (c .before .before .d .given .1) (c .if1 .taken)
+    .type-parameters .ensures) _ _ (ap typed-outcome (c .before .before .d .given .1)) (c .if1 .taken)
 
 returns-2 : tie.Need-returns-2
 returns-2 c =
     result-differs _ _ _ (node-seen (c .before .before .before .before .before)) _ (c .before .before .before .before
-    .type-parameters .ensures) _ _ (c .before .before .d .given .1) (c .if1 .left)
+    .type-parameters .ensures) _ _ (ap typed-outcome (c .before .before .d .given .1)) (c .if1 .left)
 
 returns-3 : tie.Need-returns-3
 returns-3 c = body-faulty _ _ _ (node-seen (c .before .before .before .before)) _ (c .before .before .before
-    .type-parameters .ensures) _ (c .before .n .given .1)
+    .type-parameters .ensures) _ (ap typed-outcome (c .before .n .given .1))
 
 returns-4 : tie.Need-returns-4
 returns-4 c =

@@ -7,7 +7,7 @@ use borrow.Author.Needs.{needs}
 use Rattle.semantics.specs.Words.{cells-in}
 use Rattle.store_words.specs.Parts.{InCells}
 use Rattle.store_words.proofs.CellWords.{told-there, told-gone}
-use Rattle.store.proofs.Acquiring.{none-acquired, one-acquired}
+use Rattle.store.proofs.Acquiring.{none-acquired, one-acquired, with-remaining}
 use Rattle.store.proofs.acquire_empty.Statement.{statement}
 use Rattle.store.proofs.acquire_empty.Tie as tie
 
@@ -18,13 +18,14 @@ inside c = told-there (c .before .is-cell .ensures) (c .if2 .left)
 
 returns : tie.Need-returns
 unfolding cells-in
-returns c = none-acquired _ _ _ _ [] (omega arith)
+returns c = with-remaining _ _ _ _ _ _ (none-acquired _ _ _ _ [] (omega arith))
 
 cast-c : tie.Need-cast-c
 cast-c c = record { fits = omega (arith, c .slice-known2 .given 0) }
 
 returns-2 : tie.Need-returns-2
-returns-2 c = none-acquired _ _ _ _ [] (told-gone (c .before .is-cell .ensures) (c .if2 .taken))
+returns-2 c =
+    with-remaining _ _ _ _ _ _ (none-acquired _ _ _ _ [] (told-gone (c .before .is-cell .ensures) (c .if2 .taken)))
 
 write-head-requires : tie.Need-write-head-requires
 write-head-requires c κs = let h = inside (c .before .before) in (h .1, simp length-set (h .2))
@@ -38,11 +39,11 @@ same-length-4 c =
 returns-3 : tie.Need-returns-3
 returns-3 c =
     let cleared = c .before .before .clear-slots in
-    rw (c .one-fewer .ensures) (one-acquired _ _ _ _ (record {
+    with-remaining _ _ _ _ _ _ (rw (c .one-fewer .ensures) (one-acquired _ _ _ _ (record {
       long = cleared .kept .0;
       slots-cleared = cleared .ensures;
       heads-written = c .before .before .before .before .before .before .write-head .ensures;
-    }) (inside (c .before .before .before .before .before .before .before .before .before) .0))
+    }) (inside (c .before .before .before .before .before .before .before .before .before) .0)))
 
 pub acquire-empty-spec : {M : Type 1} → statement M
 acquire-empty-spec =

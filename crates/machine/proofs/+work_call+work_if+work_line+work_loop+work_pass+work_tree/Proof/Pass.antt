@@ -13,6 +13,7 @@ use Rattle.machine_frames.specs.Frames.{frame-words, place}
 use Rattle.machine_frames.specs.Work.{memory}
 use Rattle.machine_loops.specs.declared.Next.{Next}
 use Rattle.machine_loops.specs.Loops.{CarriesOn}
+use Rattle.machine_loops.proofs.Ending.{taken, not-taken}
 use Rattle.machine_loops.proofs.Beginning.{within-kept, result-kept}
 use Rattle.machine_spec.specs.Machine.{code, looped, tree-on, call-on}
 use Rattle.machine_spec.specs.Parts.{Passing, passing-starts, pass-dry, pass-end, pass-stops, pass-doubts}
@@ -212,7 +213,8 @@ work-pass-returns-3 t c =
     let at-loop-test = at-if1 .before in
     let tree = at-work-tree .work-tree in
     let ended = at-end-pass .end-pass in
-    let doubt = subst (CarriedOn t at-end-pass) (c .before .enum-told .given .1) (carried-on t at-end-pass) in
+    let doubt = not-taken
+    (subst (CarriedOn t at-end-pass) (c .before .enum-told .given .1) (carried-on t at-end-pass)) in
     pass-doubts (passing t (at-loop-test .before) .0) (at-loop-test .loop-test .taken) (at-if1 .if1 .left)
     (at-begin-pass .begin-pass .last .1 .1 .0) (at-begin-pass .begin-pass .ensures) (tree .result)
     (tree .last .1 .1 .1 .0) (tree .last .1 .1 .1 .1 .0) (tree .last .1 .1 .1 .1 .1 .0) (tree .ensures)
@@ -259,7 +261,7 @@ work-pass-loop-again t c =
     let tree = at-work-tree .work-tree in
     let ended = at-end-pass .end-pass in
     let u = c .before .next .given .0 .0 in
-    let says = subst (CarriedOn t at-end-pass) (c .before .next .given .1) (carried-on t at-end-pass) in
+    let says = taken (subst (CarriedOn t at-end-pass) (c .before .next .given .1) (carried-on t at-end-pass)) in
     rw (
       toZ-ofZ {z = a .l .carried} (carried-fits t (at-loop .before)),
       toZ-ofZ {z = u} (record { sfits = c .known-told .given .0 .1 }),

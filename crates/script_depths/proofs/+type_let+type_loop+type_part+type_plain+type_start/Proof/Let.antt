@@ -4,6 +4,7 @@ use native.Mathlib.Omega.{arith}
 use mathlib.Core.Path.{ap, _∙_}
 use lib.ListN.{length, length-set}
 use Rattle.script_read.proofs.Tables.{put-back}
+use Rattle.script_depths.specs.Walk.{typed-outcome}
 use Rattle.script_depths.proofs.Laws.{let-bound, let-faulty}
 use Rattle.script_depths.proofs.type_let.Reads as type-let
 use Rattle.script_depths.proofs.+type_let+type_loop+type_part+type_plain+type_start.Lts-type_let as let-lts
@@ -29,7 +30,7 @@ type-let-returns t c =
           .x) _ _ (first .0) _ _ _ _ (c .before .before .before .before .before .before .before .before .before
           .before
           .pre .1 .0) (omega arith) (first .1)
-          (c .before .before .before .before .d .given .1) (c .type-part2 .ensures .0),
+          (ap typed-outcome (c .before .before .before .before .d .given .1)) (c .type-part2 .ensures .0),
       put-back 0 _ _ _ _ _ (first .1) (c .type-part2 .ensures .1),
     )
 
@@ -37,6 +38,6 @@ pub type-let-returns-2 : (t : ℕ) → let-lts.Need-returns-2 (let-claims t) (le
 type-let-returns-2 t c =
     let first = c .before .before .before .type-part .ensures in (
       let-faulty _ _ _ _ _ (c .before .before .before .before .before .before .before .args .x) _ _ (first .0) _
-          (c .before .n .given .1),
+          (ap typed-outcome (c .before .n .given .1)),
       first .1,
     )

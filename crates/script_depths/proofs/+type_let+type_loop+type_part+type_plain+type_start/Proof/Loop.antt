@@ -4,6 +4,7 @@ use native.Mathlib.Omega.{arith}
 use mathlib.Core.Path.{ap, _∙_}
 use lib.ListN.{length, length-set}
 use Rattle.script_read.proofs.Tables.{put-back-two}
+use Rattle.script_depths.specs.Walk.{typed-outcome}
 use Rattle.script_depths.proofs.Laws.{start-faulty, array-faulty, array-number, loop-bound}
 use Rattle.script_depths.proofs.type_loop.Reads as type-loop
 use Rattle.script_depths.proofs.+type_let+type_loop+type_part+type_plain+type_start.Lts-type_loop as loop-lts
@@ -23,8 +24,8 @@ type-loop-returns t c =
     let a = c .before .before .before .before .before .before .before .before .before .before .before .before .before
     .args in (
       array-number _ _ _ _ _ (a .at) (a .node .kind) (a .node .low) (a .node .high) _ (start .0) _ _ _
-          (c .before .before .before .before .before .before .before .start .given .1)
-          (start .1) _ (array .0) _ _ (c .before .before .array .given .1) (c .if1 .taken),
+          (ap typed-outcome (c .before .before .before .before .before .before .before .start .given .1))
+          (start .1) _ (array .0) _ _ (ap typed-outcome (c .before .before .array .given .1)) (c .if1 .taken),
       array .1 ∙ start .1,
     )
 
@@ -53,12 +54,13 @@ type-loop-returns-2 t c =
     let a = c .before .before .before .before .before .before .before .before .before .before .before .before .before
     .before .before .before .before .before .before .before .args in (
       loop-bound _ _ _ _ _ (a .at) (a .node .kind) (a .node .low) (a .node .high) _ (start .0) _ _ _
-          (c .before .before .before .before .before .before .before .before .before .before .before .before .before
-          .before .start .given .1)
+          (ap typed-outcome (c .before .before .before .before .before .before .before .before .before .before .before
+          .before .before .before .start .given .1))
           (start .1) _ (array .0) _ _ _ _ _ _ (c .before .before .before .before .before .before .before .before
           .before .before .before .before .before .before .before .before .before .before .before .before .pre .1
           .0) (omega arith) (omega arith) (array .1)
-          (c .before .before .before .before .before .before .before .before .before .array .given .1)
+          (ap typed-outcome (c .before .before .before .before .before .before .before .before .before .array .given
+          .1))
           (c .before .before .before .before .before .before .before .if1 .left)
           (c .before .before .before .before .before .second-name .ensures) (body .0) (c .end-loop .ensures),
       put-back-two 0 _ _ _ _ _ _ _ (array .1 ∙ start .1) (body .1),
@@ -70,8 +72,8 @@ type-loop-returns-3 t c =
     let start = c .before .before .before .before .before .before .before .before .type-start .ensures in
     let a = c .before .before .before .before .before .before .before .before .before .before .before .before .args in (
       array-faulty _ _ _ _ _ (a .at) (a .node .kind) (a .node .low) (a .node .high) _ (start .0) _ _ _
-          (c .before .before .before .before .before .before .start .given .1)
-          (start .1) _ (array .0) _ (c .before .n .given .1),
+          (ap typed-outcome (c .before .before .before .before .before .before .start .given .1))
+          (start .1) _ (array .0) _ (ap typed-outcome (c .before .n .given .1)),
       array .1 ∙ start .1,
     )
 
@@ -80,6 +82,6 @@ type-loop-returns-4 t c =
     let start = c .before .before .before .type-start .ensures in
     let a = c .before .before .before .before .before .before .before .args in (
       start-faulty _ _ _ _ _ (a .at) (a .node .kind) (a .node .low) (a .node .high) _ (start .0) _
-          (c .before .n2 .given .1),
+          (ap typed-outcome (c .before .n2 .given .1)),
       start .1,
     )

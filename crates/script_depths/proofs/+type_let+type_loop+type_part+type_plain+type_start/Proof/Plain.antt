@@ -4,7 +4,7 @@ use native.Mathlib.Omega.{arith}
 use mathlib.Core.Path.{_≡_, refl, ap, _∙_}
 use lib.ListN.{length}
 use Rattle.semantics.specs.File.{part-count}
-use Rattle.script_depths.specs.Walk.{depths, known-types, AtomTyped}
+use Rattle.script_depths.specs.Walk.{depths, known-types, AtomTyped, typed-outcome}
 use Rattle.script_rules.proofs.Rules.{few-parts}
 use Rattle.script_depths.proofs.Laws.{Going, going-starts, going-on, part-faulty, judged-good, judged-bad}
 use Rattle.script_depths.proofs.type_plain.Reads as type-plain
@@ -102,7 +102,7 @@ type-plain-returns t c =
     let at-test = c .before .before .before .before .before .before .before .before in
     let v = at-test .before .loop .inv in (
       part-faulty _ _ _ _ _ _ _ _ (v .0) (v .2) (at-test .loop-test .taken) _ (rw (v .1) at (part .ensures .0)) _
-          (c .before .m .given .1),
+          (ap typed-outcome (c .before .m .given .1)),
       part .ensures .1 ∙ v .1,
     )
 
@@ -115,7 +115,8 @@ type-plain-loop-again-2 t c =
     let v = at-test .before .loop .inv in (
       v .0,
       part .ensures .1 ∙ v .1,
-      going-on (v .2) (at-test .loop-test .taken) _ (rw (v .1) at (part .ensures .0)) _ _ (c .before .d .given .1),
+      going-on (v .2) (at-test .loop-test .taken) _ (rw (v .1) at (part .ensures .0)) _ _
+          (ap typed-outcome (c .before .d .given .1)),
     )
 
 -- ---- the rule
