@@ -277,8 +277,8 @@ uint64_t engine_save(const uint8_t *file, size_t file_length,
 /* Opens a store for a script, whatever its words were, with saved totals: cells 0, 1, .. are taken in the order of the
  * entries, one for each array. Numbers 0 to 9, 11, 27 and 25; the answer has the cells taken. After 25 (more arrays
  * than cells) every word of the store is zero and the code stands; after a refusal the store is unchanged. The length
- * must be just that of the saved totals, not the buffer's: lend the first engine_saved_length(buffer) bytes of a buffer
- * that engine_save filled. */
+ * must be just that of the saved totals, not the buffer's: of bytes that came from elsewhere lend as many as came, and
+ * of a buffer that engine_save filled the first engine_saved_length bytes. */
 uint64_t engine_restore(const uint8_t *file, size_t file_length,
                         uint8_t *kinds, size_t kinds_length,
                         int64_t *operands, size_t operands_length,
@@ -286,10 +286,12 @@ uint64_t engine_restore(const uint8_t *file, size_t file_length,
                         uint32_t *heads, size_t heads_length,
                         const uint8_t *saved, size_t saved_length);
 
-/* The length of the saved totals that a buffer of at least 3 bytes begins with, as its bytes 1 and 2 say it. */
-static inline size_t engine_saved_length(const uint8_t *saved)
+/* The length of the saved totals that a buffer begins with, as its bytes 1 and 2 tell it; 0, which a restore refuses,
+ * where this does not fit the buffer's capacity. So no byte past the buffer is lent, whatever its bytes are. */
+static inline size_t engine_saved_length(const uint8_t *saved, size_t capacity)
 {
-    return ENGINE_SAVED_LENGTH(saved[1] + 256 * (size_t)saved[2]);
+    size_t told = capacity < ENGINE_SAVED_LENGTH(0) ? 0 : ENGINE_SAVED_LENGTH(saved[1] + 256 * (size_t)saved[2]);
+    return told <= capacity ? told : 0;
 }
 
 /* ---- The calls on one struct ---- */

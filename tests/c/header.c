@@ -28,7 +28,7 @@ int main(void)
     answer = engine_translate_lent(&lent) + engine_open_lent(&lent) + engine_check_lent(&lent)
              + engine_deliver_lent(&lent, readings, ENGINE_READINGS_MAX, ENGINE_BUDGET_MAX)
              + engine_save_lent(&lent, saved, sizeof saved)
-             + engine_restore_lent(&lent, saved, engine_saved_length(saved));
+             + engine_restore_lent(&lent, saved, engine_saved_length(saved, sizeof saved));
     return (int)(engine_answer_node(answer) + engine_answer_lowest(answer) + engine_answer_lines(answer)
                  + engine_answer_steps(answer) + engine_answer_cells(answer)
                  + (unsigned)engine_is_refusal(engine_answer_number(answer))

@@ -352,6 +352,33 @@ static void test_saved(void)
     }
 }
 
+/* Totals {250} in memory that ends with them, with each bit of their size flipped: a restore of as many bytes as they
+ * tell reads none past the memory, and is refused. */
+static void test_saved_length(void)
+{
+    enum { LENGTH = ENGINE_SAVED_LENGTH(2) };
+    static uint8_t longest[ENGINE_SAVED_LENGTH_MAX] = { 3, 0, 16 };
+    open_printed(2);
+    expect(deliver_one(250, 1000) == answer(0, 0, 4, 1), "a store with totals {250}");
+    lend_saved(LENGTH);
+    expect(save_totals() == answer(0, 0, 0, 1), "totals saved in just their length");
+    expect(engine_saved_length(lent.saved, LENGTH) == LENGTH, "their length");
+    expect(engine_saved_length(lent.saved, 2 * LENGTH) == LENGTH, "their length in a longer buffer");
+    for (unsigned bit = 0; bit < 16; bit++) {
+        lent.saved[1 + bit / 8] ^= (uint8_t)(1 << bit % 8);
+        lent.saved_length = engine_saved_length(lent.saved, LENGTH);
+        expect(restore_totals() == answer(27, 0, 0, 0), "a bit of their size flipped");
+        lent.saved[1 + bit / 8] ^= (uint8_t)(1 << bit % 8);
+    }
+    for (size_t capacity = 0; capacity < LENGTH; capacity++) {
+        lend_saved(capacity);
+        memcpy(lent.saved, (const uint8_t[LENGTH]){ 1, 2, 0, 2 }, capacity);
+        expect(engine_saved_length(lent.saved, capacity) == 0, "a buffer that ends before them");
+    }
+    expect(engine_saved_length(longest, sizeof longest) == ENGINE_SAVED_LENGTH_MAX, "the longest there are");
+    expect(engine_saved_length(longest, sizeof longest - 1) == 0, "one byte less than that");
+}
+
 static void test_header(void)
 {
     uint64_t parts = answer(23, 1024, 1000000, 256);
@@ -377,7 +404,6 @@ static void test_header(void)
     expect(ENGINE_FILE_LENGTH_MAX == 9220, "the longest file");
     expect(ENGINE_SLOTS_LENGTH(256) == 4097 && ENGINE_HEADS_LENGTH(256) == 1025, "the largest store");
     expect(ENGINE_SAVED_LENGTH_MAX == 36867, "the longest saved totals");
-    expect(engine_saved_length((const uint8_t[]){ 3, 0, 16 }) == ENGINE_SAVED_LENGTH_MAX, "their length in bytes");
 }
 
 /* The calls on one struct are the calls. */
@@ -393,7 +419,7 @@ static void test_lent(void)
     uint8_t saved[ENGINE_SAVED_LENGTH(2)];
     expect(engine_save_lent(&all, saved, sizeof saved) == answer(0, 0, 0, 1), "save on it");
     expect(engine_open_lent(&all) == answer(0, 0, 0, 1) && lent.slots[0] == 0, "open on it");
-    expect(engine_restore_lent(&all, saved, engine_saved_length(saved)) == answer(0, 0, 0, 1) && totals_are(250),
+    expect(engine_restore_lent(&all, saved, engine_saved_length(saved, sizeof saved)) == answer(0, 0, 0, 1) && totals_are(250),
            "restore on it");
     for (size_t i = 0; i < PRINTED_LINES; i++)
         expect(lent.kinds[i] == printed_code[i].kind, "a kind");
@@ -420,6 +446,7 @@ int main(int count, char **arguments)
     test_store_lengths();
     test_damaged_store();
     test_saved();
+    test_saved_length();
     printf("C link tests: %u passed, %u failed\n", passed, failed);
     return agreed && failed == 0 ? 0 : 1;
 }
