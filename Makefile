@@ -163,6 +163,7 @@ link-tests: check-header check-c check-library $(RUST_TESTS) check-tool $(SANITI
 
 check-header:
 	$(CC) -std=c11 $(PEDANTIC) -Iinclude -fsyntax-only tests/c/header.c
+	$(CC) -std=c11 $(PEDANTIC) -Iinclude -fsyntax-only examples/flash_store.c
 	$(if $(call has,$(firstword $(CXX))),$(CXX) -std=c++11 -x c++ $(PEDANTIC) -Iinclude -fsyntax-only tests/c/header.c)
 
 C_TESTS := $(filter-out tests/c/header.c,$(wildcard tests/c/*.c)) bench/worst_scripts.c
@@ -171,8 +172,15 @@ C_HEADERS := $(ENGINE_HEADERS) $(wildcard tests/c/*.h bench/*.h)
 build/c_link_test build/sanitized/c_link_test: $(C_TESTS) $(C_HEADERS) $(ENGINE) | build build/sanitized
 	$(CC) $(CFLAGS) $(EXTRA) -Iinclude -Ibench -pthread -o $@ $(C_TESTS) $(ENGINE)
 
-check-c: build/c_link_test
+FLASH_TESTS := examples/flash_store.c $(wildcard tests/flash/*.c) tests/c/expect.c
+FLASH_HEADERS := $(ENGINE_HEADERS) $(wildcard examples/*.h tests/flash/*.h) tests/c/expect.h
+
+build/flash_test build/sanitized/flash_test: $(FLASH_TESTS) $(FLASH_HEADERS) $(ENGINE) | build build/sanitized
+	$(CC) $(CFLAGS) $(EXTRA) -Iinclude -Iexamples -Itests/flash -Itests/c -o $@ $(FLASH_TESTS) $(ENGINE)
+
+check-c: build/c_link_test build/flash_test
 	build/c_link_test $(VECTORS)
+	build/flash_test
 
 check-library: $(ENGINE)
 	CC='$(CC)' CXX='$(CXX)' AR='$(AR)' NM='$(NM)' LIBRARY='$(LIBRARY)' MAKE='$(MAKE)' tests/library/library_test build
@@ -195,10 +203,11 @@ HOST_TESTS := controller_test store_test totals_test fault_test script_test refu
 check-tool: all $(STRIKERS)
 	$(foreach test,$(HOST_TESTS),CC='$(CC)' LIBRARY='$(ENGINE)' tests/host/$(test) build &&) :
 
-SANITIZED := $(patsubst %,build/sanitized/%,c_link_test controller script_tool)
+SANITIZED := $(patsubst %,build/sanitized/%,c_link_test flash_test controller script_tool)
 
 check-sanitized: $(SANITIZED) build/forecourt.script $(STRIKERS)
 	build/sanitized/c_link_test $(VECTORS)
+	build/sanitized/flash_test
 	$(foreach test,$(HOST_TESTS),CC='$(CC)' LIBRARY='$(ENGINE)' tests/host/$(test) build/sanitized &&) :
 
 # ---- measurements ----
