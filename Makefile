@@ -7,15 +7,20 @@ RUSTC ?= rustc
 LUA ?= lua5.4
 OBJCOPY ?= objcopy
 ROUNDS ?= 25
+AR ?= ar
+NM ?= nm
+PREFIX ?= /usr/local
 PROVED_LIBRARY := target/staticlib/libengine.a
 LIBRARY ?= $(PROVED_LIBRARY)
+ENGINE := build/libruschoep.a
 VECTORS ?= $(wildcard $(foreach name,translate check deliver swap,crates/*/data/$(name)*.txt))
 SANITIZERS := -O1 -g -fsanitize=address,undefined -fno-sanitize-recover=all
 PEDANTIC := -Wall -Wextra -Wpedantic -Wconversion -Wsign-conversion -Werror
 SCRIPT ?= build/forecourt.script
 
 SOURCES := crates.txt $(shell find crates -name '*.rt' -o -name '*.antt')
-HOST_HEADERS := include/engine.h $(wildcard host/*.h)
+ENGINE_HEADERS := $(wildcard include/*.h)
+HOST_HEADERS := $(ENGINE_HEADERS) $(wildcard host/*.h)
 SHARED_FILES := message place text
 CONTROLLER := $(patsubst %,host/%.c,controller day diagnosis display options plot show site store_file totals_file \
 	$(SHARED_FILES))
@@ -29,19 +34,24 @@ RUST_SOURCES := $(shell find tests/rust -name '*.rs')
 RT := $(if $(filter $(PROVED_LIBRARY),$(LIBRARY)),rt)
 goals := $(or $(MAKECMDGOALS),all)
 COMPILER := $(firstword $(CC))
-TOOLS_all := $(RT) $(COMPILER)
+TOOLS_all := $(RT) $(COMPILER) $(AR) $(NM)
+TOOLS_library := $(TOOLS_all)
+TOOLS_install := $(TOOLS_all)
 TOOLS_run := $(TOOLS_all)
 TOOLS_test := rt
 TOOLS_print-script := rt $(COMPILER)
 TOOLS_link-tests := $(TOOLS_all)
 TOOLS_check-header := $(COMPILER)
 TOOLS_check-c := $(TOOLS_all)
-TOOLS_check-rust := $(RT) $(RUSTC)
+TOOLS_check-library := $(TOOLS_all)
+TOOLS_check-rust := $(TOOLS_all) $(RUSTC)
 TOOLS_check-tool := $(TOOLS_all)
 TOOLS_check-sanitized := $(TOOLS_all)
 TOOLS_bench := $(TOOLS_all) $(LUA) $(if $(BASE),$(OBJCOPY))
 HINT_rt := it proves and compiles the engine; LIBRARY=FILE uses a library that is there
 HINT_$(COMPILER) := a C compiler; CC=NAME names another
+HINT_$(AR) := it makes archives (on Debian: apt-get install binutils); AR=NAME names another
+HINT_$(NM) := it lists the symbols of archives (on Debian: apt-get install binutils); NM=NAME names another
 HINT_$(RUSTC) := the Rust compiler; RUSTC=NAME names another
 HINT_$(LUA) := Lua 5.4 (on Debian: apt-get install lua5.4); LUA=NAME names another
 HINT_$(OBJCOPY) := it renames the calls of BASE (on Debian: apt-get install binutils); OBJCOPY=NAME names another
@@ -52,8 +62,8 @@ $(foreach tool,$(sort $(foreach goal,$(goals),$(TOOLS_$(goal)))),$(call demand,$
 missing_base = $(if $(BASE),$(if $(shell test -f '$(BASE)' && echo yes),,$(BASE)))
 $(if $(filter bench,$(goals)),$(if $(missing_base),$(error BASE: there is no file $(missing_base))))
 
-.PHONY: help all run test print-script link-tests check-header check-c check-rust check-tool check-sanitized bench \
-	clean anew
+.PHONY: help all library install run test print-script link-tests check-header check-c check-library check-rust \
+	check-tool check-sanitized bench clean anew
 
 all: build/controller build/script_tool build/forecourt.script
 
@@ -61,15 +71,18 @@ help:
 	@echo 'make run           prove and compile the engine, build the host programs, play the sample day'
 	@echo 'make test          the gate: prove everything from nothing, try the must-fail edits, run each program'
 	@echo 'make all           the host programs, build/controller and build/script_tool, and the sample script'
+	@echo 'make library       build/libruschoep.a, the library that firmware links'
+	@echo 'make install       install it, its headers and ruschoep.pc under PREFIX=FOLDER (default: /usr/local), and with'
+	@echo '                   DESTDIR=FOLDER below that one'
 	@echo 'make print-script  prove and build the program that prints a script as document 01 says, and run it on'
 	@echo '                   SCRIPT=FILE (default: the sample script)'
 	@echo 'make link-tests    test the header, the library from C and Rust, and the host programs; what cannot be'
-	@echo '                   run here is named at the end. Its parts: check-header, check-c, check-rust, check-tool,'
-	@echo '                   check-sanitized'
+	@echo '                   run here is named at the end. Its parts: check-header, check-c, check-library, check-rust,'
+	@echo '                   check-tool, check-sanitized'
 	@echo 'make bench         measure beside Lua 5.4, and write docs/PERFORMANCE.md; with BASE=FILE beside another library'
 	@echo '                   of the engine too, in turns. ROUNDS=NUMBER of each call, 25 where nothing is said'
 	@echo 'make clean         remove build/; what is proved stays in target/'
-	@echo 'LIBRARY=FILE       use this library of the engine, and prove nothing'
+	@echo 'LIBRARY=FILE       use this library of the engine, as rt or make library made it, and prove nothing'
 
 run: all
 	build/controller --check --cells 32 build/forecourt.script host/sample/day.txt
@@ -88,6 +101,36 @@ target/bin/print_script: $(SOURCES)
 print-script: target/bin/print_script $(SCRIPT)
 	@target/bin/print_script <$(SCRIPT)
 
+# ---- the library for hosts: the engine, and beside it the interface's version and the commit ----
+
+# that of a bare library from elsewhere is not known
+COMMIT := $(if $(RT),$(shell tools/commit),unknown)
+version_part = $(shell sed -n 's/^.define ENGINE_VERSION_$(1) //p' include/engine.h)
+VERSION = $(call version_part,MAJOR).$(call version_part,MINOR)
+
+# written anew only where it has changed
+build/commit: anew | build
+	@echo '$(COMMIT)' | cmp -s - $@ || echo '$(COMMIT)' > $@
+
+build/interface.o: library/interface.c $(ENGINE_HEADERS) build/commit | build
+	$(CC) $(CFLAGS) -DENGINE_COMMIT='"$(COMMIT)"' -Iinclude -c -o $@ $<
+
+# by content, whatever the date of LIBRARY is
+$(ENGINE): $(LIBRARY) build/interface.o tools/make-library anew
+	@AR='$(AR)' NM='$(NM)' tools/make-library $(LIBRARY) build/interface.o $@
+
+library: $(ENGINE)
+
+build/ruschoep.pc: library/ruschoep.pc.in anew | build
+	@sed 's|@PREFIX@|$(PREFIX)|; s|@VERSION@|$(VERSION)|' $< > $@
+
+install: $(ENGINE) build/ruschoep.pc
+	install -d $(patsubst %,'$(DESTDIR)$(PREFIX)/%',include/ruschoep lib/pkgconfig share/doc/ruschoep)
+	install -m 644 $(ENGINE_HEADERS) '$(DESTDIR)$(PREFIX)/include/ruschoep'
+	install -m 644 $(ENGINE) '$(DESTDIR)$(PREFIX)/lib'
+	install -m 644 build/ruschoep.pc '$(DESTDIR)$(PREFIX)/lib/pkgconfig'
+	install -m 644 CHANGELOG.md docs/FIRMWARE.md '$(DESTDIR)$(PREFIX)/share/doc/ruschoep'
+
 # ---- the host programs; those in build/sanitized stop at any slip ----
 
 build build/sanitized:
@@ -95,11 +138,11 @@ build build/sanitized:
 
 build/sanitized/%: EXTRA := $(SANITIZERS)
 
-build/controller build/sanitized/controller: $(CONTROLLER) $(HOST_HEADERS) $(LIBRARY) | build build/sanitized
-	$(CC) $(CFLAGS) $(EXTRA) -Iinclude -o $@ $(CONTROLLER) $(LIBRARY)
+build/controller build/sanitized/controller: $(CONTROLLER) $(HOST_HEADERS) $(ENGINE) | build build/sanitized
+	$(CC) $(CFLAGS) $(EXTRA) -Iinclude -o $@ $(CONTROLLER) $(ENGINE)
 
-build/script_tool build/sanitized/script_tool: $(SCRIPT_TOOL) $(HOST_HEADERS) $(LIBRARY) | build build/sanitized
-	$(CC) $(CFLAGS) $(EXTRA) -Iinclude -o $@ $(SCRIPT_TOOL) $(LIBRARY)
+build/script_tool build/sanitized/script_tool: $(SCRIPT_TOOL) $(HOST_HEADERS) $(ENGINE) | build build/sanitized
+	$(CC) $(CFLAGS) $(EXTRA) -Iinclude -o $@ $(SCRIPT_TOOL) $(ENGINE)
 
 build/forecourt.script: host/sample/forecourt.txt build/script_tool
 	build/script_tool assemble $< $@
@@ -112,7 +155,7 @@ has_sanitizers = $(shell echo 'int main(void) { return 0; }' | \
 	$(CC) $(SANITIZERS) -x c -o /dev/null - 2>/dev/null && echo yes)
 SANITIZED_TESTS := $(if $(filter link-tests,$(goals)),$(if $(has_sanitizers),check-sanitized))
 
-link-tests: check-header check-c $(RUST_TESTS) check-tool $(SANITIZED_TESTS)
+link-tests: check-header check-c check-library $(RUST_TESTS) check-tool $(SANITIZED_TESTS)
 	@$(if $(call has,$(firstword $(CXX))),:,echo 'left out: the header in C++, for there is no $(CXX)')
 	@$(if $(RUST_TESTS),:,echo 'left out: the tests from Rust, for there is no $(RUSTC)')
 	@$(if $(SANITIZED_TESTS),:,echo 'left out: the tests under sanitizers, which $(CC) does not have')
@@ -120,19 +163,30 @@ link-tests: check-header check-c $(RUST_TESTS) check-tool $(SANITIZED_TESTS)
 
 check-header:
 	$(CC) -std=c11 $(PEDANTIC) -Iinclude -fsyntax-only tests/c/header.c
+	$(CC) -std=c11 $(PEDANTIC) -Iinclude -fsyntax-only examples/flash_store.c
 	$(if $(call has,$(firstword $(CXX))),$(CXX) -std=c++11 -x c++ $(PEDANTIC) -Iinclude -fsyntax-only tests/c/header.c)
 
 C_TESTS := $(filter-out tests/c/header.c,$(wildcard tests/c/*.c)) bench/worst_scripts.c
-C_HEADERS := include/engine.h $(wildcard tests/c/*.h bench/*.h)
+C_HEADERS := $(ENGINE_HEADERS) $(wildcard tests/c/*.h bench/*.h)
 
-build/c_link_test build/sanitized/c_link_test: $(C_TESTS) $(C_HEADERS) $(LIBRARY) | build build/sanitized
-	$(CC) $(CFLAGS) $(EXTRA) -Iinclude -Ibench -pthread -o $@ $(C_TESTS) $(LIBRARY)
+build/c_link_test build/sanitized/c_link_test: $(C_TESTS) $(C_HEADERS) $(ENGINE) | build build/sanitized
+	$(CC) $(CFLAGS) $(EXTRA) -Iinclude -Ibench -pthread -o $@ $(C_TESTS) $(ENGINE)
 
-check-c: build/c_link_test
+FLASH_TESTS := examples/flash_store.c $(wildcard tests/flash/*.c) tests/c/expect.c
+FLASH_HEADERS := $(ENGINE_HEADERS) $(wildcard examples/*.h tests/flash/*.h) tests/c/expect.h
+
+build/flash_test build/sanitized/flash_test: $(FLASH_TESTS) $(FLASH_HEADERS) $(ENGINE) | build build/sanitized
+	$(CC) $(CFLAGS) $(EXTRA) -Iinclude -Iexamples -Itests/flash -Itests/c -o $@ $(FLASH_TESTS) $(ENGINE)
+
+check-c: build/c_link_test build/flash_test
 	build/c_link_test $(VECTORS)
+	build/flash_test
 
-build/rust_link_test: $(RUST_SOURCES) $(LIBRARY) | build
-	$(RUSTC) -O --edition 2021 -D warnings -o $@ tests/rust/main.rs -C link-arg=$(LIBRARY)
+check-library: $(ENGINE)
+	CC='$(CC)' CXX='$(CXX)' AR='$(AR)' NM='$(NM)' LIBRARY='$(LIBRARY)' MAKE='$(MAKE)' tests/library/library_test build
+
+build/rust_link_test: $(RUST_SOURCES) $(ENGINE) | build
+	$(RUSTC) -O --edition 2021 -D warnings -o $@ tests/rust/main.rs -C link-arg=$(ENGINE)
 
 check-rust: build/rust_link_test
 	build/rust_link_test $(VECTORS)
@@ -147,11 +201,14 @@ STRIKERS := build/fault build/store_bits
 HOST_TESTS := controller_test store_test totals_test fault_test script_test refusal_test manual_test
 
 check-tool: all $(STRIKERS)
-	$(foreach test,$(HOST_TESTS),CC='$(CC)' LIBRARY='$(LIBRARY)' tests/host/$(test) build &&) :
+	$(foreach test,$(HOST_TESTS),CC='$(CC)' LIBRARY='$(ENGINE)' tests/host/$(test) build &&) :
 
-check-sanitized: $(patsubst %,build/sanitized/%,c_link_test controller script_tool) build/forecourt.script $(STRIKERS)
+SANITIZED := $(patsubst %,build/sanitized/%,c_link_test flash_test controller script_tool)
+
+check-sanitized: $(SANITIZED) build/forecourt.script $(STRIKERS)
 	build/sanitized/c_link_test $(VECTORS)
-	$(foreach test,$(HOST_TESTS),CC='$(CC)' LIBRARY='$(LIBRARY)' tests/host/$(test) build/sanitized &&) :
+	build/sanitized/flash_test
+	$(foreach test,$(HOST_TESTS),CC='$(CC)' LIBRARY='$(ENGINE)' tests/host/$(test) build/sanitized &&) :
 
 # ---- measurements ----
 
@@ -162,8 +219,8 @@ BASE_RENAMED := $(if $(BASE),build/bench_base.a)
 build/bench_base.a: $(BASE) anew | build
 	$(OBJCOPY) $(RENAMED) $(BASE) $@
 
-build/bench: $(wildcard bench/*.c bench/*.h) include/engine.h $(LIBRARY) $(BASE_RENAMED) anew | build
-	$(CC) $(CFLAGS) $(if $(BASE),-DWITH_BASE) -Iinclude -pthread -o $@ $(filter %.c,$^) $(LIBRARY) $(BASE_RENAMED)
+build/bench: $(wildcard bench/*.c bench/*.h) $(ENGINE_HEADERS) $(ENGINE) $(BASE_RENAMED) anew | build
+	$(CC) $(CFLAGS) $(if $(BASE),-DWITH_BASE) -Iinclude -pthread -o $@ $(filter %.c,$^) $(ENGINE) $(BASE_RENAMED)
 
 bench: build/bench
 	LUA='$(LUA)' ROUNDS='$(ROUNDS)' BASE='$(notdir $(BASE))' bench/report build/bench > build/PERFORMANCE.md

@@ -13,6 +13,10 @@ struct engine {
                       const uint32_t *, size_t);
     uint64_t (*deliver)(const uint8_t *, size_t, uint8_t *, size_t, int64_t *, size_t, int64_t *, size_t, uint32_t *,
                         size_t, const int64_t *, size_t, uint64_t);
+    uint64_t (*save)(const uint8_t *, size_t, uint8_t *, size_t, int64_t *, size_t, const int64_t *, size_t,
+                     const uint32_t *, size_t, uint8_t *, size_t); /* null, as restore, in a base from before order 4 */
+    uint64_t (*restore)(const uint8_t *, size_t, uint8_t *, size_t, int64_t *, size_t, int64_t *, size_t, uint32_t *,
+                        size_t, const uint8_t *, size_t);
 };
 
 /* This library, and where the program was compiled with WITH_BASE the base, whose symbols begin with base_. */

@@ -1,7 +1,8 @@
-/* Measures the four calls and prints a line for each case: its name and values as KEY=VALUE, for bench/report.
+/* Measures the six calls and prints a line for each case: its name and values as KEY=VALUE, for bench/report.
  * Times are of this thread's processor time, in nanoseconds a call: the least of several rounds, many calls each. Where
  * there is a base that knows the script's kinds, its rounds and this library's come in turn, and so do the rounds of
- * cases that are set beside each other. The environment's ROUNDS says how many there are. */
+ * cases that are set beside each other. The environment's ROUNDS says how many there are. With --library it tells the
+ * library's version and commit, and measures nothing. */
 #define _POSIX_C_SOURCE 200809L
 #include "engines.h"
 #include "scripts.h"
@@ -11,9 +12,11 @@
 #include <stdbool.h>
 #include <stdio.h>
 #include <stdlib.h>
+#include <string.h>
 #include <time.h>
 
-enum { ROUNDS = 25, ROUND_NANOSECONDS = 10000000, CALLS = 4, TURNS_MAX = 3 };
+enum { ROUNDS = 25, ROUND_NANOSECONDS = 10000000, TURNS_MAX = 3 };
+enum { TRANSLATE, OPEN, CHECK, DELIVER, SAVE, RESTORE, CALLS };
 
 struct bench_case {
     const char *name;
@@ -23,7 +26,7 @@ struct bench_case {
     size_t readings;
     int64_t reading;     /* each of them */
     unsigned number;     /* that a delivery must answer */
-    int timed;           /* how many of the calls: translate, open, check, deliver */
+    int timed;           /* how many of the calls, the first ones */
     bool in_turn;        /* with the case before */
 };
 
@@ -47,6 +50,7 @@ static const struct bench_case cases[] = {
     { "map_chain", map_chain_script, 16, LINES, 1, 1, ENGINE_DONE, CALLS, false },
     { "calls", call_script, 16, LINES, 1, 20, ENGINE_DONE, CALLS, false },
     { "passed_down", passed_down_script, 16, LINES, 1, 1, ENGINE_DONE, CALLS, false },
+    { "largest_totals", largest_totals_script, 256, LINES, 1, 1, ENGINE_DONE, CALLS, false },
     { "size_128", size_128_script, 16, 0, 1, 1, ENGINE_DONE, 1, false },
     { "size_256", size_256_script, 16, 0, 1, 1, ENGINE_DONE, 1, false },
     { "size_512", size_512_script, 16, 0, 1, 1, ENGINE_DONE, 1, false },
@@ -88,6 +92,11 @@ struct bench {
     size_t cells;
     int64_t readings[ENGINE_READINGS_MAX];
     size_t readings_length;
+    int64_t kept_slots[ENGINE_SLOTS_LENGTH(ENGINE_CELLS_MAX)]; /* a store with totals, which are saved */
+    uint32_t kept_heads[ENGINE_HEADS_LENGTH(ENGINE_CELLS_MAX)];
+    uint8_t saved[ENGINE_SAVED_LENGTH_MAX];
+    int64_t restored_slots[ENGINE_SLOTS_LENGTH(ENGINE_CELLS_MAX)]; /* a store of its own, so that no call sees it */
+    uint32_t restored_heads[ENGINE_HEADS_LENGTH(ENGINE_CELLS_MAX)];
     uint64_t answer;
     int knowing; /* how many of the libraries, the first ones, know the script's kinds */
     struct timed timed[CALLS][ENGINES];
@@ -128,15 +137,40 @@ static void deliver(void *of)
                                    b->readings, b->readings_length, ENGINE_BUDGET_MAX);
 }
 
+static void save_totals(void *of)
+{
+    struct bench *b = of;
+    b->answer = b->engine->save(b->script.file, b->script.length, b->kinds, b->lines, b->operands, b->lines,
+                                b->kept_slots, ENGINE_SLOTS_LENGTH(b->cells), b->kept_heads,
+                                ENGINE_HEADS_LENGTH(b->cells), b->saved, sizeof b->saved);
+}
+
+static void restore_totals(void *of)
+{
+    struct bench *b = of;
+    b->answer = b->engine->restore(b->script.file, b->script.length, b->kinds, b->lines, b->operands, b->lines,
+                                   b->restored_slots, ENGINE_SLOTS_LENGTH(b->cells), b->restored_heads,
+                                   ENGINE_HEADS_LENGTH(b->cells), b->saved,
+                                   engine_saved_length(b->saved, sizeof b->saved));
+}
+
 static const struct call {
     const char *name;
     void (*work)(void *);
 } calls[CALLS] = {
-    { "translate", translate },
-    { "open", open_store },
-    { "check", check_store },
-    { "deliver", deliver },
+    [TRANSLATE] = { "translate", translate },
+    [OPEN] = { "open", open_store },
+    [CHECK] = { "check", check_store },
+    [DELIVER] = { "deliver", deliver },
+    [SAVE] = { "save", save_totals },
+    [RESTORE] = { "restore", restore_totals },
 };
+
+/* Whether a library has call `i`. */
+static bool has_call(const struct engine *engine, int i)
+{
+    return i < SAVE || (engine->save != NULL && engine->restore != NULL);
+}
 
 /* ---- Time ---- */
 
@@ -220,7 +254,7 @@ static void prepare(struct bench *b, const struct bench_case *c)
 /* The number that call `i` must answer. */
 static unsigned wanted(const struct bench_case *c, int i)
 {
-    return i == CALLS - 1 ? c->number : ENGINE_DONE;
+    return i == DELIVER ? c->number : ENGINE_DONE;
 }
 
 /* Whether a library before this one answered call `i` the same. Before order 7 the code may have other lines, and the
@@ -229,15 +263,15 @@ static bool is_same_answer(int i, uint64_t now, uint64_t before)
 {
     return engine_answer_number(now) == engine_answer_number(before) &&
            engine_answer_cells(now) == engine_answer_cells(before) &&
-           (i == 0 || engine_answer_steps(now) == engine_answer_steps(before));
+           (i == TRANSLATE || engine_answer_steps(now) == engine_answer_steps(before));
 }
 
-/* Makes call `i` of each library that knows the script, and finds the rounds if it is timed. The libraries must answer
- * the same. */
+/* Makes call `i` of each library that has it and knows the script, and finds the rounds if it is timed. The libraries
+ * must answer the same. */
 static void call_first(struct bench *b, int i, uint64_t rounds)
 {
     uint64_t answer = 0;
-    for (int e = 0; e < b->knowing; e++) {
+    for (int e = 0; e < b->knowing && has_call(&engines[e], i); e++) {
         struct timed *t = &b->timed[i][e];
         *t = (struct timed){ &calls[i], &engines[e], b, 1, 0, 0 };
         t->least = repeated(t);
@@ -249,9 +283,18 @@ static void call_first(struct bench *b, int i, uint64_t rounds)
             exit(1);
         }
         answer = b->answer;
-        b->steps = engine_answer_steps(answer);
-        b->lowest[e] = engine_answer_lowest(answer);
+        if (i == DELIVER) {
+            b->steps = engine_answer_steps(answer);
+            b->lowest[e] = engine_answer_lowest(answer);
+        }
     }
+}
+
+/* Keeps the store as the first deliveries left it. */
+static void keep_store(struct bench *b)
+{
+    memcpy(b->kept_slots, b->slots, sizeof b->slots);
+    memcpy(b->kept_heads, b->heads, sizeof b->heads);
 }
 
 /* One of the other rounds of a case. */
@@ -265,19 +308,32 @@ static void time_calls(struct bench *b)
             }
 }
 
+/* The stack that a call takes; it must not be more than the header says. */
+static size_t checked_stack(struct bench *b, int i)
+{
+    size_t stack = stack_of(calls[i].work, b);
+    if (stack > ENGINE_STACK_BYTES) {
+        fprintf(stderr, "%s: %s takes %zu bytes of stack, and ENGINE_STACK_BYTES is %d\n", b->of->name, calls[i].name,
+                stack, ENGINE_STACK_BYTES);
+        exit(1);
+    }
+    return stack;
+}
+
 static void show(struct bench *b)
 {
-    printf("%s nodes=%zu lines=%" PRIu32 " cells=%zu steps=%" PRIu32, b->of->name, (b->script.length - 4) / 9,
-           b->code_lines, b->cells, b->steps);
+    printf("%s nodes=%zu lines=%" PRIu32 " cells=%zu steps=%" PRIu32 " entries=%zu", b->of->name,
+           (b->script.length - 4) / 9, b->code_lines, b->cells, b->steps,
+           (engine_saved_length(b->saved, sizeof b->saved) - 3) / 9);
     for (int e = 0; e < b->knowing; e++)
         printf(" %slowest=%u", engines[e].mark, b->lowest[e]);
     for (int i = 0; i < b->of->timed; i++)
-        for (int e = 0; e < b->knowing; e++)
+        for (int e = 0; e < b->knowing && has_call(&engines[e], i); e++)
             printf(" %s%s=%.0f", engines[e].mark, calls[i].name,
                    (double)b->timed[i][e].least / (double)b->timed[i][e].times);
     b->engine = &engines[0];
     for (int i = 0; i < CALLS; i++)
-        printf(" %s_stack=%zu", calls[i].name, stack_of(calls[i].work, b));
+        printf(" %s_stack=%zu", calls[i].name, checked_stack(b, i));
     printf("\n");
     fflush(stdout);
 }
@@ -287,8 +343,11 @@ static void measure(const struct bench_case *of, size_t count, uint64_t rounds)
 {
     for (size_t n = 0; n < count; n++) {
         prepare(&benches[n], &of[n]);
-        for (int i = 0; i < CALLS; i++)
+        for (int i = 0; i < CALLS; i++) {
             call_first(&benches[n], i, rounds);
+            if (i == DELIVER)
+                keep_store(&benches[n]);
+        }
     }
     for (uint64_t round = 0; round < rounds; round++)
         for (size_t n = 0; n < count; n++)
@@ -297,8 +356,12 @@ static void measure(const struct bench_case *of, size_t count, uint64_t rounds)
         show(&benches[n]);
 }
 
-int main(void)
+int main(int count, char **arguments)
 {
+    if (count == 2 && strcmp(arguments[1], "--library") == 0) {
+        printf("version %d.%d, commit %s\n", ENGINE_VERSION_MAJOR, ENGINE_VERSION_MINOR, engine_library_commit());
+        return 0;
+    }
     const char *asked = getenv("ROUNDS");
     uint64_t rounds = asked == NULL ? ROUNDS : strtoull(asked, NULL, 10);
     if (rounds == 0) {

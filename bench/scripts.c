@@ -349,3 +349,15 @@ void map_chain_script(struct script *script)
     name(&w, 4);
     finish(&w, script);
 }
+
+void largest_totals_script(struct script *script)
+{
+    static const int lengths[] = { 15, 16, 16 };
+    struct writer w = main_of(3);
+    for (int i = 0; i < 3; i++) {
+        replicate(&w);
+        number(&w, lengths[i]);
+    }
+    first_reading(&w);
+    finish(&w, script);
+}

@@ -59,6 +59,10 @@ void reduce_script(struct script *script);
 /* Fibonacci's numbers by two calls each, for the first reading. */
 void call_script(struct script *script);
 
+/* Totals of as many entries as can be saved, 4,096: 15 arrays of 16 arrays of 16 times the first reading. In the store
+ * three cells have them, and a restore of them takes 256. */
+void largest_totals_script(struct script *script);
+
 /* 62 ifs within one another, with a call of the function itself at the innermost: 31 calls below main, then a stop. */
 void deep_if_script(struct script *script);
 

@@ -149,7 +149,7 @@ static void save_totals(const struct site *s, const char *path)
     unsigned number = engine_answer_number(answer);
     if (number != ENGINE_DONE)
         refuse_for("save", answer, number == ENGINE_BAD_LABEL ? "the totals have over 4,096 entries" : "");
-    write_whole(path, totals_bytes, engine_saved_length(totals_bytes));
+    write_whole(path, totals_bytes, engine_saved_length(totals_bytes, ENGINE_SAVED_LENGTH_MAX));
     print_store(s, "saved", answer);
 }
 

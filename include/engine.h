@@ -1,12 +1,15 @@
-/* The script engine's C interface: six calls, the sizes of what is lent to them, and the parts of their answers.
+/* The script engine's C interface: six calls, the sizes of what is lent to them, and the parts of their answers; at its
+ * end it includes engine_lent.h, which has the same calls on one struct and the totals by their parts.
  *
  * Every call takes the script file and the two code arrays, and translates the script afresh; nothing is kept between
  * calls but the store, in the host's two store arrays. The engine has no global data, allocates nothing, calls no
  * function of the host's but memcpy and memset, and always returns. It believes nothing that is lent to it: any bytes
- * may be a script file or saved totals, and any words a store. The host sees to three things only:
+ * may be a script file or saved totals, and any words a store. The host sees to four things only:
  *   - a pointer is aligned and not null, and has at least the number of elements that follows it (so also for 0);
  *   - the arrays of one call lie apart in memory;
- *   - calls on one store come one after another.
+ *   - calls on one store, or on the same code arrays, come one after another, and nothing else writes to a lent array
+ *     during a call;
+ *   - the task that calls has the stack that it takes, ENGINE_STACK_BYTES at most.
  */
 #ifndef ENGINE_H
 #define ENGINE_H
@@ -18,19 +21,49 @@
 extern "C" {
 #endif
 
+/* ---- What the compiler has ---- */
+
+#if defined(__GNUC__)
+#define ENGINE_RESTRICT __restrict
+#define ENGINE_NONNULL __attribute__((nonnull))
+#define ENGINE_MUST_USE __attribute__((warn_unused_result))
+#elif defined(__STDC_VERSION__) && __STDC_VERSION__ >= 199901L
+#define ENGINE_RESTRICT restrict
+#endif
+#ifndef ENGINE_RESTRICT
+#define ENGINE_RESTRICT
+#endif
+#ifndef ENGINE_NONNULL
+#define ENGINE_NONNULL
+#define ENGINE_MUST_USE
+#endif
+
 /* ---- Version ---- */
 
-/* Of this interface: the first number rises when a host must change, the second when something is added. */
-#define ENGINE_VERSION_MAJOR 2
-#define ENGINE_VERSION_MINOR 4
+/* Of this interface: the first number rises when a host must change, the second when something is added or an order
+ * changes an answer. CHANGELOG.md says what each version brought. */
+#define ENGINE_VERSION_MAJOR 3
+#define ENGINE_VERSION_MINOR 0
 #define ENGINE_VERSION (1000 * ENGINE_VERSION_MAJOR + ENGINE_VERSION_MINOR)
 
-/* ---- Sizes ---- */
+/* A function that does nothing and has the version in its name: engine_interface_3_0. Whoever makes a call refers to
+ * it, so that a host compiled with this header does not link with a library of another version. */
+#define ENGINE_INTERFACE_NAME(major, minor) engine_interface_##major##_##minor
+#define ENGINE_INTERFACE_OF(major, minor) ENGINE_INTERFACE_NAME(major, minor)
+#define ENGINE_INTERFACE ENGINE_INTERFACE_OF(ENGINE_VERSION_MAJOR, ENGINE_VERSION_MINOR)
+void ENGINE_INTERFACE(void);
+
+/* Of the library: its ENGINE_VERSION, and the commit of the sources that it was made of, with a + where they were
+ * changed since, or "unknown". */
+uint32_t engine_library_version(void);
+const char *engine_library_commit(void);
+
+/* ---- Sizes; all can be used in #if ---- */
 
 /* A script file: 4 bytes, then one byte and one operand of 8 bytes for each node. */
 #define ENGINE_FUNCTIONS_MAX 32
 #define ENGINE_NODES_MAX 1024
-#define ENGINE_FILE_LENGTH(nodes) (4 + 9 * (size_t)(nodes))
+#define ENGINE_FILE_LENGTH(nodes) (4u + 9u * (nodes))
 #define ENGINE_FILE_LENGTH_MAX ENGINE_FILE_LENGTH(ENGINE_NODES_MAX)
 #define ENGINE_LEVELS_MAX 64       /* a function's body is at level 1 */
 #define ENGINE_DEPTH_MAX 4         /* 0 is a number, d an array of depth d - 1 */
@@ -45,10 +78,17 @@ extern "C" {
 #define ENGINE_CELLS_MAX 256
 #define ENGINE_CELL_SLOTS 16       /* words of a cell in the first array: the longest array that a script can make */
 #define ENGINE_CELL_HEADS 4        /* words of a cell in the second: count, length, element depth, next free cell */
-#define ENGINE_SLOTS_LENGTH(cells) (1 + ENGINE_CELL_SLOTS * (size_t)(cells))
-#define ENGINE_HEADS_LENGTH(cells) (1 + ENGINE_CELL_HEADS * (size_t)(cells))
-#define ENGINE_SLOTS_OF(cell) (1 + ENGINE_CELL_SLOTS * (size_t)(cell)) /* where a cell's words begin */
+#define ENGINE_SLOTS_LENGTH(cells) (1u + ENGINE_CELL_SLOTS * (cells))
+#define ENGINE_HEADS_LENGTH(cells) (1u + ENGINE_CELL_HEADS * (cells))
+#define ENGINE_STORE_BYTES(cells) (8u * ENGINE_SLOTS_LENGTH(cells) + 4u * ENGINE_HEADS_LENGTH(cells)) /* of both */
+#define ENGINE_SLOTS_OF(cell) (1 + ENGINE_CELL_SLOTS * (size_t)(cell)) /* where a cell's words begin: not in #if */
 #define ENGINE_HEADS_OF(cell) (1 + ENGINE_CELL_HEADS * (size_t)(cell))
+enum engine_head { /* the places of a cell's words in the second array, from there */
+    ENGINE_HEAD_COUNT = 0,
+    ENGINE_HEAD_LENGTH = 1,
+    ENGINE_HEAD_ELEMENT_DEPTH = 2,
+    ENGINE_HEAD_NEXT_FREE = 3
+};
 
 /* Saved totals: 3 bytes, then one byte and one number of 8 bytes for each of K entries, 1 to 4,096:
  *   byte 0               main's depth
@@ -58,13 +98,17 @@ extern "C" {
  * The entries are the totals' value in prefix order: an array before its elements, the elements from first to last. An
  * array that several places name is written at each. */
 #define ENGINE_SAVED_ENTRIES_MAX 4096
-#define ENGINE_SAVED_LENGTH(entries) (3 + 9 * (size_t)(entries))
+#define ENGINE_SAVED_LENGTH(entries) (3u + 9u * (entries))
 #define ENGINE_SAVED_LENGTH_MAX ENGINE_SAVED_LENGTH(ENGINE_SAVED_ENTRIES_MAX) /* 36,867 */
 
 /* A delivery. */
 #define ENGINE_READINGS_MAX 16
 #define ENGINE_BUDGET_MAX 1000000
 #define ENGINE_CALL_DEPTH_MAX 32   /* main is at call depth 1 */
+
+/* The stack of a task that calls. No theorem says it: the deepest delivery that there can be takes less where it was
+ * measured, and is tested on a thread with just this (docs/PERFORMANCE.md, "Stack"). */
+#define ENGINE_STACK_BYTES 1048576
 
 /* ---- Kinds ---- */
 
@@ -234,122 +278,79 @@ static inline unsigned engine_answer_cells(uint64_t answer)
  */
 
 /* Translates a script. Numbers 0 to 9; the answer has the code's lines. */
-uint64_t engine_translate(const uint8_t *file, size_t file_length,
-                          uint8_t *kinds, size_t kinds_length,
-                          int64_t *operands, size_t operands_length);
+uint64_t engine_translate(const uint8_t *ENGINE_RESTRICT file, size_t file_length,
+                          uint8_t *ENGINE_RESTRICT kinds, size_t kinds_length,
+                          int64_t *ENGINE_RESTRICT operands, size_t operands_length) ENGINE_NONNULL ENGINE_MUST_USE;
 
 /* Opens a store for a script, whatever its words were: totals 0 or the empty array. Numbers 0 to 9 and 11; the answer
  * has the cells taken, 0 or 1. */
-uint64_t engine_open(const uint8_t *file, size_t file_length,
-                     uint8_t *kinds, size_t kinds_length,
-                     int64_t *operands, size_t operands_length,
-                     int64_t *slots, size_t slots_length,
-                     uint32_t *heads, size_t heads_length);
+uint64_t engine_open(const uint8_t *ENGINE_RESTRICT file, size_t file_length,
+                     uint8_t *ENGINE_RESTRICT kinds, size_t kinds_length,
+                     int64_t *ENGINE_RESTRICT operands, size_t operands_length,
+                     int64_t *ENGINE_RESTRICT slots, size_t slots_length,
+                     uint32_t *ENGINE_RESTRICT heads, size_t heads_length) ENGINE_NONNULL ENGINE_MUST_USE;
 
 /* Works one delivery: main on the totals and the readings gives the new totals. Numbers 0 to 11, 21 to 26 and 28;
  * after 0 and a stop the answer has the lowest level, the steps and the cells taken. */
-uint64_t engine_deliver(const uint8_t *file, size_t file_length,
-                        uint8_t *kinds, size_t kinds_length,
-                        int64_t *operands, size_t operands_length,
-                        int64_t *slots, size_t slots_length,
-                        uint32_t *heads, size_t heads_length,
-                        const int64_t *readings, size_t readings_length,
-                        uint64_t budget);
+uint64_t engine_deliver(const uint8_t *ENGINE_RESTRICT file, size_t file_length,
+                        uint8_t *ENGINE_RESTRICT kinds, size_t kinds_length,
+                        int64_t *ENGINE_RESTRICT operands, size_t operands_length,
+                        int64_t *ENGINE_RESTRICT slots, size_t slots_length,
+                        uint32_t *ENGINE_RESTRICT heads, size_t heads_length,
+                        const int64_t *ENGINE_RESTRICT readings, size_t readings_length,
+                        uint64_t budget) ENGINE_NONNULL ENGINE_MUST_USE;
 
 /* Checks that a store is sound for a script, and changes none of its words. Numbers 0 to 9 and 11; the answer has the
  * cells taken. */
-uint64_t engine_check(const uint8_t *file, size_t file_length,
-                      uint8_t *kinds, size_t kinds_length,
-                      int64_t *operands, size_t operands_length,
-                      const int64_t *slots, size_t slots_length,
-                      const uint32_t *heads, size_t heads_length);
+uint64_t engine_check(const uint8_t *ENGINE_RESTRICT file, size_t file_length,
+                      uint8_t *ENGINE_RESTRICT kinds, size_t kinds_length,
+                      int64_t *ENGINE_RESTRICT operands, size_t operands_length,
+                      const int64_t *ENGINE_RESTRICT slots, size_t slots_length,
+                      const uint32_t *ENGINE_RESTRICT heads, size_t heads_length) ENGINE_NONNULL ENGINE_MUST_USE;
 
 /* Saves the totals of a sound store in a buffer: after 0 it begins with ENGINE_SAVED_LENGTH(K) bytes of saved totals
  * and is zero past them; after a refusal it is all zero. No word of the store changes. Numbers 0 to 9, 11 and 27; the
  * answer has the cells taken. A buffer of ENGINE_SAVED_LENGTH_MAX bytes is never too short. */
-uint64_t engine_save(const uint8_t *file, size_t file_length,
-                     uint8_t *kinds, size_t kinds_length,
-                     int64_t *operands, size_t operands_length,
-                     const int64_t *slots, size_t slots_length,
-                     const uint32_t *heads, size_t heads_length,
-                     uint8_t *saved, size_t saved_length);
+uint64_t engine_save(const uint8_t *ENGINE_RESTRICT file, size_t file_length,
+                     uint8_t *ENGINE_RESTRICT kinds, size_t kinds_length,
+                     int64_t *ENGINE_RESTRICT operands, size_t operands_length,
+                     const int64_t *ENGINE_RESTRICT slots, size_t slots_length,
+                     const uint32_t *ENGINE_RESTRICT heads, size_t heads_length,
+                     uint8_t *ENGINE_RESTRICT saved, size_t saved_length) ENGINE_NONNULL ENGINE_MUST_USE;
 
 /* Opens a store for a script, whatever its words were, with saved totals: cells 0, 1, .. are taken in the order of the
  * entries, one for each array. Numbers 0 to 9, 11, 27 and 25; the answer has the cells taken. After 25 (more arrays
  * than cells) every word of the store is zero and the code stands; after a refusal the store is unchanged. The length
- * must be just that of the saved totals, not the buffer's: lend the first engine_saved_length(buffer) bytes of a buffer
- * that engine_save filled. */
-uint64_t engine_restore(const uint8_t *file, size_t file_length,
-                        uint8_t *kinds, size_t kinds_length,
-                        int64_t *operands, size_t operands_length,
-                        int64_t *slots, size_t slots_length,
-                        uint32_t *heads, size_t heads_length,
-                        const uint8_t *saved, size_t saved_length);
+ * must be just that of the saved totals, not the buffer's: of bytes that came from elsewhere lend as many as came, and
+ * of a buffer that engine_save filled the first engine_saved_length bytes. */
+uint64_t engine_restore(const uint8_t *ENGINE_RESTRICT file, size_t file_length,
+                        uint8_t *ENGINE_RESTRICT kinds, size_t kinds_length,
+                        int64_t *ENGINE_RESTRICT operands, size_t operands_length,
+                        int64_t *ENGINE_RESTRICT slots, size_t slots_length,
+                        uint32_t *ENGINE_RESTRICT heads, size_t heads_length,
+                        const uint8_t *ENGINE_RESTRICT saved, size_t saved_length) ENGINE_NONNULL ENGINE_MUST_USE;
 
-/* The length of the saved totals that a buffer of at least 3 bytes begins with, as its bytes 1 and 2 say it. */
-static inline size_t engine_saved_length(const uint8_t *saved)
+/* Each of them refers to the interface's version as well. */
+#define engine_translate(...) (ENGINE_INTERFACE(), engine_translate(__VA_ARGS__))
+#define engine_open(...) (ENGINE_INTERFACE(), engine_open(__VA_ARGS__))
+#define engine_deliver(...) (ENGINE_INTERFACE(), engine_deliver(__VA_ARGS__))
+#define engine_check(...) (ENGINE_INTERFACE(), engine_check(__VA_ARGS__))
+#define engine_save(...) (ENGINE_INTERFACE(), engine_save(__VA_ARGS__))
+#define engine_restore(...) (ENGINE_INTERFACE(), engine_restore(__VA_ARGS__))
+
+/* The length of the saved totals that a buffer begins with, as its bytes 1 and 2 tell it; 0, which a restore refuses,
+ * where this does not fit the buffer's capacity. So no byte past the buffer is lent, whatever its bytes are. */
+ENGINE_NONNULL ENGINE_MUST_USE
+static inline size_t engine_saved_length(const uint8_t *saved, size_t capacity)
 {
-    return ENGINE_SAVED_LENGTH(saved[1] + 256 * (size_t)saved[2]);
-}
-
-/* ---- The calls on one struct ---- */
-
-/* The arrays that a host lends again and again; the store's may be null where only engine_translate_lent is called. */
-struct engine_lent {
-    const uint8_t *file;
-    size_t file_length;
-    uint8_t *kinds;
-    size_t kinds_length;
-    int64_t *operands;
-    size_t operands_length;
-    int64_t *slots;
-    size_t slots_length;
-    uint32_t *heads;
-    size_t heads_length;
-};
-
-static inline uint64_t engine_translate_lent(const struct engine_lent *lent)
-{
-    return engine_translate(lent->file, lent->file_length, lent->kinds, lent->kinds_length, lent->operands,
-                            lent->operands_length);
-}
-
-static inline uint64_t engine_open_lent(const struct engine_lent *lent)
-{
-    return engine_open(lent->file, lent->file_length, lent->kinds, lent->kinds_length, lent->operands,
-                       lent->operands_length, lent->slots, lent->slots_length, lent->heads, lent->heads_length);
-}
-
-static inline uint64_t engine_check_lent(const struct engine_lent *lent)
-{
-    return engine_check(lent->file, lent->file_length, lent->kinds, lent->kinds_length, lent->operands,
-                        lent->operands_length, lent->slots, lent->slots_length, lent->heads, lent->heads_length);
-}
-
-static inline uint64_t engine_deliver_lent(const struct engine_lent *lent, const int64_t *readings,
-                                           size_t readings_length, uint64_t budget)
-{
-    return engine_deliver(lent->file, lent->file_length, lent->kinds, lent->kinds_length, lent->operands,
-                          lent->operands_length, lent->slots, lent->slots_length, lent->heads, lent->heads_length,
-                          readings, readings_length, budget);
-}
-
-static inline uint64_t engine_save_lent(const struct engine_lent *lent, uint8_t *saved, size_t saved_length)
-{
-    return engine_save(lent->file, lent->file_length, lent->kinds, lent->kinds_length, lent->operands,
-                       lent->operands_length, lent->slots, lent->slots_length, lent->heads, lent->heads_length, saved,
-                       saved_length);
-}
-
-static inline uint64_t engine_restore_lent(const struct engine_lent *lent, const uint8_t *saved, size_t saved_length)
-{
-    return engine_restore(lent->file, lent->file_length, lent->kinds, lent->kinds_length, lent->operands,
-                          lent->operands_length, lent->slots, lent->slots_length, lent->heads, lent->heads_length,
-                          saved, saved_length);
+    size_t told = capacity < ENGINE_SAVED_LENGTH(0) ? 0 : ENGINE_SAVED_LENGTH(saved[1] + 256 * (size_t)saved[2]);
+    return told <= capacity ? told : 0;
 }
 
 #ifdef __cplusplus
 }
 #endif
+
+#include "engine_lent.h"
 
 #endif

@@ -8,8 +8,6 @@
 #include <stdlib.h>
 #include <string.h>
 
-enum { STACK_BYTES = 1 << 20 };
-
 static void *deliver_here(void *of)
 {
     uint64_t *answer = of;
@@ -43,7 +41,7 @@ uint64_t deliver_deepest(void (*script)(struct script *))
     lend_deepest(script);
     if (engine_answer_number(open_store()) != ENGINE_DONE)
         give_up("its store does not open");
-    if (pthread_attr_init(&attributes) != 0 || pthread_attr_setstacksize(&attributes, STACK_BYTES) != 0
+    if (pthread_attr_init(&attributes) != 0 || pthread_attr_setstacksize(&attributes, ENGINE_STACK_BYTES) != 0
         || pthread_create(&thread, &attributes, deliver_here, &answer) != 0 || pthread_join(thread, NULL) != 0)
         give_up("no thread");
     pthread_attr_destroy(&attributes);

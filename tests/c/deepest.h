@@ -4,8 +4,8 @@
 
 #include "scripts.h"
 
-/* Works a script without readings on a thread whose stack has 1 MiB, and gives its answer. More stack would end the
- * program. */
+/* Works a script without readings on a thread whose stack has ENGINE_STACK_BYTES, and gives its answer. A delivery that
+ * takes more ends the program. */
 uint64_t deliver_deepest(void (*script)(struct script *));
 
 #endif

@@ -2,95 +2,13 @@
  * files and stores, the deepest deliveries on a small stack, and the test vectors that the arguments name. Every array
  * ends at a page that may not be touched. Exit status 0 where all pass. */
 #include "deepest.h"
+#include "expect.h"
 #include "lent.h"
+#include "printed.h"
 #include "vectors.h"
 
-#include <inttypes.h>
 #include <stdio.h>
 #include <string.h>
-
-static unsigned passed, failed;
-
-/* Counts a test, and says where one fails. */
-static void expect(bool holds, const char *what)
-{
-    if (holds) {
-        passed++;
-    } else {
-        failed++;
-        printf("  failed: %s\n", what);
-    }
-}
-
-/* An answer by its parts; the second is a refusal's node or a delivery's lowest level. */
-static uint64_t answer(unsigned number, unsigned node, uint32_t count, unsigned cells)
-{
-    return number + ((uint64_t)node << 8) + ((uint64_t)count << 24) + ((uint64_t)cells << 48);
-}
-
-struct row {
-    uint8_t kind;
-    int64_t operand;
-};
-
-/* Lends the script file of some nodes. */
-static void lend_script(unsigned functions, const struct row *rows, size_t count)
-{
-    lend_file(ENGINE_FILE_LENGTH(count));
-    const unsigned sizes[2] = { functions, (unsigned)count };
-    for (unsigned i = 0; i < 4; i++)
-        lent.file[i] = (uint8_t)(sizes[i / 2] >> (8 * (i % 2)));
-    for (size_t i = 0; i < count; i++) {
-        lent.file[4 + i] = rows[i].kind;
-        for (unsigned byte = 0; byte < 8; byte++)
-            lent.file[4 + count + 8 * i + byte] = (uint8_t)((uint64_t)rows[i].operand >> (8 * byte));
-    }
-}
-
-static const struct row printed[] = {
-    { 0, 258 }, { 1, 256 }, { 1, 257 }, { 12, 0 }, { 11, 0 }, { 3, 0 }, { 9, 1 }, { 4, 0 }, { 10, 0 },
-    { 3, 0 },   { 2, 0 },   { 10, 0 },  { 3, 1 },  { 2, 0 },  { 9, 1 }, { 10, 0 }, { 3, 1 }, { 2, 0 },
-};
-
-static const struct row printed_code[] = {
-    { 0, 258 }, { 1, 256 }, { 1, 257 }, { 11, 2 }, { 3, 0 },  { 12, 3 }, { 3, 2 }, { 10, 4 }, { 3, 0 },
-    { 2, 0 },   { 15, 0 },  { 10, 5 },  { 3, 1 },  { 2, 0 },  { 15, 1 }, { 4, 6 }, { 3, 4 },  { 3, 5 },
-    { 9, 263 }, { 3, 6 },   { 16, 0 },  { 3, 7 },  { 15, 0 }, { 10, 8 }, { 3, 1 }, { 2, 0 },  { 15, 1 },
-    { 9, 265 }, { 3, 8 },   { 16, 0 },  { 3, 9 },  { 16, 0 }, { 3, 3 },
-};
-
-#define COUNT(rows) (sizeof(rows) / sizeof *(rows))
-enum { PRINTED_LINES = COUNT(printed_code) };
-
-static void lend_printed(void)
-{
-    lend_script(1, printed, COUNT(printed));
-}
-
-/* Opens the printed script's store. */
-static void open_printed(unsigned cells)
-{
-    lend_printed();
-    lend_code(ENGINE_CODE_LINES_MAX, ENGINE_CODE_LINES_MAX);
-    lend_store(ENGINE_SLOTS_LENGTH(cells), ENGINE_HEADS_LENGTH(cells));
-    expect(open_store() == answer(0, 0, 0, 1), "the printed script's store opens");
-}
-
-static uint64_t deliver_one(int64_t reading, uint64_t budget)
-{
-    lend_readings(1);
-    lent.readings[0] = reading;
-    return deliver(budget);
-}
-
-/* Whether the totals are an array of this one number. */
-static bool totals_are(int64_t number)
-{
-    uint64_t cell = (uint64_t)lent.slots[0];
-    return lent.heads[ENGINE_HEADS_OF(cell) + 1] == 1 && lent.slots[ENGINE_SLOTS_OF(cell)] == number;
-}
-
-/* ---- Tests ---- */
 
 static void test_translate(void)
 {
@@ -109,7 +27,7 @@ static void test_translate(void)
 
 static void test_cut_files(void)
 {
-    uint8_t whole[ENGINE_FILE_LENGTH(COUNT(printed))];
+    uint8_t whole[ENGINE_FILE_LENGTH(PRINTED_NODES)];
     lend_printed();
     memcpy(whole, lent.file, sizeof whole);
     for (size_t length = 0; length < sizeof whole; length++) {
@@ -167,7 +85,8 @@ static void test_call_depth(void)
 {
     static const struct row rows[] = {
         { 0, 2 },  { 1, 0 }, { 1, 257 }, { 8, 257 }, { 10, 0 }, { 3, 1 }, { 2, 0 },
-        { 0, 1 },  { 1, 0 }, { 12, 0 },  { 6, 0 },   { 2, 0 },  { 3, 0 }, { 8, 257 }, { 5, 0 }, { 3, 0 }, { 2, 1 }, { 2, 7 },
+        { 0, 1 },  { 1, 0 }, { 12, 0 },  { 6, 0 },   { 2, 0 },  { 3, 0 }, { 8, 257 }, { 5, 0 }, { 3, 0 }, { 2, 1 },
+        { 2, 7 },
     };
     lend_script(2, rows, COUNT(rows));
     lend_code(100, 100);
@@ -274,8 +193,8 @@ static void test_deepest(void)
 {
     const uint64_t ifs = answer(22, 255, 64 * ENGINE_CALL_DEPTH_MAX, 0);
     const uint64_t reduces = answer(22, 256 - 2 * ENGINE_CALL_DEPTH_MAX, 129 * ENGINE_CALL_DEPTH_MAX, 0);
-    expect(deliver_deepest(deepest_if_script) == ifs, "the deepest delivery of ifs on 1 MiB of stack");
-    expect(deliver_deepest(deepest_reduce_script) == reduces, "the deepest delivery of reduces on 1 MiB of stack");
+    expect(deliver_deepest(deepest_if_script) == ifs, "the deepest delivery of ifs on ENGINE_STACK_BYTES");
+    expect(deliver_deepest(deepest_reduce_script) == reduces, "the deepest delivery of reduces on ENGINE_STACK_BYTES");
 }
 
 static void test_store_lengths(void)
@@ -317,89 +236,6 @@ static void test_damaged_store(void)
     expect(check_store() == answer(0, 0, 0, 1) && totals_are(250), "as it was");
 }
 
-/* Totals {250}: saved into buffers of each length, restored from each length and with each byte changed. */
-static void test_saved(void)
-{
-    enum { LENGTH = ENGINE_SAVED_LENGTH(2), SECOND_NUMBER = 13 };
-    static const uint8_t wanted[2 * LENGTH] = { 1, 2, 0, 2, 0, [SECOND_NUMBER] = 250 };
-    open_printed(2);
-    expect(deliver_one(250, 1000) == answer(0, 0, 4, 1), "a store with totals {250}");
-    for (size_t length = 0; length <= 2 * LENGTH; length++) {
-        bool fits = length >= LENGTH;
-        lend_saved(length);
-        expect(save_totals() == (fits ? answer(0, 0, 0, 1) : answer(27, 0, 0, 0)), "a buffer of each length");
-        expect(code_is_zero_from(fits ? PRINTED_LINES : 0) && totals_are(250), "code and store of a save");
-        static const uint8_t zeros[LENGTH];
-        expect(memcmp(lent.saved, fits ? wanted : zeros, length) == 0, "the buffer, zero past the totals");
-    }
-    for (size_t length = 0; length <= 2 * LENGTH; length++) {
-        unsigned cells = 1 + (unsigned)length % 3;
-        lend_store(ENGINE_SLOTS_LENGTH(cells), ENGINE_HEADS_LENGTH(cells));
-        lend_saved(length);
-        memcpy(lent.saved, wanted, length);
-        bool fits = length == LENGTH;
-        expect(restore_totals() == (fits ? answer(0, 0, 0, 1) : answer(27, 0, 0, 0)), "bytes of each length");
-        expect(fits ? totals_are(250) : lent.heads[0] == 0x66666666, "the store, as it was after a refusal");
-    }
-    lend_saved(LENGTH);
-    for (size_t i = 0; i < LENGTH; i++) {
-        open_printed(1);
-        memcpy(lent.saved, wanted, LENGTH);
-        lent.saved[i] ^= 128;
-        bool is_free_choice = i >= SECOND_NUMBER; /* the number itself */
-        expect(restore_totals() == (is_free_choice ? answer(0, 0, 0, 1) : answer(27, 0, 0, 0)), "a byte changed");
-        expect((lent.heads[2] == 1) == is_free_choice, "an array of one number, or the empty one that was there");
-    }
-}
-
-static void test_header(void)
-{
-    uint64_t parts = answer(23, 1024, 1000000, 256);
-    expect(engine_answer_number(parts) == 23 && engine_answer_node(parts) == 1024, "number and node");
-    expect(engine_answer_lowest(parts) == 1024, "the lowest level in the node's place");
-    expect(engine_answer_steps(parts) == 1000000 && engine_answer_lines(parts) == 1000000, "steps and lines");
-    expect(engine_answer_cells(parts) == 256, "cells");
-    expect(strcmp(engine_word(ENGINE_UNKNOWN_NAME), "no such nozzle") == 0, "a word");
-    expect(strcmp(engine_word(ENGINE_BAD_COUNT), "bad count") == 0, "the word of 26");
-    expect(strcmp(engine_word(ENGINE_BAD_LABEL), "bad label") == 0, "the word of 27");
-    expect(strcmp(engine_word(ENGINE_BAD_GUARD), "doubtful switch") == 0, "the word of 28");
-    expect(strcmp(engine_word(12), "unknown number") == 0, "no word");
-    for (unsigned number = 0; number < 256; number++) {
-        bool is_refusal = (number >= 1 && number <= 11) || number == 27;
-        bool is_stop = (number >= 21 && number <= 26) || number == 28;
-        expect(engine_is_refusal(number) == is_refusal && engine_is_stop(number) == is_stop, "refusals and stops");
-        bool has_word = strcmp(engine_word(number), "unknown number") != 0;
-        expect(has_word == (number == 0 || is_refusal || is_stop), "a word for each number");
-    }
-    for (unsigned kind = 0; kind < 256; kind++)
-        expect(engine_is_node_kind(kind) == (kind <= 13 || (kind >= 17 && kind <= 20)), "kinds of nodes");
-    expect(ENGINE_KINDS == ENGINE_KIND_REWRITING_MAP + 1, "all kinds");
-    expect(ENGINE_FILE_LENGTH_MAX == 9220, "the longest file");
-    expect(ENGINE_SLOTS_LENGTH(256) == 4097 && ENGINE_HEADS_LENGTH(256) == 1025, "the largest store");
-    expect(ENGINE_SAVED_LENGTH_MAX == 36867, "the longest saved totals");
-    expect(engine_saved_length((const uint8_t[]){ 3, 0, 16 }) == ENGINE_SAVED_LENGTH_MAX, "their length in bytes");
-}
-
-/* The calls on one struct are the calls. */
-static void test_lent(void)
-{
-    open_printed(2);
-    struct engine_lent all = { lent.file, lent.file_length, lent.kinds, lent.kinds_length, lent.operands,
-                               lent.operands_length, lent.slots, lent.slots_length, lent.heads, lent.heads_length };
-    const int64_t readings[1] = { 250 };
-    expect(engine_translate_lent(&all) == answer(0, 0, PRINTED_LINES, 0), "translate on the struct");
-    expect(engine_deliver_lent(&all, readings, 1, 1000) == answer(0, 0, 4, 1) && totals_are(250), "deliver on it");
-    expect(engine_check_lent(&all) == answer(0, 0, 0, 1) && totals_are(250), "check on it");
-    uint8_t saved[ENGINE_SAVED_LENGTH(2)];
-    expect(engine_save_lent(&all, saved, sizeof saved) == answer(0, 0, 0, 1), "save on it");
-    expect(engine_open_lent(&all) == answer(0, 0, 0, 1) && lent.slots[0] == 0, "open on it");
-    expect(engine_restore_lent(&all, saved, engine_saved_length(saved)) == answer(0, 0, 0, 1) && totals_are(250),
-           "restore on it");
-    for (size_t i = 0; i < PRINTED_LINES; i++)
-        expect(lent.kinds[i] == printed_code[i].kind, "a kind");
-    expect(printed_code[10].kind == ENGINE_KIND_RELEASE && printed_code[20].kind == ENGINE_KIND_END, "kinds by name");
-}
-
 int main(int count, char **arguments)
 {
     bool agreed = true;
@@ -408,6 +244,8 @@ int main(int count, char **arguments)
         agreed &= run_vectors(arguments[i]);
     test_header();
     test_lent();
+    test_totals();
+    test_faults();
     test_translate();
     test_cut_files();
     test_trials();
@@ -420,6 +258,7 @@ int main(int count, char **arguments)
     test_store_lengths();
     test_damaged_store();
     test_saved();
+    test_saved_length();
     printf("C link tests: %u passed, %u failed\n", passed, failed);
     return agreed && failed == 0 ? 0 : 1;
 }

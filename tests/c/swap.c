@@ -62,8 +62,9 @@ static bool has_right_code(uint64_t answer)
         return code_is_zero_from(0);
     if (lent.kinds_length > LINES_MAX || lent.operands_length > LINES_MAX)
         unusable("a code array is too long");
-    engine_translate(lent.file, lent.file_length, kinds, lent.kinds_length, operands, lent.operands_length);
-    return memcmp(kinds, lent.kinds, lent.kinds_length) == 0
+    uint64_t code = engine_translate(lent.file, lent.file_length, kinds, lent.kinds_length, operands,
+                                     lent.operands_length);
+    return engine_answer_number(code) == ENGINE_DONE && memcmp(kinds, lent.kinds, lent.kinds_length) == 0
            && memcmp(operands, lent.operands, lent.operands_length * sizeof *operands) == 0;
 }
 
