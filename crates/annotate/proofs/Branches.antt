@@ -1,11 +1,6 @@
 -- Laws of the walk of an if's trees and of a loop's tree: what was written and taken back is what the walk says.
-use mathlib.Core.Path.{_≡_, refl, sym, ap, _∙_}
-use mathlib.Core.Bool.{Bool}
-use mathlib.Core.List.{List, [], _∷_, _++_, append-assoc}
-use Prim.Native.Nat.{ℕ, _+_, _-_}
-use native.Mathlib.Omega.{arith}
-use lib.IntN.{ℤ}
-use lib.ListN.{length}
+use Rattle.prelude.specs.Kit.{ℕ, _+_, _-_, arith, Bool, _≡_, refl, _∙_, sym, ap, List, [], _∷_, _++_, append-assoc, ℤ}
+use Rattle.prelude.specs.Kit.{length}
 use Rattle.semantics.specs.Kinds.{Loop, mapping, filtering, reducing, rewriting, loop-hands, loop-reads, Borrowing}
 use Rattle.semantics.specs.Code as C
 use Rattle.semantics.specs.Code.{Row, row, atom-row}

@@ -1,14 +1,6 @@
 -- Laws of the walk of a line: what was written and taken back is what the walk says.
-use mathlib.Core.Path.{_≡_, refl, sym, ap, _∙_}
-use mathlib.Core.Bool.{Bool, true, false}
-use mathlib.Core.List.{List, [], _∷_, _++_, append-assoc}
-use mathlib.Core.Logic.{⊎-elim}
-use Prim.Native.Nat.{ℕ, _+_, _-_, _*_, _<_}
-use native.Mathlib.Omega.{arith}
-use lib.IntN.{ℤ}
-use lib.ListN.{length, set}
-use denote.Enum.Declared.{tagOf}
-use types.Run.{OneOf}
+use Rattle.prelude.specs.Kit.{ℕ, _+_, _<_, _-_, _*_, arith, true, false, Bool, _≡_, refl, _∙_, sym, ap, ⊎-elim, List}
+use Rattle.prelude.specs.Kit.{[], _∷_, _++_, append-assoc, ℤ, length, set, tagOf, OneOf}
 use Rattle.semantics.specs.Kinds.{Leaf, call, literal, Loop, loop-kind}
 use Rattle.semantics.specs.Kinds.{Borrowing}
 use Rattle.semantics.specs.Code as C

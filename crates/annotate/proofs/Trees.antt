@@ -1,15 +1,6 @@
 -- Laws of the walk of a tree: its end line, and its lines from the last to the first.
-use mathlib.Core.Path.{_≡_, refl, sym, ap, _∙_}
-use mathlib.Core.Bool.{Bool, true}
-use mathlib.Core.List.{List, [], _∷_, _++_, append-assoc}
-use mathlib.Core.Logic.{⊎-elim}
-use Prim.Native.Nat.{ℕ, zero, suc, _+_, _-_, _<_, _≤_}
-use native.Mathlib.Omega.{arith}
-use lib.IntN.{ℤ}
-use lib.ListN.{length, getD}
-use denote.Enum.Declared.{tagOf}
-use types.Run.{OneOf}
-use borrow.Author.Tests.{lt-ltb, le-ltb}
+use Rattle.prelude.specs.Kit.{ℕ, _≤_, _+_, _<_, _-_, suc, zero, arith, true, Bool, _≡_, refl, _∙_, sym, ap, ⊎-elim}
+use Rattle.prelude.specs.Kit.{List, [], _∷_, _++_, append-assoc, ℤ, length, getD, lt-ltb, le-ltb, tagOf, OneOf}
 use Rattle.semantics.specs.Kinds.{Borrowing}
 use Rattle.semantics.specs.Code.{Row}
 use Rattle.semantics.specs.Live.{is, among, _∪_}

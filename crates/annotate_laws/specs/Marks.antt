@@ -1,12 +1,6 @@
 -- A name occurs in the tree that begins at a row just where its last use, after the tree, lies past that row.
-use mathlib.Core.Path.{_≡_, refl, sym, _∙_, fun-ext}
-use mathlib.Core.Bool.{Bool, true, false, cond, _||_, or-true}
-use mathlib.Core.List.{List, [], _∷_}
-use Prim.Native.Nat.{ℕ, _+_, _<_, _≤_}
-use native.Mathlib.Omega.{arith}
-use lib.Dec.{eqb, ltb}
-use lib.ListN.{length}
-use borrow.Author.Tests.{lt-ltb, le-ltb}
+use Rattle.prelude.specs.Kit.{ℕ, _≤_, _+_, _<_, arith, true, false, Bool, cond, _||_, or-true, _≡_, refl, _∙_, sym}
+use Rattle.prelude.specs.Kit.{fun-ext, List, [], _∷_, eqb, ltb, length, lt-ltb, le-ltb}
 use Rattle.semantics.specs.Basics.{updated}
 use Rattle.semantics.specs.Code.{Atom, number, name, Line, leaf, if-else, loop, retain, release, Tree, end, line}
 use Rattle.semantics.specs.Live.{empty, is, among}

@@ -1,12 +1,6 @@
 -- The members of a set joined with one name that is past all of them.
-use mathlib.Core.Path.{_≡_, refl}
-use mathlib.Core.Bool.{Bool, true, false, _&&_, _||_, or-false}
-use mathlib.Core.List.{List, [], _++_}
-use Prim.Native.Nat.{ℕ, zero, suc, _<_, _≤_}
-use native.Mathlib.Omega.{arith}
-use native.Mathlib.Decide.{decLt}
-use lib.Dec.{eqb}
-use borrow.Author.Tests.{ne-eqb}
+use Rattle.prelude.specs.Kit.{ℕ, _≤_, _<_, suc, zero, arith, decLt, true, false, Bool, _&&_, _||_, or-false, _≡_, refl}
+use Rattle.prelude.specs.Kit.{List, [], _++_, eqb, ne-eqb}
 use Rattle.semantics.specs.Basics.{with-if}
 use Rattle.semantics.specs.Live.{Set, members-from}
 

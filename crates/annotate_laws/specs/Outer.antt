@@ -1,12 +1,7 @@
 -- Trees whose inner names are numbered past the names that they use from outside: what an if and a loop release.
-use mathlib.Core.Path.{_≡_, refl, sym, ap, _∙_, fun-ext}
-use mathlib.Core.Bool.{Bool, true, false, not, _&&_, _||_, and-false, or-true, or-assoc, true≢false}
-use mathlib.Core.List.{List, [], _∷_, _++_}
-use Prim.Native.Nat.{ℕ, _<_, _≤_}
-use native.Mathlib.Omega.{arith}
-use native.Mathlib.Decide.{decLt}
-use lib.Dec.{eqb, ltb}
-use borrow.Author.Tests.{lt-ltb, le-ltb, eq-eqb, ne-eqb}
+use Rattle.prelude.specs.Kit.{ℕ, _≤_, _<_, arith, decLt, true, false, Bool, _&&_, not, _||_, and-false, true≢false}
+use Rattle.prelude.specs.Kit.{or-assoc, or-true, _≡_, refl, _∙_, sym, ap, fun-ext, List, [], _∷_, _++_, eqb, ltb}
+use Rattle.prelude.specs.Kit.{ne-eqb, lt-ltb, eq-eqb, le-ltb}
 use Rattle.semantics.specs.Kinds.{Loop, mapping, filtering, reducing, rewriting, loop-hands, loop-reads}
 use Rattle.semantics.specs.Basics.{with-if}
 use Rattle.semantics.specs.Code.{Atom, number, name, Line, leaf, if-else, loop, retain, release, Tree, end, line}

@@ -1,10 +1,6 @@
 -- What the walk comes to: of a tree by its lines, of a leaf's line and of an end.
-use mathlib.Core.Path.{_≡_, refl, ap, _∙_, subst, fun-ext}
-use mathlib.Core.List.{List, [], _∷_, _++_}
-use Prim.Native.Nat.{ℕ, zero, suc, _+_, _-_, _<_, _≤_}
-use native.Mathlib.Omega.{arith}
-use native.Mathlib.Decide.{ℕ-discrete}
-use borrow.Author.Tests.{lt-ltb, le-ltb}
+use Rattle.prelude.specs.Kit.{ℕ, _≤_, _+_, _<_, _-_, suc, zero, arith, ℕ-discrete, _≡_, refl, _∙_, ap, subst, fun-ext}
+use Rattle.prelude.specs.Kit.{List, [], _∷_, _++_, lt-ltb, le-ltb}
 use Rattle.semantics.specs.Basics.{updated}
 use Rattle.semantics.specs.Kinds.{Leaf, Borrowing}
 use Rattle.semantics.specs.Code as C

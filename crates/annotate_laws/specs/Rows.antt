@@ -1,8 +1,5 @@
 -- The rows of annotated lines, in the order in which the walk puts them before the rows that follow.
-use mathlib.Core.Path.{_≡_, refl, sym, ap, _∙_}
-use mathlib.Core.Bool.{_&&_}
-use mathlib.Core.List.{List, [], _∷_, _++_, append-assoc, map-append}
-use Prim.Native.Nat.{ℕ, _+_}
+use Rattle.prelude.specs.Kit.{ℕ, _+_, _&&_, _≡_, refl, _∙_, sym, ap, List, [], _∷_, _++_, append-assoc, map-append}
 use Rattle.semantics.specs.Basics.{with-if}
 use Rattle.semantics.specs.Kinds.{Leaf, leaf-hands, leaf-reads, is-pending, Loop, Borrowing}
 use Rattle.semantics.specs.Code.{Atom, number, name, Line, leaf, if-else, loop, Tree, end, line}

@@ -1,7 +1,5 @@
 -- Two functions whose trees stand in plain code, an if with a map in it and a reduce: the walk's law is not empty.
-use mathlib.Core.Path.{_≡_, refl}
-use mathlib.Core.List.{[], _∷_, _++_}
-use native.Mathlib.Omega.{arith}
+use Rattle.prelude.specs.Kit.{arith, _≡_, refl, [], _∷_, _++_}
 use Rattle.semantics.specs.Basics.{updated}
 use Rattle.semantics.specs.Syntax.{Function, name, if-else, loop, none, more}
 use Rattle.semantics.specs.Kinds.{mapping, reducing, Borrowing}

@@ -1,9 +1,6 @@
 -- Live before a tree is what occurs in it, joined with what is live after it, on names that the tree does not bind.
-use mathlib.Core.Path.{_≡_, refl, sym, ap, _∙_}
-use mathlib.Core.Bool.{Bool, true, false, _||_, or-false, or-assoc, true≢false}
-use mathlib.Core.List.{List, [], _∷_}
-use Prim.Native.Nat.{ℕ}
-use lib.Dec.{eqb}
+use Rattle.prelude.specs.Kit.{ℕ, true, false, Bool, _||_, true≢false, or-false, or-assoc, _≡_, refl, _∙_, sym, ap, List}
+use Rattle.prelude.specs.Kit.{[], _∷_, eqb}
 use Rattle.semantics.specs.Code.{Atom, Line, leaf, if-else, loop, retain, release, Tree, end, line}
 use Rattle.semantics.specs.Live.{Set, empty, _∪_, _∖_, _∖∖_, only, just, is, among, live, live-before, uses}
 

@@ -1,11 +1,6 @@
 -- Where a tree stands in plain code, the walk comes to what is live before it, to the last uses before it, and to the
 -- rows of the annotated tree.
-use mathlib.Core.Path.{_≡_, refl, ap, _∙_}
-use mathlib.Core.List.{List, [], _∷_, _++_}
-use Prim.Native.Nat.{ℕ, suc, _+_, _-_, _≤_}
-use native.Mathlib.Omega.{arith}
-use lib.ListN.{length}
-use borrow.Author.Tests.{lt-ltb}
+use Rattle.prelude.specs.Kit.{ℕ, _≤_, _+_, _-_, suc, arith, _≡_, refl, _∙_, ap, List, [], _∷_, _++_, length, lt-ltb}
 use Rattle.semantics.specs.Kinds.{Loop, mapping, filtering, reducing, rewriting}
 use Rattle.semantics.specs.Kinds.{loop-hands, loop-reads, element-name, Borrowing}
 use Rattle.semantics.specs.Code as C

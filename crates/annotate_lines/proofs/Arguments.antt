@@ -1,14 +1,7 @@
 -- Laws of a call's arguments: those at certain places, from the last to the first, and the names that are released.
-use mathlib.Core.Path.{_≡_, refl, sym, ap, _∙_}
-use mathlib.Core.Bool.{Bool, true, false, _&&_, _||_, not}
-use mathlib.Core.List.{List, [], _∷_, _++_}
-use Prim.Native.Nat.{ℕ, zero, suc, _+_, _-_, _<_, _≤_}
-use native.Mathlib.Omega.{arith}
-use native.Mathlib.Decide.{decLt}
-use lib.IntN.{ℤ, pos}
-use lib.Dec.{eqb}
-use lib.ListN.{getD}
-use borrow.Author.Tests.{lt-ltb, le-ltb, le-leb, lt-leb, eq-eqb, ne-eqb}
+use Rattle.prelude.specs.Kit.{ℕ, _≤_, _+_, _<_, _-_, suc, zero, arith, decLt, true, false, Bool, _&&_, not, _||_, _≡_}
+use Rattle.prelude.specs.Kit.{refl, _∙_, sym, ap, List, [], _∷_, _++_, eqb, ℤ, pos, getD, ne-eqb, lt-ltb, eq-eqb}
+use Rattle.prelude.specs.Kit.{le-ltb, le-leb, lt-leb}
 use Rattle.semantics.specs.Basics.{with-if}
 use Rattle.semantics.specs.Kinds.{picked}
 use Rattle.semantics.specs.Code.{Atom, number, name}

@@ -1,11 +1,6 @@
 -- Laws of atoms that are written and handed over, from the last to the first.
-use mathlib.Core.Path.{_≡_, refl, sym, ap, _∙_}
-use mathlib.Core.Bool.{_&&_}
-use mathlib.Core.List.{List, [], _∷_, _++_, map}
-use Prim.Native.Nat.{ℕ, _+_, _-_, _<_, _≤_}
-use native.Mathlib.Omega.{arith}
-use lib.IntN.{ℤ}
-use lib.ListN.{getD}
+use Rattle.prelude.specs.Kit.{ℕ, _≤_, _+_, _<_, _-_, arith, _&&_, _≡_, refl, _∙_, sym, ap, List, [], _∷_, _++_, map, ℤ}
+use Rattle.prelude.specs.Kit.{getD}
 use Rattle.semantics.specs.Code.{Atom, number, name, Row, atom-row}
 use Rattle.semantics.specs.Live.{Set, among}
 use Rattle.semantics.specs.Annotate.{NameDepths, is-array, handed-again}

@@ -1,14 +1,7 @@
 -- The rows of leaf lines: what they release, and what they write all in all.
-use mathlib.Core.Path.{_≡_, refl, sym, ap, _∙_, fun-ext}
-use mathlib.Core.Bool.{Bool, true, false, cond, _&&_, _||_}
-use mathlib.Core.Logic.{_⊎_, inl, inr}
-use mathlib.Core.List.{List, [], _∷_, _++_, map}
-use Prim.Native.Nat.{ℕ, zero, suc, _+_, _*_, _<_}
-use native.Mathlib.Omega.{arith}
-use native.Mathlib.Decide.{ℕ-discrete}
-use lib.Dec.{eqb}
-use lib.ListN.{length}
-use borrow.Author.Tests.{lt-ltb, ne-eqb}
+use Rattle.prelude.specs.Kit.{ℕ, _+_, _<_, suc, zero, _*_, arith, ℕ-discrete, true, false, Bool, cond, _&&_, _||_, _≡_}
+use Rattle.prelude.specs.Kit.{refl, _∙_, sym, ap, fun-ext, inl, inr, _⊎_, List, [], _∷_, _++_, map, eqb, length, ne-eqb}
+use Rattle.prelude.specs.Kit.{lt-ltb}
 use Rattle.semantics.specs.Basics.{with-if}
 use Rattle.semantics.specs.Kinds.{Leaf, operation, call, literal, index, length-of, iota, replicate, leaf-kind}
 use Rattle.semantics.specs.Kinds.{leaf-operand, leaf-hands, leaf-reads, is-pending, Borrowing}

@@ -1,13 +1,6 @@
 -- Laws of the rows of loops: one for each way out of what writes them.
-use mathlib.Core.Path.{_≡_, refl, ap, _∙_, fun-ext}
-use mathlib.Core.Bool.{Bool, true, false, _&&_, _||_}
-use mathlib.Core.Logic.{⊎-elim}
-use mathlib.Core.List.{[], _∷_, _++_}
-use Prim.Native.Nat.{ℕ, _+_}
-use native.Mathlib.Omega.{arith}
-use lib.Dec.{eqb, ltb}
-use denote.Enum.Declared.{tagOf}
-use types.Run.{OneOf}
+use Rattle.prelude.specs.Kit.{ℕ, _+_, arith, true, false, Bool, _&&_, _||_, _≡_, refl, _∙_, ap, fun-ext, ⊎-elim, []}
+use Rattle.prelude.specs.Kit.{_∷_, _++_, eqb, ltb, tagOf, OneOf}
 use Rattle.semantics.specs.Basics.{with-if}
 use Rattle.semantics.specs.Kinds.{Loop, mapping, filtering, reducing, rewriting, loop-kind, loop-reads}
 use Rattle.semantics.specs.Code as C

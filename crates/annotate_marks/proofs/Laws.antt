@@ -1,15 +1,7 @@
 -- Laws of the rows of last uses in an array, and of the live set beside them.
-use mathlib.Core.Path.{_≡_, refl, sym, ap, _∙_, fun-ext}
-use mathlib.Core.Bool.{Bool, true, false, cond}
-use mathlib.Core.List.{List, _∷_}
-use Prim.Native.Nat.{ℕ, _+_, _-_, _<_, _≤_}
-use native.Mathlib.Omega.{arith}
-use native.Mathlib.Decide.{ℕ-discrete}
-use lib.Dec.{eqb}
-use lib.IntN.{ℤ}
-use lib.ListN.{length, getD, set, length-set}
-use lib.Seq.{getD-set-same, getD-set-other}
-use borrow.Author.Tests.{eq-eqb, ne-eqb, lt-ltb, le-ltb}
+use Rattle.prelude.specs.Kit.{ℕ, _≤_, _+_, _<_, _-_, arith, ℕ-discrete, true, false, Bool, cond, _≡_, refl, _∙_, sym}
+use Rattle.prelude.specs.Kit.{ap, fun-ext, List, _∷_, eqb, ℤ, length, getD, set, length-set, getD-set-other}
+use Rattle.prelude.specs.Kit.{getD-set-same, ne-eqb, lt-ltb, eq-eqb, le-ltb}
 use Rattle.semantics.specs.Basics.{updated}
 use Rattle.semantics.specs.Code as C
 use Rattle.semantics.specs.Live.{Set, is, _∪_, _∖_, among}

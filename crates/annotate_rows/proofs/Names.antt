@@ -1,13 +1,7 @@
 -- Laws of the names that are released and retained.
-use mathlib.Core.Path.{_≡_, refl, sym, ap, _∙_, fun-ext}
-use mathlib.Core.Bool.{Bool, true, false, not, _&&_, _||_}
-use mathlib.Core.List.{List, [], _∷_, _++_}
-use Prim.Native.Nat.{ℕ, zero, suc, _+_, _-_, _<_, _≤_}
-use native.Mathlib.Omega.{arith}
-use native.Mathlib.Decide.{ℕ-discrete}
-use lib.IntN.{ℤ}
-use lib.Dec.{ltb, eqb}
-use borrow.Author.Tests.{lt-ltb, le-ltb, eq-eqb, ne-eqb}
+use Rattle.prelude.specs.Kit.{ℕ, _≤_, _+_, _<_, _-_, suc, zero, arith, ℕ-discrete, true, false, Bool, _&&_, not, _||_}
+use Rattle.prelude.specs.Kit.{_≡_, refl, _∙_, sym, ap, fun-ext, List, [], _∷_, _++_, eqb, ltb, ℤ, ne-eqb, lt-ltb}
+use Rattle.prelude.specs.Kit.{eq-eqb, le-ltb}
 use Rattle.semantics.specs.Basics.{with-if}
 use Rattle.semantics.specs.Code.{number, name, Row, row}
 use Rattle.semantics.specs.Live.{Set, empty, only, _∪_, members-from, members}

@@ -1,11 +1,6 @@
 -- Laws of writing rows backwards.
-use mathlib.Core.Path.{_≡_, refl, sym, ap, _∙_}
-use mathlib.Core.List.{List, [], _∷_, _++_, map}
-use Prim.Native.Nat.{ℕ, suc, _+_, _-_, _<_, _≤_}
-use native.Mathlib.Omega.{arith}
-use lib.IntN.{ℤ}
-use lib.ListN.{length, set, length-append, length-set}
-use borrow.Author.Tests.{lt-ltb, le-ltb}
+use Rattle.prelude.specs.Kit.{ℕ, _≤_, _+_, _<_, _-_, suc, arith, _≡_, refl, _∙_, sym, ap, List, [], _∷_, _++_, map, ℤ}
+use Rattle.prelude.specs.Kit.{length, set, length-set, length-append, lt-ltb, le-ltb}
 use Rattle.semantics.specs.Code.{Row}
 use Rattle.annotate_rows.specs.Wrote.{before-place, backed, kinds-of, operands-of, Wrote, Room}
 

@@ -1,13 +1,6 @@
 -- Laws of the names used past a row, as they are read from the rows of last uses.
-use mathlib.Core.Path.{_≡_, sym, ap, _∙_, fun-ext}
-use mathlib.Core.Bool.{Bool, false, _&&_, _||_}
-use mathlib.Core.List.{List}
-use Prim.Native.Nat.{ℕ, _+_, _<_, _≤_}
-use native.Mathlib.Omega.{arith}
-use native.Mathlib.Decide.{decLt}
-use lib.Dec.{ltb}
-use lib.ListN.{length, getD, set}
-use borrow.Author.Tests.{lt-ltb, le-ltb}
+use Rattle.prelude.specs.Kit.{ℕ, _≤_, _+_, _<_, arith, decLt, false, Bool, _&&_, _||_, _≡_, _∙_, sym, ap, fun-ext, List}
+use Rattle.prelude.specs.Kit.{ltb, length, getD, set, lt-ltb, le-ltb}
 use Rattle.semantics.specs.Live.{Set, _∪_}
 use Rattle.plain_rows.specs.Plain.{set-of}
 use Rattle.plain_rows.specs.Marks.{Marks}

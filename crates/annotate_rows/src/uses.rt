@@ -2,7 +2,6 @@
 use crate::release_one;
 use kinds::Atom;
 ghost use mathlib.Core.Path.{_≡_};
-ghost use mathlib.Core.Bool.{_||_};
 ghost use Prim.Native.Nat.{_<_, _≤_};
 ghost use Rattle.semantics.specs.Live.{_∪_, _∖_, is};
 ghost use Rattle.semantics.specs.Annotate.{dying};

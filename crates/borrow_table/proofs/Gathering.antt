@@ -1,13 +1,7 @@
 -- Laws of the functions that are read one by one for the table of borrowed parameters.
-use Prim.Native.Nat.{ℕ, zero, suc, _+_, _<_, _≤_}
-use native.Mathlib.Omega.{arith}
-use native.Mathlib.Decide.{ℕ-discrete, decLt}
-use mathlib.Core.Path.{_≡_, refl, sym, ap, subst, _∙_}
-use mathlib.Core.Logic.{_≢_}
-use mathlib.Core.Bool.{Bool, true, false, not, _||_, or-false}
-use mathlib.Core.List.{List, [], _∷_}
-use lib.ListN.{length, getD, set, take, drop, replicate}
-use lib.Seq.{drop-cons, getD-set-same, getD-set-other}
+use Rattle.prelude.specs.Kit.{ℕ, _≤_, _+_, _<_, suc, zero, arith, decLt, ℕ-discrete, true, false, Bool, not, _||_}
+use Rattle.prelude.specs.Kit.{or-false, _≡_, refl, _∙_, sym, ap, subst, _≢_, List, [], _∷_, length, getD, set}
+use Rattle.prelude.specs.Kit.{replicate, take, drop, getD-set-other, getD-set-same, drop-cons}
 use Rattle.semantics.specs.Syntax.{Script, Function, function-at, no-function, size, function-size}
 use Rattle.semantics.specs.Normal.{atom, lines, normal, normal-body}
 use Rattle.semantics.specs.Borrow.{Table, borrows, spent}

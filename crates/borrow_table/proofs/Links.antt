@@ -1,12 +1,7 @@
 -- The links of a script's functions: how few they are, and whose they are.
-use mathlib.Core.Path.{_≡_, refl, sym, ap, subst, _∙_}
-use mathlib.Core.Bool.{Bool, true, false, not, _&&_, _||_, or-assoc}
-use mathlib.Core.List.{List, [], _∷_, _++_}
-use Prim.Native.Nat.{ℕ, zero, suc, _+_, _-_, _*_, _/_, _%_, _<_, _≤_}
-use native.Mathlib.Omega.{arith}
-use lib.Dec.{eqb}
-use lib.ListN.{getD, length}
-use borrow.Author.Tests.{ne-eqb}
+use Rattle.prelude.specs.Kit.{ℕ, _≤_, _+_, _<_, _-_, suc, zero, _*_, _%_, _/_, arith, true, false, Bool, _&&_, not}
+use Rattle.prelude.specs.Kit.{_||_, or-assoc, _≡_, refl, _∙_, sym, ap, subst, List, [], _∷_, _++_, eqb, length, getD}
+use Rattle.prelude.specs.Kit.{ne-eqb}
 use Rattle.semantics.specs.Basics.{with-if, updated}
 use Rattle.semantics.specs.Kinds.{Leaf, operation, call, literal, index, length-of, iota, replicate}
 use Rattle.semantics.specs.Borrow.{Table, borrows}

@@ -1,12 +1,6 @@
 -- The own rows of a line of plain code, without its trees': as many as its kind's atoms, and one.
-use mathlib.Core.Path.{_≡_, refl, ap}
-use mathlib.Core.Bool.{false}
-use mathlib.Core.List.{List}
-use Prim.Native.Nat.{ℕ, zero, suc, _+_, _/_, _%_}
-use native.Mathlib.Decide.{ℕ-discrete}
-use lib.Dec.{eqb}
-use lib.ListN.{getD, length}
-use borrow.Author.Tests.{ne-eqb}
+use Rattle.prelude.specs.Kit.{ℕ, _+_, suc, zero, _%_, _/_, ℕ-discrete, false, _≡_, refl, ap, List, eqb, length, getD}
+use Rattle.prelude.specs.Kit.{ne-eqb}
 use Rattle.semantics.specs.Code as C
 use Rattle.semantics.specs.Code.{Tree}
 use Rattle.plain_rows.specs.Plain.{Plain, atoms-at, line-at}

@@ -1,14 +1,8 @@
 -- Laws of reading a function's rows: what is known before each row, and what each kind of row makes of it.
-use mathlib.Core.Path.{_≡_, refl, sym, ap, _∙_}
-use mathlib.Core.Bool.{Bool, true, false, not, _&&_, _||_, and-false, or-true, or-false}
-use mathlib.Core.List.{List, [], _∷_, _++_, append-assoc, append-nil}
-use Prim.Native.Nat.{ℕ, zero, suc, _+_, _-_, _/_, _%_, _<_, _≤_}
-use native.Mathlib.Omega.{arith}
-use native.Mathlib.Decide.{ℕ-discrete}
-use lib.Dec.{eqb}
-use lib.ListN.{getD, length, set, take, replicate, length-set}
-use lib.Seq.{getD-set-same, getD-set-other}
-use borrow.Author.Tests.{eq-eqb, ne-eqb, lt-ltb, le-ltb}
+use Rattle.prelude.specs.Kit.{ℕ, _≤_, _+_, _<_, _-_, suc, zero, _%_, _/_, arith, ℕ-discrete, true, false, Bool, _&&_}
+use Rattle.prelude.specs.Kit.{not, _||_, and-false, or-false, or-true, _≡_, refl, _∙_, sym, ap, List, [], _∷_, _++_}
+use Rattle.prelude.specs.Kit.{append-assoc, append-nil, eqb, length, getD, set, length-set, replicate, take}
+use Rattle.prelude.specs.Kit.{getD-set-other, getD-set-same, ne-eqb, lt-ltb, eq-eqb, le-ltb}
 use Rattle.semantics.specs.Basics.{with-if}
 use Rattle.borrow_table.specs.Scan.{atoms-by, atoms-after, hands-by, hands, link-in, makes-link, hands-from}
 use Rattle.borrow_table.specs.Scan.{links-from, handed-over, links-in, Scanned}

@@ -1,11 +1,7 @@
 -- What the rounds leave is the table of borrowed parameters: the rounds took away nothing that a stable table has, and
 -- what they left is stable.
-use Prim.Native.Nat.{ℕ, zero, suc, _<_, _≤_}
-use native.Mathlib.Omega.{arith}
-use mathlib.Core.Path.{_≡_, refl, sym, _∙_}
-use mathlib.Core.Bool.{Bool, true, false, cond, not, _||_, false≢true}
-use mathlib.Core.List.{List}
-use lib.ListN.{length, replicate}
+use Rattle.prelude.specs.Kit.{ℕ, _≤_, _<_, suc, zero, arith, true, false, Bool, cond, not, false≢true, _||_, _≡_, refl}
+use Rattle.prelude.specs.Kit.{_∙_, sym, List, length, replicate}
 use Rattle.semantics.specs.Syntax.{Script}
 use Rattle.semantics.specs.Borrow.{Table, borrows, all-borrowed, same-table, reworked, worked-out, borrowed}
 use Rattle.script_read.proofs.Written.{total}

@@ -1,13 +1,7 @@
 -- What the rows of a function spend, by the table: first as they are read, then as the tree that stands in them.
-use mathlib.Core.Path.{_≡_, refl, sym, ap, _∙_}
-use mathlib.Core.Bool.{Bool, true, false, not, _&&_, _||_, and-false}
-use mathlib.Core.List.{List, _∷_}
-use Prim.Native.Nat.{ℕ, zero, suc, _+_, _-_, _*_, _/_, _%_, _<_}
-use native.Mathlib.Omega.{arith}
-use native.Mathlib.Decide.{ℕ-discrete, decLt}
-use lib.Dec.{eqb}
-use lib.ListN.{getD}
-use borrow.Author.Tests.{eq-eqb, ne-eqb, lt-ltb, le-ltb}
+use Rattle.prelude.specs.Kit.{ℕ, _+_, _<_, _-_, suc, zero, _*_, _%_, _/_, arith, decLt, ℕ-discrete, true, false, Bool}
+use Rattle.prelude.specs.Kit.{_&&_, not, _||_, and-false, _≡_, refl, _∙_, sym, ap, List, _∷_, eqb, getD, ne-eqb, lt-ltb}
+use Rattle.prelude.specs.Kit.{eq-eqb, le-ltb}
 use Rattle.semantics.specs.Basics.{with-if}
 use Rattle.semantics.specs.Kinds.{Borrowing}
 use Rattle.semantics.specs.Borrow.{Table, borrows}

@@ -1,13 +1,7 @@
 -- Where a tree stands in plain code, its rows spend what the tree spends.
-use mathlib.Core.Path.{_≡_, refl, sym, ap, subst, _∙_}
-use mathlib.Core.Bool.{Bool, true, false, cond, not, _&&_, _||_, or-false, or-assoc}
-use mathlib.Core.List.{List}
-use Prim.Native.Nat.{ℕ, zero, suc, _+_, _-_, _/_, _%_, _<_}
-use native.Mathlib.Omega.{arith}
-use native.Mathlib.Decide.{decLt}
-use lib.Dec.{eqb}
-use lib.ListN.{getD, length}
-use borrow.Author.Tests.{ne-eqb, lt-ltb, le-ltb}
+use Rattle.prelude.specs.Kit.{ℕ, _+_, _<_, _-_, suc, zero, _%_, _/_, arith, decLt, true, false, Bool, cond, _&&_, not}
+use Rattle.prelude.specs.Kit.{_||_, or-false, or-assoc, _≡_, refl, _∙_, sym, ap, subst, List, eqb, length, getD, ne-eqb}
+use Rattle.prelude.specs.Kit.{lt-ltb, le-ltb}
 use Rattle.semantics.specs.Basics.{with-if}
 use Rattle.semantics.specs.Kinds.{operation, index, replicate, Borrowing, picked, leaf-hands, loop-hands}
 use Rattle.semantics.specs.Borrow.{Table, borrows, spent, line-spent}

@@ -1,13 +1,6 @@
 -- Laws of tables of thirty-two rows of eight: entry by entry.
-use Prim.Native.Nat.{ℕ, _<_}
-use native.Mathlib.Omega.{arith}
-use native.Mathlib.Decide.{ℕ-discrete}
-use mathlib.Core.Path.{_≡_, sym, ap, _∙_}
-use mathlib.Core.Logic.{_≢_}
-use mathlib.Core.Bool.{Bool, false}
-use mathlib.Core.List.{List, []}
-use lib.ListN.{length, getD, set, length-set}
-use lib.Seq.{ext-getD, getD-set-same, getD-set-other}
+use Rattle.prelude.specs.Kit.{ℕ, _<_, arith, ℕ-discrete, false, Bool, _≡_, _∙_, sym, ap, _≢_, List, [], length, getD}
+use Rattle.prelude.specs.Kit.{set, length-set, getD-set-other, getD-set-same, ext-getD}
 use Rattle.semantics.specs.Borrow.{Table, borrows}
 use Rattle.soundness.specs.borrowing.Rounds.{Shaped}
 

@@ -1,14 +1,7 @@
 -- Laws of the rounds over the table of borrowed parameters: what a link takes away, and what a round leaves.
-use Prim.Native.Nat.{ℕ, zero, suc, _+_, _*_, _/_, _%_, _<_, _≤_}
-use native.Mathlib.Omega.{arith}
-use native.Mathlib.Decide.{ℕ-discrete, decLt}
-use mathlib.Core.Path.{_≡_, refl, sym, ap, subst, _∙_}
-use mathlib.Core.Bool.{Bool, true, false, false≢true, and-false}
-use mathlib.Core.List.{List, [], _∷_}
-use lib.Dec.{eqb, ltb}
-use lib.ListN.{length, getD, set, take}
-use lib.Seq.{length-take-le, getD-take}
-use borrow.Author.Tests.{eq-eqb, ne-eqb, lt-ltb}
+use Rattle.prelude.specs.Kit.{ℕ, _≤_, _+_, _<_, suc, zero, _*_, _%_, _/_, arith, decLt, ℕ-discrete, true, false, Bool}
+use Rattle.prelude.specs.Kit.{false≢true, and-false, _≡_, refl, _∙_, sym, ap, subst, List, [], _∷_, eqb, ltb, length}
+use Rattle.prelude.specs.Kit.{getD, set, take, length-take-le, getD-take, ne-eqb, lt-ltb, eq-eqb}
 use Rattle.laws.specs.Tests.{or-left, or-right}
 use Rattle.semantics.specs.Borrow.{Table, borrows}
 use Rattle.borrow_table.specs.Gathered.{passed}

@@ -1,12 +1,6 @@
 -- What a verdict on a file says, and one law for each way out of loading.
-use Prim.Native.Nat.{ℕ, _≤_}
-use native.Mathlib.Omega.{arith}
-use mathlib.Core.Bool.{Bool, true, false}
-use mathlib.Core.Path.{_≡_, refl, ap, _∙_}
-use mathlib.Core.Option.{Option, none, some}
-use mathlib.Core.List.{List, [], _∷_}
-use lib.IntN.{ℤ, pos}
-use lib.ListN.{length, replicate}
+use Rattle.prelude.specs.Kit.{ℕ, _≤_, arith, true, false, Bool, _≡_, refl, _∙_, ap, some, none, Option, List, [], _∷_}
+use Rattle.prelude.specs.Kit.{ℤ, pos, length, replicate}
 use Rattle.semantics.specs.Outcome.{Outcome, done, stop}
 use Rattle.semantics.specs.Number.{bytes-at}
 use Rattle.semantics.specs.Syntax.{Script, main-depth}

@@ -1,13 +1,7 @@
 -- The table of a loaded script is what the machine needs.
-use Prim.Native.Nat.{ℕ, zero, suc, _+_, _-_, _*_, _<_, _≤_}
-use native.Mathlib.Omega.{arith}
-use mathlib.Core.Bool.{Bool, true, false, cond}
-use mathlib.Core.Path.{_≡_, refl, sym, ap, subst, _∙_}
-use mathlib.Core.List.{List, [], _∷_, _++_, map}
-use lib.IntN.{ℤ, pos}
-use lib.ListN.{getD, length, drop, replicate, length-append, length-map, length-drop}
-use lib.Seq.{drop-cons}
-use borrow.Author.Tests.{leb-true}
+use Rattle.prelude.specs.Kit.{ℕ, _≤_, _+_, _<_, _-_, suc, zero, _*_, arith, true, false, Bool, cond, _≡_, refl, _∙_}
+use Rattle.prelude.specs.Kit.{sym, ap, subst, List, [], _∷_, _++_, map, ℤ, pos, length, getD, replicate, drop}
+use Rattle.prelude.specs.Kit.{length-append, length-map, length-drop, drop-cons, leb-true}
 use Rattle.semantics.specs.Outcome.{Outcome, done, stop}
 use Rattle.semantics.specs.Syntax.{Script}
 use Rattle.semantics.specs.File.{at-function, script}

@@ -1,14 +1,6 @@
 -- One law for each way out of the store's part of a restore.
-use Prim.Native.Nat.{ℕ, _≤_}
-use native.Mathlib.Omega.{arith}
-use mathlib.Core.Bool.{Bool, true, false, cond, _&&_}
-use mathlib.Core.Path.{_≡_, refl, sym, ap, _∙_, subst}
-use mathlib.Core.List.{List}
-use mathlib.Core.Option.{Option, none, some}
-use lib.IntN.{ℤ}
-use lib.ListN.{length, set, getD, length-set}
-use lib.Dec.{eqb, leb}
-use borrow.Author.Tests.{eqb-true, leb-true}
+use Rattle.prelude.specs.Kit.{ℕ, _≤_, arith, true, false, Bool, cond, _&&_, _≡_, refl, _∙_, sym, ap, subst, some, none}
+use Rattle.prelude.specs.Kit.{Option, List, eqb, leb, ℤ, length, getD, set, length-set, eqb-true, leb-true}
 use Rattle.semantics.specs.Outcome.{Outcome, done, stop, onward}
 use Rattle.semantics.specs.Value.{Value}
 use Rattle.semantics.specs.Store.{Store, zeroed, relinked, opened, with-totals, cells-taken}

@@ -1,10 +1,5 @@
 -- One law for each way out of the store's part of a save.
-use Prim.Native.Nat.{ℕ}
-use mathlib.Core.Bool.{Bool, true, false}
-use mathlib.Core.Path.{_≡_, sym, ap, _∙_}
-use mathlib.Core.List.{List}
-use lib.IntN.{ℤ}
-use lib.ListN.{length, replicate}
+use Rattle.prelude.specs.Kit.{ℕ, true, false, Bool, _≡_, _∙_, sym, ap, List, ℤ, length, replicate}
 use Rattle.semantics.specs.Store.{cells-taken}
 use Rattle.semantics.specs.Words.{store-of}
 use Rattle.semantics.specs.Sound.{sound-words}

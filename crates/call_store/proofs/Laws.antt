@@ -1,10 +1,5 @@
 -- One law for each way out of the store's part of a call.
-use Prim.Native.Nat.{ℕ, _^_, _%_, _<_}
-use native.Mathlib.Omega.{arith}
-use mathlib.Core.Bool.{true, false}
-use mathlib.Core.Path.{_≡_, refl}
-use mathlib.Core.List.{List}
-use lib.IntN.{ℤ}
+use Rattle.prelude.specs.Kit.{ℕ, _<_, _%_, _^_, arith, true, false, _≡_, refl, List, ℤ}
 use Rattle.semantics.specs.Store.{Store, opened, cells-taken}
 use Rattle.semantics.specs.Words.{cells-in, store-of, shaped}
 use Rattle.semantics.specs.Sound.{sound, sound-words}

@@ -1,13 +1,8 @@
 -- Laws of clearing an array from a place on.
-use mathlib.Core.Path.{_≡_, refl, sym, ap, _∙_}
-use mathlib.Core.List.{List, [], _∷_, _++_, append-nil}
-use Prim.Native.Nat.{ℕ, zero, suc, _+_, _-_, _<_, _≤_}
-use native.Mathlib.Omega.{arith}
-use native.Mathlib.Decide.{decLt}
-use native.Mathlib.Numerals.{add-one}
-use lib.ListN.{length, getD, set, take, drop, replicate, length-append, length-replicate, length-set, length-take}
-use lib.ListN.{List·getD-eq-default}
-use lib.Seq.{drop-cons, set-at, take-suc, append-snoc, take-all, drop-nil, length-take-le}
+use Rattle.prelude.specs.Kit.{ℕ, _≤_, _+_, _<_, _-_, suc, zero, arith, decLt, add-one, _≡_, refl, _∙_, sym, ap, List}
+use Rattle.prelude.specs.Kit.{[], _∷_, _++_, append-nil, length, getD, set, length-set, List·getD-eq-default, replicate}
+use Rattle.prelude.specs.Kit.{take, drop, length-append, length-take, length-replicate, drop-cons, length-take-le}
+use Rattle.prelude.specs.Kit.{append-snoc, take-all, set-at, take-suc, drop-nil}
 
 module _ {A : Type 0} where
   front-more : (p d : List A) (i : ℕ) (v : A) → length p ≡ i → i < length d →

@@ -1,11 +1,6 @@
 -- One law for each way out of a call.
-use Prim.Native.Nat.{ℕ, _^_, _%_, _<_, _≤_}
-use native.Mathlib.Omega.{arith}
-use mathlib.Core.Bool.{Bool, true, false, cond}
-use mathlib.Core.Path.{_≡_, refl, sym, ap, _∙_}
-use mathlib.Core.List.{List}
-use lib.IntN.{ℤ, pos}
-use lib.ListN.{length, replicate, take, length-take}
+use Rattle.prelude.specs.Kit.{ℕ, _≤_, _<_, _%_, _^_, arith, true, false, Bool, cond, _≡_, refl, _∙_, sym, ap, List, ℤ}
+use Rattle.prelude.specs.Kit.{pos, length, replicate, take, length-take, leb-true}
 use Rattle.semantics.specs.Syntax.{Script, main-depth}
 use Rattle.semantics.specs.Annotate.{code}
 use Rattle.semantics.specs.Store.{opened}
@@ -14,7 +9,6 @@ use Rattle.semantics.specs.Sound.{sound-words}
 use Rattle.semantics.specs.Calls.{Verdict, accepted, refused, packed, admitted, room, code-kinds, code-operands}
 use Rattle.semantics.specs.Calls.{StoreReply, translated, refusing, answering, open-for, check-for, judged}
 use Rattle.semantics.specs.Calls.{admitted-if, code-fits}
-use borrow.Author.Tests.{leb-true}
 use Rattle.semantics.specs.Calls.{engine-translate, request-fits, deliver-in, deliver-for}
 use Rattle.semantics.specs.Machine.{program, delivered}
 use Rattle.soundness.specs.annotation.Accepting.{main-shape-of}

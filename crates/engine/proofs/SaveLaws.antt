@@ -1,12 +1,6 @@
 -- The laws of restoring and saving, one for each way out of these calls.
-use Prim.Native.Nat.{ℕ}
-use native.Mathlib.Omega.{arith}
-use mathlib.Core.Bool.{Bool, true, false, cond}
-use mathlib.Core.Path.{_≡_, refl, sym, ap, _∙_}
-use mathlib.Core.List.{List}
-use mathlib.Core.Option.{Option, none, some}
-use lib.IntN.{ℤ, pos}
-use lib.ListN.{length, replicate}
+use Rattle.prelude.specs.Kit.{ℕ, arith, true, false, Bool, cond, _≡_, refl, _∙_, sym, ap, some, none, Option, List, ℤ}
+use Rattle.prelude.specs.Kit.{pos, length, replicate}
 use Rattle.semantics.specs.Outcome.{Outcome, done, stop}
 use Rattle.semantics.specs.Syntax.{Script, main-depth}
 use Rattle.semantics.specs.Value.{Value}

@@ -1,9 +1,5 @@
 -- A function that the reader accepts is the function at its node, and there is room for it.
-use mathlib.Core.Path.{_≡_, refl}
-use mathlib.Core.List.{List, [], _∷_}
-use Prim.Native.Nat.{ℕ, _+_, _≤_}
-use native.Mathlib.Omega.{arith}
-use lib.ListN.{length, getD}
+use Rattle.prelude.specs.Kit.{ℕ, _≤_, _+_, arith, _≡_, refl, List, [], _∷_, length, getD}
 use Rattle.semantics.specs.Syntax.{Parameter, Function, function-size}
 use Rattle.semantics.specs.File.{Place}
 use Rattle.semantics.specs.Normal.{fresh, normal-body}

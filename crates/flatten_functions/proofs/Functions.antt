@@ -1,15 +1,7 @@
 -- Laws of the functions of an accepted script.
-use mathlib.Core.Path.{_≡_, refl, sym, ap, subst, _∙_, fun-ext}
-use mathlib.Core.Bool.{Bool, true, false, cond}
-use mathlib.Core.List.{List, [], _∷_}
-use mathlib.Core.Option.{none, some}
-use Prim.Native.Nat.{ℕ, zero, suc, _+_, _-_, _<_, _≤_}
-use native.Mathlib.Omega.{arith}
-use native.Mathlib.Decide.{ℕ-discrete, decLt}
-use lib.Dec.{ltb}
-use lib.ListN.{length, getD, set, length-set, replicate}
-use lib.Seq.{getD-set-same, getD-set-other}
-use borrow.Author.Tests.{ltb-false}
+use Rattle.prelude.specs.Kit.{ℕ, _≤_, _+_, _<_, _-_, suc, zero, arith, decLt, ℕ-discrete, true, false, Bool, cond, _≡_}
+use Rattle.prelude.specs.Kit.{refl, _∙_, sym, ap, subst, fun-ext, some, none, List, [], _∷_, ltb, length, getD, set}
+use Rattle.prelude.specs.Kit.{length-set, replicate, getD-set-other, getD-set-same, ltb-false}
 use Rattle.semantics.specs.Syntax.{Function, Script, function-at, no-function, function-size}
 use Rattle.semantics.specs.File.{at-function}
 use Rattle.semantics.specs.Normal.{fresh, too-many-names-from, normal-body}

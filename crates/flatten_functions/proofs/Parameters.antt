@@ -1,11 +1,6 @@
 -- Laws of the parameters: bound and written from the last to the first.
-use mathlib.Core.Path.{_≡_, refl, ap, _∙_, fun-ext}
-use mathlib.Core.Bool.{true}
-use mathlib.Core.List.{List, [], _∷_}
-use Prim.Native.Nat.{ℕ, zero, suc, _+_, _-_, _<_, _≤_}
-use native.Mathlib.Omega.{arith}
-use lib.ListN.{length, getD, set, length-set}
-use borrow.Author.Tests.{eqb-true}
+use Rattle.prelude.specs.Kit.{ℕ, _≤_, _+_, _<_, _-_, suc, zero, arith, true, _≡_, refl, _∙_, ap, fun-ext, List, [], _∷_}
+use Rattle.prelude.specs.Kit.{length, getD, set, length-set, eqb-true}
 use Rattle.semantics.specs.Basics.{updated}
 use Rattle.semantics.specs.Syntax.{Parameter}
 use Rattle.semantics.specs.Code as C

@@ -1,13 +1,6 @@
 -- The tree of a function without fault is shallow: what the check of types finds keeps every depth at 4 or less.
-use Prim.Native.Nat.{ℕ, zero, suc, _+_, _≤_}
-use native.Mathlib.Omega.{arith}
-use mathlib.Core.Path.{_≡_, refl, sym, ap, _∙_, subst}
-use mathlib.Core.Bool.{false, _&&_}
-use mathlib.Core.List.{List, [], _∷_, _++_, map}
-use mathlib.Core.Option.{some}
-use lib.Dec.{eqb, leb}
-use lib.ListN.{length, getD}
-use borrow.Author.Tests.{leb-true, eqb-true}
+use Rattle.prelude.specs.Kit.{ℕ, _≤_, _+_, suc, zero, arith, false, _&&_, _≡_, refl, _∙_, sym, ap, subst, some, List}
+use Rattle.prelude.specs.Kit.{[], _∷_, _++_, map, eqb, leb, length, getD, eqb-true, leb-true}
 use Rattle.laws.specs.Routines.{length-routines}
 use Rattle.laws.specs.Endings.{ending-lines}
 use Rattle.laws.specs.Tests.{both-hold, not-some, some-if-holds}

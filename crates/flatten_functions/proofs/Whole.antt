@@ -1,9 +1,5 @@
 -- The tree of one function that is laid: all its parts together.
-use mathlib.Core.Path.{_≡_, refl, sym, ap, _∙_, fun-ext}
-use mathlib.Core.List.{List}
-use Prim.Native.Nat.{ℕ, _+_, _-_, _≤_}
-use native.Mathlib.Omega.{arith}
-use lib.ListN.{length, getD, replicate}
+use Rattle.prelude.specs.Kit.{ℕ, _≤_, _+_, _-_, arith, _≡_, refl, _∙_, sym, ap, fun-ext, List, length, getD, replicate}
 use Rattle.semantics.specs.Syntax.{Function, size}
 use Rattle.semantics.specs.File.{at-function}
 use Rattle.semantics.specs.Code.{Tree, end, rows}

@@ -1,8 +1,5 @@
 -- Laws of rows laid before a tree: none, a line, and some after others.
-use mathlib.Core.Path.{_≡_, refl, sym, ap, subst, _∙_, fun-ext}
-use mathlib.Core.List.{List}
-use Prim.Native.Nat.{ℕ, _+_, _<_, _≤_}
-use native.Mathlib.Omega.{arith}
+use Rattle.prelude.specs.Kit.{ℕ, _≤_, _+_, _<_, arith, _≡_, refl, _∙_, sym, ap, subst, fun-ext, List}
 use Rattle.semantics.specs.Code as C
 use Rattle.semantics.specs.Code.{Tree, line}
 use Rattle.semantics.specs.Annotate.{NameDepths, tree-depths, line-depths}

@@ -1,10 +1,6 @@
 -- Laws of a leaf and a loop in the descent: the room for their parts, and what is made of them.
-use mathlib.Core.Path.{_≡_, refl, sym, ap, subst, _∙_}
-use mathlib.Core.Bool.{Bool, true, false}
-use mathlib.Core.List.{List}
-use Prim.Native.Nat.{ℕ, _+_, _<_, _≤_}
-use native.Mathlib.Omega.{arith}
-use lib.ListN.{length, getD, set}
+use Rattle.prelude.specs.Kit.{ℕ, _≤_, _+_, _<_, arith, true, false, Bool, _≡_, refl, _∙_, sym, ap, subst, List, length}
+use Rattle.prelude.specs.Kit.{getD, set}
 use Rattle.semantics.specs.Kinds.{Leaf, Loop}
 use Rattle.semantics.specs.Syntax.{Expr, Exprs, leaf, loop, size, sizes}
 use Rattle.semantics.specs.Code as C

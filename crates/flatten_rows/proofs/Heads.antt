@@ -1,9 +1,5 @@
 -- The head of an if, read back from the rows that were laid.
-use mathlib.Core.Path.{_≡_, refl, ap, subst, _∙_}
-use mathlib.Core.List.{List, [], _∷_}
-use Prim.Native.Nat.{ℕ, _+_, _-_, _≤_}
-use native.Mathlib.Omega.{arith}
-use lib.ListN.{getD}
+use Rattle.prelude.specs.Kit.{ℕ, _≤_, _+_, _-_, arith, _≡_, refl, _∙_, ap, subst, List, [], _∷_, getD}
 use Rattle.semantics.specs.Syntax.{Expr}
 use Rattle.semantics.specs.Code as C
 use Rattle.semantics.specs.Normal.{Meanings, atom}

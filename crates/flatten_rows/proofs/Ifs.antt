@@ -1,8 +1,5 @@
 -- Laws of laying an if.
-use mathlib.Core.Path.{_≡_, refl, sym, ap, _∙_}
-use mathlib.Core.List.{List, [], _∷_}
-use Prim.Native.Nat.{ℕ, _+_, _-_, _≤_}
-use native.Mathlib.Omega.{arith}
+use Rattle.prelude.specs.Kit.{ℕ, _≤_, _+_, _-_, arith, _≡_, refl, _∙_, sym, ap, List, [], _∷_}
 use Rattle.semantics.specs.Syntax as S
 use Rattle.semantics.specs.Syntax.{Expr}
 use Rattle.semantics.specs.Code as C

@@ -1,13 +1,7 @@
 -- Laws of laying rows and noting uses, one for each way of the code, and of what stands where after it.
-use mathlib.Core.Path.{_≡_, refl, ap, _∙_}
-use mathlib.Core.Bool.{Bool, true, false, cond}
-use mathlib.Core.List.{List, [], _∷_}
-use Prim.Native.Nat.{ℕ, zero, suc, pred, _+_, _-_, _<_, _≤_}
-use native.Mathlib.Omega.{arith}
-use lib.ListN.{length, getD, set, length-set}
-use lib.Seq.{getD-set-same, getD-set-other}
-use lib.Dec.{eqb}
-use borrow.Author.Tests.{lt-ltb, le-ltb, ne-eqb}
+use Rattle.prelude.specs.Kit.{ℕ, _≤_, _+_, _<_, _-_, suc, zero, pred, arith, true, false, Bool, cond, _≡_, refl, _∙_}
+use Rattle.prelude.specs.Kit.{ap, List, [], _∷_, eqb, length, getD, set, length-set, getD-set-other, getD-set-same}
+use Rattle.prelude.specs.Kit.{ne-eqb, lt-ltb, le-ltb}
 use Rattle.semantics.specs.Kinds.{Loop, mapping, filtering, reducing, rewriting}
 use Rattle.script_read.proofs.Limits.{NoneOf}
 use Rattle.plain_rows.specs.Plain.{loop-of, loop-size}

@@ -1,13 +1,6 @@
 -- The line of a leaf, read back, and the depth of the name that it binds.
-use mathlib.Core.Path.{_≡_, refl, sym, ap}
-use mathlib.Core.Bool.{false}
-use mathlib.Core.Logic.{⊎-elim}
-use mathlib.Core.List.{List, [], _∷_}
-use Prim.Native.Nat.{ℕ, suc, pred, _+_, _<_, _≤_}
-use native.Mathlib.Omega.{arith}
-use lib.Dec.{eqb}
-use lib.ListN.{getD}
-use borrow.Author.Tests.{ne-eqb}
+use Rattle.prelude.specs.Kit.{ℕ, _≤_, _+_, _<_, suc, pred, arith, false, _≡_, refl, sym, ap, ⊎-elim, List, [], _∷_, eqb}
+use Rattle.prelude.specs.Kit.{getD, ne-eqb}
 use Rattle.semantics.specs.Kinds.{Leaf, operation, index, replicate}
 use Rattle.semantics.specs.Code as C
 use Rattle.semantics.specs.Code.{Tree}

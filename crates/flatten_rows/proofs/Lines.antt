@@ -1,9 +1,5 @@
 -- Laws of a leaf's line over the atoms of its parts.
-use mathlib.Core.Path.{_≡_, refl, sym, ap, subst, _∙_}
-use mathlib.Core.List.{List}
-use Prim.Native.Nat.{ℕ, _+_, _≤_}
-use native.Mathlib.Omega.{arith}
-use lib.ListN.{length, getD, set}
+use Rattle.prelude.specs.Kit.{ℕ, _≤_, _+_, arith, _≡_, refl, _∙_, sym, ap, subst, List, length, getD, set}
 use Rattle.semantics.specs.Syntax.{Expr, leaf, sizes}
 use Rattle.semantics.specs.Code as C
 use Rattle.semantics.specs.Code.{end}

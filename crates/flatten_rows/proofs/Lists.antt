@@ -1,10 +1,7 @@
 -- Laws of the parts of a leaf or a loop, which are laid one after the other, and of a leaf's line over their atoms.
-use mathlib.Core.Path.{_≡_, refl, sym, ap, subst, _∙_}
-use mathlib.Core.List.{List, [], _∷_, _++_, append-assoc, append-nil}
-use Prim.Native.Nat.{ℕ, zero, suc, _+_, _-_, _<_, _≤_}
-use native.Mathlib.Omega.{arith}
-use lib.ListN.{length, getD, set, length-set}
-use lib.Seq.{getD-set-same, getD-set-other}
+use Rattle.prelude.specs.Kit.{ℕ, _≤_, _+_, _<_, _-_, suc, zero, arith, _≡_, refl, _∙_, sym, ap, subst, List, [], _∷_}
+use Rattle.prelude.specs.Kit.{_++_, append-assoc, append-nil, length, getD, set, length-set, getD-set-other}
+use Rattle.prelude.specs.Kit.{getD-set-same}
 use Rattle.semantics.specs.Syntax.{Expr, size, sizes}
 use Rattle.semantics.specs.Code as C
 use Rattle.semantics.specs.Code.{Tree}

@@ -1,12 +1,6 @@
 -- Laws of a loop's line over the atoms of its parts and its tree.
-use mathlib.Core.Path.{_≡_, refl, sym, ap, subst, _∙_}
-use mathlib.Core.Bool.{Bool, true, false, _||_, false≢true}
-use mathlib.Core.List.{List}
-use Prim.Native.Nat.{ℕ, suc, pred, _+_, _-_, _<_, _≤_}
-use native.Mathlib.Omega.{arith}
-use lib.Dec.{eqb}
-use lib.ListN.{length, getD, set, length-set}
-use borrow.Author.Tests.{eqb-true}
+use Rattle.prelude.specs.Kit.{ℕ, _≤_, _+_, _<_, _-_, suc, pred, arith, true, false, Bool, false≢true, _||_, _≡_, refl}
+use Rattle.prelude.specs.Kit.{_∙_, sym, ap, subst, List, eqb, length, getD, set, length-set, eqb-true}
 use Rattle.semantics.specs.Kinds.{Loop, mapping, filtering, reducing, rewriting}
 use Rattle.semantics.specs.Syntax.{Expr}
 use Rattle.semantics.specs.Code as C

@@ -1,15 +1,7 @@
 -- Laws of the descent, one for each of its functions: the room for each part, and what is made of all of them.
-use mathlib.Core.Path.{_≡_, refl, sym, ap, subst, _∙_, fun-ext}
-use mathlib.Core.Bool.{cond}
-use mathlib.Core.List.{List, [], _∷_}
-use Prim.Native.Nat.{ℕ, _+_, _<_, _≤_}
-use native.Mathlib.Omega.{arith}
-use native.Mathlib.Decide.{ℕ-discrete}
-use lib.IntN.{ℤ}
-use lib.Dec.{eqb}
-use lib.ListN.{length, getD, set, length-set}
-use lib.Seq.{getD-set-same, getD-set-other}
-use borrow.Author.Tests.{eq-eqb, ne-eqb}
+use Rattle.prelude.specs.Kit.{ℕ, _≤_, _+_, _<_, arith, ℕ-discrete, cond, _≡_, refl, _∙_, sym, ap, subst, fun-ext, List}
+use Rattle.prelude.specs.Kit.{[], _∷_, eqb, ℤ, length, getD, set, length-set, getD-set-other, getD-set-same, ne-eqb}
+use Rattle.prelude.specs.Kit.{eq-eqb}
 use Rattle.semantics.specs.Basics.{updated}
 use Rattle.semantics.specs.Syntax as S
 use Rattle.semantics.specs.Syntax.{Expr, size}

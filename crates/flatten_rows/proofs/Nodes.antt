@@ -1,13 +1,6 @@
 -- Laws of the tree at a node: one for each kind of node that the code tells apart.
-use mathlib.Core.Path.{_≡_, refl, sym, ap, _∙_}
-use mathlib.Core.Bool.{true, false, false≢true}
-use mathlib.Core.Logic.{_⊎_, inl, inr, ⊎-elim}
-use mathlib.Core.List.{List, [], _∷_}
-use Prim.Native.Nat.{ℕ, suc, _+_, _-_, _*_, _<_, _≤_}
-use native.Mathlib.Omega.{arith}
-use lib.IntN.{ℤ, pos}
-use lib.ListN.{length, getD}
-use borrow.Author.Tests.{le-ltb, le-leb, lt-leb}
+use Rattle.prelude.specs.Kit.{ℕ, _≤_, _+_, _<_, _-_, suc, _*_, arith, true, false, false≢true, _≡_, refl, _∙_, sym, ap}
+use Rattle.prelude.specs.Kit.{inl, inr, _⊎_, ⊎-elim, List, [], _∷_, ℤ, pos, length, getD, le-ltb, le-leb, lt-leb}
 use Rattle.semantics.specs.Number.{Operation, sum, difference, less, signed, bytes-at}
 use Rattle.semantics.specs.Kinds.{Leaf, operation, call, literal, index, length-of, iota, replicate, leaf-kind}
 use Rattle.semantics.specs.Kinds.{Loop, mapping, filtering, reducing, rewriting, loop-kind}

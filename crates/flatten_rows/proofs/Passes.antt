@@ -1,13 +1,6 @@
 -- Laws of a loop's tree in the descent: what the names of a pass mean there, the room for it, and what is laid with it.
-use mathlib.Core.Path.{_≡_, refl, ap, _∙_}
-use mathlib.Core.Bool.{true}
-use mathlib.Core.List.{List}
-use Prim.Native.Nat.{ℕ, suc, _+_, _<_, _≤_}
-use native.Mathlib.Omega.{arith}
-use native.Mathlib.Decide.{ℕ-discrete}
-use lib.ListN.{length, getD, set, length-set}
-use lib.Seq.{set-set}
-use borrow.Author.Tests.{ne-eqb}
+use Rattle.prelude.specs.Kit.{ℕ, _≤_, _+_, _<_, suc, arith, ℕ-discrete, true, _≡_, refl, _∙_, ap, List, length, getD}
+use Rattle.prelude.specs.Kit.{set, length-set, set-set, ne-eqb}
 use Rattle.semantics.specs.Basics.{updated}
 use Rattle.semantics.specs.Syntax.{Expr}
 use Rattle.semantics.specs.Code as C

@@ -1,13 +1,6 @@
 -- Laws of rows and notes that stay, of what was laid and is read back, and of sizes.
-use mathlib.Core.Path.{_≡_, refl, ap, _∙_}
-use mathlib.Core.Bool.{false}
-use mathlib.Core.List.{List, _∷_}
-use Prim.Native.Nat.{ℕ, suc, _+_, _/_, _%_, _<_, _≤_}
-use native.Mathlib.Omega.{arith}
-use lib.Dec.{eqb}
-use lib.ListN.{length, getD, set, length-set}
-use lib.Seq.{getD-set-same, getD-set-other}
-use borrow.Author.Tests.{ne-eqb}
+use Rattle.prelude.specs.Kit.{ℕ, _≤_, _+_, _<_, suc, _%_, _/_, arith, false, _≡_, refl, _∙_, ap, List, _∷_, eqb, length}
+use Rattle.prelude.specs.Kit.{getD, set, length-set, getD-set-other, getD-set-same, ne-eqb}
 use Rattle.plain_rows.specs.Plain.{Plain, placed, packed-row, line-of, line-at, note}
 use Rattle.plain_rows.specs.Marks.{marks-of, marked-all}
 use Rattle.plain_rows.specs.Stands.{LinkedAll}

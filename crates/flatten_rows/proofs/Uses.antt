@@ -1,14 +1,7 @@
 -- Laws of uses: the rows of last uses, and the links that the notes at names' rows make.
-use mathlib.Core.Path.{_≡_, refl, sym, ap, subst, _∙_, fun-ext}
-use mathlib.Core.Bool.{Bool, true, false, cond}
-use mathlib.Core.List.{List, [], _∷_}
-use Prim.Native.Nat.{ℕ, _+_, _<_, _≤_}
-use native.Mathlib.Omega.{arith}
-use native.Mathlib.Decide.{ℕ-discrete, decLt}
-use lib.Dec.{ltb, eqb}
-use lib.ListN.{length, getD, set, length-set}
-use lib.Seq.{getD-set-same, getD-set-other}
-use borrow.Author.Tests.{lt-ltb, le-ltb, eq-eqb, ne-eqb}
+use Rattle.prelude.specs.Kit.{ℕ, _≤_, _+_, _<_, arith, decLt, ℕ-discrete, true, false, Bool, cond, _≡_, refl, _∙_, sym}
+use Rattle.prelude.specs.Kit.{ap, subst, fun-ext, List, [], _∷_, eqb, ltb, length, getD, set, length-set}
+use Rattle.prelude.specs.Kit.{getD-set-other, getD-set-same, ne-eqb, lt-ltb, eq-eqb, le-ltb}
 use Rattle.semantics.specs.Basics.{updated}
 use Rattle.plain_rows.specs.Plain.{Plain, meant, placed, note}
 use Rattle.plain_rows.specs.Marks.{marks-of, marked, marked-all}

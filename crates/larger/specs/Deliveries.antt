@@ -1,16 +1,7 @@
 -- One delivery on a store and on its extension, with a larger budget: the same number and steps, and the stores after
 -- it are so again.
-use Prim.Native.Nat.{ℕ, _+_, _-_, _≤_}
-use native.Mathlib.Omega.{arith}
-use mathlib.Core.Bool.{Bool, true, false, _&&_}
-use mathlib.Core.Option.{Option, none, some}
-use mathlib.Core.Path.{_≡_, refl, sym, ap, _∙_, subst}
-use mathlib.Core.Logic.{_≢_}
-use mathlib.Core.List.{List}
-use lib.IntN.{ℤ}
-use lib.ListN.{length}
-use lib.Dec.{leb}
-use borrow.Author.Tests.{le-leb}
+use Rattle.prelude.specs.Kit.{ℕ, _≤_, _+_, _-_, arith, true, false, Bool, _&&_, _≡_, refl, _∙_, sym, ap, subst, _≢_}
+use Rattle.prelude.specs.Kit.{some, none, Option, List, leb, ℤ, length, le-leb}
 use Rattle.semantics.specs.Outcome.{Outcome, done, stop}
 use Rattle.semantics.specs.Syntax.{Script}
 use Rattle.semantics.specs.Value.{Value}

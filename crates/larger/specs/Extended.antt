@@ -1,17 +1,9 @@
 -- A store with further cells at the end of its free list. The number that marks the end of the smaller list is that of
 -- the first further cell, so that both stores have the same words, and keep them under every operation, until the
 -- smaller one has no cell left.
-use Prim.Native.Nat.{ℕ, zero, suc, _+_, _-_, _<_, _≤_}
-use native.Mathlib.Omega.{arith}
-use native.Mathlib.Decide.{decLt}
-use mathlib.Core.Bool.{Bool, true, false, cond}
-use mathlib.Core.Path.{_≡_, refl, sym, ap, _∙_, subst}
-use mathlib.Core.List.{List, [], _∷_, _++_}
-use lib.IntN.{ℤ}
-use lib.ListN.{length, getD, set, length-append, length-set, List·getD-append}
-use lib.Seq.{getD-append-add, set-append-left, set-out}
-use lib.Dec.{ltb}
-use borrow.Author.Tests.{ltb-true, lt-ltb, le-ltb}
+use Rattle.prelude.specs.Kit.{ℕ, _≤_, _+_, _<_, _-_, suc, zero, arith, decLt, true, false, Bool, cond, _≡_, refl, _∙_}
+use Rattle.prelude.specs.Kit.{sym, ap, subst, List, [], _∷_, _++_, ltb, ℤ, length, getD, set, length-set, length-append}
+use Rattle.prelude.specs.Kit.{List·getD-append, set-out, getD-append-add, set-append-left, lt-ltb, le-ltb, ltb-true}
 use Rattle.semantics.specs.Basics.{occurrences, each}
 use Rattle.semantics.specs.Store.{Cell, Store, cell, cell-count, clear, elements, inner, with-cell, with-first}
 use Rattle.semantics.specs.Store.{with-totals, with-count, one-more, retained, filled, has-free, acquired, wider}

@@ -1,10 +1,5 @@
 -- Histories of the definitions' calls: the same deliveries worked on two stores, and what they tell.
-use Prim.Native.Nat.{ℕ, _≤_}
-use native.Mathlib.Omega.{arith}
-use mathlib.Core.Path.{_≡_, refl, sym, _∙_, subst}
-use mathlib.Core.Logic.{inl, inr}
-use mathlib.Core.List.{List, [], _∷_}
-use lib.IntN.{ℤ}
+use Rattle.prelude.specs.Kit.{ℕ, _≤_, arith, _≡_, refl, _∙_, sym, subst, inl, inr, List, [], _∷_, ℤ}
 use Rattle.semantics.specs.Basics.{occurrences}
 use Rattle.semantics.specs.Syntax.{Script}
 use Rattle.semantics.specs.Words.{cells-in}

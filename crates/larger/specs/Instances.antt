@@ -1,10 +1,5 @@
 -- Order 9 at two scripts, on stores of 2 and of 5 cells with budgets of 50 and of 1,000: the theorem and computed rows.
-use native.Mathlib.Omega.{arith}
-use mathlib.Core.Path.{_≡_, refl}
-use mathlib.Core.List.{List, [], _∷_}
-use lib.IntN.{ℤ, pos}
-use lib.ListN.{replicate}
-use Prim.Native.Nat.{ℕ}
+use Rattle.prelude.specs.Kit.{ℕ, arith, _≡_, refl, List, [], _∷_, ℤ, pos, replicate}
 use Rattle.semantics.specs.Value.{numbers}
 use Rattle.semantics.specs.Larger.{Twice}
 use Rattle.semantics.specs.Computing.{computing}

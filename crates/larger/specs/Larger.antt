@@ -1,11 +1,7 @@
 -- Order 9 of document 02: over every list of deliveries from two openings, the larger store and the larger budgets tell
 -- the same story, while the smaller store never answers 25 and its budgets never 21.
-use Prim.Native.Nat.{ℕ, _+_, _-_, _≤_}
-use native.Mathlib.Omega.{arith}
-use mathlib.Core.Bool.{Bool, true, false}
-use mathlib.Core.Path.{_≡_, refl, sym, ap, _∙_, subst}
-use mathlib.Core.List.{List, [], _∷_}
-use lib.IntN.{ℤ}
+use Rattle.prelude.specs.Kit.{ℕ, _≤_, _+_, _-_, arith, true, false, Bool, _≡_, refl, _∙_, sym, ap, subst, List, [], _∷_}
+use Rattle.prelude.specs.Kit.{ℤ}
 use Rattle.semantics.specs.Syntax.{Script, main-depth}
 use Rattle.semantics.specs.Value.{Value, first-totals}
 use Rattle.semantics.specs.Store.{Store, opened}

@@ -1,13 +1,7 @@
 -- Two runs of the same work, of which the second has further cells and further steps: they do the same, unless the
 -- first is out of cells or of steps, or the second touches a free cell.
-use Prim.Native.Nat.{ℕ, zero, suc, _+_}
-use native.Mathlib.Omega.{arith}
-use mathlib.Core.Bool.{Bool, true, false, cond}
-use mathlib.Core.Path.{_≡_, refl, sym, ap, subst}
-use mathlib.Core.List.{List, [], _∷_, _++_}
-use lib.IntN.{ℤ, pos}
-use lib.ListN.{length}
-use lib.Dec.{eqb}
+use Rattle.prelude.specs.Kit.{ℕ, _+_, suc, zero, arith, true, false, Bool, cond, _≡_, refl, sym, ap, subst, List, []}
+use Rattle.prelude.specs.Kit.{_∷_, _++_, eqb, ℤ, pos, length}
 use Rattle.semantics.specs.Outcome.{Outcome, done, stop, onward, give, halt, require, passes}
 use Rattle.semantics.specs.Store.{Store, cell, cell-of, elements, with-totals, has-free, acquired, retained, released}
 use Rattle.semantics.specs.Store.{appended, overwritten, deepest}

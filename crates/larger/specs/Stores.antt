@@ -1,12 +1,6 @@
 -- Stores between deliveries, and their extensions: opened, relinked, and the value of the totals.
-use Prim.Native.Nat.{ℕ, zero, suc, _+_, _≤_}
-use native.Mathlib.Omega.{arith}
-use mathlib.Core.Bool.{true}
-use mathlib.Core.Path.{_≡_, refl, sym, ap, _∙_, fun-ext}
-use mathlib.Core.List.{List, [], _∷_, _++_, map}
-use lib.IntN.{ℤ, pos}
-use lib.ListN.{length, replicate}
-use borrow.Author.Tests.{lt-ltb}
+use Rattle.prelude.specs.Kit.{ℕ, _≤_, _+_, suc, zero, arith, true, _≡_, refl, _∙_, sym, ap, fun-ext, List, [], _∷_}
+use Rattle.prelude.specs.Kit.{_++_, map, ℤ, pos, length, replicate, lt-ltb}
 use Rattle.semantics.specs.Value.{Value, list}
 use Rattle.semantics.specs.Store.{Cell, Store, cell, cell-of, cell-count, clear, elements, has-free, Linked, link}
 use Rattle.semantics.specs.Store.{linked, relinked, zeroed, with-empty-totals, opened}

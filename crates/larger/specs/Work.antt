@@ -1,10 +1,6 @@
 -- All work of the machine ends the same with further cells and steps: leaves, loops, trees, calls, the delivery.
-use Prim.Native.Nat.{ℕ, zero, suc}
-use mathlib.Core.Path.{sym, subst}
-use mathlib.Core.List.{List, [], _∷_, map}
-use lib.IntN.{ℤ, pos, natAbs}
+use Rattle.prelude.specs.Kit.{ℕ, suc, zero, sym, subst, List, [], _∷_, map, ℤ, pos, natAbs, length, getD}
 use lib.ListN as List
-use lib.ListN.{length, getD}
 use Rattle.semantics.specs.Outcome.{done, _>>=_, _>>_}
 use Rattle.semantics.specs.Basics.{tabulate, updated}
 use Rattle.semantics.specs.Number.{exact, fits, inside, is-zero, is-answer}

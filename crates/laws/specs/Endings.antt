@@ -1,6 +1,5 @@
 -- The lines of an expression end as what comes after them ends.
-use Prim.Native.Nat.{ℕ, _+_}
-use mathlib.Core.Path.{_≡_, refl, _∙_}
+use Rattle.prelude.specs.Kit.{ℕ, _+_, _≡_, refl, _∙_}
 use Rattle.semantics.specs.Basics.{updated}
 use Rattle.semantics.specs.Syntax as S
 use Rattle.semantics.specs.Syntax.{Expr, Exprs}

@@ -1,11 +1,6 @@
 -- What holds of all that a file may read as, and that a file is accepted as one script.
-use Prim.Native.Nat.{ℕ, _+_, _*_, _≤_}
-use mathlib.Core.Bool.{Bool, true, false, cond, _&&_}
-use mathlib.Core.Path.{_≡_, refl}
-use mathlib.Core.List.{List}
-use lib.ListN.{length, take, drop}
-use lib.Dec.{ltb, leb, eqb}
-use borrow.Author.Tests.{leb-true}
+use Rattle.prelude.specs.Kit.{ℕ, _≤_, _+_, _*_, true, false, Bool, cond, _&&_, _≡_, refl, List, eqb, ltb, leb, length}
+use Rattle.prelude.specs.Kit.{take, drop, leb-true}
 use Rattle.semantics.specs.Outcome.{Outcome, stop}
 use Rattle.semantics.specs.Number.{bytes-at}
 use Rattle.semantics.specs.Syntax.{Script}

@@ -1,11 +1,6 @@
 -- How many cells are in use, how many the free list has, and laws of levels: how many cells are free over a log.
-use Prim.Native.Nat.{ℕ, zero, suc, _+_, _-_, _≤_, _<_, min}
-use native.Mathlib.Omega.{arith}
-use mathlib.Core.Bool.{Bool, true, false}
-use mathlib.Core.Path.{_≡_, refl}
-use mathlib.Core.List.{List, [], _∷_, _++_}
-use lib.Dec.{ltb}
-use lib.ListN.{length, getD, set}
+use Rattle.prelude.specs.Kit.{ℕ, _≤_, _+_, _<_, _-_, suc, zero, min, arith, true, false, Bool, _≡_, refl, List, [], _∷_}
+use Rattle.prelude.specs.Kit.{_++_, ltb, length, getD, set}
 use Rattle.semantics.specs.Basics.{with-if, occurrences, each}
 use Rattle.semantics.specs.Sound.{free-from, free-list}
 use Rattle.semantics.specs.Store.{Cell, Store, cell, cell-count, inner, clear, with-cell, with-count, with-first, freed}

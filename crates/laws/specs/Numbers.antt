@@ -1,13 +1,6 @@
 -- Words as numbers: one that is not negative, and one whose bits are 0.
-use Prim.Native.Nat.{zero, suc, _^_, _<_}
-use native.Mathlib.Omega.{arith}
-use mathlib.Core.Path.{_≡_, refl}
-use mathlib.Core.Bool.{true, false, true≢false}
-use lib.IntN.{ℤ, pos, negsuc, natAbs}
-use lib.Dec.{T}
-use lib.Signed.{mag, ltZ, nonNeg}
-use mir.Syntax.{w64}
-use mir.Val.{Fits, ofZ}
+use Rattle.prelude.specs.Kit.{_<_, suc, zero, _^_, arith, true, false, true≢false, _≡_, refl, T, ℤ, pos, negsuc, natAbs}
+use Rattle.prelude.specs.Kit.{ltZ, mag, nonNeg, w64, ofZ, Fits}
 use Rattle.semantics.specs.Number.{is-zero}
 
 pub not-negative : (z : ℤ) → mag z < 2 ^ 63 → ltZ z (pos 0) ≡ false → T (nonNeg z) × Fits w64 (natAbs z)

@@ -1,6 +1,5 @@
 -- A release by the count of its cell, and a count that was written.
-use mathlib.Core.Path.{_≡_, refl, ap}
-use Prim.Native.Nat.{ℕ, zero, suc}
+use Rattle.prelude.specs.Kit.{ℕ, suc, zero, _≡_, refl, ap}
 use Rattle.semantics.specs.Basics.{each}
 use Rattle.semantics.specs.Store.{Cell, Store, cell, inner, with-cell, with-count, freed, lowered, released}
 

@@ -1,9 +1,5 @@
 -- The routines of a script's program, by the numbers of its functions.
-use Prim.Native.Nat.{ℕ, zero, suc, _+_, _<_}
-use native.Mathlib.Omega.{arith}
-use mathlib.Core.Path.{_≡_, refl, ap, _∙_}
-use mathlib.Core.List.{List, [], _∷_}
-use lib.ListN.{getD, length}
+use Rattle.prelude.specs.Kit.{ℕ, _+_, _<_, suc, zero, arith, _≡_, refl, _∙_, ap, List, [], _∷_, length, getD}
 use Rattle.semantics.specs.Syntax.{Function, Script, function-at, no-function}
 use Rattle.semantics.specs.Borrow.{Table, borrowed}
 use Rattle.semantics.specs.Annotate.{Style, full-style, depths-of, annotated-in}

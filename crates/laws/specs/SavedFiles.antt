@@ -1,9 +1,5 @@
 -- The lengths of the parts of a saved file.
-use Prim.Native.Nat.{ℕ, zero, suc, _*_, _/_}
-use native.Mathlib.Omega.{arith}
-use mathlib.Core.Path.{_≡_, refl, ap, _∙_}
-use mathlib.Core.List.{List, [], _∷_}
-use lib.ListN.{length, length-append}
+use Rattle.prelude.specs.Kit.{ℕ, suc, zero, _*_, _/_, arith, _≡_, refl, _∙_, ap, List, [], _∷_, length, length-append}
 use Rattle.semantics.specs.Saved.{Entry, unsigned, low-bytes, marks, number-bytes, file-bytes, saved-length}
 
 pub low-bytes-length : (k n : ℕ) → length (low-bytes k n) ≡ k

@@ -1,13 +1,6 @@
 -- What it says that a test holds, and that a test of depths gives one; and an equation that cannot be.
-use Prim.Native.Nat.{ℕ}
-use native.Mathlib.Omega.{arith}
-use mathlib.Core.Bool.{Bool, true, false, not, _&&_, _||_, false≢true}
-use mathlib.Core.Path.{_≡_, refl, sym, _∙_}
-use mathlib.Core.Logic.{_⊎_, inl, inr}
-use mathlib.Core.Option.{none, some}
-use mathlib.Core.List.{List, [], _∷_}
-use lib.Dec.{eqb}
-use borrow.Author.Tests.{eqb-true, not-true, not-false}
+use Rattle.prelude.specs.Kit.{ℕ, arith, true, false, Bool, _&&_, not, false≢true, _||_, _≡_, refl, _∙_, sym, inl, inr}
+use Rattle.prelude.specs.Kit.{_⊎_, some, none, List, [], _∷_, eqb, eqb-true, not-true, not-false}
 use Rattle.semantics.specs.Types.{some-if, all-are, same}
 
 -- ---- two tests

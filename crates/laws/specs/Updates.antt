@@ -1,8 +1,5 @@
 -- A function changed at one number.
-use Prim.Native.Nat.{ℕ}
-use mathlib.Core.Path.{_≡_, refl, sym}
-use mathlib.Core.Logic.{_≢_}
-use borrow.Author.Tests.{eq-eqb, ne-eqb}
+use Rattle.prelude.specs.Kit.{ℕ, _≡_, refl, sym, _≢_, ne-eqb, eq-eqb}
 use Rattle.semantics.specs.Basics.{updated}
 
 pub updated-same : {A : Type 0} (f : ℕ → A) (x : ℕ) (a : A) → updated f x a x ≡ a

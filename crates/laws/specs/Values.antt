@@ -1,8 +1,5 @@
 -- Arrays as values, made of a list of values.
-use Prim.Native.Nat.{suc}
-use mathlib.Core.Path.{_≡_, refl, ap}
-use mathlib.Core.List.{List, [], _∷_}
-use lib.ListN.{length}
+use Rattle.prelude.specs.Kit.{suc, _≡_, refl, ap, List, [], _∷_, length}
 use Rattle.semantics.specs.Value.{Value, list, items, of-list}
 use Rattle.semantics.specs.Saved.{size-of}
 

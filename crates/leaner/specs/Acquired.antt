@@ -1,13 +1,6 @@
 -- A cell more: in both stores, or in the one that is not the leaner.
-use Prim.Native.Nat.{ℕ, _≤_, min}
-use native.Mathlib.Omega.{arith}
-use mathlib.Core.Path.{_≡_, refl, sym, ap, _∙_, subst}
-use mathlib.Core.Logic.{_≢_}
-use mathlib.Core.Bool.{true}
-use mathlib.Core.List.{List, [], _∷_, map}
-use lib.IntN.{ℤ}
-use lib.ListN.{length}
-use borrow.Author.Tests.{ltb-true}
+use Rattle.prelude.specs.Kit.{ℕ, _≤_, min, arith, true, _≡_, refl, _∙_, sym, ap, subst, _≢_, List, [], _∷_, map, ℤ}
+use Rattle.prelude.specs.Kit.{length, ltb-true}
 use Rattle.semantics.specs.Basics.{occurrences, _∈_, updated}
 use Rattle.semantics.specs.Store.{Cell, Store, cell, cell-count, elements, inner, named-by, filled}
 use Rattle.semantics.specs.Store.{has-free, acquired}

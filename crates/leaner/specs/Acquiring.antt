@@ -1,11 +1,5 @@
 -- A cell acquired in both runs: where the first has a free one, the leaner has.
-use Prim.Native.Nat.{ℕ, _+_, _-_, _<_, _≤_}
-use native.Mathlib.Omega.{arith}
-use mathlib.Core.Bool.{Bool, true, false}
-use mathlib.Core.Path.{_≡_, refl, ap}
-use mathlib.Core.List.{List, []}
-use lib.IntN.{ℤ, pos}
-use lib.ListN.{length}
+use Rattle.prelude.specs.Kit.{ℕ, _≤_, _+_, _<_, _-_, arith, true, false, Bool, _≡_, refl, ap, List, [], ℤ, pos, length}
 use Rattle.semantics.specs.Basics.{updated}
 use Rattle.semantics.specs.Outcome.{Outcome, Run, onward}
 use Rattle.semantics.specs.Machine.{State, with-store, acquire, acquire-if}

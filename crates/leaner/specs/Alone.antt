@@ -1,9 +1,5 @@
 -- A cell of the leaner store whose image has one reference only has one itself.
-use Prim.Native.Nat.{ℕ}
-use native.Mathlib.Omega.{arith}
-use native.Mathlib.Decide.{decLt}
-use mathlib.Core.Path.{_≡_, sym, subst}
-use mathlib.Core.List.{List, _∷_, _++_}
+use Rattle.prelude.specs.Kit.{ℕ, arith, decLt, _≡_, sym, subst, List, _∷_, _++_}
 use Rattle.semantics.specs.Basics.{occurrences, _∈_}
 use Rattle.semantics.specs.Store.{Store, cell, inner}
 use Rattle.semantics.specs.Sound.{all-inner}

@@ -1,15 +1,8 @@
 -- `script-twins`: the program of an accepted script in which every map stays a map, and its program in the full style,
 -- are twins.
-use Prim.Native.Nat.{ℕ, zero, suc, _+_, _≤_, _<_}
-use native.Mathlib.Omega.{arith}
-use native.Mathlib.Decide.{ℕ-discrete}
-use mathlib.Core.Path.{_≡_, refl, sym, ap, _∙_, subst}
-use mathlib.Core.Logic.{_≢_, inl, inr}
-use mathlib.Core.Bool.{Bool, true, false, not, _&&_, _||_, and-false}
-use mathlib.Core.List.{List, [], _∷_}
-use lib.Dec.{eqb, ltb}
-use lib.ListN.{length}
-use borrow.Author.Tests.{eq-eqb, ne-eqb}
+use Rattle.prelude.specs.Kit.{ℕ, _≤_, _+_, _<_, suc, zero, arith, ℕ-discrete, true, false, Bool, _&&_, not, _||_}
+use Rattle.prelude.specs.Kit.{and-false, _≡_, refl, _∙_, sym, ap, subst, inl, inr, _≢_, List, [], _∷_, eqb, ltb, length}
+use Rattle.prelude.specs.Kit.{ne-eqb, eq-eqb}
 use Rattle.semantics.specs.Basics.{with-if}
 use Rattle.semantics.specs.Syntax.{Function, Script, function-at}
 use Rattle.semantics.specs.Kinds.{Borrowing, Loop, mapping, filtering, reducing, rewriting, leaf-hands, leaf-reads}

@@ -1,12 +1,6 @@
 -- What is known of each of two runs before a line or a tree, and how their names and references correspond.
-use Prim.Native.Nat.{ℕ, _+_, _<_, _≤_}
-use native.Mathlib.Omega.{arith}
-use native.Mathlib.Decide.{ℕ-discrete}
-use mathlib.Core.Bool.{false}
-use mathlib.Core.Path.{_≡_, refl, sym, ap, _∙_, subst}
-use mathlib.Core.Logic.{_≢_, inl, inr}
-use mathlib.Core.List.{List, [], _∷_, _++_}
-use lib.IntN.{ℤ}
+use Rattle.prelude.specs.Kit.{ℕ, _≤_, _+_, _<_, arith, ℕ-discrete, false, _≡_, refl, _∙_, sym, ap, subst, inl, inr, _≢_}
+use Rattle.prelude.specs.Kit.{List, [], _∷_, _++_, ℤ}
 use Rattle.semantics.specs.Basics.{occurrences, _∈_, updated}
 use Rattle.semantics.specs.Outcome.{Outcome, done}
 use Rattle.semantics.specs.Code.{Atom, number, name}

@@ -1,13 +1,7 @@
 -- Two maps that rewrite their arrays, both in the array's own cell: before and after each pass the numbers are the
 -- same.
-use Prim.Native.Nat.{ℕ, suc, _+_, _<_, _≤_, pred}
-use native.Mathlib.Omega.{arith}
-use mathlib.Core.Bool.{true}
-use mathlib.Core.Path.{_≡_, refl, sym, ap, _∙_, subst}
-use mathlib.Core.List.{List, [], _∷_, _++_}
-use lib.IntN.{ℤ, pos}
-use lib.ListN.{length, getD}
-use borrow.Author.Tests.{eq-eqb}
+use Rattle.prelude.specs.Kit.{ℕ, _≤_, _+_, _<_, suc, pred, arith, true, _≡_, refl, _∙_, sym, ap, subst, List, [], _∷_}
+use Rattle.prelude.specs.Kit.{_++_, ℤ, pos, length, getD, eq-eqb}
 use Rattle.semantics.specs.Outcome.{onward, _>>=_, _>>_, require}
 use Rattle.semantics.specs.Value.{Value, items}
 use Rattle.semantics.specs.Kinds.{rewriting}

@@ -1,11 +1,5 @@
 -- The line of an if.
-use Prim.Native.Nat.{ℕ, _+_}
-use native.Mathlib.Omega.{arith}
-use mathlib.Core.Bool.{Bool, true, false, cond}
-use mathlib.Core.Path.{refl, sym, _∙_}
-use mathlib.Core.Logic.{inl, inr}
-use mathlib.Core.List.{List, [], _++_}
-use lib.IntN.{ℤ}
+use Rattle.prelude.specs.Kit.{ℕ, _+_, arith, true, false, Bool, cond, refl, _∙_, sym, inl, inr, List, [], _++_, ℤ}
 use Rattle.semantics.specs.Number.{is-zero, is-answer}
 use Rattle.semantics.specs.Code.{Atom, if-else, Tree}
 use Rattle.semantics.specs.Live.{after-branch}

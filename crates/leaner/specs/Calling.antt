@@ -1,13 +1,6 @@
 -- A call in both runs: its words are the same, and so are the parameters of its function.
-use Prim.Native.Nat.{ℕ, zero, suc, _+_, _<_}
-use native.Mathlib.Omega.{arith}
-use native.Mathlib.Decide.{ℕ-discrete, decLt}
-use mathlib.Core.Bool.{Bool, true, false}
-use mathlib.Core.Path.{_≡_, refl, sym, _∙_, subst}
-use mathlib.Core.Logic.{_≢_, inl, inr}
-use mathlib.Core.List.{List, [], _∷_, _++_, map}
-use lib.IntN.{ℤ}
-use lib.ListN.{length, getD, List·getD-eq-default}
+use Rattle.prelude.specs.Kit.{ℕ, _+_, _<_, suc, zero, arith, decLt, ℕ-discrete, true, false, Bool, _≡_, refl, _∙_, sym}
+use Rattle.prelude.specs.Kit.{subst, inl, inr, _≢_, List, [], _∷_, _++_, map, ℤ, length, getD, List·getD-eq-default}
 use Rattle.semantics.specs.Basics.{_∈_, updated, with-if}
 use Rattle.semantics.specs.Value.{Value}
 use Rattle.semantics.specs.Kinds.{call, leaf-hands}

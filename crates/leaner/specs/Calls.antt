@@ -1,12 +1,6 @@
 -- A call in twin programs, by induction on the call depth left.
-use Prim.Native.Nat.{ℕ, zero, suc, _+_, _*_, _<_}
-use native.Mathlib.Omega.{arith}
-use mathlib.Core.Bool.{true, false, false≢true, not}
-use mathlib.Core.Path.{_≡_, sym, _∙_, subst}
-use mathlib.Core.Logic.{inl, inr}
-use mathlib.Core.List.{List, [], _++_}
-use lib.IntN.{ℤ}
-use lib.ListN.{length}
+use Rattle.prelude.specs.Kit.{ℕ, _+_, _<_, suc, zero, _*_, arith, true, false, not, false≢true, _≡_, _∙_, sym, subst}
+use Rattle.prelude.specs.Kit.{inl, inr, List, [], _++_, ℤ, length}
 use Rattle.semantics.specs.Basics.{_∈_}
 use Rattle.semantics.specs.Code.{Line, Tree}
 use Rattle.semantics.specs.Live.{empty}

@@ -1,8 +1,5 @@
 -- What is claimed of twin trees, lines, leaves and calls: worked beside each other they end alike.
-use Prim.Native.Nat.{ℕ, _+_, _≤_}
-use mathlib.Core.Path.{_≡_}
-use mathlib.Core.List.{List, _++_}
-use lib.IntN.{ℤ}
+use Rattle.prelude.specs.Kit.{ℕ, _≤_, _+_, _≡_, List, _++_, ℤ}
 use Rattle.semantics.specs.Basics.{_∈_}
 use Rattle.semantics.specs.Code.{Line, Tree}
 use Rattle.semantics.specs.Live.{Set}

@@ -1,14 +1,7 @@
 -- A map that fills a new cell beside one that was to rewrite its array, which is not alone: that one fills a new cell
 -- too, and then releases the array.
-use Prim.Native.Nat.{ℕ, suc, _+_, _<_, _≤_, pred}
-use native.Mathlib.Omega.{arith}
-use mathlib.Core.Bool.{true}
-use mathlib.Core.Path.{_≡_, refl, sym, ap, _∙_, subst}
-use mathlib.Core.Logic.{inl, inr}
-use mathlib.Core.List.{List, [], _∷_, _++_}
-use lib.IntN.{ℤ}
-use lib.ListN.{length}
-use borrow.Author.Tests.{ne-eqb}
+use Rattle.prelude.specs.Kit.{ℕ, _≤_, _+_, _<_, suc, pred, arith, true, _≡_, refl, _∙_, sym, ap, subst, inl, inr, List}
+use Rattle.prelude.specs.Kit.{[], _∷_, _++_, ℤ, length, ne-eqb}
 use Rattle.semantics.specs.Basics.{occurrences, _∈_, updated}
 use Rattle.semantics.specs.Outcome.{done, onward, _>>=_, _>>_, give, require}
 use Rattle.semantics.specs.Kinds.{Loop, mapping, rewriting}

@@ -1,14 +1,7 @@
 -- One run that fills a new cell from an array that others hold meanwhile: it lends the array to its passes, or keeps it
 -- to release it after them.
-use Prim.Native.Nat.{ℕ, suc, _+_, _≤_, pred}
-use native.Mathlib.Omega.{arith}
-use mathlib.Core.Bool.{false}
-use mathlib.Core.Path.{_≡_, refl, sym, ap, _∙_, subst}
-use mathlib.Core.Logic.{_≢_}
-use mathlib.Core.List.{List, [], _∷_, _++_}
-use lib.IntN.{ℤ}
-use lib.ListN.{length}
-use borrow.Author.Tests.{ne-eqb}
+use Rattle.prelude.specs.Kit.{ℕ, _≤_, _+_, suc, pred, arith, false, _≡_, refl, _∙_, sym, ap, subst, _≢_, List, [], _∷_}
+use Rattle.prelude.specs.Kit.{_++_, ℤ, length, ne-eqb}
 use Rattle.semantics.specs.Basics.{tabulate, _∈_, updated}
 use Rattle.semantics.specs.Outcome.{_>>=_, _>>_, give, passes}
 use Rattle.semantics.specs.Kinds.{Loop, mapping, rewriting}

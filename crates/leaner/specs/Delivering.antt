@@ -1,11 +1,6 @@
 -- `delivery-twins`: a delivery in both runs, from stores at rest that correspond.
-use Prim.Native.Nat.{ℕ, zero, suc, _+_, _<_, _≤_}
-use native.Mathlib.Omega.{arith}
-use mathlib.Core.Bool.{true, false, false≢true}
-use mathlib.Core.Path.{_≡_, refl, sym, ap, _∙_, subst}
-use mathlib.Core.List.{List, [], _∷_, _++_}
-use lib.IntN.{ℤ, pos}
-use lib.ListN.{length}
+use Rattle.prelude.specs.Kit.{ℕ, _≤_, _+_, _<_, suc, zero, arith, true, false, false≢true, _≡_, refl, _∙_, sym, ap}
+use Rattle.prelude.specs.Kit.{subst, List, [], _∷_, _++_, ℤ, pos, length}
 use Rattle.semantics.specs.Basics.{_∈_}
 use Rattle.semantics.specs.Outcome.{Outcome, done, onward, _>>=_, _>>_}
 use Rattle.semantics.specs.Machine.{State, Work, Routine, Program, with-store, touching, release-events, lowest-over}

@@ -1,11 +1,6 @@
 -- The line of a loop that fills a new cell in both runs, whatever its passes put there.
-use Prim.Native.Nat.{ℕ, suc, _+_, _<_, _≤_}
-use native.Mathlib.Omega.{arith}
-use mathlib.Core.Bool.{true}
-use mathlib.Core.Path.{_≡_, refl, sym, subst}
-use mathlib.Core.List.{List, [], _∷_, _++_}
-use lib.IntN.{ℤ, pos}
-use lib.ListN.{length}
+use Rattle.prelude.specs.Kit.{ℕ, _≤_, _+_, _<_, suc, arith, true, _≡_, refl, sym, subst, List, [], _∷_, _++_, ℤ, pos}
+use Rattle.prelude.specs.Kit.{length}
 use Rattle.semantics.specs.Basics.{tabulate, updated}
 use Rattle.semantics.specs.Outcome.{Run, done, onward, _>>=_, _>>_, give, passes}
 use Rattle.semantics.specs.Code.{Atom}

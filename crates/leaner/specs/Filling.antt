@@ -1,11 +1,6 @@
 -- Loops in both runs: what holds between their passes, and a word appended to a new cell in both.
-use Prim.Native.Nat.{ℕ, suc, _+_, _<_, _≤_}
-use native.Mathlib.Omega.{arith}
-use mathlib.Core.Bool.{true}
-use mathlib.Core.Path.{_≡_, sym, ap, _∙_, subst}
-use mathlib.Core.Logic.{inl, inr}
-use mathlib.Core.List.{List, [], _∷_, _++_}
-use lib.IntN.{ℤ, pos}
+use Rattle.prelude.specs.Kit.{ℕ, _≤_, _+_, _<_, suc, arith, true, _≡_, _∙_, sym, ap, subst, inl, inr, List, [], _∷_}
+use Rattle.prelude.specs.Kit.{_++_, ℤ, pos}
 use Rattle.semantics.specs.Basics.{occurrences, _∈_}
 use Rattle.semantics.specs.Value.{Value, list}
 use Rattle.semantics.specs.Annotate.{NameDepths}

@@ -1,11 +1,6 @@
 -- The line of a filter that both runs work alike.
-use Prim.Native.Nat.{ℕ, zero, suc, _+_, _<_, _≤_, pred}
-use native.Mathlib.Omega.{arith}
-use mathlib.Core.Bool.{Bool, true, false, cond}
-use mathlib.Core.Path.{_≡_, refl, sym, ap, _∙_, subst}
-use mathlib.Core.List.{List, [], _∷_, _++_}
-use lib.IntN.{ℤ, pos}
-use lib.ListN.{length, getD}
+use Rattle.prelude.specs.Kit.{ℕ, _≤_, _+_, _<_, suc, zero, pred, arith, true, false, Bool, cond, _≡_, refl, _∙_, sym}
+use Rattle.prelude.specs.Kit.{ap, subst, List, [], _∷_, _++_, ℤ, pos, length, getD}
 use Rattle.semantics.specs.Basics.{_∈_}
 use Rattle.semantics.specs.Number.{is-zero, is-answer}
 use Rattle.semantics.specs.Outcome.{onward, _>>=_, _>>_, give, require}

@@ -1,9 +1,5 @@
 -- The lines that retain and release, of both runs or of the first alone.
-use Prim.Native.Nat.{ℕ, _+_, _<_}
-use native.Mathlib.Omega.{arith}
-use mathlib.Core.Path.{_≡_, refl, sym, subst}
-use mathlib.Core.Logic.{inl, inr}
-use mathlib.Core.List.{List, [], _∷_, _++_}
+use Rattle.prelude.specs.Kit.{ℕ, _+_, _<_, arith, _≡_, refl, sym, subst, inl, inr, List, [], _∷_, _++_}
 use Rattle.semantics.specs.Basics.{_∈_}
 use Rattle.semantics.specs.Outcome.{Outcome, done, onward}
 use Rattle.semantics.specs.Code.{Line, retain, release, Tree, line}

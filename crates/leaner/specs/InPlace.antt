@@ -1,15 +1,8 @@
 -- A map that fills a new cell beside one that rewrites its array in its own cell: the numbers of the two cells differ
 -- meanwhile, and are the same after the last pass.
-use Prim.Native.Nat.{ℕ, suc, _+_, _<_, _≤_, pred}
-use native.Mathlib.Omega.{arith}
-use mathlib.Core.Bool.{true}
-use mathlib.Core.Path.{_≡_, refl, sym, ap, ap₂, _∙_, subst}
-use mathlib.Core.Logic.{_≢_, inl, inr}
-use mathlib.Core.List.{List, [], _∷_, _++_, map, append-nil}
-use lib.IntN.{ℤ, pos}
-use lib.ListN.{length, getD, drop}
-use lib.Seq.{drop-length}
-use borrow.Author.Tests.{eq-eqb}
+use Rattle.prelude.specs.Kit.{ℕ, _≤_, _+_, _<_, suc, pred, arith, true, _≡_, refl, _∙_, sym, ap, subst, ap₂, inl, inr}
+use Rattle.prelude.specs.Kit.{_≢_, List, [], _∷_, _++_, map, append-nil, ℤ, pos, length, getD, drop, drop-length}
+use Rattle.prelude.specs.Kit.{eq-eqb}
 use Rattle.semantics.specs.Basics.{occurrences, _∈_, updated}
 use Rattle.semantics.specs.Outcome.{done, onward, _>>=_, _>>_, give, require}
 use Rattle.semantics.specs.Value.{Value, num, items, number-in}

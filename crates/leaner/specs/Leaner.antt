@@ -1,13 +1,6 @@
 -- Two stores of which one, the leaner, has no more cells in use: each of its cells corresponds to one of the other.
-use Prim.Native.Nat.{ℕ, zero, suc, _<_, _≤_}
-use native.Mathlib.Omega.{arith}
-use native.Mathlib.Decide.{decLt}
-use mathlib.Core.Path.{_≡_, refl, sym, ap, ap₂, _∙_, subst}
-use mathlib.Core.Logic.{inl, inr}
-use mathlib.Core.List.{List, [], _∷_, map, map-id}
-use lib.IntN.{ℤ, pos}
-use lib.ListN.{length, getD, length-map}
-use borrow.Author.Tests.{lt-ltb, le-ltb}
+use Rattle.prelude.specs.Kit.{ℕ, _≤_, _<_, suc, zero, arith, decLt, _≡_, refl, _∙_, sym, ap, subst, ap₂, inl, inr, List}
+use Rattle.prelude.specs.Kit.{[], _∷_, map, map-id, ℤ, pos, length, getD, length-map, lt-ltb, le-ltb}
 use Rattle.semantics.specs.Basics.{occurrences, _∈_}
 use Rattle.semantics.specs.Store.{Store, cell, cell-of, elements, inner, named-by, with-count, one-more, retained}
 use Rattle.laws.specs.Lists.{hits, occurs-first}

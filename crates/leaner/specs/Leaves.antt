@@ -1,8 +1,5 @@
 -- The line of a leaf: its step, what it gives, and the name that is bound.
-use Prim.Native.Nat.{ℕ, _+_, _≤_}
-use native.Mathlib.Omega.{arith}
-use mathlib.Core.Bool.{Bool, true, false, cond}
-use mathlib.Core.List.{List, [], _++_, map}
+use Rattle.prelude.specs.Kit.{ℕ, _≤_, _+_, arith, true, false, Bool, cond, List, [], _++_, map}
 use Rattle.semantics.specs.Kinds.{Leaf, leaf-hands, is-pending}
 use Rattle.semantics.specs.Code.{Atom, leaf}
 use Rattle.semantics.specs.Annotate.{NameDepths, depth-of}

@@ -1,11 +1,6 @@
 -- A loop lends its array to its passes, in both runs: what corresponds then, and after them.
-use Prim.Native.Nat.{ℕ, _+_, _≤_}
-use native.Mathlib.Omega.{arith}
-use native.Mathlib.Decide.{decLt}
-use mathlib.Core.Bool.{true, false, false≢true}
-use mathlib.Core.Path.{_≡_, sym, ap, _∙_, subst}
-use mathlib.Core.Logic.{inl, inr}
-use mathlib.Core.List.{List, [], _∷_, _++_}
+use Rattle.prelude.specs.Kit.{ℕ, _≤_, _+_, arith, decLt, true, false, false≢true, _≡_, _∙_, sym, ap, subst, inl, inr}
+use Rattle.prelude.specs.Kit.{List, [], _∷_, _++_}
 use Rattle.semantics.specs.Basics.{occurrences, _∈_}
 use Rattle.semantics.specs.Code.{Atom}
 use Rattle.semantics.specs.Annotate.{NameDepths}

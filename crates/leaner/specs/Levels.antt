@@ -1,12 +1,6 @@
 -- The leaner store has no more cells in use, so that no fewer are free.
-use Prim.Native.Nat.{ℕ, zero, suc, _+_, _<_, _≤_}
-use native.Mathlib.Omega.{arith}
-use native.Mathlib.Decide.{ℕ-discrete, decLt}
-use mathlib.Core.Path.{_≡_, refl, sym, ap, _∙_}
-use mathlib.Core.Logic.{inl, inr}
-use mathlib.Core.Bool.{Bool, true, false}
-use mathlib.Core.List.{List, [], _∷_, map}
-use lib.ListN.{length, getD, length-map}
+use Rattle.prelude.specs.Kit.{ℕ, _≤_, _+_, _<_, suc, zero, arith, decLt, ℕ-discrete, true, false, Bool, _≡_, refl, _∙_}
+use Rattle.prelude.specs.Kit.{sym, ap, inl, inr, List, [], _∷_, map, length, getD, length-map}
 use Rattle.semantics.specs.Basics.{occurrences, _∈_}
 use Rattle.semantics.specs.Store.{Cell, Store, cell, cell-count, clear, one-if-used, used-cells, cells-taken}
 use Rattle.semantics.specs.Store.{free-cells, has-free}

@@ -1,9 +1,5 @@
 -- Every pair of twin trees, by induction; calls are taken for granted.
-use Prim.Native.Nat.{ℕ}
-use native.Mathlib.Omega.{arith}
-use mathlib.Core.Path.{_≡_, refl, ap}
-use mathlib.Core.List.{List, [], _∷_}
-use lib.ListN.{length}
+use Rattle.prelude.specs.Kit.{ℕ, arith, _≡_, refl, ap, List, [], _∷_, length}
 use Rattle.semantics.specs.Kinds.{Leaf, operation, call, literal, index, length-of, iota, replicate, Loop, mapping}
 use Rattle.semantics.specs.Kinds.{filtering, reducing, rewriting}
 use Rattle.semantics.specs.Code.{Atom, name, Line, leaf, if-else, loop, retain, release, Tree}

@@ -1,13 +1,7 @@
 -- The leaves that make an array: literals, iotas and replicates.
-use Prim.Native.Nat.{ℕ, zero, suc, _+_, _<_, _≤_}
-use native.Mathlib.Omega.{arith}
-use mathlib.Core.Bool.{true}
-use mathlib.Core.Path.{_≡_, refl, sym, subst}
-use mathlib.Core.Logic.{inl, inr}
-use mathlib.Core.List.{List, [], _∷_, _++_, map}
-use lib.IntN.{ℤ, pos, natAbs}
+use Rattle.prelude.specs.Kit.{ℕ, _≤_, _+_, _<_, suc, zero, arith, true, _≡_, refl, sym, subst, inl, inr, List, [], _∷_}
+use Rattle.prelude.specs.Kit.{_++_, map, ℤ, pos, natAbs, length-map, length-replicate}
 use lib.ListN as List
-use lib.ListN.{length-map, length-replicate}
 use Rattle.semantics.specs.Basics.{tabulate}
 use Rattle.semantics.specs.Outcome.{Run, onward, give}
 use Rattle.semantics.specs.Kinds.{literal, iota, replicate}

@@ -1,11 +1,6 @@
 -- One pass of a loop that reads its array and fills a new cell, and the line of a map.
-use Prim.Native.Nat.{ℕ, suc, _+_, _<_, _≤_, pred}
-use native.Mathlib.Omega.{arith}
-use mathlib.Core.Bool.{true}
-use mathlib.Core.Path.{_≡_, sym, ap, _∙_, subst}
-use mathlib.Core.List.{List, [], _∷_, _++_}
-use lib.IntN.{ℤ, pos}
-use lib.ListN.{length, getD}
+use Rattle.prelude.specs.Kit.{ℕ, _≤_, _+_, _<_, suc, pred, arith, true, _≡_, _∙_, sym, ap, subst, List, [], _∷_, _++_}
+use Rattle.prelude.specs.Kit.{ℤ, pos, length, getD}
 use Rattle.semantics.specs.Basics.{updated}
 use Rattle.semantics.specs.Outcome.{onward, _>>=_, _>>_, require}
 use Rattle.semantics.specs.Value.{items}

@@ -1,9 +1,5 @@
 -- Order 8: on the same store a delivery's lowest level is at least that of the code in which every map stays a map.
-use Prim.Native.Nat.{ℕ, _≤_}
-use native.Mathlib.Omega.{arith}
-use mathlib.Core.Path.{sym, subst}
-use mathlib.Core.List.{List}
-use lib.IntN.{ℤ}
+use Rattle.prelude.specs.Kit.{ℕ, _≤_, arith, sym, subst, List, ℤ}
 use Rattle.semantics.specs.Syntax.{Script, main-depth}
 use Rattle.semantics.specs.Words.{store-of}
 use Rattle.semantics.specs.Machine.{program-in, program, delivered}

@@ -1,10 +1,6 @@
 -- One run that rewrites its array of numbers in the array's own cell: what holds between its passes.
-use Prim.Native.Nat.{ℕ, suc, _+_, _<_, _≤_}
-use native.Mathlib.Omega.{arith}
-use mathlib.Core.Path.{_≡_, refl, ap, _∙_, subst}
-use mathlib.Core.List.{List, [], _∷_, _++_}
-use lib.IntN.{ℤ, pos}
-use lib.ListN.{length, getD, drop}
+use Rattle.prelude.specs.Kit.{ℕ, _≤_, _+_, _<_, suc, arith, _≡_, refl, _∙_, ap, subst, List, [], _∷_, _++_, ℤ, pos}
+use Rattle.prelude.specs.Kit.{length, getD, drop}
 use Rattle.semantics.specs.Value.{Value, num, list, items}
 use Rattle.semantics.specs.Kinds.{rewriting}
 use Rattle.semantics.specs.Code.{Atom, loop, Tree}

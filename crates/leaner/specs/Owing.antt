@@ -1,8 +1,5 @@
 -- What the first of two twin trees owes: the names that it still holds and the leaner has handed over.
-use Prim.Native.Nat.{ℕ, _+_}
-use native.Mathlib.Omega.{arith}
-use mathlib.Core.Path.{_≡_, sym, ap, subst}
-use mathlib.Core.List.{List, [], _∷_, _++_}
+use Rattle.prelude.specs.Kit.{ℕ, _+_, arith, _≡_, sym, ap, subst, List, [], _∷_, _++_}
 use Rattle.semantics.specs.Basics.{occurrences, _∈_}
 use Rattle.semantics.specs.Kinds.{Leaf, Loop, mapping, rewriting, leaf-hands, loop-hands}
 use Rattle.semantics.specs.Code.{Atom, name, Line, leaf, if-else, loop, retain, release, Tree, line}

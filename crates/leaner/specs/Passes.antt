@@ -1,10 +1,6 @@
 -- The passes of two loops beside each other: all of them by one, and one by its step, its element and its tree.
-use Prim.Native.Nat.{ℕ, zero, suc, _+_, _<_, _≤_}
-use native.Mathlib.Omega.{arith}
-use mathlib.Core.Path.{_≡_, refl, ap, _∙_, subst}
-use mathlib.Core.List.{List, [], _++_}
-use lib.IntN.{ℤ, pos}
-use lib.ListN.{length, getD}
+use Rattle.prelude.specs.Kit.{ℕ, _≤_, _+_, _<_, suc, zero, arith, _≡_, refl, _∙_, ap, subst, List, [], _++_, ℤ, pos}
+use Rattle.prelude.specs.Kit.{length, getD}
 use Rattle.semantics.specs.Basics.{tabulate, occurrences, updated}
 use Rattle.semantics.specs.Outcome.{Run, done, onward, _>>=_, _>>_, passes}
 use Rattle.semantics.specs.Value.{Value, num, items}

@@ -1,9 +1,5 @@
 -- One cell written in each of two stores, or in one of them: they are still related where the two cells correspond.
-use Prim.Native.Nat.{ℕ, _<_}
-use native.Mathlib.Decide.{ℕ-discrete}
-use mathlib.Core.Path.{_≡_, refl, sym, ap, _∙_, subst}
-use mathlib.Core.Logic.{_≢_}
-use mathlib.Core.List.{List, map}
+use Rattle.prelude.specs.Kit.{ℕ, _<_, ℕ-discrete, _≡_, refl, _∙_, sym, ap, subst, _≢_, List, map}
 use Rattle.semantics.specs.Basics.{_∈_}
 use Rattle.semantics.specs.Store.{Cell, Store, cell, elements, inner}
 use Rattle.laws.specs.Lists.{_⊆_}

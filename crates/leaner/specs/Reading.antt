@@ -1,10 +1,6 @@
 -- Arrays that both runs read have the same words; and the leaves that make no array.
-use Prim.Native.Nat.{ℕ, zero, suc, _+_, _<_}
-use native.Mathlib.Omega.{arith}
-use mathlib.Core.Path.{_≡_, refl, sym, ap, ap₂, subst}
-use mathlib.Core.List.{List, [], _∷_, _++_}
-use lib.IntN.{ℤ, pos, natAbs}
-use lib.ListN.{length, getD}
+use Rattle.prelude.specs.Kit.{ℕ, _+_, _<_, suc, zero, arith, _≡_, refl, sym, ap, subst, ap₂, List, [], _∷_, _++_, ℤ}
+use Rattle.prelude.specs.Kit.{pos, natAbs, length, getD}
 use Rattle.semantics.specs.Basics.{_∈_}
 use Rattle.semantics.specs.Number.{Operation, exact, fits, inside}
 use Rattle.semantics.specs.Outcome.{onward}

@@ -1,12 +1,6 @@
 -- The line of a reduce that both runs work alike.
-use Prim.Native.Nat.{ℕ, suc, _+_, _<_, _≤_, pred}
-use native.Mathlib.Omega.{arith}
-use mathlib.Core.Bool.{true}
-use mathlib.Core.Path.{_≡_, refl, sym, _∙_, subst}
-use mathlib.Core.Logic.{inl, inr}
-use mathlib.Core.List.{List, [], _∷_, _++_}
-use lib.IntN.{ℤ}
-use lib.ListN.{length}
+use Rattle.prelude.specs.Kit.{ℕ, _≤_, _+_, _<_, suc, pred, arith, true, _≡_, refl, _∙_, sym, subst, inl, inr, List, []}
+use Rattle.prelude.specs.Kit.{_∷_, _++_, ℤ, length}
 use Rattle.semantics.specs.Basics.{tabulate, updated}
 use Rattle.semantics.specs.Outcome.{onward, _>>=_, _>>_, give, require, passes}
 use Rattle.semantics.specs.Value.{items}

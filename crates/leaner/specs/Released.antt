@@ -1,9 +1,5 @@
 -- References fewer, in either store or in both: what is held after in the leaner store has its image held in the other.
-use Prim.Native.Nat.{ℕ, zero, suc, _+_, _<_}
-use native.Mathlib.Omega.{arith}
-use native.Mathlib.Decide.{decLt}
-use mathlib.Core.Path.{refl, sym, _∙_, subst}
-use mathlib.Core.List.{List, _++_}
+use Rattle.prelude.specs.Kit.{ℕ, _+_, _<_, suc, zero, arith, decLt, refl, _∙_, sym, subst, List, _++_}
 use Rattle.semantics.specs.Basics.{occurrences, _∈_}
 use Rattle.semantics.specs.Store.{Store, cell, inner, released, deepest}
 use Rattle.semantics.specs.Machine.{Event, State, with-store, release-events}

@@ -1,12 +1,6 @@
 -- The line of a map beside one that rewrites its array.
-use Prim.Native.Nat.{ℕ, suc, _+_, _<_, pred}
-use native.Mathlib.Omega.{arith}
-use mathlib.Core.Bool.{Bool, true, false, cond}
-use mathlib.Core.Path.{_≡_, refl}
-use mathlib.Core.List.{List, [], _∷_, _++_}
-use lib.IntN.{ℤ}
-use lib.Dec.{eqb}
-use borrow.Author.Tests.{eqb-true}
+use Rattle.prelude.specs.Kit.{ℕ, _+_, _<_, suc, pred, arith, true, false, Bool, cond, _≡_, refl, List, [], _∷_, _++_}
+use Rattle.prelude.specs.Kit.{eqb, ℤ, eqb-true}
 use Rattle.semantics.specs.Basics.{updated}
 use Rattle.semantics.specs.Outcome.{done, onward, give}
 use Rattle.semantics.specs.Kinds.{mapping, rewriting}

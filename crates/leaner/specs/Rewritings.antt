@@ -1,13 +1,7 @@
 -- The lines of two maps that rewrite their arrays. Where nothing else refers to the array in the first run, nothing
 -- does in the leaner one, and both rewrite it in its own cell; else the first fills a new cell and releases the array.
-use Prim.Native.Nat.{ℕ, suc, _+_, _<_, _≤_, pred}
-use native.Mathlib.Omega.{arith}
-use mathlib.Core.Bool.{Bool, true, false, cond, false≢true}
-use mathlib.Core.Path.{_≡_, refl, sym, _∙_, subst}
-use mathlib.Core.List.{List, [], _∷_, _++_}
-use lib.IntN.{ℤ}
-use lib.Dec.{eqb}
-use borrow.Author.Tests.{eqb-true, eq-eqb, ne-eqb}
+use Rattle.prelude.specs.Kit.{ℕ, _≤_, _+_, _<_, suc, pred, arith, true, false, Bool, cond, false≢true, _≡_, refl, _∙_}
+use Rattle.prelude.specs.Kit.{sym, subst, List, [], _∷_, _++_, eqb, ℤ, ne-eqb, eq-eqb, eqb-true}
 use Rattle.semantics.specs.Basics.{updated}
 use Rattle.semantics.specs.Outcome.{done, onward, _>>=_, _>>_, give}
 use Rattle.semantics.specs.Kinds.{rewriting}

@@ -1,10 +1,6 @@
 -- Two runs at one point: the steps left, the lowest levels, and the stores; and what the two do next.
-use Prim.Native.Nat.{ℕ, zero, suc, _+_, _-_, _<_, _≤_, min}
-use native.Mathlib.Omega.{arith}
-use mathlib.Core.Bool.{Bool, true, false}
-use mathlib.Core.Path.{_≡_, refl, sym, ap, _∙_, subst}
-use mathlib.Core.List.{List, [], _∷_}
-use lib.ListN.{length}
+use Rattle.prelude.specs.Kit.{ℕ, _≤_, _+_, _<_, _-_, suc, zero, min, arith, true, false, Bool, _≡_, refl, _∙_, sym, ap}
+use Rattle.prelude.specs.Kit.{subst, List, [], _∷_, length}
 use Rattle.semantics.specs.Outcome.{Outcome, done, stop, Run, onward, require}
 use Rattle.semantics.specs.Machine.{Event, acquires, State, with-store, with-left, step, stepped}
 use Rattle.semantics.specs.Machine.{level-after, lowest-over, lowest-level, touching, release-events}

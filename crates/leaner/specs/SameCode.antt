@@ -1,13 +1,7 @@
 -- The same code on a store that corresponds, with more cells and a larger budget, tells the same: `same-code`, and
 -- `larger-by-twins` for stores just opened.
-use Prim.Native.Nat.{ℕ, zero, suc, _+_, _<_, _≤_}
-use native.Mathlib.Omega.{arith}
-use mathlib.Core.Bool.{true}
-use mathlib.Core.Path.{_≡_, refl, sym, ap, _∙_}
-use mathlib.Core.Logic.{_≢_}
-use mathlib.Core.List.{List, [], _∷_, map}
-use lib.IntN.{ℤ, pos}
-use lib.ListN.{length, take, length-take, length-map}
+use Rattle.prelude.specs.Kit.{ℕ, _≤_, _+_, _<_, suc, zero, arith, true, _≡_, refl, _∙_, sym, ap, _≢_, List, [], _∷_}
+use Rattle.prelude.specs.Kit.{map, ℤ, pos, length, take, length-take, length-map}
 use Rattle.semantics.specs.Basics.{_∈_}
 use Rattle.semantics.specs.Outcome.{Outcome}
 use Rattle.semantics.specs.Syntax.{Script, main-depth}

@@ -1,7 +1,5 @@
 -- The passes of a loop that reads its array and fills a new cell, by the rules of one run.
-use Prim.Native.Nat.{ℕ, suc, _≤_, pred}
-use mathlib.Core.Path.{_≡_, refl, sym, ap, subst}
-use mathlib.Core.List.{List, [], _∷_, _++_}
+use Rattle.prelude.specs.Kit.{ℕ, _≤_, suc, pred, _≡_, refl, sym, ap, subst, List, [], _∷_, _++_}
 use Rattle.semantics.specs.Kinds.{mapping, filtering}
 use Rattle.semantics.specs.Code.{Atom, loop, Tree, ending}
 use Rattle.semantics.specs.Live.{Set, _∪_, just, after-pass}

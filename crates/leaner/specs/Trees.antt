@@ -1,9 +1,5 @@
 -- Twin trees: their ends, and lines one after the other.
-use Prim.Native.Nat.{ℕ, _+_, _≤_}
-use native.Mathlib.Omega.{arith}
-use mathlib.Core.Path.{_≡_, refl, _∙_, subst}
-use mathlib.Core.List.{List, [], _∷_, _++_}
-use lib.IntN.{ℤ}
+use Rattle.prelude.specs.Kit.{ℕ, _≤_, _+_, arith, _≡_, refl, _∙_, subst, List, [], _∷_, _++_, ℤ}
 use Rattle.semantics.specs.Basics.{occurrences, _∈_}
 use Rattle.semantics.specs.Outcome.{done}
 use Rattle.semantics.specs.Code.{Atom, Line, Tree, end, line}

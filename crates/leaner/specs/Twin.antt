@@ -1,9 +1,6 @@
 -- Two annotated trees that do the same, of which the second, the leaner one, holds no more: a map of the first may
 -- rewrite its array in the second, and what the first retains and releases may be left alone there.
-use Prim.Native.Nat.{ℕ, _<_}
-use mathlib.Core.Path.{_≡_}
-use mathlib.Core.List.{List, [], _∷_}
-use lib.ListN.{length}
+use Rattle.prelude.specs.Kit.{ℕ, _<_, _≡_, List, [], _∷_, length}
 use Rattle.semantics.specs.Basics.{_∈_}
 use Rattle.semantics.specs.Kinds.{Leaf, Loop, mapping, rewriting}
 use Rattle.semantics.specs.Code.{Atom, name, leaf, if-else, loop, retain, release, Tree, end, line}

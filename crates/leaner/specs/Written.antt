@@ -1,13 +1,6 @@
 -- A cell written: an element more in both stores or in one, or an element overwritten in both or in the leaner one.
-use Prim.Native.Nat.{ℕ, zero, suc, _<_, _≤_}
-use native.Mathlib.Omega.{arith}
-use native.Mathlib.Decide.{decLt}
-use mathlib.Core.Path.{_≡_, refl, sym, ap, ap₂, _∙_}
-use mathlib.Core.List.{List, [], _∷_, _++_, map, map-append}
-use lib.IntN.{ℤ}
-use lib.ListN.{set}
-use lib.Seq.{take-set-lt}
-use borrow.Author.Tests.{lt-ltb, le-ltb}
+use Rattle.prelude.specs.Kit.{ℕ, _≤_, _<_, suc, zero, arith, decLt, _≡_, refl, _∙_, sym, ap, ap₂, List, [], _∷_, _++_}
+use Rattle.prelude.specs.Kit.{map, map-append, ℤ, set, take-set-lt, lt-ltb, le-ltb}
 use Rattle.semantics.specs.Basics.{_∈_}
 use Rattle.semantics.specs.Store.{Cell, Store, cell, cell-of, elements, inner, named-by, wider, appended, with-slot}
 use Rattle.semantics.specs.Store.{overwritten}

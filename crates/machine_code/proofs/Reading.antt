@@ -1,17 +1,7 @@
 -- Laws of the readers, in the terms of the code.
-use mathlib.Core.Path.{_≡_, refl}
-use mathlib.Core.Bool.{Bool, true, false}
-use mathlib.Core.List.{List}
-use Prim.Native.Nat.{ℕ, zero, suc, _+_, _-_, _%_, _<_, _≤_}
-use native.Mathlib.Omega.{arith}
-use lib.IntN.{ℤ, pos, negsuc, natAbs}
-use lib.Bits.{bitAnd, and-mask}
-use lib.Dec.{T, ltb}
-use lib.Signed.{nonNeg}
-use lib.ListN.{getD, length, List·getD-eq-default}
-use mir.Syntax.{w64}
-use mir.Val.{Fits, ofZ, toZ}
-use borrow.Author.Tests.{ltb-true, ltb-false, ne-eqb, lt-ltb, le-ltb}
+use Rattle.prelude.specs.Kit.{ℕ, _≤_, _+_, _<_, _-_, suc, zero, _%_, arith, true, false, Bool, _≡_, refl, List, ltb, T}
+use Rattle.prelude.specs.Kit.{ℤ, pos, negsuc, natAbs, nonNeg, and-mask, bitAnd, length, getD, List·getD-eq-default}
+use Rattle.prelude.specs.Kit.{ne-eqb, lt-ltb, le-ltb, ltb-true, ltb-false, w64, toZ, ofZ, Fits}
 use Rattle.machine_code.specs.Reading.{low-bits, atom-at, two-rows, line-of, line-at}
 use Rattle.kinds.specs.declared.Atom.{Atom}
 use Rattle.kinds.specs.declared.Atom.the-variants.{Number, Name}

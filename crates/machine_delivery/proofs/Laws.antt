@@ -1,13 +1,6 @@
 -- Laws of the delivery: one for each way out of the code.
-use mathlib.Core.Path.{_≡_, refl, sym, ap, ap₂, _∙_}
-use mathlib.Core.Bool.{Bool, cond}
-use mathlib.Core.List.{List}
-use Prim.Native.Nat.{ℕ, zero, suc, _-_, _≤_}
-use native.Mathlib.Omega.{arith}
-use lib.IntN.{ℤ, pos}
-use lib.Dec.{eqb}
-use lib.ListN.{getD, set, replicate}
-use borrow.Author.Tests.{eq-eqb, ne-eqb}
+use Rattle.prelude.specs.Kit.{ℕ, _≤_, _-_, suc, zero, arith, Bool, cond, _≡_, refl, _∙_, sym, ap, ap₂, List, eqb, ℤ}
+use Rattle.prelude.specs.Kit.{pos, getD, set, replicate, ne-eqb, eq-eqb}
 use Rattle.semantics.specs.Store.{Store, cell-of, acquired, retained, released, deepest, with-totals, relinked}
 use Rattle.semantics.specs.Store.{free-cells}
 use Rattle.semantics.specs.Words.{store-of}

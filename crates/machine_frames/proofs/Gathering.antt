@@ -1,13 +1,7 @@
 -- The words of the atoms that follow a line, and the loop that copies them into a frame.
-use mathlib.Core.Path.{_≡_, refl, sym, ap, ap₂, _∙_}
-use mathlib.Core.Bool.{Bool, true, false, cond}
-use mathlib.Core.List.{List, [], _∷_}
-use Prim.Native.Nat.{ℕ, zero, suc, _+_, _-_, _*_, _%_, _<_, _≤_}
-use native.Mathlib.Omega.{arith}
-use lib.IntN.{ℤ, pos}
-use lib.Dec.{eqb}
-use lib.ListN.{getD, set, length, length-set}
-use lib.Seq.{getD-set-other}
+use Rattle.prelude.specs.Kit.{ℕ, _≤_, _+_, _<_, _-_, suc, zero, _*_, _%_, arith, true, false, Bool, cond, _≡_, refl}
+use Rattle.prelude.specs.Kit.{_∙_, sym, ap, ap₂, List, [], _∷_, eqb, ℤ, pos, length, getD, set, length-set}
+use Rattle.prelude.specs.Kit.{getD-set-other}
 use Rattle.machine_code.specs.Reading.{low-bits, is-atom, atom-at}
 use Rattle.kinds.specs.declared.Atom.{Atom}
 use Rattle.kinds.specs.declared.Atom.the-variants.{Number, Name}

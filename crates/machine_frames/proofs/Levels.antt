@@ -1,15 +1,6 @@
 -- Laws of the levels among the frames.
-use mathlib.Core.Path.{_≡_, refl, ap, _∙_}
-use mathlib.Core.Bool.{Bool, true, false, cond}
-use mathlib.Core.List.{List}
-use Prim.Native.Nat.{ℕ, _+_, _^_, _<_, _≤_}
-use native.Mathlib.Omega.{arith}
-use lib.IntN.{ℤ, pos, negsuc}
-use lib.Dec.{ltb}
-use lib.ListN.{set, length, length-set}
-use mir.Syntax.{w64}
-use mir.Val.{toZ}
-use borrow.Author.Tests.{lt-ltb, le-ltb}
+use Rattle.prelude.specs.Kit.{ℕ, _≤_, _+_, _<_, _^_, arith, true, false, Bool, cond, _≡_, refl, _∙_, ap, List, ltb, ℤ}
+use Rattle.prelude.specs.Kit.{pos, negsuc, length, set, length-set, lt-ltb, le-ltb, w64, toZ}
 use Rattle.machine_code.specs.Reading.{low-bits}
 use Rattle.machine_frames.specs.Frames.{level-place, lowest-place, level-of, lowest-of, levelled, noted}
 use Rattle.machine_frames.specs.Frames.{raised}

@@ -1,10 +1,5 @@
 -- Laws of a result that is bound to a name.
-use mathlib.Core.Path.{_≡_, ap₂}
-use mathlib.Core.List.{List}
-use Prim.Native.Nat.{ℕ}
-use lib.IntN.{ℤ}
-use lib.ListN.{set}
-use borrow.Author.Tests.{eq-eqb, ne-eqb}
+use Rattle.prelude.specs.Kit.{ℕ, _≡_, ap₂, List, ℤ, set, ne-eqb, eq-eqb}
 use Rattle.machine_frames.specs.declared.Out.{Out}
 use Rattle.machine_frames.specs.Frames.{place}
 use Rattle.machine_frames.specs.Work.{left, out, bound-result}

@@ -1,14 +1,6 @@
 -- Laws of the tests of a word: whether it is a number from 0 on that is below a bound, and whether it is 0.
-use mathlib.Core.Path.{_≡_, refl, sym}
-use mathlib.Core.Bool.{Bool, true, false}
-use Prim.Native.Nat.{ℕ, zero, suc, _^_, _<_}
-use native.Mathlib.Omega.{arith}
-use lib.IntN.{ℤ, pos, negsuc}
-use lib.Signed.{ltZ, leZ, mag}
-use lib.Dec.{ltb, leb}
-use mir.Syntax.{w64}
-use mir.Val.{ofZ}
-use borrow.Author.Tests.{lt-ltb, le-ltb, ltb-true, leb-true, leb-false}
+use Rattle.prelude.specs.Kit.{ℕ, _<_, suc, zero, _^_, arith, true, false, Bool, _≡_, refl, sym, ltb, leb, ℤ, pos}
+use Rattle.prelude.specs.Kit.{negsuc, ltZ, mag, leZ, lt-ltb, le-ltb, ltb-true, leb-true, leb-false, w64, ofZ}
 use Rattle.semantics.specs.Number.{is-zero, inside}
 use Rattle.machine_code.proofs.Reading.{no-bool}
 

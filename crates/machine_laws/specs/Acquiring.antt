@@ -1,10 +1,5 @@
 -- A cell acquired over positions is the one that the machine acquires.
-use mathlib.Core.Path.{_≡_, refl}
-use mathlib.Core.Bool.{Bool, true, false, cond}
-use mathlib.Core.List.{List}
-use Prim.Native.Nat.{ℕ, _-_}
-use native.Mathlib.Omega.{arith}
-use lib.IntN.{ℤ}
+use Rattle.prelude.specs.Kit.{ℕ, _-_, arith, true, false, Bool, cond, _≡_, refl, List, ℤ}
 use Rattle.semantics.specs.Outcome.{Outcome, done, stop}
 use Rattle.semantics.specs.Store.{has-free, acquired}
 use Rattle.semantics.specs.Live.{Set}

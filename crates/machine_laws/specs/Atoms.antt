@@ -1,11 +1,6 @@
 -- The words of the atoms that follow a line.
-use mathlib.Core.Path.{_≡_, refl, sym, ap, ap₂, _∙_}
-use mathlib.Core.Bool.{false}
-use mathlib.Core.List.{List, [], _∷_, map}
-use Prim.Native.Nat.{ℕ, zero, suc, _+_, _-_, _<_, _≤_}
-use native.Mathlib.Omega.{arith}
-use lib.IntN.{ℤ}
-use lib.ListN.{getD, length}
+use Rattle.prelude.specs.Kit.{ℕ, _≤_, _+_, _<_, _-_, suc, zero, arith, false, _≡_, refl, _∙_, sym, ap, ap₂, List, []}
+use Rattle.prelude.specs.Kit.{_∷_, map, ℤ, length, getD}
 use Rattle.semantics.specs.Code as K
 use Rattle.semantics.specs.Code.{atom-row}
 use Rattle.semantics.specs.Live.{Set}

@@ -1,14 +1,7 @@
 -- Calls: the machine over positions, with some call depth left, is the machine of the definitions.
-use mathlib.Core.Path.{_≡_, refl, sym, ap, subst, _∙_}
-use mathlib.Core.Bool.{Bool, cond}
-use mathlib.Core.List.{List, [], _∷_}
-use Prim.Native.Nat.{ℕ, zero, suc, _+_, _%_, _<_, _≤_}
-use native.Mathlib.Omega.{arith}
-use lib.IntN.{ℤ, pos}
-use lib.Dec.{ltb}
-use lib.ListN.{getD, set, length, length-set}
-use lib.Seq.{getD-set-same, getD-set-other}
-use borrow.Author.Tests.{eq-eqb, ne-eqb, ltb-true}
+use Rattle.prelude.specs.Kit.{ℕ, _≤_, _+_, _<_, suc, zero, _%_, arith, Bool, cond, _≡_, refl, _∙_, sym, ap, subst, List}
+use Rattle.prelude.specs.Kit.{[], _∷_, ltb, ℤ, pos, length, getD, set, length-set, getD-set-other, getD-set-same}
+use Rattle.prelude.specs.Kit.{ne-eqb, eq-eqb, ltb-true}
 use Rattle.semantics.specs.Basics.{updated}
 use Rattle.semantics.specs.Outcome.{stop}
 use Rattle.semantics.specs.Code.{rows}

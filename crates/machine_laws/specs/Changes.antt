@@ -1,10 +1,5 @@
 -- Retains and releases as they stand in the code.
-use mathlib.Core.Path.{_≡_, refl, ap, _∙_}
-use mathlib.Core.Bool.{true}
-use mathlib.Core.List.{List}
-use Prim.Native.Nat.{ℕ, _+_, _-_, _%_}
-use native.Mathlib.Omega.{arith}
-use lib.IntN.{ℤ}
+use Rattle.prelude.specs.Kit.{ℕ, _+_, _-_, _%_, arith, true, _≡_, refl, _∙_, ap, List, ℤ}
 use Rattle.semantics.specs.Outcome.{done, onward}
 use Rattle.semantics.specs.Store.{cell-of, retained}
 use Rattle.semantics.specs.Kinds.{Borrowing}

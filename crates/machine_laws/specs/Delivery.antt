@@ -1,12 +1,7 @@
 -- The delivery over positions is the delivery of the definitions.
-use mathlib.Core.Path.{_≡_, refl, sym, subst, _∙_}
-use mathlib.Core.Bool.{Bool, true, false, cond}
-use mathlib.Core.List.{List, [], _∷_}
-use Prim.Native.Nat.{ℕ, zero, suc, _+_, _-_, _<_, _≤_}
-use native.Mathlib.Omega.{arith}
-use lib.IntN.{ℤ, pos}
-use lib.ListN.{set, length, replicate, length-set, length-replicate}
-use borrow.Author.Tests.{eq-eqb, ne-eqb}
+use Rattle.prelude.specs.Kit.{ℕ, _≤_, _+_, _<_, _-_, suc, zero, arith, true, false, Bool, cond, _≡_, refl, _∙_, sym}
+use Rattle.prelude.specs.Kit.{subst, List, [], _∷_, ℤ, pos, length, set, length-set, replicate, length-replicate}
+use Rattle.prelude.specs.Kit.{ne-eqb, eq-eqb}
 use Rattle.semantics.specs.Outcome.{Outcome, done, stop, Run, onward}
 use Rattle.semantics.specs.Code.{rows}
 use Rattle.semantics.specs.Store.{Store, cell-of, has-free, acquired, retained, with-totals, deepest, free-cells}

@@ -1,16 +1,7 @@
 -- The positions after trees, as one pass over the rows from the last to the first finds them, are those of the trees.
-use Prim.Native.Nat.{ℕ, zero, suc, _+_, _*_, _/_, _%_, _<_, _≤_}
-use native.Mathlib.Omega.{arith}
-use mathlib.Core.Path.{_≡_, refl, sym, ap, subst, _∙_}
-use mathlib.Core.Logic.{inl, inr}
-use mathlib.Core.Bool.{Bool, true, false}
-use lib.Dec.{ltb}
-use mathlib.Core.List.{List, [], _∷_, _++_, map}
-use lib.IntN.{ℤ}
-use lib.ListN.{getD, set, length, length-append, length-set}
-use lib.Seq.{getD-set-same, getD-set-other}
-use types.Run.{OneOf, miss}
-use borrow.Author.Tests.{ne-eqb, ltb-true, ltb-false}
+use Rattle.prelude.specs.Kit.{ℕ, _≤_, _+_, _<_, suc, zero, _*_, _%_, _/_, arith, true, false, Bool, _≡_, refl, _∙_, sym}
+use Rattle.prelude.specs.Kit.{ap, subst, inl, inr, List, [], _∷_, _++_, map, ltb, ℤ, length, getD, set, length-set}
+use Rattle.prelude.specs.Kit.{length-append, getD-set-other, getD-set-same, ne-eqb, ltb-true, ltb-false, OneOf, miss}
 use Rattle.semantics.specs.Kinds.{Leaf, Loop, mapping, filtering, reducing, rewriting, leaf-kind, loop-kind}
 use Rattle.semantics.specs.Kinds.{packed-names}
 use Rattle.semantics.specs.Code as C

@@ -1,16 +1,7 @@
 -- Frames that agree with a list of words, and what work in the frame of a call leaves alone.
-use mathlib.Core.Path.{_≡_, refl, sym, ap, subst, _∙_}
-use mathlib.Core.Logic.{_≢_, inl, inr}
-use mathlib.Core.Bool.{Bool, true, false, cond, or-false, or-assoc}
-use mathlib.Core.List.{List, [], _∷_}
-use Prim.Native.Nat.{ℕ, _+_, _*_, _%_, _<_, _≤_}
-use native.Mathlib.Omega.{arith}
-use native.Mathlib.Decide.{ℕ-discrete}
-use lib.IntN.{ℤ, pos}
-use lib.Dec.{eqb}
-use lib.ListN.{getD, set, length, length-set}
-use lib.Seq.{getD-set-same, getD-set-other}
-use borrow.Author.Tests.{eq-eqb, ne-eqb, eqb-true}
+use Rattle.prelude.specs.Kit.{ℕ, _≤_, _+_, _<_, _*_, _%_, arith, ℕ-discrete, true, false, Bool, cond, or-false}
+use Rattle.prelude.specs.Kit.{or-assoc, _≡_, refl, _∙_, sym, ap, subst, inl, inr, _≢_, List, [], _∷_, eqb, ℤ, pos}
+use Rattle.prelude.specs.Kit.{length, getD, set, length-set, getD-set-other, getD-set-same, ne-eqb, eq-eqb, eqb-true}
 use Rattle.semantics.specs.Basics.{updated}
 use Rattle.semantics.specs.Kinds.{later-parts}
 use Rattle.semantics.specs.Code as C

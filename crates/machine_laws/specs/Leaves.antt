@@ -1,14 +1,8 @@
 -- The lines that work no tree, as they stand in the code: one law for each kind of leaf.
-use mathlib.Core.Path.{_≡_, refl, sym, ap, ap₂, subst, _∙_}
-use mathlib.Core.Bool.{Bool, true, false, cond}
-use mathlib.Core.Option.{some}
-use mathlib.Core.List.{List, [], _∷_, _++_, map}
-use Prim.Native.Nat.{ℕ, zero, suc, _+_, _-_, _*_, _/_, _%_, _<_, _≤_}
-use native.Mathlib.Omega.{arith}
-use lib.IntN.{ℤ, pos, natAbs}
+use Rattle.prelude.specs.Kit.{ℕ, _≤_, _+_, _<_, _-_, suc, zero, _*_, _%_, _/_, arith, true, false, Bool, cond, _≡_}
+use Rattle.prelude.specs.Kit.{refl, _∙_, sym, ap, subst, ap₂, some, List, [], _∷_, _++_, map, ℤ, pos, natAbs, length}
+use Rattle.prelude.specs.Kit.{getD, length-map, leb-false}
 use lib.ListN as List
-use lib.ListN.{getD, length, length-map}
-use borrow.Author.Tests.{leb-false}
 use Rattle.semantics.specs.Basics.{updated, tabulate}
 use Rattle.semantics.specs.Outcome.{Outcome, done, stop, onward, _>>=_, _>>_, give, require}
 use Rattle.semantics.specs.Number.{Operation, sum, difference, less, exact, fits, inside}

@@ -1,14 +1,7 @@
 -- The levels among the frames are those of a log, while no more cells are free than a store has.
-use mathlib.Core.Path.{_≡_, refl, sym, ap, ap₂, subst, _∙_}
-use mathlib.Core.Bool.{Bool, true, false, cond}
-use mathlib.Core.List.{List, [], _∷_, _++_, append-nil}
-use Prim.Native.Nat.{ℕ, _+_, _-_, _*_, _%_, _<_, _≤_, min}
-use native.Mathlib.Omega.{arith}
-use lib.IntN.{ℤ, pos}
-use lib.Dec.{ltb}
-use lib.ListN.{getD, set, length, length-set}
-use lib.Seq.{getD-set-same, getD-set-other}
-use borrow.Author.Tests.{ltb-true, ltb-false}
+use Rattle.prelude.specs.Kit.{ℕ, _≤_, _+_, _<_, _-_, _*_, _%_, min, arith, true, false, Bool, cond, _≡_, refl, _∙_, sym}
+use Rattle.prelude.specs.Kit.{ap, subst, ap₂, List, [], _∷_, _++_, append-nil, ltb, ℤ, pos, length, getD, set}
+use Rattle.prelude.specs.Kit.{length-set, getD-set-other, getD-set-same, ltb-true, ltb-false}
 use Rattle.semantics.specs.Store.{Store, released, deepest, cells-taken}
 use Rattle.semantics.specs.Live.{Set}
 use Rattle.semantics.specs.Machine.{Event, acquires, touching, release-events, level-after, lowest-over}

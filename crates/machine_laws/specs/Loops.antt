@@ -1,11 +1,6 @@
 -- The passes of a loop over positions are those of the machine, by what a pass carries.
-use mathlib.Core.Path.{_≡_, refl, sym, ap, ap₂, subst, _∙_}
-use mathlib.Core.List.{List, [], _∷_, _++_, map}
-use Prim.Native.Nat.{ℕ, zero, suc, _+_, _-_, _*_, _/_, _%_, _<_, _≤_, pred}
-use native.Mathlib.Omega.{arith}
-use native.Mathlib.Numerals.{sub-one}
-use lib.IntN.{ℤ, pos}
-use lib.ListN.{getD, length}
+use Rattle.prelude.specs.Kit.{ℕ, _≤_, _+_, _<_, _-_, suc, zero, _*_, _%_, _/_, pred, arith, sub-one, _≡_, refl, _∙_}
+use Rattle.prelude.specs.Kit.{sym, ap, subst, ap₂, List, [], _∷_, _++_, map, ℤ, pos, length, getD}
 use Rattle.semantics.specs.Basics.{tabulate, updated}
 use Rattle.semantics.specs.Outcome.{Outcome, stop, onward, _>>_, give, passes}
 use Rattle.semantics.specs.Kinds.{Loop, mapping, filtering, reducing, rewriting, loop-kind, packed-names}

@@ -1,15 +1,8 @@
 -- What a loop and its passes begin with and carry on over positions is what they do in the machine: a clause for each
 -- kind of loop.
-use mathlib.Core.Path.{_≡_, refl, sym, ap, ap₂, subst, _∙_}
-use mathlib.Core.Bool.{Bool, true, false, cond, not, _||_}
-use mathlib.Core.List.{List, [], _∷_, _++_}
-use Prim.Native.Nat.{ℕ, zero, suc, _-_, _<_}
-use native.Mathlib.Omega.{arith}
-use lib.IntN.{ℤ, pos}
-use lib.Dec.{eqb}
-use lib.ListN.{getD, length-set}
-use lib.Seq.{getD-set-same}
-use borrow.Author.Tests.{eq-eqb, ne-eqb}
+use Rattle.prelude.specs.Kit.{ℕ, _<_, _-_, suc, zero, arith, true, false, Bool, cond, not, _||_, _≡_, refl, _∙_, sym}
+use Rattle.prelude.specs.Kit.{ap, subst, ap₂, List, [], _∷_, _++_, eqb, ℤ, pos, getD, length-set, getD-set-same, ne-eqb}
+use Rattle.prelude.specs.Kit.{eq-eqb}
 use Rattle.semantics.specs.Basics.{updated}
 use Rattle.semantics.specs.Outcome.{onward, _>>=_, _>>_, give, require}
 use Rattle.semantics.specs.Number.{is-zero, is-answer}

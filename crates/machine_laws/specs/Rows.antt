@@ -1,17 +1,7 @@
 -- Rows that stand in the code arrays from a position on, and what is read there.
-use mathlib.Core.Path.{_≡_, refl, sym, ap, subst, _∙_}
-use mathlib.Core.Bool.{true, false, not, _&&_}
-use mathlib.Core.Logic.{inl, inr}
-use mathlib.Core.List.{List, [], _∷_, _++_}
-use Prim.Native.Nat.{ℕ, suc, _+_, _%_, _<_, _≤_}
-use native.Mathlib.Omega.{arith}
-use lib.IntN.{ℤ, pos}
-use lib.Dec.{T, ltb}
-use lib.ListN.{getD, length, take, length-append, length-take}
-use lib.Seq.{getD-take}
-use mir.Val.{hasKey}
-use types.Run.{miss}
-use borrow.Author.Tests.{ne-eqb, lt-ltb}
+use Rattle.prelude.specs.Kit.{ℕ, _≤_, _+_, _<_, suc, _%_, arith, true, false, _&&_, not, _≡_, refl, _∙_, sym, ap, subst}
+use Rattle.prelude.specs.Kit.{inl, inr, List, [], _∷_, _++_, ltb, T, ℤ, pos, length, getD, take, length-append}
+use Rattle.prelude.specs.Kit.{length-take, getD-take, ne-eqb, lt-ltb, hasKey, miss}
 use Rattle.semantics.specs.Number.{sum, difference, less}
 use Rattle.semantics.specs.Kinds.{Leaf, operation, call, literal, index, length-of, iota, replicate, leaf-kind}
 use Rattle.semantics.specs.Kinds.{Loop, mapping, filtering, reducing, rewriting, loop-kind}

@@ -1,13 +1,7 @@
 -- How work over positions agrees with a run of the machine: it goes on with what P says, or it stops with the same
 -- number and the same steps left.
-use mathlib.Core.Path.{_≡_, refl, sym, ap, ap₂, subst, _∙_}
-use mathlib.Core.Bool.{true}
-use mathlib.Core.List.{List}
-use Prim.Native.Nat.{ℕ, zero, suc, _*_, _<_, _≤_}
-use native.Mathlib.Omega.{arith}
-use lib.IntN.{ℤ, pos}
-use lib.ListN.{getD, set, length}
-use borrow.Author.Tests.{eq-eqb, ne-eqb}
+use Rattle.prelude.specs.Kit.{ℕ, _≤_, _<_, suc, zero, _*_, arith, true, _≡_, refl, _∙_, sym, ap, subst, ap₂, List, ℤ}
+use Rattle.prelude.specs.Kit.{pos, length, getD, set, ne-eqb, eq-eqb}
 use Rattle.semantics.specs.Basics.{updated}
 use Rattle.semantics.specs.Outcome.{Outcome, done, stop, Run, onward}
 use Rattle.semantics.specs.Live.{Set, _∪_, only}

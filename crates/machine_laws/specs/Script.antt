@@ -1,12 +1,6 @@
 -- The delivery over positions, on the code of an accepted script, is the delivery of the definitions.
-use Prim.Native.Nat.{ℕ, zero, suc, _+_, _<_, _≤_}
-use native.Mathlib.Omega.{arith}
-use mathlib.Core.Path.{_≡_, refl, sym, ap, subst, _∙_}
-use mathlib.Core.Bool.{true}
-use mathlib.Core.List.{List, [], _∷_, _++_, map, append-assoc}
-use lib.IntN.{ℤ, pos}
-use lib.ListN.{getD, length, take, length-append}
-use lib.Seq.{getD-append-seam}
+use Rattle.prelude.specs.Kit.{ℕ, _≤_, _+_, _<_, suc, zero, arith, true, _≡_, refl, _∙_, sym, ap, subst, List, [], _∷_}
+use Rattle.prelude.specs.Kit.{_++_, map, append-assoc, ℤ, pos, length, getD, take, length-append, getD-append-seam}
 use Rattle.discipline.specs.machine.Size.{function-within}
 use Rattle.soundness.specs.Delivering.{levels-bounded}
 use Rattle.semantics.specs.Syntax.{Parameter, Function, Script, function-at, no-function, main-depth}

@@ -1,12 +1,6 @@
 -- The table's positions, from the places of a script's functions, are those of the functions' trees.
-use Prim.Native.Nat.{ℕ, zero, suc, _+_, _-_, _*_, _%_, _<_, _≤_}
-use native.Mathlib.Omega.{arith}
-use mathlib.Core.Path.{_≡_, refl, ap, ap₂, _∙_}
-use mathlib.Core.Bool.{Bool, true, false, cond}
-use lib.Dec.{ltb}
-use mathlib.Core.List.{List, [], _∷_}
-use lib.IntN.{ℤ}
-use lib.ListN.{getD, length, length-append}
+use Rattle.prelude.specs.Kit.{ℕ, _≤_, _+_, _<_, _-_, suc, zero, _*_, _%_, arith, true, false, Bool, cond, _≡_, refl}
+use Rattle.prelude.specs.Kit.{_∙_, ap, ap₂, List, [], _∷_, ltb, ℤ, length, getD, length-append}
 use Rattle.semantics.specs.Syntax.{Function, Script}
 use Rattle.semantics.specs.Code.{Row, rows}
 use Rattle.semantics.specs.Borrow.{Table}

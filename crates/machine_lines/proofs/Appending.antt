@@ -1,11 +1,5 @@
 -- The loop that appends the words of the atoms that follow a line to a cell.
-use mathlib.Core.Path.{_≡_, sym, ap, _∙_}
-use mathlib.Core.Bool.{true, false}
-use mathlib.Core.List.{List, []}
-use Prim.Native.Nat.{ℕ, _+_, _<_, _≤_}
-use native.Mathlib.Omega.{arith}
-use lib.IntN.{ℤ}
-use lib.ListN.{getD, length}
+use Rattle.prelude.specs.Kit.{ℕ, _≤_, _+_, _<_, arith, true, false, _≡_, _∙_, sym, ap, List, [], ℤ, length, getD}
 use Rattle.semantics.specs.Store.{Store, appended}
 use Rattle.store.specs.Acquiring.{appended-all}
 use Rattle.machine_code.specs.Reading.{is-atom, atom-at}

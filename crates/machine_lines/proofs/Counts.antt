@@ -1,16 +1,7 @@
 -- Laws of the arrays of a count of elements.
-use mathlib.Core.Path.{_≡_, refl, sym, ap, ap₂, _∙_}
-use mathlib.Core.Bool.{Bool, true, false, cond}
-use mathlib.Core.List.{List}
-use Prim.Native.Nat.{ℕ, zero, suc, _+_, _-_, _<_, _≤_}
-use native.Mathlib.Omega.{arith}
-use lib.IntN.{ℤ, pos, negsuc, natAbs}
-use lib.Dec.{T}
-use lib.Signed.{nonNeg}
-use mir.Syntax.{w64}
-use mir.Val.{Fits}
-use lib.ListN.{getD, length, length-replicate, getD-replicate}
-use borrow.Author.Tests.{ltb-true}
+use Rattle.prelude.specs.Kit.{ℕ, _≤_, _+_, _<_, _-_, suc, zero, arith, true, false, Bool, cond, _≡_, refl, _∙_, sym, ap}
+use Rattle.prelude.specs.Kit.{ap₂, List, T, ℤ, pos, negsuc, natAbs, nonNeg, length, getD, length-replicate}
+use Rattle.prelude.specs.Kit.{getD-replicate, ltb-true, w64, Fits}
 use Rattle.semantics.specs.Outcome.{Outcome, done, stop}
 use Rattle.semantics.specs.Machine.{is-count}
 use Rattle.semantics.specs.Store.{Store, cell-of, has-free, acquired, retained}

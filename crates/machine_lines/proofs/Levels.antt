@@ -1,10 +1,5 @@
 -- How many words the frames have after a cell is acquired, and after an array is made.
-use mathlib.Core.Path.{_≡_, refl, _∙_}
-use mathlib.Core.Bool.{Bool, true, false, cond}
-use mathlib.Core.List.{List}
-use Prim.Native.Nat.{ℕ, zero, suc}
-use lib.IntN.{ℤ, natAbs}
-use lib.ListN.{length}
+use Rattle.prelude.specs.Kit.{ℕ, suc, zero, true, false, Bool, cond, _≡_, refl, _∙_, List, ℤ, natAbs, length}
 use Rattle.semantics.specs.Outcome.{Outcome, done, stop}
 use Rattle.semantics.specs.Machine.{is-count}
 use Rattle.store.specs.Acquiring.{Gained}

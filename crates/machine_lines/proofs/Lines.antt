@@ -1,18 +1,8 @@
 -- Laws of the lines that work no tree: one for each way out of the code.
-use mathlib.Core.Path.{_≡_, refl, sym, ap, ap₂, _∙_}
-use mathlib.Core.Bool.{Bool, true, false, cond, not}
-use mathlib.Core.List.{List, [], _∷_}
-use Prim.Native.Nat.{ℕ, zero, suc, _+_, _-_, _<_, _≤_}
-use native.Mathlib.Omega.{arith}
-use lib.IntN.{ℤ, pos, negsuc, natAbs}
-use lib.Signed.{ltZ}
-use lib.Dec.{T, ltb}
-use lib.ListN.{getD, set, length}
-use denote.Enum.Declared.{tagOf}
-use types.Run.{OneOf, miss}
-use mir.Val.{hasKey}
+use Rattle.prelude.specs.Kit.{ℕ, _≤_, _+_, _<_, _-_, suc, zero, arith, true, false, Bool, cond, not, _≡_, refl, _∙_}
+use Rattle.prelude.specs.Kit.{sym, ap, ap₂, List, [], _∷_, ltb, T, ℤ, pos, negsuc, natAbs, ltZ, length, getD, set}
+use Rattle.prelude.specs.Kit.{lt-ltb, le-ltb, ltb-true, ltb-false, tagOf, hasKey, OneOf, miss}
 use Rattle.machine_code.proofs.Line.{the-type}
-use borrow.Author.Tests.{lt-ltb, le-ltb, ltb-true, ltb-false}
 use Rattle.semantics.specs.Outcome.{Outcome, done, stop}
 use Rattle.semantics.specs.Number.{Operation, less, exact, fits, inside}
 use Rattle.semantics.specs.Store.{Store, cell, cell-of, elements, acquired, has-free, cell-count, retained}

@@ -1,15 +1,7 @@
 -- Laws of what a loop begins with, and of the cells that its passes use.
-use mathlib.Core.Path.{_≡_, refl, sym, ap, ap₂, subst, _∙_}
-use mathlib.Core.Bool.{Bool, true, false, cond, true≢false}
-use mathlib.Core.List.{List, [], _∷_, map}
-use Prim.Native.Nat.{ℕ, _<_}
-use native.Mathlib.Omega.{arith}
-use lib.IntN.{ℤ, pos}
-use lib.Dec.{eqb, ltb}
-use lib.ListN.{length}
-use denote.Enum.Declared.{tagOf}
-use types.Run.{OneOf, miss}
-use borrow.Author.Tests.{eq-eqb, ne-eqb, ltb-true, ltb-false}
+use Rattle.prelude.specs.Kit.{ℕ, _<_, arith, true, false, Bool, cond, true≢false, _≡_, refl, _∙_, sym, ap, subst, ap₂}
+use Rattle.prelude.specs.Kit.{List, [], _∷_, map, eqb, ltb, ℤ, pos, length, ne-eqb, eq-eqb, ltb-true, ltb-false, tagOf}
+use Rattle.prelude.specs.Kit.{OneOf, miss}
 use Rattle.semantics.specs.Kinds.{Loop, rewriting}
 use Rattle.semantics.specs.Store.{Store, Cell as C, cell, cell-of, clear, elements, acquired, has-free, cell-count}
 use Rattle.semantics.specs.Machine.{looped-over}

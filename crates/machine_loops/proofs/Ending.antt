@@ -1,16 +1,6 @@
 -- Laws of what a pass carries on, and of what a loop ends with.
-use mathlib.Core.Path.{_≡_, refl, sym, ap, ap₂, subst, _∙_}
-use mathlib.Core.Bool.{Bool, true, false, cond}
-use mathlib.Core.List.{List, [], _∷_}
-use Prim.Native.Nat.{ℕ, _-_}
-use native.Mathlib.Omega.{arith}
-use lib.IntN.{ℤ}
-use lib.ListN.{length}
-use denote.Enum.Declared.{tagOf}
-use types.Run.{OneOf, miss}
-use mir.Syntax.{w64}
-use mir.Val.{SFits, ofZ}
-use borrow.Author.Tests.{eq-eqb, ne-eqb}
+use Rattle.prelude.specs.Kit.{ℕ, _-_, arith, true, false, Bool, cond, _≡_, refl, _∙_, sym, ap, subst, ap₂, List, []}
+use Rattle.prelude.specs.Kit.{_∷_, ℤ, length, ne-eqb, eq-eqb, tagOf, w64, ofZ, SFits, OneOf, miss}
 use Rattle.semantics.specs.Outcome.{done, stop}
 use Rattle.semantics.specs.Number.{is-answer}
 use Rattle.semantics.specs.Store.{Store, cell-of, appended, overwritten, retained, cells-taken}

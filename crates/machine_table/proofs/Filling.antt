@@ -1,13 +1,7 @@
 -- The loops over the rows and over the functions.
-use mathlib.Core.Path.{_≡_, refl, sym, ap, _∙_}
-use mathlib.Core.Bool.{Bool, true, false, cond}
-use mathlib.Core.List.{List}
-use Prim.Native.Nat.{ℕ, zero, suc, _+_, _-_, _*_, _/_, _%_, _<_, _≤_}
-use native.Mathlib.Omega.{arith}
-use lib.IntN.{ℤ, pos}
-use lib.Dec.{eqb}
-use lib.ListN.{getD, set, length, length-set}
-use borrow.Author.Tests.{lt-ltb, le-ltb, ne-eqb}
+use Rattle.prelude.specs.Kit.{ℕ, _≤_, _+_, _<_, _-_, suc, zero, _*_, _%_, _/_, arith, true, false, Bool, cond, _≡_}
+use Rattle.prelude.specs.Kit.{refl, _∙_, sym, ap, List, eqb, ℤ, pos, length, getD, set, length-set, ne-eqb, lt-ltb}
+use Rattle.prelude.specs.Kit.{le-ltb}
 use Rattle.machine_code.specs.Reading.{table-bytes, ends-place, starts-place, low-bits}
 use Rattle.machine_code.proofs.Reading.{less-one}
 use Rattle.machine_table.specs.Positions.{with-position, trees-of, past-trees, with-end, end-of, ends-from}

@@ -1,9 +1,6 @@
 -- Laws of the atoms of a line, in the terms of a walk from the last to the first.
-use mathlib.Core.Path.{_≡_, refl, sym, ap, _∙_}
-use mathlib.Core.List.{List, [], _∷_}
-use Prim.Native.Nat.{ℕ, zero, suc, _+_, _-_, _<_, _≤_}
-use native.Mathlib.Omega.{arith}
-use lib.ListN.{length, getD}
+use Rattle.prelude.specs.Kit.{ℕ, _≤_, _+_, _<_, _-_, suc, zero, arith, _≡_, refl, _∙_, sym, ap, List, [], _∷_, length}
+use Rattle.prelude.specs.Kit.{getD}
 use Rattle.semantics.specs.Code as C
 use Rattle.semantics.specs.Live.{Set, is, _∪_, among}
 use Rattle.plain_rows.specs.Plain.{placed, atoms-at, meant}

@@ -1,8 +1,5 @@
 -- Loops as they are read and as they are written.
-use mathlib.Core.Path.{_≡_, refl}
-use mathlib.Core.Bool.{Bool, true, false, cond}
-use mathlib.Core.List.{List}
-use Prim.Native.Nat.{ℕ}
+use Rattle.prelude.specs.Kit.{ℕ, true, false, Bool, cond, _≡_, refl, List}
 use Rattle.semantics.specs.Kinds.{Loop, mapping, filtering, reducing, rewriting, loop-kind}
 use Rattle.semantics.specs.Code.{Atom}
 use Rattle.semantics.specs.Live.{Set}

@@ -1,15 +1,7 @@
 -- Laws of the reading of rows: one for each way out of a reader.
-use mathlib.Core.Path.{_≡_, refl}
-use mathlib.Core.List.{List, [], _∷_}
-use Prim.Native.Nat.{ℕ, zero, suc, _+_, _-_, _*_, _/_, _%_, _<_, _≤_}
-use native.Mathlib.Omega.{arith}
-use lib.IntN.{ℤ, pos}
-use lib.ListN.{length, getD}
-use native.Mathlib.Decide.{ℕ-discrete}
-use mathlib.Core.Logic.{_⊎_, inl, inr, ⊎-elim}
-use borrow.Author.Tests.{lt-ltb, le-ltb, le-leb, lt-leb, ne-eqb}
-use mathlib.Core.Bool.{Bool, true, false, cond}
-use lib.Dec.{eqb}
+use Rattle.prelude.specs.Kit.{ℕ, _≤_, _+_, _<_, _-_, suc, zero, _*_, _%_, _/_, arith, ℕ-discrete, true, false, Bool}
+use Rattle.prelude.specs.Kit.{cond, _≡_, refl, inl, inr, _⊎_, ⊎-elim, List, [], _∷_, eqb, ℤ, pos, length, getD, ne-eqb}
+use Rattle.prelude.specs.Kit.{lt-ltb, le-ltb, le-leb, lt-leb}
 use Rattle.semantics.specs.Number.{bytes-at, signed}
 use Rattle.semantics.specs.Kinds.{Loop, mapping, filtering, reducing, rewriting}
 use Rattle.plain_rows.specs.Plain.{number-at, placed, line-of, line-at, loop-of, loop-size, of-loop}

@@ -1,15 +1,8 @@
 -- Sets of names as arrays of bools.
-use mathlib.Core.Path.{_≡_, refl, sym, ap, _∙_, fun-ext}
-use mathlib.Core.Bool.{Bool, true, false, _||_, _&&_, not}
-use mathlib.Core.Logic.{_⊎_, inl, inr, ⊎-elim}
-use mathlib.Core.List.{List, [], _∷_}
-use Prim.Native.Nat.{ℕ, zero, suc, _+_, _<_, _≤_}
-use native.Mathlib.Omega.{arith}
-use native.Mathlib.Decide.{ℕ-discrete, decLt}
-use lib.Dec.{eqb}
-use lib.ListN.{length, getD, set, length-set, replicate, List·getD-eq-default}
-use lib.Seq.{getD-set-same, getD-set-other}
-use borrow.Author.Tests.{eq-eqb, ne-eqb}
+use Rattle.prelude.specs.Kit.{ℕ, _≤_, _+_, _<_, suc, zero, arith, decLt, ℕ-discrete, true, false, Bool, _&&_, not, _||_}
+use Rattle.prelude.specs.Kit.{_≡_, refl, _∙_, sym, ap, fun-ext, inl, inr, _⊎_, ⊎-elim, List, [], _∷_, eqb, length, getD}
+use Rattle.prelude.specs.Kit.{set, length-set, List·getD-eq-default, replicate, getD-set-other, getD-set-same, ne-eqb}
+use Rattle.prelude.specs.Kit.{eq-eqb}
 use Rattle.semantics.specs.Live.{Set, _∪_, _∖_, only, empty}
 use Rattle.plain_rows.specs.Plain.{set-of}
 

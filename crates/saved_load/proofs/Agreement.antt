@@ -1,11 +1,6 @@
 -- Loading by entries does what loading the value does that the entries spell.
-use Prim.Native.Nat.{ℕ, zero, suc, _+_, _-_}
-use native.Mathlib.Omega.{arith}
-use mathlib.Core.Bool.{Bool, true, false, cond, _&&_}
-use mathlib.Core.Path.{_≡_, refl, sym, ap, _∙_}
-use mathlib.Core.List.{List, [], _∷_}
-use lib.IntN.{ℤ, pos}
-use lib.Dec.{eqb, ltb, leb}
+use Rattle.prelude.specs.Kit.{ℕ, _+_, _-_, suc, zero, arith, true, false, Bool, cond, _&&_, _≡_, refl, _∙_, sym, ap}
+use Rattle.prelude.specs.Kit.{List, [], _∷_, eqb, ltb, leb, ℤ, pos}
 use Rattle.semantics.specs.Outcome.{Outcome, done, stop, Run, give, onward, times, passes}
 use Rattle.semantics.specs.Number.{is-zero}
 use Rattle.semantics.specs.Value.{Value, num, list}

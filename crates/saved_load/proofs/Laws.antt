@@ -1,12 +1,6 @@
 -- The ways out of loading by entries.
-use Prim.Native.Nat.{ℕ, zero, suc, _+_, _-_, _*_, _<_, _≤_}
-use native.Mathlib.Omega.{arith}
-use mathlib.Core.Bool.{Bool, true, false, cond}
-use mathlib.Core.Path.{_≡_, refl, sym, ap, _∙_, subst}
-use mathlib.Core.Logic.{_≢_}
-use mathlib.Core.List.{List, []}
-use lib.IntN.{ℤ, pos}
-use borrow.Author.Tests.{lt-ltb, le-ltb, ltb-true}
+use Rattle.prelude.specs.Kit.{ℕ, _≤_, _+_, _<_, _-_, suc, zero, _*_, arith, true, false, Bool, cond, _≡_, refl, _∙_}
+use Rattle.prelude.specs.Kit.{sym, ap, subst, _≢_, List, [], ℤ, pos, lt-ltb, le-ltb, ltb-true}
 use Rattle.semantics.specs.Outcome.{Outcome, done, stop, Run, onward}
 use Rattle.semantics.specs.Number.{bytes-at, signed}
 use Rattle.semantics.specs.Store.{Store, cell-count, has-free, acquired}

@@ -1,15 +1,7 @@
 -- The ways out of the test of a saved file.
-use Prim.Native.Nat.{ℕ, zero, suc, _+_, _-_, _*_, _<_, _≤_, _^_}
-use native.Mathlib.Omega.{arith}
-use native.Mathlib.Decide.{decLt}
-use mathlib.Core.Bool.{Bool, true, false, cond, _&&_, and-false}
-use mathlib.Core.Path.{_≡_, refl, sym, ap, _∙_}
-use mathlib.Core.Logic.{_≢_}
-use mathlib.Core.List.{List, _∷_}
-use mathlib.Core.Option.{none, some}
-use lib.ListN.{length, getD}
-use lib.Dec.{eqb, leb}
-use borrow.Author.Tests.{lt-ltb, le-ltb, le-leb, lt-leb, eq-eqb, ne-eqb}
+use Rattle.prelude.specs.Kit.{ℕ, _≤_, _+_, _<_, _-_, suc, zero, _*_, _^_, arith, decLt, true, false, Bool, cond, _&&_}
+use Rattle.prelude.specs.Kit.{and-false, _≡_, refl, _∙_, sym, ap, _≢_, some, none, List, _∷_, eqb, leb, length, getD}
+use Rattle.prelude.specs.Kit.{ne-eqb, lt-ltb, eq-eqb, le-ltb, le-leb, lt-leb}
 use Rattle.semantics.specs.Outcome.{Outcome, done, stop, Run, give, onward, times}
 use Rattle.semantics.specs.Number.{bytes-at, signed, is-zero}
 use Rattle.semantics.specs.Value.{Value, list}

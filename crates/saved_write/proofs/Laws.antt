@@ -1,13 +1,7 @@
 -- The ways out of writing.
-use Prim.Native.Nat.{ℕ, suc, _+_, _-_, _*_, _/_, _%_, _<_, _≤_, min}
-use native.Mathlib.Omega.{arith}
-use mathlib.Core.Path.{_≡_, refl, sym, ap, _∙_}
-use mathlib.Core.Logic.{_≢_}
-use mathlib.Core.List.{List, [], _∷_, _++_}
-use lib.IntN.{ℤ, pos}
-use lib.ListN.{length, set, getD, drop, length-append, drop-of-length-le}
-use lib.Seq.{sets, drop-cons}
-use borrow.Author.Tests.{lt-ltb, le-ltb}
+use Rattle.prelude.specs.Kit.{ℕ, _≤_, _+_, _<_, _-_, suc, _*_, _%_, min, _/_, arith, _≡_, refl, _∙_, sym, ap, _≢_, List}
+use Rattle.prelude.specs.Kit.{[], _∷_, _++_, ℤ, pos, length, getD, set, drop, length-append, drop-of-length-le}
+use Rattle.prelude.specs.Kit.{drop-cons, sets, lt-ltb, le-ltb}
 use Rattle.semantics.specs.Store.{Store, cell, cell-of, elements}
 use Rattle.semantics.specs.Saved.{Entry, unsigned, low-bytes}
 use Rattle.saved_write.specs.Writing.{entry, gather, entries-at, Written, written, put-entry, put-entries}

@@ -1,14 +1,7 @@
 -- The ways out of saving totals: too many entries, no room, and the file.
-use Prim.Native.Nat.{ℕ, _+_, _-_, _*_, _/_, _%_, _<_, _≤_, min}
-use native.Mathlib.Omega.{arith}
-use mathlib.Core.Bool.{true, false, and-false}
-use mathlib.Core.Path.{_≡_, refl, sym, ap, _∙_}
-use mathlib.Core.List.{List, [], _∷_, _++_, append-assoc}
-use lib.IntN.{ℤ, pos}
-use lib.ListN.{length, set, getD, length-replicate, replicate-append-replicate}
-use lib.Seq.{sets}
-use lib.Dec.{leb}
-use borrow.Author.Tests.{le-leb, lt-leb}
+use Rattle.prelude.specs.Kit.{ℕ, _≤_, _+_, _<_, _-_, _*_, _%_, min, _/_, arith, true, false, and-false, _≡_, refl, _∙_}
+use Rattle.prelude.specs.Kit.{sym, ap, List, [], _∷_, _++_, append-assoc, leb, ℤ, pos, length, getD, set}
+use Rattle.prelude.specs.Kit.{length-replicate, replicate-append-replicate, sets, le-leb, lt-leb}
 use Rattle.semantics.specs.Store.{Store}
 use Rattle.semantics.specs.Words.{store-of}
 use Rattle.semantics.specs.Saved.{Entry, entries, entry-count, low-bytes, marks, number-bytes, file-bytes, saved-bytes}

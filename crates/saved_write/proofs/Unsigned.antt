@@ -1,15 +1,7 @@
 -- A signed number with its bits as an unsigned one.
-use Prim.Native.Nat.{ℕ, suc, _-_, _^_, _<_, _≤_}
-use native.Mathlib.Omega.{arith}
-use mathlib.Core.Path.{_≡_, refl, sym, ap, _∙_}
-use mathlib.Core.Bool.{true, false, true≢false}
-use lib.IntN.{ℤ, pos, negsuc, natAbs, _-ℤ_}
-use lib.Dec.{T}
-use lib.Signed.{mag, ltZ, nonNeg}
-use mir.Syntax.{w64}
-use mir.Val.{Fits, SFits, toZ, ofZ}
-use mir.Facts.{toZ-ofZ}
-use borrow.Author.Tests.{ltb-true, le-ltb}
+use Rattle.prelude.specs.Kit.{ℕ, _≤_, _<_, _-_, suc, _^_, arith, true, false, true≢false, _≡_, refl, _∙_, sym, ap, T, ℤ}
+use Rattle.prelude.specs.Kit.{pos, negsuc, natAbs, _-ℤ_, ltZ, mag, nonNeg, le-ltb, ltb-true, toZ-ofZ, w64, toZ, ofZ}
+use Rattle.prelude.specs.Kit.{SFits, Fits}
 use Rattle.semantics.specs.Saved.{unsigned}
 
 pub not-negative : (z : ℤ) → mag z < 2 ^ 63 → ltZ z (pos 0) ≡ false →

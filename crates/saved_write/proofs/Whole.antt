@@ -1,12 +1,7 @@
 -- The entries put one after another into a cleared buffer are the file.
-use Prim.Native.Nat.{ℕ, zero, suc, _+_, _-_, _*_}
-use native.Mathlib.Omega.{arith}
-use mathlib.Core.Path.{_≡_, refl, sym, ap, ap₂, _∙_}
-use mathlib.Core.List.{List, [], _∷_, _++_, map, append-assoc}
-use lib.IntN.{ℤ, pos}
-use lib.ListN.{length, set, replicate, length-append, length-map, length-replicate, replicate-append-replicate}
-use lib.Seq.{sets, set-at, append-snoc}
-use borrow.Author.Tests.{lt-ltb}
+use Rattle.prelude.specs.Kit.{ℕ, _+_, _-_, suc, zero, _*_, arith, _≡_, refl, _∙_, sym, ap, ap₂, List, [], _∷_, _++_}
+use Rattle.prelude.specs.Kit.{map, append-assoc, ℤ, pos, length, set, replicate, length-append, length-map}
+use Rattle.prelude.specs.Kit.{length-replicate, replicate-append-replicate, append-snoc, sets, set-at, lt-ltb}
 use Rattle.semantics.specs.Value.{Value, of-list}
 use Rattle.semantics.specs.Store.{Store, cell, cell-of, elements}
 use Rattle.semantics.specs.Demands.{value-of}

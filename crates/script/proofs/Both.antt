@@ -1,15 +1,8 @@
 -- The walk that asks for names and depths at once, beside the walks that ask for each: where it finds no fault the
 -- names are known and the depths match; where it finds one and the names are known, it is the fault of the depths.
-use Prim.Native.Nat.{ℕ, zero, suc, _+_, _-_, _<_, _≤_}
-use native.Mathlib.Omega.{arith}
-use mathlib.Core.Bool.{Bool, true, false, cond, not, _&&_}
-use mathlib.Core.List.{List, [], _∷_}
-use mathlib.Core.Logic.{_⊎_, inl, inr}
-use mathlib.Core.Option.{none}
-use mathlib.Core.Path.{_≡_, refl}
-use lib.Dec.{eqb, leb, ltb}
-use lib.ListN.{length, getD}
-use borrow.Author.Tests.{eqb-true, le-leb, lt-leb, lt-ltb, le-ltb}
+use Rattle.prelude.specs.Kit.{ℕ, _≤_, _+_, _<_, _-_, suc, zero, arith, true, false, Bool, cond, _&&_, not, _≡_, refl}
+use Rattle.prelude.specs.Kit.{inl, inr, _⊎_, none, List, [], _∷_, eqb, ltb, leb, length, getD, lt-ltb, le-ltb, eqb-true}
+use Rattle.prelude.specs.Kit.{le-leb, lt-leb}
 use Rattle.laws.specs.Tests.{both-hold}
 use Rattle.semantics.specs.Basics.{updated}
 use Rattle.semantics.specs.Outcome.{done, stop}

@@ -1,13 +1,6 @@
 -- The rules give depths of at most 4 to nodes whose parts have such depths.
-use Prim.Native.Nat.{ℕ, zero, suc, _-_, _≤_}
-use native.Mathlib.Omega.{arith}
-use mathlib.Core.Bool.{Bool, true, false, cond, _&&_}
-use mathlib.Core.List.{List, [], _∷_}
-use mathlib.Core.Option.{Option, none, some}
-use mathlib.Core.Path.{_≡_, refl}
-use lib.Dec.{eqb, leb}
-use lib.ListN.{getD}
-use borrow.Author.Tests.{eqb-true, leb-true}
+use Rattle.prelude.specs.Kit.{ℕ, _≤_, _-_, suc, zero, arith, true, false, Bool, cond, _&&_, _≡_, refl, some, none}
+use Rattle.prelude.specs.Kit.{Option, List, [], _∷_, eqb, leb, getD, eqb-true, leb-true}
 use Rattle.semantics.specs.File as S
 use Rattle.semantics.specs.File.{at-function, node-at, high-limits}
 use Rattle.semantics.specs.Types.{some-if, same, all-are, literal-rule, index-rule, length-rule}

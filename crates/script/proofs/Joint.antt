@@ -1,12 +1,6 @@
 -- What the walks for names, for depths and for both tell of a part, of parts one after the other, and of what binds.
-use Prim.Native.Nat.{ℕ, zero, suc, _+_, _-_, _≤_}
-use native.Mathlib.Omega.{arith}
-use mathlib.Core.Bool.{Bool, true, false, cond}
-use mathlib.Core.List.{List, [], _∷_}
-use mathlib.Core.Option.{Option, none, some}
-use mathlib.Core.Path.{_≡_, refl}
-use lib.Dec.{eqb}
-use borrow.Author.Tests.{ne-eqb}
+use Rattle.prelude.specs.Kit.{ℕ, _≤_, _+_, _-_, suc, zero, arith, true, false, Bool, cond, _≡_, refl, some, none}
+use Rattle.prelude.specs.Kit.{Option, List, [], _∷_, eqb, ne-eqb}
 use Rattle.semantics.specs.Basics.{updated}
 use Rattle.semantics.specs.Outcome.{done, stop}
 use Rattle.semantics.specs.File.{part-count}

@@ -1,10 +1,6 @@
 -- What the passes find in a script that the reader takes.
-use mathlib.Core.Path.{_≡_, refl, sym, ap, subst, _∙_}
-use mathlib.Core.List.{List, [], _∷_}
-use mathlib.Core.Option.{Option, none, some}
-use Prim.Native.Nat.{ℕ, _+_, _≤_}
-use native.Mathlib.Omega.{arith}
-use lib.ListN.{length}
+use Rattle.prelude.specs.Kit.{ℕ, _≤_, _+_, arith, _≡_, refl, _∙_, sym, ap, subst, some, none, Option, List, [], _∷_}
+use Rattle.prelude.specs.Kit.{length}
 use Rattle.semantics.specs.File.{script}
 use Rattle.semantics.specs.Names.{name-faults, unknown-in}
 use Rattle.semantics.specs.Types.{type-faults}

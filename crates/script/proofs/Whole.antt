@@ -1,14 +1,7 @@
 -- The whole file: its two parts, and its verdict.
-use mathlib.Core.Path.{_≡_, refl, _∙_}
-use mathlib.Core.Bool.{Bool, true, false, cond, _&&_}
-use mathlib.Core.List.{List, [], _∷_}
-use mathlib.Core.Option.{Option, none, some}
-use Prim.Native.Nat.{ℕ, _+_, _-_, _*_, _≤_}
-use native.Mathlib.Omega.{arith}
-use lib.Dec.{leb, ltb, eqb}
-use lib.ListN.{length, take, drop, length-take, length-drop}
-use lib.Seq.{take-all}
-use borrow.Author.Tests.{eqb-true, leb-true}
+use Rattle.prelude.specs.Kit.{ℕ, _≤_, _+_, _-_, _*_, arith, true, false, Bool, cond, _&&_, _≡_, refl, _∙_, some, none}
+use Rattle.prelude.specs.Kit.{Option, List, [], _∷_, eqb, ltb, leb, length, take, drop, length-take, length-drop}
+use Rattle.prelude.specs.Kit.{take-all, eqb-true, leb-true}
 use Rattle.semantics.specs.Outcome.{Outcome, done, stop}
 use Rattle.semantics.specs.Number.{bytes-at}
 use Rattle.semantics.specs.Syntax.{Script}

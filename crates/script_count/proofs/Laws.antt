@@ -1,13 +1,6 @@
 -- The pass over the kinds, in the terms of the code.
-use mathlib.Core.Path.{_≡_, refl, ap, _∙_}
-use mathlib.Core.Bool.{Bool, true, false, cond, _&&_}
-use mathlib.Core.List.{List, [], _∷_}
-use mathlib.Core.Option.{Option, none, some}
-use Prim.Native.Nat.{ℕ, zero, suc, _+_, _-_, _<_, _≤_}
-use native.Mathlib.Omega.{arith}
-use lib.Dec.{eqb, ltb}
-use lib.ListN.{length, getD}
-use borrow.Author.Tests.{ltb-true, lt-ltb, le-ltb}
+use Rattle.prelude.specs.Kit.{ℕ, _≤_, _+_, _<_, _-_, suc, zero, arith, true, false, Bool, cond, _&&_, _≡_, refl, _∙_}
+use Rattle.prelude.specs.Kit.{ap, some, none, Option, List, [], _∷_, eqb, ltb, length, getD, lt-ltb, le-ltb, ltb-true}
 use Rattle.semantics.specs.Outcome.{done, stop}
 use Rattle.script_count.specs.Count.{new-names, crowd-ends, start-after, count-after, counted-on, crowd}
 use Rattle.script_count.specs.Count.{crowd-outcome}

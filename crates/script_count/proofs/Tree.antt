@@ -1,13 +1,6 @@
 -- The pass gives the first function with over 256 new names.
-use Prim.Native.Nat.{ℕ, suc, _+_, _≤_}
-use native.Mathlib.Omega.{arith}
-use mathlib.Core.Bool.{Bool, true, cond, false≢true}
-use mathlib.Core.List.{List, [], _∷_}
-use mathlib.Core.Option.{some}
-use mathlib.Core.Path.{_≡_, refl, sym, ap, _∙_}
-use lib.Dec.{eqb, ltb}
-use lib.ListN.{length, getD}
-use borrow.Author.Tests.{eqb-true, ne-eqb}
+use Rattle.prelude.specs.Kit.{ℕ, _≤_, _+_, suc, arith, true, Bool, cond, false≢true, _≡_, refl, _∙_, sym, ap, some}
+use Rattle.prelude.specs.Kit.{List, [], _∷_, eqb, ltb, length, getD, ne-eqb, eqb-true}
 use Rattle.semantics.specs.Kinds.{Leaf, Loop}
 use Rattle.semantics.specs.Syntax as T
 use Rattle.semantics.specs.Syntax.{Expr, number, name, let-in, leaf, if-else, loop, Exprs, size, sizes, Parameter}

@@ -1,15 +1,7 @@
 -- The ways out of a part, in the terms of the code.
-use mathlib.Core.Path.{_≡_, refl, sym, ap, _∙_}
-use mathlib.Core.List.{List, [], _∷_, _++_, append-assoc, append-nil}
-use mathlib.Core.Bool.{true, false}
-use mathlib.Core.Option.{Option, none, some}
-use mathlib.Core.Logic.{_⊎_, ⊎-elim}
-use Prim.Native.Nat.{ℕ, zero, suc, _+_, _-_, _<_, _≤_}
-use native.Mathlib.Omega.{arith}
-use native.Mathlib.Numerals.{add-one}
-use lib.ListN.{length, getD, set, take, length-set}
-use lib.Seq.{take-suc-set}
-use borrow.Author.Tests.{eq-eqb, ne-eqb}
+use Rattle.prelude.specs.Kit.{ℕ, _≤_, _+_, _<_, _-_, suc, zero, arith, add-one, true, false, _≡_, refl, _∙_, sym, ap}
+use Rattle.prelude.specs.Kit.{_⊎_, ⊎-elim, some, none, Option, List, [], _∷_, _++_, append-assoc, append-nil, length}
+use Rattle.prelude.specs.Kit.{getD, set, length-set, take, take-suc-set, ne-eqb, eq-eqb}
 use Rattle.semantics.specs.Basics.{updated}
 use Rattle.semantics.specs.Outcome.{done, stop}
 use Rattle.semantics.specs.File.{at-part, look, part-count}

@@ -1,13 +1,7 @@
 -- The walk for depths gives a tree's depth, or the first of its nodes that break the rule.
-use Prim.Native.Nat.{ℕ, zero, suc, _+_}
-use native.Mathlib.Omega.{arith}
-use mathlib.Core.Bool.{Bool, true, false, cond, false≢true}
-use mathlib.Core.List.{List, [], _∷_, _++_, map}
-use mathlib.Core.Option.{Option, none, some}
-use mathlib.Core.Path.{_≡_, refl, sym, ap, _∙_, subst, fun-ext}
-use lib.Dec.{eqb}
-use lib.ListN.{length}
-use borrow.Author.Tests.{eq-eqb, ne-eqb, eqb-true, eqb-false}
+use Rattle.prelude.specs.Kit.{ℕ, _+_, suc, zero, arith, true, false, Bool, cond, false≢true, _≡_, refl, _∙_, sym, ap}
+use Rattle.prelude.specs.Kit.{subst, fun-ext, some, none, Option, List, [], _∷_, _++_, map, eqb, length, ne-eqb, eq-eqb}
+use Rattle.prelude.specs.Kit.{eqb-true, eqb-false}
 use Rattle.semantics.specs.Basics.{updated}
 use Rattle.semantics.specs.Outcome.{done, stop}
 use Rattle.semantics.specs.Number.{sum, difference, less}

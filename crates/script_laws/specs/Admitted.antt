@@ -1,9 +1,5 @@
 -- Verdicts that accept: no refusal does, and what passes 1 to 9 passes 1 to 8.
-use Prim.Native.Nat.{ℕ}
-use native.Mathlib.Omega.{arith}
-use mathlib.Core.Bool.{Bool, true, false, cond}
-use mathlib.Core.Path.{_≡_}
-use mathlib.Core.List.{List}
+use Rattle.prelude.specs.Kit.{ℕ, arith, true, false, Bool, cond, _≡_, List}
 use Rattle.semantics.specs.Syntax.{Script}
 use Rattle.semantics.specs.Calls.{Verdict, accepted, refused, judged, admitted, admitted-if}
 use Rattle.semantics.specs.Calls.{code-fits}

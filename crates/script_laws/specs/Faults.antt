@@ -1,14 +1,6 @@
 -- The nodes that break rules 6, 7 and 8 are nodes of the script; those of 6 and of 7 are listed in rising order.
-use Prim.Native.Nat.{ℕ, zero, suc, _+_, _<_, _≤_}
-use native.Mathlib.Omega.{arith}
-use mathlib.Core.Bool.{Bool, true, false, cond, not}
-use mathlib.Core.Path.{_≡_, refl}
-use mathlib.Core.Logic.{_⊎_, inl, inr}
-use mathlib.Core.Option.{none, some}
-use mathlib.Core.List.{List, [], _∷_, _++_}
-use lib.ListN.{length}
-use lib.Dec.{ltb}
-use borrow.Author.Tests.{eq-eqb}
+use Rattle.prelude.specs.Kit.{ℕ, _≤_, _+_, _<_, suc, zero, arith, true, false, Bool, cond, not, _≡_, refl, inl, inr}
+use Rattle.prelude.specs.Kit.{_⊎_, some, none, List, [], _∷_, _++_, ltb, length, eq-eqb}
 use Rattle.semantics.specs.Basics.{with-if, occurrences, _∈_, updated}
 use Rattle.semantics.specs.Kinds.{Loop}
 use Rattle.semantics.specs.Syntax as S

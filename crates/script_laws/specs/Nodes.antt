@@ -1,11 +1,6 @@
 -- The first of the nodes that break 6, or 7, is the lowest. A refusal of a file has a number from 1 to 8 and gives a
 -- node up to 1,024: so both fit their places in the answer.
-use Prim.Native.Nat.{ℕ, _<_, _≤_}
-use native.Mathlib.Omega.{arith}
-use mathlib.Core.Path.{_≡_, refl}
-use mathlib.Core.Option.{Option, none, some}
-use mathlib.Core.List.{List, [], _∷_}
-use borrow.Author.Tests.{eq-eqb}
+use Rattle.prelude.specs.Kit.{ℕ, _≤_, _<_, arith, _≡_, refl, some, none, Option, List, [], _∷_, eq-eqb}
 use Rattle.semantics.specs.Basics.{least, occurrences, _∈_}
 use Rattle.semantics.specs.Outcome.{Outcome, done, stop}
 use Rattle.semantics.specs.Syntax.{Script}

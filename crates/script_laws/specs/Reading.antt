@@ -1,12 +1,7 @@
 -- The reader never goes past the node after the last: so a refusal, which has a number from 1 to 5, gives a node up to
 -- 1,024, and a script has at most so many nodes.
-use Prim.Native.Nat.{ℕ, zero, suc, _+_, _<_, _≤_}
-use native.Mathlib.Omega.{arith}
-use mathlib.Core.Bool.{Bool, true, false, cond}
-use mathlib.Core.Path.{_≡_, refl}
-use mathlib.Core.List.{List, [], _∷_}
-use lib.ListN.{length, drop, length-take}
-use lib.Dec.{ltb, eqb}
+use Rattle.prelude.specs.Kit.{ℕ, _≤_, _+_, _<_, suc, zero, arith, true, false, Bool, cond, _≡_, refl, List, [], _∷_}
+use Rattle.prelude.specs.Kit.{eqb, ltb, length, drop, length-take}
 use Rattle.semantics.specs.Outcome.{Outcome, done, stop, onward, _>>=_, _>>_, give, halt, times}
 use Rattle.semantics.specs.Number.{bytes-at}
 use Rattle.semantics.specs.Syntax.{Expr, name, let-in, if-else, Script}

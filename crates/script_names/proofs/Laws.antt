@@ -1,13 +1,6 @@
 -- Laws of the walk for names, in the terms of the code.
-use mathlib.Core.Path.{_≡_, refl, sym, ap, _∙_}
-use mathlib.Core.Bool.{Bool, true, false, _||_}
-use mathlib.Core.List.{List}
-use Prim.Native.Nat.{ℕ, zero, suc, _+_, _-_, _<_, _≤_}
-use native.Mathlib.Omega.{arith}
-use lib.Dec.{eqb}
-use lib.ListN.{length, getD, set, replicate}
-use borrow.Author.Tests.{eq-eqb, ne-eqb, eqb-true}
-use mathlib.Core.Logic.{_⊎_, ⊎-elim}
+use Rattle.prelude.specs.Kit.{ℕ, _≤_, _+_, _<_, _-_, suc, zero, arith, true, false, Bool, _||_, _≡_, refl, _∙_, sym, ap}
+use Rattle.prelude.specs.Kit.{_⊎_, ⊎-elim, List, eqb, length, getD, set, replicate, ne-eqb, eq-eqb, eqb-true}
 use Rattle.semantics.specs.File as S
 use Rattle.semantics.specs.File.{at-function, at-parameter, at-part, look, node-at, part-count}
 use Rattle.semantics.specs.Names.{Scope}

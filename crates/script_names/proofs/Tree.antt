@@ -1,11 +1,6 @@
 -- The walk for names finds the first of the nodes that break the rule.
-use Prim.Native.Nat.{ℕ, suc, _+_, _-_}
-use native.Mathlib.Omega.{arith}
-use mathlib.Core.Bool.{Bool, true, false, cond, not}
-use mathlib.Core.List.{List, [], _∷_}
-use mathlib.Core.Path.{_≡_, refl, sym, ap, _∙_}
-use lib.Dec.{eqb}
-use lib.ListN.{length}
+use Rattle.prelude.specs.Kit.{ℕ, _+_, _-_, suc, arith, true, false, Bool, cond, not, _≡_, refl, _∙_, sym, ap, List, []}
+use Rattle.prelude.specs.Kit.{_∷_, eqb, length}
 use Rattle.semantics.specs.Basics.{with-if, updated}
 use Rattle.semantics.specs.Number.{sum, difference, less}
 use Rattle.semantics.specs.Kinds.{Leaf, operation, call, literal, index, length-of, iota, replicate, leaf-kind, Loop}

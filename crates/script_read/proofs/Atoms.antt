@@ -1,9 +1,5 @@
 -- An atom is one node: what stands there, and that the reader goes on behind it.
-use mathlib.Core.Path.{_≡_, refl, sym, ap, _∙_}
-use mathlib.Core.List.{List}
-use Prim.Native.Nat.{ℕ, _+_, _*_, _/_, _%_, _<_}
-use native.Mathlib.Omega.{arith}
-use lib.ListN.{length, getD}
+use Rattle.prelude.specs.Kit.{ℕ, _+_, _<_, _*_, _%_, _/_, arith, _≡_, refl, _∙_, sym, ap, List, length, getD}
 use Rattle.semantics.specs.Number.{bytes-at}
 use Rattle.semantics.specs.File.{at-part, allowed, look, part-count, part}
 use Rattle.script_read.specs.Told.{node-outcome, parted, told, AtomSeen}

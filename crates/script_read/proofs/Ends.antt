@@ -1,9 +1,5 @@
 -- All nodes of a written script are in the file.
-use Prim.Native.Nat.{ℕ, _+_, _<_, _≤_}
-use native.Mathlib.Omega.{arith}
-use mathlib.Core.List.{List, [], _∷_}
-use mathlib.Core.Path.{_≡_, refl, ap}
-use lib.ListN.{length}
+use Rattle.prelude.specs.Kit.{ℕ, _≤_, _+_, _<_, arith, _≡_, refl, ap, List, [], _∷_, length}
 use Rattle.semantics.specs.File as S
 use Rattle.semantics.specs.File.{Place, at-part, node-at}
 use Rattle.semantics.specs.Syntax.{Expr, number, name, let-in, leaf, if-else, loop, Exprs, none, more, size, sizes}

@@ -1,8 +1,5 @@
 -- A walk that gives the first of some faulty nodes, or goes on.
-use Prim.Native.Nat.{ℕ}
-use mathlib.Core.Bool.{Bool, true, false, cond}
-use mathlib.Core.List.{List, [], _∷_, _++_}
-use mathlib.Core.Path.{_≡_, refl}
+use Rattle.prelude.specs.Kit.{ℕ, true, false, Bool, cond, _≡_, refl, List, [], _∷_, _++_}
 use Rattle.semantics.specs.Basics.{with-if}
 use Rattle.script_read.specs.Told.{and-next, repeated, found}
 use Rattle.script_read.specs.declared.Read.{Read}

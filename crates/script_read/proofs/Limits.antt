@@ -1,12 +1,7 @@
 -- Facts of each kind: what the tables of the definitions give for the kinds that the code does not name.
-use mathlib.Core.Path.{_≡_, refl, sym, _∙_}
-use mathlib.Core.Bool.{Bool, true, false, cond, not, _&&_, _||_, false≢true}
-use mathlib.Core.List.{List, [], _∷_}
-use Prim.Native.Nat.{ℕ, zero, suc, _+_, _*_, _/_, _%_, _<_, _≤_}
-use native.Mathlib.Omega.{arith}
-use lib.Dec.{eqb, ltb, leb}
-use lib.ListN.{getD}
-use borrow.Author.Tests.{eqb-true, ne-eqb, leb-true, ltb-true, not-true}
+use Rattle.prelude.specs.Kit.{ℕ, _≤_, _+_, _<_, suc, zero, _*_, _%_, _/_, arith, true, false, Bool, cond, _&&_, not}
+use Rattle.prelude.specs.Kit.{false≢true, _||_, _≡_, refl, _∙_, sym, List, [], _∷_, eqb, ltb, leb, getD, ne-eqb}
+use Rattle.prelude.specs.Kit.{eqb-true, ltb-true, leb-true, not-true}
 use Rattle.laws.specs.Tests.{both-hold, or-left}
 use Rattle.semantics.specs.File.{Place, at-part, allowed, low-limits, high-limits, part-counts, part-count, part-kinds}
 use Rattle.script_read.specs.Told.{said-parts, limits-at}

@@ -1,14 +1,8 @@
 -- A node: what the code sees of it is what the definition says.
-use mathlib.Core.Path.{_≡_, refl, sym, ap, _∙_}
-use mathlib.Core.Bool.{Bool, true, false, cond}
-use mathlib.Core.Logic.{_⊎_, inl, inr, ⊎-elim}
-use mathlib.Core.List.{List, [], _∷_}
-use Prim.Native.Nat.{ℕ, zero, suc, _-_, _*_, _/_, _%_, _<_, _≤_, _^_}
-use native.Mathlib.Omega.{arith}
-use lib.IntN.{ℤ, pos, negsuc}
-use lib.Dec.{leb, ltb, eqb}
-use lib.ListN.{length, getD, List·getD-eq-default}
-use borrow.Author.Tests.{ltb-true, ltb-false, leb-true, eqb-true, lt-ltb, le-leb, lt-leb, eq-eqb, ne-eqb}
+use Rattle.prelude.specs.Kit.{ℕ, _≤_, _<_, _-_, suc, zero, _*_, _%_, _^_, _/_, arith, true, false, Bool, cond, _≡_}
+use Rattle.prelude.specs.Kit.{refl, _∙_, sym, ap, inl, inr, _⊎_, ⊎-elim, List, [], _∷_, eqb, ltb, leb, ℤ, pos, negsuc}
+use Rattle.prelude.specs.Kit.{length, getD, List·getD-eq-default, ne-eqb, lt-ltb, eq-eqb, eqb-true, ltb-true, leb-true}
+use Rattle.prelude.specs.Kit.{le-leb, lt-leb, ltb-false}
 use Rattle.semantics.specs.Outcome.{Outcome, done, stop}
 use Rattle.semantics.specs.File as S
 use Rattle.semantics.specs.File.{Place, at-function, at-parameter, at-part, allowed, node-of, node-at, in-parts}

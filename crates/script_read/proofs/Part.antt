@@ -1,10 +1,6 @@
 -- A part, a parameter, a function and a script, in the terms of the code.
-use mathlib.Core.Path.{_≡_, refl, sym, ap, _∙_}
-use mathlib.Core.List.{List}
-use Prim.Native.Nat.{ℕ, zero, suc, _+_, _-_, _<_, _≤_}
-use native.Mathlib.Numerals.{add-one}
-use lib.ListN.{length}
-use borrow.Author.Tests.{lt-ltb, le-ltb}
+use Rattle.prelude.specs.Kit.{ℕ, _≤_, _+_, _<_, _-_, suc, zero, add-one, _≡_, refl, _∙_, sym, ap, List, length, lt-ltb}
+use Rattle.prelude.specs.Kit.{le-ltb}
 use Rattle.semantics.specs.Outcome.{Outcome, done, stop, Run, onward, times}
 use Rattle.semantics.specs.File as S
 use Rattle.semantics.specs.Syntax.{Expr}

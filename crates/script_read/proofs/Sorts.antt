@@ -1,12 +1,6 @@
 -- The kinds of parts: by the tables each is a number, a name, a let, an if, a leaf or a loop.
-use Prim.Native.Nat.{ℕ, zero, suc, _+_}
-use native.Mathlib.Omega.{arith}
-use mathlib.Core.Bool.{Bool, true, false, cond, not, _&&_, _||_, false≢true}
-use mathlib.Core.List.{List, [], _∷_}
-use mathlib.Core.Path.{_≡_, refl, ap, _∙_}
-use lib.Dec.{eqb}
-use lib.ListN.{getD}
-use borrow.Author.Tests.{eqb-true, ne-eqb}
+use Rattle.prelude.specs.Kit.{ℕ, _+_, suc, zero, arith, true, false, Bool, cond, _&&_, not, false≢true, _||_, _≡_, refl}
+use Rattle.prelude.specs.Kit.{_∙_, ap, List, [], _∷_, eqb, getD, ne-eqb, eqb-true}
 use Rattle.laws.specs.Tests.{both-hold}
 use Rattle.semantics.specs.Kinds.{Leaf, leaf-kind, Loop, mapping, filtering, reducing, rewriting, loop-kind}
 use Rattle.semantics.specs.Syntax.{Expr}

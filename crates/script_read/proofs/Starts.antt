@@ -1,13 +1,7 @@
 -- The table that a walk over all functions marks: where the functions of a script stand.
-use Prim.Native.Nat.{ℕ, zero, suc, _+_, _<_, _≤_}
-use native.Mathlib.Omega.{arith}
-use mathlib.Core.List.{List, [], _∷_}
-use mathlib.Core.Path.{_≡_, refl, sym, ap, subst, _∙_}
-use mathlib.Core.Bool.{Bool, true, false}
-use lib.Dec.{ltb}
-use borrow.Author.Tests.{ltb-true, ltb-false}
-use lib.ListN.{length, getD, set, length-set, List·getD-eq-default}
-use lib.Seq.{getD-set-same, getD-set-other}
+use Rattle.prelude.specs.Kit.{ℕ, _≤_, _+_, _<_, suc, zero, arith, true, false, Bool, _≡_, refl, _∙_, sym, ap, subst}
+use Rattle.prelude.specs.Kit.{List, [], _∷_, ltb, length, getD, set, length-set, List·getD-eq-default, getD-set-other}
+use Rattle.prelude.specs.Kit.{getD-set-same, ltb-true, ltb-false}
 use Rattle.semantics.specs.Outcome.{Outcome, done, stop, times}
 use Rattle.semantics.specs.Syntax.{Script, function-size}
 use Rattle.semantics.specs.File.{function, finish, script, read-file}

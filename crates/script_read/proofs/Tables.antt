@@ -1,12 +1,7 @@
 -- A table that is changed at one name or two and put back.
-use Prim.Native.Nat.{ℕ, zero, suc, _<_}
-use mathlib.Core.Bool.{Bool, true, false, cond}
-use mathlib.Core.List.{List}
-use mathlib.Core.Path.{_≡_, refl, sym, ap, _∙_, fun-ext}
-use lib.Dec.{eqb}
-use lib.ListN.{length, getD, set, replicate}
-use lib.Seq.{getD-set-same, getD-set-other, set-set, set-getD, lt-length-set}
-use borrow.Author.Tests.{eqb-true, eqb-false}
+use Rattle.prelude.specs.Kit.{ℕ, _<_, suc, zero, true, false, Bool, cond, _≡_, refl, _∙_, sym, ap, fun-ext, List, eqb}
+use Rattle.prelude.specs.Kit.{length, getD, set, replicate, getD-set-other, getD-set-same, set-getD, set-set}
+use Rattle.prelude.specs.Kit.{lt-length-set, eqb-true, eqb-false}
 use Rattle.semantics.specs.Basics.{updated}
 use Rattle.script_read.specs.Table.{table}
 

@@ -1,9 +1,5 @@
 -- Loops over nodes that follow one another.
-use mathlib.Core.Path.{_≡_, refl, sym, ap, _∙_}
-use Prim.Native.Nat.{ℕ, zero, suc, _+_, _-_, _<_}
-use mathlib.Core.List.{List}
-use lib.ListN.{set}
-use native.Mathlib.Omega.{arith}
+use Rattle.prelude.specs.Kit.{ℕ, _+_, _<_, _-_, suc, zero, arith, _≡_, refl, _∙_, sym, ap, List, set}
 use Rattle.script_read.specs.Told.{and-next, repeated, marked, mark-next}
 use Rattle.script_read.specs.declared.Read.{Read}
 use Rattle.script_read.specs.declared.Read.the-variants.{Next, Refused}

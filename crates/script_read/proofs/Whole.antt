@@ -1,13 +1,6 @@
 -- The whole file: its sizes and its two parts.
-use mathlib.Core.Path.{_≡_}
-use mathlib.Core.Bool.{true, false, _&&_}
-use mathlib.Core.List.{List}
-use Prim.Native.Nat.{ℕ, _+_, _-_, _*_, _<_, _≤_}
-use native.Mathlib.Omega.{arith}
-use lib.ListN.{length, take, drop, length-drop}
-use lib.Seq.{take-all}
-use lib.Dec.{leb}
-use borrow.Author.Tests.{lt-ltb, le-ltb, eq-eqb, ne-eqb, leb-true}
+use Rattle.prelude.specs.Kit.{ℕ, _≤_, _+_, _<_, _-_, _*_, arith, true, false, _&&_, _≡_, List, leb, length, take, drop}
+use Rattle.prelude.specs.Kit.{length-drop, take-all, ne-eqb, lt-ltb, eq-eqb, le-ltb, leb-true}
 use Rattle.laws.specs.Tests.{both-hold}
 use Rattle.semantics.specs.File.{script, read-file, between}
 use Rattle.script_read.specs.Told.{told}

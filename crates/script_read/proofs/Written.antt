@@ -1,15 +1,7 @@
 -- A tree as it is written in the file: its nodes stand in prefix order, with levels left for each.
 -- What the reader accepts is written so.
-use Prim.Native.Nat.{ℕ, zero, suc, _+_, _≤_}
-use native.Mathlib.Omega.{arith}
-use native.Mathlib.Numerals.{add-one}
-use mathlib.Core.Bool.{Bool, true, false, cond}
-use mathlib.Core.List.{List, [], _∷_}
-use mathlib.Core.Path.{_≡_, refl, sym, ap, _∙_, subst}
-use lib.IntN.{ℤ}
-use lib.Dec.{ltb}
-use lib.ListN.{length, getD}
-use borrow.Author.Tests.{ltb-false}
+use Rattle.prelude.specs.Kit.{ℕ, _≤_, _+_, suc, zero, arith, add-one, true, false, Bool, cond, _≡_, refl, _∙_, sym, ap}
+use Rattle.prelude.specs.Kit.{subst, List, [], _∷_, ltb, ℤ, length, getD, ltb-false}
 use Rattle.semantics.specs.Outcome.{Outcome, done, stop, Run, onward, times}
 use Rattle.semantics.specs.Syntax.{Expr, number, name, let-in, leaf, if-else, loop, Exprs, none, more, size, sizes}
 use Rattle.semantics.specs.Syntax.{exprs-of, Parameter, Function, Script, function-size}

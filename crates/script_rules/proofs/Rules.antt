@@ -1,16 +1,8 @@
 -- The rules by kind, and the loops over depths that decide them.
-use mathlib.Core.Path.{_≡_, refl, sym, ap, _∙_}
-use mathlib.Core.Bool.{Bool, true, false, cond, _&&_}
-use mathlib.Core.Logic.{inl}
-use mathlib.Core.List.{List, [], _∷_}
-use mathlib.Core.Option.{Option}
-use Prim.Native.Nat.{ℕ, zero, suc, _+_, _-_, _<_, _≤_}
-use native.Mathlib.Omega.{arith}
-use native.Mathlib.Numerals.{add-one}
-use lib.Dec.{eqb}
-use lib.ListN.{length, getD, take, drop, length-take, drop-of-length-le}
-use lib.Seq.{drop-cons, getD-take}
-use borrow.Author.Tests.{eqb-true, eq-eqb, ne-eqb, le-leb, lt-leb, lt-ltb, le-ltb}
+use Rattle.prelude.specs.Kit.{ℕ, _≤_, _+_, _<_, _-_, suc, zero, arith, add-one, true, false, Bool, cond, _&&_, _≡_}
+use Rattle.prelude.specs.Kit.{refl, _∙_, sym, ap, inl, Option, List, [], _∷_, eqb, length, getD, take, drop}
+use Rattle.prelude.specs.Kit.{length-take, drop-of-length-le, drop-cons, getD-take, ne-eqb, lt-ltb, eq-eqb, le-ltb}
+use Rattle.prelude.specs.Kit.{eqb-true, le-leb, lt-leb}
 use Rattle.semantics.specs.Outcome.{Outcome, done, stop}
 use Rattle.semantics.specs.File.{at-function, at-parameter, part-count, part-counts, low-limits, high-limits}
 use Rattle.semantics.specs.Types.{Signature, all-are, same, some-if, index-rule, length-rule, replicate-rule, if-rule}

@@ -1,13 +1,6 @@
 -- The ways out of a function and a script, in the terms of the code.
-use mathlib.Core.Path.{_≡_, sym, ap, _∙_}
-use mathlib.Core.Bool.{Bool, true, false, _&&_, and-true}
-use mathlib.Core.List.{List, [], _∷_}
-use mathlib.Core.Logic.{_⊎_, ⊎-elim}
-use Prim.Native.Nat.{ℕ, _+_, _-_, _<_}
-use native.Mathlib.Omega.{arith}
-use lib.Dec.{eqb}
-use lib.ListN.{length, getD, set, replicate}
-use borrow.Author.Tests.{eq-eqb, ne-eqb}
+use Rattle.prelude.specs.Kit.{ℕ, _+_, _<_, _-_, arith, true, false, Bool, _&&_, and-true, _≡_, _∙_, sym, ap, _⊎_}
+use Rattle.prelude.specs.Kit.{⊎-elim, List, [], _∷_, eqb, length, getD, set, replicate, ne-eqb, eq-eqb}
 use Rattle.semantics.specs.Outcome.{done, stop}
 use Rattle.semantics.specs.File as S
 use Rattle.semantics.specs.File.{at-function, at-parameter, look, node-at}

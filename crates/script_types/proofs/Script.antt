@@ -1,11 +1,6 @@
 -- The walk over the functions finds the first of the nodes that break rule 7.
-use Prim.Native.Nat.{ℕ, zero, suc, _+_, _≤_}
-use native.Mathlib.Omega.{arith}
-use mathlib.Core.Bool.{Bool, true, false, cond, _&&_}
-use mathlib.Core.List.{List, [], _∷_, map}
-use mathlib.Core.Path.{_≡_, refl, sym, ap, _∙_, subst, fun-ext}
-use lib.Dec.{eqb}
-use lib.ListN.{length, getD}
+use Rattle.prelude.specs.Kit.{ℕ, _≤_, _+_, suc, zero, arith, true, false, Bool, cond, _&&_, _≡_, refl, _∙_, sym, ap}
+use Rattle.prelude.specs.Kit.{subst, fun-ext, List, [], _∷_, map, eqb, length, getD}
 use Rattle.semantics.specs.Basics.{updated}
 use Rattle.semantics.specs.Outcome.{done, stop}
 use Rattle.semantics.specs.Syntax.{Expr, size, Parameter, Function, Script, function-size, function-at}

@@ -1,10 +1,5 @@
 -- The parts of a packed answer, read back.
-use Prim.Native.Nat.{ℕ, _^_, _<_}
-use native.Mathlib.Omega.{arith}
-use mathlib.Core.Path.{_≡_}
-use mathlib.Core.Logic.{_≢_}
-use mathlib.Core.Option.{none, some}
-use borrow.Author.Tests.{ne-eqb}
+use Rattle.prelude.specs.Kit.{ℕ, _<_, _^_, arith, _≡_, _≢_, some, none, ne-eqb}
 use Rattle.semantics.specs.Calls.{packed, number-of, lowest-of, steps-of}
 use Rattle.semantics.specs.Ledger.{dry-steps}
 

@@ -1,14 +1,6 @@
 -- A delivery of an accepted script on a settled store: the discipline, the machine's soundness and the size of the code
 -- put together.
-use Prim.Native.Nat.{ℕ, _^_, _<_, _≤_}
-use native.Mathlib.Omega.{arith}
-use mathlib.Core.Bool.{true}
-use mathlib.Core.Path.{_≡_, subst, sym}
-use mathlib.Core.List.{List}
-use lib.IntN.{ℤ}
-use lib.ListN.{length}
-use lib.Dec.{leb}
-use borrow.Author.Tests.{leb-true}
+use Rattle.prelude.specs.Kit.{ℕ, _≤_, _<_, _^_, arith, true, _≡_, sym, subst, List, leb, ℤ, length, leb-true}
 use Rattle.semantics.specs.Syntax.{Script, main-depth}
 use Rattle.semantics.specs.Value.{Value, numbers}
 use Rattle.semantics.specs.Meaning.{Meter, main-meaning}

@@ -1,9 +1,5 @@
 -- Demand 2: running the code does what the script means, unless a cell is wanting.
-use Prim.Native.Nat.{ℕ, _-_}
-use native.Mathlib.Omega.{arith}
-use mathlib.Core.Bool.{Bool, true, false, cond}
-use mathlib.Core.Path.{_≡_, refl, subst, _∙_}
-use mathlib.Core.List.{List}
+use Rattle.prelude.specs.Kit.{ℕ, _-_, arith, true, false, Bool, cond, _≡_, refl, _∙_, subst, List}
 use Rattle.semantics.specs.Syntax.{Script, main-depth}
 use Rattle.semantics.specs.Calls.{Verdict, accepted, refused, judged, admitted, admitted-if, code-fits}
 use Rattle.semantics.specs.Demands.{Demand2}

@@ -1,12 +1,6 @@
 -- Demand 3: the whole list of deliveries, one after another from the opening.
-use Prim.Native.Nat.{ℕ, _<_, _≤_}
-use native.Mathlib.Omega.{arith}
-use mathlib.Core.Bool.{Bool, true, false, cond}
-use mathlib.Core.Path.{_≡_, refl, sym, ap, subst}
-use mathlib.Core.List.{List, [], _∷_}
-use lib.IntN.{ℤ}
-use lib.Dec.{ltb}
-use borrow.Author.Tests.{ltb-true}
+use Rattle.prelude.specs.Kit.{ℕ, _≤_, _<_, arith, true, false, Bool, cond, _≡_, refl, sym, ap, subst, List, [], _∷_}
+use Rattle.prelude.specs.Kit.{ltb, ℤ, ltb-true}
 use Rattle.semantics.specs.Syntax.{Script, main-depth}
 use Rattle.semantics.specs.Value.{Value, first-totals}
 use Rattle.semantics.specs.Words.{store-of, cells-in, shaped}

@@ -1,15 +1,9 @@
 -- The statements leave an engine no choice: a log has one least level, what a delivery answers and leaves is fixed by
 -- what it agrees with, and a machine that runs dry while a cell is free, or ends with an unsound store, does not do
 -- what is meant. The last two are tried where a wrong engine would tell something else.
-use Prim.Native.Nat.{ℕ, _≤_}
-use native.Mathlib.Omega.{arith}
-use mathlib.Core.Bool.{Bool, true, false, cond, false≢true}
-use mathlib.Core.Path.{_≡_, refl, sym, ap, _∙_}
+use Rattle.prelude.specs.Kit.{ℕ, _≤_, arith, true, false, Bool, cond, false≢true, _≡_, refl, _∙_, sym, ap, some, Option}
+use Rattle.prelude.specs.Kit.{List, [], _∷_, pos, length, replicate}
 use mathlib.Core.Option as O
-use mathlib.Core.Option.{Option, some}
-use mathlib.Core.List.{List, [], _∷_}
-use lib.IntN.{pos}
-use lib.ListN.{length, replicate}
 use Rattle.semantics.specs.Outcome.{Outcome, done, stop}
 use Rattle.semantics.specs.Number.{sum}
 use Rattle.semantics.specs.Kinds.{operation, literal}

@@ -1,11 +1,6 @@
 -- What orders 2 and 8 fix of the lowest level, tried on a store that no opening leaves, with a map that rewrites its
 -- array: 2 of 4 cells stay free, and 1 by the code in which the map stays a map.
-use Prim.Native.Nat.{ℕ, _≤_}
-use native.Mathlib.Omega.{arith}
-use mathlib.Core.Path.{_≡_, refl, _∙_}
-use mathlib.Core.List.{List, [], _∷_, _++_}
-use lib.IntN.{ℤ, pos}
-use lib.ListN.{replicate}
+use Rattle.prelude.specs.Kit.{ℕ, _≤_, arith, _≡_, refl, _∙_, List, [], _∷_, _++_, ℤ, pos, replicate}
 use Rattle.semantics.specs.Words.{store-of}
 use Rattle.semantics.specs.Machine.{program-in, delivered}
 use Rattle.semantics.specs.Calls.{lowest-of, StoreReply, engine-deliver}

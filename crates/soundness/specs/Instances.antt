@@ -1,10 +1,6 @@
 -- The demands' hypotheses can be met: the theorems at the printed script, at a script with a map and a call, at one
 -- with all kinds of the second edition, and at one whose map rewrites its array.
-use Prim.Native.Nat.{ℕ, _+_, _*_}
-use mathlib.Core.Path.{_≡_, refl, sym, subst, _∙_}
-use mathlib.Core.List.{List, [], _∷_}
-use lib.IntN.{ℤ, pos}
-use lib.ListN.{getD, replicate}
+use Rattle.prelude.specs.Kit.{ℕ, _+_, _*_, _≡_, refl, _∙_, sym, subst, List, [], _∷_, ℤ, pos, getD, replicate}
 use Rattle.semantics.specs.Number.{sum}
 use Rattle.semantics.specs.Kinds.{operation, call, literal, index, length-of, iota, replicate as repeat, mapping}
 use Rattle.semantics.specs.Kinds.{filtering, reducing}

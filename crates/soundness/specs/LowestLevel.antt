@@ -1,10 +1,6 @@
 -- Order 2: the lowest level in the answer of a delivery that is not refused is that of the machine's run, and the true
 -- least on every sound store.
-use Prim.Native.Nat.{ℕ, _^_, _<_}
-use native.Mathlib.Omega.{arith}
-use mathlib.Core.Path.{_≡_, refl, sym, _∙_, subst}
-use mathlib.Core.List.{List}
-use lib.IntN.{ℤ}
+use Rattle.prelude.specs.Kit.{ℕ, _<_, _^_, arith, _≡_, refl, _∙_, sym, subst, List, ℤ}
 use Rattle.semantics.specs.Outcome.{Outcome, done, stop}
 use Rattle.semantics.specs.Syntax.{Script, main-depth}
 use Rattle.semantics.specs.Value.{Value}

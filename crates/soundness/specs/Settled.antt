@@ -1,9 +1,5 @@
 -- A store between deliveries: sound, with totals of a value. What test 11, opening and a stop make of it.
-use Prim.Native.Nat.{ℕ, _≤_}
-use mathlib.Core.Bool.{true}
-use mathlib.Core.Path.{_≡_, refl, sym, subst, _∙_}
-use mathlib.Core.List.{List}
-use lib.IntN.{ℤ}
+use Rattle.prelude.specs.Kit.{ℕ, _≤_, true, _≡_, refl, _∙_, sym, subst, List, ℤ}
 use Rattle.semantics.specs.Value.{Value, first-totals}
 use Rattle.semantics.specs.Store.{Store, cell-count, relinked, opened}
 use Rattle.semantics.specs.Words.{store-of, slot-words, head-words}

@@ -1,12 +1,6 @@
 -- Acquiring a cell: a law for each way out of the code.
-use mathlib.Core.Path.{_≡_, refl, sym, ap, _∙_}
-use mathlib.Core.Bool.{Bool, true, false}
-use mathlib.Core.List.{List, []}
-use Prim.Native.Nat.{ℕ, _+_, _-_, _*_, _<_, _≤_}
-use native.Mathlib.Omega.{arith}
-use lib.IntN.{ℤ}
-use lib.ListN.{getD, length-set}
-use borrow.Author.Tests.{lt-ltb, le-ltb, ltb-true}
+use Rattle.prelude.specs.Kit.{ℕ, _≤_, _+_, _<_, _-_, _*_, arith, true, false, Bool, _≡_, refl, _∙_, sym, ap, List, []}
+use Rattle.prelude.specs.Kit.{ℤ, getD, length-set, lt-ltb, le-ltb, ltb-true}
 use Rattle.semantics.specs.Outcome.{Outcome, done, stop}
 use Rattle.semantics.specs.Store.{Store, cell, cell-count, with-first, with-cell, has-free, filled, acquired}
 use Rattle.semantics.specs.Store.{free-cells}

@@ -1,13 +1,6 @@
 -- Appending an element to a cell: a law for each way out of the code.
-use mathlib.Core.Path.{_≡_, refl, sym, ap, _∙_}
-use mathlib.Core.Logic.{_≢_}
-use mathlib.Core.List.{List}
-use Prim.Native.Nat.{ℕ, _+_, _*_, _<_, _≤_}
-use native.Mathlib.Omega.{arith}
-use lib.IntN.{ℤ, pos}
-use lib.ListN.{length, getD, set, length-set}
-use lib.Seq.{getD-set-same, getD-set-other}
-use borrow.Author.Tests.{lt-ltb, le-ltb}
+use Rattle.prelude.specs.Kit.{ℕ, _≤_, _+_, _<_, _*_, arith, _≡_, refl, _∙_, sym, ap, _≢_, List, ℤ, pos, length, getD}
+use Rattle.prelude.specs.Kit.{set, length-set, getD-set-other, getD-set-same, lt-ltb, le-ltb}
 use Rattle.semantics.specs.Store.{Cell, cell, with-cell, wider, appended}
 use Rattle.semantics.specs.Words.{cells-in, slots-at, cell-at, store-of}
 use Rattle.laws.specs.Cells.{same-cell}

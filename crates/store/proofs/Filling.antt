@@ -1,15 +1,8 @@
 -- An empty cell that is acquired and filled by appending is the cell acquired with those words.
-use mathlib.Core.Path.{_≡_, refl, sym, ap, ap₂, _∙_}
-use mathlib.Core.Bool.{Bool, true, false, cond}
-use mathlib.Core.Logic.{_≢_}
-use mathlib.Core.List.{List, [], _∷_, _++_, append-nil}
-use Prim.Native.Nat.{ℕ, suc, _+_, _-_, _<_, _≤_, min}
-use native.Mathlib.Omega.{arith}
-use native.Mathlib.Decide.{decLt}
-use lib.IntN.{ℤ, pos}
-use lib.ListN.{length, getD, set, drop, length-append, List·getD-append, List·getD-eq-default}
-use lib.Seq.{getD-append-seam, append-snoc, set-set, drop-cons, drop-length}
-use borrow.Author.Tests.{lt-ltb, le-ltb, ltb-true}
+use Rattle.prelude.specs.Kit.{ℕ, _≤_, _+_, _<_, _-_, suc, min, arith, decLt, true, false, Bool, cond, _≡_, refl, _∙_}
+use Rattle.prelude.specs.Kit.{sym, ap, ap₂, _≢_, List, [], _∷_, _++_, append-nil, ℤ, pos, length, getD, set}
+use Rattle.prelude.specs.Kit.{List·getD-eq-default, drop, length-append, List·getD-append, drop-cons, drop-length}
+use Rattle.prelude.specs.Kit.{getD-append-seam, append-snoc, set-set, lt-ltb, le-ltb, ltb-true}
 use Rattle.semantics.specs.Outcome.{Outcome, done, stop}
 use Rattle.semantics.specs.Store.{Store, cell, cell-count, with-cell, with-first, padded, filled, wider, has-free}
 use Rattle.semantics.specs.Store.{acquired, appended}

@@ -1,14 +1,6 @@
 -- Overwriting an element of a cell, and the test whether it has one reference: a law for each way out of the code.
-use mathlib.Core.Path.{_≡_, refl, sym, ap, _∙_}
-use mathlib.Core.Bool.{false}
-use mathlib.Core.List.{List}
-use Prim.Native.Nat.{ℕ, _+_, _*_, _<_, _≤_}
-use native.Mathlib.Omega.{arith}
-use lib.IntN.{ℤ, pos}
-use lib.Dec.{eqb}
-use lib.ListN.{length, getD, set, length-set}
-use lib.Seq.{getD-set-other, set-out}
-use borrow.Author.Tests.{lt-ltb, le-ltb}
+use Rattle.prelude.specs.Kit.{ℕ, _≤_, _+_, _<_, _*_, arith, false, _≡_, refl, _∙_, sym, ap, List, eqb, ℤ, pos, length}
+use Rattle.prelude.specs.Kit.{getD, set, length-set, getD-set-other, set-out, lt-ltb, le-ltb}
 use Rattle.semantics.specs.Store.{Cell, cell, clear, with-cell, with-slot, overwritten}
 use Rattle.semantics.specs.Words.{cells-in, cell-at, store-of}
 use Rattle.laws.specs.Cells.{same-cell}

@@ -1,9 +1,5 @@
 -- Retaining a cell: a law for each way out of the code.
-use mathlib.Core.Path.{_≡_, sym, ap, _∙_}
-use mathlib.Core.List.{List}
-use Prim.Native.Nat.{ℕ, _+_, _*_, _<_, _≤_}
-use lib.IntN.{ℤ}
-use lib.ListN.{getD, set}
+use Rattle.prelude.specs.Kit.{ℕ, _≤_, _+_, _<_, _*_, _≡_, _∙_, sym, ap, List, ℤ, getD, set}
 use Rattle.semantics.specs.Store.{cell, with-cell, with-count, one-more, retained}
 use Rattle.semantics.specs.Words.{cells-in, store-of}
 use Rattle.store_words.proofs.CellWords.{count-is, with-out, with-self}

@@ -1,13 +1,7 @@
 -- Comparing a cell with what was gathered: a law for each way out of the code.
-use mathlib.Core.Path.{_≡_, refl, sym, ap, _∙_}
-use mathlib.Core.Bool.{Bool, true, false, _&&_, and-true}
-use mathlib.Core.List.{List}
-use Prim.Native.Nat.{ℕ, zero, suc, _+_, _-_, _*_, _<_, _≤_}
-use native.Mathlib.Omega.{arith}
-use lib.IntN.{ℤ, pos}
-use lib.Dec.{eqb, leb}
-use lib.ListN.{getD}
-use borrow.Author.Tests.{ne-eqb, lt-ltb, le-ltb, lt-leb, le-leb, eqb-true, leb-true}
+use Rattle.prelude.specs.Kit.{ℕ, _≤_, _+_, _<_, _-_, suc, zero, _*_, arith, true, false, Bool, _&&_, and-true, _≡_}
+use Rattle.prelude.specs.Kit.{refl, _∙_, sym, ap, List, eqb, leb, ℤ, pos, getD, ne-eqb, lt-ltb, le-ltb, eqb-true}
+use Rattle.prelude.specs.Kit.{leb-true, le-leb, lt-leb}
 use Rattle.semantics.specs.Basics.{all}
 use Rattle.semantics.specs.Number.{is-zero}
 use Rattle.semantics.specs.Store.{Store, cell, cell-count, cell-of}

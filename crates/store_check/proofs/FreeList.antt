@@ -1,9 +1,6 @@
 -- The free list followed.
-use mathlib.Core.Path.{_≡_, refl, sym, ap, ap₂, _∙_}
-use mathlib.Core.List.{List, [], _∷_}
-use Prim.Native.Nat.{ℕ, zero, suc, _-_, _<_, _≤_}
-use native.Mathlib.Omega.{arith}
-use borrow.Author.Tests.{lt-ltb, le-ltb}
+use Rattle.prelude.specs.Kit.{ℕ, _≤_, _<_, _-_, suc, zero, arith, _≡_, refl, _∙_, sym, ap, ap₂, List, [], _∷_, lt-ltb}
+use Rattle.prelude.specs.Kit.{le-ltb}
 use Rattle.semantics.specs.Basics.{each}
 use Rattle.semantics.specs.Store.{Store, cell, cell-count}
 use Rattle.semantics.specs.Sound.{free-from, end-from}

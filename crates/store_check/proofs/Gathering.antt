@@ -1,10 +1,6 @@
 -- Gathering what the places name: a run of words, a cell, the whole store.
-use mathlib.Core.Path.{_≡_, refl, sym, ap, ap₂, _∙_}
-use mathlib.Core.List.{List, [], _∷_, map}
-use Prim.Native.Nat.{ℕ, zero, suc, _+_, _*_, _-_, _<_, _≤_, min}
-use native.Mathlib.Omega.{arith}
-use lib.IntN.{ℤ, pos}
-use lib.ListN.{length, getD, take, length-take, length-append, replicate}
+use Rattle.prelude.specs.Kit.{ℕ, _≤_, _+_, _<_, _-_, suc, zero, _*_, min, arith, _≡_, refl, _∙_, sym, ap, ap₂, List, []}
+use Rattle.prelude.specs.Kit.{_∷_, map, ℤ, pos, length, getD, replicate, take, length-append, length-take}
 use Rattle.semantics.specs.Basics.{each, tabulate}
 use Rattle.semantics.specs.Store.{Cell, cell, cell-of, named-by, elements, inner}
 use Rattle.semantics.specs.Words.{cells-in, slots-at, cell-at, store-of}

@@ -1,9 +1,6 @@
 -- A loop that tests a range of numbers: the test of what is left gives the test of the whole.
-use mathlib.Core.Path.{_≡_, refl, sym, ap₂, _∙_}
-use mathlib.Core.Bool.{Bool, true, false, _&&_}
-use Prim.Native.Nat.{ℕ, zero, suc, _+_, _-_, _<_, _≤_}
-use native.Mathlib.Omega.{arith}
-use native.Mathlib.Numerals.{add-one}
+use Rattle.prelude.specs.Kit.{ℕ, _≤_, _+_, _<_, _-_, suc, zero, arith, add-one, true, false, Bool, _&&_, _≡_, refl, _∙_}
+use Rattle.prelude.specs.Kit.{sym, ap₂}
 use Rattle.semantics.specs.Basics.{all}
 
 all-none : (f : ℕ → Bool) (i n : ℕ) → n ≡ 0 → all f i n ≡ true

@@ -1,11 +1,7 @@
 -- Counting how often each cell is in a list, and that the counts found are the occurrences.
-use mathlib.Core.Path.{_≡_, refl, sym, ap, _∙_}
-use mathlib.Core.List.{List, [], _∷_, _++_}
-use Prim.Native.Nat.{ℕ, suc, _+_, _<_, _≤_}
-use native.Mathlib.Omega.{arith}
-use native.Mathlib.Decide.{ℕ-discrete}
-use lib.ListN.{length, getD, set, length-set, replicate, length-replicate, getD-replicate}
-use lib.Seq.{getD-set-same, getD-set-other, set-out, set-getD}
+use Rattle.prelude.specs.Kit.{ℕ, _≤_, _+_, _<_, suc, arith, ℕ-discrete, _≡_, refl, _∙_, sym, ap, List, [], _∷_, _++_}
+use Rattle.prelude.specs.Kit.{length, getD, set, length-set, replicate, length-replicate, getD-replicate}
+use Rattle.prelude.specs.Kit.{getD-set-other, getD-set-same, set-out, set-getD}
 use Rattle.semantics.specs.Basics.{each, occurrences}
 use Rattle.semantics.specs.Store.{one-more}
 use Rattle.laws.specs.Counts.{occurs-here, occurs-after}

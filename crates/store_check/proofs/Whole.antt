@@ -1,13 +1,7 @@
 -- The whole test: what is compared cell by cell is what a sound store asks for.
-use mathlib.Core.Path.{_≡_, refl, sym, ap, ap₂, _∙_}
-use mathlib.Core.Bool.{Bool, true, false, _&&_, _||_, and-true, and-comm}
-use mathlib.Core.List.{List, [], _∷_, _++_}
-use Prim.Native.Nat.{ℕ, zero, suc, _+_, _<_, _≤_}
-use native.Mathlib.Omega.{arith}
-use lib.IntN.{ℤ, pos}
-use lib.Dec.{eqb, leb}
-use lib.ListN.{length, getD, replicate}
-use borrow.Author.Tests.{eq-eqb, ne-eqb, eqb-true}
+use Rattle.prelude.specs.Kit.{ℕ, _≤_, _+_, _<_, suc, zero, arith, true, false, Bool, _&&_, _||_, and-true, and-comm}
+use Rattle.prelude.specs.Kit.{_≡_, refl, _∙_, sym, ap, ap₂, List, [], _∷_, _++_, eqb, leb, ℤ, pos, length, getD}
+use Rattle.prelude.specs.Kit.{replicate, ne-eqb, eq-eqb, eqb-true}
 use Rattle.semantics.specs.Basics.{all, occurrences, tabulate}
 use Rattle.semantics.specs.Store.{Cell, Store, cell, elements, inner, named-by}
 use Rattle.semantics.specs.Words.{cells-in, cell-at, store-of, shaped}

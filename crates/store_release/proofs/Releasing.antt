@@ -1,11 +1,6 @@
 -- Laws of a release, one for each way out of the code, of freeing a cell, and of the loop over its elements.
-use mathlib.Core.Path.{_≡_, refl, sym, ap, _∙_}
-use mathlib.Core.List.{List, [], map}
-use Prim.Native.Nat.{ℕ, zero, suc, _+_, _-_, _*_, _<_, _≤_, min}
-use native.Mathlib.Omega.{arith}
-use lib.IntN.{ℤ, pos}
-use lib.ListN.{length, getD, set, take, length-map, length-take, List·getD-map}
-use lib.Seq.{getD-take}
+use Rattle.prelude.specs.Kit.{ℕ, _≤_, _+_, _<_, _-_, suc, zero, _*_, min, arith, _≡_, refl, _∙_, sym, ap, List, [], map}
+use Rattle.prelude.specs.Kit.{ℤ, pos, length, getD, set, take, length-take, length-map, List·getD-map, getD-take}
 use Rattle.semantics.specs.Basics.{each}
 use Rattle.semantics.specs.Store.{Cell, Store, cell, cell-of, clear, inner, with-cell, with-count}
 use Rattle.semantics.specs.Store.{freed, released, cells-taken}

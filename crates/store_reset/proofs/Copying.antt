@@ -1,11 +1,6 @@
 -- Copying words into a list from the front.
-use mathlib.Core.Path.{_≡_, sym, _∙_}
-use mathlib.Core.List.{List}
-use Prim.Native.Nat.{ℕ, _+_, _<_, _≤_}
-use native.Mathlib.Omega.{arith}
-use native.Mathlib.Decide.{ℕ-discrete}
-use lib.ListN.{length, getD, set}
-use lib.Seq.{ext-getD, getD-set-same, getD-set-other}
+use Rattle.prelude.specs.Kit.{ℕ, _≤_, _+_, _<_, arith, ℕ-discrete, _≡_, _∙_, sym, List, length, getD, set}
+use Rattle.prelude.specs.Kit.{getD-set-other, getD-set-same, ext-getD}
 use Rattle.laws.specs.Lists.{tabulate-length}
 use Rattle.store_words.proofs.Tables.{table-at}
 use Rattle.store_reset.specs.Resetting.{words-of}

@@ -1,11 +1,8 @@
 -- Linking the cells anew, from the last to the first.
-use mathlib.Core.Path.{_≡_, refl, sym, ap, ap₂, _∙_}
-use mathlib.Core.List.{List, [], _∷_, _++_, append-nil}
-use Prim.Native.Nat.{ℕ, zero, suc, _+_, _-_, _*_, _<_, _≤_}
-use native.Mathlib.Omega.{arith}
-use lib.IntN.{ℤ}
-use lib.ListN.{length, getD, set, take, drop, List·getD-eq-default}
-use lib.Seq.{drop-cons, drop-length, take-length, take-suc, set-at, getD-at, append-snoc, length-take-le, set-getD}
+use Rattle.prelude.specs.Kit.{ℕ, _≤_, _+_, _<_, _-_, suc, zero, _*_, arith, _≡_, refl, _∙_, sym, ap, ap₂, List, [], _∷_}
+use Rattle.prelude.specs.Kit.{_++_, append-nil, ℤ, length, getD, set, List·getD-eq-default, take, drop, drop-cons}
+use Rattle.prelude.specs.Kit.{length-take-le, drop-length, append-snoc, set-getD, set-at, getD-at, take-suc}
+use Rattle.prelude.specs.Kit.{take-length}
 use Rattle.semantics.specs.Store.{Cell, Store, cell, cell-count, clear, with-cell, with-first}
 use Rattle.semantics.specs.Store.{Linked, link, linked, relinked}
 use Rattle.semantics.specs.Words.{cells-in, store-of}

@@ -1,11 +1,6 @@
 -- Arrays of zeros hold a zeroed store, and opening goes on from there.
-use mathlib.Core.Path.{_≡_, refl, ap, ap₂, _∙_}
-use mathlib.Core.List.{List, [], _∷_}
-use Prim.Native.Nat.{ℕ, zero, suc, _+_, _-_, _*_}
-use native.Mathlib.Omega.{arith}
-use native.Mathlib.Decide.{decLt}
-use lib.IntN.{ℤ, pos}
-use lib.ListN.{length, getD, replicate, List·getD-eq-default}
+use Rattle.prelude.specs.Kit.{ℕ, _+_, _-_, suc, zero, _*_, arith, decLt, _≡_, refl, _∙_, ap, ap₂, List, [], _∷_, ℤ, pos}
+use Rattle.prelude.specs.Kit.{length, getD, List·getD-eq-default, replicate}
 use Rattle.semantics.specs.Basics.{tabulate}
 use Rattle.semantics.specs.Store.{Cell, Store, clear, padded, relinked, acquired, zeroed, opened}
 use Rattle.semantics.specs.Words.{cells-in, slots-at, cell-at, store-of}

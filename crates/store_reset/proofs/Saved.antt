@@ -1,9 +1,5 @@
 -- What is put back after a stop is the saved store, linked anew.
-use mathlib.Core.Path.{_≡_, ap, ap₂, _∙_}
-use mathlib.Core.List.{List}
-use Prim.Native.Nat.{ℕ}
-use lib.IntN.{ℤ, pos}
-use lib.ListN.{length}
+use Rattle.prelude.specs.Kit.{ℕ, _≡_, _∙_, ap, ap₂, List, ℤ, pos, length}
 use Rattle.semantics.specs.Store.{Store, relinked}
 use Rattle.semantics.specs.Words.{store-of}
 use Rattle.store_reset.specs.Resetting.{words-of}

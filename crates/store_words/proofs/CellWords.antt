@@ -1,14 +1,7 @@
 -- What a cell of the store that two arrays hold has, word by word.
-use mathlib.Core.Path.{_≡_, refl, sym, ap, ap₂, _∙_}
-use mathlib.Core.Bool.{Bool, true, false, not, true≢false, false≢true}
-use mathlib.Core.List.{List, []}
-use Prim.Native.Nat.{ℕ, _+_, _*_, _<_, _≤_, min}
-use native.Mathlib.Omega.{arith}
-use native.Mathlib.Decide.{decLt}
-use lib.IntN.{ℤ, pos}
-use lib.ListN.{length, getD, take, length-take, List·getD-eq-default}
-use lib.Seq.{set-out, set-getD, getD-take}
-use borrow.Author.Tests.{not-true, not-false}
+use Rattle.prelude.specs.Kit.{ℕ, _≤_, _+_, _<_, _*_, min, arith, decLt, true, false, Bool, not, false≢true, true≢false}
+use Rattle.prelude.specs.Kit.{_≡_, refl, _∙_, sym, ap, ap₂, List, [], ℤ, pos, length, getD, List·getD-eq-default, take}
+use Rattle.prelude.specs.Kit.{length-take, getD-take, set-out, set-getD, not-true, not-false}
 use Rattle.semantics.specs.Store.{Cell, Store, cell, cell-count, clear, elements, with-cell}
 use Rattle.semantics.specs.Words.{cells-in, slots-at, cell-at, store-of}
 use Rattle.laws.specs.Cells.{same-store}

@@ -1,15 +1,6 @@
 -- Counts: one more, the cells in use, and the test of the lengths.
-use mathlib.Core.Path.{_≡_, refl, sym, ap, _∙_}
-use mathlib.Core.Bool.{false}
-use mathlib.Core.List.{List}
-use Prim.Native.Nat.{ℕ, zero, suc, _+_, _*_, _<_, _≤_}
-use native.Mathlib.Omega.{arith}
-use native.Mathlib.Numerals.{add-one}
-use lib.IntN.{ℤ}
-use lib.ListN.{length, getD, drop}
-use lib.Seq.{drop-cons, drop-length}
-use lib.Dec.{eqb}
-use borrow.Author.Tests.{eq-eqb, ne-eqb, lt-ltb, le-ltb}
+use Rattle.prelude.specs.Kit.{ℕ, _≤_, _+_, _<_, suc, zero, _*_, arith, add-one, false, _≡_, refl, _∙_, sym, ap, List}
+use Rattle.prelude.specs.Kit.{eqb, ℤ, length, getD, drop, drop-cons, drop-length, ne-eqb, lt-ltb, eq-eqb, le-ltb}
 use Rattle.semantics.specs.Store.{Cell, Store, cell, cell-count, clear, one-more, one-if-used}
 use Rattle.semantics.specs.Store.{used-cells, cells-taken}
 use Rattle.semantics.specs.Words.{cells-in, store-of, shaped}

@@ -1,10 +1,6 @@
 -- A loop that does f for each element of a list: what is left to do gives what the whole gives.
-use mathlib.Core.Path.{_≡_, refl, sym, ap, _∙_}
-use mathlib.Core.List.{List, _∷_}
-use Prim.Native.Nat.{ℕ, suc, _+_, _<_}
-use native.Mathlib.Numerals.{add-one}
-use lib.ListN.{length, getD, drop}
-use lib.Seq.{drop-cons, drop-length}
+use Rattle.prelude.specs.Kit.{ℕ, _+_, _<_, suc, add-one, _≡_, refl, _∙_, sym, ap, List, _∷_, length, getD, drop}
+use Rattle.prelude.specs.Kit.{drop-cons, drop-length}
 use Rattle.semantics.specs.Basics.{each}
 
 -- i elements are done, and s is reached

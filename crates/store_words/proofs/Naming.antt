@@ -1,13 +1,6 @@
 -- The cell that a word names, and the cells that a cell names.
-use mathlib.Core.Path.{_≡_, refl, sym, ap, _∙_}
-use mathlib.Core.Bool.{true, false, true≢false}
-use mathlib.Core.List.{List, [], _∷_, map}
-use Prim.Native.Nat.{ℕ, zero, suc, _+_, _*_, _<_, min}
-use native.Mathlib.Omega.{arith}
-use lib.IntN.{ℤ, pos, negsuc, natAbs}
-use lib.ListN.{length, getD, take}
-use lib.Signed.{ltZ}
-use borrow.Author.Tests.{ltb-true}
+use Rattle.prelude.specs.Kit.{ℕ, _+_, _<_, suc, zero, _*_, min, arith, true, false, true≢false, _≡_, refl, _∙_, sym, ap}
+use Rattle.prelude.specs.Kit.{List, [], _∷_, map, ℤ, pos, negsuc, natAbs, ltZ, length, getD, take, ltb-true}
 pub use Rattle.laws.specs.Numbers.{not-negative}
 use Rattle.semantics.specs.Store.{Cell, cell, cell-of, named-by, elements, inner}
 use Rattle.semantics.specs.Words.{cells-in, slots-at, store-of}

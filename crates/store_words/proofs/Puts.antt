@@ -1,12 +1,6 @@
 -- Writes to the two arrays that change one cell's words and the first free cell, as a change of the store.
-use mathlib.Core.Path.{_≡_, refl, sym, ap, ap₂, _∙_}
-use mathlib.Core.Logic.{_≢_}
-use mathlib.Core.List.{List}
-use Prim.Native.Nat.{ℕ, _+_, _*_, _<_}
-use native.Mathlib.Omega.{arith}
-use lib.IntN.{ℤ, pos}
-use lib.ListN.{length, getD, set, length-set}
-use lib.Seq.{getD-set-same, getD-set-other}
+use Rattle.prelude.specs.Kit.{ℕ, _+_, _<_, _*_, arith, _≡_, refl, _∙_, sym, ap, ap₂, _≢_, List, ℤ, pos, length, getD}
+use Rattle.prelude.specs.Kit.{set, length-set, getD-set-other, getD-set-same}
 use Rattle.semantics.specs.Basics.{tabulate}
 use Rattle.semantics.specs.Store.{Cell, cell, with-cell, with-first, with-count, with-totals}
 use Rattle.semantics.specs.Words.{cells-in, slots-at, cell-at, store-of}

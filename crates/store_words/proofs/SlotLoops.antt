@@ -1,13 +1,6 @@
 -- The loops over the sixteen slots of a cell: clearing them, and reading them into an array.
-use mathlib.Core.Path.{_≡_, refl, sym, _∙_}
-use mathlib.Core.Logic.{_≢_}
-use mathlib.Core.List.{List, []}
-use Prim.Native.Nat.{ℕ, _+_, _*_, _<_, _≤_}
-use native.Mathlib.Omega.{arith}
-use native.Mathlib.Decide.{ℕ-discrete}
-use lib.IntN.{ℤ, pos}
-use lib.ListN.{length, getD, set, length-set}
-use lib.Seq.{ext-getD, getD-set-same, getD-set-other}
+use Rattle.prelude.specs.Kit.{ℕ, _≤_, _+_, _<_, _*_, arith, ℕ-discrete, _≡_, refl, _∙_, sym, _≢_, List, [], ℤ, pos}
+use Rattle.prelude.specs.Kit.{length, getD, set, length-set, getD-set-other, getD-set-same, ext-getD}
 use Rattle.semantics.specs.Store.{padded}
 use Rattle.semantics.specs.Words.{slots-at}
 use Rattle.store_words.specs.Parts.{Cleared}

@@ -1,14 +1,8 @@
 -- At the right lengths the two arrays are the words of the store that they hold.
-use mathlib.Core.Path.{_≡_, refl, sym, ap, ap₂, _∙_}
-use mathlib.Core.Bool.{true, _&&_}
-use mathlib.Core.List.{List, [], _∷_, _++_}
-use Prim.Native.Nat.{ℕ, zero, suc, _+_, _*_, _<_, _≤_}
-use native.Mathlib.Omega.{arith}
-use lib.IntN.{ℤ, pos}
-use lib.ListN.{length, getD, take, drop, length-take, length-drop}
-use lib.Seq.{ext-getD, getD-take, getD-drop, take-add, drop-drop, drop-cons, take-all}
-use lib.Dec.{eqb, ltb}
-use borrow.Author.Tests.{eqb-true, ltb-true}
+use Rattle.prelude.specs.Kit.{ℕ, _≤_, _+_, _<_, suc, zero, _*_, arith, true, _&&_, _≡_, refl, _∙_, sym, ap, ap₂, List}
+use Rattle.prelude.specs.Kit.{[], _∷_, _++_, eqb, ltb, ℤ, pos, length, getD, take, drop, length-take, length-drop}
+use Rattle.prelude.specs.Kit.{drop-cons, ext-getD, getD-take, take-all, getD-drop, drop-drop, take-add, eqb-true}
+use Rattle.prelude.specs.Kit.{ltb-true}
 use Rattle.semantics.specs.Basics.{tabulate}
 use Rattle.semantics.specs.Store.{Cell, Store}
 use Rattle.semantics.specs.Words.{cells-in, slots-at, cell-at, store-of, shaped}

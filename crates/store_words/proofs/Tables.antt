@@ -1,12 +1,6 @@
 -- Laws of tables: their length, their elements, and one element changed.
-use mathlib.Core.Path.{_≡_, refl, sym, ap, ap₂, _∙_}
-use mathlib.Core.Logic.{_≢_}
-use mathlib.Core.List.{List, _∷_}
-use Prim.Native.Nat.{ℕ, zero, suc, _+_, _<_, _≤_}
-use native.Mathlib.Omega.{arith}
-use native.Mathlib.Decide.{ℕ-discrete}
-use lib.ListN.{getD, set, length-set}
-use lib.Seq.{ext-getD, getD-set-same, getD-set-other}
+use Rattle.prelude.specs.Kit.{ℕ, _≤_, _+_, _<_, suc, zero, arith, ℕ-discrete, _≡_, refl, _∙_, sym, ap, ap₂, _≢_, List}
+use Rattle.prelude.specs.Kit.{_∷_, getD, set, length-set, getD-set-other, getD-set-same, ext-getD}
 use Rattle.laws.specs.Lists.{tabulate-length, tabulate-at}
 use Rattle.semantics.specs.Basics.{tabulate}
 

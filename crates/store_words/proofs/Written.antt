@@ -1,12 +1,6 @@
 -- A whole cell written, its head with its slots cleared, with another first free cell.
-use mathlib.Core.Path.{_≡_, _∙_}
-use mathlib.Core.Logic.{_≢_}
-use mathlib.Core.List.{List, []}
-use Prim.Native.Nat.{ℕ, _+_, _*_, _<_}
-use native.Mathlib.Omega.{arith}
-use lib.IntN.{ℤ}
-use lib.ListN.{length, getD, set, length-set}
-use lib.Seq.{getD-set-same, getD-set-other}
+use Rattle.prelude.specs.Kit.{ℕ, _+_, _<_, _*_, arith, _≡_, _∙_, _≢_, List, [], ℤ, length, getD, set, length-set}
+use Rattle.prelude.specs.Kit.{getD-set-other, getD-set-same}
 use Rattle.semantics.specs.Store.{clear, padded, with-cell, with-first}
 use Rattle.semantics.specs.Words.{cells-in, cell-at, store-of}
 use Rattle.laws.specs.Cells.{same-cell}

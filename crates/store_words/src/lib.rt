@@ -2,7 +2,7 @@
 // free cell first, and writing the words of one cell. The readers are total: they work on arrays of any length and
 // content, and a cell that is not there reads as a clear one.
 ghost use mathlib.Core.Path.{_≡_};
-ghost use Prim.Native.Nat.{_+_, _*_, _<_, _≤_, min};
+ghost use Prim.Native.Nat.{_+_, _*_, _<_, _≤_};
 ghost use lib.IntN.{pos};
 ghost use lib.ListN.{length, set, getD};
 ghost use Rattle.semantics.specs.Store.{cell, cell-of, elements, one-if-used, cells-taken, free-cells};

@@ -1,12 +1,7 @@
 -- What was written backwards, moved to the front: the code of the script, or 9.
-use mathlib.Core.Path.{_≡_, refl, sym, ap, _∙_}
-use mathlib.Core.List.{List, [], _∷_, _++_}
-use Prim.Native.Nat.{ℕ, suc, _+_, _-_, _<_, _≤_}
-use native.Mathlib.Omega.{arith}
-use lib.IntN.{ℤ, pos}
-use lib.ListN.{length, set, take, drop, replicate, length-set, length-drop, length-append}
-use lib.Seq.{drop-cons, getD-set-same, drop-set-lt, length-take-le}
-use borrow.Author.Tests.{lt-ltb, le-leb, lt-leb}
+use Rattle.prelude.specs.Kit.{ℕ, _≤_, _+_, _<_, _-_, suc, arith, _≡_, refl, _∙_, sym, ap, List, [], _∷_, _++_, ℤ, pos}
+use Rattle.prelude.specs.Kit.{length, set, length-set, replicate, take, drop, length-append, length-drop, getD-set-same}
+use Rattle.prelude.specs.Kit.{drop-cons, length-take-le, drop-set-lt, lt-ltb, le-leb, lt-leb}
 use Rattle.semantics.specs.Outcome.{done, stop}
 use Rattle.semantics.specs.Syntax.{Script}
 use Rattle.semantics.specs.Code.{Row}

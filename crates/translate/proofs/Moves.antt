@@ -1,10 +1,6 @@
 -- Laws of moving numbers to the front of an array.
-use mathlib.Core.Path.{_≡_, refl, sym, ap, _∙_}
-use mathlib.Core.List.{List, _++_}
-use Prim.Native.Nat.{ℕ, _+_, _-_, _<_, _≤_}
-use native.Mathlib.Omega.{arith}
-use lib.ListN.{length, getD, set, take, drop, length-set, length-drop}
-use lib.Seq.{length-take-le, getD-drop, getD-append-add}
+use Rattle.prelude.specs.Kit.{ℕ, _≤_, _+_, _<_, _-_, arith, _≡_, refl, _∙_, sym, ap, List, _++_, length, getD, set}
+use Rattle.prelude.specs.Kit.{length-set, take, drop, length-drop, length-take-le, getD-append-add, getD-drop}
 use Rattle.clearing.proofs.Clearing.{put-next}
 
 module _ {A : Type 0} where

@@ -1,7 +1,7 @@
 // The translation of an accepted script: its code at the front of two lent arrays, and zeros past it.
 ghost use mathlib.Core.Path.{_≡_};
 ghost use mathlib.Core.List.{_++_};
-ghost use Prim.Native.Nat.{_+_, _-_, _≤_, min};
+ghost use Prim.Native.Nat.{_+_, _-_, _≤_};
 ghost use lib.IntN.{pos};
 ghost use lib.ListN.{length, take, drop, replicate};
 ghost use Rattle.semantics.specs.File.{script};

@@ -1,11 +1,6 @@
 -- Laws of the table of depths: names noted one by one, functions one by one.
-use mathlib.Core.Path.{_≡_, refl, ap, _∙_}
-use mathlib.Core.List.{List}
-use Prim.Native.Nat.{ℕ, _+_, _-_, _*_, _<_, _≤_}
-use native.Mathlib.Omega.{arith}
-use native.Mathlib.Decide.{ℕ-discrete}
-use lib.ListN.{length, getD, set, length-set}
-use lib.Seq.{getD-set-same, getD-set-other}
+use Rattle.prelude.specs.Kit.{ℕ, _≤_, _+_, _<_, _-_, _*_, arith, ℕ-discrete, _≡_, refl, _∙_, ap, List, length, getD}
+use Rattle.prelude.specs.Kit.{set, length-set, getD-set-other, getD-set-same}
 use Rattle.semantics.specs.Syntax.{Script, function-at}
 use Rattle.semantics.specs.Annotate.{depths-of}
 use Rattle.translate_script.specs.Depths.{NotedTo, Noted, DepthsFrom}

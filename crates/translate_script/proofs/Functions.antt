@@ -1,11 +1,6 @@
 -- Laws of the code of the functions of an accepted script, from the last to the first.
-use mathlib.Core.Path.{_≡_, refl, sym, ap, _∙_, fun-ext}
-use mathlib.Core.List.{List, [], _∷_, _++_}
-use Prim.Native.Nat.{ℕ, zero, suc, _+_, _-_, _<_, _≤_}
-use native.Mathlib.Omega.{arith}
-use lib.IntN.{ℤ}
-use lib.ListN.{length, getD, drop}
-use lib.Seq.{drop-cons}
+use Rattle.prelude.specs.Kit.{ℕ, _≤_, _+_, _<_, _-_, suc, zero, arith, _≡_, refl, _∙_, sym, ap, fun-ext, List, [], _∷_}
+use Rattle.prelude.specs.Kit.{_++_, ℤ, length, getD, drop, drop-cons}
 use Rattle.semantics.specs.Syntax.{Function, Script, function-at, no-function}
 use Rattle.semantics.specs.Code.{Row}
 use Rattle.semantics.specs.Borrow.{Table, borrowed}

@@ -1,13 +1,6 @@
 -- Laws of the depths by which a function's names are annotated: its borrowed parameters one by one.
-use mathlib.Core.Path.{_≡_, refl, _∙_, fun-ext}
-use mathlib.Core.Bool.{true, false}
-use mathlib.Core.List.{List}
-use Prim.Native.Nat.{ℕ, _-_, _<_, _≤_}
-use native.Mathlib.Omega.{arith}
-use native.Mathlib.Decide.{ℕ-discrete}
-use lib.ListN.{length, getD, set, length-set}
-use lib.Seq.{getD-set-same, getD-set-other}
-use borrow.Author.Tests.{lt-ltb, le-ltb}
+use Rattle.prelude.specs.Kit.{ℕ, _≤_, _<_, _-_, arith, ℕ-discrete, true, false, _≡_, refl, _∙_, fun-ext, List, length}
+use Rattle.prelude.specs.Kit.{getD, set, length-set, getD-set-other, getD-set-same, lt-ltb, le-ltb}
 use Rattle.semantics.specs.Borrow.{Table, borrows}
 use Rattle.translate_script.specs.Rows.{owned-of}
 

@@ -1,9 +1,5 @@
 -- Laws of the rows of parameters, written from the last to the first.
-use mathlib.Core.Path.{_≡_, sym, ap, _∙_}
-use mathlib.Core.List.{List, [], _∷_}
-use Prim.Native.Nat.{ℕ, suc, _+_, _-_, _*_, _<_, _≤_}
-use native.Mathlib.Omega.{arith}
-use lib.IntN.{ℤ}
+use Rattle.prelude.specs.Kit.{ℕ, _≤_, _+_, _<_, _-_, suc, _*_, arith, _≡_, _∙_, sym, ap, List, [], _∷_, ℤ}
 use Rattle.semantics.specs.Syntax.{Parameter}
 use Rattle.semantics.specs.Code.{row}
 use Rattle.semantics.specs.File.{at-function, at-parameter}

@@ -1,11 +1,6 @@
 -- Laws of the table of places: functions one by one, from the last to the first.
-use mathlib.Core.Path.{_≡_, refl, _∙_}
-use mathlib.Core.List.{List}
-use Prim.Native.Nat.{ℕ, _+_, _-_, _<_, _≤_}
-use native.Mathlib.Omega.{arith}
-use native.Mathlib.Decide.{ℕ-discrete}
-use lib.ListN.{length, getD, set, length-set}
-use lib.Seq.{getD-set-same, getD-set-other}
+use Rattle.prelude.specs.Kit.{ℕ, _≤_, _+_, _<_, _-_, arith, ℕ-discrete, _≡_, refl, _∙_, List, length, getD, set}
+use Rattle.prelude.specs.Kit.{length-set, getD-set-other, getD-set-same}
 use Rattle.semantics.specs.Syntax.{Script}
 use Rattle.translate_script.specs.Places.{rows-from, PlacesFrom}
 

@@ -1,14 +1,7 @@
 -- The code of one function: all its parts together.
-use mathlib.Core.Path.{_≡_, refl, sym, ap, _∙_, fun-ext}
-use mathlib.Core.Bool.{Bool, true, false, _&&_}
-use mathlib.Core.List.{List, [], _++_, append-nil}
-use Prim.Native.Nat.{ℕ, zero, suc, _+_, _-_, _<_, _≤_}
-use native.Mathlib.Omega.{arith}
-use native.Mathlib.Decide.{decLt}
-use lib.IntN.{ℤ}
-use lib.Dec.{ltb}
-use lib.ListN.{length, getD, replicate}
-use borrow.Author.Tests.{lt-ltb, le-ltb}
+use Rattle.prelude.specs.Kit.{ℕ, _≤_, _+_, _<_, _-_, suc, zero, arith, decLt, true, false, Bool, _&&_, _≡_, refl, _∙_}
+use Rattle.prelude.specs.Kit.{sym, ap, fun-ext, List, [], _++_, append-nil, ltb, ℤ, length, getD, replicate, lt-ltb}
+use Rattle.prelude.specs.Kit.{le-ltb}
 use Rattle.semantics.specs.Syntax.{Function}
 use Rattle.semantics.specs.File.{at-function}
 use Rattle.semantics.specs.Code.{Row, rows, release-all}

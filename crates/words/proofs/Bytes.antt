@@ -1,10 +1,6 @@
 -- Numbers of more bytes from numbers of fewer.
-use mathlib.Core.Path.{_≡_, refl, sym}
-use mathlib.Core.List.{List}
-use Prim.Native.Nat.{ℕ, zero, suc, _+_, _-_, _*_, _^_, _<_, _≤_}
-use native.Mathlib.Nat.{add-zero, add-suc}
-use native.Mathlib.Omega.{arith}
-use lib.ListN.{length, getD, List·getD-eq-default}
+use Rattle.prelude.specs.Kit.{ℕ, _≤_, _+_, _<_, _-_, suc, zero, _*_, _^_, arith, add-zero, add-suc, _≡_, refl, sym}
+use Rattle.prelude.specs.Kit.{List, length, getD, List·getD-eq-default}
 use Rattle.semantics.specs.Number.{bytes-at}
 
 -- past the end all bytes are 0

@@ -1,7 +1,5 @@
 -- Small parts of an answer are packed as they are.
-use mathlib.Core.Path.{_≡_}
-use Prim.Native.Nat.{ℕ, _<_, _^_, _%_}
-use native.Mathlib.Omega.{arith}
+use Rattle.prelude.specs.Kit.{ℕ, _<_, _%_, _^_, arith, _≡_}
 use Rattle.semantics.specs.Calls.{packed}
 
 pub packed-small : {number node count cells : ℕ} → number < 2 ^ 8 → node < 2 ^ 16 → count < 2 ^ 24 → cells < 2 ^ 16 →

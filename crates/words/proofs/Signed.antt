@@ -1,14 +1,8 @@
 -- Laws of exact sums, and of the complement, which makes a difference of a sum.
 -- `shifted z` is z + 2^66 as a natural number, so that `omega` can be used.
-use mathlib.Core.Path.{_≡_, refl, sym, ap, _∙_}
-use mathlib.Core.Bool.{Bool, true, false, cond}
-use Prim.Native.Nat.{ℕ, zero, suc, _+_, _-_, _<_, _≤_, _^_}
-use native.Mathlib.Omega.{arith}
-use native.Mathlib.Nat.{zero-add}
-use lib.IntN.{ℤ, pos, negsuc, negℤ, subℕ, _+ℤ_, _-ℤ_, +ℤ-idl, +ℤ-assoc, negℤ-+ℤ, negℤ-negℤ}
-use lib.Dec.{ltb}
-use lib.Signed.{mag, ltZ}
-use borrow.Author.Tests.{ltb-true, ltb-false, lt-ltb, le-ltb}
+use Rattle.prelude.specs.Kit.{ℕ, _≤_, _+_, _<_, _-_, suc, zero, _^_, arith, zero-add, true, false, Bool, cond, _≡_}
+use Rattle.prelude.specs.Kit.{refl, _∙_, sym, ap, ltb, ℤ, pos, negsuc, _-ℤ_, _+ℤ_, +ℤ-idl, subℕ, negℤ-+ℤ, negℤ-negℤ}
+use Rattle.prelude.specs.Kit.{negℤ, +ℤ-assoc, ltZ, mag, lt-ltb, le-ltb, ltb-true, ltb-false}
 use Rattle.semantics.specs.Outcome.{Outcome, done, stop}
 use Rattle.semantics.specs.Number.{fits}
 use Rattle.words.specs.Words.{checked}

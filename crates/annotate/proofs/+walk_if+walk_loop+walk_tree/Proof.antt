@@ -1,5 +1,5 @@
 -- The functions of the walk meet their contracts; what each has to show stands in a file of its own.
-use borrow.Author.Needs.{needs}
+use Rattle.prelude.specs.Kit.{needs}
 use Rattle.annotate.proofs.walk_if.Reads as walk-if
 use Rattle.annotate.proofs.+walk_if+walk_loop+walk_tree.Lts-walk_if as walk-if-lts
 use Rattle.annotate.proofs.walk_loop.Reads as walk-loop

@@ -1,5 +1,5 @@
 -- `annotate_lines::binary_kind` meets its contract.
-use borrow.Author.Tests.{ne-eqb}
+use Rattle.prelude.specs.Kit.{ne-eqb}
 use Rattle.annotate_lines.proofs.binary_kind.Statement.{statement}
 use Rattle.annotate_lines.proofs.binary_kind.Tie as tie
 

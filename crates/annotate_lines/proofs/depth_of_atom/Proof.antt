@@ -1,5 +1,5 @@
 -- `annotate_lines::depth_of_atom` meets its contract.
-use borrow.Author.Needs.{needs}
+use Rattle.prelude.specs.Kit.{needs}
 use Rattle.annotate_lines.proofs.depth_of_atom.Statement.{statement}
 use Rattle.annotate_lines.proofs.depth_of_atom.Tie as tie
 

@@ -1,13 +1,10 @@
 -- `annotate_lines::put_atoms` meets its contract.
-use mathlib.Core.List.{map}
-use Prim.Native.Nat.{_+_, _-_, _<_, _≤_}
-use native.Mathlib.Omega.{arith}
+use Rattle.prelude.specs.Kit.{_≤_, _+_, _<_, _-_, arith, map, needs}
 use Rattle.semantics.specs.Code.{atom-row}
 use Rattle.plain_rows.specs.Plain.{atoms-at}
 use Rattle.annotate_rows.specs.Wrote.{Wrote, Room}
 use Rattle.annotate_rows.proofs.Rows.{lower}
 use Rattle.annotate_lines.proofs.Handed.{atoms-begin, atoms-go, atoms-end}
-use borrow.Author.Needs.{needs}
 use Rattle.annotate_lines.proofs.put_atoms.Statement.{statement}
 use Rattle.annotate_lines.proofs.put_atoms.Tie as tie
 

@@ -1,6 +1,6 @@
 -- `annotate_lines::put_end` meets its contract.
 use Rattle.annotate_rows.proofs.Rows.{wrote-then, lower}
-use borrow.Author.Needs.{needs}
+use Rattle.prelude.specs.Kit.{needs}
 use Rattle.annotate_lines.proofs.put_end.Statement.{statement}
 use Rattle.annotate_lines.proofs.put_end.Tie as tie
 

@@ -1,7 +1,6 @@
 -- `annotate_lines::put_handing` meets its contract.
-use native.Mathlib.Omega.{arith}
+use Rattle.prelude.specs.Kit.{arith, needs}
 use Rattle.annotate_rows.proofs.Rows.{wrote-then, lower}
-use borrow.Author.Needs.{needs}
 use Rattle.annotate_lines.proofs.put_handing.Statement.{statement}
 use Rattle.annotate_lines.proofs.put_handing.Tie as tie
 

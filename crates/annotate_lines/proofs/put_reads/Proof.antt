@@ -1,12 +1,9 @@
 -- `annotate_lines::put_reads` meets its contract.
-use mathlib.Core.Path.{ap}
-use mathlib.Core.List.{List}
-use Prim.Native.Nat.{ℕ}
+use Rattle.prelude.specs.Kit.{ℕ, ap, List, needs}
 use Rattle.plain_rows.specs.Plain.{set-of, meant}
 use Rattle.plain_rows.specs.Parts.{depth-in, release-rows}
 use Rattle.annotate_rows.proofs.Rows.{wrote-as}
 use Rattle.annotate_lines.proofs.Leaves.{second-flat, all-read}
-use borrow.Author.Needs.{needs}
 use Rattle.annotate_lines.proofs.put_reads.Statement.{statement}
 use Rattle.annotate_lines.proofs.put_reads.Tie as tie
 

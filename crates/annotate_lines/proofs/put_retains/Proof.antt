@@ -1,8 +1,5 @@
 -- `annotate_lines::put_retains` meets its contract.
-use mathlib.Core.Path.{_≡_}
-use Prim.Native.Nat.{_+_, _-_, _<_, _≤_}
-use native.Mathlib.Omega.{arith}
-use lib.ListN.{length, length-set}
+use Rattle.prelude.specs.Kit.{_≤_, _+_, _<_, _-_, arith, _≡_, length, length-set, needs}
 use Rattle.semantics.specs.Live.{among}
 use Rattle.plain_rows.specs.Plain.{atoms-at, set-of}
 use Rattle.plain_rows.specs.Parts.{depth-in}
@@ -10,7 +7,6 @@ use Rattle.plain_rows.proofs.Atoms.{among-none, among-more}
 use Rattle.annotate_rows.specs.Wrote.{Wrote, Room}
 use Rattle.annotate_rows.proofs.Rows.{lower}
 use Rattle.annotate_lines.proofs.Handed.{retains-at, retains-begin, retains-go, retains-end}
-use borrow.Author.Needs.{needs}
 use Rattle.annotate_lines.proofs.put_retains.Statement.{statement}
 use Rattle.annotate_lines.proofs.put_retains.Tie as tie
 

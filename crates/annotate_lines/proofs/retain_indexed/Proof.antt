@@ -2,7 +2,7 @@
 use Rattle.plain_rows.specs.Parts.{depth-in}
 use Rattle.annotate_rows.proofs.Rows.{wrote-as, wrote-none}
 use Rattle.annotate_lines.proofs.Leaves.{no-pending}
-use borrow.Author.Needs.{needs}
+use Rattle.prelude.specs.Kit.{needs}
 use Rattle.annotate_lines.proofs.retain_indexed.Statement.{statement}
 use Rattle.annotate_lines.proofs.retain_indexed.Tie as tie
 

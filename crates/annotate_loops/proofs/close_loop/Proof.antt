@@ -1,6 +1,5 @@
 -- `annotate_loops::close_loop` meets its contract.
-use mathlib.Core.Path.{refl}
-use native.Mathlib.Omega.{arith}
+use Rattle.prelude.specs.Kit.{arith, refl, needs}
 use Rattle.plain_rows.specs.Plain.{set-of, loop-of}
 use Rattle.plain_rows.specs.Parts.{depth-in}
 use Rattle.plain_rows.specs.Marks.{marks-of}
@@ -8,7 +7,6 @@ use Rattle.plain_rows.proofs.Rows.{size-few}
 use Rattle.annotate_rows.proofs.Rows.{wrote-then, wrote-as, wrote-none, lower}
 use Rattle.annotate_loops.specs.Loops.{closing-of}
 use Rattle.annotate_loops.proofs.LoopRows.{closing-rows, no-closing}
-use borrow.Author.Needs.{needs}
 use Rattle.annotate_loops.proofs.close_loop.Statement.{statement}
 use Rattle.annotate_loops.proofs.close_loop.Tie as tie
 

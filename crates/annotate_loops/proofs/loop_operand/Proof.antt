@@ -1,11 +1,8 @@
 -- `annotate_loops::loop_operand` meets its contract.
-use mathlib.Core.Path.{_≡_}
-use Prim.Native.Nat.{_+_, _*_}
-use native.Mathlib.Omega.{arith}
+use Rattle.prelude.specs.Kit.{_+_, _*_, arith, _≡_, needs}
 use Rattle.semantics.specs.Kinds.{packed-names}
 use Rattle.plain_rows.specs.Plain.{of-loop}
 use Rattle.plain_rows.proofs.Rows.{no-reduce}
-use borrow.Author.Needs.{needs}
 use Rattle.annotate_loops.proofs.loop_operand.Statement.{statement}
 use Rattle.annotate_loops.proofs.loop_operand.Tie as tie
 

@@ -4,7 +4,7 @@ use Rattle.plain_rows.specs.Parts.{depth-in}
 use Rattle.annotate_rows.proofs.Rows.{wrote-then, wrote-as, wrote-none, lower}
 use Rattle.annotate_loops.specs.Loops.{opening-of}
 use Rattle.annotate_loops.proofs.LoopRows.{no-opening}
-use borrow.Author.Needs.{needs}
+use Rattle.prelude.specs.Kit.{needs}
 use Rattle.annotate_loops.proofs.open_loop.Statement.{statement}
 use Rattle.annotate_loops.proofs.open_loop.Tie as tie
 

@@ -3,7 +3,7 @@ use Rattle.plain_rows.specs.Plain.{set-of}
 use Rattle.plain_rows.specs.Parts.{depth-in}
 use Rattle.annotate_rows.proofs.Rows.{wrote-then, wrote-as, lower}
 use Rattle.annotate_loops.proofs.LoopRows.{opening-one, opening-two}
-use borrow.Author.Needs.{needs}
+use Rattle.prelude.specs.Kit.{needs}
 use Rattle.annotate_loops.proofs.open_pass.Statement.{statement}
 use Rattle.annotate_loops.proofs.open_pass.Tie as tie
 

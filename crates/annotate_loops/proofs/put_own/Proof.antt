@@ -1,7 +1,6 @@
 -- `annotate_loops::put_own` meets its contract.
-use borrow.Author.Tests.{ne-eqb}
+use Rattle.prelude.specs.Kit.{needs, ne-eqb}
 use Rattle.annotate_rows.proofs.Rows.{wrote-then, lower}
-use borrow.Author.Needs.{needs}
 use Rattle.annotate_loops.proofs.put_own.Statement.{statement}
 use Rattle.annotate_loops.proofs.put_own.Tie as tie
 

@@ -1,5 +1,5 @@
 -- `annotate_loops::read_of` meets its contract.
-use mathlib.Core.Path.{_≡_, refl}
+use Rattle.prelude.specs.Kit.{_≡_, refl}
 use Rattle.plain_rows.specs.Plain.{meant}
 use Rattle.plain_rows.proofs.Rows.{no-hands}
 use Rattle.annotate_loops.specs.Loops.{read-of}

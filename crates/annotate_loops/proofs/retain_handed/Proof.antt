@@ -1,7 +1,5 @@
 -- `annotate_loops::retain_handed` meets its contract.
-use mathlib.Core.Path.{ap}
-use mathlib.Core.List.{List, [], _∷_}
-use Prim.Native.Nat.{ℕ}
+use Rattle.prelude.specs.Kit.{ℕ, ap, List, [], _∷_, needs}
 use Rattle.semantics.specs.Kinds.{loop-hands}
 use Rattle.semantics.specs.Annotate.{handed-again}
 use Rattle.plain_rows.specs.Plain.{set-of, meant}
@@ -10,7 +8,6 @@ use Rattle.plain_rows.proofs.Rows.{no-hands}
 use Rattle.annotate_rows.specs.Wrote.{Wrote}
 use Rattle.annotate_rows.proofs.Rows.{wrote-as, wrote-none}
 use Rattle.annotate_loops.proofs.LoopRows.{start-one}
-use borrow.Author.Needs.{needs}
 use Rattle.annotate_loops.proofs.retain_handed.Statement.{statement}
 use Rattle.annotate_loops.proofs.retain_handed.Tie as tie
 

@@ -1,6 +1,5 @@
 -- `annotate_loops::second_of` meets its contract.
-use mathlib.Core.Path.{_≡_, refl}
-use lib.IntN.{pos}
+use Rattle.prelude.specs.Kit.{_≡_, refl, pos}
 use Rattle.semantics.specs.Code.{number}
 use Rattle.plain_rows.specs.Plain.{meant}
 use Rattle.plain_rows.proofs.Rows.{no-reduce}

@@ -1,15 +1,11 @@
 -- `annotate_marks::take_atoms` meets its contract.
-use mathlib.Core.Path.{_≡_}
-use Prim.Native.Nat.{_+_, _-_, _<_, _≤_}
-use native.Mathlib.Omega.{arith}
-use lib.ListN.{length, length-set}
+use Rattle.prelude.specs.Kit.{_≤_, _+_, _<_, _-_, arith, _≡_, length, length-set, needs}
 use Rattle.semantics.specs.Live.{among}
 use Rattle.plain_rows.specs.Plain.{set-of, atoms-at}
 use Rattle.plain_rows.specs.Marks.{marks-of}
 use Rattle.plain_rows.specs.Walk.{unmarked-all}
 use Rattle.plain_rows.proofs.Atoms.{among-none, among-more, among-all}
 use Rattle.annotate_marks.proofs.Laws.{unmarked-none, unmarked-more, unmarked-end}
-use borrow.Author.Needs.{needs}
 use Rattle.annotate_marks.proofs.take_atoms.Statement.{statement}
 use Rattle.annotate_marks.proofs.take_atoms.Tie as tie
 

@@ -1,7 +1,7 @@
 -- `annotate_marks::take_handed` meets its contract.
 use Rattle.plain_rows.proofs.Sets.{without-in}
 use Rattle.annotate_marks.proofs.Laws.{took-all}
-use borrow.Author.Needs.{needs}
+use Rattle.prelude.specs.Kit.{needs}
 use Rattle.annotate_marks.proofs.take_handed.Statement.{statement}
 use Rattle.annotate_marks.proofs.take_handed.Tie as tie
 

@@ -1,11 +1,6 @@
 -- `annotate_marks::take_pair` meets its contract.
-use mathlib.Core.Bool.{true, false}
-use Prim.Native.Nat.{_+_}
-use native.Mathlib.Omega.{arith}
-use lib.ListN.{set}
-use lib.Seq.{set-set}
+use Rattle.prelude.specs.Kit.{_+_, arith, true, false, set, set-set, needs}
 use Rattle.annotate_marks.proofs.Laws.{take-start, take-number, take-name}
-use borrow.Author.Needs.{needs}
 use Rattle.annotate_marks.proofs.take_pair.Statement.{statement}
 use Rattle.annotate_marks.proofs.take_pair.Tie as tie
 

@@ -1,5 +1,5 @@
 -- `annotate_marks::take_two` meets its contract.
-use borrow.Author.Needs.{needs}
+use Rattle.prelude.specs.Kit.{needs}
 use Rattle.annotate_marks.proofs.take_two.Statement.{statement}
 use Rattle.annotate_marks.proofs.take_two.Tie as tie
 

@@ -1,9 +1,7 @@
 -- `annotate_marks::take_use` meets its contract.
-use native.Mathlib.Omega.{arith}
-use lib.ListN.{length-set}
+use Rattle.prelude.specs.Kit.{arith, length-set, needs}
 use Rattle.plain_rows.proofs.Sets.{with-in}
 use Rattle.annotate_marks.proofs.Laws.{marks-set, took-none, took-same}
-use borrow.Author.Needs.{needs}
 use Rattle.annotate_marks.proofs.take_use.Statement.{statement}
 use Rattle.annotate_marks.proofs.take_use.Tie as tie
 

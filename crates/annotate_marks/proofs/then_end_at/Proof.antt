@@ -1,7 +1,6 @@
 -- `annotate_marks::then_end_at` meets its contract.
-use native.Mathlib.Omega.{arith}
+use Rattle.prelude.specs.Kit.{arith, needs}
 use Rattle.annotate_marks.proofs.Laws.{then-near, then-far}
-use borrow.Author.Needs.{needs}
 use Rattle.annotate_marks.proofs.then_end_at.Statement.{statement}
 use Rattle.annotate_marks.proofs.then_end_at.Tie as tie
 

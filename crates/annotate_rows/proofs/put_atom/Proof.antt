@@ -1,7 +1,5 @@
 -- `annotate_rows::put_atom` meets its contract.
-use mir.Facts.{toZ-ofZ}
-use Prim.Native.Nat.{_-_}
-use borrow.Author.Needs.{needs}
+use Rattle.prelude.specs.Kit.{_-_, needs, toZ-ofZ}
 use Rattle.annotate_rows.proofs.put_atom.Statement.{statement}
 use Rattle.annotate_rows.proofs.put_atom.Tie as tie
 

@@ -1,7 +1,5 @@
 -- `annotate_rows::put_back` meets its contract.
-use mir.Facts.{toZ-ofZ}
-use mathlib.Core.Path.{refl}
-use borrow.Author.Needs.{needs}
+use Rattle.prelude.specs.Kit.{refl, needs, toZ-ofZ}
 use Rattle.annotate_rows.proofs.Rows.{wrote-one, wrote-full}
 use Rattle.annotate_rows.proofs.put_back.Statement.{statement}
 use Rattle.annotate_rows.proofs.put_back.Tie as tie

@@ -1,12 +1,9 @@
 -- `annotate_rows::put_release` meets its contract.
-use mathlib.Core.Path.{ap}
-use mathlib.Core.List.{List}
-use Prim.Native.Nat.{ℕ}
+use Rattle.prelude.specs.Kit.{ℕ, ap, List, needs}
 use Rattle.plain_rows.specs.Plain.{set-of}
 use Rattle.plain_rows.specs.Parts.{depth-in, release-rows}
 use Rattle.annotate_rows.proofs.Rows.{wrote-as}
 use Rattle.annotate_rows.proofs.Names.{dying-one}
-use borrow.Author.Needs.{needs}
 use Rattle.annotate_rows.proofs.put_release.Statement.{statement}
 use Rattle.annotate_rows.proofs.put_release.Tie as tie
 

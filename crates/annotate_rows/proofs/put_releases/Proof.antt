@@ -1,13 +1,11 @@
 -- `annotate_rows::put_releases` meets its contract.
-use Prim.Native.Nat.{_≤_}
-use native.Mathlib.Omega.{arith}
+use Rattle.prelude.specs.Kit.{_≤_, arith, needs}
 use Rattle.plain_rows.specs.Plain.{set-of}
 use Rattle.plain_rows.specs.Parts.{depth-in}
 use Rattle.plain_rows.specs.Parts.{below}
 use Rattle.annotate_rows.specs.Wrote.{Wrote, Room}
 use Rattle.annotate_rows.proofs.Rows.{wrote-then, wrote-as, lower}
 use Rattle.annotate_rows.proofs.Names.{releases-from, release-none, release-below, release-all}
-use borrow.Author.Needs.{needs}
 use Rattle.annotate_rows.proofs.put_releases.Statement.{statement}
 use Rattle.annotate_rows.proofs.put_releases.Tie as tie
 

@@ -1,8 +1,7 @@
 -- `annotate_rows::put_retain` meets its contract.
 use Rattle.annotate_rows.proofs.Rows.{wrote-none, wrote-as}
 use Rattle.annotate_rows.proofs.Names.{retain-on, retain-off}
-use Prim.Native.Nat.{_-_}
-use borrow.Author.Needs.{needs}
+use Rattle.prelude.specs.Kit.{_-_, needs}
 use Rattle.annotate_rows.proofs.put_retain.Statement.{statement}
 use Rattle.annotate_rows.proofs.put_retain.Tie as tie
 

@@ -1,10 +1,5 @@
 -- `annotate_rows::put_row` meets its contract.
-use mir.Facts.{toZ-ofZ}
-use mir.Syntax.{w64}
-use lib.IntN.{pos}
-use native.Mathlib.Omega.{arith}
-use Prim.Native.Nat.{_-_}
-use borrow.Author.Needs.{needs}
+use Rattle.prelude.specs.Kit.{_-_, arith, pos, needs, toZ-ofZ, w64}
 use Rattle.annotate_rows.proofs.put_row.Statement.{statement}
 use Rattle.annotate_rows.proofs.put_row.Tie as tie
 

@@ -1,5 +1,5 @@
 -- `annotate_rows::release_both` meets its contract.
-use borrow.Author.Needs.{needs}
+use Rattle.prelude.specs.Kit.{needs}
 use Rattle.annotate_rows.proofs.release_both.Statement.{statement}
 use Rattle.annotate_rows.proofs.release_both.Tie as tie
 

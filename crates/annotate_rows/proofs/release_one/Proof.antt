@@ -2,8 +2,7 @@
 use Rattle.plain_rows.specs.Parts.{depth-in}
 use Rattle.annotate_rows.proofs.Rows.{wrote-none, wrote-as}
 use Rattle.annotate_rows.proofs.Names.{release-unused, release-number, release-live, release-on}
-use Prim.Native.Nat.{_-_}
-use borrow.Author.Needs.{needs}
+use Rattle.prelude.specs.Kit.{_-_, needs}
 use Rattle.annotate_rows.proofs.release_one.Statement.{statement}
 use Rattle.annotate_rows.proofs.release_one.Tie as tie
 

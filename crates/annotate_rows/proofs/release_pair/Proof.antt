@@ -1,7 +1,5 @@
 -- `annotate_rows::release_pair` meets its contract.
-use mathlib.Core.Path.{_∙_}
-use native.Mathlib.Omega.{arith}
-use borrow.Author.Needs.{needs}
+use Rattle.prelude.specs.Kit.{arith, _∙_, needs}
 use Rattle.semantics.specs.Live.{only}
 use Rattle.plain_rows.specs.Plain.{set-of}
 use Rattle.plain_rows.specs.Parts.{depth-in}

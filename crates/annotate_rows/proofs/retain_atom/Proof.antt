@@ -1,12 +1,9 @@
 -- `annotate_rows::retain_atom` meets its contract.
-use mathlib.Core.Path.{ap}
-use mathlib.Core.List.{List}
-use Prim.Native.Nat.{ℕ}
+use Rattle.prelude.specs.Kit.{ℕ, ap, List, needs}
 use Rattle.plain_rows.specs.Plain.{set-of}
 use Rattle.plain_rows.specs.Parts.{depth-in, retain-rows}
 use Rattle.annotate_rows.proofs.Rows.{wrote-none, wrote-as}
 use Rattle.annotate_rows.proofs.Names.{handed-on, handed-off, handed-number}
-use borrow.Author.Needs.{needs}
 use Rattle.annotate_rows.proofs.retain_atom.Statement.{statement}
 use Rattle.annotate_rows.proofs.retain_atom.Tie as tie
 

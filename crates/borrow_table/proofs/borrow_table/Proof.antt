@@ -1,9 +1,5 @@
 -- `borrow_table::borrow_table` meets its contract.
-use native.Mathlib.Omega.{arith}
-use mathlib.Core.Path.{_≡_, refl}
-use Prim.Native.Nat.{_-_, _<_}
-use lib.ListN.{length}
-use borrow.Author.Needs.{needs}
+use Rattle.prelude.specs.Kit.{_<_, _-_, arith, _≡_, refl, length, needs}
 use Rattle.flatten_functions.specs.Script.{Translatable, Resulting}
 use Rattle.flatten_functions.proofs.Functions.{known, fits-at}
 use Rattle.borrow_table.proofs.Gathering.{Gathering, gather-begin, laid-room, laid-goes, gather-ends}

@@ -1,7 +1,5 @@
 -- `call_deliver::deliver_words` meets its contract.
-use mathlib.Core.Path.{sym, _∙_}
-use borrow.Author.Needs.{needs}
-use borrow.Author.Tests.{not-true, not-false}
+use Rattle.prelude.specs.Kit.{_∙_, sym, needs, not-true, not-false}
 use Rattle.store_words.proofs.Counting.{taken-few}
 use Rattle.call_deliver.proofs.Laws.{refuses-10, refuses-11, sound-fits, delivers, lowest-few, steps-few}
 use Rattle.call_deliver.proofs.deliver_words.Statement.{statement}

@@ -1,7 +1,5 @@
 -- `call_deliver::request_fits` meets its contract.
-use mathlib.Core.Path.{refl}
-use lib.ListN.{length}
-use borrow.Author.Tests.{le-leb, lt-leb}
+use Rattle.prelude.specs.Kit.{refl, length, le-leb, lt-leb}
 use Rattle.semantics.specs.Calls.{request-fits}
 use Rattle.call_deliver.proofs.request_fits.Statement.{statement}
 use Rattle.call_deliver.proofs.request_fits.Tie as tie

@@ -1,7 +1,5 @@
 -- `call_load::load_with` meets its contract.
-use native.Mathlib.Omega.{arith}
-use mathlib.Core.Path.{subst, ap, _∙_}
-use borrow.Author.Needs.{needs}
+use Rattle.prelude.specs.Kit.{arith, _∙_, ap, subst, needs}
 use Rattle.script.specs.Verdicts.{Judges}
 use Rattle.translate.specs.Left.{laid-outcome}
 use Rattle.words.proofs.Packing.{packed-small}

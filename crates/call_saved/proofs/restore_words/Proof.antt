@@ -1,9 +1,5 @@
 -- `call_saved::restore_words` meets its contract, by `Laws`.
-use Prim.Native.Nat.{ℕ}
-use native.Mathlib.Omega.{arith}
-use mathlib.Core.Path.{_∙_, subst}
-use mir.Facts.{toZ-ofZ}
-use borrow.Author.Needs.{needs}
+use Rattle.prelude.specs.Kit.{ℕ, arith, _∙_, subst, needs, toZ-ofZ}
 use Rattle.semantics.specs.Words.{store-of}
 use Rattle.laws.specs.Tests.{passed, failed}
 use Rattle.store_words.proofs.Counting.{taken-few}

@@ -1,8 +1,5 @@
 -- `call_saved::save_words` meets its contract, by `SaveLaws`.
-use native.Mathlib.Omega.{arith}
-use mathlib.Core.Path.{_∙_}
-use borrow.Author.Tests.{not-true, not-false}
-use borrow.Author.Needs.{needs}
+use Rattle.prelude.specs.Kit.{arith, _∙_, needs, not-true, not-false}
 use Rattle.laws.specs.Tests.{passed, failed}
 use Rattle.clearing.proofs.Clearing.{cleared-whole}
 use Rattle.store_words.proofs.Counting.{taken-few}

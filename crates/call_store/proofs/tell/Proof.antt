@@ -1,9 +1,7 @@
 -- `call_store::tell` meets its contract.
-use native.Mathlib.Omega.{arith}
-use mathlib.Core.Path.{refl, sym, subst, _∙_}
+use Rattle.prelude.specs.Kit.{arith, refl, _∙_, sym, subst, needs}
 use Rattle.call_store.proofs.Laws.{packed-alone, packed-number}
 use Rattle.call_store.specs.Told.{Tells}
-use borrow.Author.Needs.{needs}
 use Rattle.call_store.proofs.tell.Statement.{statement}
 use Rattle.call_store.proofs.tell.Tie as tie
 

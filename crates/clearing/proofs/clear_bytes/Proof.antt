@@ -1,8 +1,5 @@
 -- `clearing::clear_bytes` meets its contract.
-use native.Mathlib.Omega.{arith}
-use Prim.Native.Nat.{_-_}
-use lib.ListN.{length}
-use borrow.Author.Needs.{needs}
+use Rattle.prelude.specs.Kit.{_-_, arith, length, needs}
 use Rattle.clearing.proofs.Clearing.{Clearing, clearing-none, clearing-more, clearing-all}
 use Rattle.clearing.proofs.clear_bytes.Statement.{statement}
 use Rattle.clearing.proofs.clear_bytes.Tie as tie

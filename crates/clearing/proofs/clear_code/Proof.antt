@@ -1,7 +1,5 @@
 -- `clearing::clear_code` meets its contract.
-use mathlib.Core.Path.{_∙_}
-use lib.IntN.{pos}
-use borrow.Author.Needs.{needs}
+use Rattle.prelude.specs.Kit.{_∙_, pos, needs}
 use Rattle.clearing.proofs.Clearing.{cleared-whole}
 use Rattle.clearing.proofs.clear_code.Statement.{statement}
 use Rattle.clearing.proofs.clear_code.Tie as tie

@@ -1,9 +1,5 @@
 -- `clearing::clear_words` meets its contract.
-use native.Mathlib.Omega.{arith}
-use Prim.Native.Nat.{_-_}
-use lib.ListN.{length}
-use lib.IntN.{pos}
-use borrow.Author.Needs.{needs}
+use Rattle.prelude.specs.Kit.{_-_, arith, pos, length, needs}
 use Rattle.clearing.proofs.Clearing.{Clearing, clearing-none, clearing-more, clearing-all}
 use Rattle.clearing.proofs.clear_words.Statement.{statement}
 use Rattle.clearing.proofs.clear_words.Tie as tie

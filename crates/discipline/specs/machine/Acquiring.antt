@@ -1,13 +1,6 @@
 -- A cell acquired, or none free: then each taken cell is reached from the roots.
-use Prim.Native.Nat.{ℕ, suc, _-_, _<_, _≤_}
-use native.Mathlib.Omega.{arith}
-use mathlib.Core.Bool.{Bool, true, false, _&&_}
-use mathlib.Core.Path.{_≡_, refl, sym, ap, _∙_, subst}
-use mathlib.Core.Logic.{inl, inr}
-use mathlib.Core.List.{List, [], _∷_, _++_, map}
-use lib.ListN.{length}
-use lib.IntN.{ℤ, pos}
-use borrow.Author.Tests.{eq-eqb}
+use Rattle.prelude.specs.Kit.{ℕ, _≤_, _<_, _-_, suc, arith, true, false, Bool, _&&_, _≡_, refl, _∙_, sym, ap, subst}
+use Rattle.prelude.specs.Kit.{inl, inr, List, [], _∷_, _++_, map, ℤ, pos, length, eq-eqb}
 use Rattle.semantics.specs.Outcome.{Outcome, done, stop, Run, onward, give}
 use Rattle.semantics.specs.Value.{Value, list}
 use Rattle.semantics.specs.Live.{Set, members}

@@ -1,14 +1,7 @@
 -- Agreement: the machine's run and the run on values end with related answers, stop alike, or the machine is out of
 -- cells just where the meaning wants one.
-use Prim.Native.Nat.{ℕ, zero, suc, _+_, _-_, _<_, _≤_}
-use native.Mathlib.Omega.{arith}
-use mathlib.Core.Bool.{Bool, true, false}
-use mathlib.Core.Path.{_≡_, refl, sym, ap, _∙_, subst}
-use mathlib.Core.Logic.{_≢_}
-use mathlib.Core.Option.{some}
-use mathlib.Core.List.{List, [], _∷_}
-use lib.ListN.{length}
-use borrow.Author.Tests.{eq-eqb}
+use Rattle.prelude.specs.Kit.{ℕ, _≤_, _+_, _<_, _-_, suc, zero, arith, true, false, Bool, _≡_, refl, _∙_, sym, ap}
+use Rattle.prelude.specs.Kit.{subst, _≢_, some, List, [], _∷_, length, eq-eqb}
 use Rattle.semantics.specs.Outcome.{Outcome, done, stop, Run, onward, require}
 use Rattle.semantics.specs.Meaning.{Meter, step-wants, meter-of}
 use Rattle.semantics.specs.Meaning as Meaning

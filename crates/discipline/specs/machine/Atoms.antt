@@ -1,10 +1,6 @@
 -- The atoms that a line hands over: what their words hold and stand for.
-use Prim.Native.Nat.{ℕ, zero, suc}
-use native.Mathlib.Omega.{arith}
-use mathlib.Core.Path.{_≡_, refl, sym, ap, ap₂, _∙_, subst}
-use mathlib.Core.Logic.{inl, inr}
-use mathlib.Core.List.{List, [], _∷_, _++_, map, map-append}
-use lib.IntN.{ℤ}
+use Rattle.prelude.specs.Kit.{ℕ, suc, zero, arith, _≡_, refl, _∙_, sym, ap, subst, ap₂, inl, inr, List, [], _∷_, _++_}
+use Rattle.prelude.specs.Kit.{map, map-append, ℤ}
 use Rattle.semantics.specs.Basics.{occurrences, _∈_}
 use Rattle.semantics.specs.Value.{Value, num}
 use Rattle.semantics.specs.Code.{Atom}

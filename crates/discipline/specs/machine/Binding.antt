@@ -1,11 +1,6 @@
 -- A name bound by a line: to a word that holds nothing, or to a result that holds a reference; and what a tree leaves.
-use Prim.Native.Nat.{ℕ, zero, suc, _<_, _≤_}
-use native.Mathlib.Omega.{arith}
-use native.Mathlib.Decide.{ℕ-discrete}
-use mathlib.Core.Bool.{true}
-use mathlib.Core.Path.{_≡_, refl, sym, ap, _∙_, subst}
-use mathlib.Core.List.{List, [], _∷_, _++_, append-assoc}
-use lib.IntN.{ℤ}
+use Rattle.prelude.specs.Kit.{ℕ, _≤_, _<_, suc, zero, arith, ℕ-discrete, true, _≡_, refl, _∙_, sym, ap, subst, List, []}
+use Rattle.prelude.specs.Kit.{_∷_, _++_, append-assoc, ℤ}
 use Rattle.laws.specs.Updates.{updated-same, updated-there}
 use Rattle.semantics.specs.Basics.{occurrences, _∈_, updated}
 use Rattle.semantics.specs.Value.{Value, num}

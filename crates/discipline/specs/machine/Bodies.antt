@@ -1,10 +1,5 @@
 -- One pass of a loop: its step, its element and its tree.
-use Prim.Native.Nat.{ℕ, suc, _+_, _<_, _≤_}
-use mathlib.Core.Bool.{false}
-use mathlib.Core.Path.{refl, sym, subst}
-use mathlib.Core.List.{List, [], _++_}
-use lib.IntN.{ℤ, pos}
-use lib.ListN.{length, getD}
+use Rattle.prelude.specs.Kit.{ℕ, _≤_, _+_, _<_, suc, false, refl, sym, subst, List, [], _++_, ℤ, pos, length, getD}
 use Rattle.laws.specs.Updates.{updated-there}
 use Rattle.semantics.specs.Basics.{updated}
 use Rattle.semantics.specs.Outcome.{onward, _>>=_, _>>_}

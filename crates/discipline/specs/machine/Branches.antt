@@ -1,9 +1,5 @@
 -- The line of an if.
-use Prim.Native.Nat.{ℕ, _+_}
-use native.Mathlib.Omega.{arith}
-use mathlib.Core.Bool.{Bool, true, false, cond}
-use mathlib.Core.Path.{refl}
-use mathlib.Core.List.{[]}
+use Rattle.prelude.specs.Kit.{ℕ, _+_, arith, true, false, Bool, cond, refl, []}
 use Rattle.semantics.specs.Number.{is-zero, is-answer}
 use Rattle.semantics.specs.Outcome.{require}
 use Rattle.semantics.specs.Value.{number-in}

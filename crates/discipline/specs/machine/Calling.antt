@@ -1,14 +1,6 @@
 -- The leaf of a call: it hands over the arguments that its function owns, and lends those that it borrows.
-use Prim.Native.Nat.{ℕ, _+_, _<_, _≤_}
-use native.Mathlib.Omega.{arith}
-use native.Mathlib.Decide.{decLt}
-use mathlib.Core.Path.{_≡_, refl, sym, ap, ap₂, _∙_, subst}
-use mathlib.Core.Logic.{inl, inr}
-use mathlib.Core.Bool.{Bool, false, not}
-use mathlib.Core.List.{List, _++_, map}
-use lib.IntN.{ℤ}
-use lib.ListN.{length}
-use borrow.Author.Tests.{leb-false}
+use Rattle.prelude.specs.Kit.{ℕ, _≤_, _+_, _<_, arith, decLt, false, Bool, not, _≡_, refl, _∙_, sym, ap, subst, ap₂}
+use Rattle.prelude.specs.Kit.{inl, inr, List, _++_, map, ℤ, length, leb-false}
 use Rattle.semantics.specs.Basics.{occurrences, _∈_}
 use Rattle.semantics.specs.Value.{Value}
 use Rattle.semantics.specs.Kinds.{call, picked, leaf-hands}

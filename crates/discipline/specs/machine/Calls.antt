@@ -1,12 +1,6 @@
 -- A call of a disciplined program, by induction on the call depth left.
-use Prim.Native.Nat.{ℕ, zero, suc, _+_, _*_, _<_, _≤_}
-use native.Mathlib.Omega.{arith}
-use mathlib.Core.Bool.{Bool, true, false, not}
-use mathlib.Core.Path.{_≡_, refl, sym, subst}
-use mathlib.Core.List.{List, [], _∷_, _++_}
-use lib.IntN.{ℤ}
-use lib.ListN.{length}
-use borrow.Author.Tests.{lt-ltb}
+use Rattle.prelude.specs.Kit.{ℕ, _≤_, _+_, _<_, suc, zero, _*_, arith, true, false, Bool, not, _≡_, refl, sym, subst}
+use Rattle.prelude.specs.Kit.{List, [], _∷_, _++_, ℤ, length, lt-ltb}
 use Rattle.semantics.specs.Value.{Value}
 use Rattle.semantics.specs.Kinds.{Leaf, operation, call, literal, index, length-of, iota, replicate}
 use Rattle.semantics.specs.Live.{empty}

@@ -1,10 +1,5 @@
 -- What is claimed of a leaf, of a line, of a tree and of a call; and the step that most lines begin with.
-use Prim.Native.Nat.{ℕ, _+_, _-_, _<_, _≤_}
-use mathlib.Core.Bool.{Bool, true, false}
-use mathlib.Core.Path.{_≡_, sym, subst}
-use mathlib.Core.List.{List, _++_, map}
-use lib.IntN.{ℤ}
-use lib.ListN.{length}
+use Rattle.prelude.specs.Kit.{ℕ, _≤_, _+_, _<_, _-_, true, false, Bool, _≡_, sym, subst, List, _++_, map, ℤ, length}
 use Rattle.semantics.specs.Basics.{_∈_}
 use Rattle.semantics.specs.Outcome.{Run, onward, _>>=_}
 use Rattle.semantics.specs.Value.{Value}

@@ -1,12 +1,6 @@
 -- A delivery on a store between deliveries does what main means.
-use Prim.Native.Nat.{ℕ, zero, suc, _-_, _*_, _≤_}
-use native.Mathlib.Omega.{arith}
-use mathlib.Core.Bool.{Bool, true, false, not}
-use mathlib.Core.Path.{_≡_, refl, sym, ap, ap₂, _∙_, subst}
-use mathlib.Core.Logic.{inl, inr}
-use mathlib.Core.List.{List, [], _∷_, _++_, append-assoc}
-use lib.IntN.{ℤ, pos}
-use lib.ListN.{length}
+use Rattle.prelude.specs.Kit.{ℕ, _≤_, _-_, suc, zero, _*_, arith, true, false, Bool, not, _≡_, refl, _∙_, sym, ap}
+use Rattle.prelude.specs.Kit.{subst, ap₂, inl, inr, List, [], _∷_, _++_, append-assoc, ℤ, pos, length}
 use Rattle.semantics.specs.Basics.{occurrences, _∈_}
 use Rattle.semantics.specs.Kinds.{picked}
 use Rattle.semantics.specs.Outcome.{Outcome, done, stop, onward, _>>=_, _>>_}

@@ -6,13 +6,8 @@
 -- holds its cell meanwhile: it may be read and retained. A loop lends its array to its tree, unless it rewrites it and
 -- so has it handed over; and a call lends the arguments that its function borrows.
 -- The holds after a line are computed from those before it, so that every rule is a test of the holds.
-use Prim.Native.Nat.{ℕ, zero, suc, _<_, _≤_}
-use mathlib.Core.Bool.{Bool, true, false, cond, not}
-use mathlib.Core.Path.{_≡_}
-use mathlib.Core.List.{List, [], _∷_, _++_, map}
-use mathlib.Core.Option.{some}
-use lib.Dec.{eqb, ltb}
-use lib.ListN.{length, getD}
+use Rattle.prelude.specs.Kit.{ℕ, _≤_, _<_, suc, zero, true, false, Bool, cond, not, _≡_, some, List, [], _∷_, _++_, map}
+use Rattle.prelude.specs.Kit.{eqb, ltb, length, getD}
 use Rattle.semantics.specs.Basics.{with-if, occurrences, _∈_}
 use Rattle.semantics.specs.Kinds.{Leaf, operation, call, literal, index, length-of, iota, replicate, Loop, mapping}
 use Rattle.semantics.specs.Kinds.{filtering, reducing, rewriting, first-part, leaf-hands, leaf-reads, loop-hands}

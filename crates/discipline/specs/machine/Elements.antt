@@ -1,12 +1,6 @@
 -- The elements of an array: their words in its cell and their values.
-use Prim.Native.Nat.{ℕ, zero, suc, _<_}
-use native.Mathlib.Omega.{arith}
-use mathlib.Core.Bool.{true}
-use mathlib.Core.Path.{_≡_, refl, sym, ap, _∙_, subst}
-use mathlib.Core.List.{List, [], _∷_, map}
-use lib.IntN.{ℤ, pos, negsuc, natAbs}
-use lib.ListN.{length, getD, length-map, length-take}
-use borrow.Author.Tests.{ltb-true}
+use Rattle.prelude.specs.Kit.{ℕ, _<_, suc, zero, arith, true, _≡_, refl, _∙_, sym, ap, subst, List, [], _∷_, map, ℤ}
+use Rattle.prelude.specs.Kit.{pos, negsuc, natAbs, length, getD, length-take, length-map, ltb-true}
 use Rattle.semantics.specs.Basics.{_∈_}
 use Rattle.semantics.specs.Number.{inside}
 use Rattle.semantics.specs.Value.{Value, items}

@@ -1,11 +1,6 @@
 -- The line of a loop that fills a new cell, whatever its passes put there: a map's and a filter's.
-use Prim.Native.Nat.{ℕ, suc, _+_, _<_, _≤_}
-use native.Mathlib.Omega.{arith}
-use mathlib.Core.Bool.{true, false}
-use mathlib.Core.Path.{_≡_, refl, sym, ap, subst}
-use mathlib.Core.List.{List, [], _∷_, _++_}
-use lib.IntN.{ℤ, pos}
-use lib.ListN.{length, getD}
+use Rattle.prelude.specs.Kit.{ℕ, _≤_, _+_, _<_, suc, arith, true, false, _≡_, refl, sym, ap, subst, List, [], _∷_, _++_}
+use Rattle.prelude.specs.Kit.{ℤ, pos, length, getD}
 use Rattle.semantics.specs.Basics.{updated, tabulate}
 use Rattle.semantics.specs.Outcome.{Run, onward, passes, _>>=_, _>>_, give}
 use Rattle.semantics.specs.Value.{Value, num, list, items}

@@ -1,13 +1,6 @@
 -- Loops that fill a new cell: what holds between their passes, and what a pass does to the cell.
-use Prim.Native.Nat.{ℕ, suc, _+_, _<_, _≤_}
-use native.Mathlib.Omega.{arith}
-use native.Mathlib.Decide.{decLt}
-use mathlib.Core.Bool.{true}
-use mathlib.Core.Path.{_≡_, refl, sym, ap, ap₂, _∙_, subst}
-use mathlib.Core.Logic.{_≢_, inl, inr}
-use mathlib.Core.List.{List, [], _∷_, _++_, map, map-append}
-use lib.IntN.{ℤ, pos}
-use lib.ListN.{length, length-append}
+use Rattle.prelude.specs.Kit.{ℕ, _≤_, _+_, _<_, suc, arith, decLt, true, _≡_, refl, _∙_, sym, ap, subst, ap₂, inl, inr}
+use Rattle.prelude.specs.Kit.{_≢_, List, [], _∷_, _++_, map, map-append, ℤ, pos, length, length-append}
 use Rattle.semantics.specs.Basics.{occurrences, _∈_}
 use Rattle.semantics.specs.Value.{Value, list, items}
 use Rattle.semantics.specs.Code.{Atom}

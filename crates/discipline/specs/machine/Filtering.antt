@@ -1,12 +1,7 @@
 -- The line of a filter: its cell is reserved, and each element whose guard is 1 is retained and put there; both runs
 -- stop at a guard that is neither 1 nor 0.
-use Prim.Native.Nat.{ℕ, suc, _+_, _<_, _≤_, pred}
-use native.Mathlib.Omega.{arith}
-use mathlib.Core.Bool.{Bool, true, false, cond}
-use mathlib.Core.Path.{_≡_, refl, sym, ap, _∙_, subst}
-use mathlib.Core.List.{List, [], _∷_, _++_}
-use lib.IntN.{ℤ, pos}
-use lib.ListN.{length, getD}
+use Rattle.prelude.specs.Kit.{ℕ, _≤_, _+_, _<_, suc, pred, arith, true, false, Bool, cond, _≡_, refl, _∙_, sym, ap}
+use Rattle.prelude.specs.Kit.{subst, List, [], _∷_, _++_, ℤ, pos, length, getD}
 use Rattle.semantics.specs.Basics.{_∈_}
 use Rattle.semantics.specs.Number.{is-zero, is-answer}
 use Rattle.semantics.specs.Outcome.{done, onward, _>>=_, _>>_, give, require}

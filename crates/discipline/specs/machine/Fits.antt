@@ -1,13 +1,6 @@
 -- What the type rules say of the atoms of a leaf and of a loop that fits.
-use Prim.Native.Nat.{ℕ, zero, suc, _<_, _≤_, pred}
-use native.Mathlib.Omega.{arith}
-use mathlib.Core.Option.{some}
-use mathlib.Core.Path.{_≡_, refl, sym, ap}
-use mathlib.Core.Bool.{_&&_}
-use mathlib.Core.List.{List, [], _∷_, map}
-use lib.ListN.{getD}
-use lib.Dec.{eqb, leb}
-use borrow.Author.Tests.{eqb-true, leb-true}
+use Rattle.prelude.specs.Kit.{ℕ, _≤_, _<_, suc, zero, pred, arith, _&&_, _≡_, refl, sym, ap, some, List, [], _∷_, map}
+use Rattle.prelude.specs.Kit.{eqb, leb, getD, eqb-true, leb-true}
 use Rattle.semantics.specs.Kinds.{mapping, filtering, reducing, rewriting}
 use Rattle.semantics.specs.Types.{some-if, all-are, same, call-rule, literal-rule, index-rule, length-rule}
 use Rattle.semantics.specs.Types.{replicate-rule, loop-rule, Signature}

@@ -1,9 +1,5 @@
 -- The names of a call: what they hold and stand for before and after a line or a tree.
-use Prim.Native.Nat.{ℕ, _+_, _≤_}
-use mathlib.Core.Path.{_≡_}
-use mathlib.Core.Bool.{Bool, true, not}
-use mathlib.Core.List.{List, [], _∷_, _++_, map}
-use lib.IntN.{ℤ}
+use Rattle.prelude.specs.Kit.{ℕ, _≤_, _+_, true, Bool, not, _≡_, List, [], _∷_, _++_, map, ℤ}
 use Rattle.semantics.specs.Basics.{occurrences, _∈_}
 use Rattle.semantics.specs.Value.{Value, num}
 use Rattle.semantics.specs.Kinds.{Leaf, leaf-hands, picked}

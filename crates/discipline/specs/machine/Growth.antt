@@ -1,12 +1,6 @@
 -- A run on values only adds to the trace: a step that wanted a cell is found so in every later trace.
-use Prim.Native.Nat.{ℕ, suc, _≤_}
-use native.Mathlib.Omega.{arith}
-use mathlib.Core.Bool.{Bool, true, false, cond}
-use mathlib.Core.Path.{_≡_, refl, ap, _∙_}
-use mathlib.Core.List.{List, [], _∷_}
-use lib.ListN.{length}
-use lib.Dec.{eqb}
-use borrow.Author.Tests.{eqb-true}
+use Rattle.prelude.specs.Kit.{ℕ, _≤_, suc, arith, true, false, Bool, cond, _≡_, refl, _∙_, ap, List, [], _∷_, eqb}
+use Rattle.prelude.specs.Kit.{length, eqb-true}
 use Rattle.semantics.specs.Outcome.{Outcome, done, stop, Run, onward, _>>=_, give, require, passes}
 use Rattle.semantics.specs.Value.{Value}
 use Rattle.semantics.specs.Kinds.{Loop}

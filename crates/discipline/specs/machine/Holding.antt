@@ -1,10 +1,5 @@
 -- The lines that retain and release, and a reference of others that is released.
-use Prim.Native.Nat.{ℕ, suc, _+_, _<_, _≤_}
-use native.Mathlib.Omega.{arith}
-use mathlib.Core.Path.{_≡_, refl, sym, subst}
-use mathlib.Core.Logic.{inl, inr}
-use mathlib.Core.List.{List, [], _∷_, _++_}
-use lib.IntN.{ℤ}
+use Rattle.prelude.specs.Kit.{ℕ, _≤_, _+_, _<_, suc, arith, _≡_, refl, sym, subst, inl, inr, List, [], _∷_, _++_, ℤ}
 use Rattle.semantics.specs.Basics.{occurrences, _∈_}
 use Rattle.semantics.specs.Outcome.{onward}
 use Rattle.semantics.specs.Value.{Value}

@@ -1,12 +1,6 @@
 -- Multisets under a function, and functions changed at one number.
-use Prim.Native.Nat.{ℕ, zero, suc, _+_, _<_, _≤_}
-use native.Mathlib.Omega.{arith}
-use native.Mathlib.Decide.{ℕ-discrete}
-use mathlib.Core.Path.{_≡_, refl, sym, ap, ap₂}
-use mathlib.Core.Logic.{_≢_, _⊎_, inl, inr}
-use mathlib.Core.Bool.{Bool, true, false, cond}
-use mathlib.Core.List.{List, [], _∷_, _++_, map}
-use lib.Dec.{eqb}
+use Rattle.prelude.specs.Kit.{ℕ, _≤_, _+_, _<_, suc, zero, arith, ℕ-discrete, true, false, Bool, cond, _≡_, refl, sym}
+use Rattle.prelude.specs.Kit.{ap, ap₂, inl, inr, _≢_, _⊎_, List, [], _∷_, _++_, map, eqb}
 use Rattle.semantics.specs.Basics.{occurrences, _∈_, with-if}
 use Rattle.semantics.specs.Live.{Set, members, members-from}
 use Rattle.laws.specs.Lists.{_≈_, _⊆_, hits, occurrences-append}

@@ -1,14 +1,7 @@
 -- Two small programs that are disciplined. The first is main(t: 1, r: 1): 1 = map (p in r) p + size(r);
 -- size(a: 1): 0 = length(a). Its map lends r to its tree, which lends it to `size`, which borrows it. The second is
 -- main(t: 1, r: 1): 1 = map (p in r) p + 1, whose map rewrites r.
-use Prim.Native.Nat.{ℕ, zero, suc, _<_, _≤_}
-use native.Mathlib.Omega.{arith}
-use mathlib.Core.Path.{_≡_, refl}
-use mathlib.Core.Bool.{true, false}
-use mathlib.Core.List.{[], _∷_}
-use lib.IntN.{pos}
-use lib.Dec.{eqb, ltb}
-use lib.ListN.{getD}
+use Rattle.prelude.specs.Kit.{ℕ, _≤_, _<_, suc, zero, arith, true, false, _≡_, refl, [], _∷_, eqb, ltb, pos, getD}
 use Rattle.semantics.specs.Basics.{occurrences}
 use Rattle.semantics.specs.Number.{sum}
 use Rattle.semantics.specs.Kinds.{operation, call, length-of, mapping, rewriting}

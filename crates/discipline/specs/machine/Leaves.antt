@@ -1,10 +1,5 @@
 -- The line of a leaf: what the leaf gave is bound to its name.
-use Prim.Native.Nat.{ℕ, suc, _+_}
-use native.Mathlib.Omega.{arith}
-use mathlib.Core.Bool.{Bool, false, cond}
-use mathlib.Core.Path.{_≡_, sym, ap, subst}
-use mathlib.Core.List.{List, [], _++_}
-use lib.IntN.{ℤ}
+use Rattle.prelude.specs.Kit.{ℕ, _+_, suc, arith, false, Bool, cond, _≡_, sym, ap, subst, List, [], _++_, ℤ}
 use Rattle.laws.specs.Updates.{updated-there}
 use Rattle.semantics.specs.Basics.{updated}
 use Rattle.semantics.specs.Outcome.{done}

@@ -1,11 +1,6 @@
 -- The leaves that make an array of given elements: literals and iotas.
-use Prim.Native.Nat.{ℕ, suc, _-_, _≤_}
-use native.Mathlib.Omega.{arith}
-use mathlib.Core.Bool.{true}
-use mathlib.Core.Path.{_≡_, refl}
-use mathlib.Core.List.{List, [], _∷_, _++_, map}
-use lib.IntN.{ℤ, pos, natAbs}
-use lib.ListN.{length-map}
+use Rattle.prelude.specs.Kit.{ℕ, _≤_, _-_, suc, arith, true, _≡_, refl, List, [], _∷_, _++_, map, ℤ, pos, natAbs}
+use Rattle.prelude.specs.Kit.{length-map}
 use Rattle.semantics.specs.Basics.{tabulate}
 use Rattle.semantics.specs.Outcome.{done, Run, _>>=_, give, require}
 use Rattle.semantics.specs.Value.{Value, num}

@@ -1,11 +1,6 @@
 -- The line of a map: its cell is reserved, its passes fill it.
-use Prim.Native.Nat.{ℕ, suc, _+_, _<_, _≤_, pred}
-use native.Mathlib.Omega.{arith}
-use mathlib.Core.Bool.{true}
-use mathlib.Core.Path.{_≡_, refl, sym, ap, _∙_, subst}
-use mathlib.Core.List.{List, [], _∷_}
-use lib.IntN.{ℤ, pos}
-use lib.ListN.{length, getD}
+use Rattle.prelude.specs.Kit.{ℕ, _≤_, _+_, _<_, suc, pred, arith, true, _≡_, refl, _∙_, sym, ap, subst, List, [], _∷_}
+use Rattle.prelude.specs.Kit.{ℤ, pos, length, getD}
 use Rattle.semantics.specs.Outcome.{onward, _>>=_, _>>_, give, require}
 use Rattle.semantics.specs.Value.{Value, num, items}
 use Rattle.semantics.specs.Kinds.{mapping}

@@ -1,13 +1,6 @@
 -- The arguments of a call as the words and values of its parameters.
-use Prim.Native.Nat.{ℕ, zero, suc, _+_, _<_, _≤_}
-use native.Mathlib.Omega.{arith}
-use native.Mathlib.Decide.{ℕ-discrete, decLt}
-use mathlib.Core.Path.{_≡_, refl, sym, ap, ap₂, _∙_, subst}
-use mathlib.Core.Logic.{inl, inr}
-use mathlib.Core.Bool.{Bool, true, false}
-use mathlib.Core.List.{List, [], _∷_}
-use lib.IntN.{ℤ, pos}
-use lib.ListN.{length, getD, List·getD-eq-default}
+use Rattle.prelude.specs.Kit.{ℕ, _≤_, _+_, _<_, suc, zero, arith, decLt, ℕ-discrete, true, false, Bool, _≡_, refl, _∙_}
+use Rattle.prelude.specs.Kit.{sym, ap, subst, ap₂, inl, inr, List, [], _∷_, ℤ, pos, length, getD, List·getD-eq-default}
 use Rattle.laws.specs.Updates.{updated-same, updated-there}
 use Rattle.semantics.specs.Basics.{occurrences, _∈_, updated, with-if}
 use Rattle.semantics.specs.Value.{Value, num}

@@ -1,15 +1,8 @@
 -- The passes of a loop, over what is carried from one to the next; the element that a pass is about; and the array,
 -- which a loop lends to its passes.
-use Prim.Native.Nat.{ℕ, suc, _+_, _<_, _≤_}
-use native.Mathlib.Omega.{arith}
-use native.Mathlib.Decide.{decLt}
-use mathlib.Core.Path.{_≡_, refl, sym, ap, ap₂, _∙_, subst}
-use mathlib.Core.Logic.{inl, inr}
-use mathlib.Core.Bool.{Bool, true, false}
-use mathlib.Core.List.{List, [], _∷_, _++_, append-assoc, append-nil}
-use lib.IntN.{ℤ, pos}
-use lib.ListN.{length, getD, length-append}
-use lib.Seq.{getD-append-seam}
+use Rattle.prelude.specs.Kit.{ℕ, _≤_, _+_, _<_, suc, arith, decLt, true, false, Bool, _≡_, refl, _∙_, sym, ap, subst}
+use Rattle.prelude.specs.Kit.{ap₂, inl, inr, List, [], _∷_, _++_, append-assoc, append-nil, ℤ, pos, length, getD}
+use Rattle.prelude.specs.Kit.{length-append, getD-append-seam}
 use Rattle.semantics.specs.Basics.{tabulate, occurrences, _∈_, with-if}
 use Rattle.semantics.specs.Outcome.{Run, passes}
 use Rattle.semantics.specs.Value.{Value, num, items}

@@ -1,9 +1,5 @@
 -- Parts at certain places: of a call's arguments those that its function owns, and those that it borrows.
-use Prim.Native.Nat.{ℕ, suc, _+_}
-use native.Mathlib.Omega.{arith}
-use mathlib.Core.Bool.{Bool, true, false, not}
-use mathlib.Core.Path.{_≡_, refl, ap, _∙_}
-use mathlib.Core.List.{List, [], _∷_, map}
+use Rattle.prelude.specs.Kit.{ℕ, _+_, suc, arith, true, false, Bool, not, _≡_, refl, _∙_, ap, List, [], _∷_, map}
 use Rattle.semantics.specs.Basics.{occurrences, with-if}
 use Rattle.semantics.specs.Kinds.{picked}
 use Rattle.semantics.specs.Code.{Atom}

@@ -1,11 +1,6 @@
 -- The leaves whose result holds no reference: operations, lengths and elements.
-use Prim.Native.Nat.{ℕ}
-use native.Mathlib.Omega.{arith}
-use mathlib.Core.Bool.{false}
-use mathlib.Core.Path.{_≡_, refl, sym, ap, ap₂, subst}
-use mathlib.Core.List.{List, [], _∷_, _++_}
-use lib.IntN.{ℤ, pos, natAbs}
-use lib.ListN.{length}
+use Rattle.prelude.specs.Kit.{ℕ, arith, false, _≡_, refl, sym, ap, subst, ap₂, List, [], _∷_, _++_, ℤ, pos, natAbs}
+use Rattle.prelude.specs.Kit.{length}
 use Rattle.semantics.specs.Outcome.{onward}
 use Rattle.semantics.specs.Number.{Operation, exact, fits, inside}
 use Rattle.semantics.specs.Value.{Value, num, items}

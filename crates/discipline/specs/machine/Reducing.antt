@@ -1,16 +1,8 @@
 -- The line of a reduce: its start is handed over, and each pass carries on what its tree gives.
-use Prim.Native.Nat.{ℕ, suc, _+_, _<_, _≤_, pred}
-use native.Mathlib.Omega.{arith}
-use native.Mathlib.Decide.{ℕ-discrete}
-use lib.Dec.{eqb}
-use borrow.Author.Tests.{eq-eqb}
+use Rattle.prelude.specs.Kit.{ℕ, _≤_, _+_, _<_, suc, pred, arith, ℕ-discrete, true, false, _≡_, refl, _∙_, sym, ap}
+use Rattle.prelude.specs.Kit.{subst, List, [], _∷_, _++_, append-nil, eqb, ℤ, pos, length, getD, eq-eqb}
 use Rattle.laws.specs.Tests.{or-left}
 use Rattle.discipline.specs.machine.Standing.{none-in, hold-of-other}
-use mathlib.Core.Bool.{true, false}
-use mathlib.Core.Path.{_≡_, refl, sym, ap, _∙_, subst}
-use mathlib.Core.List.{List, [], _∷_, _++_, append-nil}
-use lib.IntN.{ℤ, pos}
-use lib.ListN.{length, getD}
 use Rattle.semantics.specs.Basics.{occurrences, _∈_, updated}
 use Rattle.semantics.specs.Outcome.{onward, _>>=_, _>>_, give, require, passes}
 use Rattle.semantics.specs.Value.{Value, num, items}

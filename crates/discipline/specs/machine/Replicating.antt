@@ -1,16 +1,9 @@
 -- The leaf of a replicate: a new array names its value so many times, and then the value is retained as often. In
 -- between, the store's counts are short of the array's references; but the order does not matter, so that the store is
 -- always one in which the value was retained first and the array acquired then.
-use Prim.Native.Nat.{ℕ, zero, suc, _+_, _<_, _≤_}
-use native.Mathlib.Omega.{arith}
-use mathlib.Core.Bool.{true}
-use mathlib.Core.Path.{_≡_, refl, sym, ap, _∙_, subst}
-use mathlib.Core.Logic.{_≢_, inl, inr}
-use mathlib.Core.Option.{some}
-use mathlib.Core.List.{List, [], _∷_, _++_, map}
-use lib.IntN.{ℤ, pos, natAbs}
+use Rattle.prelude.specs.Kit.{ℕ, _≤_, _+_, _<_, suc, zero, arith, true, _≡_, refl, _∙_, sym, ap, subst, inl, inr, _≢_}
+use Rattle.prelude.specs.Kit.{some, List, [], _∷_, _++_, map, ℤ, pos, natAbs, drop, length-replicate}
 use lib.ListN as List
-use lib.ListN.{drop, length-replicate}
 use Rattle.semantics.specs.Basics.{occurrences, _∈_}
 use Rattle.semantics.specs.Outcome.{done, onward, give}
 use Rattle.semantics.specs.Value.{Value, list}

@@ -1,9 +1,5 @@
 -- A word retained: it holds one reference more, if it stands for an array.
-use Prim.Native.Nat.{ℕ, zero, suc, _+_, _<_}
-use native.Mathlib.Omega.{arith}
-use mathlib.Core.Path.{_≡_, refl}
-use mathlib.Core.List.{List, [], _∷_, _++_}
-use lib.IntN.{ℤ}
+use Rattle.prelude.specs.Kit.{ℕ, _+_, _<_, suc, zero, arith, _≡_, refl, List, [], _∷_, _++_, ℤ}
 use Rattle.semantics.specs.Basics.{occurrences}
 use Rattle.semantics.specs.Outcome.{done}
 use Rattle.semantics.specs.Meaning.{Meter}

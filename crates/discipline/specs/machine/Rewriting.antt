@@ -1,16 +1,8 @@
 -- The line of a map that rewrites its array: in the array's own cell if nothing else refers to it; otherwise in a new
 -- cell, after which the array is released.
-use Prim.Native.Nat.{ℕ, suc, _+_, _-_, _<_, _≤_, pred}
-use native.Mathlib.Omega.{arith}
-use mathlib.Core.Bool.{Bool, true, false, cond}
-use mathlib.Core.Path.{_≡_, refl, sym, ap, _∙_, subst}
-use mathlib.Core.Logic.{_≢_}
-use mathlib.Core.List.{List, [], _∷_, _++_, append-nil}
-use lib.IntN.{ℤ, pos}
-use lib.Dec.{eqb}
-use lib.ListN.{length, getD, drop}
-use lib.Seq.{drop-length}
-use borrow.Author.Tests.{eq-eqb, ne-eqb, eqb-true}
+use Rattle.prelude.specs.Kit.{ℕ, _≤_, _+_, _<_, _-_, suc, pred, arith, true, false, Bool, cond, _≡_, refl, _∙_, sym, ap}
+use Rattle.prelude.specs.Kit.{subst, _≢_, List, [], _∷_, _++_, append-nil, eqb, ℤ, pos, length, getD, drop, drop-length}
+use Rattle.prelude.specs.Kit.{ne-eqb, eq-eqb, eqb-true}
 use Rattle.semantics.specs.Basics.{occurrences, _∈_, updated, tabulate}
 use Rattle.semantics.specs.Outcome.{onward, _>>=_, _>>_, give, require, passes}
 use Rattle.semantics.specs.Value.{Value, num, list, items}

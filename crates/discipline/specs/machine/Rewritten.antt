@@ -1,12 +1,8 @@
 -- An array of numbers that is rewritten in its own cell: before a pass it has the results so far, and after them the
 -- elements to come.
-use Prim.Native.Nat.{ℕ, zero, suc, _<_, _≤_}
-use native.Mathlib.Omega.{arith}
-use mathlib.Core.Path.{_≡_, refl, sym, ap, ap₂, _∙_}
-use mathlib.Core.List.{List, [], _∷_, _++_, map, append-assoc}
-use lib.IntN.{ℤ, pos}
-use lib.ListN.{length, getD, set, drop, length-append, length-drop}
-use lib.Seq.{drop-cons, getD-append-seam, set-append-seam}
+use Rattle.prelude.specs.Kit.{ℕ, _≤_, _<_, suc, zero, arith, _≡_, refl, _∙_, sym, ap, ap₂, List, [], _∷_, _++_, map}
+use Rattle.prelude.specs.Kit.{append-assoc, ℤ, pos, length, getD, set, drop, length-append, length-drop, drop-cons}
+use Rattle.prelude.specs.Kit.{getD-append-seam, set-append-seam}
 use Rattle.semantics.specs.Value.{Value, num, list, items}
 use Rattle.semantics.specs.Meaning.{Meter, Env, with-item}
 use Rattle.semantics.specs.Machine.{State, Frame, with-store, touching}

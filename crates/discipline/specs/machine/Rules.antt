@@ -1,14 +1,7 @@
 -- The rules of a tree and of a line together, and what follows for the parts of a line: only names that are known hold
 -- or are lent, so that a name just bound does neither.
-use Prim.Native.Nat.{ℕ}
-use native.Mathlib.Omega.{arith}
-use native.Mathlib.Decide.{ℕ-discrete, decLt}
-use mathlib.Core.Path.{_≡_, sym, ap, _∙_}
-use mathlib.Core.Logic.{inl, inr}
-use mathlib.Core.Bool.{false≢true, Bool, true, false, cond}
-use mathlib.Core.List.{List, [], _∷_, _++_}
-use lib.Dec.{eqb}
-use borrow.Author.Tests.{eq-eqb}
+use Rattle.prelude.specs.Kit.{ℕ, arith, decLt, ℕ-discrete, true, false, Bool, cond, false≢true, _≡_, _∙_, sym, ap, inl}
+use Rattle.prelude.specs.Kit.{inr, List, [], _∷_, _++_, eqb, eq-eqb}
 use Rattle.semantics.specs.Basics.{occurrences, _∈_}
 use Rattle.semantics.specs.Kinds.{Loop, mapping, filtering, reducing, rewriting, leaf-hands, loop-hands, loop-reads}
 use Rattle.semantics.specs.Kinds.{element-name, is-pending}

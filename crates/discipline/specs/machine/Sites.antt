@@ -1,10 +1,6 @@
 -- A loop where it stands in a tree: the array that it lends to its passes, the name of their element, and the rules for
 -- the tree of a pass.
-use Prim.Native.Nat.{ℕ, suc, _<_, pred}
-use native.Mathlib.Omega.{arith}
-use mathlib.Core.Path.{_≡_, ap, _∙_, subst}
-use mathlib.Core.List.{List, [], _∷_, _++_, append-nil}
-use lib.ListN.{length}
+use Rattle.prelude.specs.Kit.{ℕ, _<_, suc, pred, arith, _≡_, _∙_, ap, subst, List, [], _∷_, _++_, append-nil, length}
 use Rattle.semantics.specs.Kinds.{Loop, loop-reads, element-name}
 use Rattle.semantics.specs.Code.{Atom, loop, Tree, ending}
 use Rattle.semantics.specs.Live.{Set, _∪_, just, after-pass}

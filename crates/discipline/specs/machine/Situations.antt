@@ -1,10 +1,5 @@
 -- What is known before a line, and what lesser facts follow from it.
-use Prim.Native.Nat.{ℕ, suc, _<_, _≤_}
-use native.Mathlib.Omega.{arith}
-use mathlib.Core.Path.{ap, _≡_, refl}
-use mathlib.Core.Option.{some}
-use mathlib.Core.List.{List, [], _∷_, _++_}
-use lib.IntN.{ℤ}
+use Rattle.prelude.specs.Kit.{ℕ, _≤_, _<_, suc, arith, _≡_, refl, ap, some, List, [], _∷_, _++_, ℤ}
 use Rattle.semantics.specs.Meaning.{Meter, Env}
 use Rattle.semantics.specs.Machine.{State, Frame, with-store, touching}
 use Rattle.semantics.specs.Store.{Store, cell, cell-of, cell-count, named-by}

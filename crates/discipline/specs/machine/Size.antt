@@ -1,10 +1,6 @@
 -- How many references a tree may add: at most 17 for each row of its code.
-use Prim.Native.Nat.{ℕ, zero, suc, _+_, _*_, _<_, _≤_}
-use native.Mathlib.Omega.{arith}
-use native.Mathlib.Decide.{decLt}
-use mathlib.Core.Path.{_≡_, refl, ap, subst}
-use mathlib.Core.List.{List, [], _∷_, map}
-use lib.ListN.{length, getD, length-append, List·getD-eq-default}
+use Rattle.prelude.specs.Kit.{ℕ, _≤_, _+_, _<_, suc, zero, _*_, arith, decLt, _≡_, refl, ap, subst, List, [], _∷_, map}
+use Rattle.prelude.specs.Kit.{length, getD, List·getD-eq-default, length-append}
 use Rattle.semantics.specs.Syntax.{Function, Script, function-at, no-function}
 use Rattle.semantics.specs.Code.{atom-row, Line, leaf, if-else, loop, retain, release, Tree, end, line, rows, line-rows}
 use Rattle.semantics.specs.Borrow.{Table, borrowed}

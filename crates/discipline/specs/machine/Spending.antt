@@ -1,13 +1,7 @@
 -- Holds as multisets: what is left when some are spent; and the rules of the discipline, which look at a list of holds
 -- only as a multiset.
-use Prim.Native.Nat.{ℕ, _+_, _-_, _≤_}
-use native.Mathlib.Omega.{arith}
-use mathlib.Core.Path.{_≡_, sym, ap, _∙_}
-use mathlib.Core.Logic.{_⊎_, inl, inr}
-use mathlib.Core.Bool.{Bool, true, false, cond}
-use mathlib.Core.List.{List, [], _∷_, _++_}
-use lib.Dec.{eqb}
-use borrow.Author.Tests.{eq-eqb, ne-eqb}
+use Rattle.prelude.specs.Kit.{ℕ, _≤_, _+_, _-_, arith, true, false, Bool, cond, _≡_, _∙_, sym, ap, inl, inr, _⊎_, List}
+use Rattle.prelude.specs.Kit.{[], _∷_, _++_, eqb, ne-eqb, eq-eqb}
 use Rattle.semantics.specs.Basics.{occurrences, _∈_, with-if}
 use Rattle.semantics.specs.Kinds.{Borrowing, leaf-hands, leaf-reads, loop-hands, loop-reads, element-name}
 use Rattle.semantics.specs.Code.{Line, leaf, if-else, loop, retain, release, Tree, end, line}

@@ -1,13 +1,6 @@
 -- Words that stand for values: what names and atoms hold, and what stays after a change of the store.
-use Prim.Native.Nat.{ℕ, zero, suc, _<_, _≤_}
-use native.Mathlib.Omega.{arith}
-use mathlib.Core.Path.{_≡_, refl, sym, ap, ap₂, _∙_, subst}
-use mathlib.Core.Logic.{_≢_, inl, inr}
-use mathlib.Core.Bool.{Bool, true, false}
-use mathlib.Core.List.{List, [], _∷_, _++_, append-nil, map-append}
-use lib.IntN.{ℤ}
-use lib.Dec.{ltb}
-use borrow.Author.Tests.{lt-ltb}
+use Rattle.prelude.specs.Kit.{ℕ, _≤_, _<_, suc, zero, arith, true, false, Bool, _≡_, refl, _∙_, sym, ap, subst, ap₂}
+use Rattle.prelude.specs.Kit.{inl, inr, _≢_, List, [], _∷_, _++_, append-nil, map-append, ltb, ℤ, lt-ltb}
 use Rattle.laws.specs.Updates.{updated-same, updated-there}
 use Rattle.semantics.specs.Basics.{occurrences, _∈_, with-if, updated}
 use Rattle.semantics.specs.Value.{Value, num, number-in}

@@ -1,9 +1,5 @@
 -- The totals after main: replaced by the result, and the old ones released.
-use Prim.Native.Nat.{ℕ, zero, suc}
-use mathlib.Core.Path.{ap, _≡_, refl, sym, _∙_, subst}
-use mathlib.Core.Option.{some}
-use mathlib.Core.List.{[], _∷_, _++_}
-use lib.IntN.{ℤ}
+use Rattle.prelude.specs.Kit.{ℕ, suc, zero, _≡_, refl, _∙_, sym, ap, subst, some, [], _∷_, _++_, ℤ}
 use Rattle.semantics.specs.Outcome.{done, _>>_}
 use Rattle.semantics.specs.Value.{Value}
 use Rattle.semantics.specs.Meaning.{Meter}

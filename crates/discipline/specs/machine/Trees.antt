@@ -1,8 +1,5 @@
 -- Every line and every tree, by induction; leaves are taken for granted.
-use Prim.Native.Nat.{ℕ, _+_}
-use native.Mathlib.Omega.{arith}
-use mathlib.Core.Path.{_≡_, ap, _∙_}
-use mathlib.Core.List.{List, [], _∷_, _++_}
+use Rattle.prelude.specs.Kit.{ℕ, _+_, arith, _≡_, _∙_, ap, List, [], _∷_, _++_}
 use Rattle.semantics.specs.Basics.{occurrences}
 use Rattle.semantics.specs.Kinds.{Leaf, Loop, mapping, filtering, reducing, rewriting}
 use Rattle.semantics.specs.Code.{Atom, Line, leaf, if-else, loop, retain, release, Tree, end, line}

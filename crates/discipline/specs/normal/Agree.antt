@@ -1,11 +1,6 @@
 -- Written names and new names that agree: what the source means by a name is the value of the atom that stands for it.
-use Prim.Native.Nat.{ℕ, _+_, _≤_, _<_, suc}
-use native.Mathlib.Omega.{arith}
-use mathlib.Core.Bool.{Bool, true, false, cond}
-use mathlib.Core.Path.{_≡_, refl, _∙_}
-use mathlib.Core.List.{List, [], _∷_}
-use lib.Dec.{eqb}
-use lib.ListN.{length}
+use Rattle.prelude.specs.Kit.{ℕ, _≤_, _+_, _<_, suc, arith, true, false, Bool, cond, _≡_, refl, _∙_, List, [], _∷_, eqb}
+use Rattle.prelude.specs.Kit.{length}
 use Rattle.laws.specs.Updates.{updated-same, updated-other}
 use Rattle.semantics.specs.Basics.{updated}
 use Rattle.semantics.specs.Value.{Value}

@@ -1,9 +1,5 @@
 -- `normal-run`: the lines of an expression do what the expression means, whatever the callee.
-use Prim.Native.Nat.{ℕ, _+_, _≤_}
-use native.Mathlib.Omega.{arith}
-use mathlib.Core.List.{List, [], _∷_, map}
-use mathlib.Core.Path.{_≡_, refl, _∙_, ap, fun-ext}
-use lib.ListN.{length}
+use Rattle.prelude.specs.Kit.{ℕ, _≤_, _+_, arith, _≡_, refl, _∙_, ap, fun-ext, List, [], _∷_, map, length}
 use Rattle.laws.specs.Updates.{updated-other, updated-same}
 use Rattle.semantics.specs.Basics.{updated}
 use Rattle.semantics.specs.Outcome.{Outcome, done, stop, _>>=_, give, onward}

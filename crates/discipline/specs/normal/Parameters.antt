@@ -1,12 +1,6 @@
 -- The parameters' names and the arguments: a written name means in the source what its new name is worth in the code.
-use Prim.Native.Nat.{ℕ, suc, _+_, _≤_, _<_}
-use native.Mathlib.Omega.{arith}
-use mathlib.Core.Bool.{Bool, true, false, cond}
-use mathlib.Core.List.{List, [], _∷_}
-use mathlib.Core.Path.{_≡_, refl, _∙_}
-use lib.IntN.{pos}
-use lib.ListN.{length}
-use lib.Dec.{eqb}
+use Rattle.prelude.specs.Kit.{ℕ, _≤_, _+_, _<_, suc, arith, true, false, Bool, cond, _≡_, refl, _∙_, List, [], _∷_, eqb}
+use Rattle.prelude.specs.Kit.{pos, length}
 use Rattle.laws.specs.Updates.{updated-other, updated-same}
 use Rattle.semantics.specs.Basics.{updated}
 use Rattle.semantics.specs.Value.{Value, num}

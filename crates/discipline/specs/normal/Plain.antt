@@ -1,7 +1,5 @@
 -- The code worked on values: retains and releases do nothing. The actions are those of the meaning.
-use Prim.Native.Nat.{ℕ, zero, suc}
-use mathlib.Core.List.{List, [], _∷_, map}
-use lib.IntN.{pos}
+use Rattle.prelude.specs.Kit.{ℕ, suc, zero, List, [], _∷_, map, pos}
 use Rattle.semantics.specs.Basics.{updated}
 use Rattle.semantics.specs.Outcome.{_>>=_, _>>_, give, halt}
 use Rattle.semantics.specs.Value.{Value, num}

@@ -1,11 +1,6 @@
 -- Retains and releases do nothing on values, and a map that rewrites its array is a map: an annotated tree runs as the
 -- plain one.
-use Prim.Native.Nat.{ℕ}
-use mathlib.Core.Bool.{Bool, true, false, cond, _&&_}
-use mathlib.Core.List.{List, [], _∷_, map}
-use mathlib.Core.Path.{_≡_, refl, _∙_, ap}
-use lib.ListN.{length}
-use lib.Dec.{ltb}
+use Rattle.prelude.specs.Kit.{ℕ, true, false, Bool, cond, _&&_, _≡_, refl, _∙_, ap, List, [], _∷_, map, ltb, length}
 use Rattle.semantics.specs.Basics.{with-if, updated}
 use Rattle.semantics.specs.Outcome.{_>>=_, give, onward}
 use Rattle.semantics.specs.Value.{Value}

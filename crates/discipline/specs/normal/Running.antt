@@ -1,9 +1,6 @@
 -- `running-is-meaning`: running the code of a script on values is the script's meaning, for every script, function and
 -- arguments, in whatever style the code is annotated.
-use Prim.Native.Nat.{ℕ, zero, suc}
-use mathlib.Core.List.{List, [], _∷_}
-use mathlib.Core.Path.{_≡_, refl, _∙_, ap}
-use lib.ListN.{length, getD}
+use Rattle.prelude.specs.Kit.{ℕ, suc, zero, _≡_, refl, _∙_, ap, List, [], _∷_, length, getD}
 use Rattle.semantics.specs.Value.{Value}
 use Rattle.semantics.specs.Syntax.{Function, Script, no-function, function-at}
 use Rattle.semantics.specs.Meaning.{Meter, Callee, eval, bound, meaning}

@@ -1,14 +1,8 @@
 -- `running-grows`, `meaning-grows`: a run only adds to the trace, and each step that it adds is one less that is left.
 -- `wants-stays`: what a step wants does not change with later steps.
-use Prim.Native.Nat.{ℕ, zero, suc, _+_, _≤_}
-use native.Mathlib.Omega.{arith}
-use mathlib.Core.Bool.{Bool, true, false, cond}
-use mathlib.Core.List.{List, [], _∷_, _++_, map, append-assoc}
-use mathlib.Core.Path.{_≡_, refl, sym, _∙_, ap}
-use lib.IntN.{pos, natAbs}
+use Rattle.prelude.specs.Kit.{ℕ, _≤_, _+_, suc, zero, arith, true, false, Bool, cond, _≡_, refl, _∙_, sym, ap, List, []}
+use Rattle.prelude.specs.Kit.{_∷_, _++_, map, append-assoc, pos, natAbs, length, getD, length-append, ne-eqb}
 use lib.ListN as List
-use lib.ListN.{length, getD, length-append}
-use borrow.Author.Tests.{ne-eqb}
 use Rattle.semantics.specs.Basics.{updated, tabulate}
 use Rattle.semantics.specs.Outcome.{Outcome, done, stop, _>>=_, give, require, passes, onward}
 use Rattle.semantics.specs.Number.{fits, exact, inside, is-zero, is-answer}

@@ -1,13 +1,6 @@
 -- A cell taken from the free list: with words, or empty for the result of a map or a filter.
-use Prim.Native.Nat.{ℕ, zero, suc, _+_, _<_, _≤_}
-use native.Mathlib.Omega.{arith}
-use mathlib.Core.Path.{_≡_, refl, sym, ap, _∙_, subst}
-use mathlib.Core.Logic.{inl, inr}
-use mathlib.Core.Bool.{true, false}
-use mathlib.Core.List.{List, [], _∷_, _++_, map}
-use lib.IntN.{ℤ, pos}
-use lib.ListN.{length, List·getD-eq-default}
-use borrow.Author.Tests.{ltb-true}
+use Rattle.prelude.specs.Kit.{ℕ, _≤_, _+_, _<_, suc, zero, arith, true, false, _≡_, refl, _∙_, sym, ap, subst, inl, inr}
+use Rattle.prelude.specs.Kit.{List, [], _∷_, _++_, map, ℤ, pos, length, List·getD-eq-default, ltb-true}
 use Rattle.semantics.specs.Basics.{occurrences, _∈_}
 use Rattle.semantics.specs.Value.{Value, list}
 use Rattle.semantics.specs.Store.{Cell, Store, cell, cell-of, cell-count, inner, elements, named-by, filled, has-free}

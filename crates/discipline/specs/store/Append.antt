@@ -1,14 +1,6 @@
 -- One more element in the result of a map or a filter in progress.
-use Prim.Native.Nat.{ℕ, suc, _+_, _<_}
-use native.Mathlib.Omega.{arith}
-use native.Mathlib.Decide.{decLt}
-use native.Mathlib.Numerals.{add-one}
-use mathlib.Core.Path.{_≡_, refl, sym, ap, _∙_, subst}
-use mathlib.Core.Logic.{_≢_, inl, inr}
-use mathlib.Core.List.{List, [], _∷_, _++_}
-use lib.IntN.{ℤ, pos}
-use lib.ListN.{set, take, length-set}
-use lib.Seq.{take-suc-set, getD-set-other}
+use Rattle.prelude.specs.Kit.{ℕ, _+_, _<_, suc, arith, decLt, add-one, _≡_, refl, _∙_, sym, ap, subst, inl, inr, _≢_}
+use Rattle.prelude.specs.Kit.{List, [], _∷_, _++_, ℤ, pos, set, length-set, take, getD-set-other, take-suc-set}
 use Rattle.semantics.specs.Basics.{occurrences, _∈_}
 use Rattle.semantics.specs.Store.{Cell, Store, cell, cell-count, inner, elements, named-by, wider, appended, with-cell}
 use Rattle.semantics.specs.Sound.{free-list, all-inner}

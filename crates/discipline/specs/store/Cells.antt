@@ -1,14 +1,7 @@
 -- One cell written: what becomes of the cells and of what they name.
-use Prim.Native.Nat.{ℕ, zero, suc, _+_, _*_, _<_, _≤_}
-use native.Mathlib.Omega.{arith}
-use native.Mathlib.Decide.{decLt}
-use mathlib.Core.Path.{_≡_, refl, sym, ap, ap₂, _∙_}
-use mathlib.Core.Logic.{_≢_, _⊎_, inl, inr}
-use mathlib.Core.Bool.{cond}
-use mathlib.Core.List.{List, [], _∷_}
-use lib.ListN.{length, getD, set, take, length-set, length-take, length-append, List·getD-eq-default}
-use lib.Seq.{getD-set-same, getD-set-other}
-use lib.Dec.{eqb}
+use Rattle.prelude.specs.Kit.{ℕ, _≤_, _+_, _<_, suc, zero, _*_, arith, decLt, cond, _≡_, refl, _∙_, sym, ap, ap₂, inl}
+use Rattle.prelude.specs.Kit.{inr, _≢_, _⊎_, List, [], _∷_, eqb, length, getD, set, length-set, List·getD-eq-default}
+use Rattle.prelude.specs.Kit.{take, length-append, length-take, getD-set-other, getD-set-same}
 use Rattle.semantics.specs.Basics.{occurrences, _∈_}
 use Rattle.semantics.specs.Store.{Cell, Store, cell, cell-count, clear, elements, inner, named-by, with-cell}
 use Rattle.semantics.specs.Store.{with-first}

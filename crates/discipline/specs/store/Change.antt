@@ -1,12 +1,6 @@
 -- The invariant: what follows from it at once, and how it is kept where one cell is written.
-use Prim.Native.Nat.{ℕ, suc, _+_, _<_, _≤_}
-use native.Mathlib.Omega.{arith}
-use native.Mathlib.Decide.{decLt}
-use mathlib.Core.Path.{_≡_, refl, sym, ap, _∙_, subst}
-use mathlib.Core.Logic.{inl, inr}
-use mathlib.Core.List.{List, [], _∷_, _++_}
-use lib.ListN.{length, getD}
-use borrow.Author.Tests.{le-ltb}
+use Rattle.prelude.specs.Kit.{ℕ, _≤_, _+_, _<_, suc, arith, decLt, _≡_, refl, _∙_, sym, ap, subst, inl, inr, List, []}
+use Rattle.prelude.specs.Kit.{_∷_, _++_, length, getD, le-ltb}
 use Rattle.semantics.specs.Basics.{occurrences, _∈_}
 use Rattle.semantics.specs.Store.{Cell, Store, cell, cell-count, clear, inner}
 use Rattle.semantics.specs.Sound.{free-list, all-inner}

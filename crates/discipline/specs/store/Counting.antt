@@ -1,15 +1,6 @@
 -- More on lists as multisets: members, lists of distinct numbers, bounds.
-use Prim.Native.Nat.{ℕ, zero, suc, _+_, _<_, _≤_}
-use native.Mathlib.Omega.{arith}
-use native.Mathlib.Decide.{ℕ-discrete, decLt}
-use mathlib.Core.Path.{_≡_, refl, sym, ap, _∙_}
-use mathlib.Core.Logic.{_≢_, _⊎_, inl, inr}
-use mathlib.Core.Bool.{cond}
-use mathlib.Core.List.{List, [], _∷_, _++_, map}
-use lib.IntN.{ℤ, pos}
-use lib.ListN.{length, getD}
-use lib.Dec.{eqb}
-use borrow.Author.Tests.{eq-eqb, ne-eqb}
+use Rattle.prelude.specs.Kit.{ℕ, _≤_, _+_, _<_, suc, zero, arith, decLt, ℕ-discrete, cond, _≡_, refl, _∙_, sym, ap, inl}
+use Rattle.prelude.specs.Kit.{inr, _≢_, _⊎_, List, [], _∷_, _++_, map, eqb, ℤ, pos, length, getD, ne-eqb, eq-eqb}
 use Rattle.semantics.specs.Basics.{occurrences, _∈_}
 use Rattle.semantics.specs.Store.{cell-of, named-by}
 use Rattle.laws.specs.Lists.{hits, occurrences-append, occurs-first}

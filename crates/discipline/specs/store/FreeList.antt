@@ -1,14 +1,6 @@
 -- The free list as a list of cells that are linked, and how it changes with one cell.
-use Prim.Native.Nat.{ℕ, zero, suc, _<_, _≤_}
-use native.Mathlib.Omega.{arith}
-use native.Mathlib.Decide.{decLt}
-use mathlib.Core.Path.{_≡_, refl, sym, ap, _∙_, subst}
-use mathlib.Core.Logic.{inl, inr}
-use mathlib.Core.Bool.{Bool, true, false}
-use mathlib.Core.List.{List, [], _∷_}
-use lib.ListN.{length}
-use lib.Dec.{ltb}
-use borrow.Author.Tests.{ltb-true, lt-ltb, le-ltb}
+use Rattle.prelude.specs.Kit.{ℕ, _≤_, _<_, suc, zero, arith, decLt, true, false, Bool, _≡_, refl, _∙_, sym, ap, subst}
+use Rattle.prelude.specs.Kit.{inl, inr, List, [], _∷_, ltb, length, lt-ltb, le-ltb, ltb-true}
 use Rattle.semantics.specs.Basics.{occurrences, _∈_}
 use Rattle.semantics.specs.Store.{Cell, Store, cell, cell-count}
 use Rattle.semantics.specs.Sound.{free-from, end-from, free-list, due}

@@ -1,11 +1,6 @@
 -- What a change of the store leaves alone: cells that are reached, and their values.
-use Prim.Native.Nat.{ℕ, zero, suc, _+_, _<_}
-use native.Mathlib.Omega.{arith}
-use native.Mathlib.Decide.{decLt}
-use mathlib.Core.Path.{_≡_, refl, sym, ap, ap₂, _∙_, subst}
-use mathlib.Core.Logic.{_≢_, inl, inr}
-use mathlib.Core.List.{List, [], _∷_, _++_, map}
-use lib.IntN.{ℤ}
+use Rattle.prelude.specs.Kit.{ℕ, _+_, _<_, suc, zero, arith, decLt, _≡_, refl, _∙_, sym, ap, subst, ap₂, inl, inr, _≢_}
+use Rattle.prelude.specs.Kit.{List, [], _∷_, _++_, map, ℤ}
 use Rattle.semantics.specs.Basics.{occurrences, _∈_}
 use Rattle.semantics.specs.Value.{Value, num, list}
 use Rattle.semantics.specs.Store.{Cell, Store, cell, cell-of, elements, inner, named-by}

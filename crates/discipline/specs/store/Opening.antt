@@ -1,13 +1,6 @@
 -- A store just opened is at rest.
-use Prim.Native.Nat.{ℕ, zero, suc, _≤_}
-use native.Mathlib.Omega.{arith}
-use native.Mathlib.Decide.{decLt}
-use mathlib.Core.Path.{_≡_, refl, sym, ap, _∙_, subst}
-use mathlib.Core.Bool.{true}
-use mathlib.Core.List.{List, [], _∷_}
-use lib.IntN.{ℤ, pos}
-use lib.ListN.{replicate, length-replicate, getD-replicate, List·getD-eq-default}
-use borrow.Author.Tests.{lt-ltb}
+use Rattle.prelude.specs.Kit.{ℕ, _≤_, suc, zero, arith, decLt, true, _≡_, refl, _∙_, sym, ap, subst, List, [], _∷_, ℤ}
+use Rattle.prelude.specs.Kit.{pos, List·getD-eq-default, replicate, length-replicate, getD-replicate, lt-ltb}
 use Rattle.semantics.specs.Basics.{occurrences, _∈_}
 use Rattle.semantics.specs.Value.{first-totals}
 use Rattle.semantics.specs.Store.{Cell, Store, cell, cell-of, cell-count, clear, inner, named-by, filled, has-free}

@@ -1,13 +1,6 @@
 -- A cell retained before or after another is acquired: the store is the same.
-use Prim.Native.Nat.{ℕ}
-use mathlib.Core.Path.{_≡_, refl, sym, ap, ap₂, _∙_}
-use mathlib.Core.Logic.{_≢_}
-use mathlib.Core.Bool.{true}
-use mathlib.Core.List.{List}
-use lib.IntN.{ℤ}
-use lib.Dec.{ltb}
-use lib.ListN.{set, length-set}
-use lib.Seq.{getD-set-other, set-comm}
+use Rattle.prelude.specs.Kit.{ℕ, true, _≡_, refl, _∙_, sym, ap, ap₂, _≢_, List, ltb, ℤ, set, length-set, getD-set-other}
+use Rattle.prelude.specs.Kit.{set-comm}
 use Rattle.semantics.specs.Store.{Cell, Store, cell, clear, filled, has-free, acquired, retained, one-more, with-cell}
 use Rattle.semantics.specs.Store.{with-count, with-first}
 

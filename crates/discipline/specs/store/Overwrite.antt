@@ -1,13 +1,6 @@
 -- Another word in a slot of an array of numbers that is set aside.
-use Prim.Native.Nat.{ℕ, _<_}
-use native.Mathlib.Omega.{arith}
-use mathlib.Core.Path.{_≡_, refl, sym, ap, _∙_, subst}
-use mathlib.Core.Logic.{_≢_}
-use mathlib.Core.List.{List}
-use lib.IntN.{ℤ, pos}
-use lib.ListN.{set, length-set}
-use lib.Seq.{take-set-lt, getD-set-other}
-use borrow.Author.Tests.{lt-ltb}
+use Rattle.prelude.specs.Kit.{ℕ, _<_, arith, _≡_, refl, _∙_, sym, ap, subst, _≢_, List, ℤ, pos, set, length-set}
+use Rattle.prelude.specs.Kit.{getD-set-other, take-set-lt, lt-ltb}
 use Rattle.semantics.specs.Basics.{occurrences, _∈_}
 use Rattle.semantics.specs.Store.{Cell, Store, cell, cell-count, inner, elements, with-slot, overwritten}
 use Rattle.semantics.specs.Store.{with-cell}

@@ -1,10 +1,6 @@
 -- A reference fewer: the last one frees the cell, and then its elements lose one each.
-use Prim.Native.Nat.{ℕ, zero, suc, _+_, _<_, _≤_}
-use native.Mathlib.Omega.{arith}
-use mathlib.Core.Path.{_≡_, refl, sym, ap, _∙_}
-use mathlib.Core.Logic.{_⊎_, inl, inr}
-use mathlib.Core.Option.{Option, some}
-use mathlib.Core.List.{List, [], _∷_, _++_}
+use Rattle.prelude.specs.Kit.{ℕ, _≤_, _+_, _<_, suc, zero, arith, _≡_, refl, _∙_, sym, ap, inl, inr, _⊎_, some, Option}
+use Rattle.prelude.specs.Kit.{List, [], _∷_, _++_}
 use Rattle.semantics.specs.Basics.{occurrences, _∈_, each}
 use Rattle.semantics.specs.Store.{Store, cell, cell-count, clear, inner, with-cell, with-first, with-count, freed}
 use Rattle.semantics.specs.Store.{lowered, released, deepest}

@@ -1,11 +1,6 @@
 -- The free list made anew, upwards: so a stop leaves a store.
-use Prim.Native.Nat.{ℕ, zero, suc, _+_, _<_}
-use native.Mathlib.Omega.{arith}
-use native.Mathlib.Decide.{decLt}
-use mathlib.Core.Path.{_≡_, refl, sym, ap, ap₂, _∙_, subst}
-use mathlib.Core.Logic.{_≢_, _⊎_, inl, inr}
-use mathlib.Core.List.{List, [], _∷_, _++_}
-use lib.ListN.{length, getD}
+use Rattle.prelude.specs.Kit.{ℕ, _+_, _<_, suc, zero, arith, decLt, _≡_, refl, _∙_, sym, ap, subst, ap₂, inl, inr, _≢_}
+use Rattle.prelude.specs.Kit.{_⊎_, List, [], _∷_, _++_, length, getD}
 use Rattle.semantics.specs.Basics.{occurrences, _∈_}
 use Rattle.semantics.specs.Store.{Cell, Store, cell, cell-count, clear, inner, Linked, link, linked, relinked}
 use Rattle.semantics.specs.Store.{one-if-used, used-cells, cells-taken}

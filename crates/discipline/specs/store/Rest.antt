@@ -1,15 +1,7 @@
 -- A store between deliveries: the totals hold the one reference from outside. The test of refusal 11 says just that.
-use Prim.Native.Nat.{ℕ, zero, suc, _+_, _-_, _<_, _≤_}
-use native.Mathlib.Omega.{arith}
-use native.Mathlib.Decide.{decLt}
-use mathlib.Core.Path.{_≡_, refl, sym, ap, _∙_, subst}
-use mathlib.Core.Bool.{true, _&&_}
-use mathlib.Core.List.{List, [], _∷_, map}
-use lib.IntN.{ℤ, pos}
-use lib.ListN.{length, getD, take, length-take}
-use lib.Seq.{getD-take}
-use lib.Dec.{eqb}
-use borrow.Author.Tests.{eqb-true, eq-eqb}
+use Rattle.prelude.specs.Kit.{ℕ, _≤_, _+_, _<_, _-_, suc, zero, arith, decLt, true, _&&_, _≡_, refl, _∙_, sym, ap}
+use Rattle.prelude.specs.Kit.{subst, List, [], _∷_, map, eqb, ℤ, pos, length, getD, take, length-take, getD-take}
+use Rattle.prelude.specs.Kit.{eq-eqb, eqb-true}
 use Rattle.semantics.specs.Basics.{all, occurrences, _∈_}
 use Rattle.semantics.specs.Store.{Store, cell, cell-of, cell-count, clear, inner, elements, named-by}
 use Rattle.semantics.specs.Sound.{free-list, end-from, due, as-due, list-sound, formed, all-inner, places, counted}

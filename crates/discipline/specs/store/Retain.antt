@@ -1,11 +1,6 @@
 -- The totals' word written, and a reference more.
-use Prim.Native.Nat.{ℕ, suc, _+_, _<_, _≤_}
-use native.Mathlib.Omega.{arith}
-use mathlib.Core.Path.{_≡_, refl, sym, ap, _∙_, subst}
-use mathlib.Core.Logic.{_⊎_, inl, inr}
-use mathlib.Core.List.{List, _∷_}
-use lib.IntN.{ℤ}
-use borrow.Author.Tests.{lt-ltb}
+use Rattle.prelude.specs.Kit.{ℕ, _≤_, _+_, _<_, suc, arith, _≡_, refl, _∙_, sym, ap, subst, inl, inr, _⊎_, List, _∷_, ℤ}
+use Rattle.prelude.specs.Kit.{lt-ltb}
 use Rattle.semantics.specs.Basics.{occurrences, _∈_}
 use Rattle.semantics.specs.Store.{Cell, Store, cell, cell-count, inner, with-totals, with-cell, with-count, one-more}
 use Rattle.semantics.specs.Store.{retained}

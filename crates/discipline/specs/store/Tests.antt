@@ -1,16 +1,7 @@
 -- The parts of the test of refusal 11, each with what it says of the store.
-use Prim.Native.Nat.{ℕ, zero, suc, _+_, _-_, _<_, _≤_}
-use native.Mathlib.Omega.{arith}
-use native.Mathlib.Decide.{ℕ-discrete}
-use mathlib.Core.Path.{_≡_, refl, sym, ap, _∙_}
-use mathlib.Core.Logic.{inl, inr}
-use mathlib.Core.Bool.{Bool, true, false, _&&_, _||_}
-use mathlib.Core.List.{List, []}
-use lib.IntN.{ℤ, pos, negsuc}
-use lib.ListN.{length, getD}
-use lib.Seq.{ext-getD}
-use lib.Dec.{eqb, ltb, leb}
-use borrow.Author.Tests.{eq-eqb, eqb-true, lt-ltb, ltb-true, le-leb, leb-true}
+use Rattle.prelude.specs.Kit.{ℕ, _≤_, _+_, _<_, _-_, suc, zero, arith, ℕ-discrete, true, false, Bool, _&&_, _||_, _≡_}
+use Rattle.prelude.specs.Kit.{refl, _∙_, sym, ap, inl, inr, List, [], eqb, ltb, leb, ℤ, pos, negsuc, length, getD}
+use Rattle.prelude.specs.Kit.{ext-getD, lt-ltb, eq-eqb, eqb-true, ltb-true, leb-true, le-leb}
 use Rattle.semantics.specs.Basics.{tabulate, all, occurrences}
 use Rattle.semantics.specs.Number.{is-zero}
 use Rattle.semantics.specs.Store.{Cell, Store, cell, cell-of, cell-count, clear, padded}

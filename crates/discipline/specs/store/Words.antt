@@ -1,16 +1,8 @@
 -- A store and its two arrays of words: each is read off the other.
-use Prim.Native.Nat.{ℕ, zero, suc, _+_, _-_, _*_, _/_, _%_, _<_, _≤_, min}
-use native.Mathlib.Omega.{arith}
-use native.Mathlib.Nat.{mul-zero, mul-suc}
-use native.Mathlib.Decide.{decLt}
-use mathlib.Core.Path.{_≡_, refl, sym, ap, ap₂, _∙_}
-use mathlib.Core.Bool.{true, _&&_}
-use mathlib.Core.List.{List, [], _∷_, _++_}
-use lib.IntN.{ℤ, pos}
-use lib.ListN.{length, getD, length-append, List·getD-append}
-use lib.Seq.{ext-getD, getD-append-add}
-use lib.Dec.{eqb, ltb}
-use borrow.Author.Tests.{eqb-true, ltb-true, eq-eqb, lt-ltb}
+use Rattle.prelude.specs.Kit.{ℕ, _≤_, _+_, _<_, _-_, suc, zero, _*_, _%_, min, _/_, arith, decLt, mul-zero, mul-suc}
+use Rattle.prelude.specs.Kit.{true, _&&_, _≡_, refl, _∙_, sym, ap, ap₂, List, [], _∷_, _++_, eqb, ltb, ℤ, pos, length}
+use Rattle.prelude.specs.Kit.{getD, length-append, List·getD-append, ext-getD, getD-append-add, lt-ltb, eq-eqb}
+use Rattle.prelude.specs.Kit.{eqb-true, ltb-true}
 use Rattle.semantics.specs.Basics.{tabulate}
 use Rattle.semantics.specs.Store.{Cell, Store, cell, cell-count, clear}
 use Rattle.semantics.specs.Words.{cells-in, slots-at, cell-at, store-of, shaped, all-slots, all-heads, slot-words}

@@ -1,10 +1,9 @@
 -- `engine::engine_check` meets its contract.
-use mathlib.Core.Path.{ap, subst, _∙_}
+use Rattle.prelude.specs.Kit.{_∙_, ap, subst, needs}
 use Rattle.semantics.specs.Calls.{engine-check}
 use Rattle.call_load.specs.Loading.{Loads}
 use Rattle.call_store.specs.Left.{checked-left}
 use Rattle.engine.proofs.Laws.{check-serves, replies-refused, replies-told}
-use borrow.Author.Needs.{needs}
 use Rattle.engine.proofs.engine_check.Statement.{statement}
 use Rattle.engine.proofs.engine_check.Tie as tie
 

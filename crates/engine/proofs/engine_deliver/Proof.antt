@@ -1,9 +1,5 @@
 -- `engine::engine_deliver` meets its contract.
-use native.Mathlib.Omega.{arith}
-use Prim.Native.Nat.{_≤_}
-use lib.ListN.{length, replicate}
-use lib.Seq.{length-take-le}
-use mathlib.Core.Path.{sym}
+use Rattle.prelude.specs.Kit.{_≤_, arith, sym, length, replicate, length-take-le, needs}
 use Rattle.machine_code.specs.Reading.{table-bytes}
 use Rattle.semantics.specs.Calls.{room, engine-deliver}
 use Rattle.script_laws.specs.Admitted.{admitted-judged}
@@ -11,7 +7,6 @@ use Rattle.machine_laws.specs.Script.{cut-coded}
 use Rattle.call_load.specs.declared.Loaded.the-variants.{Ready}
 use Rattle.call_load.specs.Loading.{LoadsWith}
 use Rattle.engine.proofs.Laws.{lines-fit, lines-cut, lines-are, deliver-serves, replies-refused, replies-told}
-use borrow.Author.Needs.{needs}
 use Rattle.engine.proofs.engine_deliver.Statement.{statement}
 use Rattle.engine.proofs.engine_deliver.Tie as tie
 

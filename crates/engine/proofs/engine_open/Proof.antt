@@ -1,10 +1,9 @@
 -- `engine::engine_open` meets its contract.
-use mathlib.Core.Path.{ap, subst, _∙_}
+use Rattle.prelude.specs.Kit.{_∙_, ap, subst, needs}
 use Rattle.semantics.specs.Calls.{engine-open}
 use Rattle.call_load.specs.Loading.{Loads}
 use Rattle.call_store.specs.Left.{opened-left}
 use Rattle.engine.proofs.Laws.{open-serves, replies-refused, replies-told}
-use borrow.Author.Needs.{needs}
 use Rattle.engine.proofs.engine_open.Statement.{statement}
 use Rattle.engine.proofs.engine_open.Tie as tie
 

@@ -1,11 +1,10 @@
 -- `engine::engine_restore` meets its contract.
-use mathlib.Core.Path.{ap, subst, _∙_}
+use Rattle.prelude.specs.Kit.{_∙_, ap, subst, needs}
 use Rattle.semantics.specs.SaveCalls.{engine-restore}
 use Rattle.call_load.specs.Loading.{Loads}
 use Rattle.call_saved.specs.Left.{restored-left}
 use Rattle.engine.proofs.Laws.{replies-refused, replies-told}
 use Rattle.engine.proofs.SaveLaws.{restore-serves}
-use borrow.Author.Needs.{needs}
 use Rattle.engine.proofs.engine_restore.Statement.{statement}
 use Rattle.engine.proofs.engine_restore.Tie as tie
 

@@ -1,11 +1,10 @@
 -- `engine::engine_save` meets its contract.
-use mathlib.Core.Path.{subst, _∙_}
+use Rattle.prelude.specs.Kit.{_∙_, subst, needs}
 use Rattle.semantics.specs.SaveCalls.{engine-save}
 use Rattle.call_load.specs.Loading.{Loads}
 use Rattle.clearing.proofs.Clearing.{cleared-whole}
 use Rattle.engine.proofs.Laws.{shallow}
 use Rattle.engine.proofs.SaveLaws.{saves-refused, saves-told}
-use borrow.Author.Needs.{needs}
 use Rattle.engine.proofs.engine_save.Statement.{statement}
 use Rattle.engine.proofs.engine_save.Tie as tie
 

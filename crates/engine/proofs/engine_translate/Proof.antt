@@ -1,12 +1,10 @@
 -- `engine::engine_translate` meets its contract.
-use native.Mathlib.Omega.{arith}
-use mathlib.Core.Path.{sym, subst, _∙_}
+use Rattle.prelude.specs.Kit.{arith, _∙_, sym, subst, needs}
 use Rattle.semantics.specs.Calls.{engine-translate}
 use Rattle.words.proofs.Packing.{packed-small}
 use Rattle.call_load.specs.Loading.{Loads}
 use Rattle.engine.specs.Promises.{Translates}
 use Rattle.engine.proofs.Laws.{translates, translates-not, lines-fit}
-use borrow.Author.Needs.{needs}
 use Rattle.engine.proofs.engine_translate.Statement.{statement}
 use Rattle.engine.proofs.engine_translate.Tie as tie
 

@@ -1,5 +1,5 @@
 -- The functions of the descent meet their contracts; what each has to show stands in a file of its own.
-use borrow.Author.Needs.{needs}
+use Rattle.prelude.specs.Kit.{needs}
 use Rattle.flatten.proofs.lay_compound.Reads as lay-compound
 use Rattle.flatten.proofs.+lay_compound+lay_let+lay_node+lay_part+lay_tree+trees-lay_if+trees-lay_pass.Lts-lay_compound as lay-compound-lts
 use Rattle.flatten.proofs.trees.lay_if.Reads as lay-if

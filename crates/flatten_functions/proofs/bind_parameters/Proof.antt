@@ -1,7 +1,5 @@
 -- `flatten_functions::bind_parameters` meets its contract.
-use native.Mathlib.Omega.{arith}
-use Prim.Native.Nat.{_-_, _≤_}
-use borrow.Author.Needs.{needs}
+use Rattle.prelude.specs.Kit.{_≤_, _-_, arith, needs}
 use Rattle.flatten_functions.specs.Read.{Binds}
 use Rattle.flatten_functions.proofs.Parameters.{Rest, bind-begin, bind-go, bind-end}
 use Rattle.flatten_functions.proofs.bind_parameters.Statement.{statement}

@@ -1,7 +1,5 @@
 -- `flatten_functions::lay_function` meets its contract.
-use mathlib.Core.Path.{ap}
-use lib.ListN.{length}
-use borrow.Author.Needs.{needs}
+use Rattle.prelude.specs.Kit.{ap, length, needs}
 use Rattle.flatten_functions.proofs.Whole.{given, ready, function-laid}
 use Rattle.flatten_functions.proofs.lay_function.Statement.{statement}
 use Rattle.flatten_functions.proofs.lay_function.Tie as tie

@@ -1,8 +1,5 @@
 -- `flatten_functions::results_of` meets its contract.
-use native.Mathlib.Omega.{arith}
-use mathlib.Core.Path.{refl, _∙_}
-use Prim.Native.Nat.{_-_, _≤_}
-use borrow.Author.Needs.{needs}
+use Rattle.prelude.specs.Kit.{_≤_, _-_, arith, refl, _∙_, needs}
 use Rattle.flatten_functions.specs.Script.{Translatable}
 use Rattle.flatten_functions.proofs.Functions.{known, Results, results-none, results-more, results-all, result-there}
 use Rattle.flatten_functions.proofs.results_of.Statement.{statement}

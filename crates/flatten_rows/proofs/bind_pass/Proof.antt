@@ -1,6 +1,5 @@
 -- `flatten_rows::bind_pass` meets its contract.
-use mathlib.Core.Path.{refl}
-use borrow.Author.Needs.{needs}
+use Rattle.prelude.specs.Kit.{refl, needs}
 use Rattle.flatten_rows.proofs.bind_pass.Statement.{statement}
 use Rattle.flatten_rows.proofs.bind_pass.Tie as tie
 

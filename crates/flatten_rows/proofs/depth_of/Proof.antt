@@ -1,7 +1,6 @@
 -- `flatten_rows::depth_of` meets its contract.
 use Rattle.flatten_rows.proofs.Laws.{depth-name, depth-number}
-use Prim.Native.Nat.{_-_}
-use borrow.Author.Needs.{needs}
+use Rattle.prelude.specs.Kit.{_-_, needs}
 use Rattle.flatten_rows.proofs.depth_of.Statement.{statement}
 use Rattle.flatten_rows.proofs.depth_of.Tie as tie
 

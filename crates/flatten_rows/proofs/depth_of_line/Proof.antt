@@ -1,9 +1,6 @@
 -- `flatten_rows::depth_of_line` meets its contract.
-use mathlib.Core.Path.{refl}
-use native.Mathlib.Omega.{arith}
-use lib.ListN.{getD}
+use Rattle.prelude.specs.Kit.{arith, refl, getD, needs}
 use Rattle.flatten_rows.proofs.Laws.{depth-is, depth-other}
-use borrow.Author.Needs.{needs}
 use Rattle.flatten_rows.proofs.depth_of_line.Statement.{statement}
 use Rattle.flatten_rows.proofs.depth_of_line.Tie as tie
 

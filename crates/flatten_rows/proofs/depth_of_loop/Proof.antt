@@ -1,7 +1,6 @@
 -- `flatten_rows::depth_of_loop` meets its contract.
-use native.Mathlib.Omega.{arith}
+use Rattle.prelude.specs.Kit.{arith, needs}
 use Rattle.flatten_rows.proofs.Laws.{loop-map}
-use borrow.Author.Needs.{needs}
 use Rattle.flatten_rows.proofs.depth_of_loop.Statement.{statement}
 use Rattle.flatten_rows.proofs.depth_of_loop.Tie as tie
 

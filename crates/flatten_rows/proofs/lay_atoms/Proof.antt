@@ -1,6 +1,6 @@
 -- `flatten_rows::lay_atoms` meets its contract.
 use Rattle.flatten_rows.proofs.Laws.{line-laid}
-use borrow.Author.Needs.{needs}
+use Rattle.prelude.specs.Kit.{needs}
 use Rattle.flatten_rows.proofs.lay_atoms.Statement.{statement}
 use Rattle.flatten_rows.proofs.lay_atoms.Tie as tie
 

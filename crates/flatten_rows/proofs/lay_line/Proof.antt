@@ -1,6 +1,5 @@
 -- `flatten_rows::lay_line` meets its contract.
-use mathlib.Core.Path.{refl}
-use borrow.Author.Needs.{needs}
+use Rattle.prelude.specs.Kit.{refl, needs}
 use Rattle.flatten_rows.proofs.lay_line.Statement.{statement}
 use Rattle.flatten_rows.proofs.lay_line.Tie as tie
 

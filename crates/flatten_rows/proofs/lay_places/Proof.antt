@@ -1,7 +1,6 @@
 -- `flatten_rows::lay_places` meets its contract.
-use Prim.Native.Nat.{_-_}
+use Rattle.prelude.specs.Kit.{_-_, needs}
 use Rattle.flatten_rows.proofs.Laws.{Placing, placing-begins, placing-goes, placing-ends}
-use borrow.Author.Needs.{needs}
 use Rattle.flatten_rows.proofs.lay_places.Statement.{statement}
 use Rattle.flatten_rows.proofs.lay_places.Tie as tie
 

@@ -1,8 +1,6 @@
 -- `flatten_rows::note_pass` meets its contract.
-use native.Mathlib.Omega.{arith}
-use lib.ListN.{getD}
+use Rattle.prelude.specs.Kit.{arith, getD, needs}
 use Rattle.flatten_rows.proofs.Laws.{reduce-size, some-size, pass-reduce, pass-other}
-use borrow.Author.Needs.{needs}
 use Rattle.flatten_rows.proofs.note_pass.Statement.{statement}
 use Rattle.flatten_rows.proofs.note_pass.Tie as tie
 

@@ -1,10 +1,8 @@
 -- `flatten_rows::open_loop` meets its contract.
-use mathlib.Core.Path.{refl}
-use native.Mathlib.Omega.{arith}
+use Rattle.prelude.specs.Kit.{arith, refl, needs}
 use Rattle.plain_rows.specs.Plain.{loop-of}
 use Rattle.plain_rows.proofs.Rows.{size-few}
 use Rattle.flatten_rows.proofs.Laws.{some-size}
-use borrow.Author.Needs.{needs}
 use Rattle.flatten_rows.proofs.open_loop.Statement.{statement}
 use Rattle.flatten_rows.proofs.open_loop.Tie as tie
 

@@ -1,6 +1,6 @@
 -- `flatten_rows::put_use` meets its contract.
 use Rattle.flatten_rows.proofs.Laws.{use-name, use-number}
-use borrow.Author.Needs.{needs}
+use Rattle.prelude.specs.Kit.{needs}
 use Rattle.flatten_rows.proofs.put_use.Statement.{statement}
 use Rattle.flatten_rows.proofs.put_use.Tie as tie
 

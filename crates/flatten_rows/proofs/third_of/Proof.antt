@@ -1,10 +1,8 @@
 -- `flatten_rows::third_of` meets its contract.
-use mathlib.Core.Path.{_≡_, refl}
-use native.Mathlib.Omega.{arith}
+use Rattle.prelude.specs.Kit.{arith, _≡_, refl, needs}
 use Rattle.plain_rows.proofs.Rows.{no-reduce}
 use Rattle.flatten_rows.specs.Laid.{third-of}
 use Rattle.flatten_rows.proofs.Laws.{reduce-size}
-use borrow.Author.Needs.{needs}
 use Rattle.flatten_rows.proofs.third_of.Statement.{statement}
 use Rattle.flatten_rows.proofs.third_of.Tie as tie
 

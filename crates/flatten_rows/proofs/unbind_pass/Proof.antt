@@ -1,5 +1,5 @@
 -- `flatten_rows::unbind_pass` meets its contract.
-use borrow.Author.Needs.{needs}
+use Rattle.prelude.specs.Kit.{needs}
 use Rattle.flatten_rows.proofs.unbind_pass.Statement.{statement}
 use Rattle.flatten_rows.proofs.unbind_pass.Tie as tie
 

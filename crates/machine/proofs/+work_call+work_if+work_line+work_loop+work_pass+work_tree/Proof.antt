@@ -1,5 +1,5 @@
 -- The workers of trees, lines and passes meet their contracts; what each has to show stands in a file of its own.
-use borrow.Author.Needs.{needs}
+use Rattle.prelude.specs.Kit.{needs}
 use Rattle.machine.proofs.work_call.Reads as work-call
 use Rattle.machine.proofs.+work_call+work_if+work_line+work_loop+work_pass+work_tree.Lts-work_call as work-call-lts
 use Rattle.machine.proofs.work_if.Reads as work-if

@@ -1,6 +1,5 @@
 -- `machine_code::atom_at` meets its contract.
-use native.Mathlib.Omega.{arith}
-use borrow.Author.Needs.{needs}
+use Rattle.prelude.specs.Kit.{arith, needs}
 use Rattle.machine_code.proofs.Reading.{name-past}
 use Rattle.machine_code.proofs.atom_at.Statement.{statement}
 use Rattle.machine_code.proofs.atom_at.Tie as tie

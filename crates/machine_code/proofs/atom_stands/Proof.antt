@@ -1,6 +1,5 @@
 -- `machine_code::atom_stands` meets its contract.
-use borrow.Author.Tests.{ne-eqb}
-use borrow.Author.Needs.{needs}
+use Rattle.prelude.specs.Kit.{needs, ne-eqb}
 use Rattle.machine_code.proofs.atom_stands.Statement.{statement}
 use Rattle.machine_code.proofs.atom_stands.Tie as tie
 

@@ -1,9 +1,5 @@
 -- `machine_code::atom_within` meets its contract.
-use mathlib.Core.Path.{refl}
-use lib.IntN.{pos}
-use lib.ListN.{getD}
-use mir.Facts.{toZ-ofZ}
-use borrow.Author.Needs.{needs}
+use Rattle.prelude.specs.Kit.{refl, pos, getD, needs, toZ-ofZ}
 use Rattle.machine_code.proofs.Reading.{number-here, name-here}
 use Rattle.machine_code.proofs.atom_within.Statement.{statement}
 use Rattle.machine_code.proofs.atom_within.Tie as tie

@@ -1,8 +1,5 @@
 -- `machine_code::byte_at` meets its contract.
-use mathlib.Core.Path.{sym, refl}
-use native.Mathlib.Omega.{arith}
-use lib.ListN.{List·getD-eq-default}
-use borrow.Author.Needs.{needs}
+use Rattle.prelude.specs.Kit.{arith, refl, sym, List·getD-eq-default, needs}
 use Rattle.machine_code.proofs.byte_at.Statement.{statement}
 use Rattle.machine_code.proofs.byte_at.Tie as tie
 

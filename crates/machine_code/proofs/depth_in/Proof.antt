@@ -1,6 +1,6 @@
 -- `machine_code::depth_in` meets its contract.
 use Rattle.machine_code.specs.Reading.{depth-in}
-use borrow.Author.Needs.{needs}
+use Rattle.prelude.specs.Kit.{needs}
 use Rattle.machine_code.proofs.depth_in.Statement.{statement}
 use Rattle.machine_code.proofs.depth_in.Tie as tie
 

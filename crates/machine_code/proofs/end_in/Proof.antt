@@ -1,10 +1,6 @@
 -- `machine_code::end_in` meets its contract.
-use Prim.Native.Nat.{_+_, _*_}
-use native.Mathlib.Omega.{arith}
-use mathlib.Core.Path.{_≡_}
-use lib.ListN.{getD, List·getD-eq-default}
+use Rattle.prelude.specs.Kit.{_+_, _*_, arith, _≡_, getD, List·getD-eq-default, needs}
 use Rattle.machine_code.specs.Reading.{ends-place, end-in}
-use borrow.Author.Needs.{needs}
 use Rattle.machine_code.proofs.end_in.Statement.{statement}
 use Rattle.machine_code.proofs.end_in.Tie as tie
 

@@ -1,7 +1,5 @@
 -- `machine_code::kind_at` meets its contract.
-use mathlib.Core.Path.{sym}
-use lib.ListN.{List·getD-eq-default}
-use borrow.Author.Needs.{needs}
+use Rattle.prelude.specs.Kit.{sym, List·getD-eq-default, needs}
 use Rattle.machine_code.proofs.kind_at.Statement.{statement}
 use Rattle.machine_code.proofs.kind_at.Tie as tie
 

@@ -1,14 +1,8 @@
 -- `machine_code::line_at` meets its contract: the line of a kind, an operand and the atoms after it.
-use mathlib.Core.Path.{_≡_, refl, sym, _∙_}
-use Prim.Native.Nat.{ℕ, _+_}
-use native.Mathlib.Omega.{arith}
-use lib.IntN.{pos}
-use lib.ListN.{getD}
-use mir.Facts.{toZ-ofZ}
+use Rattle.prelude.specs.Kit.{ℕ, _+_, arith, _≡_, refl, _∙_, sym, pos, getD, needs, toZ-ofZ}
 use Rattle.machine_code.specs.Reading.{atom-at, line-of, line-at}
 use Rattle.kinds.specs.declared.Atom.{Atom}
 use Rattle.machine_code.proofs.Reading.{line-here, operation-of-kind, kind-below-7}
-use borrow.Author.Needs.{needs}
 use Rattle.machine_code.proofs.line_at.Statement.{statement}
 use Rattle.machine_code.proofs.line_at.Tie as tie
 

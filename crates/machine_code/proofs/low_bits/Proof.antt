@@ -1,6 +1,5 @@
 -- `machine_code::low_bits` meets its contract.
-use mir.Val.{ofZ}
-use mir.Syntax.{w64}
+use Rattle.prelude.specs.Kit.{w64, ofZ}
 use Rattle.machine_code.proofs.Reading.{low-fits, low-is}
 use Rattle.machine_code.proofs.low_bits.Statement.{statement}
 use Rattle.machine_code.proofs.low_bits.Tie as tie

@@ -1,8 +1,5 @@
 -- `machine_code::operand_at` meets its contract.
-use mathlib.Core.Path.{sym}
-use lib.IntN.{pos}
-use lib.ListN.{List·getD-eq-default}
-use borrow.Author.Needs.{needs}
+use Rattle.prelude.specs.Kit.{sym, pos, List·getD-eq-default, needs}
 use Rattle.machine_code.proofs.operand_at.Statement.{statement}
 use Rattle.machine_code.proofs.operand_at.Tie as tie
 

@@ -1,7 +1,6 @@
 -- `machine_code::start_in` meets its contract.
-use native.Mathlib.Omega.{arith}
+use Rattle.prelude.specs.Kit.{arith, needs}
 use Rattle.machine_code.specs.Reading.{start-in}
-use borrow.Author.Needs.{needs}
 use Rattle.machine_code.proofs.start_in.Statement.{statement}
 use Rattle.machine_code.proofs.start_in.Tie as tie
 

@@ -1,5 +1,5 @@
 -- `machine_code::two_rows` meets its contract.
-use borrow.Author.Needs.{needs}
+use Rattle.prelude.specs.Kit.{needs}
 use Rattle.machine_code.proofs.Reading.{rows-within}
 use Rattle.machine_code.proofs.two_rows.Statement.{statement}
 use Rattle.machine_code.proofs.two_rows.Tie as tie

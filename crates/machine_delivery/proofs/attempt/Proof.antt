@@ -1,11 +1,8 @@
 -- `machine_delivery::attempt` meets its contract.
-use mir.Facts.{toZ-ofZ}
-use native.Mathlib.Omega.{arith}
-use mathlib.Core.Path.{_∙_}
+use Rattle.prelude.specs.Kit.{arith, _∙_, needs, toZ-ofZ}
 use Rattle.machine_lines.proofs.Lines.{next-small}
 use Rattle.machine_spec.specs.Machine.{code}
 use Rattle.machine_delivery.proofs.Laws.{attempt-cell, attempt-none}
-use borrow.Author.Needs.{needs}
 use Rattle.machine_delivery.proofs.attempt.Statement.{statement}
 use Rattle.machine_delivery.proofs.attempt.Tie as tie
 

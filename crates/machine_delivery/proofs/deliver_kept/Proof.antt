@@ -3,7 +3,7 @@ use Rattle.semantics.specs.Words.{store-of}
 use Rattle.store_reset.proofs.Saved.{put-back-is}
 use Rattle.machine_spec.specs.Machine.{code}
 use Rattle.machine_delivery.proofs.Laws.{delivery-stops, delivery-goes}
-use borrow.Author.Needs.{needs}
+use Rattle.prelude.specs.Kit.{needs}
 use Rattle.machine_delivery.proofs.deliver_kept.Statement.{statement}
 use Rattle.machine_delivery.proofs.deliver_kept.Tie as tie
 

@@ -1,11 +1,7 @@
 -- `machine_delivery::deliver_on` meets its contract.
-use native.Mathlib.Omega.{arith}
-use Prim.Native.Nat.{ℕ}
-use lib.IntN.{ℤ, pos}
-use lib.ListN.{length-replicate}
+use Rattle.prelude.specs.Kit.{ℕ, arith, ℤ, pos, length-replicate, needs}
 use Rattle.store_words.proofs.CellWords.{few-cells}
 use Rattle.store_words.proofs.Spelling.{shaped-means}
-use borrow.Author.Needs.{needs}
 use Rattle.machine_delivery.proofs.deliver_on.Statement.{statement}
 use Rattle.machine_delivery.proofs.deliver_on.Tie as tie
 

@@ -1,8 +1,7 @@
 -- `machine_delivery::release_totals` meets its contract.
-use mir.Facts.{toZ-ofZ}
+use Rattle.prelude.specs.Kit.{needs, toZ-ofZ}
 use Rattle.semantics.specs.Words.{store-of}
 use Rattle.machine_delivery.proofs.Laws.{release-some, release-none}
-use borrow.Author.Needs.{needs}
 use Rattle.machine_delivery.proofs.release_totals.Statement.{statement}
 use Rattle.machine_delivery.proofs.release_totals.Tie as tie
 

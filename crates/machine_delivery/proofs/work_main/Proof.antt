@@ -1,11 +1,5 @@
 -- `machine_delivery::work_main` meets its contract.
-use mir.Facts.{toZ-ofZ}
-use native.Mathlib.Omega.{arith}
-use Prim.Native.Nat.{ℕ}
-use mathlib.Core.Path.{_≡_, ap, _∙_}
-use mathlib.Core.List.{List}
-use lib.IntN.{ℤ, pos}
-use lib.ListN.{length, replicate, length-replicate}
+use Rattle.prelude.specs.Kit.{ℕ, arith, _≡_, _∙_, ap, List, ℤ, pos, length, replicate, length-replicate, needs, toZ-ofZ}
 use Rattle.semantics.specs.Words.{store-of}
 use Rattle.store_words.proofs.Puts.{totals-store}
 use Rattle.machine_frames.specs.Frames.{frame-words, place, function-place}
@@ -14,7 +8,6 @@ use Rattle.machine_spec.specs.Machine.{code}
 use Rattle.machine_spec.specs.Lengths.{levelled-keeps, bound-long, tree-long}
 use Rattle.machine_spec.specs.Delivery.{released-totals, main-on}
 use Rattle.machine_delivery.proofs.Laws.{MainEnds, main-ends, main-stops, main-goes}
-use borrow.Author.Needs.{needs}
 use Rattle.machine_delivery.proofs.work_main.Statement.{statement}
 use Rattle.machine_delivery.proofs.work_main.Tie as tie
 

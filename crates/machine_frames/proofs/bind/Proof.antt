@@ -1,9 +1,5 @@
 -- `machine_frames::bind` meets its contract.
-use mir.Facts.{toZ-ofZ}
-use mathlib.Core.Path.{ap}
-use Prim.Native.Nat.{ℕ}
-use lib.ListN.{set}
-use borrow.Author.Needs.{needs}
+use Rattle.prelude.specs.Kit.{ℕ, ap, set, needs, toZ-ofZ}
 use Rattle.machine_frames.proofs.bind.Statement.{statement}
 use Rattle.machine_frames.proofs.bind.Tie as tie
 

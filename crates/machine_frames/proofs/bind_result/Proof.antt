@@ -1,6 +1,5 @@
 -- `machine_frames::bind_result` meets its contract.
-use mir.Facts.{toZ-ofZ}
-use borrow.Author.Needs.{needs}
+use Rattle.prelude.specs.Kit.{needs, toZ-ofZ}
 use Rattle.machine_frames.proofs.Results.{bound-stop, bound-goes}
 use Rattle.machine_frames.proofs.bind_result.Statement.{statement}
 use Rattle.machine_frames.proofs.bind_result.Tie as tie

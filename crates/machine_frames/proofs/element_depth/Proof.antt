@@ -1,8 +1,6 @@
 -- `machine_frames::element_depth` meets its contract.
-use mathlib.Core.Path.{ap, _∙_}
-use Prim.Native.Nat.{ℕ, _-_}
+use Rattle.prelude.specs.Kit.{ℕ, _-_, _∙_, ap, needs}
 use Rattle.machine_code.specs.Reading.{depth-in}
-use borrow.Author.Needs.{needs}
 use Rattle.machine_frames.proofs.element_depth.Statement.{statement}
 use Rattle.machine_frames.proofs.element_depth.Tie as tie
 

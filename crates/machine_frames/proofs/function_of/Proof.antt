@@ -1,10 +1,5 @@
 -- `machine_frames::function_of` meets its contract.
-use mathlib.Core.Path.{ap}
-use Prim.Native.Nat.{ℕ, _+_, _%_}
-use lib.IntN.{pos}
-use lib.ListN.{getD}
-use mir.Facts.{toZ-ofZ}
-use borrow.Author.Needs.{needs}
+use Rattle.prelude.specs.Kit.{ℕ, _+_, _%_, ap, pos, getD, needs, toZ-ofZ}
 use Rattle.machine_frames.proofs.function_of.Statement.{statement}
 use Rattle.machine_frames.proofs.function_of.Tie as tie
 

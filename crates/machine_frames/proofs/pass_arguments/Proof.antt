@@ -1,10 +1,5 @@
 -- `machine_frames::pass_arguments` meets its contract.
-use mathlib.Core.Path.{sym, _∙_}
-use Prim.Native.Nat.{_+_, _-_, _*_}
-use native.Mathlib.Omega.{arith}
-use mir.Facts.{toZ-ofZ}
-use borrow.Author.Tests.{not-true, not-false}
-use borrow.Author.Needs.{needs}
+use Rattle.prelude.specs.Kit.{_+_, _-_, _*_, arith, _∙_, sym, needs, not-true, not-false, toZ-ofZ}
 use Rattle.machine_frames.proofs.Gathering.{Copying, copying-none, copying-more, copied-end, copied-full}
 use Rattle.machine_frames.proofs.pass_arguments.Statement.{statement}
 use Rattle.machine_frames.proofs.pass_arguments.Tie as tie

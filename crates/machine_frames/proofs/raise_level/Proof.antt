@@ -1,6 +1,5 @@
 -- `machine_frames::raise_level` meets its contract.
-use native.Mathlib.Omega.{arith}
-use borrow.Author.Needs.{needs}
+use Rattle.prelude.specs.Kit.{arith, needs}
 use Rattle.machine_frames.proofs.Levels.{raised-by}
 use Rattle.machine_frames.proofs.raise_level.Statement.{statement}
 use Rattle.machine_frames.proofs.raise_level.Tie as tie

@@ -1,11 +1,6 @@
 -- `machine_frames::word_of` meets its contract.
-use mir.Facts.{toZ-ofZ}
-use mathlib.Core.Path.{sym, ap, _∙_}
-use Prim.Native.Nat.{ℕ}
-use lib.IntN.{pos}
-use lib.ListN.{getD}
+use Rattle.prelude.specs.Kit.{ℕ, _∙_, sym, ap, pos, getD, needs, toZ-ofZ}
 use Rattle.machine_frames.specs.Frames.{word-of}
-use borrow.Author.Needs.{needs}
 use Rattle.machine_frames.proofs.word_of.Statement.{statement}
 use Rattle.machine_frames.proofs.word_of.Tie as tie
 

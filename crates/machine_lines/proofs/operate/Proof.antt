@@ -1,11 +1,7 @@
 -- `machine_lines::operate` meets its contract.
-use lib.IntN.{ℤ}
-use mir.Facts.{toZ-ofZ}
-use mathlib.Core.Path.{ap, _∙_}
-use borrow.Author.Tests.{ne-eqb}
+use Rattle.prelude.specs.Kit.{_∙_, ap, ℤ, needs, ne-eqb, toZ-ofZ}
 use Rattle.semantics.specs.Outcome.{done}
 use Rattle.machine_lines.proofs.Lines.{less-fits}
-use borrow.Author.Needs.{needs}
 use Rattle.machine_lines.proofs.operate.Statement.{statement}
 use Rattle.machine_lines.proofs.operate.Tie as tie
 

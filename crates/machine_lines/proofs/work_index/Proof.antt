@@ -1,9 +1,8 @@
 -- `machine_lines::work_index` meets its contract.
-use mir.Facts.{toZ-ofZ}
+use Rattle.prelude.specs.Kit.{needs, toZ-ofZ}
 use Rattle.semantics.specs.Words.{store-of}
 use Rattle.store_words.proofs.Naming.{not-negative}
 use Rattle.machine_lines.proofs.Lines.{index-spent, index-negative, index-past, index-value}
-use borrow.Author.Needs.{needs}
 use Rattle.machine_lines.proofs.work_index.Statement.{statement}
 use Rattle.machine_lines.proofs.work_index.Tie as tie
 

@@ -1,10 +1,9 @@
 -- `machine_lines::work_leaf` meets its contract: one law for each kind of leaf.
-use mir.Facts.{toZ-ofZ}
+use Rattle.prelude.specs.Kit.{needs, toZ-ofZ}
 use Rattle.semantics.specs.Words.{store-of}
 use Rattle.machine_frames.specs.Work.{memory}
 use Rattle.machine_lines.proofs.Lines.{leaf-operation, leaf-index, leaf-length, leaf-literal, leaf-iota}
 use Rattle.machine_lines.proofs.Lines.{leaf-replicate, leaf-retain, leaf-release, leaf-other}
-use borrow.Author.Needs.{needs}
 use Rattle.machine_lines.proofs.work_leaf.Statement.{statement}
 use Rattle.machine_lines.proofs.work_leaf.Tie as tie
 

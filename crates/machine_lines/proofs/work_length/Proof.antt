@@ -1,11 +1,7 @@
 -- `machine_lines::work_length` meets its contract.
-use mir.Facts.{toZ-ofZ}
-use native.Mathlib.Omega.{arith}
-use mathlib.Core.Path.{ap, _∙_}
-use lib.IntN.{pos}
+use Rattle.prelude.specs.Kit.{arith, _∙_, ap, pos, needs, toZ-ofZ}
 use Rattle.semantics.specs.Words.{store-of}
 use Rattle.machine_lines.proofs.Lines.{length-spent, length-value, few-elements}
-use borrow.Author.Needs.{needs}
 use Rattle.machine_lines.proofs.work_length.Statement.{statement}
 use Rattle.machine_lines.proofs.work_length.Tie as tie
 

@@ -1,7 +1,6 @@
 -- `machine_lines::work_operation` meets its contract.
-use mir.Facts.{toZ-ofZ}
+use Rattle.prelude.specs.Kit.{needs, toZ-ofZ}
 use Rattle.machine_lines.proofs.Lines.{operation-spent, operation-value, operation-over}
-use borrow.Author.Needs.{needs}
 use Rattle.machine_lines.proofs.work_operation.Statement.{statement}
 use Rattle.machine_lines.proofs.work_operation.Tie as tie
 

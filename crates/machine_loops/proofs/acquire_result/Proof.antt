@@ -1,7 +1,5 @@
 -- `machine_loops::acquire_result` meets its contract.
-use native.Mathlib.Omega.{arith}
-use mir.Facts.{toZ-ofZ}
-use borrow.Author.Needs.{needs}
+use Rattle.prelude.specs.Kit.{arith, needs, toZ-ofZ}
 use Rattle.semantics.specs.Words.{store-of}
 use Rattle.machine_loops.proofs.Beginning.{within-kept, cell-within, cell-carried, none-carried}
 use Rattle.machine_loops.specs.Loops.{Within}

@@ -1,6 +1,5 @@
 -- `machine_loops::array_word` meets its contract.
-use mir.Facts.{toZ-ofZ}
-use borrow.Author.Needs.{needs}
+use Rattle.prelude.specs.Kit.{needs, toZ-ofZ}
 use Rattle.machine_loops.proofs.Beginning.{array-word}
 use Rattle.machine_loops.proofs.array_word.Statement.{statement}
 use Rattle.machine_loops.proofs.array_word.Tie as tie

@@ -1,7 +1,5 @@
 -- `machine_loops::begin_loop` meets its contract.
-use mathlib.Core.Path.{ap, subst, _∙_}
-use mir.Facts.{toZ-ofZ}
-use borrow.Author.Needs.{needs}
+use Rattle.prelude.specs.Kit.{_∙_, ap, subst, needs, toZ-ofZ}
 use Rattle.semantics.specs.Store.{cell-of}
 use Rattle.semantics.specs.Words.{store-of}
 use Rattle.machine_frames.specs.Frames.{element-depth}

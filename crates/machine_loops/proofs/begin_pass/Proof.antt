@@ -1,10 +1,5 @@
 -- `machine_loops::begin_pass` meets its contract.
-use mathlib.Core.Path.{ap, ap₂, _∙_}
-use mathlib.Core.List.{List}
-use lib.IntN.{ℤ}
-use lib.ListN.{length, set, length-set}
-use mir.Facts.{toZ-ofZ}
-use borrow.Author.Needs.{needs}
+use Rattle.prelude.specs.Kit.{_∙_, ap, ap₂, List, ℤ, length, set, length-set, needs, toZ-ofZ}
 use Rattle.machine_frames.specs.Frames.{place}
 use Rattle.machine_loops.proofs.begin_pass.Statement.{statement}
 use Rattle.machine_loops.proofs.begin_pass.Tie as tie

@@ -1,6 +1,5 @@
 -- `machine_loops::carry_first` meets its contract.
-use mir.Facts.{toZ-ofZ}
-use borrow.Author.Needs.{needs}
+use Rattle.prelude.specs.Kit.{needs, toZ-ofZ}
 use Rattle.semantics.specs.Words.{store-of}
 use Rattle.machine_frames.specs.Work.{memory}
 use Rattle.machine_loops.proofs.Beginning.{words, start-carried, new-carries, alone-told, alone-carried}

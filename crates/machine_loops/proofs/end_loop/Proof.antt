@@ -1,10 +1,5 @@
 -- `machine_loops::end_loop` meets its contract.
-use mathlib.Core.Path.{ap, _∙_}
-use lib.ListN.{length}
-use mir.Syntax.{w64}
-use mir.Val.{SFits}
-use mir.Facts.{toZ-ofZ}
-use borrow.Author.Needs.{needs}
+use Rattle.prelude.specs.Kit.{_∙_, ap, length, needs, toZ-ofZ, w64, SFits}
 use Rattle.semantics.specs.Words.{store-of}
 use Rattle.machine_frames.specs.Work.{Memory, memory}
 use Rattle.machine_loops.proofs.Ending.{loop-stopped, loop-given, ended-long}

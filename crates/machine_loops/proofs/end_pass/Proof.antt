@@ -1,10 +1,5 @@
 -- `machine_loops::end_pass` meets its contract.
-use mathlib.Core.Path.{_≡_, refl, sym, _∙_}
-use lib.IntN.{pos}
-use lib.ListN.{getD}
-use mir.Facts.{toZ-ofZ}
-use borrow.Author.Needs.{needs}
-use borrow.Author.Tests.{not-true, not-false}
+use Rattle.prelude.specs.Kit.{_≡_, refl, _∙_, sym, pos, getD, needs, not-true, not-false, toZ-ofZ}
 use Rattle.semantics.specs.Number.{is-answer}
 use Rattle.semantics.specs.Store.{cell-of}
 use Rattle.semantics.specs.Words.{store-of}

@@ -1,6 +1,5 @@
 -- `machine_loops::first_name` meets its contract.
-use mathlib.Core.Path.{sym, ap}
-use borrow.Author.Needs.{needs}
+use Rattle.prelude.specs.Kit.{sym, ap, needs}
 use Rattle.machine_lines.specs.Lines.{first-name}
 use Rattle.machine_loops.proofs.first_name.Statement.{statement}
 use Rattle.machine_loops.proofs.first_name.Tie as tie

@@ -1,7 +1,5 @@
 -- `machine_loops::keep` meets its contract.
-use mathlib.Core.Path.{refl}
-use mir.Facts.{toZ-ofZ}
-use borrow.Author.Needs.{needs}
+use Rattle.prelude.specs.Kit.{refl, needs, toZ-ofZ}
 use Rattle.semantics.specs.Words.{store-of}
 use Rattle.machine_loops.proofs.Beginning.{within-kept}
 use Rattle.machine_loops.proofs.Ending.{keeps, keeps-none}

@@ -1,5 +1,5 @@
 -- `machine_loops::release_array` meets its contract.
-use borrow.Author.Needs.{needs}
+use Rattle.prelude.specs.Kit.{needs}
 use Rattle.machine_loops.proofs.Ending.{releases-array, releases-not, releases-none}
 use Rattle.machine_loops.proofs.release_array.Statement.{statement}
 use Rattle.machine_loops.proofs.release_array.Tie as tie

@@ -1,8 +1,5 @@
 -- `machine_loops::retain_if` meets its contract.
-use mathlib.Core.Path.{ap, _∙_}
-use Prim.Native.Nat.{ℕ}
-use mir.Facts.{toZ-ofZ}
-use borrow.Author.Needs.{needs}
+use Rattle.prelude.specs.Kit.{ℕ, _∙_, ap, needs, toZ-ofZ}
 use Rattle.semantics.specs.Store.{cell-of, retained}
 use Rattle.semantics.specs.Words.{store-of}
 use Rattle.machine_loops.proofs.Ending.{retained-asked, retained-not}

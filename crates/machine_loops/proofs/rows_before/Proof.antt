@@ -1,9 +1,5 @@
 -- `machine_loops::rows_before` meets its contract.
-use mathlib.Core.Path.{sym, ap}
-use Prim.Native.Nat.{_+_}
-use native.Mathlib.Omega.{arith}
-use lib.ListN.{length}
-use borrow.Author.Needs.{needs}
+use Rattle.prelude.specs.Kit.{_+_, arith, sym, ap, length, needs}
 use Rattle.machine_code.specs.declared.Loop.{Loop}
 use Rattle.machine_lines.specs.Lines.{atoms-of}
 use Rattle.machine_loops.proofs.rows_before.Statement.{statement}

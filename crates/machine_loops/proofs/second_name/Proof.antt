@@ -1,6 +1,5 @@
 -- `machine_loops::second_name` meets its contract.
-use mathlib.Core.Path.{sym, ap}
-use borrow.Author.Needs.{needs}
+use Rattle.prelude.specs.Kit.{sym, ap, needs}
 use Rattle.machine_lines.specs.Lines.{second-name}
 use Rattle.machine_loops.proofs.second_name.Statement.{statement}
 use Rattle.machine_loops.proofs.second_name.Tie as tie

@@ -1,7 +1,5 @@
 -- `machine_loops::way_of` meets its contract.
-use mathlib.Core.Path.{sym, ap}
-use mir.Facts.{toZ-ofZ}
-use borrow.Author.Needs.{needs}
+use Rattle.prelude.specs.Kit.{sym, ap, needs, toZ-ofZ}
 use Rattle.machine_code.specs.declared.Loop.{Loop}
 use Rattle.machine_lines.specs.Lines.{kind-of}
 use Rattle.machine_loops.specs.Loops.{way-of}

@@ -1,8 +1,7 @@
 -- `machine_table::end_of` meets its contract.
-use mathlib.Core.Path.{sym, ap, _∙_}
+use Rattle.prelude.specs.Kit.{_∙_, sym, ap, needs}
 use Rattle.machine_code.specs.Reading.{end-in}
 use Rattle.machine_table.proofs.Filling.{end-here, end-other, trees-two}
-use borrow.Author.Needs.{needs}
 use Rattle.machine_table.proofs.end_of.Statement.{statement}
 use Rattle.machine_table.proofs.end_of.Tie as tie
 

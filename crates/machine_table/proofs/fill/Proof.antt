@@ -1,6 +1,6 @@
 -- `machine_table::fill` meets its contract.
 use Rattle.machine_table.proofs.Filling.{filled-short, filled-long}
-use borrow.Author.Needs.{needs}
+use Rattle.prelude.specs.Kit.{needs}
 use Rattle.machine_table.proofs.fill.Statement.{statement}
 use Rattle.machine_table.proofs.fill.Tie as tie
 

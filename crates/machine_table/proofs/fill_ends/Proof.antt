@@ -1,7 +1,6 @@
 -- `machine_table::fill_ends` meets its contract.
-use native.Mathlib.Omega.{arith}
+use Rattle.prelude.specs.Kit.{arith, needs}
 use Rattle.machine_table.proofs.Filling.{Ending, ending-starts, ended, end-more}
-use borrow.Author.Needs.{needs}
 use Rattle.machine_table.proofs.fill_ends.Statement.{statement}
 use Rattle.machine_table.proofs.fill_ends.Tie as tie
 

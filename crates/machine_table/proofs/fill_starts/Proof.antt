@@ -1,11 +1,7 @@
 -- `machine_table::fill_starts` meets its contract.
-use native.Mathlib.Omega.{arith}
-use mathlib.Core.Path.{ap, _∙_}
-use Prim.Native.Nat.{_-_}
-use mir.Facts.{toZ-ofZ}
+use Rattle.prelude.specs.Kit.{_-_, arith, _∙_, ap, needs, toZ-ofZ}
 use Rattle.machine_code.specs.Reading.{low-bits}
 use Rattle.machine_table.proofs.Filling.{Filling, filling-starts, filled-all, filled-past, fill-more}
-use borrow.Author.Needs.{needs}
 use Rattle.machine_table.proofs.fill_starts.Statement.{statement}
 use Rattle.machine_table.proofs.fill_starts.Tie as tie
 

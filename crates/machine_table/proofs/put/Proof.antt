@@ -1,7 +1,5 @@
 -- `machine_table::put` meets its contract.
-use mathlib.Core.Path.{sym}
-use lib.Seq.{set-out}
-use borrow.Author.Needs.{needs}
+use Rattle.prelude.specs.Kit.{sym, set-out, needs}
 use Rattle.machine_table.proofs.put.Statement.{statement}
 use Rattle.machine_table.proofs.put.Tie as tie
 

@@ -1,9 +1,5 @@
 -- `machine_table::put_position` meets its contract.
-use mathlib.Core.Path.{ap, _∙_}
-use mathlib.Core.List.{List}
-use Prim.Native.Nat.{ℕ, _+_, _/_, _%_}
-use lib.ListN.{set}
-use borrow.Author.Needs.{needs}
+use Rattle.prelude.specs.Kit.{ℕ, _+_, _%_, _/_, _∙_, ap, List, set, needs}
 use Rattle.machine_table.proofs.put_position.Statement.{statement}
 use Rattle.machine_table.proofs.put_position.Tie as tie
 

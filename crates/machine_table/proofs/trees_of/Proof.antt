@@ -1,5 +1,5 @@
 -- `machine_table::trees_of` meets its contract.
-use borrow.Author.Tests.{ne-eqb}
+use Rattle.prelude.specs.Kit.{ne-eqb}
 use Rattle.machine_table.proofs.trees_of.Statement.{statement}
 use Rattle.machine_table.proofs.trees_of.Tie as tie
 

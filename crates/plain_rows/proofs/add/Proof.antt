@@ -1,5 +1,5 @@
 -- `plain_rows::add` meets its contract.
-use borrow.Author.Needs.{needs}
+use Rattle.prelude.specs.Kit.{needs}
 use Rattle.plain_rows.proofs.add.Statement.{statement}
 use Rattle.plain_rows.proofs.add.Tie as tie
 

@@ -1,7 +1,6 @@
 -- `plain_rows::atom_of` meets its contract.
-use mir.Facts.{toZ-ofZ}
+use Rattle.prelude.specs.Kit.{needs, toZ-ofZ}
 use Rattle.plain_rows.proofs.Rows.{placed-name, placed-number}
-use borrow.Author.Needs.{needs}
 use Rattle.plain_rows.proofs.atom_of.Statement.{statement}
 use Rattle.plain_rows.proofs.atom_of.Tie as tie
 

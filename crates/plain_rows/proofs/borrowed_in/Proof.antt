@@ -1,9 +1,5 @@
 -- `plain_rows::borrowed_in` meets its contract.
-use mathlib.Core.Path.{sym, ap}
-use mathlib.Core.Bool.{Bool, false}
-use mathlib.Core.List.{List, []}
-use lib.ListN.{getD, List·getD-eq-default}
-use borrow.Author.Needs.{needs}
+use Rattle.prelude.specs.Kit.{false, Bool, sym, ap, List, [], getD, List·getD-eq-default, needs}
 use Rattle.plain_rows.proofs.borrowed_in.Statement.{statement}
 use Rattle.plain_rows.proofs.borrowed_in.Tie as tie
 

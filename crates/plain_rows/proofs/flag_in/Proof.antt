@@ -1,8 +1,5 @@
 -- `plain_rows::flag_in` meets its contract.
-use mathlib.Core.Path.{sym}
-use mathlib.Core.Bool.{false}
-use lib.ListN.{List·getD-eq-default}
-use borrow.Author.Needs.{needs}
+use Rattle.prelude.specs.Kit.{false, sym, List·getD-eq-default, needs}
 use Rattle.plain_rows.proofs.flag_in.Statement.{statement}
 use Rattle.plain_rows.proofs.flag_in.Tie as tie
 

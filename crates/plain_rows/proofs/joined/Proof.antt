@@ -1,9 +1,5 @@
 -- `plain_rows::joined` meets its contract.
-use mathlib.Core.Path.{_≡_}
-use native.Mathlib.Omega.{arith}
-use Prim.Native.Nat.{_≤_, _-_}
-use borrow.Author.Needs.{needs}
-use lib.ListN.{length}
+use Rattle.prelude.specs.Kit.{_≤_, _-_, arith, _≡_, length, needs}
 use Rattle.plain_rows.proofs.Sets.{Joining, joining-none, joining-set, joining-all}
 use Rattle.plain_rows.proofs.joined.Statement.{statement}
 use Rattle.plain_rows.proofs.joined.Tie as tie

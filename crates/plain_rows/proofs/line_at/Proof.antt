@@ -1,6 +1,6 @@
 -- `plain_rows::line_at` meets its contract.
 use Rattle.plain_rows.proofs.Rows.{line-there}
-use borrow.Author.Needs.{needs}
+use Rattle.prelude.specs.Kit.{needs}
 use Rattle.plain_rows.proofs.line_at.Statement.{statement}
 use Rattle.plain_rows.proofs.line_at.Tie as tie
 

@@ -1,6 +1,6 @@
 -- `plain_rows::line_of` meets its contract.
 use Rattle.plain_rows.proofs.Rows.{line-is, unary-is, loop-is, binary-is}
-use mathlib.Core.Logic.{inl, inr}
+use Rattle.prelude.specs.Kit.{inl, inr}
 use Rattle.plain_rows.proofs.line_of.Statement.{statement}
 use Rattle.plain_rows.proofs.line_of.Tie as tie
 

@@ -1,5 +1,5 @@
 -- `plain_rows::loop_size` meets its contract.
-use mathlib.Core.Path.{_≡_, refl}
+use Rattle.prelude.specs.Kit.{_≡_, refl}
 use Rattle.plain_rows.specs.Plain.{loop-size}
 use Rattle.plain_rows.proofs.Rows.{no-reduce}
 use Rattle.plain_rows.proofs.loop_size.Statement.{statement}

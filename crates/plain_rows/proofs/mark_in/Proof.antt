@@ -1,7 +1,5 @@
 -- `plain_rows::mark_in` meets its contract.
-use mathlib.Core.Path.{sym}
-use borrow.Author.Needs.{needs}
-use lib.ListN.{List·getD-eq-default}
+use Rattle.prelude.specs.Kit.{sym, List·getD-eq-default, needs}
 use Rattle.plain_rows.proofs.Rows.{getD-any}
 use Rattle.plain_rows.proofs.mark_in.Statement.{statement}
 use Rattle.plain_rows.proofs.mark_in.Tie as tie

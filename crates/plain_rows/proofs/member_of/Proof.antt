@@ -1,7 +1,6 @@
 -- `plain_rows::member_of` meets its contract.
-use native.Mathlib.Omega.{arith}
+use Rattle.prelude.specs.Kit.{arith, needs}
 use Rattle.plain_rows.proofs.Sets.{set-same, with-in}
-use borrow.Author.Needs.{needs}
 use Rattle.plain_rows.proofs.member_of.Statement.{statement}
 use Rattle.plain_rows.proofs.member_of.Tie as tie
 

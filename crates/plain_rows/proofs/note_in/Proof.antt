@@ -1,9 +1,6 @@
 -- `plain_rows::note_in` meets its contract.
-use native.Mathlib.Omega.{arith}
-use mathlib.Core.Path.{sym}
-use lib.ListN.{List·getD-eq-default}
+use Rattle.prelude.specs.Kit.{arith, sym, List·getD-eq-default, needs}
 use Rattle.plain_rows.proofs.Rows.{getD-any}
-use borrow.Author.Needs.{needs}
 use Rattle.plain_rows.proofs.note_in.Statement.{statement}
 use Rattle.plain_rows.proofs.note_in.Tie as tie
 

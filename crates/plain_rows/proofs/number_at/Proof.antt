@@ -1,7 +1,6 @@
 -- `plain_rows::number_at` meets its contract.
-use mir.Facts.{toZ-ofZ}
+use Rattle.prelude.specs.Kit.{needs, toZ-ofZ}
 use Rattle.plain_rows.proofs.Rows.{number-there, number-missing}
-use borrow.Author.Needs.{needs}
 use Rattle.plain_rows.proofs.number_at.Statement.{statement}
 use Rattle.plain_rows.proofs.number_at.Tie as tie
 

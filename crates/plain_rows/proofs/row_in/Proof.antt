@@ -1,7 +1,5 @@
 -- `plain_rows::row_in` meets its contract.
-use mathlib.Core.Path.{sym}
-use lib.ListN.{List·getD-eq-default}
-use borrow.Author.Needs.{needs}
+use Rattle.prelude.specs.Kit.{sym, List·getD-eq-default, needs}
 use Rattle.plain_rows.proofs.row_in.Statement.{statement}
 use Rattle.plain_rows.proofs.row_in.Tie as tie
 

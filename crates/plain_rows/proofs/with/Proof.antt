@@ -1,6 +1,6 @@
 -- `plain_rows::with` meets its contract.
 use Rattle.plain_rows.proofs.Sets.{with-in}
-use borrow.Author.Needs.{needs}
+use Rattle.prelude.specs.Kit.{needs}
 use Rattle.plain_rows.proofs.with.Statement.{statement}
 use Rattle.plain_rows.proofs.with.Tie as tie
 

@@ -1,6 +1,6 @@
 -- `plain_rows::without` meets its contract.
 use Rattle.plain_rows.proofs.Sets.{without-in}
-use borrow.Author.Needs.{needs}
+use Rattle.prelude.specs.Kit.{needs}
 use Rattle.plain_rows.proofs.without.Statement.{statement}
 use Rattle.plain_rows.proofs.without.Tie as tie
 

@@ -1,16 +1,6 @@
 -- `printing::magnitude` meets its contract.
-use mathlib.Core.Path.{_≡_, ap}
-use mathlib.Core.Bool.{true, false}
-use Prim.Native.Nat.{ℕ, suc, _+_, _<_, _^_}
-use native.Mathlib.Omega.{arith}
-use lib.IntN.{ℤ, pos, negsuc, natAbs, _-ℤ_}
-use lib.Dec.{T}
-use lib.Signed.{ltZ, nonNeg}
-use mir.Syntax.{w64}
-use mir.Val.{toZ, ofZ, Fits, SFits}
-use mir.Facts.{toZ-ofZ}
-use borrow.Author.Tests.{ltb-true, le-ltb}
-use borrow.Author.Needs.{needs}
+use Rattle.prelude.specs.Kit.{ℕ, _+_, _<_, suc, _^_, arith, true, false, _≡_, ap, T, ℤ, pos, negsuc, natAbs, _-ℤ_, ltZ}
+use Rattle.prelude.specs.Kit.{nonNeg, needs, le-ltb, ltb-true, toZ-ofZ, w64, toZ, ofZ, SFits, Fits}
 use Rattle.printing.proofs.magnitude.Statement.{statement}
 use Rattle.printing.proofs.magnitude.Tie as tie
 

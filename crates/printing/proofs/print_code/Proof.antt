@@ -1,6 +1,5 @@
 -- `printing::print_code` meets its contract.
-use Prim.Native.Nat.{_-_, _≤_}
-use borrow.Author.Needs.{needs}
+use Rattle.prelude.specs.Kit.{_≤_, _-_, needs}
 use Rattle.printing.proofs.print_code.Statement.{statement}
 use Rattle.printing.proofs.print_code.Tie as tie
 

@@ -1,15 +1,7 @@
 -- `saved_load::load_value` and `saved_load::load_elements` call one another and meet their contracts, by `Laws`. The
 -- measure is the depth.
-use Prim.Native.Nat.{ℕ, _+_, _-_, _*_, _≤_, _<_}
-use native.Mathlib.Omega.{arith}
-use mathlib.Core.Path.{_≡_, refl, sym, ap, _∙_}
-use lib.ListN.{length}
-use mir.Facts.{toZ-ofZ, toZ-pos}
-use mir.Val.{toZ}
-use mir.Syntax.{w64}
-use borrow.Author.Needs.{needs}
-use borrow.Fn.Kinds.{In}
-use borrow.Fn.PlainCycle.{Measures, is, falls, and}
+use Rattle.prelude.specs.Kit.{ℕ, _≤_, _+_, _<_, _-_, _*_, arith, _≡_, refl, _∙_, sym, ap, length, needs, In, and, falls}
+use Rattle.prelude.specs.Kit.{is, Measures, toZ-ofZ, toZ-pos, w64, toZ}
 use Rattle.semantics.specs.Words.{store-of}
 use Rattle.saved_load.specs.Entries.{place, fill, elements-at, load-at}
 use Rattle.saved_load.proofs.Laws.{Acquires, ended-word, ended-none, cell-is, none-is, past, number, dry}

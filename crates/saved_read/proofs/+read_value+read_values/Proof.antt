@@ -1,17 +1,11 @@
 -- `saved_read::read_value` and `saved_read::read_values` call one another and meet their contracts, by `Laws`. The
 -- measure is the depth.
-use Prim.Native.Nat.{_+_, _*_, _≤_}
-use native.Mathlib.Omega.{arith}
-use mathlib.Core.Path.{_≡_, refl, ap}
+use Rattle.prelude.specs.Kit.{ℕ, _≤_, _+_, _<_, _*_, arith, _≡_, refl, ap, needs, In, and, falls, is, Measures}
 use Rattle.semantics.specs.Outcome.{times}
 use Rattle.semantics.specs.Saved.{value-at}
 use Rattle.saved_read.specs.Told.{read-outcome, told}
 use Rattle.saved_read.proofs.Laws.{past, number, no-number, flat, long, numbered, goes-down, goes-on, breaks}
 use Rattle.saved_read.proofs.Laws.{none-left}
-use borrow.Author.Needs.{needs}
-use Prim.Native.Nat.{ℕ, _<_}
-use borrow.Fn.Kinds.{In}
-use borrow.Fn.PlainCycle.{Measures, is, falls, and}
 use Rattle.saved_read.proofs.read_value.Reads as read-value
 use Rattle.saved_read.proofs.read_value.Kinds as read-value-kinds
 use Rattle.saved_read.proofs.+read_value+read_values.Lts-read_value as read-value-lts

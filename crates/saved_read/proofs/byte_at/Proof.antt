@@ -1,7 +1,5 @@
 -- `saved_read::byte_at` meets its contract.
-use lib.ListN.{List·getD-eq-default}
-use mathlib.Core.Path.{sym}
-use borrow.Author.Needs.{needs}
+use Rattle.prelude.specs.Kit.{sym, List·getD-eq-default, needs}
 use Rattle.saved_read.proofs.byte_at.Statement.{statement}
 use Rattle.saved_read.proofs.byte_at.Tie as tie
 

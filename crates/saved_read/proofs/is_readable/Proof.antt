@@ -1,9 +1,7 @@
 -- `saved_read::is_readable` meets its contract, by `Laws`.
-use mathlib.Core.Path.{sym, ap, _∙_}
+use Rattle.prelude.specs.Kit.{arith, _∙_, sym, ap, needs}
 use Rattle.saved_read.specs.Told.{read-outcome}
 use Rattle.saved_read.proofs.Laws.{short, other-depth, many, other-length, ended, refused}
-use native.Mathlib.Omega.{arith}
-use borrow.Author.Needs.{needs}
 use Rattle.saved_read.proofs.is_readable.Statement.{statement}
 use Rattle.saved_read.proofs.is_readable.Tie as tie
 

@@ -1,19 +1,9 @@
 -- `saved_write::count_value` calls itself and meets its contract. The measure is the depth.
-use Prim.Native.Nat.{_+_, _-_, _≤_}
-use native.Mathlib.Omega.{arith}
-use mathlib.Core.Path.{ap, _∙_}
-use lib.IntN.{pos}
-use lib.ListN.{length, getD}
-use mir.Facts.{toZ-ofZ}
-use mir.Val.{toZ}
-use mir.Syntax.{w64}
+use Rattle.prelude.specs.Kit.{ℕ, _≤_, _+_, _<_, _-_, arith, _∙_, ap, pos, length, getD, needs, In, and, falls, is}
+use Rattle.prelude.specs.Kit.{Measures, toZ-ofZ, w64, toZ}
 use Rattle.semantics.specs.Store.{cell, elements}
 use Rattle.semantics.specs.Words.{store-of}
 use Rattle.saved_write.proofs.Laws.{Counting, count-number, count-starts, count-goes, count-ends}
-use borrow.Author.Needs.{needs}
-use Prim.Native.Nat.{ℕ, _<_}
-use borrow.Fn.Kinds.{In}
-use borrow.Fn.PlainCycle.{Measures, is, falls, and}
 use Rattle.saved_write.proofs.count_value.Reads as count-value
 use Rattle.saved_write.proofs.count_value.Kinds as count-value-kinds
 use Rattle.saved_write.proofs.+count_value.Lts-count_value as count-value-lts

@@ -1,9 +1,6 @@
 -- `saved_write::put_bytes` calls itself and meets its contract. The measure is the number of bytes left.
 use Rattle.saved_write.proofs.Laws.{no-bytes, more-bytes}
-use borrow.Author.Needs.{needs}
-use Prim.Native.Nat.{ℕ, _<_}
-use borrow.Fn.Kinds.{In}
-use borrow.Fn.PlainCycle.{Measures, is, falls, and}
+use Rattle.prelude.specs.Kit.{ℕ, _<_, needs, In, and, falls, is, Measures}
 use Rattle.saved_write.proofs.put_bytes.Reads as put-bytes
 use Rattle.saved_write.proofs.put_bytes.Kinds as put-bytes-kinds
 use Rattle.saved_write.proofs.+put_bytes.Lts-put_bytes as put-bytes-lts

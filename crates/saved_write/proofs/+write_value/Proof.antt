@@ -1,20 +1,10 @@
 -- `saved_write::write_value` calls itself and meets its contract. The measure is the depth.
-use Prim.Native.Nat.{_+_, _-_, _≤_}
-use native.Mathlib.Omega.{arith}
-use mathlib.Core.Path.{_≡_, refl, ap, _∙_}
-use lib.IntN.{pos}
-use lib.ListN.{length, getD}
-use mir.Facts.{toZ-ofZ}
-use mir.Val.{toZ}
-use mir.Syntax.{w64}
+use Rattle.prelude.specs.Kit.{ℕ, _≤_, _+_, _<_, _-_, arith, _≡_, refl, _∙_, ap, pos, length, getD, needs, In, and}
+use Rattle.prelude.specs.Kit.{falls, is, Measures, toZ-ofZ, w64, toZ}
 use Rattle.semantics.specs.Store.{cell, elements}
 use Rattle.semantics.specs.Words.{store-of}
 use Rattle.saved_write.specs.Writing.{written}
 use Rattle.saved_write.proofs.Laws.{Going, write-number, write-goes, write-ends}
-use borrow.Author.Needs.{needs}
-use Prim.Native.Nat.{ℕ, _<_}
-use borrow.Fn.Kinds.{In}
-use borrow.Fn.PlainCycle.{Measures, is, falls, and}
 use Rattle.saved_write.proofs.write_value.Reads as write-value
 use Rattle.saved_write.proofs.write_value.Kinds as write-value-kinds
 use Rattle.saved_write.proofs.+write_value.Lts-write_value as write-value-lts

@@ -1,7 +1,5 @@
 -- `saved_write::put_byte` meets its contract.
-use mathlib.Core.Path.{sym}
-use lib.Seq.{set-out}
-use borrow.Author.Needs.{needs}
+use Rattle.prelude.specs.Kit.{sym, set-out, needs}
 use Rattle.saved_write.proofs.put_byte.Statement.{statement}
 use Rattle.saved_write.proofs.put_byte.Tie as tie
 

@@ -1,8 +1,7 @@
 -- `saved_write::put_entry` meets its contract.
-use mir.Facts.{toZ-ofZ}
+use Rattle.prelude.specs.Kit.{needs, toZ-ofZ}
 use Rattle.saved_write.specs.Writing.{entry}
 use Rattle.saved_write.proofs.Laws.{no-entry, one-entry}
-use borrow.Author.Needs.{needs}
 use Rattle.saved_write.proofs.put_entry.Statement.{statement}
 use Rattle.saved_write.proofs.put_entry.Tie as tie
 

@@ -1,7 +1,6 @@
 -- `saved_write::unsigned_of` meets its contract.
-use mir.Facts.{toZ-ofZ}
+use Rattle.prelude.specs.Kit.{needs, toZ-ofZ}
 use Rattle.saved_write.proofs.Unsigned.{not-negative, fits, casts, under, bits}
-use borrow.Author.Needs.{needs}
 use Rattle.saved_write.proofs.unsigned_of.Statement.{statement}
 use Rattle.saved_write.proofs.unsigned_of.Tie as tie
 

@@ -1,7 +1,5 @@
 -- `saved_write::write_totals` meets its contract, by `Saving`.
-use mathlib.Core.Path.{_∙_}
-use mir.Facts.{toZ-ofZ}
-use borrow.Author.Needs.{needs}
+use Rattle.prelude.specs.Kit.{_∙_, needs, toZ-ofZ}
 use Rattle.clearing.proofs.Clearing.{cleared-whole}
 use Rattle.saved_write.proofs.Saving.{Begun, many, narrow, saves}
 use Rattle.saved_write.proofs.write_totals.Statement.{statement}

@@ -1,6 +1,6 @@
 -- `script::check` meets its contract, by the laws of `Laws`.
 use Rattle.script.proofs.Laws.{started, unknown-found, mismatch-found, crowd-found, accepted}
-use borrow.Author.Needs.{needs}
+use Rattle.prelude.specs.Kit.{needs}
 use Rattle.script.proofs.check.Statement.{statement}
 use Rattle.script.proofs.check.Tie as tie
 

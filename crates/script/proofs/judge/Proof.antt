@@ -1,12 +1,9 @@
 -- `script::judge` meets its contract, by the laws of `Whole`.
-use native.Mathlib.Omega.{arith}
-use mathlib.Core.Path.{refl, sym, subst, _∙_}
-use Prim.Native.Nat.{ℕ}
+use Rattle.prelude.specs.Kit.{ℕ, arith, refl, _∙_, sym, subst, needs}
 use Rattle.semantics.specs.Outcome.{Outcome}
 use Rattle.semantics.specs.Syntax.{Script}
 use Rattle.script_read.specs.Starts.{Started-by}
 use Rattle.script.proofs.Whole.{FileTaken, taken, refused, checked}
-use borrow.Author.Needs.{needs}
 use Rattle.script.proofs.judge.Statement.{statement}
 use Rattle.script.proofs.judge.Tie as tie
 

@@ -1,6 +1,5 @@
 -- `script_count::count_after` meets its contract.
-use borrow.Author.Tests.{eq-eqb, ne-eqb, lt-ltb, le-ltb}
-use borrow.Author.Needs.{needs}
+use Rattle.prelude.specs.Kit.{needs, ne-eqb, lt-ltb, eq-eqb, le-ltb}
 use Rattle.script_count.proofs.count_after.Statement.{statement}
 use Rattle.script_count.proofs.count_after.Tie as tie
 

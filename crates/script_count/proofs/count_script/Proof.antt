@@ -1,10 +1,7 @@
 -- `script_count::count_script` meets its contract, by the laws of `Laws`.
-use Prim.Native.Nat.{_-_}
-use mathlib.Core.Path.{sym, _∙_}
-use lib.ListN.{length}
+use Rattle.prelude.specs.Kit.{_-_, _∙_, sym, length, needs}
 use Rattle.script_count.specs.Count.{crowd}
 use Rattle.script_count.proofs.Laws.{Passing, pass-starts, pass-stops, pass-goes, pass-over, pass-within}
-use borrow.Author.Needs.{needs}
 use Rattle.script_count.proofs.count_script.Statement.{statement}
 use Rattle.script_count.proofs.count_script.Tie as tie
 

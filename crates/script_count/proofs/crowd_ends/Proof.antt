@@ -1,5 +1,5 @@
 -- `script_count::crowd_ends` meets its contract.
-use borrow.Author.Tests.{eq-eqb, ne-eqb}
+use Rattle.prelude.specs.Kit.{ne-eqb, eq-eqb}
 use Rattle.script_count.proofs.crowd_ends.Statement.{statement}
 use Rattle.script_count.proofs.crowd_ends.Tie as tie
 

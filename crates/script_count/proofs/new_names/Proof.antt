@@ -1,6 +1,6 @@
 -- `script_count::new_names` meets its contract, by a law of `Laws`.
 use Rattle.script_count.proofs.Laws.{no-name}
-use borrow.Author.Needs.{needs}
+use Rattle.prelude.specs.Kit.{needs}
 use Rattle.script_count.proofs.new_names.Statement.{statement}
 use Rattle.script_count.proofs.new_names.Tie as tie
 

@@ -1,5 +1,5 @@
 -- `script_count::start_after` meets its contract.
-use borrow.Author.Tests.{eq-eqb, ne-eqb}
+use Rattle.prelude.specs.Kit.{ne-eqb, eq-eqb}
 use Rattle.script_count.proofs.start_after.Statement.{statement}
 use Rattle.script_count.proofs.start_after.Tie as tie
 

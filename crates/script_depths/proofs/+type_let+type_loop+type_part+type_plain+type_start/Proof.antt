@@ -1,6 +1,6 @@
 -- The functions that type lets, loops, parts, plain nodes and the starts of reduces meet their contracts; what each has
 -- to show stands in a file of its own.
-use borrow.Author.Needs.{needs}
+use Rattle.prelude.specs.Kit.{needs}
 use Rattle.script_depths.proofs.type_let.Reads as type-let
 use Rattle.script_depths.proofs.+type_let+type_loop+type_part+type_plain+type_start.Lts-type_let as let-lts
 use Rattle.script_depths.proofs.type_loop.Reads as type-loop

@@ -1,7 +1,5 @@
 -- `script_depths::atom_depth` meets its contract, by the laws of `Laws`.
-use mathlib.Core.Path.{refl, sym, subst}
-use native.Mathlib.Omega.{arith}
-use borrow.Author.Needs.{needs}
+use Rattle.prelude.specs.Kit.{arith, refl, sym, subst, needs}
 use Rattle.script_read.specs.Told.{AtomSeen}
 use Rattle.script_depths.specs.Walk.{depths}
 use Rattle.script_depths.proofs.Laws.{entry, number-typed, name-typed}

@@ -1,7 +1,7 @@
 -- `script_depths::end_loop` meets its contract, by the laws of `Laws`.
 use Rattle.script_rules.specs.Rules.{loop-ruled}
 use Rattle.script_depths.proofs.Laws.{ruled-good, ruled-bad}
-use borrow.Author.Needs.{needs}
+use Rattle.prelude.specs.Kit.{needs}
 use Rattle.script_depths.proofs.end_loop.Statement.{statement}
 use Rattle.script_depths.proofs.end_loop.Tie as tie
 

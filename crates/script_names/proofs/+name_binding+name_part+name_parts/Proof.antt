@@ -1,6 +1,6 @@
 -- `script_names::name_binding`, `script_names::name_part` and `script_names::name_parts` call one another and meet
 -- their contracts; what each has to show stands in a file of its own.
-use borrow.Author.Needs.{needs}
+use Rattle.prelude.specs.Kit.{needs}
 use Rattle.script_names.proofs.name_binding.Reads as name-binding
 use Rattle.script_names.proofs.+name_binding+name_part+name_parts.Lts-name_binding as name-binding-lts
 use Rattle.script_names.proofs.name_part.Reads as name-part

@@ -1,5 +1,5 @@
 -- `script_names::calls_none` meets its contract.
-use borrow.Author.Tests.{eq-eqb, ne-eqb}
+use Rattle.prelude.specs.Kit.{ne-eqb, eq-eqb}
 use Rattle.script_names.proofs.calls_none.Statement.{statement}
 use Rattle.script_names.proofs.calls_none.Tie as tie
 

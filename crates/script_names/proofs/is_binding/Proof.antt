@@ -1,6 +1,5 @@
 -- `script_names::is_binding` meets its contract.
-use borrow.Author.Tests.{eq-eqb, ne-eqb}
-use borrow.Author.Needs.{needs}
+use Rattle.prelude.specs.Kit.{needs, ne-eqb, eq-eqb}
 use Rattle.script_names.proofs.is_binding.Statement.{statement}
 use Rattle.script_names.proofs.is_binding.Tie as tie
 

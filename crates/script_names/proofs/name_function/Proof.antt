@@ -2,9 +2,7 @@
 use Rattle.semantics.specs.File.{at-function}
 use Rattle.script_names.proofs.Laws.{function-next, function-none}
 use Rattle.script_read.proofs.Nodes.{seen, inside}
-use native.Mathlib.Omega.{arith}
-use mathlib.Core.Logic.{inl, inr}
-use borrow.Author.Needs.{needs}
+use Rattle.prelude.specs.Kit.{arith, inl, inr, needs}
 use Rattle.script_names.proofs.name_function.Statement.{statement}
 use Rattle.script_names.proofs.name_function.Tie as tie
 

@@ -3,12 +3,7 @@ use Rattle.semantics.specs.File.{at-parameter}
 use Rattle.script_names.proofs.Laws.{parameter-known, parameter-new, parameter-none, body-next}
 use Rattle.script_names.specs.Walk.{scope, names-from}
 use Rattle.script_read.proofs.Nodes.{seen, inside}
-use lib.ListN.{length, length-set}
-use native.Mathlib.Omega.{arith}
-use mathlib.Core.Logic.{inl, inr}
-use mathlib.Core.Path.{_≡_, refl, sym, _∙_}
-use Prim.Native.Nat.{_-_, _≤_}
-use borrow.Author.Needs.{needs}
+use Rattle.prelude.specs.Kit.{_≤_, _-_, arith, _≡_, refl, _∙_, sym, inl, inr, length, length-set, needs}
 use Rattle.script_names.proofs.name_parameters.Statement.{statement}
 use Rattle.script_names.proofs.name_parameters.Tie as tie
 

@@ -1,10 +1,8 @@
 -- `script_names::name_script` meets its contract, by the laws of `Turns`.
-use native.Mathlib.Omega.{arith}
-use mathlib.Core.Path.{_≡_, refl, sym, _∙_}
+use Rattle.prelude.specs.Kit.{arith, _≡_, refl, _∙_, sym, needs}
 use Rattle.script_read.specs.Told.{repeated}
 use Rattle.script_read.proofs.Turns.{repeated-goes, repeated-stops, repeated-none}
 use Rattle.script_names.specs.Walk.{names-function}
-use borrow.Author.Needs.{needs}
 use Rattle.script_names.proofs.name_script.Statement.{statement}
 use Rattle.script_names.proofs.name_script.Tie as tie
 

@@ -7,13 +7,8 @@ use Rattle.script_read.proofs.Turns.{repeated-goes, repeated-stops, rep
 use Rattle.script_read.specs.Told.{told, repeated}
 use Rattle.script_read.specs.declared.Read.{Read}
 use Rattle.semantics.specs.File.{at-part, part}
-use Prim.Native.Nat.{_+_, _*_, _-_, _≤_, ℕ, _<_}
-use native.Mathlib.Omega.{arith}
-use mathlib.Core.Path.{_≡_, refl, sym, _∙_}
-use mathlib.Core.List.{List}
-use borrow.Author.Needs.{needs}
-use borrow.Fn.Kinds.{In}
-use borrow.Fn.PlainCycle.{Measures, is, falls, and}
+use Rattle.prelude.specs.Kit.{ℕ, _≤_, _+_, _<_, _-_, _*_, arith, _≡_, refl, _∙_, sym, List, needs, In, and, falls, is}
+use Rattle.prelude.specs.Kit.{Measures}
 use Rattle.script_read.proofs.read_part.Reads as read-part
 use Rattle.script_read.proofs.read_part.Kinds as read-part-kinds
 use Rattle.script_read.proofs.+read_part+read_parts.Lts-read_part as read-part-lts

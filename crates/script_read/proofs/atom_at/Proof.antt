@@ -1,5 +1,5 @@
 -- `script_read::atom_at` meets its contract, by the laws of `Atoms`.
-use borrow.Author.Needs.{needs}
+use Rattle.prelude.specs.Kit.{needs}
 use Rattle.script_read.proofs.Atoms.{number-seen, name-seen}
 use Rattle.script_read.proofs.atom_at.Statement.{statement}
 use Rattle.script_read.proofs.atom_at.Tie as tie

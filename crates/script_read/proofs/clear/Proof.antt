@@ -1,7 +1,5 @@
 -- `script_read::clear` meets its contract, by the laws of `Starts`.
-use Prim.Native.Nat.{_-_}
-use native.Mathlib.Omega.{arith}
-use borrow.Author.Needs.{needs}
+use Rattle.prelude.specs.Kit.{_-_, arith, needs}
 use Rattle.script_read.proofs.Starts.{Clearing, cleared-one, cleared-all}
 use Rattle.script_read.proofs.clear.Statement.{statement}
 use Rattle.script_read.proofs.clear.Tie as tie

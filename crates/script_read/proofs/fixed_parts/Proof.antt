@@ -1,6 +1,6 @@
 -- `script_read::fixed_parts` meets its contract, by a law of `Limits`.
 use Rattle.script_read.proofs.Limits.{no-part}
-use borrow.Author.Needs.{needs}
+use Rattle.prelude.specs.Kit.{needs}
 use Rattle.script_read.proofs.fixed_parts.Statement.{statement}
 use Rattle.script_read.proofs.fixed_parts.Tie as tie
 

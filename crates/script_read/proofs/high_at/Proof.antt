@@ -1,7 +1,6 @@
 -- `script_read::high_at` meets its contract, by the laws of `Nodes`.
-use mathlib.Core.Logic.{inl, inr}
+use Rattle.prelude.specs.Kit.{inl, inr, needs}
 use Rattle.script_read.proofs.Nodes.{seen, unfit, high-seen, high-none}
-use borrow.Author.Needs.{needs}
 use Rattle.script_read.proofs.high_at.Statement.{statement}
 use Rattle.script_read.proofs.high_at.Tie as tie
 

@@ -1,5 +1,5 @@
 -- `script_read::is_loop` meets its contract.
-use borrow.Author.Tests.{ne-eqb}
+use Rattle.prelude.specs.Kit.{ne-eqb}
 use Rattle.script_read.proofs.is_loop.Statement.{statement}
 use Rattle.script_read.proofs.is_loop.Tie as tie
 

@@ -1,8 +1,6 @@
 -- `script_read::kind_at` meets its contract, by a law of `Nodes`.
 use Rattle.script_read.proofs.Nodes.{getD-any}
-use lib.ListN.{List·getD-eq-default}
-use mathlib.Core.Path.{sym}
-use borrow.Author.Needs.{needs}
+use Rattle.prelude.specs.Kit.{sym, List·getD-eq-default, needs}
 use Rattle.script_read.proofs.kind_at.Statement.{statement}
 use Rattle.script_read.proofs.kind_at.Tie as tie
 

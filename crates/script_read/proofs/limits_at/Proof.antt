@@ -1,6 +1,5 @@
 -- `script_read::limits_at` meets its contract.
-use borrow.Author.Tests.{ne-eqb}
-use borrow.Author.Needs.{needs}
+use Rattle.prelude.specs.Kit.{needs, ne-eqb}
 use Rattle.script_read.proofs.limits_at.Statement.{statement}
 use Rattle.script_read.proofs.limits_at.Tie as tie
 

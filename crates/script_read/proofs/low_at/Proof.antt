@@ -1,7 +1,6 @@
 -- `script_read::low_at` meets its contract, by the laws of `Nodes`.
-use mathlib.Core.Logic.{inl, inr}
+use Rattle.prelude.specs.Kit.{inl, inr, needs}
 use Rattle.script_read.proofs.Nodes.{seen, unfit, low-seen, low-none}
-use borrow.Author.Needs.{needs}
 use Rattle.script_read.proofs.low_at.Statement.{statement}
 use Rattle.script_read.proofs.low_at.Tie as tie
 

@@ -1,10 +1,5 @@
 -- `script_read::node_at` meets its contract, by the laws of `Nodes` and `Limits`.
-use Prim.Native.Nat.{_/_, _%_}
-use native.Mathlib.Omega.{arith}
-use mathlib.Core.Bool.{true}
-use mathlib.Core.Path.{_≡_}
-use lib.ListN.{getD}
-use borrow.Author.Needs.{needs}
+use Rattle.prelude.specs.Kit.{_%_, _/_, arith, true, _≡_, getD, needs}
 use Rattle.semantics.specs.File.{allowed, low-limits, high-limits}
 use Rattle.script_read.specs.Told.{place-of}
 use Rattle.script_read.proofs.Nodes.{node-says, not-allowed, number, judged, low-wrong, high-wrong, in-range}

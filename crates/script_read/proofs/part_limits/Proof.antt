@@ -1,6 +1,6 @@
 -- `script_read::part_limits` meets its contract, by a law of `Limits`.
 use Rattle.script_read.proofs.Limits.{no-part-kind}
-use borrow.Author.Needs.{needs}
+use Rattle.prelude.specs.Kit.{needs}
 use Rattle.script_read.proofs.part_limits.Statement.{statement}
 use Rattle.script_read.proofs.part_limits.Tie as tie
 

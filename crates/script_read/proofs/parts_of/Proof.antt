@@ -1,7 +1,6 @@
 -- `script_read::parts_of` meets its contract, by the laws of `Limits`.
-use native.Mathlib.Omega.{arith}
+use Rattle.prelude.specs.Kit.{arith, needs}
 use Rattle.script_read.proofs.Limits.{parts-add, parts-small}
-use borrow.Author.Needs.{needs}
 use Rattle.script_read.proofs.parts_of.Statement.{statement}
 use Rattle.script_read.proofs.parts_of.Tie as tie
 

@@ -6,11 +6,7 @@ use Rattle.script_read.specs.Starts.{Started-by}
 use Rattle.semantics.specs.File.{between}
 use Rattle.semantics.specs.Syntax.{Script}
 use Rattle.semantics.specs.Outcome.{Outcome}
-use Prim.Native.Nat.{ℕ, _-_}
-use borrow.Author.Tests.{not-true, not-false}
-use mathlib.Core.Bool.{true, _&&_}
-use mathlib.Core.Path.{_≡_, sym, ap, subst, _∙_}
-use borrow.Author.Needs.{needs}
+use Rattle.prelude.specs.Kit.{ℕ, _-_, true, _&&_, _≡_, _∙_, sym, ap, subst, needs, not-true, not-false}
 use Rattle.script_read.proofs.read_file.Statement.{statement}
 use Rattle.script_read.proofs.read_file.Tie as tie
 

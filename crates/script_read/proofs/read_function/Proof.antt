@@ -2,9 +2,7 @@
 use Rattle.script_read.proofs.Nodes.{inside, seen, no-kind, no-operand}
 use Rattle.script_read.proofs.Part.{function-parts, function-stops}
 use Rattle.semantics.specs.File.{at-function}
-use native.Mathlib.Omega.{arith}
-use mathlib.Core.Path.{sym}
-use borrow.Author.Needs.{needs}
+use Rattle.prelude.specs.Kit.{arith, sym, needs}
 use Rattle.script_read.proofs.read_function.Statement.{statement}
 use Rattle.script_read.proofs.read_function.Tie as tie
 

@@ -4,10 +4,7 @@ use Rattle.script_read.proofs.Part.{parameter-goes, parameter-stops}
 use Rattle.script_read.proofs.Turns.{repeated-goes, repeated-stops, repeated-none}
 use Rattle.script_read.specs.Told.{told, repeated}
 use Rattle.semantics.specs.File.{at-parameter, parameter}
-use Prim.Native.Nat.{_+_, _-_, _≤_}
-use borrow.Author.Needs.{needs}
-use native.Mathlib.Omega.{arith}
-use mathlib.Core.Path.{_≡_, refl, sym, _∙_}
+use Rattle.prelude.specs.Kit.{_≤_, _+_, _-_, arith, _≡_, refl, _∙_, sym, needs}
 use Rattle.script_read.proofs.read_parameters.Statement.{statement}
 use Rattle.script_read.proofs.read_parameters.Tie as tie
 

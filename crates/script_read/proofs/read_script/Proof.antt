@@ -4,11 +4,7 @@ use Rattle.script_read.proofs.Turns.{repeated-goes, repeated-stops, rep
 use Rattle.script_read.proofs.Turns.{marked-ends}
 use Rattle.script_read.specs.Told.{told, repeated, marked}
 use Rattle.semantics.specs.File.{function}
-use Prim.Native.Nat.{_+_, _-_, _<_}
-use lib.ListN.{length, length-set}
-use borrow.Author.Needs.{needs}
-use native.Mathlib.Omega.{arith}
-use mathlib.Core.Path.{_≡_, refl, sym, _∙_}
+use Rattle.prelude.specs.Kit.{_+_, _<_, _-_, arith, _≡_, refl, _∙_, sym, length, length-set, needs}
 use Rattle.script_read.proofs.read_script.Statement.{statement}
 use Rattle.script_read.proofs.read_script.Tie as tie
 

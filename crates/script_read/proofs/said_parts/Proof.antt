@@ -1,5 +1,5 @@
 -- `script_read::said_parts` meets its contract.
-use borrow.Author.Tests.{ne-eqb}
+use Rattle.prelude.specs.Kit.{ne-eqb}
 use Rattle.script_read.proofs.said_parts.Statement.{statement}
 use Rattle.script_read.proofs.said_parts.Tie as tie
 

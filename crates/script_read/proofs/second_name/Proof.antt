@@ -1,5 +1,5 @@
 -- `script_read::second_name` meets its contract.
-use borrow.Author.Tests.{eq-eqb, ne-eqb}
+use Rattle.prelude.specs.Kit.{ne-eqb, eq-eqb}
 use Rattle.script_read.proofs.second_name.Statement.{statement}
 use Rattle.script_read.proofs.second_name.Tie as tie
 

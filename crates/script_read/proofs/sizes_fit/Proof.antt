@@ -1,5 +1,5 @@
 -- `script_read::sizes_fit` meets its contract.
-use borrow.Author.Tests.{lt-leb, le-leb}
+use Rattle.prelude.specs.Kit.{le-leb, lt-leb}
 use Rattle.script_read.proofs.sizes_fit.Statement.{statement}
 use Rattle.script_read.proofs.sizes_fit.Tie as tie
 

@@ -1,11 +1,7 @@
 -- `script_rules::all_are` meets its contract, by the laws of `Rules`.
-use Prim.Native.Nat.{_≤_, _-_}
-use native.Mathlib.Omega.{arith}
-use mathlib.Core.Path.{_≡_, refl}
-use lib.ListN.{length, take, drop}
+use Rattle.prelude.specs.Kit.{_≤_, _-_, arith, _≡_, refl, length, take, drop, needs}
 use Rattle.semantics.specs.Types.{all-are}
 use Rattle.script_rules.proofs.Rules.{alike-goes, alike-not, alike-all}
-use borrow.Author.Needs.{needs}
 use Rattle.script_rules.proofs.all_are.Statement.{statement}
 use Rattle.script_rules.proofs.all_are.Tie as tie
 

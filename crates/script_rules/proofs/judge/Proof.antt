@@ -1,14 +1,10 @@
 -- `script_rules::judge` meets its contract, by the laws of `Rules`.
-use native.Mathlib.Omega.{arith}
-use Prim.Native.Nat.{ℕ, _<_}
-use lib.ListN.{length}
-use mathlib.Core.Option.{Option}
+use Rattle.prelude.specs.Kit.{ℕ, _<_, arith, Option, length, needs}
 use Rattle.semantics.specs.Types.{Signature}
 use Rattle.script_read.proofs.Nodes.{getD-any}
 use Rattle.script_rules.specs.Rules.{known-signature}
 use Rattle.script_rules.proofs.Rules.{call-says, literal-says, index-says, length-says, if-says}
 use Rattle.script_rules.proofs.Rules.{iota-says, replicate-says, numbers-say, few-parts}
-use borrow.Author.Needs.{needs}
 use Rattle.script_rules.proofs.judge.Statement.{statement}
 use Rattle.script_rules.proofs.judge.Tie as tie
 

@@ -1,5 +1,5 @@
 -- `script_rules::judge_all` meets its contract.
-use borrow.Author.Needs.{needs}
+use Rattle.prelude.specs.Kit.{needs}
 use Rattle.script_rules.proofs.judge_all.Statement.{statement}
 use Rattle.script_rules.proofs.judge_all.Tie as tie
 

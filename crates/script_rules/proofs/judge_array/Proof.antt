@@ -1,6 +1,6 @@
 -- `script_rules::judge_array` meets its contract, by the laws of `Rules`.
 use Rattle.script_rules.proofs.Rules.{array-good, array-deep}
-use borrow.Author.Needs.{needs}
+use Rattle.prelude.specs.Kit.{needs}
 use Rattle.script_rules.proofs.judge_array.Statement.{statement}
 use Rattle.script_rules.proofs.judge_array.Tie as tie
 

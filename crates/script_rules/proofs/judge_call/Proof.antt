@@ -1,7 +1,6 @@
 -- `script_rules::judge_call` meets its contract, by the laws of `Rules`.
-use native.Mathlib.Omega.{arith}
+use Rattle.prelude.specs.Kit.{arith, needs}
 use Rattle.script_rules.proofs.Rules.{not-there, other-count, call-fits, call-differs}
-use borrow.Author.Needs.{needs}
 use Rattle.script_rules.proofs.judge_call.Statement.{statement}
 use Rattle.script_rules.proofs.judge_call.Tie as tie
 

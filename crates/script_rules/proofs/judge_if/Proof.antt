@@ -1,5 +1,5 @@
 -- `script_rules::judge_if` meets its contract.
-use borrow.Author.Tests.{eq-eqb, ne-eqb}
+use Rattle.prelude.specs.Kit.{ne-eqb, eq-eqb}
 use Rattle.script_rules.proofs.judge_if.Statement.{statement}
 use Rattle.script_rules.proofs.judge_if.Tie as tie
 

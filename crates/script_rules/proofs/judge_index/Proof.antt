@@ -1,6 +1,6 @@
 -- `script_rules::judge_index` meets its contract, by the laws of `Rules`.
 use Rattle.script_rules.proofs.Rules.{index-good, index-bad}
-use borrow.Author.Needs.{needs}
+use Rattle.prelude.specs.Kit.{needs}
 use Rattle.script_rules.proofs.judge_index.Statement.{statement}
 use Rattle.script_rules.proofs.judge_index.Tie as tie
 

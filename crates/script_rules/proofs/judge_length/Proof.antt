@@ -1,6 +1,6 @@
 -- `script_rules::judge_length` meets its contract, by a law of `Rules`.
 use Rattle.script_rules.proofs.Rules.{length-good}
-use borrow.Author.Needs.{needs}
+use Rattle.prelude.specs.Kit.{needs}
 use Rattle.script_rules.proofs.judge_length.Statement.{statement}
 use Rattle.script_rules.proofs.judge_length.Tie as tie
 

@@ -1,6 +1,5 @@
 -- `script_rules::judge_loop` meets its contract.
-use borrow.Author.Tests.{eq-eqb, ne-eqb}
-use borrow.Author.Needs.{needs}
+use Rattle.prelude.specs.Kit.{needs, ne-eqb, eq-eqb}
 use Rattle.script_rules.proofs.judge_loop.Statement.{statement}
 use Rattle.script_rules.proofs.judge_loop.Tie as tie
 

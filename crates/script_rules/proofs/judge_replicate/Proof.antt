@@ -1,6 +1,6 @@
 -- `script_rules::judge_replicate` meets its contract, by a law of `Rules`.
 use Rattle.script_rules.proofs.Rules.{replicate-bad}
-use borrow.Author.Needs.{needs}
+use Rattle.prelude.specs.Kit.{needs}
 use Rattle.script_rules.proofs.judge_replicate.Statement.{statement}
 use Rattle.script_rules.proofs.judge_replicate.Tie as tie
 

@@ -1,12 +1,8 @@
 -- `script_rules::parameters_match` meets its contract, by the laws of `Rules`.
-use Prim.Native.Nat.{_≤_, _-_, _+_}
-use native.Mathlib.Omega.{arith}
-use mathlib.Core.Path.{_≡_, sym, _∙_}
-use lib.ListN.{length, take, drop}
+use Rattle.prelude.specs.Kit.{_≤_, _+_, _-_, arith, _≡_, _∙_, sym, length, take, drop, needs}
 use Rattle.semantics.specs.Types.{same}
 use Rattle.script_rules.specs.Rules.{depths-from}
 use Rattle.script_rules.proofs.Rules.{match-starts, match-goes, match-not, match-all}
-use borrow.Author.Needs.{needs}
 use Rattle.script_rules.proofs.parameters_match.Statement.{statement}
 use Rattle.script_rules.proofs.parameters_match.Tie as tie
 

@@ -1,6 +1,6 @@
 -- `script_types::main_fits` meets its contract, by the laws of `Laws`.
 use Rattle.script_types.proofs.Laws.{other-count, first-differs, by-second}
-use borrow.Author.Needs.{needs}
+use Rattle.prelude.specs.Kit.{needs}
 use Rattle.script_types.proofs.main_fits.Statement.{statement}
 use Rattle.script_types.proofs.main_fits.Tie as tie
 

@@ -1,14 +1,9 @@
 -- `script_types::type_function` meets its contract, by the laws of `Laws` and `Nodes`.
 use Rattle.semantics.specs.File.{at-function}
-use native.Mathlib.Omega.{arith}
-use mathlib.Core.Path.{ap}
-use mathlib.Core.Logic.{inl, inr}
-use Prim.Native.Nat.{ℕ}
-use lib.ListN.{length-replicate}
+use Rattle.prelude.specs.Kit.{ℕ, arith, ap, inl, inr, length-replicate, needs}
 use Rattle.script_read.proofs.Nodes.{Seen, seen, inside}
 use Rattle.script_depths.specs.Walk.{typed-outcome}
 use Rattle.script_types.proofs.Laws.{result-fits, result-differs, body-faulty, no-function}
-use borrow.Author.Needs.{needs}
 use Rattle.script_types.proofs.type_function.Statement.{statement}
 use Rattle.script_types.proofs.type_function.Tie as tie
 

@@ -1,15 +1,10 @@
 -- `script_types::type_parameters` meets its contract, by the laws of `Laws` and `Nodes`.
 use Rattle.semantics.specs.File.{at-parameter}
-use Prim.Native.Nat.{_≤_}
-use native.Mathlib.Omega.{arith}
-use mathlib.Core.Path.{_≡_, refl, sym, _∙_}
-use mathlib.Core.Logic.{inl, inr}
-use lib.ListN.{length, length-set}
+use Rattle.prelude.specs.Kit.{_≤_, arith, _≡_, refl, _∙_, sym, inl, inr, length, length-set, needs}
 use Rattle.script_read.proofs.Nodes.{Seen, seen, inside}
 use Rattle.script_depths.specs.Walk.{depths}
 use Rattle.script_types.specs.Functions.{known-from}
 use Rattle.script_types.proofs.Laws.{parameter-goes, parameter-again, parameter-none, body-next}
-use borrow.Author.Needs.{needs}
 use Rattle.script_types.proofs.type_parameters.Statement.{statement}
 use Rattle.script_types.proofs.type_parameters.Tie as tie
 

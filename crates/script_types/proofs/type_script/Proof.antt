@@ -1,12 +1,9 @@
 -- `script_types::type_script` meets its contract, by the laws of `Laws` and `Turns`.
-use native.Mathlib.Omega.{arith}
-use mathlib.Core.Path.{_≡_, refl, sym, _∙_}
-use borrow.Author.Tests.{not-true, not-false}
+use Rattle.prelude.specs.Kit.{arith, _≡_, refl, _∙_, sym, needs, not-true, not-false}
 use Rattle.script_read.specs.Told.{repeated}
 use Rattle.script_read.proofs.Turns.{repeated-goes, repeated-stops, repeated-none}
 use Rattle.script_types.specs.Functions.{known-function}
 use Rattle.script_types.proofs.Laws.{wrong-shape, right-shape}
-use borrow.Author.Needs.{needs}
 use Rattle.script_types.proofs.type_script.Statement.{statement}
 use Rattle.script_types.proofs.type_script.Tie as tie
 

@@ -1,14 +1,7 @@
 -- `functions-in-disciplined`, `functions-in-frugal`: every function of an accepted script is so, in every style.
 -- `main-shape-of`: main has main's shape.
-use Prim.Native.Nat.{ℕ, zero, suc, _+_, _≤_}
-use native.Mathlib.Omega.{arith}
-use mathlib.Core.Path.{_≡_, refl, sym, ap, subst}
-use mathlib.Core.Bool.{Bool, true, false, cond}
-use mathlib.Core.List.{List, [], _∷_}
-use mathlib.Core.Option.{Option, none, some}
-use lib.ListN.{length, getD}
-use lib.Dec.{ltb}
-use borrow.Author.Tests.{ltb-false}
+use Rattle.prelude.specs.Kit.{ℕ, _≤_, _+_, suc, zero, arith, true, false, Bool, cond, _≡_, refl, sym, ap, subst, some}
+use Rattle.prelude.specs.Kit.{none, Option, List, [], _∷_, ltb, length, getD, ltb-false}
 use Rattle.script_laws.specs.Admitted.{no-script}
 use Rattle.semantics.specs.Basics.{least, updated}
 use Rattle.semantics.specs.Outcome.{Outcome, done, stop}

@@ -1,12 +1,7 @@
 -- `annotated-sound`: annotation gives sound trees, in which at each point exactly the live arrays that are not lent
 -- hold one reference each.
-use Prim.Native.Nat.{ℕ, suc, _+_, _≤_, _<_, min, max}
-use native.Mathlib.Omega.{arith}
-use native.Mathlib.Decide.{decLt}
-use mathlib.Core.Path.{_≡_, sym, ap, _∙_}
-use mathlib.Core.Logic.{inl, inr}
-use mathlib.Core.Bool.{false≢true}
-use mathlib.Core.List.{List, [], _∷_}
+use Rattle.prelude.specs.Kit.{ℕ, _≤_, _+_, _<_, suc, min, max, arith, decLt, false≢true, _≡_, _∙_, sym, ap, inl, inr}
+use Rattle.prelude.specs.Kit.{List, [], _∷_}
 use Rattle.semantics.specs.Basics.{occurrences, _∈_}
 use Rattle.semantics.specs.Kinds.{Borrowing, Loop, leaf-hands, leaf-reads, loop-hands, loop-reads}
 use Rattle.semantics.specs.Code.{Atom, Line, leaf, if-else, loop, retain, release, Tree, end, line, ending}

@@ -1,8 +1,5 @@
 -- `names-called`: where the check of names finds no fault, every call is of a function that is there.
-use Prim.Native.Nat.{ℕ, _+_}
-use mathlib.Core.Path.{_≡_}
-use mathlib.Core.Bool.{true}
-use mathlib.Core.List.{List, [], _∷_}
+use Rattle.prelude.specs.Kit.{ℕ, _+_, true, _≡_, List, [], _∷_}
 use Rattle.semantics.specs.Basics.{updated}
 use Rattle.semantics.specs.Syntax.{Expr, number, name, let-in, leaf, if-else, loop, Exprs, none, more, size, sizes}
 use Rattle.semantics.specs.Syntax.{Parameter}

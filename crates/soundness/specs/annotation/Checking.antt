@@ -1,11 +1,6 @@
 -- `check-typed`: an expression in which the check finds no fault is typed.
-use Prim.Native.Nat.{ℕ, suc, _+_}
-use mathlib.Core.Path.{_≡_, refl, sym, ap, _∙_, subst}
-use mathlib.Core.Bool.{true, false, cond}
-use mathlib.Core.List.{List, [], _∷_, _++_, map}
-use mathlib.Core.Option.{Option, some}
-use lib.ListN.{length}
-use lib.Dec.{eqb}
+use Rattle.prelude.specs.Kit.{ℕ, _+_, suc, true, false, cond, _≡_, refl, _∙_, sym, ap, subst, some, Option, List, []}
+use Rattle.prelude.specs.Kit.{_∷_, _++_, map, eqb, length}
 use Rattle.semantics.specs.Basics.{updated}
 use Rattle.semantics.specs.Syntax as S
 use Rattle.semantics.specs.Syntax.{Expr, number, name, let-in, leaf, if-else, loop, Exprs, size, sizes}

@@ -1,12 +1,7 @@
 -- What is held at one name before and after a line that hands some atoms over and reads the others: the same sums for
 -- all leaves and all loops.
-use Prim.Native.Nat.{ℕ, _+_, _-_, _≤_, _<_, min, max}
-use native.Mathlib.Omega.{arith}
-use native.Mathlib.Decide.{decLt}
-use mathlib.Core.Path.{_≡_, refl, sym, ap, _∙_, subst}
-use mathlib.Core.Logic.{_≢_, inl, inr}
-use mathlib.Core.List.{List, [], _++_}
-use borrow.Author.Tests.{eq-eqb}
+use Rattle.prelude.specs.Kit.{ℕ, _≤_, _+_, _<_, _-_, min, max, arith, decLt, _≡_, refl, _∙_, sym, ap, subst, inl, inr}
+use Rattle.prelude.specs.Kit.{_≢_, List, [], _++_, eq-eqb}
 use Rattle.semantics.specs.Basics.{occurrences, _∈_}
 use Rattle.semantics.specs.Kinds.{Borrowing}
 use Rattle.semantics.specs.Code.{Atom, number, name, Tree, release-all}

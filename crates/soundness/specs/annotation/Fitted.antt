@@ -1,14 +1,7 @@
 -- Expressions whose new names have the right depths in a table. `typed-fitted`: the table of a typed expression's own
 -- lines is such a one.
-use Prim.Native.Nat.{ℕ, suc, _+_, _≤_, _<_}
-use native.Mathlib.Omega.{arith}
-use mathlib.Core.Path.{_≡_, refl, sym, ap, _∙_, subst}
-use mathlib.Core.Logic.{_≢_}
-use mathlib.Core.Bool.{true, false, cond}
-use mathlib.Core.List.{List, [], _∷_, _++_, map}
-use mathlib.Core.Option.{some}
-use lib.ListN.{length}
-use lib.Dec.{eqb}
+use Rattle.prelude.specs.Kit.{ℕ, _≤_, _+_, _<_, suc, arith, true, false, cond, _≡_, refl, _∙_, sym, ap, subst, _≢_}
+use Rattle.prelude.specs.Kit.{some, List, [], _∷_, _++_, map, eqb, length}
 use Rattle.laws.specs.Updates.{updated-other, updated-same}
 use Rattle.semantics.specs.Basics.{updated}
 use Rattle.semantics.specs.Syntax as S

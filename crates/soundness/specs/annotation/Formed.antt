@@ -1,12 +1,6 @@
 -- Well-formed plain trees: every atom is known, every name is bound anew, and the depths fit. What is live in them.
-use Prim.Native.Nat.{ℕ, suc, _≤_, _<_}
-use native.Mathlib.Omega.{arith}
-use mathlib.Core.Path.{_≡_, refl, sym, ap, _∙_}
-use mathlib.Core.Logic.{inl, inr}
-use mathlib.Core.Bool.{Bool, true, false, false≢true}
-use mathlib.Core.List.{List, [], _∷_, map}
-use lib.ListN.{length}
-use borrow.Author.Tests.{eqb-true}
+use Rattle.prelude.specs.Kit.{ℕ, _≤_, _<_, suc, arith, true, false, Bool, false≢true, _≡_, refl, _∙_, sym, ap, inl, inr}
+use Rattle.prelude.specs.Kit.{List, [], _∷_, map, length, eqb-true}
 use Rattle.semantics.specs.Kinds.{Leaf, Loop}
 use Rattle.semantics.specs.Code.{Atom, number, name, Line, leaf, if-else, loop, retain, release, Tree, end, line}
 use Rattle.semantics.specs.Code.{ending}

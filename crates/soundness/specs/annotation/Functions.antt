@@ -1,15 +1,8 @@
 -- A function that the checks accept is disciplined and frugal, in every style: with the array parameters lent that it
 -- borrows, from one hold for each other to none.
-use Prim.Native.Nat.{ℕ, zero, suc, _+_, _-_, _≤_, _<_, min}
-use native.Mathlib.Omega.{arith}
-use native.Mathlib.Decide.{decLt}
-use mathlib.Core.Path.{_≡_, refl, sym, ap, _∙_, subst}
-use mathlib.Core.Logic.{inl, inr}
-use mathlib.Core.Bool.{Bool, true, false, cond, not, _&&_, and-false, false≢true}
-use mathlib.Core.List.{List, [], map}
-use lib.ListN.{length, getD, length-map, List·getD-eq-default}
-use lib.Dec.{ltb}
-use borrow.Author.Tests.{ltb-true, lt-ltb}
+use Rattle.prelude.specs.Kit.{ℕ, _≤_, _+_, _<_, _-_, suc, zero, min, arith, decLt, true, false, Bool, cond, _&&_, not}
+use Rattle.prelude.specs.Kit.{false≢true, and-false, _≡_, refl, _∙_, sym, ap, subst, inl, inr, List, [], map, ltb}
+use Rattle.prelude.specs.Kit.{length, getD, List·getD-eq-default, length-map, lt-ltb, ltb-true}
 use Rattle.semantics.specs.Basics.{occurrences, _∈_}
 use Rattle.semantics.specs.Syntax.{Function, Script, function-at, no-function}
 use Rattle.semantics.specs.Kinds.{Borrowing}

@@ -1,14 +1,8 @@
 -- What a set of names holds: one reference for each array in it, and none by a name that is lent. The laws of the set
 -- operations are sums that `omega` reads.
-use Prim.Native.Nat.{ℕ, suc, _+_, _-_, _≤_, _<_, min, max}
-use native.Mathlib.Omega.{arith}
-use native.Mathlib.Decide.{ℕ-discrete, decLt}
-use mathlib.Core.Path.{_≡_, refl, sym, _∙_}
-use mathlib.Core.Logic.{_≢_, _⊎_, inl, inr}
-use mathlib.Core.Bool.{and-false, Bool, true, false, cond, not, _&&_, _||_}
-use mathlib.Core.List.{List, [], _∷_, _++_}
-use lib.Dec.{eqb}
-use borrow.Author.Tests.{eq-eqb, ne-eqb, le-ltb, lt-ltb}
+use Rattle.prelude.specs.Kit.{ℕ, _≤_, _+_, _<_, _-_, suc, min, max, arith, decLt, ℕ-discrete, true, false, Bool, cond}
+use Rattle.prelude.specs.Kit.{_&&_, not, _||_, and-false, _≡_, refl, _∙_, sym, inl, inr, _≢_, _⊎_, List, [], _∷_, _++_}
+use Rattle.prelude.specs.Kit.{eqb, ne-eqb, lt-ltb, eq-eqb, le-ltb}
 use Rattle.semantics.specs.Basics.{occurrences, _∈_}
 use Rattle.semantics.specs.Code.{Atom, number, name}
 use Rattle.semantics.specs.Live.{Set, empty, _∪_, _∖_, _∖∖_, only, just, is, among, members}

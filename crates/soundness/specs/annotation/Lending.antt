@@ -1,14 +1,7 @@
 -- `holding-lent`, `frugal-lent`: a tree that keeps the discipline by depths in which some names are numbers, and spares
 -- these names, keeps it by their true depths too, with the arrays among them lent.
-use Prim.Native.Nat.{ℕ, _<_, min}
-use native.Mathlib.Omega.{arith}
-use native.Mathlib.Decide.{decLt}
-use mathlib.Core.Path.{_≡_, refl, sym, ap, _∙_, subst}
-use mathlib.Core.Logic.{inl, inr}
-use mathlib.Core.Bool.{Bool, true, false, cond, _&&_, and-false}
-use mathlib.Core.List.{List, [], _∷_, _++_}
-use lib.Dec.{eqb, ltb}
-use borrow.Author.Tests.{eq-eqb, ne-eqb, le-ltb, ltb-true}
+use Rattle.prelude.specs.Kit.{ℕ, _<_, min, arith, decLt, true, false, Bool, cond, _&&_, and-false, _≡_, refl, _∙_, sym}
+use Rattle.prelude.specs.Kit.{ap, subst, inl, inr, List, [], _∷_, _++_, eqb, ltb, ne-eqb, eq-eqb, le-ltb, ltb-true}
 use Rattle.semantics.specs.Basics.{with-if, occurrences, _∈_}
 use Rattle.semantics.specs.Kinds.{Borrowing, Loop, mapping, filtering, reducing, rewriting, leaf-hands}
 use Rattle.semantics.specs.Kinds.{leaf-reads, loop-hands}

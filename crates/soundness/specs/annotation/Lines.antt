@@ -1,11 +1,6 @@
 -- `leaf-line`, `if-line`: an annotated leaf, and an annotated if, before a sound tree.
-use Prim.Native.Nat.{ℕ, suc, _+_, _-_, min, max}
-use native.Mathlib.Omega.{arith}
-use mathlib.Core.Path.{_≡_, refl, sym, ap, _∙_, subst}
-use mathlib.Core.Logic.{inl, inr}
-use mathlib.Core.Bool.{Bool, true, false, not, _&&_}
-use mathlib.Core.List.{List, [], _∷_, _++_}
-use borrow.Author.Tests.{eq-eqb}
+use Rattle.prelude.specs.Kit.{ℕ, _+_, _-_, suc, min, max, arith, true, false, Bool, _&&_, not, _≡_, refl, _∙_, sym, ap}
+use Rattle.prelude.specs.Kit.{subst, inl, inr, List, [], _∷_, _++_, eq-eqb}
 use Rattle.semantics.specs.Basics.{with-if, occurrences}
 use Rattle.semantics.specs.Kinds.{Leaf, operation, call, literal, index, length-of, iota, replicate, leaf-hands}
 use Rattle.semantics.specs.Kinds.{leaf-reads, is-pending, Borrowing, picked}

@@ -1,11 +1,6 @@
 -- How often a name occurs among the members of a set: once if it is one of the first 256 and in the set.
-use Prim.Native.Nat.{ℕ, zero, suc, _+_, _≤_, _<_}
-use native.Mathlib.Omega.{arith}
-use native.Mathlib.Decide.{ℕ-discrete, decLt}
-use mathlib.Core.Path.{_≡_, refl, _∙_}
-use mathlib.Core.Logic.{_≢_, inl, inr}
-use mathlib.Core.Bool.{Bool, true, false, cond}
-use mathlib.Core.List.{List}
+use Rattle.prelude.specs.Kit.{ℕ, _≤_, _+_, _<_, suc, zero, arith, decLt, ℕ-discrete, true, false, Bool, cond, _≡_, refl}
+use Rattle.prelude.specs.Kit.{_∙_, inl, inr, _≢_, List}
 use Rattle.semantics.specs.Basics.{with-if, occurrences, _∈_}
 use Rattle.semantics.specs.Live.{Set, members-from, members}
 use Rattle.laws.specs.Lists.{hits}

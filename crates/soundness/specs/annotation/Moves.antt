@@ -1,9 +1,5 @@
 -- A tree that keeps its holds and lets none outlive its name; retains and releases before such a tree.
-use Prim.Native.Nat.{ℕ}
-use native.Mathlib.Omega.{arith}
-use mathlib.Core.Path.{refl, sym}
-use mathlib.Core.Bool.{Bool, true, false, cond, _&&_}
-use mathlib.Core.List.{List, [], _∷_, _++_}
+use Rattle.prelude.specs.Kit.{ℕ, arith, true, false, Bool, cond, _&&_, refl, sym, List, [], _∷_, _++_}
 use Rattle.semantics.specs.Basics.{with-if, occurrences}
 use Rattle.semantics.specs.Kinds.{Borrowing, Leaf, is-pending}
 use Rattle.semantics.specs.Code.{Line, leaf, if-else, loop, retain, release, Tree, end, line, retain-all, release-all}

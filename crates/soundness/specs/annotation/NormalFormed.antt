@@ -1,13 +1,6 @@
 -- `lines-formed`: the normal form of an expression whose new names have the right depths is well formed.
-use Prim.Native.Nat.{ℕ, suc, _+_, _≤_, _<_}
-use native.Mathlib.Omega.{arith}
-use mathlib.Core.Path.{_≡_, refl, sym, ap, _∙_, subst}
-use mathlib.Core.Bool.{true, false, cond}
-use mathlib.Core.List.{List, [], _∷_, map}
-use lib.IntN.{pos}
-use lib.ListN.{length}
-use lib.Dec.{eqb}
-use borrow.Author.Tests.{eq-eqb}
+use Rattle.prelude.specs.Kit.{ℕ, _≤_, _+_, _<_, suc, arith, true, false, cond, _≡_, refl, _∙_, sym, ap, subst, List, []}
+use Rattle.prelude.specs.Kit.{_∷_, map, eqb, pos, length, eq-eqb}
 use Rattle.semantics.specs.Basics.{updated}
 use Rattle.semantics.specs.Syntax as E
 use Rattle.semantics.specs.Syntax.{Expr, Exprs}

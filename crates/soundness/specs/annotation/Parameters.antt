@@ -1,13 +1,6 @@
 -- The parameters of a function: the depths of their names, written and new, and the arrays among them.
-use Prim.Native.Nat.{ℕ, zero, suc, _+_, _<_, min}
-use native.Mathlib.Omega.{arith}
-use native.Mathlib.Decide.{ℕ-discrete}
-use mathlib.Core.Path.{_≡_, refl, sym, ap, _∙_}
-use mathlib.Core.Logic.{_≢_}
-use mathlib.Core.Bool.{Bool, true, false, cond, false≢true}
-use mathlib.Core.List.{List, [], _∷_, map}
-use mathlib.Core.Option.{some}
-use lib.ListN.{getD}
+use Rattle.prelude.specs.Kit.{ℕ, _+_, _<_, suc, zero, min, arith, ℕ-discrete, true, false, Bool, cond, false≢true, _≡_}
+use Rattle.prelude.specs.Kit.{refl, _∙_, sym, ap, _≢_, some, List, [], _∷_, map, getD}
 use Rattle.laws.specs.Updates.{updated-other, updated-same}
 use Rattle.semantics.specs.Basics.{updated, occurrences}
 use Rattle.semantics.specs.Syntax.{Parameter}

@@ -1,10 +1,6 @@
 -- `program-disciplined`, `program-frugal`: the program of an accepted script whose code has at most 4,096 rows is what
 -- the machine's soundness asks for; and so it is in every style.
-use Prim.Native.Nat.{ℕ, _≤_}
-use native.Mathlib.Omega.{arith}
-use mathlib.Core.Path.{_≡_, refl, ap}
-use mathlib.Core.List.{List}
-use lib.ListN.{length}
+use Rattle.prelude.specs.Kit.{ℕ, _≤_, arith, _≡_, refl, ap, List, length}
 use Rattle.semantics.specs.Syntax.{Script, function-at}
 use Rattle.semantics.specs.Types.{Signature}
 use Rattle.semantics.specs.Borrow.{borrowed}

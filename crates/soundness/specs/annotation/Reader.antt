@@ -1,13 +1,7 @@
 -- What the reader answers is within its limits (`file-limited`): operands are at most what their kind allows.
-use Prim.Native.Nat.{ℕ, zero, suc, _+_, _≤_, _/_, _%_}
-use native.Mathlib.Omega.{arith}
-use mathlib.Core.Path.{_≡_, refl, sym, ap, _∙_, subst}
-use mathlib.Core.Bool.{Bool, true, false, cond}
-use mathlib.Core.List.{List, [], _∷_}
-use lib.IntN.{ℤ, pos, negsuc}
-use lib.ListN.{length, getD, take, drop}
-use lib.Dec.{eqb, leb}
-use borrow.Author.Tests.{leb-true, eqb-true}
+use Rattle.prelude.specs.Kit.{ℕ, _≤_, _+_, suc, zero, _%_, _/_, arith, true, false, Bool, cond, _≡_, refl, _∙_, sym, ap}
+use Rattle.prelude.specs.Kit.{subst, List, [], _∷_, eqb, leb, ℤ, pos, negsuc, length, getD, take, drop, eqb-true}
+use Rattle.prelude.specs.Kit.{leb-true}
 use Rattle.semantics.specs.Outcome.{Outcome, done, stop, _>>=_, _>>_, give, halt, times, onward}
 use Rattle.semantics.specs.Number.{bytes-at}
 use Rattle.semantics.specs.Syntax as S

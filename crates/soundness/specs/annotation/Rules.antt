@@ -1,13 +1,7 @@
 -- What the rules of the types give, and nodes without fault.
-use Prim.Native.Nat.{ℕ, zero, suc, _+_, _<_, pred}
-use native.Mathlib.Omega.{arith}
-use mathlib.Core.Path.{_≡_, refl, sym, ap, _∙_}
-use mathlib.Core.Bool.{Bool, true, false, cond, _&&_, false≢true}
-use mathlib.Core.List.{List, [], _∷_, _++_, map}
-use mathlib.Core.Option.{Option, none, some}
-use lib.ListN.{length, getD}
-use lib.Dec.{eqb, leb}
-use borrow.Author.Tests.{eqb-true}
+use Rattle.prelude.specs.Kit.{ℕ, _+_, _<_, suc, zero, pred, arith, true, false, Bool, cond, _&&_, false≢true, _≡_, refl}
+use Rattle.prelude.specs.Kit.{_∙_, sym, ap, some, none, Option, List, [], _∷_, _++_, map, eqb, leb, length, getD}
+use Rattle.prelude.specs.Kit.{eqb-true}
 use Rattle.laws.specs.Lists.{append-empty}
 use Rattle.semantics.specs.Basics.{with-if}
 use Rattle.semantics.specs.Kinds.{Leaf, operation, call, literal, index, length-of, iota, replicate, Loop, mapping}

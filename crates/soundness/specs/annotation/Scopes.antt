@@ -1,14 +1,6 @@
 -- `annotated-fits`: annotation gives trees whose depths fit and whose names are known.
-use Prim.Native.Nat.{ℕ, suc, _≤_, _<_}
-use native.Mathlib.Omega.{arith}
-use mathlib.Core.Path.{_≡_, refl, sym, ap, _∙_, subst}
-use mathlib.Core.Logic.{inl, inr}
-use mathlib.Core.Bool.{Bool, true, false, _&&_, not, false≢true}
-use mathlib.Core.List.{List, [], _∷_}
-use mathlib.Core.Option.{some}
-use lib.Dec.{leb}
-use lib.ListN.{length}
-use borrow.Author.Tests.{eq-eqb, ltb-true}
+use Rattle.prelude.specs.Kit.{ℕ, _≤_, _<_, suc, arith, true, false, Bool, _&&_, not, false≢true, _≡_, refl, _∙_, sym}
+use Rattle.prelude.specs.Kit.{ap, subst, inl, inr, some, List, [], _∷_, leb, length, eq-eqb, ltb-true}
 use Rattle.semantics.specs.Basics.{with-if, occurrences, _∈_}
 use Rattle.semantics.specs.Kinds.{Leaf, operation, call, literal, index, length-of, iota, replicate, leaf-hands}
 use Rattle.semantics.specs.Kinds.{leaf-reads, Loop, mapping, filtering, reducing, rewriting, loop-hands, loop-reads}

@@ -1,11 +1,6 @@
 -- Membership in sets of names, and sets that lie in the union of two others.
-use Prim.Native.Nat.{ℕ}
-use native.Mathlib.Decide.{ℕ-discrete}
-use mathlib.Core.Path.{_≡_, refl}
-use mathlib.Core.Logic.{_≢_, _⊎_, inl, inr}
-use mathlib.Core.Bool.{Bool, true, false, _||_, false≢true}
-use mathlib.Core.List.{List, [], _∷_}
-use borrow.Author.Tests.{eq-eqb, ne-eqb, eqb-true}
+use Rattle.prelude.specs.Kit.{ℕ, ℕ-discrete, true, false, Bool, false≢true, _||_, _≡_, refl, inl, inr, _≢_, _⊎_, List}
+use Rattle.prelude.specs.Kit.{[], _∷_, ne-eqb, eq-eqb, eqb-true}
 use Rattle.semantics.specs.Code.{Atom}
 use Rattle.semantics.specs.Live.{Set, empty, _∪_, _∖_, _∖∖_, only, just, is, among}
 use Rattle.laws.specs.Tests.{or-cases, or-left, or-right}

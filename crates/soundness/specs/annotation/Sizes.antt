@@ -1,12 +1,6 @@
 -- `annotated-adds`: code in another style adds no more references than that in the full style.
-use Prim.Native.Nat.{ℕ, _+_, _≤_}
-use native.Mathlib.Omega.{arith}
-use mathlib.Core.Path.{_≡_, refl, ap}
-use mathlib.Core.Logic.{_⊎_, inl, inr}
-use mathlib.Core.Bool.{Bool, true, false, cond, _&&_}
-use mathlib.Core.List.{List, [], _∷_}
-use lib.Dec.{ltb}
-use lib.ListN.{length}
+use Rattle.prelude.specs.Kit.{ℕ, _≤_, _+_, arith, true, false, Bool, cond, _&&_, _≡_, refl, ap, inl, inr, _⊎_, List, []}
+use Rattle.prelude.specs.Kit.{_∷_, ltb, length}
 use Rattle.semantics.specs.Basics.{with-if}
 use Rattle.semantics.specs.Syntax.{Function, Script}
 use Rattle.semantics.specs.Kinds.{Borrowing, Loop, mapping, filtering, reducing, rewriting, leaf-hands, leaf-reads}

@@ -1,13 +1,7 @@
 -- Trees that spare the names that are lent: they bind none of them and hand none over. A plain tree that does not spend
 -- them is one, and annotation by depths in which they are numbers keeps it so.
-use Prim.Native.Nat.{ℕ, suc, _≤_, _<_}
-use native.Mathlib.Omega.{arith}
-use mathlib.Core.Path.{_≡_, refl, sym, _∙_, subst}
-use mathlib.Core.Logic.{inl, inr}
-use mathlib.Core.Bool.{Bool, true, false, _&&_}
-use mathlib.Core.List.{List, [], _∷_}
-use lib.ListN.{length}
-use borrow.Author.Tests.{eq-eqb}
+use Rattle.prelude.specs.Kit.{ℕ, _≤_, _<_, suc, arith, true, false, Bool, _&&_, _≡_, refl, _∙_, sym, subst, inl, inr}
+use Rattle.prelude.specs.Kit.{List, [], _∷_, length, eq-eqb}
 use Rattle.semantics.specs.Basics.{with-if}
 use Rattle.semantics.specs.Kinds.{Borrowing, Loop, leaf-hands, leaf-reads, loop-hands, loop-reads, is-pending}
 use Rattle.semantics.specs.Kinds.{element-name}

@@ -1,9 +1,5 @@
 -- The depths that the lines of an expression give to their names, by recursion on the expression.
-use Prim.Native.Nat.{ℕ, suc, _+_, _≤_, _<_}
-use native.Mathlib.Omega.{arith}
-use mathlib.Core.Path.{_≡_, refl, ap, _∙_}
-use mathlib.Core.List.{List, [], _∷_, map}
-use lib.ListN.{length}
+use Rattle.prelude.specs.Kit.{ℕ, _≤_, _+_, _<_, suc, arith, _≡_, refl, _∙_, ap, List, [], _∷_, map, length}
 use Rattle.laws.specs.Endings.{ending-lines}
 use Rattle.laws.specs.Updates.{updated-other, updated-same}
 use Rattle.semantics.specs.Basics.{updated}

@@ -1,11 +1,6 @@
 -- `loop-line`: a loop, as it is written, before a sound tree. It lends the array that it reads to its tree.
-use Prim.Native.Nat.{ℕ, _+_, _-_, _≤_, _<_, min}
-use native.Mathlib.Omega.{arith}
-use native.Mathlib.Decide.{decLt}
-use mathlib.Core.Path.{_≡_, refl, sym, ap, _∙_, subst}
-use mathlib.Core.Logic.{inl, inr}
-use mathlib.Core.List.{List, [], _∷_, _++_}
-use lib.ListN.{length}
+use Rattle.prelude.specs.Kit.{ℕ, _≤_, _+_, _<_, _-_, min, arith, decLt, _≡_, refl, _∙_, sym, ap, subst, inl, inr, List}
+use Rattle.prelude.specs.Kit.{[], _∷_, _++_, length}
 use Rattle.semantics.specs.Basics.{occurrences, _∈_}
 use Rattle.semantics.specs.Kinds.{Borrowing, Loop, mapping, filtering, reducing, rewriting, loop-hands, loop-reads}
 use Rattle.semantics.specs.Kinds.{element-name}

@@ -1,11 +1,6 @@
 -- Typed expressions within the reader's limits. What a leaf or a loop asks of depths is its rule in `Types`, so the two
 -- records here serve the written nodes and the lines alike.
-use Prim.Native.Nat.{ℕ, suc, _<_, pred}
-use mathlib.Core.Path.{_≡_}
-use mathlib.Core.Bool.{Bool, true, false}
-use mathlib.Core.List.{List, [], _∷_, _++_}
-use mathlib.Core.Option.{some}
-use lib.ListN.{length, getD}
+use Rattle.prelude.specs.Kit.{ℕ, _<_, suc, pred, true, false, Bool, _≡_, some, List, [], _∷_, _++_, length, getD}
 use Rattle.semantics.specs.Basics.{updated}
 use Rattle.semantics.specs.Kinds.{Leaf, Loop, mapping, filtering, reducing, rewriting}
 use Rattle.semantics.specs.Syntax as S

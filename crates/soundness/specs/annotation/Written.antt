@@ -1,13 +1,6 @@
 -- The loop that annotation writes: the one that was there, or a map that rewrites its array.
-use Prim.Native.Nat.{ℕ}
-use native.Mathlib.Omega.{arith}
-use mathlib.Core.Path.{_≡_, refl}
-use mathlib.Core.Logic.{_⊎_, inl, inr}
-use mathlib.Core.Bool.{Bool, true, false, cond, not}
-use mathlib.Core.List.{List, [], _∷_}
-use lib.Dec.{eqb}
-use lib.ListN.{length}
-use borrow.Author.Tests.{eqb-true, not-true}
+use Rattle.prelude.specs.Kit.{ℕ, arith, true, false, Bool, cond, not, _≡_, refl, inl, inr, _⊎_, List, [], _∷_, eqb}
+use Rattle.prelude.specs.Kit.{length, eqb-true, not-true}
 use Rattle.semantics.specs.Kinds.{Borrowing, Loop, mapping, filtering, reducing, rewriting}
 use Rattle.semantics.specs.Code.{Atom, number, name, Tree}
 use Rattle.semantics.specs.Live.{Set, _∖∖_, uses}

@@ -1,13 +1,7 @@
 -- `largest`: the table of borrowed parameters has every entry of every stable table. The more is borrowed, the less is
 -- spent, so that no round takes away what a stable table has.
-use Prim.Native.Nat.{ℕ, zero, suc}
-use native.Mathlib.Omega.{arith}
-use mathlib.Core.Bool.{Bool, true, false, cond, not, _||_, false≢true}
-use mathlib.Core.Path.{_≡_, refl, sym, ap, _∙_}
-use mathlib.Core.Logic.{inl, inr}
-use mathlib.Core.List.{List, [], _∷_}
-use lib.Dec.{eqb}
-use borrow.Author.Tests.{ne-eqb}
+use Rattle.prelude.specs.Kit.{ℕ, suc, zero, arith, true, false, Bool, cond, not, false≢true, _||_, _≡_, refl, _∙_, sym}
+use Rattle.prelude.specs.Kit.{ap, inl, inr, List, [], _∷_, eqb, ne-eqb}
 use Rattle.laws.specs.Tests.{say-and, or-cases, or-left, or-right}
 use Rattle.semantics.specs.Basics.{with-if}
 use Rattle.semantics.specs.Kinds.{Borrowing, Leaf, operation, call, literal, index, length-of, iota, replicate}

@@ -1,12 +1,6 @@
 -- Tables of borrowed parameters, and what a round leaves of one.
-use Prim.Native.Nat.{ℕ, _<_}
-use native.Mathlib.Omega.{arith}
-use native.Mathlib.Decide.{decLt}
-use mathlib.Core.Bool.{Bool, true, false, not, _&&_, false≢true}
-use mathlib.Core.Path.{_≡_, sym, ap, _∙_}
-use mathlib.Core.List.{List, []}
-use lib.ListN.{length, getD, List·getD-eq-default}
-use lib.Dec.{eqb}
+use Rattle.prelude.specs.Kit.{ℕ, _<_, arith, decLt, true, false, Bool, _&&_, not, false≢true, _≡_, _∙_, sym, ap, List}
+use Rattle.prelude.specs.Kit.{[], eqb, length, getD, List·getD-eq-default}
 use Rattle.laws.specs.Lists.{tabulate-length, tabulate-at}
 use Rattle.semantics.specs.Basics.{tabulate}
 use Rattle.semantics.specs.Kinds.{Borrowing}

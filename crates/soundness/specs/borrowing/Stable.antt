@@ -1,14 +1,7 @@
 -- `stable`: in the table of borrowed parameters no borrowed parameter is spent. Each round that changes something takes
 -- away one entry of 256.
-use Prim.Native.Nat.{ℕ, zero, suc, _+_, _<_}
-use native.Mathlib.Omega.{arith}
-use mathlib.Core.Bool.{Bool, true, false, cond, not, _&&_, false≢true}
-use mathlib.Core.Path.{_≡_, refl, sym, ap, _∙_}
-use mathlib.Core.Logic.{_⊎_, inl, inr}
-use mathlib.Core.List.{List, [], _∷_}
-use lib.ListN.{length, getD}
-use lib.Dec.{eqb}
-use borrow.Author.Tests.{not-true}
+use Rattle.prelude.specs.Kit.{ℕ, _+_, _<_, suc, zero, arith, true, false, Bool, cond, _&&_, not, false≢true, _≡_, refl}
+use Rattle.prelude.specs.Kit.{_∙_, sym, ap, inl, inr, _⊎_, List, [], _∷_, eqb, length, getD, not-true}
 use Rattle.laws.specs.Tests.{both-hold, say-and}
 use Rattle.semantics.specs.Basics.{tabulate}
 use Rattle.semantics.specs.Kinds.{Borrowing}

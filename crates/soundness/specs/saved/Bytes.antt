@@ -1,13 +1,7 @@
 -- Numbers in bytes, written and read back.
-use Prim.Native.Nat.{ℕ, zero, suc, _+_, _-_, _/_, _%_, _^_, _<_}
-use native.Mathlib.Omega.{arith}
-use mathlib.Core.Bool.{true}
-use mathlib.Core.Path.{_≡_, refl, ap, _∙_}
-use mathlib.Core.List.{List, [], _∷_, _++_, append-assoc}
-use lib.IntN.{ℤ, pos, negsuc}
-use lib.ListN.{length, getD, length-append}
-use lib.Seq.{getD-at}
-use borrow.Author.Tests.{ltb-true, le-ltb}
+use Rattle.prelude.specs.Kit.{ℕ, _+_, _<_, _-_, suc, zero, _%_, _^_, _/_, arith, true, _≡_, refl, _∙_, ap, List, []}
+use Rattle.prelude.specs.Kit.{_∷_, _++_, append-assoc, ℤ, pos, negsuc, length, getD, length-append, getD-at, le-ltb}
+use Rattle.prelude.specs.Kit.{ltb-true}
 use Rattle.semantics.specs.Number.{fits, bytes-at, signed}
 use Rattle.semantics.specs.Saved.{unsigned, low-bytes}
 

@@ -1,11 +1,6 @@
 -- The swap at two scripts: a site that is swapped between its deliveries and after them, beside one never swapped, as
 -- computed and by the theorem; and demand 3 from a restored store.
-use Prim.Native.Nat.{ℕ}
-use mathlib.Core.Path.{_≡_, refl, sym, ap, _∙_, subst}
-use mathlib.Core.List.{List, [], _∷_, _++_, map}
-use mathlib.Core.Option.{some}
-use lib.IntN.{ℤ, pos}
-use lib.ListN.{replicate}
+use Rattle.prelude.specs.Kit.{ℕ, _≡_, refl, _∙_, sym, ap, subst, some, List, [], _∷_, _++_, map, ℤ, pos, replicate}
 use Rattle.semantics.specs.Syntax.{Script, main-depth}
 use Rattle.semantics.specs.Value.{Value, list, numbers}
 use Rattle.semantics.specs.Calls.{packed, number-of, lowest-of, StoreReply}

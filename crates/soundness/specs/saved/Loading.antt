@@ -1,14 +1,7 @@
 -- A value loaded into a store: the word stands for it, what was in use stays, and 25 comes only where no cell is free.
-use Prim.Native.Nat.{ℕ, zero, suc, _+_, _<_, _≤_}
-use native.Mathlib.Omega.{arith}
-use native.Mathlib.Decide.{decLt}
-use mathlib.Core.Bool.{Bool, true, false}
-use mathlib.Core.Path.{_≡_, refl, sym, ap, ap₂, _∙_, subst}
-use mathlib.Core.Logic.{_≢_, inl, inr}
-use mathlib.Core.List.{List, [], _∷_, _++_, map, map-append, append-assoc, append-nil}
-use lib.IntN.{ℤ, pos}
-use lib.ListN.{length, length-append}
-use borrow.Author.Tests.{ltb-true}
+use Rattle.prelude.specs.Kit.{ℕ, _≤_, _+_, _<_, suc, zero, arith, decLt, true, false, Bool, _≡_, refl, _∙_, sym, ap}
+use Rattle.prelude.specs.Kit.{subst, ap₂, inl, inr, _≢_, List, [], _∷_, _++_, map, append-assoc, append-nil, map-append}
+use Rattle.prelude.specs.Kit.{ℤ, pos, length, length-append, ltb-true}
 use Rattle.semantics.specs.Basics.{occurrences, _∈_}
 use Rattle.semantics.specs.Outcome.{Outcome, done, stop, Run, give, onward, passes}
 use Rattle.semantics.specs.Value.{Value, num, array, Values, nil, cons, to-list, list}

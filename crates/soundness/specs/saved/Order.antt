@@ -1,10 +1,6 @@
 -- The cells of an array in prefix order, and what leaves them alone.
-use Prim.Native.Nat.{ℕ, zero, suc}
-use native.Mathlib.Omega.{arith}
-use mathlib.Core.Path.{_≡_, refl, sym, ap, ap₂, _∙_, subst}
-use mathlib.Core.List.{List, [], _∷_, _++_, map, append-assoc}
-use lib.IntN.{ℤ}
-use lib.ListN.{length, length-append}
+use Rattle.prelude.specs.Kit.{ℕ, suc, zero, arith, _≡_, refl, _∙_, sym, ap, subst, ap₂, List, [], _∷_, _++_, map}
+use Rattle.prelude.specs.Kit.{append-assoc, ℤ, length, length-append}
 use Rattle.semantics.specs.Basics.{occurrences, _∈_}
 use Rattle.semantics.specs.Store.{Store, cell, cell-of, elements, inner, named-by}
 use Rattle.semantics.specs.Value.{of-list}

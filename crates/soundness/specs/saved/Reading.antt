@@ -1,13 +1,6 @@
 -- What is read from a file has the depth asked for.
-use Prim.Native.Nat.{ℕ, zero, suc, _-_, _≤_}
-use native.Mathlib.Omega.{arith}
-use mathlib.Core.Bool.{Bool, true, false, cond, _&&_}
-use mathlib.Core.Path.{_≡_, refl, ap, subst}
-use mathlib.Core.List.{List, _∷_}
-use mathlib.Core.Option.{none, some}
-use lib.ListN.{length}
-use lib.Dec.{eqb, ltb, leb}
-use borrow.Author.Tests.{leb-true}
+use Rattle.prelude.specs.Kit.{ℕ, _≤_, _-_, suc, zero, arith, true, false, Bool, cond, _&&_, _≡_, refl, ap, subst, some}
+use Rattle.prelude.specs.Kit.{none, List, _∷_, eqb, ltb, leb, length, leb-true}
 use Rattle.semantics.specs.Outcome.{Outcome, done, stop, Run, give, onward, times}
 use Rattle.semantics.specs.Number.{is-zero}
 use Rattle.semantics.specs.Value.{Value, num, of-list, list}

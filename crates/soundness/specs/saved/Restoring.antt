@@ -1,15 +1,8 @@
 -- A restore that answers 0 leaves a store at rest with the value of the file, from which demand 3 holds. It ends in 25
 -- just where the value has more arrays than there are cells.
-use Prim.Native.Nat.{ℕ, _+_, _<_, _≤_}
-use native.Mathlib.Omega.{arith}
-use mathlib.Core.Bool.{Bool, true, false, cond}
-use mathlib.Core.Path.{_≡_, sym, refl, ap, ap₂, _∙_, subst}
-use mathlib.Core.List.{List, [], _∷_, _++_, append-nil}
-use mathlib.Core.Option.{Option, none, some}
-use lib.IntN.{ℤ}
-use lib.ListN.{length, length-append}
-use lib.Dec.{leb}
-use borrow.Author.Tests.{le-leb, lt-leb}
+use Rattle.prelude.specs.Kit.{ℕ, _≤_, _+_, _<_, arith, true, false, Bool, cond, _≡_, refl, _∙_, sym, ap, subst, ap₂}
+use Rattle.prelude.specs.Kit.{some, none, Option, List, [], _∷_, _++_, append-nil, leb, ℤ, length, length-append}
+use Rattle.prelude.specs.Kit.{le-leb, lt-leb}
 use Rattle.semantics.specs.Basics.{tabulate, _∈_}
 use Rattle.semantics.specs.Outcome.{Outcome, done, stop, onward}
 use Rattle.semantics.specs.Syntax.{Script, main-depth}

@@ -1,10 +1,6 @@
 -- The free list of a store with no cell in use: all cells, upwards.
-use Prim.Native.Nat.{ℕ, zero, suc, _+_, _<_}
-use native.Mathlib.Omega.{arith}
-use mathlib.Core.Path.{_≡_, refl, sym, ap, _∙_, subst}
-use mathlib.Core.List.{List, [], _∷_}
-use lib.IntN.{pos}
-use lib.ListN.{length, replicate}
+use Rattle.prelude.specs.Kit.{ℕ, _+_, _<_, suc, zero, arith, _≡_, refl, _∙_, sym, ap, subst, List, [], _∷_, pos, length}
+use Rattle.prelude.specs.Kit.{replicate}
 use Rattle.semantics.specs.Basics.{tabulate}
 use Rattle.semantics.specs.Store.{Cell, Store, Linked, cell, cell-count, clear, linked, relinked, zeroed}
 use Rattle.semantics.specs.Sound.{free-list}

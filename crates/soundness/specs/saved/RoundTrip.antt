@@ -1,14 +1,7 @@
 -- A value written to a file is read back from it.
-use Prim.Native.Nat.{ℕ, zero, suc, _+_, _-_, _*_, _<_, _≤_}
-use native.Mathlib.Omega.{arith}
-use mathlib.Core.Bool.{true}
-use mathlib.Core.Path.{_≡_, refl, sym, ap, _∙_, subst}
-use mathlib.Core.List.{List, [], _∷_, _++_, append-assoc}
-use mathlib.Core.Option.{some}
-use lib.IntN.{ℤ, pos}
-use lib.ListN.{length, getD, length-append}
-use lib.Seq.{getD-at}
-use borrow.Author.Tests.{lt-ltb, le-leb, eq-eqb}
+use Rattle.prelude.specs.Kit.{ℕ, _≤_, _+_, _<_, _-_, suc, zero, _*_, arith, true, _≡_, refl, _∙_, sym, ap, subst, some}
+use Rattle.prelude.specs.Kit.{List, [], _∷_, _++_, append-assoc, ℤ, pos, length, getD, length-append, getD-at, lt-ltb}
+use Rattle.prelude.specs.Kit.{eq-eqb, le-leb}
 use Rattle.semantics.specs.Outcome.{Outcome, done, onward, times}
 use Rattle.semantics.specs.Number.{fits, bytes-at, signed}
 use Rattle.semantics.specs.Value.{Value, num, array, Values, nil, cons, to-list}

@@ -1,9 +1,5 @@
 -- Values of a depth: what a typed script's totals are, and what a saved file can hold.
-use Prim.Native.Nat.{ℕ, zero, suc, _+_, _≤_}
-use native.Mathlib.Omega.{arith}
-use mathlib.Core.Bool.{true}
-use mathlib.Core.Path.{_≡_, refl, ap}
-use mathlib.Core.List.{List, [], _∷_, _++_}
+use Rattle.prelude.specs.Kit.{ℕ, _≤_, _+_, suc, zero, arith, true, _≡_, refl, ap, List, [], _∷_, _++_}
 use Rattle.semantics.specs.Number.{fits}
 use Rattle.semantics.specs.Value.{Value, num, array, Values, nil, cons, of-list, to-list}
 use Rattle.semantics.specs.Saved.{size-of}

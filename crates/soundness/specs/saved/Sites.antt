@@ -1,13 +1,7 @@
 -- Sites of the definitions' calls: the same deliveries worked at two sites, each swapped when its plan says so, and the
 -- theorem of the swap at them.
-use Prim.Native.Nat.{ℕ, zero, suc, _+_, _*_}
-use mathlib.Core.Bool.{Bool, true, _&&_}
-use mathlib.Core.Path.{_≡_, refl, sym, ap₂, _∙_, subst}
-use mathlib.Core.List.{List, [], _∷_}
-use lib.IntN.{ℤ, pos}
-use lib.ListN.{replicate}
-use lib.Dec.{eqb}
-use borrow.Author.Tests.{eqb-true}
+use Rattle.prelude.specs.Kit.{ℕ, _+_, suc, zero, _*_, true, Bool, _&&_, _≡_, refl, _∙_, sym, subst, ap₂, List, [], _∷_}
+use Rattle.prelude.specs.Kit.{eqb, ℤ, pos, replicate, eqb-true}
 use Rattle.semantics.specs.Basics.{occurrences}
 use Rattle.semantics.specs.Number.{fits}
 use Rattle.semantics.specs.Syntax.{Script}

@@ -1,9 +1,5 @@
 -- What two sites show that tell the same story: the number and the steps of each delivery, and the value after it.
-use Prim.Native.Nat.{ℕ}
-use native.Mathlib.Omega.{arith}
-use mathlib.Core.Path.{_≡_, refl, sym, ap, ap₂, _∙_}
-use mathlib.Core.Logic.{inl, inr}
-use mathlib.Core.List.{List, [], _∷_}
+use Rattle.prelude.specs.Kit.{ℕ, arith, _≡_, refl, _∙_, sym, ap, ap₂, inl, inr, List, [], _∷_}
 use Rattle.semantics.specs.Basics.{occurrences}
 use Rattle.semantics.specs.Syntax.{Script}
 use Rattle.semantics.specs.Value.{Value}

@@ -1,16 +1,7 @@
 -- The swap: sites that are saved and restored at any times go on as one never swapped, while none meets 25.
-use Prim.Native.Nat.{ℕ, _-_, _≤_}
-use native.Mathlib.Omega.{arith}
-use mathlib.Core.Bool.{Bool, true, false}
-use mathlib.Core.Path.{_≡_, refl, sym, ap, _∙_, subst}
-use mathlib.Core.Logic.{_≢_}
-use mathlib.Core.List.{List, [], _∷_, _++_, append-assoc}
-use mathlib.Core.Option.{none, some}
-use lib.IntN.{ℤ}
-use lib.ListN.{length, take, replicate}
-use lib.Seq.{take-at}
-use lib.Dec.{leb}
-use borrow.Author.Tests.{leb-true, ne-eqb}
+use Rattle.prelude.specs.Kit.{ℕ, _≤_, _-_, arith, true, false, Bool, _≡_, refl, _∙_, sym, ap, subst, _≢_, some, none}
+use Rattle.prelude.specs.Kit.{List, [], _∷_, _++_, append-assoc, leb, ℤ, length, replicate, take, take-at, ne-eqb}
+use Rattle.prelude.specs.Kit.{leb-true}
 use Rattle.semantics.specs.Syntax.{Script, main-depth}
 use Rattle.semantics.specs.Value.{Value, first-totals}
 use Rattle.semantics.specs.Words.{store-of}

@@ -1,12 +1,6 @@
 -- The value of totals in two arrays: it has its depth, and numbers of 64 bits.
-use Prim.Native.Nat.{ℕ, zero, suc, _+_, _*_, _≤_}
-use native.Mathlib.Omega.{arith}
-use native.Mathlib.Decide.{decLt}
-use mathlib.Core.Bool.{true}
-use mathlib.Core.Path.{_≡_, refl, sym, subst}
-use mathlib.Core.List.{List, [], _∷_, map}
-use lib.IntN.{ℤ, pos}
-use lib.ListN.{length, getD, take, length-take, length-map, List·getD-eq-default}
+use Rattle.prelude.specs.Kit.{ℕ, _≤_, _+_, suc, zero, _*_, arith, decLt, true, _≡_, refl, sym, subst, List, [], _∷_}
+use Rattle.prelude.specs.Kit.{map, ℤ, pos, length, getD, List·getD-eq-default, take, length-take, length-map}
 use Rattle.semantics.specs.Basics.{tabulate}
 use Rattle.semantics.specs.Number.{fits}
 use Rattle.semantics.specs.Value.{of-list}

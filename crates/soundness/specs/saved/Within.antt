@@ -1,7 +1,5 @@
 -- What holds of some calls holds of every engine whose calls are among them: demand 3 after a restore, and the swap.
-use Prim.Native.Nat.{ℕ}
-use mathlib.Core.List.{List}
-use lib.IntN.{ℤ}
+use Rattle.prelude.specs.Kit.{ℕ, List, ℤ}
 use Rattle.semantics.specs.Calls.{StoreReply}
 use Rattle.semantics.specs.SaveCalls.{SaveReply}
 use Rattle.semantics.specs.Demands.{Call}

@@ -1,6 +1,5 @@
 -- `store::acquire` meets its contract.
-use mathlib.Core.Path.{sym, ap, _∙_}
-use borrow.Author.Needs.{needs}
+use Rattle.prelude.specs.Kit.{_∙_, sym, ap, needs}
 use Rattle.semantics.specs.Words.{store-of}
 use Rattle.store.specs.Acquiring.{gained, acquired-outcome, appended-all}
 use Rattle.store.proofs.Acquiring.{with-remaining}

@@ -1,9 +1,5 @@
 -- `store::acquire_empty` meets its contract.
-use mathlib.Core.Path.{_∙_}
-use mathlib.Core.List.{[]}
-use native.Mathlib.Omega.{arith}
-use lib.ListN.{length-set, getD}
-use borrow.Author.Needs.{needs}
+use Rattle.prelude.specs.Kit.{arith, _∙_, [], getD, length-set, needs}
 use Rattle.semantics.specs.Words.{cells-in}
 use Rattle.store_words.specs.Parts.{InCells}
 use Rattle.store_words.proofs.CellWords.{told-there, told-gone}

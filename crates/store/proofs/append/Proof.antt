@@ -1,6 +1,5 @@
 -- `store::append` meets its contract.
-use mir.Facts.{toZ-ofZ}
-use borrow.Author.Needs.{needs}
+use Rattle.prelude.specs.Kit.{needs, toZ-ofZ}
 use Rattle.store.proofs.Appending.{append-out}
 use Rattle.store.proofs.append.Statement.{statement}
 use Rattle.store.proofs.append.Tie as tie

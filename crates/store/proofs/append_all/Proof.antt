@@ -1,11 +1,5 @@
 -- `store::append_all` meets its contract.
-use mathlib.Core.Path.{_≡_, refl, sym, ap, _∙_}
-use Prim.Native.Nat.{_+_, _-_, _≤_}
-use native.Mathlib.Omega.{arith}
-use lib.IntN.{pos}
-use lib.ListN.{length, getD, drop}
-use mir.Facts.{toZ-ofZ}
-use borrow.Author.Needs.{needs}
+use Rattle.prelude.specs.Kit.{_≤_, _+_, _-_, arith, _≡_, refl, _∙_, sym, ap, pos, length, getD, drop, needs, toZ-ofZ}
 use Rattle.semantics.specs.Words.{store-of}
 use Rattle.store.specs.Acquiring.{appended-all}
 use Rattle.store.proofs.Filling.{appended-next, appended-end}

@@ -1,5 +1,5 @@
 -- `store::is_alone` meets its contract.
-use borrow.Author.Needs.{needs}
+use Rattle.prelude.specs.Kit.{needs}
 use Rattle.store_words.specs.Parts.{InCells}
 use Rattle.store_words.proofs.CellWords.{told-there, told-gone}
 use Rattle.store.proofs.Overwriting.{alone-out, alone-in}

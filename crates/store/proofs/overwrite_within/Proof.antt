@@ -1,8 +1,5 @@
 -- `store::overwrite_within` meets its contract.
-use Prim.Native.Nat.{_+_, _*_, _<_}
-use native.Mathlib.Omega.{arith}
-use mir.Facts.{toZ-ofZ}
-use borrow.Author.Needs.{needs}
+use Rattle.prelude.specs.Kit.{_+_, _<_, _*_, arith, needs, toZ-ofZ}
 use Rattle.semantics.specs.Words.{cells-in}
 use Rattle.store_words.proofs.CellWords.{to-cells}
 use Rattle.store.proofs.Overwriting.{overwrite-past, overwrite-outside, overwrite-one}

@@ -1,6 +1,5 @@
 -- `store::retain` meets its contract.
-use native.Mathlib.Omega.{arith}
-use borrow.Author.Needs.{needs}
+use Rattle.prelude.specs.Kit.{arith, needs}
 use Rattle.store_words.specs.Parts.{InCells}
 use Rattle.store.proofs.Retaining.{retain-out, retain-one, retain-full}
 use Rattle.store.proofs.retain.Statement.{statement}

@@ -1,11 +1,5 @@
 -- `store_check::all_name_cells` meets its contract.
-use mathlib.Core.Path.{_≡_}
-use Prim.Native.Nat.{_+_, _-_}
-use native.Mathlib.Omega.{arith}
-use lib.IntN.{pos}
-use lib.ListN.{getD}
-use mir.Facts.{toZ-ofZ}
-use borrow.Author.Needs.{needs}
+use Rattle.prelude.specs.Kit.{_+_, _-_, arith, _≡_, pos, getD, needs, toZ-ofZ}
 use Rattle.semantics.specs.Words.{store-of}
 use Rattle.laws.specs.Tests.{passed, failed}
 use Rattle.store_check.proofs.Comparing.{names-at, numbers, names}

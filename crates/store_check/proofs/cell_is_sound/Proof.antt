@@ -1,9 +1,5 @@
 -- `store_check::cell_is_sound` meets its contract.
-use mathlib.Core.Path.{_≡_}
-use mathlib.Core.Bool.{true}
-use Prim.Native.Nat.{_<_}
-use native.Mathlib.Omega.{arith}
-use borrow.Author.Needs.{needs}
+use Rattle.prelude.specs.Kit.{_<_, arith, true, _≡_, needs}
 use Rattle.semantics.specs.Words.{cells-in}
 use Rattle.laws.specs.Tests.{passed, failed}
 use Rattle.store_words.proofs.CellWords.{to-cells}

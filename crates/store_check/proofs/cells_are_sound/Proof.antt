@@ -1,7 +1,5 @@
 -- `store_check::cells_are_sound` meets its contract.
-use Prim.Native.Nat.{_-_}
-use native.Mathlib.Omega.{arith}
-use borrow.Author.Needs.{needs}
+use Rattle.prelude.specs.Kit.{_-_, arith, needs}
 use Rattle.semantics.specs.Words.{store-of}
 use Rattle.laws.specs.Tests.{passed, failed}
 use Rattle.store_check.specs.Fitting.{fits}

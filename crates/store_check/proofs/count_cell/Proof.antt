@@ -1,6 +1,5 @@
 -- `store_check::count_cell` meets its contract.
-use native.Mathlib.Omega.{arith}
-use borrow.Author.Needs.{needs}
+use Rattle.prelude.specs.Kit.{arith, needs}
 use Rattle.store_words.proofs.CellWords.{to-cells}
 use Rattle.store_check.proofs.Gathering.{free-cell, used-cell}
 use Rattle.store_check.proofs.count_cell.Statement.{statement}

@@ -1,6 +1,5 @@
 -- `store_check::count_one` meets its contract.
-use native.Mathlib.Omega.{arith}
-use borrow.Author.Needs.{needs}
+use Rattle.prelude.specs.Kit.{arith, needs}
 use Rattle.store_check.proofs.Tallying.{count-small, count-full, count-out}
 use Rattle.store_check.proofs.count_one.Statement.{statement}
 use Rattle.store_check.proofs.count_one.Tie as tie

@@ -1,11 +1,5 @@
 -- `store_check::count_words` meets its contract.
-use mathlib.Core.Path.{_≡_, refl, _∙_, sym}
-use Prim.Native.Nat.{_+_, _-_, _≤_}
-use native.Mathlib.Omega.{arith}
-use lib.IntN.{pos}
-use lib.ListN.{length, getD}
-use mir.Facts.{toZ-ofZ}
-use borrow.Author.Needs.{needs}
+use Rattle.prelude.specs.Kit.{_≤_, _+_, _-_, arith, _≡_, refl, _∙_, sym, pos, length, getD, needs, toZ-ofZ}
 use Rattle.semantics.specs.Basics.{tabulate}
 use Rattle.laws.specs.Lists.{tabulate-length}
 use Rattle.store_words.proofs.Tables.{table-at}

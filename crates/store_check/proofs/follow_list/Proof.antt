@@ -1,9 +1,5 @@
 -- `store_check::follow_list` meets its contract.
-use mathlib.Core.Path.{_≡_, refl, _∙_}
-use Prim.Native.Nat.{_≤_}
-use native.Mathlib.Omega.{arith}
-use lib.ListN.{length, getD}
-use borrow.Author.Needs.{needs}
+use Rattle.prelude.specs.Kit.{_≤_, arith, _≡_, refl, _∙_, length, getD, needs}
 use Rattle.semantics.specs.Words.{store-of}
 use Rattle.store_words.proofs.CellWords.{store-size}
 use Rattle.store_check.proofs.FreeList.{Following, following-more, following-spent, following-out}

@@ -1,9 +1,5 @@
 -- `store_check::gather` meets its contract.
-use mathlib.Core.Path.{_≡_, _∙_}
-use Prim.Native.Nat.{_-_, _≤_}
-use native.Mathlib.Omega.{arith}
-use lib.ListN.{length}
-use borrow.Author.Needs.{needs}
+use Rattle.prelude.specs.Kit.{_≤_, _-_, arith, _≡_, _∙_, length, needs}
 use Rattle.semantics.specs.Store.{clear}
 use Rattle.semantics.specs.Words.{store-of}
 use Rattle.store_words.proofs.CellWords.{store-size, cell-listed}

@@ -1,8 +1,5 @@
 -- `store_check::head_of` meets its contract.
-use mathlib.Core.Path.{sym}
-use Prim.Native.Nat.{_+_, _*_}
-use native.Mathlib.Omega.{arith}
-use borrow.Author.Needs.{needs}
+use Rattle.prelude.specs.Kit.{_+_, _*_, arith, sym, needs}
 use Rattle.store_words.proofs.CellWords.{to-cells, count-is, size-is, depth-is, next-is}
 use Rattle.store_check.proofs.head_of.Statement.{statement}
 use Rattle.store_check.proofs.head_of.Tie as tie

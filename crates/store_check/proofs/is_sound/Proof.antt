@@ -1,8 +1,5 @@
 -- `store_check::is_sound` meets its contract.
-use mathlib.Core.Path.{_≡_, sym, _∙_}
-use mathlib.Core.Bool.{true}
-use native.Mathlib.Omega.{arith}
-use borrow.Author.Needs.{needs}
+use Rattle.prelude.specs.Kit.{arith, true, _≡_, _∙_, sym, needs}
 use Rattle.semantics.specs.Words.{shaped}
 use Rattle.laws.specs.Tests.{passed, failed}
 use Rattle.store_check.proofs.Whole.{first-words, unfit, list-open, totals-fail, cells-decide}

@@ -1,8 +1,5 @@
 -- `store_check::names_cell` meets its contract.
-use mathlib.Core.Path.{_≡_}
-use native.Mathlib.Omega.{arith}
-use mir.Facts.{toZ-ofZ}
-use borrow.Author.Needs.{needs}
+use Rattle.prelude.specs.Kit.{arith, _≡_, needs, toZ-ofZ}
 use Rattle.semantics.specs.Store.{cell-of}
 use Rattle.store_words.proofs.CellWords.{store-size}
 use Rattle.store_check.proofs.Comparing.{names-out, names-free, names-deep}

@@ -1,10 +1,5 @@
 -- `store_check::zero_from` meets its contract.
-use mathlib.Core.Path.{ap, _∙_}
-use Prim.Native.Nat.{_+_, _-_, _*_}
-use native.Mathlib.Omega.{arith}
-use lib.IntN.{pos}
-use lib.ListN.{getD}
-use borrow.Author.Needs.{needs}
+use Rattle.prelude.specs.Kit.{_+_, _-_, _*_, arith, _∙_, ap, pos, getD, needs}
 use Rattle.semantics.specs.Words.{slots-at}
 use Rattle.semantics.specs.Number.{is-zero}
 use Rattle.store_words.proofs.CellWords.{slot-is}

@@ -1,13 +1,6 @@
 -- `store_release::release` meets its contract.
-use mathlib.Core.Path.{_≡_, refl, ap, _∙_}
-use Prim.Native.Nat.{_+_, _-_, _*_, _≤_, ℕ, _<_}
-use native.Mathlib.Omega.{arith}
-use lib.IntN.{pos}
-use lib.ListN.{length, getD}
-use mir.Facts.{toZ-ofZ}
-use borrow.Author.Needs.{needs}
-use borrow.Fn.Kinds.{In}
-use borrow.Fn.PlainCycle.{Measures, is, falls, and}
+use Rattle.prelude.specs.Kit.{ℕ, _≤_, _+_, _<_, _-_, _*_, arith, _≡_, refl, _∙_, ap, pos, length, getD, needs, In, and}
+use Rattle.prelude.specs.Kit.{falls, is, Measures, toZ-ofZ}
 use Rattle.semantics.specs.Words.{store-of}
 use Rattle.store_words.specs.Parts.{InCells}
 use Rattle.store_words.proofs.CellWords.{told-there, told-gone, slots-length}

@@ -1,8 +1,5 @@
 -- `store_release::free` meets its contract.
-use mathlib.Core.Path.{_∙_}
-use native.Mathlib.Omega.{arith}
-use lib.ListN.{length-set}
-use borrow.Author.Needs.{needs}
+use Rattle.prelude.specs.Kit.{arith, _∙_, length-set, needs}
 use Rattle.store_words.proofs.CellWords.{to-cells}
 use Rattle.store_release.proofs.Releasing.{freed-store}
 use Rattle.store_release.proofs.free.Statement.{statement}

@@ -1,11 +1,5 @@
 -- `store_release::slots_of` meets its contract.
-use mathlib.Core.Path.{refl}
-use Prim.Native.Nat.{_+_, _*_, _-_, _≤_}
-use native.Mathlib.Omega.{arith}
-use lib.IntN.{pos}
-use lib.ListN.{getD}
-use mir.Facts.{toZ-ofZ}
-use borrow.Author.Needs.{needs}
+use Rattle.prelude.specs.Kit.{_≤_, _+_, _-_, _*_, arith, refl, pos, getD, needs, toZ-ofZ}
 use Rattle.store_words.proofs.SlotLoops.{Reading, reading-none, reading-more, reading-all}
 use Rattle.store_release.proofs.slots_of.Statement.{statement}
 use Rattle.store_release.proofs.slots_of.Tie as tie

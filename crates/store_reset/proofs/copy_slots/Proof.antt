@@ -1,11 +1,5 @@
 -- `store_reset::copy_slots` meets its contract.
-use mathlib.Core.Path.{_≡_, refl}
-use Prim.Native.Nat.{_-_, _≤_}
-use native.Mathlib.Omega.{arith}
-use lib.IntN.{pos}
-use lib.ListN.{length, length-set}
-use mir.Facts.{toZ-ofZ}
-use borrow.Author.Needs.{needs}
+use Rattle.prelude.specs.Kit.{_≤_, _-_, arith, _≡_, refl, pos, length, length-set, needs, toZ-ofZ}
 use Rattle.store_reset.proofs.Copying.{Copying, copying-none, copying-more, copying-all}
 use Rattle.store_reset.proofs.copy_slots.Statement.{statement}
 use Rattle.store_reset.proofs.copy_slots.Tie as tie

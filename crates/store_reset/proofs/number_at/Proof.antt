@@ -1,7 +1,5 @@
 -- `store_reset::number_at` meets its contract.
-use mathlib.Core.Path.{sym}
-use lib.ListN.{List·getD-eq-default}
-use borrow.Author.Needs.{needs}
+use Rattle.prelude.specs.Kit.{sym, List·getD-eq-default, needs}
 use Rattle.store_reset.proofs.number_at.Statement.{statement}
 use Rattle.store_reset.proofs.number_at.Tie as tie
 

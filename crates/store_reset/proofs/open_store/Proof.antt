@@ -1,5 +1,5 @@
 -- `store_reset::open_store` meets its contract.
-use borrow.Author.Needs.{needs}
+use Rattle.prelude.specs.Kit.{needs}
 use Rattle.store_reset.proofs.Opening.{open-flat, open-deep}
 use Rattle.store_reset.proofs.open_store.Statement.{statement}
 use Rattle.store_reset.proofs.open_store.Tie as tie

@@ -1,6 +1,5 @@
 -- `store_reset::put_back` meets its contract.
-use mathlib.Core.Path.{ap₂, _∙_}
-use borrow.Author.Needs.{needs}
+use Rattle.prelude.specs.Kit.{_∙_, ap₂, needs}
 use Rattle.semantics.specs.Words.{store-of}
 use Rattle.semantics.specs.Store.{relinked}
 use Rattle.store_reset.proofs.put_back.Statement.{statement}

@@ -1,8 +1,5 @@
 -- `store_reset::relink` meets its contract.
-use mathlib.Core.Path.{refl, _∙_}
-use Prim.Native.Nat.{_≤_}
-use native.Mathlib.Omega.{arith}
-use borrow.Author.Needs.{needs}
+use Rattle.prelude.specs.Kit.{_≤_, arith, refl, _∙_, needs}
 use Rattle.semantics.specs.Words.{store-of}
 use Rattle.store_words.proofs.Puts.{LengthsKept, cells-kept}
 use Rattle.store_words.proofs.CellWords.{store-size}

@@ -1,6 +1,5 @@
 -- `store_reset::relink_cell` meets its contract.
-use native.Mathlib.Omega.{arith}
-use borrow.Author.Needs.{needs}
+use Rattle.prelude.specs.Kit.{arith, needs}
 use Rattle.store_words.proofs.CellWords.{to-cells}
 use Rattle.store_reset.proofs.Linking.{link-used, link-free}
 use Rattle.store_reset.proofs.relink_cell.Statement.{statement}

@@ -1,9 +1,5 @@
 -- `store_reset::save_heads` meets its contract.
-use mathlib.Core.Path.{_≡_, refl}
-use Prim.Native.Nat.{_-_, _<_, _≤_}
-use native.Mathlib.Omega.{arith}
-use lib.ListN.{length, length-set}
-use borrow.Author.Needs.{needs}
+use Rattle.prelude.specs.Kit.{_≤_, _<_, _-_, arith, _≡_, refl, length, length-set, needs}
 use Rattle.store_reset.proofs.Copying.{Copying, copying-none, copying-more, copying-back}
 use Rattle.store_reset.proofs.save_heads.Statement.{statement}
 use Rattle.store_reset.proofs.save_heads.Tie as tie

@@ -1,5 +1,5 @@
 -- `store_reset::zero_words` meets its contract.
-use borrow.Author.Needs.{needs}
+use Rattle.prelude.specs.Kit.{needs}
 use Rattle.store_reset.proofs.Opening.{zeros-hold}
 use Rattle.store_reset.proofs.zero_words.Statement.{statement}
 use Rattle.store_reset.proofs.zero_words.Tie as tie

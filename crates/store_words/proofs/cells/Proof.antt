@@ -1,8 +1,5 @@
 -- `store_words::cells` meets its contract.
-use mathlib.Core.Path.{_∙_, ap}
-use Prim.Native.Nat.{min}
-use native.Mathlib.Omega.{arith}
-use borrow.Author.Needs.{needs}
+use Rattle.prelude.specs.Kit.{min, arith, _∙_, ap, needs}
 use Rattle.semantics.specs.Words.{cells-in}
 use Rattle.store_words.proofs.cells.Statement.{statement}
 use Rattle.store_words.proofs.cells.Tie as tie

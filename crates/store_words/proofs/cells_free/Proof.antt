@@ -1,6 +1,5 @@
 -- `store_words::cells_free` meets its contract.
-use native.Mathlib.Omega.{arith}
-use borrow.Author.Needs.{needs}
+use Rattle.prelude.specs.Kit.{arith, needs}
 use Rattle.store_words.proofs.CellWords.{store-size}
 use Rattle.store_words.proofs.Counting.{taken-within}
 use Rattle.store_words.proofs.cells_free.Statement.{statement}

@@ -1,7 +1,5 @@
 -- `store_words::cells_taken` meets its contract.
-use Prim.Native.Nat.{_-_, _≤_}
-use native.Mathlib.Omega.{arith}
-use borrow.Author.Needs.{needs}
+use Rattle.prelude.specs.Kit.{_≤_, _-_, arith, needs}
 use Rattle.semantics.specs.Words.{store-of}
 use Rattle.store_words.proofs.Counting.{Counting, counting-none, counting-more, counting-all}
 use Rattle.store_words.proofs.cells_taken.Statement.{statement}

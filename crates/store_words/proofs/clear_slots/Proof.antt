@@ -1,7 +1,5 @@
 -- `store_words::clear_slots` meets its contract.
-use Prim.Native.Nat.{_-_, _≤_}
-use native.Mathlib.Omega.{arith}
-use borrow.Author.Needs.{needs}
+use Rattle.prelude.specs.Kit.{_≤_, _-_, arith, needs}
 use Rattle.store_words.proofs.SlotLoops.{Clearing, clearing-none, clearing-more, clearing-all}
 use Rattle.store_words.proofs.clear_slots.Statement.{statement}
 use Rattle.store_words.proofs.clear_slots.Tie as tie

@@ -1,6 +1,5 @@
 -- `store_words::is_cell` meets its contract.
-use native.Mathlib.Omega.{arith}
-use borrow.Author.Needs.{needs}
+use Rattle.prelude.specs.Kit.{arith, needs}
 use Rattle.semantics.specs.Words.{cells-in}
 use Rattle.store_words.proofs.CellWords.{says-there, says-gone}
 use Rattle.store_words.proofs.is_cell.Statement.{statement}

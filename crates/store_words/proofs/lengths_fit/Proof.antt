@@ -1,5 +1,5 @@
 -- `store_words::lengths_fit` meets its contract.
-use borrow.Author.Needs.{needs}
+use Rattle.prelude.specs.Kit.{needs}
 use Rattle.store_words.proofs.Counting.{none-fit, slots-unfit, heads-fit}
 use Rattle.store_words.proofs.lengths_fit.Statement.{statement}
 use Rattle.store_words.proofs.lengths_fit.Tie as tie

@@ -1,5 +1,5 @@
 -- `store_words::named_cell` meets its contract.
-use mir.Facts.{toZ-ofZ}
+use Rattle.prelude.specs.Kit.{toZ-ofZ}
 use Rattle.laws.specs.Numbers.{not-negative}
 use Rattle.store_words.proofs.Naming.{cell-not-negative, cell-negative}
 use Rattle.store_words.proofs.named_cell.Statement.{statement}

@@ -1,8 +1,5 @@
 -- `store_words::read_length` meets its contract.
-use mathlib.Core.Path.{_∙_}
-use Prim.Native.Nat.{_+_, _*_}
-use native.Mathlib.Omega.{arith}
-use borrow.Author.Needs.{needs}
+use Rattle.prelude.specs.Kit.{_+_, _*_, arith, _∙_, needs}
 use Rattle.store_words.specs.Parts.{InCells}
 use Rattle.store_words.proofs.CellWords.{told-there, told-gone, length-in, length-out}
 use Rattle.store_words.proofs.read_length.Statement.{statement}

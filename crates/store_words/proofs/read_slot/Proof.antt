@@ -1,6 +1,5 @@
 -- `store_words::read_slot` meets its contract.
-use native.Mathlib.Omega.{arith}
-use borrow.Author.Needs.{needs}
+use Rattle.prelude.specs.Kit.{arith, needs}
 use Rattle.store_words.proofs.CellWords.{told-there, told-gone, length-out, element-out}
 use Rattle.store_words.proofs.read_slot.Statement.{statement}
 use Rattle.store_words.proofs.read_slot.Tie as tie

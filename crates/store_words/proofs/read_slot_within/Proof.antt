@@ -1,10 +1,5 @@
 -- `store_words::read_slot_within` meets its contract.
-use Prim.Native.Nat.{_+_, _*_, _<_}
-use native.Mathlib.Omega.{arith}
-use lib.IntN.{pos}
-use lib.ListN.{getD}
-use mir.Facts.{toZ-ofZ}
-use borrow.Author.Needs.{needs}
+use Rattle.prelude.specs.Kit.{_+_, _<_, _*_, arith, pos, getD, needs, toZ-ofZ}
 use Rattle.semantics.specs.Words.{cells-in}
 use Rattle.store_words.proofs.CellWords.{to-cells, length-in, element-in, element-out}
 use Rattle.store_words.proofs.read_slot_within.Statement.{statement}

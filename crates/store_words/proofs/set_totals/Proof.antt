@@ -1,7 +1,5 @@
 -- `store_words::set_totals` meets its contract.
-use mathlib.Core.Path.{sym}
-use lib.Seq.{set-out}
-use borrow.Author.Needs.{needs}
+use Rattle.prelude.specs.Kit.{sym, set-out, needs}
 use Rattle.store_words.proofs.set_totals.Statement.{statement}
 use Rattle.store_words.proofs.set_totals.Tie as tie
 

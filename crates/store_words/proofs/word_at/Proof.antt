@@ -1,8 +1,5 @@
 -- `store_words::word_at` meets its contract.
-use mathlib.Core.Path.{sym}
-use lib.IntN.{pos}
-use lib.ListN.{List·getD-eq-default}
-use borrow.Author.Needs.{needs}
+use Rattle.prelude.specs.Kit.{sym, pos, List·getD-eq-default, needs}
 use Rattle.store_words.proofs.word_at.Statement.{statement}
 use Rattle.store_words.proofs.word_at.Tie as tie
 

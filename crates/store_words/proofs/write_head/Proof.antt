@@ -1,7 +1,5 @@
 -- `store_words::write_head` meets its contract.
-use native.Mathlib.Omega.{arith}
-use lib.ListN.{length-set}
-use borrow.Author.Needs.{needs}
+use Rattle.prelude.specs.Kit.{arith, length-set, needs}
 use Rattle.store_words.proofs.write_head.Statement.{statement}
 use Rattle.store_words.proofs.write_head.Tie as tie
 

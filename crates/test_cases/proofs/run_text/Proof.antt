@@ -1,7 +1,5 @@
 -- `test_cases::run_text` ends: the text left falls.
-use Prim.Native.Nat.{_-_, _≤_}
-use lib.ListN.{length}
-use borrow.Author.Needs.{needs}
+use Rattle.prelude.specs.Kit.{_≤_, _-_, length, needs}
 use Rattle.test_cases.proofs.run_text.Statement.{statement}
 use Rattle.test_cases.proofs.run_text.Tie as tie
 

@@ -1,6 +1,5 @@
 -- `test_cross::run_seeds` ends: the scripts left fall.
-use Prim.Native.Nat.{_≤_, _-_}
-use borrow.Author.Needs.{needs}
+use Rattle.prelude.specs.Kit.{_≤_, _-_, needs}
 use Rattle.test_cross.proofs.run_seeds.Statement.{statement}
 use Rattle.test_cross.proofs.run_seeds.Tie as tie
 

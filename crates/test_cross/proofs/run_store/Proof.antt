@@ -1,6 +1,5 @@
 -- `test_cross::run_store` ends: the deliveries left fall.
-use Prim.Native.Nat.{_≤_, _-_}
-use borrow.Author.Needs.{needs}
+use Rattle.prelude.specs.Kit.{_≤_, _-_, needs}
 use Rattle.test_cross.proofs.run_store.Statement.{statement}
 use Rattle.test_cross.proofs.run_store.Tie as tie
 

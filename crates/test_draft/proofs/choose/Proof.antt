@@ -1,6 +1,5 @@
 -- `test_draft::choose` gives a number below n: it is a remainder by n.
-use native.Mathlib.Nat.{mod-lt}
-use borrow.Author.Needs.{needs}
+use Rattle.prelude.specs.Kit.{mod-lt, needs}
 use Rattle.test_draft.proofs.choose.Statement.{statement}
 use Rattle.test_draft.proofs.choose.Tie as tie
 

@@ -1,8 +1,5 @@
 -- `test_ledger::same_value` calls itself and ends: the depth falls. In its loop the elements left fall.
-use borrow.Author.Needs.{needs}
-use Prim.Native.Nat.{ℕ, _-_, _<_}
-use borrow.Fn.Kinds.{In}
-use borrow.Fn.PlainCycle.{Measures, is, falls, and}
+use Rattle.prelude.specs.Kit.{ℕ, _<_, _-_, needs, In, and, falls, is, Measures}
 use Rattle.test_ledger.proofs.same_value.Reads as same-value
 use Rattle.test_ledger.proofs.same_value.Kinds as same-value-kinds
 use Rattle.test_ledger.proofs.+same_value.Lts-same_value as same-value-lts

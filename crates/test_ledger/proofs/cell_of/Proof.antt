@@ -1,15 +1,6 @@
 -- `test_ledger::cell_of` is safe: a word that is neither negative nor above 255 is a number to 255.
-use mathlib.Core.Path.{_≡_}
-use mathlib.Core.Bool.{true, false, true≢false}
-use native.Mathlib.Omega.{arith}
-use lib.Dec.{T}
-use lib.IntN.{ℤ, pos, negsuc, natAbs}
-use lib.Signed.{ltZ, nonNeg}
-use mir.Syntax.{w64}
-use mir.Val.{Fits}
-use mir.Facts.{toZ-ofZ}
-use borrow.Author.Tests.{ltb-false}
-use borrow.Author.Needs.{needs}
+use Rattle.prelude.specs.Kit.{arith, true, false, true≢false, _≡_, T, ℤ, pos, negsuc, natAbs, ltZ, nonNeg, needs}
+use Rattle.prelude.specs.Kit.{ltb-false, toZ-ofZ, w64, Fits}
 use Rattle.test_ledger.proofs.cell_of.Statement.{statement}
 use Rattle.test_ledger.proofs.cell_of.Tie as tie
 

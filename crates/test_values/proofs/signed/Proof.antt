@@ -1,14 +1,6 @@
 -- `test_values::signed` is safe: the least number and one below 2 ^ 63 have a sum that is not positive.
-use mathlib.Core.Path.{sym, subst}
-use Prim.Native.Nat.{ℕ, _-_, _<_, _^_}
-use native.Mathlib.Omega.{arith}
-use lib.IntN.{ℤ, pos, negsuc, _+ℤ_}
-use lib.Signed.{mag}
-use mir.Syntax.{w64}
-use mir.Val.{toZ}
-use mir.Facts.{toZ-pos}
-use borrow.Author.Tests.{lt-ltb}
-use borrow.Author.Needs.{needs}
+use Rattle.prelude.specs.Kit.{ℕ, _<_, _-_, _^_, arith, sym, subst, ℤ, pos, negsuc, _+ℤ_, mag, needs, lt-ltb, toZ-pos}
+use Rattle.prelude.specs.Kit.{w64, toZ}
 use Rattle.test_values.proofs.signed.Statement.{statement}
 use Rattle.test_values.proofs.signed.Tie as tie
 

@@ -1,9 +1,5 @@
 -- `translate::move_kinds` meets its contract.
-use mathlib.Core.Path.{_≡_, refl, subst}
-use native.Mathlib.Omega.{arith}
-use Prim.Native.Nat.{_+_, _-_, _≤_}
-use lib.ListN.{length}
-use borrow.Author.Needs.{needs}
+use Rattle.prelude.specs.Kit.{_≤_, _+_, _-_, arith, _≡_, refl, subst, length, needs}
 use Rattle.translate.proofs.Moves.{Moved, moved-none, moved-more}
 use Rattle.translate.proofs.move_kinds.Statement.{statement}
 use Rattle.translate.proofs.move_kinds.Tie as tie

@@ -1,11 +1,5 @@
 -- `translate::move_operands` meets its contract.
-use mathlib.Core.Path.{_≡_, refl, subst}
-use native.Mathlib.Omega.{arith}
-use Prim.Native.Nat.{_+_, _-_, _≤_}
-use lib.IntN.{pos}
-use lib.ListN.{length, getD}
-use mir.Facts.{toZ-ofZ}
-use borrow.Author.Needs.{needs}
+use Rattle.prelude.specs.Kit.{_≤_, _+_, _-_, arith, _≡_, refl, subst, pos, length, getD, needs, toZ-ofZ}
 use Rattle.translate.proofs.Moves.{Moved, moved-none, moved-more}
 use Rattle.translate.proofs.move_operands.Statement.{statement}
 use Rattle.translate.proofs.move_operands.Tie as tie

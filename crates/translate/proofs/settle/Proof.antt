@@ -1,6 +1,5 @@
 -- `translate::settle` meets its contract.
-use lib.IntN.{pos}
-use borrow.Author.Needs.{needs}
+use Rattle.prelude.specs.Kit.{pos, needs}
 use Rattle.translate.proofs.Answers.{settled}
 use Rattle.translate.proofs.settle.Statement.{statement}
 use Rattle.translate.proofs.settle.Tie as tie

@@ -1,10 +1,5 @@
 -- `translate::translate_accepted` meets its contract.
-use mathlib.Core.Path.{_≡_, ap, _∙_}
-use native.Mathlib.Omega.{arith}
-use Prim.Native.Nat.{_-_, min}
-use lib.IntN.{pos}
-use lib.ListN.{replicate}
-use borrow.Author.Needs.{needs}
+use Rattle.prelude.specs.Kit.{_-_, min, arith, _≡_, _∙_, ap, pos, replicate, needs}
 use Rattle.semantics.specs.Calls.{room}
 use Rattle.translate.proofs.Answers.{refused-is, accepted-is}
 use Rattle.translate.proofs.translate_accepted.Statement.{statement}

@@ -1,7 +1,5 @@
 -- `translate_script::function_code` meets its contract.
-use native.Mathlib.Omega.{arith}
-use mathlib.Core.Path.{refl}
-use borrow.Author.Needs.{needs}
+use Rattle.prelude.specs.Kit.{arith, refl, needs}
 use Rattle.annotate_rows.proofs.Rows.{lower}
 use Rattle.translate_script.proofs.Whole.{code-wrote}
 use Rattle.translate_script.proofs.function_code.Statement.{statement}

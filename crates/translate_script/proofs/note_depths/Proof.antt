@@ -1,9 +1,5 @@
 -- `translate_script::note_depths` meets its contract.
-use mathlib.Core.Path.{_≡_, subst}
-use native.Mathlib.Omega.{arith}
-use Prim.Native.Nat.{_*_, _-_, _<_, _≤_}
-use lib.ListN.{length}
-use borrow.Author.Needs.{needs}
+use Rattle.prelude.specs.Kit.{_≤_, _<_, _-_, _*_, arith, _≡_, subst, length, needs}
 use Rattle.translate_script.specs.Depths.{NotedTo}
 use Rattle.translate_script.proofs.Depths.{noted-none, noted-one, noted-short}
 use Rattle.translate_script.proofs.note_depths.Statement.{statement}

@@ -1,8 +1,5 @@
 -- `translate_script::owned_depths` meets its contract.
-use native.Mathlib.Omega.{arith}
-use mathlib.Core.Path.{sym, _∙_}
-use Prim.Native.Nat.{_<_}
-use borrow.Author.Needs.{needs}
+use Rattle.prelude.specs.Kit.{_<_, arith, _∙_, sym, needs}
 use Rattle.translate_script.proofs.Owned.{Owning, owning-begins, owning-stays, owning-lent, owning-ends}
 use Rattle.translate_script.proofs.owned_depths.Statement.{statement}
 use Rattle.translate_script.proofs.owned_depths.Tie as tie

@@ -1,6 +1,5 @@
 -- `translate_script::put_head` meets its contract.
-use native.Mathlib.Omega.{arith}
-use borrow.Author.Needs.{needs}
+use Rattle.prelude.specs.Kit.{arith, needs}
 use Rattle.annotate_rows.proofs.Rows.{lower}
 use Rattle.flatten_functions.proofs.Parameters.{count-most, result-most}
 use Rattle.translate_script.proofs.Parameters.{head-wrote}

@@ -4,9 +4,7 @@ use Rattle.annotate_rows.specs.Wrote.{Wrote, Room}
 use Rattle.annotate_rows.proofs.Rows.{lower}
 use Rattle.flatten_functions.proofs.Parameters.{Rest, depth-most}
 use Rattle.translate_script.proofs.Parameters.{rows-begin, rows-go, rows-end}
-use native.Mathlib.Omega.{arith}
-use Prim.Native.Nat.{_+_, _-_, _≤_}
-use borrow.Author.Needs.{needs}
+use Rattle.prelude.specs.Kit.{_≤_, _+_, _-_, arith, needs}
 use Rattle.translate_script.proofs.put_parameters.Statement.{statement}
 use Rattle.translate_script.proofs.put_parameters.Tie as tie
 

@@ -1,9 +1,5 @@
 -- `translate_script::script_code` meets its contract.
-use mathlib.Core.Path.{_≡_, refl, _∙_}
-use native.Mathlib.Omega.{arith}
-use Prim.Native.Nat.{_+_, _-_, _≤_}
-use lib.ListN.{length}
-use borrow.Author.Needs.{needs}
+use Rattle.prelude.specs.Kit.{_≤_, _+_, _-_, arith, _≡_, refl, _∙_, length, needs}
 use Rattle.semantics.specs.Borrow.{borrowed}
 use Rattle.annotate_rows.specs.Wrote.{Wrote, Room}
 use Rattle.annotate_rows.proofs.Rows.{lower}

@@ -1,10 +1,6 @@
 -- `words::bytes_from` calls itself and meets its contract, by the laws of `Bytes`. The measure is the count.
-use Prim.Native.Nat.{ℕ, _-_, _<_, _≤_}
-use native.Mathlib.Omega.{arith}
+use Rattle.prelude.specs.Kit.{ℕ, _≤_, _<_, _-_, arith, needs, In, and, falls, is, Measures}
 use Rattle.words.proofs.Bytes.{none, none-left, one-more, room}
-use borrow.Author.Needs.{needs}
-use borrow.Fn.Kinds.{In}
-use borrow.Fn.PlainCycle.{Measures, is, falls, and}
 use Rattle.words.proofs.bytes_from.Reads as bytes-from
 use Rattle.words.proofs.bytes_from.Kinds as bytes-from-kinds
 use Rattle.words.proofs.+bytes_from.Lts-bytes_from as lts

@@ -1,8 +1,5 @@
 -- `words::byte_at` meets its contract: past the end there is no byte.
-use mathlib.Core.Path.{sym}
-use native.Mathlib.Omega.{arith}
-use lib.ListN.{List·getD-eq-default}
-use borrow.Author.Needs.{needs}
+use Rattle.prelude.specs.Kit.{arith, sym, List·getD-eq-default, needs}
 use Rattle.words.proofs.byte_at.Statement.{statement}
 use Rattle.words.proofs.byte_at.Tie as tie
 

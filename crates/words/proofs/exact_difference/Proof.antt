@@ -1,12 +1,7 @@
 -- `words::exact_difference` meets its contract: the sum's walk and the laws of the complement.
-use mathlib.Core.Path.{_≡_, sym, ap, _∙_}
-use lib.IntN.{ℤ, negsuc, _+ℤ_, _-ℤ_}
-use mir.Syntax.{w64}
-use mir.Val.{SFits}
-use mir.Facts.{toZ-ofZ}
+use Rattle.prelude.specs.Kit.{_≡_, _∙_, sym, ap, ℤ, negsuc, _-ℤ_, _+ℤ_, needs, toZ-ofZ, w64, SFits}
 use Rattle.words.specs.Words.{exact-outcome, checked}
 use Rattle.words.proofs.Signed.{complement-mag, complemented, difference-checked}
-use borrow.Author.Needs.{needs}
 use Rattle.words.proofs.exact_difference.Statement.{statement}
 use Rattle.words.proofs.exact_difference.Tie as tie
 

@@ -1,11 +1,5 @@
 -- `words::exact_sum` meets its contract, by the laws of `Signed`.
-use mathlib.Core.Path.{sym}
-use Prim.Native.Nat.{_<_, _≤_, _^_}
-use native.Mathlib.Omega.{arith}
-use lib.IntN.{pos, negsuc, _+ℤ_, _-ℤ_}
-use mir.Syntax.{w64}
-use mir.Val.{SFits}
-use mir.Facts.{toZ-ofZ}
+use Rattle.prelude.specs.Kit.{_≤_, _<_, _^_, arith, sym, pos, negsuc, _-ℤ_, _+ℤ_, toZ-ofZ, w64, SFits}
 use Rattle.words.proofs.Signed.{shifted, below, not-below, Addends, upper-fits, lower-fits, above-range}
 use Rattle.words.proofs.Signed.{not-above, below-range, not-under, checked-value}
 use Rattle.words.proofs.exact_sum.Statement.{statement}

@@ -1,6 +1,5 @@
 -- `words::is_less` meets its contract.
-use mathlib.Core.Path.{refl}
-use mir.Facts.{toZ-ofZ}
+use Rattle.prelude.specs.Kit.{refl, toZ-ofZ}
 use Rattle.words.proofs.is_less.Statement.{statement}
 use Rattle.words.proofs.is_less.Tie as tie
 

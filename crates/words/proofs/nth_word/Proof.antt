@@ -1,8 +1,6 @@
 -- `words::nth_word` meets its contract, by a law of `Bytes`.
 use Rattle.words.proofs.Bytes.{none-past}
-use native.Mathlib.Omega.{arith}
-use mathlib.Core.Path.{sym}
-use borrow.Author.Needs.{needs}
+use Rattle.prelude.specs.Kit.{arith, sym, needs}
 use Rattle.words.proofs.nth_word.Statement.{statement}
 use Rattle.words.proofs.nth_word.Tie as tie
 

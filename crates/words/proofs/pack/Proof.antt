@@ -1,7 +1,6 @@
 -- `words::pack` meets its contract.
 use Rattle.semantics.specs.Calls.{packed}
-use native.Mathlib.Omega.{arith}
-use borrow.Author.Needs.{needs}
+use Rattle.prelude.specs.Kit.{arith, needs}
 use Rattle.words.proofs.pack.Statement.{statement}
 use Rattle.words.proofs.pack.Tie as tie
 

@@ -1,7 +1,6 @@
 -- `words::short_at` meets its contract, by the laws of `Bytes`.
-use native.Mathlib.Omega.{arith}
+use Rattle.prelude.specs.Kit.{arith, needs}
 use Rattle.words.proofs.Bytes.{none-left, two}
-use borrow.Author.Needs.{needs}
 use Rattle.words.proofs.short_at.Statement.{statement}
 use Rattle.words.proofs.short_at.Tie as tie
 

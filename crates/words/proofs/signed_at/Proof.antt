@@ -1,6 +1,5 @@
 -- `words::signed_at` meets its contract.
-use mir.Facts.{toZ-ofZ}
-use borrow.Author.Needs.{needs}
+use Rattle.prelude.specs.Kit.{needs, toZ-ofZ}
 use Rattle.words.proofs.signed_at.Statement.{statement}
 use Rattle.words.proofs.signed_at.Tie as tie
 

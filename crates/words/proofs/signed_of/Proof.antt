@@ -1,15 +1,7 @@
 -- `words::signed_of` meets its contract.
-use mathlib.Core.Path.{_≡_, ap, _∙_}
-use Prim.Native.Nat.{ℕ, _-_, _<_, _≤_, _^_}
-use native.Mathlib.Omega.{arith}
-use lib.IntN.{ℤ, pos, negsuc, _-ℤ_}
-use lib.Signed.{mag}
+use Rattle.prelude.specs.Kit.{ℕ, _≤_, _<_, _-_, _^_, arith, _≡_, _∙_, ap, ℤ, pos, negsuc, _-ℤ_, mag, needs, lt-ltb}
+use Rattle.prelude.specs.Kit.{le-ltb, toZ-ofZ, w64, toZ, ofZ}
 use Rattle.semantics.specs.Number.{signed}
-use mir.Syntax.{w64}
-use mir.Val.{toZ, ofZ}
-use mir.Facts.{toZ-ofZ}
-use borrow.Author.Tests.{lt-ltb, le-ltb}
-use borrow.Author.Needs.{needs}
 use Rattle.words.proofs.Signed.{complement-pos}
 use Rattle.words.proofs.signed_of.Statement.{statement}
 use Rattle.words.proofs.signed_of.Tie as tie

@@ -1,6 +1,6 @@
 -- `words::unpack` meets its contract.
 use Rattle.semantics.specs.Calls.{packed}
-use native.Mathlib.Omega.{arith}
+use Rattle.prelude.specs.Kit.{arith}
 use Rattle.words.proofs.unpack.Statement.{statement}
 use Rattle.words.proofs.unpack.Tie as tie
 

@@ -1,6 +1,6 @@
 -- `words::whole_at` meets its contract, by the laws of `Bytes`.
 use Rattle.words.proofs.Bytes.{eight}
-use borrow.Author.Needs.{needs}
+use Rattle.prelude.specs.Kit.{needs}
 use Rattle.words.proofs.whole_at.Statement.{statement}
 use Rattle.words.proofs.whole_at.Tie as tie
 

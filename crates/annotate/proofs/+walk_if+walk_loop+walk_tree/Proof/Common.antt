@@ -1,7 +1,5 @@
 -- The measures of the functions, and what each may take of the functions that it calls.
-use Prim.Native.Nat.{ℕ, _<_}
-use borrow.Fn.Kinds.{In}
-use borrow.Fn.PlainCycle.{Measures, is, falls, and}
+use Rattle.prelude.specs.Kit.{ℕ, _+_, _<_, _*_, In, and, falls, is, Measures}
 use Rattle.annotate.proofs.walk_if.Reads as walk-if
 use Rattle.annotate.proofs.walk_if.Kinds as walk-if-kinds
 use Rattle.annotate.proofs.+walk_if+walk_loop+walk_tree.Lts-walk_if as walk-if-lts
@@ -35,7 +33,6 @@ use Rattle.annotate_rows.proofs.put_row.Reads as put-row-reads
 use Rattle.annotate_loops.proofs.rewrites.written_line.Reads as written-line-reads
 use Rattle.annotate_rows.proofs.uses.pass_names.Reads as pass-names-reads
 use Rattle.annotate_rows.proofs.uses.put_used.Reads as put-used-reads
-use Prim.Native.Nat.{ℕ, _+_, _*_, _<_}
 
 abbrev pub μ-walk-if : Measures 9 walk-if-kinds.ps ℕ
 μ-walk-if κs a = 2 * a .1 .1 .1 .1 .1 .1 .1 .1 .1 .1 .0 .levels + 1

@@ -1,16 +1,13 @@
 -- What `walk_if` has to show.
-use Prim.Native.Nat.{ℕ}
+use Rattle.prelude.specs.Kit.{ℕ, arith, _∙_, needs}
 use Rattle.annotate.proofs.walk_if.Reads as walk-if
 use Rattle.annotate.proofs.+walk_if+walk_loop+walk_tree.Lts-walk_if as walk-if-lts
-use mathlib.Core.Path.{_∙_}
-use native.Mathlib.Omega.{arith}
 use Rattle.semantics.specs.Borrow.{borrows}
 use Rattle.plain_rows.specs.Plain.{plain, meant}
 use Rattle.plain_rows.specs.Parts.{depth-in}
 use Rattle.plain_rows.specs.Walk.{tree-walk}
 use Rattle.annotate_rows.proofs.Rows.{lower}
 use Rattle.annotate.proofs.Branches.{if-done}
-use borrow.Author.Needs.{needs}
 use Rattle.annotate.proofs.+walk_if+walk_loop+walk_tree.Proof.Common.{walk-if-at}
 use Rattle.annotate.proofs.+walk_if+walk_loop+walk_tree.Proof.Common.{walk-if-claims}
 

@@ -1,10 +1,7 @@
 -- What `walk_loop` has to show.
-use Prim.Native.Nat.{ℕ}
+use Rattle.prelude.specs.Kit.{ℕ, arith, _≡_, _∙_, length, length-set, needs}
 use Rattle.annotate.proofs.walk_loop.Reads as walk-loop
 use Rattle.annotate.proofs.+walk_if+walk_loop+walk_tree.Lts-walk_loop as walk-loop-lts
-use mathlib.Core.Path.{_≡_, _∙_}
-use native.Mathlib.Omega.{arith}
-use lib.ListN.{length, length-set}
 use Rattle.semantics.specs.Borrow.{borrows}
 use Rattle.plain_rows.specs.Plain.{plain, loop-of}
 use Rattle.plain_rows.specs.Parts.{depth-in}
@@ -13,7 +10,6 @@ use Rattle.annotate_rows.proofs.Rows.{lower}
 use Rattle.plain_rows.proofs.Rows.{size-few}
 use Rattle.annotate.proofs.Lines.{not-loop}
 use Rattle.annotate.proofs.Branches.{loop-done}
-use borrow.Author.Needs.{needs}
 use Rattle.annotate.proofs.+walk_if+walk_loop+walk_tree.Proof.Common.{walk-loop-at}
 use Rattle.annotate.proofs.+walk_if+walk_loop+walk_tree.Proof.Common.{walk-loop-claims}
 

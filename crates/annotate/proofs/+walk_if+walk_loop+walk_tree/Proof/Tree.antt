@@ -1,10 +1,7 @@
 -- What `walk_tree` has to show.
 use Rattle.annotate.proofs.walk_tree.Reads as walk-tree
 use Rattle.annotate.proofs.+walk_if+walk_loop+walk_tree.Lts-walk_tree as walk-tree-lts
-use Prim.Native.Nat.{ℕ, _-_, _<_}
-use mathlib.Core.Path.{_≡_, sym, ap, _∙_}
-use lib.ListN.{length, length-set}
-use native.Mathlib.Omega.{arith}
+use Rattle.prelude.specs.Kit.{ℕ, _<_, _-_, arith, _≡_, _∙_, sym, ap, length, length-set, needs}
 use Rattle.semantics.specs.Borrow.{borrows}
 use Rattle.plain_rows.specs.Plain.{plain}
 use Rattle.plain_rows.specs.Parts.{depth-in}
@@ -14,7 +11,6 @@ use Rattle.annotate.specs.Walks.{is-loop}
 use Rattle.annotate.proofs.Lines.{leaf-line, binary-line, if-line, loop-line, loop-is, written-loop}
 use Rattle.annotate.proofs.Trees.{Going, leaf-is, end-done, none-done, going-none, going-more, going-stops}
 use Rattle.annotate.proofs.Trees.{going-ends, tree-done}
-use borrow.Author.Needs.{needs}
 use Rattle.annotate.proofs.+walk_if+walk_loop+walk_tree.Proof.Common.{walk-tree-at, walk-tree-claims}
 
 abbrev pub walk-tree-Inv-loop : walk-tree-lts.InvT-loop

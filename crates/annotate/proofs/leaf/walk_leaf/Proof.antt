@@ -3,7 +3,7 @@ use Rattle.semantics.specs.Borrow.{borrows}
 use Rattle.plain_rows.specs.Plain.{plain}
 use Rattle.plain_rows.specs.Parts.{depth-in}
 use Rattle.annotate.proofs.Lines.{unary-done, binary-done, call-done, literal-done, not-leaf}
-use borrow.Author.Needs.{needs}
+use Rattle.prelude.specs.Kit.{needs}
 use Rattle.annotate.proofs.leaf.walk_leaf.Statement.{statement}
 use Rattle.annotate.proofs.leaf.walk_leaf.Tie as tie
 

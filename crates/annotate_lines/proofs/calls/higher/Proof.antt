@@ -1,6 +1,6 @@
 -- `annotate_lines::calls::higher` meets its contract.
 use Rattle.annotate_lines.proofs.Arguments.{higher-far, higher-past, higher-taken, higher-number}
-use borrow.Author.Needs.{needs}
+use Rattle.prelude.specs.Kit.{needs}
 use Rattle.annotate_lines.proofs.calls.higher.Statement.{statement}
 use Rattle.annotate_lines.proofs.calls.higher.Tie as tie
 

@@ -1,11 +1,8 @@
 -- `annotate_lines::calls::highest_read` meets its contract.
-use mathlib.Core.Path.{_≡_}
-use Prim.Native.Nat.{_<_, _≤_}
-use native.Mathlib.Omega.{arith}
+use Rattle.prelude.specs.Kit.{_≤_, _<_, arith, _≡_, needs}
 use Rattle.semantics.specs.Borrow.{borrows}
 use Rattle.annotate_lines.specs.Calls.{highest}
 use Rattle.annotate_lines.proofs.Arguments.{picked-at, tops-none, tops-more, tops-all}
-use borrow.Author.Needs.{needs}
 use Rattle.annotate_lines.proofs.calls.highest_read.Statement.{statement}
 use Rattle.annotate_lines.proofs.calls.highest_read.Tie as tie
 

@@ -1,9 +1,7 @@
 -- `annotate_lines::calls::owned_at` meets its contract.
-use mathlib.Core.Bool.{not}
-use mathlib.Core.Path.{sym, ap, _∙_}
+use Rattle.prelude.specs.Kit.{not, _∙_, sym, ap, needs}
 use Rattle.plain_rows.specs.Plain.{meant, placed}
 use Rattle.annotate_lines.proofs.Arguments.{counts, counts-not}
-use borrow.Author.Needs.{needs}
 use Rattle.annotate_lines.proofs.calls.owned_at.Statement.{statement}
 use Rattle.annotate_lines.proofs.calls.owned_at.Tie as tie
 

@@ -1,11 +1,10 @@
 -- `annotate_lines::calls::put_call` meets its contract.
-use native.Mathlib.Omega.{arith}
+use Rattle.prelude.specs.Kit.{arith, needs}
 use Rattle.semantics.specs.Borrow.{borrows}
 use Rattle.plain_rows.specs.Plain.{set-of, atoms-at}
 use Rattle.plain_rows.specs.Parts.{depth-in}
 use Rattle.annotate_rows.proofs.Rows.{wrote-then, wrote-as, lower}
 use Rattle.annotate_lines.proofs.Leaves.{call-rows}
-use borrow.Author.Needs.{needs}
 use Rattle.annotate_lines.proofs.calls.put_call.Statement.{statement}
 use Rattle.annotate_lines.proofs.calls.put_call.Tie as tie
 

@@ -1,9 +1,5 @@
 -- `annotate_lines::calls::release_read` meets its contract.
-use mathlib.Core.Path.{_≡_}
-use mathlib.Core.Bool.{true}
-use mathlib.Core.List.{List}
-use Prim.Native.Nat.{ℕ, _-_, _<_, _≤_}
-use native.Mathlib.Omega.{arith}
+use Rattle.prelude.specs.Kit.{ℕ, _≤_, _<_, _-_, arith, true, _≡_, List, needs}
 use Rattle.semantics.specs.Kinds.{call, leaf-reads}
 use Rattle.semantics.specs.Code.{Atom}
 use Rattle.semantics.specs.Live.{only, among}
@@ -14,7 +10,6 @@ use Rattle.annotate_rows.specs.Wrote.{Wrote, Room}
 use Rattle.annotate_rows.proofs.Rows.{lower}
 use Rattle.annotate_rows.proofs.Names.{releases-from, release-all}
 use Rattle.annotate_lines.proofs.Arguments.{highest-as, drops-none, drops-more}
-use borrow.Author.Needs.{needs}
 use Rattle.annotate_lines.proofs.calls.release_read.Statement.{statement}
 use Rattle.annotate_lines.proofs.calls.release_read.Tie as tie
 

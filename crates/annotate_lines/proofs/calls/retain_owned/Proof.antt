@@ -1,9 +1,5 @@
 -- `annotate_lines::calls::retain_owned` meets its contract.
-use mathlib.Core.Path.{_≡_}
-use mathlib.Core.Bool.{Bool, not}
-use Prim.Native.Nat.{ℕ, _<_, _≤_}
-use native.Mathlib.Omega.{arith}
-use lib.ListN.{length, length-set}
+use Rattle.prelude.specs.Kit.{ℕ, _≤_, _<_, arith, Bool, not, _≡_, length, length-set, needs}
 use Rattle.semantics.specs.Borrow.{Table, borrows}
 use Rattle.semantics.specs.Live.{among}
 use Rattle.semantics.specs.Annotate.{handed-again}
@@ -12,7 +8,6 @@ use Rattle.plain_rows.specs.Parts.{depth-in, retain-rows}
 use Rattle.annotate_rows.specs.Wrote.{Wrote, Room}
 use Rattle.annotate_rows.proofs.Rows.{lower}
 use Rattle.annotate_lines.proofs.Arguments.{picked-at, joins-none, joins-more, owned-none, owned-more, owned-all}
-use borrow.Author.Needs.{needs}
 use Rattle.annotate_lines.proofs.calls.retain_owned.Statement.{statement}
 use Rattle.annotate_lines.proofs.calls.retain_owned.Tie as tie
 

@@ -1,13 +1,9 @@
 -- `annotate_lines::calls::with_read` meets its contract.
-use mathlib.Core.Path.{_≡_}
-use Prim.Native.Nat.{_<_, _≤_}
-use native.Mathlib.Omega.{arith}
-use lib.ListN.{length, length-set}
+use Rattle.prelude.specs.Kit.{_≤_, _<_, arith, _≡_, length, length-set, needs}
 use Rattle.semantics.specs.Borrow.{borrows}
 use Rattle.semantics.specs.Live.{among}
 use Rattle.plain_rows.specs.Plain.{set-of}
 use Rattle.annotate_lines.proofs.Arguments.{picked-at, joins-none, joins-more, joins-all}
-use borrow.Author.Needs.{needs}
 use Rattle.annotate_lines.proofs.calls.with_read.Statement.{statement}
 use Rattle.annotate_lines.proofs.calls.with_read.Tie as tie
 

@@ -1,6 +1,5 @@
 -- `annotate_loops::rewrites::is_outer` meets its contract.
-use borrow.Author.Tests.{lt-ltb, le-ltb}
-use borrow.Author.Needs.{needs}
+use Rattle.prelude.specs.Kit.{needs, lt-ltb, le-ltb}
 use Rattle.annotate_loops.proofs.rewrites.is_outer.Statement.{statement}
 use Rattle.annotate_loops.proofs.rewrites.is_outer.Tie as tie
 

@@ -1,7 +1,5 @@
 -- `annotate_loops::rewrites::is_rewritten` meets its contract.
-use mathlib.Core.Path.{sym, _∙_}
-use borrow.Author.Tests.{ne-eqb}
-use borrow.Author.Needs.{needs}
+use Rattle.prelude.specs.Kit.{_∙_, sym, needs, ne-eqb}
 use Rattle.annotate_loops.proofs.rewrites.is_rewritten.Statement.{statement}
 use Rattle.annotate_loops.proofs.rewrites.is_rewritten.Tie as tie
 

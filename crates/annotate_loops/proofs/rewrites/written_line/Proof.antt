@@ -1,12 +1,10 @@
 -- `annotate_loops::rewrites::written_line` meets its contract.
-use mathlib.Core.Path.{refl}
-use native.Mathlib.Omega.{arith}
+use Rattle.prelude.specs.Kit.{arith, refl, needs}
 use Rattle.plain_rows.specs.Plain.{set-of, loop-of}
 use Rattle.plain_rows.specs.Parts.{depth-in}
 use Rattle.plain_rows.specs.Marks.{marks-of}
 use Rattle.plain_rows.proofs.Rows.{size-few}
 use Rattle.annotate_loops.proofs.LoopRows.{line-written, others-written}
-use borrow.Author.Needs.{needs}
 use Rattle.annotate_loops.proofs.rewrites.written_line.Statement.{statement}
 use Rattle.annotate_loops.proofs.rewrites.written_line.Tie as tie
 

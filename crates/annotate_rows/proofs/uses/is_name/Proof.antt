@@ -1,5 +1,5 @@
 -- `annotate_rows::uses::is_name` meets its contract.
-use borrow.Author.Needs.{needs}
+use Rattle.prelude.specs.Kit.{needs}
 use Rattle.annotate_rows.proofs.uses.is_name.Statement.{statement}
 use Rattle.annotate_rows.proofs.uses.is_name.Tie as tie
 

@@ -1,7 +1,5 @@
 -- `annotate_rows::uses::is_since` meets its contract.
-use mathlib.Core.Path.{ap}
-use lib.Dec.{ltb}
-use borrow.Author.Needs.{needs}
+use Rattle.prelude.specs.Kit.{ap, ltb, needs}
 use Rattle.annotate_rows.proofs.uses.is_since.Statement.{statement}
 use Rattle.annotate_rows.proofs.uses.is_since.Tie as tie
 

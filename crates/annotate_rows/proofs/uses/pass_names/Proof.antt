@@ -1,11 +1,7 @@
 -- `annotate_rows::uses::pass_names` meets its contract.
-use mathlib.Core.Path.{_≡_}
-use Prim.Native.Nat.{_≤_, _<_, _-_}
-use native.Mathlib.Omega.{arith}
-use lib.ListN.{length}
+use Rattle.prelude.specs.Kit.{_≤_, _<_, _-_, arith, _≡_, length, needs}
 use Rattle.plain_rows.specs.Marks.{marks-of}
 use Rattle.annotate_rows.proofs.UsedPast.{Passing, passing-none, passing-more, passing-all}
-use borrow.Author.Needs.{needs}
 use Rattle.annotate_rows.proofs.uses.pass_names.Statement.{statement}
 use Rattle.annotate_rows.proofs.uses.pass_names.Tie as tie
 

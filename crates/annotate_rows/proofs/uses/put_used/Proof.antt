@@ -1,6 +1,5 @@
 -- `annotate_rows::uses::put_used` meets its contract.
-use Prim.Native.Nat.{_≤_}
-use native.Mathlib.Omega.{arith}
+use Rattle.prelude.specs.Kit.{_≤_, arith, needs}
 use Rattle.plain_rows.specs.Plain.{set-of, meant}
 use Rattle.plain_rows.specs.Parts.{below, depth-in}
 use Rattle.plain_rows.specs.Walk.{since}
@@ -10,7 +9,6 @@ use Rattle.annotate_rows.proofs.Names.{releases-from, release-none, rel
 use Rattle.semantics.specs.Live.{is, _∪_}
 use Rattle.plain_rows.specs.Marks.{marks-of}
 use Rattle.annotate_rows.proofs.UsedPast.{used-is}
-use borrow.Author.Needs.{needs}
 use Rattle.annotate_rows.proofs.uses.put_used.Statement.{statement}
 use Rattle.annotate_rows.proofs.uses.put_used.Tie as tie
 

@@ -1,7 +1,5 @@
 -- `borrow_table::rounds::follow` meets its contract.
-use borrow.Author.Needs.{needs}
-use borrow.Author.Tests.{not-true, not-false}
-use mathlib.Core.Path.{sym, _∙_}
+use Rattle.prelude.specs.Kit.{_∙_, sym, needs, not-true, not-false}
 use Rattle.borrow_table.proofs.Working.{function-past, name-past, name-gone, place-borrowed, place-owned}
 use Rattle.borrow_table.proofs.rounds.follow.Statement.{statement}
 use Rattle.borrow_table.proofs.rounds.follow.Tie as tie

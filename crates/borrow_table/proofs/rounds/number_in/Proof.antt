@@ -1,6 +1,5 @@
 -- `borrow_table::rounds::number_in` meets its contract.
-use native.Mathlib.Omega.{arith}
-use borrow.Author.Needs.{needs}
+use Rattle.prelude.specs.Kit.{arith, needs}
 use Rattle.borrow_table.proofs.rounds.number_in.Statement.{statement}
 use Rattle.borrow_table.proofs.rounds.number_in.Tie as tie
 

@@ -1,9 +1,5 @@
 -- `borrow_table::rounds::rework` meets its contract.
-use native.Mathlib.Omega.{arith}
-use mathlib.Core.Path.{_≡_, refl}
-use Prim.Native.Nat.{_-_, _<_}
-use lib.ListN.{length, length-set}
-use borrow.Author.Needs.{needs}
+use Rattle.prelude.specs.Kit.{_<_, _-_, arith, _≡_, refl, length, length-set, needs}
 use Rattle.borrow_table.proofs.Working.{Sweeping, sweep-begins, sweep-takes, sweep-spares, sweep-ends}
 use Rattle.borrow_table.proofs.Working.{Chased, chase-takes, chase-spares, Chasing, chain-begins, chain-ends}
 use Rattle.borrow_table.proofs.Working.{chase-ends}

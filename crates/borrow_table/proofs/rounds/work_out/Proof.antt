@@ -1,9 +1,5 @@
 -- `borrow_table::rounds::work_out` meets its contract.
-use native.Mathlib.Omega.{arith}
-use mathlib.Core.Path.{_≡_}
-use mathlib.Core.Bool.{cond}
-use Prim.Native.Nat.{_+_, _≤_}
-use lib.ListN.{length, take}
+use Rattle.prelude.specs.Kit.{_≤_, _+_, arith, cond, _≡_, length, take}
 use Rattle.borrow_table.specs.Rounds.{entries}
 use Rattle.borrow_table.proofs.Working.{Rounds, rounds-begin, rounds-go, rounds-end}
 use Rattle.borrow_table.proofs.rounds.work_out.Statement.{statement}

@@ -1,9 +1,5 @@
 -- `borrow_table::scan::gather` meets its contract.
-use mathlib.Core.Path.{refl}
-use Prim.Native.Nat.{_+_, _-_, _<_, _≤_}
-use native.Mathlib.Omega.{arith}
-use borrow.Author.Needs.{needs}
-use lib.ListN.{length}
+use Rattle.prelude.specs.Kit.{_≤_, _+_, _<_, _-_, arith, refl, length, needs}
 use Rattle.laws.specs.Tests.{passed, failed}
 use Rattle.borrow_table.specs.Scan.{links-in}
 use Rattle.borrow_table.proofs.Reading.{Reading, reading-begins, reading-ends, reading-line, reading-past}

@@ -1,7 +1,5 @@
 -- The measures of the functions, and what each may take of those that it calls.
-use Prim.Native.Nat.{ℕ, _<_}
-use borrow.Fn.Kinds.{In}
-use borrow.Fn.PlainCycle.{Measures, is, falls, and}
+use Rattle.prelude.specs.Kit.{ℕ, _+_, _<_, _*_, In, and, falls, is, Measures}
 use Rattle.flatten.proofs.lay_compound.Reads as lay-compound
 use Rattle.flatten.proofs.lay_compound.Kinds as lay-compound-kinds
 use Rattle.flatten.proofs.+lay_compound+lay_let+lay_node+lay_part+lay_tree+trees-lay_if+trees-lay_pass.Lts-lay_compound as lay-compound-lts
@@ -39,7 +37,6 @@ use Rattle.flatten_rows.proofs.spot_at.Reads as spot-at-reads
 use Rattle.flatten_rows.proofs.unbind_pass.Reads as unbind-pass-reads
 use Rattle.script_read.proofs.is_loop.Reads as is-loop-reads
 use Rattle.script_read.proofs.node_at.Reads as node-at-reads
-use Prim.Native.Nat.{ℕ, _+_, _*_, _<_}
 
 abbrev pub μ-lay-compound : Measures 8 lay-compound-kinds.ps ℕ
 μ-lay-compound κs a = 6 * a .1 .1 .1 .1 .1 .1 .1 .1 .1 .1 .0 + 5

@@ -1,18 +1,13 @@
 -- What `lay_compound` has to show.
-use Prim.Native.Nat.{ℕ}
+use Rattle.prelude.specs.Kit.{ℕ, _≤_, _<_, _-_, arith, _≡_, refl, _∙_, sym, getD, needs}
 use Rattle.flatten.proofs.lay_compound.Reads as lay-compound
 use Rattle.flatten.proofs.+lay_compound+lay_let+lay_node+lay_part+lay_tree+trees-lay_if+trees-lay_pass.Lts-lay_compound as lay-compound-lts
-use Prim.Native.Nat.{ℕ, _-_, _<_, _≤_}
-use mathlib.Core.Path.{_≡_, refl, sym, _∙_}
-use native.Mathlib.Omega.{arith}
-use lib.ListN.{getD}
 use Rattle.flatten_rows.specs.Laid.{meanings}
 use Rattle.flatten_rows.specs.Source.{tree-at, parts-before}
 use Rattle.flatten_rows.specs.Made.{state}
 use Rattle.flatten_rows.proofs.Lists.{Listing, listing-begins, listing-goes}
 use Rattle.flatten_rows.proofs.Members.{atom-laid}
 use Rattle.flatten_rows.proofs.Compounds.{parts-ready, parts-few, part-ready, leaf-ready, leaf-laid, pass-ready, loop-laid}
-use borrow.Author.Needs.{needs}
 use Rattle.flatten.proofs.+lay_compound+lay_let+lay_node+lay_part+lay_tree+trees-lay_if+trees-lay_pass.Proof.Common.{lay-compound-at}
 use Rattle.flatten.proofs.+lay_compound+lay_let+lay_node+lay_part+lay_tree+trees-lay_if+trees-lay_pass.Proof.Common.{lay-compound-claims}
 

@@ -1,10 +1,7 @@
 -- What `lay_if` has to show.
-use Prim.Native.Nat.{ℕ}
+use Rattle.prelude.specs.Kit.{ℕ, arith, _∙_, getD}
 use Rattle.flatten.proofs.trees.lay_if.Reads as lay-if
 use Rattle.flatten.proofs.+lay_compound+lay_let+lay_node+lay_part+lay_tree+trees-lay_if+trees-lay_pass.Lts-trees-lay_if as lay-if-lts
-use mathlib.Core.Path.{_∙_}
-use native.Mathlib.Omega.{arith}
-use lib.ListN.{getD}
 use Rattle.flatten_rows.specs.Source.{tree-at}
 use Rattle.flatten_rows.proofs.Members.{given-same, if-first, if-place, if-own, if-middle, if-other, if-end, if-laid}
 use Rattle.flatten.proofs.+lay_compound+lay_let+lay_node+lay_part+lay_tree+trees-lay_if+trees-lay_pass.Proof.Common.{lay-if-at}

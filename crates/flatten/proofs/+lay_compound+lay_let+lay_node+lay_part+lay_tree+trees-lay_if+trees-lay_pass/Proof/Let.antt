@@ -1,10 +1,7 @@
 -- What `lay_let` has to show.
-use Prim.Native.Nat.{ℕ}
+use Rattle.prelude.specs.Kit.{ℕ, arith, refl, getD}
 use Rattle.flatten.proofs.lay_let.Reads as lay-let
 use Rattle.flatten.proofs.+lay_compound+lay_let+lay_node+lay_part+lay_tree+trees-lay_if+trees-lay_pass.Lts-lay_let as lay-let-lts
-use mathlib.Core.Path.{refl}
-use native.Mathlib.Omega.{arith}
-use lib.ListN.{getD}
 use Rattle.script_read.proofs.Tables.{put-back}
 use Rattle.flatten_rows.specs.Source.{tree-at}
 use Rattle.flatten_rows.proofs.Members.{given-bound, given-same, let-first, let-second, let-laid}

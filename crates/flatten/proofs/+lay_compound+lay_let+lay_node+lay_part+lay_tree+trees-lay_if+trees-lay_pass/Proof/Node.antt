@@ -1,18 +1,13 @@
 -- What `lay_node` has to show.
-use Prim.Native.Nat.{ℕ}
+use Rattle.prelude.specs.Kit.{ℕ, _-_, arith, refl, _∙_, getD, needs}
 use Rattle.flatten.proofs.lay_node.Reads as lay-node
 use Rattle.flatten.proofs.+lay_compound+lay_let+lay_node+lay_part+lay_tree+trees-lay_if+trees-lay_pass.Lts-lay_node as lay-node-lts
-use Prim.Native.Nat.{ℕ, _-_}
-use mathlib.Core.Path.{_∙_, refl}
-use native.Mathlib.Omega.{arith}
-use lib.ListN.{getD}
 use Rattle.semantics.specs.File.{at-part}
 use Rattle.script_read.proofs.Ends.{node-inside}
 use Rattle.flatten_rows.specs.Source.{tree-at}
 use Rattle.flatten_rows.proofs.Nodes.{fits-seen, compound-as, compound-is, any-default, number-is, name-is, let-is, if-is}
 use Rattle.flatten_rows.proofs.Nodes.{number-placed, let-after, if-after}
 use Rattle.flatten_rows.proofs.Members.{ready-as, ready-made, number-laid, name-laid, one-node}
-use borrow.Author.Needs.{needs}
 use Rattle.flatten.proofs.+lay_compound+lay_let+lay_node+lay_part+lay_tree+trees-lay_if+trees-lay_pass.Proof.Common.{lay-node-at}
 use Rattle.flatten.proofs.+lay_compound+lay_let+lay_node+lay_part+lay_tree+trees-lay_if+trees-lay_pass.Proof.Common.{lay-node-claims}
 

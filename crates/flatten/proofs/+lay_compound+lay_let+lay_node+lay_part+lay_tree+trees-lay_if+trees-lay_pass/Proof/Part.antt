@@ -1,12 +1,7 @@
 -- What `lay_part` has to show.
-use Prim.Native.Nat.{ℕ}
+use Rattle.prelude.specs.Kit.{ℕ, arith, refl, inl, inr, pos, getD}
 use Rattle.flatten.proofs.lay_part.Reads as lay-part
 use Rattle.flatten.proofs.+lay_compound+lay_let+lay_node+lay_part+lay_tree+trees-lay_if+trees-lay_pass.Lts-lay_part as lay-part-lts
-use mathlib.Core.Path.{refl}
-use mathlib.Core.Logic.{inl, inr}
-use native.Mathlib.Omega.{arith}
-use lib.IntN.{pos}
-use lib.ListN.{getD}
 use Rattle.flatten_rows.specs.Source.{tree-at}
 use Rattle.flatten_rows.proofs.Nodes.{none-tree, wrong-tree, nowhere-placed}
 use Rattle.flatten_rows.proofs.Members.{number-laid, one-node}

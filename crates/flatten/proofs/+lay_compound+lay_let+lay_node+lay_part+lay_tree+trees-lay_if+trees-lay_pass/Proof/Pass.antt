@@ -1,10 +1,7 @@
 -- What `lay_pass` has to show.
-use Prim.Native.Nat.{ℕ}
+use Rattle.prelude.specs.Kit.{ℕ, arith, refl, _∙_, ap, length, getD}
 use Rattle.flatten.proofs.trees.lay_pass.Reads as lay-pass
 use Rattle.flatten.proofs.+lay_compound+lay_let+lay_node+lay_part+lay_tree+trees-lay_if+trees-lay_pass.Lts-trees-lay_pass as lay-pass-lts
-use mathlib.Core.Path.{refl, ap, _∙_}
-use native.Mathlib.Omega.{arith}
-use lib.ListN.{length, getD}
 use Rattle.script_read.proofs.Tables.{put-back-two}
 use Rattle.flatten_rows.proofs.Passes.{given-bound-twice, pass-place, pass-tree, pass-end, pass-deep, pass-laid}
 use Rattle.flatten.proofs.+lay_compound+lay_let+lay_node+lay_part+lay_tree+trees-lay_if+trees-lay_pass.Proof.Common.{lay-pass-at}

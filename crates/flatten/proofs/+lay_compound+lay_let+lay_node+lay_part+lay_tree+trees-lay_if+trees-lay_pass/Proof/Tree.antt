@@ -1,9 +1,7 @@
 -- What `lay_tree` has to show.
-use Prim.Native.Nat.{ℕ}
+use Rattle.prelude.specs.Kit.{ℕ, arith, getD}
 use Rattle.flatten.proofs.lay_tree.Reads as lay-tree
 use Rattle.flatten.proofs.+lay_compound+lay_let+lay_node+lay_part+lay_tree+trees-lay_if+trees-lay_pass.Lts-lay_tree as lay-tree-lts
-use native.Mathlib.Omega.{arith}
-use lib.ListN.{getD}
 use Rattle.flatten_rows.specs.Source.{tree-at}
 use Rattle.flatten_rows.proofs.Members.{tree-laid}
 use Rattle.flatten.proofs.+lay_compound+lay_let+lay_node+lay_part+lay_tree+trees-lay_if+trees-lay_pass.Proof.Common.{lay-tree-at}

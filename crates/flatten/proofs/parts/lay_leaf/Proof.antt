@@ -1,5 +1,5 @@
 -- `flatten::parts::lay_leaf` meets its contract.
-use borrow.Author.Needs.{needs}
+use Rattle.prelude.specs.Kit.{needs}
 use Rattle.flatten.proofs.parts.lay_leaf.Statement.{statement}
 use Rattle.flatten.proofs.parts.lay_leaf.Tie as tie
 

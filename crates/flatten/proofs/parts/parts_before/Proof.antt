@@ -1,6 +1,5 @@
 -- `flatten::parts::parts_before` meets its contract.
-use mathlib.Core.Path.{sym, _∙_}
-use borrow.Author.Needs.{needs}
+use Rattle.prelude.specs.Kit.{_∙_, sym, needs}
 use Rattle.flatten.proofs.parts.parts_before.Statement.{statement}
 use Rattle.flatten.proofs.parts.parts_before.Tie as tie
 

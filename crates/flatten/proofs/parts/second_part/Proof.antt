@@ -1,5 +1,5 @@
 -- `flatten::parts::second_part` meets its contract.
-use borrow.Author.Tests.{ne-eqb}
+use Rattle.prelude.specs.Kit.{ne-eqb}
 use Rattle.flatten.proofs.parts.second_part.Statement.{statement}
 use Rattle.flatten.proofs.parts.second_part.Tie as tie
 

@@ -1,8 +1,5 @@
 -- `flatten_rows::atoms::atom_place` meets its contract, by the laws of `Nodes`.
-use mathlib.Core.Path.{refl, subst}
-use Prim.Native.Nat.{_<_}
-use native.Mathlib.Omega.{arith}
-use borrow.Author.Needs.{needs}
+use Rattle.prelude.specs.Kit.{_<_, arith, refl, subst, needs}
 use Rattle.semantics.specs.File.{at-part}
 use Rattle.script_read.specs.Told.{AtomSeen}
 use Rattle.script_read.specs.declared.Node.the-variants.{Fits}

@@ -1,14 +1,10 @@
 -- What `work_call` has to show.
-use mathlib.Core.Path.{_∙_}
-use Prim.Native.Nat.{_-_, ℕ}
-use native.Mathlib.Omega.{arith}
-use mir.Facts.{toZ-ofZ}
+use Rattle.prelude.specs.Kit.{ℕ, _-_, arith, _∙_, pos, toZ-ofZ}
 use Rattle.machine_spec.specs.Machine.{code}
 use Rattle.machine_spec.specs.LineLaws.{call-spent, call-deep, call-stops, call-goes}
 use Rattle.semantics.specs.Words.{store-of}
 use Rattle.machine_frames.specs.Frames.{function-place}
 use Rattle.machine_frames.specs.Work.{memory}
-use lib.IntN.{pos}
 use Rattle.machine_spec.specs.Lengths.{passed-long, bound-long, tree-long}
 use Rattle.machine.proofs.work_call.Reads as work-call
 use Rattle.machine.proofs.+work_call+work_if+work_line+work_loop+work_pass+work_tree.Lts-work_call as work-call-lts

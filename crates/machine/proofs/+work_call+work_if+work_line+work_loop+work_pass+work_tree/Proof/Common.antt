@@ -1,7 +1,5 @@
 -- The measures of the workers, and what each may take of the functions that it calls.
-use Prim.Native.Nat.{_+_, _*_, ℕ, _<_}
-use borrow.Fn.Kinds.{In}
-use borrow.Fn.PlainCycle.{Measures, is, falls, and}
+use Rattle.prelude.specs.Kit.{ℕ, _+_, _<_, _*_, In, and, falls, is, Measures}
 use Rattle.machine.proofs.work_call.Reads as work-call
 use Rattle.machine.proofs.work_call.Kinds as work-call-kinds
 use Rattle.machine.proofs.+work_call+work_if+work_line+work_loop+work_pass+work_tree.Lts-work_call as work-call-lts

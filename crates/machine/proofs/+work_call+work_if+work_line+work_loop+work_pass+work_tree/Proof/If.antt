@@ -1,8 +1,5 @@
 -- What `work_if` has to show.
-use mathlib.Core.Path.{_≡_, sym, _∙_}
-use Prim.Native.Nat.{_-_, ℕ}
-use mir.Facts.{toZ-ofZ}
-use borrow.Author.Tests.{not-true, not-false}
+use Rattle.prelude.specs.Kit.{ℕ, _-_, _≡_, _∙_, sym, not-true, not-false, toZ-ofZ}
 use Rattle.machine_spec.specs.Machine.{code, tree-on, call-on}
 use Rattle.machine_spec.specs.LineLaws.{if-spent, if-doubts, if-stops, if-goes}
 use Rattle.semantics.specs.Number.{is-answer}

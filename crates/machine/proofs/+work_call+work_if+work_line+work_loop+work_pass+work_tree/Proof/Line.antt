@@ -1,7 +1,7 @@
 -- What `work_line` has to show.
 use Rattle.machine_spec.specs.Machine.{code, tree-on, call-on}
 use Rattle.machine_spec.specs.LineLaws.{line-if, line-call, line-loop, line-leaf}
-use Prim.Native.Nat.{ℕ}
+use Rattle.prelude.specs.Kit.{ℕ}
 use Rattle.machine.proofs.work_line.Reads as work-line
 use Rattle.machine.proofs.+work_call+work_if+work_line+work_loop+work_pass+work_tree.Lts-work_line as work-line-lts
 use Rattle.machine.proofs.+work_call+work_if+work_line+work_loop+work_pass+work_tree.Proof.Common.{work-line-at}

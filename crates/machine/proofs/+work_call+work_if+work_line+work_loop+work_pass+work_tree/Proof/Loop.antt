@@ -1,8 +1,5 @@
 -- What `work_loop` has to show.
-use mathlib.Core.Path.{ap, subst, _∙_}
-use Prim.Native.Nat.{_+_, _-_, ℕ}
-use native.Mathlib.Omega.{arith}
-use mathlib.Core.List.{map}
+use Rattle.prelude.specs.Kit.{ℕ, _+_, _-_, arith, _∙_, ap, subst, map}
 use Rattle.semantics.specs.Words.{store-of}
 use Rattle.machine_frames.specs.Frames.{word-of, element-depth}
 use Rattle.machine_frames.specs.Work.{memory}

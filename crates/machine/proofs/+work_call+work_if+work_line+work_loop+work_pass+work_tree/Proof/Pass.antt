@@ -1,12 +1,5 @@
 -- What `work_pass` has to show.
-use mathlib.Core.Path.{_≡_, sym, ap, subst, _∙_}
-use Prim.Native.Nat.{_-_, ℕ}
-use native.Mathlib.Omega.{arith}
-use lib.IntN.{pos}
-use lib.ListN.{length, getD}
-use mir.Syntax.{w64}
-use mir.Facts.{toZ-ofZ}
-use mir.Val.{SFits, toZ}
+use Rattle.prelude.specs.Kit.{ℕ, _-_, arith, _≡_, _∙_, sym, ap, subst, pos, length, getD, toZ-ofZ, w64, toZ, SFits}
 use Rattle.semantics.specs.Store.{cell-of}
 use Rattle.semantics.specs.Words.{store-of}
 use Rattle.machine_frames.specs.Frames.{frame-words, place}

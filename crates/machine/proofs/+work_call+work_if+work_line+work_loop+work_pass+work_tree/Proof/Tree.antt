@@ -1,10 +1,5 @@
 -- What `work_tree` has to show.
-use mathlib.Core.Path.{sym, _∙_}
-use mathlib.Core.Logic.{inl, inr}
-use Prim.Native.Nat.{_-_, ℕ}
-use native.Mathlib.Omega.{arith}
-use mir.Facts.{toZ-ofZ}
-use borrow.Author.Tests.{not-true, not-false}
+use Rattle.prelude.specs.Kit.{ℕ, _-_, arith, _∙_, sym, inl, inr, not-true, not-false, toZ-ofZ}
 use Rattle.machine_spec.specs.Machine.{code, call-on}
 use Rattle.machine_spec.specs.TreeLaws.{Working, working-starts, not-end, tree-out, tree-closed, tree-stops}
 use Rattle.machine_spec.specs.TreeLaws.{tree-goes, rows-there}

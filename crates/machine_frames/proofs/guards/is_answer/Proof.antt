@@ -1,6 +1,5 @@
 -- `machine_frames::guards::is_answer` meets its contract.
-use mathlib.Core.Path.{sym}
-use mir.Facts.{toZ-ofZ}
+use Rattle.prelude.specs.Kit.{sym, toZ-ofZ}
 use Rattle.machine_frames.proofs.Tests.{inside-negative, inside-at-most}
 use Rattle.machine_frames.proofs.guards.is_answer.Statement.{statement}
 use Rattle.machine_frames.proofs.guards.is_answer.Tie as tie

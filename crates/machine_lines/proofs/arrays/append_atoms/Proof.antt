@@ -1,11 +1,5 @@
 -- `machine_lines::arrays::append_atoms` meets its contract.
-use mathlib.Core.Path.{_≡_, refl, sym, _∙_}
-use Prim.Native.Nat.{_-_}
-use native.Mathlib.Omega.{arith}
-use lib.ListN.{length}
-use mir.Facts.{toZ-ofZ}
-use borrow.Author.Tests.{not-true, not-false}
-use borrow.Author.Needs.{needs}
+use Rattle.prelude.specs.Kit.{_-_, arith, _≡_, refl, _∙_, sym, length, needs, not-true, not-false, toZ-ofZ}
 use Rattle.semantics.specs.Words.{store-of}
 use Rattle.machine_lines.proofs.Appending.{Appending, appending-none, appending-more, appended-end}
 use Rattle.machine_lines.proofs.Appending.{appended-full}

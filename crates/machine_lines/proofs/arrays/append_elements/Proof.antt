@@ -1,12 +1,5 @@
 -- `machine_lines::arrays::append_elements` meets its contract.
-use mathlib.Core.Path.{_≡_, refl, sym, ap, _∙_}
-use Prim.Native.Nat.{_+_, _-_, _≤_}
-use native.Mathlib.Omega.{arith}
-use lib.ListN.{length, drop}
-use mir.Facts.{toZ-ofZ}
-use mir.Syntax.{w64}
-use mir.Val.{toZ}
-use borrow.Author.Needs.{needs}
+use Rattle.prelude.specs.Kit.{_≤_, _+_, _-_, arith, _≡_, refl, _∙_, sym, ap, length, drop, needs, toZ-ofZ, w64, toZ}
 use Rattle.semantics.specs.Words.{store-of}
 use Rattle.store.specs.Acquiring.{appended-all}
 use Rattle.store.proofs.Filling.{appended-next, appended-end}

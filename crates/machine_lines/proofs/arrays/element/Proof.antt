@@ -1,7 +1,5 @@
 -- `machine_lines::arrays::element` meets its contract.
-use mathlib.Core.Path.{_∙_}
-use mir.Facts.{toZ-ofZ}
-use borrow.Author.Needs.{needs}
+use Rattle.prelude.specs.Kit.{_∙_, needs, toZ-ofZ}
 use Rattle.machine_lines.proofs.Counts.{element-counts, element-copies}
 use Rattle.machine_lines.proofs.arrays.element.Statement.{statement}
 use Rattle.machine_lines.proofs.arrays.element.Tie as tie

@@ -1,6 +1,5 @@
 -- `machine_lines::arrays::is_count` meets its contract.
-use mathlib.Core.Path.{sym}
-use mir.Facts.{toZ-ofZ}
+use Rattle.prelude.specs.Kit.{sym, toZ-ofZ}
 use Rattle.machine_frames.proofs.Tests.{inside-negative, inside-at-most}
 use Rattle.machine_lines.proofs.arrays.is_count.Statement.{statement}
 use Rattle.machine_lines.proofs.arrays.is_count.Tie as tie

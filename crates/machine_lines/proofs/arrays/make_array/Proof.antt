@@ -1,12 +1,5 @@
 -- `machine_lines::arrays::make_array` meets its contract.
-use mathlib.Core.Path.{_≡_, sym, ap, _∙_}
-use mathlib.Core.Bool.{true}
-use Prim.Native.Nat.{ℕ}
-use native.Mathlib.Omega.{arith}
-use lib.IntN.{natAbs}
-use mir.Facts.{toZ-ofZ}
-use borrow.Author.Tests.{not-true, not-false}
-use borrow.Author.Needs.{needs}
+use Rattle.prelude.specs.Kit.{ℕ, arith, true, _≡_, _∙_, sym, ap, natAbs, needs, not-true, not-false, toZ-ofZ}
 use Rattle.semantics.specs.Machine.{is-count}
 use Rattle.semantics.specs.Words.{store-of}
 use Rattle.store.specs.Acquiring.{gained, acquired-outcome, next-cell, appended-all}

@@ -1,7 +1,5 @@
 -- `machine_lines::arrays::retain_copies` meets its contract.
-use mathlib.Core.Path.{_∙_}
-use mir.Facts.{toZ-ofZ}
-use borrow.Author.Needs.{needs}
+use Rattle.prelude.specs.Kit.{_∙_, needs, toZ-ofZ}
 use Rattle.semantics.specs.Words.{store-of}
 use Rattle.machine_lines.proofs.Counts.{copies-none, copies-some}
 use Rattle.machine_lines.proofs.arrays.retain_copies.Statement.{statement}

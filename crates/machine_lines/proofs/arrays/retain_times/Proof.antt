@@ -1,9 +1,5 @@
 -- `machine_lines::arrays::retain_times` meets its contract.
-use mathlib.Core.Path.{_≡_, refl, sym, ap, _∙_}
-use Prim.Native.Nat.{ℕ, _+_, _-_, _≤_}
-use native.Mathlib.Omega.{arith}
-use lib.ListN.{length}
-use borrow.Author.Needs.{needs}
+use Rattle.prelude.specs.Kit.{ℕ, _≤_, _+_, _-_, arith, _≡_, refl, _∙_, sym, ap, length, needs}
 use Rattle.semantics.specs.Words.{store-of}
 use Rattle.machine_lines.specs.Lines.{retained-times}
 use Rattle.machine_lines.proofs.Counts.{times-more, times-end}

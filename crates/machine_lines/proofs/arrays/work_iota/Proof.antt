@@ -1,10 +1,5 @@
 -- `machine_lines::arrays::work_iota` meets its contract.
-use mathlib.Core.Bool.{true}
-use lib.IntN.{pos}
-use mathlib.Core.Path.{ap, _∙_}
-use lib.ListN.{length}
-use mir.Facts.{toZ-ofZ}
-use borrow.Author.Needs.{needs}
+use Rattle.prelude.specs.Kit.{true, _∙_, ap, pos, length, needs, toZ-ofZ}
 use Rattle.semantics.specs.Words.{store-of}
 use Rattle.machine_frames.specs.Work.{memory, Ran}
 use Rattle.machine_lines.proofs.Counts.{array-bound}

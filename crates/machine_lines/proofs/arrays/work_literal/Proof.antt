@@ -1,9 +1,5 @@
 -- `machine_lines::arrays::work_literal` meets its contract.
-use mir.Facts.{toZ-ofZ}
-use native.Mathlib.Omega.{arith}
-use mathlib.Core.Path.{sym, refl, ap, _∙_}
-use Prim.Native.Nat.{ℕ, _+_}
-use lib.ListN.{length}
+use Rattle.prelude.specs.Kit.{ℕ, _+_, arith, refl, _∙_, sym, ap, length, needs, toZ-ofZ}
 use Rattle.semantics.specs.Words.{store-of}
 use Rattle.store.specs.Acquiring.{gained, acquired-outcome, next-cell, appended-all}
 use Rattle.store.proofs.Filling.{filled-by-appending, none-given}
@@ -11,7 +7,6 @@ use Rattle.machine_frames.specs.Frames.{words-at}
 use Rattle.machine_frames.specs.Work.{memory}
 use Rattle.machine_frames.proofs.Levels.{noted-long}
 use Rattle.machine_lines.proofs.Lines.{literal-spent, literal-cell, literal-none, next-small}
-use borrow.Author.Needs.{needs}
 use Rattle.machine_lines.proofs.arrays.work_literal.Statement.{statement}
 use Rattle.machine_lines.proofs.arrays.work_literal.Tie as tie
 

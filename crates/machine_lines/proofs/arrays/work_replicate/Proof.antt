@@ -1,9 +1,5 @@
 -- `machine_lines::arrays::work_replicate` meets its contract.
-use mathlib.Core.Bool.{false}
-use mathlib.Core.Path.{ap, _∙_}
-use lib.ListN.{length}
-use mir.Facts.{toZ-ofZ}
-use borrow.Author.Needs.{needs}
+use Rattle.prelude.specs.Kit.{false, _∙_, ap, length, needs, toZ-ofZ}
 use Rattle.semantics.specs.Words.{store-of}
 use Rattle.machine_frames.specs.Work.{memory, Ran}
 use Rattle.machine_lines.proofs.Counts.{array-bound}

@@ -1,7 +1,5 @@
 -- The measures of the five functions (the levels left), and what each may take of the functions that it calls.
-use Prim.Native.Nat.{_+_, _*_, ℕ, _<_}
-use borrow.Fn.Kinds.{In}
-use borrow.Fn.PlainCycle.{Measures, is, falls, and}
+use Rattle.prelude.specs.Kit.{ℕ, _+_, _<_, _*_, In, and, falls, is, Measures}
 use Rattle.script_depths.proofs.type_let.Reads as type-let
 use Rattle.script_depths.proofs.type_let.Kinds as type-let-kinds
 use Rattle.script_depths.proofs.+type_let+type_loop+type_part+type_plain+type_start.Lts-type_let as let-lts

@@ -1,8 +1,5 @@
 -- What `type_let` has to show.
-use Prim.Native.Nat.{ℕ}
-use native.Mathlib.Omega.{arith}
-use mathlib.Core.Path.{ap, _∙_}
-use lib.ListN.{length, length-set}
+use Rattle.prelude.specs.Kit.{ℕ, arith, _∙_, ap, length, length-set}
 use Rattle.script_read.proofs.Tables.{put-back}
 use Rattle.script_depths.specs.Walk.{typed-outcome}
 use Rattle.script_depths.proofs.Laws.{let-bound, let-faulty}

@@ -1,8 +1,5 @@
 -- What `type_loop` has to show.
-use Prim.Native.Nat.{ℕ}
-use native.Mathlib.Omega.{arith}
-use mathlib.Core.Path.{ap, _∙_}
-use lib.ListN.{length, length-set}
+use Rattle.prelude.specs.Kit.{ℕ, arith, _∙_, ap, length, length-set}
 use Rattle.script_read.proofs.Tables.{put-back-two}
 use Rattle.script_depths.specs.Walk.{typed-outcome}
 use Rattle.script_depths.proofs.Laws.{start-faulty, array-faulty, array-number, loop-bound}

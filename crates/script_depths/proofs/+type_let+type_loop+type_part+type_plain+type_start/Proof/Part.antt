@@ -1,10 +1,6 @@
 -- What `type_part` has to show.
 use Rattle.semantics.specs.File.{at-part}
-use Prim.Native.Nat.{ℕ, _<_}
-use native.Mathlib.Omega.{arith}
-use mathlib.Core.Path.{refl, sym, _∙_}
-use mathlib.Core.Logic.{inl, inr}
-use lib.ListN.{length}
+use Rattle.prelude.specs.Kit.{ℕ, _<_, arith, refl, _∙_, sym, inl, inr, length}
 use Rattle.script_read.proofs.Nodes.{Seen, seen, inside}
 use Rattle.script_depths.proofs.Laws.{entry, no-levels, no-node, a-number, a-name, unknown-name, a-let, a-loop}
 use Rattle.script_depths.proofs.Laws.{any-other}

@@ -1,8 +1,5 @@
 -- What `type_plain` has to show.
-use Prim.Native.Nat.{_+_, _-_, ℕ}
-use native.Mathlib.Omega.{arith}
-use mathlib.Core.Path.{_≡_, refl, ap, _∙_}
-use lib.ListN.{length}
+use Rattle.prelude.specs.Kit.{ℕ, _+_, _-_, arith, _≡_, refl, _∙_, ap, length}
 use Rattle.semantics.specs.File.{part-count}
 use Rattle.script_depths.specs.Walk.{depths, known-types, AtomTyped, typed-outcome}
 use Rattle.script_rules.proofs.Rules.{few-parts}

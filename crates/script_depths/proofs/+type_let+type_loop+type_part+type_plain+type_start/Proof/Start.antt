@@ -1,7 +1,5 @@
 -- What `type_start` has to show.
-use Prim.Native.Nat.{ℕ}
-use mathlib.Core.Path.{refl}
-use borrow.Author.Tests.{eq-eqb, ne-eqb}
+use Rattle.prelude.specs.Kit.{ℕ, refl, ne-eqb, eq-eqb}
 use Rattle.script_depths.proofs.type_start.Reads as type-start
 use Rattle.script_depths.proofs.+type_let+type_loop+type_part+type_plain+type_start.Lts-type_start as start-lts
 use Rattle.script_depths.proofs.+type_let+type_loop+type_part+type_plain+type_start.Proof.Common.{start-at}

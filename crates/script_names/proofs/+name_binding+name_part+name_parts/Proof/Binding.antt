@@ -1,8 +1,5 @@
 -- What `name_binding` has to show.
-use Prim.Native.Nat.{ℕ}
-use native.Mathlib.Omega.{arith}
-use mathlib.Core.Path.{_≡_, sym, ap, _∙_}
-use lib.ListN.{length, length-set}
+use Rattle.prelude.specs.Kit.{ℕ, arith, _≡_, _∙_, sym, ap, length, length-set}
 use Rattle.script_names.specs.Walk.{names}
 use Rattle.script_names.proofs.Laws.{rebound, unbound}
 use Rattle.script_names.proofs.name_binding.Reads as name-binding

@@ -1,7 +1,5 @@
 -- The measures of the three functions (the levels left), and what each may take of the functions that it calls.
-use Prim.Native.Nat.{_+_, _*_, ℕ, _<_}
-use borrow.Fn.Kinds.{In}
-use borrow.Fn.PlainCycle.{Measures, is, falls, and}
+use Rattle.prelude.specs.Kit.{ℕ, _+_, _<_, _*_, In, and, falls, is, Measures}
 use Rattle.script_names.proofs.name_binding.Reads as name-binding
 use Rattle.script_names.proofs.name_binding.Kinds as name-binding-kinds
 use Rattle.script_names.proofs.+name_binding+name_part+name_parts.Lts-name_binding as name-binding-lts

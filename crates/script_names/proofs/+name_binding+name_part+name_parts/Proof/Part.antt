@@ -1,9 +1,5 @@
 -- What `name_part` has to show.
-use Prim.Native.Nat.{ℕ, _<_}
-use native.Mathlib.Omega.{arith}
-use mathlib.Core.Path.{refl, sym, _∙_}
-use mathlib.Core.Logic.{inl, inr}
-use lib.ListN.{length}
+use Rattle.prelude.specs.Kit.{ℕ, _<_, arith, refl, _∙_, sym, inl, inr, length}
 use Rattle.semantics.specs.File.{at-part}
 use Rattle.script_read.proofs.Nodes.{Seen, seen, inside}
 use Rattle.script_names.proofs.Laws.{no-levels, known-name, unknown-name, binding, last-part, no-callee}

@@ -1,9 +1,5 @@
 -- What `name_parts` has to show.
-use Prim.Native.Nat.{_-_, _≤_, ℕ}
-use native.Mathlib.Omega.{arith}
-use mathlib.Core.Path.{_≡_, refl, sym, ap, _∙_}
-use lib.ListN.{length}
-use borrow.Author.Needs.{needs}
+use Rattle.prelude.specs.Kit.{ℕ, _≤_, _-_, arith, _≡_, refl, _∙_, sym, ap, length, needs}
 use Rattle.script_read.specs.Told.{repeated}
 use Rattle.script_read.proofs.Turns.{repeated-goes, repeated-stops, repeated-none}
 use Rattle.script_names.specs.Walk.{scope, names}

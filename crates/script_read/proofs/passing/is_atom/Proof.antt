@@ -1,6 +1,5 @@
 -- `script_read::passing::is_atom` meets its contract, by the laws of `Atoms`.
-use mathlib.Core.Path.{subst}
-use borrow.Author.Needs.{needs}
+use Rattle.prelude.specs.Kit.{subst, needs}
 use Rattle.laws.specs.Tests.{no-equation}
 use Rattle.script_read.specs.Told.{AtomSeen}
 use Rattle.script_read.proofs.Atoms.{number-goes, name-goes}

@@ -1,8 +1,5 @@
 -- `test_cases::deliveries::deliver_all` ends: the text left falls. The store keeps its lengths.
-use mathlib.Core.Path.{_≡_}
-use Prim.Native.Nat.{_-_}
-use lib.ListN.{length}
-use borrow.Author.Needs.{needs}
+use Rattle.prelude.specs.Kit.{_-_, _≡_, length, needs}
 use Rattle.test_cases.proofs.deliveries.deliver_all.Statement.{statement}
 use Rattle.test_cases.proofs.deliveries.deliver_all.Tie as tie
 

@@ -1,8 +1,5 @@
 -- `test_cases::swaps::run_case` ends: the text left falls. Both arrays keep their lengths.
-use mathlib.Core.Path.{_≡_}
-use Prim.Native.Nat.{_-_}
-use lib.ListN.{length}
-use borrow.Author.Needs.{needs}
+use Rattle.prelude.specs.Kit.{_-_, _≡_, length, needs}
 use Rattle.test_cases.proofs.swaps.run_case.Statement.{statement}
 use Rattle.test_cases.proofs.swaps.run_case.Tie as tie
 

@@ -1,7 +1,5 @@
 -- `test_cross::both::check` is safe: each part that is lent is as long as its end says.
-use native.Mathlib.Omega.{arith}
-use lib.ListN.{length-take}
-use borrow.Author.Needs.{needs}
+use Rattle.prelude.specs.Kit.{arith, length-take, needs}
 use Rattle.test_cross.proofs.both.check.Statement.{statement}
 use Rattle.test_cross.proofs.both.check.Tie as tie
 

@@ -1,7 +1,5 @@
 -- `test_cross::both::deliver` is safe: each part that is lent is as long as its end says.
-use native.Mathlib.Omega.{arith}
-use lib.ListN.{length-take}
-use borrow.Author.Needs.{needs}
+use Rattle.prelude.specs.Kit.{arith, length-take, needs}
 use Rattle.test_cross.proofs.both.deliver.Statement.{statement}
 use Rattle.test_cross.proofs.both.deliver.Tie as tie
 

@@ -1,6 +1,5 @@
 -- `test_cross::both::numbers_of` ends: the readings left fall.
-use Prim.Native.Nat.{_≤_, _-_}
-use borrow.Author.Needs.{needs}
+use Rattle.prelude.specs.Kit.{_≤_, _-_, needs}
 use Rattle.test_cross.proofs.both.numbers_of.Statement.{statement}
 use Rattle.test_cross.proofs.both.numbers_of.Tie as tie
 

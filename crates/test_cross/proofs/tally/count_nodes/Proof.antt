@@ -1,6 +1,5 @@
 -- `test_cross::tally::count_nodes` ends: the nodes left fall.
-use Prim.Native.Nat.{_≤_, _-_}
-use borrow.Author.Needs.{needs}
+use Rattle.prelude.specs.Kit.{_≤_, _-_, needs}
 use Rattle.test_cross.proofs.tally.count_nodes.Statement.{statement}
 use Rattle.test_cross.proofs.tally.count_nodes.Tie as tie
 

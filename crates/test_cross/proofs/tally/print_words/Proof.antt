@@ -1,6 +1,5 @@
 -- `test_cross::tally::print_words` ends: the words left fall.
-use Prim.Native.Nat.{_-_}
-use borrow.Author.Needs.{needs}
+use Rattle.prelude.specs.Kit.{_-_, needs}
 use Rattle.test_cross.proofs.tally.print_words.Statement.{statement}
 use Rattle.test_cross.proofs.tally.print_words.Tie as tie
 

@@ -1,6 +1,5 @@
 -- `test_draft::file::put_bits` ends: the bytes left fall.
-use Prim.Native.Nat.{_≤_, _-_}
-use borrow.Author.Needs.{needs}
+use Rattle.prelude.specs.Kit.{_≤_, _-_, needs}
 use Rattle.test_draft.proofs.file.put_bits.Statement.{statement}
 use Rattle.test_draft.proofs.file.put_bits.Tie as tie
 

@@ -1,6 +1,5 @@
 -- `test_draft::file::write_file` ends: the nodes left fall.
-use Prim.Native.Nat.{_≤_, _-_}
-use borrow.Author.Needs.{needs}
+use Rattle.prelude.specs.Kit.{_≤_, _-_, needs}
 use Rattle.test_draft.proofs.file.write_file.Statement.{statement}
 use Rattle.test_draft.proofs.file.write_file.Tie as tie
 

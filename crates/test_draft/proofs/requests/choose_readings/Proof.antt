@@ -1,6 +1,5 @@
 -- `test_draft::requests::choose_readings` ends and gives at most 17: the readings left fall.
-use Prim.Native.Nat.{_≤_, _-_}
-use borrow.Author.Needs.{needs}
+use Rattle.prelude.specs.Kit.{_≤_, _-_, needs}
 use Rattle.test_draft.proofs.requests.choose_readings.Statement.{statement}
 use Rattle.test_draft.proofs.requests.choose_readings.Tie as tie
 

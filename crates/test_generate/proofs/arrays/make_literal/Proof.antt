@@ -1,5 +1,5 @@
 -- `test_generate::arrays::make_literal` ends: the elements left fall.
-use borrow.Author.Needs.{needs}
+use Rattle.prelude.specs.Kit.{needs}
 use Rattle.test_generate.proofs.arrays.make_literal.Statement.{statement}
 use Rattle.test_generate.proofs.arrays.make_literal.Tie as tie
 

@@ -1,6 +1,5 @@
 -- `test_generate::calls::find_callee` ends: the functions left fall.
-use Prim.Native.Nat.{_≤_, _<_, _-_}
-use borrow.Author.Needs.{needs}
+use Rattle.prelude.specs.Kit.{_≤_, _<_, _-_, needs}
 use Rattle.test_generate.proofs.calls.find_callee.Statement.{statement}
 use Rattle.test_generate.proofs.calls.find_callee.Tie as tie
 

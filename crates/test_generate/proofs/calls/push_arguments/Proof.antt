@@ -1,6 +1,5 @@
 -- `test_generate::calls::push_arguments` ends: the arguments left fall.
-use Prim.Native.Nat.{_≤_}
-use borrow.Author.Needs.{needs}
+use Rattle.prelude.specs.Kit.{_≤_, needs}
 use Rattle.test_generate.proofs.calls.push_arguments.Statement.{statement}
 use Rattle.test_generate.proofs.calls.push_arguments.Tie as tie
 

@@ -1,6 +1,5 @@
 -- `test_generate::scripts::choose_depths` ends: the depths left fall.
-use Prim.Native.Nat.{_≤_, _-_}
-use borrow.Author.Needs.{needs}
+use Rattle.prelude.specs.Kit.{_≤_, _-_, needs}
 use Rattle.test_generate.proofs.scripts.choose_depths.Statement.{statement}
 use Rattle.test_generate.proofs.scripts.choose_depths.Tie as tie
 

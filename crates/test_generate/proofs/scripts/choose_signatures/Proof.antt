@@ -1,6 +1,5 @@
 -- `test_generate::scripts::choose_signatures` ends: the functions left fall.
-use Prim.Native.Nat.{_≤_, _-_}
-use borrow.Author.Needs.{needs}
+use Rattle.prelude.specs.Kit.{_≤_, _-_, needs}
 use Rattle.test_generate.proofs.scripts.choose_signatures.Statement.{statement}
 use Rattle.test_generate.proofs.scripts.choose_signatures.Tie as tie
 

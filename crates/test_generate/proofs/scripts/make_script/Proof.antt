@@ -1,6 +1,5 @@
 -- `test_generate::scripts::make_script` ends: the functions left fall.
-use Prim.Native.Nat.{_≤_, _-_}
-use borrow.Author.Needs.{needs}
+use Rattle.prelude.specs.Kit.{_≤_, _-_, needs}
 use Rattle.test_generate.proofs.scripts.make_script.Statement.{statement}
 use Rattle.test_generate.proofs.scripts.make_script.Tie as tie
 

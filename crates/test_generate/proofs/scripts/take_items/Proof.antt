@@ -1,5 +1,5 @@
 -- `test_generate::scripts::take_items` ends: the turns left fall.
-use borrow.Author.Needs.{needs}
+use Rattle.prelude.specs.Kit.{needs}
 use Rattle.test_generate.proofs.scripts.take_items.Statement.{statement}
 use Rattle.test_generate.proofs.scripts.take_items.Tie as tie
 

@@ -1,6 +1,5 @@
 -- `test_generate::scripts::write_parameters` ends: the parameters left fall.
-use Prim.Native.Nat.{_≤_, _-_}
-use borrow.Author.Needs.{needs}
+use Rattle.prelude.specs.Kit.{_≤_, _-_, needs}
 use Rattle.test_generate.proofs.scripts.write_parameters.Statement.{statement}
 use Rattle.test_generate.proofs.scripts.write_parameters.Tie as tie
 

@@ -1,6 +1,5 @@
 -- `test_generate::wants::find_name` ends: the names left fall.
-use Prim.Native.Nat.{_≤_, _<_, _-_}
-use borrow.Author.Needs.{needs}
+use Rattle.prelude.specs.Kit.{_≤_, _<_, _-_, needs}
 use Rattle.test_generate.proofs.wants.find_name.Statement.{statement}
 use Rattle.test_generate.proofs.wants.find_name.Tie as tie
 

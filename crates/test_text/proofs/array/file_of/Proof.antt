@@ -1,10 +1,6 @@
 -- `test_text::array::file_of` meets its contract.
-use mathlib.Core.Path.{_≡_}
-use Prim.Native.Nat.{_-_, _≤_}
-use native.Mathlib.Omega.{arith}
-use lib.ListN.{length, length-set}
+use Rattle.prelude.specs.Kit.{_≤_, _-_, arith, _≡_, length, length-set, needs}
 use Rattle.io.proofs.Counting.{counts}
-use borrow.Author.Needs.{needs}
 use Rattle.test_text.proofs.array.file_of.Statement.{statement}
 use Rattle.test_text.proofs.array.file_of.Tie as tie
 

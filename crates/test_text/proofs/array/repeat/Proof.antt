@@ -1,9 +1,5 @@
 -- `test_text::array::repeat` meets its contract.
-use mathlib.Core.Path.{_≡_}
-use Prim.Native.Nat.{_≤_}
-use native.Mathlib.Omega.{arith}
-use lib.ListN.{length, length-set}
-use borrow.Author.Needs.{needs}
+use Rattle.prelude.specs.Kit.{_≤_, arith, _≡_, length, length-set, needs}
 use Rattle.test_text.proofs.array.repeat.Statement.{statement}
 use Rattle.test_text.proofs.array.repeat.Tie as tie
 

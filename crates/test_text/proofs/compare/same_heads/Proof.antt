@@ -1,12 +1,5 @@
 -- `test_text::compare::same_heads` meets its contract.
-use mathlib.Core.Path.{_≡_}
-use mathlib.Core.Bool.{false≢true}
-use Prim.Native.Nat.{ℕ, _-_, _<_, _≤_}
-use native.Mathlib.Omega.{arith}
-use lib.ListN.{length, getD}
-use lib.Seq.{ext-getD}
-use borrow.Author.Count.{below-more}
-use borrow.Author.Needs.{needs}
+use Rattle.prelude.specs.Kit.{ℕ, _≤_, _<_, _-_, arith, false≢true, _≡_, length, getD, ext-getD, below-more, needs}
 use Rattle.test_text.proofs.compare.same_heads.Statement.{statement}
 use Rattle.test_text.proofs.compare.same_heads.Tie as tie
 

@@ -1,14 +1,7 @@
 -- `test_text::compare::same_slots` meets its contract.
-use mathlib.Core.Path.{_≡_}
-use mathlib.Core.Bool.{false≢true}
-use Prim.Native.Nat.{ℕ, _-_, _<_, _≤_}
-use native.Mathlib.Omega.{arith}
-use lib.ListN.{length, getD}
-use lib.Seq.{ext-getD}
-use borrow.Author.Count.{below-none, below-more}
+use Rattle.prelude.specs.Kit.{ℕ, _≤_, _<_, _-_, arith, false≢true, _≡_, pos, length, getD, ext-getD, below-more}
+use Rattle.prelude.specs.Kit.{below-none, needs}
 use Rattle.test_text.proofs.Laws.{same-bits}
-use lib.IntN.{pos}
-use borrow.Author.Needs.{needs}
 use Rattle.test_text.proofs.compare.same_slots.Statement.{statement}
 use Rattle.test_text.proofs.compare.same_slots.Tie as tie
 

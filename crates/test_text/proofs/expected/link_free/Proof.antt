@@ -1,8 +1,5 @@
 -- `test_text::expected::link_free` ends: the cells left fall.
-use mathlib.Core.Path.{_≡_}
-use Prim.Native.Nat.{_*_, _≤_}
-use lib.ListN.{length}
-use borrow.Author.Needs.{needs}
+use Rattle.prelude.specs.Kit.{_≤_, _*_, _≡_, length, needs}
 use Rattle.test_text.proofs.expected.link_free.Statement.{statement}
 use Rattle.test_text.proofs.expected.link_free.Tie as tie
 

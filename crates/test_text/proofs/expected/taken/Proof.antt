@@ -1,7 +1,5 @@
 -- `test_text::expected::taken` ends: the cells left fall.
-use Prim.Native.Nat.{_*_, _-_, _≤_}
-use lib.ListN.{length}
-use borrow.Author.Needs.{needs}
+use Rattle.prelude.specs.Kit.{_≤_, _-_, _*_, length, needs}
 use Rattle.test_text.proofs.expected.taken.Statement.{statement}
 use Rattle.test_text.proofs.expected.taken.Tie as tie
 

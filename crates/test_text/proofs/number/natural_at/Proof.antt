@@ -1,7 +1,5 @@
 -- `test_text::number::natural_at` meets its contract.
-use Prim.Native.Nat.{_-_}
-use lib.ListN.{length}
-use borrow.Author.Needs.{needs}
+use Rattle.prelude.specs.Kit.{_-_, length, needs}
 use Rattle.test_text.proofs.number.natural_at.Statement.{statement}
 use Rattle.test_text.proofs.number.natural_at.Tie as tie
 

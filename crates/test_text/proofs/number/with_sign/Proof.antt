@@ -1,13 +1,6 @@
 -- `test_text::number::with_sign` meets its contract.
-use mathlib.Core.Path.{sym, subst}
-use Prim.Native.Nat.{ℕ, zero, suc, _<_, _^_}
-use native.Mathlib.Omega.{arith}
-use lib.IntN.{ℤ, pos, negsuc, _-ℤ_, +ℤ-idl}
-use lib.Signed.{mag}
-use mir.Syntax.{w64}
-use mir.Val.{toZ}
-use borrow.Author.Tests.{lt-ltb}
-use borrow.Author.Needs.{needs}
+use Rattle.prelude.specs.Kit.{ℕ, _<_, suc, zero, _^_, arith, sym, subst, ℤ, pos, negsuc, _-ℤ_, +ℤ-idl, mag, needs}
+use Rattle.prelude.specs.Kit.{lt-ltb, w64, toZ}
 use Rattle.test_text.proofs.number.with_sign.Statement.{statement}
 use Rattle.test_text.proofs.number.with_sign.Tie as tie
 

@@ -1,6 +1,5 @@
 -- `test_text::tally::print_row` ends: the columns left fall.
-use Prim.Native.Nat.{_-_}
-use borrow.Author.Needs.{needs}
+use Rattle.prelude.specs.Kit.{_-_, needs}
 use Rattle.test_text.proofs.tally.print_row.Statement.{statement}
 use Rattle.test_text.proofs.tally.print_row.Tie as tie
 

@@ -1,7 +1,5 @@
 -- `test_text::text::byte_at` meets its contract.
-use mathlib.Core.Path.{sym}
-use lib.ListN.{List·getD-eq-default}
-use borrow.Author.Needs.{needs}
+use Rattle.prelude.specs.Kit.{sym, List·getD-eq-default, needs}
 use Rattle.test_text.proofs.text.byte_at.Statement.{statement}
 use Rattle.test_text.proofs.text.byte_at.Tie as tie
 

@@ -1,7 +1,5 @@
 -- `test_text::text::case_end` meets its contract.
-use Prim.Native.Nat.{_-_, _≤_, min}
-use lib.ListN.{length}
-use borrow.Author.Needs.{needs}
+use Rattle.prelude.specs.Kit.{_≤_, _-_, min, length, needs}
 use Rattle.test_text.proofs.text.case_end.Statement.{statement}
 use Rattle.test_text.proofs.text.case_end.Tie as tie
 

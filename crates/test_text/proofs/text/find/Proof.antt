@@ -1,7 +1,5 @@
 -- `test_text::text::find` meets its contract.
-use Prim.Native.Nat.{_-_, _≤_, min}
-use lib.ListN.{length}
-use borrow.Author.Needs.{needs}
+use Rattle.prelude.specs.Kit.{_≤_, _-_, min, length, needs}
 use Rattle.test_text.proofs.text.find.Statement.{statement}
 use Rattle.test_text.proofs.text.find.Tie as tie
 

@@ -1,10 +1,5 @@
 -- `test_text::text::stands_at` meets its contract.
-use mathlib.Core.Path.{_≡_}
-use mathlib.Core.Bool.{false≢true}
-use Prim.Native.Nat.{_-_, _+_}
-use native.Mathlib.Omega.{arith}
-use lib.ListN.{length}
-use borrow.Author.Needs.{needs}
+use Rattle.prelude.specs.Kit.{_+_, _-_, arith, false≢true, _≡_, length, needs}
 use Rattle.test_text.proofs.text.stands_at.Statement.{statement}
 use Rattle.test_text.proofs.text.stands_at.Tie as tie
 

@@ -1,7 +1,5 @@
 -- `test_text::text::start_of` meets its contract.
-use Prim.Native.Nat.{_-_, _≤_}
-use lib.ListN.{length}
-use borrow.Author.Needs.{needs}
+use Rattle.prelude.specs.Kit.{_≤_, _-_, length, needs}
 use Rattle.test_text.proofs.text.start_of.Statement.{statement}
 use Rattle.test_text.proofs.text.start_of.Tie as tie
 

@@ -1,7 +1,5 @@
 -- `test_text::text::word` meets its contract.
-use Prim.Native.Nat.{_≤_}
-use lib.ListN.{length}
-use borrow.Author.Needs.{needs}
+use Rattle.prelude.specs.Kit.{_≤_, length, needs}
 use Rattle.test_text.proofs.text.word.Statement.{statement}
 use Rattle.test_text.proofs.text.word.Tie as tie
 

@@ -1,6 +1,5 @@
 -- `test_values::arrays::copy_in` ends: the values left fall.
-use Prim.Native.Nat.{_≤_, _-_}
-use borrow.Author.Needs.{needs}
+use Rattle.prelude.specs.Kit.{_≤_, _-_, needs}
 use Rattle.test_values.proofs.arrays.copy_in.Statement.{statement}
 use Rattle.test_values.proofs.arrays.copy_in.Tie as tie
 

@@ -1,8 +1,5 @@
 -- `test_values::cells::reach` calls itself and ends: the depth falls. In its loop the elements left fall.
-use borrow.Author.Needs.{needs}
-use Prim.Native.Nat.{ℕ, _-_, _<_}
-use borrow.Fn.Kinds.{In}
-use borrow.Fn.PlainCycle.{Measures, is, falls, and}
+use Rattle.prelude.specs.Kit.{ℕ, _<_, _-_, needs, In, and, falls, is, Measures}
 use Rattle.test_values.proofs.cells.reach.Reads as reach
 use Rattle.test_values.proofs.cells.reach.Kinds as reach-kinds
 use Rattle.test_values.proofs.cells.+reach.Lts-reach as reach-lts

@@ -1,6 +1,5 @@
 -- `test_values::cells::reached` ends: the roots left fall.
-use Prim.Native.Nat.{_-_}
-use borrow.Author.Needs.{needs}
+use Rattle.prelude.specs.Kit.{_-_, needs}
 use Rattle.test_values.proofs.cells.reached.Statement.{statement}
 use Rattle.test_values.proofs.cells.reached.Tie as tie
 

@@ -1,5 +1,5 @@
 -- `test_values::depths::find_depths` ends: the times left fall.
-use borrow.Author.Needs.{needs}
+use Rattle.prelude.specs.Kit.{needs}
 use Rattle.test_values.proofs.depths.find_depths.Statement.{statement}
 use Rattle.test_values.proofs.depths.find_depths.Tie as tie
 

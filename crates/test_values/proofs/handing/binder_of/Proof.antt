@@ -1,5 +1,5 @@
 -- `test_values::handing::binder_of` ends: the levels left fall.
-use borrow.Author.Needs.{needs}
+use Rattle.prelude.specs.Kit.{needs}
 use Rattle.test_values.proofs.handing.binder_of.Statement.{statement}
 use Rattle.test_values.proofs.handing.binder_of.Tie as tie
 

@@ -1,5 +1,5 @@
 -- `test_values::handing::hand_over` ends: the parameters left fall.
-use borrow.Author.Needs.{needs}
+use Rattle.prelude.specs.Kit.{needs}
 use Rattle.test_values.proofs.handing.hand_over.Statement.{statement}
 use Rattle.test_values.proofs.handing.hand_over.Tie as tie
 

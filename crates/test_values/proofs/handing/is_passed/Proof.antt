@@ -1,5 +1,5 @@
 -- `test_values::handing::is_passed` ends: the arguments left fall.
-use borrow.Author.Needs.{needs}
+use Rattle.prelude.specs.Kit.{needs}
 use Rattle.test_values.proofs.handing.is_passed.Statement.{statement}
 use Rattle.test_values.proofs.handing.is_passed.Tie as tie
 

@@ -1,5 +1,5 @@
 -- `test_values::handing::note_handed` ends: the times left fall.
-use borrow.Author.Needs.{needs}
+use Rattle.prelude.specs.Kit.{needs}
 use Rattle.test_values.proofs.handing.note_handed.Statement.{statement}
 use Rattle.test_values.proofs.handing.note_handed.Tie as tie
 

@@ -1,5 +1,5 @@
 -- `test_values::handing::note_once` ends: the nodes left fall.
-use borrow.Author.Needs.{needs}
+use Rattle.prelude.specs.Kit.{needs}
 use Rattle.test_values.proofs.handing.note_once.Statement.{statement}
 use Rattle.test_values.proofs.handing.note_once.Tie as tie
 

@@ -1,5 +1,5 @@
 -- `test_values::handing::parameter_of` ends: the parameters left fall.
-use borrow.Author.Needs.{needs}
+use Rattle.prelude.specs.Kit.{needs}
 use Rattle.test_values.proofs.handing.parameter_of.Statement.{statement}
 use Rattle.test_values.proofs.handing.parameter_of.Tie as tie
 

@@ -1,5 +1,5 @@
 -- `test_values::rows::adopt` ends: the parts left fall.
-use borrow.Author.Needs.{needs}
+use Rattle.prelude.specs.Kit.{needs}
 use Rattle.test_values.proofs.rows.adopt.Statement.{statement}
 use Rattle.test_values.proofs.rows.adopt.Tie as tie
 

@@ -1,6 +1,5 @@
 -- `test_values::rows::bind_parameters` ends: the parameters left fall.
-use Prim.Native.Nat.{_≤_, _-_}
-use borrow.Author.Needs.{needs}
+use Rattle.prelude.specs.Kit.{_≤_, _-_, needs}
 use Rattle.test_values.proofs.rows.bind_parameters.Statement.{statement}
 use Rattle.test_values.proofs.rows.bind_parameters.Tie as tie
 

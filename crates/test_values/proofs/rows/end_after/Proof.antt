@@ -1,5 +1,5 @@
 -- `test_values::rows::end_after` ends: the parts left fall.
-use borrow.Author.Needs.{needs}
+use Rattle.prelude.specs.Kit.{needs}
 use Rattle.test_values.proofs.rows.end_after.Statement.{statement}
 use Rattle.test_values.proofs.rows.end_after.Tie as tie
 

@@ -1,6 +1,5 @@
 -- `test_values::rows::read_script` ends: the nodes left fall.
-use Prim.Native.Nat.{_≤_}
-use borrow.Author.Needs.{needs}
+use Rattle.prelude.specs.Kit.{_≤_, needs}
 use Rattle.test_values.proofs.rows.read_script.Statement.{statement}
 use Rattle.test_values.proofs.rows.read_script.Tie as tie
 

@@ -1,5 +1,5 @@
 -- `test_values::uses::giving_part` ends: the levels left fall.
-use borrow.Author.Needs.{needs}
+use Rattle.prelude.specs.Kit.{needs}
 use Rattle.test_values.proofs.uses.giving_part.Statement.{statement}
 use Rattle.test_values.proofs.uses.giving_part.Tie as tie
 

@@ -1,6 +1,5 @@
 -- `test_values::uses::has_use` ends: the nodes left fall.
-use Prim.Native.Nat.{_-_}
-use borrow.Author.Needs.{needs}
+use Rattle.prelude.specs.Kit.{_-_, needs}
 use Rattle.test_values.proofs.uses.has_use.Statement.{statement}
 use Rattle.test_values.proofs.uses.has_use.Tie as tie
 

@@ -1,6 +1,5 @@
 -- `test_values::uses::is_use_from` ends: the nodes left fall.
-use Prim.Native.Nat.{_-_}
-use borrow.Author.Needs.{needs}
+use Rattle.prelude.specs.Kit.{_-_, needs}
 use Rattle.test_values.proofs.uses.is_use_from.Statement.{statement}
 use Rattle.test_values.proofs.uses.is_use_from.Tie as tie
 

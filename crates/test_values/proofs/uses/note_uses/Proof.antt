@@ -1,5 +1,5 @@
 -- `test_values::uses::note_uses` ends: the nodes left fall.
-use borrow.Author.Needs.{needs}
+use Rattle.prelude.specs.Kit.{needs}
 use Rattle.test_values.proofs.uses.note_uses.Statement.{statement}
 use Rattle.test_values.proofs.uses.note_uses.Tie as tie
 

@@ -1,6 +1,5 @@
 -- `test_values::uses::push_uses` ends: the nodes left fall.
-use Prim.Native.Nat.{_-_}
-use borrow.Author.Needs.{needs}
+use Rattle.prelude.specs.Kit.{_-_, needs}
 use Rattle.test_values.proofs.uses.push_uses.Statement.{statement}
 use Rattle.test_values.proofs.uses.push_uses.Tie as tie
 

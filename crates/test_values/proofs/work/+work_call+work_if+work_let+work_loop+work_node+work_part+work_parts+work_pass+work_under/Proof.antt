@@ -1,9 +1,6 @@
 -- The workers of `test_values::work` call one another and end. What falls is the calls left and, within a call, the
 -- levels left; where neither changes, the last number of a measure falls.
-use borrow.Author.Needs.{needs}
-use Prim.Native.Nat.{ℕ, _+_, _*_, _-_, _<_}
-use borrow.Fn.Kinds.{In}
-use borrow.Fn.PlainCycle.{Measures, is, falls, and}
+use Rattle.prelude.specs.Kit.{ℕ, _+_, _<_, _-_, _*_, needs, In, and, falls, is, Measures}
 use Rattle.test_values.proofs.work.work_call.Reads as work-call
 use Rattle.test_values.proofs.work.work_call.Kinds as work-call-kinds
 use Rattle.test_values.proofs.work.+work_call+work_if+work_let+work_loop+work_node+work_part+work_parts+work_pass+work_under.Lts-work_call as work-call-lts
