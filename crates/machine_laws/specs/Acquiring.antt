@@ -63,4 +63,5 @@ first-free {σ} v = go (cell σ (σ .first) .count) refl
 pub remains : {σ : Store} {Z R : List ℕ} → Invariant σ Z R → (env : List ℤ) → level-of env ≡ free-cells σ → (d : ℕ)
     (ws : List ℤ) → cell-from (memory σ env) ≡ first-cell σ (free-cells (acquired d ws σ))
 remains {σ} v env told d ws =
-    with-remaining (level-of env) d ws σ (cell-from (memory σ env)) (acquired d ws σ) (refl, refl) .2 told (first-free v)
+    with-remaining (level-of env) d ws σ (cell-from (memory σ env)) (acquired d ws σ) (refl, refl) .2 told
+    (first-free v)
