@@ -164,6 +164,7 @@ link-tests: check-header check-c check-library $(RUST_TESTS) check-tool $(SANITI
 check-header:
 	$(CC) -std=c11 $(PEDANTIC) -Iinclude -fsyntax-only tests/c/header.c
 	$(CC) -std=c11 $(PEDANTIC) -Iinclude -fsyntax-only examples/flash_store.c
+	$(CC) -std=c11 $(PEDANTIC) -Iinclude -fsyntax-only -DENGINE_COMMIT='""' library/interface.c
 	$(if $(call has,$(firstword $(CXX))),$(CXX) -std=c++11 -x c++ $(PEDANTIC) -Iinclude -fsyntax-only tests/c/header.c)
 
 C_TESTS := $(filter-out tests/c/header.c,$(wildcard tests/c/*.c)) bench/worst_scripts.c

@@ -138,17 +138,15 @@ enum flash_found flash_load(struct flash_keeper *keeper, struct engine_lent *len
     keeper->record = saves[0] > saves[1] ? 0 : 1; /* where none counts, record 0 is the first to be written */
     keeper->saves = saves[keeper->record];
     if (keeper->saves == 0 && (is_of_other_cells(lent, 0) || is_of_other_cells(lent, 1)))
-        return FLASH_OTHER;
+        return FLASH_OTHER_CELLS;
     if (keeper->saves == 0)
         return is_blank(lent, 1) ? FLASH_EMPTY : FLASH_DAMAGED;
-    flash_read(keeper->record, LABEL_UNIT, bytes);
-    if (number_at(bytes + 4, 4) != keeper->script)
-        return FLASH_OTHER;
     for (size_t unit = FIRST_WORDS; unit < units_of(lent); unit++) {
         flash_read(keeper->record, unit, bytes);
         take_words(lent, unit, bytes);
     }
-    return FLASH_STORE;
+    flash_read(keeper->record, LABEL_UNIT, bytes);
+    return number_at(bytes + 4, 4) == keeper->script ? FLASH_STORE : FLASH_OTHER_SCRIPT;
 }
 
 /* ---- Saving ---- */

@@ -41,10 +41,11 @@ struct flash_keeper {
 };
 
 enum flash_found {
-    FLASH_STORE,   /* the lent store is what was saved last */
-    FLASH_EMPTY,   /* nothing was saved yet, but for an opening that power cut short */
-    FLASH_OTHER,   /* what was saved is of another script or number of cells; the lent store is unchanged */
-    FLASH_DAMAGED  /* no record counts, and there was one: opening the store would lose the totals */
+    FLASH_STORE,        /* the lent store is what was saved last */
+    FLASH_OTHER_SCRIPT, /* it is, and was saved with another script: engine_check and flash_save take it over */
+    FLASH_OTHER_CELLS,  /* what was saved is of another number of cells; nothing was read, as in the next two */
+    FLASH_EMPTY,        /* nothing was saved yet, but for an opening that power cut short */
+    FLASH_DAMAGED       /* no record counts, and there was one: opening the store would lose the totals */
 };
 
 /* Looks for the record that counts, and reads it into the lent store. */
@@ -53,8 +54,8 @@ enum flash_found flash_load(struct flash_keeper *keeper, struct engine_lent *len
 /* Saves the lent store; false where the flash failed, and what was saved before still counts. */
 bool flash_save(struct flash_keeper *keeper);
 
-/* A start of the board: loads the store and checks it, or opens it where it is empty. Gives what was found; the answer
- * is that of the engine, or 11 where it was not called. False where the board cannot deliver. */
+/* A start of the board: loads the store and checks it, or opens and saves it where it is empty. Gives what was found;
+ * the answer is that of the engine, or 11 where it was not called. False where the board cannot deliver. */
 bool flash_start(struct flash_keeper *keeper, struct engine_lent *lent, enum flash_found *found, uint64_t *answer);
 
 /* A delivery that is saved before it is shown. False where it could not be saved: then the store is what it was. */

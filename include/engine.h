@@ -46,8 +46,9 @@ extern "C" {
 #define ENGINE_VERSION_MINOR 0
 #define ENGINE_VERSION (1000 * ENGINE_VERSION_MAJOR + ENGINE_VERSION_MINOR)
 
-/* A function that does nothing and has the version in its name: engine_interface_3_0. Whoever makes a call refers to
- * it, so that a host compiled with this header does not link with a library of another version. */
+/* A function that does nothing and has the version in its name: engine_interface_3_0. Whoever makes a call by its name
+ * refers to it, so that a host compiled with this header does not link with a library of another version; one that
+ * calls by pointers alone refers to it by a call of its own. */
 #define ENGINE_INTERFACE_NAME(major, minor) engine_interface_##major##_##minor
 #define ENGINE_INTERFACE_OF(major, minor) ENGINE_INTERFACE_NAME(major, minor)
 #define ENGINE_INTERFACE ENGINE_INTERFACE_OF(ENGINE_VERSION_MAJOR, ENGINE_VERSION_MINOR)

@@ -221,7 +221,7 @@ static void test_damaged_store(void)
     expect(deliver_one(250, 1000) == answer(0, 0, 4, 1), "a store with totals {250}");
     size_t cell = (size_t)lent.slots[0];
     for (size_t i = 0; i < lent.heads_length; i++) {
-        bool is_free_choice = i == ENGINE_HEADS_OF(cell) + 1; /* one element more, which is 0 */
+        bool is_free_choice = i == ENGINE_HEADS_OF(cell) + ENGINE_HEAD_LENGTH; /* one element more, which is 0 */
         lent.heads[i]++;
         expect(check_store() == (is_free_choice ? answer(0, 0, 0, 1) : answer(11, 0, 0, 0)), "a head changed");
         expect(is_free_choice || deliver_one(1, 1000) == answer(11, 0, 0, 0), "no delivery to it");

@@ -51,5 +51,5 @@ uint64_t deliver_one(int64_t reading, uint64_t budget)
 bool totals_are(int64_t number)
 {
     uint64_t cell = (uint64_t)lent.slots[0];
-    return lent.heads[ENGINE_HEADS_OF(cell) + 1] == 1 && lent.slots[ENGINE_SLOTS_OF(cell)] == number;
+    return lent.heads[ENGINE_HEADS_OF(cell) + ENGINE_HEAD_LENGTH] == 1 && lent.slots[ENGINE_SLOTS_OF(cell)] == number;
 }

@@ -200,6 +200,20 @@ static void test_decay(void)
         }
 }
 
+/* A script that reads the totals at another position: the board does not go on by itself, and can take the store
+ * over. */
+static void test_new_script(void)
+{
+    enum flash_found found;
+    file[4 + NODES + 8 * 10]++;
+    expect(!power_up(&found) && found == FLASH_OTHER_SCRIPT, "another script");
+    expect(engine_check_lent(&lent) == (uint64_t)1 << 48 && delivered() == DELIVERIES, "its totals can be taken over");
+    expect(flash_save(&keeper) && power_up(&found) && found == FLASH_STORE, "and were");
+    expect(delivered() == DELIVERIES, "as they are");
+    file[4 + NODES + 8 * 10]--;
+    expect(!power_up(&found) && found == FLASH_OTHER_SCRIPT, "the script before is now another one");
+}
+
 /* What is there and cannot be taken is left as it is. */
 static void test_others(void)
 {
@@ -207,13 +221,11 @@ static void test_others(void)
     begin();
     expect(power_up(&found) && found == FLASH_EMPTY && delivered() == 0, "blank flash is opened");
     expect(play(), "a day");
-    file[4 + NODES + 8 * 10]++; /* the position in the readings */
-    expect(!power_up(&found) && found == FLASH_OTHER && slots[0] != 0, "another script");
-    file[4 + NODES + 8 * 10]--;
+    test_new_script();
     static int64_t more_slots[ENGINE_SLOTS_LENGTH(BOARD_CELLS - 1)];
     static uint32_t more_heads[ENGINE_HEADS_LENGTH(BOARD_CELLS - 1)];
     struct engine_lent other = ENGINE_LENT(file, sizeof file, kinds, operands, more_slots, more_heads);
-    expect(flash_load(&keeper, &other) == FLASH_OTHER && more_heads[0] == 0, "another number of cells");
+    expect(flash_load(&keeper, &other) == FLASH_OTHER_CELLS && more_heads[0] == 0, "another number of cells");
     for (unsigned record = 0; record < FLASH_RECORDS; record++)
         board.flash[record][BOARD_BYTES - 1] ^= 1;
     expect(!power_up(&found) && found == FLASH_DAMAGED, "both records damaged");
