@@ -19,8 +19,9 @@ HOST_HEADERS := include/engine.h $(wildcard host/*.h)
 SHARED_FILES := message place text
 CONTROLLER := $(patsubst %,host/%.c,controller day diagnosis display options plot show site store_file totals_file \
 	$(SHARED_FILES))
-SCRIPT_TOOL := $(patsubst %,host/%.c,script_tool script_text script_file script_check script_explain script_depths \
-	script_code node_kinds $(SHARED_FILES))
+SCRIPT_TOOL := $(patsubst %,host/%.c,script_tool script_text script_file script_say script_check script_explain \
+	script_depths script_names script_warn script_need script_format script_code code node_kinds \
+	$(SHARED_FILES))
 RUST_SOURCES := $(shell find tests/rust -name '*.rs')
 
 # ---- what a goal needs is looked for before any work is done ----
@@ -144,12 +145,14 @@ build/store_bits: tests/host/store_bits.c host/store_file.c host/text.c host/mes
 	$(CC) $(CFLAGS) -Iinclude -o $@ $(filter %.c,$^)
 
 STRIKERS := build/fault build/store_bits
-HOST_TESTS := controller_test store_test totals_test fault_test script_test refusal_test manual_test
+HOST_TESTS := controller_test store_test totals_test fault_test script_test refusal_test depths_test check_test \
+	manual_test
 
 check-tool: all $(STRIKERS)
 	$(foreach test,$(HOST_TESTS),CC='$(CC)' LIBRARY='$(LIBRARY)' tests/host/$(test) build &&) :
 
-check-sanitized: $(patsubst %,build/sanitized/%,c_link_test controller script_tool) build/forecourt.script $(STRIKERS)
+check-sanitized: $(patsubst %,build/sanitized/%,c_link_test controller script_tool) $(STRIKERS) \
+	build/forecourt.script
 	build/sanitized/c_link_test $(VECTORS)
 	$(foreach test,$(HOST_TESTS),CC='$(CC)' LIBRARY='$(LIBRARY)' tests/host/$(test) build/sanitized &&) :
 
