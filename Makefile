@@ -20,8 +20,8 @@ SHARED_FILES := message place text
 CONTROLLER := $(patsubst %,host/%.c,controller day diagnosis display options plot show site store_file totals_file \
 	$(SHARED_FILES))
 SCRIPT_TOOL := $(patsubst %,host/%.c,script_tool script_text script_file script_say script_check script_explain \
-	script_depths script_names script_warn script_need script_format script_code code node_kinds \
-	$(SHARED_FILES))
+	script_depths script_names script_warn script_need script_format script_code play play_place play_day meaning value \
+	levels code node_kinds day $(SHARED_FILES))
 RUST_SOURCES := $(shell find tests/rust -name '*.rs')
 
 # ---- what a goal needs is looked for before any work is done ----
@@ -144,16 +144,24 @@ build/fault: tests/host/fault.c | build
 build/store_bits: tests/host/store_bits.c host/store_file.c host/text.c host/message.c $(HOST_HEADERS) | build
 	$(CC) $(CFLAGS) -Iinclude -o $@ $(filter %.c,$^)
 
+# the meaning of the written nodes beside the engine, on made scripts
+MEANING_TEST := $(filter-out host/script_tool.c,$(SCRIPT_TOOL)) tests/host/meaning_test.c tests/host/made_scripts.c
+build/meaning_test build/sanitized/meaning_test: $(MEANING_TEST) tests/host/made_scripts.h $(HOST_HEADERS) $(LIBRARY) \
+	| build build/sanitized
+	$(CC) $(CFLAGS) $(EXTRA) -Iinclude -o $@ $(MEANING_TEST) $(LIBRARY)
+
 STRIKERS := build/fault build/store_bits
 HOST_TESTS := controller_test store_test totals_test fault_test script_test refusal_test depths_test check_test \
-	manual_test
+	play_test manual_test
 
-check-tool: all $(STRIKERS)
+check-tool: all $(STRIKERS) build/meaning_test
+	build/meaning_test 4000
 	$(foreach test,$(HOST_TESTS),CC='$(CC)' LIBRARY='$(LIBRARY)' tests/host/$(test) build &&) :
 
-check-sanitized: $(patsubst %,build/sanitized/%,c_link_test controller script_tool) $(STRIKERS) \
+check-sanitized: $(patsubst %,build/sanitized/%,c_link_test controller script_tool meaning_test) $(STRIKERS) \
 	build/forecourt.script
 	build/sanitized/c_link_test $(VECTORS)
+	build/sanitized/meaning_test 1000
 	$(foreach test,$(HOST_TESTS),CC='$(CC)' LIBRARY='$(LIBRARY)' tests/host/$(test) build/sanitized &&) :
 
 # ---- measurements ----

@@ -1,5 +1,8 @@
-/* Turns a script's text into a script file and back, checks and formats a text, and explains its code. */
+/* Turns a script's text into a script file and back, checks and formats a text, plays a day on it, and explains its
+ * code. */
+#include "options.h"
 #include "place.h"
+#include "play.h"
 #include "script.h"
 
 #include <inttypes.h>
@@ -9,27 +12,32 @@
 
 static const char usage[] =
     "usage: script_tool check [--strict] [--cells N] TEXT   say what is wrong with a script, by lines of its text\n"
+    "       script_tool play [OPTION..] TEXT DAY            play a day, and say where and why a delivery stops\n"
     "       script_tool assemble [--unchecked] TEXT FILE    make a script file from its text, if it passes the check\n"
     "       script_tool list [--force] FILE TEXT            write the text of a script file\n"
     "       script_tool fmt TEXT NEW                        write a text anew, indented as it is nested\n"
     "       script_tool code TEXT                           print a script's code and what each line does\n"
     "  --strict     a warning too is a fault: status 1\n"
-    "  --cells N    cells of the store, 1 to 256\n"
+    "  --cells N    cells of the store, 1 to 256 (play: 64 where nothing is said)\n"
+    "  --budget N   steps that a delivery may take, unless its line says it (default 10000)\n"
+    "  --trace      each step: the cells that are free, its line, and what the parts of its node gave\n"
     "  --unchecked  write also what the engine refuses\n"
     "  --force      replace a text that is there\n"
-    "'-' stands for standard input or output. Where check and code want a text, a script file will do: its lines are\n"
-    "then those of its listing. A line of text is a node: its word and the parts of its operand; docs/INSTALLERS.md\n"
-    "has them all. Exit status: 0; 1 the engine refuses the script; 2 bad usage, or a file or line that cannot be\n"
-    "used; 3 something could not be written\n";
+    "'-' stands for standard input or output. Where check, play and code want a text, a script file will do: its\n"
+    "lines are then those of its listing. A line of text is a node: its word and the parts of its operand;\n"
+    "docs/INSTALLERS.md has them all. A line of a day is a delivery: its readings, and after '=>' what is expected:\n"
+    "the totals, or the number of a stop. Exit status: 0; 1 the engine refuses the script, or what is expected is not\n"
+    "what is found; 2 bad usage, or a file or line that cannot be used; 3 something could not be written\n";
 
 enum { TEXT_BYTES_MAX = 1 << 23 };
 
 /* The options that a command may have. */
-enum { STRICT = 1, CELLS = 2, UNCHECKED = 4, FORCE = 8 };
+enum { STRICT = 1, CELLS = 2, BUDGET = 4, TRACE = 8, UNCHECKED = 16, FORCE = 32 };
 
 struct arguments {
     unsigned options; /* that are there */
     size_t cells;     /* 0 where nothing is said */
+    uint64_t budget;
     const char *paths[2];
     unsigned count;   /* of paths */
 };
@@ -67,6 +75,25 @@ static int code(const struct arguments *a)
     int status = checked(0, &lines);
     if (status == 0)
         print_code(&script, kinds, operands, lines);
+    flush_output();
+    return status;
+}
+
+static int play(const struct arguments *a)
+{
+    uint32_t lines;
+    struct play_options options = {
+        .day = a->paths[1],
+        .cells = a->cells == 0 ? DEFAULT_CELLS : a->cells,
+        .budget = a->budget,
+        .traces = a->options & TRACE,
+    };
+    if (strcmp(a->paths[0], "-") == 0 && strcmp(a->paths[1], "-") == 0)
+        fail(STATUS_UNUSABLE, "standard input can be the script or the day, and not both");
+    read_either(&script, a->paths[0], bytes, sizeof bytes);
+    int status = checked(0, &lines);
+    if (status == 0)
+        status = play_day(&script, kinds, operands, &options);
     flush_output();
     return status;
 }
@@ -126,6 +153,7 @@ static const struct command {
     int (*run)(const struct arguments *);
 } commands[] = {
     { "check", 1, STRICT | CELLS, check },
+    { "play", 2, CELLS | BUDGET | TRACE, play },
     { "assemble", 2, UNCHECKED, assemble },
     { "list", 2, FORCE, list },
     { "fmt", 2, 0, fmt },
@@ -137,7 +165,8 @@ static const struct option {
     const char *word;
     unsigned option;
 } options[] = {
-    { "--strict", STRICT }, { "--cells", CELLS }, { "--unchecked", UNCHECKED }, { "--force", FORCE },
+    { "--strict", STRICT }, { "--cells", CELLS }, { "--budget", BUDGET },
+    { "--trace", TRACE }, { "--unchecked", UNCHECKED }, { "--force", FORCE },
 };
 enum { OPTIONS = sizeof options / sizeof options[0] };
 
@@ -161,19 +190,21 @@ static int take_option(const struct command *command, struct arguments *a, char 
 {
     unsigned option = option_of(argument[0]);
     const char *equal = strchr(argument[0], '='), *number = equal == NULL ? argument[1] : equal + 1;
-    bool has_number = option == CELLS;
+    bool has_number = option == CELLS || option == BUDGET;
     if (option == 0 || !(command->options & option) || (equal != NULL && !has_number))
         fail(STATUS_UNUSABLE, "'%s' has no option %s; 'script_tool --help' lists them", command->word,
              quote(argument[0], strlen(argument[0])).text);
     a->options |= option;
     if (option == CELLS)
         a->cells = option_number("--cells", number, ENGINE_CELLS_MIN, ENGINE_CELLS_MAX);
+    if (option == BUDGET)
+        a->budget = option_number("--budget", number, 0, ENGINE_BUDGET_MAX);
     return has_number && equal == NULL ? 2 : 1;
 }
 
 static int run(const struct command *command, char **argument)
 {
-    struct arguments a = { .count = 0 };
+    struct arguments a = { .budget = DEFAULT_BUDGET };
     while (*argument != NULL) {
         if (strncmp(*argument, "--", 2) == 0) {
             argument += take_option(command, &a, argument);
