@@ -20,7 +20,8 @@ struct play {
     struct pool pool;       /* the arrays of one delivery */
     unsigned deliveries, done, expected, differing;
     unsigned lowest;        /* level of the day */
-    bool ran_dry;
+    uint32_t steps;         /* the most of a delivery */
+    bool ran_dry, was_spent; /* a delivery stopped with 25, with 21 */
 };
 
 static uint8_t day_bytes[DAY_BYTES_MAX], file[SCRIPT_FILE_BYTES_MAX];
@@ -147,10 +148,13 @@ static void deliver(struct play *p, const struct text *day, const struct deliver
     p->deliveries++;
     p->done += number == ENGINE_DONE;
     p->ran_dry |= number == ENGINE_OUT_OF_CELLS;
+    p->was_spent |= number == ENGINE_OUT_OF_STEPS;
     if (!engine_is_refusal(number)) {
         work_beside(p, delivery, totals, answer, &task, &outcome);
         if (engine_answer_lowest(answer) < p->lowest)
             p->lowest = engine_answer_lowest(answer);
+        if (engine_answer_steps(answer) > p->steps)
+            p->steps = engine_answer_steps(answer);
     }
     print_delivery(p, day, answer);
     bool expects = expectation->what != EXPECTED_NOTHING, meets = expects && is_met(p, expectation, number);
@@ -193,7 +197,11 @@ static void print_end(const struct play *p)
     if (p->expected > 0)
         printf("; %u expected, %u differ%s", p->expected, p->differing, p->differing == 1 ? "s" : "");
     size_t cells = p->ran_dry ? p->options->cells : p->options->cells - p->lowest;
-    printf("; %zu cell%s %s\n", cells, cells == 1 ? " is" : "s are", p->ran_dry ? "too few" : "needed");
+    printf("; %zu cell%s %s", cells, cells == 1 ? " is" : "s are", p->ran_dry ? "too few" : "needed");
+    if (p->was_spent)
+        printf(", and a budget is too small\n");
+    else
+        printf(", and %" PRIu32 " step%s\n", p->steps, p->steps == 1 ? "" : "s");
 }
 
 int play_day(const struct script *script, uint8_t *kinds, int64_t *operands, const struct play_options *options)

@@ -11,7 +11,6 @@
 struct source_line {
     const char *start, *comment, *end; /* `comment` is `end` where there is none */
     bool has_words;
-    bool is_node;
 };
 
 struct formatting {
@@ -28,12 +27,8 @@ static struct source_line line_of(struct text text)
 {
     struct source_line line = { .start = (const char *)text.at };
     struct word word;
-    if (next_word(&text, &word)) {
+    while (next_word(&text, &word))
         line.has_words = true;
-        line.is_node = !word_is(word, "define") && !word_is(word, "functions");
-        while (next_word(&text, &word))
-            continue;
-    }
     line.comment = line.end = (const char *)text.at;
     while (line.end < (const char *)text.end && *line.end != '\n')
         line.end++;
@@ -92,6 +87,7 @@ static void write_line(struct formatting *f)
 {
     struct source_line line = line_of(f->text);
     bool has_comment = line.comment < line.end;
+    bool is_node = f->node < f->script->count && f->script->nodes[f->node].line == f->text.line;
     int width = 0;
     if (!line.has_words && !has_comment) {
         f->follows_gap = f->is_begun;
@@ -101,12 +97,12 @@ static void write_line(struct formatting *f)
         fputc('\n', f->out);
     f->follows_gap = false;
     f->is_begun = true;
-    if (line.is_node)
+    if (is_node)
         width = fprintf(f->out, "%*s", next_indentation(f), "");
     width += write_words(f);
     if (has_comment)
         write_comment(f, &line, width);
-    f->node += line.is_node;
+    f->node += is_node;
     fputc('\n', f->out);
 }
 

@@ -1,11 +1,11 @@
 /* Warnings of a script that the engine accepts: guards that are no comparisons, and what nothing uses. */
 #include "node_kinds.h"
-#include "script_names.h"
+#include "script_bindings.h"
 
 #include <inttypes.h>
 #include <stdio.h>
 
-static struct names names;
+static struct bindings bindings;
 
 /* ---- Guards ---- */
 
@@ -24,13 +24,13 @@ static size_t culprit_of(struct judgement *j, size_t node);
 
 static size_t name_culprit(struct judgement *j, size_t node)
 {
-    size_t binder = names.binder[node];
-    size_t function = function_of(j->script, &names, binder);
+    size_t binder = bindings.binder[node];
+    size_t function = function_of(j->script, &bindings, binder);
     switch (j->script->nodes[binder].kind) {
     case ENGINE_KIND_LET: return culprit_of(j, binder + 1);
     case ENGINE_KIND_PARAMETER:
-        return j->parameters[function][binder - names.shape.functions[function] - 1] ? NO_NODE : node;
-    case ENGINE_KIND_REDUCE: return names.is_second[node] ? node : culprit_of(j, binder + 1);
+        return j->parameters[function][binder - bindings.shape.functions[function] - 1] ? NO_NODE : node;
+    case ENGINE_KIND_REDUCE: return bindings.is_second[node] ? node : culprit_of(j, binder + 1);
     default: return node;
     }
 }
@@ -45,7 +45,7 @@ static size_t either(struct judgement *j, size_t one, size_t other)
 static size_t find_culprit(struct judgement *j, size_t node)
 {
     const struct node *n = &j->script->nodes[node];
-    const size_t *after = names.shape.after;
+    const size_t *after = bindings.shape.after;
     size_t first = node + 1;
     switch (n->kind) {
     case ENGINE_KIND_NUMBER: return n->operand == 0 || n->operand == 1 ? NO_NODE : node;
@@ -85,7 +85,7 @@ static bool judge_functions(struct judgement *j)
     for (size_t i = 0; i < s->count; i++)
         j->is_known[i] = false;
     for (size_t f = 0; f < s->functions; f++) {
-        size_t function = names.shape.functions[f];
+        size_t function = bindings.shape.functions[f];
         size_t body = function + 1 + (size_t)(s->nodes[function].operand % 256);
         changes |= takes_back(&j->results[f], culprit_of(j, body) == NO_NODE);
     }
@@ -93,7 +93,7 @@ static bool judge_functions(struct judgement *j)
         if (s->nodes[i].kind != ENGINE_KIND_CALL)
             continue;
         size_t at = i + 1;
-        for (int64_t k = 0; k < s->nodes[i].operand / 256; k++, at = names.shape.after[at])
+        for (int64_t k = 0; k < s->nodes[i].operand / 256; k++, at = bindings.shape.after[at])
             changes |= takes_back(&j->parameters[s->nodes[i].operand % 256][k], culprit_of(j, at) == NO_NODE);
     }
     return changes;
@@ -115,8 +115,8 @@ static struct phrase culprit_phrase(const struct script *s, size_t node)
     case ENGINE_KIND_CALL: snprintf(phrase.text, sizeof phrase.text, "what a function gives that is none"); break;
     case ENGINE_KIND_NAME:
         snprintf(phrase.text, sizeof phrase.text, "%s of line %u",
-                 s->nodes[names.binder[node]].kind == ENGINE_KIND_PARAMETER ? "the parameter" : "an element: the name",
-                 s->nodes[names.binder[node]].line);
+                 s->nodes[bindings.binder[node]].kind == ENGINE_KIND_PARAMETER ? "the parameter" : "an element: the name",
+                 s->nodes[bindings.binder[node]].line);
         break;
     default: snprintf(phrase.text, sizeof phrase.text, "a %s of other numbers", node_kinds[n->kind].word); break;
     }
@@ -127,7 +127,7 @@ void warn_of_guards(const struct script *script)
 {
     static struct judgement j;
     j = (struct judgement){ .script = script };
-    find_bindings(script, &names);
+    find_bindings(script, &bindings);
     for (size_t f = 0; f < script->functions; f++) {
         j.results[f] = true;
         for (size_t k = 0; k < ENGINE_PARAMETERS_MAX; k++)
@@ -139,7 +139,7 @@ void warn_of_guards(const struct script *script)
         uint8_t kind = script->nodes[i].kind;
         if (kind != ENGINE_KIND_IF && kind != ENGINE_KIND_FILTER)
             continue;
-        size_t guard = kind == ENGINE_KIND_IF ? i + 1 : names.shape.after[i + 1];
+        size_t guard = kind == ENGINE_KIND_IF ? i + 1 : bindings.shape.after[i + 1];
         size_t culprit = culprit_of(&j, guard);
         if (culprit == NO_NODE)
             continue;
@@ -174,14 +174,14 @@ static bool is_there_to_stop(const struct script *s, size_t let)
 
 static void warn_of_function(const struct script *s, size_t function)
 {
-    size_t node = names.shape.functions[function];
-    if (!names.is_called[function]) {
+    size_t node = bindings.shape.functions[function];
+    if (!bindings.is_called[function]) {
         warn_at(s, spot_of(&s->nodes[node]), "function %zu is called nowhere that main comes to", function);
         return;
     }
-    for (size_t i = node + 1; i < names.shape.after[node]; i++) {
+    for (size_t i = node + 1; i < bindings.shape.after[node]; i++) {
         const struct node *n = &s->nodes[i];
-        if (names.is_used[i])
+        if (bindings.is_used[i])
             continue;
         if (n->kind == ENGINE_KIND_PARAMETER && function != 0) /* main has both, used or not */
             warn_at(s, spot_of(n), "nothing uses the parameter %s", name_phrase(n).text);
@@ -193,7 +193,7 @@ static void warn_of_function(const struct script *s, size_t function)
 
 void warn_of_unused_nodes(const struct script *script)
 {
-    find_bindings(script, &names);
+    find_bindings(script, &bindings);
     for (size_t function = 0; function < script->functions; function++)
         warn_of_function(script, function);
 }

@@ -1,5 +1,5 @@
 /* Which node binds each name of a script, and what uses it. */
-#include "script_names.h"
+#include "script_bindings.h"
 #include "node_kinds.h"
 
 enum { NAMES = 256 };
@@ -12,7 +12,7 @@ struct binding {
 
 struct descent {
     const struct script *script;
-    struct names *names;
+    struct bindings *found;
     struct binding bindings[NAMES];
 };
 
@@ -49,11 +49,11 @@ static void find_part(struct descent *d, size_t node)
     size_t at = node + 1;
     if (n->kind == ENGINE_KIND_NAME) {
         struct binding binding = d->bindings[n->operand];
-        d->names->binder[node] = binding.node;
-        d->names->is_second[node] = binding.is_second;
-        d->names->is_used[binding.node] = true;
+        d->found->binder[node] = binding.node;
+        d->found->is_second[node] = binding.is_second;
+        d->found->is_used[binding.node] = true;
     }
-    for (unsigned i = 0; i < children; i++, at = d->names->shape.after[at]) {
+    for (unsigned i = 0; i < children; i++, at = d->found->shape.after[at]) {
         if (binds && i + 1 == children)
             find_bound_part(d, node, at);
         else
@@ -62,35 +62,35 @@ static void find_part(struct descent *d, size_t node)
 }
 
 /* Marks a function and all that it calls. */
-static void mark_called(const struct script *s, struct names *names, size_t function)
+static void mark_called(const struct script *s, struct bindings *found, size_t function)
 {
-    size_t node = names->shape.functions[function];
-    if (names->is_called[function])
+    size_t node = found->shape.functions[function];
+    if (found->is_called[function])
         return;
-    names->is_called[function] = true;
-    for (size_t i = node; i < names->shape.after[node]; i++)
+    found->is_called[function] = true;
+    for (size_t i = node; i < found->shape.after[node]; i++)
         if (s->nodes[i].kind == ENGINE_KIND_CALL)
-            mark_called(s, names, (size_t)(s->nodes[i].operand % 256));
+            mark_called(s, found, (size_t)(s->nodes[i].operand % 256));
 }
 
-void find_bindings(const struct script *script, struct names *names)
+void find_bindings(const struct script *script, struct bindings *found)
 {
-    struct descent d = { .script = script, .names = names };
-    *names = (struct names){ .is_called = { false } };
-    find_shape(script, &names->shape);
+    struct descent d = { .script = script, .found = found };
+    *found = (struct bindings){ .is_called = { false } };
+    find_shape(script, &found->shape);
     for (size_t i = 0; i < script->functions; i++) {
-        size_t at = names->shape.functions[i] + 1;
+        size_t at = found->shape.functions[i] + 1;
         for (; script->nodes[at].kind == ENGINE_KIND_PARAMETER; at++)
             d.bindings[script->nodes[at].operand % 256] = (struct binding){ at, false };
         find_part(&d, at);
     }
-    mark_called(script, names, 0);
+    mark_called(script, found, 0);
 }
 
-size_t function_of(const struct script *script, const struct names *names, size_t node)
+size_t function_of(const struct script *script, const struct bindings *found, size_t node)
 {
     size_t function = 0;
-    while (function + 1 < script->functions && names->shape.functions[function + 1] <= node)
+    while (function + 1 < script->functions && found->shape.functions[function + 1] <= node)
         function++;
     return function;
 }

@@ -1,12 +1,12 @@
 /* Which node binds each name of a script, and what uses it. */
-#ifndef SCRIPT_NAMES_H
-#define SCRIPT_NAMES_H
+#ifndef SCRIPT_BINDINGS_H
+#define SCRIPT_BINDINGS_H
 
 #include "script.h"
 
 #define NO_NODE SIZE_MAX
 
-struct names {
+struct bindings {
     struct shape shape;
     size_t binder[ENGINE_NODES_MAX];       /* of a name: its parameter, let, map, filter or reduce */
     bool is_second[ENGINE_NODES_MAX];      /* of a name: whether it is a reduce's second */
@@ -15,9 +15,9 @@ struct names {
 };
 
 /* Of a script that the engine accepts. */
-void find_bindings(const struct script *script, struct names *names);
+void find_bindings(const struct script *script, struct bindings *found);
 
-/* The function that a node of its own number is part of. */
-size_t function_of(const struct script *script, const struct names *names, size_t node);
+/* The function that a node is part of. */
+size_t function_of(const struct script *script, const struct bindings *found, size_t node);
 
 #endif
