@@ -131,7 +131,7 @@ static void work_beside(struct play *p, const struct delivery *delivery, struct 
     *outcome = work_main(task, &p->pool);
     if (outcome->number != number || outcome->steps != engine_answer_steps(answer))
         say_disagreement(p, "the meaning of its nodes", answer, outcome->number, outcome->steps);
-    else if (number == ENGINE_DONE && !same_value(outcome->result, totals_of(p)))
+    else if (!same_value(number == ENGINE_DONE ? outcome->result : totals, totals_of(p)))
         say_disagreement(p, "the meaning of its nodes, with other totals,", answer, outcome->number, outcome->steps);
 }
 
