@@ -152,7 +152,7 @@ build/meaning_test build/sanitized/meaning_test: $(MEANING_TEST) tests/host/made
 
 # a script tool whose engine answers wrongly
 build/wrong_tool: $(SCRIPT_TOOL) tests/host/wrong_engine.c $(HOST_HEADERS) $(LIBRARY) | build
-	$(CC) $(CFLAGS) -Dengine_deliver=wrong_deliver -Iinclude -o $@ $(SCRIPT_TOOL) tests/host/wrong_engine.c $(LIBRARY)
+	$(CC) $(CFLAGS) -Wl,--wrap=engine_deliver -Iinclude -o $@ $(SCRIPT_TOOL) tests/host/wrong_engine.c $(LIBRARY)
 
 STRIKERS := build/fault build/store_bits build/wrong_tool
 HOST_TESTS := controller_test store_test totals_test fault_test script_test refusal_test depths_test check_test \

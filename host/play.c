@@ -208,8 +208,16 @@ int play_day(const struct script *script, uint8_t *kinds, int64_t *operands, con
 {
     struct play p = { .script = script, .options = options, .depth = (unsigned)(script->nodes[0].operand / 256) };
     p.lent = (struct engine_lent){
-        file, script_file_of(script, file), kinds, ENGINE_CODE_LINES_MAX, operands, ENGINE_CODE_LINES_MAX,
-        slots, ENGINE_SLOTS_LENGTH(options->cells), heads, ENGINE_HEADS_LENGTH(options->cells),
+        .file = file,
+        .file_length = script_file_of(script, file),
+        .kinds = kinds,
+        .kinds_length = ENGINE_CODE_LINES_MAX,
+        .operands = operands,
+        .operands_length = ENGINE_CODE_LINES_MAX,
+        .slots = slots,
+        .slots_length = ENGINE_SLOTS_LENGTH(options->cells),
+        .heads = heads,
+        .heads_length = ENGINE_HEADS_LENGTH(options->cells),
     };
     struct text day = text_of(options->day, day_bytes, read_whole(options->day, day_bytes, sizeof day_bytes));
     judge(&p, day);

@@ -16,7 +16,7 @@ static struct phrase name_phrase(struct word word, int64_t name)
 {
     struct phrase phrase;
     if (word.length > 0)
-        snprintf(phrase.text, sizeof phrase.text, "%.*s", (int)word.length, word.start);
+        snprintf(phrase.text, sizeof phrase.text, "%s", plain_word(word).text);
     else
         snprintf(phrase.text, sizeof phrase.text, "name %" PRId64, name);
     return phrase;

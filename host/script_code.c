@@ -84,15 +84,10 @@ struct phrase {
     char text[48];
 };
 
-/* The first characters of a word; others than printable ASCII as '?'. */
 static struct phrase word_phrase(struct word word)
 {
-    enum { CHARACTERS = 32 };
     struct phrase phrase;
-    size_t length = word.length < CHARACTERS ? word.length : CHARACTERS;
-    for (size_t i = 0; i < length; i++)
-        phrase.text[i] = word.start[i] > ' ' && word.start[i] <= '~' ? word.start[i] : '?';
-    phrase.text[length] = '\0';
+    snprintf(phrase.text, sizeof phrase.text, "%s", plain_word(word).text);
     return phrase;
 }
 

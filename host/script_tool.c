@@ -23,6 +23,7 @@ static const char usage[] =
     "  --trace      each step: the cells that are free, its line, and what the parts of its node gave\n"
     "  --unchecked  write also what the engine refuses\n"
     "  --force      replace a text that is there\n"
+    "  --help, --version  this text; the version of the engine's interface\n"
     "'-' stands for standard input or output. Where check, play and code want a text, a script file will do: its\n"
     "lines are then those of its listing. A line of text is a node: its word and the parts of its operand;\n"
     "docs/INSTALLERS.md has them all. A line of a day is a delivery: its readings, and after '=>' what is expected:\n"
@@ -234,8 +235,11 @@ static _Noreturn void refuse_command(const char *argument)
 int main(int count, char **arguments)
 {
     prepare_streams();
-    if (count == 2 && strcmp(arguments[1], "--help") == 0) {
-        fputs(usage, stdout);
+    if (count == 2 && (strcmp(arguments[1], "--help") == 0 || strcmp(arguments[1], "--version") == 0)) {
+        if (arguments[1][2] == 'h')
+            fputs(usage, stdout);
+        else
+            printf("script_tool, engine interface %d.%d\n", ENGINE_VERSION_MAJOR, ENGINE_VERSION_MINOR);
         flush_output();
         return 0;
     }

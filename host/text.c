@@ -68,6 +68,16 @@ struct quote quote_word(struct word word)
     return quote(word.start, word.length);
 }
 
+struct plain_word plain_word(struct word word)
+{
+    struct plain_word plain;
+    size_t length = word.length < PLAIN_CHARACTERS_MAX ? word.length : PLAIN_CHARACTERS_MAX;
+    for (size_t i = 0; i < length; i++)
+        plain.text[i] = word.start[i] > ' ' && word.start[i] <= '~' ? word.start[i] : '?';
+    plain.text[length] = '\0';
+    return plain;
+}
+
 /* ---- Messages ---- */
 
 /* Whether a byte goes on with the character before it (UTF-8). */
@@ -93,7 +103,7 @@ static void show_line(const char *line, const char *end, const char *at)
         length++;
     fputs("    ", stderr);
     for (size_t i = 0; i < length; i++)
-        fputc((unsigned char)line[i] < ' ' && line[i] != '\t' ? '?' : line[i], stderr);
+        fputc(((unsigned char)line[i] < ' ' && line[i] != '\t') || line[i] == 0x7f ? '?' : line[i], stderr);
     fputs("\n    ", stderr);
     for (const char *before = line; before < at && before < line + length; before++)
         if (!goes_on(*before))

@@ -40,6 +40,13 @@ bool word_is(struct word word, const char *other);
 bool same_word(struct word one, struct word other);
 struct quote quote_word(struct word word);
 
+/* The first characters of a word; others than printable ASCII as '?'. */
+enum { PLAIN_CHARACTERS_MAX = 32 };
+struct plain_word {
+    char text[PLAIN_CHARACTERS_MAX + 1];
+};
+struct plain_word plain_word(struct word word);
+
 /* Prints "path:line:column: message", then that line and a caret below its place `at`. Columns are counted from 1, in
  * characters. */
 void complain_in(const struct text *text, unsigned line, const char *at, const char *format, ...)

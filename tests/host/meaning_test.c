@@ -50,7 +50,7 @@ static bool wants_cell(uint8_t kind)
 }
 
 /* One delivery, worked three times. */
-static void deliver(const struct engine_lent *lent, struct random *random, size_t cells, unsigned made, unsigned nth)
+static void deliver(struct engine_lent *lent, struct random *random, size_t cells, unsigned made, unsigned nth)
 {
     static struct pool pool;
     struct watched watched = { 0, 0 };
@@ -100,8 +100,16 @@ static void play(struct random *random, unsigned made)
     make_script(random, &script);
     size_t cells = below(random, 3) == 0 ? 1 + below(random, 6) : 4 + below(random, 60);
     struct engine_lent lent = {
-        file, script_file_of(&script, file), kinds, ENGINE_CODE_LINES_MAX, operands, ENGINE_CODE_LINES_MAX,
-        slots, ENGINE_SLOTS_LENGTH(cells), heads, ENGINE_HEADS_LENGTH(cells),
+        .file = file,
+        .file_length = script_file_of(&script, file),
+        .kinds = kinds,
+        .kinds_length = ENGINE_CODE_LINES_MAX,
+        .operands = operands,
+        .operands_length = ENGINE_CODE_LINES_MAX,
+        .slots = slots,
+        .slots_length = ENGINE_SLOTS_LENGTH(cells),
+        .heads = heads,
+        .heads_length = ENGINE_HEADS_LENGTH(cells),
     };
     uint64_t opened = engine_open_lent(&lent);
     if (engine_answer_number(opened) != ENGINE_DONE) {

@@ -1,23 +1,23 @@
-/* An engine that answers wrongly, for a script tool that is compiled with -Dengine_deliver=wrong_deliver: the tool must
- * say so. WRONG in the environment is what is wrong: number, steps, lowest, totals; or dry: a 25 where no cell is
- * wanted. */
-#undef engine_deliver
+/* An engine that answers wrongly, for a script tool that is linked with --wrap=engine_deliver: the tool must say so.
+ * WRONG in the environment is what is wrong: number, steps, lowest, totals; or dry: a 25 where no cell is wanted. */
 #include "engine.h"
 
 #include <stdlib.h>
 #include <string.h>
 
-uint64_t wrong_deliver(const uint8_t *file, size_t file_length, uint8_t *kinds, size_t kinds_length, int64_t *operands,
-                       size_t operands_length, int64_t *slots, size_t slots_length, uint32_t *heads,
-                       size_t heads_length, const int64_t *readings, size_t readings_length, uint64_t budget);
+/* The names that the linker gives. */
+#define DELIVER(name)                                                                                              \
+    uint64_t name(const uint8_t *file, size_t file_length, uint8_t *kinds, size_t kinds_length, int64_t *operands,  \
+                  size_t operands_length, int64_t *slots, size_t slots_length, uint32_t *heads, size_t heads_length, \
+                  const int64_t *readings, size_t readings_length, uint64_t budget)
+DELIVER(__real_engine_deliver);
+DELIVER(__wrap_engine_deliver);
 
-uint64_t wrong_deliver(const uint8_t *file, size_t file_length, uint8_t *kinds, size_t kinds_length, int64_t *operands,
-                       size_t operands_length, int64_t *slots, size_t slots_length, uint32_t *heads,
-                       size_t heads_length, const int64_t *readings, size_t readings_length, uint64_t budget)
+DELIVER(__wrap_engine_deliver)
 {
     const char *wrong = getenv("WRONG");
-    uint64_t answer = engine_deliver(file, file_length, kinds, kinds_length, operands, operands_length, slots,
-                                     slots_length, heads, heads_length, readings, readings_length, budget);
+    uint64_t answer = __real_engine_deliver(file, file_length, kinds, kinds_length, operands, operands_length, slots,
+                                            slots_length, heads, heads_length, readings, readings_length, budget);
     if (wrong == NULL)
         return answer;
     if (strcmp(wrong, "number") == 0)
