@@ -49,50 +49,68 @@ static bool wants_cell(uint8_t kind)
            || kind == ENGINE_KIND_IOTA || kind == ENGINE_KIND_REPLICATE;
 }
 
-/* One delivery, worked three times. */
-static void deliver(struct engine_lent *lent, struct random *random, size_t cells, unsigned made, unsigned nth)
+/* A delivery as it was lent, and the engine's answer. */
+struct played {
+    unsigned made, nth; /* script and delivery */
+    size_t cells;
+    int64_t readings[ENGINE_READINGS_MAX];
+    size_t count;
+    uint64_t budget, answer;
+};
+
+/* The meaning of the written nodes beside the engine. */
+static void compare_meaning(const struct played *p)
 {
     static struct pool pool;
     struct watched watched = { 0, 0 };
-    unsigned depth = (unsigned)(script.nodes[0].operand / 256);
-    int64_t readings[ENGINE_READINGS_MAX];
-    size_t count = below(random, 5) == 0 ? below(random, 17) : below(random, 4);
-    uint64_t budget = below(random, 4) == 0 ? below(random, 30) : 3000;
-    for (size_t i = 0; i < count; i++)
-        readings[i] = some_number(random);
-    memcpy(slots_before, slots, sizeof slots);
-    memcpy(heads_before, heads, sizeof heads);
-    uint64_t answer = engine_deliver_lent(lent, readings, count, budget);
-    unsigned number = engine_answer_number(answer);
-    uint32_t steps = engine_answer_steps(answer);
-    found[number]++;
-
+    unsigned number = engine_answer_number(p->answer), depth = (unsigned)(script.nodes[0].operand / 256);
+    uint32_t steps = engine_answer_steps(p->answer);
     struct task task = {
         .script = &script,
         .totals = value_in_store(&pool, slots_before, heads_before, slots_before[0], depth),
-        .readings = value_of_numbers(&pool, readings, count),
-        .budget = budget,
+        .readings = value_of_numbers(&pool, p->readings, p->count),
+        .budget = p->budget,
         .dry_at = number == ENGINE_OUT_OF_CELLS ? steps : NEVER_DRY,
         .watch = watch,
         .context = &watched,
     };
     struct outcome outcome = work_main(&task, &pool);
-    expect(outcome.number == number, "the meaning's number", made, nth, answer);
-    expect(outcome.steps == steps && watched.steps == steps, "the meaning's steps", made, nth, answer);
-    if (number == ENGINE_DONE)
-        expect(same_value(outcome.result, value_in_store(&pool, slots, heads, slots[0], depth)), "the totals", made,
-               nth, answer);
+    struct value totals = value_in_store(&pool, slots, heads, slots[0], depth);
+    expect(outcome.number == number, "the meaning's number", p->made, p->nth, p->answer);
+    expect(outcome.steps == steps && watched.steps == steps, "the meaning's steps", p->made, p->nth, p->answer);
+    expect(same_value(number == ENGINE_DONE ? outcome.result : task.totals, totals), "the totals", p->made, p->nth,
+           p->answer);
     if (number == ENGINE_OUT_OF_CELLS && steps > 0)
         expect(outcome.last.node == watched.node && wants_cell(script.nodes[watched.node].kind), "the node of a 25",
-               made, nth, answer);
-    if (number == ENGINE_DONE)
-        expect(cells >= least_cells(&script), "the least cells", made, nth, answer);
-
-    struct counted_task counted = { &code, slots_before, heads_before, cells, readings, count, budget };
-    work_code(&counted, &levels);
-    expect(levels.number == number && levels.steps == steps, "the count's number and steps", made, nth, answer);
-    expect(levels.lowest == engine_answer_lowest(answer), "the count's lowest level", made, nth, answer);
+               p->made, p->nth, p->answer);
     empty_pool(&pool);
+}
+
+/* The count of the cells beside the engine. */
+static void compare_cells(const struct played *p)
+{
+    struct counted_task task = { &code, slots_before, heads_before, p->cells, p->readings, p->count, p->budget };
+    work_code(&task, &levels);
+    expect(levels.number == engine_answer_number(p->answer) && levels.steps == engine_answer_steps(p->answer),
+           "the count's number and steps", p->made, p->nth, p->answer);
+    expect(levels.lowest == engine_answer_lowest(p->answer), "the count's lowest level", p->made, p->nth, p->answer);
+    if (engine_answer_number(p->answer) == ENGINE_DONE)
+        expect(p->cells >= least_cells(&script), "the least cells", p->made, p->nth, p->answer);
+}
+
+static void deliver(struct engine_lent *lent, struct random *random, size_t cells, unsigned made, unsigned nth)
+{
+    struct played p = { .made = made, .nth = nth, .cells = cells };
+    p.count = below(random, 5) == 0 ? below(random, 17) : below(random, 4);
+    p.budget = below(random, 4) == 0 ? below(random, 30) : 3000;
+    for (size_t i = 0; i < p.count; i++)
+        p.readings[i] = some_number(random);
+    memcpy(slots_before, slots, sizeof slots);
+    memcpy(heads_before, heads, sizeof heads);
+    p.answer = engine_deliver_lent(lent, p.readings, p.count, p.budget);
+    found[engine_answer_number(p.answer)]++;
+    compare_meaning(&p);
+    compare_cells(&p);
 }
 
 static void play(struct random *random, unsigned made)
