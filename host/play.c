@@ -53,7 +53,7 @@ static void say_difference(struct play *p, const struct text *day, const struct 
         complain_in(day, day->line, e->at, "expected %s, and it is %u %s",
                     e->what == EXPECTED_TOTALS ? "these totals" : engine_word(e->number), number, engine_word(number));
     else
-        complain_in(day, day->line, e->at, "expected other totals than these");
+        complain_in(day, day->line, e->at, "the totals are not as expected");
     if (e->what == EXPECTED_NUMBER)
         return;
     fputs("  expected  ", stderr);
