@@ -24,8 +24,9 @@ HOST_HEADERS := $(ENGINE_HEADERS) $(wildcard host/*.h)
 SHARED_FILES := message place text
 CONTROLLER := $(patsubst %,host/%.c,controller day diagnosis display options plot show site store_file totals_file \
 	$(SHARED_FILES))
-SCRIPT_TOOL := $(patsubst %,host/%.c,script_tool script_text script_file script_check script_explain script_depths \
-	script_code node_kinds $(SHARED_FILES))
+SCRIPT_TOOL := $(patsubst %,host/%.c,script_tool script_text script_file script_say script_check script_explain \
+	script_depths script_bindings script_warn script_need script_format script_code play play_place play_day meaning value \
+	levels code node_kinds day $(SHARED_FILES))
 RUST_SOURCES := $(shell find tests/rust -name '*.rs')
 
 # ---- what a goal needs is looked for before any work is done ----
@@ -198,17 +199,30 @@ build/fault: tests/host/fault.c | build
 build/store_bits: tests/host/store_bits.c host/store_file.c host/text.c host/message.c $(HOST_HEADERS) | build
 	$(CC) $(CFLAGS) -Iinclude -o $@ $(filter %.c,$^)
 
-STRIKERS := build/fault build/store_bits
-HOST_TESTS := controller_test store_test totals_test fault_test script_test refusal_test manual_test
+# the meaning of the written nodes beside the engine, on made scripts
+MEANING_TEST := $(filter-out host/script_tool.c,$(SCRIPT_TOOL)) tests/host/meaning_test.c tests/host/made_scripts.c
+build/meaning_test build/sanitized/meaning_test: $(MEANING_TEST) tests/host/made_scripts.h $(HOST_HEADERS) $(ENGINE) \
+	| build build/sanitized
+	$(CC) $(CFLAGS) $(EXTRA) -Iinclude -o $@ $(MEANING_TEST) $(ENGINE)
 
-check-tool: all $(STRIKERS)
+# a script tool whose engine answers wrongly
+build/wrong_tool: $(SCRIPT_TOOL) tests/host/wrong_engine.c $(HOST_HEADERS) $(ENGINE) | build
+	$(CC) $(CFLAGS) -Wl,--wrap=engine_deliver -Iinclude -o $@ $(SCRIPT_TOOL) tests/host/wrong_engine.c $(ENGINE)
+
+STRIKERS := build/fault build/store_bits build/wrong_tool
+HOST_TESTS := controller_test store_test totals_test fault_test script_test refusal_test depths_test check_test \
+	play_test manual_test
+
+check-tool: all $(STRIKERS) build/meaning_test
+	build/meaning_test 4000
 	$(foreach test,$(HOST_TESTS),CC='$(CC)' LIBRARY='$(ENGINE)' tests/host/$(test) build &&) :
 
-SANITIZED := $(patsubst %,build/sanitized/%,c_link_test flash_test controller script_tool)
+SANITIZED := $(patsubst %,build/sanitized/%,c_link_test flash_test controller script_tool meaning_test)
 
 check-sanitized: $(SANITIZED) build/forecourt.script $(STRIKERS)
 	build/sanitized/c_link_test $(VECTORS)
 	build/sanitized/flash_test
+	build/sanitized/meaning_test 1000
 	$(foreach test,$(HOST_TESTS),CC='$(CC)' LIBRARY='$(ENGINE)' tests/host/$(test) build/sanitized &&) :
 
 # ---- measurements ----

@@ -1,4 +1,5 @@
 /* A script's code with the meaning of each line in words, and with the names of its text. */
+#include "code.h"
 #include "node_kinds.h"
 #include "script.h"
 
@@ -11,7 +12,6 @@ enum { NAMES = ENGINE_NEW_NAMES_MAX, NO_NAME = -1 };
 /* What the text calls the new names of each function, and the functions themselves; empty where it has no word. */
 static struct word words[ENGINE_FUNCTIONS_MAX][NAMES];
 static struct word functions[ENGINE_FUNCTIONS_MAX];
-static unsigned parameters[ENGINE_FUNCTIONS_MAX];
 
 /* ---- Names ---- */
 
@@ -62,9 +62,8 @@ static void find_names(const struct script *script)
     functions[0] = (struct word){ "main", 4 };
     for (; n.at < script->count; n.function++) {
         const struct node *function = &script->nodes[n.at++];
-        parameters[n.function] = (unsigned)(function->operand % 256);
         n.next = 0;
-        for (unsigned i = 0; i < parameters[n.function]; i++)
+        for (int64_t i = 0; i < function->operand % 256; i++)
             new_name(&n, script->nodes[n.at++].word);
         name_part(&n);
     }
@@ -74,9 +73,8 @@ static void find_names(const struct script *script)
 
 /* Code that is being printed. */
 struct printing {
-    const uint8_t *kinds;
-    const int64_t *operands;
-    uint32_t lines;
+    const struct code *code;
+    bool (*is_borrowed)[ENGINE_PARAMETERS_MAX]; /* of each function */
     uint32_t at;
     size_t function; /* whose names count */
     int indentation;
@@ -86,15 +84,10 @@ struct phrase {
     char text[48];
 };
 
-/* The first characters of a word; others than printable ASCII as '?'. */
 static struct phrase word_phrase(struct word word)
 {
-    enum { CHARACTERS = 32 };
     struct phrase phrase;
-    size_t length = word.length < CHARACTERS ? word.length : CHARACTERS;
-    for (size_t i = 0; i < length; i++)
-        phrase.text[i] = word.start[i] > ' ' && word.start[i] <= '~' ? word.start[i] : '?';
-    phrase.text[length] = '\0';
+    snprintf(phrase.text, sizeof phrase.text, "%s", plain_word(word).text);
     return phrase;
 }
 
@@ -124,9 +117,9 @@ static struct phrase function_phrase(size_t function)
 static struct phrase atom_phrase(const struct printing *p, uint32_t line)
 {
     struct phrase phrase;
-    if (p->kinds[line] == ENGINE_KIND_NAME)
-        return name_phrase(p, p->operands[line]);
-    snprintf(phrase.text, sizeof phrase.text, "%" PRId64, p->operands[line]);
+    if (p->code->kinds[line] == ENGINE_KIND_NAME)
+        return name_phrase(p, p->code->operands[line]);
+    snprintf(phrase.text, sizeof phrase.text, "%" PRId64, p->code->operands[line]);
     return phrase;
 }
 
@@ -134,44 +127,32 @@ static struct phrase atom_phrase(const struct printing *p, uint32_t line)
  * release. */
 static void begin_line(struct printing *p)
 {
-    uint8_t kind = p->kinds[p->at];
+    uint8_t kind = p->code->kinds[p->at];
     char mark = kind == ENGINE_KIND_RETAIN ? '+' : kind == ENGINE_KIND_RELEASE ? '-' : ' ';
-    printf("%5" PRIu32 " %3u %8" PRId64 " %c %*s", p->at, kind, p->operands[p->at], mark, 2 * p->indentation, "");
+    printf("%5" PRIu32 " %3u %8" PRId64 " %c %*s", p->at, kind, p->code->operands[p->at], mark, 2 * p->indentation, "");
     p->at++;
 }
 
-static void print_atoms(struct printing *p, uint8_t kind, int64_t operand, unsigned count)
+/* The atoms of a line, each with what it is to it; an argument that the function only reads is lent to it. */
+static void print_atoms(struct printing *p, uint32_t line, unsigned count)
 {
+    uint8_t kind = node_kind_of(p->code->kinds[line]);
+    int64_t node_operand = node_operand_of(p->code, line);
     p->indentation += 2;
     for (unsigned i = 0; i < count; i++) {
-        uint32_t line = p->at;
+        struct phrase atom = atom_phrase(p, p->at);
+        bool is_lent = kind == ENGINE_KIND_CALL && p->is_borrowed[p->code->operands[line] / 256][i];
         begin_line(p);
-        printf("%s: %s\n", kind == ENGINE_KIND_END ? "result" : role_of(kind, operand, i).text,
-               atom_phrase(p, line).text);
+        printf("%s: %s%s\n", kind == ENGINE_KIND_END ? "result" : role_of(kind, node_operand, i).text, atom.text,
+               is_lent ? ", lent" : "");
     }
     p->indentation -= 2;
 }
 
-/* The kind of the node that a line comes from, where its kind is another. */
-static uint8_t node_kind_of(uint8_t kind)
+/* A line of no number: what the tree after it is for. */
+static void print_heading(const struct printing *p, const char *what, struct phrase guard, int number)
 {
-    return kind == ENGINE_KIND_REWRITING_MAP ? ENGINE_KIND_MAP : kind;
-}
-
-/* An operand with which a node of a line's kind has as many children as the line's has. */
-static int64_t node_operand_of(uint8_t kind, int64_t operand)
-{
-    switch (kind) {
-    case ENGINE_KIND_CALL: return 256 * (int64_t)parameters[operand / 256];
-    case ENGINE_KIND_LITERAL: return operand / 256 % 256;
-    default: return 0;
-    }
-}
-
-/* How many atoms follow a line; a retain and a release have none. */
-static unsigned atoms_of(uint8_t kind, int64_t node_operand)
-{
-    return kind == ENGINE_KIND_END ? 1 : children_of(node_kind_of(kind), node_operand) - trees_of(node_kind_of(kind));
+    printf("%20s%*s%s, if %s is %d:\n", "", 2 * p->indentation, "", what, guard.text, number);
 }
 
 /* Atoms in a row, between commas. */
@@ -234,39 +215,54 @@ static void print_tree(struct printing *p)
 {
     uint8_t kind;
     do {
-        kind = p->kinds[p->at];
-        int64_t operand = p->operands[p->at], node_operand = node_operand_of(kind, operand);
-        unsigned atoms = atoms_of(kind, node_operand);
+        uint32_t line = p->at;
+        unsigned atoms = atoms_after(p->code, line);
+        kind = p->code->kinds[line];
         begin_line(p);
-        print_meaning(p, kind, operand, atoms);
-        print_atoms(p, node_kind_of(kind), node_operand, atoms);
+        print_meaning(p, kind, p->code->operands[line], atoms);
+        print_atoms(p, line, atoms);
         p->indentation++;
-        for (unsigned i = 0; i < trees_of(node_kind_of(kind)); i++)
+        for (unsigned i = 0; i < trees_of(node_kind_of(kind)); i++) {
+            if (kind == ENGINE_KIND_IF)
+                print_heading(p, i == 0 ? "then" : "else", atom_phrase(p, line + 1), i == 0);
+            p->indentation += kind == ENGINE_KIND_IF;
             print_tree(p);
+            p->indentation -= kind == ENGINE_KIND_IF;
+        }
         p->indentation--;
     } while (kind != ENGINE_KIND_END);
 }
 
+static void print_function(struct printing *p)
+{
+    unsigned count = p->code->parameters[p->function];
+    int64_t depth = p->code->operands[p->at] / 256;
+    begin_line(p);
+    printf("function %zu, %s: %u parameter%s, result of depth %" PRId64 "\n", p->function,
+           function_phrase(p->function).text, count, count == 1 ? "" : "s", depth);
+    p->indentation = 2;
+    for (unsigned i = 0; i < count; i++) {
+        int64_t operand = p->code->operands[p->at];
+        const char *held = operand / 256 == 0              ? ""
+                           : p->is_borrowed[p->function][i] ? ", borrowed: only read, and the caller keeps it"
+                                                            : ", owned";
+        begin_line(p);
+        printf("parameter %u: %s, of depth %" PRId64 "%s\n", i + 1, name_phrase(p, operand % 256).text, operand / 256,
+               held);
+    }
+    p->indentation = 1;
+    print_tree(p);
+    p->indentation = 0;
+}
+
 void print_code(const struct script *script, const uint8_t *kinds, const int64_t *operands, uint32_t lines)
 {
-    struct printing p = { kinds, operands, lines, 0, 0, 0 };
+    bool is_borrowed[ENGINE_FUNCTIONS_MAX][ENGINE_PARAMETERS_MAX];
+    struct code code = code_of(kinds, operands, lines);
+    struct printing p = { &code, is_borrowed, 0, 0, 0 };
     find_names(script);
+    find_borrowed(&code, is_borrowed);
     printf(" line kind  operand   meaning (+ retains, - releases)\n");
-    for (; p.at < lines; p.function++) {
-        unsigned count = (unsigned)(operands[p.at] % 256);
-        int64_t depth = operands[p.at] / 256;
-        begin_line(&p);
-        printf("function %zu, %s: %u parameters, result of depth %" PRId64 "\n", p.function,
-               function_phrase(p.function).text, count, depth);
-        p.indentation = 2;
-        for (unsigned i = 0; i < count; i++) {
-            int64_t operand = operands[p.at];
-            begin_line(&p);
-            printf("parameter %u: %s, of depth %" PRId64 "\n", i + 1, name_phrase(&p, operand % 256).text,
-                   operand / 256);
-        }
-        p.indentation = 1;
-        print_tree(&p);
-        p.indentation = 0;
-    }
+    for (; p.function < code.count; p.function++)
+        print_function(&p);
 }

@@ -11,6 +11,7 @@ enum { NO_DEPTH = -1, NAMES = 256 };
 struct binding {
     bool is_known;
     int depth; /* NO_DEPTH where the part that it is bound to has none */
+    struct word word; /* by which the text has it */
 };
 
 struct descent {
@@ -34,7 +35,7 @@ __attribute__((format(printf, 4, 5))) static void breach(struct descent *d, unsi
     if (node < d->lowest)
         d->lowest = node;
     va_start(arguments, format);
-    say_refusal_with(d->script, number, d->script->nodes[node].line, format, arguments);
+    say_refusal_with(d->script, number, spot_of(&d->script->nodes[node]), format, arguments);
     va_end(arguments);
 }
 
@@ -107,11 +108,24 @@ static int depth_over(struct descent *d, size_t node, int element)
     return NO_DEPTH;
 }
 
+/* The known word that a name's is likely meant to be. */
+static struct word nearest_name(const struct descent *d, const struct node *name)
+{
+    struct word words[NAMES];
+    for (size_t i = 0; i < NAMES; i++)
+        words[i] = d->names[i].is_known ? d->names[i].word : (struct word){ NULL, 0 };
+    return nearest_word(name->word, words, NAMES);
+}
+
 static int name_depth(struct descent *d, size_t node)
 {
     const struct node *n = &d->script->nodes[node];
     struct binding binding = d->names[n->operand];
-    if (!binding.is_known)
+    struct word nearest = nearest_name(d, n);
+    if (!binding.is_known && nearest.length > 0)
+        breach(d, ENGINE_UNKNOWN_NAME, node, "the name %s is not known here; did you mean %s?", name_phrase(n).text,
+               quote_word(nearest).text);
+    else if (!binding.is_known)
         breach(d, ENGINE_UNKNOWN_NAME, node, "the name %s is not known here", name_phrase(n).text);
     return binding.is_known ? binding.depth : NO_DEPTH;
 }
@@ -126,11 +140,11 @@ static int arithmetic_depth(struct descent *d, size_t node)
 }
 
 /* A part in which a name is bound. */
-static int body_depth(struct descent *d, int64_t name, int bound)
+static int body_depth(struct descent *d, int64_t name, struct word word, int bound)
 {
     struct binding *binding = &d->names[name];
     struct binding outer = *binding;
-    *binding = (struct binding){ true, bound };
+    *binding = (struct binding){ true, bound, word };
     int depth = part_depth(d);
     *binding = outer;
     return depth;
@@ -139,7 +153,7 @@ static int body_depth(struct descent *d, int64_t name, int bound)
 static int let_depth(struct descent *d, size_t node)
 {
     int bound = part_depth(d);
-    int body = body_depth(d, d->script->nodes[node].operand, bound);
+    int body = body_depth(d, d->script->nodes[node].operand, d->script->nodes[node].word, bound);
     return bound == NO_DEPTH ? NO_DEPTH : body;
 }
 
@@ -237,7 +251,7 @@ static int over_array_depth(struct descent *d, size_t node)
 {
     const struct node *n = &d->script->nodes[node];
     int array = part_depth(d);
-    int body = body_depth(d, n->operand, element_depth(array));
+    int body = body_depth(d, n->operand, n->word, element_depth(array));
     if (array == NO_DEPTH || !is_array(d, node, array) || body == NO_DEPTH)
         return NO_DEPTH;
     if (n->kind == ENGINE_KIND_MAP)
@@ -246,12 +260,12 @@ static int over_array_depth(struct descent *d, size_t node)
 }
 
 /* The body of a reduce: its second name hides an equal first one. */
-static int reduce_body_depth(struct descent *d, int64_t operand, int start, int array)
+static int reduce_body_depth(struct descent *d, const struct node *n, int start, int array)
 {
-    struct binding *first = &d->names[operand % 256];
+    struct binding *first = &d->names[n->operand % 256];
     struct binding outer = *first;
-    *first = (struct binding){ true, start };
-    int depth = body_depth(d, operand / 256, element_depth(array));
+    *first = (struct binding){ true, start, n->word };
+    int depth = body_depth(d, n->operand / 256, n->second, element_depth(array));
     *first = outer;
     return depth;
 }
@@ -262,7 +276,7 @@ static int reduce_depth(struct descent *d, size_t node)
     int parts[2];
     bool have_depths = take_parts(d, parts, 2);
     int start = parts[0], array = parts[1];
-    int body = reduce_body_depth(d, d->script->nodes[node].operand, start, array);
+    int body = reduce_body_depth(d, &d->script->nodes[node], start, array);
     if (!have_depths || !is_array(d, node, array) || body == NO_DEPTH)
         return NO_DEPTH;
     if (body != start)
@@ -308,7 +322,7 @@ static void bind_parameters(struct descent *d, size_t function)
             breach(d, ENGINE_UNKNOWN_NAME, d->at, "the function of line %u has the parameter name %s twice",
                    s->nodes[function].line, name_phrase(parameter).text);
         else
-            *binding = (struct binding){ true, (int)(parameter->operand / 256) };
+            *binding = (struct binding){ true, (int)(parameter->operand / 256), parameter->word };
     }
 }
 
@@ -341,5 +355,5 @@ void explain_depths(const struct script *script, unsigned number, size_t node)
                    depth_phrase(depth).text, depth_phrase(wanted).text);
     }
     if (d.lowest != node)
-        say_refusal(script, number, script->nodes[node].line, "the engine refuses this node");
+        say_refusal(script, number, spot_of(&script->nodes[node]), "the engine refuses this node");
 }

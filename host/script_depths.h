@@ -4,10 +4,10 @@
 
 #include "script.h"
 
-/* Prints "path:line: number word: what is wrong". */
-void say_refusal(const struct script *script, unsigned number, unsigned line, const char *format, ...)
+/* Prints "path:line:column: number word: what is wrong", and the line with a caret. */
+void say_refusal(const struct script *script, unsigned number, struct spot spot, const char *format, ...)
     __attribute__((format(printf, 4, 5)));
-void say_refusal_with(const struct script *script, unsigned number, unsigned line, const char *format,
+void say_refusal_with(const struct script *script, unsigned number, struct spot spot, const char *format,
                       va_list arguments);
 
 /* Names each node that breaks the rule of 6 or of 7, in a script that passes 1 to 5 (and 6, for 7). The engine gave

@@ -9,45 +9,30 @@
 
 static struct parentage parentage[SCRIPT_NODES_MAX + 1];
 
-void say_refusal_with(const struct script *s, unsigned number, unsigned line, const char *format, va_list arguments)
-{
-    char what[320];
-    vsnprintf(what, sizeof what, format, arguments);
-    complain_at(s->path, line, "%u %s: %s", number, engine_word(number), what);
-}
-
-void say_refusal(const struct script *s, unsigned number, unsigned line, const char *format, ...)
-{
-    va_list arguments;
-    va_start(arguments, format);
-    say_refusal_with(s, number, line, format, arguments);
-    va_end(arguments);
-}
-
 /* ---- 2: sizes ---- */
 
-/* The line of the function after so many. */
-static unsigned line_of_function(const struct script *s, size_t before)
+/* Where the function after so many stands. */
+static struct spot spot_of_function(const struct script *s, size_t before)
 {
     for (size_t i = 0; i < s->count; i++)
         if (s->nodes[i].kind == ENGINE_KIND_FUNCTION && before-- == 0)
-            return s->nodes[i].line;
-    return s->last_line;
+            return spot_of(&s->nodes[i]);
+    return s->last;
 }
 
 static void explain_sizes(const struct script *s)
 {
     const unsigned number = ENGINE_SIZE_OUT_OF_RANGE;
-    unsigned given = s->functions_line;
+    struct spot given = s->functions_spot;
     if (s->functions == 0)
-        say_refusal(s, number, s->functions_are_given ? given : s->last_line, "there is no function");
+        say_refusal(s, number, s->functions_are_given ? given : s->last, "there is no function");
     else if (s->functions > ENGINE_FUNCTIONS_MAX)
-        say_refusal(s, number, s->functions_are_given ? given : line_of_function(s, ENGINE_FUNCTIONS_MAX),
+        say_refusal(s, number, s->functions_are_given ? given : spot_of_function(s, ENGINE_FUNCTIONS_MAX),
                     "%zu functions, and %d are the most", s->functions, ENGINE_FUNCTIONS_MAX);
     if (s->count == 0)
-        say_refusal(s, number, s->last_line, "there is no node");
+        say_refusal(s, number, s->last, "there is no node");
     else if (s->count > ENGINE_NODES_MAX)
-        say_refusal(s, number, s->nodes[ENGINE_NODES_MAX].line, "%zu nodes, and %d are the most", s->count,
+        say_refusal(s, number, spot_of(&s->nodes[ENGINE_NODES_MAX]), "%zu nodes, and %d are the most", s->count,
                     ENGINE_NODES_MAX);
 }
 
@@ -73,28 +58,28 @@ static void explain_misfit(const struct script *s, size_t node)
     find_parents(s, parentage);
     describe_wanted(s, node, wanted, sizeof wanted);
     if (node >= s->count) {
-        say_refusal(s, number, s->last_line, "the script ends where %s", wanted);
+        say_refusal(s, number, s->last, "the script ends where %s", wanted);
         return;
     }
     uint8_t kind = s->nodes[node].kind;
-    unsigned line = s->nodes[node].line;
+    struct spot spot = spot_of(&s->nodes[node]);
     if (parentage[node].parent == NO_PARENT && kind == ENGINE_KIND_FUNCTION)
-        say_refusal(s, number, line, "this function is left over: line %u says that there are %zu", s->functions_line,
-                    s->functions);
+        say_refusal(s, number, spot, "this function is left over: line %u says that there are %zu",
+                    s->functions_spot.line, s->functions);
     else if (parentage[node].parent == NO_PARENT && node > 0)
-        say_refusal(s, number, line, "it is left over: the function before it has its parameters and its body, and %s",
+        say_refusal(s, number, spot, "it is left over: the function before it has its parameters and its body, and %s",
                     wanted);
     else if (engine_is_node_kind(kind))
-        say_refusal(s, number, line, "%s, and this is %s %s", wanted,
+        say_refusal(s, number, spot, "%s, and this is %s %s", wanted,
                     strchr("aeiou", node_kinds[kind].word[0]) == NULL ? "a" : "an", node_kinds[kind].word);
     else
-        say_refusal(s, number, line, "%s, and this is no kind of node that there is", wanted);
+        say_refusal(s, number, spot, "%s, and this is no kind of node that there is", wanted);
 }
 
 static void explain_part(const struct script *s, const struct node *node, struct operand_part part, int64_t value)
 {
     if (part.what != NULL && (value < 0 || value > part.greatest))
-        say_refusal(s, ENGINE_OPERAND_OUT_OF_RANGE, node->line, "%s: %" PRId64 " is not within 0 to %d", part.what,
+        say_refusal(s, ENGINE_OPERAND_OUT_OF_RANGE, spot_of(node), "%s: %" PRId64 " is not within 0 to %d", part.what,
                     value, part.greatest);
 }
 
@@ -103,7 +88,7 @@ static void explain_operand(const struct script *s, const struct node *node)
     const struct node_kind *kind = &node_kinds[node->kind];
     bool is_pair = kind->parts == OPERAND_PAIR;
     if (kind->parts == OPERAND_NONE || (is_pair && node->operand < 0)) {
-        say_refusal(s, ENGINE_OPERAND_OUT_OF_RANGE, node->line, "its operand is %" PRId64 ", and %s is wanted",
+        say_refusal(s, ENGINE_OPERAND_OUT_OF_RANGE, spot_of(node), "its operand is %" PRId64 ", and %s is wanted",
                     node->operand, is_pair ? "0 or more" : "0");
         return;
     }
@@ -122,7 +107,7 @@ static void explain_crowding(const struct script *s)
         for (; i < s->count && s->nodes[i].kind != ENGINE_KIND_FUNCTION; i++)
             names += is_compound(s->nodes[i].kind) + pass_names_of(s->nodes[i].kind);
         if (names > ENGINE_NEW_NAMES_MAX)
-            say_refusal(s, ENGINE_TOO_MANY_NAMES, s->nodes[function].line,
+            say_refusal(s, ENGINE_TOO_MANY_NAMES, spot_of(&s->nodes[function]),
                         "this function needs %u names (its parameters, one for each node that costs a step, one more"
                         " for each map or filter, two more for each reduce), and %d are the most", names,
                         ENGINE_NEW_NAMES_MAX);
@@ -162,7 +147,7 @@ static void explain_length(const struct script *s)
     size_t whole = 1;
     while (whole < s->functions && !is_too_long(s, whole))
         whole++;
-    say_refusal(s, ENGINE_CODE_TOO_LONG, line_of_function(s, whole - 1),
+    say_refusal(s, ENGINE_CODE_TOO_LONG, spot_of_function(s, whole - 1),
                 "with this function, number %zu, the code passes %d lines", whole - 1, ENGINE_CODE_LINES_MAX);
 }
 
@@ -175,7 +160,7 @@ void explain_refusal(const struct script *script, uint64_t answer)
     case ENGINE_MALFORMED: explain_misfit(script, node); break;
     case ENGINE_OPERAND_OUT_OF_RANGE: explain_operand(script, &script->nodes[node]); break;
     case ENGINE_TOO_DEEP:
-        say_refusal(script, number, script->nodes[node].line,
+        say_refusal(script, number, spot_of(&script->nodes[node]),
                     "it is at level %d, and %d is the last; a part can be moved into a function of its own",
                     ENGINE_LEVELS_MAX + 1, ENGINE_LEVELS_MAX);
         break;
@@ -183,6 +168,6 @@ void explain_refusal(const struct script *script, uint64_t answer)
     case ENGINE_TYPE_MISMATCH: explain_depths(script, number, node); break;
     case ENGINE_TOO_MANY_NAMES: explain_crowding(script); break;
     case ENGINE_CODE_TOO_LONG: explain_length(script); break;
-    default: say_refusal(script, number, 1, "the engine refuses the file"); break;
+    default: say_refusal(script, number, script->last, "the engine refuses the file"); break;
     }
 }

@@ -31,6 +31,19 @@ void find_parents(const struct script *script, struct parentage *parentage)
     }
 }
 
+void find_shape(const struct script *script, struct shape *shape)
+{
+    size_t functions = 0;
+    for (size_t i = script->count; i-- > 0;) {
+        size_t at = i + 1;
+        for (unsigned left = children_of(script->nodes[i].kind, script->nodes[i].operand); left > 0; left--)
+            at = shape->after[at];
+        shape->after[i] = at;
+    }
+    for (size_t i = 0; i < script->count; i = shape->after[i])
+        shape->functions[functions++] = i;
+}
+
 /* ---- Files ---- */
 
 size_t script_file_of(const struct script *script, uint8_t bytes[SCRIPT_FILE_BYTES_MAX])
@@ -44,12 +57,9 @@ size_t script_file_of(const struct script *script, uint8_t bytes[SCRIPT_FILE_BYT
     return ENGINE_FILE_LENGTH(script->count);
 }
 
-void read_nodes(struct script *script, const char *path, uint8_t *bytes, size_t capacity)
+/* The nodes of a script file's bytes. */
+static void decode_nodes(struct script *script, const char *path, const uint8_t *bytes, size_t length)
 {
-    size_t length = read_whole(path, bytes, capacity);
-    script->path = path;
-    if (length > 0 && memchr(bytes, 0, length) == NULL)
-        fail(STATUS_UNUSABLE, "%s: a text, where a script file is wanted; 'script_tool assemble' makes one", path);
     if (length < 4)
         fail(STATUS_UNUSABLE, "%s: a script file has 4 bytes or more", path);
     script->functions = (size_t)number_at(bytes, 2);
@@ -61,6 +71,14 @@ void read_nodes(struct script *script, const char *path, uint8_t *bytes, size_t 
         script->nodes[i].kind = bytes[4 + i];
         script->nodes[i].operand = signed_of(number_at(bytes + 4 + script->count + 8 * i, 8));
     }
+}
+
+void read_nodes(struct script *script, const char *path, uint8_t *bytes, size_t capacity)
+{
+    size_t length = read_whole(path, bytes, capacity);
+    if (length > 0 && memchr(bytes, 0, length) == NULL)
+        fail(STATUS_UNUSABLE, "%s: a text, where a script file is wanted; 'script_tool assemble' makes one", path);
+    decode_nodes(script, path, bytes, length);
 }
 
 /* ---- Text ---- */
@@ -109,18 +127,39 @@ static void list_nodes(FILE *file, const struct script *script, const struct par
     }
 }
 
-void write_listing(const struct script *script, const char *path)
+/* The text of a script's nodes; to be freed. */
+static char *listing_of(const struct script *script, const char *path, size_t *length)
 {
     static struct parentage parentage[SCRIPT_NODES_MAX + 1];
     char *listing = NULL;
-    size_t length = 0;
-    FILE *file = open_memstream(&listing, &length);
+    FILE *file = open_memstream(&listing, length);
     if (file == NULL)
         fail(STATUS_UNWRITTEN, "%s: no memory for the text", path);
     find_parents(script, parentage);
     list_nodes(file, script, parentage);
     if (fclose(file) != 0)
         fail(STATUS_UNWRITTEN, "%s: no memory for the text", path);
+    return listing;
+}
+
+void write_listing(const struct script *script, const char *path)
+{
+    size_t length = 0;
+    char *listing = listing_of(script, path, &length);
     write_whole(path, listing, length);
     free(listing);
+}
+
+void read_either(struct script *script, const char *path, uint8_t *bytes, size_t capacity)
+{
+    size_t length = read_whole(path, bytes, capacity);
+    if (memchr(bytes, 0, length) != NULL) {
+        decode_nodes(script, path, bytes, length);
+        char *listing = listing_of(script, path, &length);
+        if (length > capacity)
+            fail(STATUS_UNUSABLE, "%s: its listing has over %zu bytes", path, capacity);
+        memcpy(bytes, listing, length);
+        free(listing);
+    }
+    parse_text(script, path, bytes, length);
 }

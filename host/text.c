@@ -1,14 +1,17 @@
-/* Text cut into lines and words, numbers in base ten, and numbers in bytes. */
+/* Text cut into lines and words, messages that show a place of it, numbers in base ten, and numbers in bytes. */
 #include "text.h"
 
 #include <inttypes.h>
+#include <stdio.h>
 #include <string.h>
 
 /* ---- Lines and words ---- */
 
 struct text text_of(const char *path, const uint8_t *bytes, size_t length)
 {
-    return (struct text){ .path = path, .at = bytes, .end = bytes + length, .line = 0 };
+    static const uint8_t mark[] = { 0xef, 0xbb, 0xbf };
+    const uint8_t *begin = length >= sizeof mark && memcmp(bytes, mark, sizeof mark) == 0 ? bytes + sizeof mark : bytes;
+    return (struct text){ .path = path, .begin = begin, .at = begin, .end = bytes + length, .line = 0 };
 }
 
 bool next_line(struct text *text)
@@ -65,6 +68,116 @@ struct quote quote_word(struct word word)
     return quote(word.start, word.length);
 }
 
+struct plain_word plain_word(struct word word)
+{
+    struct plain_word plain;
+    size_t length = word.length < PLAIN_CHARACTERS_MAX ? word.length : PLAIN_CHARACTERS_MAX;
+    for (size_t i = 0; i < length; i++)
+        plain.text[i] = word.start[i] > ' ' && word.start[i] <= '~' ? word.start[i] : '?';
+    plain.text[length] = '\0';
+    return plain;
+}
+
+/* ---- Messages ---- */
+
+/* Whether a byte goes on with the character before it (UTF-8). */
+static bool goes_on(char byte)
+{
+    return ((unsigned char)byte & 0xc0) == 0x80;
+}
+
+static unsigned column_of(const char *line, const char *at)
+{
+    unsigned column = 1;
+    for (; line < at; line++)
+        column += !goes_on(*line);
+    return column;
+}
+
+/* A line, and below it blanks up to a place, as wide as what is above them, and a caret. */
+static void show_line(const char *line, const char *end, const char *at)
+{
+    enum { SHOWN_MAX = 200 };
+    size_t length = 0;
+    while (line + length < end && line[length] != '\n' && line[length] != '\r' && length < SHOWN_MAX)
+        length++;
+    fputs("    ", stderr);
+    for (size_t i = 0; i < length; i++)
+        fputc(((unsigned char)line[i] < ' ' && line[i] != '\t') || line[i] == 0x7f ? '?' : line[i], stderr);
+    fputs("\n    ", stderr);
+    for (const char *before = line; before < at && before < line + length; before++)
+        if (!goes_on(*before))
+            fputc(*before == '\t' ? '\t' : ' ', stderr);
+    fputs("^\n", stderr);
+}
+
+void complain_in_with(const struct text *text, unsigned line, const char *at, const char *format, va_list arguments)
+{
+    const char *begin = (const char *)text->begin, *start = at;
+    while (start > begin && start[-1] != '\n')
+        start--;
+    fflush(stdout);
+    fprintf(stderr, "%s:%u:%u: ", text->path, line, column_of(start, at));
+    vfprintf(stderr, format, arguments);
+    fputc('\n', stderr);
+    show_line(start, (const char *)text->end, at);
+}
+
+void complain_in(const struct text *text, unsigned line, const char *at, const char *format, ...)
+{
+    va_list arguments;
+    va_start(arguments, format);
+    complain_in_with(text, line, at, format, arguments);
+    va_end(arguments);
+}
+
+/* ---- Likeness of words ---- */
+
+enum { ALIKE_MAX = 32 }; /* letters of words that are compared */
+
+/* How many letters are to be put in, left out or changed, or two neighbours swapped, to make one word of another. */
+static size_t distance(struct word one, struct word other)
+{
+    size_t rows[3][ALIKE_MAX + 1]; /* of the words so far: the row before the last, the last and this one */
+    size_t *before = rows[0], *last = rows[1], *row = rows[2];
+    for (size_t j = 0; j <= other.length; j++)
+        row[j] = j;
+    for (size_t i = 1; i <= one.length; i++) {
+        size_t *oldest = before;
+        before = last;
+        last = row;
+        row = oldest;
+        row[0] = i;
+        for (size_t j = 1; j <= other.length; j++) {
+            size_t least = last[j - 1] + (one.start[i - 1] != other.start[j - 1]);
+            least = last[j] + 1 < least ? last[j] + 1 : least;
+            least = row[j - 1] + 1 < least ? row[j - 1] + 1 : least;
+            if (i > 1 && j > 1 && one.start[i - 1] == other.start[j - 2] && one.start[i - 2] == other.start[j - 1])
+                least = before[j - 2] + 1 < least ? before[j - 2] + 1 : least;
+            row[j] = least;
+        }
+    }
+    return row[other.length];
+}
+
+struct word nearest_word(struct word word, const struct word *others, size_t count)
+{
+    struct word nearest = { NULL, 0 };
+    size_t least = word.length < 6 ? 2 : 3; /* is above what is near */
+    if (word.length < 2 || word.length > ALIKE_MAX)
+        return nearest;
+    for (size_t i = 0; i < count; i++) {
+        if (others[i].length == 0 || others[i].length > ALIKE_MAX)
+            continue;
+        size_t found = distance(word, others[i]);
+        if (found < least) {
+            least = found;
+            nearest = others[i];
+        }
+    }
+    return nearest;
+}
+
 /* ---- Numbers in base ten ---- */
 
 enum numeral numeral_of(struct word word, int64_t *number)
@@ -98,7 +211,11 @@ uint64_t option_number(const char *option, const char *argument, uint64_t least,
 {
     int64_t number;
     struct word word = { argument, argument == NULL ? 0 : strlen(argument) };
-    if (argument == NULL || !number_of(word, &number) || number < 0)
+    enum numeral numeral = argument == NULL ? NUMERAL_NONE : numeral_of(word, &number);
+    if (numeral == NUMERAL_TOO_LARGE)
+        fail(STATUS_UNUSABLE, "%s: %s is not within %" PRIu64 " to %" PRIu64, option, quote_word(word).text, least,
+             greatest);
+    if (numeral == NUMERAL_NONE || number < 0)
         fail(STATUS_UNUSABLE, "%s: a number is wanted", option);
     if ((uint64_t)number < least || (uint64_t)number > greatest)
         fail(STATUS_UNUSABLE, "%s: %" PRId64 " is not within %" PRIu64 " to %" PRIu64, option, number, least, greatest);

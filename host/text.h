@@ -1,4 +1,4 @@
-/* Text cut into lines and words, numbers in base ten, and numbers in bytes. */
+/* Text cut into lines and words, messages that show a place of it, numbers in base ten, and numbers in bytes. */
 #ifndef TEXT_H
 #define TEXT_H
 
@@ -11,6 +11,7 @@
 /* Text that is read line by line, word by word. '#' begins a comment. */
 struct text {
     const char *path;  /* for messages */
+    const uint8_t *begin;
     const uint8_t *at;
     const uint8_t *end;
     unsigned line;     /* number of the present line, from 1 */
@@ -22,7 +23,7 @@ struct word {
     size_t length;
 };
 
-/* Begins a text; next_line must come first. */
+/* Begins a text; next_line must come first. A byte order mark is passed over. */
 struct text text_of(const char *path, const uint8_t *bytes, size_t length);
 
 /* Goes on to the next line; false after the last. */
@@ -38,6 +39,23 @@ bool next_word(struct text *text, struct word *word);
 bool word_is(struct word word, const char *other);
 bool same_word(struct word one, struct word other);
 struct quote quote_word(struct word word);
+
+/* The first characters of a word; others than printable ASCII as '?'. */
+enum { PLAIN_CHARACTERS_MAX = 32 };
+struct plain_word {
+    char text[PLAIN_CHARACTERS_MAX + 1];
+};
+struct plain_word plain_word(struct word word);
+
+/* Prints "path:line:column: message", then that line and a caret below its place `at`. Columns are counted from 1, in
+ * characters. */
+void complain_in(const struct text *text, unsigned line, const char *at, const char *format, ...)
+    __attribute__((format(printf, 4, 5)));
+void complain_in_with(const struct text *text, unsigned line, const char *at, const char *format, va_list arguments);
+
+/* The word among some that one is likely meant to be: one letter apart, or two where it is long. Empty where there is
+ * none. */
+struct word nearest_word(struct word word, const struct word *others, size_t count);
 
 /* What a word is in base ten. */
 enum numeral { NUMERAL_NONE, NUMERAL_FITS, NUMERAL_TOO_LARGE };

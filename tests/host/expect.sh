@@ -45,6 +45,29 @@ status() {
     fi
 }
 
+# places TEXT..: puts each message that the last command had for a place of a file into $folder/said, without its
+# column; true where each is followed by its line and a caret, and these texts are all among them
+places() {
+    sed -n 's/^\(.*:[0-9]*\):[0-9]*: /\1: /p' "$folder/error" >"$folder/said"
+    [ "$(grep -c '^  *^$' "$folder/error")" -eq "$(wc -l <"$folder/said")" ] || return 1
+    for text; do
+        grep -qF -- "$text" "$folder/said" || return 1
+    done
+}
+
+# refused LINE MESSAGE: checks the text on standard input, which is refused at this line with this message; the engine's
+# number in it is the one that a controller gives for the file
+refused() {
+    cat >"$folder/bad"
+    $tool check "$folder/bad" >"$folder/out" 2>"$folder/error"
+    if [ $? -eq 1 ] && places "$folder/bad:$1: $2"; then pass; else fault "line $1 with '$2'"; fi
+    number=${2%% *}
+    $tool assemble --unchecked "$folder/bad" "$folder/bad-file" 2>/dev/null
+    if [ "$(head -c 4 "$folder/bad-file" | od -An -tu1 | tr -d ' ')" != 1000 ]; then
+        status 1 " $number " $controller "$folder/bad-file" /dev/null
+    fi
+}
+
 # bytes NUMBER..: these bytes
 bytes() {
     for byte; do
