@@ -217,6 +217,18 @@ void test_faults(void)
         expect(is_right ? fault.array == NULL : is_fault(fault, "slots", what, "heads"), "slots of each length");
     }
     expect(is_fault(FAULT_WITH(file, all_kinds), "kinds", "overlaps", "file"), "the file in the kinds");
+    with.kinds_length = 20;
+    with.file = all_kinds + 20;
+    with.file_length = 30;
+    expect(engine_lent_fault(&with).array == NULL, "arrays that touch lie apart");
+    with.kinds_length = 21;
+    expect(is_fault(engine_lent_fault(&with), "kinds", "overlaps", "file"), "and do not, a byte longer");
+    with.kinds = all_kinds + 30;
+    with.kinds_length = 20;
+    with.file = all_kinds;
+    expect(engine_lent_fault(&with).array == NULL, "the other way round too");
+    engine_lend_store(&with, more_slots, more_heads, ENGINE_CELLS_MAX + 1);
+    expect(engine_cells(&with) == 0, "257 cells are no store");
     expect(is_fault(FAULT_WITH(slots, all_operands + 49), "slots", "overlaps", "operands"), "slots from an operand on");
     void *inside = all_slots;
     expect(is_fault(FAULT_WITH(heads, inside), "heads", "overlaps", "slots"), "heads in the slots");
