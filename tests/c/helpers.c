@@ -190,32 +190,9 @@ static void test_readings_fault(void)
     expect(is_fault(engine_lent_fault_with(&well, readings), "readings", "is null", ""), "null, for no readings too");
 }
 
-void test_faults(void)
+static void test_overlaps(void)
 {
-    struct engine_lent with = lent_well();
-    test_readings_fault();
-    expect(with.kinds_length == 50 && with.operands_length == 50 && engine_cells(&with) == 3, "lengths are counted");
-    expect(engine_lent_fault(&with).array == NULL, "nothing is wrong");
-    engine_lend_store(&with, more_slots, more_heads, 5);
-    expect(engine_lent_fault(&with).array == NULL && engine_cells(&with) == 5, "nor with another store");
-    expect(is_fault(FAULT_WITH(file, NULL), "file", "is null", ""), "no file");
-    expect(is_fault(FAULT_WITH(kinds, NULL), "kinds", "is null", ""), "no kinds");
-    expect(is_fault(FAULT_WITH(operands, NULL), "operands", "is null", ""), "no operands");
-    expect(is_fault(FAULT_WITH(slots, NULL), "slots", "is null", ""), "no slots");
-    expect(is_fault(FAULT_WITH(heads, NULL), "heads", "is null", ""), "no heads");
-    expect(is_fault(FAULT_WITH(operands, astray(all_operands)), "operands", "is not aligned", ""), "operands astray");
-    expect(is_fault(FAULT_WITH(slots, astray(all_slots)), "slots", "is not aligned", ""), "slots astray");
-    expect(is_fault(FAULT_WITH(heads, astray(all_heads)), "heads", "is not aligned", ""), "heads astray");
-    expect(FAULT_WITH(kinds, all_kinds + 1).array == NULL, "bytes are never astray");
-    expect(is_fault(FAULT_WITH(file_length, SIZE_MAX), "file", "is longer than the memory after it", ""), "too long");
-    expect(is_fault(FAULT_WITH(kinds_length, 0), "kinds", "has no room for a line", ""), "no line of code");
-    expect(is_fault(FAULT_WITH(operands_length, 0), "operands", "has no room for a line", ""), "no operand");
-    for (size_t length = 0; length < ENGINE_SLOTS_LENGTH(5); length++) {
-        bool is_right = length == ENGINE_SLOTS_LENGTH(3);
-        struct engine_fault fault = FAULT_WITH(slots_length, length);
-        const char *what = "has not the length of a store beside";
-        expect(is_right ? fault.array == NULL : is_fault(fault, "slots", what, "heads"), "slots of each length");
-    }
+    struct engine_lent with;
     expect(is_fault(FAULT_WITH(file, all_kinds), "kinds", "overlaps", "file"), "the file in the kinds");
     with.kinds_length = 20;
     with.file = all_kinds + 20;
@@ -229,7 +206,39 @@ void test_faults(void)
     expect(engine_lent_fault(&with).array == NULL, "the other way round too");
     engine_lend_store(&with, more_slots, more_heads, ENGINE_CELLS_MAX + 1);
     expect(engine_cells(&with) == 0, "257 cells are no store");
-    expect(is_fault(FAULT_WITH(slots, all_operands + 49), "slots", "overlaps", "operands"), "slots from an operand on");
+    expect(is_fault(FAULT_WITH(slots, all_operands), "slots", "overlaps", "operands"), "the slots in the operands");
     void *inside = all_slots;
     expect(is_fault(FAULT_WITH(heads, inside), "heads", "overlaps", "slots"), "heads in the slots");
+}
+
+void test_faults(void)
+{
+    struct engine_lent with = lent_well();
+    test_readings_fault();
+    test_overlaps();
+    expect(with.kinds_length == 50 && with.operands_length == 50 && engine_cells(&with) == 3, "lengths are counted");
+    expect(engine_lent_fault(&with).array == NULL, "nothing is wrong");
+    engine_lend_store(&with, more_slots, more_heads, 5);
+    expect(engine_lent_fault(&with).array == NULL && engine_cells(&with) == 5, "nor with another store");
+    expect(is_fault(FAULT_WITH(file, NULL), "file", "is null", ""), "no file");
+    expect(is_fault(FAULT_WITH(kinds, NULL), "kinds", "is null", ""), "no kinds");
+    expect(is_fault(FAULT_WITH(operands, NULL), "operands", "is null", ""), "no operands");
+    expect(is_fault(FAULT_WITH(slots, NULL), "slots", "is null", ""), "no slots");
+    expect(is_fault(FAULT_WITH(heads, NULL), "heads", "is null", ""), "no heads");
+    expect(is_fault(FAULT_WITH(operands, astray(all_operands)), "operands", "is not aligned", ""), "operands astray");
+    expect(is_fault(FAULT_WITH(slots, astray(all_slots)), "slots", "is not aligned", ""), "slots astray");
+    expect(is_fault(FAULT_WITH(heads, astray(all_heads)), "heads", "is not aligned", ""), "heads astray");
+    with = lent_well();
+    with.kinds++;
+    with.kinds_length--;
+    expect(engine_lent_fault(&with).array == NULL, "bytes are never astray");
+    expect(is_fault(FAULT_WITH(file_length, SIZE_MAX), "file", "is longer than the memory after it", ""), "too long");
+    expect(is_fault(FAULT_WITH(kinds_length, 0), "kinds", "has no room for a line", ""), "no line of code");
+    expect(is_fault(FAULT_WITH(operands_length, 0), "operands", "has no room for a line", ""), "no operand");
+    for (size_t length = 0; length < ENGINE_SLOTS_LENGTH(5); length++) {
+        bool is_right = length == ENGINE_SLOTS_LENGTH(3);
+        struct engine_fault fault = FAULT_WITH(slots_length, length);
+        const char *what = "has not the length of a store beside";
+        expect(is_right ? fault.array == NULL : is_fault(fault, "slots", what, "heads"), "slots of each length");
+    }
 }
