@@ -190,10 +190,32 @@ static void test_readings_fault(void)
     expect(is_fault(engine_lent_fault_with(&well, readings), "readings", "is null", ""), "null, for no readings too");
 }
 
+static void test_overlaps(void)
+{
+    struct engine_lent with;
+    expect(is_fault(FAULT_WITH(file, all_kinds), "kinds", "overlaps", "file"), "the file in the kinds");
+    with.kinds_length = 20;
+    with.file = all_kinds + 20;
+    with.file_length = 30;
+    expect(engine_lent_fault(&with).array == NULL, "arrays that touch lie apart");
+    with.kinds_length = 21;
+    expect(is_fault(engine_lent_fault(&with), "kinds", "overlaps", "file"), "and do not, a byte longer");
+    with.kinds = all_kinds + 30;
+    with.kinds_length = 20;
+    with.file = all_kinds;
+    expect(engine_lent_fault(&with).array == NULL, "the other way round too");
+    engine_lend_store(&with, more_slots, more_heads, ENGINE_CELLS_MAX + 1);
+    expect(engine_cells(&with) == 0, "257 cells are no store");
+    expect(is_fault(FAULT_WITH(slots, all_operands), "slots", "overlaps", "operands"), "the slots in the operands");
+    void *inside = all_slots;
+    expect(is_fault(FAULT_WITH(heads, inside), "heads", "overlaps", "slots"), "heads in the slots");
+}
+
 void test_faults(void)
 {
     struct engine_lent with = lent_well();
     test_readings_fault();
+    test_overlaps();
     expect(with.kinds_length == 50 && with.operands_length == 50 && engine_cells(&with) == 3, "lengths are counted");
     expect(engine_lent_fault(&with).array == NULL, "nothing is wrong");
     engine_lend_store(&with, more_slots, more_heads, 5);
@@ -206,7 +228,10 @@ void test_faults(void)
     expect(is_fault(FAULT_WITH(operands, astray(all_operands)), "operands", "is not aligned", ""), "operands astray");
     expect(is_fault(FAULT_WITH(slots, astray(all_slots)), "slots", "is not aligned", ""), "slots astray");
     expect(is_fault(FAULT_WITH(heads, astray(all_heads)), "heads", "is not aligned", ""), "heads astray");
-    expect(FAULT_WITH(kinds, all_kinds + 1).array == NULL, "bytes are never astray");
+    with = lent_well();
+    with.kinds++;
+    with.kinds_length--;
+    expect(engine_lent_fault(&with).array == NULL, "bytes are never astray");
     expect(is_fault(FAULT_WITH(file_length, SIZE_MAX), "file", "is longer than the memory after it", ""), "too long");
     expect(is_fault(FAULT_WITH(kinds_length, 0), "kinds", "has no room for a line", ""), "no line of code");
     expect(is_fault(FAULT_WITH(operands_length, 0), "operands", "has no room for a line", ""), "no operand");
@@ -216,8 +241,4 @@ void test_faults(void)
         const char *what = "has not the length of a store beside";
         expect(is_right ? fault.array == NULL : is_fault(fault, "slots", what, "heads"), "slots of each length");
     }
-    expect(is_fault(FAULT_WITH(file, all_kinds), "kinds", "overlaps", "file"), "the file in the kinds");
-    expect(is_fault(FAULT_WITH(slots, all_operands + 49), "slots", "overlaps", "operands"), "slots from an operand on");
-    void *inside = all_slots;
-    expect(is_fault(FAULT_WITH(heads, inside), "heads", "overlaps", "slots"), "heads in the slots");
 }
