@@ -25,8 +25,8 @@ SHARED_FILES := message place text
 CONTROLLER := $(patsubst %,host/%.c,controller day diagnosis display options plot show site store_file totals_file \
 	$(SHARED_FILES))
 SCRIPT_TOOL := $(patsubst %,host/%.c,script_tool script_text script_file script_say script_check script_explain \
-	script_depths script_bindings script_warn script_need script_format script_code play play_place play_day meaning value \
-	levels code node_kinds day $(SHARED_FILES))
+	script_depths script_bindings script_warn script_need script_format script_code play play_place play_day meaning \
+	value levels code node_kinds day $(SHARED_FILES))
 RUST_SOURCES := $(shell find tests/rust -name '*.rs')
 
 # ---- what a goal needs is looked for before any work is done ----
