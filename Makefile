@@ -16,9 +16,9 @@ SCRIPT ?= build/forecourt.script
 
 SOURCES := crates.txt $(shell find crates -name '*.rt' -o -name '*.antt')
 HOST_HEADERS := include/engine.h $(wildcard host/*.h)
-SHARED_FILES := message place text
-CONTROLLER := $(patsubst %,host/%.c,controller day diagnosis display options plot show site store_file totals_file \
-	$(SHARED_FILES))
+SHARED_FILES := lock message names place text totals
+CONTROLLER := $(patsubst %,host/%.c,controller day diagnosis display input options plot plot_totals report report_json \
+	show site store_file totals_file $(SHARED_FILES))
 SCRIPT_TOOL := $(patsubst %,host/%.c,script_tool script_text script_file script_check script_explain script_depths \
 	script_code node_kinds $(SHARED_FILES))
 RUST_SOURCES := $(shell find tests/rust -name '*.rs')
@@ -144,7 +144,7 @@ build/store_bits: tests/host/store_bits.c host/store_file.c host/text.c host/mes
 	$(CC) $(CFLAGS) -Iinclude -o $@ $(filter %.c,$^)
 
 STRIKERS := build/fault build/store_bits
-HOST_TESTS := controller_test store_test totals_test fault_test script_test refusal_test manual_test
+HOST_TESTS := controller_test store_test loss_test totals_test fault_test script_test refusal_test manual_test
 
 check-tool: all $(STRIKERS)
 	$(foreach test,$(HOST_TESTS),CC='$(CC)' LIBRARY='$(LIBRARY)' tests/host/$(test) build &&) :

@@ -10,6 +10,8 @@ struct delivery {
     int64_t readings[LINE_READINGS_MAX];
     size_t count;
     uint64_t budget;
+    bool has_own_budget;
+    struct word comment; /* from '#' to the line's end; empty where there is none */
 };
 
 enum line_content { LINE_EMPTY, LINE_DELIVERY, LINE_FAULTY };

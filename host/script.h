@@ -34,6 +34,8 @@ struct script {
     size_t functions;
     bool functions_are_given; /* by a line of their own */
     unsigned functions_line;  /* that line */
+    unsigned names_line;      /* that names the totals; 0: none */
+    unsigned names_levels;    /* of the totals */
     unsigned last_line;
     struct definition definitions[DEFINITIONS_MAX];
     size_t defined;

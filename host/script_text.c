@@ -1,4 +1,5 @@
 /* From a script's text to its nodes. Every faulty line is named; then the program ends. */
+#include "names.h"
 #include "node_kinds.h"
 #include "place.h"
 #include "script.h"
@@ -97,6 +98,31 @@ static void take_operand(struct reader *r, struct node *node)
     }
 }
 
+/* Names for the totals: only what is shown depends on them. */
+static void take_names(struct reader *r)
+{
+    struct names names = { 0 };
+    struct names_fault why;
+    if (r->script->names_line > 0)
+        fault(r, "the totals have names already, on line %u", r->script->names_line);
+    else if (!names_in(&r->text, &names, &why))
+        fault(r, "%s", why.text);
+    r->script->names_line = r->text.line;
+    r->script->names_levels = names.levels;
+}
+
+/* The names are for totals of main's depth. */
+static void judge_names(struct reader *r)
+{
+    const struct script *s = r->script;
+    int64_t depth = s->count > 0 && s->nodes[0].kind == ENGINE_KIND_FUNCTION ? s->nodes[0].operand / 256 : 0;
+    if (s->names_line == 0 || r->faults > 0 || s->names_levels == (depth == 0 ? 1 : depth))
+        return;
+    complain_at(r->text.path, s->names_line, "names for totals of depth %u, and main's depth is %" PRId64,
+                s->names_levels, depth);
+    r->faults++;
+}
+
 /* The kind that a word stands for; ENGINE_KINDS where it stands for none. */
 static uint8_t kind_of(struct word word)
 {
@@ -152,6 +178,8 @@ static void read_line(struct reader *r)
         r->script->functions = (size_t)number_in(r, 0, 65535, &unused);
         r->script->functions_are_given = true;
         r->script->functions_line = r->text.line;
+    } else if (word_is(word, "totals")) {
+        take_names(r);
     } else {
         add_node(r, word, columns);
     }
@@ -170,6 +198,7 @@ void read_text(struct script *script, const char *path, uint8_t *bytes, size_t c
     script->last_line = 1;
     while (next_line(&reader.text))
         read_line(&reader);
+    judge_names(&reader);
     if (reader.faults > 0)
         fail(STATUS_UNUSABLE, "%s: %u faulty line%s", path, reader.faults, reader.faults == 1 ? "" : "s");
 }
