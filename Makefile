@@ -49,6 +49,12 @@ HINT_$(OBJCOPY) := it renames the calls of BASE (on Debian: apt-get install binu
 has = $(shell command -v $(1))
 demand = $(if $(call has,$(1)),,$(error $(1) is missing: $(HINT_$(1))))
 $(foreach tool,$(sort $(foreach goal,$(goals),$(TOOLS_$(goal)))),$(call demand,$(tool)))
+# a library that is named is there, and is an archive; the proved one is made first
+needs_library := $(filter-out help clean test print-script check-header,$(goals))
+library_mark = $(shell test -f '$(LIBRARY)' && echo "file $$(head -c 7 '$(LIBRARY)' | tr -d '\0')")
+is_archive = $(findstring !<arch>,$(library_mark))
+library_fault = $(if $(library_mark),$(if $(is_archive),,it is no archive),there is no such file)
+$(if $(and $(needs_library),$(if $(RT),,named)),$(if $(library_fault),$(error LIBRARY=$(LIBRARY): $(library_fault))))
 missing_base = $(if $(BASE),$(if $(shell test -f '$(BASE)' && echo yes),,$(BASE)))
 $(if $(filter bench,$(goals)),$(if $(missing_base),$(error BASE: there is no file $(missing_base))))
 
@@ -72,7 +78,10 @@ help:
 	@echo 'LIBRARY=FILE       use this library of the engine, and prove nothing'
 
 run: all
-	build/controller --check --cells 32 build/forecourt.script host/sample/day.txt
+	@echo 'A sample day: 7 of its 16 deliveries are done; the other 9 fail on purpose, as examples.'
+	@build/controller --check --cells 32 --changes --names host/sample/forecourt.txt --plot build/day.svg \
+		build/forecourt.script host/sample/day.txt
+	@echo 'The totals and the cells of this day as a picture: build/day.svg'
 
 test:
 	.ci/run
@@ -93,12 +102,17 @@ print-script: target/bin/print_script $(SCRIPT)
 build build/sanitized:
 	mkdir -p $@
 
+# What all programs are made with: it changes only where one of these does, whatever dates the files have.
+build/stamp: $(LIBRARY) anew | build
+	@{ echo 'LIBRARY=$(LIBRARY)' && cksum <'$(LIBRARY)' && echo 'CC=$(CC)' && echo 'CFLAGS=$(CFLAGS)'; } >$@.now
+	@if cmp -s $@.now $@; then rm $@.now; else mv $@.now $@; fi
+
 build/sanitized/%: EXTRA := $(SANITIZERS)
 
-build/controller build/sanitized/controller: $(CONTROLLER) $(HOST_HEADERS) $(LIBRARY) | build build/sanitized
+build/controller build/sanitized/controller: $(CONTROLLER) $(HOST_HEADERS) build/stamp | build build/sanitized
 	$(CC) $(CFLAGS) $(EXTRA) -Iinclude -o $@ $(CONTROLLER) $(LIBRARY)
 
-build/script_tool build/sanitized/script_tool: $(SCRIPT_TOOL) $(HOST_HEADERS) $(LIBRARY) | build build/sanitized
+build/script_tool build/sanitized/script_tool: $(SCRIPT_TOOL) $(HOST_HEADERS) build/stamp | build build/sanitized
 	$(CC) $(CFLAGS) $(EXTRA) -Iinclude -o $@ $(SCRIPT_TOOL) $(LIBRARY)
 
 build/forecourt.script: host/sample/forecourt.txt build/script_tool
@@ -125,29 +139,31 @@ check-header:
 C_TESTS := $(filter-out tests/c/header.c,$(wildcard tests/c/*.c)) bench/worst_scripts.c
 C_HEADERS := include/engine.h $(wildcard tests/c/*.h bench/*.h)
 
-build/c_link_test build/sanitized/c_link_test: $(C_TESTS) $(C_HEADERS) $(LIBRARY) | build build/sanitized
+build/c_link_test build/sanitized/c_link_test: $(C_TESTS) $(C_HEADERS) build/stamp | build build/sanitized
 	$(CC) $(CFLAGS) $(EXTRA) -Iinclude -Ibench -pthread -o $@ $(C_TESTS) $(LIBRARY)
 
 check-c: build/c_link_test
 	build/c_link_test $(VECTORS)
 
-build/rust_link_test: $(RUST_SOURCES) $(LIBRARY) | build
+build/rust_link_test: $(RUST_SOURCES) build/stamp | build
 	$(RUSTC) -O --edition 2021 -D warnings -o $@ tests/rust/main.rs -C link-arg=$(LIBRARY)
 
 check-rust: build/rust_link_test
 	build/rust_link_test $(VECTORS)
 
-build/fault: tests/host/fault.c | build
+build/fault: tests/host/fault.c build/stamp | build
 	$(CC) $(CFLAGS) -o $@ $<
 
-build/store_bits: tests/host/store_bits.c host/store_file.c host/text.c host/message.c $(HOST_HEADERS) | build
+STORE_BITS := tests/host/store_bits.c host/store_file.c host/text.c host/message.c
+build/store_bits: $(STORE_BITS) $(HOST_HEADERS) build/stamp | build
 	$(CC) $(CFLAGS) -Iinclude -o $@ $(filter %.c,$^)
 
 STRIKERS := build/fault build/store_bits
-HOST_TESTS := controller_test store_test loss_test totals_test fault_test script_test refusal_test manual_test
+HOST_TESTS := controller_test store_test loss_test totals_test fault_test script_test refusal_test \
+	manual_test
 
 check-tool: all $(STRIKERS)
-	$(foreach test,$(HOST_TESTS),CC='$(CC)' LIBRARY='$(LIBRARY)' tests/host/$(test) build &&) :
+	$(foreach test,$(HOST_TESTS) makefile_test,CC='$(CC)' LIBRARY='$(LIBRARY)' tests/host/$(test) build &&) :
 
 check-sanitized: $(patsubst %,build/sanitized/%,c_link_test controller script_tool) build/forecourt.script $(STRIKERS)
 	build/sanitized/c_link_test $(VECTORS)
@@ -162,7 +178,7 @@ BASE_RENAMED := $(if $(BASE),build/bench_base.a)
 build/bench_base.a: $(BASE) anew | build
 	$(OBJCOPY) $(RENAMED) $(BASE) $@
 
-build/bench: $(wildcard bench/*.c bench/*.h) include/engine.h $(LIBRARY) $(BASE_RENAMED) anew | build
+build/bench: $(wildcard bench/*.c bench/*.h) include/engine.h build/stamp $(BASE_RENAMED) anew | build
 	$(CC) $(CFLAGS) $(if $(BASE),-DWITH_BASE) -Iinclude -pthread -o $@ $(filter %.c,$^) $(LIBRARY) $(BASE_RENAMED)
 
 bench: build/bench
