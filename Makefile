@@ -159,7 +159,7 @@ build/store_bits: $(STORE_BITS) $(HOST_HEADERS) build/stamp | build
 	$(CC) $(CFLAGS) -Iinclude -o $@ $(filter %.c,$^)
 
 STRIKERS := build/fault build/store_bits
-HOST_TESTS := controller_test store_test loss_test totals_test fault_test script_test refusal_test \
+HOST_TESTS := controller_test output_test store_test loss_test totals_test fault_test script_test refusal_test \
 	manual_test
 
 check-tool: all $(STRIKERS)
