@@ -44,7 +44,7 @@ static void save(const struct day *day)
         return;
     if (day->result.count == 0)
         fail(STATUS_UNWRITTEN, "%s: %s; nothing was played; %s", day->options->store, fault.what, fault.advice);
-    fail(STATUS_UNWRITTEN, "%s: %s; the day ends, and delivery %llu is not done; %s", day->options->store, fault.what,
+    fail(STATUS_UNWRITTEN, "%s: %s; the day ends, and delivery %llu is not shown as done; %s", day->options->store, fault.what,
          (unsigned long long)day->site->header.deliveries, fault.advice);
 }
 

@@ -99,9 +99,10 @@ uint64_t option_number(const char *option, const char *argument, uint64_t least,
     int64_t number;
     struct word word = { argument, argument == NULL ? 0 : strlen(argument) };
     if (argument == NULL || !number_of(word, &number) || number < 0)
-        fail(STATUS_UNUSABLE, "%s: a number is wanted", option);
+        fail(STATUS_UNUSABLE, "%s: a number is wanted; give one from %" PRIu64 " to %" PRIu64, option, least, greatest);
     if ((uint64_t)number < least || (uint64_t)number > greatest)
-        fail(STATUS_UNUSABLE, "%s: %" PRId64 " is not within %" PRIu64 " to %" PRIu64, option, number, least, greatest);
+        fail(STATUS_UNUSABLE, "%s: %" PRId64 " is not within %" PRIu64 " to %" PRIu64 "; give one that is", option, number,
+             least, greatest);
     return (uint64_t)number;
 }
 
