@@ -64,7 +64,8 @@ $(if $(filter bench,$(goals)),$(if $(missing_base),$(error BASE: there is no fil
 all: build/controller build/script_tool build/forecourt.script
 
 help:
-	@echo 'make run           prove and compile the engine, build the host programs, play the sample day'
+	@echo 'make run           prove and compile the engine, build the host programs, play the sample day and draw it as'
+	@echo '                   build/day.svg'
 	@echo 'make test          the gate: prove everything from nothing, try the must-fail edits, run each program'
 	@echo 'make all           the host programs, build/controller and build/script_tool, and the sample script'
 	@echo 'make print-script  prove and build the program that prints a script as document 01 says, and run it on'

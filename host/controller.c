@@ -11,7 +11,7 @@
 #include <stdlib.h>
 #include <string.h>
 
-enum { DAY_BYTES_MAX = 1 << 22, TEXT_BYTES_MAX = 1 << 22 };
+enum { DAY_BYTES_MAX = 1 << 22 };
 
 /* A day that is being played. */
 struct day {
@@ -19,15 +19,15 @@ struct day {
     const struct options *options;
     struct form form;
     struct day_result result;
+    unsigned now; /* which of the totals are those after the last delivery */
     struct plot plot;
 };
 
 /* Static, as on a controller: the site is about 140 KB. */
 static struct site site;
 static uint8_t day_bytes[DAY_BYTES_MAX];
-static uint8_t text_bytes[TEXT_BYTES_MAX];
 static uint8_t totals_bytes[TOTALS_BYTES];
-static struct totals before, after; /* a delivery */
+static struct totals totals[2]; /* before and after a delivery, in turn */
 static struct names names;
 
 static const char CHECK_ADVICE[] = "'script_tool check' says of its text what is wrong there";
@@ -148,7 +148,7 @@ static void begin(struct day *day)
     report_store(&day->form, day->site, is_restored ? "restored" : taking == STORE_TAKEN ? "checked" : "opened", answer,
                  is_restored ? &checksum : NULL);
     check_after(day);
-    gather_totals(&after, &day->site->lent, day->site->header.depth);
+    gather_totals(&totals[day->now], &day->site->lent, day->site->header.depth);
     begin_plot(&day->plot, day->site->header.cells, engine_answer_cells(answer), day->site->header.deliveries,
                day->site->header.depth);
 }
@@ -166,13 +166,14 @@ static void count_delivery(struct day_result *result, uint64_t answer)
 }
 
 /* The totals as they are now, and as they were, where somebody wants to know. */
-static struct comparison compare(const struct day *day)
+static struct comparison compare(struct day *day)
 {
-    if (needs_totals(&day->form) || day->options->plot != NULL) {
-        before = after;
-        gather_totals(&after, &day->site->lent, day->site->header.depth);
-    }
-    return (struct comparison){ &before, &after, 0, 0 };
+    struct totals *before = &totals[day->now], *after = &totals[1 - day->now];
+    if (!needs_totals(&day->form) && day->options->plot == NULL)
+        return (struct comparison){ before, before, 0, 0 };
+    gather_totals(after, &day->site->lent, day->site->header.depth);
+    day->now = 1 - day->now;
+    return (struct comparison){ before, after, 0, 0 };
 }
 
 static void play_delivery(struct day *day, const struct delivery *delivery)
@@ -297,7 +298,7 @@ int main(int count, char **arguments)
     if (engine_answer_number(answer) != ENGINE_DONE)
         report_refusal(&form, "script", answer, CHECK_ADVICE);
     if (options.names != NULL)
-        read_names(&names, options.names, text_bytes, sizeof text_bytes, site.header.depth);
+        read_names(&names, options.names, site.header.depth);
     report_script(&form, &site, engine_answer_lines(answer));
     play(&day);
     free_plot(&day.plot);

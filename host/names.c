@@ -7,6 +7,8 @@
 #include <stdio.h>
 #include <string.h>
 
+enum { TEXT_BYTES_MAX = 1 << 22 };
+
 __attribute__((format(printf, 2, 3))) static bool faulty(struct names_fault *fault, const char *format, ...)
 {
     va_list arguments;
@@ -68,9 +70,10 @@ bool names_in(struct text *text, struct names *names, struct names_fault *fault)
     }
 }
 
-void read_names(struct names *names, const char *path, uint8_t *bytes, size_t capacity, unsigned depth)
+void read_names(struct names *names, const char *path, unsigned depth)
 {
-    struct text text = text_of(path, bytes, read_whole(path, bytes, capacity));
+    static uint8_t bytes[TEXT_BYTES_MAX]; /* in which the words stay */
+    struct text text = text_of(path, bytes, read_whole(path, bytes, sizeof bytes));
     struct names_fault fault;
     struct word word;
     while (next_line(&text)) {
@@ -87,8 +90,9 @@ void read_names(struct names *names, const char *path, uint8_t *bytes, size_t ca
          path);
 }
 
-int name_position(const struct names *names, unsigned place, unsigned level, unsigned depth, char *label,
-                  size_t capacity)
+/* What a place's position at a level is called; gives the characters. */
+static int name_position(const struct names *names, unsigned place, unsigned level, unsigned depth, char *label,
+                         size_t capacity)
 {
     unsigned position = depth == 0 ? 0 : position_at(place, level, depth);
     unsigned count = names->levels == 0 ? 0 : names->level[level].count;

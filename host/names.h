@@ -27,14 +27,10 @@ struct names_fault {
 /* The names on the rest of a line, whose words stay in the text; false with what is wrong. */
 bool names_in(struct text *text, struct names *names, struct names_fault *fault);
 
-/* The names in a script's text for totals of this depth, whose words stay in `bytes`. Fails where there are none. */
-void read_names(struct names *names, const char *path, uint8_t *bytes, size_t capacity, unsigned depth);
+/* The names in a script's text for totals of this depth. Fails where there are none. A program reads them once. */
+void read_names(struct names *names, const char *path, unsigned depth);
 
-/* What a place's position at a level is called: gives the characters, of which at most `capacity` - 1 are written. */
-int name_position(const struct names *names, unsigned place, unsigned level, unsigned depth, char *label,
-                  size_t capacity);
-
-/* What a place is called at the levels from `first` to before `last`; empty where there are none. */
+/* What a place of the totals is called at the levels from `first` to before `last`; empty where there are none. */
 enum { LABEL_BYTES = 160 };
 struct label {
     char text[LABEL_BYTES];

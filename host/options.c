@@ -149,6 +149,8 @@ static int take_option(struct options *options, const char *word, const char *ar
 
 /* ---- All of them ---- */
 
+enum { PREVIOUS_BYTES = 4096 + sizeof PREVIOUS_ENDING };
+
 /* A file of the arguments, by what it is to them. */
 struct named {
     const char *path, *name, *what;
@@ -175,6 +177,10 @@ static void keep_all_apart(const struct options *options)
                                   { options->day, "", "the day itself" },
                                   { options->names, "", "the script's text itself" } };
     const struct named restored = { options->restored, "", "the saved totals themselves" };
+    char path[PREVIOUS_BYTES] = "";
+    if (options->keeps_previous)
+        snprintf(path, sizeof path, "%s" PREVIOUS_ENDING, options->store);
+    const struct named previous = { path, "", "the store before the last save" };
     const struct named written[] = { { options->store, "--store", "the store itself" },
                                      { options->plot, "--plot", "the picture itself" },
                                      { options->saved, "--save-totals", "the saved totals themselves" } };
@@ -183,6 +189,8 @@ static void keep_all_apart(const struct options *options)
             keep_apart(&written[w], &read[r]);
         if (w < 2)
             keep_apart(&written[w], &restored);
+        if (w > 0) /* a run that was ended may have left one file with both names */
+            keep_apart(&written[w], &previous);
         for (int before = 0; before < w; before++)
             keep_apart(&written[w], &written[before]);
     }

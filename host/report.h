@@ -19,7 +19,7 @@ struct played {
     uint64_t number; /* over the store's life, from 1 */
     const struct delivery *delivery;
     uint64_t answer;
-    struct comparison totals; /* before and after it; null where they are not wanted */
+    struct comparison totals; /* before and after it, where they are wanted */
 };
 
 /* A day that was played. */

@@ -9,7 +9,6 @@
 
 static struct site site;
 static uint8_t bytes[STORE_BYTES_MAX + 1];
-static uint8_t text_bytes[1 << 22];
 static struct totals totals;
 
 /* ---- Who names whom ---- */
@@ -224,7 +223,7 @@ int show_store(const struct form *form, const char *path, const char *script, co
     if (reading == STORE_UNREADABLE)
         fail(STATUS_UNUSABLE, "%s: %s; name a store, put a copy back, or restore saved totals", path, fault.text);
     if (text != NULL)
-        read_names(&names, text, text_bytes, sizeof text_bytes, found.depth);
+        read_names(&names, text, found.depth);
     print_header(form, path, &found);
     if (reading == STORE_DAMAGED)
         complain("%s: %s; put a copy back, or restore saved totals", path, fault.text);

@@ -143,9 +143,14 @@ bool save_store(struct site *site, struct place_fault *fault)
 {
     if (!site->is_kept)
         return true;
-    if (site->is_damaged && !keep_damaged(&site->place, fault))
+    struct place *place = &site->place;
+    bool keeps_previous = place->keeps_previous;
+    if (site->is_damaged && !keep_damaged(place, fault))
         return false;
-    site->is_damaged = false;
+    place->keeps_previous = keeps_previous && !site->is_damaged; /* which is kept by another name */
     size_t length = encode_store(store_bytes, &site->header, site->slots, site->heads);
-    return replace_file(&site->place, store_bytes, length, fault);
+    bool is_saved = replace_file(place, store_bytes, length, fault);
+    place->keeps_previous = keeps_previous;
+    site->is_damaged = false;
+    return is_saved;
 }
