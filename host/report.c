@@ -89,18 +89,18 @@ void report_refusal(const struct form *form, const char *what, uint64_t answer, 
 
 /* ---- A delivery ---- */
 
-/* A line of parts that goes on below where a part would pass the last column. */
+/* A line of parts that goes on below, after the comma of the next part, where that one would pass the last column. */
 static void put_part(size_t *column, const char *part)
 {
-    size_t length = strlen(part);
-    if (*column > LABEL_COLUMNS && *column + length > COLUMNS) {
+    if (*column > LABEL_COLUMNS && *column + strlen(part) + 1 > COLUMNS) {
+        if (*part == ',')
+            putchar(*part++);
         printf("\n%*s", LABEL_COLUMNS, "");
         *column = LABEL_COLUMNS;
         part += strspn(part, " ");
-        length = strlen(part);
     }
     fputs(part, stdout);
-    *column += length;
+    *column += strlen(part);
 }
 
 /* What the day's text says of a delivery, as far as it fits a line; '?' for what is not printable ASCII. */
