@@ -18,9 +18,11 @@ enum { MARK_BYTES = sizeof mark - 1, LOCKS_MAX = 4 };
 
 struct lock {
     bool is_used;
+    bool is_marked;
     int folder;
     int file;
     char name[NAME_BYTES];
+    char made[2][NAME_BYTES]; /* names of the files that its holder may have made beside the place */
 };
 static struct lock locks[LOCKS_MAX];
 
@@ -37,9 +39,18 @@ bool is_lock_there(const struct place *place)
     return place->lock != NULL && is_there(place->lock);
 }
 
+/* Whether one of these files is still there, since it could not be removed: then the lock tells whose it is. */
+static bool is_needed(const struct lock *lock)
+{
+    struct stat status;
+    return lock->is_marked
+           && (fstatat(lock->folder, lock->made[0], &status, AT_SYMLINK_NOFOLLOW) == 0
+               || fstatat(lock->folder, lock->made[1], &status, AT_SYMLINK_NOFOLLOW) == 0);
+}
+
 static void remove_lock(struct lock *lock)
 {
-    if (is_there(lock))
+    if (is_there(lock) && !is_needed(lock))
         unlinkat(lock->folder, lock->name, 0); /* while it is still locked: see take */
     close(lock->file);
     lock->is_used = false;
@@ -125,7 +136,9 @@ static void write_mark(const struct place *place, const struct lock *lock)
 bool lock_place(struct place *place)
 {
     struct lock *lock = free_lock();
-    lock->folder = place->folder;
+    *lock = (struct lock){ .folder = place->folder };
+    memcpy(lock->made[0], place->new_name, NAME_BYTES);
+    memcpy(lock->made[1], place->old_name, NAME_BYTES);
     if (snprintf(lock->name, NAME_BYTES, "%s%s", place->name, LOCK_ENDING) >= NAME_BYTES)
         fail(STATUS_UNUSABLE, "%s: the name is too long; choose a shorter one", place->given);
     if (!take(lock, place->given))
@@ -134,11 +147,13 @@ bool lock_place(struct place *place)
     if (content == CONTENT_OTHER)
         fail(STATUS_UNUSABLE, "%s: '%s' is in its way, and it is no lock; move it away", place->given, lock->name);
     lock->is_used = true;
+    lock->is_marked = content == CONTENT_MARK;
     place->lock = lock;
     clear(place, place->new_name, content == CONTENT_MARK);
     clear(place, place->old_name, content == CONTENT_MARK);
     if (content == CONTENT_UNFINISHED)
         write_mark(place, lock);
+    lock->is_marked = true;
     return true;
 }
 

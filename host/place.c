@@ -257,12 +257,14 @@ static bool keep_previous(const struct place *place, struct place_fault *fault)
 {
     if (!place->keeps_previous || !place->is_there)
         return true;
-    if (linkat(place->folder, place->name, place->folder, place->old_name, 0) != 0
-        || renameat(place->folder, place->old_name, place->folder, place->previous) != 0)
-        return faulty(fault, "the file before it cannot be kept",
-                      "leave --keep-previous out, or use a file system that has links");
-    unlinkat(place->folder, place->old_name, 0); /* where both were names of one file already, it is still there */
-    return true;
+    bool is_linked = linkat(place->folder, place->name, place->folder, place->old_name, 0) == 0;
+    bool is_kept = is_linked && renameat(place->folder, place->old_name, place->folder, place->previous) == 0;
+    int error = errno;
+    if (is_linked)
+        unlinkat(place->folder, place->old_name, 0); /* also there where both were names of one file already */
+    errno = error;
+    return is_kept || faulty(fault, "the file before it cannot be kept",
+                             "leave --keep-previous out, or use a file system that has links");
 }
 
 bool may_keep_damaged(const struct place *place)
@@ -292,6 +294,14 @@ static bool put(const struct place *place, struct place_fault *fault)
     return true;
 }
 
+/* Removes a new file that could not be put in place, if it is still the one that was made. */
+static void remove_new(const struct place *place, int file)
+{
+    struct stat made;
+    if (fstat(file, &made) == 0 && is_name_of(place, place->new_name, &made))
+        unlinkat(place->folder, place->new_name, 0);
+}
+
 bool replace_file(struct place *place, const void *bytes, size_t length, struct place_fault *fault)
 {
     if (!is_own(place, fault))
@@ -300,7 +310,7 @@ bool replace_file(struct place *place, const void *bytes, size_t length, struct 
     if (file < 0)
         return faulty(fault, "no new file can be made beside it", "look after its folder, and do this again");
     if (!fill(place, file, bytes, length, fault) || !put(place, fault)) {
-        unlinkat(place->folder, place->new_name, 0);
+        remove_new(place, file);
         close(file);
         return false;
     }
