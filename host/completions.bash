@@ -23,7 +23,7 @@ _ruschoep_controller() {
 
 _ruschoep_script_tool() {
     if ((COMP_CWORD == 1)); then
-        _ruschoep_words "check play assemble list fmt code --help"
+        _ruschoep_words "check play assemble list fmt code --help --version"
         return
     fi
     case ${COMP_WORDS[COMP_CWORD - 1]} in
