@@ -13,6 +13,7 @@ PREFIX ?= /usr/local
 PROVED_LIBRARY := target/staticlib/libengine.a
 LIBRARY ?= $(PROVED_LIBRARY)
 ENGINE := build/libruschoep.a
+LINKED := $(ENGINE) build/stamp
 VECTORS ?= $(wildcard $(foreach name,translate check deliver swap,crates/*/data/$(name)*.txt))
 SANITIZERS := -O1 -g -fsanitize=address,undefined -fno-sanitize-recover=all
 PEDANTIC := -Wall -Wextra -Wpedantic -Wconversion -Wsign-conversion -Werror
@@ -21,12 +22,12 @@ SCRIPT ?= build/forecourt.script
 SOURCES := crates.txt $(shell find crates -name '*.rt' -o -name '*.antt')
 ENGINE_HEADERS := $(wildcard include/*.h)
 HOST_HEADERS := $(ENGINE_HEADERS) $(wildcard host/*.h)
-SHARED_FILES := message place text
-CONTROLLER := $(patsubst %,host/%.c,controller day diagnosis display options plot show site store_file totals_file \
-	$(SHARED_FILES))
+SHARED_FILES := day lock message names place text totals
+CONTROLLER := $(patsubst %,host/%.c,controller diagnosis display input options plot plot_totals report report_json \
+	show site store_file totals_file $(SHARED_FILES))
 SCRIPT_TOOL := $(patsubst %,host/%.c,script_tool script_text script_file script_say script_check script_explain \
-	script_depths script_bindings script_warn script_need script_format script_code play play_place play_day meaning value \
-	levels code node_kinds day $(SHARED_FILES))
+	script_depths script_bindings script_warn script_need script_format script_code play play_place play_day meaning \
+	value levels code node_kinds $(SHARED_FILES))
 RUST_SOURCES := $(shell find tests/rust -name '*.rs')
 
 # ---- what a goal needs is looked for before any work is done ----
@@ -60,6 +61,12 @@ HINT_$(OBJCOPY) := it renames the calls of BASE (on Debian: apt-get install binu
 has = $(shell command -v $(1))
 demand = $(if $(call has,$(1)),,$(error $(1) is missing: $(HINT_$(1))))
 $(foreach tool,$(sort $(foreach goal,$(goals),$(TOOLS_$(goal)))),$(call demand,$(tool)))
+# a library that is named is there, and is an archive; the proved one is made first
+needs_library := $(filter-out help clean test print-script check-header,$(goals))
+library_mark = $(shell test -f '$(LIBRARY)' && echo "file $$(head -c 7 '$(LIBRARY)' | tr -d '\0')")
+is_archive = $(findstring !<arch>,$(library_mark))
+library_fault = $(if $(library_mark),$(if $(is_archive),,it is no archive),there is no such file)
+$(if $(and $(needs_library),$(if $(RT),,named)),$(if $(library_fault),$(error LIBRARY=$(LIBRARY): $(library_fault))))
 missing_base = $(if $(BASE),$(if $(shell test -f '$(BASE)' && echo yes),,$(BASE)))
 $(if $(filter bench,$(goals)),$(if $(missing_base),$(error BASE: there is no file $(missing_base))))
 
@@ -69,7 +76,8 @@ $(if $(filter bench,$(goals)),$(if $(missing_base),$(error BASE: there is no fil
 all: build/controller build/script_tool build/forecourt.script
 
 help:
-	@echo 'make run           prove and compile the engine, build the host programs, play the sample day'
+	@echo 'make run           prove and compile the engine, build the host programs, play the sample day and draw it as'
+	@echo '                   build/day.svg'
 	@echo 'make test          the gate: prove everything from nothing, try the must-fail edits, run each program'
 	@echo 'make all           the host programs, build/controller and build/script_tool, and the sample script'
 	@echo 'make library       build/libruschoep.a, the library that firmware links'
@@ -86,7 +94,10 @@ help:
 	@echo 'LIBRARY=FILE       use this library of the engine, as rt or make library made it, and prove nothing'
 
 run: all
-	build/controller --check --cells 32 build/forecourt.script host/sample/day.txt
+	@echo 'A sample day: 7 of its 16 deliveries are done; the other 9 fail on purpose, as examples.'
+	@build/controller --check --cells 32 --changes --names host/sample/forecourt.txt --plot build/day.svg \
+		build/forecourt.script host/sample/day.txt
+	@echo 'The totals and the cells of this day as a picture: build/day.svg'
 
 test:
 	.ci/run
@@ -113,11 +124,10 @@ VERSION = $(call version_part,MAJOR).$(call version_part,MINOR)
 build/commit: anew | build
 	@echo '$(COMMIT)' | cmp -s - $@ || echo '$(COMMIT)' > $@
 
-build/interface.o: library/interface.c $(ENGINE_HEADERS) build/commit | build
+build/interface.o: library/interface.c $(ENGINE_HEADERS) build/commit build/stamp | build
 	$(CC) $(CFLAGS) -DENGINE_COMMIT='"$(COMMIT)"' -Iinclude -c -o $@ $<
 
-# by content, whatever the date of LIBRARY is
-$(ENGINE): $(LIBRARY) build/interface.o tools/make-library anew
+$(ENGINE): $(LIBRARY) build/interface.o tools/make-library build/stamp
 	@AR='$(AR)' NM='$(NM)' tools/make-library $(LIBRARY) build/interface.o $@
 
 library: $(ENGINE)
@@ -137,12 +147,17 @@ install: $(ENGINE) build/ruschoep.pc
 build build/sanitized:
 	mkdir -p $@
 
+# What all programs are made with: it changes only where one of these does, whatever dates the files have.
+build/stamp: $(LIBRARY) anew | build
+	@{ echo 'LIBRARY=$(LIBRARY)' && cksum <'$(LIBRARY)' && echo 'CC=$(CC)' && echo 'CFLAGS=$(CFLAGS)'; } >$@.now
+	@if cmp -s $@.now $@; then rm $@.now; else mv $@.now $@; fi
+
 build/sanitized/%: EXTRA := $(SANITIZERS)
 
-build/controller build/sanitized/controller: $(CONTROLLER) $(HOST_HEADERS) $(ENGINE) | build build/sanitized
+build/controller build/sanitized/controller: $(CONTROLLER) $(HOST_HEADERS) $(LINKED) | build build/sanitized
 	$(CC) $(CFLAGS) $(EXTRA) -Iinclude -o $@ $(CONTROLLER) $(ENGINE)
 
-build/script_tool build/sanitized/script_tool: $(SCRIPT_TOOL) $(HOST_HEADERS) $(ENGINE) | build build/sanitized
+build/script_tool build/sanitized/script_tool: $(SCRIPT_TOOL) $(HOST_HEADERS) $(LINKED) | build build/sanitized
 	$(CC) $(CFLAGS) $(EXTRA) -Iinclude -o $@ $(SCRIPT_TOOL) $(ENGINE)
 
 build/forecourt.script: host/sample/forecourt.txt build/script_tool
@@ -171,13 +186,13 @@ check-header:
 C_TESTS := $(filter-out tests/c/header.c,$(wildcard tests/c/*.c)) bench/worst_scripts.c
 C_HEADERS := $(ENGINE_HEADERS) $(wildcard tests/c/*.h bench/*.h)
 
-build/c_link_test build/sanitized/c_link_test: $(C_TESTS) $(C_HEADERS) $(ENGINE) | build build/sanitized
+build/c_link_test build/sanitized/c_link_test: $(C_TESTS) $(C_HEADERS) $(LINKED) | build build/sanitized
 	$(CC) $(CFLAGS) $(EXTRA) -Iinclude -Ibench -pthread -o $@ $(C_TESTS) $(ENGINE)
 
 FLASH_TESTS := examples/flash_store.c $(wildcard tests/flash/*.c) tests/c/expect.c
 FLASH_HEADERS := $(ENGINE_HEADERS) $(wildcard examples/*.h tests/flash/*.h) tests/c/expect.h
 
-build/flash_test build/sanitized/flash_test: $(FLASH_TESTS) $(FLASH_HEADERS) $(ENGINE) | build build/sanitized
+build/flash_test build/sanitized/flash_test: $(FLASH_TESTS) $(FLASH_HEADERS) $(LINKED) | build build/sanitized
 	$(CC) $(CFLAGS) $(EXTRA) -Iinclude -Iexamples -Itests/flash -Itests/c -o $@ $(FLASH_TESTS) $(ENGINE)
 
 check-c: build/c_link_test build/flash_test
@@ -187,35 +202,36 @@ check-c: build/c_link_test build/flash_test
 check-library: $(ENGINE)
 	CC='$(CC)' CXX='$(CXX)' AR='$(AR)' NM='$(NM)' LIBRARY='$(LIBRARY)' MAKE='$(MAKE)' tests/library/library_test build
 
-build/rust_link_test: $(RUST_SOURCES) $(ENGINE) | build
+build/rust_link_test: $(RUST_SOURCES) $(LINKED) | build
 	$(RUSTC) -O --edition 2021 -D warnings -o $@ tests/rust/main.rs -C link-arg=$(ENGINE)
 
 check-rust: build/rust_link_test
 	build/rust_link_test $(VECTORS)
 
-build/fault: tests/host/fault.c | build
+build/fault: tests/host/fault.c build/stamp | build
 	$(CC) $(CFLAGS) -o $@ $<
 
-build/store_bits: tests/host/store_bits.c host/store_file.c host/text.c host/message.c $(HOST_HEADERS) | build
+STORE_BITS := tests/host/store_bits.c host/store_file.c host/text.c host/message.c
+build/store_bits: $(STORE_BITS) $(HOST_HEADERS) build/stamp | build
 	$(CC) $(CFLAGS) -Iinclude -o $@ $(filter %.c,$^)
 
 # the meaning of the written nodes beside the engine, on made scripts
 MEANING_TEST := $(filter-out host/script_tool.c,$(SCRIPT_TOOL)) tests/host/meaning_test.c tests/host/made_scripts.c
-build/meaning_test build/sanitized/meaning_test: $(MEANING_TEST) tests/host/made_scripts.h $(HOST_HEADERS) $(ENGINE) \
+build/meaning_test build/sanitized/meaning_test: $(MEANING_TEST) tests/host/made_scripts.h $(HOST_HEADERS) $(LINKED) \
 	| build build/sanitized
 	$(CC) $(CFLAGS) $(EXTRA) -Iinclude -o $@ $(MEANING_TEST) $(ENGINE)
 
 # a script tool whose engine answers wrongly
-build/wrong_tool: $(SCRIPT_TOOL) tests/host/wrong_engine.c $(HOST_HEADERS) $(ENGINE) | build
+build/wrong_tool: $(SCRIPT_TOOL) tests/host/wrong_engine.c $(HOST_HEADERS) $(LINKED) | build
 	$(CC) $(CFLAGS) -Wl,--wrap=engine_deliver -Iinclude -o $@ $(SCRIPT_TOOL) tests/host/wrong_engine.c $(ENGINE)
 
 STRIKERS := build/fault build/store_bits build/wrong_tool
-HOST_TESTS := controller_test store_test totals_test fault_test script_test refusal_test depths_test check_test \
-	play_test manual_test
+HOST_TESTS := controller_test output_test store_test loss_test totals_test fault_test script_test refusal_test \
+	depths_test check_test play_test manual_test
 
 check-tool: all $(STRIKERS) build/meaning_test
 	build/meaning_test 4000
-	$(foreach test,$(HOST_TESTS),CC='$(CC)' LIBRARY='$(ENGINE)' tests/host/$(test) build &&) :
+	$(foreach test,$(HOST_TESTS) makefile_test,CC='$(CC)' LIBRARY='$(ENGINE)' tests/host/$(test) build &&) :
 
 SANITIZED := $(patsubst %,build/sanitized/%,c_link_test flash_test controller script_tool meaning_test)
 
@@ -234,7 +250,7 @@ BASE_RENAMED := $(if $(BASE),build/bench_base.a)
 build/bench_base.a: $(BASE) anew | build
 	$(OBJCOPY) $(RENAMED) $(BASE) $@
 
-build/bench: $(wildcard bench/*.c bench/*.h) $(ENGINE_HEADERS) $(ENGINE) $(BASE_RENAMED) anew | build
+build/bench: $(wildcard bench/*.c bench/*.h) $(ENGINE_HEADERS) $(LINKED) $(BASE_RENAMED) anew | build
 	$(CC) $(CFLAGS) $(if $(BASE),-DWITH_BASE) -Iinclude -pthread -o $@ $(filter %.c,$^) $(ENGINE) $(BASE_RENAMED)
 
 bench: build/bench

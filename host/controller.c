@@ -1,19 +1,13 @@
 /* A small pump controller: it opens a store for a script, with saved totals if there are any, or goes on with one that
  * was kept, works a day's deliveries on it, and prints for each what the service display would show. A delivery is
  * saved before it is shown. At the end the totals can be saved for another controller. */
-#define _POSIX_C_SOURCE 200809L /* getline */
-#include "day.h"
-#include "display.h"
+#include "input.h"
 #include "options.h"
-#include "place.h"
 #include "plot.h"
+#include "report.h"
 #include "show.h"
-#include "site.h"
 #include "totals_file.h"
 
-#include <errno.h>
-#include <inttypes.h>
-#include <stdio.h>
 #include <stdlib.h>
 #include <string.h>
 
@@ -23,11 +17,9 @@ enum { DAY_BYTES_MAX = 1 << 22 };
 struct day {
     struct site *site;
     const struct options *options;
-    unsigned count;  /* deliveries so far */
-    unsigned done;
-    unsigned worked; /* done or stopped */
-    unsigned lowest; /* level of all that were worked */
-    unsigned faulty; /* lines of standard input that were not played */
+    struct form form;
+    struct day_result result;
+    unsigned now; /* which of the totals are those after the last delivery */
     struct plot plot;
 };
 
@@ -35,66 +27,25 @@ struct day {
 static struct site site;
 static uint8_t day_bytes[DAY_BYTES_MAX];
 static uint8_t totals_bytes[TOTALS_BYTES];
+static struct totals totals[2]; /* before and after a delivery, in turn */
+static struct names names;
 
-/* ---- What is shown ---- */
-
-static void print_totals(const struct site *s)
-{
-    print_value(stdout, s->slots, s->heads, s->header.cells, s->slots[0], s->header.depth);
-    putchar('\n');
-}
-
-/* A store at rest: the cells that an answer says are taken, and the totals. */
-static void print_store(const struct site *s, const char *what, uint64_t answer)
-{
-    printf("%-12s  0 done                          %4u of %zu cells                   ", what, engine_answer_cells(answer),
-           s->header.cells);
-    print_totals(s);
-    flush_output();
-}
-
-/* Ends the program with an answer other than 0 to what was to be done, and the reason, if it is not empty. */
-static _Noreturn void refuse_for(const char *what, uint64_t answer, const char *reason)
-{
-    printf("%-12s ", what);
-    print_number(stdout, answer);
-    printf("%s%s\n", *reason == '\0' ? "" : ": ", reason);
-    flush_output();
-    exit(STATUS_REFUSED);
-}
-
-/* A refusal of the script or the store: nothing can be delivered. */
-static _Noreturn void refuse(const char *what, uint64_t answer)
-{
-    refuse_for(what, answer, "");
-}
-
-/* A delivery's steps, cells taken and lowest level; spaces where it was refused. */
-static void print_delivery(const struct site *s, unsigned count, uint64_t answer)
-{
-    unsigned number = engine_answer_number(answer);
-    char columns[80];
-    int width = snprintf(columns, sizeof columns, "%7" PRIu32 " steps %4u of %zu cells, lowest %3u free  ",
-                         engine_answer_steps(answer), engine_answer_cells(answer), s->header.cells,
-                         engine_answer_lowest(answer));
-    printf("delivery %-3u %2u %-15s %*s", count, number, engine_word(number), width,
-           engine_is_refusal(number) ? "" : columns);
-    print_totals(s);
-    flush_output();
-}
+static const char CHECK_ADVICE[] = "'script_tool check' says of its text what is wrong there";
+static const char ENTRIES_ADVICE[] = "the totals have over 4,096 entries; play a script that keeps fewer";
+static const char STORE_ADVICE[] = "--show says where; put a copy of the store back, or restore saved totals";
 
 /* ---- The store ---- */
 
 /* Saves the store, or ends the program: what was shown before is in the file. */
 static void save(const struct day *day)
 {
-    const char *fault = save_store(day->site);
-    if (fault == NULL)
+    struct place_fault fault;
+    if (save_store(day->site, &fault))
         return;
-    if (day->count == 0)
-        fail(STATUS_UNWRITTEN, "%s: %s: %s; nothing was played", day->options->store, fault, strerror(errno));
-    fail(STATUS_UNWRITTEN, "%s: %s: %s; the day ends, and delivery %u is not shown", day->options->store, fault,
-         strerror(errno), day->count);
+    if (day->result.count == 0)
+        fail(STATUS_UNWRITTEN, "%s: %s; nothing was played; %s", day->options->store, fault.what, fault.advice);
+    fail(STATUS_UNWRITTEN, "%s: %s; the day ends, and delivery %llu is not shown as done; %s", day->options->store,
+         fault.what, (unsigned long long)day->site->header.deliveries, fault.advice);
 }
 
 static void check_after(const struct day *day)
@@ -103,54 +54,77 @@ static void check_after(const struct day *day)
         return;
     uint64_t answer = engine_check_lent(&day->site->lent);
     if (engine_answer_number(answer) != ENGINE_DONE)
-        refuse("check", answer);
+        report_refusal(&day->form, "check", answer, STORE_ADVICE);
 }
 
-/* Goes on with the store that was kept, which must be sound, or opens one. A store that is to be replaced may have any
- * number of cells, and one whose totals are only to be saved must be there. */
-static uint64_t take_or_open(struct site *s, const struct options *options, bool *is_kept)
+/* The store that was kept, if there is one. One whose totals are only to be saved must be there. */
+static enum taking take(struct site *s, const struct options *options)
 {
-    size_t wanted = options->restored == NULL ? options->cells : 0;
-    *is_kept = options->store != NULL && take_store(s, options->store, wanted, options->takes_another_scripts);
-    if (!*is_kept && options->day == NULL && options->restored == NULL)
-        fail(STATUS_UNUSABLE, "%s: there is no store; nothing was saved", options->store);
-    if (!*is_kept)
+    bool is_restored = options->restored != NULL;
+    const struct wanted wanted = { options->store, is_restored ? 0 : options->cells, options->takes_another_scripts,
+                                   is_restored, options->keeps_previous };
+    enum taking taking = options->store == NULL ? STORE_ABSENT : take_store(s, &wanted);
+    if (taking == STORE_ABSENT && options->day == NULL && !is_restored)
+        fail(STATUS_UNUSABLE, "%s: there is no store; nothing was saved; name the store's file", options->store);
+    if (taking == STORE_ABSENT || s->header.cells == 0)
         lend_cells(s, options->cells == 0 ? DEFAULT_CELLS : options->cells);
-    uint64_t answer = *is_kept ? engine_check_lent(&s->lent) : engine_open_lent(&s->lent);
-    if (engine_answer_number(answer) != ENGINE_DONE)
-        refuse("store", answer);
-    return answer;
+    return taking;
+}
+
+/* Goes on with the store that was kept, which must be sound, or opens one. */
+static enum taking take_or_open(struct day *day, uint64_t *answer)
+{
+    struct site *s = day->site;
+    enum taking taking = take(s, day->options);
+    *answer = taking == STORE_TAKEN ? engine_check_lent(&s->lent) : engine_open_lent(&s->lent);
+    unsigned number = engine_answer_number(*answer);
+    if (number == ENGINE_DONE)
+        return taking;
+    if (number != ENGINE_UNSOUND_STORE || taking != STORE_TAKEN || day->options->restored == NULL)
+        report_refusal(&day->form, "store", *answer, STORE_ADVICE);
+    mark_damaged(s, "it is not sound (11 bad tank)");
+    return STORE_TO_REPLACE;
 }
 
 /* ---- Totals that move ---- */
 
-/* Opens the store with saved totals. Where it is refused, the store's file is as it was. */
-static uint64_t restore(struct site *s, const struct options *options, size_t length)
+/* Reads saved totals, and fails where they are not those that are expected. */
+static size_t read_expected(const struct options *options, uint32_t *checksum)
 {
-    struct totals_fault fault = { "" };
-    if (options->cells != 0)
-        lend_cells(s, options->cells);
+    size_t length = read_totals(options->restored, totals_bytes);
+    *checksum = checksum_of(totals_bytes, length);
+    if (options->has_expected && *checksum != options->expected)
+        fail(STATUS_UNUSABLE, "%s: its check value is %08lx, and --expect says %08lx; copy the file again",
+             options->restored, (unsigned long)*checksum, (unsigned long)options->expected);
+    return length;
+}
+
+/* Opens the store with saved totals. Where it is refused, the store's file is as it was. */
+static uint64_t restore(struct day *day, size_t length)
+{
+    struct site *s = day->site;
+    if (day->options->cells != 0)
+        lend_cells(s, day->options->cells);
     uint64_t answer = engine_restore_lent(&s->lent, totals_bytes, length);
-    unsigned number = engine_answer_number(answer);
-    if (number == ENGINE_DONE)
-        return answer;
-    if (number == ENGINE_BAD_LABEL)
-        explain_totals(totals_bytes, length, s->header.depth, &fault);
-    if (number == ENGINE_OUT_OF_CELLS)
-        snprintf(fault.text, sizeof fault.text, "the saved totals have %zu arrays, and the store has %zu cells",
-                 arrays_in(totals_bytes), s->header.cells);
-    refuse_for("restore", answer, fault.text);
+    if (engine_answer_number(answer) != ENGINE_DONE) {
+        struct totals_fault fault = explain_restore(answer, totals_bytes, length, s->header.depth, s->header.cells);
+        report_refusal(&day->form, "restore", answer, fault.text);
+    }
+    s->header.deliveries = 0; /* a new store's */
+    return answer;
 }
 
 /* Saves the totals in their file, of which the old one or the new one is there. */
-static void save_totals(const struct site *s, const char *path)
+static void save_totals(const struct day *day, const char *path)
 {
-    uint64_t answer = engine_save_lent(&s->lent, totals_bytes, ENGINE_SAVED_LENGTH_MAX);
+    uint64_t answer = engine_save_lent(&day->site->lent, totals_bytes, ENGINE_SAVED_LENGTH_MAX);
     unsigned number = engine_answer_number(answer);
     if (number != ENGINE_DONE)
-        refuse_for("save", answer, number == ENGINE_BAD_LABEL ? "the totals have over 4,096 entries" : "");
-    write_whole(path, totals_bytes, engine_saved_length(totals_bytes, ENGINE_SAVED_LENGTH_MAX));
-    print_store(s, "saved", answer);
+        report_refusal(&day->form, "save", answer, number == ENGINE_BAD_LABEL ? ENTRIES_ADVICE : STORE_ADVICE);
+    size_t length = engine_saved_length(totals_bytes, ENGINE_SAVED_LENGTH_MAX);
+    uint32_t checksum = checksum_of(totals_bytes, length);
+    write_whole(path, totals_bytes, length);
+    report_store(&day->form, day->site, "saved", answer, &checksum);
 }
 
 /* ---- A day ---- */
@@ -160,47 +134,64 @@ static void save_totals(const struct site *s, const char *path)
 static void begin(struct day *day)
 {
     const struct options *options = day->options;
-    bool is_kept, is_restored = options->restored != NULL;
-    size_t length = is_restored ? read_totals(options->restored, totals_bytes) : 0;
-    uint64_t answer = take_or_open(day->site, options, &is_kept);
-    if (is_restored && is_kept)
-        print_store(day->site, "checked", answer);
+    bool is_restored = options->restored != NULL;
+    uint32_t checksum = 0;
+    uint64_t answer;
+    size_t length = is_restored ? read_expected(options, &checksum) : 0;
+    enum taking taking = take_or_open(day, &answer);
+    if (is_restored && taking == STORE_TAKEN)
+        report_store(&day->form, day->site, "checked", answer, NULL);
     if (is_restored)
-        answer = restore(day->site, options, length);
+        answer = restore(day, length);
     if (is_restored || options->day != NULL)
         save(day);
-    print_store(day->site, is_restored ? "restored" : is_kept ? "checked" : "opened", answer);
-    day->plot.cells = day->site->header.cells;
-    day->plot.opened = engine_answer_cells(answer);
+    report_store(&day->form, day->site, is_restored ? "restored" : taking == STORE_TAKEN ? "checked" : "opened", answer,
+                 is_restored ? &checksum : NULL);
     check_after(day);
+    gather_totals(&totals[day->now], &day->site->lent, day->site->header.depth);
+    begin_plot(&day->plot, day->site->header.cells, engine_answer_cells(answer), day->site->header.deliveries,
+               day->site->header.depth);
 }
 
 /* Counts a delivery in the day's last line. */
-static void count_delivery(struct day *day, uint64_t answer)
+static void count_delivery(struct day_result *result, uint64_t answer)
 {
     unsigned number = engine_answer_number(answer), lowest = engine_answer_lowest(answer);
-    day->done += number == ENGINE_DONE;
     if (engine_is_refusal(number))
         return;
-    if (day->worked == 0 || lowest < day->lowest)
-        day->lowest = lowest;
-    day->worked++;
+    if (result->done + result->stopped == 0 || lowest < result->lowest)
+        result->lowest = lowest;
+    result->done += number == ENGINE_DONE;
+    result->stopped += number != ENGINE_DONE;
+}
+
+/* The totals as they are now, and as they were, where somebody wants to know. */
+static struct comparison compare(struct day *day)
+{
+    struct totals *before = &totals[day->now], *after = &totals[1 - day->now];
+    if (!needs_totals(&day->form) && day->options->plot == NULL)
+        return (struct comparison){ before, before, 0, 0 };
+    gather_totals(after, &day->site->lent, day->site->header.depth);
+    day->now = 1 - day->now;
+    return (struct comparison){ before, after, 0, 0 };
 }
 
 static void play_delivery(struct day *day, const struct delivery *delivery)
 {
-    uint64_t answer = engine_deliver_lent(&day->site->lent, delivery->readings, delivery->count, delivery->budget);
-    unsigned number = engine_answer_number(answer);
-    day->count++;
-    if (!engine_is_refusal(number))
+    struct site *s = day->site;
+    uint64_t answer = engine_deliver_lent(&s->lent, delivery->readings, delivery->count, delivery->budget);
+    day->result.count++;
+    s->header.deliveries++;
+    if (engine_answer_number(answer) != ENGINE_UNSOUND_STORE)
         save(day); /* before its line is printed */
-    print_delivery(day->site, day->count, answer);
-    if (number == ENGINE_UNSOUND_STORE)
-        refuse("store", answer);
+    struct played played = { s->header.deliveries, delivery, answer, compare(day) };
+    report_delivery(&day->form, s, &played);
+    if (engine_answer_number(answer) == ENGINE_UNSOUND_STORE)
+        report_refusal(&day->form, "store", answer, STORE_ADVICE);
     check_after(day);
-    count_delivery(day, answer);
+    count_delivery(&day->result, answer);
     if (day->options->plot != NULL)
-        plot_delivery(&day->plot, answer);
+        plot_delivery(&day->plot, answer, played.totals);
 }
 
 static void play_line(struct day *day, struct text *text)
@@ -209,33 +200,40 @@ static void play_line(struct day *day, struct text *text)
     switch (delivery_of(text, day->options->budget, &delivery)) {
     case LINE_EMPTY: break;
     case LINE_DELIVERY: play_delivery(day, &delivery); break;
-    case LINE_FAULTY: day->faulty++; break;
+    case LINE_FAULTY: day->result.faulty++; break;
     }
 }
 
 /* A day that was judged before. */
 static void play_text(struct day *day, struct text text)
 {
-    while (next_line(&text))
+    while (signal_that_came() == 0 && next_line(&text))
         play_line(day, &text);
+}
+
+/* A line that may be cut off: what is left of a number is another number. */
+static void name_cut_line(struct day *day, struct text text)
+{
+    struct word word;
+    if (!next_word(&text, &word))
+        return;
+    complain_at(text.path, text.line, "the last line has no line end, so it may be cut off, and is not played; "
+                "look what is missing, and send it whole");
+    day->result.faulty++;
 }
 
 /* A faulty line is not played; the next one may be. */
 static void play_standard_input(struct day *day)
 {
-    char *line = NULL;
-    size_t capacity = 0;
-    ssize_t length;
-    errno = 0;
-    for (unsigned number = 1; (length = getline(&line, &capacity, stdin)) > 0; number++) {
-        struct text text = text_of("-", (const uint8_t *)line, (size_t)length);
+    struct input_line line;
+    for (unsigned number = 1; next_input_line(&line); number++) {
+        struct text text = text_of("-", line.bytes, line.length);
         text.line = number;
-        play_line(day, &text);
-        errno = 0;
+        if (line.has_end)
+            play_line(day, &text);
+        else
+            name_cut_line(day, text);
     }
-    if (ferror(stdin))
-        fail(STATUS_UNUSABLE, "standard input: cannot be read: %s", strerror(errno));
-    free(line);
 }
 
 /* The day's text, judged whole, where it is a file. */
@@ -243,24 +241,14 @@ static struct text day_of(const char *path)
 {
     size_t length = read_whole(path, day_bytes, sizeof day_bytes);
     if (memchr(day_bytes, 0, length) != NULL)
-        fail(STATUS_UNUSABLE, "%s: a script file or other data, where the text of a day is wanted", path);
+        fail(STATUS_UNUSABLE, "%s: a script file or other data, where the text of a day is wanted; name a day's text",
+             path);
     struct text text = text_of(path, day_bytes, length);
     unsigned faulty = judge_day(text);
     if (faulty > 0)
-        fail(STATUS_UNUSABLE, "%s: %u faulty line%s; nothing was played", path, faulty, faulty == 1 ? "" : "s");
+        fail(STATUS_UNUSABLE, "%s: %u faulty line%s; nothing was played; mend %s and play the day again", path, faulty,
+             faulty == 1 ? "" : "s", faulty == 1 ? "it" : "them");
     return text;
-}
-
-static void print_day(const struct day *day)
-{
-    printf("day          %u deliveries, %u done%s", day->count, day->done,
-           day->options->checks ? ", every check passed" : "");
-    if (day->faulty > 0)
-        printf(", %u faulty line%s not played", day->faulty, day->faulty == 1 ? "" : "s");
-    if (day->worked > 0)
-        printf("; lowest %u of %zu cells free", day->lowest, day->site->header.cells);
-    putchar('\n');
-    flush_output();
 }
 
 /* Files are looked at, and places tried, before anything is done. */
@@ -269,6 +257,7 @@ static void play(struct day *day)
     const char *path = day->options->day;
     bool is_file = path != NULL && strcmp(path, "-") != 0;
     struct text text = is_file ? day_of(path) : text_of("-", day_bytes, 0);
+    hold_signals();
     if (day->options->plot != NULL)
         try_whole(day->options->plot);
     if (day->options->saved != NULL)
@@ -278,27 +267,40 @@ static void play(struct day *day)
         play_text(day, text);
     else if (path != NULL)
         play_standard_input(day);
+    day->result.signal = path != NULL ? signal_that_came() : 0;
     if (path != NULL)
-        print_day(day);
+        report_day(&day->form, day->site, &day->result);
     if (day->options->saved != NULL)
-        save_totals(day->site, day->options->saved);
+        save_totals(day, day->options->saved);
     if (day->options->plot != NULL)
-        write_plot(&day->plot, day->options->plot, day->options->script, day->options->day);
+        write_plot(&day->plot, day->options->plot, day->options->script, day->options->day, &names);
+}
+
+static int status_of(const struct day_result *result)
+{
+    if (result->signal != 0)
+        return 128 + result->signal;
+    if (result->faulty > 0)
+        return STATUS_UNUSABLE;
+    return result->count > 0 && result->done + result->stopped == 0 ? STATUS_REFUSED : 0;
 }
 
 int main(int count, char **arguments)
 {
     prepare_streams();
     struct options options = options_of(count, arguments);
+    struct form form = { options.is_json, options.shows_changes, &names };
     if (options.shown != NULL)
-        return show_store(options.shown, options.script);
-    struct day day = { .site = &site, .options = &options };
+        return show_store(&form, options.shown, options.script, options.names);
+    struct day day = { .site = &site, .options = &options, .form = form };
+    day.result.is_checked = options.checks;
     uint64_t answer = take_script(&site, options.script);
     if (engine_answer_number(answer) != ENGINE_DONE)
-        refuse("script", answer);
-    printf("script       %zu nodes, %" PRIu32 " lines of code\n", (site.lent.file_length - 4) / 9,
-           engine_answer_lines(answer));
+        report_refusal(&form, "script", answer, CHECK_ADVICE);
+    if (options.names != NULL)
+        read_names(&names, options.names, site.header.depth);
+    report_script(&form, &site, engine_answer_lines(answer));
     play(&day);
-    free(day.plot.answers);
-    return day.faulty > 0 ? STATUS_UNUSABLE : 0;
+    free_plot(&day.plot);
+    return status_of(&day.result);
 }

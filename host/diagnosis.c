@@ -5,9 +5,10 @@
 #include <inttypes.h>
 #include <stdarg.h>
 #include <stdbool.h>
+#include <stdio.h>
 
 struct diagnosis {
-    FILE *out;
+    void (*say)(const char *rule);
     const struct words *words;
     unsigned faults;
     uint32_t places[ENGINE_CELLS_MAX]; /* that name each cell */
@@ -32,12 +33,12 @@ uint32_t elements_count(struct head head)
 
 __attribute__((format(printf, 2, 3))) static void found(struct diagnosis *d, const char *format, ...)
 {
+    char rule[160];
     va_list arguments;
     va_start(arguments, format);
-    fputs("broken rule  ", d->out);
-    vfprintf(d->out, format, arguments);
-    fputc('\n', d->out);
+    vsnprintf(rule, sizeof rule, format, arguments);
     va_end(arguments);
+    d->say(rule);
     d->faults++;
 }
 
@@ -120,9 +121,9 @@ static void judge_taken_cell(struct diagnosis *d, size_t cell)
         judge_name(d, cell, (int)i, elements[i], head.depth - 1);
 }
 
-unsigned diagnose(FILE *out, const struct words *words)
+unsigned diagnose(void (*say)(const char *rule), const struct words *words)
 {
-    struct diagnosis d = { .out = out, .words = words };
+    struct diagnosis d = { .say = say, .words = words };
     follow_free_list(&d);
     for (size_t cell = 0; cell < words->cells; cell++) {
         if (head_of(words, cell).count == 0)

@@ -5,7 +5,6 @@
 
 #include <stddef.h>
 #include <stdint.h>
-#include <stdio.h>
 
 /* The words of a store, for a main of this depth. */
 struct words {
@@ -29,7 +28,7 @@ const int64_t *elements_of(const struct words *words, size_t cell);
 /* How many of a cell's slots are within its length. */
 uint32_t elements_count(struct head head);
 
-/* Prints a line for each broken rule, and gives how many. */
-unsigned diagnose(FILE *out, const struct words *words);
+/* Says each broken rule, and gives how many there are. */
+unsigned diagnose(void (*say)(const char *rule), const struct words *words);
 
 #endif

@@ -12,24 +12,28 @@ void print_number(FILE *out, uint64_t answer)
         fprintf(out, ", node %u", engine_answer_node(answer));
 }
 
-/* The recursion is as deep as the value, at most ENGINE_DEPTH_MAX. A word that names no cell is shown as '?'. */
-void print_value(FILE *out, const int64_t *slots, const uint32_t *heads, size_t cells, int64_t word, unsigned depth)
+const struct brackets ARRAYS_OF_TEXT = { '{', '}', "?" };
+const struct brackets ARRAYS_OF_JSON = { '[', ']', "null" };
+
+/* The recursion is as deep as the value, at most ENGINE_DEPTH_MAX. */
+void print_value(FILE *out, const struct brackets *brackets, const int64_t *slots, const uint32_t *heads, size_t cells,
+                 int64_t word, unsigned depth)
 {
     if (depth == 0) {
         fprintf(out, "%" PRId64, word);
         return;
     }
     if (word < 0 || (uint64_t)word >= cells) {
-        fputc('?', out);
+        fputs(brackets->unknown, out);
         return;
     }
     const int64_t *elements = slots + ENGINE_SLOTS_OF(word);
-    uint32_t length = heads[ENGINE_HEADS_OF(word) + 1];
-    fputc('{', out);
+    uint32_t length = heads[ENGINE_HEADS_OF(word) + ENGINE_HEAD_LENGTH];
+    fputc(brackets->before, out);
     for (uint32_t i = 0; i < length && i < ENGINE_CELL_SLOTS; i++) {
         if (i > 0)
             fputs(", ", out);
-        print_value(out, slots, heads, cells, elements[i], depth - 1);
+        print_value(out, brackets, slots, heads, cells, elements[i], depth - 1);
     }
-    fputc('}', out);
+    fputc(brackets->after, out);
 }

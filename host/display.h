@@ -6,8 +6,17 @@
 #include <stdint.h>
 #include <stdio.h>
 
-/* An array value of these many levels: "{{1, 2}, {}}"; a number for depth 0. */
-void print_value(FILE *out, const int64_t *slots, const uint32_t *heads, size_t cells, int64_t word, unsigned depth);
+/* How arrays are written, "{{1, 2}, {}}" in text and "[[1, 2], []]" in JSON, and what stands for a word that names no
+ * cell. */
+struct brackets {
+    char before, after;
+    const char *unknown;
+};
+extern const struct brackets ARRAYS_OF_TEXT, ARRAYS_OF_JSON;
+
+/* An array value of these many levels; a number for depth 0. */
+void print_value(FILE *out, const struct brackets *brackets, const int64_t *slots, const uint32_t *heads, size_t cells,
+                 int64_t word, unsigned depth);
 
 /* "23 off the end", and the node for the refusals that name one. */
 void print_number(FILE *out, uint64_t answer);

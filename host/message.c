@@ -67,7 +67,8 @@ void flush_output(void)
 {
     errno = 0;
     if (fflush(stdout) != 0 || ferror(stdout))
-        fail(STATUS_UNWRITTEN, "standard output: %s", errno == 0 ? "cannot be written" : strerror(errno));
+        fail(STATUS_UNWRITTEN, "standard output: %s; let it go where it can be written",
+             errno == 0 ? "cannot be written" : strerror(errno));
 }
 
 struct quote quote(const char *bytes, size_t length)

@@ -9,17 +9,23 @@
 enum { DEFAULT_CELLS = 64, DEFAULT_BUDGET = 10000 };
 
 struct options {
-    const char *script; /* null only where a store is to be shown */
-    const char *day;    /* "-" for standard input; null: no day, only totals are moved */
-    const char *store;  /* null: the store is not kept */
-    const char *plot;   /* null: no picture */
+    const char *script;   /* null only where a store is to be shown */
+    const char *day;      /* "-" for standard input; null: no day, only totals are moved */
+    const char *store;    /* null: the store is not kept */
+    const char *plot;     /* null: no picture */
     const char *restored; /* saved totals to begin with; null: none */
     const char *saved;    /* where the totals are saved at the end; null: nowhere */
-    const char *shown;  /* the store that is to be shown; null: a day is to be played */
-    size_t cells;       /* 0: as the store has, or DEFAULT_CELLS */
+    const char *shown;    /* the store that is to be shown; null: a day is to be played */
+    const char *names;    /* a script's text with names for the totals; null: none */
+    size_t cells;         /* 0: as the store has, or DEFAULT_CELLS */
     uint64_t budget;
     bool checks;
     bool takes_another_scripts; /* store */
+    bool keeps_previous;        /* the store before the last save */
+    bool has_expected;          /* saved totals must have this checksum */
+    uint32_t expected;
+    bool shows_changes;
+    bool is_json;
 };
 
 /* Reads the arguments. Fails where they cannot be used, and ends the program where help is asked for. */

@@ -14,32 +14,54 @@ size_t read_whole(const char *path, uint8_t *buffer, size_t capacity);
 bool is_same_file(const char *one, const char *other);
 
 /* Where a file is, or may come to be: links are followed, so that a link stays one. */
+#define PREVIOUS_ENDING ".previous"
 enum { NAME_BYTES = 256 };
+struct lock;
 struct place {
-    const char *given;         /* the path as it was given, for messages */
-    int folder;                /* a descriptor */
-    char name[NAME_BYTES];     /* within the folder */
-    char new_name[NAME_BYTES]; /* of the file that is to take its place: the name with '.new' */
+    const char *given;          /* the path as it was given, for messages */
+    int folder;                 /* a descriptor */
+    char name[NAME_BYTES];      /* within the folder */
+    char new_name[NAME_BYTES];  /* of the file that is to take its place */
+    char old_name[NAME_BYTES];  /* of the old file, till it is called the previous one */
+    char previous[NAME_BYTES];  /* what the file before the last replacing is called, where it is kept */
+    char damaged[NAME_BYTES];   /* what a damaged file is called, once it is replaced */
+    struct lock *lock;          /* null: not locked */
     bool is_there;
-    bool has_other_names;      /* hard links, which would keep the old file */
+    bool has_other_names;       /* hard links, which would keep the old file */
+    bool keeps_previous;
+    bool is_held;               /* by hold_file */
+    int file;                   /* the held file's descriptor; -1 where none is there */
 };
 
-/* Finds a place and looks what is there. Fails where its folder cannot be had. */
+/* What went wrong with a replacing, and what to do about it. */
+struct place_fault {
+    char what[160];
+    const char *advice;
+};
+
+/* Finds a place and looks what is there. Fails where its folder cannot be had, or its name is of those that programs
+ * give to files of their own. */
 void find_place(struct place *place, const char *path);
 
 /* Looks anew what is there. Fails where it is something else than a file, or may not be written. */
 void look_at_place(struct place *place);
 
-/* Locks a place for this program until it ends; false where another program has locked it. The lock is on a file beside
- * it, its name with '.lock', which is removed at the end. A program can lock one place. */
-bool lock_place(const struct place *place);
+/* Holds the file that is there, or that none is there, of a place that is locked: from now on it is replaced only while
+ * it is the one that was held or that replaced it. False where another program holds it. */
+bool hold_file(struct place *place);
 
-/* Removes what a program that was ended while it replaced the file has left. */
-void clear_place(const struct place *place);
+/* The bytes of the held file, as many as there is room for; gives how many. */
+size_t read_held(const struct place *place, uint8_t *buffer, size_t capacity);
 
-/* Replaces the file, or makes it, and waits until the disk has it; its mode is kept. Gives null, or what went wrong
- * (then errno says why): the old file is as it was, unless only the folder could not be brought to the disk. */
-const char *replace_file(const struct place *place, const void *bytes, size_t length);
+/* Replaces the file of a locked place, or makes it, and waits until the disk has it; its mode is kept. False with what
+ * went wrong: the old file is as it was, unless only the folder could not be brought to the disk. */
+bool replace_file(struct place *place, const void *bytes, size_t length, struct place_fault *fault);
+
+/* Whether the held file can have its damaged name besides: no other file has it. */
+bool may_keep_damaged(const struct place *place);
+
+/* Gives the held file its damaged name besides. */
+bool keep_damaged(const struct place *place, struct place_fault *fault);
 
 /* Fails where write_whole would fail for the path's sake. */
 void try_whole(const char *path);

@@ -120,22 +120,13 @@ static bool read_expectation(struct reader *r, unsigned depth, struct expectatio
     return is_read;
 }
 
-/* The line's '=>', or null. A comment has none. */
-static const uint8_t *mark_of(const struct text *text, const uint8_t *end)
-{
-    for (const uint8_t *at = text->at; at + 1 < end; at++)
-        if (at[0] == '=' && at[1] == '>')
-            return at;
-    return NULL;
-}
-
 enum line_content expected_delivery_of(struct text *text, uint64_t budget, unsigned depth, struct pool *pool,
                                        struct delivery *delivery, struct expectation *expectation)
 {
     const uint8_t *end = text->at;
     while (end < text->end && *end != '\n' && *end != '#')
         end++;
-    const uint8_t *mark = mark_of(text, end);
+    const uint8_t *mark = expectation_in(text);
     *expectation = (struct expectation){ .what = EXPECTED_NOTHING };
     if (mark == NULL)
         return delivery_of(text, budget, delivery);

@@ -1,24 +1,26 @@
-/* A picture of a day as an SVG file: a line through the cells taken after each delivery, and one through the most cells
- * that each took at once, below a line for all the store's cells, with a mark for each delivery that was done, stopped
- * or refused. The lowest level of a delivery is what lies between the second line and that for all cells. */
+/* A picture of a day as an SVG file: the totals that changed, and below them a line through the cells taken after each
+ * delivery, and one through the most cells that each took at once, below a line for all the store's cells, with a mark
+ * for each delivery that was done, stopped or refused. The lowest level of a delivery is what lies between the second
+ * line and that for all cells. */
 #define _POSIX_C_SOURCE 200809L /* open_memstream */
 #include "plot.h"
-#include "engine.h"
 #include "place.h"
+#include "plot_parts.h"
 
 #include <inttypes.h>
 #include <stdio.h>
 #include <stdlib.h>
 #include <string.h>
 
-/* Sizes in the picture's units. */
+/* Sizes in the picture's units; those of the part of the cells from its own top. */
 enum {
-    WIDTH = 1000,
-    HEIGHT = 520,
-    LEFT = 80,
-    RIGHT = 960,
-    TOP = 90,
-    BOTTOM = 400,
+    WIDTH = PLOT_WIDTH,
+    HEAD = 76,        /* of the picture */
+    HEIGHT = 460,     /* of the part of the cells */
+    LEFT = PLOT_LEFT,
+    RIGHT = PLOT_RIGHT,
+    TOP = 30,
+    BOTTOM = 340,
     MARKS_MAX = 120,  /* deliveries that are marked though they were done; more would run into each other */
     LABEL_WIDTH = 18, /* of the number that a stop or refusal is labelled with */
     TICKS_WIDE = 20,  /* most ticks below */
@@ -27,21 +29,43 @@ enum {
 
 static const char MOST_COLOUR[] = "#390"; /* of the line of the most cells taken at once */
 
-void plot_delivery(struct plot *plot, uint64_t answer)
+void begin_plot(struct plot *plot, size_t cells, unsigned opened, uint64_t before, unsigned depth)
 {
-    if (plot->count == plot->capacity) {
-        plot->capacity = plot->capacity == 0 ? 256 : 2 * plot->capacity;
-        plot->answers = realloc(plot->answers, plot->capacity * sizeof *plot->answers);
-        if (plot->answers == NULL)
-            fail(STATUS_UNUSABLE, "no memory for the picture of %zu deliveries", plot->capacity);
-    }
+    *plot = (struct plot){ .cells = cells, .opened = opened, .before = before, .depth = depth };
+}
+
+/* A list with room for one more of this size. */
+static void *with_room(void *list, size_t count, size_t *capacity, size_t size)
+{
+    if (count < *capacity)
+        return list;
+    *capacity = *capacity == 0 ? 256 : 2 * *capacity;
+    list = realloc(list, *capacity * size);
+    if (list == NULL)
+        fail(STATUS_UNUSABLE, "no memory for the picture of so long a day; leave --plot out");
+    return list;
+}
+
+void plot_delivery(struct plot *plot, uint64_t answer, struct comparison totals)
+{
+    struct change change;
+    plot->answers = with_room(plot->answers, plot->count, &plot->capacity, sizeof *plot->answers);
     plot->answers[plot->count++] = answer;
+    while (next_change(&totals, &change)) {
+        plot->changes = with_room(plot->changes, plot->changed, &plot->changed_capacity, sizeof *plot->changes);
+        plot->changes[plot->changed++] = (struct plotted_change){ plot->count, change };
+    }
+}
+
+void free_plot(struct plot *plot)
+{
+    free(plot->answers);
+    free(plot->changes);
 }
 
 /* ---- Where things stand ---- */
 
-/* Of a delivery, from 0 for the opening. */
-static double across(const struct plot *plot, size_t delivery)
+double across(const struct plot *plot, size_t delivery)
 {
     return LEFT + (double)(RIGHT - LEFT) * (double)delivery / (plot->count == 0 ? 1 : (double)plot->count);
 }
@@ -82,7 +106,7 @@ static unsigned most_taken(const struct plot *plot, uint64_t answer)
 
 /* ---- Parts of the picture ---- */
 
-static void put_text(FILE *out, const char *text)
+void put_text(FILE *out, const char *text)
 {
     for (; *text != '\0'; text++) {
         unsigned char byte = (unsigned char)*text;
@@ -93,15 +117,15 @@ static void put_text(FILE *out, const char *text)
     }
 }
 
-static void put_head(FILE *out, const struct plot *plot, const char *script, const char *day)
+static void put_head(FILE *out, const struct plot *plot, const char *script, const char *day, unsigned height)
 {
     fprintf(out,
-            "<svg xmlns=\"http://www.w3.org/2000/svg\" viewBox=\"0 0 %d %d\" width=\"%d\" height=\"%d\""
+            "<svg xmlns=\"http://www.w3.org/2000/svg\" viewBox=\"0 0 %d %u\" width=\"%d\" height=\"%u\""
             " font-family=\"sans-serif\" font-size=\"14\">\n"
-            "<rect width=\"%d\" height=\"%d\" fill=\"white\"/>\n"
-            "<text x=\"%d\" y=\"36\" font-size=\"20\" font-weight=\"bold\">Cells taken after each delivery</text>\n"
-            "<text x=\"%d\" y=\"60\" fill=\"#555\">script ",
-            WIDTH, HEIGHT, WIDTH, HEIGHT, WIDTH, HEIGHT, LEFT, LEFT);
+            "<rect width=\"%d\" height=\"%u\" fill=\"white\"/>\n"
+            "<text x=\"20\" y=\"32\" font-size=\"20\" font-weight=\"bold\">A day's totals and cells</text>\n"
+            "<text x=\"20\" y=\"56\" fill=\"#555\">script ",
+            WIDTH, height, WIDTH, height, WIDTH, height);
     put_text(out, script);
     fputs(", day ", out);
     put_text(out, strcmp(day, "-") == 0 ? "from standard input" : day);
@@ -119,12 +143,13 @@ static void put_axes(FILE *out, const struct plot *plot)
     for (size_t delivery = 0; delivery <= plot->count; delivery += wide) {
         double x = across(plot, delivery);
         fprintf(out, "<path d=\"M%.1f %dv6\" stroke=\"black\"/>", x, BOTTOM);
-        fprintf(out, "<text x=\"%.1f\" y=\"%d\" text-anchor=\"middle\">%zu</text>\n", x, BOTTOM + 22, delivery);
+        fprintf(out, "<text x=\"%.1f\" y=\"%d\" text-anchor=\"middle\">%" PRIu64 "</text>\n", x, BOTTOM + 22,
+                plot->before + delivery);
     }
     fprintf(out, "<path d=\"M%d %dV%dH%d\" fill=\"none\" stroke=\"black\"/>\n", LEFT, TOP, BOTTOM, RIGHT);
-    fprintf(out, "<text x=\"%d\" y=\"%d\" text-anchor=\"middle\">delivery (0: before the first)</text>\n",
-            (LEFT + RIGHT) / 2, BOTTOM + 46);
-    fprintf(out, "<text transform=\"translate(30 %d) rotate(-90)\" text-anchor=\"middle\">cells taken</text>\n",
+    fprintf(out, "<text x=\"%d\" y=\"%d\" text-anchor=\"middle\">delivery (%" PRIu64 ": before the first)</text>\n",
+            (LEFT + RIGHT) / 2, BOTTOM + 46, plot->before);
+    fprintf(out, "<text transform=\"translate(170 %d) rotate(-90)\" text-anchor=\"middle\">cells taken</text>\n",
             (TOP + BOTTOM) / 2);
     double full = up(plot, (unsigned)plot->cells);
     fprintf(out,
@@ -177,7 +202,7 @@ static void put_mark(FILE *out, unsigned number, double x, double y)
         fprintf(out, "<path d=\"M%.1f %.1fm-4 0a4 4 0 1 0 8 0a4 4 0 1 0 -8 0\" fill=\"#06c\">", x, y);
 }
 
-/* The number above a stop, or higher above a refusal, where the last one of its row leaves room. */
+/* The number above a stop and the line of the most cells, or above a refusal, where the last one leaves room. */
 static void put_label(FILE *out, unsigned number, double x, double y, double *last)
 {
     bool is_stop = engine_is_stop(number);
@@ -185,7 +210,7 @@ static void put_label(FILE *out, unsigned number, double x, double y, double *la
         return;
     last[is_stop] = x;
     fprintf(out, "<text x=\"%.1f\" y=\"%.1f\" font-size=\"12\" text-anchor=\"middle\" fill=\"%s\">%u</text>\n", x,
-            y - (is_stop ? 12 : 26), is_stop ? "#c00" : "#c60", number);
+            y - (is_stop ? 8 : 26), is_stop ? "#c00" : "#c60", number);
 }
 
 /* What a browser shows for the mark of a delivery, after which so many cells are taken; it ends the mark. */
@@ -193,8 +218,8 @@ static void put_title(FILE *out, const struct plot *plot, size_t i, unsigned cel
 {
     uint64_t answer = plot->answers[i];
     unsigned number = engine_answer_number(answer);
-    fprintf(out, "<title>delivery %zu: %u %s, %" PRIu32 " steps, %u of %zu cells", i + 1, number, engine_word(number),
-            engine_answer_steps(answer), cells, plot->cells);
+    fprintf(out, "<title>delivery %" PRIu64 ": %u %s, %" PRIu32 " steps, %u of %zu cells",
+            plot->before + i + 1, number, engine_word(number), engine_answer_steps(answer), cells, plot->cells);
     if (!is_refused(answer))
         fprintf(out, ", lowest %u free", engine_answer_lowest(answer));
     fputs("</title></path>\n", out);
@@ -213,7 +238,7 @@ static void put_marks(FILE *out, const struct plot *plot)
         put_mark(out, number, x, y);
         put_title(out, plot, i, cells);
         if (number != ENGINE_DONE)
-            put_label(out, number, x, y, last);
+            put_label(out, number, x, engine_is_stop(number) ? up(plot, most_taken(plot, plot->answers[i])) : y, last);
     }
 }
 
@@ -228,7 +253,7 @@ static void put_entry(FILE *out, unsigned number, int x, const char *label, size
 /* The entry of the line of the most cells taken at once, with the day's lowest level. */
 static void put_most_entry(FILE *out, const struct plot *plot)
 {
-    enum { ROW = HEIGHT - 44, X = LEFT + 540 };
+    enum { ROW = HEIGHT - 44, X = 560 };
     size_t lowest = plot->cells + 1; /* more than any delivery has */
     for (size_t i = 0; i < plot->count; i++)
         if (!is_refused(plot->answers[i]) && engine_answer_lowest(plot->answers[i]) < lowest)
@@ -251,11 +276,11 @@ static void put_legend(FILE *out, const struct plot *plot)
         stops += engine_is_stop(number) ? counts[number] : 0;
         refusals += engine_is_refusal(number) ? counts[number] : 0;
     }
-    put_entry(out, ENGINE_DONE, LEFT + 6, "done", counts[ENGINE_DONE]);
-    put_entry(out, ENGINE_OUT_OF_STEPS, LEFT + 156, "stopped and undone", stops);
-    put_entry(out, ENGINE_BAD_REQUEST, LEFT + 406, "refused", refusals);
+    put_entry(out, ENGINE_DONE, 30, "done", counts[ENGINE_DONE]);
+    put_entry(out, ENGINE_OUT_OF_STEPS, 150, "stopped and undone", stops);
+    put_entry(out, ENGINE_BAD_REQUEST, 390, "refused", refusals);
     put_most_entry(out, plot);
-    fprintf(out, "<text x=\"%d\" y=\"%d\" fill=\"#555\">", LEFT, HEIGHT - 16);
+    fprintf(out, "<text x=\"24\" y=\"%d\" fill=\"#555\">", HEIGHT - 16);
     const char *before = "";
     for (unsigned number = ENGINE_TRUNCATED; number < 256; number++) {
         if (counts[number] > 0) {
@@ -266,22 +291,34 @@ static void put_legend(FILE *out, const struct plot *plot)
     fputs("</text>\n", out);
 }
 
-void write_plot(const struct plot *plot, const char *path, const char *script, const char *day)
+/* The part of the cells. */
+static void put_cells_part(FILE *out, const struct plot *plot, unsigned top)
 {
-    char *picture = NULL;
-    size_t length = 0;
-    FILE *out = open_memstream(&picture, &length);
-    if (out == NULL)
-        fail(STATUS_UNWRITTEN, "%s: no memory for the picture", path);
-    put_head(out, plot, script, day);
+    fprintf(out, "<g transform=\"translate(0 %u)\">\n<text x=\"%d\" y=\"16\" font-size=\"16\" font-weight=\"bold\">"
+            "Cells taken after each delivery</text>\n", top, LEFT);
     put_axes(out, plot);
     put_most(out, plot);
     put_level(out, plot);
     put_marks(out, plot);
     put_legend(out, plot);
+    fputs("</g>\n", out);
+}
+
+void write_plot(const struct plot *plot, const char *path, const char *script, const char *day,
+                const struct names *names)
+{
+    char *picture = NULL;
+    size_t length = 0;
+    unsigned totals = height_of_totals(plot);
+    FILE *out = open_memstream(&picture, &length);
+    if (out == NULL)
+        fail(STATUS_UNWRITTEN, "%s: no memory for the picture; leave --plot out", path);
+    put_head(out, plot, script, day, HEAD + totals + HEIGHT);
+    put_totals_part(out, plot, names, HEAD);
+    put_cells_part(out, plot, HEAD + totals);
     fputs("</svg>\n", out);
     if (fclose(out) != 0)
-        fail(STATUS_UNWRITTEN, "%s: no memory for the picture", path);
+        fail(STATUS_UNWRITTEN, "%s: no memory for the picture; leave --plot out", path);
     write_whole(path, picture, length);
     free(picture);
 }

@@ -41,6 +41,8 @@ struct script {
     size_t functions;
     bool functions_are_given; /* by a line of their own */
     struct spot functions_spot; /* that line */
+    struct spot names_spot;   /* the line that names the totals; its number is 0 where there is none */
+    unsigned names_levels;    /* of the totals */
     struct spot last;         /* the last line that is not empty */
     struct definition definitions[DEFINITIONS_MAX];
     size_t defined;

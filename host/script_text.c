@@ -1,4 +1,5 @@
 /* From a script's text to its nodes. Every faulty line is named; then the program ends. */
+#include "names.h"
 #include "node_kinds.h"
 #include "place.h"
 #include "script.h"
@@ -140,6 +141,31 @@ static void take_operand(struct reader *r, struct node *node)
     }
 }
 
+/* Names for the totals: only what is shown depends on them. */
+static void take_names(struct reader *r)
+{
+    struct script *s = r->script;
+    struct names names = { 0 };
+    struct names_fault why;
+    if (s->names_spot.line > 0)
+        fault(r, s->last.at, "the totals have names already, on line %u", s->names_spot.line);
+    else if (!names_in(&r->text, &names, &why))
+        fault(r, why.at, "%s", why.text);
+    s->names_spot = s->last;
+    s->names_levels = names.levels;
+}
+
+/* The names are for totals of main's depth. */
+static void judge_names(struct reader *r)
+{
+    const struct script *s = r->script;
+    int64_t depth = s->count > 0 && s->nodes[0].kind == ENGINE_KIND_FUNCTION ? s->nodes[0].operand / 256 : 0;
+    if (s->names_spot.line == 0 || r->faults > 0 || s->names_levels == (depth == 0 ? 1 : depth))
+        return;
+    say_at(s, s->names_spot, "names for totals of depth %u, and main's depth is %" PRId64, s->names_levels, depth);
+    r->faults++;
+}
+
 /* The kind that a word stands for; ENGINE_KINDS where it stands for none. */
 static uint8_t kind_of(struct word word)
 {
@@ -152,7 +178,7 @@ static uint8_t kind_of(struct word word)
 /* The word that a line's first word is likely meant to be. */
 static struct word nearest_kind(struct word word)
 {
-    static const char *const others[] = { "define", "functions", "node" };
+    static const char *const others[] = { "define", "functions", "node", "totals" };
     enum { OTHERS = sizeof others / sizeof others[0] };
     struct word words[ENGINE_KINDS + OTHERS];
     for (unsigned kind = 0; kind < ENGINE_KINDS; kind++) {
@@ -210,6 +236,8 @@ static void read_line(struct reader *r)
         r->script->functions = (size_t)number_in(r, 0, 65535, &unused);
         r->script->functions_are_given = true;
         r->script->functions_spot = r->script->last;
+    } else if (word_is(word, "totals")) {
+        take_names(r);
     } else {
         add_node(r, word, columns);
     }
@@ -224,8 +252,10 @@ void parse_text(struct script *script, const char *path, const uint8_t *bytes, s
     script->last = (struct spot){ 1, (const char *)reader.text.begin };
     script->count = script->functions = script->defined = 0;
     script->functions_are_given = false;
+    script->names_spot.line = 0;
     while (next_line(&reader.text))
         read_line(&reader);
+    judge_names(&reader);
     if (reader.faults > 0)
         fail(STATUS_UNUSABLE, "%s: %u faulty line%s", path, reader.faults, reader.faults == 1 ? "" : "s");
 }

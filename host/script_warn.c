@@ -106,7 +106,7 @@ struct phrase {
 
 static struct phrase culprit_phrase(const struct script *s, size_t node)
 {
-    const struct node *n = &s->nodes[node];
+    const struct node *n = &s->nodes[node], *binder = &s->nodes[bindings.binder[node]]; /* of a name */
     struct phrase phrase;
     switch (n->kind) {
     case ENGINE_KIND_NUMBER: snprintf(phrase.text, sizeof phrase.text, "the number %" PRId64, n->operand); break;
@@ -115,8 +115,7 @@ static struct phrase culprit_phrase(const struct script *s, size_t node)
     case ENGINE_KIND_CALL: snprintf(phrase.text, sizeof phrase.text, "what a function gives that is none"); break;
     case ENGINE_KIND_NAME:
         snprintf(phrase.text, sizeof phrase.text, "%s of line %u",
-                 s->nodes[bindings.binder[node]].kind == ENGINE_KIND_PARAMETER ? "the parameter" : "an element: the name",
-                 s->nodes[bindings.binder[node]].line);
+                 binder->kind == ENGINE_KIND_PARAMETER ? "the parameter" : "an element: the name", binder->line);
         break;
     default: snprintf(phrase.text, sizeof phrase.text, "a %s of other numbers", node_kinds[n->kind].word); break;
     }

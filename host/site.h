@@ -20,6 +20,7 @@ struct site {
     struct store_header header; /* of the store as it is saved */
     struct place place;         /* of the store's file, where it has one */
     bool is_kept;               /* in that file */
+    bool is_damaged;            /* that file, which is to be replaced and kept beside */
 };
 
 /* Reads a script file and has it translated. Fails where a text or a store was given for it; gives the answer. */
@@ -28,12 +29,27 @@ uint64_t take_script(struct site *site, const char *path);
 /* Lends the words of a store of so many cells. */
 void lend_cells(struct site *site, size_t cells);
 
-/* Takes the file of a store for this program alone, and reads the store where it is there; false where it is not.
- * It must be a store of the script, or, where another script's will do, of main's depth; and of `cells` cells, if this
- * is not 0. Fails where it is not, or where the file cannot be locked, read or written. */
-bool take_store(struct site *site, const char *path, size_t cells, bool takes_another_scripts);
+/* The store that is wanted. */
+struct wanted {
+    const char *path;
+    size_t cells;               /* 0: any number */
+    bool takes_another_scripts; /* of main's depth */
+    bool replaces;              /* the totals come from elsewhere: a damaged store, or one of another depth, will do */
+    bool keeps_previous;        /* the store before each save */
+};
 
-/* Saves the store in its file, where it has one. Gives null, or what went wrong, as replace_file. */
-const char *save_store(const struct site *site);
+/* What there is: no store; one that is whole and wanted, which is taken; one that is to be replaced, after it was said
+ * what is wrong with it (then its cells are lent where they can be told, and else none). */
+enum taking { STORE_ABSENT, STORE_TAKEN, STORE_TO_REPLACE };
+
+/* Takes the file of a store for this program alone, and reads the store where it is there. Fails where it is none that
+ * is wanted, or where the file cannot be locked, read or written. */
+enum taking take_store(struct site *site, const struct wanted *wanted);
+
+/* Says what is wrong with a store that is to be replaced. Fails where it could not be kept beside. */
+void mark_damaged(struct site *site, const char *what);
+
+/* Saves the store in its file, where it has one; a damaged file is kept beside. */
+bool save_store(struct site *site, struct place_fault *fault);
 
 #endif

@@ -212,13 +212,14 @@ uint64_t option_number(const char *option, const char *argument, uint64_t least,
     int64_t number;
     struct word word = { argument, argument == NULL ? 0 : strlen(argument) };
     enum numeral numeral = argument == NULL ? NUMERAL_NONE : numeral_of(word, &number);
+    if (numeral == NUMERAL_NONE || (numeral == NUMERAL_FITS && number < 0))
+        fail(STATUS_UNUSABLE, "%s: a number is wanted; give one from %" PRIu64 " to %" PRIu64, option, least, greatest);
     if (numeral == NUMERAL_TOO_LARGE)
-        fail(STATUS_UNUSABLE, "%s: %s is not within %" PRIu64 " to %" PRIu64, option, quote_word(word).text, least,
-             greatest);
-    if (numeral == NUMERAL_NONE || number < 0)
-        fail(STATUS_UNUSABLE, "%s: a number is wanted", option);
+        fail(STATUS_UNUSABLE, "%s: %s is not within %" PRIu64 " to %" PRIu64 "; give one that is", option,
+             quote_word(word).text, least, greatest);
     if ((uint64_t)number < least || (uint64_t)number > greatest)
-        fail(STATUS_UNUSABLE, "%s: %" PRId64 " is not within %" PRIu64 " to %" PRIu64, option, number, least, greatest);
+        fail(STATUS_UNUSABLE, "%s: %" PRId64 " is not within %" PRIu64 " to %" PRIu64 "; give one that is", option,
+             number, least, greatest);
     return (uint64_t)number;
 }
 

@@ -16,7 +16,7 @@ size_t read_totals(const char *path, uint8_t bytes[TOTALS_BYTES])
     if (has_store_mark(bytes, length))
         fail(STATUS_UNUSABLE, "%s: a store, where saved totals are wanted; --save-totals saves those of a store", path);
     if (length > AT_MARKS && memchr(bytes, 0, length) == NULL) /* a depth of 0 is one, an array's number has 8 */
-        fail(STATUS_UNUSABLE, "%s: a text, where saved totals are wanted", path);
+        fail(STATUS_UNUSABLE, "%s: a text, where saved totals are wanted; name what --save-totals wrote", path);
     return length;
 }
 
@@ -78,7 +78,8 @@ static bool explain_entry(const uint8_t *bytes, unsigned depth, size_t *next, st
     return false;
 }
 
-bool explain_totals(const uint8_t *bytes, size_t length, unsigned depth, struct totals_fault *fault)
+/* What is wrong with saved totals, by its first place; false where nothing is. */
+static bool explain_totals(const uint8_t *bytes, size_t length, unsigned depth, struct totals_fault *fault)
 {
     size_t next = 0;
     if (explain_label(bytes, length, depth, fault) || explain_entry(bytes, depth, &next, fault))
@@ -88,10 +89,25 @@ bool explain_totals(const uint8_t *bytes, size_t length, unsigned depth, struct 
     return false;
 }
 
-size_t arrays_in(const uint8_t *bytes)
+/* How many arrays saved totals have that nothing is wrong with: the cells that they take. */
+static size_t arrays_in(const uint8_t *bytes)
 {
     size_t arrays = 0;
     for (size_t i = 0; i < count_in(bytes); i++)
         arrays += bytes[AT_MARKS + i] != 0;
     return arrays;
+}
+
+struct totals_fault explain_restore(uint64_t answer, const uint8_t *bytes, size_t length, unsigned depth, size_t cells)
+{
+    struct totals_fault fault = { "look at the script and the store" };
+    if (engine_answer_number(answer) == ENGINE_OUT_OF_CELLS) {
+        size_t arrays = arrays_in(bytes);
+        snprintf(fault.text, sizeof fault.text, "the saved totals have %zu arrays, and the store has %zu cells; give it"
+                 " more with --cells", arrays, cells);
+    } else if (engine_answer_number(answer) == ENGINE_BAD_LABEL && explain_totals(bytes, length, depth, &fault)) {
+        size_t end = strlen(fault.text);
+        snprintf(fault.text + end, sizeof fault.text - end, "; copy the file again, or save the totals again");
+    }
+    return fault;
 }

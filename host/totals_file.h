@@ -10,16 +10,13 @@
 enum { TOTALS_BYTES = 1 << 16 };
 
 struct totals_fault {
-    char text[160];
+    char text[240];
 };
 
 /* Reads the file of saved totals, and gives its length. Fails where it cannot be read, or is a store or a text. */
 size_t read_totals(const char *path, uint8_t bytes[TOTALS_BYTES]);
 
-/* What is wrong with saved totals for a main of this depth, by its first place, as `fault`; false where nothing is. */
-bool explain_totals(const uint8_t *bytes, size_t length, unsigned depth, struct totals_fault *fault);
-
-/* How many arrays saved totals have that nothing is wrong with: the cells that they take. */
-size_t arrays_in(const uint8_t *bytes);
+/* Why the engine did not restore saved totals for a main of this depth in so many cells, and what to do. */
+struct totals_fault explain_restore(uint64_t answer, const uint8_t *bytes, size_t length, unsigned depth, size_t cells);
 
 #endif

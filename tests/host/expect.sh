@@ -68,6 +68,11 @@ refused() {
     fi
 }
 
+# said WHAT PATTERN: the last command has said this, on standard output or error
+said() {
+    if grep -q -e "$2" "$folder/out" "$folder/error"; then pass; else fault "$1"; fi
+}
+
 # bytes NUMBER..: these bytes
 bytes() {
     for byte; do

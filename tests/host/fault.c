@@ -34,6 +34,7 @@ static const char *name_of(unsigned long long call)
     case SYS_close: return "close";
     case SYS_fsync: return "fsync";
     case SYS_renameat: return "renameat";
+    case SYS_linkat: return "linkat";
     case SYS_unlinkat: return "unlinkat";
     case SYS_flock: return "flock";
     case SYS_fchmod: return "fchmod";

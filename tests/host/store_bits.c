@@ -1,6 +1,7 @@
-/* Changes a store's file bit by bit: none may pass.
+/* Changes a store's file bit by bit: none may pass. Or writes a store in the first version of its file.
  *
  *   store_bits STORE CHANGED CONTROLLER ARGUMENT..
+ *   store_bits --first-version STORE FIRST
  *
  * Each bit of STORE is changed in memory and the bytes are decoded; for each byte, one bit is changed in the file
  * CHANGED and the command is run, which must end with status 2, name the damage, and leave the file as it is. */
@@ -95,10 +96,26 @@ static void run_changed(const char *path, char **command, size_t length, size_t 
     bytes[byte] ^= (uint8_t)(1u << byte % 8);
 }
 
+/* Version 1 is without the 8 bytes of the number of deliveries, before the header's checksum. */
+static int write_first_version(const char *from, const char *to)
+{
+    enum { AT_VERSION = 8, AT_DELIVERIES = 24, DELIVERIES_BYTES = 8, CHECKSUM_BYTES = 4 };
+    size_t length = read_file(from, bytes, sizeof bytes);
+    bytes[AT_VERSION] = 1;
+    memmove(bytes + AT_DELIVERIES, bytes + AT_DELIVERIES + DELIVERIES_BYTES, length - AT_DELIVERIES - DELIVERIES_BYTES);
+    uint32_t checksum = checksum_of(bytes, AT_DELIVERIES);
+    for (unsigned i = 0; i < CHECKSUM_BYTES; i++)
+        bytes[AT_DELIVERIES + i] = (uint8_t)(checksum >> 8 * i);
+    write_file(to, length - DELIVERIES_BYTES);
+    return 0;
+}
+
 int main(int count, char **arguments)
 {
     if (count < 4)
         return 2;
+    if (strcmp(arguments[1], "--first-version") == 0)
+        return write_first_version(arguments[2], arguments[3]);
     size_t length = read_file(arguments[1], bytes, sizeof bytes);
     for (size_t byte = 0; byte < length; byte++) {
         decode_changed(length, byte);
