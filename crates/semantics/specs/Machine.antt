@@ -46,8 +46,7 @@ lower-events g f (suc (suc n)) c σ = []
 -- what a release does, each element of a freed cell included
 unfoldable pub release-events : ℕ → ℕ → Store → List Event
 release-events zero c σ = []
-release-events (suc n) c σ =
-    touching σ c ++ lower-events (released n) (release-events n) (cell σ c .count) c σ
+release-events (suc n) c σ = touching σ c ++ lower-events (released n) (release-events n) (cell σ c .count) c σ
 
 -- ---- levels
 
