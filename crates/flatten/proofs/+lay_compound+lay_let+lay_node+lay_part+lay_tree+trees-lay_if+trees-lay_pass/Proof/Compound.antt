@@ -8,7 +8,8 @@ use Rattle.flatten_rows.specs.Source.{tree-at, parts-before}
 use Rattle.flatten_rows.specs.Made.{state}
 use Rattle.flatten_rows.proofs.Lists.{Listing, listing-begins, listing-goes}
 use Rattle.flatten_rows.proofs.Members.{atom-laid}
-use Rattle.flatten_rows.proofs.Compounds.{parts-ready, parts-few, part-ready, leaf-ready, leaf-laid, pass-ready, loop-laid}
+use Rattle.flatten_rows.proofs.Compounds.{parts-ready, parts-few, part-ready, leaf-ready, leaf-laid}
+use Rattle.flatten_rows.proofs.Compounds.{pass-ready, loop-laid}
 use Rattle.flatten.proofs.+lay_compound+lay_let+lay_node+lay_part+lay_tree+trees-lay_if+trees-lay_pass.Proof.Common.{lay-compound-at}
 use Rattle.flatten.proofs.+lay_compound+lay_let+lay_node+lay_part+lay_tree+trees-lay_if+trees-lay_pass.Proof.Common.{lay-compound-claims}
 
@@ -73,7 +74,9 @@ module _ (t : ℕ) where
 
   pub lay-compound-loop-holds : lts.Need-loop-holds (lay-compound-claims t) (lay-compound-at t) lay-compound.Post
       lay-compound-Inv-loop lay-compound-μ-loop
-  lay-compound-loop-holds c = (listing-begins _ (c .before .before .before .before .pre .1 .1 .1 .sized) (search needs), refl)
+  lay-compound-loop-holds c =
+      let s = c .before .before .before .before in
+      (listing-begins _ (s .pre .1 .1 .1 .sized) (search needs), refl)
 
   pub lay-compound-atom-place-requires : lts.Need-atom-place-requires (lay-compound-claims t) (lay-compound-at t)
       lay-compound.Post lay-compound-Inv-loop lay-compound-μ-loop
@@ -167,9 +170,10 @@ module _ (t : ℕ) where
   pub lay-compound-lay-pass-requires : lts.Need-lay-pass-requires (lay-compound-claims t) (lay-compound-at t)
       lay-compound.Post lay-compound-Inv-loop lay-compound-μ-loop
   lay-compound-lay-pass-requires c κs =
-      let listed = c .before .before .before .before .before .before .before in
+      let told = c .before .before .before .before .before .before in
+      let listed = told .before in
       let end = listed .before .before .loop .inv in
-      let looping = sym (listed .is-loop .ensures) ∙ c .before .before .before .before .before .before .if2 .taken in
+      let looping = sym (listed .is-loop .ensures) ∙ told .if2 .taken in
       let s = listed-from listed in
       let a = s .args in
       rw (end .1) (
@@ -187,37 +191,40 @@ module _ (t : ℕ) where
   pub lay-compound-returns : lts.Need-returns (lay-compound-claims t) (lay-compound-at t) lay-compound.Post
       lay-compound-Inv-loop lay-compound-μ-loop
   lay-compound-returns c =
-      let listed = c .before .before .before .before .before .before .before .before in
+      let told = c .before .before .before .before .before .before .before in
+      let listed = told .before in
       let end = listed .before .before .loop .inv in
       let s = listed-from listed in
       let a = s .args in (
         rw (c .lay-pass .ensures .0) (loop-laid (a .operands .now) (a .results .now) (tree s) (a .spot .node)
             (a .shape .kind) (a .shape .low) (a .shape .high) (s .pre .1 .1 .1) (end .0) (all-listed listed)
-            (sym (listed .is-loop .ensures) ∙ c .before .before .before .before .before .before .before .if2 .taken) (rw (end .1) at (c .lay-pass .ensures .1 .0))),
+            (sym (listed .is-loop .ensures) ∙ told .if2 .taken) (rw (end .1) at (c .lay-pass .ensures .1 .0))),
         c .lay-pass .ensures .1 .1 ∙ end .1,
       )
 
   pub lay-compound-lay-leaf-requires : lts.Need-lay-leaf-requires (lay-compound-claims t) (lay-compound-at t)
       lay-compound.Post lay-compound-Inv-loop lay-compound-μ-loop
   lay-compound-lay-leaf-requires c κs =
-      let listed = c .before .before .before .before .before .before in
+      let told = c .before .before .before .before .before in
+      let listed = told .before in
       let s = listed-from listed in
       let a = s .args in
       leaf-ready (a .operands .now) (a .results .now) (tree s) (a .spot .node) (a .shape .kind) (a .shape .low)
       (a .shape .high) (s .pre .1 .1 .1) (listed .before .before .loop .inv .0) (all-listed listed)
-      (sym (listed .is-loop .ensures) ∙ c .before .before .before .before .before .if2 .left) (s .pre .1 .0)
+      (sym (listed .is-loop .ensures) ∙ told .if2 .left) (s .pre .1 .0)
 
   pub lay-compound-returns-2 : lts.Need-returns-2 (lay-compound-claims t) (lay-compound-at t) lay-compound.Post
       lay-compound-Inv-loop lay-compound-μ-loop
   lay-compound-returns-2 c =
-      let listed = c .before .before .before .before .before .before .before in
+      let told = c .before .before .before .before .before .before in
+      let listed = told .before in
       let end = listed .before .before .loop .inv in
       let leaf = c .lay-leaf .ensures in
       let s = listed-from listed in
       let a = s .args in (
         rw (leaf .0 .0) (leaf-laid (a .operands .now) (a .results .now) (tree s) (a .spot .node) (a .shape .kind)
             (a .shape .low) (a .shape .high) (s .pre .1 .1 .1) (end .0) (all-listed listed)
-            (sym (listed .is-loop .ensures) ∙ c .before .before .before .before .before .before .if2 .left) (s .pre .1 .0) (rw (leaf .0 .0) at (leaf .0 .1))
+            (sym (listed .is-loop .ensures) ∙ told .if2 .left) (s .pre .1 .0) (rw (leaf .0 .0) at (leaf .0 .1))
             (leaf .1 .0) (leaf .1 .1)),
         end .1,
       )

@@ -127,7 +127,7 @@ module _ (t : ℕ) where
       let own = rw (aim .spot-at .ensures, guard .1) at (first .0) in
       let other = rw (again .spot-at2 .ensures, first .1 ∙ guard .1) at (second .0) in (
         rw (c .close-line .ensures .0) (if-laid _ _ (tree s) (s .pre .1 .1) (guard .0) (opened .open-if .ensures) own
-            (again .before .put-middle .ensures) other _ (c .before .before .before .depth-of .ensures) (c .close-line .ensures .1 .0)
-            (c .close-line .ensures .1 .1)),
+            (again .before .put-middle .ensures) other _ (c .before .before .before .depth-of .ensures)
+            (c .close-line .ensures .1 .0) (c .close-line .ensures .1 .1)),
         second .1 ∙ first .1 ∙ guard .1,
       )

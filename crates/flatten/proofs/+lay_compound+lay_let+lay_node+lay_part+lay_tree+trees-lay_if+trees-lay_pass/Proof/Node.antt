@@ -7,8 +7,8 @@ use Rattle.semantics.specs.Syntax.{Expr}
 use Rattle.script_read.proofs.Ends.{node-inside}
 use Rattle.script_read.proofs.Limits.{NoneOf}
 use Rattle.flatten_rows.specs.Source.{tree-at, compound, let-from, if-from}
-use Rattle.flatten_rows.proofs.Nodes.{fits-seen, compound-as, compound-is, any-default, number-is, name-is, let-is, if-is}
-use Rattle.flatten_rows.proofs.Nodes.{number-placed, let-after, if-after}
+use Rattle.flatten_rows.proofs.Nodes.{fits-seen, compound-as, compound-is, number-is, name-is, let-is, if-is}
+use Rattle.flatten_rows.proofs.Nodes.{any-default, number-placed, let-after, if-after}
 use Rattle.flatten_rows.proofs.Members.{ready-as, ready-made, number-laid, name-laid, one-node}
 use Rattle.flatten.proofs.+lay_compound+lay_let+lay_node+lay_part+lay_tree+trees-lay_if+trees-lay_pass.Proof.Common.{lay-node-at}
 use Rattle.flatten.proofs.+lay_compound+lay_let+lay_node+lay_part+lay_tree+trees-lay_if+trees-lay_pass.Proof.Common.{lay-node-claims}
@@ -67,7 +67,9 @@ module _ (t : ℕ) where
   lay-node-atom-out-requires-2 c κs = inside (c .before .before .before .before)
 
   pub lay-node-add-spot-at : lts.Need-add-spot-at (lay-node-claims t) (lay-node-at t) lay-node.Post
-  lay-node-add-spot-at c = omega (arith, inside (c .before .before .before .before .before .before .before .before .before))
+  lay-node-add-spot-at c =
+      let s = c .before .before .before .before .before .before .before .before .before in
+      omega (arith, inside s)
 
   pub lay-node-sub-lay-let : lts.Need-sub-lay-let (lay-node-claims t) (lay-node-at t) lay-node.Post
   lay-node-sub-lay-let c = omega (arith, let-arm c .before .before .before .pre .1 .0 .deep)
@@ -85,7 +87,9 @@ module _ (t : ℕ) where
       )
 
   pub lay-node-add-spot-at-2 : lts.Need-add-spot-at-2 (lay-node-claims t) (lay-node-at t) lay-node.Post
-  lay-node-add-spot-at-2 c = omega (arith, inside (c .before .before .before .before .before .before .before .before .before))
+  lay-node-add-spot-at-2 c =
+      let s = c .before .before .before .before .before .before .before .before .before in
+      omega (arith, inside s)
 
   pub lay-node-sub-lay-if : lts.Need-sub-lay-if (lay-node-claims t) (lay-node-at t) lay-node.Post
   lay-node-sub-lay-if c = omega (arith, if-arm c .before .before .before .pre .1 .0 .deep)

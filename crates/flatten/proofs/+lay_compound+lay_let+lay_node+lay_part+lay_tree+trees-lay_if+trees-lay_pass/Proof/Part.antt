@@ -15,7 +15,8 @@ module _ (t : ℕ) where
   node-inside : (s : Start) → s .args .spot .node < 1024
   node-inside s =
       let a = s .args in
-      omega (arith, s .pre .1 .1 .nodes, one-node (tree-at (a .kinds .now) (a .operands .now) (a .levels) (a .spot .node)))
+      let tree = tree-at (a .kinds .now) (a .operands .now) (a .levels) in
+      omega (arith, s .pre .1 .1 .nodes, one-node (tree (a .spot .node)))
 
   file-fits : (s : Start) → length (s .args .operands .now) ≤ 8192
   file-fits s = omega (arith, s .pre .1 .0 .parts .few, s .pre .1 .0 .parts .whole)
@@ -42,13 +43,14 @@ module _ (t : ℕ) where
 
   pub lay-part-lay-node-requires : lts.Need-lay-node-requires (lay-part-claims t) (lay-part-at t) lay-part.Post
   lay-part-lay-node-requires c κs =
-      let looked = c .before .before .before .before .before .before .before .before in
+      let fitting = c .before .before .before .before .before .before in
+      let looked = fitting .before .before in
       let s = start-of looked in (
         omega (arith, s .pre .0),
         (
           record {
             deep = looked .before .if1 .left;
-            stands = rw (c .before .before .before .before .before .before .kind .given .1) at (looked .node-at .ensures);
+            stands = rw (fitting .kind .given .1) at (looked .node-at .ensures);
           },
           s .pre .1,
         ),

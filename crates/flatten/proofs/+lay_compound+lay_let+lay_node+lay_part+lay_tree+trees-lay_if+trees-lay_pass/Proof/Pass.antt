@@ -66,18 +66,20 @@ module _ (t : ℕ) where
   pub lay-pass-depth-of-loop-requires :
       lts.Need-depth-of-loop-requires (lay-pass-claims t) (lay-pass-at t) lay-pass.Post
   lay-pass-depth-of-loop-requires c κs =
-      let bound = c .before .before .before .before .before .before .before .before .before .before in
+      let laid = c .before .before .before .before in
+      let bound = laid .before .before .before .before .before .before in
       let head = bound .before .before .open-loop .ensures in
       let s = start-of bound in
       let a = s .args in
       pass-deep (a .operands .now) _ (a .shape .kind) (a .shape .low) (a .shape .high) (a .atoms .now)
       (a .places .now) (s .pre .1 .0) (s .pre .1 .1 .1) (head .1 .0) (rw (head .0 .0) at (head .0 .1)) (head .1 .1) _
       (s .pre .1 .1 .0 .long) (low-fits s) (high-fits s) (bound .bind-pass .ensures .0)
-      (rw (head .0 .0) at (c .before .before .before .before .lay-tree .ensures .0))
+      (rw (head .0 .0) at (laid .lay-tree .ensures .0))
 
   pub lay-pass-close-line-requires : lts.Need-close-line-requires (lay-pass-claims t) (lay-pass-at t) lay-pass.Post
   lay-pass-close-line-requires c κs =
-      let bound = c .before .before .before .before .before .before .before .before .before .before .before .before .before in
+      let laid = c .before .before .before .before .before .before .before in
+      let bound = laid .before .before .before .before .before .before in
       let head = bound .before .before .open-loop .ensures in
       let s = start-of bound in
       let a = s .args in (
@@ -87,25 +89,28 @@ module _ (t : ℕ) where
           pass-end (a .operands .now) _ (a .shape .kind) (a .shape .low) (a .shape .high) (a .atoms .now)
               (a .places .now) (s .pre .1 .0) (s .pre .1 .1 .1) (head .1 .0) (rw (head .0 .0) at (head .0 .1))
               (head .1 .1) _ (s .pre .1 .1 .0 .long) (low-fits s) (high-fits s) (bound .bind-pass .ensures .0)
-              (rw (head .0 .0) at (c .before .before .before .before .before .before .before .lay-tree .ensures .0)),
+              (rw (head .0 .0) at (laid .lay-tree .ensures .0)),
         ),
       )
 
   pub lay-pass-returns : lts.Need-returns (lay-pass-claims t) (lay-pass-at t) lay-pass.Post
   lay-pass-returns c =
-      let laid = c .before .before .before .before .before .before .before .before .lay-tree .ensures in
-      let bound = c .before .before .before .before .before .before .before .before .before .before .before .before .before .before .bind-pass .ensures in
-      let head = c .before .before .before .before .before .before .before .before .before .before .before .before .before .before .before .before .open-loop .ensures in
-      let s = start-of (c .before .before .before .before .before .before .before .before .before .before .before .before .before .before) in
+      let laid = c .before .before .before .before .before .before .before .before in
+      let bound = laid .before .before .before .before .before .before in
+      let tree = laid .lay-tree .ensures in
+      let names = bound .bind-pass .ensures in
+      let head = bound .before .before .open-loop .ensures in
+      let s = start-of bound in
       let a = s .args in
-      let made = rw (head .0 .0) at (laid .0) in (
+      let made = rw (head .0 .0) at (tree .0) in (
         c .close-line .ensures .0 ∙ rw (made .next, made .count, made .reach),
         (
           pass-laid (a .operands .now) _ (a .shape .kind) (a .shape .low) (a .shape .high) (a .atoms .now)
               (a .places .now) (s .pre .1 .0) (s .pre .1 .1 .1) (head .1 .0) (rw (head .0 .0) at (head .0 .1))
-              (head .1 .1) _ (s .pre .1 .1 .0 .long) (low-fits s) (high-fits s) (bound .0) made _
-              (c .before .before .before .depth-of-loop .ensures) (c .close-line .ensures .1 .0) (c .close-line .ensures .1 .1),
-          c .before .before .before .before .before .before .unbind-pass .ensures ∙ rw (bound .1 .0, bound .1 .1)
-              (put-back-two 0 _ _ _ _ _ _ _ refl (laid .1 ∙ bound .0)),
+              (head .1 .1) _ (s .pre .1 .1 .0 .long) (low-fits s) (high-fits s) (names .0) made _
+              (c .before .before .before .depth-of-loop .ensures) (c .close-line .ensures .1 .0)
+              (c .close-line .ensures .1 .1),
+          c .before .before .before .before .before .before .unbind-pass .ensures ∙ rw (names .1 .0, names .1 .1)
+              (put-back-two 0 _ _ _ _ _ _ _ refl (tree .1 ∙ names .0)),
         ),
       )

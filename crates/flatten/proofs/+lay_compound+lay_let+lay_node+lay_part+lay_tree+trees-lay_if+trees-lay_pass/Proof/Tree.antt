@@ -13,7 +13,9 @@ module _ (t : ℕ) where
   Laid = lts.After-lay-part (lay-tree-claims t) (lay-tree-at t) lay-tree.Post
 
   room : (c : Laid) → c .lay-part .result .p ≤ 2040
-  room c = omega (arith, c .lay-part .ensures .0 .reach, c .before .before .before .before .before .before .before .before .pre .1 .1 .rows)
+  room c =
+      let s = c .before .before .before .before .before .before .before .before in
+      omega (arith, c .lay-part .ensures .0 .reach, s .pre .1 .1 .rows)
 
   pub lay-tree-lay-part-requires : lts.Need-lay-part-requires (lay-tree-claims t) (lay-tree-at t) lay-tree.Post
   lay-tree-lay-part-requires c κs =
