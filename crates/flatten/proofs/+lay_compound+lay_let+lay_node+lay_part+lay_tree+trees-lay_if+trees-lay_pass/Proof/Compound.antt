@@ -1,17 +1,19 @@
 -- What `lay_compound` has to show.
 use Rattle.prelude.specs.Kit.{ℕ, _≤_, _<_, _-_, arith, _≡_, refl, _∙_, sym, getD, needs}
 use Rattle.flatten.proofs.lay_compound.Reads as lay-compound
-use Rattle.flatten.proofs.+lay_compound+lay_let+lay_node+lay_part+lay_tree+trees-lay_if+trees-lay_pass.Lts-lay_compound as lay-compound-lts
+use Rattle.flatten.proofs.+lay_compound+lay_let+lay_node+lay_part+lay_tree+trees-lay_if+trees-lay_pass.Lts-lay_compound as lts
+use Rattle.semantics.specs.Syntax.{Expr}
 use Rattle.flatten_rows.specs.Laid.{meanings}
 use Rattle.flatten_rows.specs.Source.{tree-at, parts-before}
 use Rattle.flatten_rows.specs.Made.{state}
 use Rattle.flatten_rows.proofs.Lists.{Listing, listing-begins, listing-goes}
 use Rattle.flatten_rows.proofs.Members.{atom-laid}
-use Rattle.flatten_rows.proofs.Compounds.{parts-ready, parts-few, part-ready, leaf-ready, leaf-laid, pass-ready, loop-laid}
+use Rattle.flatten_rows.proofs.Compounds.{parts-ready, parts-few, part-ready, leaf-ready, leaf-laid}
+use Rattle.flatten_rows.proofs.Compounds.{pass-ready, loop-laid}
 use Rattle.flatten.proofs.+lay_compound+lay_let+lay_node+lay_part+lay_tree+trees-lay_if+trees-lay_pass.Proof.Common.{lay-compound-at}
 use Rattle.flatten.proofs.+lay_compound+lay_let+lay_node+lay_part+lay_tree+trees-lay_if+trees-lay_pass.Proof.Common.{lay-compound-claims}
 
-abbrev pub lay-compound-Inv-loop : lay-compound-lts.InvT-loop
+abbrev pub lay-compound-Inv-loop : lts.InvT-loop
 lay-compound-Inv-loop kinds operands results places₀ last₀ rows₀ notes₀ depths₀ shape levels count atoms₀ i₀ node₀
     n₀ p₀ places last rows notes depths atoms i node n p =
     Listing operands (λ f. getD results f 0) (tree-at kinds operands levels)
@@ -19,259 +21,210 @@ lay-compound-Inv-loop kinds operands results places₀ last₀ rows₀ notes₀ 
     (state rows₀ notes₀ depths₀ last₀) (state rows notes depths last) n₀ p₀ levels atoms i node n p
     × (places ≡ places₀)
 
-abbrev pub lay-compound-μ-loop : lay-compound-lts.MeasureT-loop
+abbrev pub lay-compound-μ-loop : lts.MeasureT-loop
 lay-compound-μ-loop kinds operands results places₀ last₀ rows₀ notes₀ depths₀ shape levels count atoms₀ i₀ node₀
     n₀ p₀ places last rows notes depths atoms i node n p =
     count - i
 
-pub lay-compound-add-node : (t : ℕ) →
-    lay-compound-lts.Need-add-node (lay-compound-claims t) (lay-compound-at t) lay-compound.Post
-    lay-compound-Inv-loop lay-compound-μ-loop
-lay-compound-add-node t c = omega (arith, c .before .before .before .before .pre .1 .1 .1 .nodes)
+module _ (t : ℕ) where
+  abbrev Start : Type 0
+  Start = lts.Start (lay-compound-claims t) (lay-compound-at t) lay-compound.Post lay-compound-Inv-loop
+      lay-compound-μ-loop
 
-pub lay-compound-loop-holds : (t : ℕ) →
-    lay-compound-lts.Need-loop-holds (lay-compound-claims t) (lay-compound-at t) lay-compound.Post
-    lay-compound-Inv-loop lay-compound-μ-loop
-lay-compound-loop-holds t c = (
-  listing-begins _ (c .before .before .before .before .pre .1 .1 .1 .sized)
-      (search needs),
-  refl,
-)
+  abbrev tree : Start → ℕ → Expr
+  tree s = tree-at (s .args .kinds .now) (s .args .operands .now) (s .args .levels)
 
--- in a turn of the loop
-abbrev Turn : ℕ → Type 0
-Turn t =
-    lay-compound-lts.In-loop (lay-compound-claims t) (lay-compound-at t) lay-compound.Post lay-compound-Inv-loop
-    lay-compound-μ-loop
+  -- how many parts there are
+  abbrev all-parts : Start → ℕ
+  all-parts s = parts-before (s .args .shape .kind) (s .args .shape .low) (s .args .shape .high)
 
--- how many parts there are
-abbrev all-parts : (t : ℕ) → Turn t → ℕ
-all-parts t c =
-    let shape = c .before .before .before .before .before .before .args .shape in
-    parts-before (shape .kind) (shape .low) (shape .high)
+  parts-fit : (s : Start) → all-parts s ≤ 16
+  parts-fit s = parts-few (s .args .shape .kind) (s .args .shape .low) (s .args .shape .high) (s .pre .1 .0)
 
-part-left : (t : ℕ) (c : Turn t) → c .before .loop .i < all-parts t c
-part-left t c = omega (arith, c .loop-test .taken, c .before .before .before .parts-before .ensures)
+  -- in a turn of the loop
+  abbrev Turn : Type 0
+  Turn = lts.In-loop (lay-compound-claims t) (lay-compound-at t) lay-compound.Post lay-compound-Inv-loop
+      lay-compound-μ-loop
 
-parts-fit : (t : ℕ) (c : Turn t) → all-parts t c ≤ 16
-parts-fit t c =
-    let shape = c .before .before .before .before .before .before .args .shape in
-    parts-few (shape .kind) (shape .low) (shape .high) (c .before .before .before .before .before .before .pre .1 .0)
+  abbrev start-of : Turn → Start
+  start-of c = c .before .before .before .before .before .before
 
-pub lay-compound-atom-place-requires : (t : ℕ) →
-    lay-compound-lts.Need-atom-place-requires (lay-compound-claims t) (lay-compound-at t) lay-compound.Post
-    lay-compound-Inv-loop lay-compound-μ-loop
-lay-compound-atom-place-requires t c κs =
-    rw (c .before .before .loop .inv .1) (c .before .before .before .before .before .before .before .pre .1 .1 .0)
+  part-left : (c : Turn) → c .before .loop .i < all-parts (start-of c)
+  part-left c = omega (arith, c .loop-test .taken, c .before .before .before .parts-before .ensures)
 
-pub lay-compound-mul-atoms : (t : ℕ) →
-    lay-compound-lts.Need-mul-atoms (lay-compound-claims t) (lay-compound-at t) lay-compound.Post
-    lay-compound-Inv-loop lay-compound-μ-loop
-lay-compound-mul-atoms t c =
-    let turn = c .before .before .before in
-    omega (arith, part-left t turn, parts-fit t turn)
+  -- in a turn with a part that is no atom, which is laid
+  abbrev turn-of : lts.After-lay-part (lay-compound-claims t) (lay-compound-at t) lay-compound.Post
+      lay-compound-Inv-loop lay-compound-μ-loop → Turn
+  turn-of c = c .before .before .before .before .before .before .before .before .before
 
-pub lay-compound-array-write-atoms : (t : ℕ) →
-    lay-compound-lts.Need-array-write-atoms (lay-compound-claims t) (lay-compound-at t) lay-compound.Post
-    lay-compound-Inv-loop lay-compound-μ-loop
-lay-compound-array-write-atoms t c =
-    let turn = c .before .before .before in
-    omega (arith, part-left t turn, parts-fit t turn, turn .before .loop .inv .0 .long)
+  -- after the loop, when it is known whether the node is a loop's
+  abbrev Listed : Type 0
+  Listed = lts.After-is-loop (lay-compound-claims t) (lay-compound-at t) lay-compound.Post lay-compound-Inv-loop
+      lay-compound-μ-loop
 
-pub lay-compound-add-node-2 : (t : ℕ) →
-    lay-compound-lts.Need-add-node-2 (lay-compound-claims t) (lay-compound-at t) lay-compound.Post
-    lay-compound-Inv-loop lay-compound-μ-loop
-lay-compound-add-node-2 t c =
-    let turn = c .before .before .before in
-    let a = turn .before .before .before .before .before .before .args in
-    let at-pre = turn .before .before .before .before .before .before .pre in
-    let tree = tree-at (a .kinds .now) (a .operands .now) (a .levels) in
-    let room = parts-ready tree (a .spot .node) (a .shape .kind) (a .shape .low) (a .shape .high) (at-pre .1 .1 .1) in
-    omega (arith, part-ready room (turn .before .loop .inv .0) (part-left t turn) .nodes)
+  abbrev listed-from : Listed → Start
+  listed-from c = c .before .before .before .before .before .before .before
 
-pub lay-compound-add-i : (t : ℕ) →
-    lay-compound-lts.Need-add-i (lay-compound-claims t) (lay-compound-at t) lay-compound.Post
-    lay-compound-Inv-loop lay-compound-μ-loop
-lay-compound-add-i t c = omega (arith, c .before .before .before .loop-test .taken)
+  all-listed : (c : Listed) → all-parts (listed-from c) ≤ c .before .before .loop .i
+  all-listed c = omega (arith, c .before .loop-test .left, c .before .before .before .before .parts-before .ensures)
 
-pub lay-compound-loop-less : (t : ℕ) →
-    lay-compound-lts.Need-loop-less (lay-compound-claims t) (lay-compound-at t) lay-compound.Post
-    lay-compound-Inv-loop lay-compound-μ-loop
-lay-compound-loop-less t c = omega (arith, c .before .before .before .loop-test .taken)
+  pub lay-compound-add-node : lts.Need-add-node (lay-compound-claims t) (lay-compound-at t) lay-compound.Post
+      lay-compound-Inv-loop lay-compound-μ-loop
+  lay-compound-add-node c = omega (arith, c .before .before .before .before .pre .1 .1 .1 .nodes)
 
-pub lay-compound-loop-again : (t : ℕ) →
-    lay-compound-lts.Need-loop-again (lay-compound-claims t) (lay-compound-at t) lay-compound.Post
-    lay-compound-Inv-loop lay-compound-μ-loop
-lay-compound-loop-again t c =
-    let turn = c .before .before .before in
-    let a = turn .before .before .before .before .before .before .args in
-    let listing = turn .before .loop .inv .0 in
-    let same = turn .before .loop .inv .1 in (
-      listing-goes listing (part-left t turn) (atom-laid (a .operands .now) _ _ (a .places .now) (a .levels)
-          (turn .before .loop .node) (c .before .atom-place .result)
-          (rw same at (c .before .atom-place .ensures (c .if1 .taken))) (listing .adds .sized)) (parts-fit t turn),
-      same,
-    )
+  pub lay-compound-loop-holds : lts.Need-loop-holds (lay-compound-claims t) (lay-compound-at t) lay-compound.Post
+      lay-compound-Inv-loop lay-compound-μ-loop
+  lay-compound-loop-holds c =
+      let s = c .before .before .before .before in
+      (listing-begins _ (s .pre .1 .1 .1 .sized) (search needs), refl)
 
-pub lay-compound-lay-part-requires : (t : ℕ) →
-    lay-compound-lts.Need-lay-part-requires (lay-compound-claims t) (lay-compound-at t) lay-compound.Post
-    lay-compound-Inv-loop lay-compound-μ-loop
-lay-compound-lay-part-requires t c κs =
-    let turn = c .before .before .before .before .before .before .before .before in
-    let a = turn .before .before .before .before .before .before .args in
-    let at-pre = turn .before .before .before .before .before .before .pre in
-    let tree = tree-at (a .kinds .now) (a .operands .now) (a .levels) in
-    let room = parts-ready tree (a .spot .node) (a .shape .kind) (a .shape .low) (a .shape .high) (at-pre .1 .1 .1) in
-    rw (turn .before .loop .inv .1) (
-      omega (arith, at-pre .0),
-      (at-pre .1 .1 .0, part-ready room (turn .before .loop .inv .0) (part-left t turn)),
-    )
+  pub lay-compound-atom-place-requires : lts.Need-atom-place-requires (lay-compound-claims t) (lay-compound-at t)
+      lay-compound.Post lay-compound-Inv-loop lay-compound-μ-loop
+  lay-compound-atom-place-requires c κs = rw (c .before .before .loop .inv .1) (start-of (c .before) .pre .1 .1 .0)
 
-pub lay-compound-mul-atoms-2 : (t : ℕ) →
-    lay-compound-lts.Need-mul-atoms-2 (lay-compound-claims t) (lay-compound-at t) lay-compound.Post
-    lay-compound-Inv-loop lay-compound-μ-loop
-lay-compound-mul-atoms-2 t c =
-    let turn = c .before .before .before .before .before .before .before .before .before in
-    omega (arith, part-left t turn, parts-fit t turn)
+  pub lay-compound-mul-atoms : lts.Need-mul-atoms (lay-compound-claims t) (lay-compound-at t) lay-compound.Post
+      lay-compound-Inv-loop lay-compound-μ-loop
+  lay-compound-mul-atoms c =
+      let turn = c .before .before .before in
+      omega (arith, part-left turn, parts-fit (start-of turn))
 
-pub lay-compound-array-write-atoms-2 : (t : ℕ) →
-    lay-compound-lts.Need-array-write-atoms-2 (lay-compound-claims t) (lay-compound-at t) lay-compound.Post
-    lay-compound-Inv-loop lay-compound-μ-loop
-lay-compound-array-write-atoms-2 t c =
-    let turn = c .before .before .before .before .before .before .before .before .before in
-    omega (arith, part-left t turn, parts-fit t turn, turn .before .loop .inv .0 .long)
+  pub lay-compound-array-write-atoms : lts.Need-array-write-atoms (lay-compound-claims t) (lay-compound-at t)
+      lay-compound.Post lay-compound-Inv-loop lay-compound-μ-loop
+  lay-compound-array-write-atoms c =
+      let turn = c .before .before .before in
+      omega (arith, part-left turn, parts-fit (start-of turn), turn .before .loop .inv .0 .long)
 
-pub lay-compound-add-i-2 : (t : ℕ) →
-    lay-compound-lts.Need-add-i-2 (lay-compound-claims t) (lay-compound-at t) lay-compound.Post
-    lay-compound-Inv-loop lay-compound-μ-loop
-lay-compound-add-i-2 t c =
-    let turn = c .before .before .before .before .before .before .before .before .before in
-    omega (arith, turn .loop-test .taken)
+  pub lay-compound-add-node-2 : lts.Need-add-node-2 (lay-compound-claims t) (lay-compound-at t) lay-compound.Post
+      lay-compound-Inv-loop lay-compound-μ-loop
+  lay-compound-add-node-2 c =
+      let turn = c .before .before .before in
+      let s = start-of turn in
+      let room = parts-ready (tree s) (s .args .spot .node) (s .args .shape .kind) (s .args .shape .low)
+      (s .args .shape .high) (s .pre .1 .1 .1) in
+      omega (arith, part-ready room (turn .before .loop .inv .0) (part-left turn) .nodes)
 
-pub lay-compound-loop-less-2 : (t : ℕ) →
-    lay-compound-lts.Need-loop-less-2 (lay-compound-claims t) (lay-compound-at t) lay-compound.Post
-    lay-compound-Inv-loop lay-compound-μ-loop
-lay-compound-loop-less-2 t c =
-    let turn = c .before .before .before .before .before .before .before .before .before in
-    omega (arith, turn .loop-test .taken)
+  pub lay-compound-add-i : lts.Need-add-i (lay-compound-claims t) (lay-compound-at t) lay-compound.Post
+      lay-compound-Inv-loop lay-compound-μ-loop
+  lay-compound-add-i c = omega (arith, c .before .before .before .loop-test .taken)
 
-pub lay-compound-loop-again-2 : (t : ℕ) →
-    lay-compound-lts.Need-loop-again-2 (lay-compound-claims t) (lay-compound-at t) lay-compound.Post
-    lay-compound-Inv-loop lay-compound-μ-loop
-lay-compound-loop-again-2 t c =
-    let turn = c .before .before .before .before .before .before .before .before .before in
-    let same = turn .before .loop .inv .1 in (
-      listing-goes (turn .before .loop .inv .0) (part-left t turn) (rw same at (c .lay-part .ensures .0))
-          (parts-fit t turn),
-      c .lay-part .ensures .1 ∙ same,
-    )
+  pub lay-compound-loop-less : lts.Need-loop-less (lay-compound-claims t) (lay-compound-at t) lay-compound.Post
+      lay-compound-Inv-loop lay-compound-μ-loop
+  lay-compound-loop-less c = omega (arith, c .before .before .before .loop-test .taken)
 
-pub lay-compound-lay-pass-requires : (t : ℕ) →
-    lay-compound-lts.Need-lay-pass-requires (lay-compound-claims t) (lay-compound-at t) lay-compound.Post
-    lay-compound-Inv-loop lay-compound-μ-loop
-lay-compound-lay-pass-requires t c κs =
-    let at-if2 = c .before .before .before .before .before .before .if2 in
-    let at-is-loop = c .before .before .before .before .before .before .before .is-loop in
-    let at-loop-test = c .before .before .before .before .before .before .before .before .loop-test in
-    let at-loop = c .before .before .before .before .before .before .before .before .before .loop in
-    let at-parts-before = c .before .before .before .before .before .before .before .before .before .before
-    .before .parts-before in
-    let a = c .before .before .before .before .before .before .before .before .before .before .before .before
-    .before .before .args in
-    let at-pre = c .before .before .before .before .before .before .before .before .before .before .before
-    .before .before .before .pre in
-    let file = a .operands .now in
-    let tree = tree-at (a .kinds .now) (a .operands .now) (a .levels) in
-    let node = a .spot .node in
-    let kind = a .shape .kind in
-    let low = a .shape .low in
-    let high = a .shape .high in
-    rw (at-loop .inv .1) (
-      omega (arith, at-pre .0),
-      (
-        sym (at-is-loop .ensures) ∙ at-if2 .taken,
+  pub lay-compound-loop-again : lts.Need-loop-again (lay-compound-claims t) (lay-compound-at t) lay-compound.Post
+      lay-compound-Inv-loop lay-compound-μ-loop
+  lay-compound-loop-again c =
+      let turn = c .before .before .before in
+      let a = start-of turn .args in
+      let listing = turn .before .loop .inv .0 in
+      let same = turn .before .loop .inv .1 in (
+        listing-goes listing (part-left turn) (atom-laid (a .operands .now) _ _ (a .places .now) (a .levels)
+            (turn .before .loop .node) (c .before .atom-place .result)
+            (rw same at (c .before .atom-place .ensures (c .if1 .taken))) (listing .adds .sized))
+            (parts-fit (start-of turn)),
+        same,
+      )
+
+  pub lay-compound-lay-part-requires : lts.Need-lay-part-requires (lay-compound-claims t) (lay-compound-at t)
+      lay-compound.Post lay-compound-Inv-loop lay-compound-μ-loop
+  lay-compound-lay-part-requires c κs =
+      let turn = c .before .before .before .before .before .before .before .before in
+      let s = start-of turn in
+      let room = parts-ready (tree s) (s .args .spot .node) (s .args .shape .kind) (s .args .shape .low)
+      (s .args .shape .high) (s .pre .1 .1 .1) in
+      rw (turn .before .loop .inv .1) (
+        omega (arith, s .pre .0),
+        (s .pre .1 .1 .0, part-ready room (turn .before .loop .inv .0) (part-left turn)),
+      )
+
+  pub lay-compound-mul-atoms-2 : lts.Need-mul-atoms-2 (lay-compound-claims t) (lay-compound-at t) lay-compound.Post
+      lay-compound-Inv-loop lay-compound-μ-loop
+  lay-compound-mul-atoms-2 c =
+      let turn = turn-of c in
+      omega (arith, part-left turn, parts-fit (start-of turn))
+
+  pub lay-compound-array-write-atoms-2 : lts.Need-array-write-atoms-2 (lay-compound-claims t) (lay-compound-at t)
+      lay-compound.Post lay-compound-Inv-loop lay-compound-μ-loop
+  lay-compound-array-write-atoms-2 c =
+      let turn = turn-of c in
+      omega (arith, part-left turn, parts-fit (start-of turn), turn .before .loop .inv .0 .long)
+
+  pub lay-compound-add-i-2 : lts.Need-add-i-2 (lay-compound-claims t) (lay-compound-at t) lay-compound.Post
+      lay-compound-Inv-loop lay-compound-μ-loop
+  lay-compound-add-i-2 c = omega (arith, turn-of c .loop-test .taken)
+
+  pub lay-compound-loop-less-2 : lts.Need-loop-less-2 (lay-compound-claims t) (lay-compound-at t) lay-compound.Post
+      lay-compound-Inv-loop lay-compound-μ-loop
+  lay-compound-loop-less-2 c = omega (arith, turn-of c .loop-test .taken)
+
+  pub lay-compound-loop-again-2 : lts.Need-loop-again-2 (lay-compound-claims t) (lay-compound-at t) lay-compound.Post
+      lay-compound-Inv-loop lay-compound-μ-loop
+  lay-compound-loop-again-2 c =
+      let turn = turn-of c in
+      let same = turn .before .loop .inv .1 in (
+        listing-goes (turn .before .loop .inv .0) (part-left turn) (rw same at (c .lay-part .ensures .0))
+            (parts-fit (start-of turn)),
+        c .lay-part .ensures .1 ∙ same,
+      )
+
+  pub lay-compound-lay-pass-requires : lts.Need-lay-pass-requires (lay-compound-claims t) (lay-compound-at t)
+      lay-compound.Post lay-compound-Inv-loop lay-compound-μ-loop
+  lay-compound-lay-pass-requires c κs =
+      let told = c .before .before .before .before .before .before in
+      let listed = told .before in
+      let end = listed .before .before .loop .inv in
+      let looping = sym (listed .is-loop .ensures) ∙ told .if2 .taken in
+      let s = listed-from listed in
+      let a = s .args in
+      rw (end .1) (
+        omega (arith, s .pre .0),
         (
-          at-pre .1 .1
-              .0,
-          pass-ready file (a .results .now) tree node kind low high (at-pre .1 .1 .1) (at-loop .inv .0) (omega
-              (arith, at-loop-test .left, at-parts-before .ensures)) (sym (at-is-loop .ensures) ∙ at-if2 .taken),
+          looping,
+          (
+            s .pre .1 .1 .0,
+            pass-ready (a .operands .now) (a .results .now) (tree s) (a .spot .node) (a .shape .kind) (a .shape .low)
+                (a .shape .high) (s .pre .1 .1 .1) (end .0) (all-listed listed) looping,
+          ),
         ),
-      ),
-    )
+      )
 
-pub lay-compound-returns : (t : ℕ) →
-    lay-compound-lts.Need-returns (lay-compound-claims t) (lay-compound-at t) lay-compound.Post
-    lay-compound-Inv-loop lay-compound-μ-loop
-lay-compound-returns t c =
-    let at-if2 = c .before .before .before .before .before .before .before .if2 in
-    let at-is-loop = c .before .before .before .before .before .before .before .before .is-loop in
-    let at-loop-test = c .before .before .before .before .before .before .before .before .before .loop-test in
-    let at-loop = c .before .before .before .before .before .before .before .before .before .before .loop in
-    let at-parts-before = c .before .before .before .before .before .before .before .before .before .before
-    .before .before .parts-before in
-    let a = c .before .before .before .before .before .before .before .before .before .before .before .before
-    .before .before .before .args in
-    let at-pre = c .before .before .before .before .before .before .before .before .before .before .before
-    .before .before .before .before .pre in
-    let file = a .operands .now in
-    let tree = tree-at (a .kinds .now) (a .operands .now) (a .levels) in
-    let node = a .spot .node in
-    let kind = a .shape .kind in
-    let low = a .shape .low in
-    let high = a .shape .high in (
-      rw (c .lay-pass .ensures .0) (loop-laid file (a .results .now) tree node kind low high (at-pre .1 .1 .1)
-          (at-loop .inv .0) (omega (arith, at-loop-test .left, at-parts-before .ensures)) (sym (at-is-loop .ensures)
-          ∙ at-if2 .taken) (rw (at-loop .inv .1) at (c .lay-pass .ensures .1 .0))),
-      c .lay-pass .ensures .1 .1 ∙
-          at-loop .inv .1,
-    )
+  pub lay-compound-returns : lts.Need-returns (lay-compound-claims t) (lay-compound-at t) lay-compound.Post
+      lay-compound-Inv-loop lay-compound-μ-loop
+  lay-compound-returns c =
+      let told = c .before .before .before .before .before .before .before in
+      let listed = told .before in
+      let end = listed .before .before .loop .inv in
+      let s = listed-from listed in
+      let a = s .args in (
+        rw (c .lay-pass .ensures .0) (loop-laid (a .operands .now) (a .results .now) (tree s) (a .spot .node)
+            (a .shape .kind) (a .shape .low) (a .shape .high) (s .pre .1 .1 .1) (end .0) (all-listed listed)
+            (sym (listed .is-loop .ensures) ∙ told .if2 .taken) (rw (end .1) at (c .lay-pass .ensures .1 .0))),
+        c .lay-pass .ensures .1 .1 ∙ end .1,
+      )
 
-pub lay-compound-lay-leaf-requires : (t : ℕ) →
-    lay-compound-lts.Need-lay-leaf-requires (lay-compound-claims t) (lay-compound-at t) lay-compound.Post
-    lay-compound-Inv-loop lay-compound-μ-loop
-lay-compound-lay-leaf-requires t c κs =
-    let at-if2 = c .before .before .before .before .before .if2 in
-    let at-is-loop = c .before .before .before .before .before .before .is-loop in
-    let at-loop-test = c .before .before .before .before .before .before .before .loop-test in
-    let at-loop = c .before .before .before .before .before .before .before .before .loop in
-    let at-parts-before = c .before .before .before .before .before .before .before .before .before .before
-    .parts-before in
-    let a = c .before .before .before .before .before .before .before .before .before .before .before .before
-    .before .args in
-    let at-pre = c .before .before .before .before .before .before .before .before .before .before .before
-    .before .before .pre in
-    let file = a .operands .now in
-    let tree = tree-at (a .kinds .now) (a .operands .now) (a .levels) in
-    let node = a .spot .node in
-    let kind = a .shape .kind in
-    let low = a .shape .low in
-    let high = a .shape .high in
-    leaf-ready file (a .results .now) tree node kind low high (at-pre .1 .1 .1) (at-loop .inv .0) (omega
-    (arith, at-loop-test .left, at-parts-before .ensures)) (sym (at-is-loop .ensures) ∙ at-if2 .left) (at-pre .1 .0)
+  pub lay-compound-lay-leaf-requires : lts.Need-lay-leaf-requires (lay-compound-claims t) (lay-compound-at t)
+      lay-compound.Post lay-compound-Inv-loop lay-compound-μ-loop
+  lay-compound-lay-leaf-requires c κs =
+      let told = c .before .before .before .before .before in
+      let listed = told .before in
+      let s = listed-from listed in
+      let a = s .args in
+      leaf-ready (a .operands .now) (a .results .now) (tree s) (a .spot .node) (a .shape .kind) (a .shape .low)
+      (a .shape .high) (s .pre .1 .1 .1) (listed .before .before .loop .inv .0) (all-listed listed)
+      (sym (listed .is-loop .ensures) ∙ told .if2 .left) (s .pre .1 .0)
 
-pub lay-compound-returns-2 : (t : ℕ) →
-    lay-compound-lts.Need-returns-2 (lay-compound-claims t) (lay-compound-at t) lay-compound.Post
-    lay-compound-Inv-loop lay-compound-μ-loop
-lay-compound-returns-2 t c =
-    let at-if2 = c .before .before .before .before .before .before .if2 in
-    let at-is-loop = c .before .before .before .before .before .before .before .is-loop in
-    let at-loop-test = c .before .before .before .before .before .before .before .before .loop-test in
-    let at-loop = c .before .before .before .before .before .before .before .before .before .loop in
-    let at-parts-before = c .before .before .before .before .before .before .before .before .before .before
-    .before .parts-before in
-    let a = c .before .before .before .before .before .before .before .before .before .before .before .before
-    .before .before .args in
-    let at-pre = c .before .before .before .before .before .before .before .before .before .before .before
-    .before .before .before .pre in
-    let file = a .operands .now in
-    let tree = tree-at (a .kinds .now) (a .operands .now) (a .levels) in
-    let node = a .spot .node in
-    let kind = a .shape .kind in
-    let low = a .shape .low in
-    let high = a .shape .high in (
-      rw (c .lay-leaf .ensures .0 .0) (leaf-laid file (a .results .now) tree node kind low high (at-pre .1 .1
-          .1) (at-loop .inv .0) (omega (arith, at-loop-test .left, at-parts-before .ensures)) (sym (at-is-loop
-          .ensures) ∙ at-if2 .left) (at-pre .1 .0) (rw (c .lay-leaf .ensures .0 .0) at (c .lay-leaf .ensures .0 .1))
-          (c .lay-leaf .ensures .1 .0) (c .lay-leaf .ensures .1 .1)),
-      at-loop .inv .1,
-    )
+  pub lay-compound-returns-2 : lts.Need-returns-2 (lay-compound-claims t) (lay-compound-at t) lay-compound.Post
+      lay-compound-Inv-loop lay-compound-μ-loop
+  lay-compound-returns-2 c =
+      let told = c .before .before .before .before .before .before in
+      let listed = told .before in
+      let end = listed .before .before .loop .inv in
+      let leaf = c .lay-leaf .ensures in
+      let s = listed-from listed in
+      let a = s .args in (
+        rw (leaf .0 .0) (leaf-laid (a .operands .now) (a .results .now) (tree s) (a .spot .node) (a .shape .kind)
+            (a .shape .low) (a .shape .high) (s .pre .1 .1 .1) (end .0) (all-listed listed)
+            (sym (listed .is-loop .ensures) ∙ told .if2 .left) (s .pre .1 .0) (rw (leaf .0 .0) at (leaf .0 .1))
+            (leaf .1 .0) (leaf .1 .1)),
+        end .1,
+      )

@@ -1,165 +1,116 @@
 -- What `lay_pass` has to show.
-use Rattle.prelude.specs.Kit.{ℕ, arith, refl, _∙_, ap, length, getD}
+use Rattle.prelude.specs.Kit.{ℕ, _+_, _<_, arith, refl, _∙_, ap, length}
 use Rattle.flatten.proofs.trees.lay_pass.Reads as lay-pass
-use Rattle.flatten.proofs.+lay_compound+lay_let+lay_node+lay_part+lay_tree+trees-lay_if+trees-lay_pass.Lts-trees-lay_pass as lay-pass-lts
+use Rattle.flatten.proofs.+lay_compound+lay_let+lay_node+lay_part+lay_tree+trees-lay_if+trees-lay_pass.Lts-trees-lay_pass as lts
 use Rattle.script_read.proofs.Tables.{put-back-two}
+use Rattle.plain_rows.specs.Plain.{loop-of, loop-size}
 use Rattle.flatten_rows.proofs.Passes.{given-bound-twice, pass-place, pass-tree, pass-end, pass-deep, pass-laid}
 use Rattle.flatten.proofs.+lay_compound+lay_let+lay_node+lay_part+lay_tree+trees-lay_if+trees-lay_pass.Proof.Common.{lay-pass-at}
 use Rattle.flatten.proofs.+lay_compound+lay_let+lay_node+lay_part+lay_tree+trees-lay_if+trees-lay_pass.Proof.Common.{lay-pass-claims}
 
-pub lay-pass-open-loop-requires : (t : ℕ) →
-    lay-pass-lts.Need-open-loop-requires (lay-pass-claims t) (lay-pass-at t) lay-pass.Post
-lay-pass-open-loop-requires t c κs =
-    let a = c .before .before .before .before .before .before .args in
-    let at-pre = c .before .before .before .before .before .before .pre in
-    let file = a .operands .now in
-    let results : ℕ → ℕ = λ f. getD (a .results .now) f 0 in
-    let kind = a .shape .kind in
-    let low = a .shape .low in
-    let high = a .shape .high in
-    pass-place file results kind low high (a .atoms .now) (a .places .now) (at-pre .1 .0) (at-pre .1 .1 .1)
+module _ (t : ℕ) where
+  abbrev Start : Type 0
+  Start = lts.Start (lay-pass-claims t) (lay-pass-at t) lay-pass.Post
 
-pub lay-pass-bind-pass-requires : (t : ℕ) →
-    lay-pass-lts.Need-bind-pass-requires (lay-pass-claims t) (lay-pass-at t) lay-pass.Post
-lay-pass-bind-pass-requires t c κs =
-    let a = c .before .before .before .before .before .before .before .before .args in
-    let at-pre = c .before .before .before .before .before .before .before .before .pre in
-    let file = a .operands .now in
-    let results : ℕ → ℕ = λ f. getD (a .results .now) f 0 in
-    let kind = a .shape .kind in
-    let low = a .shape .low in
-    let high = a .shape .high in (
-      pass-place file results kind low high (a .atoms .now) (a .places .now) (at-pre .1 .0) (at-pre .1 .1 .1)
-          .0,
-      at-pre .1 .1 .0 .long,
-    )
+  module _ (s : Start) where
+    place : (s .args .spot .n + loop-size (loop-of (s .args .shape .kind)) < 256) × (s .args .spot .p < 2040)
+    place =
+        let a = s .args in
+        pass-place (a .operands .now) _ (a .shape .kind) (a .shape .low) (a .shape .high) (a .atoms .now)
+        (a .places .now) (s .pre .1 .0) (s .pre .1 .1 .1)
 
-pub lay-pass-lay-tree-requires : (t : ℕ) →
-    lay-pass-lts.Need-lay-tree-requires (lay-pass-claims t) (lay-pass-at t) lay-pass.Post
-lay-pass-lay-tree-requires t c κs =
-    let at-bind-pass = c .before .before .before .before .before .bind-pass in
-    let at-open-loop = c .before .before .before .before .before .before .before .open-loop in
-    let a = c .before .before .before .before .before .before .before .before .before .before .before .before
-    .before .before .args in
-    let at-good = c .before .before .before .before .before .before .before .before .before .before .before
-    .before .before .before .good in
-    let at-pre = c .before .before .before .before .before .before .before .before .before .before .before
-    .before .before .before .pre in
-    let file = a .operands .now in
-    let results : ℕ → ℕ = λ f. getD (a .results .now) f 0 in
-    let kind = a .shape .kind in
-    let low = a .shape .low in
-    let high = a .shape .high in
-    rw (at-open-loop .ensures .0 .0) (
-      omega (arith, at-pre .0),
-      (
-        given-bound-twice _ _ _ _ _ (at-pre .1 .1 .0)
-            (at-bind-pass .ensures .0),
-        pass-tree file results kind low high (a .atoms .now) (a .places .now) (at-pre
-            .1 .0) (at-pre .1 .1 .1) (at-open-loop .ensures .1 .0) (rw (at-open-loop .ensures .0 .0) at (at-open-loop
-            .ensures .0 .1)) (at-open-loop .ensures .1 .1) _ (at-pre .1 .1 .0 .long) (at-good .1 .1 .1 .1 .1 .1 .1 .1
-            .0 .1 .1 .1 .0 .1) (at-good .1 .1 .1 .1 .1 .1 .1 .1 .0 .1 .1 .1 .1 .0 .1) (at-bind-pass .ensures .0),
-      ),
-    )
+    low-fits : s .args .shape .low < 256
+    low-fits = s .good .1 .1 .1 .1 .1 .1 .1 .1 .0 .1 .1 .1 .0 .1
 
-pub lay-pass-unbind-pass-requires : (t : ℕ) →
-    lay-pass-lts.Need-unbind-pass-requires (lay-pass-claims t) (lay-pass-at t) lay-pass.Post
-lay-pass-unbind-pass-requires t c κs =
-    let at-bind-pass = c .before .before .before .before .before .before .before .bind-pass in
-    let at-pre = c .before .before .before .before .before .before .before .before .before .before .before
-    .before .before .before .before .before .pre in
-    ap length (c .before .lay-tree .ensures .1) ∙ given-bound-twice _ _ _ _ _ (at-pre .1 .1 .0) (at-bind-pass
-    .ensures .0) .long
+    high-fits : s .args .shape .high < 256
+    high-fits = s .good .1 .1 .1 .1 .1 .1 .1 .1 .0 .1 .1 .1 .1 .0 .1
 
-pub lay-pass-depth-of-loop-requires : (t : ℕ) →
-    lay-pass-lts.Need-depth-of-loop-requires (lay-pass-claims t) (lay-pass-at t) lay-pass.Post
-lay-pass-depth-of-loop-requires t c κs =
-    let at-bind-pass = c .before .before .before .before .before .before .before .before .before .before .bind-pass in
-    let at-open-loop = c .before .before .before .before .before .before .before .before .before .before
-    .before .before .open-loop in
-    let a = c .before .before .before .before .before .before .before .before .before .before .before .before
-    .before .before .before .before .before .before .before .args in
-    let at-good = c .before .before .before .before .before .before .before .before .before .before .before
-    .before .before .before .before .before .before .before .before .good in
-    let at-pre = c .before .before .before .before .before .before .before .before .before .before .before
-    .before .before .before .before .before .before .before .before .pre in
-    let file = a .operands .now in
-    let results : ℕ → ℕ = λ f. getD (a .results .now) f 0 in
-    let kind = a .shape .kind in
-    let low = a .shape .low in
-    let high = a .shape .high in
-    pass-deep file results kind low high (a .atoms .now) (a .places .now) (at-pre .1 .0) (at-pre .1 .1 .1)
-    (at-open-loop .ensures .1 .0) (rw (at-open-loop .ensures .0 .0) at (at-open-loop .ensures .0 .1))
-    (at-open-loop .ensures .1 .1) _ (at-pre .1 .1 .0 .long) (at-good .1 .1 .1 .1 .1 .1 .1 .1 .0 .1 .1 .1 .0
-    .1) (at-good .1 .1 .1 .1 .1 .1 .1 .1 .0 .1 .1 .1 .1 .0 .1) (at-bind-pass .ensures .0) (rw (at-open-loop
-    .ensures .0 .0) at (c .before .before .before .before .lay-tree .ensures .0))
+  -- the loop's row is laid and its names are bound
+  abbrev Bound : Type 0
+  Bound = lts.After-bind-pass (lay-pass-claims t) (lay-pass-at t) lay-pass.Post
 
-pub lay-pass-close-line-requires : (t : ℕ) →
-    lay-pass-lts.Need-close-line-requires (lay-pass-claims t) (lay-pass-at t) lay-pass.Post
-lay-pass-close-line-requires t c κs =
-    let at-lay-tree = c .before .before .before .before .before .before .before .lay-tree in
-    let at-bind-pass = c .before .before .before .before .before .before .before .before .before .before
-    .before .before .before .bind-pass in
-    let at-open-loop = c .before .before .before .before .before .before .before .before .before .before
-    .before .before .before .before .before .open-loop in
-    let a = c .before .before .before .before .before .before .before .before .before .before .before .before
-    .before .before .before .before .before .before .before .before .before .before .args in
-    let at-good = c .before .before .before .before .before .before .before .before .before .before .before
-    .before .before .before .before .before .before .before .before .before .before .before .good in
-    let at-pre = c .before .before .before .before .before .before .before .before .before .before .before
-    .before .before .before .before .before .before .before .before .before .before .before .pre in
-    let file = a .operands .now in
-    let results : ℕ → ℕ = λ f. getD (a .results .now) f 0 in
-    let kind = a .shape .kind in
-    let low = a .shape .low in
-    let high = a .shape .high in
-    let place = pass-place file results kind low high (a .atoms .now) (a .places .now) (at-pre .1 .0) (at-pre
-    .1 .1 .1) in (
-      omega (arith, place .0),
-      (
-        omega (arith, place .1),
-        pass-end file results kind low high (a
-            .atoms .now) (a .places .now) (at-pre .1 .0) (at-pre .1 .1 .1) (at-open-loop .ensures .1 .0) (rw
-            (at-open-loop .ensures .0 .0) at (at-open-loop .ensures .0 .1)) (at-open-loop .ensures .1 .1) _ (at-pre .1
-            .1 .0 .long) (at-good .1 .1 .1 .1 .1 .1 .1 .1 .0 .1 .1 .1 .0 .1) (at-good .1 .1 .1 .1 .1 .1 .1 .1 .0 .1 .1
-            .1 .1 .0 .1) (at-bind-pass .ensures .0) (rw (at-open-loop .ensures .0 .0) at (at-lay-tree .ensures .0)),
-      ),
-    )
+  abbrev start-of : Bound → Start
+  start-of c = c .before .before .before .before .before .before .before .before .before
 
-pub lay-pass-returns : (t : ℕ) →
-    lay-pass-lts.Need-returns (lay-pass-claims t) (lay-pass-at t) lay-pass.Post
-lay-pass-returns t c =
-    let at-unbind-pass = c .before .before .before .before .before .before .unbind-pass in
-    let at-lay-tree = c .before .before .before .before .before .before .before .before .lay-tree in
-    let at-bind-pass = c .before .before .before .before .before .before .before .before .before .before
-    .before .before .before .before .bind-pass in
-    let at-open-loop = c .before .before .before .before .before .before .before .before .before .before
-    .before .before .before .before .before .before .open-loop in
-    let a = c .before .before .before .before .before .before .before .before .before .before .before .before
-    .before .before .before .before .before .before .before .before .before .before .before .args in
-    let at-good = c .before .before .before .before .before .before .before .before .before .before .before
-    .before .before .before .before .before .before .before .before .before .before .before .before .good in
-    let at-pre = c .before .before .before .before .before .before .before .before .before .before .before
-    .before .before .before .before .before .before .before .before .before .before .before .before .pre in
-    let file = a .operands .now in
-    let results : ℕ → ℕ = λ f. getD (a .results .now) f 0 in
-    let kind = a .shape .kind in
-    let low = a .shape .low in
-    let high = a .shape .high in
-    let made = rw (at-open-loop .ensures .0 .0) at (at-lay-tree .ensures .0) in (
-      c .close-line .ensures .0 ∙
-          rw (made .next, made .count, made .reach),
-      (
-        pass-laid file results kind low high (a .atoms .now) (a
-            .places .now) (at-pre .1 .0) (at-pre .1 .1 .1) (at-open-loop .ensures .1 .0) (rw (at-open-loop .ensures .0
-            .0) at (at-open-loop .ensures .0 .1)) (at-open-loop .ensures .1 .1) _ (at-pre .1 .1 .0 .long) (at-good .1
-            .1 .1 .1 .1 .1 .1 .1 .0 .1 .1 .1 .0 .1) (at-good .1 .1 .1 .1 .1 .1 .1 .1 .0 .1 .1 .1 .1 .0 .1)
-            (at-bind-pass .ensures .0) made _ (c .before .before .before .depth-of-loop .ensures) (c .close-line
-            .ensures .1 .0) (c .close-line .ensures .1 .1),
-        at-unbind-pass .ensures ∙ rw (
-          at-bind-pass .ensures .1 .0,
-          at-bind-pass .ensures .1 .1,
-        ) (put-back-two 0 _ _ _ _ _ _ _ refl (at-lay-tree .ensures .1 ∙ at-bind-pass
-            .ensures .0)),
-      ),
-    )
+  pub lay-pass-open-loop-requires : lts.Need-open-loop-requires (lay-pass-claims t) (lay-pass-at t) lay-pass.Post
+  lay-pass-open-loop-requires c κs = place (c .before .before .before .before .before .before)
+
+  pub lay-pass-bind-pass-requires : lts.Need-bind-pass-requires (lay-pass-claims t) (lay-pass-at t) lay-pass.Post
+  lay-pass-bind-pass-requires c κs =
+      let s = c .before .before .before .before .before .before .before .before in
+      (place s .0, s .pre .1 .1 .0 .long)
+
+  pub lay-pass-lay-tree-requires : lts.Need-lay-tree-requires (lay-pass-claims t) (lay-pass-at t) lay-pass.Post
+  lay-pass-lay-tree-requires c κs =
+      let bound = c .before .before .before .before .before .bind-pass .ensures in
+      let head = c .before .before .before .before .before .before .before .open-loop .ensures in
+      let s = start-of (c .before .before .before .before .before) in
+      let a = s .args in
+      rw (head .0 .0) (
+        omega (arith, s .pre .0),
+        (
+          given-bound-twice _ _ _ _ _ (s .pre .1 .1 .0) (bound .0),
+          pass-tree (a .operands .now) _ (a .shape .kind) (a .shape .low) (a .shape .high) (a .atoms .now)
+              (a .places .now) (s .pre .1 .0) (s .pre .1 .1 .1) (head .1 .0) (rw (head .0 .0) at (head .0 .1))
+              (head .1 .1) _ (s .pre .1 .1 .0 .long) (low-fits s) (high-fits s) (bound .0),
+        ),
+      )
+
+  pub lay-pass-unbind-pass-requires :
+      lts.Need-unbind-pass-requires (lay-pass-claims t) (lay-pass-at t) lay-pass.Post
+  lay-pass-unbind-pass-requires c κs =
+      let bound = c .before .before .before .before .before .before .before in
+      ap length (c .before .lay-tree .ensures .1)
+      ∙ given-bound-twice _ _ _ _ _ (start-of bound .pre .1 .1 .0) (bound .bind-pass .ensures .0) .long
+
+  pub lay-pass-depth-of-loop-requires :
+      lts.Need-depth-of-loop-requires (lay-pass-claims t) (lay-pass-at t) lay-pass.Post
+  lay-pass-depth-of-loop-requires c κs =
+      let laid = c .before .before .before .before in
+      let bound = laid .before .before .before .before .before .before in
+      let head = bound .before .before .open-loop .ensures in
+      let s = start-of bound in
+      let a = s .args in
+      pass-deep (a .operands .now) _ (a .shape .kind) (a .shape .low) (a .shape .high) (a .atoms .now)
+      (a .places .now) (s .pre .1 .0) (s .pre .1 .1 .1) (head .1 .0) (rw (head .0 .0) at (head .0 .1)) (head .1 .1) _
+      (s .pre .1 .1 .0 .long) (low-fits s) (high-fits s) (bound .bind-pass .ensures .0)
+      (rw (head .0 .0) at (laid .lay-tree .ensures .0))
+
+  pub lay-pass-close-line-requires : lts.Need-close-line-requires (lay-pass-claims t) (lay-pass-at t) lay-pass.Post
+  lay-pass-close-line-requires c κs =
+      let laid = c .before .before .before .before .before .before .before in
+      let bound = laid .before .before .before .before .before .before in
+      let head = bound .before .before .open-loop .ensures in
+      let s = start-of bound in
+      let a = s .args in (
+        omega (arith, place s .0),
+        (
+          omega (arith, place s .1),
+          pass-end (a .operands .now) _ (a .shape .kind) (a .shape .low) (a .shape .high) (a .atoms .now)
+              (a .places .now) (s .pre .1 .0) (s .pre .1 .1 .1) (head .1 .0) (rw (head .0 .0) at (head .0 .1))
+              (head .1 .1) _ (s .pre .1 .1 .0 .long) (low-fits s) (high-fits s) (bound .bind-pass .ensures .0)
+              (rw (head .0 .0) at (laid .lay-tree .ensures .0)),
+        ),
+      )
+
+  pub lay-pass-returns : lts.Need-returns (lay-pass-claims t) (lay-pass-at t) lay-pass.Post
+  lay-pass-returns c =
+      let laid = c .before .before .before .before .before .before .before .before in
+      let bound = laid .before .before .before .before .before .before in
+      let tree = laid .lay-tree .ensures in
+      let names = bound .bind-pass .ensures in
+      let head = bound .before .before .open-loop .ensures in
+      let s = start-of bound in
+      let a = s .args in
+      let made = rw (head .0 .0) at (tree .0) in (
+        c .close-line .ensures .0 ∙ rw (made .next, made .count, made .reach),
+        (
+          pass-laid (a .operands .now) _ (a .shape .kind) (a .shape .low) (a .shape .high) (a .atoms .now)
+              (a .places .now) (s .pre .1 .0) (s .pre .1 .1 .1) (head .1 .0) (rw (head .0 .0) at (head .0 .1))
+              (head .1 .1) _ (s .pre .1 .1 .0 .long) (low-fits s) (high-fits s) (names .0) made _
+              (c .before .before .before .depth-of-loop .ensures) (c .close-line .ensures .1 .0)
+              (c .close-line .ensures .1 .1),
+          c .before .before .before .before .before .before .unbind-pass .ensures ∙ rw (names .1 .0, names .1 .1)
+              (put-back-two 0 _ _ _ _ _ _ _ refl (tree .1 ∙ names .0)),
+        ),
+      )
