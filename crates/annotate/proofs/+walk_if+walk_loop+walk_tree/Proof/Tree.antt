@@ -1,11 +1,14 @@
--- What `walk_tree` has to show.
+-- What `walk_tree` has to show: of its end line, and of each kind of line in its loop.
 use Rattle.annotate.proofs.walk_tree.Reads as walk-tree
-use Rattle.annotate.proofs.+walk_if+walk_loop+walk_tree.Lts-walk_tree as walk-tree-lts
-use Rattle.prelude.specs.Kit.{ℕ, _<_, _-_, arith, _≡_, _∙_, sym, ap, length, length-set, needs}
+use Rattle.annotate.proofs.+walk_if+walk_loop+walk_tree.Lts-walk_tree as lts
+use Rattle.prelude.specs.Kit.{ℕ, _<_, _-_, arith, _≡_, _∙_, sym, ap, length, length-set, needs, In}
+use borrow.Fn.Kinds.{Out}
+use Rattle.semantics.specs.Kinds.{Borrowing}
+use Rattle.semantics.specs.Annotate.{NameDepths}
 use Rattle.semantics.specs.Borrow.{borrows}
-use Rattle.plain_rows.specs.Plain.{plain}
+use Rattle.plain_rows.specs.Plain.{Plain, plain}
 use Rattle.plain_rows.specs.Parts.{depth-in}
-use Rattle.plain_rows.specs.Walk.{tree-walk}
+use Rattle.plain_rows.specs.Walk.{Point, tree-walk}
 use Rattle.annotate_rows.proofs.Rows.{lower}
 use Rattle.annotate.specs.Walks.{is-loop}
 use Rattle.annotate.proofs.Lines.{leaf-line, binary-line, if-line, loop-line, loop-is, written-loop}
@@ -13,384 +16,293 @@ use Rattle.annotate.proofs.Trees.{Going, leaf-is, end-done, none-done, 
 use Rattle.annotate.proofs.Trees.{going-ends, tree-done}
 use Rattle.annotate.proofs.+walk_if+walk_loop+walk_tree.Proof.Common.{walk-tree-at, walk-tree-claims}
 
-abbrev pub walk-tree-Inv-loop : walk-tree-lts.InvT-loop
-walk-tree-Inv-loop ks₀ os₀ operands rows notes cur₀ depths table e levels at₀ place w s₀ v q₀ left₀ ks os cur at s q
-    left =
+abbrev pub Inv-loop : lts.InvT-loop
+Inv-loop ks₀ os₀ operands rows notes cur₀ depths table e levels at₀ place w s₀ v q₀ left₀ ks os cur at s q left =
     (length s ≡ 256) × Going (plain operands rows notes) (borrows table) (depth-in depths)
     (tree-walk (plain operands rows notes) (borrows table) (depth-in depths) (levels - 1))
     s₀ cur₀ ks₀ os₀ at₀ left₀ q₀ s cur ks os at left q
 
-abbrev pub walk-tree-μ-loop : walk-tree-lts.MeasureT-loop
-walk-tree-μ-loop ks₀ os₀ operands rows notes cur₀ depths table e levels at₀ place w s₀ v q₀ left₀ ks os cur at s q
-    left =
-    left
+abbrev pub μ-loop : lts.MeasureT-loop
+μ-loop ks₀ os₀ operands rows notes cur₀ depths table e levels at₀ place w s₀ v q₀ left₀ ks os cur at s q left = left
 
-pub walk-tree-put-end-requires : (t : ℕ) →
-    walk-tree-lts.Need-put-end-requires (walk-tree-claims t) (walk-tree-at t) walk-tree.Post
-    walk-tree-Inv-loop walk-tree-μ-loop
-walk-tree-put-end-requires t c κs =
-    let at-pre = c .before .before .before .before .before .before .before .before .pre in
-    at-pre .1 .2
+module _ (t : ℕ) where
+  -- a point of the code, or what is to be shown at one
+  abbrev Here : (lts.Claims → In 9 lts.ps → Out 9 lts.ps lts.r → lts.InvT-loop → lts.MeasureT-loop → Type 0) →
+      Type 0
+  Here P = P (walk-tree-claims t) (walk-tree-at t) walk-tree.Post Inv-loop μ-loop
 
-pub walk-tree-take-use-requires : (t : ℕ) →
-    walk-tree-lts.Need-take-use-requires (walk-tree-claims t) (walk-tree-at t) walk-tree.Post
-    walk-tree-Inv-loop walk-tree-μ-loop
-walk-tree-take-use-requires t c κs =
-    let at-pre = c .before .before .before .before .before .before .before .before .before .before .before
-    .before .before .before .pre in
-    (omega arith, (at-pre .1 .1, search needs))
+  -- ---- what the call is about
 
-pub walk-tree-returns : (t : ℕ) →
-    walk-tree-lts.Need-returns (walk-tree-claims t) (walk-tree-at t) walk-tree.Post walk-tree-Inv-loop
-    walk-tree-μ-loop
-walk-tree-returns t c =
-    let at-put-end = c .before .before .before .before .before .before .before .before .put-end in
-    let at-atom-of = c .before .before .before .before .before .before .before .before .before .before .before
-    .before .before .atom-of in
-    let at-row-at = c .before .before .before .before .before .before .before .before .before .before .before
-    .before .before .before .row-at in
-    let a = c .before .before .before .before .before .before .before .before .before .before .before .before
-    .before .before .before .before .before .args in
-    let code = plain (a .operands .now) (a .rows .now) (a .notes .now) in
-    let borrowing = borrows (a .table .now) in
-    let depths = depth-in (a .depths .now) in
-    none-done code borrowing depths (a .levels) (a .e) (c .if1 .taken) (end-done code borrowing depths (a .e)
-    (at-atom-of .result) (at-row-at .result) (at-row-at .ensures) (at-atom-of .ensures) (at-put-end .ensures)
-    (c .before .before .take-use .ensures))
+  abbrev code : Here lts.Start → Plain
+  code c = plain (c .args .operands .now) (c .args .rows .now) (c .args .notes .now)
 
-pub walk-tree-loop-holds : (t : ℕ) →
-    walk-tree-lts.Need-loop-holds (walk-tree-claims t) (walk-tree-at t) walk-tree.Post walk-tree-Inv-loop
-    walk-tree-μ-loop
-walk-tree-loop-holds t c =
-    let at-put-end = c .before .before .before .before .before .before .before .before .put-end in
-    let a = c .before .before .before .before .before .before .before .before .before .before .before .before
-    .before .before .before .before .before .args in
-    let at-good = c .before .before .before .before .before .before .before .before .before .before .before
-    .before .before .before .before .before .before .good in
-    let at-pre = c .before .before .before .before .before .before .before .before .before .before .before
-    .before .before .before .before .before .before .pre in
-    let code = plain (a .operands .now) (a .rows .now) (a .notes .now) in
-    let borrowing = borrows (a .table .now) in
-    let depths = depth-in (a .depths .now) in
-    let walk = tree-walk code borrowing depths (a .levels - 1) in (
-      let h : length (a .after) ≡ 256 = search (needs, at-good .1 .1 .1 .1 .1 .1 .1 .1 .1 .1 .0) in simp
-          length-set h,
-      going-none code borrowing depths walk (c .before .before .take-use .ensures .long) (lower (at-put-end
-          .ensures) (at-pre .1 .2)) (omega arith) (omega arith),
-    )
+  abbrev borrowing : Here lts.Start → Borrowing
+  borrowing c = borrows (c .args .table .now)
 
-pub walk-tree-returns-2 : (t : ℕ) →
-    walk-tree-lts.Need-returns-2 (walk-tree-claims t) (walk-tree-at t) walk-tree.Post walk-tree-Inv-loop
-    walk-tree-μ-loop
-walk-tree-returns-2 t c =
-    let at-take-use = c .before .before .before .before .before .before .take-use in
-    let at-put-end = c .before .before .before .before .before .before .before .before .before .before .before
-    .before .put-end in
-    let at-atom-of = c .before .before .before .before .before .before .before .before .before .before .before
-    .before .before .before .before .before .before .atom-of in
-    let at-row-at = c .before .before .before .before .before .before .before .before .before .before .before
-    .before .before .before .before .before .before .before .row-at in
-    let a = c .before .before .before .before .before .before .before .before .before .before .before .before
-    .before .before .before .before .before .before .before .before .before .args in
-    let code = plain (a .operands .now) (a .rows .now) (a .notes .now) in
-    let borrowing = borrows (a .table .now) in
-    let depths = depth-in (a .depths .now) in
-    let walk = tree-walk code borrowing depths (a .levels - 1) in
-    tree-done code borrowing depths (a .levels) (a .e) (c .before .before .before .before .if1 .left) (end-done code
-    borrowing depths (a .e) (at-atom-of .result) (at-row-at .result) (at-row-at .ensures) (at-atom-of .ensures)
-    (at-put-end .ensures) (at-take-use .ensures)) (c .before .before .before .loop .inv .1) (going-stops code
-    borrowing depths walk (c .before .before .before .loop .inv .1) (c .before .note-at .result) (c .before .note-at
-    .ensures) (c .if2 .taken))
+  abbrev depths : Here lts.Start → NameDepths
+  depths c = depth-in (c .args .depths .now)
 
-pub walk-tree-line-at-requires : (t : ℕ) →
-    walk-tree-lts.Need-line-at-requires (walk-tree-claims t) (walk-tree-at t) walk-tree.Post
-    walk-tree-Inv-loop walk-tree-μ-loop
-walk-tree-line-at-requires t c κs =
-    omega (arith, c .before .before .before .loop .inv .1 .near, c .before .note-at .ensures)
+  abbrev inner : Here lts.Start → ℕ → Point → Point
+  inner c = tree-walk (code c) (borrowing c) (depths c) (c .args .levels - 1)
 
-pub walk-tree-put-release-requires : (t : ℕ) →
-    walk-tree-lts.Need-put-release-requires (walk-tree-claims t) (walk-tree-at t) walk-tree.Post
-    walk-tree-Inv-loop walk-tree-μ-loop
-walk-tree-put-release-requires t c κs =
-    let at-loop = c .before .before .before .before .before .before .before .before .before .before .before .loop in
-    at-loop .inv .1 .room
+  -- ---- the way back: the end line, then the loop, then a line
 
-pub walk-tree-walk-if-requires : (t : ℕ) →
-    walk-tree-lts.Need-walk-if-requires (walk-tree-claims t) (walk-tree-at t) walk-tree.Post
-    walk-tree-Inv-loop walk-tree-μ-loop
-walk-tree-walk-if-requires t c κs =
-    let at-put-release = c .before .before .before .before .before .before .before .put-release in
-    let at-if2 = c .before .before .before .before .before .before .before .before .before .before .before
-    .before .before .before .before .before .if2 in
-    let at-loop = c .before .before .before .before .before .before .before .before .before .before .before
-    .before .before .before .before .before .before .before .before .loop in
-    let at-if1 = c .before .before .before .before .before .before .before .before .before .before .before
-    .before .before .before .before .before .before .before .before .before .if1 in
-    let at-pre = c .before .before .before .before .before .before .before .before .before .before .before
-    .before .before .before .before .before .before .before .before .before .before .before .before .before
-    .before .before .before .before .before .before .before .before .before .before .before .before .before .pre in (
-      omega (arith, at-pre .0, at-if1 .left),
-      (
-        omega (arith, at-loop .inv .1 .near, at-if2 .left),
-        omega
-            (arith, at-loop .inv .1 .near),
-        at-loop .inv .1 .long,
-        lower (at-put-release .ensures) (at-loop .inv .1 .room),
-      ),
-    )
+  abbrev put : Here lts.After-struct-known → Here lts.After-put-end
+  put c = c .before .before .before .before .before .before .before
 
-pub walk-tree-loop-again : (t : ℕ) →
-    walk-tree-lts.Need-loop-again (walk-tree-claims t) (walk-tree-at t) walk-tree.Post walk-tree-Inv-loop
-    walk-tree-μ-loop
-walk-tree-loop-again t c =
-    let at-put-release = c .before .before .before .before .before .before .before .before .before .before
-    .before .put-release in
-    let at-known-told = c .before .before .before .before .before .before .before .before .before .before
-    .before .before .before .before .before .before .known-told in
-    let at-l = c .before .before .before .before .before .before .before .before .before .before .before
-    .before .before .before .before .before .before .l in
-    let at-line-at = c .before .before .before .before .before .before .before .before .before .before .before
-    .before .before .before .before .before .before .before .before .line-at in
-    let at-if2 = c .before .before .before .before .before .before .before .before .before .before .before
-    .before .before .before .before .before .before .before .before .before .if2 in
-    let at-note-at = c .before .before .before .before .before .before .before .before .before .before .before
-    .before .before .before .before .before .before .before .before .before .before .note-at in
-    let at-loop-test = c .before .before .before .before .before .before .before .before .before .before
-    .before .before .before .before .before .before .before .before .before .before .before .before .loop-test in
-    let at-loop = c .before .before .before .before .before .before .before .before .before .before .before
-    .before .before .before .before .before .before .before .before .before .before .before .before .loop in
-    let a = c .before .before .before .before .before .before .before .before .before .before .before .before
-    .before .before .before .before .before .before .before .before .before .before .before .before .before
-    .before .before .before .before .before .before .before .before .before .before .before .before .before
-    .before .before .before .args in
-    let code = plain (a .operands .now) (a .rows .now) (a .notes .now) in
-    let borrowing = borrows (a .table .now) in
-    let depths = depth-in (a .depths .now) in
-    let walk = tree-walk code borrowing depths (a .levels - 1) in (
+  abbrev read : Here lts.After-s → Here lts.After-atom-of
+  read c = c .before .before .before .before
+
+  abbrev start : Here lts.After-struct-known → Here lts.Start
+  start c = read (put c .before) .before .before .before .before
+
+  abbrev looped : Here lts.After-line-at → Here lts.At-loop
+  looped c = c .before .before .before .before
+
+  abbrev begun : Here lts.After-line-at → Here lts.Start
+  begun c = start (looped c .before .before)
+
+  -- a line that ends before row q, which is at most 4096, begins before it
+  row-near : (c : Here lts.After-line-at) → c .before .before .note-at .result < 4096
+  row-near c = omega (arith, looped c .loop .inv .1 .near, c .before .if2 .left)
+
+  -- ---- its end line
+
+  pub put-end-requires : Here lts.Need-put-end-requires
+  put-end-requires c κs = read c .before .before .before .before .pre .1 .2
+
+  pub take-use-requires : Here lts.Need-take-use-requires
+  take-use-requires c κs = (
+    omega arith,
+    (
+      read (c .before .before .before .before .before .before) .before .before
+          .before .before .pre .1 .1,
       search needs,
-      going-more code borrowing depths walk (at-loop .inv .1) (at-note-at .result) _ (at-loop-test .taken)
-          (at-note-at .ensures) (at-if2 .left) (sym (at-l .given .1) ∙ at-line-at .ensures)
-          (if-line code borrowing depths walk (at-note-at .result) (at-loop .q) _ _
-          (let h : at-l .given .0 .0 < 256 = search (needs, at-known-told .given) in
-          omega (arith, h, at-loop .inv .0))
-          (at-put-release .ensures) (c .before .before .before .walk-if .ensures)),
-    )
+    ),
+  )
 
-pub walk-tree-written-line-requires : (t : ℕ) →
-    walk-tree-lts.Need-written-line-requires (walk-tree-claims t) (walk-tree-at t) walk-tree.Post
-    walk-tree-Inv-loop walk-tree-μ-loop
-walk-tree-written-line-requires t c κs =
-    let at-if2 = c .before .before .before .before .before .before .if2 in
-    let at-loop = c .before .before .before .before .before .before .before .before .before .loop in
-    omega (arith, at-loop .inv .1 .near, at-if2 .left)
+  pub returns : Here lts.Need-returns
+  returns c =
+      let b = start (c .before) in
+      let end = put (c .before) in
+      let atom = read (end .before) in
+      let row = atom .before .row-at in
+      none-done (code b) (borrowing b) (depths b) (b .args .levels) (b .args .e) (c .if1 .taken)
+      (end-done (code b) (borrowing b) (depths b) (b .args .e) (atom .atom-of .result) (row .result) (row .ensures)
+      (atom .atom-of .ensures) (end .put-end .ensures) (c .before .before .take-use .ensures))
 
-pub walk-tree-close-loop-requires : (t : ℕ) →
-    walk-tree-lts.Need-close-loop-requires (walk-tree-claims t) (walk-tree-at t) walk-tree.Post
-    walk-tree-Inv-loop walk-tree-μ-loop
-walk-tree-close-loop-requires t c κs =
-    let at-if2 = c .before .before .before .before .before .before .before .before .before .before .before .if2 in
-    let at-loop = c .before .before .before .before .before .before .before .before .before .before .before
-    .before .before .before .loop in
-    (omega (arith, at-loop .inv .1 .near, at-if2 .left), at-loop .inv .1 .room)
+  pub loop-holds : Here lts.Need-loop-holds
+  loop-holds c =
+      let b = start (c .before) in (
+        let h : length (b .args .after) ≡ 256 = search (needs, b .good .1 .1 .1 .1 .1 .1 .1 .1 .1 .1 .0) in
+            simp length-set h,
+        going-none (code b) (borrowing b) (depths b) (inner b) (c .before .before .take-use .ensures .long)
+            (lower (put (c .before) .put-end .ensures) (b .pre .1 .2)) (omega arith) (omega arith),
+      )
 
-pub walk-tree-walk-loop-requires : (t : ℕ) →
-    walk-tree-lts.Need-walk-loop-requires (walk-tree-claims t) (walk-tree-at t) walk-tree.Post
-    walk-tree-Inv-loop walk-tree-μ-loop
-walk-tree-walk-loop-requires t c κs =
-    let at-close-loop = c .before .before .before .before .before .before .before .close-loop in
-    let at-written-line = c .before .before .before .before .before .before .before .before .before .before
-    .before .before .written-line in
-    let at-match = c .before .before .before .before .before .before .before .before .before .before .before
-    .before .before .before .before .before .before .match in
-    let at-line-at = c .before .before .before .before .before .before .before .before .before .before .before
-    .before .before .before .before .before .before .before .line-at in
-    let at-if2 = c .before .before .before .before .before .before .before .before .before .before .before
-    .before .before .before .before .before .before .before .before .if2 in
-    let at-loop = c .before .before .before .before .before .before .before .before .before .before .before
-    .before .before .before .before .before .before .before .before .before .before .before .loop in
-    let at-if1 = c .before .before .before .before .before .before .before .before .before .before .before
-    .before .before .before .before .before .before .before .before .before .before .before .before .if1 in
-    let at-pre = c .before .before .before .before .before .before .before .before .before .before .before
-    .before .before .before .before .before .before .before .before .before .before .before .before .before
-    .before .before .before .before .before .before .before .before .before .before .before .before .before
-    .before .before .before .pre in (
-      omega (arith, at-pre .0, at-if1 .left),
-      (
-        ap is-loop (at-written-line .ensures)
-            ∙ written-loop _ _ _ _ (at-line-at .result) (loop-is (at-line-at .result) (at-match .keys2)),
-        omega (arith, at-loop .inv .1 .near, at-if2 .left),
-        omega (arith, at-loop .inv .1 .near),
-        at-loop .inv .1 .long,
-        lower (at-close-loop .ensures) (at-loop .inv .1 .room),
-      ),
-    )
+  pub returns-2 : Here lts.Need-returns-2
+  returns-2 c =
+      let known = c .before .before .before .before .before in
+      let b = start known in
+      let end = put known in
+      let atom = read (end .before) in
+      let row = atom .before .row-at in
+      let going = c .before .before .before .loop .inv .1 in
+      tree-done (code b) (borrowing b) (depths b) (b .args .levels) (b .args .e) (c .before .before .before .before
+      .if1 .left)
+      (end-done (code b) (borrowing b) (depths b) (b .args .e) (atom .atom-of .result) (row .result) (row .ensures)
+      (atom .atom-of .ensures) (end .put-end .ensures) (known .before .take-use .ensures)) going
+      (going-stops (code b) (borrowing b) (depths b) (inner b) going (c .before .note-at .result)
+      (c .before .note-at .ensures) (c .if2 .taken))
 
-pub walk-tree-sub-left-2 : (t : ℕ) →
-    walk-tree-lts.Need-sub-left-2 (walk-tree-claims t) (walk-tree-at t) walk-tree.Post
-    walk-tree-Inv-loop walk-tree-μ-loop
-walk-tree-sub-left-2 t c =
-    let at-loop-test = c .before .before .before .before .before .before .before .before .before .before
-    .before .before .before .before .before .before .before .before .before .before .before .before .before
-    .before .before .loop-test in
-    omega (arith, at-loop-test .taken)
+  pub returns-3 : Here lts.Need-returns-3
+  returns-3 c =
+      let known = c .before .before .before in
+      let b = start known in
+      let end = put known in
+      let atom = read (end .before) in
+      let row = atom .before .row-at in
+      let going = c .before .loop .inv .1 in
+      tree-done (code b) (borrowing b) (depths b) (b .args .levels) (b .args .e) (c .before .before .if1 .left)
+      (end-done (code b) (borrowing b) (depths b) (b .args .e) (atom .atom-of .result) (row .result) (row .ensures)
+      (atom .atom-of .ensures) (end .put-end .ensures) (known .before .take-use .ensures)) going
+      (going-ends (code b) (borrowing b) (depths b) (inner b) going (c .loop-test .left))
 
-pub walk-tree-loop-less-2 : (t : ℕ) →
-    walk-tree-lts.Need-loop-less-2 (walk-tree-claims t) (walk-tree-at t) walk-tree.Post
-    walk-tree-Inv-loop walk-tree-μ-loop
-walk-tree-loop-less-2 t c =
-    let at-loop-test = c .before .before .before .before .before .before .before .before .before .before
-    .before .before .before .before .before .before .before .before .before .before .before .before .before
-    .before .before .loop-test in
-    omega (arith, at-loop-test .taken)
+  pub line-at-requires : Here lts.Need-line-at-requires
+  line-at-requires c κs = omega (arith, c .before .before .before .loop .inv .1 .near, c .before .note-at .ensures)
 
-pub walk-tree-loop-again-2 : (t : ℕ) →
-    walk-tree-lts.Need-loop-again-2 (walk-tree-claims t) (walk-tree-at t) walk-tree.Post
-    walk-tree-Inv-loop walk-tree-μ-loop
-walk-tree-loop-again-2 t c =
-    let at-close-loop = c .before .before .before .before .before .before .before .before .before .before
-    .before .close-loop in
-    let at-written-line = c .before .before .before .before .before .before .before .before .before .before
-    .before .before .before .before .before .before .written-line in
-    let at-match = c .before .before .before .before .before .before .before .before .before .before .before
-    .before .before .before .before .before .before .before .before .before .before .match in
-    let at-line-at = c .before .before .before .before .before .before .before .before .before .before .before
-    .before .before .before .before .before .before .before .before .before .before .before .line-at in
-    let at-if2 = c .before .before .before .before .before .before .before .before .before .before .before
-    .before .before .before .before .before .before .before .before .before .before .before .before .if2 in
-    let at-note-at = c .before .before .before .before .before .before .before .before .before .before .before
-    .before .before .before .before .before .before .before .before .before .before .before .before .before
-    .note-at in
-    let at-loop-test = c .before .before .before .before .before .before .before .before .before .before
-    .before .before .before .before .before .before .before .before .before .before .before .before .before
-    .before .before .loop-test in
-    let at-loop = c .before .before .before .before .before .before .before .before .before .before .before
-    .before .before .before .before .before .before .before .before .before .before .before .before .before
-    .before .before .loop in
-    let a = c .before .before .before .before .before .before .before .before .before .before .before .before
-    .before .before .before .before .before .before .before .before .before .before .before .before .before
-    .before .before .before .before .before .before .before .before .before .before .before .before .before
-    .before .before .before .before .before .before .args in
-    let code = plain (a .operands .now) (a .rows .now) (a .notes .now) in
-    let borrowing = borrows (a .table .now) in
-    let depths = depth-in (a .depths .now) in
-    let walk = tree-walk code borrowing depths (a .levels - 1) in (
-      search needs,
-      going-more code borrowing depths walk (at-loop .inv .1) (at-note-at .result) (at-line-at .result)
-          (at-loop-test .taken) (at-note-at .ensures) (at-if2 .left) (at-line-at .ensures)
-          (loop-line code borrowing depths walk (at-note-at .result) (at-loop .q) (at-line-at .result)
-          (at-written-line .result) (loop-is (at-line-at .result) (at-match .keys2)) (at-written-line .ensures)
-          (at-close-loop .ensures) (c .before .before .before .walk-loop .ensures)),
-    )
+  -- ---- an if
 
-pub walk-tree-put-binary-requires : (t : ℕ) →
-    walk-tree-lts.Need-put-binary-requires (walk-tree-claims t) (walk-tree-at t) walk-tree.Post
-    walk-tree-Inv-loop walk-tree-μ-loop
-walk-tree-put-binary-requires t c κs =
-    let at-loop = c .before .before .before .before .before .before .before .before .before .before .before .loop in
-    at-loop .inv .1 .room
+  abbrev if-line-of : Here lts.After-s3 → Here lts.After-line-at
+  if-line-of c = c .before .before .before .before .before .before .before
 
-pub walk-tree-take-pair-requires : (t : ℕ) →
-    walk-tree-lts.Need-take-pair-requires (walk-tree-claims t) (walk-tree-at t) walk-tree.Post
-    walk-tree-Inv-loop walk-tree-μ-loop
-walk-tree-take-pair-requires t c κs =
-    let at-if2 = c .before .before .before .before .before .before .before .before .before .before .before
-    .before .before .if2 in
-    let at-loop = c .before .before .before .before .before .before .before .before .before .before .before
-    .before .before .before .before .before .loop in
-    (omega (arith, at-loop .inv .1 .near, at-if2 .left), at-loop .inv .1 .long)
+  abbrev released : Here lts.After-walk-if-arg4 → Here lts.After-put-release
+  released c = c .before .before .before .before .before .before .before
 
-pub walk-tree-loop-again-3 : (t : ℕ) →
-    walk-tree-lts.Need-loop-again-3 (walk-tree-claims t) (walk-tree-at t) walk-tree.Post walk-tree-Inv-loop
-    walk-tree-μ-loop
-walk-tree-loop-again-3 t c =
-    let at-put-binary = c .before .before .before .before .before .before .before .put-binary in
-    let at-l2 = c .before .before .before .before .before .before .before .before .before .before .before
-    .before .before .l2 in
-    let at-line-at = c .before .before .before .before .before .before .before .before .before .before .before
-    .before .before .before .before .line-at in
-    let at-if2 = c .before .before .before .before .before .before .before .before .before .before .before
-    .before .before .before .before .before .if2 in
-    let at-note-at = c .before .before .before .before .before .before .before .before .before .before .before
-    .before .before .before .before .before .before .note-at in
-    let at-loop-test = c .before .before .before .before .before .before .before .before .before .before
-    .before .before .before .before .before .before .before .before .loop-test in
-    let at-loop = c .before .before .before .before .before .before .before .before .before .before .before
-    .before .before .before .before .before .before .before .before .loop in
-    let a = c .before .before .before .before .before .before .before .before .before .before .before .before
-    .before .before .before .before .before .before .before .before .before .before .before .before .before
-    .before .before .before .before .before .before .before .before .before .before .before .before .args in
-    let code = plain (a .operands .now) (a .rows .now) (a .notes .now) in
-    let borrowing = borrows (a .table .now) in
-    let depths = depth-in (a .depths .now) in
-    let walk = tree-walk code borrowing depths (a .levels - 1) in (
-      simp length-set (at-loop .inv .0),
-      going-more code borrowing depths walk (at-loop .inv .1) (at-note-at .result) _
-          (at-loop-test .taken) (at-note-at .ensures) (at-if2 .left) (sym (at-l2 .given .1) ∙ at-line-at .ensures)
-          (binary-line code borrowing depths walk (at-note-at .result) (at-loop .q) _ _ _ _
-          (at-put-binary .ensures borrowing)
-          (c .before .before .take-pair .ensures (at-loop .s) (at-loop .inv .0))),
-    )
+  name-small : (c : Here lts.After-known-told) → c .before .l .given .0 .0 < 256
+  name-small c = search (needs, c .known-told .given)
 
-pub walk-tree-walk-leaf-requires : (t : ℕ) →
-    walk-tree-lts.Need-walk-leaf-requires (walk-tree-claims t) (walk-tree-at t) walk-tree.Post
-    walk-tree-Inv-loop walk-tree-μ-loop
-walk-tree-walk-leaf-requires t c κs =
-    let at-line-at = c .before .before .before .before .before .line-at in
-    let at-loop = c .before .before .before .before .before .before .before .before .before .loop in (
-      leaf-is (at-line-at .result) (c .before .before .before .before .match .keys4),
-      omega (
-        arith,
-        at-loop
-            .inv .1 .near,
-      ),
-      at-loop .inv .1 .long,
-      at-loop .inv .1 .room,
-    )
+  pub put-release-requires : Here lts.Need-put-release-requires
+  put-release-requires c κs = looped (if-line-of c) .loop .inv .1 .room
 
-pub walk-tree-loop-again-4 : (t : ℕ) →
-    walk-tree-lts.Need-loop-again-4 (walk-tree-claims t) (walk-tree-at t) walk-tree.Post walk-tree-Inv-loop
-    walk-tree-μ-loop
-walk-tree-loop-again-4 t c =
-    let at-match = c .before .before .before .before .before .before .before .before .match in
-    let at-line-at = c .before .before .before .before .before .before .before .before .before .line-at in
-    let at-if2 = c .before .before .before .before .before .before .before .before .before .before .if2 in
-    let at-note-at = c .before .before .before .before .before .before .before .before .before .before .before
-    .note-at in
-    let at-loop-test = c .before .before .before .before .before .before .before .before .before .before
-    .before .before .loop-test in
-    let at-loop = c .before .before .before .before .before .before .before .before .before .before .before
-    .before .before .loop in
-    let a = c .before .before .before .before .before .before .before .before .before .before .before .before
-    .before .before .before .before .before .before .before .before .before .before .before .before .before
-    .before .before .before .before .before .before .args in
-    let code = plain (a .operands .now) (a .rows .now) (a .notes .now) in
-    let borrowing = borrows (a .table .now) in
-    let depths = depth-in (a .depths .now) in
-    let walk = tree-walk code borrowing depths (a .levels - 1) in (
-      search needs,
-      going-more code borrowing depths walk (at-loop .inv .1) (at-note-at .result) (at-line-at .result)
-          (at-loop-test .taken) (at-note-at .ensures) (at-if2 .left) (at-line-at .ensures)
-          (leaf-line code borrowing depths walk (at-note-at .result) (at-loop .q) (at-line-at .result)
-          (leaf-is (at-line-at .result) (at-match .keys4)) (c .before .before .before .walk-leaf .ensures)),
-    )
+  pub walk-if-requires : Here lts.Need-walk-if-requires
+  walk-if-requires c κs =
+      let line = if-line-of (released c .before) in
+      let going = looped line .loop .inv .1 in (
+        omega (arith, begun line .pre .0, looped line .before .if1 .left),
+        (
+          omega (arith, row-near line),
+          omega (arith, going .near),
+          going .long,
+          lower (released c .put-release .ensures) (going .room),
+        ),
+      )
 
-pub walk-tree-returns-3 : (t : ℕ) →
-    walk-tree-lts.Need-returns-3 (walk-tree-claims t) (walk-tree-at t) walk-tree.Post walk-tree-Inv-loop
-    walk-tree-μ-loop
-walk-tree-returns-3 t c =
-    let at-put-end = c .before .before .before .before .before .before .before .before .before .before .put-end in
-    let at-atom-of = c .before .before .before .before .before .before .before .before .before .before .before
-    .before .before .before .before .atom-of in
-    let at-row-at = c .before .before .before .before .before .before .before .before .before .before .before
-    .before .before .before .before .before .row-at in
-    let a = c .before .before .before .before .before .before .before .before .before .before .before .before
-    .before .before .before .before .before .before .before .args in
-    let code = plain (a .operands .now) (a .rows .now) (a .notes .now) in
-    let borrowing = borrows (a .table .now) in
-    let depths = depth-in (a .depths .now) in
-    let walk = tree-walk code borrowing depths (a .levels - 1) in
-    tree-done code borrowing depths (a .levels) (a .e) (c .before .before .if1 .left)
-    (end-done code borrowing depths (a .e) (at-atom-of .result) (at-row-at .result) (at-row-at .ensures)
-    (at-atom-of .ensures) (at-put-end .ensures) (c .before .before .before .before .take-use .ensures))
-    (c .before .loop .inv .1)
-    (going-ends code borrowing depths walk (c .before .loop .inv .1) (c .loop-test .left))
+  pub loop-again : Here lts.Need-loop-again
+  loop-again c = (
+    search needs,
+    let release = released (c .before .before .before .before) in
+        let told = release .before .before .before .before .before in
+        let l = told .before .l .given in
+        let line = if-line-of (release .before) in
+        let note = line .before .before .note-at in
+        let loop = looped line .loop in
+        let b = begun line in
+        going-more (code b) (borrowing b) (depths b) (inner b) (loop .inv .1) (note .result) _
+        (line .before .before .before .loop-test .taken) (note .ensures) (line .before .if2 .left) (sym (l .1)
+        ∙ line .line-at .ensures)
+        (if-line (code b) (borrowing b) (depths b) (inner b) (note .result) (loop .q) _ _
+        (omega (arith, name-small told, loop .inv .0))
+        (release .put-release .ensures) (c .before .before .before .walk-if .ensures)),
+  )
+
+  -- ---- a loop
+
+  abbrev loop-line-of : Here lts.After-s4 → Here lts.After-line-at
+  loop-line-of c = c .before .before .before .before .before
+
+  abbrev written : Here lts.After-s5 → Here lts.After-written-line
+  written c = c .before .before .before .before
+
+  abbrev closed : Here lts.After-walk-loop-arg4 → Here lts.After-close-loop
+  closed c = c .before .before .before .before .before .before .before
+
+  abbrev closed-line : Here lts.After-walk-loop → Here lts.After-line-at
+  closed-line c = loop-line-of (written (closed (c .before) .before) .before)
+
+  pub written-line-requires : Here lts.Need-written-line-requires
+  written-line-requires c κs = omega (arith, row-near (loop-line-of c))
+
+  pub close-loop-requires : Here lts.Need-close-loop-requires
+  close-loop-requires c κs =
+      let line = loop-line-of (written c .before) in
+      (omega (arith, row-near line), looped line .loop .inv .1 .room)
+
+  pub walk-loop-requires : Here lts.Need-walk-loop-requires
+  walk-loop-requires c κs =
+      let close = closed c in
+      let as-written = written (close .before) in
+      let line = loop-line-of (as-written .before) in
+      let l = line .line-at .result in
+      let going = looped line .loop .inv .1 in (
+        omega (arith, begun line .pre .0, looped line .before .if1 .left),
+        (
+          ap is-loop (as-written .written-line .ensures)
+              ∙ written-loop _ _ _ _ l (loop-is l (as-written .before .before .before .before .before .match .keys2)),
+          omega (arith, row-near line),
+          omega (arith, going .near),
+          going .long,
+          lower (close .close-loop .ensures) (going .room),
+        ),
+      )
+
+  pub sub-left-2 : Here lts.Need-sub-left-2
+  sub-left-2 c = omega (arith, closed-line (c .before .before .before) .before .before .before .loop-test .taken)
+
+  pub loop-less-2 : Here lts.Need-loop-less-2
+  loop-less-2 c = omega (arith, closed-line (c .before .before .before) .before .before .before .loop-test .taken)
+
+  pub loop-again-2 : Here lts.Need-loop-again-2
+  loop-again-2 c = (
+    search needs,
+    let close = closed (c .before .before .before .before) in
+        let as-written = written (close .before) in
+        let line = loop-line-of (as-written .before) in
+        let l = line .line-at in
+        let note = line .before .before .note-at in
+        let loop = looped line .loop in
+        let b = begun line in
+        going-more (code b) (borrowing b) (depths b) (inner b) (loop .inv .1) (note .result) (l .result)
+        (line .before .before .before .loop-test .taken) (note .ensures) (line .before .if2 .left) (l .ensures)
+        (loop-line (code b) (borrowing b) (depths b) (inner b) (note .result) (loop .q) (l .result)
+        (as-written .written-line .result) (loop-is (l .result) (as-written .before .before .before .before
+        .before .match .keys2))
+        (as-written .written-line .ensures) (close .close-loop .ensures) (c .before .before .before .walk-loop
+        .ensures)),
+  )
+
+  -- ---- a binary line
+
+  abbrev binary-line-of : Here lts.After-s6 → Here lts.After-line-at
+  binary-line-of c = c .before .before .before .before .before .before .before
+
+  abbrev binary-put : Here lts.After-take-pair-arg → Here lts.After-put-binary
+  binary-put c = c .before .before .before .before
+
+  pub put-binary-requires : Here lts.Need-put-binary-requires
+  put-binary-requires c κs = looped (binary-line-of c) .loop .inv .1 .room
+
+  pub take-pair-requires : Here lts.Need-take-pair-requires
+  take-pair-requires c κs =
+      let line = binary-line-of (binary-put c .before) in
+      (omega (arith, row-near line), looped line .loop .inv .1 .long)
+
+  pub loop-again-3 : Here lts.Need-loop-again-3
+  loop-again-3 c =
+      let binary = binary-put (c .before .before .before) in
+      let line = binary-line-of (binary .before) in
+      let note = line .before .before .note-at in
+      let loop = looped line .loop in
+      let b = begun line in (
+        simp length-set (loop .inv .0),
+        going-more (code b) (borrowing b) (depths b) (inner b) (loop .inv .1) (note .result) _
+            (line .before .before .before .loop-test .taken) (note .ensures) (line .before .if2 .left)
+            (sym (binary .before .before .before .before .before .before .l2 .given .1) ∙ line .line-at .ensures)
+            (binary-line (code b) (borrowing b) (depths b) (inner b) (note .result) (loop .q) _ _ _ _
+            (binary .put-binary .ensures (borrowing b)) (c .before .before .take-pair .ensures (loop .s) (loop .inv
+            .0))),
+      )
+
+  -- ---- another line without trees
+
+  abbrev leaf-line-of : Here lts.After-walk-leaf-arg4 → Here lts.After-line-at
+  leaf-line-of c = c .before .before .before .before .before
+
+  pub walk-leaf-requires : Here lts.Need-walk-leaf-requires
+  walk-leaf-requires c κs =
+      let line = leaf-line-of c in
+      let going = looped line .loop .inv .1 in (
+        leaf-is (line .line-at .result) (c .before .before .before .before .match .keys4),
+        omega (
+          arith,
+          going
+              .near,
+        ),
+        going .long,
+        going .room,
+      )
+
+  pub loop-again-4 : Here lts.Need-loop-again-4
+  loop-again-4 c = (
+    search needs,
+    let line = leaf-line-of (c .before .before .before .before) in
+        let l = line .line-at in
+        let note = line .before .before .note-at in
+        let loop = looped line .loop in
+        let b = begun line in
+        going-more (code b) (borrowing b) (depths b) (inner b) (loop .inv .1) (note .result) (l .result)
+        (line .before .before .before .loop-test .taken) (note .ensures) (line .before .if2 .left) (l .ensures)
+        (leaf-line (code b) (borrowing b) (depths b) (inner b) (note .result) (loop .q) (l .result)
+        (leaf-is (l .result) (c .before .before .before .before .before .before .before .before .match .keys4))
+        (c .before .before .before .walk-leaf .ensures)),
+  )
