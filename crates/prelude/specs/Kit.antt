@@ -25,7 +25,7 @@ pub use borrow.Author.Count.{below-more, below-none}
 pub use borrow.Author.Needs.{needs}
 pub use borrow.Author.Tests.{ne-eqb, lt-ltb, eq-eqb, le-ltb, eqb-true, ltb-true, leb-true, le-leb, not-true, not-false}
 pub use borrow.Author.Tests.{lt-leb, ltb-false, leb-false, eqb-false}
-pub use borrow.Fn.Kinds.{In}
+pub use borrow.Fn.Kinds.{In, Out}
 pub use borrow.Fn.PlainCycle.{and, falls, is, Measures}
 pub use denote.Enum.Declared.{tagOf}
 pub use mir.Facts.{toZ-ofZ, toZ-pos}

@@ -1,6 +1,5 @@
 -- What `walk_if` has to show. A call has the room that the call before it had, less what that call wrote.
-use Rattle.prelude.specs.Kit.{ℕ, arith, needs, In}
-use borrow.Fn.Kinds.{Out}
+use Rattle.prelude.specs.Kit.{ℕ, arith, needs, In, Out}
 use Rattle.annotate.proofs.walk_if.Reads as walk-if
 use Rattle.annotate.proofs.+walk_if+walk_loop+walk_tree.Lts-walk_if as lts
 use Rattle.semantics.specs.Borrow.{borrows}

@@ -1,8 +1,7 @@
 -- What `walk_tree` has to show: of its end line, and of each kind of line in its loop.
 use Rattle.annotate.proofs.walk_tree.Reads as walk-tree
 use Rattle.annotate.proofs.+walk_if+walk_loop+walk_tree.Lts-walk_tree as lts
-use Rattle.prelude.specs.Kit.{ℕ, _<_, _-_, arith, _≡_, _∙_, sym, ap, length, length-set, needs, In}
-use borrow.Fn.Kinds.{Out}
+use Rattle.prelude.specs.Kit.{ℕ, _<_, _-_, arith, _≡_, _∙_, sym, ap, length, length-set, needs, In, Out}
 use Rattle.semantics.specs.Kinds.{Borrowing}
 use Rattle.semantics.specs.Annotate.{NameDepths}
 use Rattle.semantics.specs.Borrow.{borrows}
