@@ -7,10 +7,9 @@ use Rattle.semantics.specs.Kinds.{Leaf, operation, call, literal, index, length
 use Rattle.semantics.specs.Kinds.{Loop, mapping, filtering, reducing, rewriting, loop-kind}
 use Rattle.semantics.specs.Code as C
 use Rattle.semantics.specs.Code.{Row, atom-row, rows, line-rows}
-use Rattle.machine_code.specs.Reading.{atom-at, is-atom, two-rows, line-of, line-at, end-in}
+use Rattle.machine_code.specs.Reading.{name-at, atom-at, is-atom, two-rows, line-of, line-at}
 use Rattle.kinds.specs.declared.Atom.{Atom}
 use Rattle.kinds.specs.declared.Atom.the-variants.{Number, Name}
-use Rattle.machine_spec.specs.Machine.{Code}
 
 -- a row stands at a position
 pub record Here (kinds : List ℕ) (operands : List ℤ) (at : ℕ) (r : Row) : Type 0 where
@@ -35,6 +34,11 @@ module _ (kinds : List ℕ) (operands : List ℤ) where
   at-second at (x ∷ xs) ys h =
       let z : at + 1 + length xs ≡ at + suc (length xs) = omega arith in
       subst (λ (p : ℕ). At kinds operands p ys) z (at-second (at + 1) xs ys (h .1))
+
+  -- they end within the code
+  pub at-end : (at : ℕ) (rs : List Row) → at ≤ length kinds → At kinds operands at rs → at + length rs ≤ length kinds
+  at-end at [] l h = omega (arith, l)
+  at-end at (r ∷ rs) l h = omega (arith, at-end (at + 1) rs (omega (arith, h .0 .within)) (h .1))
 
 -- rows within the first n of the code stand there, and what stands there stands in the code
 module _ (kinds : List ℕ) (operands : List ℤ) (n : ℕ) where
@@ -64,9 +68,10 @@ module _ (kinds : List ℕ) (operands : List ℤ) (n : ℕ) where
         at-whole (at + 1) rs (h .1),
       )
 
--- the table has the position after each tree that stands in the code
-abbrev pub Jumps : Code → Type 0
-Jumps c = (t : C.Tree) (p : ℕ) → At (c .kinds) (c .operands) p (rows t) → end-in (c .table) p ≡ p + length (rows t)
+-- the rows from a position on have these names
+abbrev pub NamesAt : List ℤ → ℕ → List ℕ → Type 0
+NamesAt operands at [] = Unit {0}
+NamesAt operands at (x ∷ xs) = (name-at operands at ≡ x) × NamesAt operands (at + 1) xs
 
 -- an atom as the code has it
 abbrev pub coded : C.Atom → Atom
@@ -161,3 +166,12 @@ tree-within kinds operands at t h = go (rows t) (rows-some t) h
     go (r ∷ []) l a = absurd (omega arith)
     go (r ∷ q ∷ rs) l a =
         rw (lt-ltb (at + 1) (length kinds) (a .1 .0 .within), lt-ltb (at + 1) (length operands) (a .1 .0 .held)) refl
+
+-- a tree begins within the code
+pub tree-there : (kinds : List ℕ) (operands : List ℤ) (at : ℕ) (t : C.Tree) → At kinds operands at (rows t) →
+    at < length kinds
+tree-there kinds operands at t h = go (rows t) (rows-some t) h
+  where
+    go : (rs : List Row) → 2 ≤ length rs → At kinds operands at rs → at < length kinds
+    go [] l a = absurd (omega arith)
+    go (r ∷ rs) l a = a .0 .within
