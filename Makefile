@@ -14,7 +14,7 @@ PROVED_LIBRARY := target/staticlib/libengine.a
 LIBRARY ?= $(PROVED_LIBRARY)
 ENGINE := build/libruschoep.a
 LINKED := $(ENGINE) build/stamp
-VECTORS ?= $(wildcard $(foreach name,translate check deliver swap,crates/*/data/$(name)*.txt))
+VECTORS ?= $(wildcard $(foreach name,translate check deliver swap code,crates/*/data/$(name)*.txt))
 SANITIZERS := -O1 -g -fsanitize=address,undefined -fno-sanitize-recover=all
 PEDANTIC := -Wall -Wextra -Wpedantic -Wconversion -Wsign-conversion -Werror
 SCRIPT ?= build/forecourt.script
@@ -22,12 +22,12 @@ SCRIPT ?= build/forecourt.script
 SOURCES := crates.txt $(shell find crates -name '*.rt' -o -name '*.antt')
 ENGINE_HEADERS := $(wildcard include/*.h)
 HOST_HEADERS := $(ENGINE_HEADERS) $(wildcard host/*.h)
-SHARED_FILES := day lock message names place text totals
+SHARED_FILES := day lock message names place text totals tuned_file
 CONTROLLER := $(patsubst %,host/%.c,controller diagnosis display input options plot plot_totals report report_json \
 	show site store_file totals_file $(SHARED_FILES))
 SCRIPT_TOOL := $(patsubst %,host/%.c,script_tool script_text script_file script_say script_check script_explain \
 	script_depths script_bindings script_warn script_need script_format script_code play play_place play_day meaning \
-	value levels code node_kinds $(SHARED_FILES))
+	value levels code code_form code_scope code_holds tune node_kinds $(SHARED_FILES))
 RUST_SOURCES := $(shell find tests/rust -name '*.rs')
 
 # ---- what a goal needs is looked for before any work is done ----
@@ -221,30 +221,40 @@ build/meaning_test build/sanitized/meaning_test: $(MEANING_TEST) tests/host/made
 	| build build/sanitized
 	$(CC) $(CFLAGS) $(EXTRA) -Iinclude -o $@ $(MEANING_TEST) $(ENGINE)
 
+# lent code beside the engine: the code of made scripts, and changes of it
+CODE_TEST := $(filter-out tests/host/meaning_test.c,$(MEANING_TEST)) tests/host/code_test.c
+build/code_test build/sanitized/code_test: $(CODE_TEST) tests/host/made_scripts.h $(HOST_HEADERS) $(LINKED) \
+	| build build/sanitized
+	$(CC) $(CFLAGS) $(EXTRA) -Iinclude -o $@ $(CODE_TEST) $(ENGINE)
+
 # a script tool whose engine answers wrongly
 build/wrong_tool: $(SCRIPT_TOOL) tests/host/wrong_engine.c $(HOST_HEADERS) $(LINKED) | build
-	$(CC) $(CFLAGS) -Wl,--wrap=engine_deliver -Iinclude -o $@ $(SCRIPT_TOOL) tests/host/wrong_engine.c $(ENGINE)
+	$(CC) $(CFLAGS) -Wl,--wrap=engine_deliver,--wrap=engine_check_code -Iinclude -o $@ $(SCRIPT_TOOL) \
+		tests/host/wrong_engine.c $(ENGINE)
 
 STRIKERS := build/fault build/store_bits build/wrong_tool
 HOST_TESTS := controller_test output_test store_test loss_test totals_test fault_test script_test refusal_test \
-	depths_test check_test play_test manual_test
+	depths_test check_test play_test tune_test manual_test
 
-check-tool: all $(STRIKERS) build/meaning_test
+check-tool: all $(STRIKERS) build/meaning_test build/code_test
 	build/meaning_test 4000
+	build/code_test 4000
 	$(foreach test,$(HOST_TESTS) makefile_test,CC='$(CC)' LIBRARY='$(ENGINE)' tests/host/$(test) build &&) :
 
-SANITIZED := $(patsubst %,build/sanitized/%,c_link_test flash_test controller script_tool meaning_test)
+SANITIZED := $(patsubst %,build/sanitized/%,c_link_test flash_test controller script_tool meaning_test code_test)
 
 check-sanitized: $(SANITIZED) build/forecourt.script $(STRIKERS)
 	build/sanitized/c_link_test $(VECTORS)
 	build/sanitized/flash_test
 	build/sanitized/meaning_test 1000
+	build/sanitized/code_test 1000
 	$(foreach test,$(HOST_TESTS),CC='$(CC)' LIBRARY='$(ENGINE)' tests/host/$(test) build/sanitized &&) :
 
 # ---- measurements ----
 
 # The program is built anew each time, whatever LIBRARY and BASE were before. The base's calls get names of their own.
-RENAMED := $(foreach call,translate open check deliver save restore,--redefine-sym engine_$(call)=base_engine_$(call))
+CALLS := translate open check deliver save restore check_code deliver_code
+RENAMED := $(foreach call,$(CALLS),--redefine-sym engine_$(call)=base_engine_$(call))
 BASE_RENAMED := $(if $(BASE),build/bench_base.a)
 
 build/bench_base.a: $(BASE) anew | build

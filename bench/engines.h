@@ -17,6 +17,10 @@ struct engine {
                      const uint32_t *, size_t, uint8_t *, size_t); /* null, as restore, in a base from before order 4 */
     uint64_t (*restore)(const uint8_t *, size_t, uint8_t *, size_t, int64_t *, size_t, int64_t *, size_t, uint32_t *,
                         size_t, const uint8_t *, size_t);
+    uint64_t (*check_code)(const uint8_t *, size_t, const int64_t *, size_t, uint64_t); /* null, as the next, before
+                                                                                           order 10 */
+    uint64_t (*deliver_code)(const uint8_t *, size_t, const int64_t *, size_t, uint64_t, int64_t *, size_t, uint32_t *,
+                             size_t, const int64_t *, size_t, uint64_t);
 };
 
 /* This library, and where the program was compiled with WITH_BASE the base, whose symbols begin with base_. */

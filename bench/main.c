@@ -1,36 +1,19 @@
-/* Measures the six calls and prints a line for each case: its name and values as KEY=VALUE, for bench/report.
+/* Measures the eight calls and prints a line for each case: its name and values as KEY=VALUE, for bench/report.
  * Times are of this thread's processor time, in nanoseconds a call: the least of several rounds, many calls each. Where
  * there is a base that knows the script's kinds, its rounds and this library's come in turn, and so do the rounds of
  * cases that are set beside each other. The environment's ROUNDS says how many there are. With --library it tells the
  * library's version and commit, and measures nothing. */
 #define _POSIX_C_SOURCE 200809L
-#include "engines.h"
-#include "scripts.h"
+#include "calls.h"
 #include "stack.h"
 
 #include <inttypes.h>
-#include <stdbool.h>
 #include <stdio.h>
 #include <stdlib.h>
 #include <string.h>
 #include <time.h>
 
 enum { ROUNDS = 25, ROUND_NANOSECONDS = 10000000, TURNS_MAX = 3 };
-enum { TRANSLATE, OPEN, CHECK, DELIVER, SAVE, RESTORE, CALLS };
-
-struct bench_case {
-    const char *name;
-    void (*script)(struct script *);
-    size_t cells;
-    size_t lines;        /* of the code arrays; 0: just the code's */
-    size_t readings;
-    int64_t reading;     /* each of them */
-    unsigned number;     /* that a delivery must answer */
-    int timed;           /* how many of the calls, the first ones */
-    bool in_turn;        /* with the case before */
-};
-
-enum { LINES = ENGINE_CODE_LINES_MAX };
 
 static const struct bench_case cases[] = {
     { "printed_2", printed_script, 2, LINES, 1, 1, ENGINE_DONE, CALLS, false },
@@ -51,10 +34,10 @@ static const struct bench_case cases[] = {
     { "calls", call_script, 16, LINES, 1, 20, ENGINE_DONE, CALLS, false },
     { "passed_down", passed_down_script, 16, LINES, 1, 1, ENGINE_DONE, CALLS, false },
     { "largest_totals", largest_totals_script, 256, LINES, 1, 1, ENGINE_DONE, CALLS, false },
-    { "size_128", size_128_script, 16, 0, 1, 1, ENGINE_DONE, 1, false },
-    { "size_256", size_256_script, 16, 0, 1, 1, ENGINE_DONE, 1, false },
-    { "size_512", size_512_script, 16, 0, 1, 1, ENGINE_DONE, 1, false },
-    { "size_1024", size_1024_script, 16, 0, 1, 1, ENGINE_DONE, 1, false },
+    { "size_128", size_128_script, 16, 0, 1, 1, ENGINE_DONE, 2, false },
+    { "size_256", size_256_script, 16, 0, 1, 1, ENGINE_DONE, 2, false },
+    { "size_512", size_512_script, 16, 0, 1, 1, ENGINE_DONE, 2, false },
+    { "size_1024", size_1024_script, 16, 0, 1, 1, ENGINE_DONE, 2, false },
     { "skipped_branch", skipped_branch_script, 256, LINES, 16, 1, ENGINE_OUT_OF_STEPS, CALLS, false },
     { "skipped_releases", skipped_release_script, 256, LINES, 16, 1, ENGINE_OUT_OF_STEPS, CALLS, false },
     { "skipped_body", skipped_body_script, 256, LINES, 16, 1, ENGINE_DONE, CALLS, false },
@@ -69,108 +52,7 @@ static const struct bench_case cases[] = {
     { "deepest_reduces", deepest_reduce_script, 256, LINES, 1, 0, ENGINE_CALL_TOO_DEEP, 0, false },
 };
 
-/* A call of a library that is timed, in a case. */
-struct timed {
-    const struct call *call;
-    const struct engine *engine;
-    struct bench *bench;
-    uint64_t times;  /* that make a round long enough */
-    uint64_t rounds; /* still to come */
-    uint64_t least;  /* time of a round */
-};
-
-/* A case: what its calls are lent, on which all libraries work, and what was found. */
-struct bench {
-    const struct bench_case *of;
-    const struct engine *engine;
-    struct script script;
-    uint8_t kinds[LINES];
-    int64_t operands[LINES];
-    size_t lines;
-    int64_t slots[ENGINE_SLOTS_LENGTH(ENGINE_CELLS_MAX)];
-    uint32_t heads[ENGINE_HEADS_LENGTH(ENGINE_CELLS_MAX)];
-    size_t cells;
-    int64_t readings[ENGINE_READINGS_MAX];
-    size_t readings_length;
-    int64_t kept_slots[ENGINE_SLOTS_LENGTH(ENGINE_CELLS_MAX)]; /* a store with totals, which are saved */
-    uint32_t kept_heads[ENGINE_HEADS_LENGTH(ENGINE_CELLS_MAX)];
-    uint8_t saved[ENGINE_SAVED_LENGTH_MAX];
-    int64_t restored_slots[ENGINE_SLOTS_LENGTH(ENGINE_CELLS_MAX)]; /* a store of its own, so that no call sees it */
-    uint32_t restored_heads[ENGINE_HEADS_LENGTH(ENGINE_CELLS_MAX)];
-    uint64_t answer;
-    int knowing; /* how many of the libraries, the first ones, know the script's kinds */
-    struct timed timed[CALLS][ENGINES];
-    uint32_t code_lines;
-    uint32_t steps;
-    unsigned lowest[ENGINES];
-};
-
 static struct bench benches[TURNS_MAX];
-
-/* ---- The calls ---- */
-
-static void translate(void *of)
-{
-    struct bench *b = of;
-    b->answer = b->engine->translate(b->script.file, b->script.length, b->kinds, b->lines, b->operands, b->lines);
-}
-
-static void open_store(void *of)
-{
-    struct bench *b = of;
-    b->answer = b->engine->open(b->script.file, b->script.length, b->kinds, b->lines, b->operands, b->lines, b->slots,
-                                ENGINE_SLOTS_LENGTH(b->cells), b->heads, ENGINE_HEADS_LENGTH(b->cells));
-}
-
-static void check_store(void *of)
-{
-    struct bench *b = of;
-    b->answer = b->engine->check(b->script.file, b->script.length, b->kinds, b->lines, b->operands, b->lines, b->slots,
-                                 ENGINE_SLOTS_LENGTH(b->cells), b->heads, ENGINE_HEADS_LENGTH(b->cells));
-}
-
-static void deliver(void *of)
-{
-    struct bench *b = of;
-    b->answer = b->engine->deliver(b->script.file, b->script.length, b->kinds, b->lines, b->operands, b->lines,
-                                   b->slots, ENGINE_SLOTS_LENGTH(b->cells), b->heads, ENGINE_HEADS_LENGTH(b->cells),
-                                   b->readings, b->readings_length, ENGINE_BUDGET_MAX);
-}
-
-static void save_totals(void *of)
-{
-    struct bench *b = of;
-    b->answer = b->engine->save(b->script.file, b->script.length, b->kinds, b->lines, b->operands, b->lines,
-                                b->kept_slots, ENGINE_SLOTS_LENGTH(b->cells), b->kept_heads,
-                                ENGINE_HEADS_LENGTH(b->cells), b->saved, sizeof b->saved);
-}
-
-static void restore_totals(void *of)
-{
-    struct bench *b = of;
-    b->answer = b->engine->restore(b->script.file, b->script.length, b->kinds, b->lines, b->operands, b->lines,
-                                   b->restored_slots, ENGINE_SLOTS_LENGTH(b->cells), b->restored_heads,
-                                   ENGINE_HEADS_LENGTH(b->cells), b->saved,
-                                   engine_saved_length(b->saved, sizeof b->saved));
-}
-
-static const struct call {
-    const char *name;
-    void (*work)(void *);
-} calls[CALLS] = {
-    [TRANSLATE] = { "translate", translate },
-    [OPEN] = { "open", open_store },
-    [CHECK] = { "check", check_store },
-    [DELIVER] = { "deliver", deliver },
-    [SAVE] = { "save", save_totals },
-    [RESTORE] = { "restore", restore_totals },
-};
-
-/* Whether a library has call `i`. */
-static bool has_call(const struct engine *engine, int i)
-{
-    return i < SAVE || (engine->save != NULL && engine->restore != NULL);
-}
 
 /* ---- Time ---- */
 
@@ -227,7 +109,7 @@ static void find_knowing(struct bench *b)
 {
     for (b->knowing = 1; b->knowing < ENGINES; b->knowing++) {
         b->engine = &engines[b->knowing];
-        translate(b);
+        calls[TRANSLATE].work(b);
         if (engine_answer_number(b->answer) == ENGINE_MALFORMED)
             return;
     }
@@ -248,13 +130,15 @@ static void prepare(struct bench *b, const struct bench_case *c)
     demand(&first, ENGINE_DONE);
     b->code_lines = engine_answer_lines(b->answer);
     b->lines = c->lines == 0 ? b->code_lines : c->lines;
+    memcpy(b->lent_kinds, b->kinds, sizeof b->kinds);
+    memcpy(b->lent_operands, b->operands, sizeof b->operands);
     find_knowing(b);
 }
 
 /* The number that call `i` must answer. */
 static unsigned wanted(const struct bench_case *c, int i)
 {
-    return i == DELIVER ? c->number : ENGINE_DONE;
+    return i == DELIVER || i == DELIVER_CODE ? c->number : ENGINE_DONE;
 }
 
 /* Whether a library before this one answered call `i` the same. Before order 7 the code may have other lines, and the

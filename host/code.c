@@ -55,9 +55,8 @@ uint32_t line_after_tree(const struct code *code, uint32_t line)
 
 /* ---- Borrowed parameters ---- */
 
-/* Whether a line hands over the atom at this place, given which parameters are borrowed. */
-static bool hands_over(const struct code *code, uint32_t line, unsigned place,
-                       bool is_borrowed[ENGINE_FUNCTIONS_MAX][ENGINE_PARAMETERS_MAX])
+bool hands_over(const struct code *code, uint32_t line, unsigned place,
+                bool is_borrowed[ENGINE_FUNCTIONS_MAX][ENGINE_PARAMETERS_MAX])
 {
     switch (code->kinds[line]) {
     case ENGINE_KIND_CALL: return !is_borrowed[code->operands[line] / 256][place];
@@ -69,7 +68,21 @@ static bool hands_over(const struct code *code, uint32_t line, unsigned place,
     }
 }
 
-/* Takes back what a function's lines hand over; whether an entry changed. */
+/* Takes back the parameter that a name is, if it is one that is borrowed; whether it was. */
+static bool take_back_name(const struct code *code, size_t function, int64_t name,
+                           bool is_borrowed[ENGINE_FUNCTIONS_MAX][ENGINE_PARAMETERS_MAX])
+{
+    const int64_t *parameters = code->operands + code->functions[function] + 1;
+    for (unsigned i = 0; i < code->parameters[function]; i++) {
+        if (parameters[i] % 256 == name && is_borrowed[function][i]) {
+            is_borrowed[function][i] = false;
+            return true;
+        }
+    }
+    return false;
+}
+
+/* Takes back what a function's lines hand over, retain or release; whether an entry changed. */
 static bool take_back(const struct code *code, size_t function,
                       bool is_borrowed[ENGINE_FUNCTIONS_MAX][ENGINE_PARAMETERS_MAX])
 {
@@ -77,15 +90,13 @@ static bool take_back(const struct code *code, size_t function,
     uint32_t line = code->functions[function] + 1 + code->parameters[function];
     bool changes = false;
     for (unsigned atoms; line < end; line += 1 + atoms) {
+        uint8_t kind = code->kinds[line];
         atoms = atoms_after(code, line);
-        for (unsigned i = 0; i < atoms; i++) {
-            int64_t name = code->operands[line + 1 + i];
-            if (code->kinds[line + 1 + i] == ENGINE_KIND_NAME && name < code->parameters[function]
-                && is_borrowed[function][name] && hands_over(code, line, i, is_borrowed)) {
-                is_borrowed[function][name] = false;
-                changes = true;
-            }
-        }
+        if (kind == ENGINE_KIND_RETAIN || kind == ENGINE_KIND_RELEASE)
+            changes |= take_back_name(code, function, code->operands[line], is_borrowed);
+        for (unsigned i = 0; i < atoms; i++)
+            if (code->kinds[line + 1 + i] == ENGINE_KIND_NAME && hands_over(code, line, i, is_borrowed))
+                changes |= take_back_name(code, function, code->operands[line + 1 + i], is_borrowed);
     }
     return changes;
 }

@@ -6,7 +6,7 @@
 
 #include <stdbool.h>
 
-/* A script's code, as engine_translate leaves it. */
+/* Code of the form that engine_translate leaves. */
 struct code {
     const uint8_t *kinds;
     const int64_t *operands;
@@ -33,7 +33,12 @@ uint32_t line_after_trees(const struct code *code, uint32_t line);
 /* The line after the tree that begins at one: past its end line and that one's atom. */
 uint32_t line_after_tree(const struct code *code, uint32_t line);
 
-/* Which parameters are borrowed: arrays that their functions only read. Main's are not. */
+/* Which parameters are borrowed: arrays that their functions only read, and neither retain nor release. Main's are
+ * not. */
 void find_borrowed(const struct code *code, bool is_borrowed[ENGINE_FUNCTIONS_MAX][ENGINE_PARAMETERS_MAX]);
+
+/* Whether a line hands over the atom at this place, given which parameters are borrowed. */
+bool hands_over(const struct code *code, uint32_t line, unsigned place,
+                bool is_borrowed[ENGINE_FUNCTIONS_MAX][ENGINE_PARAMETERS_MAX]);
 
 #endif

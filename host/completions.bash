@@ -16,14 +16,14 @@ _ruschoep_controller() {
     esac
     case ${COMP_WORDS[COMP_CWORD]} in
     -*) _ruschoep_words "--store --keep-previous --new-script --restore-totals --expect --save-totals --cells --budget
-        --check --changes --names --json --plot --show --help --version" ;;
+        --check --changes --code --names --json --plot --show --help --version" ;;
     *) _ruschoep_files ;;
     esac
 }
 
 _ruschoep_script_tool() {
     if ((COMP_CWORD == 1)); then
-        _ruschoep_words "check play assemble list fmt code --help --version"
+        _ruschoep_words "check play assemble list fmt code tune --help --version"
         return
     fi
     case ${COMP_WORDS[COMP_CWORD - 1]} in

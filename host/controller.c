@@ -1,6 +1,7 @@
 /* A small pump controller: it opens a store for a script, with saved totals if there are any, or goes on with one that
- * was kept, works a day's deliveries on it, and prints for each what the service display would show. A delivery is
- * saved before it is shown. At the end the totals can be saved for another controller. */
+ * was kept, works a day's deliveries on it, by tuned code if that is given, and prints for each what the service
+ * display would show. A delivery is saved before it is shown. At the end the totals can be saved for another
+ * controller. */
 #include "input.h"
 #include "options.h"
 #include "plot.h"
@@ -23,7 +24,7 @@ struct day {
     struct plot plot;
 };
 
-/* Static, as on a controller: the site is about 140 KB. */
+/* Static, as on a controller: the site is about 180 KB. */
 static struct site site;
 static uint8_t day_bytes[DAY_BYTES_MAX];
 static uint8_t totals_bytes[TOTALS_BYTES];
@@ -31,6 +32,7 @@ static struct totals totals[2]; /* before and after a delivery, in turn */
 static struct names names;
 
 static const char CHECK_ADVICE[] = "'script_tool check' says of its text what is wrong there";
+static const char CODE_ADVICE[] = "'script_tool tune' says of its text what is wrong there, and makes it anew";
 static const char ENTRIES_ADVICE[] = "the totals have over 4,096 entries; play a script that keeps fewer";
 static const char STORE_ADVICE[] = "--show says where; put a copy of the store back, or restore saved totals";
 
@@ -179,7 +181,7 @@ static struct comparison compare(struct day *day)
 static void play_delivery(struct day *day, const struct delivery *delivery)
 {
     struct site *s = day->site;
-    uint64_t answer = engine_deliver_lent(&s->lent, delivery->readings, delivery->count, delivery->budget);
+    uint64_t answer = deliver(s, delivery->readings, delivery->count, delivery->budget);
     day->result.count++;
     s->header.deliveries++;
     if (engine_answer_number(answer) != ENGINE_UNSOUND_STORE)
@@ -285,6 +287,25 @@ static int status_of(const struct day_result *result)
     return result->count > 0 && result->done + result->stopped == 0 ? STATUS_REFUSED : 0;
 }
 
+/* Takes the script, and tuned code for it if that is given. */
+static void take_program(struct day *day)
+{
+    const struct options *options = day->options;
+    uint64_t answer = take_script(&site, options->script);
+    uint32_t lines = engine_answer_lines(answer);
+    if (engine_answer_number(answer) != ENGINE_DONE)
+        report_refusal(&day->form, "script", answer, CHECK_ADVICE);
+    if (options->code != NULL)
+        answer = take_code(&site, options->code, lines);
+    if (engine_answer_number(answer) != ENGINE_DONE)
+        report_refusal(&day->form, "code", answer, CODE_ADVICE);
+    if (options->names != NULL)
+        read_names(&names, options->names, site.header.depth);
+    report_script(&day->form, &site, lines);
+    if (options->code != NULL)
+        report_code(&day->form, &site);
+}
+
 int main(int count, char **arguments)
 {
     prepare_streams();
@@ -294,12 +315,7 @@ int main(int count, char **arguments)
         return show_store(&form, options.shown, options.script, options.names);
     struct day day = { .site = &site, .options = &options, .form = form };
     day.result.is_checked = options.checks;
-    uint64_t answer = take_script(&site, options.script);
-    if (engine_answer_number(answer) != ENGINE_DONE)
-        report_refusal(&form, "script", answer, CHECK_ADVICE);
-    if (options.names != NULL)
-        read_names(&names, options.names, site.header.depth);
-    report_script(&form, &site, engine_answer_lines(answer));
+    take_program(&day);
     play(&day);
     free_plot(&day.plot);
     return status_of(&day.result);

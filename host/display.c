@@ -10,6 +10,8 @@ void print_number(FILE *out, uint64_t answer)
     fprintf(out, "%2u %s", number, engine_word(number));
     if (number >= ENGINE_MALFORMED && number <= ENGINE_TOO_MANY_NAMES)
         fprintf(out, ", node %u", engine_answer_node(answer));
+    if (number == ENGINE_BAD_CODE)
+        fprintf(out, ", line %u", engine_answer_line(answer));
 }
 
 const struct brackets ARRAYS_OF_TEXT = { '{', '}', "?" };

@@ -18,7 +18,7 @@ extern const struct brackets ARRAYS_OF_TEXT, ARRAYS_OF_JSON;
 void print_value(FILE *out, const struct brackets *brackets, const int64_t *slots, const uint32_t *heads, size_t cells,
                  int64_t word, unsigned depth);
 
-/* "23 off the end", and the node for the refusals that name one. */
+/* "23 off the end", and the node or line for the refusals that name one. */
 void print_number(FILE *out, uint64_t answer);
 
 #endif

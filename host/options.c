@@ -33,6 +33,7 @@ static const char usage[] =
     "  --budget N    steps that a delivery may take, up to 1000000 (default 10000)\n"
     "  --check       check the store after opening and after each delivery\n"
     "  --changes     print each delivery's readings and what changed in the totals, and not all totals\n"
+    "  --code FILE   work the deliveries by this tuned code of SCRIPT, as 'script_tool tune' wrote it\n"
     "  --names TEXT  name the totals as the line 'totals ..' of this script's text does\n"
     "  --json        print an object of JSON a line\n"
     "  --plot FILE   draw the totals and the cells taken over the day, as an SVG picture\n"
@@ -41,9 +42,9 @@ static const char usage[] =
     "  --help, --version  this text; the version of the engine's interface\n"
     "An option and its argument may be one word, as '--store=FILE'. SIGINT and SIGTERM end the day after\n"
     "the delivery in work.\n"
-    "Exit status: 0 the day was played, or the store is sound; 1 the engine refused the script, the store,\n"
-    "the totals or every delivery; 2 bad usage, or a file or line that cannot be used; 3 something could\n"
-    "not be written; 130 or 143 the day was ended by SIGINT or SIGTERM\n";
+    "Exit status: 0 the day was played, or the store is sound; 1 the engine refused the script, its tuned\n"
+    "code, the store, the totals or every delivery; 2 bad usage, or a file or line that cannot be used; 3\n"
+    "something could not be written; 130 or 143 the day was ended by SIGINT or SIGTERM\n";
 
 static _Noreturn void fail_with_usage(void)
 {
@@ -73,7 +74,8 @@ struct known {
 #define AT(member) offsetof(struct options, member)
 static const struct known files[] = { { "--store", AT(store) },          { "--plot", AT(plot) },
                                       { "--show", AT(shown) },           { "--save-totals", AT(saved) },
-                                      { "--restore-totals", AT(restored) }, { "--names", AT(names) } };
+                                      { "--restore-totals", AT(restored) }, { "--names", AT(names) },
+                                      { "--code", AT(code) } };
 static const struct known truths[] = { { "--check", AT(checks) },
                                        { "--new-script", AT(takes_another_scripts) },
                                        { "--keep-previous", AT(keeps_previous) },
@@ -176,7 +178,8 @@ static void keep_all_apart(const struct options *options)
 {
     const struct named read[] = { { options->script, "", "the script itself" },
                                   { options->day, "", "the day itself" },
-                                  { options->names, "", "the script's text itself" } };
+                                  { options->names, "", "the script's text itself" },
+                                  { options->code, "", "the tuned code itself" } };
     const struct named restored = { options->restored, "", "the saved totals themselves" };
     char path[PREVIOUS_BYTES] = "";
     if (options->keeps_previous)
@@ -186,7 +189,7 @@ static void keep_all_apart(const struct options *options)
                                      { options->plot, "--plot", "the picture itself" },
                                      { options->saved, "--save-totals", "the saved totals themselves" } };
     for (int w = 0; w < 3; w++) {
-        for (int r = 0; r < 3; r++)
+        for (int r = 0; r < 4; r++)
             keep_apart(&written[w], &read[r]);
         if (w < 2)
             keep_apart(&written[w], &restored);
@@ -211,6 +214,8 @@ static void settle_day(struct options *options)
              options->restored != NULL ? "--restore-totals" : "--save-totals");
     if (options->plot != NULL)
         fail(STATUS_UNUSABLE, "--plot: there is no day that could be drawn; give one, or leave --plot out");
+    if (options->code != NULL)
+        fail(STATUS_UNUSABLE, "--code: there is no delivery that it could work; give a day, or leave --code out");
 }
 
 /* Options that need another one. */
@@ -239,7 +244,8 @@ struct options options_of(int count, char **arguments)
         else
             fail_with_usage();
     }
-    if (options.shown != NULL && (options.day != NULL || options.saved != NULL || options.restored != NULL))
+    bool plays = options.day != NULL || options.saved != NULL || options.restored != NULL || options.code != NULL;
+    if (options.shown != NULL && plays)
         fail_with_usage();
     if (options.shown == NULL) {
         if (options.script == NULL)

@@ -17,6 +17,7 @@ struct options {
     const char *saved;    /* where the totals are saved at the end; null: nowhere */
     const char *shown;    /* the store that is to be shown; null: a day is to be played */
     const char *names;    /* a script's text with names for the totals; null: none */
+    const char *code;     /* tuned code, by which deliveries are worked; null: the script's own */
     size_t cells;         /* 0: as the store has, or DEFAULT_CELLS */
     uint64_t budget;
     bool checks;

@@ -40,6 +40,22 @@ void report_script(const struct form *form, const struct site *site, uint32_t li
     printf("script       %zu nodes, %" PRIu32 " lines of code\n", nodes, lines);
 }
 
+void report_code(const struct form *form, const struct site *site)
+{
+    const struct tuned *tuned = &site->tuned;
+    uint32_t retains = lines_of(tuned, ENGINE_KIND_RETAIN), releases = lines_of(tuned, ENGINE_KIND_RELEASE);
+    if (form->is_json) {
+        begin_object("code");
+        put_count("lines", tuned->lines);
+        put_count("retains", retains);
+        put_count("releases", releases);
+        end_object();
+        return;
+    }
+    printf("code         tuned: %" PRIu32 " lines, %" PRIu32 " retains and %" PRIu32 " releases\n", tuned->lines,
+           retains, releases);
+}
+
 static void print_store_object(const struct site *site, const char *what, uint64_t answer, const uint32_t *checksum)
 {
     begin_object(what);

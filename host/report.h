@@ -38,6 +38,9 @@ bool needs_totals(const struct form *form);
 
 void report_script(const struct form *form, const struct site *site, uint32_t lines);
 
+/* The tuned code by which deliveries are worked. */
+void report_code(const struct form *form, const struct site *site);
+
 /* A store at rest: the cells that an answer says are taken, how many deliveries it has had, and the totals. The
  * checksum of saved totals is null where there are none. */
 void report_store(const struct form *form, const struct site *site, const char *what, uint64_t answer,

@@ -72,6 +72,8 @@ void put_answer(uint64_t answer)
     put_string("word", word, strlen(word));
     if (number >= ENGINE_MALFORMED && number <= ENGINE_TOO_MANY_NAMES)
         put_count("node", engine_answer_node(answer));
+    if (number == ENGINE_BAD_CODE)
+        put_count("line", engine_answer_line(answer));
 }
 
 void put_names(const struct names *names)

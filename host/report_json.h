@@ -11,7 +11,7 @@ void put_string(const char *key, const char *text, size_t length);
 void put_truth(const char *key, bool truth);
 void put_checksum(const char *key, uint32_t checksum);
 void put_totals(const struct site *site); /* as "totals", arrays in arrays */
-void put_answer(uint64_t answer);         /* its number and word, and its node where it names one */
+void put_answer(uint64_t answer);         /* its number and word, and its node or line where it names one */
 void put_names(const struct names *names); /* as "names", an array for each level, where there are names */
 void end_object(void);
 

@@ -1,9 +1,10 @@
-/* Turns a script's text into a script file and back, checks and formats a text, plays a day on it, and explains its
- * code. */
+/* Turns a script's text into a script file and back, checks and formats a text, plays a day on it, explains its code,
+ * and takes tuned code back. */
 #include "options.h"
 #include "place.h"
 #include "play.h"
 #include "script.h"
+#include "tune.h"
 
 #include <inttypes.h>
 #include <stdio.h>
@@ -17,6 +18,7 @@ static const char usage[] =
     "       script_tool list [--force] FILE TEXT            write the text of a script file\n"
     "       script_tool fmt TEXT NEW                        write a text anew, indented as it is nested\n"
     "       script_tool code TEXT                           print a script's code and what each line does\n"
+    "       script_tool tune CODE [FILE]                    check such code after it was tuned; write it to a file\n"
     "  --strict     a warning too is a fault: status 1\n"
     "  --cells N    cells of the store, 1 to 256 (play: 64 where nothing is said)\n"
     "  --budget N   steps that a delivery may take, unless its line says it (default 10000)\n"
@@ -27,8 +29,9 @@ static const char usage[] =
     "'-' stands for standard input or output. Where check, play and code want a text, a script file will do: its\n"
     "lines are then those of its listing. A line of text is a node: its word and the parts of its operand;\n"
     "docs/INSTALLERS.md has them all. A line of a day is a delivery: its readings, and after '=>' what is expected:\n"
-    "the totals, or the number of a stop. Exit status: 0; 1 the engine refuses the script, or what is expected is not\n"
-    "what is found; 2 bad usage, or a file or line that cannot be used; 3 something could not be written\n";
+    "the totals, or the number of a stop. Exit status: 0; 1 the engine refuses the script or the code, or what is\n"
+    "expected is not what is found; 2 bad usage, or a file or line that cannot be used; 3 something could not be\n"
+    "written\n";
 
 enum { TEXT_BYTES_MAX = 1 << 23 };
 
@@ -48,6 +51,8 @@ static uint8_t bytes[TEXT_BYTES_MAX];
 static uint8_t file[SCRIPT_FILE_BYTES_MAX];
 static uint8_t kinds[ENGINE_CODE_LINES_MAX];
 static int64_t operands[ENGINE_CODE_LINES_MAX];
+static struct code_text code_text;
+static struct tuned tuned;
 
 /* ---- Commands: each gives the exit status ---- */
 
@@ -145,20 +150,44 @@ static int fmt(const struct arguments *a)
     return 0;
 }
 
+/* Without a file the code is only checked. */
+static int tune(const struct arguments *a)
+{
+    static uint8_t tuned_bytes[TUNED_BYTES_MAX];
+    const char *from = a->paths[0], *to = a->paths[1];
+    if (to != NULL)
+        keep_apart(from, to);
+    read_code_text(&code_text, from, bytes, sizeof bytes);
+    if (!check_code_text(&code_text, &tuned)) {
+        if (to != NULL)
+            complain("%s: nothing was written; mend the code, and tune it again", to);
+        return STATUS_REFUSED;
+    }
+    if (to != NULL)
+        write_whole(to, tuned_bytes, encode_tuned(tuned_bytes, &tuned));
+    if (to == NULL || strcmp(to, "-") != 0)
+        printf("%s: accepted: %" PRIu32 " lines of code for main's depth %u, %" PRIu32 " retains and %" PRIu32
+               " releases\n", from, tuned.lines, tuned.depth, lines_of(&tuned, ENGINE_KIND_RETAIN),
+               lines_of(&tuned, ENGINE_KIND_RELEASE));
+    flush_output();
+    return 0;
+}
+
 /* ---- Arguments ---- */
 
 static const struct command {
     const char *word;
-    unsigned paths;
+    unsigned paths, least; /* at most and at least so many */
     unsigned options;
     int (*run)(const struct arguments *);
 } commands[] = {
-    { "check", 1, STRICT | CELLS, check },
-    { "play", 2, CELLS | BUDGET | TRACE, play },
-    { "assemble", 2, UNCHECKED, assemble },
-    { "list", 2, FORCE, list },
-    { "fmt", 2, 0, fmt },
-    { "code", 1, 0, code },
+    { "check", 1, 1, STRICT | CELLS, check },
+    { "play", 2, 2, CELLS | BUDGET | TRACE, play },
+    { "assemble", 2, 2, UNCHECKED, assemble },
+    { "list", 2, 2, FORCE, list },
+    { "fmt", 2, 2, 0, fmt },
+    { "code", 1, 1, 0, code },
+    { "tune", 2, 1, 0, tune },
 };
 enum { COMMANDS = sizeof commands / sizeof commands[0] };
 
@@ -215,7 +244,7 @@ static int run(const struct command *command, char **argument)
             fail_with_usage();
         }
     }
-    if (a.count < command->paths)
+    if (a.count < command->least)
         fail_with_usage();
     return command->run(&a);
 }

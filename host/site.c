@@ -1,4 +1,5 @@
-/* A site: the script and the store that a controller lends the engine, and the file that keeps the store. */
+/* A site: the script, or tuned code for it, and the store that a controller lends the engine, and the file that keeps
+ * the store. */
 #define _POSIX_C_SOURCE 200809L /* openat */
 #include "site.h"
 #include "lock.h"
@@ -11,12 +12,17 @@
 
 static uint8_t store_bytes[STORE_BYTES_MAX + 1]; /* one more, so that a longer file is seen to be longer */
 
+/* ---- The script ---- */
+
 /* Files that are no script file, but something else that a user of these programs has at hand. A script file that the
  * engine accepts has a byte of 0: the second, as it has at most 32 functions. */
 static void refuse_other_files(const char *path, const uint8_t *bytes, size_t length)
 {
     if (has_store_mark(bytes, length))
         fail(STATUS_UNUSABLE, "%s: a store, where a script file is wanted; name the store with --store FILE", path);
+    if (has_tuned_mark(bytes, length))
+        fail(STATUS_UNUSABLE, "%s: tuned code, where a script file is wanted; name it with --code FILE beside its"
+             " script", path);
     if (length > 0 && memchr(bytes, 0, length) == NULL)
         fail(STATUS_UNUSABLE, "%s: a text, where a script file is wanted; 'script_tool assemble' makes one", path);
 }
@@ -38,6 +44,42 @@ uint64_t take_script(struct site *site, const char *path)
     site->header.depth = (unsigned)(site->operands[0] / 256); /* line 0 is main: parameters + 256 x depth of result */
     return answer;
 }
+
+/* ---- Tuned code ---- */
+
+/* Tuned code as it is lent. */
+static struct engine_code tuned_code(const struct site *site)
+{
+    const struct tuned *tuned = &site->tuned;
+    return (struct engine_code){ tuned->kinds, tuned->lines, tuned->operands, tuned->lines };
+}
+
+uint64_t take_code(struct site *site, const char *path, uint32_t lines)
+{
+    struct tuned *tuned = &site->tuned;
+    uint32_t other;
+    read_tuned(tuned, path);
+    if (tuned->depth != site->header.depth)
+        fail(STATUS_UNUSABLE, "%s: code of another script: main's depth is %u there and %u in this script; name the"
+             " script that it was made of, or tune this one's", path, tuned->depth, site->header.depth);
+    const struct engine_code code = tuned_code(site);
+    uint64_t answer = engine_check_code_lent(&site->lent, &code);
+    if (engine_answer_number(answer) == ENGINE_DONE
+        && !is_tuned_from(tuned, site->kinds, site->operands, lines, &other))
+        fail(STATUS_UNUSABLE, "%s: code of another script: its line %lu is not this script's; name the script that it"
+             " was made of, or tune this one's", path, (unsigned long)other);
+    return answer;
+}
+
+uint64_t deliver(struct site *site, const int64_t *readings, size_t count, uint64_t budget)
+{
+    if (site->tuned.lines == 0)
+        return engine_deliver_lent(&site->lent, readings, count, budget);
+    const struct engine_code code = tuned_code(site);
+    return engine_deliver_code_lent(&site->lent, &code, readings, count, budget);
+}
+
+/* ---- The store ---- */
 
 void lend_cells(struct site *site, size_t cells)
 {

@@ -1,10 +1,12 @@
-/* A site: the script and the store that a controller lends the engine, and the file that keeps the store. */
+/* A site: the script, or tuned code for it, and the store that a controller lends the engine, and the file that keeps
+ * the store. */
 #ifndef SITE_H
 #define SITE_H
 
 #include "engine.h"
 #include "place.h"
 #include "store_file.h"
+#include "tuned_file.h"
 
 /* Room for a script file: more than it may have, so that a longer one is refused by the engine, and a store or a text
  * is seen for what it is. */
@@ -17,6 +19,7 @@ struct site {
     int64_t slots[ENGINE_SLOTS_LENGTH(ENGINE_CELLS_MAX)];
     uint32_t heads[ENGINE_HEADS_LENGTH(ENGINE_CELLS_MAX)];
     struct engine_lent lent;    /* all of these */
+    struct tuned tuned;         /* by which deliveries are worked, where there is some */
     struct store_header header; /* of the store as it is saved */
     struct place place;         /* of the store's file, where it has one */
     bool is_kept;               /* in that file */
@@ -25,6 +28,13 @@ struct site {
 
 /* Reads a script file and has it translated. Fails where a text or a store was given for it; gives the answer. */
 uint64_t take_script(struct site *site, const char *path);
+
+/* Reads tuned code for the script that was taken, whose code has so many lines, and has it checked; gives the answer.
+ * Fails where it is damaged, or where it would give other totals than the script. */
+uint64_t take_code(struct site *site, const char *path, uint32_t lines);
+
+/* Works a delivery, by the tuned code where there is some. */
+uint64_t deliver(struct site *site, const int64_t *readings, size_t count, uint64_t budget);
 
 /* Lends the words of a store of so many cells. */
 void lend_cells(struct site *site, size_t cells);

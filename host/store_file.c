@@ -1,6 +1,5 @@
 /* Stores as bytes of a file. */
 #include "store_file.h"
-#include "text.h"
 
 #include <stdarg.h>
 #include <stdio.h>
@@ -20,17 +19,6 @@ enum {
     FIRST_HEADER_BYTES = 28, /* of version 1 */
     CHECKSUM_BYTES = 4       /* the last of a header, of those before it */
 };
-
-uint32_t checksum_of(const uint8_t *bytes, size_t length)
-{
-    uint32_t sum = UINT32_MAX;
-    for (size_t i = 0; i < length; i++) {
-        sum ^= bytes[i];
-        for (int bit = 0; bit < 8; bit++)
-            sum = sum >> 1 ^ (sum & 1 ? 0xedb88320u : 0);
-    }
-    return ~sum;
-}
 
 bool has_store_mark(const uint8_t *bytes, size_t length)
 {

@@ -19,7 +19,7 @@
 #define STORE_FILE_H
 
 #include "engine.h"
-#include "message.h"
+#include "text.h"
 
 enum { STORE_HEADER_BYTES = 36, SLOT_BYTES = 8, HEAD_BYTES = 4 };
 #define STORE_BYTES(cells) \
@@ -40,8 +40,6 @@ enum store_reading { STORE_WHOLE, STORE_DAMAGED, STORE_UNREADABLE };
 struct store_fault {
     char text[160];
 };
-
-uint32_t checksum_of(const uint8_t *bytes, size_t length);
 
 /* Whether bytes begin as a store file does. */
 bool has_store_mark(const uint8_t *bytes, size_t length);

@@ -1,4 +1,4 @@
-/* Text cut into lines and words, messages that show a place of it, numbers in base ten, and numbers in bytes. */
+/* Text cut into lines and words, messages that show a place of it, numbers in base ten, and bytes. */
 #include "text.h"
 
 #include <inttypes.h>
@@ -223,7 +223,7 @@ uint64_t option_number(const char *option, const char *argument, uint64_t least,
     return (uint64_t)number;
 }
 
-/* ---- Numbers in bytes ---- */
+/* ---- Bytes ---- */
 
 uint64_t number_at(const uint8_t *at, unsigned length)
 {
@@ -242,4 +242,15 @@ void put_number(uint8_t *at, uint64_t number, unsigned length)
 int64_t signed_of(uint64_t bits)
 {
     return bits <= INT64_MAX ? (int64_t)bits : -(int64_t)(UINT64_MAX - bits) - 1;
+}
+
+uint32_t checksum_of(const uint8_t *bytes, size_t length)
+{
+    uint32_t sum = UINT32_MAX;
+    for (size_t i = 0; i < length; i++) {
+        sum ^= bytes[i];
+        for (int bit = 0; bit < 8; bit++)
+            sum = sum >> 1 ^ (sum & 1 ? 0xedb88320u : 0);
+    }
+    return ~sum;
 }

@@ -1,4 +1,5 @@
-/* Text cut into lines and words, messages that show a place of it, numbers in base ten, and numbers in bytes. */
+/* Text cut into lines and words, messages that show a place of it, numbers in base ten, and bytes: numbers in them, and
+ * their checksum. */
 #ifndef TEXT_H
 #define TEXT_H
 
@@ -73,5 +74,8 @@ void put_number(uint8_t *at, uint64_t number, unsigned length);
 
 /* The signed number with these 64 bits. */
 int64_t signed_of(uint64_t bits);
+
+/* The checksum of the host's files: the CRC-32 of zip files and Ethernet. */
+uint32_t checksum_of(const uint8_t *bytes, size_t length);
 
 #endif

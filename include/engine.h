@@ -1,10 +1,11 @@
-/* The script engine's C interface: six calls, the sizes of what is lent to them, and the parts of their answers; at its
- * end it includes engine_lent.h, which has the same calls on one struct and the totals by their parts.
+/* The script engine's C interface: eight calls, the sizes of what is lent to them, and the parts of their answers; at
+ * its end it includes engine_lent.h, which has the same calls on one struct and the totals by their parts.
  *
- * Every call takes the script file and the two code arrays, and translates the script afresh; nothing is kept between
- * calls but the store, in the host's two store arrays. The engine has no global data, allocates nothing, calls no
- * function of the host's but memcpy and memset, and always returns. It believes nothing that is lent to it: any bytes
- * may be a script file or saved totals, and any words a store. The host sees to four things only:
+ * Six calls take the script file and the two code arrays, and translate the script afresh; two take code that the host
+ * lends, and check it afresh. Nothing is kept between calls but the store, in the host's two store arrays. The engine
+ * has no global data, allocates nothing, calls no function of the host's but memcpy and memset, and always returns. It
+ * believes nothing that is lent to it: any bytes may be a script file or saved totals, and any words code or a store.
+ * The host sees to four things only:
  *   - a pointer is aligned and not null, and has at least the number of elements that follows it (so also for 0);
  *   - the arrays of one call lie apart in memory;
  *   - calls on one store, or on the same code arrays, come one after another, and nothing else writes to a lent array
@@ -43,10 +44,10 @@ extern "C" {
 /* Of this interface: the first number rises when a host must change, the second when something is added or an order
  * changes an answer. CHANGELOG.md says what each version brought. */
 #define ENGINE_VERSION_MAJOR 3
-#define ENGINE_VERSION_MINOR 0
+#define ENGINE_VERSION_MINOR 1
 #define ENGINE_VERSION (1000 * ENGINE_VERSION_MAJOR + ENGINE_VERSION_MINOR)
 
-/* A function that does nothing and has the version in its name: engine_interface_3_0. Whoever makes a call by its name
+/* A function that does nothing and has the version in its name: engine_interface_3_1. Whoever makes a call by its name
  * refers to it, so that a host compiled with this header does not link with a library of another version; one that
  * calls by pointers alone refers to it by a call of its own. */
 #define ENGINE_INTERFACE_NAME(major, minor) engine_interface_##major##_##minor
@@ -176,14 +177,18 @@ enum engine_number {
     ENGINE_BAD_GUARD = 28,           /* doubtful switch: an if's or filter's guard that is neither 1 nor 0 */
 
     /* A refusal like 11, of engine_save and engine_restore alone. */
-    ENGINE_BAD_LABEL = 27            /* bad label: over 4,096 entries, a buffer too short for them, or saved totals that
+    ENGINE_BAD_LABEL = 27,           /* bad label: over 4,096 entries, a buffer too short for them, or saved totals that
                                         break their form or have not main's depth */
+
+    /* A refusal of engine_check_code and engine_deliver_code alone: as after their 10 and 11, no lent word changes. */
+    ENGINE_BAD_CODE = 29             /* bad conversion: lent code that breaks a rule, with the line at fault */
 };
 
 /* Whether a number is a refusal: nothing was done. */
 static inline int engine_is_refusal(unsigned number)
 {
-    return (number >= ENGINE_TRUNCATED && number <= ENGINE_UNSOUND_STORE) || number == ENGINE_BAD_LABEL;
+    return (number >= ENGINE_TRUNCATED && number <= ENGINE_UNSOUND_STORE) || number == ENGINE_BAD_LABEL
+           || number == ENGINE_BAD_CODE;
 }
 
 /* Whether a number is a stop: the delivery was begun and undone. A restore's 25 has no store to go back to. */
@@ -216,6 +221,7 @@ static inline const char *engine_word(unsigned number)
     case ENGINE_BAD_COUNT: return "bad count";
     case ENGINE_BAD_LABEL: return "bad label";
     case ENGINE_BAD_GUARD: return "doubtful switch";
+    case ENGINE_BAD_CODE: return "bad conversion";
     default: return "unknown number";
     }
 }
@@ -234,26 +240,33 @@ static inline unsigned engine_answer_node(uint64_t answer)
     return (unsigned)((answer >> 8) & 0xffff);
 }
 
-/* The lowest level of an engine_deliver that was not refused, in the node's place: the least number of free cells from
- * before its work to its end or its stop. A 25 has 0. */
+/* The line that a 29 names, in the node's place: the first at fault, counted from 0. It is the number of lines where a
+ * line is missing at the end. */
+static inline unsigned engine_answer_line(uint64_t answer)
+{
+    return (unsigned)((answer >> 8) & 0xffff);
+}
+
+/* The lowest level of a delivery that was not refused, in the node's place: the least number of free cells from before
+ * its work to its end or its stop. A 25 has 0. */
 static inline unsigned engine_answer_lowest(uint64_t answer)
 {
     return (unsigned)((answer >> 8) & 0xffff);
 }
 
-/* The code lines after engine_translate. */
+/* The code lines after engine_translate and engine_check_code. */
 static inline uint32_t engine_answer_lines(uint64_t answer)
 {
     return (uint32_t)((answer >> 24) & 0xffffff);
 }
 
-/* The steps that engine_deliver took, also where it stopped. */
+/* The steps that a delivery took, also where it stopped. */
 static inline uint32_t engine_answer_steps(uint64_t answer)
 {
     return (uint32_t)((answer >> 24) & 0xffffff);
 }
 
-/* The cells taken as a call other than engine_translate ends. */
+/* The cells taken as a call on a store ends. */
 static inline unsigned engine_answer_cells(uint64_t answer)
 {
     return (unsigned)(answer >> 48);
@@ -276,6 +289,9 @@ static inline unsigned engine_answer_cells(uint64_t answer)
  *   readings   the readings of one delivery, at most ENGINE_READINGS_MAX; read only
  *   budget     the steps that the delivery may take, at most ENGINE_BUDGET_MAX
  *   saved      saved totals, of ENGINE_SAVED_LENGTH(K) bytes for K entries
+ *
+ * The last two calls read kinds and operands, and write neither: the lent code is all before both arrays' closing
+ * zeros. They take main's depth beside it, for which it must be.
  */
 
 /* Translates a script. Numbers 0 to 9; the answer has the code's lines. */
@@ -331,6 +347,23 @@ uint64_t engine_restore(const uint8_t *ENGINE_RESTRICT file, size_t file_length,
                         uint32_t *ENGINE_RESTRICT heads, size_t heads_length,
                         const uint8_t *ENGINE_RESTRICT saved, size_t saved_length) ENGINE_NONNULL ENGINE_MUST_USE;
 
+/* Checks lent code, such as an installer tuned, for main of this depth: that it is formed as code is, uses each name
+ * in its scope and at its depth, and neither loses a reference nor uses one that it has not. Numbers 0, with the code's
+ * lines, and 29, with the line at fault. All code that engine_translate leaves passes. */
+uint64_t engine_check_code(const uint8_t *ENGINE_RESTRICT kinds, size_t kinds_length,
+                           const int64_t *ENGINE_RESTRICT operands, size_t operands_length,
+                           uint64_t depth) ENGINE_NONNULL ENGINE_MUST_USE;
+
+/* Checks lent code in the same way, and works one delivery by it: on a store of a script of that depth, whichever calls
+ * it had before. Numbers 29, 10 and 11, tested in this order, 0, 21 to 26 and 28; the answer is that of a delivery. */
+uint64_t engine_deliver_code(const uint8_t *ENGINE_RESTRICT kinds, size_t kinds_length,
+                             const int64_t *ENGINE_RESTRICT operands, size_t operands_length,
+                             uint64_t depth,
+                             int64_t *ENGINE_RESTRICT slots, size_t slots_length,
+                             uint32_t *ENGINE_RESTRICT heads, size_t heads_length,
+                             const int64_t *ENGINE_RESTRICT readings, size_t readings_length,
+                             uint64_t budget) ENGINE_NONNULL ENGINE_MUST_USE;
+
 /* Each of them refers to the interface's version as well. */
 #define engine_translate(...) (ENGINE_INTERFACE(), engine_translate(__VA_ARGS__))
 #define engine_open(...) (ENGINE_INTERFACE(), engine_open(__VA_ARGS__))
@@ -338,6 +371,8 @@ uint64_t engine_restore(const uint8_t *ENGINE_RESTRICT file, size_t file_length,
 #define engine_check(...) (ENGINE_INTERFACE(), engine_check(__VA_ARGS__))
 #define engine_save(...) (ENGINE_INTERFACE(), engine_save(__VA_ARGS__))
 #define engine_restore(...) (ENGINE_INTERFACE(), engine_restore(__VA_ARGS__))
+#define engine_check_code(...) (ENGINE_INTERFACE(), engine_check_code(__VA_ARGS__))
+#define engine_deliver_code(...) (ENGINE_INTERFACE(), engine_deliver_code(__VA_ARGS__))
 
 /* The length of the saved totals that a buffer begins with, as its bytes 1 and 2 tell it; 0, which a restore refuses,
  * where this does not fit the buffer's capacity. So no byte past the buffer is lent, whatever its bytes are. */

@@ -1,5 +1,6 @@
 /* What every host of the engine wants beside its calls: the arrays that are lent again and again as one struct, the
- * calls on it, the totals by their parts, and a look at what is lent, for debug builds. Included by engine.h. */
+ * calls on it, lent code beside it, the totals by their parts, and a look at what is lent, for debug builds. Included
+ * by engine.h. */
 #ifndef ENGINE_LENT_H
 #define ENGINE_LENT_H
 
@@ -111,6 +112,33 @@ static inline uint64_t engine_restore_lent(struct engine_lent *lent, const uint8
                                                   lent->operands, lent->operands_length, lent->slots,
                                                   lent->slots_length, lent->heads, lent->heads_length, saved,
                                                   saved_length));
+}
+
+/* ---- Lent code beside it ---- */
+
+/* Code that is lent in place of a script, and never written. Code as engine_translate left it will do, too. */
+struct engine_code {
+    const uint8_t *kinds;
+    size_t kinds_length;
+    const int64_t *operands;
+    size_t operands_length;
+};
+
+/* Both calls are for the depth that the struct keeps, and change nothing in it: check the store with its script once
+ * before. */
+ENGINE_NONNULL ENGINE_MUST_USE
+static inline uint64_t engine_check_code_lent(const struct engine_lent *lent, const struct engine_code *code)
+{
+    return engine_check_code(code->kinds, code->kinds_length, code->operands, code->operands_length, lent->depth);
+}
+
+ENGINE_NONNULL ENGINE_MUST_USE
+static inline uint64_t engine_deliver_code_lent(const struct engine_lent *lent, const struct engine_code *code,
+                                                const int64_t *readings, size_t readings_length, uint64_t budget)
+{
+    return engine_deliver_code(code->kinds, code->kinds_length, code->operands, code->operands_length, lent->depth,
+                               lent->slots, lent->slots_length, lent->heads, lent->heads_length, readings,
+                               readings_length, budget);
 }
 
 /* ---- The totals, by their parts: right after a refusal and a stop too ----
@@ -246,6 +274,23 @@ static inline struct engine_fault engine_lent_fault(const struct engine_lent *le
 {
     const struct engine_array none = { "none", "", 0, 1 };
     return engine_lent_fault_with(lent, none);
+}
+
+/* The first fault of what a delivery by lent code is lent: the code, the store, and one array beside them. */
+ENGINE_NONNULL ENGINE_MUST_USE
+static inline struct engine_fault engine_code_fault_with(const struct engine_lent *lent, const struct engine_code *code,
+                                                         struct engine_array beside)
+{
+    const struct engine_array arrays[5] = {
+        { "code kinds", code->kinds, code->kinds_length, sizeof *code->kinds },
+        { "code operands", code->operands, code->operands_length, sizeof *code->operands },
+        { "slots", lent->slots, lent->slots_length, sizeof *lent->slots },
+        { "heads", lent->heads, lent->heads_length, sizeof *lent->heads },
+        beside,
+    };
+    if (engine_cells(lent) == 0)
+        return engine_fault_of("slots", "has not the length of a store beside", "heads");
+    return engine_arrays_fault(arrays, 5);
 }
 
 #ifdef __cplusplus

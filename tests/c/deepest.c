@@ -15,6 +15,14 @@ static void *deliver_here(void *of)
     return NULL;
 }
 
+/* By the code that the opening left, of a main of depth 0. */
+static void *deliver_code_here(void *of)
+{
+    uint64_t *answer = of;
+    *answer = deliver_code(0, ENGINE_BUDGET_MAX);
+    return NULL;
+}
+
 static _Noreturn void give_up(const char *what)
 {
     fprintf(stderr, "a deepest delivery: %s\n", what);
@@ -33,7 +41,7 @@ static void lend_deepest(void (*write)(struct script *))
     lend_readings(0);
 }
 
-uint64_t deliver_deepest(void (*script)(struct script *))
+uint64_t deliver_deepest(void (*script)(struct script *), bool by_code)
 {
     uint64_t answer = 0;
     pthread_attr_t attributes;
@@ -42,7 +50,8 @@ uint64_t deliver_deepest(void (*script)(struct script *))
     if (engine_answer_number(open_store()) != ENGINE_DONE)
         give_up("its store does not open");
     if (pthread_attr_init(&attributes) != 0 || pthread_attr_setstacksize(&attributes, ENGINE_STACK_BYTES) != 0
-        || pthread_create(&thread, &attributes, deliver_here, &answer) != 0 || pthread_join(thread, NULL) != 0)
+        || pthread_create(&thread, &attributes, by_code ? deliver_code_here : deliver_here, &answer) != 0
+        || pthread_join(thread, NULL) != 0)
         give_up("no thread");
     pthread_attr_destroy(&attributes);
     return answer;

@@ -10,7 +10,7 @@ extern unsigned passed, failed;
 /* Counts a test, and says where one fails. */
 void expect(bool holds, const char *what);
 
-/* An answer by its parts; the second is a refusal's node or a delivery's lowest level. */
+/* An answer by its parts; the second is a refusal's node or line, or a delivery's lowest level. */
 uint64_t answer(unsigned number, unsigned node, uint32_t count, unsigned cells);
 
 /* The files of tests beside main.c. */
@@ -20,5 +20,6 @@ void test_totals(void);
 void test_faults(void);
 void test_saved(void);
 void test_saved_length(void);
+void test_code(void);
 
 #endif

@@ -30,6 +30,18 @@ static uint64_t answers(struct engine_lent *lent)
            + engine_restore_lent(lent, saved, engine_saved_length(saved, sizeof saved));
 }
 
+/* The calls by lent code, and those on the struct. */
+static uint64_t answers_by_code(const struct engine_lent *lent)
+{
+    const struct engine_code code = { kinds, sizeof kinds, operands, ENGINE_CODE_LINES_MAX };
+    return engine_check_code(kinds, sizeof kinds, operands, ENGINE_CODE_LINES_MAX, lent->depth)
+           + engine_deliver_code(kinds, sizeof kinds, operands, ENGINE_CODE_LINES_MAX, lent->depth, lent->slots,
+                                 lent->slots_length, lent->heads, lent->heads_length, readings, ENGINE_READINGS_MAX,
+                                 ENGINE_BUDGET_MAX)
+           + engine_check_code_lent(lent, &code)
+           + engine_deliver_code_lent(lent, &code, readings, ENGINE_READINGS_MAX, ENGINE_BUDGET_MAX);
+}
+
 /* The totals by their parts, and the words of a cell by their names. */
 static unsigned parts(const struct engine_lent *lent)
 {
@@ -43,12 +55,15 @@ int main(void)
 {
     struct engine_lent lent = ENGINE_LENT(file, sizeof file, kinds, operands, slots, heads);
     const struct engine_array beside = { "readings", readings, ENGINE_READINGS_MAX, sizeof *readings };
+    const struct engine_code code = { kinds, sizeof kinds, operands, ENGINE_CODE_LINES_MAX };
     uint64_t answer;
     engine_lend_store(&lent, slots, heads, CELLS);
-    if (engine_lent_fault(&lent).array != NULL || engine_lent_fault_with(&lent, beside).array != NULL)
+    if (engine_lent_fault(&lent).array != NULL || engine_lent_fault_with(&lent, beside).array != NULL
+        || engine_code_fault_with(&lent, &code, beside).array != NULL)
         return 1;
-    answer = answers(&lent);
+    answer = answers(&lent) + answers_by_code(&lent);
     return (int)(engine_answer_node(answer) + engine_answer_lowest(answer) + engine_answer_lines(answer)
+                 + engine_answer_line(answer)
                  + engine_answer_steps(answer) + engine_answer_cells(answer) + parts(&lent)
                  + (unsigned)engine_is_refusal(engine_answer_number(answer))
                  + (unsigned)engine_is_stop(engine_answer_number(answer)) + (unsigned)*engine_word(ENGINE_DONE)

@@ -13,15 +13,17 @@ void test_header(void)
     uint64_t parts = answer(23, 1024, 1000000, 256);
     expect(engine_answer_number(parts) == 23 && engine_answer_node(parts) == 1024, "number and node");
     expect(engine_answer_lowest(parts) == 1024, "the lowest level in the node's place");
+    expect(engine_answer_line(parts) == 1024, "and the line of lent code at fault");
     expect(engine_answer_steps(parts) == 1000000 && engine_answer_lines(parts) == 1000000, "steps and lines");
     expect(engine_answer_cells(parts) == 256, "cells");
     expect(strcmp(engine_word(ENGINE_UNKNOWN_NAME), "no such nozzle") == 0, "a word");
     expect(strcmp(engine_word(ENGINE_BAD_COUNT), "bad count") == 0, "the word of 26");
     expect(strcmp(engine_word(ENGINE_BAD_LABEL), "bad label") == 0, "the word of 27");
     expect(strcmp(engine_word(ENGINE_BAD_GUARD), "doubtful switch") == 0, "the word of 28");
+    expect(strcmp(engine_word(ENGINE_BAD_CODE), "bad conversion") == 0, "the word of 29");
     expect(strcmp(engine_word(12), "unknown number") == 0, "no word");
     for (unsigned number = 0; number < 256; number++) {
-        bool is_refusal = (number >= 1 && number <= 11) || number == 27;
+        bool is_refusal = (number >= 1 && number <= 11) || number == 27 || number == 29;
         bool is_stop = (number >= 21 && number <= 26) || number == 28;
         expect(engine_is_refusal(number) == is_refusal && engine_is_stop(number) == is_stop, "refusals and stops");
         bool has_word = strcmp(engine_word(number), "unknown number") != 0;

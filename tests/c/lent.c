@@ -103,6 +103,18 @@ uint64_t restore_totals(void)
                           lent.saved, lent.saved_length);
 }
 
+uint64_t check_code(uint64_t depth)
+{
+    return engine_check_code(lent.kinds, lent.kinds_length, lent.operands, lent.operands_length, depth);
+}
+
+uint64_t deliver_code(uint64_t depth, uint64_t budget)
+{
+    return engine_deliver_code(lent.kinds, lent.kinds_length, lent.operands, lent.operands_length, depth, lent.slots,
+                               lent.slots_length, lent.heads, lent.heads_length, lent.readings, lent.readings_length,
+                               budget);
+}
+
 bool code_is_zero_from(size_t line)
 {
     for (size_t i = line; i < lent.kinds_length; i++)

@@ -1,4 +1,4 @@
-/* What is lent to a call, each array at the end of memory of its own, and the six calls on it. */
+/* What is lent to a call, each array at the end of memory of its own, and the eight calls on it. */
 #ifndef LENT_H
 #define LENT_H
 
@@ -42,6 +42,10 @@ uint64_t check_store(void);
 uint64_t deliver(uint64_t budget);
 uint64_t save_totals(void);
 uint64_t restore_totals(void);
+
+/* By what the code arrays hold, for main of this depth. */
+uint64_t check_code(uint64_t depth);
+uint64_t deliver_code(uint64_t depth, uint64_t budget);
 
 /* Whether the code arrays are zero from some line on. */
 bool code_is_zero_from(size_t line);

@@ -193,8 +193,10 @@ static void test_deepest(void)
 {
     const uint64_t ifs = answer(22, 255, 64 * ENGINE_CALL_DEPTH_MAX, 0);
     const uint64_t reduces = answer(22, 256 - 2 * ENGINE_CALL_DEPTH_MAX, 129 * ENGINE_CALL_DEPTH_MAX, 0);
-    expect(deliver_deepest(deepest_if_script) == ifs, "the deepest delivery of ifs on ENGINE_STACK_BYTES");
-    expect(deliver_deepest(deepest_reduce_script) == reduces, "the deepest delivery of reduces on ENGINE_STACK_BYTES");
+    for (int by_code = 0; by_code < 2; by_code++) {
+        expect(deliver_deepest(deepest_if_script, by_code) == ifs, "the deepest ifs on ENGINE_STACK_BYTES");
+        expect(deliver_deepest(deepest_reduce_script, by_code) == reduces, "the deepest reduces on ENGINE_STACK_BYTES");
+    }
 }
 
 static void test_store_lengths(void)
@@ -259,6 +261,7 @@ int main(int count, char **arguments)
     test_damaged_store();
     test_saved();
     test_saved_length();
+    test_code();
     printf("C link tests: %u passed, %u failed\n", passed, failed);
     return agreed && failed == 0 ? 0 : 1;
 }

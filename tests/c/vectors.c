@@ -2,9 +2,10 @@
  * `end`: `file` has a script's bytes, `arrays` the lengths of the code arrays, `answer` the packed answer, `rows` the
  * code; `open` and `deliver` are calls to make, `slots` and `heads` a store's words: before a check, after the
  * deliveries. Cases from before order 3 have other faulty nodes beside an answer, as `nodes`; its own is the lowest.
- * The acts of swap.txt are those of swap.c. */
+ * The acts of swap.txt are those of swap.c, and those of code.txt, whose cases have a `depth`, of lent_code.c. */
 #include "vectors.h"
 #include "lent.h"
+#include "lent_code.h"
 #include "swap.h"
 
 #include <inttypes.h>
@@ -24,6 +25,7 @@ struct run {
     bool lacks_lowest; /* the file's deliveries have no lowest level */
     bool is_deliver;  /* the case opens a store and delivers to it */
     bool is_translate;
+    bool is_code;     /* the case is of lent code */
     bool agrees;
     uint64_t answer;  /* the engine's */
     uint64_t wanted;
@@ -78,6 +80,12 @@ static bool next_line(void)
         run.line[length - 1] = '\0';
     run.at = run.line;
     return true;
+}
+
+void need_line(void)
+{
+    if (!next_line())
+        unusable("a row is missing");
 }
 
 /* ---- Parts of a case ---- */
@@ -159,8 +167,7 @@ static void compare_rows(void)
     run.answer = translate();
     run.is_translate = true;
     for (uint64_t i = 0; i < rows; i++) {
-        if (!next_line())
-            unusable("a row is missing");
+        need_line();
         uint64_t kind = natural();
         int64_t operand = strtoll(wanted_word(), NULL, 10);
         if (i < lent.kinds_length && i < lent.operands_length)
@@ -187,11 +194,8 @@ static bool is_delivered(uint64_t answer, uint64_t wanted)
     return (answer & ~left_out) == (wanted & ~left_out);
 }
 
-static void make_delivery(void)
+void take_readings(void)
 {
-    take_code_lengths();
-    uint64_t budget = natural();
-    uint64_t wanted = natural();
     int64_t readings[64];
     size_t count = 0;
     char *found;
@@ -202,6 +206,14 @@ static void make_delivery(void)
     }
     lend_readings(count);
     memcpy(lent.readings, readings, count * sizeof *readings);
+}
+
+static void make_delivery(void)
+{
+    take_code_lengths();
+    uint64_t budget = natural();
+    uint64_t wanted = natural();
+    take_readings();
     run.agrees &= is_delivered(deliver(budget), wanted);
 }
 
@@ -216,7 +228,7 @@ static void make_opening(void)
 static void begin_case(void)
 {
     snprintf(run.name, sizeof run.name, "%s", wanted_word());
-    run.is_deliver = run.is_translate = false;
+    run.is_deliver = run.is_translate = run.is_code = false;
     run.agrees = true;
     run.cases++;
 }
@@ -237,7 +249,7 @@ static void make_check(void)
 
 static void end_case(void)
 {
-    if (!run.is_deliver) {
+    if (!run.is_deliver && !run.is_code) {
         if (!run.is_translate)
             make_check();
         run.agrees &= run.answer == run.wanted;
@@ -270,10 +282,33 @@ static void take_store_words(bool is_slots)
     take_words(length, is_slots);
 }
 
+/* A line of a case of lent code, whose keys mean other things there; false where it is as in other cases. */
+static bool take_code_line(const char *key)
+{
+    if (strcmp(key, "depth") == 0) {
+        run.is_code = true;
+        take_depth();
+        return true;
+    }
+    if (!run.is_code)
+        return false;
+    if (strcmp(key, "rows") == 0)
+        take_rows();
+    else if (strcmp(key, "again") == 0)
+        repeat_rows();
+    else if (strcmp(key, "check") == 0)
+        run.agrees &= make_code_check();
+    else if (strcmp(key, "deliver") == 0)
+        run.agrees &= make_code_delivery();
+    else
+        return false;
+    return true;
+}
+
 static void take_line(void)
 {
     const char *key = word();
-    if (key == NULL || strcmp(key, "note") == 0 || strcmp(key, "nodes") == 0)
+    if (key == NULL || strcmp(key, "note") == 0 || strcmp(key, "nodes") == 0 || take_code_line(key))
         return;
     if (strcmp(key, "case") == 0)
         begin_case();

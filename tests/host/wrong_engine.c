@@ -1,5 +1,6 @@
-/* An engine that answers wrongly, for a script tool that is linked with --wrap=engine_deliver: the tool must say so.
- * WRONG in the environment is what is wrong: number, steps, lowest, totals; or dry: a 25 where no cell is wanted. */
+/* An engine that answers wrongly, for a script tool that is linked with --wrap=engine_deliver and --wrap of
+ * engine_check_code: the tool must say so. WRONG in the environment is what is wrong: number, steps, lowest, totals; or
+ * dry: a 25 where no cell is wanted; or line: 29 with line 1. */
 #include "engine.h"
 
 #include <stdlib.h>
@@ -31,4 +32,18 @@ DELIVER(__wrap_engine_deliver)
     if (strcmp(wrong, "totals") == 0)
         slots[0]++;
     return answer;
+}
+
+uint64_t __real_engine_check_code(const uint8_t *kinds, size_t kinds_length, const int64_t *operands,
+                                  size_t operands_length, uint64_t depth);
+uint64_t __wrap_engine_check_code(const uint8_t *kinds, size_t kinds_length, const int64_t *operands,
+                                  size_t operands_length, uint64_t depth);
+
+uint64_t __wrap_engine_check_code(const uint8_t *kinds, size_t kinds_length, const int64_t *operands,
+                                  size_t operands_length, uint64_t depth)
+{
+    const char *wrong = getenv("WRONG");
+    if (wrong != NULL && strcmp(wrong, "line") == 0)
+        return ENGINE_BAD_CODE + (1 << 8);
+    return __real_engine_check_code(kinds, kinds_length, operands, operands_length, depth);
 }

@@ -4,10 +4,12 @@ use crate::engine;
 use crate::model::{self, Lent};
 use std::collections::BTreeMap;
 
-/// How often each number was answered, by the name of the call.
+/// How often each number was answered, by the name of the call; and of lent code, by where it is from, how much was
+/// accepted and how much is at fault in what.
 #[derive(Default)]
 pub struct Tally {
     pub calls: BTreeMap<(&'static str, u64), u64>,
+    pub classes: BTreeMap<(&'static str, &'static str), u64>,
     pub differ: u64,
 }
 
@@ -17,12 +19,23 @@ pub const LEVEL_BITS: u64 = 0xff_ff00;
 impl Tally {
     /// Compares a call's answers and lent arrays; what the engine left becomes what is lent.
     fn compare(&mut self, call: &'static str, file: &[u8], engine: (u64, Lent), model: (u64, Lent)) -> Lent {
+        let bytes = || format!("file {}", file.iter().map(|byte| format!("{byte:02x}")).collect::<String>());
+        self.compare_with(call, bytes, engine, model)
+    }
+
+    /// The same; where they differ it says what the call was lent.
+    fn compare_with(
+        &mut self,
+        call: &'static str,
+        lent: impl Fn() -> String,
+        engine: (u64, Lent),
+        model: (u64, Lent),
+    ) -> Lent {
         *self.calls.entry((call, engine.0 & 0xff)).or_default() += 1;
         if engine != model {
             self.differ += 1;
             if self.differ < 4 {
-                let bytes: String = file.iter().map(|byte| format!("{byte:02x}")).collect();
-                eprintln!("{call}: engine {:#x}, model {:#x}\n  file {bytes}", engine.0, model.0);
+                eprintln!("{call}: engine {:#x}, model {:#x}\n  {}", engine.0, model.0, lent());
             }
         }
         engine.1
@@ -77,11 +90,30 @@ impl Tally {
         engine & 0xff
     }
 
+    /// Checks the code that is lent; the whole answer.
+    pub fn check_code(&mut self, lent: &Lent, depth: u64) -> u64 {
+        let before = lent.clone();
+        let engine = engine::check_code(lent, depth);
+        let model = model::check_code(&before, depth);
+        self.compare_with("check_code", || code_text(lent, depth), (engine, lent.clone()), (model, before));
+        engine
+    }
+
+    /// Delivers by the code that is lent; the whole answer.
+    pub fn deliver_code(&mut self, lent: &mut Lent, depth: u64, readings: &[i64], budget: u64) -> u64 {
+        let (mut ours, mut theirs) = (lent.clone(), lent.clone());
+        let engine = engine::deliver_code(&mut ours, depth, readings, budget);
+        let model = model::deliver_code(&mut theirs, depth, readings, budget);
+        let text = || format!("{}; readings {readings:?}, budget {budget}", code_text(&theirs, depth));
+        *lent = self.compare_with("deliver_code", text, (engine, ours), (model, theirs.clone()));
+        engine
+    }
+
     /// Prints how often each number was answered, and says whether all agreed.
     pub fn report(&self, title: &str) -> bool {
         let total: u64 = self.calls.values().sum();
         println!("{title}: {total} calls, {} differ", self.differ);
-        for call in ["translate", "open", "check", "deliver", "save", "restore"] {
+        for call in ["translate", "open", "check", "deliver", "save", "restore", "check_code", "deliver_code"] {
             let counts: Vec<String> = self
                 .calls
                 .iter()
@@ -89,9 +121,19 @@ impl Tally {
                 .map(|((_, number), count)| format!("{number}: {count}"))
                 .collect();
             if !counts.is_empty() {
-                println!("  {call:9} by number  {}", counts.join(", "));
+                println!("  {call:12} by number  {}", counts.join(", "));
             }
+        }
+        for ((code, class), count) in &self.classes {
+            println!("  {code}, {class}: {count}");
         }
         self.differ == 0 && total > 0
     }
+}
+
+/// Lent code, for people.
+fn code_text(lent: &Lent, depth: u64) -> String {
+    let rows: Vec<String> =
+        lent.kinds.iter().zip(&lent.operands).map(|(kind, operand)| format!("{kind}/{operand}")).collect();
+    format!("depth {depth}, arrays {} {}, rows {}", lent.kinds.len(), lent.operands.len(), rows.join(" "))
 }

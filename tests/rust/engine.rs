@@ -78,6 +78,27 @@ extern "C" {
         saved: *const u8,
         saved_length: usize,
     ) -> u64;
+    fn engine_check_code(
+        kinds: *const u8,
+        kinds_length: usize,
+        operands: *const i64,
+        operands_length: usize,
+        depth: u64,
+    ) -> u64;
+    fn engine_deliver_code(
+        kinds: *const u8,
+        kinds_length: usize,
+        operands: *const i64,
+        operands_length: usize,
+        depth: u64,
+        slots: *mut i64,
+        slots_length: usize,
+        heads: *mut u32,
+        heads_length: usize,
+        readings: *const i64,
+        readings_length: usize,
+        budget: u64,
+    ) -> u64;
 }
 
 // The calls ask for nothing that borrowed slices do not have: aligned, not null, apart.
@@ -183,6 +204,37 @@ pub fn restore(file: &[u8], lent: &mut Lent, saved: &[u8]) -> u64 {
             lent.heads.len(),
             saved.as_ptr(),
             saved.len(),
+        )
+    }
+}
+
+pub fn check_code(lent: &Lent, depth: u64) -> u64 {
+    unsafe {
+        engine_check_code(
+            lent.kinds.as_ptr(),
+            lent.kinds.len(),
+            lent.operands.as_ptr(),
+            lent.operands.len(),
+            depth,
+        )
+    }
+}
+
+pub fn deliver_code(lent: &mut Lent, depth: u64, readings: &[i64], budget: u64) -> u64 {
+    unsafe {
+        engine_deliver_code(
+            lent.kinds.as_ptr(),
+            lent.kinds.len(),
+            lent.operands.as_ptr(),
+            lent.operands.len(),
+            depth,
+            lent.slots.as_mut_ptr(),
+            lent.slots.len(),
+            lent.heads.as_mut_ptr(),
+            lent.heads.len(),
+            readings.as_ptr(),
+            readings.len(),
+            budget,
         )
     }
 }

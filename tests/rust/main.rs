@@ -1,12 +1,16 @@
-//! The static library against a second implementation, on scripts and stores made at random, long and short, valid and
-//! damaged, and on the test vectors that the arguments name. Exit status 0 where all agree.
+//! The static library against a second implementation, on scripts, lent code and stores made at random, long and short,
+//! valid and damaged, and on the test vectors that the arguments name. Exit status 0 where all agree.
 
+mod codes;
 mod compare;
 mod engine;
 mod generate;
+mod lent_code;
+mod make_code;
 mod model;
 mod random;
 mod swaps;
+mod tune;
 mod vectors;
 
 use compare::Tally;
@@ -228,6 +232,8 @@ fn main() {
     agreed &= cut_files(&mut random).report("cut files");
     agreed &= histories(&mut random, 4_000).report("histories");
     agreed &= swapped_sites(&mut random, 2_000).report("swapped sites");
+    agreed &= lent_code::small().report("small lent code");
+    agreed &= lent_code::codes(&mut random, 6_000).report("lent code");
     println!("{}", if agreed { "all agree" } else { "NOT ALL AGREE" });
     std::process::exit(if agreed { 0 } else { 1 });
 }

@@ -17,7 +17,7 @@ fn bytes_of(pieces: &[&str]) -> Vec<u8> {
 }
 
 /// Sets words of an array.
-fn put<T: std::str::FromStr>(array: &mut [T], words: &[&str]) {
+pub fn put<T: std::str::FromStr>(array: &mut [T], words: &[&str]) {
     for word in words {
         let (index, value) = word.split_once('=').unwrap();
         array[number::<usize>(index)] = number(value);

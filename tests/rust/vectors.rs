@@ -1,5 +1,6 @@
 //! The test vectors: cases of plain text, one file for each call, run by the engine and by the model.
 
+use crate::codes;
 use crate::compare::LEVEL_BITS;
 use crate::engine;
 use crate::model::{self, Lent};
@@ -23,7 +24,7 @@ fn cases(text: &str) -> Vec<Case<'_>> {
     cases
 }
 
-fn values<'a>(case: &'a Case, key: &str) -> Option<&'a [&'a str]> {
+pub fn values<'a>(case: &'a Case, key: &str) -> Option<&'a [&'a str]> {
     case.iter().find(|(k, _)| *k == key).map(|(_, words)| words.as_slice())
 }
 
@@ -69,6 +70,8 @@ pub struct Calls {
     pub deliver: fn(&[u8], &mut Lent, &[i64], u64) -> u64,
     pub save: fn(&[u8], &mut Lent, &mut [u8]) -> u64,
     pub restore: fn(&[u8], &mut Lent, &[u8]) -> u64,
+    pub check_code: fn(&Lent, u64) -> u64,
+    pub deliver_code: fn(&mut Lent, u64, &[i64], u64) -> u64,
 }
 
 const ENGINE: Calls = Calls {
@@ -78,6 +81,8 @@ const ENGINE: Calls = Calls {
     deliver: engine::deliver,
     save: engine::save,
     restore: engine::restore,
+    check_code: engine::check_code,
+    deliver_code: engine::deliver_code,
 };
 
 const MODEL: Calls = Calls {
@@ -87,6 +92,8 @@ const MODEL: Calls = Calls {
     deliver: model::deliver,
     save: model::save,
     restore: model::restore,
+    check_code: model::check_code,
+    deliver_code: model::deliver_code,
 };
 
 fn translate_case(case: &Case, calls: &Calls) -> bool {
@@ -151,7 +158,9 @@ fn deliver_case(case: &Case, calls: &Calls, without_lowest: bool) -> bool {
 }
 
 fn agrees(case: &Case, calls: &Calls, without_lowest: bool) -> bool {
-    if values(case, "rows").is_some() {
+    if values(case, "depth").is_some() {
+        codes::code_case(case, calls)
+    } else if values(case, "rows").is_some() {
         translate_case(case, calls)
     } else if values(case, "store").is_some() {
         swaps::swap_case(case, calls)

@@ -25,6 +25,8 @@ pub const UNSOUND_STORE: u8 = 11;
 
 pub const BAD_SAVE_FILE: u8 = 27;
 
+pub const BAD_CODE: u8 = 29;
+
 // Stops.
 pub const OUT_OF_STEPS: u8 = 21;
 

@@ -1,6 +1,6 @@
 -- The table of a loaded script is what the machine needs.
 use Rattle.prelude.specs.Kit.{ℕ, _≤_, _+_, _<_, _-_, suc, zero, _*_, arith, true, false, Bool, cond, _≡_, refl, _∙_}
-use Rattle.prelude.specs.Kit.{sym, ap, subst, List, [], _∷_, _++_, map, ℤ, pos, length, getD, replicate, drop}
+use Rattle.prelude.specs.Kit.{sym, ap, subst, ap₂, List, [], _∷_, _++_, map, ℤ, pos, length, getD, replicate, drop}
 use Rattle.prelude.specs.Kit.{length-append, length-map, length-drop, drop-cons, leb-true}
 use Rattle.semantics.specs.Outcome.{Outcome, done, stop}
 use Rattle.semantics.specs.Syntax.{Script}
@@ -16,15 +16,15 @@ use Rattle.script.specs.declared.Verdict.the-variants.{Accepted, Refused}
 use Rattle.script.specs.Verdicts.{Judges}
 use Rattle.script.proofs.Whole.{kinds-of, operands-of}
 use Rattle.script_laws.specs.Admitted.{no-script, admitted-judged}
-use Rattle.soundness.specs.annotation.Accepting.{judged-clean}
 use Rattle.machine_code.specs.Reading.{table-bytes, depth-in, start-in}
 use Rattle.machine_spec.specs.Machine as M
-use Rattle.machine_laws.specs.Rows.{At, Jumps}
+use Rattle.machine_code.specs.Rows.{At}
 use Rattle.machine_table.specs.Positions.{ends-from, starts-from, filled}
 use Rattle.machine_table.proofs.Filling.{filled-long}
-use Rattle.machine_laws.specs.Script.{body-at, Coded, code-written}
-use Rattle.machine_laws.specs.Ends.{Roomy, ends-below, ends-long, tree-ends}
-use Rattle.machine_laws.specs.Starts.{starts-below, starts-ends, FunctionsBegin, starts-stand}
+use Rattle.machine_laws.specs.Script.{script-rows, script-joined, script-many, script-some, Coded, code-written}
+use Rattle.machine_laws.specs.Functions.{joined, head-of}
+use Rattle.machine_laws.specs.Ends.{Jumps, Roomy, ends-below, ends-long, tree-ends}
+use Rattle.machine_laws.specs.Starts.{starts-below, starts-ends, Begin, starts-stand}
 use Rattle.translate_script.specs.Depths.{DepthsFrom, Depths-by}
 use Rattle.translate_script.specs.Places.{PlacesFrom, Places-by}
 use Rattle.translate.specs.Left.{left-of, Leaves}
@@ -80,6 +80,13 @@ module _ {file : List ℕ} {f n : ℕ} (a : AcceptedFile file f n) where
     written = code-written fs (replicate (length kinds - length (code fs)) 0)
         (replicate (length operands - length (code fs)) (pos 0))
 
+    within : length (code fs) ≤ length ks
+    within = omega (
+      arith,
+      length-append (map (λ r. r .kind) (code fs)) (replicate (length kinds - length (code fs)) 0),
+      length-map (code fs) (λ (r : Row). r .kind),
+    )
+
     -- no row behind the code
     past : (q : ℕ) → length (code fs) ≤ q → getD ks q 0 ≡ 0
     past q h = zeros-past (map (λ r. r .kind) (code fs)) (length kinds - length (code fs)) q
@@ -92,8 +99,8 @@ module _ {file : List ℕ} {f n : ℕ} (a : AcceptedFile file f n) where
     module _ {starts places : List ℕ} (placed : PlacesFrom 0 fs (room kinds operands + 1) starts places) where
       -- each of the functions from number f on begins where the rows of those before it end
       begins : (gs : Script) (f p : ℕ) → drop f fs ≡ gs → p + length (functions-rows fs T f gs) ≡ length (code fs) →
-          FunctionsBegin fs T places gs f p
-      unfolding functions-rows code code-fits
+          Begin places (script-rows fs T f gs) f p
+      unfolding functions-rows script-rows code code-fits
       begins [] f p d e = tt
       begins (k ∷ gs) f p d e = (
         omega (
@@ -112,48 +119,53 @@ module _ {file : List ℕ} {f n : ℕ} (a : AcceptedFile file f n) where
           there = omega (arith, ap length d, length-drop f fs)
 
       stand : (table : List ℕ) → Roomy table → (g : ℕ) → g < length fs →
-          start-in (starts-from (length fs) ks os places 0 table) g ≡ body-at fs T 0 fs g
+          start-in (starts-from (length fs) ks places 0 table) g ≡ head-of (script-rows fs T 0 fs) g
       unfolding code
       stand table long g l =
-          let name : 0 + g ≡ g = omega arith in
-          let place : 0 + body-at fs T 0 fs g ≡ body-at fs T 0 fs g = omega arith in
-          subst (λ (m : ℕ). start-in (starts-from (length fs) ks os places 0 table) m ≡ body-at fs T 0 fs g) name
-          (starts-stand ks os fs T places fs 0 0 table written (judged-clean file fs (a .judged-so) .limits .1) long
-          (omega (arith, few)) (omega (arith, short)) (begins fs 0 0 refl (omega arith)) g l ∙ place)
+          let rss = script-rows fs T 0 fs in
+          let as-many = script-many fs T 0 fs in
+          let rows-as-many : length (code fs) ≡ length (joined rss) = ap length (script-joined fs T 0 fs) in
+          ap₂ (λ (m : ℕ) (n : ℕ). start-in (starts-from m ks places 0 table) n) (sym as-many)
+          (let z : g ≡ 0 + g = omega arith in z)
+          ∙ starts-stand ks places rss 0 0 table long (omega (arith, few, as-many))
+          (omega (arith, within, rows-as-many)) (omega (arith, short, rows-as-many)) (script-some fs T 0 fs)
+          (begins fs 0 0 refl (omega arith)) g (omega (arith, l, as-many))
+          ∙ (let z : 0 + head-of rss g ≡ head-of rss g = omega arith in z)
 
       -- the table after the pass over the rows and the one over the functions
       passed : {table table′ : List ℕ} → DepthsFrom 0 fs table table′ → Roomy table′ → Roomy table →
-          Coded fs (M.code ks os (starts-from f ks os places 0 (ends-from (length (code fs)) ks table′)))
+          Coded fs (M.code ks os (starts-from f ks places 0 (ends-from (length (code fs)) ks table′)))
       unfolding depth-in
       passed {table} {table′} h long long₀ =
           let ends = ends-from (length (code fs)) ks table′ in
           record {
             written = written;
             short = short;
-            starts = λ g l. subst (λ (m : ℕ). start-in (starts-from m ks os places 0 ends) g ≡ body-at fs T 0 fs g)
-                functions-are (stand ends (omega (arith, long, ends-long ks (length (code fs)) table′)) g l);
-            depths = λ g x l m. starts-below ks os places f 0 ends (256 * g + x) (omega (arith, few))
+            starts = λ g l. subst (λ (m : ℕ). start-in (starts-from m ks places 0 ends) g
+                ≡ head-of (script-rows fs T 0 fs) g) functions-are
+                (stand ends (omega (arith, long, ends-long ks (length (code fs)) table′)) g l);
+            depths = λ g x l m. starts-below ks places f 0 ends (256 * g + x) (omega (arith, few))
                 ∙ ends-below ks (length (code fs)) table′ (256 * g + x) (omega (arith, few))
                 ∙ h .there g x (omega arith) l m (omega (arith, few, long₀));
-            ends = λ t q w. starts-ends ks os places f 0 ends q (omega (arith, few, functions-are))
+            ends = λ t q w. starts-ends ks places f 0 ends q (omega (arith, few, functions-are))
                 ∙ jumping table′ long t q w;
           }
 
       pub coded-so : {table table′ : List ℕ} → DepthsFrom 0 fs table table′ → Roomy table →
-          (length fs ≤ 32) × Coded fs (M.code ks os (filled f (length (code fs)) ks os places table′))
+          (length fs ≤ 32) × Coded fs (M.code ks os (filled f (length (code fs)) ks places table′))
       coded-so {table} {table′} h long =
           let long′ : Roomy table′ = omega (arith, h .long, long) in (
             few,
             subst (λ (t : List ℕ). Coded fs (M.code ks os t))
-                (filled-long f (length (code fs)) ks os places table′ long′ _ _ refl refl) (passed h long′ long),
+                (filled-long f (length (code fs)) ks places table′ long′ _ _ refl refl) (passed h long′ long),
           )
 
 -- ---- the ways out of loading
 
 -- the table after the translator's answer
-abbrev pub table-after : ℕ → List ℕ → List ℤ → List ℕ → Outcome (Unit {0}) ℕ → List ℕ → List ℕ
-table-after f kinds operands places (done m u) table = filled f m kinds operands places table
-table-after f kinds operands places (stop n u) table = table
+abbrev pub table-after : ℕ → List ℕ → List ℕ → Outcome (Unit {0}) ℕ → List ℕ → List ℕ
+table-after f kinds places (done m u) table = filled f m kinds places table
+table-after f kinds places (stop n u) table = table
 
 -- the code that the translator left is within its array
 pub laid-within : {file : List ℕ} {f n : ℕ} (a : AcceptedFile file f n) (kinds kinds′ : List ℕ)
@@ -197,7 +209,7 @@ module _ {file kinds : List ℕ} {operands : List ℤ} {table kinds′ : List �
       (record { answer = r; kinds = kinds′; operands = operands′ }) →
       Depths-by (script (kinds-of file n) (operands-of file n) f 0) table table′ →
       Places-by (script (kinds-of file n) (operands-of file n) f 0) (room kinds operands + 1) starts places →
-      LoadsWith file kinds operands table (ready d r) kinds′ operands′ (table-after f kinds′ operands′ places r table′)
+      LoadsWith file kinds operands table (ready d r) kinds′ operands′ (table-after f kinds′ places r table′)
   unfolding left-of
   loads-with-laid {f} {n} r d table′ starts places j e left deep placed = record {
     loads = loads-laid r d j e left;
@@ -212,7 +224,7 @@ module _ {file kinds : List ℕ} {operands : List ℤ} {table kinds′ : List �
           record { answer = r; kinds = kinds′; operands = operands′ } ≡ left-of (a .tree) kinds operands →
           DepthsFrom 0 (a .tree) table table′ → PlacesFrom 0 (a .tree) (room kinds operands + 1) starts places →
           table-bytes ≤ length table →
-          (length gs ≤ 32) × Coded gs (M.code kinds′ operands′ (table-after f kinds′ operands′ places r table′))
+          (length gs ≤ 32) × Coded gs (M.code kinds′ operands′ (table-after f kinds′ places r table′))
       by gs g l h placed long =
           let s = rw (g .1) at l in
           rw (g .0, ap (λ x. x .answer) s, ap (λ x. x .kinds) s, ap (λ x. x .operands) s)

@@ -36,7 +36,7 @@ pub fn load_with(file: &[u8], kinds: &mut [u8], operands: &mut [i64], table: &mu
                 operands,
             ) {
                 Laid::Lines(n) => {
-                    machine_table::fill(kinds, operands, functions, n, &starts, table);
+                    machine_table::fill(kinds, functions, n, &starts, table);
                     Loaded::Ready(n, depth as u32)
                 }
                 Laid::TooLong => Loaded::Refused(TOO_LONG),

@@ -1,5 +1,5 @@
 -- One law for each way out of the store's part of a call.
-use Rattle.prelude.specs.Kit.{ℕ, _<_, _%_, _^_, arith, true, false, _≡_, refl, List, ℤ}
+use Rattle.prelude.specs.Kit.{ℕ, _≤_, _<_, _%_, _^_, arith, true, false, _≡_, refl, List, ℤ}
 use Rattle.semantics.specs.Store.{Store, opened, cells-taken}
 use Rattle.semantics.specs.Words.{cells-in, store-of, shaped}
 use Rattle.semantics.specs.Sound.{sound, sound-words}
@@ -57,3 +57,9 @@ pub packed-number : (number lowest steps cells : ℕ) → number < 2 ^ 8 →
     ≡ packed number (lowest % 2 ^ 16) (steps % 2 ^ 24) (cells % 2 ^ 16)
 unfolding packed
 packed-number number lowest steps cells f = omega arith
+
+-- a level, steps and cells that have room in an answer are packed as they are
+pub packed-counts : (number lowest steps cells : ℕ) → lowest ≤ 256 → steps ≤ 1000000 → cells ≤ 256 →
+    packed number (lowest % 2 ^ 16) (steps % 2 ^ 24) (cells % 2 ^ 16) ≡ packed number lowest steps cells
+unfolding packed
+packed-counts number lowest steps cells l s c = omega arith

@@ -2,7 +2,7 @@
 // part is told.
 ghost use mathlib.Core.Path.{_≡_};
 ghost use Rattle.call_store.specs.Left.{left, opened-left, checked-left, SmallAnswer};
-ghost use Rattle.call_store.specs.Told.{Tells};
+ghost use Rattle.call_store.specs.Told.{answer-to, Tells};
 
 // How the store's part of a call ends: the number of a stop or 0, the lowest level of a delivery, the steps and the
 // cells taken; or a refusal.
@@ -36,10 +36,9 @@ pub fn check_words(slots: &[i64], heads: &[u32], depth: u32) -> Ended
     Ended::Answered(0, 0, 0, store_words::cells_taken(slots, heads))
 }
 
-// The packed answer to how the store's part of a call ended; a refusal zeroes both code arrays.
-pub fn tell(ended: Ended, kinds: &mut [u8], operands: &mut [i64]) -> u64
-    ensures { λ r. ⌜ Tells ended (now (kinds .entry)) (now (operands .entry)) r
-        (now (kinds .exit)) (now (operands .exit)) ⌝ }
+// The packed answer to how the store's part of a call ended.
+pub fn answer(ended: Ended) -> u64
+    ensures { λ r. ⌜ r ≡ answer-to ended ⌝ }
 {
     match ended {
         Ended::Answered(number, lowest, steps, cells) => words::pack(
@@ -48,9 +47,20 @@ pub fn tell(ended: Ended, kinds: &mut [u8], operands: &mut [i64]) -> u64
             steps,
             cells as u64,
         ),
-        Ended::Refused(number) => {
+        Ended::Refused(number) => number as u64,
+    }
+}
+
+// The same for a call that leaves a script's code: a refusal zeroes both code arrays.
+pub fn tell(ended: Ended, kinds: &mut [u8], operands: &mut [i64]) -> u64
+    ensures { λ r. ⌜ Tells ended (now (kinds .entry)) (now (operands .entry)) r
+        (now (kinds .exit)) (now (operands .exit)) ⌝ }
+{
+    match ended {
+        Ended::Answered(_, _, _, _) => answer(ended),
+        Ended::Refused(_) => {
             clearing::clear_code(kinds, operands);
-            number as u64
+            answer(ended)
         }
     }
 }

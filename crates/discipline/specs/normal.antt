@@ -1,5 +1,4 @@
 -- The normal form: the code worked on values is the meaning.
-pub mod Plain
 pub mod Agree
 pub mod Lines
 pub mod Retains

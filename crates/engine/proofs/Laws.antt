@@ -1,5 +1,5 @@
 -- One law for each way out of a call.
-use Rattle.prelude.specs.Kit.{ℕ, _≤_, _<_, _%_, _^_, arith, true, false, Bool, cond, _≡_, refl, _∙_, sym, ap, List, ℤ}
+use Rattle.prelude.specs.Kit.{ℕ, _≤_, _<_, arith, true, false, Bool, cond, _≡_, refl, _∙_, sym, ap, List, ℤ}
 use Rattle.prelude.specs.Kit.{pos, length, replicate, take, length-take, leb-true}
 use Rattle.semantics.specs.Syntax.{Script, main-depth}
 use Rattle.semantics.specs.Annotate.{code}
@@ -10,10 +10,12 @@ use Rattle.semantics.specs.Calls.{Verdict, accepted, refused, packed, admitted,
 use Rattle.semantics.specs.Calls.{StoreReply, translated, refusing, answering, open-for, check-for, judged}
 use Rattle.semantics.specs.Calls.{admitted-if, code-fits}
 use Rattle.semantics.specs.Calls.{engine-translate, request-fits, deliver-in, deliver-for}
-use Rattle.semantics.specs.Machine.{program, delivered}
+use Rattle.semantics.specs.Machine.{program, program-in, delivered}
 use Rattle.soundness.specs.annotation.Accepting.{main-shape-of}
 use Rattle.machine_code.specs.Reading.{Cut}
-use Rattle.machine_laws.specs.Script.{code-some}
+use Rattle.machine_spec.specs.Machine as M
+use Rattle.machine_spec.specs.Delivery.{Performs}
+use Rattle.machine_laws.specs.Script.{Coded, code-some, deliver-accepted}
 use Rattle.call_store.specs.declared.Ended.{Ended}
 use Rattle.call_store.specs.declared.Ended.the-variants as E
 use Rattle.call_store.specs.Left.{StoreLeft, left, left-by, opened-left, checked-left, SmallAnswer}
@@ -22,6 +24,7 @@ use Rattle.call_load.specs.declared.Loaded.the-variants.{Ready, Refused}
 use Rattle.call_load.specs.Loading.{told-load, kinds-after, operands-after, Loads}
 use Rattle.engine.specs.Promises.{Translates, Replies}
 use Rattle.call_store.specs.Told.{Tells}
+use Rattle.call_store.proofs.Laws.{packed-counts}
 
 -- ---- translate
 
@@ -155,8 +158,8 @@ module _ (kinds : List ℕ) (operands : List ℤ) where
 
     pub deliver-serves : (readings : List ℤ) (budget : ℕ) →
         Serves slots heads (deliver-for kinds operands slots heads readings budget)
-        (λ fs. delivered-left fs readings budget slots heads)
-    unfolding deliver-for delivered-left answering refusing
+        (λ fs. delivered-left (program fs) readings budget slots heads)
+    unfolding deliver-for delivered-left answering refusing program-in
     deliver-serves readings budget = record {
       refuses = λ n p. refl;
       serves = λ fs. by fs (request-fits readings budget) (sound-words (main-depth fs) slots heads);
@@ -171,13 +174,17 @@ module _ (kinds : List ℕ) (operands : List ℤ) where
         by fs true false = refl
         by fs false u = refl
 
--- ---- the ways out of such a call
+-- the code and the table of an accepted script are those of its program
+pub script-performs : (file : List ℕ) (fs : Script) → judged file ≡ accepted fs → length fs ≤ 32 → (c : M.Code) →
+    Coded fs c → Performs (program fs) c
+unfolding program-in
+script-performs file fs ok few c coded = record { same = deliver-accepted file fs ok few c coded }
 
--- parts that have room in an answer are packed as they are
-pub packed-counts : (number lowest steps cells : ℕ) → lowest ≤ 256 → steps ≤ 1000000 → cells ≤ 256 →
-    packed number (lowest % 2 ^ 16) (steps % 2 ^ 24) (cells % 2 ^ 16) ≡ packed number lowest steps cells
-unfolding packed
-packed-counts number lowest steps cells l s c = omega arith
+pub program-depth : (fs : Script) → main-depth fs ≡ program fs .depth
+unfolding program-in
+program-depth fs = refl
+
+-- ---- the ways out of such a call
 
 module _ {file kinds : List ℕ} {operands slots : List ℤ} {heads : List ℕ} {call : Verdict → StoreReply}
     {part : Script → StoreLeft} (s : Serves kinds operands slots heads call part) where

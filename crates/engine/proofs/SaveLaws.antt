@@ -22,7 +22,8 @@ use Rattle.call_load.specs.declared.Loaded.the-variants.{Ready, Refused}
 use Rattle.call_load.specs.Loading.{told-load, kinds-after, operands-after, Loads}
 use Rattle.engine.specs.Promises.{Saves}
 use Rattle.call_store.specs.Told.{Tells}
-use Rattle.engine.proofs.Laws.{reply-for, Serves, packed-counts}
+use Rattle.call_store.proofs.Laws.{packed-counts}
+use Rattle.engine.proofs.Laws.{reply-for, Serves}
 
 -- ---- restore
 

@@ -1,9 +1,10 @@
-// The calls for C. Each takes the script file and the two code arrays, translates afresh, and answers one packed
-// number.
+// The calls for C, each of which answers one packed number. Those for a script take its file and the two code arrays,
+// and translate afresh; those for lent code take it in the two code arrays, judge it afresh, and write no word of it.
 use call_load::Loaded;
 use machine_code::TABLE_BYTES;
 ghost use Rattle.semantics.specs.Calls.{engine-translate, engine-open, engine-check, engine-deliver};
 ghost use Rattle.semantics.specs.SaveCalls.{engine-save, engine-restore};
+ghost use Rattle.semantics_lent.specs.Calls.{engine-check-code, engine-deliver-code};
 ghost use Rattle.engine.specs.Promises.{Translates, Replies, Saves};
 
 // Translates a script: its code in the two arrays, and its lines in the answer.
@@ -149,4 +150,33 @@ pub extern "C" fn engine_restore(
         }
         Loaded::Refused(answer) => answer,
     }
+}
+
+// Checks lent code for main of a depth: its lines in the answer, or the line at fault.
+#[no_mangle]
+pub extern "C" fn engine_check_code(kinds: &[u8], operands: &[i64], depth: u64) -> u64
+    ensures { λ r. ⌜ Translates
+        (engine-check-code (now (kinds .entry)) (now (operands .entry)) depth)
+        r (now (kinds .entry)) (now (operands .entry)) ⌝ }
+{
+    call_code::check(kinds, operands, depth)
+}
+
+// Delivers readings by lent code, for main of a depth, on a store, within a budget of steps.
+#[no_mangle]
+pub extern "C" fn engine_deliver_code(
+    kinds: &[u8],
+    operands: &[i64],
+    depth: u64,
+    slots: &mut [i64],
+    heads: &mut [u32],
+    readings: &[i64],
+    budget: u64,
+) -> u64
+    ensures { λ r. ⌜ Replies
+        (engine-deliver-code (now (kinds .entry)) (now (operands .entry)) depth
+        (now (slots .entry)) (now (heads .entry)) (now (readings .entry)) budget)
+        r (now (kinds .entry)) (now (operands .entry)) (now (slots .exit)) (now (heads .exit)) ⌝ }
+{
+    call_code::deliver(kinds, operands, depth, slots, heads, readings, budget)
 }

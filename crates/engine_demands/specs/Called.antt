@@ -69,12 +69,12 @@ compiled = record { opens = OpenCall; delivers = DeliverCall }
 
 -- each is a call of the definitions
 
-opens-defined : (file kinds : List ℕ) (operands slots : List ℤ) (heads : List ℕ) (r : StoreReply) →
+pub opens-defined : (file kinds : List ℕ) (operands slots : List ℤ) (heads : List ℕ) (r : StoreReply) →
     OpenCall file kinds operands slots heads r → defined .opens file kinds operands slots heads r
 unfolding defined
 opens-defined file kinds operands slots heads r (opens κs a q s h) = h
 
-delivers-defined : (file : List ℕ) (slots : List ℤ) (heads : List ℕ) (δ : Delivery) (r : StoreReply) →
+pub delivers-defined : (file : List ℕ) (slots : List ℤ) (heads : List ℕ) (δ : Delivery) (r : StoreReply) →
     DeliverCall file slots heads δ r → defined .delivers file slots heads δ r
 unfolding defined
 delivers-defined file slots heads δ r (delivers κs a q s h) = h
@@ -140,7 +140,7 @@ saves-defined : (file kinds : List ℕ) (operands slots : List ℤ) (heads buffe
 unfolding defined-saving
 saves-defined file kinds operands slots heads buffer r (saves κs a q s h words) = (words, h)
 
-restores-defined : (file kinds : List ℕ) (operands slots : List ℤ) (heads saved : List ℕ) (r : StoreReply) →
+pub restores-defined : (file kinds : List ℕ) (operands slots : List ℤ) (heads saved : List ℕ) (r : StoreReply) →
     RestoreCall file kinds operands slots heads saved r →
     defined-saving .restores file kinds operands slots heads saved r
 unfolding defined-saving

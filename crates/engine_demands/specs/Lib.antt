@@ -1,2 +1,3 @@
 -- The modules of `engine_demands`' specs.
 pub mod Called
+pub mod CalledCode

@@ -12,7 +12,7 @@ use Rattle.semantics.specs.Annotate.{NameDepths}
 use Rattle.semantics.specs.Store.{named-by, with-totals}
 use Rattle.semantics.specs.Machine.{Work, Frame, word, Callee, argument, is-count, work-leaf, carried-first}
 use Rattle.semantics.specs.Machine.{pass-words, taken-by, in-place, carried-on, loop-ends, work-pass, binding}
-use Rattle.semantics.specs.Machine.{element-depth, looped-over, work, work-line, Program, routine-of, frame-from}
+use Rattle.semantics.specs.Machine.{element-depth, looped-over, work, work-line, Program, routine-of, framed}
 use Rattle.semantics.specs.Machine.{machine, acquire, if-array, retain-word, release-word, with-store, delivery}
 use Rattle.larger.specs.Extended.{same-totals}
 use Rattle.larger.specs.Runs.{SameEnd, Untouched, Steady, steady-give, steady-halt, steady-require}
@@ -118,7 +118,8 @@ module _ (cells steps : ℕ) where
     unfolding machine
     steady-call zero R f ws = steady-halt 22
     steady-call (suc n) R f ws = steady-tree (machine p n) (λ S g vs. steady-call n S g vs) (p .borrowing)
-        (routine-of p f .depths) (routine-of p f .tree) empty R (frame-from ws 0)
+        (routine-of p f .depths) (routine-of p f .tree) empty R
+        (framed (routine-of p f .names) ws)
 
     -- the readings' cell, main, and its result in the place of the totals, which are the word old
     abbrev delivery-with : List ℤ → ℤ → Work (Unit {0})

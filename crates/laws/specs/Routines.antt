@@ -3,11 +3,12 @@ use Rattle.prelude.specs.Kit.{ℕ, _+_, _<_, suc, zero, arith, _≡_, refl, _�
 use Rattle.semantics.specs.Syntax.{Function, Script, function-at, no-function}
 use Rattle.semantics.specs.Borrow.{Table, borrowed}
 use Rattle.semantics.specs.Annotate.{Style, full-style, depths-of, annotated-in}
-use Rattle.semantics.specs.Machine.{Routine, no-routine, routines-from, program-in, program, routine-of}
+use Rattle.semantics.specs.Machine.{Routine, first-names, no-routine, routines-from, program-in, program, routine-of}
 
 -- the routine of function f
 abbrev pub routine-in : Style → Script → Table → ℕ → Function → Routine
-routine-in style fs T f g = record { tree = annotated-in style fs T f g; depths = depths-of fs g }
+routine-in style fs T f g =
+    record { names = first-names (g .parameters); tree = annotated-in style fs T f g; depths = depths-of fs g }
 
 abbrev pub routine-at : Script → Table → ℕ → Function → Routine
 routine-at = routine-in full-style

@@ -13,7 +13,7 @@ use Rattle.semantics.specs.Machine.{overwrite-word}
 use Rattle.semantics.specs.Machine as Machine
 use Rattle.semantics.specs.Store.{Store, cell, cell-of, elements, overwritten}
 use Rattle.laws.specs.Lists.{_⊆_}
-use Rattle.discipline.specs.normal.Plain.{value}
+use Rattle.semantics.specs.Plain.{value}
 use Rattle.discipline.specs.normal.Trace.{CalleeGrows, running-grows}
 use Rattle.discipline.specs.store.Invariant.{StandsFor}
 use Rattle.discipline.specs.store.Counting.{in-append-right}

@@ -1,26 +1,25 @@
 -- A call in both runs: its words are the same, and so are the parameters of its function.
-use Rattle.prelude.specs.Kit.{ℕ, _+_, _<_, suc, zero, arith, decLt, ℕ-discrete, true, false, Bool, _≡_, refl, _∙_, sym}
-use Rattle.prelude.specs.Kit.{subst, inl, inr, _≢_, List, [], _∷_, _++_, map, ℤ, length, getD, List·getD-eq-default}
-use Rattle.semantics.specs.Basics.{_∈_, updated, with-if}
+use Rattle.prelude.specs.Kit.{ℕ, _<_, arith, ℕ-discrete, Bool, _≡_, refl, sym, subst, inl, inr, List, [], _∷_, _++_}
+use Rattle.prelude.specs.Kit.{map, ℤ}
+use Rattle.semantics.specs.Basics.{occurrences, _∈_}
 use Rattle.semantics.specs.Value.{Value}
-use Rattle.semantics.specs.Kinds.{call, leaf-hands}
+use Rattle.semantics.specs.Kinds.{call, picked, leaf-hands}
 use Rattle.semantics.specs.Code.{Atom}
 use Rattle.semantics.specs.Annotate.{NameDepths, atom-depth}
 use Rattle.semantics.specs.Meaning.{Meter}
-use Rattle.semantics.specs.Machine.{State, Frame, Routine, Program, word, work-leaf, frame-from}
-use Rattle.laws.specs.Lists.{_⊆_}
+use Rattle.semantics.specs.Machine.{State, Frame, Routine, Program, word, work-leaf, framed}
+use Rattle.semantics.specs.Store.{cell-of}
+use Rattle.laws.specs.Lists.{_⊆_, hits}
 use Rattle.laws.specs.Updates.{updated-same, updated-there}
-use Rattle.discipline.specs.normal.Plain.{value}
+use Rattle.semantics.specs.Plain.{value}
 use Rattle.discipline.specs.store.Counting.{in-append-right}
-use Rattle.discipline.specs.machine.Discipline.{arrays-at, less}
+use Rattle.discipline.specs.machine.Discipline.{holds-of, less}
 use Rattle.discipline.specs.machine.Spending.{less-in}
-use Rattle.discipline.specs.machine.Images.{first-or-later}
 use Rattle.discipline.specs.machine.Agreement.{Together}
 use Rattle.discipline.specs.machine.Frames.{hold, Setting, given}
-use Rattle.discipline.specs.machine.Standing.{none-in}
 use Rattle.discipline.specs.machine.Atoms.{handed-first, handed-rest}
 use Rattle.discipline.specs.machine.Calling.{CallReady, call-depths, call-ready, all-readable}
-use Rattle.discipline.specs.machine.Parameters.{depths-from, arrays-range, parameter-depth}
+use Rattle.discipline.specs.machine.Parameters.{picked-in, holds-in, holds-arrays}
 use Rattle.leaner.specs.Runs.{Race, Tied, Twins}
 use Rattle.leaner.specs.Beside.{Around, Same, Framed, images-held}
 use Rattle.leaner.specs.Owing.{owes-less, owes-in}
@@ -35,62 +34,43 @@ pub data SameWords (π : ℕ → ℕ) : List ℕ → List ℤ → List ℤ → T
   more : {d : ℕ} {w w′ : ℤ} {ds : List ℕ} {ws ws′ : List ℤ} → Same d π w w′ → SameWords π ds ws ws′ →
       SameWords π (d ∷ ds) (w ∷ ws) (w′ ∷ ws′)
 
-frames-same : {π : ℕ → ℕ} {ds : List ℕ} {ws ws′ : List ℤ} → SameWords π ds ws ws′ → (n y : ℕ) →
-    Same (depths-from ds n y) π (frame-from ws n y) (frame-from ws′ n y)
-unfolding depths-from frame-from
-frames-same none n y = record { number = λ e. refl; cell = λ h. absurd (omega (arith, h)) }
-frames-same (more {d} {w} {w′} {ds} {ws} {ws′} q rest) n y = elim (ℕ-discrete y n) [
-  | yes e ↦ rw (
-    e,
-    updated-same (depths-from ds (suc n)) n d,
-    updated-same (frame-from ws (suc n)) n w,
-    updated-same (frame-from ws′ (suc n)) n w′,
-  ) q
-  | no f ↦ rw (
-    updated-there (depths-from ds (suc n)) n d y f,
-    updated-there (frame-from ws (suc n)) n w y f,
-    updated-there (frame-from ws′ (suc n)) n w′ y f,
-  ) (frames-same rest (suc n) y)
+-- the words of parameters that are numbers, and of those that are arrays
+framed-numbers : {π : ℕ → ℕ} (Γ : NameDepths) (xs : List ℕ) {ws ws′ : List ℤ} → SameWords π (map Γ xs) ws ws′ →
+    (y : ℕ) → Γ y ≡ 0 → framed xs ws y ≡ framed xs ws′ y
+unfolding framed
+framed-numbers Γ [] none y e = refl
+framed-numbers Γ (x ∷ xs) (more {w = w} {w′} {ws = ws} {ws′} q rest) y e = elim (ℕ-discrete y x) [
+  | yes h ↦ rw (h, updated-same (framed xs ws) x w, updated-same (framed xs ws′) x w′)
+      (q .number (subst (λ (n : ℕ). Γ n ≡ 0) h e))
+  | no f ↦ rw (updated-there (framed xs ws) x w y f, updated-there (framed xs ws′) x w′ y f)
+      (framed-numbers Γ xs rest y e)
 ]
 
--- the arrays among the parameters are arrays
-pub arrays-deep : (at : ℕ → Bool) (ds : List ℕ) (n y : ℕ) → y ∈ arrays-at at ds n → 0 < depths-from ds n y
-unfolding arrays-at depths-from
-arrays-deep at [] n y h = absurd (none-in y h)
-arrays-deep at (zero ∷ ds) n y h =
-    rw (updated-there (depths-from ds (suc n)) n 0 y (λ e. omega (arith, e, arrays-range at ds (suc n) y h)))
-    (arrays-deep at ds (suc n) y h)
-arrays-deep at (suc d ∷ ds) n y h = go (at n) h (arrays-deep at ds (suc n) y)
-  where
-    here : (b : Bool) → y ≡ n → 0 < updated (depths-from ds (suc n)) n (suc d) y
-    here b e = rw (e, updated-same (depths-from ds (suc n)) n (suc d)) (omega arith)
-
-    go : (b : Bool) → y ∈ with-if b n (arrays-at at ds (suc n)) →
-        (y ∈ arrays-at at ds (suc n) → 0 < depths-from ds (suc n) y) →
-        0 < updated (depths-from ds (suc n)) n (suc d) y
-    go b h later = elim (ℕ-discrete y n) [
-      | yes e ↦ here b e
-      | no e ↦ rw (updated-there (depths-from ds (suc n)) n (suc d) y e) (later (among b h e))
-    ]
-      where
-        among : (b : Bool) → y ∈ with-if b n (arrays-at at ds (suc n)) → y ≢ n → y ∈ arrays-at at ds (suc n)
-        among true h e = elim (first-or-later y n (arrays-at at ds (suc n)) h) [ inl f ↦ absurd (e f) | inr g ↦ g ]
-        among false h e = h
+framed-cells : {π : ℕ → ℕ} (Γ : NameDepths) (xs : List ℕ) {ws ws′ : List ℤ} → SameWords π (map Γ xs) ws ws′ → (y : ℕ) →
+    y ∈ xs → 0 < Γ y → cell-of (framed xs ws y) ≡ π (cell-of (framed xs ws′ y))
+unfolding framed occurrences
+framed-cells Γ [] none y h d = absurd (omega (arith, h))
+framed-cells {π} Γ (x ∷ xs) (more {w = w} {w′} {ws = ws} {ws′} q rest) y h d = elim (hits y x) [
+  | inl e ↦ rw (e .0, updated-same (framed xs ws) x w, updated-same (framed xs ws′) x w′)
+      (q .cell (subst (λ (n : ℕ). 0 < Γ n) (e .0) d))
+  | inr e ↦ rw (updated-there (framed xs ws) x w y (e .0), updated-there (framed xs ws′) x w′ y (e .0))
+      (framed-cells Γ xs rest y (omega (arith, h, e .1)) d)
+]
 
 -- the frames of two calls, under the depths of the function's names
-pub parameters-framed : {π : ℕ → ℕ} {ds : List ℕ} {ws ws′ : List ℤ} (Γ : NameDepths) (K : List ℕ) →
-    SameWords π ds ws ws′ → ((i : ℕ) → i < length ds → Γ i ≡ getD ds i 0) →
-    ((y : ℕ) → y ∈ K → 0 < depths-from ds 0 y) → Framed Γ π (frame-from ws 0) (frame-from ws′ 0) K
-parameters-framed {ds = ds} Γ K q depths deep = record {
-  numbers = λ y e. frames-same q 0 y .number (zero-depth y e);
-  cells = λ y h. frames-same q 0 y .cell (deep y h);
+pub parameters-framed : {π : ℕ → ℕ} (Γ : NameDepths) (xs : List ℕ) {ws ws′ : List ℤ} (K : List ℕ) →
+    SameWords π (map Γ xs) ws ws′ → ((y : ℕ) → y ∈ K → (y ∈ xs) × (0 < Γ y)) →
+    Framed Γ π (framed xs ws) (framed xs ws′) K
+parameters-framed Γ xs K q deep = record {
+  numbers = λ y e. framed-numbers Γ xs q y e;
+  cells = λ y h. framed-cells Γ xs q y (deep y h .0) (deep y h .1);
 }
-  where
-    zero-depth : (y : ℕ) → Γ y ≡ 0 → depths-from ds 0 y ≡ 0
-    zero-depth y e = parameter-depth ds y ∙ elim (decLt y (length ds)) [
-      | yes h ↦ sym (depths y h) ∙ e
-      | no f ↦ List·getD-eq-default ds 0 {n = y} (omega (arith, f))
-    ]
+
+-- a parameter at one of certain places that is an array
+pub array-parameter : (Γ : NameDepths) (at : ℕ → Bool) (xs : List ℕ) (y : ℕ) → y ∈ holds-of Γ (picked at 0 xs) →
+    (y ∈ xs) × (0 < Γ y)
+array-parameter Γ at xs y h =
+    (picked-in at 0 xs y (holds-in Γ (picked at 0 xs) y h), holds-arrays Γ (picked at 0 xs) y h)
 
 -- ---- the leaf
 

@@ -3,14 +3,14 @@ use Rattle.prelude.specs.Kit.{ℕ, _+_, _<_, suc, zero, _*_, arith, true, false
 use Rattle.prelude.specs.Kit.{inl, inr, List, [], _++_, ℤ, length}
 use Rattle.semantics.specs.Basics.{_∈_}
 use Rattle.semantics.specs.Code.{Line, Tree}
-use Rattle.semantics.specs.Live.{empty}
+use Rattle.semantics.specs.Live.{empty, just}
 use Rattle.semantics.specs.Annotate.{NameDepths}
-use Rattle.semantics.specs.Machine.{State, Routine, Program, routine-of, frame-from, machine, work}
+use Rattle.semantics.specs.Machine.{State, Routine, Program, routine-of, framed, machine, work}
 use Rattle.laws.specs.Lists.{_⊆_}
-use Rattle.discipline.specs.normal.Plain.{values-from}
+use Rattle.semantics.specs.Plain.{valued}
 use Rattle.discipline.specs.normal.Trace.{running-grows}
 use Rattle.discipline.specs.store.Counting.{append-cases}
-use Rattle.discipline.specs.machine.Discipline.{parameter-names}
+use Rattle.discipline.specs.machine.Discipline.{lent-parameters, parameter-holds}
 use Rattle.discipline.specs.machine.Agreement.{Start}
 use Rattle.discipline.specs.machine.Frames.{Situation}
 use Rattle.discipline.specs.machine.Size.{tree-adds}
@@ -23,7 +23,7 @@ use Rattle.leaner.specs.Twin.{TwinPrograms, TwinRoutine, with-routines}
 use Rattle.leaner.specs.Runs.{Race, Starts, Tied, Twins, stops, twins-map}
 use Rattle.leaner.specs.Beside.{Around}
 use Rattle.leaner.specs.Claims.{first-setting, leaner-setting, WordsGiven}
-use Rattle.leaner.specs.Calling.{SameWords, CallTwins, Called, parameters-framed, arrays-deep}
+use Rattle.leaner.specs.Calling.{SameWords, CallTwins, Called, parameters-framed, array-parameter}
 use Rattle.leaner.specs.Lines.{twin-trees}
 
 -- what was proved of one run of a disciplined program, in a function whose names have the depths Γ
@@ -51,13 +51,14 @@ module _ {r : Race} (starts : Starts r) (p : Program) (rs : List Routine) (twins
       Tied r E π s s′ → SameWords π (p .signatures f .parameters) ws ws′ →
       ((c : ℕ) → c ∈ (a′ .aside ++ a′ .others) → π c ∈ (a .aside ++ a .others)) → E ⊆ (a′ .aside) →
       Twins r (WordsGiven r (p .signatures f .result) E π (a′ .aside ++ a′ .others))
-      (work (machine p n) (p .borrowing) (routine-of p f .depths) (routine-of p f .tree) empty R (frame-from ws 0) s)
+      (work (machine p n) (p .borrowing) (routine-of p f .depths) (routine-of p f .tree) empty R
+      (framed (routine-of p f .names) ws) s)
       (work (machine p′ n) (p .borrowing) (routine-of p′ f .depths) (routine-of p′ f .tree) empty R′
-      (frame-from ws′ 0) s′)
+      (framed (routine-of p′ f .names) ws′) s′)
   body-twins n calls Γ₀ f ws ws′ E π a a′ R R′ s s′ call call′ tied words held exempt =
       subst (λ (j : Routine). Twins r (WordsGiven r (p .signatures f .result) E π (a′ .aside ++ a′ .others))
-      (work (machine p n) (p .borrowing) Γ (routine-of p f .tree) empty R (frame-from ws 0) s)
-      (work (machine p′ n) (p .borrowing) (j .depths) (j .tree) empty R′ (frame-from ws′ 0) s′)) (sym (tw .is))
+      (work (machine p n) (p .borrowing) Γ (routine-of p f .tree) empty R (framed xs ws) s)
+      (work (machine p′ n) (p .borrowing) (j .depths) (j .tree) empty R′ (framed (j .names) ws′) s′)) (sym (tw .is))
       (twins-map r (λ w t w′ t′ z. record {
         cells = z .cells;
         tied = z .tied;
@@ -69,12 +70,12 @@ module _ {r : Race} (starts : Starts r) (p : Program) (rs : List Routine) (twins
       (every-tree p′ disciplined′ (r .leaner) (starts .leaner-careless) n Γ)
       (every-line p disciplined (r .first) (starts .careless) n Γ)
       (every-line p′ disciplined′ (r .leaner) (starts .leaner-careless) n Γ) (calls Γ) (tw .twin)
-      _ _ empty empty held-names held-names [] [] [] [] (p .signatures f .result) E π b b′ (frame-from ws 0)
-      (frame-from ws′ 0) (call-adds * n) (call-adds * n) s s′
+      _ _ empty empty held-names held-names [] [] [] [] (p .signatures f .result) E π b b′ (framed xs ws)
+      (framed xs ws′) (call-adds * n) (call-adds * n) s s′
       (body-rules p disciplined (r .first) (λ g. no-frugal p disciplined (r .first) (starts .careless) g) f there n)
       rules′ (λ y h. h) record {
         first = record {
-          values = values-from (call .values) 0;
+          values = valued xs (call .values);
           meter = call .meter;
           together = call .together;
           situation = body-situation p disciplined (r .first)
@@ -83,16 +84,17 @@ module _ {r : Race} (starts : Starts r) (p : Program) (rs : List Routine) (twins
               (λ g. no-frugal p disciplined (r .first) (starts .careless) g);
         };
         leaner = record {
-          values = values-from (call′ .values) 0;
+          values = valued xs (call′ .values);
           meter = call′ .meter;
           together = call′ .together;
           situation = situation′;
         };
         tied = tied;
-        framed = parameters-framed Γ (lent-names ++ held-names) words (disciplined .functions f there .parameters)
+        framed = parameters-framed Γ xs (lent-names ++ held-names)
+            (subst (λ (ds : List ℕ). SameWords π ds ws ws′) (sym (disciplined .functions f there .parameters)) words)
             (λ y h. elim (append-cases y lent-names held-names h) [
-              | inl g ↦ arrays-deep (p .borrowing f) (p .signatures f .parameters) 0 y g
-              | inr g ↦ arrays-deep (λ i. not (p .borrowing f i)) (p .signatures f .parameters) 0 y g
+              | inl g ↦ array-parameter Γ (p .borrowing f) xs y g
+              | inr g ↦ array-parameter Γ (λ i. not (p .borrowing f i)) xs y g
             ]);
         images = record { lent = λ y h. h; held = held };
         owes = λ y. omega arith;
@@ -107,6 +109,9 @@ module _ {r : Race} (starts : Starts r) (p : Program) (rs : List Routine) (twins
 
       Γ : NameDepths
       Γ = routine-of p f .depths
+
+      xs : List ℕ
+      xs = routine-of p f .names
 
       lent-names : List ℕ
       lent-names = body-lent p disciplined (r .first)
@@ -123,16 +128,18 @@ module _ {r : Race} (starts : Starts r) (p : Program) (rs : List Routine) (twins
       b′ = record { aside = a′ .aside; others = a′ .others; roots = R′; lent = lent-names }
 
       rules′ : TreeRules (leaner-setting r p rs n Γ) (tw .tree) lent-names
-          (parameter-names (p .signatures f .parameters)) empty held-names [] [] (p .signatures f .result)
-      rules′ = subst (λ (j : Routine). TreeRules (setting p′ (r .leaner) n (j .depths)) (j .tree) lent-names
-          (parameter-names (p .signatures f .parameters)) empty held-names [] [] (p .signatures f .result)) (tw .is)
+          (just xs) empty held-names [] [] (p .signatures f .result)
+      rules′ = subst (λ (j : Routine). TreeRules (setting p′ (r .leaner) n (j .depths)) (j .tree)
+          (lent-parameters (p .borrowing f) j) (just (j .names)) empty (parameter-holds (p .borrowing f) j) [] []
+          (p .signatures f .result)) (tw .is)
           (body-rules p′ disciplined′ (r .leaner)
           (λ g. no-frugal p′ disciplined′ (r .leaner) (starts .leaner-careless) g) f (call′ .ready .there) n)
 
       situation′ : Situation (leaner-setting r p rs n Γ) (s′ .store) (a′ .aside) (a′ .others) R′ lent-names held-names
-          [] (frame-from ws′ 0) (values-from (call′ .values) 0) (tree-adds (tw .tree) + call-adds * n)
+          [] (framed xs ws′) (valued xs (call′ .values)) (tree-adds (tw .tree) + call-adds * n)
       situation′ = subst (λ (j : Routine). Situation (setting p′ (r .leaner) n (j .depths)) (s′ .store) (a′ .aside)
-          (a′ .others) R′ lent-names held-names [] (frame-from ws′ 0) (values-from (call′ .values) 0)
+          (a′ .others) R′ (lent-parameters (p .borrowing f) j) (parameter-holds (p .borrowing f) j) []
+          (framed (j .names) ws′) (valued (j .names) (call′ .values))
           (tree-adds (j .tree) + call-adds * n)) (tw .is)
           (body-situation p′ disciplined′ (r .leaner)
           (λ g. no-frugal p′ disciplined′ (r .leaner) (starts .leaner-careless) g) f (call′ .ready .there) n

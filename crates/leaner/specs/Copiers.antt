@@ -13,7 +13,7 @@ use Rattle.semantics.specs.Machine.{State, Frame, Work, word, held, work, work-
 use Rattle.semantics.specs.Machine as Machine
 use Rattle.semantics.specs.Store.{Store, cell-of}
 use Rattle.laws.specs.Lists.{_⊆_, occurrences-append, occurs-first}
-use Rattle.discipline.specs.normal.Plain.{value}
+use Rattle.semantics.specs.Plain.{value}
 use Rattle.discipline.specs.normal.Trace.{CalleeGrows}
 use Rattle.discipline.specs.store.Invariant.{StandsFor}
 use Rattle.discipline.specs.store.Change.{held-used}

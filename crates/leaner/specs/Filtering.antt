@@ -15,7 +15,7 @@ use Rattle.semantics.specs.Machine.{work-pass, retain-word, append-word, if-arr
 use Rattle.semantics.specs.Machine as Machine
 use Rattle.semantics.specs.Store.{Store, cell, cell-of, elements}
 use Rattle.laws.specs.Lists.{_⊆_}
-use Rattle.discipline.specs.normal.Plain.{value}
+use Rattle.semantics.specs.Plain.{value}
 use Rattle.discipline.specs.store.Invariant.{StandsFor}
 use Rattle.discipline.specs.store.Counting.{in-append-left, in-append-right}
 use Rattle.discipline.specs.machine.Discipline.{less, holds-after}

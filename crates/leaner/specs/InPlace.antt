@@ -19,7 +19,7 @@ use Rattle.semantics.specs.Demands.{value-of}
 use Rattle.laws.specs.Lists.{_⊆_, occurrences-append, occurs-first}
 use Rattle.laws.specs.Updates.{updated-same, updated-there}
 use Rattle.laws.specs.Values.{items-list}
-use Rattle.discipline.specs.normal.Plain.{value}
+use Rattle.semantics.specs.Plain.{value}
 use Rattle.discipline.specs.normal.Trace.{CalleeGrows}
 use Rattle.discipline.specs.store.Invariant.{StandsFor}
 use Rattle.discipline.specs.store.Counting.{hits-itself, in-append-right}

@@ -12,7 +12,7 @@ use Rattle.semantics.specs.Machine.{State, Frame, Routine, Program, word, held,
 use Rattle.semantics.specs.Machine.{Work, step, elements-of, append-word}
 use Rattle.semantics.specs.Machine as Machine
 use Rattle.semantics.specs.Store.{cell-of}
-use Rattle.discipline.specs.normal.Plain.{value}
+use Rattle.semantics.specs.Plain.{value}
 use Rattle.discipline.specs.store.Invariant.{StandsFor}
 use Rattle.discipline.specs.store.Counting.{in-append-right}
 use Rattle.discipline.specs.machine.Discipline.{less, holds-after}

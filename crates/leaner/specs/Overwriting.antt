@@ -9,7 +9,7 @@ use Rattle.semantics.specs.Meaning.{Meter, Env, with-item}
 use Rattle.semantics.specs.Machine.{State, Frame, word, with-store, touching}
 use Rattle.semantics.specs.Store.{Store, cell, cell-of, overwritten}
 use Rattle.laws.specs.Values.{items-list}
-use Rattle.discipline.specs.normal.Plain.{value}
+use Rattle.semantics.specs.Plain.{value}
 use Rattle.discipline.specs.normal.Trace.{CalleeGrows}
 use Rattle.discipline.specs.store.Invariant.{StandsFor}
 use Rattle.discipline.specs.machine.Discipline.{less}

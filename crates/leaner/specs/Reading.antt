@@ -11,7 +11,7 @@ use Rattle.semantics.specs.Machine.{State, Frame, Routine, Program, word, with-
 use Rattle.semantics.specs.Store.{Store, cell, cell-of, elements}
 use Rattle.laws.specs.Lists.{_⊆_}
 use Rattle.semantics.specs.Value.{Value}
-use Rattle.discipline.specs.normal.Plain.{value}
+use Rattle.semantics.specs.Plain.{value}
 use Rattle.discipline.specs.store.Invariant.{Invariant, StandsFor}
 use Rattle.discipline.specs.store.Counting.{in-append-right}
 use Rattle.discipline.specs.machine.Discipline.{less}

@@ -14,7 +14,7 @@ use Rattle.semantics.specs.Machine as Machine
 use Rattle.semantics.specs.Store.{cell, cell-of}
 use Rattle.laws.specs.Lists.{_⊆_, occurrences-append}
 use Rattle.laws.specs.Updates.{updated-there}
-use Rattle.discipline.specs.normal.Plain.{value}
+use Rattle.semantics.specs.Plain.{value}
 use Rattle.discipline.specs.store.Invariant.{StandsFor}
 use Rattle.discipline.specs.store.Counting.{append-cases, in-append-left, in-append-right}
 use Rattle.discipline.specs.machine.Discipline.{less, holds-after}

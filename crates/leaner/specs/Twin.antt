@@ -26,10 +26,10 @@ pub data Twin : List ℕ → Tree → Tree → Type 0 where
   rewritten : {X : List ℕ} {x y : ℕ} {ps : List ℕ} {b b′ t t′ : Tree} → Twin [] b b′ → Twin (y ∷ X) t t′ →
       Twin X (line (loop x mapping ps (name y ∷ []) b) t) (line (loop x rewriting ps (name y ∷ []) b′) t′)
 
--- the second routine has the depths of the first
+-- the second routine has the names and the depths of the first
 pub record TwinRoutine (r r′ : Routine) : Type 0 where
   pub tree : Tree
-  pub is : r′ ≡ record { tree = tree; depths = r .depths }
+  pub is : r′ ≡ record { names = r .names; tree = tree; depths = r .depths }
   pub twin : Twin [] (r .tree) tree
 
 -- a program with other routines

@@ -251,9 +251,10 @@ fn work_call(
         return machine_frames::halted(answers::CALL_TOO_DEEP, steps - 1);
     }
     let below = calls - 1;
-    let n = machine_frames::pass_arguments(*kinds, *operands, env, calls, at + 1);
+    let head = machine_code::start_in(table, g);
+    let n = machine_code::name_at(*operands, head) as usize;
+    machine_frames::pass_arguments(*kinds, *operands, env, calls, at + 1, head + 1, n);
     machine_frames::set_function(env, below, g);
-    let start = machine_code::start_in(table, g);
     let r = work_tree(
         kinds,
         operands,
@@ -264,7 +265,7 @@ fn work_call(
         steps - 1,
         MOST_LINES,
         below,
-        start,
+        head + 1 + n,
     );
     let stop = r.stop;
     if stop != 0 {

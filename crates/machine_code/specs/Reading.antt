@@ -23,10 +23,14 @@ abbrev pub low-bits : ℤ → ℕ
 low-bits (pos n) = n % 16777216
 low-bits (negsuc n) = (18446744073709551616 - suc n) % 16777216
 
+-- the low byte of a row's operand: the name of an atom or a parameter, or how many parameters a function has
+abbrev pub name-at : List ℤ → ℕ → ℕ
+name-at operands at = low-bits (getD operands at (pos 0)) % 256
+
 unfoldable pub atom-at : List ℕ → List ℤ → ℕ → Atom
 atom-at kinds operands at =
     cond (eqb (getD kinds at 0) 2) (Number (getD operands at (pos 0)))
-    (Name (low-bits (getD operands at (pos 0)) % 256))
+    (Name (name-at operands at))
 
 abbrev pub is-atom : ℕ → Bool
 is-atom kind = eqb kind 2 || eqb kind 3
@@ -60,8 +64,8 @@ line-at kinds operands at =
     (atom-at kinds operands (at + 1)) (atom-at kinds operands (at + 2))
 
 -- ---- the table of a script's functions: 256 depths of names for each of 32 functions, then the positions of their
--- trees, and then, for each of 4,096 rows, the position after the tree that begins there; a position has two bytes, low
--- byte first
+-- own lines, and then, for each of 4,096 rows, the position after the tree that begins there; a position has two bytes,
+-- low byte first
 
 -- how many bytes there are, and where the two kinds of positions begin
 abbrev pub table-bytes : ℕ

@@ -5,7 +5,7 @@ ghost use mathlib.Core.Path.{_≡_};
 ghost use Prim.Native.Nat.{_+_, _-_, _*_, _<_};
 ghost use lib.IntN.{pos};
 ghost use lib.ListN.{length, getD};
-ghost use Rattle.machine_code.specs.Reading.{low-bits, Cut, atom-at, line-at, is-atom, two-rows};
+ghost use Rattle.machine_code.specs.Reading.{low-bits, Cut, name-at, atom-at, line-at, is-atom, two-rows};
 ghost use Rattle.machine_code.specs.Reading.{depth-in, start-in, end-in};
 
 // A loop without its tree: the names of a pass, and the atoms. A reduce has the name of its running value before the
@@ -37,7 +37,7 @@ pub enum Line {
 // How many lines code has at most.
 pub const MOST_LINES: u64 = 4096;
 
-// The table of a script's functions and trees: how many bytes it has, and where the positions of the functions' trees
+// The table of a script's functions and trees: how many bytes it has, and where the positions of the functions' lines
 // and those after trees begin behind the depths of names.
 pub const TABLE_BYTES: usize = 16448;
 
@@ -66,6 +66,21 @@ pub fn low_bits(w: i64) -> u64
     (w & 16777215) as u64
 }
 
+// The low byte of a row's operand: the name of an atom or a parameter, or how many parameters a function has.
+pub fn name_at(operands: &[i64], at: usize) -> u8
+    ensures { λ r. ⌜ r ≡ name-at (now (operands .entry)) at ⌝ }
+{
+    (low_bits(operand_at(operands, at)) % 256) as u8
+}
+
+// The same at a position within the code.
+pub fn name_within(operands: &[i64], at: usize) -> u8
+    requires { ⌜ at < length (now operands) ⌝ }
+    ensures { λ r. ⌜ r ≡ name-at (now (operands .entry)) at ⌝ }
+{
+    (low_bits(operands[at]) % 256) as u8
+}
+
 // The atom at a position; past the end it is name 0.
 pub fn atom_at(kinds: &[u8], operands: &[i64], at: usize) -> Atom
     requires { ⌜ Cut (now kinds) (now operands) ⌝ }
@@ -91,7 +106,7 @@ pub fn atom_stands(kinds: &[u8], at: usize) -> bool
 }
 
 // The atom at a position within the code.
-fn atom_within(kinds: &[u8], operands: &[i64], at: usize) -> Atom
+pub fn atom_within(kinds: &[u8], operands: &[i64], at: usize) -> Atom
     requires { ⌜ (at < length (now kinds)) × (at < length (now operands)) ⌝ }
     ensures { λ r. ⌜ r ≡ atom-at (now (kinds .entry)) (now (operands .entry)) at ⌝ }
 {
@@ -110,7 +125,9 @@ pub fn two_rows(kinds: &[u8], operands: &[i64], at: usize) -> bool
     at < kinds.len() - 1
 }
 
-// The line that begins at a position, where its first two rows are within the code.
+// The line that begins at a position, where its first two rows are within the code. The machine alone calls it, so that
+// it is compiled into the machine's loop: with a second caller it was a function of its own, and a delivery took 1.7
+// times as many instructions.
 pub fn line_at(kinds: &[u8], operands: &[i64], at: usize) -> Line
     requires { ⌜ (at + 1 < length (now kinds)) × Cut (now kinds) (now operands) ⌝ }
     ensures { λ r. ⌜ r ≡ line-at (now (kinds .entry)) (now (operands .entry)) at ⌝ }
@@ -152,6 +169,37 @@ pub fn line_at(kinds: &[u8], operands: &[i64], at: usize) -> Line
     }
 }
 
+// The same for all others.
+pub fn read_line(kinds: &[u8], operands: &[i64], at: usize) -> Line
+    requires { ⌜ (at + 1 < length (now kinds)) × Cut (now kinds) (now operands) ⌝ }
+    ensures { λ r. ⌜ r ≡ line-at (now (kinds .entry)) (now (operands .entry)) at ⌝ }
+{
+    let kind = kinds[at];
+    let n = low_bits(operands[at]);
+    let a = atom_within(kinds, operands, at + 1);
+    let b = atom_at(kinds, operands, at + 2);
+    let x = (n % 256) as u8;
+    let y = (n / 256 % 256) as u8;
+    let z = (n / 65536 % 256) as u8;
+    match kind {
+        kinds::CALL => Line::Call(x, y),
+        kinds::LITERAL => Line::Literal(x, z),
+        kinds::INDEX => Line::Index(x, a, b),
+        kinds::LENGTH => Line::Length(x, a),
+        kinds::IF => Line::If(x, a),
+        kinds::MAP => Line::Loop(x, Loop::Map(y, a)),
+        kinds::RETAIN => Line::Retain(x),
+        kinds::RELEASE => Line::Release(x),
+        kinds::END => Line::End(a),
+        kinds::IOTA => Line::Iota(x, a),
+        kinds::REPLICATE => Line::Replicate(x, a, b),
+        kinds::FILTER => Line::Loop(x, Loop::Filter(y, a)),
+        kinds::REDUCE => Line::Loop(x, Loop::Reduce(y, z, a, b)),
+        kinds::REWRITE => Line::Loop(x, Loop::Rewrite(y, a)),
+        _ => Line::Operation(kind, x, a, b),
+    }
+}
+
 // A byte of the table.
 fn byte_at(table: &[u8], i: usize) -> usize
     ensures { λ r. ⌜ (r ≡ getD (now (table .entry)) i 0) × (r < 256) ⌝ }
@@ -178,9 +226,9 @@ pub fn element_depth(table: &[u8], f: u8, x: u8) -> u32
     if d == 0 { 0 } else { d - 1 }
 }
 
-// The position of a function's tree.
+// The position of a function's own line.
 pub fn start_in(table: &[u8], f: u8) -> usize
-    ensures { λ r. ⌜ r ≡ start-in (now (table .entry)) f ⌝ }
+    ensures { λ r. ⌜ (r ≡ start-in (now (table .entry)) f) × (r < 65536) ⌝ }
 {
     let at = STARTS + 2 * (f as usize);
     byte_at(table, at) + 256 * byte_at(table, at + 1)

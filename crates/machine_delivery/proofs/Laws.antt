@@ -1,19 +1,20 @@
 -- Laws of the delivery: one for each way out of the code.
-use Rattle.prelude.specs.Kit.{ℕ, _≤_, _-_, suc, zero, arith, Bool, cond, _≡_, refl, _∙_, sym, ap, ap₂, List, eqb, ℤ}
-use Rattle.prelude.specs.Kit.{pos, getD, set, replicate, ne-eqb, eq-eqb}
+use Rattle.prelude.specs.Kit.{ℕ, _≤_, _+_, _-_, suc, zero, arith, Bool, cond, _≡_, refl, _∙_, sym, ap, ap₂, List, []}
+use Rattle.prelude.specs.Kit.{_∷_, eqb, ℤ, pos, getD, set, replicate, ne-eqb, eq-eqb}
 use Rattle.semantics.specs.Store.{Store, cell-of, acquired, retained, released, deepest, with-totals, relinked}
 use Rattle.semantics.specs.Store.{free-cells}
 use Rattle.semantics.specs.Words.{store-of}
 use Rattle.store.specs.Acquiring.{acquired-outcome, next-cell}
 use Rattle.store.specs.declared.Acquired.{Acquired}
 use Rattle.store.specs.declared.Acquired.the-variants.{Cell, NoneFree}
-use Rattle.machine_code.specs.Reading.{start-in}
+use Rattle.machine_code.specs.Reading.{name-at, start-in}
 use Rattle.machine_frames.specs.declared.Out.{Out}
-use Rattle.machine_frames.specs.Frames.{frame-words, place, function-place, put-all, lowest-of, levelled}
+use Rattle.machine_frames.specs.Frames.{frame-words, place, function-place, put-named, called, lowest-of}
+use Rattle.machine_frames.specs.Frames.{levelled}
 use Rattle.machine_frames.specs.Work.{memory, ran}
-use Rattle.machine_spec.specs.Machine.{Code, tree-on, call-on, Ended}
+use Rattle.machine_spec.specs.Machine.{Code, tree-in, tree-on, call-on, Ended}
 use Rattle.machine_spec.specs.Delivery.{Tried, tried, retained-totals, released-totals, finished}
-use Rattle.machine_spec.specs.Delivery.{main-on, attempt-with, attempt-on, settled, delivered-on}
+use Rattle.machine_spec.specs.Delivery.{main-frame, main-on, attempt-with, attempt-on, settled, delivered-on}
 use Rattle.machine_delivery.specs.declared.Attempted.{Attempted}
 use Rattle.machine_delivery.specs.declared.Delivery.{Delivery}
 use Rattle.machine_delivery.specs.Promises.{Tries, DeliversOn}
@@ -52,23 +53,30 @@ pub record MainEnds (t : Tried) (budget d : ℕ) (old : ℤ) (r : Out) (least : 
 
 module _ (c : Code) (d : ℕ) (old : ℤ) (k n budget : ℕ) (slots : List ℤ) (heads heads₁ : List ℕ)
     (σe : store-of slots heads₁ ≡ retained-totals d old (store-of slots heads)) (z : ℤ) (ze : z ≡ pos k)
+    (h : ℕ) (se : h ≡ start-in (c .table) 0) (count x y : ℕ) (ce : count ≡ name-at (c .operands) h)
+    (xe : x ≡ name-at (c .operands) (h + 1)) (ye : y ≡ name-at (c .operands) (h + 1 + 1))
     (env₀ env₁ env₂ env₃ : List ℤ) (e₀ : env₀ ≡ levelled n (replicate frame-words (pos 0)))
-    (e₁ : env₁ ≡ set env₀ (place 31 0) old) (e₂ : env₂ ≡ set env₁ (place 31 1) z)
-    (e₃ : env₃ ≡ set env₂ (function-place 31) (pos 0)) (start : ℕ)
-    (se : start ≡ start-in (c .table) 0) (r : Out) (sl : List ℤ) (he : List ℕ) (en : List ℤ)
-    (done : Ended (tree-on 4096 (call-on 31 c) c 31 start budget (memory (store-of slots heads₁) env₃)) budget r
-    sl he en) (least : ℕ) (le : least ≡ lowest-of en) where
+    (e₁ : env₁ ≡ set env₀ (place 31 x) old) (e₂ : env₂ ≡ set env₁ (place 31 y) z)
+    (e₃ : env₃ ≡ set env₂ (function-place 31) (pos 0)) (r : Out) (sl : List ℤ) (he : List ℕ) (en : List ℤ)
+    (done : Ended (tree-on 4096 (call-on 31 c) c 31 (h + 1 + count) budget (memory (store-of slots heads₁) env₃)) budget
+    r sl he en) (least : ℕ) (le : least ≡ lowest-of en) where
+  -- main's tree, by its position and the words of the frames
+  abbrev main-at : ℕ → List ℤ → Tried
+  main-at p l = finished d old (tree-on 4096 (call-on 31 c) c 31 p budget (memory (store-of slots heads₁) l))
+
   main-is : main-on c d old k n budget (store-of slots heads) ≡ finished d old (ran r (memory (store-of sl he) en))
-  unfolding main-on put-all
+  unfolding main-on put-named
   main-is =
-      ap₂ (λ (τ : Store) (l : List ℤ). finished d old (tree-on 4096 (call-on 31 c) c 31 (start-in (c .table) 0)
-      budget (memory τ l)))
-      (sym σe)
+      ap (λ (τ : Store). finished d old (tree-on 4096 (call-on 31 c) c 31 (tree-in c 0) budget
+      (memory τ (main-frame c old (pos k) n)))) (sym σe)
+      ∙ ap (λ (q : ℕ). main-at (q + 1 + name-at (c .operands) q)
+      (called (c .operands) 31 (q + 1) 0 (old ∷ pos k ∷ []) (levelled n (replicate frame-words (pos 0))))) (sym se)
+      ∙ ap₂ main-at (ap (λ (q : ℕ). h + 1 + q) (sym ce))
       (sym (e₃ ∙ ap (λ (l : List ℤ). set l (function-place 31) (pos 0))
-      (e₂ ∙ ap₂ (λ (l : List ℤ) (y : ℤ). set l (place 31 1) y)
-      (e₁ ∙ ap (λ (l : List ℤ). set l (place 31 0) old) e₀) ze)))
-      ∙ ap (λ (n : ℕ). finished d old (tree-on 4096 (call-on 31 c) c 31 n budget (memory (store-of slots heads₁)
-      env₃))) (sym se)
+      (e₂ ∙ ap₂ (λ (l : List ℤ) (w : ℤ). set l (place 31 y) w)
+      (e₁ ∙ ap₂ (λ (l : List ℤ) (q : ℕ). set l (place 31 q) old) e₀ xe) ze
+      ∙ ap (λ (q : ℕ). set (set (levelled n (replicate frame-words (pos 0))) (place 31 (name-at (c .operands) (h + 1)))
+      old) (place 31 q) (pos k)) ye)))
       ∙ ap (finished d old) (sym (done .is))
 
   pub main-ends : MainEnds (main-on c d old k n budget (store-of slots heads)) budget d old r least (store-of sl he)

@@ -81,10 +81,13 @@ fn work_main(
     retain_totals(slots, heads, depth, old);
     let mut env = [0i64; FRAME_WORDS];
     machine_frames::set_level(&mut env, free);
-    machine_frames::bind(&mut env, MAIN_FRAME, 0, old);
-    machine_frames::bind(&mut env, MAIN_FRAME, 1, readings);
+    let head = machine_code::start_in(table, 0);
+    let n = machine_code::name_at(operands, head) as usize;
+    let x = machine_code::name_at(operands, head + 1);
+    let y = machine_code::name_at(operands, head + 1 + 1);
+    machine_frames::bind(&mut env, MAIN_FRAME, x, old);
+    machine_frames::bind(&mut env, MAIN_FRAME, y, readings);
     machine_frames::set_function(&mut env, MAIN_FRAME, 0);
-    let start = machine_code::start_in(table, 0);
     let r = machine::work_tree(
         &kinds,
         &operands,
@@ -95,7 +98,7 @@ fn work_main(
         budget,
         MOST_LINES,
         MAIN_FRAME,
-        start,
+        head + 1 + n,
     );
     let stop = r.stop;
     let lowest = machine_frames::lowest(&env);

@@ -2,13 +2,12 @@
 -- number of its function, and then how many cells are free and the least number that was.
 use mathlib.Core.Bool.{cond}
 use mathlib.Core.List.{List, [], _∷_}
-use Prim.Native.Nat.{ℕ, zero, suc, _+_, _-_, _*_, _%_, _≤_}
+use Prim.Native.Nat.{ℕ, zero, suc, _+_, _-_, _*_, _%_}
 use lib.IntN.{ℤ, pos}
 use lib.Dec.{ltb}
 use lib.ListN.{getD, set, length}
-use mathlib.Core.Path.{_≡_}
 use Rattle.semantics.specs.Number.{is-zero}
-use Rattle.machine_code.specs.Reading.{low-bits, atom-at, is-atom, depth-in, end-in}
+use Rattle.machine_code.specs.Reading.{low-bits, name-at, atom-at, is-atom, depth-in, end-in}
 use Rattle.kinds.specs.declared.Atom.{Atom}
 use Rattle.kinds.specs.declared.Atom.the-variants.{Number, Name}
 
@@ -72,20 +71,29 @@ words-at (suc n) kinds operands calls env at =
     (word-of calls env (atom-at kinds operands at) ∷ words-at n kinds operands calls env (at + 1))
     []
 
--- words written one after another from a place on
-unfoldable pub put-all : List ℤ → ℕ → List ℤ → List ℤ
-put-all [] p env = env
-put-all (w ∷ ws) p env = put-all ws (p + 1) (set env p w)
+-- the words of n atoms from a position on, at most m
+unfoldable pub arguments-at : ℕ → ℕ → List ℕ → List ℤ → ℕ → List ℤ → ℕ → List ℤ
+arguments-at zero n kinds operands calls env at = []
+arguments-at (suc m) zero kinds operands calls env at = []
+arguments-at (suc m) (suc n) kinds operands calls env at =
+    word-of calls env (atom-at kinds operands at) ∷ arguments-at m n kinds operands calls env (at + 1)
 
--- the frame of a call of function f with these arguments
-abbrev pub called : ℕ → ℕ → List ℤ → List ℤ → List ℤ
-called calls f ws env = set (put-all ws (place calls 0) env) (function-place calls) (pos f)
+-- the same, at most 8, or none where not all of these rows, and of as many rows with names, are within the code
+unfoldable pub arguments-within : ℕ → ℕ → List ℕ → List ℤ → ℕ → List ℤ → ℕ → List ℤ
+arguments-within n names kinds operands calls env at =
+    cond (ltb (length kinds) (at + n)) []
+    (cond (ltb (length kinds) (names + n)) [] (arguments-at 8 n kinds operands calls env at))
 
--- the words ws were written as the first ones of the frame of a call
-pub record Passed (ws : List ℤ) (calls n : ℕ) (env env′ : List ℤ) : Type 0 where
-  pub frames : env′ ≡ put-all ws (place calls 0) env
-  pub count : n ≡ length ws
-  pub few : n ≤ 16
+-- words written to the names that the rows from a position on have, in the frame of a call
+unfoldable pub put-named : List ℤ → ℕ → List ℤ → ℕ → List ℤ → List ℤ
+put-named operands calls [] names env = env
+put-named operands calls (w ∷ ws) names env =
+    put-named operands calls ws (names + 1) (set env (place calls (name-at operands names)) w)
+
+-- the frame of a call of function f, whose parameters' lines begin at a position, with these arguments
+abbrev pub called : List ℤ → ℕ → ℕ → ℕ → List ℤ → List ℤ → List ℤ
+called operands calls names f ws env =
+    set (put-named operands calls ws names env) (function-place calls) (pos f)
 
 -- the first of an if's trees is at a position; a guard of 0 takes the second
 abbrev pub branch-start : List ℕ → ℤ → ℕ → ℕ

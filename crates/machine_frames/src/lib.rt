@@ -9,7 +9,7 @@ ghost use Prim.Native.Nat.{_+_, _-_, _≤_, _<_};
 ghost use lib.IntN.{pos};
 ghost use lib.ListN.{length, set};
 ghost use Rattle.machine_code.specs.Reading.{Cut};
-ghost use Rattle.machine_frames.specs.Frames.{frame-words, place, word-of, words-at, Passed};
+ghost use Rattle.machine_frames.specs.Frames.{frame-words, place, word-of, arguments-within, put-named};
 ghost use Rattle.machine_frames.specs.Frames.{function-place, function-of, element-depth, level-of, lowest-of};
 ghost use Rattle.machine_frames.specs.Frames.{levelled, noted, raised};
 ghost use Rattle.machine_frames.specs.Work.{out, left, bound-result};
@@ -185,29 +185,40 @@ pub fn word_from(n: usize) -> i64
     n as i64
 }
 
-// Copies the words of the atoms that stand from a position on, at most 16, to the first words of the frame of the next
-// call, which lies before that of the call in progress; how many they are.
+// Copies the words of so many atoms from a position on, at most 8, to the frame of the next call, which lies before
+// that of the call in progress: each to the name that its parameter's line has, from another position on. It copies
+// none where not all of these rows are within the code, which those of a call in accepted code are; so the loop tests
+// no position.
 pub fn pass_arguments(
     kinds: &[u8],
     operands: &[i64],
     env: &mut [i64; FRAME_WORDS],
     calls: usize,
     at: usize,
-) -> usize
-    requires { ⌜ (at ≤ length (now kinds)) × (0 < calls) × (calls < 32) × (length (now env) ≡ frame-words)
-        × Cut (now kinds) (now operands) ⌝ }
-    ensures { λ r. ⌜ Passed (words-at 16 (now (kinds .entry)) (now (operands .entry)) calls (now (env .entry)) at)
-        (calls - 1) r (now (env .entry)) (now (env .exit)) ⌝ }
+    names: usize,
+    count: usize,
+)
+    requires { ⌜ (at ≤ length (now kinds)) × (names ≤ 65536) × (count < 256) × (0 < calls) × (calls < 32)
+        × (length (now env) ≡ frame-words) × Cut (now kinds) (now operands) ⌝ }
+    ensures { λ _. ⌜ now (env .exit) ≡ put-named (now (operands .entry)) (calls - 1)
+        (arguments-within count names (now (kinds .entry)) (now (operands .entry)) calls (now (env .entry)) at) names
+        (now (env .entry)) ⌝ }
 {
+    if kinds.len() < at + count {
+        return;
+    }
+    if kinds.len() < names + count {
+        return;
+    }
     let mut i: usize = 0;
-    while i < 16 {
-        if !machine_code::atom_stands(kinds, at + i) {
-            return i;
+    while i < 8 {
+        if i == count {
+            return;
         }
-        let a = machine_code::atom_at(kinds, operands, at + i);
+        let a = machine_code::atom_within(kinds, operands, at + i);
         let w = word_of(env, calls, a);
-        env[NAMES * calls + i - NAMES] = w;
+        let x = machine_code::name_within(operands, names + i);
+        env[NAMES * calls + x as usize - NAMES] = w;
         i = i + 1;
     }
-    i
 }

@@ -18,7 +18,7 @@ use Rattle.machine_frames.specs.Frames.{word-of}
 use Rattle.machine_frames.specs.Work.{Memory, memory, with-store}
 use Rattle.machine_lines.specs.Lines.{Doing, released-memory, changing, doing, leaf-done}
 use Rattle.machine_spec.specs.Machine.{Code, Work, Callee, line-done}
-use Rattle.machine_laws.specs.Rows.{Here, line-read}
+use Rattle.machine_code.specs.Rows.{Here, line-read}
 use Rattle.machine_laws.specs.Frames.{Bounded, FrameAgrees, FrameKept, Framed, kept-none, agrees-kept}
 use Rattle.machine_laws.specs.Levels.{LevelsAgree, levels-touched, levels-released}
 use Rattle.machine_laws.specs.Levels.{kept-raised}

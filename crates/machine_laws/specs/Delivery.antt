@@ -4,6 +4,7 @@ use Rattle.prelude.specs.Kit.{subst, List, [], _∷_, ℤ, pos, length, set, le
 use Rattle.prelude.specs.Kit.{ne-eqb, eq-eqb}
 use Rattle.semantics.specs.Outcome.{Outcome, done, stop, Run, onward}
 use Rattle.semantics.specs.Code.{rows}
+use Rattle.semantics.specs.Live.{just}
 use Rattle.semantics.specs.Store.{Store, cell-of, has-free, acquired, retained, with-totals, deepest, free-cells}
 use Rattle.semantics.specs.Store.{named-by}
 use Rattle.semantics.specs.Machine as M
@@ -12,16 +13,15 @@ use Rattle.semantics.specs.Machine.{release-word, if-array, delivery, starting,
 use Rattle.semantics.specs.Machine.{lowest-over}
 use Rattle.laws.specs.Levels.{LevelsUpTo, release-lowest}
 use Rattle.store.specs.Acquiring.{gained, next-cell}
-use Rattle.machine_code.specs.Reading.{start-in}
 use Rattle.machine_frames.specs.Frames.{frame-words, levelled, level-place, lowest-place}
 use Rattle.machine_frames.specs.Work.{memory, Ran}
-use Rattle.machine_spec.specs.Machine.{Code, tree-on, call-on}
+use Rattle.machine_spec.specs.Machine.{Code, tree-in, tree-on, call-on}
 use Rattle.machine_spec.specs.Delivery.{finished, main-frame, main-on}
 use Rattle.machine_spec.specs.Delivery.{attempt-with, attempt-on, settled, delivered-on}
-use Rattle.machine_laws.specs.Rows.{Jumps}
+use Rattle.machine_laws.specs.Ends.{Jumps}
 use Rattle.machine_laws.specs.Levels.{LevelsAgree, levels-nothing, levels-touched, levels-started, lowest-kept}
 use Rattle.machine_laws.specs.Same.{Rel, TreeDone}
-use Rattle.machine_laws.specs.Calls.{parameters, FunctionStands, function-same, calls-same}
+use Rattle.machine_laws.specs.Calls.{FunctionStands, function-same, calls-same}
 
 -- the result in the totals' place
 abbrev put-totals : ℤ → Run State (Unit {0})
@@ -86,15 +86,15 @@ module _ (p : Program) (enough : length (p .routines) ≤ 32) (c : Code) (some :
 
     run-same : (s : State) → s .left ≡ budget → LevelsAgree (free-cells σ) (s .log) (levelled n no-words) →
         Bounded σ (run s) →
-        settled budget σ (finished d old (tree-on 4096 (call-on 31 c) c 31 (start-in (c .table) 0) budget
-        (memory (s .store) (main-frame old (pos k) n)))) ≡ delivered-by budget σ (run s)
+        settled budget σ (finished d old (tree-on 4096 (call-on 31 c) c 31 (tree-in c 0) budget
+        (memory (s .store) (main-frame c old (pos k) n)))) ≡ delivered-by budget σ (run s)
     run-same s e levels up =
-        subst (λ (b : ℕ). settled budget σ (finished d old (tree-on 4096 (call-on 31 c) c 31 (start-in (c .table) 0) b
-        (memory (s .store) (main-frame old (pos k) n)))) ≡ delivered-by budget σ (run s)) e
-        (finish-same d old budget σ (start-in (c .table) 0 + length (rows (routine-of p 0 .tree))) 31
-        (main-frame old (pos k) n) (parameters 2)
-        (tree-on 4096 (call-on 31 c) c 31 (start-in (c .table) 0) (s .left) (memory (s .store)
-        (main-frame old (pos k) n))) (ended s)
+        subst (λ (b : ℕ). settled budget σ (finished d old (tree-on 4096 (call-on 31 c) c 31 (tree-in c 0) b
+        (memory (s .store) (main-frame c old (pos k) n)))) ≡ delivered-by budget σ (run s)) e
+        (finish-same d old budget σ (tree-in c 0 + length (rows (routine-of p 0 .tree))) 31
+        (main-frame c old (pos k) n) (just (routine-of p 0 .names))
+        (tree-on 4096 (call-on 31 c) c 31 (tree-in c 0) (s .left) (memory (s .store)
+        (main-frame c old (pos k) n))) (ended s)
         (function-same (free-cells σ) p enough c all jumps 31 (omega arith)
         (calls-same (free-cells σ) p enough c all jumps 31 (omega arith)) R 0 (old ∷ pos k ∷ []) (levelled n no-words)
         s some two (omega (arith, long)) levels) up)

@@ -9,7 +9,12 @@ use Rattle.semantics.specs.Code.{Row, row, atom-row, rows, line-rows}
 use Rattle.machine_code.specs.Reading.{table-bytes, ends-place, end-in}
 use Rattle.machine_table.specs.Positions.{with-position, with-end, trees-of, end-of, ends-from}
 use Rattle.machine_table.proofs.Filling.{length-position}
-use Rattle.machine_laws.specs.Rows.{Here, At, at-first, at-second, not-leaves, leaf-apart}
+use Rattle.machine_spec.specs.Machine.{Code}
+use Rattle.machine_code.specs.Rows.{Here, At, at-first, at-second, not-leaves, leaf-apart}
+
+-- the table has the position after each tree that stands in the code
+abbrev pub Jumps : Code → Type 0
+Jumps c = (t : C.Tree) (p : ℕ) → At (c .kinds) (c .operands) p (rows t) → end-in (c .table) p ≡ p + length (rows t)
 
 -- a table with room for the positions of 32 functions and 4,096 rows
 abbrev pub Roomy : List ℕ → Type 0

@@ -13,7 +13,7 @@ use Rattle.machine_code.specs.Reading.{low-bits}
 use Rattle.machine_code.proofs.Reading.{no-bool}
 use Rattle.machine_frames.specs.Frames.{frame-words, place, function-place, function-of, word-of}
 use Rattle.machine_frames.specs.Work.{bound}
-use Rattle.machine_laws.specs.Rows.{coded, SmallAtom}
+use Rattle.machine_code.specs.Rows.{coded, SmallAtom}
 
 -- every known name fits a byte
 pub record Bounded (S : Set) : Type 0 where

@@ -26,19 +26,20 @@ use Rattle.store.specs.Acquiring.{Gained, gained, next-cell}
 use Rattle.machine_code.specs.Reading.{atom-at, is-atom, line-of, line-at, depth-in}
 use Rattle.kinds.specs.declared.Atom.{Atom}
 use Rattle.machine_code.specs.declared.Line.the-variants as L
-use Rattle.machine_frames.specs.Frames.{word-of, words-at, element-depth, level-of, noted}
+use Rattle.machine_frames.specs.Frames.{word-of, element-depth, level-of, noted}
 use Rattle.machine_frames.specs.Work.{Memory, memory, Ran, ran, out, with-store}
 use Rattle.machine_lines.specs.Lines.{Given, given, operation-of, operation-given, array-of, index-given, length-given}
 use Rattle.machine_lines.specs.Lines.{acquired-given, Doing, elements-by, retained-times, made-store, made-memory}
 use Rattle.machine_lines.specs.Lines.{array-memory, array-given, acquired-memory, cell-from, giving, calling, doing}
 use Rattle.machine_lines.specs.Lines.{giving-line, leaf-done}
 use Rattle.machine_lines.proofs.Counts.{counted-bad}
-use Rattle.machine_spec.specs.Machine.{Code, Work, Callee, binding, call-worked, call-line, line-done}
-use Rattle.machine_laws.specs.Rows.{Here, At, line-read}
+use Rattle.machine_spec.specs.Machine.{Code, parameters-in, names-in, Work, Callee, binding, call-worked, call-line}
+use Rattle.machine_spec.specs.Machine.{line-done}
+use Rattle.machine_code.specs.Rows.{Here, At, line-read}
 use Rattle.machine_laws.specs.Frames.{Bounded, FrameAgrees, FrameKept, Framed, kept-none}
 use Rattle.machine_laws.specs.Levels.{LevelsAgree, levels-touched, levels-acquired, kept-noted}
 use Rattle.machine_laws.specs.Acquiring.{acquire-same}
-use Rattle.machine_laws.specs.Atoms.{words-same, word-at}
+use Rattle.machine_laws.specs.Atoms.{words-same, passed-same, word-at}
 use Rattle.machine_laws.specs.Same.{Rel, LineDone, CallDone, CalleeSame, Gives as Given-by, rel-then, rel-step}
 use Rattle.machine_laws.specs.Same.{call-word, bound-done}
 
@@ -95,7 +96,7 @@ made-plain counting w n σ (stop k u) = refl
 
 -- a line at a position, which binds x and has the atoms us
 module _ (free : ℕ) (p : Program) (few : length (p .routines) ≤ 32) (callee : M.Callee) (β : Borrowing)
-    (Γ : NameDepths) (c : Code) (calls f : ℕ) (C : Callee) (calling-same : CalleeSame free p calls C callee) (W : Work)
+    (Γ : NameDepths) (c : Code) (calls f : ℕ) (C : Callee) (calling-same : CalleeSame free p c calls C callee) (W : Work)
     (at : ℕ) (A : Set) (R : List ℕ) (ρ : Frame) (s : State) (env : List ℤ) (S : Set) (b : Bounded S)
     (g : FrameAgrees calls env ρ S) (framed : Framed calls f env) (levels : LevelsAgree free (s .log) env) where
   abbrev here : Memory
@@ -354,20 +355,24 @@ module _ (free : ℕ) (p : Program) (few : length (p .routines) ≤ 32) (callee 
         ∙ ap₂ calling (let z : (x + 256 * h) % 256 ≡ x = omega (arith, new .small) in z)
         (let z : (x + 256 * h) / 256 % 256 ≡ h = omega (arith, new .small, there, few) in z)))
         (rel-step free Done s here
-        (λ n. call-worked C calls x h at n here (words-at 16 (c .kinds) (c .operands) calls env (at + 1)))
+        (λ n. call-worked C c calls x h at n here (parameters-in c h))
         (λ _ s′. onward (λ w. give (updated ρ x w)) (callee roots h ws s′)) levels
-        (λ n. rw (words-same (c .kinds) (c .operands) calls env ρ S b g us 16 (at + 1)
-        (omega (arith, arity, calling-same .few h there)) known rs closed)
+        (λ n. subst (λ (k : ℕ). Rel free Done (call-worked C c calls x h at n here k)
+        (onward (λ w. give (updated ρ x w)) (callee roots h ws (with-left s n))))
+        (arity ∙ sym (calling-same .counted h there))
+        (rw (passed-same (c .kinds) (c .operands) calls env ρ S b g us (at + 1) (names-in c h)
+        (omega (arith, arity, calling-same .few h there)) (omega (arith, r .within))
+        (omega (arith, arity, calling-same .within h there)) known rs)
         (rel-then free (CallDone free calls env) Done (C h ws n here) (callee roots h ws (with-left s n))
-        (λ w. binding calls x (at + 1 + length ws) w) (λ w. give (updated ρ x w))
+        (λ w. binding calls x (at + 1 + length us) w) (λ w. give (updated ρ x w))
         (calling-same .same roots h ws env (with-left s n) there (length-map us (word ρ) ∙ arity) (framed .long)
         levels)
         (λ v s′ k. (
           refl,
-          bound-done free calls env ρ S b g framed x new (at + 1 + length ws) (at + suc (length us))
-              (omega (arith, length-map us (word ρ))) (C h ws n here) v s′
+          bound-done free calls env ρ S b g framed x new (at + 1 + length us) (at + suc (length us))
+              (omega arith) (C h ws n here) v s′
               (call-word free calls (framed .few) env S b (C h ws n here) v s′ k),
-        )))))
+        ))))))
 
     -- every leaf
     pub leaf-same : ((y : ℕ) → y < 256 → depth-in (c .table) f y ≡ Γ y) → (l : Leaf) → LeafFits p Γ x l us →

@@ -1,5 +1,5 @@
 -- The modules of `machine_laws`' specs.
-pub mod Rows
+pub mod Ends
 pub mod Frames
 pub mod Levels
 pub mod Same
@@ -12,6 +12,6 @@ pub mod Loops
 pub mod Trees
 pub mod Calls
 pub mod Delivery
+pub mod Functions
 pub mod Script
-pub mod Ends
 pub mod Starts

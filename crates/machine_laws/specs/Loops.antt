@@ -27,7 +27,8 @@ use Rattle.machine_loops.specs.declared.Way.{Way}
 use Rattle.machine_loops.specs.Loops.{way-of, carry-first}
 use Rattle.machine_spec.specs.Machine.{Code, Callee, and-then, binding-passed, Looped, looped, carry-by, carry-on}
 use Rattle.machine_spec.specs.Machine.{passes-on, loop-worked, loop-line, tree-on}
-use Rattle.machine_laws.specs.Rows.{Here, At, Jumps, coded, atom-here, line-read}
+use Rattle.machine_code.specs.Rows.{Here, At, coded, atom-here, line-read}
+use Rattle.machine_laws.specs.Ends.{Jumps}
 use Rattle.machine_laws.specs.Frames.{Bounded, FrameAgrees, FrameKept, small-known, word-same, kept-none}
 use Rattle.machine_laws.specs.Frames.{Framed, framed-kept, kept-then}
 use Rattle.machine_laws.specs.Frames.{agrees-kept, bounded-all}

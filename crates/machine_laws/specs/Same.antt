@@ -1,7 +1,7 @@
 -- How work over positions agrees with a run of the machine: it goes on with what P says, or it stops with the same
 -- number and the same steps left.
-use Rattle.prelude.specs.Kit.{ℕ, _≤_, _<_, suc, zero, _*_, arith, true, _≡_, refl, _∙_, sym, ap, subst, ap₂, List, ℤ}
-use Rattle.prelude.specs.Kit.{pos, length, getD, set, ne-eqb, eq-eqb}
+use Rattle.prelude.specs.Kit.{ℕ, _≤_, _+_, _<_, suc, zero, _*_, arith, true, _≡_, refl, _∙_, sym, ap, subst, ap₂, List}
+use Rattle.prelude.specs.Kit.{ℤ, pos, length, getD, set, ne-eqb, eq-eqb}
 use Rattle.semantics.specs.Basics.{updated}
 use Rattle.semantics.specs.Outcome.{Outcome, done, stop, Run, onward}
 use Rattle.semantics.specs.Live.{Set, _∪_, only}
@@ -12,7 +12,7 @@ use Rattle.discipline.specs.machine.Discipline.{New}
 use Rattle.machine_frames.specs.Frames.{frame-words, place, function-place}
 use Rattle.machine_frames.specs.Work.{Memory, memory, Ran, ran, out, halted, stepping}
 use Rattle.machine_lines.specs.Lines.{Given, gave}
-use Rattle.machine_spec.specs.Machine.{Callee, and-then, binding}
+use Rattle.machine_spec.specs.Machine.{Code, parameters-in, names-in, Callee, and-then, binding}
 use Rattle.machine_laws.specs.Frames.{Bounded, FrameAgrees, FrameKept, Framed, framed-kept, agrees-more}
 use Rattle.machine_laws.specs.Frames.{agrees-kept, kept-more, kept-then}
 use Rattle.machine_laws.specs.Levels.{LevelsAgree, levels-set}
@@ -61,8 +61,11 @@ pub record CallDone (free calls : ℕ) (env : List ℤ) (w : Ran) (v : ℤ) (s :
   pub levels : LevelsAgree free (s .log) (w .memory .env)
 
 -- the callee over positions is that of the machine
-pub record CalleeSame (free : ℕ) (p : Program) (calls : ℕ) (C : Callee) (callee : M.Callee) : Type 0 where
-  pub few : (g : ℕ) → g < length (p .routines) → length (p .signatures g .parameters) ≤ 16
+pub record CalleeSame (free : ℕ) (p : Program) (c : Code) (calls : ℕ) (C : Callee) (callee : M.Callee) : Type 0 where
+  pub few : (g : ℕ) → g < length (p .routines) → length (p .signatures g .parameters) ≤ 8
+  pub counted : (g : ℕ) → g < length (p .routines) → parameters-in c g ≡ length (p .signatures g .parameters)
+  pub within : (g : ℕ) → g < length (p .routines) →
+      names-in c g + length (p .signatures g .parameters) ≤ length (c .kinds)
   pub same : (R : List ℕ) (g : ℕ) (ws : List ℤ) (env : List ℤ) (s : State) → g < length (p .routines) →
       length ws ≡ length (p .signatures g .parameters) → frame-words ≤ length env →
       LevelsAgree free (s .log) env →

@@ -1,6 +1,7 @@
 -- The delivery over positions, on the code of an accepted script, is the delivery of the definitions.
-use Rattle.prelude.specs.Kit.{ℕ, _≤_, _+_, _<_, suc, zero, arith, true, _≡_, refl, _∙_, sym, ap, subst, List, [], _∷_}
-use Rattle.prelude.specs.Kit.{_++_, map, append-assoc, ℤ, pos, length, getD, take, length-append, getD-append-seam}
+use Rattle.prelude.specs.Kit.{ℕ, _≤_, _+_, _<_, suc, zero, _*_, _%_, arith, true, _≡_, refl, _∙_, sym, ap, subst, List}
+use Rattle.prelude.specs.Kit.{[], _∷_, _++_, map, append-assoc, ℤ, pos, length, getD, take, length-append, length-map}
+use Rattle.prelude.specs.Kit.{getD-append-seam}
 use Rattle.discipline.specs.machine.Size.{function-within}
 use Rattle.soundness.specs.Delivering.{levels-bounded}
 use Rattle.semantics.specs.Syntax.{Parameter, Function, Script, function-at, no-function, main-depth}
@@ -10,54 +11,81 @@ use Rattle.semantics.specs.Annotate.{depths-of, annotated-body, parameter-rows,
 use Rattle.semantics.specs.Calls.{judged, accepted, request-fits}
 use Rattle.semantics.specs.Words.{store-of}
 use Rattle.semantics.specs.Sound.{sound-words}
-use Rattle.semantics.specs.Machine.{Routine, program-in, program, delivered}
+use Rattle.semantics.specs.Machine.{Routine, program-in, program, routine-of, delivered}
+use Rattle.semantics.specs.Basics.{tabulate}
 use Rattle.soundness.specs.annotation.Reader.{AllOf, FunctionLimits}
 use Rattle.soundness.specs.annotation.Accepting.{Clean, judged-clean, functions-disciplined, main-shape-of}
 use Rattle.laws.specs.Routines.{length-routines, routine-is}
-use Rattle.machine_code.specs.Reading.{depth-in, start-in}
+use Rattle.machine_code.specs.Reading.{low-bits, depth-in, start-in}
 use Rattle.machine_spec.specs.Machine as M
-use Rattle.machine_spec.specs.Machine.{Code}
+use Rattle.machine_spec.specs.Machine.{Code, names-in, tree-in}
 use Rattle.machine_spec.specs.Delivery.{delivered-on}
-use Rattle.machine_laws.specs.Rows.{At, Jumps, at-first, at-second, at-cut, at-whole, rows-some}
+use Rattle.machine_code.specs.Rows.{At, NamesAt, at-cut, at-whole, rows-some}
+use Rattle.machine_laws.specs.Ends.{Jumps}
+use Rattle.machine_laws.specs.Functions.{joined, head-of, AllSome, joined-at, FunctionAt, function-at-rows}
 use Rattle.machine_laws.specs.Calls.{FunctionStands}
 use Rattle.machine_laws.specs.Delivery.{delivered-same}
 
--- ---- where the functions' trees stand
+-- ---- where the functions stand
 
--- in the rows of some functions, the first of which has number f
-unfoldable pub body-at : Script → Table → ℕ → List Function → ℕ → ℕ
-body-at fs T f [] g = 0
-body-at fs T f (h ∷ hs) zero = 1 + length (h .parameters)
-body-at fs T f (h ∷ hs) (suc g) = length (function-rows fs T f h) + body-at fs T (suc f) hs g
+-- the rows of each of some functions, the first of which has number f
+unfoldable pub script-rows : Script → Table → ℕ → List Function → List (List Row)
+script-rows fs T f [] = []
+script-rows fs T f (g ∷ gs) = function-rows fs T f g ∷ script-rows fs T (suc f) gs
 
-pub length-parameters : (xs : List Parameter) (n : ℕ) → length (parameter-rows xs n) ≡ length xs
+module _ (fs : Script) (T : Table) where
+  pub script-joined : (f : ℕ) (gs : List Function) → functions-rows fs T f gs ≡ joined (script-rows fs T f gs)
+  unfolding functions-rows script-rows joined
+  script-joined f [] = refl
+  script-joined f (g ∷ gs) = ap (λ (rs : List Row). function-rows fs T f g ++ rs) (script-joined (suc f) gs)
+
+  pub script-many : (f : ℕ) (gs : List Function) → length (script-rows fs T f gs) ≡ length gs
+  unfolding script-rows
+  script-many f [] = refl
+  script-many f (g ∷ gs) = ap suc (script-many (suc f) gs)
+
+  pub script-some : (f : ℕ) (gs : List Function) → AllSome (script-rows fs T f gs)
+  unfolding script-rows function-rows
+  script-some f [] = tt
+  script-some f (g ∷ gs) = (omega arith, script-some (suc f) gs)
+
+  script-each : (f : ℕ) (gs : List Function) (g : ℕ) → g < length gs →
+      getD (script-rows fs T f gs) g [] ≡ function-rows fs T (f + g) (getD gs g no-function)
+  unfolding script-rows
+  script-each f [] g l = absurd (omega arith)
+  script-each f (k ∷ gs) zero l = ap (λ (n : ℕ). function-rows fs T n k) (let z : f ≡ f + 0 = omega arith in z)
+  script-each f (k ∷ gs) (suc g) l =
+      script-each (suc f) gs g (omega arith)
+      ∙ ap (λ (n : ℕ). function-rows fs T n (getD gs g no-function))
+      (let z : suc f + g ≡ f + suc g = omega arith in z)
+
+length-parameters : (xs : List Parameter) (n : ℕ) → length (parameter-rows xs n) ≡ length xs
 unfolding parameter-rows
 length-parameters [] n = refl
 length-parameters (x ∷ xs) n = ap suc (length-parameters xs (suc n))
 
-body-written : (kinds : List ℕ) (operands : List ℤ) (fs : Script) (T : Table) (f : ℕ) (gs : List Function) (p g : ℕ) →
-    At kinds operands p (functions-rows fs T f gs) → g < length gs →
-    At kinds operands (p + body-at fs T f gs g) (rows (annotated-body fs T (f + g) (getD gs g no-function)))
-unfolding functions-rows function-rows body-at
-body-written kinds operands fs T f [] p g h l = absurd (omega arith)
-body-written kinds operands fs T f (k ∷ gs) p zero h l =
-    let z : p + 1 + length (parameter-rows (k .parameters) 0) ≡ p + (1 + length (k .parameters)) =
-    omega (arith, length-parameters (k .parameters) 0) in
-    let y : f ≡ f + 0 = omega arith in
-    subst (λ (n : ℕ). At kinds operands (p + (1 + length (k .parameters))) (rows (annotated-body fs T n k))) y
-    (subst (λ (q : ℕ). At kinds operands q (rows (annotated-body fs T f k))) z
-    (at-second kinds operands (p + 1) (parameter-rows (k .parameters) 0) (rows (annotated-body fs T f k))
-    (at-first kinds operands p (function-rows fs T f k) (functions-rows fs T (suc f) gs) h .1)))
-body-written kinds operands fs T f (k ∷ gs) p (suc g) h l =
-    let here = function-rows fs T f k in
-    let rest = body-at fs T (suc f) gs g in
-    let z : p + length here + rest ≡ p + (length here + rest) = omega arith in
-    let y : suc f + g ≡ f + suc g = omega arith in
-    subst (λ (n : ℕ). At kinds operands (p + (length here + rest))
-    (rows (annotated-body fs T n (getD gs g no-function)))) y
-    (subst (λ (q : ℕ). At kinds operands q (rows (annotated-body fs T (suc f + g) (getD gs g no-function)))) z
-    (body-written kinds operands fs T (suc f) gs (p + length here) g
-    (at-second kinds operands p here (functions-rows fs T (suc f) gs) h) (omega arith)))
+-- ---- a function's line, the lines of its parameters, and its tree
+
+parameters-named : (kinds : List ℕ) (operands : List ℤ) (xs : List Parameter) (n at : ℕ) → n + length xs ≤ 256 →
+    At kinds operands at (parameter-rows xs n) → NamesAt operands at (tabulate n (length xs) (λ i. i))
+unfolding parameter-rows tabulate
+parameters-named kinds operands [] n at l h = tt
+parameters-named kinds operands (x ∷ xs) n at l h = (
+  ap (λ (z : ℤ). low-bits z % 256) (h .0 .operand)
+      ∙ (let z : (n + 256 * x .depth) % 16777216 % 256 ≡ n = omega (arith, l) in z),
+  parameters-named kinds operands xs (suc n) (at + 1) (omega (arith, l)) (h .1),
+)
+
+script-function : (kinds : List ℕ) (operands : List ℤ) (fs : Script) (T : Table) (f : ℕ) (k : Function) (p : ℕ) →
+    length (k .parameters) ≤ 8 → At kinds operands p (function-rows fs T f k) →
+    FunctionAt kinds operands p (length (k .parameters)) (tabulate 0 (length (k .parameters)) (λ i. i))
+    (annotated-body fs T f k)
+unfolding function-rows
+script-function kinds operands fs T f k p few h =
+    let xs = k .parameters in
+    function-at-rows kinds operands p (length xs) (k .result) (tabulate 0 (length xs) (λ i. i)) (parameter-rows xs 0)
+    (annotated-body fs T f k) few (length-parameters xs 0)
+    (parameters-named kinds operands xs 0 (p + 1) (omega (arith, few))) h
 
 -- rows written at the front of two lists stand there
 pub front-written : (rs : List Row) (ks ps : List ℕ) (os qs : List ℤ) → length ps ≡ length qs →
@@ -92,7 +120,7 @@ front-written (r ∷ rs) ks ps os qs e = (
 pub record Coded (fs : Script) (c : Code) : Type 0 where
   pub written : At (c .kinds) (c .operands) 0 (code fs)
   pub short : length (code fs) ≤ 4096
-  pub starts : (g : ℕ) → g < length fs → start-in (c .table) g ≡ body-at fs (borrowed fs) 0 fs g
+  pub starts : (g : ℕ) → g < length fs → start-in (c .table) g ≡ head-of (script-rows fs (borrowed fs) 0 fs) g
   pub depths : (g x : ℕ) → g < length fs → x < 256 → depth-in (c .table) g x ≡ depths-of fs (function-at fs g) x
   pub ends : Jumps c
 
@@ -140,21 +168,34 @@ module _ (file : List ℕ) (fs : Script) (ok : judged file ≡ accepted fs) (few
       let d = functions-disciplined file fs ok f in
       let is = sym (routine-is fs f h) in
       let same : 0 + f ≡ f = omega arith in
+      let g = function-at fs f in
+      let eight = few-parameters fs f (clean .limits .1) in
+      let each = script-rows fs T 0 fs in
+      let w = script-function (c .kinds) (c .operands) fs T f g (start-in (c .table) f) eight
+      (subst (λ (rs : List Row). At (c .kinds) (c .operands) (start-in (c .table) f) rs)
+      (script-each fs T 0 fs f h ∙ ap (λ (n : ℕ). function-rows fs T n g) same)
+      (subst (λ (q : ℕ). At (c .kinds) (c .operands) q (getD each f []))
+      (let z : 0 + head-of each f ≡ start-in (c .table) f = omega (arith, held .starts f h) in z)
+      (joined-at (c .kinds) (c .operands) each 0 f []
+      (subst (λ (rs : List Row). At (c .kinds) (c .operands) 0 rs) (script-joined fs T 0 fs) (held .written))
+      (omega (arith, h, script-many fs T 0 fs))))) in
       record {
         fitting = d .fits;
+        arity = sym (length-map (routine-of (program fs) f .names) (routine-of (program fs) f .depths))
+            ∙ ap length (d .parameters);
+        counted = w .counted ∙ sym (length-depths (g .parameters));
+        named = subst (λ (r : Routine). NamesAt (c .operands) (names-in c f) (r .names)) is (w .named);
+        new = d .new;
         scoped = d .scoped;
-        written = subst (λ (r : Routine). At (c .kinds) (c .operands) (start-in (c .table) f) (rows (r .tree))) is
-            (subst (λ (n : ℕ). At (c .kinds) (c .operands) (start-in (c .table) f)
-            (rows (annotated-body fs T n (function-at fs f)))) same
-            (subst (λ (q : ℕ). At (c .kinds) (c .operands) q (rows (annotated-body fs T (0 + f) (function-at fs f))))
-            (let z : 0 + body-at fs T 0 fs f ≡ start-in (c .table) f = omega (arith, held .starts f h) in z)
-            (body-written (c .kinds) (c .operands) fs T 0 fs 0 f (held .written) h)));
+        written = subst (λ (r : Routine). At (c .kinds) (c .operands) (tree-in c f) (rows (r .tree))) is
+            (subst (λ (n : ℕ). At (c .kinds) (c .operands) (names-in c f + n) (rows (annotated-body fs T f g)))
+            (sym (w .counted)) (w .tree));
         short = subst (λ (r : Routine). length (rows (r .tree)) ≤ 4096) is
             (subst (λ (n : ℕ). length (rows (annotated-body fs T n (function-at fs f))) ≤ 4096) same
             (let z : length (rows (annotated-body fs T (0 + f) (function-at fs f))) ≤ 4096 =
             omega (arith, function-within fs T 0 fs f h, held .short) in z));
         depths = λ x g. held .depths f x h g ∙ ap (λ (r : Routine). r .depths x) is;
-        few = omega (arith, length-depths (function-at fs f .parameters), few-parameters fs f (clean .limits .1));
+        few = omega (arith, length-depths (function-at fs f .parameters), eight);
       }
 
   -- the delivery of an accepted script on a sound store

@@ -1,16 +1,11 @@
--- The table's positions, from the places of a script's functions, are those of the functions' trees.
-use Rattle.prelude.specs.Kit.{ℕ, _≤_, _+_, _<_, _-_, suc, zero, _*_, _%_, arith, true, false, Bool, cond, _≡_, refl}
-use Rattle.prelude.specs.Kit.{_∙_, ap, ap₂, List, [], _∷_, ltb, ℤ, length, getD, length-append}
-use Rattle.semantics.specs.Syntax.{Function, Script}
-use Rattle.semantics.specs.Code.{Row, rows}
-use Rattle.semantics.specs.Borrow.{Table}
-use Rattle.semantics.specs.Annotate.{annotated-body, parameter-rows, function-rows, functions-rows}
-use Rattle.soundness.specs.annotation.Reader.{AllOf, FunctionLimits}
+-- The table's positions, from the places of a script's functions, are those of the functions' lines.
+use Rattle.prelude.specs.Kit.{ℕ, _≤_, _+_, _<_, _-_, suc, zero, _*_, arith, true, false, Bool, cond, _≡_, refl, _∙_, ap}
+use Rattle.prelude.specs.Kit.{ap₂, List, [], _∷_, ltb, length, getD, length-append}
+use Rattle.semantics.specs.Code.{Row}
 use Rattle.machine_code.specs.Reading.{starts-place, start-in, end-in}
-use Rattle.machine_table.specs.Positions.{with-start, tree-start, position-of, starts-from}
+use Rattle.machine_table.specs.Positions.{with-start, position-of, starts-from}
 use Rattle.machine_table.proofs.Filling.{length-position, from-more}
-use Rattle.machine_laws.specs.Rows.{At, at-first, at-second}
-use Rattle.machine_laws.specs.Script.{body-at, length-parameters}
+use Rattle.machine_laws.specs.Functions.{joined, head-of, AllSome}
 use Rattle.machine_laws.specs.Ends.{Roomy, position-read, position-other, end-kept}
 
 -- what stands before a function's position stays
@@ -28,37 +23,37 @@ start-read table f start long h small = position-read table (starts-place + 2 * 
 start-ends : (table : List ℕ) (f start q : ℕ) → f < 32 → end-in (with-start table f start) q ≡ end-in table q
 start-ends table f start q h = end-kept table (starts-place + 2 * f) start q (omega (arith, h))
 
-module _ (kinds : List ℕ) (operands : List ℤ) (places : List ℕ) where
+module _ (kinds : List ℕ) (places : List ℕ) where
   -- what stands before the first position stays
   pub starts-below : (n f : ℕ) (table : List ℕ) (i : ℕ) → i < starts-place + 2 * f →
-      getD (starts-from n kinds operands places f table) i 0 ≡ getD table i 0
+      getD (starts-from n kinds places f table) i 0 ≡ getD table i 0
   unfolding starts-from
   starts-below zero f table i h = refl
   starts-below (suc n) f table i h =
       go (ltb (position-of places f) (length kinds)) (starts-below n (f + 1) after i (omega arith))
     where
       after : List ℕ
-      after = with-start table f (tree-start operands (position-of places f))
+      after = with-start table f (position-of places f)
 
-      go : (t : Bool) → getD (starts-from n kinds operands places (f + 1) after) i 0 ≡ getD after i 0 →
-          getD (cond t (starts-from n kinds operands places (f + 1) after) table) i 0 ≡ getD table i 0
-      go true e = e ∙ start-below table f (tree-start operands (position-of places f)) i h
+      go : (t : Bool) → getD (starts-from n kinds places (f + 1) after) i 0 ≡ getD after i 0 →
+          getD (cond t (starts-from n kinds places (f + 1) after) table) i 0 ≡ getD table i 0
+      go true e = e ∙ start-below table f (position-of places f) i h
       go false e = refl
 
   -- the positions after trees stay
   pub starts-ends : (n f : ℕ) (table : List ℕ) (q : ℕ) → f + n ≤ 32 →
-      end-in (starts-from n kinds operands places f table) q ≡ end-in table q
+      end-in (starts-from n kinds places f table) q ≡ end-in table q
   unfolding starts-from
   starts-ends zero f table q h = refl
   starts-ends (suc n) f table q h =
       go (ltb (position-of places f) (length kinds)) (starts-ends n (f + 1) after q (omega arith))
     where
       after : List ℕ
-      after = with-start table f (tree-start operands (position-of places f))
+      after = with-start table f (position-of places f)
 
-      go : (t : Bool) → end-in (starts-from n kinds operands places (f + 1) after) q ≡ end-in after q →
-          end-in (cond t (starts-from n kinds operands places (f + 1) after) table) q ≡ end-in table q
-      go true e = e ∙ start-ends table f (tree-start operands (position-of places f)) q (omega arith)
+      go : (t : Bool) → end-in (starts-from n kinds places (f + 1) after) q ≡ end-in after q →
+          end-in (cond t (starts-from n kinds places (f + 1) after) table) q ≡ end-in table q
+      go true e = e ∙ start-ends table f (position-of places f) q (omega arith)
       go false e = refl
 
 start-same : (a b : List ℕ) (f : ℕ) → ((i : ℕ) → i < starts-place + 2 * (f + 1) → getD a i 0 ≡ getD b i 0) →
@@ -68,79 +63,47 @@ start-same a b f h =
     ap₂ (λ (x : ℕ) (y : ℕ). x + 256 * y) (h (starts-place + 2 * f) (omega arith))
     (h (starts-place + 2 * f + 1) (omega arith))
 
-module _ (fs : Script) (T : Table) (places : List ℕ) where
-  -- each of some functions begins where the rows of those before it end; the first has number f and begins at p
-  abbrev pub FunctionsBegin : List Function → ℕ → ℕ → Type 0
-  FunctionsBegin [] f p = Unit {0}
-  FunctionsBegin (g ∷ gs) f p = (position-of places f ≡ p) × FunctionsBegin gs (suc f) (p + length (function-rows fs T f g))
+-- each of some functions begins where the rows of those before it end; the first has number f and begins at p
+abbrev pub Begin : List ℕ → List (List Row) → ℕ → ℕ → Type 0
+Begin places [] f p = Unit {0}
+Begin places (rs ∷ rss) f p = (position-of places f ≡ p) × Begin places rss (suc f) (p + length rs)
 
-module _ (kinds : List ℕ) (operands : List ℤ) (fs : Script) (T : Table) where
-  -- the tree of a function that begins at p
-  start-is : (f : ℕ) (g : Function) (p : ℕ) → At kinds operands p (function-rows fs T f g) →
-      length (g .parameters) ≤ 8 → tree-start operands p ≡ p + (1 + length (g .parameters))
-  unfolding function-rows
-  start-is f g p h few = rw (h .0 .operand)
-      (let z : (length (g .parameters) + 256 * g .result) % 256 ≡ length (g .parameters) = omega (arith, few) in
-      omega (arith, z))
-
-  -- a function's parameters are within its rows
-  body-fits : (f : ℕ) (g : Function) → 1 + length (g .parameters) ≤ length (function-rows fs T f g)
-  unfolding function-rows
-  body-fits f g = omega (
-    arith,
-    length-append (parameter-rows (g .parameters) 0) (rows (annotated-body fs T f g)),
-    length-parameters (g .parameters) 0,
-  )
-
-  -- each position that is written is that of the function's tree; the first function has number f
-  pub starts-stand : (places : List ℕ) (gs : List Function) (f p : ℕ) (table : List ℕ) →
-      At kinds operands p (functions-rows fs T f gs) → AllOf FunctionLimits gs → Roomy table → f + length gs ≤ 32 →
-      p + length (functions-rows fs T f gs) ≤ 4096 → FunctionsBegin fs T places gs f p → (g : ℕ) → g < length gs →
-      start-in (starts-from (length gs) kinds operands places f table) (f + g) ≡ p + body-at fs T f gs g
-  unfolding functions-rows body-at function-rows
-  starts-stand places [] f p table h few long room short begin g l = absurd (omega arith)
-  starts-stand places (k ∷ gs) f p table h few long room short begin g l =
+module _ (kinds : List ℕ) where
+  -- each position that is written is that of the function's line; the first function has number f
+  pub starts-stand : (places : List ℕ) (rss : List (List Row)) (f p : ℕ) (table : List ℕ) → Roomy table →
+      f + length rss ≤ 32 → p + length (joined rss) ≤ length kinds → p + length (joined rss) ≤ 4096 →
+      AllSome rss → Begin places rss f p → (g : ℕ) → g < length rss →
+      start-in (starts-from (length rss) kinds places f table) (f + g) ≡ p + head-of rss g
+  unfolding joined head-of
+  starts-stand places [] f p table long room there short some begin g l = absurd (omega arith)
+  starts-stand places (rs ∷ rss) f p table long room there short some begin g l =
       ap (λ (t : List ℕ). start-in t (f + g))
-      (from-more (length gs) kinds operands places f table (omega (arith, begin .0, here .0 .within))
-      ∙ ap₂ (λ (m : ℕ) (q : ℕ). starts-from (length gs) kinds operands places m
-      (with-start table f (tree-start operands q))) (let z : f + 1 ≡ suc f = omega arith in z) (begin .0))
+      (from-more (length rss) kinds places f table
+      (omega (arith, begin .0, there, some .0, length-append rs (joined rss)))
+      ∙ ap₂ (λ (m : ℕ) (q : ℕ). starts-from (length rss) kinds places m (with-start table f q))
+      (let z : f + 1 ≡ suc f = omega arith in z) (begin .0))
       ∙ by g l
-      (λ j m. starts-stand places gs (suc f) (p + length mine) after (at-second kinds operands p mine rest h) (few .1)
-      (omega (arith, long, length-position table (starts-place + 2 * f) start)) (omega arith)
-      (omega (arith, length-append mine rest, short)) (begin .1) j m)
+      (λ j m. starts-stand places rss (suc f) (p + length rs) after
+      (omega (arith, long, length-position table (starts-place + 2 * f) p)) (omega arith)
+      (omega (arith, length-append rs (joined rss), there)) (omega (arith, length-append rs (joined rss), short))
+      (some .1) (begin .1) j m)
     where
-      mine : List Row
-      mine = function-rows fs T f k
-
-      rest : List Row
-      rest = functions-rows fs T (suc f) gs
-
-      here : At kinds operands p mine
-      here = at-first kinds operands p mine rest h
-
-      start : ℕ
-      start = tree-start operands p
-
       after : List ℕ
-      after = with-start table f start
+      after = with-start table f p
 
       whole : List ℕ
-      whole = starts-from (length gs) kinds operands places (suc f) after
+      whole = starts-from (length rss) kinds places (suc f) after
 
-      by : (g : ℕ) → g < length (k ∷ gs) →
-          ((j : ℕ) → j < length gs →
-          start-in whole (suc f + j) ≡ p + length mine + body-at fs T (suc f) gs j) →
-          start-in whole (f + g) ≡ p + body-at fs T f (k ∷ gs) g
+      by : (g : ℕ) → g < length (rs ∷ rss) →
+          ((j : ℕ) → j < length rss → start-in whole (suc f + j) ≡ p + length rs + head-of rss j) →
+          start-in whole (f + g) ≡ p + head-of (rs ∷ rss) g
       by zero l more =
-          let e = start-is f k p here (few .0 .parameters) in
           ap (start-in whole) (let z : f + 0 ≡ f = omega arith in z)
           ∙ start-same whole after f
-          (λ i m. starts-below kinds operands places (length gs) (suc f) after i (omega (arith, m)))
-          ∙ start-read table f start long (omega (arith, room))
-          (omega (arith, e, short, length-append mine rest, body-fits f k))
-          ∙ e
+          (λ i m. starts-below kinds places (length rss) (suc f) after i (omega (arith, m)))
+          ∙ start-read table f p long (omega (arith, room)) (omega (arith, short))
+          ∙ (let z : p ≡ p + 0 = omega arith in z)
       by (suc j) l more =
           ap (start-in whole) (let z : f + suc j ≡ suc f + j = omega arith in z)
           ∙ more j (omega arith)
-          ∙ (let z : p + length mine + body-at fs T (suc f) gs j ≡ p + (length mine + body-at fs T (suc f) gs j) =
-          omega arith in z)
+          ∙ (let z : p + length rs + head-of rss j ≡ p + (length rs + head-of rss j) = omega arith in z)

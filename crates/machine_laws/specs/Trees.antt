@@ -23,8 +23,9 @@ use Rattle.machine_lines.specs.Lines.{Doing, branching, doing}
 use Rattle.machine_spec.specs.Machine.{Code, Work, Callee, and-then, binding, branch-worked, if-worked, if-line}
 use Rattle.machine_spec.specs.Machine.{line-done, line-on}
 use Rattle.machine_spec.specs.Machine.{is-end, tree-from, tree-on}
-use Rattle.machine_laws.specs.Rows.{At, Jumps, at-first, at-second, coded, atom-here, line-read}
-use Rattle.machine_laws.specs.Rows.{no-atom, tree-within, line-some, rows-some}
+use Rattle.machine_code.specs.Rows.{At, at-first, at-second, coded, atom-here, line-read, no-atom, tree-within}
+use Rattle.machine_code.specs.Rows.{line-some, rows-some}
+use Rattle.machine_laws.specs.Ends.{Jumps}
 use Rattle.machine_laws.specs.Frames.{Bounded, FrameAgrees, small-known, word-same, kept-none}
 use Rattle.machine_laws.specs.Frames.{Framed, framed-kept, bounded-after}
 use Rattle.machine_laws.specs.Levels.{LevelsAgree}
@@ -68,7 +69,7 @@ line-open kinds operands at (K.release x) h = rw (h .0 .kind) refl
 module _ (free : ℕ) (p : Program) (enough : length (p .routines) ≤ 32) (callee : M.Callee) (β : Borrowing)
     (Γ : NameDepths) (c : Code) (calls f : ℕ) (C : Callee)
     (depths : (x : ℕ) → x < 256 → depth-in (c .table) f x ≡ Γ x) (jumps : Jumps c)
-    (calling : CalleeSame free p calls C callee) where
+    (calling : CalleeSame free p c calls C callee) where
   abbrev Claim : K.Tree → Type 0
   Claim t = TreeClaim free p callee β Γ c calls f C t
 

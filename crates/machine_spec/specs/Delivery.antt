@@ -1,5 +1,6 @@
 -- The delivery over positions of the code.
-use mathlib.Core.Bool.{cond}
+use mathlib.Core.Bool.{cond, true}
+use mathlib.Core.Path.{_≡_}
 use mathlib.Core.List.{List, [], _∷_}
 use Prim.Native.Nat.{ℕ, zero, suc, _-_}
 use lib.IntN.{ℤ, pos}
@@ -8,12 +9,14 @@ use lib.ListN.{replicate}
 use Rattle.semantics.specs.Outcome.{Outcome, done, stop}
 use Rattle.semantics.specs.Store.{Store, cell-of, acquired, retained, released, deepest, with-totals, relinked}
 use Rattle.semantics.specs.Store.{free-cells}
-use Rattle.semantics.specs.Machine.{Delivered}
+use Rattle.semantics.specs.Words.{store-of}
+use Rattle.semantics.specs.Sound.{sound-words}
+use Rattle.semantics.specs.Machine.{Program, Delivered, delivered}
+use Rattle.semantics.specs.Calls.{request-fits}
 use Rattle.store.specs.Acquiring.{Gained, next-cell}
-use Rattle.machine_code.specs.Reading.{start-in}
 use Rattle.machine_frames.specs.Frames.{frame-words, called, lowest-of, levelled}
 use Rattle.machine_frames.specs.Work.{memory, Ran}
-use Rattle.machine_spec.specs.Machine.{Code, tree-on, call-on}
+use Rattle.machine_spec.specs.Machine.{Code, names-in, tree-in, tree-on, call-on}
 
 -- how an attempt at a delivery ends: its number, the least number of free cells over it, the steps left, and the store
 pub record Tried : Type 0 where
@@ -46,14 +49,15 @@ finished d old w =
     (tried-by w (w .memory .store))
 
 -- main's frame, while n cells are free
-abbrev pub main-frame : ℤ → ℤ → ℕ → List ℤ
-main-frame old readings n = called 31 0 (old ∷ readings ∷ []) (levelled n (replicate frame-words (pos 0)))
+abbrev pub main-frame : Code → ℤ → ℤ → ℕ → List ℤ
+main-frame c old readings n =
+    called (c .operands) 31 (names-in c 0) 0 (old ∷ readings ∷ []) (levelled n (replicate frame-words (pos 0)))
 
 -- main worked on the totals and the readings' cell, beside which n cells are free
 unfoldable pub main-on : Code → ℕ → ℤ → ℕ → ℕ → ℕ → Store → Tried
 main-on c d old k n budget σ =
-    finished d old (tree-on 4096 (call-on 31 c) c 31 (start-in (c .table) 0) budget
-    (memory (retained-totals d old σ) (main-frame old (pos k) n)))
+    finished d old (tree-on 4096 (call-on 31 c) c 31 (tree-in c 0) budget
+    (memory (retained-totals d old σ) (main-frame c old (pos k) n)))
 
 abbrev pub attempt-with : Code → ℕ → ℤ → ℕ → ℕ → Store → Outcome (Unit {0}) Gained → Tried
 attempt-with c d old budget free σ (done g u) = main-on c d old (g .cell) (g .left) budget σ
@@ -74,3 +78,11 @@ settled budget σ t = record {
 
 unfoldable pub delivered-on : Code → List ℤ → ℕ → ℕ → Store → Delivered
 delivered-on c readings d budget σ = settled budget σ (attempt-on c readings d budget σ)
+
+-- The code and its table are those of a program: what is worked over positions is the program's delivery, for every
+-- request that fits and on every sound store.
+pub record Performs (P : Program) (c : Code) : Type 0 where
+  pub same : (readings : List ℤ) (budget : ℕ) (slots : List ℤ) (heads : List ℕ) →
+      sound-words (P .depth) slots heads ≡ true → request-fits readings budget ≡ true →
+      delivered-on c readings (P .depth) budget (store-of slots heads)
+      ≡ delivered P readings budget (store-of slots heads)

@@ -11,12 +11,12 @@ use Rattle.semantics.specs.Number.{is-answer}
 use Rattle.semantics.specs.Kinds.{Loop, mapping, filtering, reducing, rewriting}
 use Rattle.semantics.specs.Machine.{argument, looped-over}
 use Rattle.semantics.specs.Store.{cell-of}
-use Rattle.machine_code.specs.Reading.{line-at, two-rows, start-in, end-in}
+use Rattle.machine_code.specs.Reading.{name-at, line-at, two-rows, end-in}
 use Rattle.kinds.specs.declared.Atom.{Atom}
 use Rattle.machine_code.specs.declared.Line.{Line}
 use Rattle.machine_code.specs.declared.Line.the-variants as L
 use Rattle.machine_frames.specs.declared.Out.{Out}
-use Rattle.machine_frames.specs.Frames.{place, function-place, word-of, words-at, put-all, called, Passed}
+use Rattle.machine_frames.specs.Frames.{place, function-place, word-of, arguments-within, put-named, called}
 use Rattle.machine_frames.specs.Frames.{element-depth, branch-start, branch-end, level-place, lowest-place, levelled}
 use Rattle.machine_frames.specs.Work.{Memory, memory, Ran, bound, with-store, stepping}
 use Rattle.machine_frames.proofs.Levels.{raised-long}
@@ -32,23 +32,27 @@ use Rattle.machine_spec.specs.Machine.{Work, Callee, Code, and-then, bin
 use Rattle.machine_spec.specs.Machine.{entered, carry-on, passes-on, binding-passed, passes-worked}
 use Rattle.machine_spec.specs.Machine.{loop-line}
 use Rattle.machine_spec.specs.Machine.{line-done, line-on, is-end, tree-from, tree-on, call-on, Ended}
+use Rattle.machine_spec.specs.Machine.{parameters-in, names-in, tree-in}
 
 -- work that began on a memory left as many words of frames
 abbrev pub Keeps : Memory → Ran → Type 0
 Keeps m w = length (w .memory .env) ≡ length (m .env)
 
-pub put-keeps : (ws : List ℤ) (p : ℕ) (env : List ℤ) → length (put-all ws p env) ≡ length env
-unfolding put-all
-put-keeps [] p env = refl
-put-keeps (w ∷ ws) p env = put-keeps ws (p + 1) _ ∙ length-set env p w
+module _ (operands : List ℤ) (calls : ℕ) where
+  pub put-keeps : (ws : List ℤ) (names : ℕ) (env : List ℤ) →
+      length (put-named operands calls ws names env) ≡ length env
+  unfolding put-named
+  put-keeps [] names env = refl
+  put-keeps (w ∷ ws) names env =
+      put-keeps ws (names + 1) _ ∙ length-set env (place calls (name-at operands names)) w
 
-pub called-keeps : (calls f : ℕ) (ws env : List ℤ) → length (called calls f ws env) ≡ length env
-called-keeps calls f ws env =
-    length-set (put-all ws (place calls 0) env) (function-place calls) (pos f) ∙ put-keeps ws (place calls 0) env
+  pub called-keeps : (names f : ℕ) (ws env : List ℤ) → length (called operands calls names f ws env) ≡ length env
+  called-keeps names f ws env =
+      length-set (put-named operands calls ws names env) (function-place calls) (pos f) ∙ put-keeps ws names env
 
-pub passed-long : {ws : List ℤ} {calls n : ℕ} {env env′ : List ℤ} → Passed ws calls n env env′ →
-    length env′ ≡ length env
-passed-long {ws} {calls} {n} {env} {env′} p = ap length (p .frames) ∙ put-keeps ws (place calls 0) env
+  pub passed-long : (ws : List ℤ) (names : ℕ) (env : List ℤ) {env′ : List ℤ} →
+      env′ ≡ put-named operands calls ws names env → length env′ ≡ length env
+  passed-long ws names env e = ap length e ∙ put-keeps ws names env
 
 pub bound-long : (env : List ℤ) (p : ℕ) (w : ℤ) {env′ : List ℤ} → env′ ≡ set env p w → length env′ ≡ length env
 bound-long env p w e = ap length e ∙ length-set env p w
@@ -186,8 +190,9 @@ module _ (W : Work) (w : (at s : ℕ) (m : Memory) → Keeps m (W at s m)) where
     unfolding call-line stepping
     call-keeps calls x f at zero m = refl
     call-keeps calls x f at (suc s) m =
-        let ws = words-at 16 (c .kinds) (c .operands) calls (m .env) (at + 1) in
-        then-keeps m (C f ws s m) (λ v. binding calls x (at + 1 + length ws) v) (h f ws s m)
+        let n = parameters-in c f in
+        let ws = arguments-within n (names-in c f) (c .kinds) (c .operands) calls (m .env) (at + 1) in
+        then-keeps m (C f ws s m) (λ v. binding calls x (at + 1 + n) v) (h f ws s m)
         (λ v k. length-set (v .memory .env) (place calls x) (v .out .value) ∙ k)
 
     done-keeps : (calls at s : ℕ) (m : Memory) (d : Doing) → Steady m d → Keeps m (line-done W C c calls at s m d)
@@ -227,7 +232,8 @@ call-on-keeps : (n : ℕ) (c : Code) → Calling (call-on n c)
 unfolding call-on
 call-on-keeps zero c f ws s m = refl
 call-on-keeps (suc n) c f ws s m = tree-keeps 4096 (call-on n c) (λ f ws s m. call-on-keeps n c f ws s m) c n
-    (start-in (c .table) f) s (memory (m .store) (called n f ws (m .env))) ∙ called-keeps n f ws (m .env)
+    (tree-in c f) s (memory (m .store) (called (c .operands) n (names-in c f) f ws (m .env)))
+    ∙ called-keeps (c .operands) n (names-in c f) f ws (m .env)
 
 -- ---- what the workers leave
 

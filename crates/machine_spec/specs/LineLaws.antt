@@ -14,7 +14,7 @@ use Rattle.semantics.specs.Kinds.{Loop}
 use Rattle.semantics.specs.Machine.{looped-over}
 use Rattle.semantics.specs.Store.{cell-of}
 use Rattle.semantics.specs.Words.{store-of}
-use Rattle.machine_code.specs.Reading.{start-in, end-in}
+use Rattle.machine_code.specs.Reading.{name-at, start-in, end-in}
 use Rattle.kinds.specs.declared.Atom.{Atom}
 use Rattle.machine_code.specs.declared.Loop as P
 use Rattle.machine_code.specs.declared.Line.{Line}
@@ -22,7 +22,8 @@ use Rattle.machine_code.specs.declared.Line.the-variants as L
 use Rattle.machine_code.proofs.Line.{the-type}
 use Rattle.machine_code.proofs.Reading.{less-one}
 use Rattle.machine_frames.specs.declared.Out.{Out}
-use Rattle.machine_frames.specs.Frames.{place, function-place, word-of, words-at, Passed, branch-start, branch-end}
+use Rattle.machine_frames.specs.Frames.{place, function-place, word-of, arguments-within, put-named, called}
+use Rattle.machine_frames.specs.Frames.{branch-start, branch-end}
 use Rattle.machine_frames.specs.Frames.{element-depth}
 use Rattle.machine_frames.specs.Work.{Memory, memory, Ran, ran, out, halted, goes-on, stepping, Ends}
 use Rattle.machine_lines.specs.Lines.{array-of, Doing, giving, changing, ending, calling, branching, looping, kind-of}
@@ -37,7 +38,7 @@ use Rattle.machine_spec.specs.Machine.{if-worked, if-line}
 use Rattle.machine_spec.specs.Machine.{call-worked, call-line, looped, passes-on}
 use Rattle.machine_spec.specs.Machine.{binding-passed, passes-worked}
 use Rattle.machine_spec.specs.Machine.{loop-line, line-done, line-on, tree-on}
-use Rattle.machine_spec.specs.Machine.{call-on, Ended}
+use Rattle.machine_spec.specs.Machine.{call-on, Ended, parameters-in}
 use Rattle.machine_spec.specs.Parts.{part-stops, part-goes}
 
 -- what a line leaves that binds the word of a part
@@ -109,8 +110,8 @@ module _ (c : Code) (calls x g at steps : ℕ) (slots : List ℤ) (heads : List 
 
   module _ (some : steps ≡ 0 → ⊥) where
     call-is : call-line (call-on calls c) c calls x g at steps (memory (store-of slots heads) env)
-        ≡ call-worked (call-on calls c) calls x g at (steps - 1) (memory (store-of slots heads) env)
-        (words-at 16 (c .kinds) (c .operands) calls env (at + 1))
+        ≡ call-worked (call-on calls c) c calls x g at (steps - 1) (memory (store-of slots heads) env)
+        (parameters-in c g)
     unfolding call-line stepping
     call-is = ap (λ (n : ℕ). call-line (call-on calls c) c calls x g at n (memory (store-of slots heads) env))
         (less-one steps (omega arith))
@@ -120,32 +121,41 @@ module _ (c : Code) (calls x g at steps : ℕ) (slots : List ℤ) (heads : List 
         heads env
     unfolding call-on
     call-deep z r e = record {
-      is = sym (call-is ∙ ap (λ (n : ℕ). call-worked (call-on n c) calls x g at (steps - 1) (memory (store-of slots
-          heads) env)
-          (words-at 16 (c .kinds) (c .operands) calls env (at + 1))) z
+      is = sym (call-is ∙ ap (λ (n : ℕ). call-worked (call-on n c) c calls x g at (steps - 1) (memory (store-of slots
+          heads) env) (parameters-in c g)) z
           ∙ ap (λ (y : Out). ran y (memory (store-of slots heads) env)) (sym e));
       fewer = rw e (omega arith);
     }
 
-    module _ (deep : calls ≡ 0 → ⊥) (n : ℕ) (env₁ : List ℤ)
-        (passed : Passed (words-at 16 (c .kinds) (c .operands) calls env (at + 1)) (calls - 1) n env env₁)
-        (env₂ : List ℤ) (named : env₂ ≡ set env₁ (function-place (calls - 1)) (pos g)) (start : ℕ)
-        (se : start ≡ start-in (c .table) g) (r : Out) (sl : List ℤ) (he : List ℕ) (en : List ℤ)
-        (done : Ended (tree-on 4096 (call-on (calls - 1) c) c (calls - 1) start (steps - 1)
+    -- the function's line is at h, and it has n parameters
+    module _ (deep : calls ≡ 0 → ⊥) (h : ℕ) (he₀ : h ≡ start-in (c .table) g) (n : ℕ)
+        (ne : n ≡ name-at (c .operands) h) (env₁ : List ℤ)
+        (passed : env₁ ≡ put-named (c .operands) (calls - 1)
+        (arguments-within n (h + 1) (c .kinds) (c .operands) calls env (at + 1)) (h + 1) env)
+        (env₂ : List ℤ) (named : env₂ ≡ set env₁ (function-place (calls - 1)) (pos g)) (r : Out) (sl : List ℤ)
+        (he : List ℕ) (en : List ℤ)
+        (done : Ended (tree-on 4096 (call-on (calls - 1) c) c (calls - 1) (h + 1 + n) (steps - 1)
         (memory (store-of slots heads) env₂)) (steps - 1) r sl he en) where
+      -- the callee's tree from its line and its number of parameters, and what follows it
+      abbrev called-at : ℕ → ℕ → Ran
+      called-at k l = and-then
+          (tree-on 4096 (call-on (calls - 1) c) c (calls - 1) (k + 1 + l) (steps - 1)
+          (memory (store-of slots heads) (called (c .operands) (calls - 1) (k + 1) g
+          (arguments-within l (k + 1) (c .kinds) (c .operands) calls env (at + 1)) env)))
+          (λ w. binding calls x (at + 1 + l) w)
+
       call-part : call-line (call-on calls c) c calls x g at steps (memory (store-of slots heads) env)
           ≡ and-then (ran r (memory (store-of sl he) en)) (λ w. binding calls x (at + 1 + n) w)
       unfolding call-on
       call-part = call-is
-          ∙ ap (λ (k : ℕ). call-worked (call-on k c) calls x g at (steps - 1) (memory (store-of slots heads) env)
-          (words-at 16 (c .kinds) (c .operands) calls env (at + 1))) (less-one calls (omega arith))
-          ∙ ap₂ (λ (k : ℕ) (l : List ℤ). and-then
-          (tree-on 4096 (call-on (calls - 1) c) c (calls - 1) k (steps - 1) (memory (store-of slots heads) l))
-          (λ w. binding calls x (at + 1 + length (words-at 16 (c .kinds) (c .operands) calls env (at + 1))) w))
-          (sym se)
-          (sym (named ∙ ap (λ (l : List ℤ). set l (function-place (calls - 1)) (pos g)) (passed .frames)))
-          ∙ ap₂ (λ (w : Ran) (k : ℕ). and-then w (λ w. binding calls x (at + 1 + k) w)) (sym (done .is)) (sym
-          (passed .count))
+          ∙ ap (λ (k : ℕ). call-worked (call-on k c) c calls x g at (steps - 1) (memory (store-of slots heads) env)
+          (parameters-in c g)) (less-one calls (omega arith))
+          ∙ ap (λ (k : ℕ). called-at k (name-at (c .operands) k)) (sym he₀) ∙ ap (called-at h) (sym ne)
+          ∙ ap (λ (l : List ℤ). and-then
+          (tree-on 4096 (call-on (calls - 1) c) c (calls - 1) (h + 1 + n) (steps - 1)
+          (memory (store-of slots heads) l)) (λ w. binding calls x (at + 1 + n) w))
+          (sym (named ∙ ap (λ (l : List ℤ). set l (function-place (calls - 1)) (pos g)) passed))
+          ∙ ap (λ (w : Ran). and-then w (λ w. binding calls x (at + 1 + n) w)) (sym (done .is))
 
       pub call-stops : (r .stop ≡ 0 → ⊥) →
           Ended (call-line (call-on calls c) c calls x g at steps (memory (store-of slots heads) env)) steps r sl he

@@ -11,12 +11,13 @@ use Rattle.semantics.specs.Kinds.{Loop}
 use Rattle.semantics.specs.Machine.{looped-over}
 use Rattle.semantics.specs.Store.{cell, cell-of, elements}
 use Rattle.semantics.specs.Words.{store-of}
-use Rattle.machine_code.specs.Reading.{line-at, two-rows, start-in, end-in}
+use Rattle.machine_code.specs.Reading.{name-at, line-at, two-rows, start-in, end-in}
 use Rattle.kinds.specs.declared.Atom.{Atom}
 use Rattle.machine_code.specs.declared.Line.{Line}
 use Rattle.machine_code.specs.declared.Line.the-variants as L
 use Rattle.machine_frames.specs.declared.Out.{Out}
-use Rattle.machine_frames.specs.Frames.{place, word-of, words-at, called, element-depth, branch-start, branch-end}
+use Rattle.machine_frames.specs.Frames.{place, word-of, arguments-within, called, element-depth, branch-start}
+use Rattle.machine_frames.specs.Frames.{branch-end}
 use Rattle.machine_frames.specs.Work.{no-line, Memory, memory, Ran, ran, out, halted, goes-on, stepping}
 use Rattle.machine_lines.specs.Lines.{array-of, Doing, giving, changing, ending, calling, branching, looping, doing}
 use Rattle.machine_lines.specs.Lines.{leaf-done}
@@ -32,6 +33,17 @@ pub record Code : Type 0 where
 
 abbrev pub code : List ℕ → List ℤ → List ℕ → Code
 code kinds operands table = record { kinds = kinds; operands = operands; table = table }
+
+-- how many parameters function f has, by its own line
+abbrev pub parameters-in : Code → ℕ → ℕ
+parameters-in c f = name-at (c .operands) (start-in (c .table) f)
+
+-- where the lines of its parameters begin, and behind them its tree
+abbrev pub names-in : Code → ℕ → ℕ
+names-in c f = start-in (c .table) f + 1
+
+abbrev pub tree-in : Code → ℕ → ℕ
+tree-in c f = names-in c f + parameters-in c f
 
 -- a tree worked, by its position and the steps left
 abbrev pub Work : Type 0
@@ -66,12 +78,15 @@ unfoldable pub if-line : Work → List ℕ → ℕ → ℕ → Atom → ℕ → 
 if-line W table calls x g at steps m = stepping steps (halted 21 0 m)
     (λ s. if-worked W table calls x at s m (word-of calls (m .env) g))
 
-abbrev pub call-worked : Callee → ℕ → ℕ → ℕ → ℕ → ℕ → Memory → List ℤ → Ran
-call-worked C calls x f at s m ws = and-then (C f ws s m) (λ w. binding calls x (at + 1 + length ws) w)
+-- with as many words of atoms as the function has parameters
+abbrev pub call-worked : Callee → Code → ℕ → ℕ → ℕ → ℕ → ℕ → Memory → ℕ → Ran
+call-worked C c calls x f at s m n =
+    and-then (C f (arguments-within n (names-in c f) (c .kinds) (c .operands) calls (m .env) (at + 1)) s m)
+    (λ w. binding calls x (at + 1 + n) w)
 
 unfoldable pub call-line : Callee → Code → ℕ → ℕ → ℕ → ℕ → ℕ → Memory → Ran
 call-line C c calls x f at steps m = stepping steps (halted 21 0 m)
-    (λ s. call-worked C calls x f at s m (words-at 16 (c .kinds) (c .operands) calls (m .env) (at + 1)))
+    (λ s. call-worked C c calls x f at s m (parameters-in c f))
 
 -- ---- passes: what is carried from one to the next is a word
 
@@ -203,7 +218,8 @@ tree-on (suc n) C c calls at s m =
 unfoldable pub call-on : ℕ → Code → Callee
 call-on zero c f ws s m = halted 22 s m
 call-on (suc n) c f ws s m =
-    tree-on 4096 (call-on n c) c n (start-in (c .table) f) s (memory (m .store) (called n f ws (m .env)))
+    tree-on 4096 (call-on n c) c n (tree-in c f) s
+    (memory (m .store) (called (c .operands) n (names-in c f) f ws (m .env)))
 
 -- ---- what a worker promises: the answer and every word, and no more steps left than it was given
 

@@ -1,11 +1,10 @@
 -- The loops over the rows and over the functions.
 use Rattle.prelude.specs.Kit.{ℕ, _≤_, _+_, _<_, _-_, suc, zero, _*_, _%_, _/_, arith, true, false, Bool, cond, _≡_}
-use Rattle.prelude.specs.Kit.{refl, _∙_, sym, ap, List, eqb, ℤ, pos, length, getD, set, length-set, ne-eqb, lt-ltb}
-use Rattle.prelude.specs.Kit.{le-ltb}
-use Rattle.machine_code.specs.Reading.{table-bytes, ends-place, starts-place, low-bits}
+use Rattle.prelude.specs.Kit.{refl, _∙_, sym, ap, List, eqb, length, getD, set, length-set, ne-eqb, lt-ltb, le-ltb}
+use Rattle.machine_code.specs.Reading.{table-bytes, ends-place, starts-place}
 use Rattle.machine_code.proofs.Reading.{less-one}
 use Rattle.machine_table.specs.Positions.{with-position, trees-of, past-trees, with-end, end-of, ends-from}
-use Rattle.machine_table.specs.Positions.{with-start, tree-start, position-of, starts-from, filled}
+use Rattle.machine_table.specs.Positions.{with-start, position-of, starts-from, filled}
 
 pub length-position : (table : List ℕ) (place position : ℕ) → length (with-position table place position) ≡ length table
 length-position table place position =
@@ -61,75 +60,71 @@ module _ {kinds : List ℕ} {rows : ℕ} {table₀ table : List ℕ} {at : ℕ} 
 
 -- ---- the loop over the functions: f of them are done
 
-pub record Filling (kinds : List ℕ) (operands : List ℤ) (functions : ℕ) (places table₀ table : List ℕ) (f : ℕ) : Type 0
+pub record Filling (kinds : List ℕ) (functions : ℕ) (places table₀ table : List ℕ) (f : ℕ) : Type 0
   where
-    pub same : starts-from functions kinds operands places 0 table₀
-        ≡ starts-from (functions - f) kinds operands places f table
+    pub same : starts-from functions kinds places 0 table₀
+        ≡ starts-from (functions - f) kinds places f table
     pub few : f ≤ functions
     pub long : length table ≡ length table₀
 
-pub filling-starts : (kinds : List ℕ) (operands : List ℤ) (functions : ℕ) (places table : List ℕ) →
-    Filling kinds operands functions places table table 0
-filling-starts kinds operands functions places table = record {
-  same = ap (λ (n : ℕ). starts-from n kinds operands places 0 table)
+pub filling-starts : (kinds : List ℕ) (functions : ℕ) (places table : List ℕ) →
+    Filling kinds functions places table table 0
+filling-starts kinds functions places table = record {
+  same = ap (λ (n : ℕ). starts-from n kinds places 0 table)
       (let z : functions ≡ functions - 0 = omega arith in z);
   few = omega arith;
   long = refl;
 }
 
-module _ (n : ℕ) (kinds : List ℕ) (operands : List ℤ) (places : List ℕ) (f : ℕ) (table : List ℕ) where
-  from-none : n ≡ 0 → starts-from n kinds operands places f table ≡ table
+module _ (n : ℕ) (kinds : List ℕ) (places : List ℕ) (f : ℕ) (table : List ℕ) where
+  from-none : n ≡ 0 → starts-from n kinds places f table ≡ table
   unfolding starts-from
   from-none e = rw e
 
   pub from-more : position-of places f < length kinds →
-      starts-from (suc n) kinds operands places f table
-      ≡ starts-from n kinds operands places (f + 1) (with-start table f (tree-start operands (position-of places f)))
+      starts-from (suc n) kinds places f table
+      ≡ starts-from n kinds places (f + 1) (with-start table f (position-of places f))
   unfolding starts-from
   from-more h = rw (lt-ltb (position-of places f) (length kinds) h)
 
-from-past : (n : ℕ) (kinds : List ℕ) (operands : List ℤ) (places : List ℕ) (f : ℕ) (table : List ℕ) →
-    length kinds ≤ position-of places f → starts-from n kinds operands places f table ≡ table
+from-past : (n : ℕ) (kinds : List ℕ) (places : List ℕ) (f : ℕ) (table : List ℕ) →
+    length kinds ≤ position-of places f → starts-from n kinds places f table ≡ table
 unfolding starts-from
-from-past zero kinds operands places f table h = refl
-from-past (suc n) kinds operands places f table h = rw (le-ltb (position-of places f) (length kinds) h)
+from-past zero kinds places f table h = refl
+from-past (suc n) kinds places f table h = rw (le-ltb (position-of places f) (length kinds) h)
 
-module _ {kinds : List ℕ} {operands : List ℤ} {functions : ℕ} {places table₀ table : List ℕ} {f : ℕ}
-    (inv : Filling kinds operands functions places table₀ table f) where
-  pub filled-all : functions ≤ f → table ≡ starts-from functions kinds operands places 0 table₀
-  filled-all h = sym (inv .same ∙ from-none (functions - f) kinds operands places f table (omega arith))
+module _ {kinds : List ℕ} {functions : ℕ} {places table₀ table : List ℕ} {f : ℕ}
+    (inv : Filling kinds functions places table₀ table f) where
+  pub filled-all : functions ≤ f → table ≡ starts-from functions kinds places 0 table₀
+  filled-all h = sym (inv .same ∙ from-none (functions - f) kinds places f table (omega arith))
 
   -- p is where function f begins
   module _ (p : ℕ) (pe : p ≡ position-of places f) where
-    pub filled-past : length kinds ≤ p → table ≡ starts-from functions kinds operands places 0 table₀
-    filled-past h = sym (inv .same ∙ from-past (functions - f) kinds operands places f table (rw pe at h))
+    pub filled-past : length kinds ≤ p → table ≡ starts-from functions kinds places 0 table₀
+    filled-past h = sym (inv .same ∙ from-past (functions - f) kinds places f table (rw pe at h))
 
-    pub fill-more : f < functions → p < length kinds → (count : ℕ) → count ≡ low-bits (getD operands p (pos 0)) →
-        (t : List ℕ) → t ≡ with-start table f (p + 1 + count % 256) →
-        Filling kinds operands functions places table₀ t (f + 1)
-    fill-more h l count ce t te = record {
+    pub fill-more : f < functions → p < length kinds → (t : List ℕ) → t ≡ with-start table f p →
+        Filling kinds functions places table₀ t (f + 1)
+    fill-more h l t te = record {
       same = inv .same
-          ∙ ap (λ (n : ℕ). starts-from n kinds operands places f table)
+          ∙ ap (λ (n : ℕ). starts-from n kinds places f table)
           (let z : functions - f ≡ suc (functions - (f + 1)) = omega arith in z)
-          ∙ from-more (functions - (f + 1)) kinds operands places f table (rw pe at l)
-          ∙ ap (λ (q : ℕ). starts-from (functions - (f + 1)) kinds operands places (f + 1)
-          (with-start table f (tree-start operands q))) (sym pe)
-          ∙ ap (λ (k : ℕ). starts-from (functions - (f + 1)) kinds operands places (f + 1)
-          (with-start table f (p + 1 + k % 256))) (sym ce)
-          ∙ ap (starts-from (functions - (f + 1)) kinds operands places (f + 1)) (sym te);
+          ∙ from-more (functions - (f + 1)) kinds places f table (rw pe at l)
+          ∙ ap (λ (q : ℕ). starts-from (functions - (f + 1)) kinds places (f + 1) (with-start table f q)) (sym pe)
+          ∙ ap (starts-from (functions - (f + 1)) kinds places (f + 1)) (sym te);
       few = omega arith;
-      long = ap length te ∙ length-position table (starts-place + 2 * f) (p + 1 + count % 256) ∙ inv .long;
+      long = ap length te ∙ length-position table (starts-place + 2 * f) p ∙ inv .long;
     }
 
 -- ---- both
 
-module _ (functions rows : ℕ) (kinds : List ℕ) (operands : List ℤ) (places table : List ℕ) where
-  pub filled-short : length table < table-bytes → table ≡ filled functions rows kinds operands places table
+module _ (functions rows : ℕ) (kinds : List ℕ) (places table : List ℕ) where
+  pub filled-short : length table < table-bytes → table ≡ filled functions rows kinds places table
   unfolding filled
   filled-short h = rw (lt-ltb (length table) table-bytes h)
 
   pub filled-long : table-bytes ≤ length table → (t u : List ℕ) → t ≡ ends-from rows kinds table →
-      u ≡ starts-from functions kinds operands places 0 t → u ≡ filled functions rows kinds operands places table
+      u ≡ starts-from functions kinds places 0 t → u ≡ filled functions rows kinds places table
   unfolding filled
   filled-long h t u te ue =
-      ue ∙ ap (starts-from functions kinds operands places 0) te ∙ rw (le-ltb (length table) table-bytes h)
+      ue ∙ ap (starts-from functions kinds places 0) te ∙ rw (le-ltb (length table) table-bytes h)

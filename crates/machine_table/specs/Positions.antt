@@ -1,11 +1,10 @@
--- The positions in the table: where the functions' trees begin, and where the tree at each row ends.
+-- The positions in the table: where the functions begin, and where the tree at each row ends.
 use mathlib.Core.Bool.{cond}
 use mathlib.Core.List.{List}
 use Prim.Native.Nat.{ℕ, zero, suc, _+_, _-_, _*_, _/_, _%_}
-use lib.IntN.{ℤ, pos}
 use lib.Dec.{ltb, eqb}
 use lib.ListN.{getD, set, length}
-use Rattle.machine_code.specs.Reading.{table-bytes, starts-place, ends-place, low-bits, end-in}
+use Rattle.machine_code.specs.Reading.{table-bytes, starts-place, ends-place, end-in}
 
 -- a position at a place, low byte first
 abbrev pub with-position : List ℕ → ℕ → ℕ → List ℕ
@@ -36,31 +35,26 @@ unfoldable pub ends-from : ℕ → List ℕ → List ℕ → List ℕ
 ends-from zero kinds table = table
 ends-from (suc at) kinds table = ends-from at kinds (with-end table at (end-of (getD kinds at 0) table at))
 
--- ---- where the functions' trees begin
+-- ---- where the functions begin
 
 abbrev pub with-start : List ℕ → ℕ → ℕ → List ℕ
 with-start table f start = with-position table (starts-place + 2 * f) start
-
--- the tree of a function that begins at p: behind its own line and those of its parameters
-abbrev pub tree-start : List ℤ → ℕ → ℕ
-tree-start operands p = p + 1 + low-bits (getD operands p (pos 0)) % 256
 
 -- where function f begins, by the places where the functions were written; function 0 begins the code
 abbrev pub position-of : List ℕ → ℕ → ℕ
 position-of places f = getD places f 0 - getD places 0 0
 
 -- n functions from number f on
-unfoldable pub starts-from : ℕ → List ℕ → List ℤ → List ℕ → ℕ → List ℕ → List ℕ
-starts-from zero kinds operands places f table = table
-starts-from (suc n) kinds operands places f table =
+unfoldable pub starts-from : ℕ → List ℕ → List ℕ → ℕ → List ℕ → List ℕ
+starts-from zero kinds places f table = table
+starts-from (suc n) kinds places f table =
     cond (ltb (position-of places f) (length kinds))
-    (starts-from n kinds operands places (f + 1)
-    (with-start table f (tree-start operands (position-of places f))))
+    (starts-from n kinds places (f + 1) (with-start table f (position-of places f)))
     table
 
 -- ---- both, where the table has room for them
 
-unfoldable pub filled : ℕ → ℕ → List ℕ → List ℤ → List ℕ → List ℕ → List ℕ
-filled functions rows kinds operands places table =
+unfoldable pub filled : ℕ → ℕ → List ℕ → List ℕ → List ℕ → List ℕ
+filled functions rows kinds places table =
     cond (ltb (length table) table-bytes) table
-    (starts-from functions kinds operands places 0 (ends-from rows kinds table))
+    (starts-from functions kinds places 0 (ends-from rows kinds table))

@@ -1,4 +1,4 @@
-// The positions behind the depths of the table: where the functions' trees begin, and where the tree at each row ends.
+// The positions behind the depths of the table: where the functions begin, and where the tree at each row ends.
 ghost use mathlib.Core.Path.{_≡_};
 ghost use Prim.Native.Nat.{_+_, _≤_, _<_};
 ghost use lib.ListN.{length, set};
@@ -83,17 +83,11 @@ fn position_of(places: &[usize; 32], f: usize) -> usize
     place - first
 }
 
-// Writes the position of the tree of each function.
-fn fill_starts(
-    kinds: &[u8],
-    operands: &[i64],
-    functions: usize,
-    places: &[usize; 32],
-    table: &mut [u8],
-)
+// Writes the position of the line of each function.
+fn fill_starts(kinds: &[u8], functions: usize, places: &[usize; 32], table: &mut [u8])
     requires { ⌜ functions ≤ 32 ⌝ }
-    ensures { λ _. ⌜ now (table .exit) ≡ starts-from functions (now (kinds .entry)) (now (operands .entry))
-        (now (places .entry)) 0 (now (table .entry)) ⌝ }
+    ensures { λ _. ⌜ now (table .exit) ≡ starts-from functions (now (kinds .entry)) (now (places .entry)) 0
+        (now (table .entry)) ⌝ }
 {
     let mut f: usize = 0;
     while f < functions {
@@ -101,29 +95,21 @@ fn fill_starts(
         if kinds.len() <= p {
             return;
         }
-        let count = machine_code::low_bits(machine_code::operand_at(operands, p)) % 256;
-        put_position(table, machine_code::STARTS + 2 * f, p + 1 + count as usize);
+        put_position(table, machine_code::STARTS + 2 * f, p);
         f = f + 1;
     }
 }
 
 // Writes both, for the code of so many functions and rows, by the places where the functions were written; a table that
 // is too short for them is left as it is.
-pub fn fill(
-    kinds: &[u8],
-    operands: &[i64],
-    functions: usize,
-    rows: usize,
-    places: &[usize; 32],
-    table: &mut [u8],
-)
+pub fn fill(kinds: &[u8], functions: usize, rows: usize, places: &[usize; 32], table: &mut [u8])
     requires { ⌜ (functions ≤ 32) × ((rows ≤ length (now kinds)) × (rows ≤ 4096)) ⌝ }
-    ensures { λ _. ⌜ now (table .exit) ≡ filled functions rows (now (kinds .entry)) (now (operands .entry))
-        (now (places .entry)) (now (table .entry)) ⌝ }
+    ensures { λ _. ⌜ now (table .exit) ≡ filled functions rows (now (kinds .entry)) (now (places .entry))
+        (now (table .entry)) ⌝ }
 {
     if table.len() < machine_code::TABLE_BYTES {
         return;
     }
     fill_ends(kinds, rows, table);
-    fill_starts(kinds, operands, functions, places, table);
+    fill_starts(kinds, functions, places, table);
 }

@@ -38,7 +38,7 @@ fn all_are(ds: &[u8; 16], n: usize, d: u8) -> bool
 }
 
 // The depth of a node whose first n parts are to have the depth d.
-fn judge_all(ds: &[u8; 16], n: usize, d: u8, depth: u8) -> Judged
+pub fn judge_all(ds: &[u8; 16], n: usize, d: u8, depth: u8) -> Judged
     requires { ⌜ (n ≤ 16) × (length (now ds) ≡ 16) ⌝ }
     ensures { λ r. ⌜ judged-outcome r ≡ rule-outcome (some-if (all-are d (take n (now (ds .entry)))) depth) ⌝ }
 {
@@ -85,7 +85,7 @@ fn judge_call(kinds: &[u8], operands: &[u8], start: usize, ds: &[u8; 16], n: u8)
 }
 
 // The depth of an element, by those of the array and of the place.
-fn judge_index(a: u8, b: u8) -> Judged
+pub fn judge_index(a: u8, b: u8) -> Judged
     ensures { λ r. ⌜ judged-outcome r ≡ rule-outcome (index-rule (a ∷ b ∷ [])) ⌝ }
 {
     if a == 0 {
@@ -98,7 +98,7 @@ fn judge_index(a: u8, b: u8) -> Judged
 }
 
 // The depth of a length, by that of the array.
-fn judge_length(a: u8) -> Judged
+pub fn judge_length(a: u8) -> Judged
     ensures { λ r. ⌜ judged-outcome r ≡ rule-outcome (length-rule (a ∷ [])) ⌝ }
 {
     if a == 0 {
@@ -109,7 +109,7 @@ fn judge_length(a: u8) -> Judged
 }
 
 // The depth of an array whose elements have the depth d.
-fn judge_array(d: u8) -> Judged
+pub fn judge_array(d: u8) -> Judged
     ensures { λ r. ⌜ judged-outcome r ≡ rule-outcome (array-rule d) ⌝ }
 {
     if d < 4 {
@@ -120,7 +120,7 @@ fn judge_array(d: u8) -> Judged
 }
 
 // The depth of a replicate, by those of the count and of the value.
-fn judge_replicate(a: u8, b: u8) -> Judged
+pub fn judge_replicate(a: u8, b: u8) -> Judged
     ensures { λ r. ⌜ judged-outcome r ≡ rule-outcome (replicate-rule (a ∷ b ∷ [])) ⌝ }
 {
     if a == 0 {

@@ -27,7 +27,7 @@ use Rattle.semantics.specs.Machine.{touching, each-events, lower-events,
 use Rattle.semantics.specs.Machine.{with-roots, stepped, step, acquire-if, acquire, elements-of, retain-word}
 use Rattle.semantics.specs.Machine.{release-word, append-word, overwrite-word, is-alone, held, retain-times}
 use Rattle.semantics.specs.Machine.{work-pass, work-leaf, work}
-use Rattle.semantics.specs.Machine.{routines-from, program-in, frame-from, level-after, lowest-over}
+use Rattle.semantics.specs.Machine.{routines-from, program-in, framed, level-after, lowest-over}
 use Rattle.semantics.specs.Machine.{machine, delivery, starting, delivered}
 use Rattle.semantics.specs.Meaning.{step as meaning-step, stepped as meaning-stepped, do-operation, do-call}
 use Rattle.semantics.specs.Meaning.{do-literal, do-index, do-length, do-iota, do-replicate, do-if, do-pass}
@@ -44,6 +44,7 @@ use Rattle.semantics.specs.Saved.{value-at, labelled, read-saved, acquir
 use Rattle.semantics.specs.Saved.{load-totals, loaded}
 use Rattle.semantics.specs.SaveCalls.{refusing-save, answering-save, save-for, engine-save, restore-for}
 use Rattle.semantics.specs.SaveCalls.{engine-restore}
+use Rattle.semantics.specs.Plain.{run, valued, running, main-running}
 
 unfoldable pub computing : Unit {0}
 unfolding tabulate all occurrences least each updated onward require times passes bytes-at size function-size
@@ -58,11 +59,11 @@ unfolding tabulate all occurrences least each updated onward require times passe
     as-due list-sound zeros-from names-used all-used formed-as formed places counted sound sound-words touching
     each-events lower-events release-events with-store with-left with-roots stepped step acquire-if acquire
     elements-of retain-word release-word append-word overwrite-word is-alone held retain-times work-pass
-    work-leaf work routines-from program-in frame-from machine delivery level-after lowest-over starting
+    work-leaf work routines-from program-in framed machine delivery level-after lowest-over starting
     delivered packed judged code-fits admitted translated engine-translate request-fits refusing answering
     open-for check-for deliver-for engine-open engine-check engine-deliver meaning-step meaning-stepped
     do-operation do-call do-literal do-index do-length do-iota do-replicate do-if do-pass do-loop do-leaf eval
     bound meaning main-meaning step-wants entry value-of touched entries low-bytes marks number-bytes file-bytes
     saved-bytes save-fits value-at labelled read-saved acquire-cell load-element load-value load-totals loaded
-    refusing-save answering-save save-for engine-save restore-for engine-restore
+    refusing-save answering-save save-for engine-save restore-for engine-restore run valued running main-running
 computing = tt

@@ -117,6 +117,13 @@ module _ {A : Type 0} where
   element-name reducing ps = later-parts ps
   element-name rewriting ps = ps
 
+  -- the names of a pass that hold what is carried into it: a reduce's first, its running value's; the others have none
+  abbrev pub carried-name : Loop → List A → List A
+  carried-name mapping ps = []
+  carried-name filtering ps = []
+  carried-name reducing ps = first-part ps
+  carried-name rewriting ps = []
+
 -- a loop that may take a cell for its result before its passes
 abbrev pub takes-cell : Loop → Bool
 takes-cell mapping = true

@@ -18,6 +18,7 @@ pub mod Sound
 pub mod Value
 pub mod Meaning
 pub mod Machine
+pub mod Plain
 pub mod Calls
 pub mod Ledger
 pub mod Demands

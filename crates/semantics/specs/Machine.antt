@@ -11,7 +11,7 @@ use lib.Dec.{eqb, ltb}
 use Rattle.semantics.specs.Basics.{tabulate, with-if, occurrences, updated}
 use Rattle.semantics.specs.Outcome.{Outcome, done, stop, Run, _>>=_, _>>_, give, halt, require, passes}
 use Rattle.semantics.specs.Number.{exact, fits, inside, is-zero, is-answer}
-use Rattle.semantics.specs.Syntax.{Function, Script, main-depth}
+use Rattle.semantics.specs.Syntax.{Parameter, Function, Script, main-depth}
 use Rattle.semantics.specs.Types.{Signature, signatures-of}
 use Rattle.semantics.specs.Kinds.{Leaf, operation, call, literal, index, length-of, iota, replicate, Loop}
 use Rattle.semantics.specs.Kinds.{mapping, filtering, reducing, rewriting, later-parts, Borrowing, leaf-reads}
@@ -178,9 +178,7 @@ work-leaf callee S C d index ws = do
   vs ← elements-of (argument ws 0)
   require (inside (argument ws 1) (length vs)) 23
   give (getD vs (natAbs (argument ws 1)) (pos 0))
-work-leaf callee S C d length-of ws = do
-  vs ← elements-of (argument ws 0)
-  give (pos (length vs))
+work-leaf callee S C d length-of ws = do vs ← elements-of (argument ws 0); give (pos (length vs))
 work-leaf callee S C d iota ws = do
   require (is-count (argument ws 0)) 26
   acquire S 0 (tabulate 0 (natAbs (argument ws 0)) (λ i. pos i))
@@ -271,9 +269,7 @@ module _ (callee : Callee) (B : Borrowing) (Γ : NameDepths) where
     -- a tree, after which L is live
     pub work : Tree → Set → List ℕ → Frame → Work ℤ
     work (end a) L R ρ = give (word ρ a)
-    work (line l t) L R ρ = do
-      ρ′ ← work-line l (live t L) R ρ
-      work t L R ρ′
+    work (line l t) L R ρ = do ρ′ ← work-line l (live t L) R ρ; work t L R ρ′
 
     -- a line, after which A is live: the frame with the name that it binds
     pub work-line : Line → Set → List ℕ → Frame → Work Frame
@@ -299,28 +295,30 @@ module _ (callee : Callee) (B : Borrowing) (Γ : NameDepths) where
           c (tabulate 0 (length ws) (λ i. i))
       loop-ends k a w
       give (updated ρ x w)
-    work-line (retain x) A R ρ = do
-      retain-word (ρ x)
-      give ρ
-    work-line (release x) A R ρ = do
-      release-word (ρ x)
-      give ρ
+    work-line (retain x) A R ρ = do retain-word (ρ x); give ρ
+    work-line (release x) A R ρ = do release-word (ρ x); give ρ
 
 -- ---- calls and the delivery
 
--- a function's annotated tree and the depths of its names
+-- a function's annotated tree, with the names of its parameters and the depths of all its names
 pub record Routine : Type 0 where
+  pub names : List ℕ
   pub tree : Tree
   pub depths : NameDepths
 
--- those of some functions of a script, the first of which has number f
+-- a script's parameters are 0, 1, ..
+abbrev pub first-names : List Parameter → List ℕ
+first-names xs = tabulate 0 (length xs) (λ i. i)
+
+-- the routines of some functions of a script, the first of which has number f
 unfoldable pub routines-from : Style → Script → Table → ℕ → List Function → List Routine
 routines-from style fs T f [] = []
 routines-from style fs T f (g ∷ gs) =
-    record { tree = annotated-in style fs T f g; depths = depths-of fs g } ∷ routines-from style fs T (suc f) gs
+    record { names = first-names (g .parameters); tree = annotated-in style fs T f g; depths = depths-of fs g }
+    ∷ routines-from style fs T (suc f) gs
 
 abbrev pub no-routine : Routine
-no-routine = record { tree = end (number (pos 0)); depths = λ _. 0 }
+no-routine = record { names = []; tree = end (number (pos 0)); depths = λ _. 0 }
 
 -- What is worked: the routines by their numbers, the depths of their parameters and results, the places that they
 -- borrow, and the totals' depth.
@@ -347,17 +345,18 @@ program = program-in full-style
 abbrev pub routine-of : Program → ℕ → Routine
 routine-of p f = getD (p .routines) f no-routine
 
--- the arguments are the words of the names from n on
-unfoldable pub frame-from : List ℤ → ℕ → Frame
-frame-from [] n = λ _. pos 0
-frame-from (w ∷ ws) n = updated (frame-from ws (suc n)) n w
+-- the arguments are the words of the parameters' names
+unfoldable pub framed : List ℕ → List ℤ → Frame
+framed [] ws = λ _. pos 0
+framed (x ∷ xs) [] = λ _. pos 0
+framed (x ∷ xs) (w ∷ ws) = updated (framed xs ws) x w
 
 -- a call, with some call depth left
 unfoldable pub machine : Program → ℕ → Callee
 machine p zero R f ws = halt 22
 machine p (suc n) R f ws =
     let r = routine-of p f in
-    work (machine p n) (p .borrowing) (r .depths) (r .tree) empty R (frame-from ws 0)
+    work (machine p n) (p .borrowing) (r .depths) (r .tree) empty R (framed (r .names) ws)
 
 -- The readings' cell, the totals retained, main, the result in the totals' place, the old totals released
 unfoldable pub delivery : Program → List ℤ → Work (Unit {0})

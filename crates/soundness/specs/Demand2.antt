@@ -12,7 +12,7 @@ pub record Admitted (file : List ℕ) (lines : ℕ) (fs : Script) : Type 0 where
   pub judged-so : judged file ≡ accepted fs
   pub fits : code-fits fs lines ≡ true
 
-admitted-says : (file : List ℕ) (lines : ℕ) (fs : Script) → admitted file lines ≡ accepted fs →
+pub admitted-says : (file : List ℕ) (lines : ℕ) (fs : Script) → admitted file lines ≡ accepted fs →
     Admitted file lines fs
 unfolding admitted
 admitted-says file lines fs = by (judged file) refl

@@ -165,4 +165,4 @@ module _ (fs : Script) (slots : List ℤ) (heads : List ℕ) (v : Value) (δ : D
     worked-step requested o p e m (runs-dry {s} none-free out clean wants) =
         rw (dry-packed (lowest-level before s) (δ .budget - s .left) (cells-taken (relinked before))
         (few-free (standing-settled stood) s) (few-steps requested (s .left)))
-        (stopped-step requested 25 s (omega arith) (omega arith) e clean (λ z. rw m wants) (λ z. out refl))
+        (stopped-step requested 25 s (omega arith) (omega arith) e clean (λ z. rw m wants) (λ z. out .in-use refl))

@@ -24,7 +24,7 @@ fn deliver(
     heads: &mut [u32],
 ) -> u64 {
     let mut readings = [0i64; 32];
-    let count = test_text::readings_of(line, &mut readings);
+    let count = test_text::readings_of(line, 5, &mut readings);
     let budget = test_text::natural(line, 3);
     engine::engine_deliver(
         file,

@@ -1,7 +1,8 @@
-// Runs the cases of data/, the base's and those of orders 1 to 8, on the six calls, and prints how many calls they
+// Runs the cases of data/, the base's and those of orders 1 to 10, on the eight calls, and prints how many calls they
 // make and how much of what each leaves is right. Then it prints the refusal of a file for each number from 1 to 9.
 mod calls;
 mod checks;
+mod codes;
 mod deliveries;
 mod refusals;
 mod swaps;
@@ -18,6 +19,7 @@ enum Family {
     EarlierDeliver,
     Deliver,
     Swap,
+    Code,
 }
 
 // Runs a case.
@@ -31,6 +33,7 @@ fn run_case(family: Family, case: &[u8], tally: &mut Tally) {
         Family::EarlierDeliver => deliveries::run_case(case, file, false, tally),
         Family::Deliver => deliveries::run_case(case, file, true, tally),
         Family::Swap => swaps::run_case(case, file, tally),
+        Family::Code => codes::run_case(case, tally),
     }
 }
 
@@ -62,6 +65,7 @@ fn main() {
     run_file(Family::Translate, b"translate_6.txt", &mut tally);
     run_file(Family::Translate, b"translate_7.txt", &mut tally);
     run_file(Family::Translate, b"translate_8.txt", &mut tally);
+    run_file(Family::Translate, b"translate_10.txt", &mut tally);
     run_file(Family::Check, b"check.txt", &mut tally);
     run_file(Family::Check, b"check_1.txt", &mut tally);
     run_file(Family::Check, b"check_2.txt", &mut tally);
@@ -71,6 +75,7 @@ fn main() {
     run_file(Family::Check, b"check_6.txt", &mut tally);
     run_file(Family::Check, b"check_7.txt", &mut tally);
     run_file(Family::Check, b"check_8.txt", &mut tally);
+    run_file(Family::Check, b"check_10.txt", &mut tally);
     run_file(Family::EarlierDeliver, b"deliver.txt", &mut tally);
     run_file(Family::EarlierDeliver, b"deliver_1.txt", &mut tally);
     run_file(Family::Deliver, b"deliver_2.txt", &mut tally);
@@ -81,6 +86,7 @@ fn main() {
     run_file(Family::Deliver, b"deliver_7.txt", &mut tally);
     run_file(Family::Deliver, b"deliver_8.txt", &mut tally);
     run_file(Family::Swap, b"swap_4.txt", &mut tally);
+    run_file(Family::Code, b"code_10.txt", &mut tally);
     test_text::print_tally(&tally);
     refusals::print_refusals();
 }

@@ -10,9 +10,10 @@ pub fn number_of(answer: u64) -> usize
     (answer % 256) as usize
 }
 
-// Whether a number is a refusal: such a call leaves the code arrays zero and the store as it was.
+// Whether a number is a refusal: such a call leaves the store as it was, and its code arrays zero unless they are lent
+// code.
 pub fn is_refusal(number: usize) -> bool {
-    number == 27 || (0 < number && number < 12)
+    number == 27 || number == 29 || (0 < number && number < 12)
 }
 
 // Whether an answer to a delivery is the one that is wanted, whole or but for its lowest level; a refusal has none.

@@ -110,7 +110,7 @@ pub fn pieces_of(line: &[u8], from: usize, bytes: &mut [u8]) -> usize
 }
 
 // Puts the low 8 bits of a number into an array, if it has that place.
-fn put_kind(kinds: &mut [u8], index: usize, value: u64)
+pub fn put_kind(kinds: &mut [u8], index: usize, value: u64)
     ensures { λ r. ⌜ length (now (kinds .exit)) ≡ length (now (kinds .entry)) ⌝ }
 {
     if index < kinds.len() {
@@ -119,7 +119,7 @@ fn put_kind(kinds: &mut [u8], index: usize, value: u64)
 }
 
 // Puts a signed word into an array, if it has that place.
-fn put_slot(slots: &mut [i64], index: usize, value: i64)
+pub fn put_slot(slots: &mut [i64], index: usize, value: i64)
     ensures { λ r. ⌜ length (now (slots .exit)) ≡ length (now (slots .entry)) ⌝ }
 {
     if index < slots.len() {
@@ -181,11 +181,11 @@ pub fn fill_lines(case: &[u8], kinds: &mut [u8], operands: &mut [i64]) {
     }
 }
 
-// Puts the readings of a delivery into an array, and answers how many there are.
-pub fn readings_of(line: &[u8], readings: &mut [i64]) -> usize
+// Puts the readings of a delivery, from a word of its line on, into an array, and answers how many there are.
+pub fn readings_of(line: &[u8], from: usize, readings: &mut [i64]) -> usize
     ensures { λ r. ⌜ r ≤ length (now (readings .exit)) ⌝ }
 {
-    let mut at = word(line, 5);
+    let mut at = word(line, from);
     let mut count = 0;
     while count < readings.len() {
         if line.len() <= at {

@@ -47,7 +47,12 @@ fn same_heads(a: &[u32], b: &[u32]) -> bool
 }
 
 // Whether both code arrays hold what two arrays that are at least as long begin with.
-fn same_code(kinds: &[u8], operands: &[i64], wanted_kinds: &[u8], wanted_operands: &[i64]) -> bool
+pub fn same_code(
+    kinds: &[u8],
+    operands: &[i64],
+    wanted_kinds: &[u8],
+    wanted_operands: &[i64],
+) -> bool
     ensures { λ r. ⌜ (r ≡ true →
         (now (kinds .entry) ≡ take (length (now (kinds .entry))) (now («wanted_kinds» .entry)))
         × (now (operands .entry) ≡ take (length (now (operands .entry))) (now («wanted_operands» .entry)))) ⌝ }

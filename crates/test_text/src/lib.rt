@@ -3,6 +3,7 @@
 // Nothing stands past the end.
 mod answer;
 mod array;
+mod code;
 mod compare;
 mod expected;
 mod lent;
@@ -23,6 +24,8 @@ pub use array::fill_heads;
 pub use array::fill_lines;
 pub use array::fill_slots;
 pub use array::readings_of;
+pub use code::compare_lent;
+pub use code::fill_code;
 pub use compare::MOST_LINES;
 pub use compare::compare_saved;
 pub use compare::count_code;
@@ -44,7 +47,9 @@ pub use stores::compare_last;
 pub use stores::compare_last_within;
 pub use stores::compare_opened;
 pub use tally::CHECK;
+pub use tally::CHECK_CODE;
 pub use tally::DELIVER;
+pub use tally::DELIVER_CODE;
 pub use tally::OPEN;
 pub use tally::RESTORE;
 pub use tally::SAVE;

@@ -3,7 +3,7 @@
 use libc::STDOUT_FILENO;
 ghost use Prim.Native.Nat.{_<_};
 
-// The parts of a tally: the six calls, and the stores that histories end with.
+// The parts of a tally: the eight calls, and the stores that histories end with.
 pub const TRANSLATE: usize = 0;
 
 pub const OPEN: usize = 1;
@@ -16,7 +16,11 @@ pub const SAVE: usize = 4;
 
 pub const RESTORE: usize = 5;
 
-const LAST: usize = 6;
+pub const CHECK_CODE: usize = 6;
+
+pub const DELIVER_CODE: usize = 7;
+
+const LAST: usize = 8;
 
 // The columns of a part. The words are those of the code arrays and stores that are right. A save has its buffer in the
 // store's place, for it cannot change the store.
@@ -35,24 +39,24 @@ pub const STORE_WORDS: usize = 5;
 const COLUMNS: usize = 6;
 
 // A row of 8 words for each of 32 numbers, in each part; then the row that is counted in.
-const ROW: usize = 1792;
+const ROW: usize = 2304;
 
-pub const TALLY_WORDS: usize = 1793;
+pub const TALLY_WORDS: usize = 2305;
 
 pub type Tally = [u64; TALLY_WORDS];
 
 // The row of a part and a number.
 fn row_of(part: usize, number: usize) -> usize
-    ensures { λ r. ⌜ r < 224 ⌝ }
+    ensures { λ r. ⌜ r < 288 ⌝ }
 {
-    32 * (part % 7) + number % 32
+    32 * (part % 9) + number % 32
 }
 
 // Where a count of a row stands.
 fn place(row: usize, column: usize) -> usize
-    ensures { λ r. ⌜ r < 1792 ⌝ }
+    ensures { λ r. ⌜ r < 2304 ⌝ }
 {
-    8 * (row % 224) + column % 8
+    8 * (row % 288) + column % 8
 }
 
 // Turns to the row of a part and a number: what comes next is counted in it.
@@ -118,5 +122,7 @@ pub fn print_tally(tally: &Tally) {
     print_part(tally, DELIVER, b"engine_deliver");
     print_part(tally, SAVE, b"engine_save");
     print_part(tally, RESTORE, b"engine_restore");
+    print_part(tally, CHECK_CODE, b"engine_check_code");
+    print_part(tally, DELIVER_CODE, b"engine_deliver_code");
     print_part(tally, LAST, b"the stores that histories end with");
 }

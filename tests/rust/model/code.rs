@@ -57,11 +57,11 @@ pub struct Tree {
     pub end: Atom,
 }
 
-/// A function's code; `depths` has the depth of each of its names.
+/// A function's code; its parameters have their names and depths, and `depths` has the depth of each of its names.
 #[derive(Clone, Debug)]
 pub struct Coded {
     pub depth: usize,
-    pub parameters: usize,
+    pub parameters: Vec<(usize, usize)>,
     pub depths: Vec<usize>,
     pub tree: Tree,
 }
@@ -70,21 +70,22 @@ pub fn translate(functions: &[Function]) -> Vec<Coded> {
     let mut coded: Vec<Coded> = functions.iter().map(|function| plain_code(function, functions)).collect();
     let borrowed = Borrowed::by(&coded.iter().map(|coded| &coded.tree).collect::<Vec<_>>());
     for (f, coded) in coded.iter_mut().enumerate() {
-        coded.tree = annotate::body(f, &coded.tree, coded.parameters, &coded.depths, &borrowed);
+        coded.tree = annotate::body(f, &coded.tree, coded.parameters.len(), &coded.depths, &borrowed);
     }
     coded
 }
 
 /// A function's code without retains and releases.
 fn plain_code(function: &Function, functions: &[Function]) -> Coded {
-    let depths = function.parameters.iter().map(|parameter| parameter.depth).collect();
+    let depths: Vec<usize> = function.parameters.iter().map(|parameter| parameter.depth).collect();
+    let parameters = depths.iter().copied().enumerate().collect();
     let mut lowering = Lowering { functions, depths };
     let mut scope = [Atom::Number(0); 256];
     for (name, parameter) in function.parameters.iter().enumerate() {
         scope[parameter.name] = Atom::Name(name);
     }
     let tree = lowering.tree(&function.body, &scope);
-    Coded { depth: function.depth, parameters: function.parameters.len(), depths: lowering.depths, tree }
+    Coded { depth: function.depth, parameters, depths: lowering.depths, tree }
 }
 
 // ---- The normal form ----
@@ -197,10 +198,8 @@ impl Lowering<'_> {
 pub fn rows(functions: &[Coded]) -> Vec<(u8, i64)> {
     let mut rows = Vec::new();
     for function in functions {
-        rows.push((0, (function.parameters + 256 * function.depth) as i64));
-        for name in 0..function.parameters {
-            rows.push((1, (name + 256 * function.depths[name]) as i64));
-        }
+        rows.push((0, (function.parameters.len() + 256 * function.depth) as i64));
+        rows.extend(function.parameters.iter().map(|(name, depth)| (1, (name + 256 * depth) as i64)));
         tree_rows(&function.tree, &mut rows);
     }
     rows

@@ -51,8 +51,10 @@ impl Machine<'_> {
 
     fn function(&mut self, function: usize, arguments: Vec<i64>, call_depth: usize) -> Result<i64, u64> {
         let coded = &self.functions[function];
-        let mut names = arguments;
-        names.resize(coded.depths.len(), 0);
+        let mut names = vec![0; coded.depths.len()];
+        for ((name, _), argument) in coded.parameters.iter().zip(arguments) {
+            names[*name] = argument;
+        }
         self.tree(coded, &coded.tree, &mut names, call_depth)
     }
 

@@ -1,8 +1,9 @@
-//! A second implementation of the six calls, written from documents 01 and 02 alone: trees on the heap, no proof.
+//! A second implementation of the eight calls, written from documents 01 and 02 alone: trees on the heap, no proof.
 
 pub mod annotate;
 pub mod borrow;
 pub mod code;
+pub mod lent;
 pub mod machine;
 pub mod names;
 pub mod rules;
@@ -106,8 +107,12 @@ pub fn deliver(file: &[u8], lent: &mut Lent, readings: &[i64], budget: u64) -> u
         Some(store) if store.is_sound(coded[0].depth) => store,
         _ => return refuse_with(lent, 11),
     };
-    let ended = machine::deliver(&coded, &mut store, readings, budget);
-    keep(lent, &store);
+    work(&coded, lent, &mut store, readings, budget)
+}
+
+fn work(coded: &[Coded], lent: &mut Lent, store: &mut Store, readings: &[i64], budget: u64) -> u64 {
+    let ended = machine::deliver(coded, store, readings, budget);
+    keep(lent, store);
     pack(ended.number, ended.lowest, ended.steps, store.taken() as u64)
 }
 
@@ -148,6 +153,29 @@ pub fn restore(file: &[u8], lent: &mut Lent, bytes: &[u8]) -> u64 {
     };
     keep(lent, &store);
     plain(0, 0, store.taken() as u64)
+}
+
+/// Checks lent code: its lines, or the line at fault.
+pub fn check_code(lent: &Lent, depth: u64) -> u64 {
+    match lent::judge(&lent.kinds, &lent.operands, depth) {
+        Ok((_, lines)) => plain(0, lines as u64, 0),
+        Err(fault) => pack(29, fault.line() as u64, 0, 0),
+    }
+}
+
+/// A delivery by lent code. Refusals leave all that is lent.
+pub fn deliver_code(lent: &mut Lent, depth: u64, readings: &[i64], budget: u64) -> u64 {
+    let coded = match lent::judge(&lent.kinds, &lent.operands, depth) {
+        Ok((coded, _)) => coded,
+        Err(fault) => return pack(29, fault.line() as u64, 0, 0),
+    };
+    if readings.len() > 16 || budget > 1_000_000 {
+        return plain(10, 0, 0);
+    }
+    match Store::from_words(&lent.slots, &lent.heads) {
+        Some(mut store) if store.is_sound(depth as usize) => work(&coded, lent, &mut store, readings, budget),
+        _ => plain(11, 0, 0),
+    }
 }
 
 fn keep(lent: &mut Lent, store: &Store) {

@@ -9,8 +9,8 @@ returns : tie.Need-returns
 returns c =
     let a = c .before .before .before .before .args in
     let asked = c .before .request-fits in
-    λ file fs ok few coded same. (
-      refuses-10 fs (a .readings .now) (a .budget) (a .slots .now) (a .heads .now)
+    λ P performs same. (
+      refuses-10 P (a .readings .now) (a .budget) (a .slots .now) (a .heads .now)
           (sym (asked .ensures) ∙ not-true (asked .result) (c .if1 .taken)),
       tt,
     )
@@ -21,8 +21,8 @@ returns-2 c =
     let a = at-request-fits .before .before .before .args in
     let asked = at-request-fits .request-fits in
     let test = c .before .is-sound in
-    λ file fs ok few coded same. (
-      refuses-11 fs (a .readings .now) (a .budget) (a .slots .now) (a .heads .now)
+    λ P performs same. (
+      refuses-11 P (a .readings .now) (a .budget) (a .slots .now) (a .heads .now)
           (sym (asked .ensures) ∙ not-false (asked .result) (c .before .before .before .before .if1 .left)) (a .depth)
           same
           (sym (test .ensures) ∙ not-true (test .result) (c .if2 .taken)),
@@ -49,14 +49,14 @@ returns-3 c =
     let asked = at-if1 .before .request-fits in
     let request = sym (asked .ensures) ∙ not-false (asked .result) (at-if1 .if1 .left) in
     let a = at-if1 .before .before .before .before .args in
-    λ file fs ok few coded same. (
-      delivers file fs ok few _ coded (a .readings .now) (a .budget) (a .slots .now) (a .heads .now) (a .depth)
+    λ P performs same. (
+      delivers P _ performs (a .readings .now) (a .budget) (a .slots .now) (a .heads .now) (a .depth)
           same
           request fine (record { slots-long = end .kept .1 .1 .1 .0; heads-long = end .kept .1 .1 .1 .1 .0 })
           (end .ensures .store) (end .ensures .number) (end .ensures .lowest) (end .ensures .steps)
           (c .cells-taken .ensures),
       (
-        lowest-few file fs ok few _ coded (a .readings .now) (a .budget) (a .slots .now) (a .heads .now) (a .depth)
+        lowest-few P _ performs (a .readings .now) (a .budget) (a .slots .now) (a .heads .now) (a .depth)
             same request fine (end .ensures .lowest),
         steps-few _ (a .readings .now) (a .depth) (a .budget) _ request (end .ensures .steps),
         rw (c .cells-taken .ensures) (taken-few _ _),

@@ -51,8 +51,8 @@ translate-accepted-requires c κs =
 
 fill-requires : tie.Need-fill-requires
 fill-requires c κs =
-    let n = c .before .before .before .before .before .n in
-    let at-laid = c .before .before .before .before .before .before .before .before .before .before .before .before in
+    let n = c .before .before .before .before .n in
+    let at-laid = c .before .before .before .before .before .before .before .before .before .before .before in
     let at-functions = at-laid .before .before .before .before .before .before .before .before .before in
     let at-judge = at-functions .before .before in
     let a = at-judge .before .before .before .before .before .args in
@@ -67,7 +67,7 @@ fill-requires c κs =
 
 returns : tie.Need-returns
 returns c =
-    let at-n = c .before .before .before .before .before .before .before .before in
+    let at-n = c .before .before .before .before .before .before .before in
     let at-laid = at-n .before .before .before .before .before .before .before in
     let at-functions = at-laid .before .before .before .before .before .before .before .before .before in
     let at-judge = at-functions .before .before in
@@ -82,7 +82,7 @@ returns c =
     let operands = laid .last .1 .1 .1 .1 .1 .1 .0 in
     rw (c .before .before .fill .ensures)
     (subst (λ r. LoadsWith (a .file .now) (a .kinds .now) (a .operands .now) (a .table .now) (ready (d .result)
-    (laid-outcome r)) kinds operands (table-after functions kinds operands places (laid-outcome r) table))
+    (laid-outcome r)) kinds operands (table-after functions kinds places (laid-outcome r) table))
     (at-n .n .given .1)
     (loads-with-laid (laid-outcome (laid .result)) (d .result) table _ places j (d .ensures) (laid .ensures .0)
     (laid .ensures .1 .0) (laid .ensures .1 .1)))
@@ -103,7 +103,7 @@ returns-2 c =
     let operands = laid .last .1 .1 .1 .1 .1 .1 .0 in
     subst (λ r. LoadsWith (a .file .now) (a .kinds .now) (a .operands .now) (a .table .now)
     (ready (d .result) (laid-outcome r)) kinds operands
-    (table-after functions kinds operands places (laid-outcome r) table)) (c .enum-told .given .1)
+    (table-after functions kinds places (laid-outcome r) table)) (c .enum-told .given .1)
     (loads-with-laid (laid-outcome (laid .result)) (d .result) table _ places j (d .ensures) (laid .ensures .0)
     (laid .ensures .1 .0) (laid .ensures .1 .1))
 

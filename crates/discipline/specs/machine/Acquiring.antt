@@ -8,7 +8,7 @@ use Rattle.semantics.specs.Annotate.{is-array}
 use Rattle.semantics.specs.Meaning.{Meter, Env, step-wants}
 use Rattle.semantics.specs.Machine.{acquires, State, Frame, with-store, with-roots, held, acquire, acquire-if}
 use Rattle.semantics.specs.Store.{Store, Cell, cell, cell-of, named-by, filled, has-free, acquired}
-use Rattle.semantics.specs.Demands.{value-of, touched, replayed, OutOfCells}
+use Rattle.semantics.specs.Demands.{value-of, touched, replayed}
 use Rattle.semantics.specs.Basics.{_∈_}
 use Rattle.laws.specs.Tests.{say-and}
 use Rattle.laws.specs.Lists.{_⊆_}
@@ -21,7 +21,7 @@ use Rattle.discipline.specs.store.Acquire as Store-acquire
 use Rattle.discipline.specs.machine.Discipline.{Covered}
 use Rattle.discipline.specs.machine.Images.{image-subset, member, without-middle}
 use Rattle.discipline.specs.machine.Growth.{Grows}
-use Rattle.discipline.specs.machine.Agreement.{Start, Together, Agree, dry, with-store-together}
+use Rattle.discipline.specs.machine.Agreement.{Start, Together, AllTaken, Agree, dry, with-store-together}
 use Rattle.discipline.specs.machine.Frames.{hold, Setting, Situation, Returned}
 use Rattle.discipline.specs.machine.Standing.{named-one}
 
@@ -46,16 +46,19 @@ roots-cover C Z F R H A ρ rooted covered c h = elim (append-cases c Z (hold ρ 
   ]
 ]
 
--- where no cell is free, each taken one is reached from the roots
+-- where no cell is free, each is taken, and reached from the roots if the code is frugal
 pub out-of-cells : {C : Setting} {Z F R B H P : List ℕ} {ρ : Frame} {δ : Env} {n : ℕ} (s : State) (A : Set) →
     Situation C (s .store) Z F R B H P ρ δ n → (C .start .frugal ≡ true → Covered (C .depths) H A) →
-    has-free (s .store) ≡ false → C .start .frugal ≡ true → OutOfCells (with-roots s (R ++ held (C .depths) A ρ))
+    has-free (s .store) ≡ false → AllTaken (C .start) (with-roots s (R ++ held (C .depths) A ρ))
 unfolding with-roots
-out-of-cells {C} {Z} {F} {R} {B} {H} {P} {ρ} s A S covered e f = record {
-  none-free = e;
-  all-taken = λ c h. none-left (S .invariant) e c h;
-  in-use = λ c h. reached-more (s .store) (Z ++ (hold ρ H ++ F)) (R ++ held (C .depths) A ρ)
-      (roots-cover C Z F R H A ρ (S .rooted f) (covered f)) c (reached (S .invariant) c h);
+out-of-cells {C} {Z} {F} {R} {B} {H} {P} {ρ} s A S covered e = record {
+  taken = λ c h. none-left (S .invariant) e c h;
+  in-use = λ f. record {
+    none-free = e;
+    all-taken = λ c h. none-left (S .invariant) e c h;
+    in-use = λ c h. reached-more (s .store) (Z ++ (hold ρ H ++ F)) (R ++ held (C .depths) A ρ)
+        (roots-cover C Z F R H A ρ (S .rooted f) (covered f)) c (reached (S .invariant) c h);
+  };
 }
 
 -- the state after a cell is acquired
@@ -75,7 +78,7 @@ module _ {start : Start} {A B : Type 0} {Q : A → State → B → Meter → Typ
     (R : List ℕ) (d : ℕ) (ws : List ℤ) where
   pub acquire-agrees : (f : ℤ → Run State A) (g : Run Meter B) → Grows g → Together start s m →
       step-wants (start .budget - s .left) (m .trace) ≡ true →
-      (has-free (s .store) ≡ false → start .frugal ≡ true → OutOfCells (with-roots s R)) →
+      (has-free (s .store) ≡ false → AllTaken start (with-roots s R)) →
       (has-free (s .store) ≡ true → Agree start Q (f (pos (s .store .first)) (after-acquire d ws s)) (g m)) →
       Agree start Q (onward f (acquire R d ws s)) (g m)
   unfolding acquire acquire-if onward with-roots
@@ -85,7 +88,7 @@ module _ {start : Start} {A B : Type 0} {Q : A → State → B → Meter → Typ
       go true e = next e
       go false e = dry {p = g m} record {
         none-free = e;
-        in-use = out e;
+        all-taken = out e;
         clean = record {
           untouched = t .clean .untouched;
           replays = t .clean .replays;
@@ -104,7 +107,7 @@ given-on (stop n s) = refl
 pub acquire-gives : {start : Start} {B : Type 0} {Q : ℤ → State → B → Meter → Type 0} {s : State} {m : Meter}
     (R : List ℕ) (d : ℕ) (ws : List ℤ) (g : Run Meter B) → Grows g → Together start s m →
     step-wants (start .budget - s .left) (m .trace) ≡ true →
-    (has-free (s .store) ≡ false → start .frugal ≡ true → OutOfCells (with-roots s R)) →
+    (has-free (s .store) ≡ false → AllTaken start (with-roots s R)) →
     (has-free (s .store) ≡ true → Agree start Q (done (pos (s .store .first)) (after-acquire d ws s)) (g m)) →
     Agree start Q (acquire R d ws s) (g m)
 acquire-gives {start} {Q = Q} {s} {m} R d ws g grows t wants out next =

@@ -9,7 +9,7 @@ use Rattle.semantics.specs.Machine.{Event, State, with-store, with-left, level-
 use Rattle.semantics.specs.Machine as Machine
 use Rattle.semantics.specs.Store.{Store, cell-count, has-free}
 use Rattle.semantics.specs.Sound.{free-list}
-use Rattle.semantics.specs.Demands.{touched, replayed, OutOfCells}
+use Rattle.semantics.specs.Demands.{Taken, touched, replayed, OutOfCells}
 use Rattle.laws.specs.Levels.{LevelsUpTo, up-to-append, up-to-last, NoHigher}
 use Rattle.discipline.specs.store.Release.{untouched-append, replayed-append}
 use Rattle.discipline.specs.store.LowestLevel.{free-list-length, level-replayed}
@@ -48,10 +48,15 @@ pub record SameStop (start : Start) (k : ℕ) (s : State) (n : ℕ) (m : Meter) 
   pub left : s .left ≡ m .left
   pub clean : Clean start s
 
--- out of cells, every one being in use if the code is frugal, after a step of a node that wants a cell
+-- every cell is taken, and in use if the code is frugal
+pub record AllTaken (start : Start) (s : State) : Type 0 where
+  pub taken : (c : ℕ) → c < cell-count (s .store) → Taken (s .store) c
+  pub in-use : start .frugal ≡ true → OutOfCells s
+
+-- out of cells, after a step of a node that wants a cell
 pub record Dry (start : Start) (s : State) (trace : List Bool) : Type 0 where
   pub none-free : has-free (s .store) ≡ false
-  pub in-use : start .frugal ≡ true → OutOfCells s
+  pub all-taken : AllTaken start s
   pub clean : Clean start s
   pub wanted : step-wants (start .budget - s .left) trace ≡ true
 
@@ -81,7 +86,7 @@ module _ {start : Start} {A B : Type 0} {Q : A → State → B → Meter → Typ
   agree-bind (same q) grows next = same q
   agree-bind {g = g} (dry {s} {p = p} q) grows next = dry {p = onward g p} record {
     none-free = q .none-free;
-    in-use = q .in-use;
+    all-taken = q .all-taken;
     clean = q .clean;
     wanted = onward-grows g grows p (start .budget - s .left) (q .wanted);
   }

@@ -12,7 +12,7 @@ use Rattle.semantics.specs.Demands.{value-of}
 use Rattle.laws.specs.Lists.{_≈_, _⊆_, occurrences-append}
 use Rattle.laws.specs.Tests.{AllEqual}
 use Rattle.laws.specs.Cells.{named-by-none}
-use Rattle.discipline.specs.normal.Plain.{value}
+use Rattle.semantics.specs.Plain.{value}
 use Rattle.discipline.specs.store.Invariant.{Invariant, StandsFor}
 use Rattle.discipline.specs.store.Counting.{append-cases}
 use Rattle.discipline.specs.store.Change.{permute}

@@ -11,7 +11,7 @@ use Rattle.semantics.specs.Meaning as Meaning
 use Rattle.semantics.specs.Machine.{State, Frame, with-store, touching, work, elements-of}
 use Rattle.semantics.specs.Machine as Machine
 use Rattle.semantics.specs.Store.{Store, cell-of}
-use Rattle.discipline.specs.normal.Plain.{run}
+use Rattle.semantics.specs.Plain.{run}
 use Rattle.discipline.specs.normal.Trace.{CalleeGrows}
 use Rattle.discipline.specs.store.Invariant.{StandsFor}
 use Rattle.discipline.specs.store.Kept.{keeps-self}

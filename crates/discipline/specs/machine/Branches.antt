@@ -8,7 +8,7 @@ use Rattle.semantics.specs.Live.{after-branch}
 use Rattle.semantics.specs.Meaning.{Meter, do-if}
 use Rattle.semantics.specs.Meaning as Meaning
 use Rattle.semantics.specs.Machine.{State, word, work, work-line}
-use Rattle.discipline.specs.normal.Plain.{value, run, run-line}
+use Rattle.semantics.specs.Plain.{value, run, run-line}
 use Rattle.discipline.specs.normal.Trace.{CalleeGrows}
 use Rattle.discipline.specs.machine.Discipline.{left-by, holds-after}
 use Rattle.discipline.specs.machine.Growth.{Grows, give-grows, require-grows, bind-grows, tree-grows}

@@ -11,7 +11,7 @@ use Rattle.semantics.specs.Meaning.{Env, do-leaf, do-call}
 use Rattle.semantics.specs.Machine.{Frame, word, held, work-leaf}
 use Rattle.semantics.specs.Store.{Store, cell-of}
 use Rattle.laws.specs.Lists.{_≈_, _⊆_, occurrences-append}
-use Rattle.discipline.specs.normal.Plain.{value}
+use Rattle.semantics.specs.Plain.{value}
 use Rattle.discipline.specs.store.Invariant.{Invariant}
 use Rattle.discipline.specs.store.Counting.{append-cases, in-append-left, in-append-right}
 use Rattle.discipline.specs.normal.Trace.{CalleeGrows}

@@ -14,7 +14,7 @@ use Rattle.semantics.specs.Machine as Machine
 use Rattle.semantics.specs.Store.{Store, cell-of}
 use Rattle.semantics.specs.Sound.{all-inner}
 use Rattle.laws.specs.Lists.{_⊆_}
-use Rattle.discipline.specs.normal.Plain.{value, run, run-line}
+use Rattle.semantics.specs.Plain.{value, run, run-line}
 use Rattle.discipline.specs.store.Invariant.{Invariant, StandsFor}
 use Rattle.discipline.specs.machine.Discipline.{LeafFits, LineHolding, LineFrugal, less}
 use Rattle.discipline.specs.machine.Growth.{Grows}

@@ -11,7 +11,7 @@ use Rattle.semantics.specs.Machine.{State, Work, with-store, with-roots, acquir
 use Rattle.semantics.specs.Machine.{program, machine, if-array, delivery, starting, state-of}
 use Rattle.semantics.specs.Store.{Store, Cell, cell-of, named-by, has-free, acquired}
 use Rattle.semantics.specs.Ledger.{wants-cell}
-use Rattle.semantics.specs.Demands.{value-of, touched, replayed, AtRest, OutOfCells, Does}
+use Rattle.semantics.specs.Demands.{value-of, touched, replayed, AtRest, Does}
 use Rattle.laws.specs.Lists.{_⊆_, occurrences-append}
 use Rattle.discipline.specs.store.Invariant.{Invariant, StandsFor}
 use Rattle.discipline.specs.store.Counting.{in-append-left, in-append-right}
@@ -21,10 +21,10 @@ use Rattle.discipline.specs.store.Kept.{stands-kept, alike-trans, reache
 use Rattle.discipline.specs.store.Acquire.{Acquires, none-left}
 use Rattle.discipline.specs.store.Acquire as Store-acquire
 use Rattle.discipline.specs.normal.Running.{running-is-meaning}
-use Rattle.discipline.specs.normal.Plain.{running}
+use Rattle.semantics.specs.Plain.{running}
 use Rattle.discipline.specs.store.LowestLevel.{free-list-length}
 use Rattle.discipline.specs.machine.Images.{one-more}
-use Rattle.discipline.specs.machine.Agreement.{Start, Clean, Together, SameStop, Agree, both, same, dry}
+use Rattle.discipline.specs.machine.Agreement.{Start, Clean, Together, SameStop, AllTaken, Agree, both, same, dry}
 use Rattle.discipline.specs.machine.Frames.{Room, Returned, Arguments, none, more, named-all, owned-cells}
 use Rattle.discipline.specs.machine.Frames.{borrowed-cells}
 use Rattle.discipline.specs.machine.Places.{picked-all, picked-none}
@@ -42,7 +42,7 @@ pub data Delivers (start : Start) (d : ℕ) : Outcome State (Unit {0}) → Outco
       Delivers start d (done u s) (done v m)
   stops : {k n : ℕ} {s : State} {m : Meter} → SameStop start k s n m → Delivers start d (stop k s) (stop n m)
   runs-dry : {s : State} {p : Outcome Meter Value} → has-free (s .store) ≡ false →
-      (start .frugal ≡ true → OutOfCells s) → Clean start s → wants-cell (start .budget - s .left) p ≡ true →
+      AllTaken start s → Clean start s → wants-cell (start .budget - s .left) p ≡ true →
       Delivers start d (stop 25 s) p
 
 wanted : (k : ℕ) (p : Outcome Meter Value) → step-wants k (meter-of p .trace) ≡ true → wants-cell k p ≡ true
@@ -62,7 +62,7 @@ finish {start} d old (both {a = w} {s} {b = v} {m} q) =
     (sym (releases-totals d old (with-result w s))) (finishes (result-put d old q))
 finish d old (same q) = stops q
 finish {start} d old (dry {s} {p} q) =
-    runs-dry {p = p} (q .none-free) (q .in-use) (q .clean) (wanted (start .budget - s .left) p (q .wanted))
+    runs-dry {p = p} (q .none-free) (q .all-taken) (q .clean) (wanted (start .budget - s .left) p (q .wanted))
 
 -- ---- the delivery
 
@@ -104,10 +104,13 @@ module _ (p : Program) (disciplined : ProgramDisciplined p) (careful : Bool)
   none-free : has-free σ ≡ false → Delivers start d (stop 25 (with-roots (starting budget σ) held))
       meant
   unfolding with-roots starting touched replayed
-  none-free e = runs-dry e (λ f. record {
-    none-free = e;
-    all-taken = λ c h. none-left (rests .holds) e c h;
-    in-use = λ c h. reached (rests .holds) c h;
+  none-free e = runs-dry e (record {
+    taken = λ c h. none-left (rests .holds) e c h;
+    in-use = λ f. record {
+      none-free = e;
+      all-taken = λ c h. none-left (rests .holds) e c h;
+      in-use = λ c h. reached (rests .holds) c h;
+    };
   })
       (record { untouched = refl; replays = refl; cells = refl; levels = free-list-length σ })
       (let none-taken : 0 ≡ budget - budget = omega arith in
@@ -237,5 +240,5 @@ pub delivers-does : {start : Start} {d : ℕ} {o : Outcome State (Unit {0})} {p 
 delivers-does {d = d} f (finishes {s = s} q) =
     (q .left, subst (λ w. AtRest d (s .store) w) (q .value) (at-rest (q .rests)))
 delivers-does f (stops q) = inl (q .number, q .left)
-delivers-does f (runs-dry {p = done v m} empty out clean wants) = (refl, wants, out f)
-delivers-does f (runs-dry {p = stop n m} empty out clean wants) = inr (refl, wants, out f)
+delivers-does f (runs-dry {p = done v m} empty out clean wants) = (refl, wants, out .in-use f)
+delivers-does f (runs-dry {p = stop n m} empty out clean wants) = inr (refl, wants, out .in-use f)

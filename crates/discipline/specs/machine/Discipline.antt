@@ -6,17 +6,18 @@
 -- holds its cell meanwhile: it may be read and retained. A loop lends its array to its tree, unless it rewrites it and
 -- so has it handed over; and a call lends the arguments that its function borrows.
 -- The holds after a line are computed from those before it, so that every rule is a test of the holds.
-use Rattle.prelude.specs.Kit.{ℕ, _≤_, _<_, suc, zero, true, false, Bool, cond, not, _≡_, some, List, [], _∷_, _++_, map}
-use Rattle.prelude.specs.Kit.{eqb, ltb, length, getD}
+use Rattle.prelude.specs.Kit.{ℕ, _≤_, _<_, suc, true, false, Bool, cond, not, _≡_, some, List, [], _∷_, _++_, map, eqb}
+use Rattle.prelude.specs.Kit.{length}
 use Rattle.semantics.specs.Basics.{with-if, occurrences, _∈_}
 use Rattle.semantics.specs.Kinds.{Leaf, operation, call, literal, index, length-of, iota, replicate, Loop, mapping}
-use Rattle.semantics.specs.Kinds.{filtering, reducing, rewriting, first-part, leaf-hands, leaf-reads, loop-hands}
-use Rattle.semantics.specs.Kinds.{loop-reads, element-name, is-pending, Borrowing}
+use Rattle.semantics.specs.Kinds.{filtering, reducing, rewriting, carried-name, picked, leaf-hands, leaf-reads}
+use Rattle.semantics.specs.Kinds.{loop-hands, loop-reads, element-name, is-pending, Borrowing}
 use Rattle.semantics.specs.Names.{calls-none}
 use Rattle.semantics.specs.Types.{Signature, leaf-rule, loop-rule}
 use Rattle.semantics.specs.Code.{Atom, number, name, Line, leaf, if-else, loop, retain, release, Tree, end, line}
 use Rattle.semantics.specs.Code.{ending}
 use Rattle.semantics.specs.Live.{Set, empty, _∪_, _∖_, only, just, among, live, after-branch, after-pass}
+pub use Rattle.semantics.specs.Live.{known-after}
 use Rattle.semantics.specs.Annotate.{NameDepths, atom-depth, depth-of, is-array, pass-depths}
 use Rattle.semantics.specs.Machine.{Routine, Program, routine-of}
 use Rattle.laws.specs.Lists.{_≈_, _⊆_}
@@ -94,14 +95,6 @@ abbrev pub AllNew : List ℕ → Set → Type 0
 AllNew [] S = Unit {0}
 AllNew (x ∷ xs) S = New x S × AllNew xs (S ∪ only x)
 
--- the names known after a line
-abbrev pub known-after : Line → Set → Set
-known-after (leaf x l us) S = S ∪ only x
-known-after (if-else x g t e) S = S ∪ only x
-known-after (loop x k ps us t) S = S ∪ only x
-known-after (retain x) S = S
-known-after (release x) S = S
-
 abbrev mutual
   -- a tree before which the names S are known
   pub Scoped : Tree → Set → Type 0
@@ -136,13 +129,6 @@ infix 25 _⊑_
 unfoldable pub unlent : List ℕ → List ℕ → List ℕ
 unlent B [] = []
 unlent B (x ∷ l) = with-if (eqb (occurrences x B) 0) x (unlent B l)
-
--- the names of a pass that hold what is carried into it: a reduce's first, its running value's; the others have none
-abbrev pub carried-name : Loop → List ℕ → List ℕ
-carried-name mapping ps = []
-carried-name filtering ps = []
-carried-name reducing ps = first-part ps
-carried-name rewriting ps = []
 
 -- over the depths of a function's names
 module _ (Γ : NameDepths) where
@@ -227,7 +213,7 @@ module _ (β : Borrowing) (Γ : NameDepths) where
         (handed Γ (leaf-hands β l us) ⊑ H)
         × (handed Γ (leaf-reads β l us) ⊆ (B ++ less (handed Γ (leaf-hands β l us)) H))
     LineHolding B (if-else x g t e) H P =
-        (left-by t H ⊆ H) × Holding B t H [] (left-by t H) × Holding B e H [] (left-by t H)
+        (left-by t H ⊆ (B ++ H)) × Holding B t H [] (left-by t H) × Holding B e H [] (left-by t H)
     LineHolding B (loop x k ps us t) H P =
         (handed Γ (loop-hands k us) ⊑ H) × (handed Γ (loop-reads k us) ⊆ (B ++ loop-holds Γ k us H))
         × Holding (pass-lent Γ B k us) t (pass-holds Γ B k ps us H) (holds-of Γ (element-name k ps))
@@ -255,39 +241,28 @@ module _ (β : Borrowing) (Γ : NameDepths) where
 
 -- ---- a program
 
--- of the parameters from name n on the arrays at certain places
-unfoldable pub arrays-at : (ℕ → Bool) → List ℕ → ℕ → List ℕ
-arrays-at at [] n = []
-arrays-at at (zero ∷ ds) n = arrays-at at ds (suc n)
-arrays-at at (suc d ∷ ds) n = with-if (at n) n (arrays-at at ds (suc n))
+-- the array parameters of a routine that borrows those at b: these are lent, the others hold one reference each
+abbrev pub lent-parameters : (ℕ → Bool) → Routine → List ℕ
+lent-parameters b r = holds-of (r .depths) (picked b 0 (r .names))
 
--- the array parameters of a function that borrows those at b: these are lent, the others hold one reference each
-abbrev pub lent-parameters : (ℕ → Bool) → List ℕ → List ℕ
-lent-parameters b ds = arrays-at b ds 0
+abbrev pub parameter-holds : (ℕ → Bool) → Routine → List ℕ
+parameter-holds b r = holds-of (r .depths) (picked (λ i. not (b i)) 0 (r .names))
 
-abbrev pub parameter-holds : (ℕ → Bool) → List ℕ → List ℕ
-parameter-holds b ds = arrays-at (λ i. not (b i)) ds 0
-
--- so many parameters are known at the beginning
-abbrev pub parameter-names : List ℕ → Set
-parameter-names ds = λ x. ltb x (length ds)
-
--- A routine with these depths of its parameters and its result, which borrows the parameters at b: from one hold for
--- each other array parameter to none.
+-- A routine with these depths of its parameters, no two of which have one name, and of its result, which borrows the
+-- parameters at b: from one hold for each other array parameter to none.
 pub record RoutineDisciplined (p : Program) (b : ℕ → Bool) (r : Routine) (s : Signature) : Type 0 where
-  pub parameters : (i : ℕ) → i < length (s .parameters) → r .depths i ≡ getD (s .parameters) i 0
+  pub parameters : map (r .depths) (r .names) ≡ s .parameters
+  pub new : AllNew (r .names) empty
   pub fits : Fitting p (r .depths) (r .tree) (s .result)
-  pub scoped : Scoped (r .tree) (parameter-names (s .parameters))
-  pub holds : Holding (p .borrowing) (r .depths) (lent-parameters b (s .parameters)) (r .tree)
-      (parameter-holds b (s .parameters)) [] []
+  pub scoped : Scoped (r .tree) (just (r .names))
+  pub holds : Holding (p .borrowing) (r .depths) (lent-parameters b r) (r .tree) (parameter-holds b r) [] []
 
 abbrev pub FunctionDisciplined : Program → ℕ → Type 0
 FunctionDisciplined p f = RoutineDisciplined p (p .borrowing f) (routine-of p f) (p .signatures f)
 
 -- what is asked of a routine for every taken cell to be in use where none is free
-abbrev pub RoutineFrugal : Borrowing → (ℕ → Bool) → Routine → Signature → Type 0
-RoutineFrugal β b r s =
-    Frugal β (r .depths) (lent-parameters b (s .parameters)) (r .tree) (parameter-holds b (s .parameters)) empty
+abbrev pub RoutineFrugal : Borrowing → (ℕ → Bool) → Routine → Type 0
+RoutineFrugal β b r = Frugal β (r .depths) (lent-parameters b r) (r .tree) (parameter-holds b r) empty
 
 abbrev pub FunctionFrugal : Program → ℕ → Type 0
-FunctionFrugal p f = RoutineFrugal (p .borrowing) (p .borrowing f) (routine-of p f) (p .signatures f)
+FunctionFrugal p f = RoutineFrugal (p .borrowing) (p .borrowing f) (routine-of p f)

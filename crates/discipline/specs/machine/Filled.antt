@@ -4,7 +4,7 @@ use Rattle.prelude.specs.Kit.{ℤ, pos, length, getD}
 use Rattle.semantics.specs.Basics.{updated, tabulate}
 use Rattle.semantics.specs.Outcome.{Run, onward, passes, _>>=_, _>>_, give}
 use Rattle.semantics.specs.Value.{Value, num, list, items}
-use Rattle.semantics.specs.Kinds.{Loop, loop-hands}
+use Rattle.semantics.specs.Kinds.{Loop, loop-hands, carried-name}
 use Rattle.semantics.specs.Code.{Atom, loop, Tree, ending}
 use Rattle.semantics.specs.Live.{Set, _∪_, just, among, after-pass}
 use Rattle.semantics.specs.Annotate.{atom-depth}
@@ -13,10 +13,9 @@ use Rattle.semantics.specs.Meaning as Meaning
 use Rattle.semantics.specs.Machine.{State, Frame, word, with-store, touching, held, elements-of, acquire, work}
 use Rattle.semantics.specs.Machine as Machine
 use Rattle.semantics.specs.Store.{Store, cell-of, appended}
-use Rattle.discipline.specs.normal.Plain.{value, run}
+use Rattle.semantics.specs.Plain.{value, run}
 use Rattle.discipline.specs.normal.Trace.{CalleeGrows}
-use Rattle.discipline.specs.machine.Discipline.{Covered, carried-name, handed, holds-of, loop-holds, less}
-use Rattle.discipline.specs.machine.Discipline.{holds-after}
+use Rattle.discipline.specs.machine.Discipline.{Covered, handed, holds-of, loop-holds, less, holds-after}
 use Rattle.discipline.specs.machine.Growth.{Grows, give-grows, bind-grows, passes-grow}
 use Rattle.discipline.specs.machine.Agreement.{Together, Agree, both, agree-assoc, agree-bind}
 use Rattle.discipline.specs.machine.Frames.{hold, Setting, Situation, Ended, Going, own}

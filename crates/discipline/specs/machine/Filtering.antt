@@ -12,14 +12,14 @@ use Rattle.semantics.specs.Live.{Set, after-pass}
 use Rattle.semantics.specs.Annotate.{atom-depth}
 use Rattle.semantics.specs.Meaning.{Meter, Env, do-pass, do-loop, with-item}
 use Rattle.semantics.specs.Meaning as Meaning
-use Rattle.semantics.specs.Machine.{State, Frame, word, work-line, work-pass, append-word, retain-word}
-use Rattle.semantics.specs.Machine.{if-array, work, binding}
+use Rattle.semantics.specs.Machine.{State, Frame, word, work-line, work-pass, append-word, retain-word, if-array, work}
+use Rattle.semantics.specs.Machine.{binding}
 use Rattle.semantics.specs.Machine as Machine
 use Rattle.semantics.specs.Store.{Store, cell, cell-of, named-by}
 use Rattle.semantics.specs.Sound.{all-inner}
 use Rattle.semantics.specs.Demands.{root}
 use Rattle.laws.specs.Lists.{occurs-first, occurrences-append}
-use Rattle.discipline.specs.normal.Plain.{value, run, run-line}
+use Rattle.semantics.specs.Plain.{value, run, run-line}
 use Rattle.discipline.specs.normal.Trace.{CalleeGrows}
 use Rattle.discipline.specs.store.Invariant.{StandsFor}
 use Rattle.discipline.specs.store.Counting.{in-append-left, in-append-right}

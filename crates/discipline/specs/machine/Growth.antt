@@ -6,7 +6,7 @@ use Rattle.semantics.specs.Value.{Value}
 use Rattle.semantics.specs.Kinds.{Loop}
 use Rattle.semantics.specs.Code.{Tree}
 use Rattle.semantics.specs.Meaning.{Meter, Callee, Env, step, step-wants, meter-of, do-pass}
-use Rattle.discipline.specs.normal.Plain.{run}
+use Rattle.semantics.specs.Plain.{run}
 use Rattle.discipline.specs.normal.Trace as Trace
 use Rattle.discipline.specs.normal.Trace.{CalleeGrows, wants-stays, run-grows, grows-give, grows-require}
 use Rattle.discipline.specs.normal.Trace.{grows-step}

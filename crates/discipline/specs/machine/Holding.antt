@@ -8,7 +8,7 @@ use Rattle.semantics.specs.Meaning.{Meter, Env}
 use Rattle.semantics.specs.Machine.{State, Frame, with-store, release-events, work-line, retain-word, release-word}
 use Rattle.semantics.specs.Store.{Store, cell, cell-of, named-by, retained, released, deepest}
 use Rattle.laws.specs.Levels.{release-no-higher}
-use Rattle.discipline.specs.normal.Plain.{run-line}
+use Rattle.semantics.specs.Plain.{run-line}
 use Rattle.discipline.specs.store.Invariant.{Invariant, Keeps, StandsFor}
 use Rattle.discipline.specs.store.Counting.{in-append-left, in-append-right, append-cases}
 use Rattle.discipline.specs.store.Change.{permute, held-used}

@@ -1,7 +1,7 @@
 -- Two small programs that are disciplined. The first is main(t: 1, r: 1): 1 = map (p in r) p + size(r);
 -- size(a: 1): 0 = length(a). Its map lends r to its tree, which lends it to `size`, which borrows it. The second is
 -- main(t: 1, r: 1): 1 = map (p in r) p + 1, whose map rewrites r.
-use Rattle.prelude.specs.Kit.{ℕ, _≤_, _<_, suc, zero, arith, true, false, _≡_, refl, [], _∷_, eqb, ltb, pos, getD}
+use Rattle.prelude.specs.Kit.{ℕ, _≤_, _<_, suc, zero, arith, true, false, _≡_, refl, [], _∷_, eqb, pos, getD}
 use Rattle.semantics.specs.Basics.{occurrences}
 use Rattle.semantics.specs.Number.{sum}
 use Rattle.semantics.specs.Kinds.{operation, call, length-of, mapping, rewriting}
@@ -11,9 +11,8 @@ use Rattle.semantics.specs.Live.{Set, _∪_, just, live, among}
 use Rattle.semantics.specs.Annotate.{NameDepths, is-array}
 use Rattle.semantics.specs.Machine.{Routine, Program, routine-of}
 use Rattle.discipline.specs.store.Kept.{only}
-use Rattle.discipline.specs.machine.Discipline.{without, less, unlent, left-by, arrays-at}
-use Rattle.discipline.specs.machine.Discipline.{Fitting, Scoped, New, Holding, FunctionDisciplined, Covered}
-use Rattle.discipline.specs.machine.Discipline.{FunctionFrugal}
+use Rattle.discipline.specs.machine.Discipline.{without, less, unlent, left-by, Fitting, Scoped, New, Holding}
+use Rattle.discipline.specs.machine.Discipline.{FunctionDisciplined, Covered, FunctionFrugal}
 use Rattle.discipline.specs.machine.Standing.{none-in}
 use Rattle.discipline.specs.machine.Size.{tree-adds}
 use Rattle.discipline.specs.machine.Calls.{call-adds, ProgramDisciplined, ProgramFrugal}
@@ -28,7 +27,7 @@ abbrev depths : NameDepths
 depths x = getD (1 ∷ (1 ∷ (1 ∷ []))) x 0
 
 abbrev main : Routine
-main = record { tree = body; depths = depths }
+main = record { names = 0 ∷ (1 ∷ []); tree = body; depths = depths }
 
 abbrev shape : Signature
 shape = record { parameters = 1 ∷ (1 ∷ []); result = 1 }
@@ -37,7 +36,7 @@ abbrev size-depths : NameDepths
 size-depths x = getD (1 ∷ []) x 0
 
 abbrev size : Routine
-size = record { tree = line (leaf 1 length-of (name 0 ∷ [])) (end (name 1)); depths = size-depths }
+size = record { names = 0 ∷ []; tree = line (leaf 1 length-of (name 0 ∷ [])) (end (name 1)); depths = size-depths }
 
 abbrev size-shape : Signature
 size-shape = record { parameters = 1 ∷ []; result = 0 }
@@ -60,7 +59,7 @@ pass-fits = (
   (record { limits = refl; calls = refl; gives = refl }, refl),
 )
 
-pass-scoped : Scoped pass ((λ x. ltb x 2) ∪ just (3 ∷ []))
+pass-scoped : Scoped pass (just (0 ∷ (1 ∷ [])) ∪ just (3 ∷ []))
 pass-scoped = (((refl, tt), new 4 _ refl (omega arith)), (((refl, (refl, tt)), new 5 _ refl (omega arith)), refl))
 
 -- with the name 1 lent, and without a hold
@@ -68,15 +67,11 @@ pass-holds : Holding (small .borrowing) depths (1 ∷ []) pass [] [] []
 unfolding less without occurrences left-by
 pass-holds = (((λ n. omega arith), λ n h. h), (((λ n. omega arith), λ n h. absurd (omega arith)), λ n. refl))
 
-given : (i : ℕ) → i < 2 → depths i ≡ getD (1 ∷ (1 ∷ [])) i 0
-given zero h = refl
-given (suc zero) h = refl
-given (suc (suc i)) h = absurd (omega arith)
-
 main-disciplined : FunctionDisciplined small 0
-unfolding ending without less unlent left-by arrays-at occurrences
+unfolding ending without less unlent left-by occurrences
 main-disciplined = record {
-  parameters = given;
+  parameters = refl;
+  new = (new 0 _ refl (omega arith), (new 1 _ refl (omega arith), tt));
   fits = (
     omega arith,
     ((record { limits = refl; deep = omega arith; names = refl; gives = refl }, pass-fits), (omega arith, refl)),
@@ -93,9 +88,10 @@ main-disciplined = record {
 
 -- its parameter is lent and holds nothing
 size-disciplined : FunctionDisciplined small 1
-unfolding ending without less left-by arrays-at occurrences
+unfolding ending without less left-by occurrences
 size-disciplined = record {
-  parameters = λ i h. refl;
+  parameters = refl;
+  new = (new 0 _ refl (omega arith), tt);
   fits = (record { limits = refl; calls = refl; gives = refl }, refl);
   scoped = (((refl, tt), new 1 _ refl (omega arith)), refl);
   holds = (((λ n. omega arith), λ n h. h), λ n. refl);
@@ -139,14 +135,14 @@ one-name x A live below array = record {
 }
 
 main-frugal : FunctionFrugal small 0
-unfolding without less unlent left-by arrays-at occurrences live among
+unfolding without less unlent left-by occurrences live among
 main-frugal = (
   tt,
   ((one-name 1 _ refl (omega arith) refl, ((no-name _, no-name _), ((no-name _, no-name _), tt))), (tt, tt)),
 )
 
 size-frugal : FunctionFrugal small 1
-unfolding without less left-by arrays-at occurrences live among
+unfolding without less left-by occurrences live among
 size-frugal = ((no-name _, no-name _), tt)
 
 pub small-frugal : ProgramFrugal small
@@ -165,16 +161,17 @@ rewriting-body = line (release 0) (line (loop 2 rewriting (3 ∷ []) (name 1 ∷
 
 abbrev rewriter : Program
 rewriter = record {
-  routines = record { tree = rewriting-body; depths = depths } ∷ [];
+  routines = record { names = 0 ∷ (1 ∷ []); tree = rewriting-body; depths = depths } ∷ [];
   signatures = λ f. shape;
   borrowing = λ f i. false;
   depth = 1;
 }
 
 rewriter-main : FunctionDisciplined rewriter 0
-unfolding ending without less unlent left-by arrays-at occurrences
+unfolding ending without less unlent left-by occurrences
 rewriter-main = record {
-  parameters = given;
+  parameters = refl;
+  new = (new 0 _ refl (omega arith), (new 1 _ refl (omega arith), tt));
   fits = (
     omega arith,
     (
@@ -230,6 +227,6 @@ rewriter-disciplined = record {
     few (suc f) h = absurd (omega (arith, h))
 
 pub rewriter-frugal : ProgramFrugal rewriter
-unfolding without less unlent left-by arrays-at occurrences live among
+unfolding without less unlent left-by occurrences live among
 rewriter-frugal zero h = (tt, ((one-name 1 _ refl (omega arith) refl, ((no-name _, no-name _), tt)), tt))
 rewriter-frugal (suc f) h = absurd (omega (arith, h))

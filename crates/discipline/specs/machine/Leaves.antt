@@ -11,7 +11,7 @@ use Rattle.semantics.specs.Machine.{State, Frame, work-line}
 use Rattle.semantics.specs.Machine as Machine
 use Rattle.semantics.specs.Store.{Store}
 use Rattle.laws.specs.Lists.{_≈_}
-use Rattle.discipline.specs.normal.Plain.{run-line}
+use Rattle.semantics.specs.Plain.{run-line}
 use Rattle.discipline.specs.store.Kept.{keeps-self}
 use Rattle.discipline.specs.store.Invariant.{Invariant, Keeps}
 use Rattle.discipline.specs.machine.Discipline.{less, holds-after, leaf-holds, leaf-waits}

@@ -14,7 +14,7 @@ use Rattle.semantics.specs.Store.{Store, named-by}
 use Rattle.semantics.specs.Demands.{value-of}
 use Rattle.laws.specs.Lists.{_≈_, _⊆_, tabulate-length}
 use Rattle.discipline.specs.store.Tabulate.{map-tabulate}
-use Rattle.discipline.specs.normal.Plain.{value}
+use Rattle.semantics.specs.Plain.{value}
 use Rattle.discipline.specs.machine.Discipline.{less}
 use Rattle.discipline.specs.machine.Spending.{spend-split}
 use Rattle.discipline.specs.machine.Growth.{bind-grows, give-grows, require-grows}

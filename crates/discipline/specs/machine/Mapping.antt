@@ -12,7 +12,7 @@ use Rattle.semantics.specs.Meaning as Meaning
 use Rattle.semantics.specs.Machine.{State, Frame, word, work-line, work-pass, append-word, work, binding}
 use Rattle.semantics.specs.Machine as Machine
 use Rattle.semantics.specs.Store.{Store, cell-of}
-use Rattle.discipline.specs.normal.Plain.{value, run, run-line}
+use Rattle.semantics.specs.Plain.{value, run, run-line}
 use Rattle.discipline.specs.normal.Trace.{CalleeGrows}
 use Rattle.discipline.specs.machine.Growth.{give-grows, require-grows, bind-grows, pass-grows, tree-grows}
 use Rattle.discipline.specs.machine.Agreement.{Agree, both}

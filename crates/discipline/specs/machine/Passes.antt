@@ -14,7 +14,7 @@ use Rattle.semantics.specs.Machine.{State, Frame, word, held}
 use Rattle.semantics.specs.Store.{Store, cell, cell-of}
 use Rattle.semantics.specs.Sound.{all-inner}
 use Rattle.laws.specs.Lists.{_≈_, _⊆_, occurrences-append, hits}
-use Rattle.discipline.specs.normal.Plain.{value}
+use Rattle.semantics.specs.Plain.{value}
 use Rattle.discipline.specs.store.Invariant.{Invariant, StandsFor, Tidy}
 use Rattle.discipline.specs.store.Counting.{append-cases, in-append-left, in-append-right}
 use Rattle.discipline.specs.machine.Discipline.{less, unlent, _⊑_, Covered}

@@ -9,7 +9,7 @@ use Rattle.semantics.specs.Annotate.{atom-depth}
 use Rattle.semantics.specs.Meaning.{Meter, do-leaf, do-operation, do-index, do-length}
 use Rattle.semantics.specs.Machine.{State, word, with-store, work-leaf, elements-of}
 use Rattle.semantics.specs.Store.{cell-of}
-use Rattle.discipline.specs.normal.Plain.{value}
+use Rattle.semantics.specs.Plain.{value}
 use Rattle.discipline.specs.store.Invariant.{Invariant}
 use Rattle.discipline.specs.store.Kept.{keeps-self}
 use Rattle.discipline.specs.machine.Discipline.{less}

@@ -2,7 +2,8 @@
 use Rattle.prelude.specs.Kit.{ℕ, _≤_, _+_, _<_, suc, pred, arith, ℕ-discrete, true, false, _≡_, refl, _∙_, sym, ap}
 use Rattle.prelude.specs.Kit.{subst, List, [], _∷_, _++_, append-nil, eqb, ℤ, pos, length, getD, eq-eqb}
 use Rattle.laws.specs.Tests.{or-left}
-use Rattle.discipline.specs.machine.Standing.{none-in, hold-of-other}
+use Rattle.discipline.specs.machine.Standing.{none-in, hold-of-other, atom-stands, hold-aside, named-few}
+use Rattle.discipline.specs.machine.Standing.{lent-kept, handed-named}
 use Rattle.semantics.specs.Basics.{occurrences, _∈_, updated}
 use Rattle.semantics.specs.Outcome.{onward, _>>=_, _>>_, give, require, passes}
 use Rattle.semantics.specs.Value.{Value, num, items}
@@ -18,7 +19,7 @@ use Rattle.semantics.specs.Machine as Machine
 use Rattle.semantics.specs.Store.{Store, cell-of, named-by}
 use Rattle.laws.specs.Lists.{_≈_, _⊆_, occurrences-append}
 use Rattle.laws.specs.Updates.{updated-there}
-use Rattle.discipline.specs.normal.Plain.{value, run, run-line}
+use Rattle.semantics.specs.Plain.{value, run, run-line}
 use Rattle.discipline.specs.normal.Trace.{CalleeGrows}
 use Rattle.discipline.specs.store.Invariant.{Invariant, Keeps, StandsFor}
 use Rattle.discipline.specs.store.Counting.{in-append-left, in-append-right}
@@ -32,7 +33,6 @@ use Rattle.discipline.specs.machine.Growth.{Grows, give-grows, require-g
 use Rattle.discipline.specs.machine.Growth.{tree-grows}
 use Rattle.discipline.specs.machine.Agreement.{Together, Agree, both, agree-assoc, agree-bind}
 use Rattle.discipline.specs.machine.Frames.{hold, Room, Setting, Situation, Lent, Ended, Going, own, given}
-use Rattle.discipline.specs.machine.Standing.{atom-stands, hold-aside, named-few, lent-kept, handed-named}
 use Rattle.discipline.specs.machine.Atoms.{handed-same}
 use Rattle.discipline.specs.machine.Binding.{bound-situation, name-bound, ended-depth, ended-back}
 use Rattle.discipline.specs.machine.Elements.{words-of, array-length, array-used}
@@ -41,8 +41,8 @@ use Rattle.discipline.specs.machine.Situations.{situation-less, touch-to
 use Rattle.discipline.specs.machine.Fits.{reduce-fits, first-same, second-same}
 use Rattle.discipline.specs.machine.Rules.{LineRules, TreeRules, Fresh, fresh, names-bound, loop-fresh}
 use Rattle.discipline.specs.machine.Claims.{TreeClaim, LineClaim, begin-step}
-use Rattle.discipline.specs.machine.Passes.{passes-agree, kept-aside, outer, lent-names, lend}
-use Rattle.discipline.specs.machine.Passes.{aside-in, lend-split, lend-back, lent-array}
+use Rattle.discipline.specs.machine.Passes.{passes-agree, kept-aside, outer, lent-names, lend, aside-in}
+use Rattle.discipline.specs.machine.Passes.{lend-split, lend-back, lent-array}
 use Rattle.discipline.specs.machine.Sites.{Site, loop-site, site-reads, site-names, site-tree}
 use Rattle.discipline.specs.machine.Bodies.{pass-begins}
 

@@ -18,7 +18,7 @@ use Rattle.semantics.specs.Sound.{free-list}
 use Rattle.semantics.specs.Demands.{value-of, touched, replayed}
 use Rattle.laws.specs.Lists.{occurs-first}
 use Rattle.laws.specs.Levels.{touching-no-higher}
-use Rattle.discipline.specs.normal.Plain.{value}
+use Rattle.semantics.specs.Plain.{value}
 use Rattle.discipline.specs.store.Invariant.{Invariant, Alike, StandsFor}
 use Rattle.discipline.specs.store.Tabulate.{map-replicate}
 use Rattle.discipline.specs.store.Change.{off-free-list}

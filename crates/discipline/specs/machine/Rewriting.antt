@@ -19,7 +19,7 @@ use Rattle.semantics.specs.Store.{Store, cell, cell-of, named-by}
 use Rattle.semantics.specs.Demands.{value-of}
 use Rattle.laws.specs.Lists.{_≈_, occurrences-append, occurs-first}
 use Rattle.laws.specs.Values.{items-list}
-use Rattle.discipline.specs.normal.Plain.{value, run, run-line}
+use Rattle.semantics.specs.Plain.{value, run, run-line}
 use Rattle.discipline.specs.normal.Trace.{CalleeGrows}
 use Rattle.discipline.specs.store.Invariant.{Invariant, StandsFor}
 use Rattle.discipline.specs.store.Counting.{in-append-left, in-append-right}
@@ -39,7 +39,8 @@ use Rattle.discipline.specs.machine.Acquiring.{roots-cover, out-of-cells
 use Rattle.discipline.specs.machine.Size.{tree-adds, line-adds}
 use Rattle.discipline.specs.machine.Situations.{situation-less, touch-together}
 use Rattle.discipline.specs.machine.Fits.{rewrite-fits, first-same}
-use Rattle.discipline.specs.machine.Rules.{LineRules, TreeRules, Fresh, fresh, outer-names, loop-fresh, pass-rules}
+use Rattle.discipline.specs.machine.Rules.{LineRules, TreeRules, Fresh, fresh, outer-names, loop-fresh}
+use Rattle.discipline.specs.machine.Rules.{pass-rules}
 use Rattle.discipline.specs.machine.Claims.{TreeClaim, LineClaim, begin-step}
 use Rattle.discipline.specs.machine.Holding.{released-state, ended-released}
 use Rattle.discipline.specs.machine.Passes.{passes-agree}

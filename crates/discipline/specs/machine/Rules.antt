@@ -4,7 +4,7 @@ use Rattle.prelude.specs.Kit.{ℕ, arith, decLt, ℕ-discrete, true, false, Boo
 use Rattle.prelude.specs.Kit.{inr, List, [], _∷_, _++_, eqb, eq-eqb}
 use Rattle.semantics.specs.Basics.{occurrences, _∈_}
 use Rattle.semantics.specs.Kinds.{Loop, mapping, filtering, reducing, rewriting, leaf-hands, loop-hands, loop-reads}
-use Rattle.semantics.specs.Kinds.{element-name, is-pending}
+use Rattle.semantics.specs.Kinds.{element-name, is-pending, carried-name}
 use Rattle.semantics.specs.Code.{Atom, Line, leaf, if-else, loop, retain, release, Tree, line, ending}
 use Rattle.semantics.specs.Live.{Set, _∪_, only, just, live, after-branch, after-pass}
 use Rattle.semantics.specs.Annotate.{atom-depth}
@@ -12,8 +12,7 @@ use Rattle.laws.specs.Tests.{or-left, or-right}
 use Rattle.discipline.specs.store.Counting.{append-cases}
 use Rattle.discipline.specs.machine.Discipline.{Fitting, LineFitting, Scoped, LineScoped, known-after, Holding}
 use Rattle.discipline.specs.machine.Discipline.{LineHolding, Frugal, LineFrugal, handed, holds-of, less}
-use Rattle.discipline.specs.machine.Discipline.{holds-after}
-use Rattle.discipline.specs.machine.Discipline.{waits-after, left-by, carried-name, aside, loop-holds, outer-holds}
+use Rattle.discipline.specs.machine.Discipline.{holds-after, waits-after, left-by, aside, loop-holds, outer-holds}
 use Rattle.discipline.specs.machine.Discipline.{pass-lent, pass-holds}
 use Rattle.discipline.specs.machine.Spending.{less-in}
 use Rattle.discipline.specs.machine.Images.{first-or-later}
@@ -25,6 +24,12 @@ pub record Names (S : Set) (B H Δ : List ℕ) : Type 0 where
   pub lent : (n : ℕ) → n ∈ B → S n ≡ true
   pub held : (n : ℕ) → n ∈ H → S n ≡ true
   pub left : (n : ℕ) → n ∈ Δ → S n ≡ true
+
+pub lent-or-held : {S : Set} {B H Δ : List ℕ} → Names S B H Δ → (n : ℕ) → n ∈ (B ++ H) → S n ≡ true
+lent-or-held {B = B} {H} names n h = elim (append-cases n B H h) [
+  | inl g ↦ names .lent n g
+  | inr g ↦ names .held n g
+]
 
 -- a name that is none of these
 pub record Fresh (x : ℕ) (B H Δ : List ℕ) : Type 0 where
@@ -117,7 +122,8 @@ module _ (C : Setting) where
       leaf-known S x (is-pending l) (less (handed (C .depths) (leaf-hands (C .program .borrowing) l us)) H)
       (λ n h. r .names .held n (less-in (handed (C .depths) (leaf-hands (C .program .borrowing) l us)) H n h))
   after-known {S = S} (if-else x g t e) H r =
-      bound-known S x (left-by (C .program .borrowing) (C .depths) t H) (λ n h. r .names .held n (r .holds .0 n h))
+      bound-known S x (left-by (C .program .borrowing) (C .depths) t H)
+      (λ n h. lent-or-held (r .names) n (r .holds .0 n h))
   after-known {S = S} (loop x k ps us t) H r =
       bound-known S x (loop-holds (C .depths) k us H)
       (λ n h. r .names .held n (less-in (handed (C .depths) (loop-hands k us)) H n h))
@@ -152,7 +158,7 @@ module _ (C : Setting) where
     kept-names = record {
       lent = r .names .lent;
       held = r .names .held;
-      left = λ n h. r .names .held n (r .holds .0 n h);
+      left = λ n h. lent-or-held (r .names) n (r .holds .0 n h);
     }
 
     pub then-rules : TreeRules t B S (after-branch x A) H [] (left-by (C .program .borrowing) (C .depths) t H)
@@ -179,7 +185,7 @@ module _ (C : Setting) where
     if-fresh = record {
       lent = names .lent;
       before = unknown-none S x (left-by (C .program .borrowing) (C .depths) t H) (r .scoped .1 .unknown)
-          (λ n h. r .names .held n (r .holds .0 n h));
+          (λ n h. lent-or-held (r .names) n (r .holds .0 n h));
       after = names .after;
     }
       where

@@ -1,12 +1,12 @@
 -- A loop where it stands in a tree: the array that it lends to its passes, the name of their element, and the rules for
 -- the tree of a pass.
 use Rattle.prelude.specs.Kit.{ℕ, _<_, suc, pred, arith, _≡_, _∙_, ap, subst, List, [], _∷_, _++_, append-nil, length}
-use Rattle.semantics.specs.Kinds.{Loop, loop-reads, element-name}
+use Rattle.semantics.specs.Kinds.{Loop, loop-reads, element-name, carried-name}
 use Rattle.semantics.specs.Code.{Atom, loop, Tree, ending}
 use Rattle.semantics.specs.Live.{Set, _∪_, just, after-pass}
 use Rattle.semantics.specs.Annotate.{NameDepths, atom-depth, pass-depths}
 use Rattle.laws.specs.Lists.{_⊆_}
-use Rattle.discipline.specs.machine.Discipline.{loop-arity, holds-of, carried-name, loop-holds, less, unlent}
+use Rattle.discipline.specs.machine.Discipline.{loop-arity, holds-of, loop-holds, less, unlent}
 use Rattle.discipline.specs.machine.Frames.{Setting, own, given}
 use Rattle.discipline.specs.machine.Fits.{element-fits}
 use Rattle.discipline.specs.machine.Rules.{Names, LineRules, TreeRules, outer-names, pass-rules}

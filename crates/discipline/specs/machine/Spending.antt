@@ -3,15 +3,14 @@
 use Rattle.prelude.specs.Kit.{ℕ, _≤_, _+_, _-_, arith, true, false, Bool, cond, _≡_, _∙_, sym, ap, inl, inr, _⊎_, List}
 use Rattle.prelude.specs.Kit.{[], _∷_, _++_, eqb, ne-eqb, eq-eqb}
 use Rattle.semantics.specs.Basics.{occurrences, _∈_, with-if}
-use Rattle.semantics.specs.Kinds.{Borrowing, leaf-hands, leaf-reads, loop-hands, loop-reads, element-name}
+use Rattle.semantics.specs.Kinds.{Borrowing, leaf-hands, leaf-reads, loop-hands, loop-reads, element-name, carried-name}
 use Rattle.semantics.specs.Code.{Line, leaf, if-else, loop, retain, release, Tree, end, line}
 use Rattle.semantics.specs.Live.{Set, live}
 use Rattle.semantics.specs.Annotate.{NameDepths}
 use Rattle.laws.specs.Lists.{_≈_, _⊆_, hits, occurrences-append}
 use Rattle.discipline.specs.machine.Discipline.{without, less, unlent, _⊑_, handed, hold-of, holds-of, left-by}
 use Rattle.discipline.specs.machine.Discipline.{holds-after, waits-after, loop-holds, outer-holds, pass-holds}
-use Rattle.discipline.specs.machine.Discipline.{aside}
-use Rattle.discipline.specs.machine.Discipline.{carried-name, leaf-holds, pass-lent, Holding, LineHolding, Covered}
+use Rattle.discipline.specs.machine.Discipline.{aside, leaf-holds, pass-lent, Holding, LineHolding, Covered}
 use Rattle.discipline.specs.machine.Discipline.{Frugal, LineFrugal}
 
 -- ---- what is left
@@ -171,7 +170,14 @@ module _ (β : Borrowing) (Γ : NameDepths) where
     )
     line-holding-same B (if-else x g t e) H I P h q =
         let left = left-by-same t H I h in (
-          λ n k. omega (arith, h n, left n, q .0 n (omega (arith, left n, k))),
+          λ n k. omega (
+            arith,
+            h n,
+            left n,
+            occurrences-append n B H,
+            occurrences-append n B I,
+            q .0 n (omega (arith, left n, k)),
+          ),
           holding-same B t H I [] (left-by β Γ t H) (left-by β Γ t I) h left (q .1),
           holding-same B e H I [] (left-by β Γ t H) (left-by β Γ t I) h left (q .2),
         )

@@ -11,12 +11,11 @@ use Rattle.semantics.specs.Machine.{Frame, word}
 use Rattle.semantics.specs.Store.{Store, cell, cell-of, named-by}
 use Rattle.semantics.specs.Demands.{value-of}
 use Rattle.laws.specs.Lists.{_≈_, _⊆_, hits, occurrences-append, occurs-first}
-use Rattle.discipline.specs.normal.Plain.{value}
+use Rattle.semantics.specs.Plain.{value}
 use Rattle.discipline.specs.store.Invariant.{Alike, Keeps, StandsFor}
 use Rattle.discipline.specs.store.Counting.{append-cases, in-append-left, in-append-right}
 use Rattle.discipline.specs.store.Kept.{stands-kept}
-use Rattle.discipline.specs.machine.Images.{image-in, image-same, image-alike}
-use Rattle.discipline.specs.machine.Images.{apart}
+use Rattle.discipline.specs.machine.Images.{image-in, image-same, image-alike, apart}
 use Rattle.discipline.specs.machine.Frames.{hold, Setting, Situation, Lent, own, given}
 
 -- ---- what one word names

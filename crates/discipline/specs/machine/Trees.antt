@@ -7,7 +7,7 @@ use Rattle.semantics.specs.Live.{live}
 use Rattle.semantics.specs.Machine.{word, work}
 use Rattle.semantics.specs.Store.{named-by}
 use Rattle.laws.specs.Lists.{occurrences-append}
-use Rattle.discipline.specs.normal.Plain.{run}
+use Rattle.semantics.specs.Plain.{run}
 use Rattle.discipline.specs.store.Kept.{keeps-self}
 use Rattle.discipline.specs.normal.Trace.{CalleeGrows}
 use Rattle.discipline.specs.machine.Discipline.{known-after, holds-after, waits-after}

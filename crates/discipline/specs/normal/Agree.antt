@@ -10,7 +10,7 @@ use Rattle.semantics.specs.Syntax as S
 use Rattle.semantics.specs.Syntax.{Expr}
 use Rattle.semantics.specs.Code.{Atom, number, name}
 use Rattle.semantics.specs.Normal.{Meanings, fresh, atom, meaning-names, numbered}
-use Rattle.discipline.specs.normal.Plain.{value}
+use Rattle.semantics.specs.Plain.{value}
 
 -- an atom that is a number, or a name below n
 abbrev pub AtomBelow : Atom → ℕ → Type 0

@@ -10,9 +10,9 @@ use Rattle.semantics.specs.Meaning.{Meter, Work, Callee, Env, do-leaf, do-if, d
 use Rattle.semantics.specs.Code.{Atom, number, name, Tree, end}
 use Rattle.semantics.specs.Normal.{Meanings, fresh, fresh-all, atom, atoms, meaning-names, numbered, lines, all-lines}
 use Rattle.semantics.specs.Normal.{normal}
-use Rattle.discipline.specs.normal.Plain.{value, run}
-use Rattle.discipline.specs.normal.Agree.{NamesAgree, EnvKept, value-kept, agree-kept}
-use Rattle.discipline.specs.normal.Agree.{agree-updated, atom-below, agree-binding}
+use Rattle.semantics.specs.Plain.{value, run}
+use Rattle.discipline.specs.normal.Agree.{NamesAgree, EnvKept, value-kept, agree-kept, agree-updated, atom-below}
+use Rattle.discipline.specs.normal.Agree.{agree-binding}
 
 module _ (callee : Callee) where
   -- Lines before the tree k do what an outcome says: `look` reads its answer in the environment that they leave.

@@ -2,13 +2,14 @@
 use Rattle.prelude.specs.Kit.{ℕ, _≤_, _+_, _<_, suc, arith, true, false, Bool, cond, _≡_, refl, _∙_, List, [], _∷_, eqb}
 use Rattle.prelude.specs.Kit.{pos, length}
 use Rattle.laws.specs.Updates.{updated-other, updated-same}
-use Rattle.semantics.specs.Basics.{updated}
+use Rattle.semantics.specs.Basics.{updated, tabulate}
 use Rattle.semantics.specs.Value.{Value, num}
 use Rattle.semantics.specs.Syntax.{Parameter}
 use Rattle.semantics.specs.Meaning.{Env, bound}
 use Rattle.semantics.specs.Code.{Atom, number, name}
 use Rattle.semantics.specs.Normal.{parameter-names}
-use Rattle.discipline.specs.normal.Plain.{value, values-from}
+use Rattle.semantics.specs.Machine.{first-names}
+use Rattle.semantics.specs.Plain.{value, valued}
 use Rattle.discipline.specs.normal.Agree.{AtomBelow, NamesAgree, below-more}
 
 pub parameters-below : (xs : List Parameter) (n : ℕ) (y : ℕ) → AtomBelow (parameter-names xs n y) (n + length xs)
@@ -43,35 +44,40 @@ value-above : (u : Atom) (δ : Env) (i n : ℕ) (v : Value) → i < n → From u
 value-above (number z) δ i n v h from = refl
 value-above (name x) δ i n v h from = updated-other δ i v x (λ e. omega arith)
 
+-- the names of the parameters xs, the first of which is n
+abbrev names-from : ℕ → List Parameter → List ℕ
+names-from n xs = tabulate n (length xs) (λ i. i)
+
 -- with no arguments every name means 0
-parameters-missing : (xs : List Parameter) (n i y : ℕ) → value (values-from [] i) (parameter-names xs n y) ≡ num (pos 0)
-unfolding parameter-names updated values-from
-parameters-missing [] n i y = refl
-parameters-missing (x ∷ xs) n i y =
-    elim (eqb (x .id) y) as (λ t. value (values-from [] i) (cond t (name n) (parameter-names xs (suc n) y))
+parameters-missing : (xs : List Parameter) (n y : ℕ) → value (λ _. num (pos 0)) (parameter-names xs n y) ≡ num (pos 0)
+unfolding parameter-names updated
+parameters-missing [] n y = refl
+parameters-missing (x ∷ xs) n y =
+    elim (eqb (x .id) y) as (λ t. value (λ _. num (pos 0)) (cond t (name n) (parameter-names xs (suc n) y))
     ≡ num (pos 0)) [
       | true ↦ refl
-      | false ↦ parameters-missing xs (suc n) i y
+      | false ↦ parameters-missing xs (suc n) y
     ]
 
 parameters-same : (xs : List Parameter) (vs : List Value) (n y : ℕ) →
-    value (values-from vs n) (parameter-names xs n y) ≡ bound xs vs y
-unfolding parameter-names updated values-from bound
+    value (valued (names-from n xs) vs) (parameter-names xs n y) ≡ bound xs vs y
+unfolding parameter-names updated valued bound tabulate
 parameters-same [] vs n y = refl
-parameters-same (x ∷ xs) [] n y = parameters-missing (x ∷ xs) n n y
+parameters-same (x ∷ xs) [] n y = parameters-missing (x ∷ xs) n y
 parameters-same (x ∷ xs) (v ∷ vs) n y =
     let at : Bool → Atom = λ t. cond t (name n) (parameter-names xs (suc n) y) in
-    elim (eqb (x .id) y) as (λ t. value (values-from (v ∷ vs) n) (at t) ≡ cond t v (bound xs vs y)) [
-      | true ↦ updated-same (values-from vs (suc n)) n v
+    let rest = valued (names-from (suc n) xs) vs in
+    elim (eqb (x .id) y) as (λ t. value (updated rest n v) (at t) ≡ cond t v (bound xs vs y)) [
+      | true ↦ updated-same rest n v
       | false ↦
-          value-above (parameter-names xs (suc n) y) (values-from vs (suc n)) n (suc n) v (omega arith)
+          value-above (parameter-names xs (suc n) y) rest n (suc n) v (omega arith)
           (parameters-from xs (suc n) y)
           ∙ parameters-same xs vs (suc n) y
     ]
 
 -- the arguments are what the parameters' names mean, whatever the number of either
 pub parameters-agree : (xs : List Parameter) (vs : List Value) →
-    NamesAgree (parameter-names xs 0) (values-from vs 0) (bound xs vs) (length xs)
+    NamesAgree (parameter-names xs 0) (valued (first-names xs) vs) (bound xs vs) (length xs)
 parameters-agree xs vs = record {
   same = λ y. parameters-same xs vs 0 y;
   below = λ y. below-more (parameter-names xs 0 y) (omega arith) (parameters-below xs 0 y);

@@ -6,16 +6,16 @@ use Rattle.semantics.specs.Outcome.{_>>=_, give, onward}
 use Rattle.semantics.specs.Value.{Value}
 use Rattle.semantics.specs.Syntax.{Function, Script}
 use Rattle.semantics.specs.Meaning.{Work, Callee, Env, do-if, do-pass, do-loop, binding}
-use Rattle.semantics.specs.Kinds.{Loop, mapping, filtering, reducing, rewriting}
-use Rattle.semantics.specs.Kinds.{Borrowing, element-name, loop-reads, loop-hands, leaf-reads, leaf-hands, is-pending}
+use Rattle.semantics.specs.Kinds.{Loop, mapping, filtering, reducing, rewriting, Borrowing, element-name, loop-reads}
+use Rattle.semantics.specs.Kinds.{loop-hands, leaf-reads, leaf-hands, is-pending}
 use Rattle.semantics.specs.Code.{Atom, Line, leaf, if-else, loop, retain, release, Tree, end, line, retain-all}
 use Rattle.semantics.specs.Code.{release-all}
 use Rattle.semantics.specs.Normal.{normal-body}
 use Rattle.semantics.specs.Live.{Set, empty, _∪_, _∖_, _∖∖_, only, just, among, live, uses, after-branch, after-pass}
-use Rattle.semantics.specs.Annotate.{NameDepths, is-array, arrays, dying, handed-again, annotate, annotate-line}
-use Rattle.semantics.specs.Annotate.{Style, rewritable, written, owned-depths, annotated-in}
+use Rattle.semantics.specs.Annotate.{NameDepths, is-array, arrays, dying, handed-again, annotate, annotate-line, Style}
+use Rattle.semantics.specs.Annotate.{rewritable, written, owned-depths, annotated-in}
 use Rattle.semantics.specs.Borrow.{Table, borrows}
-use Rattle.discipline.specs.normal.Plain.{value, run, run-line}
+use Rattle.semantics.specs.Plain.{value, run, run-line}
 
 -- the loop that is written means the same
 written-means : (style : Style) (B : Borrowing) (Γ : NameDepths) (i : Loop) (x : ℕ) (ps : List ℕ) (us : List Atom)

@@ -10,12 +10,11 @@ use Rattle.semantics.specs.Value.{Value, num, list, items, number-in}
 use Rattle.semantics.specs.Meaning.{Meter, Work, Callee, Env, stepped, step, do-operation, do-call, do-literal}
 use Rattle.semantics.specs.Meaning.{do-index, do-length, is-count, do-iota, do-replicate, do-leaf, do-if, do-pass}
 use Rattle.semantics.specs.Meaning.{do-loop, binding, carried-first, carried-on, argument, looped-over, pass-values}
-use Rattle.semantics.specs.Meaning.{taken-by}
-use Rattle.semantics.specs.Meaning.{step-wants, meter-of}
+use Rattle.semantics.specs.Meaning.{taken-by, step-wants, meter-of}
 use Rattle.semantics.specs.Kinds.{Leaf, operation, call, literal, index, length-of, iota, replicate, Loop, takes-cell}
 use Rattle.semantics.specs.Code.{Line, leaf, if-else, loop, retain, release, Tree, end, line}
 use Rattle.semantics.specs.Machine.{Program, routine-of}
-use Rattle.discipline.specs.normal.Plain.{value, run, run-line, values-from, running}
+use Rattle.semantics.specs.Plain.{value, run, run-line, valued, running}
 
 -- The meter m′ is m after some steps: `more` are the steps, the last one first.
 pub record Later (m m′ : Meter) : Type 0 where
@@ -151,7 +150,7 @@ pub running-grows : (p : Program) (n : ℕ) → CalleeGrows (running p n)
 unfolding running
 running-grows p zero f vs m = later-same m
 running-grows p (suc n) f vs m =
-    run-grows (running p n) (running-grows p n) (routine-of p f .tree) (values-from vs 0) m
+    run-grows (running p n) (running-grows p n) (routine-of p f .tree) (valued (routine-of p f .names) vs) m
 
 -- ---- the steps of a trace that has grown
 

@@ -1,12 +1,14 @@
 -- `engine::engine_deliver` meets its contract.
-use Rattle.prelude.specs.Kit.{_≤_, arith, sym, length, replicate, length-take-le, needs}
+use Rattle.prelude.specs.Kit.{_≤_, arith, _∙_, sym, length, replicate, length-take-le, needs}
 use Rattle.machine_code.specs.Reading.{table-bytes}
+use Rattle.semantics.specs.Machine.{program}
 use Rattle.semantics.specs.Calls.{room, engine-deliver}
 use Rattle.script_laws.specs.Admitted.{admitted-judged}
 use Rattle.machine_laws.specs.Script.{cut-coded}
 use Rattle.call_load.specs.declared.Loaded.the-variants.{Ready}
 use Rattle.call_load.specs.Loading.{LoadsWith}
-use Rattle.engine.proofs.Laws.{lines-fit, lines-cut, lines-are, deliver-serves, replies-refused, replies-told}
+use Rattle.engine.proofs.Laws.{lines-fit, lines-cut, lines-are, deliver-serves, script-performs, program-depth}
+use Rattle.engine.proofs.Laws.{replies-refused, replies-told}
 use Rattle.engine.proofs.engine_deliver.Statement.{statement}
 use Rattle.engine.proofs.engine_deliver.Tie as tie
 
@@ -60,9 +62,10 @@ returns c =
     replies-told (deliver-serves (a .kinds .now) (a .operands .now) (a .slots .now) (a .heads .now) (a .readings .now)
     (a .budget)) (h .loads) (kept .0) (kept .1 .0) (part .result)
     (λ fs q same. let coded = h .coded fs q (omega arith) in
-    part .ensures (a .file .now) fs
-    (admitted-judged fs (a .file .now) (room (a .kinds .now) (a .operands .now)) q) (coded .0)
-    (cut-coded fs _ _ _ (at-lines .lines .given .0 .0) (omega (arith, lines-are (h .loads) fs q)) (coded .1)) same)
+    part .ensures (program fs) (script-performs (a .file .now) fs
+    (admitted-judged fs (a .file .now) (room (a .kinds .now) (a .operands .now)) q) (coded .0) _
+    (cut-coded fs _ _ _ (at-lines .lines .given .0 .0) (omega (arith, lines-are (h .loads) fs q)) (coded .1)))
+    (same ∙ program-depth fs))
     (c .before .before .before .tell .ensures)
 
 returns-2 : tie.Need-returns-2

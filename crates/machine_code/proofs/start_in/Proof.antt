@@ -6,7 +6,8 @@ use Rattle.machine_code.proofs.start_in.Tie as tie
 
 returns : tie.Need-returns
 unfolding start-in
-returns c = omega (arith, c .before .byte-at .ensures .0, c .byte-at2 .ensures .0)
+returns c = let low = c .before .byte-at .ensures in let high = c .byte-at2 .ensures in
+    (omega (arith, low .0, high .0), omega (arith, low .1, high .1))
 
 pub start-in-spec : {M : Type 1} → statement M
 start-in-spec =

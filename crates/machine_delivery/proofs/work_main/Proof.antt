@@ -1,5 +1,6 @@
 -- `machine_delivery::work_main` meets its contract.
-use Rattle.prelude.specs.Kit.{ℕ, arith, _≡_, _∙_, ap, List, ℤ, pos, length, replicate, length-replicate, needs, toZ-ofZ}
+use Rattle.prelude.specs.Kit.{ℕ, _+_, arith, _≡_, _∙_, ap, List, ℤ, pos, length, replicate, length-replicate, needs}
+use Rattle.prelude.specs.Kit.{toZ-ofZ}
 use Rattle.semantics.specs.Words.{store-of}
 use Rattle.store_words.proofs.Puts.{totals-store}
 use Rattle.machine_frames.specs.Frames.{frame-words, place, function-place}
@@ -21,18 +22,21 @@ levelled-long c =
 
 totals-long : (c : tie.After-bind) → length (c .bind .last .0) ≡ frame-words
 totals-long c =
-    let at-set-level = c .before .before in
+    let at-name-at2 = c .before .before .before in
+    let at-set-level = at-name-at2 .before .before .before .before in
     let start = at-set-level .before .before .before .before .before .before .before .before .before in
     let old = start .args .old in
-    bound-long (at-set-level .set-level .last .0) (place 31 0) old
+    bound-long (at-set-level .set-level .last .0) (place 31 (at-name-at2 .name-at2 .result)) old
     (rw (toZ-ofZ {z = old} (start .fits .old)) at (c .bind .ensures)) ∙ levelled-long at-set-level
 
 readings-long : (c : tie.After-bind2) → length (c .bind2 .last .0) ≡ frame-words
 readings-long c =
     let at-bind = c .before .before in
-    let start = at-bind .before .before .before .before .before .before .before .before .before .before .before in
+    let at-name-at3 = at-bind .before .before in
+    let at-set-level = at-name-at3 .before .before .before .before .before in
+    let start = at-set-level .before .before .before .before .before .before .before .before .before in
     let readings = start .args .readings in
-    bound-long (at-bind .bind .last .0) (place 31 1) readings
+    bound-long (at-bind .bind .last .0) (place 31 (at-name-at3 .name-at3 .result)) readings
     (rw (toZ-ofZ {z = readings} (start .fits .readings)) at (c .bind2 .ensures)) ∙ totals-long at-bind
 
 function-long : (c : tie.After-set-function) → length (c .set-function .last .0) ≡ frame-words
@@ -43,17 +47,27 @@ function-long c =
 
 worked-long : (c : tie.After-work-tree) → length (c .work-tree .last .1 .1 .1 .1 .1 .0) ≡ frame-words
 worked-long c =
-    let at-start-in = c .before .before .before .before .before .before in
-    let at-set-function = at-start-in .before .before in
-    let at-retain-totals = at-set-function .before .before .before .before .before .before .before .before .before
-    .before in
+    let at-set-function = c .before .before .before .before .before .before in
+    let at-name-at = at-set-function .before .before .before .before .before .before .before .before in
+    let at-start-in = at-name-at .before in
+    let at-retain-totals = at-start-in .before .before .before .before .before .before in
     let a = at-retain-totals .before .before .before .before .before .args in
-    tree-long (code (a .t1 .now) (a .t2 .now) (a .table .now)) 4096 31 (at-start-in .start-in .result) (a .budget)
+    tree-long (code (a .t1 .now) (a .t2 .now) (a .table .now)) 4096 31
+    (at-start-in .start-in .result + 1 + at-name-at .name-at .result) (a .budget)
     (memory (store-of (a .slots .now) (at-retain-totals .retain-totals .last .1 .0))
     (at-set-function .set-function .last .0)) (c .work-tree .ensures) ∙ function-long at-set-function
 
+add-name-at : tie.Need-add-name-at
+add-name-at c = omega (arith, c .before .start-in .ensures .1)
+
+add-name-at-2 : tie.Need-add-name-at-2
+add-name-at-2 c = omega (arith, c .before .before .start-in .ensures .1)
+
+add-name-at-3 : tie.Need-add-name-at-3
+add-name-at-3 c = omega (arith, c .before .before .start-in .ensures .1)
+
 bind-requires : tie.Need-bind-requires
-bind-requires c κs = (omega arith, levelled-long (c .before))
+bind-requires c κs = (omega arith, levelled-long (c .before .before .before .before .before .before))
 
 bind-requires-2 : tie.Need-bind-requires-2
 bind-requires-2 c κs = (omega arith, totals-long (c .before))
@@ -61,13 +75,25 @@ bind-requires-2 c κs = (omega arith, totals-long (c .before))
 set-function-requires : tie.Need-set-function-requires
 set-function-requires c κs = (omega arith, readings-long (c .before))
 
+add-work-tree : tie.Need-add-work-tree
+add-work-tree c =
+    let at-name-at = c .before .before .before .before .before .before .before .before .before .before .before .before
+    .before in
+    omega (arith, at-name-at .before .start-in .ensures .1)
+
+add-work-tree-2 : tie.Need-add-work-tree-2
+add-work-tree-2 c =
+    let at-name-at = c .before .before .before .before .before .before .before .before .before .before .before .before
+    .before in
+    omega (arith, at-name-at .before .start-in .ensures .1, at-name-at .name-at .ok)
+
 work-tree-requires : tie.Need-work-tree-requires
 work-tree-requires c κs =
-    let at-set-function = c .before .before .before .before .before .before .before in (
+    let at-set-function = c .before .before .before .before .before in
+    let at-start-in = at-set-function .before .before .before .before .before .before .before .before .before in (
       omega arith,
       function-long at-set-function,
-      at-set-function .before .before .before .before
-          .before .before .before .before .before .before .before .before .before .before .before .pre .1,
+      at-start-in .before .before .before .before .before .before .before .before .before .before .before .pre .1,
     )
 
 lowest-requires : tie.Need-lowest-requires
@@ -77,20 +103,24 @@ lowest-requires c κs = worked-long (c .before .before .before .before)
 
 ends : (c : tie.After-lowest) →
     let tree = c .before .before .before .before .before .work-tree in
-    let a = c .before .before .before .before .before .before .before .before .before .before .before .before .before
-    .before .before .before .before .before .before .before .before .before .before .before .before .before .before
-    .before .args in
+    let at-set-function = c .before .before .before .before .before .before .before .before .before .before .before in
+    let at-start-in = at-set-function .before .before .before .before .before .before .before .before .before in
+    let a = at-start-in .before .before .before .before .before .before .before .before .before .before .before
+    .args in
     (k : ℕ) → a .readings ≡ pos k →
     MainEnds (main-on (code (a .t1 .now) (a .t2 .now) (a .table .now)) (a .depth) (a .old) k (a .free) (a .budget)
     (store-of (a .slots .now) (a .heads .now))) (a .budget) (a .depth) (a .old) (tree .result) (c .lowest .result)
     (store-of (tree .last .1 .1 .1 .0) (tree .last .1 .1 .1 .1 .0))
 ends c k e =
     let at-work-tree = c .before .before .before .before .before in
-    let at-start-in = at-work-tree .before .before .before .before .before .before in
-    let at-set-function = at-start-in .before .before in
+    let at-set-function = at-work-tree .before .before .before .before .before .before in
     let at-bind2 = at-set-function .before .before in
     let at-bind = at-bind2 .before .before in
-    let at-set-level = at-bind .before .before in
+    let at-name-at3 = at-bind .before .before in
+    let at-name-at2 = at-name-at3 .before in
+    let at-name-at = at-name-at2 .before in
+    let at-start-in = at-name-at .before in
+    let at-set-level = at-start-in .before .before in
     let at-retain-totals = at-set-level .before .before .before .before in
     let start = at-retain-totals .before .before .before .before .before in
     let a = start .args in
@@ -99,10 +129,13 @@ ends c k e =
     let tree = at-work-tree .work-tree in
     main-ends (code (a .t1 .now) (a .t2 .now) (a .table .now)) (a .depth) (a .old) k (a .free) (a .budget)
     (a .slots .now) (a .heads .now) (retained .last .1 .0) (rw old at (retained .ensures)) (a .readings) e
+    (at-start-in .start-in .result) (at-start-in .start-in .ensures .0) (at-name-at .name-at .result)
+    (at-name-at2 .name-at2 .result) (at-name-at3 .name-at3 .result) (at-name-at .name-at .ensures)
+    (at-name-at2 .name-at2 .ensures) (at-name-at3 .name-at3 .ensures)
     (at-set-level .set-level .last .0) (at-bind .bind .last .0) (at-bind2 .bind2 .last .0)
     (at-set-function .set-function .last .0) (at-set-level .set-level .ensures) (rw old at (at-bind .bind .ensures))
     (rw (toZ-ofZ {z = a .readings} (start .fits .readings)) at (at-bind2 .bind2 .ensures))
-    (at-set-function .set-function .ensures) (at-start-in .start-in .result) (at-start-in .start-in .ensures)
+    (at-set-function .set-function .ensures)
     (tree .result) (tree .last .1 .1 .1 .0) (tree .last .1 .1 .1 .1 .0) (tree .last .1 .1 .1 .1 .1 .0) (tree .ensures)
     (c .lowest .result) (c .lowest .ensures .0)
 
@@ -112,7 +145,7 @@ same-length-2 c =
     let at-work-tree = at-release-totals .before .before .before .before .before .before .before .before .before
     .before .before .before .before in
     let at-retain-totals = at-work-tree .before .before .before .before .before .before .before .before .before
-    .before .before .before .before .before .before .before .before .before in
+    .before .before .before .before .before .before .before .before .before .before .before .before in
     at-release-totals .release-totals .kept .1 .0 ∙ at-work-tree .work-tree .kept .1 .1 .1 .1 .0
     ∙ at-retain-totals .retain-totals .kept .1 .0
 
@@ -125,7 +158,8 @@ returns c =
     let at-lowest = at-if1 .before in
     let at-work-tree = at-lowest .before .before .before .before .before in
     let start = at-work-tree .before .before .before .before .before .before .before .before .before .before .before
-    .before .before .before .before .before .before .before .before .before .before .before .before in
+    .before .before .before .before .before .before .before .before .before .before .before .before .before .before
+    .before in
     let a = start .args in
     let tree = at-work-tree .work-tree in
     let slots = tree .last .1 .1 .1 .0 in
@@ -142,8 +176,8 @@ same-length-4 : tie.Need-same-length-4
 same-length-4 c =
     let at-work-tree = c .before .before .before .before .before .before in
     at-work-tree .work-tree .kept .1 .1 .1 .1 .0 ∙ at-work-tree .before .before .before .before .before .before
-    .before .before .before .before .before .before .before .before .before .before .before .before .retain-totals
-    .kept .1 .0
+    .before .before .before .before .before .before .before .before .before .before .before .before .before .before
+    .before .retain-totals .kept .1 .0
 
 returns-2 : tie.Need-returns-2
 returns-2 c =
@@ -154,6 +188,8 @@ returns-2 c =
 pub work-main-spec : {M : Type 1} → statement M
 work-main-spec =
     tie.close
-    (tie.spec (λ c κs. search needs) (λ c κs. search needs) bind-requires bind-requires-2 set-function-requires
-    (λ c κs. search needs) work-tree-requires lowest-requires (λ c κs. search needs) (λ c κs. search needs)
-    (λ c. search needs) same-length-2 returns (λ c. search needs) same-length-4 returns-2)
+    (tie.spec (λ c κs. search needs) (λ c κs. search needs) (λ c κs. search needs) (λ c κs. search needs)
+    (λ c. search needs) add-name-at (λ c κs. search needs) add-name-at-2 add-name-at-3 (λ c κs. search needs)
+    bind-requires bind-requires-2 set-function-requires add-work-tree add-work-tree-2 work-tree-requires
+    lowest-requires (λ c κs. search needs) (λ c κs. search needs) (λ c. search needs) same-length-2 returns
+    (λ c. search needs) same-length-4 returns-2)

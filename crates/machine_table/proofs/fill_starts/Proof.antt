@@ -1,19 +1,18 @@
 -- `machine_table::fill_starts` meets its contract.
-use Rattle.prelude.specs.Kit.{_-_, arith, _∙_, ap, needs, toZ-ofZ}
-use Rattle.machine_code.specs.Reading.{low-bits}
+use Rattle.prelude.specs.Kit.{_-_, arith, needs}
 use Rattle.machine_table.proofs.Filling.{Filling, filling-starts, filled-all, filled-past, fill-more}
 use Rattle.machine_table.proofs.fill_starts.Statement.{statement}
 use Rattle.machine_table.proofs.fill_starts.Tie as tie
 
 abbrev Inv-loop : tie.InvT-loop
-Inv-loop kinds operands functions places table₀ f₀ table f = Filling kinds operands functions places table₀ table f
+Inv-loop kinds functions places table₀ f₀ table f = Filling kinds functions places table₀ table f
 
 abbrev μ-loop : tie.MeasureT-loop
-μ-loop kinds operands functions places table₀ f₀ table f = functions - f
+μ-loop kinds functions places table₀ f₀ table f = functions - f
 
 loop-holds : tie.Need-loop-holds Inv-loop μ-loop
 loop-holds c = let a = c .before .before .args in
-    filling-starts (a .kinds .now) (a .operands .now) (a .functions) (a .places .now) (a .table .now)
+    filling-starts (a .kinds .now) (a .functions) (a .places .now) (a .table .now)
 
 position-of-requires : tie.Need-position-of-requires Inv-loop μ-loop
 position-of-requires c κs = omega (arith, c .loop-test .taken, c .before .before .before .before .pre)
@@ -26,37 +25,33 @@ returns c = filled-past (c .before .before .before .loop .inv) _ (c .before .pos
 
 mul-put-position : tie.Need-mul-put-position Inv-loop μ-loop
 mul-put-position c =
-    let at-loop-test = c .before .before .before .before .before in
+    let at-loop-test = c .before .before .before in
     omega (arith, at-loop-test .loop-test .taken, at-loop-test .before .before .before .before .pre)
 
 add-put-position : tie.Need-add-put-position Inv-loop μ-loop
 add-put-position c =
-    let at-loop-test = c .before .before .before .before .before in
+    let at-loop-test = c .before .before .before in
     omega (arith, at-loop-test .loop-test .taken, at-loop-test .before .before .before .before .pre)
 
 put-position-requires : tie.Need-put-position-requires Inv-loop μ-loop
 put-position-requires c κs =
-    let at-loop-test = c .before .before .before .before .before in
+    let at-loop-test = c .before .before .before in
     omega (arith, at-loop-test .loop-test .taken, at-loop-test .before .before .before .before .pre)
 
 add-f : tie.Need-add-f Inv-loop μ-loop
 add-f c =
-    let at-loop-test = c .before .before .before .before .before .before .before .before in
+    let at-loop-test = c .before .before .before .before .before .before in
     omega (arith, at-loop-test .loop-test .taken, at-loop-test .before .before .before .before .pre)
 
 loop-again : tie.Need-loop-again Inv-loop μ-loop
 loop-again c =
     let at-put-position = c .before .before in
-    let at-low-bits = at-put-position .before .before in
-    let at-operand-at = at-low-bits .before in
-    let at-if1 = at-operand-at .before in
+    let at-if1 = at-put-position .before .before in
     let at-position-of = at-if1 .before in
     let at-loop-test = at-position-of .before in
-    let operand = at-operand-at .operand-at in
     fill-more (at-loop-test .before .loop .inv) _ (at-position-of .position-of .ensures)
-    (at-loop-test .loop-test .taken) (at-if1 .if1 .left) (at-low-bits .low-bits .result)
-    (rw (toZ-ofZ {z = operand .result} (record { sfits = operand .ok })) at (at-low-bits .low-bits .ensures)
-    ∙ ap low-bits (operand .ensures)) (at-put-position .put-position .last .0) (at-put-position .put-position .ensures)
+    (at-loop-test .loop-test .taken) (at-if1 .if1 .left) (at-put-position .put-position .last .0)
+    (at-put-position .put-position .ensures)
 
 same-length-2 : tie.Need-same-length-2 Inv-loop μ-loop
 same-length-2 c = c .before .loop .inv .long
@@ -67,6 +62,5 @@ returns-2 c = filled-all (c .before .loop .inv) (omega arith)
 pub fill-starts-spec : {M : Type 1} → statement M
 fill-starts-spec =
     tie.close
-    (tie.spec Inv-loop μ-loop loop-holds position-of-requires same-length returns (λ c κs. search needs)
-    (λ c κs. search needs) mul-put-position add-put-position (λ c. search needs) (λ c. search needs)
+    (tie.spec Inv-loop μ-loop loop-holds position-of-requires same-length returns mul-put-position add-put-position
     put-position-requires add-f (λ c. search needs) loop-again same-length-2 returns-2)

@@ -5,11 +5,11 @@ use Rattle.prelude.specs.Kit.{false≢true, and-false, _≡_, refl, _∙_, sym,
 use Rattle.prelude.specs.Kit.{length, getD, List·getD-eq-default, length-map, lt-ltb, ltb-true}
 use Rattle.semantics.specs.Basics.{occurrences, _∈_}
 use Rattle.semantics.specs.Syntax.{Function, Script, function-at, no-function}
-use Rattle.semantics.specs.Kinds.{Borrowing}
+use Rattle.semantics.specs.Kinds.{Borrowing, picked}
 use Rattle.semantics.specs.Types.{signature, signatures-of}
 use Rattle.semantics.specs.Code.{Atom, number, name, Tree, end}
 use Rattle.semantics.specs.Normal.{Meanings, fresh, atom, normal, normal-body, parameter-names}
-use Rattle.semantics.specs.Live.{Set, empty, uses}
+use Rattle.semantics.specs.Live.{Set, empty, just, uses}
 use Rattle.semantics.specs.Borrow.{spent, Table, borrows, borrowed}
 use Rattle.semantics.specs.Annotate.{NameDepths, atom-depth, dying, Style, annotate, tree-depths}
 use Rattle.semantics.specs.Annotate.{parameter-depths-from, result-of, depths-of, owned-depths, annotated-in}
@@ -18,8 +18,7 @@ use Rattle.laws.specs.Tests.{both-hold, say-and}
 use Rattle.laws.specs.Routines.{routine-in, length-routines-in, length-routines, routine-in-is}
 use Rattle.soundness.specs.borrowing.Stable.{stable}
 use Rattle.discipline.specs.machine.Discipline as D
-use Rattle.discipline.specs.machine.Discipline.{arrays-at, lent-parameters, parameter-holds, Known}
-use Rattle.discipline.specs.machine.Discipline.{RoutineDisciplined, RoutineFrugal, FunctionDisciplined}
+use Rattle.discipline.specs.machine.Discipline.{Known, RoutineDisciplined, RoutineFrugal, FunctionDisciplined}
 use Rattle.discipline.specs.machine.Discipline.{FunctionFrugal}
 use Rattle.discipline.specs.normal.Agree.{AtomBelow, below-more}
 use Rattle.discipline.specs.normal.Parameters.{parameters-below}
@@ -37,7 +36,8 @@ use Rattle.soundness.specs.annotation.Tables.{Off, table, lines-table, t
 use Rattle.soundness.specs.annotation.Fitted.{MeaningsFit, Fitted, atom-fitted, typed-fitted}
 use Rattle.soundness.specs.annotation.NormalFormed.{InScope, lines-formed}
 use Rattle.soundness.specs.annotation.Parameters.{written, Distinct, written-depth, parameter-depth}
-use Rattle.soundness.specs.annotation.Parameters.{arrays-at-once}
+use Rattle.soundness.specs.annotation.Parameters.{arrays-at, arrays-at-once, DepthsFrom, same-depths}
+use Rattle.soundness.specs.annotation.Parameters.{same-arrays, new-from, first-known, names-from}
 
 below-known : (u : Atom) (n : ℕ) → AtomBelow u n → Known u (λ y. ltb y n)
 below-known (number z) n h = tt
@@ -105,7 +105,7 @@ module _ (fs : Script) (g : Function) (ok : Accepted fs g) where
   none-past : (y : ℕ) → arity ≤ y → getD depths y 0 ≡ 0
   none-past y h = List·getD-eq-default depths 0 {n = y} (omega (arith, length-map (g .parameters) (λ x. x .depth)))
 
-  few-names : Few Γ
+  pub few-names : Few Γ
   few-names y h = depth-off y (λ p q. omega (arith, ok .few)) ∙ none-past y (omega (arith, ok .few))
 
   pub parameters-fit : (i : ℕ) → i < arity → Γ i ≡ getD depths i 0
@@ -161,8 +161,22 @@ module _ (fs : Script) (g : Function) (ok : Accepted fs g) where
     | inr q ↦ absurd (false≢true q)
   ]
 
-  given-same : given ≡ D.parameter-names depths
-  given-same = λ i y. ltb y (sym (length-map (g .parameters) (λ x. x .depth)) i)
+  -- they are the names 0, 1, ..
+  given-same : given ≡ just (names-from 0 arity)
+  given-same = sym (first-known arity)
+
+  depths-given : DepthsFrom Γ depths 0
+  depths-given = record {
+    at = λ i h. ap Γ (let z : 0 + i ≡ i = omega arith in z)
+        ∙ parameters-fit i (omega (arith, h, length-map (g .parameters) (λ x. x .depth)));
+  }
+
+  many : length depths ≡ arity
+  many = length-map (g .parameters) (λ x. x .depth)
+
+  arrays-given : (at : ℕ → Bool) → arrays-at at depths 0 ≡ D.holds-of Γ (picked at 0 (names-from 0 arity))
+  arrays-given at = sym (ap (λ (k : ℕ). D.holds-of Γ (picked at 0 (names-from 0 k))) (sym many)
+      ∙ same-arrays Γ at depths 0 depths-given)
 
   -- ---- the annotated tree is disciplined: g has number f and spends none of the parameters that it borrows
 
@@ -185,10 +199,20 @@ module _ (fs : Script) (g : Function) (ok : Accepted fs g) where
     abbrev body : Tree
     body = annotated-in style fs T f g
 
+    -- the parameters that it borrows, and the others
+    abbrev lent-arrays : List ℕ
+    lent-arrays = arrays-at (β f) depths 0
+
+    abbrev given-owned : List ℕ
+    given-owned = D.holds-of Γ (picked (λ i. not (β f i)) 0 (names-from 0 arity))
+
+    abbrev owned-arrays : List ℕ
+    owned-arrays = arrays-at (λ i. not (β f i)) depths 0
+
     lent-within : Within lent arity
     lent-within = record { below = λ y e. ltb-true y arity (both-hold (given y) (β f y) e .0) }
 
-    owned : Without lent Γ Γ′
+    pub owned : Without lent Γ Γ′
     unfolding owned-depths
     owned = record {
       numbers = λ y e. ap (λ (b : Bool). cond b 0 (Γ y)) e;
@@ -209,7 +233,7 @@ module _ (fs : Script) (g : Function) (ok : Accepted fs g) where
     few-owned : Few Γ′
     few-owned y h = omega (arith, under .most y, few-names y h)
 
-    spares : Spares β lent body
+    pub spares : Spares β lent body
     unfolding annotated-in
     spares =
         let t = normal-body g in
@@ -222,7 +246,7 @@ module _ (fs : Script) (g : Function) (ok : Accepted fs g) where
         by y false q e = refl
 
     -- the arrays among the borrowed parameters are lent
-    lends : Lends lent Γ [] (lent-parameters (β f) depths)
+    lends : Lends lent Γ [] lent-arrays
     unfolding occurrences
     lends = record {
       more = λ y h. absurd (omega (arith, h));
@@ -233,12 +257,12 @@ module _ (fs : Script) (g : Function) (ok : Accepted fs g) where
     }
       where
         once : (y : ℕ) (b : Bool) → β f y ≡ b →
-            occurrences y (lent-parameters (β f) depths) ≡ cond b (min 1 (getD depths y 0)) 0
+            occurrences y lent-arrays ≡ cond b (min 1 (getD depths y 0)) 0
         once y b e =
             arrays-at-once (β f) depths 0 y y (omega arith)
             ∙ ap (λ (c : Bool). cond c (min 1 (getD depths y 0)) 0) e
 
-        by : (y : ℕ) (b : Bool) → β f y ≡ b → lent y ≡ false → y ∈ lent-parameters (β f) depths → ⊥
+        by : (y : ℕ) (b : Bool) → β f y ≡ b → lent y ≡ false → y ∈ lent-arrays → ⊥
         by y false q e h = omega (arith, h, once y false q)
         by y true q e h = elim (decLt y arity) [
           | yes d ↦ false≢true (sym e ∙ say-and (given y) (β f y) (lt-ltb y arity d) q)
@@ -246,7 +270,7 @@ module _ (fs : Script) (g : Function) (ok : Accepted fs g) where
         ]
 
     -- an array parameter that is not borrowed holds one reference
-    given-held : (y : ℕ) → occurrences y (parameter-holds (β f) depths) ≡ held Γ′ given y
+    given-held : (y : ℕ) → occurrences y owned-arrays ≡ held Γ′ given y
     given-held y =
         arrays-at-once (λ i. not (β f i)) depths 0 y y (omega arith) ∙ elim (decLt y arity) [
           | yes h ↦ here h (β f y) refl ∙ sym (held-array Γ′ given y (lt-ltb y arity h))
@@ -270,17 +294,17 @@ module _ (fs : Script) (g : Function) (ok : Accepted fs g) where
         past false e = refl
 
     -- by the depths that it is annotated by
-    owned-sound : Sound β Γ′ [] body (parameter-holds (β f) depths) [] [] empty
+    owned-sound : Sound β Γ′ [] body owned-arrays [] [] empty
     unfolding annotated-in occurrences
     owned-sound =
         let t = normal-body g in
         let tree = annotated-sound style F β Γ Γ′ under few-owned t [] given empty arity (g .result) formed given-within
         (record { below = λ y e. absurd (false≢true e) }) (record { free-from = λ n h. none-lent n })
         (λ n. omega (arith, none-lent n, held-most Γ′ (uses t) n)) in
-        sound-same β Γ′ [] body (parameter-holds (β f) depths) (parameter-holds (β f) depths) []
+        sound-same β Γ′ [] body owned-arrays owned-arrays []
         (names Γ′ [] empty) [] empty (λ n. refl)
         (λ n. omega (arith, names-held Γ′ few-owned [] empty n, held-empty Γ′ n))
-        (releasing β Γ′ few-owned [] given (uses t) (annotate style β Γ′ t empty) (parameter-holds (β f) depths) []
+        (releasing β Γ′ few-owned [] given (uses t) (annotate style β Γ′ t empty) owned-arrays []
         empty
         (λ n. omega (
           arith,
@@ -313,25 +337,28 @@ module _ (fs : Script) (g : Function) (ok : Accepted fs g) where
     pub routine-disciplined : RoutineDisciplined p (β f) (routine-in style fs T f g) (signature g)
     unfolding program-in
     routine-disciplined = record {
-      parameters = λ i h. parameters-fit i (omega (arith, length-map (g .parameters) (λ x. x .depth)));
+      parameters = ap (λ (k : ℕ). map Γ (names-from 0 k)) (sym many) ∙ same-depths Γ depths 0 depths-given;
+      new = new-from arity 0 empty (omega (arith, ok .few)) (λ y h. refl);
       fits = body-fits .0;
       scoped = subst (D.Scoped body) given-same (body-fits .1);
-      holds = holding-lent β lent Γ Γ′ owned body [] (lent-parameters (β f) depths) (parameter-holds (β f) depths)
-          [] [] lends spares (owned-sound .0);
+      holds = subst (λ (l : List ℕ). D.Holding β Γ l body given-owned [] []) (arrays-given (β f))
+          (subst (λ (l : List ℕ). D.Holding β Γ lent-arrays body l [] []) (arrays-given (λ i. not (β f i)))
+          (holding-lent β lent Γ Γ′ owned body [] lent-arrays owned-arrays [] [] lends spares (owned-sound .0)));
     }
 
-    pub routine-frugal : RoutineFrugal β (β f) (routine-in style fs T f g) (signature g)
+    pub routine-frugal : RoutineFrugal β (β f) (routine-in style fs T f g)
     routine-frugal =
-        frugal-lent β lent Γ Γ′ owned body [] (lent-parameters (β f) depths) (parameter-holds (β f) depths) empty
-        lends spares (owned-sound .1)
+        subst (λ (l : List ℕ). D.Frugal β Γ l body given-owned empty) (arrays-given (β f))
+        (subst (λ (l : List ℕ). D.Frugal β Γ lent-arrays body l empty) (arrays-given (λ i. not (β f i)))
+        (frugal-lent β lent Γ Γ′ owned body [] lent-arrays owned-arrays empty lends spares (owned-sound .1)))
 
 -- ---- the routines of a script
 
 -- past the last function
 no-disciplined : (p : Program) (b : ℕ → Bool) → RoutineDisciplined p b no-routine (signature no-function)
-unfolding arrays-at
 no-disciplined p b = record {
-  parameters = λ i h. absurd (omega arith);
+  parameters = refl;
+  new = tt;
   fits = refl;
   scoped = tt;
   holds = λ n. refl;
@@ -366,9 +393,7 @@ module _ (style : Style) (fs : Script) (ok : (f : ℕ) → Accepted fs (function
   unfolding program-in
   all-frugal f = elim (decLt f (length fs)) [
     | yes h ↦
-        subst (λ (r : Routine). RoutineFrugal (q .borrowing) (q .borrowing f) r (signature (function-at fs f)))
-        (sym (routine-in-is style fs f h)) (routine-frugal fs (function-at fs f) (ok f) style f (stable fs .kept f))
-    | no h ↦
-        subst (λ (r : Routine). RoutineFrugal (q .borrowing) (q .borrowing f) r (signature (function-at fs f)))
-        (sym (no-routine-past f (omega arith))) tt
+        subst (RoutineFrugal (q .borrowing) (q .borrowing f)) (sym (routine-in-is style fs f h))
+        (routine-frugal fs (function-at fs f) (ok f) style f (stable fs .kept f))
+    | no h ↦ subst (RoutineFrugal (q .borrowing) (q .borrowing f)) (sym (no-routine-past f (omega arith))) tt
   ]

@@ -11,7 +11,8 @@ use Rattle.semantics.specs.Live.{Set, empty, _∖_, among, live, after-branch, 
 use Rattle.semantics.specs.Annotate.{NameDepths, is-array}
 use Rattle.laws.specs.Lists.{_≈_, _⊆_, hits, occurrences-append}
 use Rattle.discipline.specs.machine.Discipline.{hold-of, holds-of, handed, less, unlent, _⊑_, left-by, holds-after}
-use Rattle.discipline.specs.machine.Discipline.{waits-after, carried-name, outer-holds, pass-lent, pass-holds}
+use Rattle.discipline.specs.machine.Discipline.{waits-after, outer-holds, pass-lent, pass-holds}
+use Rattle.semantics.specs.Kinds.{carried-name}
 use Rattle.discipline.specs.machine.Discipline.{Covered, Holding, LineHolding, Frugal, LineFrugal}
 use Rattle.soundness.specs.annotation.Held.{held, held-among, held-empty, handed-number}
 use Rattle.soundness.specs.annotation.Sparing.{AllOwned, NoneLent, Spares, LineSpares}
@@ -224,10 +225,16 @@ module _ (β : Borrowing) (lent : Set) (Θ Γ : NameDepths) (without : Without l
         )
     line-holding-lent (if-else x g t e) B C H P lends s h =
         let same = left-same t H (s .1) in (
-          subst (λ (m : List ℕ). m ⊆ H) same (h .0),
+          subst (λ (m : List ℕ). m ⊆ (C ++ H)) same (λ n k. lent-more n (h .0 n k)),
           subst (Holding β Θ C t H []) same (holding-lent t B C H [] (left-by β Γ t H) lends (s .1) (h .1)),
           subst (Holding β Θ C e H []) same (holding-lent e B C H [] (left-by β Γ t H) lends (s .2) (h .2)),
         )
+      where
+        lent-more : (n : ℕ) → n ∈ (B ++ H) → n ∈ (C ++ H)
+        lent-more n k = elim (decLt 0 (occurrences n B)) [
+          | yes d ↦ omega (arith, lends .more n d, occurrences-append n C H)
+          | no d ↦ omega (arith, k, occurrences-append n B H, occurrences-append n C H)
+        ]
     line-holding-lent (loop x k ps us t) B C H P lends s h =
         let reads = loop-reads k us in
         let same = handed-same (loop-hands k us) (s .1) in

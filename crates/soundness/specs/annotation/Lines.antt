@@ -7,7 +7,7 @@ use Rattle.semantics.specs.Kinds.{leaf-reads, is-pending, Borrowing, picked}
 use Rattle.semantics.specs.Code.{Atom, leaf, if-else, Tree, line, retain-all, release-all}
 use Rattle.semantics.specs.Live.{Set, empty, _∪_, _∖_, only, is, among, live, live-before, uses}
 use Rattle.semantics.specs.Annotate.{NameDepths, atom-depth, is-array, dying, Style, annotate, annotate-line}
-use Rattle.laws.specs.Lists.{hits}
+use Rattle.laws.specs.Lists.{hits, occurrences-append}
 use Rattle.discipline.specs.machine.Discipline.{hold-of, handed, less, left-by, Covered, Frugal}
 use Rattle.discipline.specs.machine.Spending.{same-append, holding-left, holding-same}
 use Rattle.soundness.specs.annotation.Held.{Few, free, held, names, held-most, held-or, held-less, held-le}
@@ -165,7 +165,7 @@ module _ (β : Borrowing) (Γ : NameDepths) where
         (same-append (hold-of Γ x) (names Γ B A′) Δ (λ n. sym (end n))) (λ n. refl) rest in (
           (
             (
-              λ n h. omega (arith, end n, names-held Γ few B A′ n, count n, first n .rest),
+              λ n h. omega (arith, end n, names-held Γ few B A′ n, count n, first n .rest, occurrences-append n B H),
               holding-same β Γ B t′ H H [] (names Γ B A′) Δ (λ n. refl) (λ n. sym (end n)) (b₁ .0),
               holding-same β Γ B e′ H H [] (names Γ B A′) Δ (λ n. refl) (λ n. sym (end n)) (b₂ .0),
             ),

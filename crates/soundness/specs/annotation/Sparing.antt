@@ -122,7 +122,7 @@ module _ (β : Borrowing) (lent : Set) where
 
   module _ (style : Style) (Γ : NameDepths) (numbers : (n : ℕ) → lent n ≡ true → Γ n ≡ 0) where
     -- an array by Γ is not lent
-    array-owned : (y : ℕ) → 0 < Γ y → lent y ≡ false
+    pub array-owned : (y : ℕ) → 0 < Γ y → lent y ≡ false
     array-owned y h = go (lent y) refl
       where
         go : (b : Bool) → lent y ≡ b → b ≡ false

@@ -8,7 +8,7 @@ use Rattle.semantics.specs.Code.{Atom, loop, Tree, line, retain-all, release-al
 use Rattle.semantics.specs.Live.{Set, empty, _∪_, _∖_, _∖∖_, only, just, among, live, live-before, uses, after-pass}
 use Rattle.semantics.specs.Annotate.{NameDepths, arrays, dying, Style, annotate}
 use Rattle.discipline.specs.machine.Discipline.{loop-arity, hold-of, holds-of, handed, less, unlent, left-by}
-use Rattle.discipline.specs.machine.Discipline.{carried-name}
+use Rattle.semantics.specs.Kinds.{carried-name}
 use Rattle.discipline.specs.machine.Discipline.{outer-holds, pass-lent, pass-holds, aside, Covered, Frugal}
 use Rattle.laws.specs.Lists.{_≈_, occurrences-append}
 use Rattle.discipline.specs.machine.Spending.{less-counts, same-append, unlent-few, lent-or-not}

@@ -1,8 +1,8 @@
 -- `largest`: the table of borrowed parameters has every entry of every stable table. The more is borrowed, the less is
 -- spent, so that no round takes away what a stable table has.
-use Rattle.prelude.specs.Kit.{ℕ, suc, zero, arith, true, false, Bool, cond, not, false≢true, _||_, _≡_, refl, _∙_, sym}
-use Rattle.prelude.specs.Kit.{ap, inl, inr, List, [], _∷_, eqb, ne-eqb}
-use Rattle.laws.specs.Tests.{say-and, or-cases, or-left, or-right}
+use Rattle.prelude.specs.Kit.{ℕ, suc, true, false, Bool, not, false≢true, _||_, _≡_, refl, sym, subst, inl, inr, List}
+use Rattle.prelude.specs.Kit.{[], _∷_}
+use Rattle.laws.specs.Tests.{or-cases, or-left, or-right}
 use Rattle.semantics.specs.Basics.{with-if}
 use Rattle.semantics.specs.Kinds.{Borrowing, Leaf, operation, call, literal, index, length-of, iota, replicate}
 use Rattle.semantics.specs.Kinds.{picked, leaf-hands, loop-hands}
@@ -10,17 +10,13 @@ use Rattle.semantics.specs.Syntax.{Script, function-at}
 use Rattle.semantics.specs.Code.{Atom, Line, leaf, if-else, loop, retain, release, Tree, end, line}
 use Rattle.semantics.specs.Live.{empty, is, among}
 use Rattle.semantics.specs.Normal.{normal-body}
-use Rattle.semantics.specs.Borrow.{spent, line-spent, Table, borrows, all-borrowed, reworked, same-table}
-use Rattle.semantics.specs.Borrow.{worked-out, borrowed}
-use Rattle.soundness.specs.borrowing.Rounds.{Within, all-at, reworked-at}
-use Rattle.soundness.specs.borrowing.Stable.{Stable}
+use Rattle.semantics.specs.Borrow.{spent, line-spent, Table, borrows, borrowed}
+use Rattle.soundness.specs.borrowing.Rounds.{Within}
+use Rattle.soundness.specs.borrowing.Spending.{rounds-largest}
+use Rattle.soundness.specs.borrowing.Stable.{Stable, script-spends, rounds-same}
 
 or-both : (a b c d : Bool) → (a ≡ true → c ≡ true) → (b ≡ true → d ≡ true) → (a || b) ≡ true → (c || d) ≡ true
 or-both a b c d f g e = elim (or-cases a b e) [ inl p ↦ or-left c d (f p) | inr p ↦ or-right c d (g p) ]
-
-not-both : (a b : Bool) → (a ≡ true → b ≡ true) → b ≡ false → not a ≡ true
-not-both true b f e = absurd (false≢true (sym e ∙ f refl))
-not-both false b f e = refl
 
 -- ---- the more is borrowed, the less is spent
 
@@ -75,31 +71,12 @@ module _ {U W : Borrowing} (more : Within U W) where
 
 -- ---- the rounds
 
-module _ (fs : Script) (U : Borrowing) (stable : Stable fs U) where
-  not-main : (f i : ℕ) → U f i ≡ true → not (eqb f 0) ≡ true
-  not-main zero i e = absurd (false≢true (sym (stable .main-owns i) ∙ e))
-  not-main (suc f) i e = ap not (ne-eqb (suc f) 0 (λ q. omega (arith, q)))
-
-  -- a round takes nothing away that a stable table has
-  round-keeps : (T : Table) → Within U (borrows T) → Within U (borrows (reworked fs T))
-  round-keeps T w f i e =
-      let small = stable .small f i e in
-      let t = normal-body (function-at fs f) in
-      reworked-at fs T f i (small .0) (small .1)
-      ∙ say-and (borrows T f i) _ (w f i e) (say-and (not (eqb f 0)) _ (not-main f i e)
-      (not-both (spent (borrows T) t i) (spent U t i) (spent-fewer w t i) (stable .kept f i e)))
-
-  rounds-keep : (n : ℕ) (T : Table) → Within U (borrows T) → Within U (borrows (worked-out n fs T))
-  unfolding worked-out
-  rounds-keep zero T w = w
-  rounds-keep (suc n) T w = by (same-table T (reworked fs T)) (rounds-keep n (reworked fs T) (round-keeps T w))
-    where
-      by : (b : Bool) → Within U (borrows (worked-out n fs (reworked fs T))) →
-          Within U (borrows (cond b T (worked-out n fs (reworked fs T))))
-      by true next = w
-      by false next = next
-
 pub largest : (fs : Script) (U : Borrowing) → Stable fs U → Within U (borrows (borrowed fs))
 unfolding borrowed
-largest fs U stable = rounds-keep fs U stable 257 all-borrowed
-    (λ f i e. let small = stable .small f i e in all-at f i (small .0) (small .1))
+largest fs U stable =
+    subst (λ (T : Table). Within U (borrows T)) (sym (rounds-same fs 257))
+    (rounds-largest (script-spends fs) (λ B W w f i. spent-fewer w (normal-body (function-at fs f)) i) U (record {
+      small = stable .small;
+      main-owns = stable .main-owns;
+      kept = stable .kept;
+    }) 257)

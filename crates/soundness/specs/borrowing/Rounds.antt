@@ -1,4 +1,4 @@
--- Tables of borrowed parameters, and what a round leaves of one.
+-- Tables of borrowed parameters: their shape and their entries.
 use Rattle.prelude.specs.Kit.{ℕ, _<_, arith, decLt, true, false, Bool, _&&_, not, false≢true, _≡_, _∙_, sym, ap, List}
 use Rattle.prelude.specs.Kit.{[], eqb, length, getD, List·getD-eq-default}
 use Rattle.laws.specs.Lists.{tabulate-length, tabulate-at}
@@ -30,17 +30,17 @@ entry-small T s f i e = elim (decLt f 32) [
 ]
 
 -- the table of some entries
-abbrev tabled : Borrowing → Table
+abbrev pub tabled : Borrowing → Table
 tabled U = tabulate 0 32 (λ f. tabulate 0 8 (U f))
 
 row-at : (U : Borrowing) (f : ℕ) → f < 32 → getD (tabled U) f [] ≡ tabulate 0 8 (U f)
 row-at U f p = tabulate-at 32 0 (λ k. tabulate 0 8 (U k)) f [] p ∙ ap (λ (k : ℕ). tabulate 0 8 (U k)) (omega arith)
 
-entry-at : (U : Borrowing) (f i : ℕ) → f < 32 → i < 8 → borrows (tabled U) f i ≡ U f i
+pub entry-at : (U : Borrowing) (f i : ℕ) → f < 32 → i < 8 → borrows (tabled U) f i ≡ U f i
 entry-at U f i p q =
     ap (λ (r : List Bool). getD r i false) (row-at U f p) ∙ tabulate-at 8 0 (U f) i false q ∙ ap (U f) (omega arith)
 
-tabled-shaped : (U : Borrowing) → Shaped (tabled U)
+pub tabled-shaped : (U : Borrowing) → Shaped (tabled U)
 tabled-shaped U = record {
   rows = tabulate-length 32 0 (λ f. tabulate 0 8 (U f));
   columns = λ f p. ap (λ (r : List Bool). length r) (row-at U f p) ∙ tabulate-length 8 0 (U f);
@@ -58,20 +58,7 @@ all-at f i p q = entry-at (λ f i. true) f i p q
 
 -- ---- one round
 
--- whether a round keeps an entry
-abbrev pub stays : Script → Table → Borrowing
-stays fs T f i = borrows T f i && (not (eqb f 0) && not (spent (borrows T) (normal-body (function-at fs f)) i))
-
-module _ (fs : Script) (T : Table) where
-  pub reworked-shaped : Shaped (reworked fs T)
-  unfolding reworked
-  reworked-shaped = tabled-shaped (stays fs T)
-
-  pub reworked-at : (f i : ℕ) → f < 32 → i < 8 → borrows (reworked fs T) f i ≡ stays fs T f i
-  unfolding reworked
-  reworked-at f i p q = entry-at (stays fs T) f i p q
-
-  pub reworked-stays : (f i : ℕ) → borrows (reworked fs T) f i ≡ true → stays fs T f i ≡ true
-  reworked-stays f i e =
-      let small = entry-small (reworked fs T) reworked-shaped f i e in
-      sym (reworked-at f i (small .0) (small .1)) ∙ e
+pub reworked-shaped : (fs : Script) (T : Table) → Shaped (reworked fs T)
+unfolding reworked
+reworked-shaped fs T =
+    tabled-shaped (λ f i. borrows T f i && (not (eqb f 0) && not (spent (borrows T) (normal-body (function-at fs f)) i)))

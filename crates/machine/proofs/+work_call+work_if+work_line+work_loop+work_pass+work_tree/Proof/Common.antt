@@ -20,6 +20,7 @@ use Rattle.machine.proofs.work_tree.Kinds as work-tree-kinds
 use Rattle.machine.proofs.+work_call+work_if+work_line+work_loop+work_pass+work_tree.Lts-work_tree as work-tree-lts
 use Rattle.machine_code.proofs.end_in.Reads as end-in-reads
 use Rattle.machine_code.proofs.line_at.Reads as line-at-reads
+use Rattle.machine_code.proofs.name_at.Reads as name-at-reads
 use Rattle.machine_code.proofs.start_in.Reads as start-in-reads
 use Rattle.machine_code.proofs.two_rows.Reads as two-rows-reads
 use Rattle.machine_frames.proofs.bind.Reads as bind-reads
@@ -101,12 +102,14 @@ abbrev pub work-call-claims : ℕ → work-call-lts.Claims
 work-call-claims t = (
   halted-reads.Asked,
   halted-reads.Learnt,
+  start-in-reads.Asked,
+  start-in-reads.Learnt,
+  name-at-reads.Asked,
+  name-at-reads.Learnt,
   pass-arguments-reads.Asked,
   pass-arguments-reads.Learnt,
   set-function-reads.Asked,
   set-function-reads.Learnt,
-  start-in-reads.Asked,
-  start-in-reads.Learnt,
   work-tree-below t,
   work-tree.Post,
   bind-reads.Asked,

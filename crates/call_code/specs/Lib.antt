@@ -1,0 +1,2 @@
+-- The modules of `call_code`'s specs.
+pub mod Delivering

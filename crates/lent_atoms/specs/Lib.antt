@@ -1,0 +1,2 @@
+-- The modules of `lent_atoms`' specs.
+pub mod Told

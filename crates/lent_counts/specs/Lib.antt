@@ -1,0 +1,2 @@
+-- The modules of `lent_counts`' specs.
+pub mod Counted

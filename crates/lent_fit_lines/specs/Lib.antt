@@ -1,0 +1,2 @@
+-- The modules of `lent_fit_lines`' specs.
+pub mod Walk

@@ -1,0 +1,2 @@
+-- The modules of `lent_fit_trees`'s proofs.
+pub mod Laws

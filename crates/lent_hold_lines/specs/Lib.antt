@@ -1,0 +1,2 @@
+-- The modules of `lent_hold_lines`' specs.
+pub mod Lines

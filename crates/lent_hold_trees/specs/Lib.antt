@@ -1,0 +1,2 @@
+-- The modules of `lent_hold_trees`' specs.
+pub mod Walk

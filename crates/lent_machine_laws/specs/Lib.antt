@@ -1,0 +1,3 @@
+-- The modules of `lent_machine_laws`' specs.
+pub mod Stands
+pub mod Tables

@@ -1,0 +1,24 @@
+-- The modules of `lent_passing`'s specs.
+pub mod Operands
+pub mod Reading
+pub mod Trees
+pub mod Functions
+pub mod Arities
+pub mod Words
+pub mod Ends
+pub mod Said
+pub mod SaidTrees
+pub mod SaidFunctions
+pub mod Fits
+pub mod FitTrees
+pub mod FitPasses
+pub mod Skeletons
+pub mod NormalOnce
+pub mod Levels
+pub mod Forms
+pub mod SameDepths
+pub mod TranslatedFunction
+pub mod Translated
+pub mod Accepts
+pub mod Order10
+pub mod Wrong

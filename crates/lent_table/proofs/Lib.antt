@@ -1,0 +1,3 @@
+-- The modules of `lent_table`'s laws.
+pub mod Tables
+pub mod Rounds

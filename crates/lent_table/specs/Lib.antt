@@ -1,0 +1,2 @@
+-- The modules of `lent_table`'s specs.
+pub mod Rounds

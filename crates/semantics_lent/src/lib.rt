@@ -1,0 +1,1 @@
+// The definitions of lent code are in specs/; this crate has no code.
