@@ -89,11 +89,11 @@ module _ {slots : List ℤ} {heads : List ℕ} {c : ℕ} where
   says_gone h = record { there = λ t. absurd (false≢true t); gone = λ f. h }
 
   -- what is known past `if !is_cell(..)`, and inside it
-  pub told_there : {r : Bool} → CellThere slots heads c r → not r ≡ false → InCells slots heads c
-  told_there {r} t e = t.there (not-false r e)
+  pub told_there : {r : Bool} → CellThere slots heads c r → r ≡ true → InCells slots heads c
+  told_there t e = t.there e
 
-  pub told_gone : {r : Bool} → CellThere slots heads c r → not r ≡ true → cells_in slots heads ≤ c
-  told_gone {r} t e = t.gone (not-true r e)
+  pub told_gone : {r : Bool} → CellThere slots heads c r → r ≡ false → cells_in slots heads ≤ c
+  told_gone t e = t.gone e
 
 -- ---- slots and elements
 

@@ -6,9 +6,9 @@ use Rattle.clearing.proofs.clear_code.Tie as tie
 
 returns : tie.Need-returns
 returns c =
-    let a = c.before.before.before.before.before.before.before.before.args in (
-      c.before.before.before.before.before.clear-bytes.ensures ∙ cleared_whole a.kinds.now 0,
-      c.before.clear-words.ensures ∙ cleared_whole a.operands.now (pos 0),
+    let a = c.args in (
+      c.clear_bytes.ensures ∙ cleared_whole a.kinds.now 0,
+      c.clear_words.ensures ∙ cleared_whole a.operands.now (pos 0),
     )
 
 pub clear_code_spec : {M : Type 1} → statement M

@@ -4,9 +4,9 @@ use Rattle.machine_code.proofs.Reading.{name_past}
 use Rattle.machine_code.proofs.atom_at.Statement.{statement}
 use Rattle.machine_code.proofs.atom_at.Tie as tie
 
-returns_2 : tie.Need-returns-2
+returns_2 : tie.Need-returns-else-at-kinds
 returns_2 c =
-    let a = c.before.before.args in
+    let a = c.args in
     name_past a.kinds.now a.operands.now a.at (omega arith) (omega arith)
 
 pub atom_at_spec : {M : Type 1} → statement M

@@ -4,7 +4,7 @@ use Rattle.machine_code.proofs.Reading.{low_fits, low_is}
 use Rattle.machine_code.proofs.low_bits.Statement.{statement}
 use Rattle.machine_code.proofs.low_bits.Tie as tie
 
-cast_result : tie.Need-overflow-cast-result
+cast_result : tie.Need-overflow_cast-result
 cast_result c = low_fits (of_z w64 c.args.w)
 
 returns : tie.Need-returns

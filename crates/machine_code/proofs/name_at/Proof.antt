@@ -6,9 +6,9 @@ use Rattle.machine_code.proofs.name_at.Tie as tie
 
 returns : tie.Need-returns
 returns c =
-    let operand = c.before.Operand-at in
+    let operand = c.operand_at in
     ap (λ (n : ℕ). n % 256)
-    (rw (to_z-of_z {z = operand.result} (record { sfits = operand.type-inv })) at c.low_bits.ensures
+    (rw (to_z-of_z {z = operand.result} (record { sfits = operand.type_inv })) at c.low_bits.ensures
     ∙ ap low_bits operand.ensures)
 
 pub name_at_spec : {M : Type 1} → statement M

@@ -6,66 +6,66 @@ use Rattle.machine_code.proofs.read_line.Statement.{statement}
 use Rattle.machine_code.proofs.read_line.Tie as tie
 
 -- the line of a kind, where the operand and the atoms are read
-read : (c : tie.After-atom-at) (kind : ℕ) →
-    let a = c.before.before.before.before.before.before.args in
+read : (c : tie.After-atom_at-b) (kind : ℕ) →
+    let a = c.args in
     kind ≡ get_or a.kinds.now a.at 0 →
-    line_of kind c.before.before.low_bits.result c.before.atom-within.result c.atom_at.result
+    line_of kind c.low_bits-n.result c.atom_within-a.result c.atom_at-b.result
     ≡ line_at a.kinds.now a.operands.now a.at
 read c kind k =
     let operand = c.before.before in
-    let a = operand.before.before.before.before.args in
-    line_here a.kinds.now a.operands.now a.at kind operand.low_bits.result c.before.atom-within.result c.atom_at.result k
-    (rw (to_z-of_z {z = get_or a.operands.now a.at (pos 0)} (record { sfits = operand.before.low-bits-arg.given }))
-    at operand.low_bits.ensures)
-    c.before.atom-within.ensures c.atom_at.ensures
+    let a = operand.args in
+    line_here a.kinds.now a.operands.now a.at kind operand.low_bits-n.result c.atom_within-a.result c.atom_at-b.result k
+    (rw (to_z-of_z {z = get_or a.operands.now a.at (pos 0)} (record { sfits = operand.low_bits-arg-1.given }))
+    at operand.low_bits-n.ensures)
+    c.atom_within-a.ensures c.atom_at-b.ensures
 
-returns : tie.Need-returns
-returns c = read c.before 8 (sym c.match.keys1)
+returns : tie.Need-returns-in-8
+returns c = read c.before 8 (sym c.in-8.is)
 
-returns_2 : tie.Need-returns-2
-returns_2 c = read c.before 9 (sym c.match.keys2)
+returns_2 : tie.Need-returns-in-9
+returns_2 c = read c.before 9 (sym c.in-9.is)
 
-returns_3 : tie.Need-returns-3
-returns_3 c = read c.before 10 (sym c.match.keys3)
+returns_3 : tie.Need-returns-in-10
+returns_3 c = read c.before 10 (sym c.in-10.is)
 
-returns_4 : tie.Need-returns-4
-returns_4 c = read c.before 11 (sym c.match.keys4)
+returns_4 : tie.Need-returns-in-11
+returns_4 c = read c.before 11 (sym c.in-11.is)
 
-returns_5 : tie.Need-returns-5
-returns_5 c = read c.before 12 (sym c.match.keys5)
+returns_5 : tie.Need-returns-in-12
+returns_5 c = read c.before 12 (sym c.in-12.is)
 
-returns_6 : tie.Need-returns-6
-returns_6 c = read c.before 13 (sym c.match.keys6)
+returns_6 : tie.Need-returns-in-13
+returns_6 c = read c.before 13 (sym c.in-13.is)
 
-returns_7 : tie.Need-returns-7
-returns_7 c = read c.before 14 (sym c.match.keys7)
+returns_7 : tie.Need-returns-in-14
+returns_7 c = read c.before 14 (sym c.in-14.is)
 
-returns_8 : tie.Need-returns-8
-returns_8 c = read c.before 15 (sym c.match.keys8)
+returns_8 : tie.Need-returns-in-15
+returns_8 c = read c.before 15 (sym c.in-15.is)
 
-returns_9 : tie.Need-returns-9
-returns_9 c = read c.before 16 (sym c.match.keys9)
+returns_9 : tie.Need-returns-in-16
+returns_9 c = read c.before 16 (sym c.in-16.is)
 
-returns_10 : tie.Need-returns-10
-returns_10 c = read c.before 17 (sym c.match.keys10)
+returns_10 : tie.Need-returns-in-17
+returns_10 c = read c.before 17 (sym c.in-17.is)
 
-returns_11 : tie.Need-returns-11
-returns_11 c = read c.before 18 (sym c.match.keys11)
+returns_11 : tie.Need-returns-in-18
+returns_11 c = read c.before 18 (sym c.in-18.is)
 
-returns_12 : tie.Need-returns-12
-returns_12 c = read c.before 19 (sym c.match.keys12)
+returns_12 : tie.Need-returns-in-19
+returns_12 c = read c.before 19 (sym c.in-19.is)
 
-returns_13 : tie.Need-returns-13
-returns_13 c = read c.before 20 (sym c.match.keys13)
+returns_13 : tie.Need-returns-in-20
+returns_13 c = read c.before 20 (sym c.in-20.is)
 
-returns_14 : tie.Need-returns-14
-returns_14 c = read c.before 21 (sym c.match.keys14)
+returns_14 : tie.Need-returns-in-21
+returns_14 c = read c.before 21 (sym c.in-21.is)
 
-returns_15 : tie.Need-returns-15
+returns_15 : tie.Need-returns-in_default
 returns_15 c =
-    let r = c.match.rest in
-    operation_of_kind _ c.before.before.before.low_bits.result c.before.before.atom-within.result
-    c.before.atom_at.result (record {
+    let r = c.in_default.in_default-own.rest in
+    operation_of_kind _ c.low_bits-n.result c.atom_within-a.result
+    c.atom_at-b.result (record {
       k8 = r.0.0.0.0.0.0.0.0.0.0.0.0.0.1;
       k9 = r.0.0.0.0.0.0.0.0.0.0.0.0.1;
       k10 = r.0.0.0.0.0.0.0.0.0.0.0.1;

@@ -6,7 +6,7 @@ use Rattle.machine_code.proofs.start_in.Tie as tie
 
 returns : tie.Need-returns
 unfolding start_in
-returns c = let low = c.before.byte_at.ensures in let high = c.byte-at2.ensures in
+returns c = let low = c.byte_at.ensures in let high = c.byte_at-2.ensures in
     (omega (arith, low.0, high.0), omega (arith, low.1, high.1))
 
 pub start_in_spec : {M : Type 1} → statement M

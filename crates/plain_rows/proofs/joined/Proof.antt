@@ -4,23 +4,23 @@ use Rattle.plain_rows.proofs.Sets.{Joining, joining_none, joining_set, joining_a
 use Rattle.plain_rows.proofs.joined.Statement.{statement}
 use Rattle.plain_rows.proofs.joined.Tie as tie
 
-abbrev invariant_loop : tie.invariant_loop
+abbrev invariant_loop : tie.invariant-loop-i
 invariant_loop b r₀ i₀ r i =
     (length r₀ ≡ 256) × (length b ≡ 256) × (i ≤ 256) × Joining r₀ b r i
 
-abbrev decreases_loop : tie.decreases_loop
+abbrev decreases_loop : tie.decreases-loop-i
 decreases_loop b r₀ i₀ r i = 256 - i
 
-loop_holds : tie.Need-loop-init invariant_loop decreases_loop
+loop_holds : tie.Need-loop-i-init invariant_loop decreases_loop
 loop_holds c = (search rules, search rules, search rules, joining_none _ _)
 
-loop_again : tie.Need-loop-preserved invariant_loop decreases_loop
+loop_again : tie.Need-loop-i-preserved invariant_loop decreases_loop
 loop_again c =
-    let v = c.before.before.loop.invariant in
+    let v = c.loop-i.invariant in
     (v.0, v.1, omega arith, joining_set v.3 c.either.result (omega (arith, v.0)) c.either.ensures)
 
 returns : tie.Need-returns invariant_loop decreases_loop
-returns c = let v = c.before.loop.invariant in joining_all v.3 (omega arith) (omega arith)
+returns c = let v = c.loop-i.invariant in joining_all v.3 (omega arith) (omega arith)
 
 pub joined_spec : {M : Type 1} → statement M
 joined_spec =

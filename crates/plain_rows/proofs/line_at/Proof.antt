@@ -6,8 +6,8 @@ use Rattle.plain_rows.proofs.line_at.Tie as tie
 
 returns : tie.Need-returns
 returns c =
-    let a = c.before.before.before.before.before.before.before.args in line_there a.operands.now a.rows.now a.at c.before.before.before.before.before.row_at.ensures c.before.before.before.before.row-at2.ensures
-    c.before.before.row-at3.ensures c.before.before.before.atom-of.ensures c.before.atom-of2.ensures c.line_of.ensures
+    let a = c.args in line_there a.operands.now a.rows.now a.at c.row_at-row.ensures c.row_at.ensures
+    c.row_at-2.ensures c.atom_of-a.ensures c.atom_of-b.ensures c.line_of.ensures
 
 pub line_at_spec : {M : Type 1} → statement M
 line_at_spec =

@@ -4,36 +4,36 @@ use Rattle.prelude.specs.Kit.{inl, inr}
 use Rattle.plain_rows.proofs.line_of.Statement.{statement}
 use Rattle.plain_rows.proofs.line_of.Tie as tie
 
-returns : tie.Need-returns
-returns c = let a = c.before.args in line_is a.x a.y a.m a.a a.b 8 c.match.keys1
+returns : tie.Need-returns-in-8
+returns c = let a = c.args in line_is a.x a.y a.m a.a a.b 8 c.in-8.is
 
-returns_2 : tie.Need-returns-2
-returns_2 c = let a = c.before.args in line_is a.x a.y a.m a.a a.b 9 c.match.keys2
+returns_2 : tie.Need-returns-in-9
+returns_2 c = let a = c.args in line_is a.x a.y a.m a.a a.b 9 c.in-9.is
 
-returns_3 : tie.Need-returns-3
-returns_3 c = let a = c.before.args in unary_is a.x a.y a.m a.a a.b a.kind c.match.keys3
+returns_3 : tie.Need-returns-in-11
+returns_3 c = let a = c.args in unary_is a.x a.y a.m a.a a.b a.kind c.in-11.is
 
-returns_4 : tie.Need-returns-4
-returns_4 c = let a = c.before.args in line_is a.x a.y a.m a.a a.b 12 c.match.keys4
+returns_4 : tie.Need-returns-in-12
+returns_4 c = let a = c.args in line_is a.x a.y a.m a.a a.b 12 c.in-12.is
 
-returns_5 : tie.Need-returns-5
+returns_5 : tie.Need-returns-in_default
 returns_5 c =
-    let a = c.before.before.args in
-    binary_is a.x a.y a.m a.a a.b a.kind c.before.match.rest (inl c.if1.true)
+    let a = c.args in
+    binary_is a.x a.y a.m a.a a.b a.kind c.in_default.in_default-own.rest (inl c.in_default.if-kind-lt19-own.true)
 
-returns_6 : tie.Need-returns-6
+returns_6 : tie.Need-returns-in_default-2
 returns_6 c =
-    let a = c.before.before.before.args in
-    binary_is a.x a.y a.m a.a a.b a.kind c.before.before.match.rest (inr c.if2.false)
+    let a = c.args in
+    binary_is a.x a.y a.m a.a a.b a.kind c.in_default.in_default-own.rest (inr c.in_default.if-kind-lt21-own.false)
 
-returns_7 : tie.Need-returns-7
-returns_7 c = let a = c.before.args in loop_is a.x a.y a.m a.a a.b a.kind (inl c.match.keys5)
+returns_7 : tie.Need-returns-in-13
+returns_7 c = let a = c.args in loop_is a.x a.y a.m a.a a.b a.kind (inl c.in-13.is)
 
-returns_8 : tie.Need-returns-8
+returns_8 : tie.Need-returns-in-13-2
 returns_8 c =
-    let a = c.before.before.before.args in loop_is a.x a.y a.m a.a a.b a.kind (inr (
-      c.before.if1.false,
-      c.if2.true,
+    let a = c.args in loop_is a.x a.y a.m a.a a.b a.kind (inr (
+      c.in-13.if-kind-lt19-own.false,
+      c.in-13.if-kind-lt21-own.true,
     ))
 
 pub line_of_spec : {M : Type 1} → statement M

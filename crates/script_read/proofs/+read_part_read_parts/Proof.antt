@@ -55,51 +55,51 @@ read_part_claims t = (
 abbrev read_parts_claims : ℕ → read-parts-lts.Claims
 read_parts_claims t = (is-atom-reads.Asked, is-atom-reads.Learnt, read_part_below t, read-part.Post)
 
-read_part_returns : (t : ℕ) → read-part-lts.Need-returns (read_part_claims t) (read_part_at t) read-part.Post
-read_part_returns t c = let a = c.before.before.before.before.before.before.before.args in
-    deep (seen a.kinds.now a.operands.now at_part a.at c.before.before.before.before.node_at.result
-    c.before.before.before.before.node_at.ensures _ _ _ c.before.before.kind.given.1) a.levels
-    c.if1.true
+read_part_returns : (t : ℕ) → read-part-lts.Need-returns-then-levels-eq0 (read_part_claims t) (read_part_at t) read-part.Post
+read_part_returns t c = let a = c.args in
+    deep (seen a.kinds.now a.operands.now at_part a.at c.node_at.result
+    c.node_at.ensures _ _ _ c.in-Fits.is) a.levels
+    c.if-levels-eq0.true
 
 read_part_add_read_parts : (t : ℕ) →
-    read-part-lts.Need-overflow-add-read-parts (read_part_claims t) (read_part_at t) read-part.Post
-read_part_add_read_parts t c = let a = c.before.before.before.before.before.before.before.args in
+    read-part-lts.Need-overflow_add-at (read_part_claims t) (read_part_at t) read-part.Post
+read_part_add_read_parts t c = let a = c.args in
     omega (
       arith,
-      inside a.kinds.now a.operands.now at_part a.at c.before.before.kind.given.0.0
-          c.before.before.kind.given.0.1.0 c.before.before.kind.given.0.1.1.0
-          c.before.before.before.before.node_at.result
-          c.before.before.before.before.node_at.ensures c.before.before.kind.given.1,
+      inside a.kinds.now a.operands.now at_part a.at c.in-Fits.kind
+          c.in-Fits.low c.in-Fits.high
+          c.node_at.result
+          c.node_at.ensures c.in-Fits.is,
     )
 
-read_part_returns_2 : (t : ℕ) → read-part-lts.Need-returns-2 (read_part_claims t) (read_part_at t) read-part.Post
-read_part_returns_2 t c = let a = c.before.before.before.before.before.before.before.before.before.args in
+read_part_returns_2 : (t : ℕ) → read-part-lts.Need-returns-else-levels-eq0 (read_part_claims t) (read_part_at t) read-part.Post
+read_part_returns_2 t c = let a = c.args in
     goes_down (seen a.kinds.now a.operands.now at_part a.at
-    c.before.before.before.before.before.before.node_at.result
-    c.before.before.before.before.before.before.node_at.ensures _ _ _
-    c.before.before.before.before.kind.given.1) a.levels c.before.before.if1.false
-    c.before.parts_of.result c.before.parts_of.ensures c.read-parts.result c.read-parts.ensures
+    c.node_at.result
+    c.node_at.ensures _ _ _
+    c.in-Fits.is) a.levels c.if-levels-eq0.false
+    c.parts_of.result c.parts_of.ensures c.read_parts.result c.read_parts.ensures
 
-read_part_returns_3 : (t : ℕ) → read-part-lts.Need-returns-3 (read_part_claims t) (read_part_at t) read-part.Post
-read_part_returns_3 t c = let a = c.before.before.before.before.before.args in
-    stopped a.levels (no_kind a.kinds.now a.operands.now at_part a.at c.before.before.node_at.result
-    c.before.before.node_at.ensures c.enum_told.given.1)
+read_part_returns_3 : (t : ℕ) → read-part-lts.Need-returns-in-WrongKind (read_part_claims t) (read_part_at t) read-part.Post
+read_part_returns_3 t c = let a = c.args in
+    stopped a.levels (no_kind a.kinds.now a.operands.now at_part a.at c.node_at.result
+    c.node_at.ensures c.in-WrongKind.is)
 
-read_part_returns_4 : (t : ℕ) → read-part-lts.Need-returns-4 (read_part_claims t) (read_part_at t) read-part.Post
-read_part_returns_4 t c = let a = c.before.before.before.before.before.args in
+read_part_returns_4 : (t : ℕ) → read-part-lts.Need-returns-in-WrongOperand (read_part_claims t) (read_part_at t) read-part.Post
+read_part_returns_4 t c = let a = c.args in
     stopped a.levels (no_operand a.kinds.now a.operands.now at_part a.at
-    c.before.before.node_at.result c.before.before.node_at.ensures c.enum-told2.given.1)
+    c.node_at.result c.node_at.ensures c.in-WrongOperand.is)
 
-abbrev read_parts_Inv_loop : read-parts-lts.invariant_loop
+abbrev read_parts_Inv_loop : read-parts-lts.invariant-loop-left
 read_parts_Inv_loop kinds operands at count levels p₀ left₀ p left =
     (left ≤ 255) × (repeated count (λ q. told (part kinds operands levels q)) at ≡ repeated left
     (λ q. told (part kinds operands levels q)) p)
 
-abbrev read_parts_μ_loop : read-parts-lts.decreases_loop
+abbrev read_parts_μ_loop : read-parts-lts.decreases-loop-left
 read_parts_μ_loop kinds operands at count levels p₀ left₀ p left = left
 
 read_parts_loop_holds : (t : ℕ) →
-    read-parts-lts.Need-loop-init (read_parts_claims t) (read_parts_at t) read-parts.Post read_parts_Inv_loop
+    read-parts-lts.Need-loop-left-init (read_parts_claims t) (read_parts_at t) read-parts.Post read_parts_Inv_loop
     read_parts_μ_loop
 read_parts_loop_holds t c = (omega arith, refl)
 
@@ -109,54 +109,54 @@ parts_read kinds operands levels = λ q. told (part kinds operands levels q)
 
 -- an atom
 read_parts_loop_again : (t : ℕ) →
-    read-parts-lts.Need-loop-preserved (read_parts_claims t) (read_parts_at t) read-parts.Post read_parts_Inv_loop
+    read-parts-lts.Need-loop-left-preserved-then-is_atom (read_parts_claims t) (read_parts_at t) read-parts.Post read_parts_Inv_loop
     read_parts_μ_loop
 read_parts_loop_again t c =
-    let a = c.before.before.before.before.before.before.args in
-    let at-loop = c.before.before.before.loop in
-    let goes = c.before.is_atom.ensures c.if1.true in (
+    let a = c.args in
+    let at-loop = c.loop-left in
+    let goes = c.is_atom.ensures c.if-is_atom.true in (
       omega arith,
       repeated_goes (parts_read a.kinds.now a.operands.now a.levels) a.count at-loop.left a.at
-          at-loop.p (at-loop.p + 1) _ at-loop.invariant.1 c.before.before.loop-test.true goes.1 refl,
+          at-loop.p (at-loop.p + 1) _ at-loop.invariant.1 c.loop-left-test.true goes.1 refl,
     )
 
 -- any other part
 read_parts_returns : (t : ℕ) →
-    read-parts-lts.Need-returns (read_parts_claims t) (read_parts_at t) read-parts.Post read_parts_Inv_loop
+    read-parts-lts.Need-returns-in-Refused (read_parts_claims t) (read_parts_at t) read-parts.Post read_parts_Inv_loop
     read_parts_μ_loop
 read_parts_returns t c =
-    let part-read = c.before.before.before.read-part in
-    let at_test = c.before.before.before.before.before.before in
-    let at-loop = at_test.before.loop in
-    let a = at_test.before.before.before.before.args in
+    let part-read = c.read_part in
+    let at_test = c.before.before.before.before in
+    let at-loop = at_test.loop-left in
+    let a = at_test.args in
     repeated_stops (parts_read a.kinds.now a.operands.now a.levels) a.count at-loop.left a.at
-    at-loop.p c.before.n.given.0.0 c.before.n.given.0.1.0 part-read.result at-loop.invariant.1
-    at_test.loop-test.true part-read.ensures c.before.n.given.1
+    at-loop.p c.in-Refused.n c.in-Refused.q part-read.result at-loop.invariant.1
+    at_test.loop-left-test.true part-read.ensures c.in-Refused.is
 
 read_parts_loop_again_2 : (t : ℕ) →
-    read-parts-lts.Need-loop-preserved-2 (read_parts_claims t) (read_parts_at t) read-parts.Post read_parts_Inv_loop
+    read-parts-lts.Need-loop-left-preserved (read_parts_claims t) (read_parts_at t) read-parts.Post read_parts_Inv_loop
     read_parts_μ_loop
 read_parts_loop_again_2 t c =
-    let part-read = c.before.before.before.read-part in
-    let at_test = c.before.before.before.before.before.before in
-    let at-loop = at_test.before.loop in
-    let a = at_test.before.before.before.before.args in (
+    let part-read = c.read_part in
+    let at_test = c.before.before.before.before in
+    let at-loop = at_test.loop-left in
+    let a = at_test.args in (
       omega arith,
       repeated_goes (parts_read a.kinds.now a.operands.now a.levels) a.count at-loop.left a.at
-          at-loop.p c.before.q.given.0.0 part-read.result at-loop.invariant.1 at_test.loop-test.true
-          part-read.ensures c.before.q.given.1,
+          at-loop.p c.in-Next.q part-read.result at-loop.invariant.1 at_test.loop-left-test.true
+          part-read.ensures c.in-Next.is,
     )
 
 read_parts_returns_2 : (t : ℕ) →
-    read-parts-lts.Need-returns-2 (read_parts_claims t) (read_parts_at t) read-parts.Post read_parts_Inv_loop
+    read-parts-lts.Need-returns (read_parts_claims t) (read_parts_at t) read-parts.Post read_parts_Inv_loop
     read_parts_μ_loop
 read_parts_returns_2 t c =
-    let a = c.before.before.before.before.args in
-    repeated_none (parts_read a.kinds.now a.operands.now a.levels) c.before.loop.left
-    c.before.loop.p (omega arith) ∙ sym c.before.loop.invariant.1
+    let a = c.args in
+    repeated_none (parts_read a.kinds.now a.operands.now a.levels) c.loop-left.left
+    c.loop-left.p (omega arith) ∙ sym c.loop-left.invariant.1
 
-pub +read-part-read-parts-spec : {M : Type 1} → statement M
-+read-part-read-parts-spec = close μ_read_part μ_read_parts (λ t. read-part-lts.spec (read_part_claims t)
+pub +read_part_read_parts_spec : {M : Type 1} → statement M
++read_part_read_parts_spec = close μ_read_part μ_read_parts (λ t. read-part-lts.spec (read_part_claims t)
     (read_part_at t)
     read-part.Post
     (λ c κs. search rules)
@@ -173,6 +173,6 @@ pub +read-part-read-parts-spec : {M : Type 1} → statement M
     (read_part_returns_4 t))
     λ t. read-parts-lts.spec (read_parts_claims t) (read_parts_at t) read-parts.Post read_parts_Inv_loop
     read_parts_μ_loop (read_parts_loop_holds t) (λ c κs. search rules)
-    (λ c. omega (arith, (c.before.is_atom.ensures c.if1.true).0)) (λ c. search rules) (λ c. search rules)
+    (λ c. omega (arith, (c.is_atom.ensures c.if-is_atom.true).0)) (λ c. search rules) (λ c. search rules)
     (read_parts_loop_again t) (λ c κs. search rules) (λ c. search rules) (λ c. search rules) (read_parts_returns t)
     (λ c. search rules) (λ c. search rules) (read_parts_loop_again_2 t) (read_parts_returns_2 t)

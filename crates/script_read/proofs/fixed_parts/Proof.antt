@@ -4,8 +4,8 @@ use Rattle.prelude.specs.Kit.{rules}
 use Rattle.script_read.proofs.fixed_parts.Statement.{statement}
 use Rattle.script_read.proofs.fixed_parts.Tie as tie
 
-returns_13 : tie.Need-returns-13
-returns_13 c = no_part _ c.match.rest
+returns_13 : tie.Need-returns-in_default
+returns_13 c = no_part _ c.in_default.in_default-own.rest
 
 pub fixed_parts_spec : {M : Type 1} → statement M
 fixed_parts_spec =

@@ -4,20 +4,20 @@ use Rattle.script_read.proofs.Nodes.{seen, unfit, high_seen, high_none}
 use Rattle.script_read.proofs.high_at.Statement.{statement}
 use Rattle.script_read.proofs.high_at.Tie as tie
 
-returns : tie.Need-returns
+returns : tie.Need-returns-in-Fits
 returns c =
-    high_seen (seen _ _ _ _ c.before.before.before.node_at.result
-    c.before.before.before.node_at.ensures _ _ _ c.before.high.given.1)
+    high_seen (seen _ _ _ _ c.node_at.result
+    c.node_at.ensures _ _ _ c.in-Fits.is)
 
-returns_2 : tie.Need-returns-2
+returns_2 : tie.Need-returns-in-WrongKind
 returns_2 c =
-    high_none (unfit _ _ _ _ c.before.before.node_at.result c.before.before.node_at.ensures
-    (inl c.enum_told.given.1))
+    high_none (unfit _ _ _ _ c.node_at.result c.node_at.ensures
+    (inl c.in-WrongKind.is))
 
-returns_3 : tie.Need-returns-3
+returns_3 : tie.Need-returns-in-WrongOperand
 returns_3 c =
-    high_none (unfit _ _ _ _ c.before.before.node_at.result c.before.before.node_at.ensures
-    (inr c.enum-told2.given.1))
+    high_none (unfit _ _ _ _ c.node_at.result c.node_at.ensures
+    (inr c.in-WrongOperand.is))
 
 pub high_at_spec : {M : Type 1} → statement M
 high_at_spec =

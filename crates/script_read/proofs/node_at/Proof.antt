@@ -8,70 +8,70 @@ use Rattle.script_read.proofs.node_at.Statement.{statement}
 use Rattle.script_read.proofs.node_at.Tie as tie
 
 -- once the kind is found to be allowed
-limits : (c : tie.Else1) →
-    let a = c.before.before.before.before.before.args in
-    let kind = c.before.before.kind_at.result in
-    let most = c.before.limits_at.result in
+limits : (c : tie.Else-most-eq-NOT_ALLOWED) →
+    let a = c.args in
+    let kind = c.kind_at-kind.result in
+    let most = c.limits_at-most.result in
     (allowed (place_of a.place) kind ≡ true) × (most % 256 ≡ get_or low_limits kind 0)
     × (most / 256 ≡ get_or high_limits kind 0)
-limits c = some_allowed (place_of c.before.before.before.before.before.args.place)
-    c.before.before.kind_at.result _ c.before.limits_at.ensures c.if1.false
+limits c = some_allowed (place_of c.args.place)
+    c.kind_at-kind.result _ c.limits_at-most.ensures c.if-most-eq-NOT_ALLOWED.false
 
-returns : tie.Need-returns
+returns : tie.Need-returns-then-most-eq-NOT_ALLOWED
 returns c =
-    let a = c.before.before.before.before.before.args in
-    let k = c.before.before.kind_at in
+    let a = c.args in
+    let k = c.kind_at-kind in
     node_says a.kinds.now a.operands.now (place_of a.place) a.at _
     (not_allowed a.kinds.now a.operands.now (place_of a.place) a.at k.result k.ensures
-    (none_allowed (place_of a.place) k.result _ c.before.limits_at.ensures c.if1.true))
+    (none_allowed (place_of a.place) k.result _ c.limits_at-most.ensures c.if-most-eq-NOT_ALLOWED.true))
 
-returns_2 : tie.Need-returns-2
+returns_2 : tie.Need-returns-then-kind-eq-NUMBER
 returns_2 c =
-    let a = c.before.before.before.before.before.before.args in
-    let k = c.before.before.before.kind_at in
+    let a = c.args in
+    let k = c.kind_at-kind in
     node_says a.kinds.now a.operands.now (place_of a.place) a.at _
     (number a.kinds.now a.operands.now (place_of a.place) a.at k.result k.ensures
-    (limits c.before).0 c.if2.true)
+    (limits c.before).0 c.if-kind-eq-NUMBER.true)
 
-returns_3 : tie.Need-returns-3
+returns_3 : tie.Need-returns-then-most-low
 returns_3 c =
-    let a = c.before.before.before.before.before.before.before.before.args in
-    let k = c.before.before.before.before.before.kind_at in
-    let n = c.before.nth-word in
+    let a = c.args in
+    let k = c.kind_at-kind in
+    let n = c.nth_word-n in
     let l = limits c.before.before.before in
     node_says a.kinds.now a.operands.now (place_of a.place) a.at _
     (judged a.kinds.now a.operands.now (place_of a.place) a.at k.result k.ensures l.0
-    c.before.before.if2.false n.result n.ensures _
+    c.if-kind-eq-NUMBER.false n.result n.ensures _
     (low_wrong k.result n.result (omega (arith, l.1))))
 
-returns_4 : tie.Need-returns-4
+returns_4 : tie.Need-returns-then-most-high
 returns_4 c =
-    let a = c.before.before.before.before.before.before.before.before.before.args in
-    let k = c.before.before.before.before.before.before.kind_at in
-    let n = c.before.before.nth-word in
+    let a = c.args in
+    let k = c.kind_at-kind in
+    let n = c.nth_word-n in
     let l = limits c.before.before.before.before in
     node_says a.kinds.now a.operands.now (place_of a.place) a.at _
     (judged a.kinds.now a.operands.now (place_of a.place) a.at k.result k.ensures l.0
-    c.before.before.before.if2.false n.result n.ensures _
+    c.if-kind-eq-NUMBER.false n.result n.ensures _
     (high_wrong k.result n.result (omega (arith, l.2))))
 
-cast_t13 : tie.Need-overflow-cast-t13
+cast_t13 : tie.Need-overflow_cast-result-2
 cast_t13 c = omega (
   arith,
   (limits c.before.before.before.before).2,
   high_small
-      c.before.before.before.before.before.before.kind_at.result,
+      c.kind_at-kind.result,
 )
 
-returns_5 : tie.Need-returns-5
+returns_5 : tie.Need-returns
 returns_5 c =
-    let a = c.before.before.before.before.before.before.before.before.before.args in
-    let k = c.before.before.before.before.before.before.kind_at in
-    let n = c.before.before.nth-word in
+    let a = c.args in
+    let k = c.kind_at-kind in
+    let n = c.nth_word-n in
     let l = limits c.before.before.before.before in
     node_says a.kinds.now a.operands.now (place_of a.place) a.at _
     (judged a.kinds.now a.operands.now (place_of a.place) a.at k.result k.ensures l.0
-    c.before.before.before.if2.false n.result n.ensures _
+    c.if-kind-eq-NUMBER.false n.result n.ensures _
     (in_range _ _ (omega (arith, l.1)) (omega (arith, l.2)) (omega (arith, high_small k.result))))
 
 pub node_at_spec : {M : Type 1} → statement M

@@ -11,54 +11,54 @@ use Rattle.script_read.proofs.read_file.Statement.{statement}
 use Rattle.script_read.proofs.read_file.Tie as tie
 
 -- once the sizes are found to fit
-sizes_fit : (c : tie.Else2) →
-    (between 1 32 c.before.before.before.short-at.result
-    && between 1 1024 c.before.before.short-at2.result) ≡ true
-sizes_fit c = sym c.before.sizes_fit.ensures ∙ not-false _ c.if2.false
+sizes_fit : (c : tie.Else-not-sizes_fit) →
+    (between 1 32 c.short_at-functions.result
+    && between 1 1024 c.short_at-nodes.result) ≡ true
+sizes_fit c = sym c.sizes_fit.ensures ∙ c.if-not-sizes_fit.false
 
-returns : tie.Need-returns
+returns : tie.Need-returns-then-bytes-lt4
 returns c =
-    let file = c.before.before.args.bytes.now in
-    refused_so file _ (too_short file c.if1.true)
+    let file = c.args.bytes.now in
+    refused_so file _ (too_short file c.if-bytes-lt4.true)
 
-returns_2 : tie.Need-returns-2
+returns_2 : tie.Need-returns-then-not-sizes_fit
 returns_2 c =
-    let file = c.before.before.before.before.before.before.args.bytes.now in
+    let file = c.args.bytes.now in
     refused_so file _
-    (out_of_range file c.before.before.before.before.if1.false _ _
-    c.before.before.before.short-at.ensures.0
-    c.before.before.short-at2.ensures.0 (sym c.before.sizes_fit.ensures ∙ not-true _ c.if2.true))
+    (out_of_range file c.if-bytes-lt4.false _ _
+    c.short_at-functions.ensures.0
+    c.short_at-nodes.ensures.0 (sym c.sizes_fit.ensures ∙ c.if-not-sizes_fit.true))
 
-returns_3 : tie.Need-returns-3
+returns_3 : tie.Need-returns-then-bytes-nodes
 returns_3 c =
-    let file = c.before.before.before.before.before.before.before.args.bytes.now in
+    let file = c.args.bytes.now in
     refused_so file _
-    (other_length file c.before.before.before.before.before.if1.false _ _
-    c.before.before.before.before.short-at.ensures.0 c.before.before.before.short-at2.ensures.0
-    (sizes_fit c.before) c.if3.true)
+    (other_length file c.if-bytes-lt4.false _ _
+    c.short_at-functions.ensures.0 c.short_at-nodes.ensures.0
+    (sizes_fit c.before) c.if-bytes-nodes.true)
 
-read_script_requires : tie.Need-read-script-requires
+read_script_requires : tie.Need-read_script-requires
 read_script_requires c κs = (
-  few_functions c.before.before.before.before.before.before.before.before.before.before.before.before.args.bytes.now
-      c.before.before.before.before.before.before.before.before.before.before.if1.false _ _
-      c.before.before.before.before.before.before.before.before.before.short-at.ensures.0
-      c.before.before.before.before.before.before.before.before.short-at2.ensures.0
+  few_functions c.args.bytes.now
+      c.if-bytes-lt4.false _ _
+      c.short_at-functions.ensures.0
+      c.short_at-nodes.ensures.0
       (sizes_fit c.before.before.before.before.before.before),
-  c.before.clear.ensures.long,
+  c.clear.ensures.long,
 )
 
-returns_4 : tie.Need-returns-4
+returns_4 : tie.Need-returns
 returns_4 c =
     let fit = sizes_fit c.before.before.before.before.before.before.before in
-    let low = c.before.before.before.before.before.before.before.before.before.before.before.if1.false in
-    let functions = c.before.before.before.before.before.before.before.before.before.before.short-at in
-    let nodes = c.before.before.before.before.before.before.before.before.before.short-at2 in
+    let low = c.if-bytes-lt4.false in
+    let functions = c.short_at-functions in
+    let nodes = c.short_at-nodes in
     let same = whole_file _ low _ _ functions.ensures.0 nodes.ensures.0 fit
-    c.before.before.before.before.before.before.if3.false in (
-      c.read-script.ensures.0 ∙ ap told same,
-      subst (λ (o : Outcome ℕ Script). Started_by o c.read-script.new.1.1.1.0) same
+    c.if-bytes-nodes.false in (
+      c.read_script.ensures.0 ∙ ap told same,
+      subst (λ (o : Outcome ℕ Script). Started_by o c.read_script.new.starts) same
           (started _ _ _ _ _ (few_functions _ low _ _ functions.ensures.0 nodes.ensures.0 fit)
-          c.before.before.clear.ensures c.read-script.ensures.1),
+          c.clear.ensures c.read_script.ensures.1),
     )
 
 pub read_file_spec : {M : Type 1} → statement M

@@ -6,43 +6,43 @@ use Rattle.prelude.specs.Kit.{arith, sym, rules}
 use Rattle.script_read.proofs.read_function.Statement.{statement}
 use Rattle.script_read.proofs.read_function.Tie as tie
 
-add_read_parameters : tie.Need-overflow-add-read-parameters
-add_read_parameters c = let a = c.before.before.before.before.before.before.args in
+add_read_parameters : tie.Need-overflow_add-at
+add_read_parameters c = let a = c.args in
     omega (
       arith,
       inside a.kinds.now a.operands.now at_function a.at _ _ _
-          c.before.before.before.node_at.result c.before.before.before.node_at.ensures
-          c.before.count.given.1,
+          c.node_at.result c.node_at.ensures
+          c.in-Fits.is,
     )
 
-returns : tie.Need-returns
-returns c = let a = c.before.before.before.before.before.before.before.before.before.before.before.args in
+returns : tie.Need-returns-in-Next
+returns c = let a = c.args in
     function_parts (seen a.kinds.now a.operands.now at_function a.at
-    c.before.before.before.before.before.before.before.before.node_at.result
-    c.before.before.before.before.before.before.before.before.node_at.ensures _ _ _
-    c.before.before.before.before.before.before.count.given.1)
-    c.before.before.before.before.read-parameters.result c.read-part.result
-    c.before.before.before.before.read-parameters.ensures
-    (rw c.before.before.q.given.1 (sym c.read-part.ensures))
+    c.node_at.result
+    c.node_at.ensures _ _ _
+    c.in-Fits.is)
+    c.read_parameters.result c.read_part.result
+    c.read_parameters.ensures
+    (rw c.in-Next.is (sym c.read_part.ensures))
 
-returns_2 : tie.Need-returns-2
-returns_2 c = let a = c.before.before.before.before.before.before.before.before.before.before.args in
+returns_2 : tie.Need-returns-in-Refused
+returns_2 c = let a = c.args in
     function_parts (seen a.kinds.now a.operands.now at_function a.at
-    c.before.before.before.before.before.before.before.node_at.result
-    c.before.before.before.before.before.before.before.node_at.ensures _ _ _
-    c.before.before.before.before.before.count.given.1) c.before.before.before.read-parameters.result
-    _ c.before.before.before.read-parameters.ensures (rw c.before.n.given.1)
+    c.node_at.result
+    c.node_at.ensures _ _ _
+    c.in-Fits.is) c.read_parameters.result
+    _ c.read_parameters.ensures (rw c.in-Refused.is)
 
-returns_3 : tie.Need-returns-3
-returns_3 c = let a = c.before.before.before.before.before.args in
-    function_stops (no_kind a.kinds.now a.operands.now at_function a.at c.before.before.node_at.result
-    c.before.before.node_at.ensures c.enum_told.given.1)
+returns_3 : tie.Need-returns-in-WrongKind
+returns_3 c = let a = c.args in
+    function_stops (no_kind a.kinds.now a.operands.now at_function a.at c.node_at.result
+    c.node_at.ensures c.in-WrongKind.is)
 
-returns_4 : tie.Need-returns-4
-returns_4 c = let a = c.before.before.before.before.before.args in
+returns_4 : tie.Need-returns-in-WrongOperand
+returns_4 c = let a = c.args in
     function_stops (no_operand a.kinds.now a.operands.now at_function a.at
-    c.before.before.node_at.result
-    c.before.before.node_at.ensures c.enum-told2.given.1)
+    c.node_at.result
+    c.node_at.ensures c.in-WrongOperand.is)
 
 pub read_function_spec : {M : Type 1} → statement M
 read_function_spec =

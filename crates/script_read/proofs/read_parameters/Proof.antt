@@ -8,61 +8,61 @@ use Rattle.prelude.specs.Kit.{◌≤◌, ◌+◌, ◌-◌, arith, ◌≡◌, ref
 use Rattle.script_read.proofs.read_parameters.Statement.{statement}
 use Rattle.script_read.proofs.read_parameters.Tie as tie
 
-abbrev invariant_loop : tie.invariant_loop
+abbrev invariant_loop : tie.invariant-loop-left
 invariant_loop kinds operands at count p₀ left₀ p left =
     (left ≤ 255) × (repeated count (λ q. told (parameter kinds operands q)) at ≡ repeated left
     (λ q. told (parameter kinds operands q)) p)
 
-abbrev decreases_loop : tie.decreases_loop
+abbrev decreases_loop : tie.decreases-loop-left
 decreases_loop kinds operands at count p₀ left₀ p left = left
 
-loop_holds : tie.Need-loop-init invariant_loop decreases_loop
+loop_holds : tie.Need-loop-left-init invariant_loop decreases_loop
 loop_holds c = (omega arith, refl)
 
-add_p : tie.Need-overflow-add-p invariant_loop decreases_loop
-add_p c = let a = c.before.before.before.before.before.before.before.args in
+add_p : tie.Need-overflow_add-p invariant_loop decreases_loop
+add_p c = let a = c.args in
     omega (
       arith,
-      inside a.kinds.now a.operands.now at_parameter c.before.before.before.before.loop.p _ _ _
-          c.before.before.node_at.result c.before.before.node_at.ensures
-          c.enum_told.given.1,
+      inside a.kinds.now a.operands.now at_parameter c.loop-left.p _ _ _
+          c.node_at.result c.node_at.ensures
+          c.in-Fits.is,
     )
 
-returns : tie.Need-returns invariant_loop decreases_loop
-returns c = let a = c.before.before.before.before.before.before.before.args in
+returns : tie.Need-returns-in-WrongKind invariant_loop decreases_loop
+returns c = let a = c.args in
     repeated_stops (λ q. told (parameter a.kinds.now a.operands.now q)) a.count
-    c.before.before.before.before.loop.left a.at c.before.before.before.before.loop.p 3
-    c.before.before.before.before.loop.p _ c.before.before.before.before.loop.invariant.1
-    c.before.before.before.loop-test.true refl
+    c.loop-left.left a.at c.loop-left.p 3
+    c.loop-left.p _ c.loop-left.invariant.1
+    c.loop-left-test.true refl
     (parameter_stops (no_kind a.kinds.now a.operands.now at_parameter
-    c.before.before.before.before.loop.p
-    c.before.before.node_at.result c.before.before.node_at.ensures c.enum-told2.given.1))
+    c.loop-left.p
+    c.node_at.result c.node_at.ensures c.in-WrongKind.is))
 
-returns_2 : tie.Need-returns-2 invariant_loop decreases_loop
-returns_2 c = let a = c.before.before.before.before.before.before.before.args in
+returns_2 : tie.Need-returns-in-WrongOperand invariant_loop decreases_loop
+returns_2 c = let a = c.args in
     repeated_stops (λ q. told (parameter a.kinds.now a.operands.now q)) a.count
-    c.before.before.before.before.loop.left a.at c.before.before.before.before.loop.p 4
-    c.before.before.before.before.loop.p _ c.before.before.before.before.loop.invariant.1
-    c.before.before.before.loop-test.true refl
+    c.loop-left.left a.at c.loop-left.p 4
+    c.loop-left.p _ c.loop-left.invariant.1
+    c.loop-left-test.true refl
     (parameter_stops (no_operand a.kinds.now a.operands.now at_parameter
-    c.before.before.before.before.loop.p
-    c.before.before.node_at.result c.before.before.node_at.ensures c.enum-told3.given.1))
+    c.loop-left.p
+    c.node_at.result c.node_at.ensures c.in-WrongOperand.is))
 
-loop_again : tie.Need-loop-preserved invariant_loop decreases_loop
-loop_again c = let a = c.before.before.before.before.before.before.before.args in (
+loop_again : tie.Need-loop-left-preserved invariant_loop decreases_loop
+loop_again c = let a = c.args in (
   omega arith,
   repeated_goes (λ q. told (parameter a.kinds.now a.operands.now q)) a.count
-      c.before.before.before.before.loop.left a.at c.before.before.before.before.loop.p
-      (c.before.before.before.before.loop.p + 1) _ c.before.before.before.before.loop.invariant.1
-      c.before.before.before.loop-test.true refl
-      (parameter_goes (seen a.kinds.now a.operands.now at_parameter c.before.before.before.before.loop.p
-      c.before.before.node_at.result c.before.before.node_at.ensures _ _ _ c.enum_told.given.1)),
+      c.loop-left.left a.at c.loop-left.p
+      (c.loop-left.p + 1) _ c.loop-left.invariant.1
+      c.loop-left-test.true refl
+      (parameter_goes (seen a.kinds.now a.operands.now at_parameter c.loop-left.p
+      c.node_at.result c.node_at.ensures _ _ _ c.in-Fits.is)),
 )
 
-returns_3 : tie.Need-returns-3 invariant_loop decreases_loop
-returns_3 c = let a = c.before.before.before.before.args in
-    repeated_none (λ q. told (parameter a.kinds.now a.operands.now q)) c.before.loop.left
-    c.before.loop.p (omega arith) ∙ sym c.before.loop.invariant.1
+returns_3 : tie.Need-returns invariant_loop decreases_loop
+returns_3 c = let a = c.args in
+    repeated_none (λ q. told (parameter a.kinds.now a.operands.now q)) c.loop-left.left
+    c.loop-left.p (omega arith) ∙ sym c.loop-left.invariant.1
 
 pub read_parameters_spec : {M : Type 1} → statement M
 read_parameters_spec =

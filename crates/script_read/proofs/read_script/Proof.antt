@@ -8,7 +8,7 @@ use Rattle.prelude.specs.Kit.{◌+◌, ◌<◌, ◌-◌, arith, ◌≡◌, refl,
 use Rattle.script_read.proofs.read_script.Statement.{statement}
 use Rattle.script_read.proofs.read_script.Tie as tie
 
-abbrev invariant_loop : tie.invariant_loop
+abbrev invariant_loop : tie.invariant-loop-i
 invariant_loop kinds operands functions starts₀ p₀ i₀ starts p i =
     (repeated functions (λ q. told (function kinds operands q)) 0
     ≡ repeated (functions - i) (λ q. told (function kinds operands q)) p)
@@ -16,58 +16,58 @@ invariant_loop kinds operands functions starts₀ p₀ i₀ starts p i =
     ≡ marked (functions - i) (λ q. told (function kinds operands q)) p i starts)
     × (length starts ≡ 32)
 
-abbrev decreases_loop : tie.decreases_loop
+abbrev decreases_loop : tie.decreases-loop-i
 decreases_loop kinds operands functions starts₀ p₀ i₀ starts p i = functions - i
 
-loop_holds : tie.Need-loop-init invariant_loop decreases_loop
+loop_holds : tie.Need-loop-i-init invariant_loop decreases_loop
 loop_holds c =
-    let n = c.before.before.args.functions in
+    let n = c.args.functions in
     let all : n - 0 ≡ n = omega arith in
-    (rw all, rw all, c.before.before.requires.1)
+    (rw all, rw all, c.requires.1)
 
-element_write_starts : tie.Need-element-write-starts invariant_loop decreases_loop
-element_write_starts c = omega (arith, c.before.loop.invariant.2)
+element_write_starts : tie.Need-bounds-starts-i invariant_loop decreases_loop
+element_write_starts c = omega (arith, c.loop-i.invariant.2)
 
-returns : tie.Need-returns invariant_loop decreases_loop
+returns : tie.Need-returns-in-Refused invariant_loop decreases_loop
 returns c =
-    let read = c.before.before.before.read_function in
-    let inv = c.before.before.before.before.before.loop.invariant in
-    let loop = c.before.before.before.before.before.loop in
-    let a = c.before.before.before.before.before.before.before.before.args in
-    let some : 0 < a.functions - loop.i = omega (arith, c.before.before.before.before.loop-test.true) in (
+    let read = c.read_function in
+    let inv = c.loop-i.invariant in
+    let loop = c.loop-i in
+    let a = c.args in
+    let some : 0 < a.functions - loop.i = omega (arith, c.loop-i-test.true) in (
       script_ends _ _ _ _ _
-          (sym (repeated_stops _ _ _ _ _ _ _ _ inv.0 some read.ensures c.before.n.given.1)) refl,
-      marked_stops _ _ _ _ _ _ inv.1 some _ read.ensures _ _ c.before.n.given.1,
+          (sym (repeated_stops _ _ _ _ _ _ _ _ inv.0 some read.ensures c.in-Refused.is)) refl,
+      marked_stops _ _ _ _ _ _ inv.1 some _ read.ensures _ _ c.in-Refused.is,
     )
 
-loop_again : tie.Need-loop-preserved invariant_loop decreases_loop
+loop_again : tie.Need-loop-i-preserved invariant_loop decreases_loop
 loop_again c =
-    let read = c.before.before.before.read_function in
-    let loop = c.before.before.before.before.before.loop in
+    let read = c.read_function in
+    let loop = c.loop-i in
     let inv = loop.invariant in
-    let a = c.before.before.before.before.before.before.before.before.args in
-    let some : 0 < a.functions - loop.i = omega (arith, c.before.before.before.before.loop-test.true) in
+    let a = c.args in
+    let some : 0 < a.functions - loop.i = omega (arith, c.loop-i-test.true) in
     let one : a.functions - loop.i - 1 ≡ a.functions - (loop.i + 1) = omega arith in (
-      rw one at (repeated_goes _ _ _ _ _ _ _ inv.0 some read.ensures c.before.q.given.1),
-      rw one at (marked_goes _ _ _ _ _ _ inv.1 some _ read.ensures _ c.before.q.given.1),
+      rw one at (repeated_goes _ _ _ _ _ _ _ inv.0 some read.ensures c.in-Next.is),
+      rw one at (marked_goes _ _ _ _ _ _ inv.1 some _ read.ensures _ c.in-Next.is),
       simp length-set inv.2,
     )
 
-returns_2 : tie.Need-returns-2 invariant_loop decreases_loop
+returns_2 : tie.Need-returns-then-p-kinds invariant_loop decreases_loop
 returns_2 c =
-    let inv = c.before.before.loop.invariant in
-    let a = c.before.before.before.before.before.args in
-    let none : a.functions - c.before.before.loop.i ≡ 0 = omega (arith, c.before.loop-test.false) in (
-      script_ends _ _ _ _ _ (inv.0 ∙ sym (repeated_none _ _ _ none)) (left_over _ _ _ c.if1.true),
+    let inv = c.loop-i.invariant in
+    let a = c.args in
+    let none : a.functions - c.loop-i.i ≡ 0 = omega (arith, c.loop-i-test.false) in (
+      script_ends _ _ _ _ _ (inv.0 ∙ sym (repeated_none _ _ _ none)) (left_over _ _ _ c.if-p-kinds.true),
       marked_ends _ _ _ _ _ _ inv.1 none,
     )
 
-returns_3 : tie.Need-returns-3 invariant_loop decreases_loop
+returns_3 : tie.Need-returns invariant_loop decreases_loop
 returns_3 c =
-    let inv = c.before.before.loop.invariant in
-    let a = c.before.before.before.before.before.args in
-    let none : a.functions - c.before.before.loop.i ≡ 0 = omega (arith, c.before.loop-test.false) in (
-      script_ends _ _ _ _ _ (inv.0 ∙ sym (repeated_none _ _ _ none)) (all_read _ _ _ c.if1.false),
+    let inv = c.loop-i.invariant in
+    let a = c.args in
+    let none : a.functions - c.loop-i.i ≡ 0 = omega (arith, c.loop-i-test.false) in (
+      script_ends _ _ _ _ _ (inv.0 ∙ sym (repeated_none _ _ _ none)) (all_read _ _ _ c.if-p-kinds.false),
       marked_ends _ _ _ _ _ _ inv.1 none,
     )
 

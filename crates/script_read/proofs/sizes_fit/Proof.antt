@@ -3,34 +3,34 @@ use Rattle.prelude.specs.Kit.{le-leb, lt-leb}
 use Rattle.script_read.proofs.sizes_fit.Statement.{statement}
 use Rattle.script_read.proofs.sizes_fit.Tie as tie
 
-returns : tie.Need-returns
-returns c = simp (lt-leb _ _ c.if1.true)
+returns : tie.Need-returns-then-functions-lt1
+returns c = simp (lt-leb _ _ c.if-functions-lt1.true)
 
-returns_2 : tie.Need-returns-2
-returns_2 c = simp (le-leb _ _ c.before.if1.false, lt-leb _ _ c.if2.true)
+returns_2 : tie.Need-returns-then-functions-gt32
+returns_2 c = simp (le-leb _ _ c.if-functions-lt1.false, lt-leb _ _ c.if-functions-gt32.true)
 
-returns_3 : tie.Need-returns-3
+returns_3 : tie.Need-returns-then-nodes-lt1
 returns_3 c =
-    simp (le-leb _ _ c.before.before.if1.false, le-leb _ _ c.before.if2.false, lt-leb _ _ c.if3.true)
+    simp (le-leb _ _ c.if-functions-lt1.false, le-leb _ _ c.if-functions-gt32.false, lt-leb _ _ c.if-nodes-lt1.true)
 
-returns_4 : tie.Need-returns-4
+returns_4 : tie.Need-returns-then-nodes-gt1024
 returns_4 c =
     simp (
-      le-leb _ _ c.before.before.before.if1.false,
-      le-leb _ _ c.before.before.if2.false,
+      le-leb _ _ c.if-functions-lt1.false,
+      le-leb _ _ c.if-functions-gt32.false,
       le-leb _ _
-          c.before.if3.false,
-      lt-leb _ _ c.if4.true,
+          c.if-nodes-lt1.false,
+      lt-leb _ _ c.if-nodes-gt1024.true,
     )
 
-returns_5 : tie.Need-returns-5
+returns_5 : tie.Need-returns
 returns_5 c =
     simp (
-      le-leb _ _ c.before.before.before.if1.false,
-      le-leb _ _ c.before.before.if2.false,
+      le-leb _ _ c.if-functions-lt1.false,
+      le-leb _ _ c.if-functions-gt32.false,
       le-leb _ _
-          c.before.if3.false,
-      le-leb _ _ c.if4.false,
+          c.if-nodes-lt1.false,
+      le-leb _ _ c.if-nodes-gt1024.false,
     )
 
 pub sizes_fit_spec : {M : Type 1} → statement M

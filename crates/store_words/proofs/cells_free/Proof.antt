@@ -5,23 +5,23 @@ use Rattle.store_words.proofs.Counting.{taken_within}
 use Rattle.store_words.proofs.cells_free.Statement.{statement}
 use Rattle.store_words.proofs.cells_free.Tie as tie
 
-sub_result : tie.Need-overflow-sub-result
+sub_result : tie.Need-overflow_sub-result
 sub_result c =
-    let a = c.before.before.before.args in
+    let a = c.args in
     omega (
       arith,
-      c.before.cells.ensures.is,
-      c.cells_taken.ensures,
+      c.cells-n.ensures.is,
+      c.cells_taken-taken.ensures,
       store_size a.slots.now a.heads.now,
       taken_within a.slots.now a.heads.now,
     )
 
 returns : tie.Need-returns
 returns c =
-    let a = c.before.before.before.args in
-    let n = c.before.cells in
+    let a = c.args in
+    let n = c.cells-n in
     let size = store_size a.slots.now a.heads.now in
-    (omega (arith, n.ensures.is, c.cells_taken.ensures, size), omega (arith, n.ensures.most))
+    (omega (arith, n.ensures.is, c.cells_taken-taken.ensures, size), omega (arith, n.ensures.most))
 
 pub cells_free_spec : {M : Type 1} → statement M
 cells_free_spec =

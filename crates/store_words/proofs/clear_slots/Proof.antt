@@ -4,20 +4,20 @@ use Rattle.store_words.proofs.SlotLoops.{Clearing, clearing_none, clearing_more,
 use Rattle.store_words.proofs.clear_slots.Statement.{statement}
 use Rattle.store_words.proofs.clear_slots.Tie as tie
 
-abbrev invariant_loop : tie.invariant_loop
+abbrev invariant_loop : tie.invariant-loop-i
 invariant_loop slots₀ c i₀ slots i = (i ≤ 16) × Clearing slots₀ c slots i
 
-abbrev decreases_loop : tie.decreases_loop
+abbrev decreases_loop : tie.decreases-loop-i
 decreases_loop slots₀ c i₀ slots i = 16 - i
 
-loop_holds : tie.Need-loop-init invariant_loop decreases_loop
+loop_holds : tie.Need-loop-i-init invariant_loop decreases_loop
 loop_holds c = let a = c.args in (omega arith, clearing_none a.slots.now a.c)
 
-loop_again : tie.Need-loop-preserved invariant_loop decreases_loop
-loop_again c = (omega arith, clearing_more c.before.loop.invariant.1 (omega arith) (omega arith))
+loop_again : tie.Need-loop-i-preserved invariant_loop decreases_loop
+loop_again c = (omega arith, clearing_more c.loop-i.invariant.1 (omega arith) (omega arith))
 
 returns : tie.Need-returns invariant_loop decreases_loop
-returns c = clearing_all c.before.loop.invariant.1 (omega arith)
+returns c = clearing_all c.loop-i.invariant.1 (omega arith)
 
 pub clear_slots_spec : {M : Type 1} → statement M
 clear_slots_spec =

@@ -9,30 +9,30 @@ inside : (c : tie.Start) → let a = c.args in a.c < cells_in a.slots.now a.head
 inside c = let a = c.args in
     to_cells a.slots.now a.heads.now a.c c.requires.0 c.requires.1 c.requires.2
 
-returns : tie.Need-returns
+returns : tie.Need-returns-then-i-ge16
 returns c =
     let start = c.before in
     let a = start.args in
     element_out a.slots.now a.heads.now a.c a.i
-    (omega (arith, length_in a.slots.now a.heads.now a.c (inside start), c.if1.true))
+    (omega (arith, length_in a.slots.now a.heads.now a.c (inside start), c.if-i-ge16.true))
 
-cast_if2 : tie.Need-overflow-cast-if2
-cast_if2 c = record { fits = omega (arith, c.shared-slice-known.given (2 + 4 * c.before.before.args.c)) }
+cast_if2 : tie.Need-overflow_cast-heads
+cast_if2 c = record { fits = omega (arith, c.shared_slice_known-1.given (2 + 4 * c.args.c)) }
 
-returns_2 : tie.Need-returns-2
+returns_2 : tie.Need-returns-then-heads-c
 returns_2 c =
     let start = c.before.before.before in
     let a = start.args in
     element_out a.slots.now a.heads.now a.c a.i
-    (omega (arith, length_in a.slots.now a.heads.now a.c (inside start), c.if2.true))
+    (omega (arith, length_in a.slots.now a.heads.now a.c (inside start), c.if-heads-c.true))
 
-returns_3 : tie.Need-returns-3
+returns_3 : tie.Need-returns
 returns_3 c =
     let start = c.before.before.before.before in
     let a = start.args in
-    rw (to_z-of_z {z = get_or a.slots.now (1 + 16 * a.c + a.i) (pos 0)} (record { sfits = c.result.given }))
+    rw (to_z-of_z {z = get_or a.slots.now (1 + 16 * a.c + a.i) (pos 0)} (record { sfits = c.result-1.given }))
     (element_in a.slots.now a.heads.now a.c a.i (inside start)
-    (omega (arith, c.before.if2.false, c.before.before.before.if1.false)))
+    (omega (arith, c.if-heads-c.false, c.if-i-ge16.false)))
 
 pub read_slot_within_spec : {M : Type 1} → statement M
 read_slot_within_spec =

@@ -20,30 +20,30 @@ below t = and 1 bytes-from-kinds.ps (falls 1 bytes-from-kinds.ps ◌<◌ measure
 abbrev claims : ℕ → lts.Claims
 claims t = (wide.Asked, wide.Learnt, below t, bytes-from.Post)
 
-returns : (t : ℕ) → lts.Need-returns (claims t) (at t) bytes-from.Post
-returns t c = none _ _ _ c.if1.true
+returns : (t : ℕ) → lts.Need-returns-then-count-eq0 (claims t) (at t) bytes-from.Post
+returns t c = none _ _ _ c.if-count-eq0.true
 
-returns_2 : (t : ℕ) → lts.Need-returns-2 (claims t) (at t) bytes-from.Post
-returns_2 t c = none_left _ _ _ c.if2.true
+returns_2 : (t : ℕ) → lts.Need-returns-then-bytes-i (claims t) (at t) bytes-from.Post
+returns_2 t c = none_left _ _ _ c.if-bytes-i.true
 
 -- how many bytes are left after this one
-few : (t : ℕ) (c : lts.After-bytes-from (claims t) (at t) bytes-from.Post) →
-    c.before.before.before.before.before.before.args.count - 1 ≤ 7
-few t c = omega (arith, c.before.before.before.before.before.before.requires.1)
+few : (t : ℕ) (c : lts.After-bytes_from (claims t) (at t) bytes-from.Post) →
+    c.args.count - 1 ≤ 7
+few t c = omega (arith, c.requires.1)
 
-mul_result : (t : ℕ) → lts.Need-overflow-mul-result (claims t) (at t) bytes-from.Post
-mul_result t c = omega (arith, c.bytes-from.ensures.1, room _ (few t c))
+mul_result : (t : ℕ) → lts.Need-overflow_mul-result (claims t) (at t) bytes-from.Post
+mul_result t c = omega (arith, c.bytes_from.ensures.1, room _ (few t c))
 
-add_result : (t : ℕ) → lts.Need-overflow-add-result (claims t) (at t) bytes-from.Post
-add_result t c = omega (arith, c.bytes-from.ensures.1, room _ (few t c))
+add_result : (t : ℕ) → lts.Need-overflow_add-result (claims t) (at t) bytes-from.Post
+add_result t c = omega (arith, c.bytes_from.ensures.1, room _ (few t c))
 
-returns_3 : (t : ℕ) → lts.Need-returns-3 (claims t) (at t) bytes-from.Post
+returns_3 : (t : ℕ) → lts.Need-returns (claims t) (at t) bytes-from.Post
 returns_3 t c =
-    one_more _ _ _ _ _ c.before.before.before.before.if1.false c.before.wide.ensures.0
-    c.before.wide.ensures.1 c.bytes-from.ensures.0 c.bytes-from.ensures.1
+    one_more _ _ _ _ _ c.if-count-eq0.false c.wide.ensures.0
+    c.wide.ensures.1 c.bytes_from.ensures.0 c.bytes_from.ensures.1
 
-pub +bytes-from-spec : {M : Type 1} → statement M
-+bytes-from-spec =
+pub +bytes_from_spec : {M : Type 1} → statement M
++bytes_from_spec =
     close measure λ t. lts.spec (claims t) (at t) bytes-from.Post
     (returns t)
     (returns_2 t)

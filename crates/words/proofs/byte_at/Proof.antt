@@ -3,9 +3,9 @@ use Rattle.prelude.specs.Kit.{arith, sym, get_or-eq_default, rules}
 use Rattle.words.proofs.byte_at.Statement.{statement}
 use Rattle.words.proofs.byte_at.Tie as tie
 
-past : tie.Need-returns-2
+past : tie.Need-returns-else-i-bytes
 past c =
-    let a = c.before.before.args in
+    let a = c.args in
     (sym (get_or-eq_default a.bytes.now 0 {n = a.i} (omega arith)), omega arith)
 
 pub byte_at_spec : {M : Type 1} → statement M

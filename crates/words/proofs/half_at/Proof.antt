@@ -5,12 +5,12 @@ use Rattle.words.proofs.half_at.Statement.{statement}
 use Rattle.words.proofs.half_at.Tie as tie
 
 returns : tie.Need-returns
-returns c = let a = c.before.before.before.before.before.before.before.before.before.args in (
-  four a.bytes.now a.i c.before.before.before.before.before.before.wide.result
-      c.before.before.before.before.wide2.result c.before.before.wide3.result c.wide4.result
-      c.before.before.before.before.before.before.wide.ensures.0
-      c.before.before.before.before.wide2.ensures.0 c.before.before.wide3.ensures.0
-      c.wide4.ensures.0,
+returns c = let a = c.args in (
+  four a.bytes.now a.i c.wide-a.result
+      c.wide-b.result c.wide-c.result c.wide-d.result
+      c.wide-a.ensures.0
+      c.wide-b.ensures.0 c.wide-c.ensures.0
+      c.wide-d.ensures.0,
   omega arith,
 )
 

@@ -4,8 +4,8 @@ use Rattle.prelude.specs.Kit.{arith, sym, rules}
 use Rattle.words.proofs.nth_word.Statement.{statement}
 use Rattle.words.proofs.nth_word.Tie as tie
 
-returns_2 : tie.Need-returns-2
-returns_2 c = sym (none_past 8 c.before.before.before.args.bytes.now _ (omega arith))
+returns_2 : tie.Need-returns-then-bytes-n
+returns_2 c = sym (none_past 8 c.args.bytes.now _ (omega arith))
 
 pub nth_word_spec : {M : Type 1} → statement M
 nth_word_spec =

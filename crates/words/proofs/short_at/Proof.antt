@@ -4,16 +4,16 @@ use Rattle.words.proofs.Bytes.{none_left, two}
 use Rattle.words.proofs.short_at.Statement.{statement}
 use Rattle.words.proofs.short_at.Tie as tie
 
-past : tie.Need-returns
+past : tie.Need-returns-then-bytes-i
 past c =
-    let a = c.before.before.args in
+    let a = c.args in
     none_left a.bytes.now a.i 2 (omega arith)
 
-returns : tie.Need-returns-2
+returns : tie.Need-returns
 returns c =
-    let a = c.before.before.before.before.args in
-    let low = c.before.byte_at in
-    let high = c.byte-at2 in
+    let a = c.args in
+    let low = c.byte_at-low in
+    let high = c.byte_at-high in
     (two a.bytes.now a.i low.result high.result low.ensures.0 high.ensures.0, omega arith)
 
 pub short_at_spec : {M : Type 1} → statement M

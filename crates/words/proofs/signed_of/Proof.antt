@@ -21,11 +21,11 @@ negative v l h =
           (ap negsuc (omega arith)),
     )
 
-sub_result_3 : tie.Need-overflow-sub-result-3
-sub_result_3 c = record { sfits = (negative c.before.args.v c.if1.false c.before.ranges.v.fits).0 }
+sub_result_3 : tie.Need-overflow_sub-result-else-v-lt9223372036854775808-2
+sub_result_3 c = record { sfits = (negative c.args.v c.if-v-lt9223372036854775808.false c.ranges.v.fits).0 }
 
-returns_2 : tie.Need-returns-2
-returns_2 c = (negative c.before.args.v c.if1.false c.before.ranges.v.fits).1
+returns_2 : tie.Need-returns-else-v-lt9223372036854775808
+returns_2 c = (negative c.args.v c.if-v-lt9223372036854775808.false c.ranges.v.fits).1
 
 pub signed_of_spec : {M : Type 1} → statement M
 signed_of_spec =

@@ -6,8 +6,8 @@ use Rattle.words.proofs.whole_at.Tie as tie
 
 returns : tie.Need-returns
 returns c =
-    eight c.before.before.before.args.bytes.now c.before.before.before.args.i
-    c.before.half_at.result c.half-at2.result c.before.half_at.ensures.0 c.half-at2.ensures.0
+    eight c.args.bytes.now c.args.i
+    c.half_at-low.result c.half_at-high.result c.half_at-low.ensures.0 c.half_at-high.ensures.0
 
 pub whole_at_spec : {M : Type 1} → statement M
 whole_at_spec =

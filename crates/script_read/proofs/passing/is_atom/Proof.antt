@@ -6,19 +6,19 @@ use Rattle.script_read.proofs.Atoms.{number_goes, name_goes}
 use Rattle.script_read.proofs.passing.is_atom.Statement.{statement}
 use Rattle.script_read.proofs.passing.is_atom.Tie as tie
 
-returns_2 : tie.Need-returns-2
+returns_2 : tie.Need-returns-in-Number
 returns_2 c h =
-    let a = c.before.before.before.before.before.before.args in
-    let atom = c.before.before.atom_at in
-    number_goes a.kinds.now a.operands.now a.at a.levels c.before.before.before.if1.false
-    (subst (AtomSeen a.kinds.now a.operands.now a.at) c.enum_told.given.1 atom.ensures)
+    let a = c.args in
+    let atom = c.atom_at in
+    number_goes a.kinds.now a.operands.now a.at a.levels c.if-levels-eq0.false
+    (subst (AtomSeen a.kinds.now a.operands.now a.at) c.in-Number.is atom.ensures)
 
-returns_3 : tie.Need-returns-3
+returns_3 : tie.Need-returns-in-Name
 returns_3 c h =
-    let a = c.before.before.before.before.before.before.args in
-    let atom = c.before.before.atom_at in
-    name_goes a.kinds.now a.operands.now a.at a.levels c.before.before.before.if1.false _
-    (subst (AtomSeen a.kinds.now a.operands.now a.at) c.enum-told2.given.1 atom.ensures)
+    let a = c.args in
+    let atom = c.atom_at in
+    name_goes a.kinds.now a.operands.now a.at a.levels c.if-levels-eq0.false _
+    (subst (AtomSeen a.kinds.now a.operands.now a.at) c.in-Name.is atom.ensures)
 
 pub is_atom_spec : {M : Type 1} → statement M
 is_atom_spec =
