@@ -39,30 +39,30 @@ tree_claims t = (form-line-reads.Asked, form-line-reads.Learnt, form_trees_below
 abbrev trees_claims : ℕ → form-trees-lts.Claims
 trees_claims t = (form_tree_below t, form-tree.Post)
 
-abbrev form_tree_Inv_loop : form-tree-lts.invariant_loop
+abbrev form_tree_Inv_loop : form-tree-lts.invariant-loop-p
 form_tree_Inv_loop kinds operands arities over at levels p₀ p =
     Going (length kinds) (λ n. tree_passed kinds operands over n levels) at p
 
-abbrev form_tree_μ_loop : form-tree-lts.decreases_loop
+abbrev form_tree_μ_loop : form-tree-lts.decreases-loop-p
 form_tree_μ_loop kinds operands arities over at levels p₀ p = length kinds - p
 
 -- what is to be shown at a point of `form_tree`
 module _ (t : ℕ) where
   abbrev Tree : (form-tree-lts.Claims → In 3 form-tree-lts.ps → Out 3 form-tree-lts.ps form-tree-lts.r →
-      form-tree-lts.invariant_loop → form-tree-lts.decreases_loop → Type 0) → Type 0
+      form-tree-lts.invariant-loop-p → form-tree-lts.decreases-loop-p → Type 0) → Type 0
   Tree P = P (tree_claims t) (form_tree_at t) form-tree.Post form_tree_Inv_loop form_tree_μ_loop
 
-  form_tree_returns : Tree form-tree-lts.Need-returns
+  form_tree_returns : Tree form-tree-lts.Need-returns-then-levels-eq0
   form_tree_returns c =
       let start = c.before.before in
       let a = start.args in
       none_left a.kinds.now a.operands.now start.requires.1.lined.even a.over a.levels a.at
-      c.if1.true
+      c.if-levels-eq0.true
 
-  form_tree_loop_holds : Tree form-tree-lts.Need-loop-init
+  form_tree_loop_holds : Tree form-tree-lts.Need-loop-p-init
   form_tree_loop_holds c = going_starts _ _ _
 
-  form_tree_returns_2 : Tree form-tree-lts.Need-returns-2
+  form_tree_returns_2 : Tree form-tree-lts.Need-returns-then-trees-eq-ENDS
   form_tree_returns_2 c =
       let at-q = c.before.before in
       let at-form-line = at-q.before.before in
@@ -74,9 +74,9 @@ module _ (t : ℕ) where
       let line = at-form-line.form-line in
       walk_ends a.kinds.now a.operands.now start.requires.1.lined.even a.over a.levels a.at _
       at-loop.loop.invariant at-if1.if1.false at_test.loop-test.true line.result line.ensures _ _
-      at-q.q.given.1 c.if2.true
+      at-q.q.given.1 c.if-trees-eq-ENDS.true
 
-  form_tree_loop_less : Tree form-tree-lts.Need-loop-smaller
+  form_tree_loop_less : Tree form-tree-lts.Need-loop-p-smaller-then-trees-eq0
   form_tree_loop_less c =
       let at-q = c.before.before.before in
       let at-form-line = at-q.before.before in
@@ -94,7 +94,7 @@ module _ (t : ℕ) where
             line.result line.ensures _ _ at-q.q.given.1,
       )
 
-  form_tree_loop_again : Tree form-tree-lts.Need-loop-preserved
+  form_tree_loop_again : Tree form-tree-lts.Need-loop-p-preserved-then-trees-eq0
   form_tree_loop_again c =
       let at-q = c.before.before.before in
       let at-form-line = at-q.before.before in
@@ -106,9 +106,9 @@ module _ (t : ℕ) where
       let line = at-form-line.form-line in
       walk_on a.kinds.now a.operands.now start.requires.1.lined.even a.over a.levels a.at _
       at-loop.loop.invariant at-if1.if1.false at_test.loop-test.true line.result line.ensures _ _
-      at-q.q.given.1 c.if3.true
+      at-q.q.given.1 c.if-trees-eq0.true
 
-  form_tree_form_trees_requires : Tree form-tree-lts.Need-form-trees-requires
+  form_tree_form_trees_requires : Tree form-tree-lts.Need-form_trees-requires
   form_tree_form_trees_requires c κs =
       let at-q = c.before.before.before in
       let at-form-line = at-q.before.before in
@@ -120,10 +120,10 @@ module _ (t : ℕ) where
       let line = at-form-line.form-line in (
         omega (arith, start.requires.0, at-if1.if1.false),
         (
-          omega (arith, c.if3.false),
+          omega (arith, c.if-trees-eq0.false),
           omega (
             arith,
-            c.before.if2.false,
+            c.if-trees-eq-ENDS.false,
             trees_are a.kinds.now a.operands.now start.requires.1.lined.even
                 a.over a.levels a.at _ at-loop.loop.invariant at-if1.if1.false at_test.loop-test.true
                 line.result line.ensures _ _ at-q.q.given.1,
@@ -132,7 +132,7 @@ module _ (t : ℕ) where
         ),
       )
 
-  form_tree_loop_less_2 : Tree form-tree-lts.Need-loop-smaller-2
+  form_tree_loop_less_2 : Tree form-tree-lts.Need-loop-p-smaller
   form_tree_loop_less_2 c =
       let at-form-trees = c.before.before.before in
       let at-q = at-form-trees.before.before.before.before in
@@ -151,10 +151,10 @@ module _ (t : ℕ) where
             a.over a.levels a.at _ at-loop.loop.invariant at-if1.if1.false at_test.loop-test.true
             line.result line.ensures _ _ at-q.q.given.1,
         risen _ read.result _ read.ensures.rises
-            c.before.r.given.1,
+            c.r-1.given.1,
       )
 
-  form_tree_loop_again_2 : Tree form-tree-lts.Need-loop-preserved-2
+  form_tree_loop_again_2 : Tree form-tree-lts.Need-loop-p-preserved
   form_tree_loop_again_2 c =
       let at-form-trees = c.before.before.before in
       let at-if2 = at-form-trees.before.before in
@@ -169,9 +169,9 @@ module _ (t : ℕ) where
       walk_past_trees a.kinds.now a.operands.now start.requires.1.lined.even a.over a.levels a.at _
       at-loop.loop.invariant at-if1.if1.false at_test.loop-test.true line.result line.ensures _ _
       at-q.q.given.1 at-form-trees.form-trees.result at-form-trees.form-trees.ensures at-if2.if2.false _
-      c.before.r.given.1
+      c.r-1.given.1
 
-  form_tree_returns_3 : Tree form-tree-lts.Need-returns-3
+  form_tree_returns_3 : Tree form-tree-lts.Need-returns-in-Fault
   form_tree_returns_3 c =
       let at-form-trees = c.before.before.before in
       let at-if2 = at-form-trees.before.before in
@@ -186,9 +186,9 @@ module _ (t : ℕ) where
       walk_stops a.kinds.now a.operands.now start.requires.1.lined.even a.over a.levels a.at _
       at-loop.loop.invariant at-if1.if1.false at_test.loop-test.true line.result line.ensures _ _
       at-q.q.given.1 at-form-trees.form-trees.result at-form-trees.form-trees.ensures at-if2.if2.false _
-      c.before.r2.given.1
+      c.r-in-Fault-1.given.1
 
-  form_tree_returns_4 : Tree form-tree-lts.Need-returns-4
+  form_tree_returns_4 : Tree form-tree-lts.Need-returns-in-Failed
   form_tree_returns_4 c =
       let at-form-line = c.before.before.before in
       let at_test = at-form-line.before in
@@ -199,14 +199,14 @@ module _ (t : ℕ) where
       let line = at-form-line.form-line in
       walk_fails a.kinds.now a.operands.now start.requires.1.lined.even a.over a.levels a.at _
       at-loop.loop.invariant at-if1.if1.false at_test.loop-test.true line.result line.ensures _
-      c.before.q2.given.1
+      c.q-in-Failed-1.given.1
 
-  form_tree_returns_5 : Tree form-tree-lts.Need-returns-5
+  form_tree_returns_5 : Tree form-tree-lts.Need-returns
   form_tree_returns_5 c =
       let start = c.before.before.before.before in
       let a = start.args in
       walk_past a.kinds.now a.operands.now start.requires.1.lined.even a.over a.levels a.at _
-      c.before.loop.invariant (omega (arith, c.loop-test.false))
+      c.loop-p.invariant (omega (arith, c.loop-p-test.false))
 
 -- what is to be shown at a point of `form_trees`
 module _ (t : ℕ) where
@@ -214,35 +214,35 @@ module _ (t : ℕ) where
       Type 0
   Trees P = P (trees_claims t) (form_trees_at t) form-trees.Post
 
-  form_trees_returns : Trees form-trees-lts.Need-returns
+  form_trees_returns : Trees form-trees-lts.Need-returns-then-trees-eq1
   form_trees_returns c =
       let at-q = c.before.before in
       let at-form-tree = at-q.before.before in
       let start = at-form-tree.before.before in
       let a = start.args in
       one_tree _ _ a.at at-form-tree.form-tree.result at-form-tree.form-tree.ensures a.trees _
-      at-q.q.given.1 c.if1.true
+      at-q.q.given.1 c.if-trees-eq1.true
 
-  form_trees_returns_2 : Trees form-trees-lts.Need-returns-2
+  form_trees_returns_2 : Trees form-trees-lts.Need-returns-else-trees-eq1
   form_trees_returns_2 c =
       let at-q = c.before.before.before in
       let at-form-tree = at-q.before.before in
       let start = at-form-tree.before.before in
       let a = start.args in
       two_trees _ _ a.at at-form-tree.form-tree.result at-form-tree.form-tree.ensures a.trees _
-      at-q.q.given.1 (omega (arith, c.before.if1.false, start.requires.1)) c.form-tree2.result
-      c.form-tree2.ensures
+      at-q.q.given.1 (omega (arith, c.if-trees-eq1.false, start.requires.1)) c.form_tree-in-Next.result
+      c.form_tree-in-Next.ensures
 
-  form_trees_returns_3 : Trees form-trees-lts.Need-returns-3
+  form_trees_returns_3 : Trees form-trees-lts.Need-returns-in-Fault
   form_trees_returns_3 c =
       let at-form-tree = c.before.before.before in
       let start = at-form-tree.before.before in
       let a = start.args in
       no_tree _ _ a.at at-form-tree.form-tree.result at-form-tree.form-tree.ensures a.trees _
-      c.before.q2.given.1 (omega (arith, start.requires.1))
+      c.q-in-Fault-1.given.1 (omega (arith, start.requires.1))
 
-pub +form-tree-form-trees-spec : {M : Type 1} → statement M
-+form-tree-form-trees-spec =
+pub +form_tree_form_trees_spec : {M : Type 1} → statement M
++form_tree_form_trees_spec =
     close μ_form_tree μ_form_trees
     (λ t. form-tree-lts.spec (tree_claims t) (form_tree_at t) form-tree.Post form_tree_Inv_loop form_tree_μ_loop
     (form_tree_returns t) (form_tree_loop_holds t) (λ c κs. search rules) (λ c. search rules) (form_tree_returns_2 t)

@@ -6,67 +6,67 @@ use Rattle.lent_form.proofs.Forming.{function_found, function_faulty, going}
 use Rattle.lent_form.proofs.form_functions.Statement.{statement}
 use Rattle.lent_form.proofs.form_functions.Tie as tie
 
-abbrev invariant_loop : tie.invariant_loop
+abbrev invariant_loop : tie.invariant-loop-f
 invariant_loop kinds operands arities over starts₀ p₀ f₀ starts p f =
     Forming (paired kinds operands) (arities_of (paired kinds operands)) over starts f p
 
-abbrev decreases_loop : tie.decreases_loop
+abbrev decreases_loop : tie.decreases-loop-f
 decreases_loop kinds operands arities over starts₀ p₀ f₀ starts p f = 32 - f
 
-loop_holds : tie.Need-loop-init invariant_loop decreases_loop
-loop_holds c = forming_starts _ _ _ _ c.before.requires.1
+loop_holds : tie.Need-loop-f-init invariant_loop decreases_loop
+loop_holds c = forming_starts _ _ _ _ c.requires.1
 
-element_write_starts : tie.Need-element-write-starts invariant_loop decreases_loop
-element_write_starts c = omega (arith, c.before.loop.invariant.long)
+element_write_starts : tie.Need-bounds-starts-f invariant_loop decreases_loop
+element_write_starts c = omega (arith, c.loop-f.invariant.long)
 
-returns : tie.Need-returns invariant_loop decreases_loop
+returns : tie.Need-returns-in-Fault invariant_loop decreases_loop
 returns c =
-    let at-form-function = c.before.before.before in
+    let at-form-function = c.before in
     let at_test = at-form-function.before in
     let at-loop = at_test.before in
     let start = at-loop.before.before in
     let a = start.args in
-    let loop = at-loop.loop in
-    let read = at-form-function.form-function in
-    stops_at _ _ _ _ _ _ loop.invariant at_test.loop-test.true _ (function_faulty a.kinds.now a.operands.now
-    a.over loop.p read.result read.ensures _ c.before.q2.given.1)
+    let loop = at-loop.loop-f in
+    let read = at-form-function.form_function in
+    stops_at _ _ _ _ _ _ loop.invariant at_test.loop-f-test.true _ (function_faulty a.kinds.now a.operands.now
+    a.over loop.p read.result read.ensures _ c.in-Fault.is)
 
-returns_2 : tie.Need-returns-2 invariant_loop decreases_loop
+returns_2 : tie.Need-returns-then-not-goes_on invariant_loop decreases_loop
 returns_2 c =
-    let at-q = c.before.before.before in
-    let at-form-function = at-q.before.before in
+    let at-q = c.before.before in
+    let at-form-function = at-q.before in
     let at_test = at-form-function.before in
     let at-loop = at_test.before in
     let start = at-loop.before.before in
     let a = start.args in
-    let loop = at-loop.loop in
-    let read = at-form-function.form-function in
+    let loop = at-loop.loop-f in
+    let read = at-form-function.form_function in
     let found = function_found a.kinds.now a.operands.now a.over loop.p read.result read.ensures _
-    at-q.q.given.1 in
-    ends_here _ _ _ _ _ _ loop.invariant at_test.loop-test.true found.0 _ found.1 (going a.kinds.now
-    a.operands.now start.requires.0.lined.even a.over _ _ c.before.goes_on.ensures _
-    (not-true _ c.if1.true))
+    at-q.in-Next.is in
+    ends_here _ _ _ _ _ _ loop.invariant at_test.loop-f-test.true found.0 _ found.1 (going a.kinds.now
+    a.operands.now start.requires.0.lined.even a.over _ _ c.goes_on.ensures _
+    c.if-not-goes_on.true)
 
-loop_again : tie.Need-loop-preserved invariant_loop decreases_loop
+loop_again : tie.Need-loop-f-preserved invariant_loop decreases_loop
 loop_again c =
-    let at-q = c.before.before.before in
-    let at-form-function = at-q.before.before in
+    let at-q = c.before.before in
+    let at-form-function = at-q.before in
     let at_test = at-form-function.before in
     let at-loop = at_test.before in
     let start = at-loop.before.before in
     let a = start.args in
-    let loop = at-loop.loop in
-    let read = at-form-function.form-function in
+    let loop = at-loop.loop-f in
+    let read = at-form-function.form_function in
     let found = function_found a.kinds.now a.operands.now a.over loop.p read.result read.ensures _
-    at-q.q.given.1 in
-    forms_more _ _ _ _ _ _ loop.invariant at_test.loop-test.true found.0 _ found.1 (going a.kinds.now
-    a.operands.now start.requires.0.lined.even a.over _ _ c.before.goes_on.ensures _
-    (not-false _ c.if1.false))
+    at-q.in-Next.is in
+    forms_more _ _ _ _ _ _ loop.invariant at_test.loop-f-test.true found.0 _ found.1 (going a.kinds.now
+    a.operands.now start.requires.0.lined.even a.over _ _ c.goes_on.ensures _
+    c.if-not-goes_on.false)
 
-returns_3 : tie.Need-returns-3 invariant_loop decreases_loop
+returns_3 : tie.Need-returns invariant_loop decreases_loop
 returns_3 c =
     let at-loop = c.before in
-    too_many _ _ _ _ _ _ at-loop.loop.invariant (omega (arith, c.loop-test.false, at-loop.loop.invariant.most))
+    too_many _ _ _ _ _ _ at-loop.loop-f.invariant (omega (arith, c.loop-f-test.false, at-loop.loop-f.invariant.most))
 
 pub form_functions_spec : {M : Type 1} → statement M
 form_functions_spec =

@@ -6,50 +6,50 @@ use Rattle.lent_form.proofs.Functions.{parameter_fails}
 use Rattle.lent_form.proofs.form_parameters.Statement.{statement}
 use Rattle.lent_form.proofs.form_parameters.Tie as tie
 
-abbrev invariant_loop : tie.invariant_loop
+abbrev invariant_loop : tie.invariant-loop-left
 invariant_loop kinds operands over at count p₀ left₀ p left =
     (left ≤ 255)
     × (repeated count (parameter_passed kinds operands over) at ≡ repeated left
     (parameter_passed kinds operands over) p)
 
-abbrev decreases_loop : tie.decreases_loop
+abbrev decreases_loop : tie.decreases-loop-left
 decreases_loop kinds operands over at count p₀ left₀ p left = left
 
-returns : tie.Need-returns invariant_loop decreases_loop
+returns : tie.Need-returns-in-Unfit invariant_loop decreases_loop
 returns c =
-    let at-form-head = c.before.before.before in
+    let at-form-head = c.before in
     let at_test = at-form-head.before in
     let at-loop = at_test.before in
     let start = at-loop.before.before in
     let a = start.args in
-    let loop = at-loop.loop in
-    let head = at-form-head.form-head in
+    let loop = at-loop.loop-left in
+    let head = at-form-head.form_head in
     repeated_stops (parameter_passed a.kinds.now a.operands.now a.over) a.count loop.left a.at
-    loop.p loop.invariant.1 at_test.loop-test.true _ (parameter_fails a.kinds.now a.operands.now
-    a.over loop.p head.result head.ensures _ c.before.q2.given.1)
+    loop.p loop.invariant.1 at_test.loop-left-test.true _ (parameter_fails a.kinds.now a.operands.now
+    a.over loop.p head.result head.ensures _ c.in-Unfit.is)
 
-loop_again : tie.Need-loop-preserved invariant_loop decreases_loop
+loop_again : tie.Need-loop-left-preserved invariant_loop decreases_loop
 loop_again c =
-    let at-form-head = c.before.before.before in
+    let at-form-head = c.before in
     let at_test = at-form-head.before in
     let at-loop = at_test.before in
     let start = at-loop.before.before in
     let a = start.args in
-    let loop = at-loop.loop in
-    let head = at-form-head.form-head in (
+    let loop = at-loop.loop-left in
+    let head = at-form-head.form_head in (
       omega (arith, loop.invariant.0),
       repeated_goes (parameter_passed a.kinds.now a.operands.now a.over) a.count loop.left a.at
-          loop.p loop.invariant.1 at_test.loop-test.true _ (parameter_fits a.kinds.now a.operands.now
-          a.over loop.p head.result head.ensures _ _ c.before.q.given.1),
+          loop.p loop.invariant.1 at_test.loop-left-test.true _ (parameter_fits a.kinds.now a.operands.now
+          a.over loop.p head.result head.ensures _ _ c.in-Fits.is),
     )
 
-returns_2 : tie.Need-returns-2 invariant_loop decreases_loop
+returns_2 : tie.Need-returns invariant_loop decreases_loop
 returns_2 c =
     let start = c.before.before.before in
     let a = start.args in
-    let loop = c.before.loop in
+    let loop = c.loop-left in
     repeated_none (parameter_passed a.kinds.now a.operands.now a.over) a.count loop.left a.at
-    loop.p loop.invariant.1 (omega (arith, c.loop-test.false))
+    loop.p loop.invariant.1 (omega (arith, c.loop-left-test.false))
 
 pub form_parameters_spec : {M : Type 1} → statement M
 form_parameters_spec =

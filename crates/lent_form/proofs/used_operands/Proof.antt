@@ -6,42 +6,42 @@ use Rattle.lent_form.proofs.Whole.{used_zero, used_here, used_none, used_all, ze
 use Rattle.lent_form.proofs.used_operands.Statement.{statement}
 use Rattle.lent_form.proofs.used_operands.Tie as tie
 
-abbrev invariant_loop : tie.invariant_loop
+abbrev invariant_loop : tie.invariant-loop-n
 invariant_loop operands n₀ n = (n ≤ length operands) × (used is_zero operands ≡ used is_zero (take n operands))
 
-abbrev decreases_loop : tie.decreases_loop
+abbrev decreases_loop : tie.decreases-loop-n
 decreases_loop operands n₀ n = n
 
-returns : tie.Need-returns invariant_loop decreases_loop
+returns : tie.Need-returns-then-operands-n-ne0 invariant_loop decreases_loop
 returns c =
     let at_test = c.before.before in
     let at-loop = at_test.before in
     let start = at-loop.before in
-    let loop = at-loop.loop in
+    let loop = at-loop.loop-n in
     sym (loop.invariant.1
-    ∙ used_here is_zero (pos 0) _ loop.n at_test.loop-test.true loop.invariant.0
-    (other_word (get_or start.args.operands.now (loop.n - 1) (pos 0)) c.if1.true))
+    ∙ used_here is_zero (pos 0) _ loop.n at_test.loop-n-test.true loop.invariant.0
+    (other_word (get_or start.args.operands.now (loop.n - 1) (pos 0)) c.if-operands-n-ne0.true))
 
-loop_again : tie.Need-loop-preserved invariant_loop decreases_loop
+loop_again : tie.Need-loop-n-preserved invariant_loop decreases_loop
 loop_again c =
     let at_test = c.before.before in
     let at-loop = at_test.before in
     let start = at-loop.before in
-    let loop = at-loop.loop in (
+    let loop = at-loop.loop-n in (
       omega (arith, loop.invariant.0),
       loop.invariant.1
-          ∙ used_zero is_zero (pos 0) _ loop.n at_test.loop-test.true loop.invariant.0 (zero_word
-          (get_or start.args.operands.now (loop.n - 1) (pos 0)) c.before.if12.given c.if1.false),
+          ∙ used_zero is_zero (pos 0) _ loop.n at_test.loop-n-test.true loop.invariant.0 (zero_word
+          (get_or start.args.operands.now (loop.n - 1) (pos 0)) c.t7-1.given c.if-operands-n-ne0.false),
     )
 
-returns_2 : tie.Need-returns-2 invariant_loop decreases_loop
+returns_2 : tie.Need-returns invariant_loop decreases_loop
 returns_2 c =
     let at-loop = c.before in
-    sym (at-loop.loop.invariant.1 ∙ used_none is_zero _ at-loop.loop.n (omega (arith, c.loop-test.false)))
+    sym (at-loop.loop-n.invariant.1 ∙ used_none is_zero _ at-loop.loop-n.n (omega (arith, c.loop-n-test.false)))
 
 pub used_operands_spec : {M : Type 1} → statement M
 used_operands_spec =
     tie.close
     (tie.spec invariant_loop decreases_loop (λ c. (omega arith, used_all is_zero _)) (λ c. search rules) (λ c. search rules)
-    (λ c. omega (arith, c.before.loop.invariant.0, c.loop-test.true)) returns (λ c. search rules)
+    (λ c. omega (arith, c.loop-n.invariant.0, c.loop-n-test.true)) returns (λ c. search rules)
     (λ c. search rules) loop_again returns_2)

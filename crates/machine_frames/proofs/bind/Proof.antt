@@ -4,8 +4,8 @@ use Rattle.machine_frames.proofs.bind.Statement.{statement}
 use Rattle.machine_frames.proofs.bind.Tie as tie
 
 returns : tie.Need-returns
-returns c = rw (to_z-of_z {z = c.before.args.w} c.before.ranges.w)
-    (ap (λ (n : ℕ). set c.before.args.env.now n c.before.args.w) c.place.ensures.0)
+returns c = rw (to_z-of_z {z = c.args.w} c.ranges.w)
+    (ap (λ (n : ℕ). set c.args.env.now n c.args.w) c.place.ensures.0)
 
 pub bind_spec : {M : Type 1} → statement M
 bind_spec = tie.close (tie.spec (λ c κs. search rules) (λ c. search rules) (λ c. search rules) returns)

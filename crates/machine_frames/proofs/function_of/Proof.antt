@@ -5,9 +5,9 @@ use Rattle.machine_frames.proofs.function_of.Tie as tie
 
 returns : tie.Need-returns
 returns c =
-    let a = c.before.before.args in
+    let a = c.args in
     ap (λ (n : ℕ). n % 256) (rw (to_z-of_z {z = get_or a.env.now (8192 + a.calls) (pos 0)}
-    (record { sfits = c.before.low-bits-arg.given })) at c.low_bits.ensures)
+    (record { sfits = c.low_bits-arg-1.given })) at c.low_bits.ensures)
 
 pub function_of_spec : {M : Type 1} → statement M
 function_of_spec =

@@ -6,14 +6,14 @@ use Rattle.machine_frames.proofs.lowest.Statement.{statement}
 use Rattle.machine_frames.proofs.lowest.Tie as tie
 
 -- the word that is read, and its bound
-read : (c : tie.After-low-bits) → let env = c.before.before.args.env.now in c.low_bits.result ≡ lowest_of env
-read c = rw (to_z-of_z {z = get_or c.before.before.args.env.now 8225 (pos 0)}
-    (record { sfits = c.before.low-bits-arg.given })) at c.low_bits.ensures
+read : (c : tie.After-low_bits) → let env = c.args.env.now in c.low_bits.result ≡ lowest_of env
+read c = rw (to_z-of_z {z = get_or c.args.env.now 8225 (pos 0)}
+    (record { sfits = c.low_bits-arg-1.given })) at c.low_bits.ensures
 
-few : (c : tie.After-low-bits) → c.low_bits.result < 16777216
-few c = omega (arith, read c, low_few (get_or c.before.before.args.env.now 8225 (pos 0)))
+few : (c : tie.After-low_bits) → c.low_bits.result < 16777216
+few c = omega (arith, read c, low_few (get_or c.args.env.now 8225 (pos 0)))
 
-cast_result : tie.Need-overflow-cast-result
+cast_result : tie.Need-overflow_cast-result
 cast_result c = record { fits = omega (arith, few c) }
 
 returns : tie.Need-returns

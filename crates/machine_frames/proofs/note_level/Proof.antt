@@ -4,20 +4,20 @@ use Rattle.machine_frames.proofs.Levels.{noted_lower, noted_higher}
 use Rattle.machine_frames.proofs.note_level.Statement.{statement}
 use Rattle.machine_frames.proofs.note_level.Tie as tie
 
-returns : tie.Need-returns
+returns : tie.Need-returns-then-n-least
 returns c =
     let start = c.before.before.before in
-    let least = c.before.lowest in
+    let least = c.lowest-least in
     rw (lt-ltb start.args.n (2 ^ 63) (omega (arith, start.ranges.n)))
-    (noted_lower start.args.n least.result start.args.env.now least.ensures.0 c.if1.true)
+    (noted_lower start.args.n least.result start.args.env.now least.ensures.0 c.if-n-least.true)
 
-returns_2 : tie.Need-returns-2
+returns_2 : tie.Need-returns-else-n-least
 returns_2 c =
     let start = c.before.before.before in
-    let least = c.before.lowest in
+    let least = c.lowest-least in
     rw (lt-ltb start.args.n (2 ^ 63) (omega (arith, start.ranges.n)))
     (noted_higher start.args.n least.result start.args.env.now least.ensures.0
-    (omega (arith, c.if1.false)))
+    (omega (arith, c.if-n-least.false)))
 
 pub note_level_spec : {M : Type 1} → statement M
 note_level_spec =

@@ -5,71 +5,71 @@ use Rattle.machine_frames.proofs.Gathering.{copied_full}
 use Rattle.machine_frames.proofs.pass_arguments.Statement.{statement}
 use Rattle.machine_frames.proofs.pass_arguments.Tie as tie
 
-abbrev invariant_loop : tie.invariant_loop
+abbrev invariant_loop : tie.invariant-loop-i
 invariant_loop kinds operands env₀ calls at names count i₀ env i =
     Copying kinds operands calls (calls - 1) at names count env₀ env i
 
-abbrev decreases_loop : tie.decreases_loop
+abbrev decreases_loop : tie.decreases-loop-i
 decreases_loop kinds operands env₀ calls at names count i₀ env i = 8 - i
 
-returns : tie.Need-returns invariant_loop decreases_loop
-returns c = let a = c.before.before.args in
+returns : tie.Need-returns-then-kinds-at invariant_loop decreases_loop
+returns c = let a = c.args in
     none_read a.kinds.now a.operands.now a.calls (a.calls - 1) a.at a.names a.count a.env.now
-    c.if1.true
+    c.if-kinds-at.true
 
-returns_2 : tie.Need-returns-2 invariant_loop decreases_loop
-returns_2 c = let a = c.before.before.before.args in
+returns_2 : tie.Need-returns-then-kinds-names invariant_loop decreases_loop
+returns_2 c = let a = c.args in
     none_named a.kinds.now a.operands.now a.calls (a.calls - 1) a.at a.names a.count a.env.now
-    (omega (arith, c.before.if1.false)) c.if2.true
+    (omega (arith, c.if-kinds-at.false)) c.if-kinds-names.true
 
-loop_holds : tie.Need-loop-init invariant_loop decreases_loop
-loop_holds c = let a = c.before.before.before.args in
+loop_holds : tie.Need-loop-i-init invariant_loop decreases_loop
+loop_holds c = let a = c.args in
     copying_none a.kinds.now a.operands.now a.calls (a.calls - 1) a.at a.names a.count
-    a.env.now (omega (arith, c.before.if1.false)) (omega (arith, c.if2.false))
+    a.env.now (omega (arith, c.if-kinds-at.false)) (omega (arith, c.if-kinds-names.false))
 
-returns_3 : tie.Need-returns-3 invariant_loop decreases_loop
-returns_3 c = copied_all c.before.before.loop.invariant c.if3.true
+returns_3 : tie.Need-returns-then-i-count invariant_loop decreases_loop
+returns_3 c = copied_all c.loop-i.invariant c.if-i-count.true
 
-atom_within_requires : tie.Need-atom-within-requires invariant_loop decreases_loop
+atom_within_requires : tie.Need-atom_within-a-requires invariant_loop decreases_loop
 atom_within_requires c κs =
     let turn = c.before.before in
     let at-if1 = turn.before.before in (
-      omega (arith, c.if3.false, turn.loop.invariant.few, at-if1.if1.false),
-      omega (arith, c.if3.false, turn.loop.invariant.few, at-if1.if1.false, at-if1.before.before.requires),
+      omega (arith, c.if-i-count.false, turn.loop-i.invariant.few, at-if1.if-kinds-at.false),
+      omega (arith, c.if-i-count.false, turn.loop-i.invariant.few, at-if1.if-kinds-at.false, at-if1.requires),
     )
 
-word_of_requires : tie.Need-word-of-requires invariant_loop decreases_loop
-word_of_requires c κs = search (rules, c.before.before.before.before.loop.invariant.long)
+word_of_requires : tie.Need-word_of-w-requires invariant_loop decreases_loop
+word_of_requires c κs = search (rules, c.loop-i.invariant.long)
 
-name_within_requires : tie.Need-name-within-requires invariant_loop decreases_loop
+name_within_requires : tie.Need-name_within-x-requires invariant_loop decreases_loop
 name_within_requires c κs =
     let at-if3 = c.before.before.before in
     let turn = at-if3.before.before in
     let start = turn.before.before.before.before in
-    omega (arith, at-if3.if3.false, turn.loop.invariant.few, turn.before.if2.false, start.requires)
+    omega (arith, at-if3.if-i-count.false, turn.loop-i.invariant.few, turn.if-kinds-names.false, start.requires)
 
-element_set_from_w : tie.Need-element-set-from-w invariant_loop decreases_loop
+element_set_from_w : tie.Need-bounds-env-calls invariant_loop decreases_loop
 element_set_from_w c =
     let turn = c.before.before.before.before.before.before in
-    omega (arith, c.name-within.type-inv, turn.loop.invariant.long, turn.before.before.before.before.requires)
+    omega (arith, c.name_within-x.type_inv, turn.loop-i.invariant.long, turn.requires)
 
-loop_again : tie.Need-loop-preserved invariant_loop decreases_loop
+loop_again : tie.Need-loop-i-preserved invariant_loop decreases_loop
 loop_again c =
     let at-word-of = c.before in
     let at-if3 = at-word-of.before.before.before in
     let turn = at-if3.before.before in
     let start = turn.before.before.before.before in
     let pre = start.requires in
-    let word = at-word-of.word_of in
-    let atom = at-word-of.before.before.atom-within in
-    let x = c.name-within.result in
-    rw (to_z-of_z {z = word.result} (record { sfits = word.type-inv })) (copying_more turn.loop.invariant
-    at-if3.before.loop-test.true at-if3.if3.false (omega (arith, pre.3)) pre.4 atom.result
-    word.result atom.ensures word.ensures x (256 * start.args.calls + x - 256) c.name-within.ensures
+    let word = at-word-of.word_of-w in
+    let atom = at-word-of.atom_within-a in
+    let x = c.name_within-x.result in
+    rw (to_z-of_z {z = word.result} (record { sfits = word.type_inv })) (copying_more turn.loop-i.invariant
+    at-if3.loop-i-test.true at-if3.if-i-count.false (omega (arith, pre.3)) pre.4 atom.result
+    word.result atom.ensures word.ensures x (256 * start.args.calls + x - 256) c.name_within-x.ensures
     (omega (arith, pre.3)))
 
-returns_4 : tie.Need-returns-4 invariant_loop decreases_loop
-returns_4 c = copied_full c.before.loop.invariant (omega arith)
+returns_4 : tie.Need-returns invariant_loop decreases_loop
+returns_4 c = copied_full c.loop-i.invariant (omega arith)
 
 pub pass_arguments_spec : {M : Type 1} → statement M
 pass_arguments_spec =

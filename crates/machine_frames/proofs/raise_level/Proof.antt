@@ -7,7 +7,7 @@ use Rattle.machine_frames.proofs.raise_level.Tie as tie
 returns : tie.Need-returns
 returns c =
     let start = c.before.before in
-    let level = c.level in
+    let level = c.level-n in
     raised_by level.result start.args.freed start.args.env.now level.ensures.0
     (omega (arith, level.ensures.1, start.ranges.freed))
 

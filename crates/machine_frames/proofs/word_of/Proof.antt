@@ -4,17 +4,17 @@ use Rattle.machine_frames.specs.Frames.{word_of}
 use Rattle.machine_frames.proofs.word_of.Statement.{statement}
 use Rattle.machine_frames.proofs.word_of.Tie as tie
 
-returns : tie.Need-returns
+returns : tie.Need-returns-in-Number
 returns c =
-    let a = c.before.before.before.args in
-    rw (to_z-of_z {z = c.before.a.given.0.0} (record { sfits = c.known-told.given.0.1 })) (ap (word_of a.calls
-    a.env.now) (sym c.before.a.given.1))
+    let a = c.args in
+    rw (to_z-of_z {z = c.in-Number.z} (record { sfits = c.in-Number.known_told-1-own.given.0.1 })) (ap (word_of a.calls
+    a.env.now) (sym c.in-Number.is))
 
-returns_2 : tie.Need-returns-2
-returns_2 c = let a = c.before.before.before.before.before.args in
-    rw (to_z-of_z {z = get_or a.env.now c.before.place.result (pos 0)} (record { sfits = c.result.given }))
-    (ap (λ (n : ℕ). get_or a.env.now n (pos 0)) c.before.place.ensures.0
-    ∙ ap (word_of a.calls a.env.now) (sym c.before.before.before.a2.given.1))
+returns_2 : tie.Need-returns-in-Name
+returns_2 c = let a = c.args in
+    rw (to_z-of_z {z = get_or a.env.now c.place.result (pos 0)} (record { sfits = c.result-1.given }))
+    (ap (λ (n : ℕ). get_or a.env.now n (pos 0)) c.place.ensures.0
+    ∙ ap (word_of a.calls a.env.now) (sym c.in-Name.is))
 
 pub word_of_spec : {M : Type 1} → statement M
 word_of_spec =

@@ -5,18 +5,18 @@ use Rattle.store_words.proofs.CellWords.{told_there, told_gone, length_in, lengt
 use Rattle.store_words.proofs.read_length.Statement.{statement}
 use Rattle.store_words.proofs.read_length.Tie as tie
 
-inside : (c : tie.Else1) →
-    let a = c.before.before.before.args in InCells a.slots.now a.heads.now a.c
-inside c = told_there c.before.is-cell.ensures c.if1.false
+inside : (c : tie.Else-not-is_cell) →
+    let a = c.args in InCells a.slots.now a.heads.now a.c
+inside c = told_there c.is_cell.ensures c.if-not-is_cell.false
 
-returns : tie.Need-returns
-returns c = length_out _ _ _ (told_gone c.before.is-cell.ensures c.if1.true)
+returns : tie.Need-returns-then-not-is_cell
+returns c = length_out _ _ _ (told_gone c.is_cell.ensures c.if-not-is_cell.true)
 
-cast_at_most : tie.Need-overflow-cast-at-most
+cast_at_most : tie.Need-overflow_cast-heads
 cast_at_most c =
-    record { fits = omega (arith, c.shared-slice-known2.given (2 + 4 * c.before.before.before.before.args.c)) }
+    record { fits = omega (arith, c.shared_slice_known-2-1.given (2 + 4 * c.args.c)) }
 
-returns_2 : tie.Need-returns-2
+returns_2 : tie.Need-returns
 returns_2 c = c.at_most.ensures ∙ length_in _ _ _ (inside c.before.before).0
 
 pub read_length_spec : {M : Type 1} → statement M

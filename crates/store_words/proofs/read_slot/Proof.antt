@@ -4,17 +4,17 @@ use Rattle.store_words.proofs.CellWords.{told_there, told_gone, length_out, elem
 use Rattle.store_words.proofs.read_slot.Statement.{statement}
 use Rattle.store_words.proofs.read_slot.Tie as tie
 
-returns : tie.Need-returns
+returns : tie.Need-returns-then-not-is_cell
 returns c =
-    let a = c.before.before.before.args in
+    let a = c.args in
     element_out a.slots.now a.heads.now a.c a.i (omega (
       arith,
-      length_out a.slots.now a.heads.now a.c (told_gone c.before.is-cell.ensures c.if1.true),
+      length_out a.slots.now a.heads.now a.c (told_gone c.is_cell.ensures c.if-not-is_cell.true),
     ))
 
-read_slot_within_requires : tie.Need-read-slot-within-requires
+read_slot_within_requires : tie.Need-read_slot_within-requires
 read_slot_within_requires c κs =
-    let there = told_there c.before.is-cell.ensures c.if1.false in (there.1, there.2, there.3)
+    let there = told_there c.is_cell.ensures c.if-not-is_cell.false in (there.1, there.2, there.3)
 
 pub read_slot_spec : {M : Type 1} → statement M
 read_slot_spec =

@@ -4,27 +4,27 @@ use Rattle.lent_form.specs.Told.{arity_in}
 use Rattle.lent_form.proofs.reading.arity.Statement.{statement}
 use Rattle.lent_form.proofs.reading.arity.Tie as tie
 
-returns : tie.Need-returns
+returns : tie.Need-returns-then-f-ge32
 unfolding arity_in
-returns c = rw (le-ltb c.before.args.f 32 c.if1.true)
+returns c = rw (le-ltb c.args.f 32 c.if-f-ge32.true)
 
-returns_2 : tie.Need-returns-2
+returns_2 : tie.Need-returns-in-254
 unfolding arity_in
 returns_2 c =
     let at-if1 = c.before.before in
     let start = at-if1.before in
     let a = start.args in
-    rw (lt-ltb a.f 32 (omega (arith, at-if1.if1.false)), c.match.keys1)
+    rw (lt-ltb a.f 32 (omega (arith, at-if1.if-f-ge32.false)), c.in-254.is)
 
-returns_3 : tie.Need-returns-3
+returns_3 : tie.Need-returns-in-255
 unfolding arity_in
 returns_3 c =
     let at-if1 = c.before.before in
     let start = at-if1.before in
     let a = start.args in
-    rw (lt-ltb a.f 32 (omega (arith, at-if1.if1.false)), c.match.keys2)
+    rw (lt-ltb a.f 32 (omega (arith, at-if1.if-f-ge32.false)), c.in-255.is)
 
-returns_4 : tie.Need-returns-4
+returns_4 : tie.Need-returns-in_default
 unfolding arity_in
 returns_4 c =
     let at-if1 = c.before.before in
@@ -32,10 +32,10 @@ returns_4 c =
     let a = start.args in
     let n = get_or a.arities.now a.f 0 in
     rw (
-      lt-ltb a.f 32 (omega (arith, at-if1.if1.false)),
-      ne_eqb n 254 c.match.rest.0.1,
+      lt-ltb a.f 32 (omega (arith, at-if1.if-f-ge32.false)),
+      ne_eqb n 254 c.in_default.in_default-own.rest.0.1,
       ne_eqb n 255
-          c.match.rest.1,
+          c.in_default.in_default-own.rest.1,
     )
 
 pub arity_spec : {M : Type 1} → statement M

@@ -6,37 +6,37 @@ use Rattle.lent_form.proofs.reading.form_head.Statement.{statement}
 use Rattle.lent_form.proofs.reading.form_head.Tie as tie
 
 -- the word of the row
-word : (c : tie.After-natural) →
-    c.natural.result ≡ natural
-    (get_or c.before.before.before.before.before.before.args.operands.now
-    c.before.before.before.before.before.before.args.at (pos 0))
+word : (c : tie.After-natural-n) →
+    c.natural-n.result ≡ natural
+    (get_or c.args.operands.now
+    c.args.at (pos 0))
 word c =
     let start = c.before.before.before.before.before.before in
     let a = start.args in
-    rw (to_z-of_z {z = get_or a.operands.now a.at (pos 0)} (record { sfits = c.before.natural-arg.given })) at
-    c.natural.ensures
+    rw (to_z-of_z {z = get_or a.operands.now a.at (pos 0)} (record { sfits = c.natural-arg-1.given })) at
+    c.natural-n.ensures
 
-shared_slice_copy_out_natural : tie.Need-shared-slice-copy-out-natural
+shared_slice_copy_out_natural : tie.Need-bounds-operands-at
 shared_slice_copy_out_natural c =
     let at-if1 = c.before.before in
     let start = at-if1.before.before in
-    omega (arith, start.requires.even, at-if1.if1.false)
+    omega (arith, start.requires.even, at-if1.if-kinds-at.false)
 
-returns : tie.Need-returns
+returns : tie.Need-returns-then-kinds-at
 returns c =
     let start = c.before.before in
     let a = start.args in
-    head_past a.kinds.now a.operands.now start.requires.even a.over a.kind a.at c.if1.true
+    head_past a.kinds.now a.operands.now start.requires.even a.over a.kind a.at c.if-kinds-at.true
 
-returns_2 : tie.Need-returns-2
+returns_2 : tie.Need-returns-then-kinds-at-2
 returns_2 c =
     let at-if1 = c.before.before in
     let start = at-if1.before.before in
     let a = start.args in
     head_other a.kinds.now a.operands.now start.requires.even a.over a.kind a.at
-    (omega (arith, at-if1.if1.false)) c.if2.true
+    (omega (arith, at-if1.if-kinds-at.false)) c.if-kinds-at-2.true
 
-returns_3 : tie.Need-returns-3
+returns_3 : tie.Need-returns-then-not-within
 returns_3 c =
     let at-limits = c.before.before in
     let at-natural = at-limits.before in
@@ -45,12 +45,12 @@ returns_3 c =
     let start = at-if1.before.before in
     let a = start.args in
     head_fails a.kinds.now a.operands.now start.requires.even a.over a.kind a.at
-    (omega (arith, at-if1.if1.false)) at-if2.if2.false _ (word at-natural)
-    (judged _ _ _ _ _ c.before.within.ensures at-limits.limits.ensures (not-true _ c.if3.true))
+    (omega (arith, at-if1.if-kinds-at.false)) at-if2.if-kinds-at-2.false _ (word at-natural)
+    (judged _ _ _ _ _ c.within.ensures at-limits.limits.ensures c.if-not-within.true)
 
-returns_4 : tie.Need-returns-4
+returns_4 : tie.Need-returns-in-Next
 returns_4 c =
-    let at-pass-atoms = c.before.before.before in
+    let at-pass-atoms = c.before in
     let at-if3 = at-pass-atoms.before in
     let at-within = at-if3.before in
     let at-limits = at-within.before in
@@ -59,15 +59,15 @@ returns_4 c =
     let at-if1 = at-if2.before.before in
     let start = at-if1.before.before in
     let a = start.args in
-    let read = at-pass-atoms.pass-atoms in
+    let read = at-pass-atoms.pass_atoms in
     head_fits a.kinds.now a.operands.now start.requires.even a.over a.kind a.at
-    (omega (arith, at-if1.if1.false)) at-if2.if2.false _ (word at-natural)
-    (judged _ _ _ _ _ at-within.within.ensures at-limits.limits.ensures (not-false _ at-if3.if3.false))
-    read.result read.ensures _ c.before.q.given.1
+    (omega (arith, at-if1.if-kinds-at.false)) at-if2.if-kinds-at-2.false _ (word at-natural)
+    (judged _ _ _ _ _ at-within.within.ensures at-limits.limits.ensures at-if3.if-not-within.false)
+    read.result read.ensures _ c.in-Next.is
 
-returns_5 : tie.Need-returns-5
+returns_5 : tie.Need-returns-in-Fault
 returns_5 c =
-    let at-pass-atoms = c.before.before.before in
+    let at-pass-atoms = c.before in
     let at-if3 = at-pass-atoms.before in
     let at-within = at-if3.before in
     let at-limits = at-within.before in
@@ -76,11 +76,11 @@ returns_5 c =
     let at-if1 = at-if2.before.before in
     let start = at-if1.before.before in
     let a = start.args in
-    let read = at-pass-atoms.pass-atoms in
+    let read = at-pass-atoms.pass_atoms in
     head_stops a.kinds.now a.operands.now start.requires.even a.over a.kind a.at
-    (omega (arith, at-if1.if1.false)) at-if2.if2.false _ (word at-natural)
-    (judged _ _ _ _ _ at-within.within.ensures at-limits.limits.ensures (not-false _ at-if3.if3.false))
-    read.result read.ensures _ c.before.p.given.1
+    (omega (arith, at-if1.if-kinds-at.false)) at-if2.if-kinds-at-2.false _ (word at-natural)
+    (judged _ _ _ _ _ at-within.within.ensures at-limits.limits.ensures at-if3.if-not-within.false)
+    read.result read.ensures _ c.in-Fault.is
 
 pub form_head_spec : {M : Type 1} → statement M
 form_head_spec =

@@ -13,10 +13,10 @@ limits_spec =
     (λ c. search rules) (λ c. search rules) (λ c. search rules) (λ c. search rules) (λ c. search rules)
     (λ c. search rules) (λ c. search rules) (λ c. search rules) (λ c. search rules) (λ c. search rules)
     (λ c. search rules) (λ c. search rules) (λ c. search rules) (λ c. search rules) (λ c. search rules)
-    (λ c. rw c.match.keys1) (λ c. rw c.match.keys2) (λ c. rw c.match.keys3) (λ c. rw c.match.keys4
-    ) (λ c. rw c.match.keys5) (λ c. rw c.match.keys6) (λ c. rw c.match.keys7)
-    (λ c. rw c.match.keys8) (λ c. rw c.match.keys9) (λ c. rw c.match.keys10)
-    (λ c. rw c.match.keys11) (λ c. rw c.match.keys12) (λ c. rw c.match.keys13)
-    (λ c. rw c.match.keys14) (λ c. rw c.match.keys15) (λ c. rw c.match.keys16)
-    (λ c. rw c.match.keys17) (λ c. rw c.match.keys18) (λ c. rw c.match.keys19)
-    (λ c. no_limit _ c.match.rest))
+    (λ c. rw c.in-0.is) (λ c. rw c.in-1.is) (λ c. rw c.in-3.is) (λ c. rw c.in-4.is
+    ) (λ c. rw c.in-5.is) (λ c. rw c.in-6.is) (λ c. rw c.in-8.is)
+    (λ c. rw c.in-9.is) (λ c. rw c.in-10.is) (λ c. rw c.in-11.is)
+    (λ c. rw c.in-12.is) (λ c. rw c.in-13.is) (λ c. rw c.in-14.is)
+    (λ c. rw c.in-15.is) (λ c. rw c.in-17.is) (λ c. rw c.in-18.is)
+    (λ c. rw c.in-19.is) (λ c. rw c.in-20.is) (λ c. rw c.in-21.is)
+    (λ c. no_limit _ c.in_default.in_default-own.rest))

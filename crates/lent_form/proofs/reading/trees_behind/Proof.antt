@@ -8,6 +8,6 @@ pub trees_behind_spec : {M : Type 1} → statement M
 unfolding trees_behind
 trees_behind_spec =
     tie.close
-    (tie.spec (λ c. rw c.match.keys1) (λ c. rw c.match.keys2) (λ c. rw c.match.keys3)
-    (λ c. rw c.match.keys4) (λ c. rw c.match.keys5) (λ c. rw c.match.keys6)
-    (λ c. no_trees _ c.match.rest))
+    (tie.spec (λ c. rw c.in-12.is) (λ c. rw c.in-13.is) (λ c. rw c.in-16.is)
+    (λ c. rw c.in-19.is) (λ c. rw c.in-20.is) (λ c. rw c.in-21.is)
+    (λ c. no_trees _ c.in_default.in_default-own.rest))

@@ -3,10 +3,10 @@ use Rattle.prelude.specs.Kit.{◌-◌, ◌≡◌, length, rules}
 use Rattle.test_text.proofs.array.fill_heads.Statement.{statement}
 use Rattle.test_text.proofs.array.fill_heads.Tie as tie
 
-abbrev invariant_loop : tie.invariant_loop
+abbrev invariant_loop : tie.invariant-loop-at
 invariant_loop line from heads₀ at₀ heads at = length heads ≡ length heads₀
 
-abbrev decreases_loop : tie.decreases_loop
+abbrev decreases_loop : tie.decreases-loop-at
 decreases_loop line from heads₀ at₀ heads at = length line - at
 
 pub fill_heads_spec : {M : Type 1} → statement M

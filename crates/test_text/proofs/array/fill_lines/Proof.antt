@@ -3,11 +3,11 @@ use Rattle.prelude.specs.Kit.{◌-◌, ◌≡◌, length, rules}
 use Rattle.test_text.proofs.array.fill_lines.Statement.{statement}
 use Rattle.test_text.proofs.array.fill_lines.Tie as tie
 
-abbrev invariant_loop : tie.invariant_loop
+abbrev invariant_loop : tie.invariant-loop-i
 invariant_loop case kinds₀ operands₀ start lines at₀ i₀ kinds operands at i =
     (length kinds ≡ length kinds₀) × (length operands ≡ length operands₀)
 
-abbrev decreases_loop : tie.decreases_loop
+abbrev decreases_loop : tie.decreases-loop-i
 decreases_loop case kinds₀ operands₀ start lines at₀ i₀ kinds operands at i = lines - i
 
 pub fill_lines_spec : {M : Type 1} → statement M

@@ -3,10 +3,10 @@ use Rattle.prelude.specs.Kit.{◌-◌, ◌≡◌, length, rules}
 use Rattle.test_text.proofs.array.fill_slots.Statement.{statement}
 use Rattle.test_text.proofs.array.fill_slots.Tie as tie
 
-abbrev invariant_loop : tie.invariant_loop
+abbrev invariant_loop : tie.invariant-loop-at
 invariant_loop line from slots₀ at₀ slots at = length slots ≡ length slots₀
 
-abbrev decreases_loop : tie.decreases_loop
+abbrev decreases_loop : tie.decreases-loop-at
 decreases_loop line from slots₀ at₀ slots at = length line - at
 
 pub fill_slots_spec : {M : Type 1} → statement M

@@ -3,10 +3,10 @@ use Rattle.prelude.specs.Kit.{◌≤◌, ◌-◌, ◌≡◌, length, rules}
 use Rattle.test_text.proofs.array.pieces_of.Statement.{statement}
 use Rattle.test_text.proofs.array.pieces_of.Tie as tie
 
-abbrev invariant_loop : tie.invariant_loop
+abbrev invariant_loop : tie.invariant-loop-at
 invariant_loop line from bytes₀ at₀ n₀ bytes at n = (n ≤ length bytes) × (length bytes ≡ length bytes₀)
 
-abbrev decreases_loop : tie.decreases_loop
+abbrev decreases_loop : tie.decreases-loop-at
 decreases_loop line from bytes₀ at₀ n₀ bytes at n = length line - at
 
 pub pieces_of_spec : {M : Type 1} → statement M

@@ -3,11 +3,11 @@ use Rattle.prelude.specs.Kit.{◌≤◌, ◌-◌, ◌≡◌, length, rules}
 use Rattle.test_text.proofs.array.readings_of.Statement.{statement}
 use Rattle.test_text.proofs.array.readings_of.Tie as tie
 
-abbrev invariant_loop : tie.invariant_loop
+abbrev invariant_loop : tie.invariant-loop-count
 invariant_loop line from readings₀ at₀ count₀ readings at count =
     (count ≤ length readings) × (length readings ≡ length readings₀)
 
-abbrev decreases_loop : tie.decreases_loop
+abbrev decreases_loop : tie.decreases-loop-count
 decreases_loop line from readings₀ at₀ count₀ readings at count = length readings₀ - count
 
 pub readings_of_spec : {M : Type 1} → statement M

@@ -3,13 +3,13 @@ use Rattle.prelude.specs.Kit.{◌≤◌, arith, ◌≡◌, length, length-set, r
 use Rattle.test_text.proofs.array.repeat.Statement.{statement}
 use Rattle.test_text.proofs.array.repeat.Tie as tie
 
-abbrev invariant_loop : tie.invariant_loop
+abbrev invariant_loop : tie.invariant-loop-left
 invariant_loop bytes₀ from byte times n₀ left₀ bytes n left = (n ≤ length bytes) × (length bytes ≡ length bytes₀)
 
-abbrev decreases_loop : tie.decreases_loop
+abbrev decreases_loop : tie.decreases-loop-left
 decreases_loop bytes₀ from byte times n₀ left₀ bytes n left = left
 
-loop_again : tie.Need-loop-preserved invariant_loop decreases_loop
+loop_again : tie.Need-loop-left-preserved invariant_loop decreases_loop
 loop_again c = simp length-set (omega arith)
 
 pub repeat_spec : {M : Type 1} → statement M

@@ -3,11 +3,11 @@ use Rattle.prelude.specs.Kit.{◌≡◌, length, rules}
 use Rattle.test_text.proofs.code.put_again.Statement.{statement}
 use Rattle.test_text.proofs.code.put_again.Tie as tie
 
-abbrev invariant_loop : tie.invariant_loop
+abbrev invariant_loop : tie.invariant-loop-left
 invariant_loop line from kinds₀ operands₀ count at₀ left₀ kinds operands at left =
     (length kinds ≡ length kinds₀) × (length operands ≡ length operands₀)
 
-abbrev decreases_loop : tie.decreases_loop
+abbrev decreases_loop : tie.decreases-loop-left
 decreases_loop line from kinds₀ operands₀ count at₀ left₀ kinds operands at left = left
 
 pub put_again_spec : {M : Type 1} → statement M

@@ -5,30 +5,30 @@ use Rattle.test_text.proofs.Laws.{same_bits}
 use Rattle.test_text.proofs.compare.same_slots.Statement.{statement}
 use Rattle.test_text.proofs.compare.same_slots.Tie as tie
 
-abbrev invariant_loop : tie.invariant_loop
+abbrev invariant_loop : tie.invariant-loop-i
 invariant_loop a b i₀ i = (i ≤ length a) × ((k : ℕ) → k < i → get_or a k (pos 0) ≡ get_or b k (pos 0))
 
-abbrev decreases_loop : tie.decreases_loop
+abbrev decreases_loop : tie.decreases-loop-i
 decreases_loop a b i₀ i = length a - i
 
-returns : tie.Need-returns invariant_loop decreases_loop
+returns : tie.Need-returns-then-a-b invariant_loop decreases_loop
 returns c e = absurd (false≢true e)
 
-loop_holds : tie.Need-loop-init invariant_loop decreases_loop
+loop_holds : tie.Need-loop-i-init invariant_loop decreases_loop
 loop_holds c = (search rules, below_none _)
 
-returns_2 : tie.Need-returns-2 invariant_loop decreases_loop
+returns_2 : tie.Need-returns-then-a-i invariant_loop decreases_loop
 returns_2 c e = absurd (false≢true e)
 
-loop_again : tie.Need-loop-preserved invariant_loop decreases_loop
+loop_again : tie.Need-loop-i-preserved invariant_loop decreases_loop
 loop_again c = (
   search rules,
-  below_more _ _ c.before.before.before.before.loop.invariant.1
-      (same_bits c.before.before.if22.given c.before.if23.given c.if2.false),
+  below_more _ _ c.loop-i.invariant.1
+      (same_bits c.t10-1.given c.t13-1.given c.if-a-i.false),
 )
 
-returns_3 : tie.Need-returns-3 invariant_loop decreases_loop
-returns_3 c e = ext_get_or (pos 0) _ _ c.before.before.if1.false (λ k h. c.before.loop.invariant.1 k (omega arith))
+returns_3 : tie.Need-returns invariant_loop decreases_loop
+returns_3 c e = ext_get_or (pos 0) _ _ c.if-a-b.false (λ k h. c.loop-i.invariant.1 k (omega arith))
 
 pub same_slots_spec : {M : Type 1} → statement M
 same_slots_spec =

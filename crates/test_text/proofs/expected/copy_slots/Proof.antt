@@ -3,10 +3,10 @@ use Rattle.prelude.specs.Kit.{◌-◌, ◌≡◌, length, rules}
 use Rattle.test_text.proofs.expected.copy_slots.Statement.{statement}
 use Rattle.test_text.proofs.expected.copy_slots.Tie as tie
 
-abbrev invariant_loop : tie.invariant_loop
+abbrev invariant_loop : tie.invariant-loop-i
 invariant_loop from to₀ i₀ to i = length to ≡ length to₀
 
-abbrev decreases_loop : tie.decreases_loop
+abbrev decreases_loop : tie.decreases-loop-i
 decreases_loop from to₀ i₀ to i = length from - i
 
 pub copy_slots_spec : {M : Type 1} → statement M

@@ -3,10 +3,10 @@ use Rattle.prelude.specs.Kit.{◌≤◌, ◌-◌, ◌*◌, length, rules}
 use Rattle.test_text.proofs.expected.taken.Statement.{statement}
 use Rattle.test_text.proofs.expected.taken.Tie as tie
 
-abbrev invariant_loop : tie.invariant_loop
+abbrev invariant_loop : tie.invariant-loop-cell
 invariant_loop heads cells count₀ cell₀ count cell = (count ≤ cell) × (4 * cells ≤ length heads)
 
-abbrev decreases_loop : tie.decreases_loop
+abbrev decreases_loop : tie.decreases-loop-cell
 decreases_loop heads cells count₀ cell₀ count cell = cells - cell
 
 pub taken_spec : {M : Type 1} → statement M

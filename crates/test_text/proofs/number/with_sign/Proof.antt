@@ -11,8 +11,8 @@ opposite (suc n) h = subst (λ (z : ℤ). mag z < 2 ^ 63) (sym (+ℤ_idl (negsuc
 negated : (n : ℕ) → n < 2 ^ 63 → mag (pos 0 -ℤ to_z w64 n) < 2 ^ 63
 negated n h = rw (lt-ltb n (2 ^ 63) h) (opposite n h)
 
-sub_result : tie.Need-overflow-sub-result
-sub_result c = record { sfits = negated c.before.before.args.size (omega arith) }
+sub_result : tie.Need-overflow_sub-result
+sub_result c = record { sfits = negated c.args.size (omega arith) }
 
 pub with_sign_spec : {M : Type 1} → statement M
 with_sign_spec =

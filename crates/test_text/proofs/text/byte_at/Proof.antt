@@ -3,8 +3,8 @@ use Rattle.prelude.specs.Kit.{sym, get_or-eq_default, rules}
 use Rattle.test_text.proofs.text.byte_at.Statement.{statement}
 use Rattle.test_text.proofs.text.byte_at.Tie as tie
 
-returns_2 : tie.Need-returns-2
-returns_2 c = sym (get_or-eq_default c.before.args.text.now 0 c.if1.false)
+returns_2 : tie.Need-returns
+returns_2 c = sym (get_or-eq_default c.args.text.now 0 c.if-at-text.false)
 
 pub byte_at_spec : {M : Type 1} → statement M
 byte_at_spec = tie.close (tie.spec (λ c. search rules) (λ c. search rules) returns_2)

@@ -3,15 +3,15 @@ use Rattle.prelude.specs.Kit.{◌+◌, ◌-◌, arith, false≢true, ◌≡◌, 
 use Rattle.test_text.proofs.text.stands_at.Statement.{statement}
 use Rattle.test_text.proofs.text.stands_at.Tie as tie
 
-returns : tie.Need-returns
+returns : tie.Need-returns-then-text-at
 returns c e = absurd (false≢true e)
 
-returns_2 : tie.Need-returns-2
+returns_2 : tie.Need-returns-then-text-at-2
 returns_2 c e = absurd (false≢true e)
 
-returns_3 : tie.Need-returns-3
+returns_3 : tie.Need-returns
 returns_3 c e =
-    let a = c.before.before.before.before.before.before.args in
+    let a = c.args in
     let n = length a.bytes.now in
     let count : a.at + n - a.at ≡ n = omega arith in
     rw count at (c.same.ensures.0 e)

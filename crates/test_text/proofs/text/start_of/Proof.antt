@@ -3,10 +3,10 @@ use Rattle.prelude.specs.Kit.{◌≤◌, ◌-◌, length, rules}
 use Rattle.test_text.proofs.text.start_of.Statement.{statement}
 use Rattle.test_text.proofs.text.start_of.Tie as tie
 
-abbrev invariant_loop : tie.invariant_loop
+abbrev invariant_loop : tie.invariant-loop-at
 invariant_loop case key at₀ at = at ≤ length case
 
-abbrev decreases_loop : tie.decreases_loop
+abbrev decreases_loop : tie.decreases-loop-at
 decreases_loop case key at₀ at = length case - at
 
 pub start_of_spec : {M : Type 1} → statement M

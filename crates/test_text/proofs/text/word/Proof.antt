@@ -3,10 +3,10 @@ use Rattle.prelude.specs.Kit.{◌≤◌, length, rules}
 use Rattle.test_text.proofs.text.word.Statement.{statement}
 use Rattle.test_text.proofs.text.word.Tie as tie
 
-abbrev invariant_loop : tie.invariant_loop
+abbrev invariant_loop : tie.invariant-loop-left
 invariant_loop line index at₀ left₀ at left = at ≤ length line
 
-abbrev decreases_loop : tie.decreases_loop
+abbrev decreases_loop : tie.decreases-loop-left
 decreases_loop line index at₀ left₀ at left = left
 
 pub word_spec : {M : Type 1} → statement M
