@@ -95,5 +95,9 @@ pub fn print_tally(rt: &impl Print, tally: &[u64; TALLY_WORDS]) -> io::Result<()
     print_line(rt, stops::BAD_REQUEST, tally[stops::BAD_REQUEST as usize])?;
     print_words(rt, tally, 0, stops::OUT_OF_STEPS, stops::BAD_COUNT + 1)?;
     print_line(rt, stops::BAD_GUARD, tally[stops::BAD_GUARD as usize])?;
-    print_count(rt, "deliveries that differ: ", tally[stops::DIFFERS as usize])
+    print_count(
+        rt,
+        "deliveries that differ: ",
+        tally[stops::DIFFERS as usize],
+    )
 }
