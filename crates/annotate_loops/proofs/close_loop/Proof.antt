@@ -10,34 +10,33 @@ use Rattle.annotate_loops.proofs.LoopRows.{closing_rows, no_closing}
 use Rattle.annotate_loops.proofs.close_loop.Statement.{statement}
 use Rattle.annotate_loops.proofs.close_loop.Tie as tie
 
-add_row_2 : tie.Need-overflow-add-row-2
+add_row_2 : tie.Need-overflow_add-row-in-Loop
 add_row_2 c =
     omega (
       arith,
-      c.before.before.before.before.before.before.before.before.before.before.before.before.requires.0,
+      c.requires.0,
       c.loop_size.ensures,
-      size_few (loop_of c.before.before.before.before.before.before.before.before.before.l.given.0.1.0),
+      size_few (loop_of c.in-Loop.kind),
     )
 
-put_used_requires : tie.Need-put-used-requires
+put_used_requires : tie.Need-put_used-requires
 put_used_requires c κs = (
   omega arith,
-  lower c.before.before.before.before.before.before.before.put-release.ensures (search rules),
+  lower c.put_release-v.ensures (search rules),
 )
 
-returns : tie.Need-returns
+returns : tie.Need-returns-in-Loop
 unfolding closing_of
 returns c =
-    let a = c.before.before.before.before.before.before.before.before.before.before.before.before.before.before.before.before.before.before.args in let g =
-    c.before.before.before.before.before.before.before.before.before.before.before.before.before.before.before.l.given.0 in rw c.before.before.before.before.before.before.before.before.before.before.before.before.before.before.before.l.given.1 (wrote_as
-    (closing_rows (depth_in a.depths.now) a.p g.0 (marks_of a.cur.now) (set_of a.live.now)
-    (loop_of g.1.0) g.1.1.1.1.0 g.1.1.1.1.1.0
-    c.before.before.before.before.before.before.before.read_of.result _ _ c.before.before.before.before.before.before.before.read_of.ensures c.before.before.before.before.before.before.loop_size.ensures refl)
-    (wrote_then c.before.before.before.before.before.before.before.before.before.before.before.put-release.ensures c.before.before.before.put_used.ensures))
+    let a = c.args in rw c.in-Loop.is (wrote_as
+    (closing_rows (depth_in a.depths.now) a.p c.in-Loop.x (marks_of a.cur.now) (set_of a.live.now)
+    (loop_of c.in-Loop.kind) c.in-Loop.a c.in-Loop.b
+    c.read_of-array.result _ _ c.read_of-array.ensures c.loop_size.ensures refl)
+    (wrote_then c.put_release-v.ensures c.put_used.ensures))
 
-returns_2 : tie.Need-returns-2
+returns_2 : tie.Need-returns-in_default
 returns_2 c =
-    let a = c.before.before.args in wrote_as (no_closing (depth_in a.depths.now) a.l c.match.keys2 a.p (marks_of a.cur.now) (set_of a.live.now)) wrote_none
+    let a = c.args in wrote_as (no_closing (depth_in a.depths.now) a.l c.in_default.in_default-own.keys2 a.p (marks_of a.cur.now) (set_of a.live.now)) wrote_none
 
 pub close_loop_spec : {M : Type 1} → statement M
 close_loop_spec =

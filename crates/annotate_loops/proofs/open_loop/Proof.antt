@@ -8,18 +8,18 @@ use Rattle.prelude.specs.Kit.{rules}
 use Rattle.annotate_loops.proofs.open_loop.Statement.{statement}
 use Rattle.annotate_loops.proofs.open_loop.Tie as tie
 
-put_own_requires : tie.Need-put-own-requires
-put_own_requires c κs = lower c.before.before.before.before.before.before.open-pass.ensures (search rules)
+put_own_requires : tie.Need-put_own-requires
+put_own_requires c κs = lower c.open_pass-v.ensures (search rules)
 
-returns : tie.Need-returns
+returns : tie.Need-returns-in-Loop
 unfolding opening_of
 returns c =
-    rw c.before.before.before.before.before.before.before.before.before.before.before.before.before.before.l.given.1 (rw c.before.before.before.before.before.before.loop-operand.ensures at
-    (wrote_then c.before.before.before.before.before.before.before.before.before.before.open-pass.ensures c.before.before.before.put-own.ensures))
+    rw c.in-Loop.is (rw c.loop_operand-n.ensures at
+    (wrote_then c.open_pass-v.ensures c.put_own.ensures))
 
-returns_2 : tie.Need-returns-2
+returns_2 : tie.Need-returns-in_default
 returns_2 c =
-    let a = c.before.before.args in wrote_as (no_opening (depth_in a.depths.now) a.l c.match.keys2
+    let a = c.args in wrote_as (no_opening (depth_in a.depths.now) a.l c.in_default.in_default-own.keys2
     (set_of a.live.now)) wrote_none
 
 pub open_loop_spec : {M : Type 1} → statement M

@@ -7,23 +7,23 @@ use Rattle.prelude.specs.Kit.{rules}
 use Rattle.annotate_loops.proofs.open_pass.Statement.{statement}
 use Rattle.annotate_loops.proofs.open_pass.Tie as tie
 
-put_retain_requires : tie.Need-put-retain-requires
-put_retain_requires c κs = lower c.before.before.before.before.before.release-pair.ensures (search rules)
+put_retain_requires : tie.Need-put_retain-requires
+put_retain_requires c κs = lower c.release_pair-v.ensures (search rules)
 
-returns : tie.Need-returns
+returns : tie.Need-returns-then-kind-eq-REDUCE
 returns c =
-    let a = c.before.before.before.before.before.before.before.before.before.before.before.before.before.before.args in rw c.before.before.before.before.before.before.before.before.before.before.before.before.if1.true (wrote_as (opening_two (depth_in a.depths.now) (set_of a.live.now) a.y
+    let a = c.args in rw c.if-kind-eq-REDUCE.true (wrote_as (opening_two (depth_in a.depths.now) (set_of a.live.now) a.y
     a.z)
-    (wrote_then c.before.before.before.before.before.before.before.before.before.release-pair.ensures
-    c.before.before.before.put-retain.ensures))
+    (wrote_then c.release_pair-v.ensures
+    c.put_retain.ensures))
 
-put_retain_requires_2 : tie.Need-put-retain-requires-2
-put_retain_requires_2 c κs = lower c.before.before.before.before.before.put-release.ensures (search rules)
+put_retain_requires_2 : tie.Need-put_retain-requires-2
+put_retain_requires_2 c κs = lower c.put_release-v.ensures (search rules)
 
-returns_2 : tie.Need-returns-2
+returns_2 : tie.Need-returns
 returns_2 c =
-    let a = c.before.before.before.before.before.before.before.before.before.before.before.before.before.before.args in wrote_as (opening_one (depth_in a.depths.now) (set_of a.live.now) a.kind a.y a.z c.before.before.before.before.before.before.before.before.before.before.before.before.if1.false)
-    (wrote_then c.before.before.before.before.before.before.before.before.before.put-release.ensures c.before.before.before.put-retain2.ensures)
+    let a = c.args in wrote_as (opening_one (depth_in a.depths.now) (set_of a.live.now) a.kind a.y a.z c.if-kind-eq-REDUCE.false)
+    (wrote_then c.put_release-v.ensures c.put_retain-2.ensures)
 
 pub open_pass_spec : {M : Type 1} → statement M
 open_pass_spec =

@@ -6,16 +6,16 @@ use Rattle.annotate_loops.specs.Loops.{read_of}
 use Rattle.annotate_loops.proofs.read_of.Statement.{statement}
 use Rattle.annotate_loops.proofs.read_of.Tie as tie
 
-returns : tie.Need-returns
-returns c = rw c.if1.true
+returns : tie.Need-returns-then-kind-eq-REDUCE
+returns c = rw c.if-kind-eq-REDUCE.true
 
-returns_2 : tie.Need-returns-2
-returns_2 c = rw c.if2.true
+returns_2 : tie.Need-returns-then-kind-eq-REWRITE
+returns_2 c = rw c.if-kind-eq-REWRITE.true
 
-returns_3 : tie.Need-returns-3
+returns_3 : tie.Need-returns
 returns_3 c =
-    let a = c.before.before.args in
-    no_hands (λ k. meant a.a ≡ read_of k (meant a.a) (meant a.b)) a.kind c.before.if1.false c.if2.false
+    let a = c.args in
+    no_hands (λ k. meant a.a ≡ read_of k (meant a.a) (meant a.b)) a.kind c.if-kind-eq-REDUCE.false c.if-kind-eq-REWRITE.false
     refl refl
 
 pub read_of_spec : {M : Type 1} → statement M

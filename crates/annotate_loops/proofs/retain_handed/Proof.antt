@@ -11,22 +11,22 @@ use Rattle.annotate_loops.proofs.LoopRows.{start_one}
 use Rattle.annotate_loops.proofs.retain_handed.Statement.{statement}
 use Rattle.annotate_loops.proofs.retain_handed.Tie as tie
 
-returns : tie.Need-returns
+returns : tie.Need-returns-then-kind-eq-REDUCE
 returns c =
-    let a = c.before.before.before.before.before.before.before.before.args in rw c.before.before.before.before.before.before.if1.true (wrote_as (ap (λ (l : List ℕ). retain_rows l) (start_one (depth_in a.depths.now) (meant a.a) (set_of a.later.now))) c.before.before.before.retain-atom.ensures)
+    let a = c.args in rw c.if-kind-eq-REDUCE.true (wrote_as (ap (λ (l : List ℕ). retain_rows l) (start_one (depth_in a.depths.now) (meant a.a) (set_of a.later.now))) c.retain_atom.ensures)
 
-returns_2 : tie.Need-returns-2
+returns_2 : tie.Need-returns-then-kind-eq-REWRITE
 returns_2 c =
-    let a = c.before.before.before.before.before.before.before.before.before.args in
-    rw c.before.before.before.before.before.before.if2.true
+    let a = c.args in
+    rw c.if-kind-eq-REWRITE.true
     (wrote_as (ap (λ (l : List ℕ). retain_rows l) (start_one (depth_in a.depths.now) (meant a.a)
-    (set_of a.later.now))) c.before.before.before.retain-atom2.ensures)
+    (set_of a.later.now))) c.retain_atom-then-kind-eq-REWRITE.ensures)
 
-returns_3 : tie.Need-returns-3
+returns_3 : tie.Need-returns
 unfolding handed_again
 returns_3 c =
-    let a = c.before.before.before.args in no_hands (λ k. Wrote a.ks.now a.os.now a.ks.now a.os.now a.w a.w
-    (retain_rows (handed_again (depth_in a.depths.now) (loop_hands k (meant a.a ∷ [])) (set_of a.later.now)))) a.kind c.before.if1.false c.if2.false wrote_none wrote_none
+    let a = c.args in no_hands (λ k. Wrote a.ks.now a.os.now a.ks.now a.os.now a.w a.w
+    (retain_rows (handed_again (depth_in a.depths.now) (loop_hands k (meant a.a ∷ [])) (set_of a.later.now)))) a.kind c.if-kind-eq-REDUCE.false c.if-kind-eq-REWRITE.false wrote_none wrote_none
 
 pub retain_handed_spec : {M : Type 1} → statement M
 retain_handed_spec =

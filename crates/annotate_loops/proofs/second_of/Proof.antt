@@ -7,12 +7,12 @@ use Rattle.annotate_loops.specs.Loops.{second_of}
 use Rattle.annotate_loops.proofs.second_of.Statement.{statement}
 use Rattle.annotate_loops.proofs.second_of.Tie as tie
 
-returns : tie.Need-returns
-returns c = rw c.if1.true
+returns : tie.Need-returns-then-kind-eq-REDUCE
+returns c = rw c.if-kind-eq-REDUCE.true
 
-returns_2 : tie.Need-returns-2
+returns_2 : tie.Need-returns-else-kind-eq-REDUCE
 returns_2 c =
-    let a = c.before.args in no_reduce (λ k. number (pos 0) ≡ second_of k (meant a.b)) a.kind c.if1.false
+    let a = c.args in no_reduce (λ k. number (pos 0) ≡ second_of k (meant a.b)) a.kind c.if-kind-eq-REDUCE.false
     refl refl refl
 
 pub second_of_spec : {M : Type 1} → statement M

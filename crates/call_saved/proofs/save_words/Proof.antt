@@ -1,5 +1,5 @@
 -- `call_saved::save_words` meets its contract, by `SaveLaws`.
-use Rattle.prelude.specs.Kit.{arith, ◌∙◌, rules, not-true, not-false}
+use Rattle.prelude.specs.Kit.{arith, ◌∙◌, rules, not-true, not-false, ap, not}
 use Rattle.laws.specs.Tests.{passed, failed}
 use Rattle.clearing.proofs.Clearing.{cleared_whole}
 use Rattle.store_words.proofs.Counting.{taken_few}
@@ -7,34 +7,34 @@ use Rattle.call_saved.proofs.SaveLaws.{unsound, no_room, saves}
 use Rattle.call_saved.proofs.save_words.Statement.{statement}
 use Rattle.call_saved.proofs.save_words.Tie as tie
 
-returns : tie.Need-returns
+returns : tie.Need-returns-then-not-is_sound
 returns c =
-    let a = c.before.before.before.before.before.before.before.before.args in
-    let cleared = c.before.before.clear-bytes in (
+    let a = c.args in
+    let cleared = c.clear_bytes in (
       unsound a.depth a.slots.now a.heads.now a.saved.now
-          (failed c.before.before.before.before.before.is_sound.ensures c.before.before.before.before.if1.true) cleared.new.0
+          (failed c.is_sound.ensures (ap not c.if-not-is_sound.true)) cleared.new.bytes
           (cleared.ensures ∙ cleared_whole a.saved.now 0),
       tt,
     )
 
-returns_2 : tie.Need-returns-2
+returns_2 : tie.Need-returns-then-not-write_totals
 returns_2 c =
-    let a = c.before.before.before.before.before.before.before.before.before.args in
-    let wrote = c.before.before.before.write-totals in (
+    let a = c.args in
+    let wrote = c.write_totals in (
       no_room a.depth a.slots.now a.heads.now a.saved.now
-          (passed c.before.before.before.before.before.before.is_sound.ensures c.before.before.before.before.before.if1.false) wrote.result wrote.new.1.1.0 wrote.ensures
-          (not-true wrote.result c.if2.true),
+          (passed c.is_sound.ensures (ap not c.if-not-is_sound.false)) wrote.result wrote.new.saved wrote.ensures
+          (not-true wrote.result c.if-not-write_totals.true),
       tt,
     )
 
-returns_3 : tie.Need-returns-3
+returns_3 : tie.Need-returns
 returns_3 c =
-    let a = c.before.before.before.before.before.before.before.before.before.before.args in
-    let wrote = c.before.before.before.before.write-totals in
+    let a = c.args in
+    let wrote = c.write_totals in
     let taken = c.cells_taken in (
       saves a.depth a.slots.now a.heads.now a.saved.now
-          (passed c.before.before.before.before.before.before.before.is_sound.ensures c.before.before.before.before.before.before.if1.false) wrote.result wrote.new.1.1.0 wrote.ensures
-          (not-false wrote.result c.before.if2.false) taken.result taken.ensures,
+          (passed c.is_sound.ensures (ap not c.if-not-is_sound.false)) wrote.result wrote.new.saved wrote.ensures
+          (not-false wrote.result c.if-not-write_totals.false) taken.result taken.ensures,
       (omega arith, omega arith, rw taken.ensures (taken_few a.slots.now a.heads.now)),
     )
 

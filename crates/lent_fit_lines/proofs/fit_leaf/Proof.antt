@@ -44,15 +44,15 @@ leaf_depth_requires c κs =
 
 bind_new_requires : tie.Need-bind_new-requires
 bind_new_requires c κs =
-    (c.before.before.before.before.before.before.before.before.before.before.before.before.pre.3, c.before.before.before.before.before.before.before.before.before.before.before.before.pre.4)
+    (c.requires.3, c.requires.4)
 
 add_t25 : tie.Need-overflow_add-result
 add_t25 c =
-    omega (arith, c.before.before.before.before.before.before.before.before.before.before.before.before.before.before.pre.0.2, c.before.before.before.before.before.before.before.before.before.before.before.before.before.before.pre.1)
+    omega (arith, c.requires.0.2, c.requires.1)
 
 add_t26 : tie.Need-overflow_add-result-then-bind_new
 add_t26 c =
-    omega (arith, c.before.before.before.before.before.before.before.before.before.before.before.before.before.before.pre.0.2, c.before.before.before.before.before.before.before.before.before.before.before.before.before.before.pre.1, c.if-n-gt16.left)
+    omega (arith, c.requires.0.2, c.requires.1, c.if-n-gt16.false)
 
 returns_3 : tie.Need-returns-then-bind_new
 returns_3 c =

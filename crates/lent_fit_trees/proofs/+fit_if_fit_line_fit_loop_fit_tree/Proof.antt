@@ -27,8 +27,8 @@ mod Line
 mod Loop
 mod Tree
 
-pub +fit-if-fit-line-fit-loop-fit-tree-spec : {M : Type 1} → statement M
-+fit-if-fit-line-fit-loop-fit-tree-spec =
+pub +fit_if_fit_line_fit_loop_fit_tree_spec : {M : Type 1} → statement M
++fit_if_fit_line_fit_loop_fit_tree_spec =
     close μ_fit_if μ_fit_line μ_fit_loop μ_fit_tree
     (λ t. fit-if-lts.spec (fit_if_claims t) (fit_if_at t) fit-if.Post (of-if.open_if_requires t) (of-if.returns t)
     (of-if.add_fit_tree t) (of-if.fit_tree_requires t) (λ c. search rules) (of-if.fit_tree_requires_2 t)

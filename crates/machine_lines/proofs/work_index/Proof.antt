@@ -6,63 +6,63 @@ use Rattle.machine_lines.proofs.Lines.{index_spent, index_negative, index_past, 
 use Rattle.machine_lines.proofs.work_index.Statement.{statement}
 use Rattle.machine_lines.proofs.work_index.Tie as tie
 
-returns : tie.Need-returns
+returns : tie.Need-returns-then-steps-eq0
 returns c =
-    let a = c.before.before.before.args in
+    let a = c.args in
     index_spent (store_of a.slots.now a.heads.now) a.calls a.x a.a a.b a.next a.steps
-    a.env.now c.halted.result c.before.if1.true c.halted.ensures
+    a.env.now c.halted.result c.if-steps-eq0.true c.halted.ensures
 
-returns_2 : tie.Need-returns-2
+returns_2 : tie.Need-returns-then-w-lt0
 returns_2 c =
-    let a = c.before.before.before.before.before.before.before.before.before.args in
-    let word = c.before.before.before.before.before.word_of in
-    let cell = c.before.before.before.before.named-cell in
-    let word2 = c.before.before.word-of2 in
+    let a = c.args in
+    let word = c.word_of in
+    let cell = c.named_cell-cell in
+    let word2 = c.word_of-w in
     index_negative (store_of a.slots.now a.heads.now) a.calls a.x a.a a.b a.next a.steps
-    a.env.now c.before.before.before.before.before.before.before.if1.false word.result
+    a.env.now c.if-steps-eq0.false word.result
     word2.result word.ensures word2.ensures cell.result (rw (to_z-of_z {z = word.result} (record {
       sfits
-          = word.type-inv;
-    })) at cell.ensures) (rw (to_z-of_z {z = word2.result} (record { sfits = word2.type-inv })) at
-    c.before.if2.true) c.halted2.result c.halted2.ensures
+          = word.type_inv;
+    })) at cell.ensures) (rw (to_z-of_z {z = word2.result} (record { sfits = word2.type_inv })) at
+    c.if-w-lt0.true) c.halted-then-w-lt0.result c.halted-then-w-lt0.ensures
 
-cast_i : tie.Need-overflow-cast-i
-cast_i c = rw (to_z-of_z {z = c.before.word-of2.result} (record { sfits = c.before.word-of2.type-inv })) (not_negative
-    c.before.word-of2.result c.before.word-of2.type-inv (rw (to_z-of_z {z = c.before.word-of2.result} (record {
-      sfits = c.before.word-of2.type-inv;
-    })) at c.if2.false))
+cast_i : tie.Need-overflow_cast-i
+cast_i c = rw (to_z-of_z {z = c.word_of-w.result} (record { sfits = c.word_of-w.type_inv })) (not_negative
+    c.word_of-w.result c.word_of-w.type_inv (rw (to_z-of_z {z = c.word_of-w.result} (record {
+      sfits = c.word_of-w.type_inv;
+    })) at c.if-w-lt0.false))
 
-returns_3 : tie.Need-returns-3
+returns_3 : tie.Need-returns-then-read_length-i
 returns_3 c =
-    let a = c.before.before.before.before.before.before.before.before.before.before.before.args in
-    let word = c.before.before.before.before.before.before.before.word_of in
-    let cell = c.before.before.before.before.before.before.named-cell in
-    let word2 = c.before.before.before.before.word-of2 in
-    let size = c.before.before.read_length in
+    let a = c.args in
+    let word = c.word_of in
+    let cell = c.named_cell-cell in
+    let word2 = c.word_of-w in
+    let size = c.read_length in
     index_past (store_of a.slots.now a.heads.now) a.calls a.x a.a a.b a.next a.steps
-    a.env.now c.before.before.before.before.before.before.before.before.before.if1.false
+    a.env.now c.if-steps-eq0.false
     word.result word2.result word.ensures word2.ensures cell.result (rw (to_z-of_z {z = word.result}
-    (record { sfits = word.type-inv })) at cell.ensures) size.result size.ensures (rw (to_z-of_z {z =
-    word2.result} (record { sfits = word2.type-inv })) at c.before.if3.true) c.halted3.result
-    c.halted3.ensures
+    (record { sfits = word.type_inv })) at cell.ensures) size.result size.ensures (rw (to_z-of_z {z =
+    word2.result} (record { sfits = word2.type_inv })) at c.if-read_length-i.true) c.halted-then-read_length-i.result
+    c.halted-then-read_length-i.ensures
 
-returns_4 : tie.Need-returns-4
+returns_4 : tie.Need-returns-then-steps-eq0
 returns_4 c =
-    let a = c.before.before.before.before.before.before.before.before.before.before.before.before.before.before.args in
-    let word = c.before.before.before.before.before.before.before.before.before.before.word_of in
-    let cell = c.before.before.before.before.before.before.before.before.before.named-cell in
-    let word2 = c.before.before.before.before.before.before.before.word-of2 in
-    let size = c.before.before.before.before.before.read_length in
-    let read = c.before.before.before.read-slot in
+    let a = c.args in
+    let word = c.word_of in
+    let cell = c.named_cell-cell in
+    let word2 = c.word_of-w in
+    let size = c.read_length in
+    let read = c.read_slot-v in
     index_value (store_of a.slots.now a.heads.now) a.calls a.x a.a a.b a.next a.steps
-    a.env.now c.before.before.before.before.before.before.before.before.before.before.before.before.if1.false word.result word2.result word.ensures word2.ensures cell.result (rw (to_z-of_z {z =
-    word.result} (record { sfits = word.type-inv })) at cell.ensures) size.result size.ensures (rw (to_z-of_z {z
-    = word2.result} (record { sfits = word2.type-inv })) at c.before.before.before.before.before.before.if2.false) (rw (to_z-of_z {z = word2.result} (record { sfits = word2.type-inv })) at
-    c.before.before.before.before.if3.false) read.result (rw (to_z-of_z {z = word2.result} (record {
+    a.env.now c.if-steps-eq0.false word.result word2.result word.ensures word2.ensures cell.result (rw (to_z-of_z {z =
+    word.result} (record { sfits = word.type_inv })) at cell.ensures) size.result size.ensures (rw (to_z-of_z {z
+    = word2.result} (record { sfits = word2.type_inv })) at c.if-w-lt0.false) (rw (to_z-of_z {z = word2.result} (record { sfits = word2.type_inv })) at
+    c.if-read_length-i.false) read.result (rw (to_z-of_z {z = word2.result} (record {
       sfits
-          = word2.type-inv;
-    })) at read.ensures) _ (rw (to_z-of_z {z = read.result} (record { sfits = read.type-inv })) at
-    c.before.bind.ensures) c.done.result (rw (to_z-of_z {z = read.result} (record { sfits = read.type-inv })) at
+          = word2.type_inv;
+    })) at read.ensures) _ (rw (to_z-of_z {z = read.result} (record { sfits = read.type_inv })) at
+    c.bind.ensures) c.done.result (rw (to_z-of_z {z = read.result} (record { sfits = read.type_inv })) at
     c.done.ensures)
 
 pub work_index_spec : {M : Type 1} → statement M

@@ -7,103 +7,79 @@ use Rattle.machine_lines.proofs.Lines.{leaf_replicate, leaf_retain, leaf_release
 use Rattle.machine_lines.proofs.work_leaf.Statement.{statement}
 use Rattle.machine_lines.proofs.work_leaf.Tie as tie
 
-returns : tie.Need-returns
+returns : tie.Need-returns-in-Operation
 returns c =
-    let at-l = c.before.before.before in
-    let a = at-l.before.before.before.before.before.args in
-    let read = at-l.l.given in
+    let a = c.args in
     leaf_operation a.kinds.now a.operands.now a.table.now a.calls a.at a.steps
-    (memory (store_of a.slots.now a.heads.now) a.env.now) a.l read.0.0 read.0.1.0
-    read.0.1.1.0 read.0.1.1.1.0 read.1 c.work-operation.result c.work-operation.new.0
-    c.work-operation.ensures
+    (memory (store_of a.slots.now a.heads.now) a.env.now) a.l c.in-Operation.kind c.in-Operation.x
+    c.in-Operation.a c.in-Operation.b c.in-Operation.is c.work_operation.result c.work_operation.new.env
+    c.work_operation.ensures
 
-returns_2 : tie.Need-returns-2
+returns_2 : tie.Need-returns-in-Literal
 returns_2 c =
-    let at-work-literal = c.before.before.before in
-    let at-l = at-work-literal.before.before.before.before.before in
-    let a = at-l.before.before.before.before.before.args in
-    let read = at-l.l2.given in
+    let a = c.args in
     leaf_literal a.kinds.now a.operands.now a.table.now a.calls a.at a.steps
-    (memory (store_of a.slots.now a.heads.now) a.env.now) a.l read.0.0 read.0.1.0 read.1 _
-    at-work-literal.work-literal.ensures
+    (memory (store_of a.slots.now a.heads.now) a.env.now) a.l c.in-Literal.x c.in-Literal.d c.in-Literal.is _
+    c.work_literal.ensures
 
-returns_3 : tie.Need-returns-3
+returns_3 : tie.Need-returns-in-Index
 returns_3 c =
-    let at-l = c.before.before.before.before.before in
-    let a = at-l.before.before.before.before.before.args in
-    let read = at-l.l3.given in
+    let a = c.args in
     leaf_index a.kinds.now a.operands.now a.table.now a.calls a.at a.steps
-    (memory (store_of a.slots.now a.heads.now) a.env.now) a.l read.0.0 read.0.1.0
-    read.0.1.1.0 read.1 c.work-index.result c.work-index.new.1.1.0 c.work-index.ensures
+    (memory (store_of a.slots.now a.heads.now) a.env.now) a.l c.in-Index.x c.in-Index.a
+    c.in-Index.b c.in-Index.is c.work_index.result c.work_index.new.env c.work_index.ensures
 
-returns_4 : tie.Need-returns-4
+returns_4 : tie.Need-returns-in-Length
 returns_4 c =
-    let at-l = c.before.before.before.before.before in
-    let a = at-l.before.before.before.before.before.args in
-    let read = at-l.l4.given in
+    let a = c.args in
     leaf_length a.kinds.now a.operands.now a.table.now a.calls a.at a.steps
-    (memory (store_of a.slots.now a.heads.now) a.env.now) a.l read.0.0 read.0.1.0 read.1
-    c.work-length.result c.work-length.new.1.1.0 c.work-length.ensures
+    (memory (store_of a.slots.now a.heads.now) a.env.now) a.l c.in-Length.x c.in-Length.a c.in-Length.is
+    c.work_length.result c.work_length.new.env c.work_length.ensures
 
-returns_5 : tie.Need-returns-5
+returns_5 : tie.Need-returns-in-Iota
 returns_5 c =
-    let at-work-iota = c.before.before.before in
-    let at-l = at-work-iota.before.before.before.before.before in
-    let a = at-l.before.before.before.before.before.args in
-    let read = at-l.l5.given in
+    let a = c.args in
     leaf_iota a.kinds.now a.operands.now a.table.now a.calls a.at a.steps
-    (memory (store_of a.slots.now a.heads.now) a.env.now) a.l read.0.0 read.0.1.0 read.1 _
-    at-work-iota.work-iota.ensures
+    (memory (store_of a.slots.now a.heads.now) a.env.now) a.l c.in-Iota.x c.in-Iota.a c.in-Iota.is _
+    c.work_iota.ensures
 
-returns_6 : tie.Need-returns-6
+returns_6 : tie.Need-returns-in-Replicate
 returns_6 c =
-    let at-work-replicate = c.before.before.before in
-    let at-l = at-work-replicate.before.before.before.before.before in
-    let a = at-l.before.before.before.before.before.args in
-    let read = at-l.l6.given in
+    let a = c.args in
     leaf_replicate a.kinds.now a.operands.now a.table.now a.calls a.at a.steps
-    (memory (store_of a.slots.now a.heads.now) a.env.now) a.l read.0.0 read.0.1.0
-    read.0.1.1.0 read.1 _ at-work-replicate.work-replicate.ensures
+    (memory (store_of a.slots.now a.heads.now) a.env.now) a.l c.in-Replicate.x c.in-Replicate.a
+    c.in-Replicate.b c.in-Replicate.is _ c.work_replicate.ensures
 
-returns_7 : tie.Need-returns-7
+returns_7 : tie.Need-returns-in-Retain
 returns_7 c =
-    let at-retain = c.before.before.before in
-    let at-named-cell = at-retain.before.before.before in
-    let at-word-of = at-named-cell.before in
-    let at-l = at-word-of.before.before.before in
-    let a = at-l.before.before.before.before.before.args in
-    let word = at-word-of.word_of in
-    let cell = at-named-cell.named-cell in
+    let a = c.args in
+    let word = c.word_of in
+    let cell = c.named_cell-cell in
     leaf_retain a.kinds.now a.operands.now a.table.now a.calls a.at a.steps
-    (memory (store_of a.slots.now a.heads.now) a.env.now) a.l at-l.l7.given.0.0 word.result
-    word.ensures cell.result (rw (to_z-of_z {z = word.result} (record { sfits = word.type-inv })) at cell.ensures) _
-    c.done.result c.done.ensures at-l.l7.given.1 at-retain.retain.ensures
+    (memory (store_of a.slots.now a.heads.now) a.env.now) a.l c.in-Retain.x word.result
+    word.ensures cell.result (rw (to_z-of_z {z = word.result} (record { sfits = word.type_inv })) at cell.ensures) _
+    c.done.result c.done.ensures c.in-Retain.is c.retain.ensures
 
-returns_8 : tie.Need-returns-8
+returns_8 : tie.Need-returns-in-Release
 returns_8 c =
-    let at-raise-level = c.before in
-    let at-release = at-raise-level.before.before.before.before.before in
-    let at-named-cell = at-release.before.before.before in
-    let at-word-of = at-named-cell.before in
-    let at-l = at-word-of.before.before.before in
-    let a = at-l.before.before.before.before.before.args in
-    let word = at-word-of.word-of2 in
-    let cell = at-named-cell.named-cell2 in
-    let freed = at-release.release in
+    let a = c.args in
+    let word = c.word_of-in-Release in
+    let cell = c.named_cell-cell-in-Release in
+    let freed = c.release-freed in
     leaf_release a.kinds.now a.operands.now a.table.now a.calls a.at a.steps
-    (memory (store_of a.slots.now a.heads.now) a.env.now) a.l at-l.l8.given.0.0 word.result
-    word.ensures cell.result (rw (to_z-of_z {z = word.result} (record { sfits = word.type-inv })) at cell.ensures) _
-    c.done2.result c.done2.ensures at-l.l8.given.1 freed.result freed.ensures
-    at-raise-level.raise-level.new.0 at-raise-level.raise-level.ensures
+    (memory (store_of a.slots.now a.heads.now) a.env.now) a.l c.in-Release.x word.result
+    word.ensures cell.result (rw (to_z-of_z {z = word.result} (record { sfits = word.type_inv })) at cell.ensures) _
+    c.done-in-Release.result c.done-in-Release.ensures c.in-Release.is freed.result freed.ensures
+    c.raise_level.new.env c.raise_level.ensures
 
-raise_level_requires : tie.Need-raise-level-requires
-raise_level_requires c κs = (c.before.before.before.before.release.ensures.few, search rules)
+raise_level_requires : tie.Need-raise_level-requires
+raise_level_requires c κs = (c.release-freed.ensures.few, search rules)
 
-returns_9 : tie.Need-returns-9
+returns_9 : tie.Need-returns-in_default
 returns_9 c =
-    let a = c.before.before.before.before.before.args in
+    let a = c.args in
     leaf_other a.kinds.now a.operands.now a.table.now a.calls a.at
-    (memory (store_of a.slots.now a.heads.now) a.env.now) a.steps a.l c.before.match.keys9
+    (memory (store_of a.slots.now a.heads.now) a.env.now) a.steps a.l c.in_default.in_default-own.keys9
     c.halted.result c.halted.ensures
 
 pub work_leaf_spec : {M : Type 1} → statement M

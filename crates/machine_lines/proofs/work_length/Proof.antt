@@ -5,29 +5,29 @@ use Rattle.machine_lines.proofs.Lines.{length_spent, length_value, few_elements}
 use Rattle.machine_lines.proofs.work_length.Statement.{statement}
 use Rattle.machine_lines.proofs.work_length.Tie as tie
 
-returns : tie.Need-returns
+returns : tie.Need-returns-then-steps-eq0
 returns c =
-    let a = c.before.before.before.args in
+    let a = c.args in
     length_spent (store_of a.slots.now a.heads.now) a.calls a.x a.a a.next a.steps a.env.now
-    c.halted.result c.before.if1.true c.halted.ensures
+    c.halted.result c.if-steps-eq0.true c.halted.ensures
 
-word_from_requires : tie.Need-word-from-requires
+word_from_requires : tie.Need-word_from-n-requires
 word_from_requires c κs =
-    let a = c.before.before.before.before.before.before.args in
-    omega (arith, c.read_length.ensures, few_elements a.slots.now a.heads.now c.before.named-cell.result)
+    let a = c.args in
+    omega (arith, c.read_length.ensures, few_elements a.slots.now a.heads.now c.named_cell-cell.result)
 
-returns_2 : tie.Need-returns-2
+returns_2 : tie.Need-returns-then-steps-eq0
 returns_2 c =
-    let a = c.before.before.before.before.before.before.before.before.before.before.args in
-    let word = c.before.before.before.before.before.before.word_of in
-    let cell = c.before.before.before.before.before.named-cell in
-    let number = c.before.before.before.word-from in
+    let a = c.args in
+    let word = c.word_of in
+    let cell = c.named_cell-cell in
+    let number = c.word_from-n in
     length_value (store_of a.slots.now a.heads.now) a.calls a.x a.a a.next a.steps a.env.now
-    c.before.before.before.before.before.before.before.before.if1.false word.result word.ensures
-    cell.result (rw (to_z-of_z {z = word.result} (record { sfits = word.type-inv })) at cell.ensures)
-    number.result (number.ensures ∙ ap pos c.before.before.before.before.read_length.ensures) _ (rw
-    (to_z-of_z {z = number.result} (record { sfits = number.type-inv })) at c.before.bind.ensures) c.done.result
-    (rw (to_z-of_z {z = number.result} (record { sfits = number.type-inv })) at c.done.ensures)
+    c.if-steps-eq0.false word.result word.ensures
+    cell.result (rw (to_z-of_z {z = word.result} (record { sfits = word.type_inv })) at cell.ensures)
+    number.result (number.ensures ∙ ap pos c.read_length.ensures) _ (rw
+    (to_z-of_z {z = number.result} (record { sfits = number.type_inv })) at c.bind.ensures) c.done.result
+    (rw (to_z-of_z {z = number.result} (record { sfits = number.type_inv })) at c.done.ensures)
 
 pub work_length_spec : {M : Type 1} → statement M
 work_length_spec =

@@ -104,7 +104,7 @@ load_elements_loop_again t c =
     let from = place l.q l.now_free (store_of l.slots l.heads) in
     let to = store_of r.new.slots r.new.heads in (
       omega arith,
-      put.auto.slots ∙ r.auto.heads ∙ l.invariant.1,
+      put.auto.slots ∙ r.auto.slots ∙ l.invariant.1,
       put.auto.heads ∙ r.auto.heads ∙ l.invariant.2,
       goes_on load a.c (elements_at a.saved.now 0 a.p) l.left
           (place (a.p + 1) a.free (store_of a.slots.now a.heads.now)) from l.invariant.3

@@ -40,8 +40,8 @@ mod Part
 mod Plain
 mod Start
 
-pub +type-let-type-loop-type-part-type-plain-type-start-spec : {M : Type 1} → statement M
-+type-let-type-loop-type-part-type-plain-type-start-spec =
+pub +type_let_type_loop_type_part_type_plain_type_start_spec : {M : Type 1} → statement M
++type_let_type_loop_type_part_type_plain_type_start_spec =
     close
     μ_let
     μ_loop

@@ -6,24 +6,22 @@ use Rattle.script_depths.proofs.Laws.{entry, number_typed, name_typed}
 use Rattle.script_depths.proofs.atom_depth.Statement.{statement}
 use Rattle.script_depths.proofs.atom_depth.Tie as tie
 
-returns_2 : tie.Need-returns-2
+returns_2 : tie.Need-returns-in-Number
 returns_2 c =
-    let a = c.before.before.before.before.before.before.args in
-    let atom = c.before.before.atom_at in
+    let a = c.args in
+    let atom = c.atom_at in
     number_typed a.kinds.now a.operands.now a.levels (depths a.table.now) a.at
-    c.before.before.before.if1.false
-    (subst (AtomSeen a.kinds.now a.operands.now a.at) c.enum_told.given.1 atom.ensures)
+    c.if-levels-eq0.false
+    (subst (AtomSeen a.kinds.now a.operands.now a.at) c.in-Number.is atom.ensures)
 
-returns_3 : tie.Need-returns-3
+returns_3 : tie.Need-returns-in-Name
 returns_3 c =
-    let name = c.before.before in
-    let atom = name.before.before.atom_at in
-    let start = name.before.before.before.before.before.before in
-    let a = start.args in
+    let atom = c.atom_at in
+    let a = c.args in
     name_typed a.kinds.now a.operands.now a.levels (depths a.table.now) a.at
-    name.before.before.before.if1.false _ _
-    (subst (AtomSeen a.kinds.now a.operands.now a.at) name.x.given.1 atom.ensures)
-    (sym (entry a.table.now _ start.requires (omega arith)))
+    c.if-levels-eq0.false _ _
+    (subst (AtomSeen a.kinds.now a.operands.now a.at) c.in-Name.is atom.ensures)
+    (sym (entry a.table.now _ c.requires (omega arith)))
 
 pub atom_depth_spec : {M : Type 1} → statement M
 atom_depth_spec =

@@ -5,24 +5,24 @@ use Rattle.prelude.specs.Kit.{rules}
 use Rattle.script_depths.proofs.end_loop.Statement.{statement}
 use Rattle.script_depths.proofs.end_loop.Tie as tie
 
-returns : tie.Need-returns
+returns : tie.Need-returns-in-Has
 returns c =
-    let a = c.before.before.before.before.before.before.before.args in
-    rw c.before.before.before.before.before.body.given.1
+    let a = c.args in
+    rw c.in-Depth.is
     (ruled_good (loop_ruled a.kind a.start a.array
-    c.before.before.before.before.before.body.given.0.0) _
-    c.before.before.before.judge-loop.ensures a.at _ _ c.before.e.given.1)
+    c.in-Depth.d) _
+    c.judge_loop.ensures a.at _ _ c.in-Has.is)
 
-returns_2 : tie.Need-returns-2
+returns_2 : tie.Need-returns-in-Broken
 returns_2 c =
-    let a = c.before.before.before.before.before.before.args in
-    rw c.before.before.before.before.body.given.1
-    (ruled_bad (loop_ruled a.kind a.start a.array c.before.before.before.before.body.given.0.0) _
-    c.before.before.judge-loop.ensures a.at c.before.before.before.before.body.given.0.1.0
-    c.enum_told.given.1)
+    let a = c.args in
+    rw c.in-Depth.is
+    (ruled_bad (loop_ruled a.kind a.start a.array c.in-Depth.d) _
+    c.judge_loop.ensures a.at c.in-Depth.q
+    c.in-Broken.is)
 
-returns_3 : tie.Need-returns-3
-returns_3 c = rw c.before.body2.given.1
+returns_3 : tie.Need-returns-in-Fault
+returns_3 c = rw c.in-Fault.is
 
 pub end_loop_spec : {M : Type 1} → statement M
 end_loop_spec =

@@ -4,19 +4,19 @@ use Rattle.prelude.specs.Kit.{rules}
 use Rattle.script_types.proofs.main_fits.Statement.{statement}
 use Rattle.script_types.proofs.main_fits.Tie as tie
 
-returns : tie.Need-returns
-returns c = other_count _ _ _ c.before.low_at.ensures c.if1.true
+returns : tie.Need-returns-then-low_at-ne2
+returns c = other_count _ _ _ c.low_at.ensures c.if-low_at-ne2.true
 
-returns_2 : tie.Need-returns-2
+returns_2 : tie.Need-returns-then-high_at-result
 returns_2 c =
-    first_differs _ _ _ c.before.before.before.before.low_at.ensures c.before.before.before.if1.false _
-    _ c.before.high-at2.ensures c.before.before.high_at.ensures c.if2.true
+    first_differs _ _ _ c.low_at.ensures c.if-low_at-ne2.false _
+    _ c.high_at.ensures c.high_at-result.ensures c.if-high_at-result.true
 
-returns_3 : tie.Need-returns-3
+returns_3 : tie.Need-returns
 returns_3 c =
-    by_second _ _ _ c.before.before.before.before.before.low_at.ensures
-    c.before.before.before.before.if1.false _ _ c.before.before.high-at2.ensures
-    c.before.before.before.high_at.ensures c.before.if2.false _ c.high-at3.ensures
+    by_second _ _ _ c.low_at.ensures
+    c.if-low_at-ne2.false _ _ c.high_at.ensures
+    c.high_at-result.ensures c.if-high_at-result.false _ c.high_at-2.ensures
 
 pub main_fits_spec : {M : Type 1} → statement M
 main_fits_spec =

@@ -8,44 +8,43 @@ use Rattle.script_types.proofs.type_function.Statement.{statement}
 use Rattle.script_types.proofs.type_function.Tie as tie
 
 -- the function's node
-node_seen : (c : tie.After-table) →
-    let a = c.before.before.before.before.before.before.before.args in
-    let n = c.before.before.count.given.0 in
-    Seen a.kinds.now a.operands.now at_function a.at n.0 n.1.0 n.1.1.0
-node_seen c = seen _ _ at_function _ c.before.before.before.before.node_at.result c.before.before.before.before.node_at.ensures _ _ _ c.before.before.count.given.1
+node_seen : (c : tie.After-table-1) →
+    let a = c.args in
+    Seen a.kinds.now a.operands.now at_function a.at c.in-Fits.field-0 c.in-Fits.count c.in-Fits.result
+node_seen c = seen _ _ at_function _ c.node_at.result c.node_at.ensures _ _ _ c.in-Fits.is
 
-add_type_parameters : tie.Need-overflow-add-type-parameters
+add_type_parameters : tie.Need-overflow_add-at
 add_type_parameters c =
     omega (
       arith,
-      inside _ c.before.before.before.before.before.before.before.args.operands.now at_function _ _ _ _ c.before.before.before.before.node_at.result c.before.before.before.before.node_at.ensures
-          c.before.before.count.given.1,
+      inside _ c.args.operands.now at_function _ _ _ _ c.node_at.result c.node_at.ensures
+          c.in-Fits.is,
     )
 
-type_parameters_requires : tie.Need-type-parameters-requires
+type_parameters_requires : tie.Need-type_parameters-requires
 type_parameters_requires c κs = (
   length-replicate {A = ℕ} 256 255,
-  c.before.before.before.before.before.before.before.requires,
+  c.requires,
 )
 
-returns : tie.Need-returns
+returns : tie.Need-returns-then-d-result
 returns c =
-    result_fits _ _ _ (node_seen c.before.before.before.before.before) _ c.before.before.before.before.type-parameters.ensures _ _ (ap typed_outcome c.before.before.d.given.1) c.if1.true
+    result_fits _ _ _ (node_seen c.before.before.before) _ c.type_parameters.ensures _ _ (ap typed_outcome c.in-Depth.is) c.if-d-result.true
 
-returns_2 : tie.Need-returns-2
+returns_2 : tie.Need-returns-else-d-result
 returns_2 c =
-    result_differs _ _ _ (node_seen c.before.before.before.before.before) _ c.before.before.before.before.type-parameters.ensures _ _ (ap typed_outcome c.before.before.d.given.1) c.if1.false
+    result_differs _ _ _ (node_seen c.before.before.before) _ c.type_parameters.ensures _ _ (ap typed_outcome c.in-Depth.is) c.if-d-result.false
 
-returns_3 : tie.Need-returns-3
-returns_3 c = body_faulty _ _ _ (node_seen c.before.before.before.before) _ c.before.before.before.type-parameters.ensures _ (ap typed_outcome c.before.n.given.1)
+returns_3 : tie.Need-returns-in-Fault
+returns_3 c = body_faulty _ _ _ (node_seen c.before.before) _ c.type_parameters.ensures _ (ap typed_outcome c.in-Fault.is)
 
-returns_4 : tie.Need-returns-4
+returns_4 : tie.Need-returns-in-WrongKind
 returns_4 c =
-    no_function _ _ _ _ c.before.before.node_at.result c.before.before.node_at.ensures (inl c.enum_told.given.1)
+    no_function _ _ _ _ c.node_at.result c.node_at.ensures (inl c.in-WrongKind.is)
 
-returns_5 : tie.Need-returns-5
+returns_5 : tie.Need-returns-in-WrongOperand
 returns_5 c =
-    no_function _ _ _ _ c.before.before.node_at.result c.before.before.node_at.ensures (inr c.enum-told2.given.1)
+    no_function _ _ _ _ c.node_at.result c.node_at.ensures (inr c.in-WrongOperand.is)
 
 pub type_function_spec : {M : Type 1} → statement M
 type_function_spec =

@@ -8,63 +8,62 @@ use Rattle.script_types.proofs.Laws.{parameter_goes, parameter_again, parameter_
 use Rattle.script_types.proofs.type_parameters.Statement.{statement}
 use Rattle.script_types.proofs.type_parameters.Tie as tie
 
-abbrev invariant_loop : tie.invariant_loop
+abbrev invariant_loop : tie.invariant-loop-left
 invariant_loop kinds operands starts table₀ at count p₀ left₀ table p left =
     (left ≤ 255) × (length table ≡ 256) × (known_from kinds operands starts count (depths table₀) at ≡ known_from
     kinds operands starts left (depths table) p)
 
-abbrev decreases_loop : tie.decreases_loop
+abbrev decreases_loop : tie.decreases-loop-left
 decreases_loop kinds operands starts table₀ at count p₀ left₀ table p left = left
 
-loop_holds : tie.Need-loop-init invariant_loop decreases_loop
-loop_holds c = (omega arith, c.before.before.requires.0, refl)
+loop_holds : tie.Need-loop-left-init invariant_loop decreases_loop
+loop_holds c = (omega arith, c.requires.0, refl)
 
 -- a parameter's node
-node_seen : (c : tie.After-known-told invariant_loop decreases_loop) →
-    let a = c.before.before.before.before.before.before.before.before.args in
-    let n = c.before.low.given.0 in
-    Seen a.kinds.now a.operands.now at_parameter c.before.before.before.before.before.loop.p n.0
-    n.1.0 n.1.1.0
-node_seen c = seen _ _ at_parameter _ c.before.before.before.node_at.result c.before.before.before.node_at.ensures _ _ _ c.before.low.given.1
+node_seen : (c : tie.In-Fits invariant_loop decreases_loop) →
+    let a = c.args in
+    Seen a.kinds.now a.operands.now at_parameter c.loop-left.p c.in-Fits.field-0
+    c.in-Fits.low c.in-Fits.high
+node_seen c = seen _ _ at_parameter _ c.node_at.result c.node_at.ensures _ _ _ c.in-Fits.is
 
-returns : tie.Need-returns invariant_loop decreases_loop
+returns : tie.Need-returns-then-d invariant_loop decreases_loop
 returns c =
-    parameter_again _ _ _ _ _ _ _ c.before.before.before.before.before.before.before.loop.invariant.2 c.before.before.before.before.before.before.loop-test.true (node_seen c.before.before) c.before.before.before.before.before.before.before.loop.invariant.1
-    (omega arith) c.if1.true
+    parameter_again _ _ _ _ _ _ _ c.loop-left.invariant.2 c.loop-left-test.true (node_seen c.before.before.before) c.loop-left.invariant.1
+    (omega arith) c.if-d.true
 
-add_p : tie.Need-overflow-add-p invariant_loop decreases_loop
+add_p : tie.Need-overflow_add-p invariant_loop decreases_loop
 add_p c =
     omega (
       arith,
-      inside _ c.before.before.before.before.before.before.before.before.before.before.args.operands.now at_parameter c.before.before.before.before.before.before.before.loop.p _ _ _ c.before.before.before.before.before.node_at.result
-          c.before.before.before.before.before.node_at.ensures c.before.before.before.low.given.1,
+      inside _ c.args.operands.now at_parameter c.loop-left.p _ _ _ c.node_at.result
+          c.node_at.ensures c.in-Fits.is,
     )
 
-returns_2 : tie.Need-returns-2 invariant_loop decreases_loop
+returns_2 : tie.Need-returns-in-WrongKind invariant_loop decreases_loop
 returns_2 c =
-    parameter_none _ _ _ _ _ _ _ c.before.before.before.before.loop.invariant.2 c.before.before.before.loop-test.true c.before.before.node_at.result
-    c.before.before.node_at.ensures (inl c.enum_told.given.1)
+    parameter_none _ _ _ _ _ _ _ c.loop-left.invariant.2 c.loop-left-test.true c.node_at.result
+    c.node_at.ensures (inl c.in-WrongKind.is)
 
-returns_3 : tie.Need-returns-3 invariant_loop decreases_loop
+returns_3 : tie.Need-returns-in-WrongOperand invariant_loop decreases_loop
 returns_3 c =
-    parameter_none _ _ _ _ _ _ _ c.before.before.before.before.loop.invariant.2 c.before.before.before.loop-test.true c.before.before.node_at.result
-    c.before.before.node_at.ensures (inr c.enum-told2.given.1)
+    parameter_none _ _ _ _ _ _ _ c.loop-left.invariant.2 c.loop-left-test.true c.node_at.result
+    c.node_at.ensures (inr c.in-WrongOperand.is)
 
-loop_again : tie.Need-loop-preserved invariant_loop decreases_loop
+loop_again : tie.Need-loop-left-preserved invariant_loop decreases_loop
 loop_again c = (
   omega arith,
-  simp length-set c.before.before.before.before.before.before.before.loop.invariant.1,
-  parameter_goes _ _ _ _ _ _ _ c.before.before.before.before.before.before.before.loop.invariant.2 c.before.before.before.before.before.before.loop-test.true (node_seen c.before.before) c.before.before.before.before.before.before.before.loop.invariant.1
-      (omega arith) c.if1.false,
+  simp length-set c.loop-left.invariant.1,
+  parameter_goes _ _ _ _ _ _ _ c.loop-left.invariant.2 c.loop-left-test.true (node_seen c.before.before.before) c.loop-left.invariant.1
+      (omega arith) c.if-d.false,
 )
 
-type_body_requires : tie.Need-type-body-requires invariant_loop decreases_loop
-type_body_requires c κs = (c.before.before.loop.invariant.1, c.before.before.before.before.before.requires.1)
+type_body_requires : tie.Need-type_body-requires invariant_loop decreases_loop
+type_body_requires c κs = (c.loop-left.invariant.1, c.requires.1)
 
-returns_4 : tie.Need-returns-4 invariant_loop decreases_loop
+returns_4 : tie.Need-returns invariant_loop decreases_loop
 returns_4 c =
-    body_next _ _ _ _ _ _ _ (omega (arith, c.before.before.loop-test.false)) c.type-body.ensures
-    ∙ sym c.before.before.before.loop.invariant.2
+    body_next _ _ _ _ _ _ _ (omega (arith, c.loop-left-test.false)) c.type_body.ensures
+    ∙ sym c.loop-left.invariant.2
 
 pub type_parameters_spec : {M : Type 1} → statement M
 type_parameters_spec =

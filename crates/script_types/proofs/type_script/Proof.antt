@@ -7,37 +7,37 @@ use Rattle.script_types.proofs.Laws.{wrong_shape, right_shape}
 use Rattle.script_types.proofs.type_script.Statement.{statement}
 use Rattle.script_types.proofs.type_script.Tie as tie
 
-abbrev invariant_loop : tie.invariant_loop
+abbrev invariant_loop : tie.invariant-loop-left
 invariant_loop kinds operands starts functions p₀ left₀ p left =
     repeated functions (known_function kinds operands starts) 0 ≡ repeated left (known_function kinds operands starts)
     p
 
-abbrev decreases_loop : tie.decreases_loop
+abbrev decreases_loop : tie.decreases-loop-left
 decreases_loop kinds operands starts functions p₀ left₀ p left = left
 
-returns : tie.Need-returns invariant_loop decreases_loop
-returns c = wrong_shape _ _ _ _ _ c.before.main-fits.ensures (not-true _ c.if1.true)
+returns : tie.Need-returns-then-not-main_fits invariant_loop decreases_loop
+returns c = wrong_shape _ _ _ _ _ c.main_fits.ensures (not-true _ c.if-not-main_fits.true)
 
-loop_holds : tie.Need-loop-init invariant_loop decreases_loop
+loop_holds : tie.Need-loop-left-init invariant_loop decreases_loop
 loop_holds c = refl
 
-returns_2 : tie.Need-returns-2 invariant_loop decreases_loop
+returns_2 : tie.Need-returns-in-Refused invariant_loop decreases_loop
 returns_2 c =
-    right_shape _ _ _ _ _ c.before.before.before.before.before.before.before.main-fits.ensures (not-false _
-    c.before.before.before.before.before.before.if1.false) _
-    (repeated_stops _ _ _ _ _ _ _ _ c.before.before.before.before.before.loop.invariant c.before.before.before.before.loop-test.true c.before.before.before.type-function.ensures
-    c.before.n.given.1)
+    right_shape _ _ _ _ _ c.main_fits.ensures (not-false _
+    c.if-not-main_fits.false) _
+    (repeated_stops _ _ _ _ _ _ _ _ c.loop-left.invariant c.loop-left-test.true c.type_function.ensures
+    c.in-Refused.is)
 
-loop_again : tie.Need-loop-preserved invariant_loop decreases_loop
+loop_again : tie.Need-loop-left-preserved invariant_loop decreases_loop
 loop_again c =
-    repeated_goes _ _ _ _ _ _ _ c.before.before.before.before.before.loop.invariant c.before.before.before.before.loop-test.true c.before.before.before.type-function.ensures
-    c.before.q.given.1
+    repeated_goes _ _ _ _ _ _ _ c.loop-left.invariant c.loop-left-test.true c.type_function.ensures
+    c.in-Next.is
 
-returns_3 : tie.Need-returns-3 invariant_loop decreases_loop
+returns_3 : tie.Need-returns invariant_loop decreases_loop
 returns_3 c =
-    right_shape _ _ _ _ _ c.before.before.before.main-fits.ensures (not-false _ c.before.before.if1.false)
+    right_shape _ _ _ _ _ c.main_fits.ensures (not-false _ c.if-not-main_fits.false)
     _
-    (repeated_none _ _ _ (omega (arith, c.loop-test.false)) ∙ sym c.before.loop.invariant)
+    (repeated_none _ _ _ (omega (arith, c.loop-left-test.false)) ∙ sym c.loop-left.invariant)
 
 pub type_script_spec : {M : Type 1} → statement M
 type_script_spec =

@@ -3,15 +3,15 @@ use Rattle.prelude.specs.Kit.{rules, lt-ltb, le-ltb}
 use Rattle.annotate_loops.proofs.rewrites.is_outer.Statement.{statement}
 use Rattle.annotate_loops.proofs.rewrites.is_outer.Tie as tie
 
-returns : tie.Need-returns
+returns : tie.Need-returns-then-y-x
 returns c =
-    let a = c.before.before.args in
-    rw (lt-ltb a.y a.x c.before.if1.true) c.is-since.ensures
+    let a = c.args in
+    rw (lt-ltb a.y a.x c.if-y-x.true) c.is_since.ensures
 
-returns_2 : tie.Need-returns-2
+returns_2 : tie.Need-returns
 returns_2 c =
-    let a = c.before.args in
-    rw (le-ltb a.y a.x c.if1.false)
+    let a = c.args in
+    rw (le-ltb a.y a.x c.if-y-x.false)
 
 pub is_outer_spec : {M : Type 1} → statement M
 is_outer_spec =

@@ -3,50 +3,50 @@ use Rattle.prelude.specs.Kit.{◌∙◌, sym, rules, ne_eqb}
 use Rattle.annotate_loops.proofs.rewrites.is_rewritten.Statement.{statement}
 use Rattle.annotate_loops.proofs.rewrites.is_rewritten.Tie as tie
 
-returns : tie.Need-returns
+returns : tie.Need-returns-then-live-y
 returns c =
     rw (
-      c.before.before.before.before.before.before.before.array.given.1,
-      sym c.before.before.before.before.before.depth_at.ensures ∙ c.before.before.before.before.if1.true,
-      sym c.before.before.before.depth-at2.ensures ∙ c.before.before.if2.true,
-      c.if3.true,
+      c.in-Name.is,
+      sym c.depth_at-d.ensures ∙ c.if-d-eq1.true,
+      sym c.depth_at-e.ensures ∙ c.if-e-eq1.true,
+      c.if-live-y.true,
     )
 
-returns_2 : tie.Need-returns-2
+returns_2 : tie.Need-returns-then-is_outer
 returns_2 c =
     rw (
-      c.before.before.before.before.before.before.before.before.before.array.given.1,
-      sym c.before.before.before.before.before.before.before.depth_at.ensures ∙ c.before.before.before.before.before.before.if1.true,
-      sym c.before.before.before.before.before.depth-at2.ensures ∙ c.before.before.before.before.if2.true,
-      c.before.before.if3.false,
-      sym c.before.is-outer.ensures ∙ c.if4.true,
+      c.in-Name.is,
+      sym c.depth_at-d.ensures ∙ c.if-d-eq1.true,
+      sym c.depth_at-e.ensures ∙ c.if-e-eq1.true,
+      c.if-live-y.false,
+      sym c.is_outer.ensures ∙ c.if-is_outer.true,
     )
 
-returns_3 : tie.Need-returns-3
+returns_3 : tie.Need-returns-then-e-eq1
 returns_3 c =
     rw (
-      c.before.before.before.before.before.before.before.before.before.array.given.1,
-      sym c.before.before.before.before.before.before.before.depth_at.ensures ∙ c.before.before.before.before.before.before.if1.true,
-      sym c.before.before.before.before.before.depth-at2.ensures ∙ c.before.before.before.before.if2.true,
-      c.before.before.if3.false,
-      sym c.before.is-outer.ensures ∙ c.if4.false,
+      c.in-Name.is,
+      sym c.depth_at-d.ensures ∙ c.if-d-eq1.true,
+      sym c.depth_at-e.ensures ∙ c.if-e-eq1.true,
+      c.if-live-y.false,
+      sym c.is_outer.ensures ∙ c.if-is_outer.false,
     )
 
-returns_4 : tie.Need-returns-4
+returns_4 : tie.Need-returns-then-d-eq1
 returns_4 c =
     rw (
-      c.before.before.before.before.before.array.given.1,
-      sym c.before.before.before.depth_at.ensures ∙ c.before.before.if1.true,
-      ← c.before.depth-at2.ensures,
-      ne_eqb c.before.depth-at2.result 1 c.if2.false,
+      c.in-Name.is,
+      sym c.depth_at-d.ensures ∙ c.if-d-eq1.true,
+      ← c.depth_at-e.ensures,
+      ne_eqb c.depth_at-e.result 1 c.if-e-eq1.false,
     )
 
-returns_6 : tie.Need-returns-6
+returns_6 : tie.Need-returns-else-d-eq1
 returns_6 c =
     rw (
-      c.before.before.before.array.given.1,
-      ← c.before.depth_at.ensures,
-      ne_eqb c.before.depth_at.result 1 c.if1.false,
+      c.in-Name.is,
+      ← c.depth_at-d.ensures,
+      ne_eqb c.depth_at-d.result 1 c.if-d-eq1.false,
     )
 
 pub is_rewritten_spec : {M : Type 1} → statement M

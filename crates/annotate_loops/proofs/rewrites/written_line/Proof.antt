@@ -8,28 +8,27 @@ use Rattle.annotate_loops.proofs.LoopRows.{line_written, others_written}
 use Rattle.annotate_loops.proofs.rewrites.written_line.Statement.{statement}
 use Rattle.annotate_loops.proofs.rewrites.written_line.Tie as tie
 
-add_row_2 : tie.Need-overflow-add-row-2
+add_row_2 : tie.Need-overflow_add-row-in-Loop
 add_row_2 c =
     omega (
       arith,
-      c.before.before.before.before.requires,
+      c.requires,
       c.loop_size.ensures,
-      size_few (loop_of c.before.before.l.given.0.1.0),
+      size_few (loop_of c.in-Loop.kind),
     )
 
-returns : tie.Need-returns
+returns : tie.Need-returns-in-Loop
 returns c =
-    let a = c.before.before.before.before.before.args in
-    let g = c.before.before.before.l.given in
-    rw g.1 (line_written (depth_in a.depths.now) a.p (marks_of a.cur.now) (set_of a.live.now)
-    g.0.0 g.0.1.0 g.0.1.1.0 g.0.1.1.1.0 g.0.1.1.1.1.0 g.0.1.1.1.1.1.0 _ _ _
-    c.before.loop_size.ensures refl c.written-kind.ensures)
+    let a = c.args in
+    rw c.in-Loop.is (line_written (depth_in a.depths.now) a.p (marks_of a.cur.now) (set_of a.live.now)
+    c.in-Loop.x c.in-Loop.kind c.in-Loop.y c.in-Loop.z c.in-Loop.a c.in-Loop.b _ _ _
+    c.loop_size.ensures refl c.written_kind-k.ensures)
 
-returns_2 : tie.Need-returns-2
+returns_2 : tie.Need-returns-in_default
 returns_2 c =
-    let a = c.before.args in
+    let a = c.args in
     others_written (depth_in a.depths.now) a.p (marks_of a.cur.now) (set_of a.live.now) a.l
-    c.match.keys2
+    c.in_default.in_default-own.keys2
 
 pub written_line_spec : {M : Type 1} → statement M
 written_line_spec =

@@ -140,7 +140,7 @@ module _ (t : ℕ) where
         rw c.atom_out-in-3.ensures (name_laid a.operands.now _ a.places.now a.levels a.spot.node _
             a.shape.low (name_is _ _ _ _ c.requires.1.0.deep seen c.in-3.is)
             (any_default a.places.now a.shape.low c.requires.1.1.0.long
-            c.before.before.before.before.before.well_formed.1.1.1.1.1.1.1.1.0.1.1.1.0.1)
+            c.well_formed.1.1.1.1.1.1.1.1.0.1.1.1.0.1)
             c.requires.1.1.1.sized),
         refl,
       )

@@ -42,7 +42,7 @@ module _ (t : ℕ) where
 
   pub lay_part_lay_node_requires : lts.Need-lay_node-requires (lay_part_claims t) (lay_part_at t) lay-part.Post
   lay_part_lay_node_requires c κs =
-      let looked = c.before.before.before.before.before.before in let s = start_of looked in (
+      let looked = c.before.before.before.before.before in let s = start_of looked in (
         omega (arith, s.pre.0),
         (
           record {
@@ -54,17 +54,17 @@ module _ (t : ℕ) where
       )
 
   pub lay_part_atom_out_requires_2 : lts.Need-atom_out-requires-in-WrongKind (lay_part_claims t) (lay_part_at t) lay-part.Post
-  lay_part_atom_out_requires_2 c κs = node_inside (start_of c.before)
+  lay_part_atom_out_requires_2 c κs = node_inside (start_of c)
 
   pub lay_part_atom_out_requires_3 : lts.Need-atom_out-requires-in-WrongOperand (lay_part_claims t) (lay_part_at t) lay-part.Post
-  lay_part_atom_out_requires_3 c κs = node_inside (start_of c.before)
+  lay_part_atom_out_requires_3 c κs = node_inside (start_of c)
 
   pub lay_part_returns_2 : lts.Need-returns-in-Fits (lay_part_claims t) (lay_part_at t) lay-part.Post
   lay_part_returns_2 c = c.lay_node.ensures
 
   pub lay_part_returns_3 : lts.Need-returns-in-WrongKind (lay_part_claims t) (lay_part_at t) lay-part.Post
   lay_part_returns_3 c =
-      let looked = c.before.before in let s = start_of looked in
+      let looked = c.before in let s = start_of looked in
       let a = s.args in (
         rw c.atom_out-in-WrongKind.ensures (number_laid _ _ a.levels a.spot.node 65535 (pos 0)
             (wrong_tree a.kinds.now a.operands.now a.levels a.spot.node looked.if-levels-eq0.false
@@ -75,7 +75,7 @@ module _ (t : ℕ) where
 
   pub lay_part_returns_4 : lts.Need-returns-in-WrongOperand (lay_part_claims t) (lay_part_at t) lay-part.Post
   lay_part_returns_4 c =
-      let looked = c.before.before in let s = start_of looked in
+      let looked = c.before in let s = start_of looked in
       let a = s.args in (
         rw c.atom_out-in-WrongOperand.ensures (number_laid _ _ a.levels a.spot.node 65535 (pos 0)
             (wrong_tree a.kinds.now a.operands.now a.levels a.spot.node looked.if-levels-eq0.false

@@ -12,7 +12,7 @@ returns c =
     closed _ (if_out a.kinds.now a.operands.now (set_of a.scope.now)
     (bound_of a.bound.now a.depths.now) (first_at a.operands.now a.at) (a.at + 1)
     c.atom_at-a.result c.atom_at-a.ensures
-    (sym c.usable.ensures ∙ not-true _ c.if-not-usable.true)) c.requires.2 c.requires.3
+    (sym c.usable.ensures ∙ c.if-not-usable.true)) c.requires.2 c.requires.3
 
 returns_2 : tie.Need-returns-then-depth_of-ne0
 returns_2 c =
@@ -20,7 +20,7 @@ returns_2 c =
     closed _ (if_deep a.kinds.now a.operands.now (set_of a.scope.now)
     (bound_of a.bound.now a.depths.now) (first_at a.operands.now a.at) (a.at + 1)
     c.atom_at-a.result c.atom_at-a.ensures
-    (sym c.usable.ensures ∙ not-false _ c.if-not-usable.false) c.depth_of.result
+    (sym c.usable.ensures ∙ c.if-not-usable.false) c.depth_of.result
     c.depth_of.ensures c.if-depth_of-ne0.true) c.requires.2 c.requires.3
 
 returns_3 : tie.Need-returns
@@ -31,7 +31,7 @@ returns_3 c =
     opened_as (not (N.names c.first_at.result)) _ (ap (λ (y : ℕ). not (N.names y)) x
     ∙ if_new a.kinds.now a.operands.now (set_of a.scope.now) (bound_of a.bound.now a.depths.now)
     (first_at a.operands.now a.at) (a.at + 1) c.atom_at-a.result c.atom_at-a.ensures
-    (sym c.usable.ensures ∙ not-false _ c.if-not-usable.false) c.depth_of.result
+    (sym c.usable.ensures ∙ c.if-not-usable.false) c.depth_of.result
     c.depth_of.ensures c.if-depth_of-ne0.false) (ap (λ (y : ℕ). with_name y 0 N) x)
     c.bind_new.ensures
 

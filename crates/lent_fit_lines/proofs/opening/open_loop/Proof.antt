@@ -26,7 +26,7 @@ returns c =
     (gathered_as
     (set_of a.scope.now) (depths_of a.depths.now) a.kinds.now a.operands.now (a.at + 1)
     (loop_count (loop_of a.kind)) c.loop_atoms-n.ensures c.gather.ensures).is
-    (not-true _ c.if-not-gather.true)) c.requires.2 c.requires.3 c.requires.4
+    c.if-not-gather.true) c.requires.2 c.requires.3 c.requires.4
 
 sub_array : tie.Need-overflow_sub-array
 sub_array c =
@@ -46,11 +46,11 @@ returns_2 c =
     (pass_names (loop_of a.kind) (second_at a.operands.now a.at) (third_at a.operands.now a.at))
     c.gather.result c.gather.new.ds (gathered_as (set_of a.scope.now)
     (depths_of a.depths.now) a.kinds.now a.operands.now (a.at + 1) (loop_count (loop_of a.kind))
-    c.loop_atoms-n.ensures c.gather.ensures) (not-false _ c.if-not-gather.false) (ap
+    c.loop_atoms-n.ensures c.gather.ensures) c.if-not-gather.false (ap
     (λ (i : ℕ). goes_over (loop_of a.kind) (get_or c.gather.new.ds (i - 1) 0))
     (sym c.loop_atoms-n.ensures)
     ∙ sym c.goes_over.ensures
-    ∙ not-true _ c.if-not-goes_over.true)) c.requires.2 c.requires.3 c.requires.4
+    ∙ c.if-not-goes_over.true)) c.requires.2 c.requires.3 c.requires.4
 
 returns_3 : tie.Need-returns-then-not-bind_new
 returns_3 c =
@@ -60,15 +60,15 @@ returns_3 c =
     (pass_names (loop_of a.kind) (second_at a.operands.now a.at) (third_at a.operands.now a.at))
     c.gather.result c.gather.new.ds (gathered_as (set_of a.scope.now)
     (depths_of a.depths.now) a.kinds.now a.operands.now (a.at + 1) (loop_count (loop_of a.kind))
-    c.loop_atoms-n.ensures c.gather.ensures) (not-false _ c.if-not-gather.false) (ap
+    c.loop_atoms-n.ensures c.gather.ensures) c.if-not-gather.false (ap
     (λ (i : ℕ). goes_over (loop_of a.kind) (get_or c.gather.new.ds (i - 1) 0))
     (sym c.loop_atoms-n.ensures)
     ∙ sym c.goes_over.ensures
-    ∙ not-false _ c.if-not-goes_over.false) c.bind_new.new.bound c.bind_new.new.depths (opened_as
+    ∙ c.if-not-goes_over.false) c.bind_new.new.bound c.bind_new.new.depths (opened_as
     (not (get_or a.bound.now c.first_at.result false)) _
     (ap (λ (y : ℕ). not (get_or a.bound.now y false)) c.first_at.ensures)
     (ap (λ (y : ℕ). with_name y 0 (bound_of a.bound.now a.depths.now)) c.first_at.ensures)
-    c.bind_new.ensures) (not-true _ c.if-not-bind_new.true)) c.bind_new.ensures.long
+    c.bind_new.ensures) c.if-not-bind_new.true) c.bind_new.ensures.long
     c.bind_new.ensures.deep c.requires.4
 
 sub_open_pass : tie.Need-overflow_sub-array-2
@@ -76,12 +76,12 @@ sub_open_pass c =
     omega (
       arith,
       some_over (loop_of c.args.kind) _
-          (sym c.goes_over.ensures ∙ not-false _ c.if-not-goes_over.false),
+          (sym c.goes_over.ensures ∙ c.if-not-goes_over.false),
     )
 
 open_pass_requires : tie.Need-open_pass-requires
 open_pass_requires c κs =
-    (c.bind_new.ensures.long, c.bind_new.ensures.deep, c.before.before.before.before.before.before.before.before.before.before.before.before.before.before.before.pre.4)
+    (c.bind_new.ensures.long, c.bind_new.ensures.deep, c.requires.4)
 
 returns_4 : tie.Need-returns-then-open_pass
 returns_4 c =
@@ -91,15 +91,15 @@ returns_4 c =
     (pass_names (loop_of a.kind) (second_at a.operands.now a.at) (third_at a.operands.now a.at))
     c.gather.result c.gather.new.ds (gathered_as (set_of a.scope.now)
     (depths_of a.depths.now) a.kinds.now a.operands.now (a.at + 1) (loop_count (loop_of a.kind))
-    c.loop_atoms-n.ensures c.gather.ensures) (not-false _ c.if-not-gather.false) (ap
+    c.loop_atoms-n.ensures c.gather.ensures) c.if-not-gather.false (ap
     (λ (i : ℕ). goes_over (loop_of a.kind) (get_or c.gather.new.ds (i - 1) 0))
     (sym c.loop_atoms-n.ensures)
     ∙ sym c.goes_over.ensures
-    ∙ not-false _ c.if-not-goes_over.false) c.bind_new.new.bound c.bind_new.new.depths (opened_as
+    ∙ c.if-not-goes_over.false) c.bind_new.new.bound c.bind_new.new.depths (opened_as
     (not (get_or a.bound.now c.first_at.result false)) _
     (ap (λ (y : ℕ). not (get_or a.bound.now y false)) c.first_at.ensures)
     (ap (λ (y : ℕ). with_name y 0 (bound_of a.bound.now a.depths.now)) c.first_at.ensures)
-    c.bind_new.ensures) (not-false _ c.if-not-bind_new.false) a.scope.now (pass_as
+    c.bind_new.ensures) c.if-not-bind_new.false a.scope.now (pass_as
     c.bind_new.new.bound c.bind_new.new.depths a.scope.now
     {ps = pass_names (loop_of a.kind) (second_at a.operands.now a.at) (third_at a.operands.now a.at)}
     refl (ap (λ (i : ℕ). names_depths (loop_of a.kind) (get_or c.gather.new.ds 0 0)
@@ -114,15 +114,15 @@ returns_5 c =
     (pass_names (loop_of a.kind) (second_at a.operands.now a.at) (third_at a.operands.now a.at))
     c.gather.result c.gather.new.ds (gathered_as (set_of a.scope.now)
     (depths_of a.depths.now) a.kinds.now a.operands.now (a.at + 1) (loop_count (loop_of a.kind))
-    c.loop_atoms-n.ensures c.gather.ensures) (not-false _ c.if-not-gather.false) (ap
+    c.loop_atoms-n.ensures c.gather.ensures) c.if-not-gather.false (ap
     (λ (i : ℕ). goes_over (loop_of a.kind) (get_or c.gather.new.ds (i - 1) 0))
     (sym c.loop_atoms-n.ensures)
     ∙ sym c.goes_over.ensures
-    ∙ not-false _ c.if-not-goes_over.false) c.bind_new.new.bound c.bind_new.new.depths (opened_as
+    ∙ c.if-not-goes_over.false) c.bind_new.new.bound c.bind_new.new.depths (opened_as
     (not (get_or a.bound.now c.first_at.result false)) _
     (ap (λ (y : ℕ). not (get_or a.bound.now y false)) c.first_at.ensures)
     (ap (λ (y : ℕ). with_name y 0 (bound_of a.bound.now a.depths.now)) c.first_at.ensures)
-    c.bind_new.ensures) (not-false _ c.if-not-bind_new.false) a.scope.now (pass_as
+    c.bind_new.ensures) c.if-not-bind_new.false a.scope.now (pass_as
     c.bind_new.new.bound c.bind_new.new.depths a.scope.now
     {ps = pass_names (loop_of a.kind) (second_at a.operands.now a.at) (third_at a.operands.now a.at)}
     refl (ap (λ (i : ℕ). names_depths (loop_of a.kind) (get_or c.gather.new.ds 0 0)

@@ -1,4 +1,5 @@
 -- `machine_lines::arrays::append_atoms` meets its contract.
+use Rattle.prelude.specs.Kit.{ap, not}
 use Rattle.prelude.specs.Kit.{◌-◌, arith, ◌≡◌, refl, ◌∙◌, sym, length, rules, not-true, not-false, to_z-of_z}
 use Rattle.semantics.specs.Words.{store_of}
 use Rattle.machine_lines.proofs.Appending.{Appending, appending_none, appending_more, appended_end}
@@ -23,7 +24,7 @@ loop_holds c = let a = c.args in (
 
 returns : tie.Need-returns-then-not-atom_stands invariant_loop decreases_loop
 returns c =
-    appended_end c.loop-n.invariant.2 (sym c.atom_stands.ensures ∙ not-true
+    appended_end c.loop-n(ap not .invariant.2) (sym c.atom_stands.ensures ∙ not-true
     c.atom_stands.result c.if-not-atom_stands.true)
 
 loop_again : tie.Need-loop-n-preserved invariant_loop decreases_loop
@@ -31,20 +32,20 @@ loop_again c =
     let o = c.loop-n in
     let word = c.word_of-w in
     let one = c.append in (
-      one.auto.0 ∙ o.invariant.0,
-      one.auto.1.0 ∙ o.invariant.1,
+      one.auto.slots ∙ o.invariant.0,
+      one.auto.heads ∙ o.invariant.1,
       appending_more o.invariant.2
           c.loop-n-test.true (sym
           c.atom_stands.ensures ∙ not-false
           c.atom_stands.result
-          c.if-not-atom_stands.false)
+          (ap not c.if-not-atom_stands.false))
           c.atom_at-a.result word.result
           c.atom_at-a.ensures word.ensures _ (rw
           (to_z-of_z {z
           = word.result} (record { sfits = word.type_inv })) at one.ensures),
     )
 
-returns_2 : tie.Need-returns invariant_loop decreases_loop
+returns_2 : tie.Need-returns-then-not-atom_stands invariant_loop decreases_loop
 returns_2 c = appended_full c.loop-n.invariant.2 (omega arith)
 
 pub append_atoms_spec : {M : Type 1} → statement M

@@ -29,8 +29,8 @@ loop_again c =
     let v = c.element-v in
     let one = c.append in (
       omega (arith, c.loop-i-test.true),
-      one.auto.0 ∙ inv.1,
-      one.auto.1.0 ∙ inv.2,
+      one.auto.slots ∙ inv.1,
+      one.auto.heads ∙ inv.2,
       rw (to_z-of_z {z = a.w} c.ranges.w) (
           (rw (to_z-of_z {z = a.w} c.ranges.w) at inv.3)
           ∙ appended_next a.c ws i v.result _

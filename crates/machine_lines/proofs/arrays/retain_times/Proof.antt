@@ -30,7 +30,7 @@ loop_again c =
     let inv = c.loop-i.invariant in
     let one = c.retain in (
       omega (arith, c.loop-i-test.true),
-      one.auto.1.0 ∙ inv.1,
+      one.auto.heads ∙ inv.1,
       inv.2 ∙ times_more a.n i a.c _ c.loop-i-test.true
           ∙ ap (retained_times (a.n - (i + 1)) a.c) (sym one.ensures),
     )

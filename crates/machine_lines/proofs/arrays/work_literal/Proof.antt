@@ -10,87 +10,63 @@ use Rattle.machine_lines.proofs.Lines.{literal_spent, literal_cell, literal_none
 use Rattle.machine_lines.proofs.arrays.work_literal.Statement.{statement}
 use Rattle.machine_lines.proofs.arrays.work_literal.Tie as tie
 
-returns : tie.Need-returns
-returns c = let a = c.before.before.before.before.args in
+returns : tie.Need-returns-then-steps-eq0
+returns c = let a = c.args in
     literal_spent a.kinds.now a.operands.now a.calls a.x a.depth a.at a.steps
-    (memory (store_of a.slots.now a.heads.now) a.env.now) c.halted.result c.before.if1.true
+    (memory (store_of a.slots.now a.heads.now) a.env.now) c.halted.result c.if-steps-eq0.true
     c.halted.ensures
 
-word_from_requires : tie.Need-word-from-requires
+word_from_requires : tie.Need-word_from-w-requires
 word_from_requires c κs =
-    let at-append-atoms = c.before.before.before.before.before in
-    let at_c = at-append-atoms.before.before.before.before.before in
-    let at-acquire-empty = at_c.before.before.before.before.before in
-    let at_level = at-acquire-empty.before in
-    let a = at_level.before.before.before.before.before.before.before.args in
-    let taken = at-acquire-empty.acquire_empty in
-    let cell = at_c.c.given in
+    let a = c.args in
+    let taken = c.acquire_empty in
     omega (
       arith,
-      next_small at_level.level.result a.slots.now a.heads.now taken.result cell.0.0
-          cell.0.1.0 taken.ensures.0 cell.1,
+      next_small c.level.result a.slots.now a.heads.now taken.result c.in-Cell.c
+          c.in-Cell.left taken.ensures.0 c.in-Cell.is,
     )
 
 bind_requires : tie.Need-bind-requires
 bind_requires c κs =
-    let at-note-level = c.before.before in
-    let at-append-atoms = at-note-level.before.before.before.before.before in
-    let at_c = at-append-atoms.before.before.before.before.before in
-    let at-acquire-empty = at_c.before.before.before.before.before in
-    let start = at-acquire-empty.before.before.before.before.before.before.before.before in
-    (start.requires.1, ap length at-note-level.note-level.ensures ∙ noted_long _ _ ∙ start.requires.2)
+    (c.requires.1, ap length c.note_level.ensures ∙ noted_long _ _ ∙ c.requires.2)
 
-returns_2 : tie.Need-returns-2
+returns_2 : tie.Need-returns-in-Cell
 returns_2 c =
-    let at-bind = c.before in
-    let at-word-from = at-bind.before.before in
-    let at-note-level = at-word-from.before in
-    let at-append-atoms = at-note-level.before.before.before.before.before in
-    let at_c = at-append-atoms.before.before.before.before.before in
-    let at-acquire-empty = at_c.before.before.before.before.before in
-    let at_level = at-acquire-empty.before in
-    let at-if1 = at_level.before.before.before.before in
-    let a = at-if1.before.before.before.args in
+    let a = c.args in
     let σ = store_of a.slots.now a.heads.now in
     let ws = words_at 16 a.kinds.now a.operands.now a.calls a.env.now (a.at + 1) in
-    let free = at_level.level in
-    let taken = at-acquire-empty.acquire_empty in
-    let cell = at_c.c.given in
-    let put = at-append-atoms.append-atoms in
-    let noted = at-note-level.note-level in
-    let number = at-word-from.word-from in
+    let free = c.level in
+    let taken = c.acquire_empty in
+    let put = c.append_atoms-n in
+    let noted = c.note_level in
+    let number = c.word_from-w in
     literal_cell a.kinds.now a.operands.now a.calls a.x a.depth a.at a.steps
-    (memory σ a.env.now) at-if1.if1.false ws refl taken.result
+    (memory σ a.env.now) c.if-steps-eq0.false ws refl taken.result
     (taken.ensures.0 ∙ ap (λ (k : ℕ). next_cell k σ) free.ensures.0)
-    (store_of put.new.1.1.0 put.new.1.1.1.0)
-    (put.ensures.store ∙ ap (appended_all cell.0.0 ws) taken.ensures.1
-    ∙ filled_by_appending free.result a.depth σ (gained cell.0.0 cell.0.1.0) ws
-    (ap acquired_outcome (sym cell.1) ∙ taken.ensures.0))
-    cell.0.0 cell.0.1.0 cell.1 noted.new.0 noted.ensures number.result number.ensures
-    at-bind.bind.new.0
-    (rw (to_z-of_z {z = number.result} (record { sfits = number.type-inv })) at at-bind.bind.ensures)
+    (store_of put.new.slots put.new.heads)
+    (put.ensures.store ∙ ap (appended_all c.in-Cell.c ws) taken.ensures.1
+    ∙ filled_by_appending free.result a.depth σ (gained c.in-Cell.c c.in-Cell.left) ws
+    (ap acquired_outcome (sym c.in-Cell.is) ∙ taken.ensures.0))
+    c.in-Cell.c c.in-Cell.left c.in-Cell.is noted.new.env noted.ensures number.result number.ensures
+    c.bind.new.env
+    (rw (to_z-of_z {z = number.result} (record { sfits = number.type_inv })) at c.bind.ensures)
     put.result put.ensures.count c.done.result
-    (rw (to_z-of_z {z = number.result} (record { sfits = number.type-inv })) at c.done.ensures)
+    (rw (to_z-of_z {z = number.result} (record { sfits = number.type_inv })) at c.done.ensures)
 
-returns_3 : tie.Need-returns-3
+returns_3 : tie.Need-returns-in-NoneFree
 returns_3 c =
-    let at-enum-told = c.before in
-    let at-acquire-empty = at-enum-told.before.before.before.before.before in
-    let at_level = at-acquire-empty.before in
-    let at-if1 = at_level.before.before.before.before in
-    let a = at-if1.before.before.before.args in
+    let a = c.args in
     let σ = store_of a.slots.now a.heads.now in
     let ws = words_at 16 a.kinds.now a.operands.now a.calls a.env.now (a.at + 1) in
-    let free = at_level.level in
-    let taken = at-acquire-empty.acquire_empty in
-    let none = at-enum-told.enum_told.given.1 in
+    let free = c.level in
+    let taken = c.acquire_empty in
     literal_none a.kinds.now a.operands.now a.calls a.x a.depth a.at a.steps
-    (memory σ a.env.now) at-if1.if1.false ws refl taken.result
+    (memory σ a.env.now) c.if-steps-eq0.false ws refl taken.result
     (taken.ensures.0 ∙ ap (λ (k : ℕ). next_cell k σ) free.ensures.0)
-    (store_of taken.new.0 taken.new.1.0)
+    (store_of taken.new.slots taken.new.heads)
     (taken.ensures.1
-    ∙ none_given free.result a.depth σ ws (ap acquired_outcome (sym none) ∙ taken.ensures.0)) none
-    c.halted2.result c.halted2.ensures
+    ∙ none_given free.result a.depth σ ws (ap acquired_outcome (sym c.in-NoneFree.is) ∙ taken.ensures.0)) c.in-NoneFree.is
+    c.halted-in-NoneFree.result c.halted-in-NoneFree.ensures
 
 pub work_literal_spec : {M : Type 1} → statement M
 work_literal_spec =

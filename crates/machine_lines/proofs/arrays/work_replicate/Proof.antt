@@ -7,38 +7,31 @@ use Rattle.machine_lines.proofs.Levels.{made_long}
 use Rattle.machine_lines.proofs.arrays.work_replicate.Statement.{statement}
 use Rattle.machine_lines.proofs.arrays.work_replicate.Tie as tie
 
-bind_result_requires : tie.Need-bind-result-requires
+bind_result_requires : tie.Need-bind_result-requires
 bind_result_requires c κs =
-    let at-make-array = c.before.before.before.before in
-    let at-element-depth = at-make-array.before.before.before.before in
-    let start = at-element-depth.before.before.before.before.before.before.before.before in
-    let a = start.args in
-    let made = at-make-array.make-array in (
-      start.requires.0,
+    let a = c.args in
+    let made = c.make_array-made in (
+      c.requires.0,
       ap (λ (w : Ran). length w.memory.env) made.ensures
           ∙ made_long false _ _ _ a.steps (memory (store_of a.slots.now a.heads.now) a.env.now)
-          ∙ start.requires.1,
+          ∙ c.requires.1,
     )
 
 returns : tie.Need-returns
 returns c =
-    let at-make-array = c.before.before.before.before.before in
-    let at-element-depth = at-make-array.before.before.before.before in
-    let at_value = at-element-depth.before.before in
-    let at_count = at_value.before.before in
-    let a = at_count.before.before.before.before.args in
-    let count = at_count.word_of in
-    let value = at_value.word-of2 in
-    let depth = at-element-depth.element_depth in
-    let made = at-make-array.make-array in
+    let a = c.args in
+    let count = c.word_of-n in
+    let value = c.word_of-w in
+    let depth = c.element_depth-depth in
+    let made = c.make_array-made in
     rw (← count.ensures, ← value.ensures, ← depth.ensures)
-    (array_bound a.calls a.x a.next made.new.1.1.0 made.result
-    (store_of made.new.0 made.new.1.0) c.bind-result.result c.bind-result.new.0
-    c.bind-result.ensures false value.result depth.result count.result a.steps
+    (array_bound a.calls a.x a.next made.new.env made.result
+    (store_of made.new.slots made.new.heads) c.bind_result.result c.bind_result.new.env
+    c.bind_result.ensures false value.result depth.result count.result a.steps
     (memory (store_of a.slots.now a.heads.now) a.env.now)
     (rw (
-      to_z-of_z {z = count.result} (record { sfits = count.type-inv }),
-      to_z-of_z {z = value.result} (record { sfits = value.type-inv }),
+      to_z-of_z {z = count.result} (record { sfits = count.type_inv }),
+      to_z-of_z {z = value.result} (record { sfits = value.type_inv }),
     ) at made.ensures))
 
 pub work_replicate_spec : {M : Type 1} → statement M
