@@ -269,7 +269,7 @@ module _ (k w : List ℕ) where
     written_tree (leaf l es) d p h = rw (
       h.0.is,
       h.1.is,
-      h.1.Shape-is,
+      h.1.shape_is,
       h.1.count,
       written_trees es h.0.below (p + 1) h.2,
     )
@@ -283,7 +283,7 @@ module _ (k w : List ℕ) where
     written_tree (loop c xs es b) d p h = rw (
       h.0.is,
       h.1.is,
-      h.1.Shape-is,
+      h.1.shape_is,
       written_trees es h.0.below (p + 1) h.2,
       written_tree b h.0.below (p + 1 + sizes es) h.3,
     )

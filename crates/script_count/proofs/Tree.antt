@@ -94,7 +94,7 @@ module _ (k w : List ℕ) where
         (pair (count_tree a i (p + 1) h.2) (count_tree b i (p + 1 + size a) h.3)) refl _ _ (omega arith)
         (omega arith)
     count_tree (leaf l es) d p h =
-        join (a_part p 1 _ h.1.is (leaf_new h.1.node l h.1.Shape-is))
+        join (a_part p 1 _ h.1.is (leaf_new h.1.node l h.1.shape_is))
         (count_trees es h.0.below (p + 1) h.2) refl _ _ (omega arith) (omega arith)
     count_tree (if_else a b c) d p h =
         let i = h.0.below in
@@ -104,7 +104,7 @@ module _ (k w : List ℕ) where
         refl _ _ (omega arith) (omega arith)
     count_tree (loop c xs es b) d p h =
         let i = h.0.below in
-        join (a_part p (suc (length xs)) _ h.1.is (loop_new h.1.node c xs (amount es) h.1.Shape-is))
+        join (a_part p (suc (length xs)) _ h.1.is (loop_new h.1.node c xs (amount es) h.1.shape_is))
         (pair (count_trees es i (p + 1) h.2) (count_tree b i (p + 1 + sizes es) h.3)) refl _ _ (omega arith)
         (omega arith)
 

@@ -264,7 +264,7 @@ module _ (k w s : List ℕ) where
     types_tree (leaf l es) d γ p q h g =
         let i = h.0.below in
         let cs = checks signatures es (known γ) (p + 1) in
-        let e = h.1.Shape-is in
+        let e = h.1.shape_is in
         let typed_so = leaf_typed h.1.node (types k w s i) γ p l (kind_of_leaf h.1.node l e) e in
         rw (h.0.is, h.1.is, typed_so, h.1.count, ← checks_length es (known γ) (p + 1))
         (by_its_rule p (leaf_rule signatures l)
@@ -285,7 +285,7 @@ module _ (k w s : List ℕ) where
         let i = h.0.below in
         let cs = checks signatures es (known γ) (p + 1) in
         rw (h.0.is, h.1.is)
-        (loop_tells h.1.node (types k w s i) γ p c xs (amount es) h.1.Shape-is cs _ (p + 1 + sizes es) q
+        (loop_tells h.1.node (types k w s i) γ p c xs (amount es) h.1.shape_is cs _ (p + 1 + sizes es) q
         (checks_length es (known γ) (p + 1)) (types_trees es i γ (p + 1) (p + 1 + sizes es) h.2 refl)
         λ ts e. rw (e, entered_all xs ts γ)
         (types_tree b i (with_depths xs ts γ) (p + 1 + sizes es) q h.3 (omega arith)))

@@ -70,7 +70,7 @@ module _ (k w : List ℕ) (F : ℕ) where
         (names_tree b i (updated known x true) (p + 1 + size a) q h.3 (omega arith)))
     names_tree (leaf l es) d known p q h g =
         let i = h.0.below in
-        let s = h.1.Shape-is in
+        let s = h.1.shape_is in
         let named_so = leaf_named F (names k w F i) known p h.1.node l (kind_of_leaf h.1.node l s) s in
         rw (h.0.is, h.1.is, named_so, h.1.count)
         (found_if (calls_none F l) p (names_trees es i known (p + 1) q h.2 (omega arith)))
@@ -83,7 +83,7 @@ module _ (k w : List ℕ) (F : ℕ) where
         (names_tree c i known (p + 1 + size a + size b) q h.4 (omega arith)))
     names_tree (loop c xs es b) d known p q h g =
         let i = h.0.below in
-        rw (h.0.is, h.1.is, loop_named F (names k w F i) known p h.1.node c xs (amount es) h.1.Shape-is)
+        rw (h.0.is, h.1.is, loop_named F (names k w F i) known p h.1.node c xs (amount es) h.1.shape_is)
         (follow (names k w F i (scope_with xs known))
         (names_trees es i known (p + 1) (p + 1 + sizes es) h.2 refl)
         (names_tree b i (scope_with xs known) (p + 1 + sizes es) q h.3 (omega arith)))

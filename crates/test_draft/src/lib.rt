@@ -1,6 +1,8 @@
 // The draft of a script that is made from a seed. All of it stands in one array of words, the desk: the seed, what is
 // known of each name, the functions' signatures, an agenda of what is still to be written, and the nodes written so
 // far.
+#![tactic(auto)]
+
 pub mod file;
 pub mod requests;
 

@@ -14,7 +14,7 @@ pub const NO_NAME: u64 = 256;
 pub const MOST_DEPTH: u64 = 4;
 
 // How many levels a part has, its own among them. On a spine one part goes as deep as it may.
-#[derive(Drop)]
+#[derive(Clone, Copy)]
 pub struct Room {
     pub levels: u64,
     pub spine: bool,

@@ -1,5 +1,7 @@
 // The ledger of a store: the memory of the second interpreter, with the totals' value. It judges each answer of the
 // engine, and says whether the totals of a store have its value.
+#![tactic(auto)]
+
 ghost use Rattle.std.specs.Prelude.{◌<◌};
 
 use test_values::memory::Memory;

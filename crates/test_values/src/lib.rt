@@ -3,6 +3,8 @@
 // no cells and no counts of references; where a cell is taken it counts the arrays that are reached from values still
 // needed, and so knows when cells run out, and the lowest level. Scripts are taken as accepted: what no accepted script
 // has stops the work with `BROKEN`, or is worked as something else.
+#![tactic(auto)]
+
 pub mod arrays;
 pub mod cells;
 mod depths;

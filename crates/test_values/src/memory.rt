@@ -49,7 +49,7 @@ pub const MEMORY_WORDS: usize = 219152;
 pub type Memory = [u64; MEMORY_WORDS];
 
 // A value, and 1 where it is an array, else 0.
-#[derive(Drop)]
+#[derive(Clone, Copy)]
 pub struct Typed {
     pub value: u64,
     pub is_array: u64,

@@ -13,7 +13,7 @@ const MOST_LEVELS: u64 = 64;
 const MOST_CALLS: u64 = 31;
 
 // Where the work stands: at a node, with so many levels and calls left.
-#[derive(Drop)]
+#[derive(Clone, Copy)]
 struct Place {
     node: usize,
     levels: u64,

@@ -9,19 +9,19 @@ use Rattle.annotate_marks.proofs.Laws.{unmarked_none, unmarked_more, unmarked_en
 use Rattle.annotate_marks.proofs.take_atoms.Statement.{statement}
 use Rattle.annotate_marks.proofs.take_atoms.Tie as tie
 
-abbrev invariant_loop : tie.invariant_loop
+abbrev invariant_loop : tie.invariant-loop-i
 invariant_loop operands rows notes cur₀ at m names₀ i₀ cur names i =
     (i ≤ m) × (m < 256) × (length cur ≡ 256)
     × (set_of names ≡ among (atoms_at operands rows (at + i) (m - i)) (set_of names₀))
     × (marks_of cur ≡ unmarked_all notes (at + i) (atoms_at operands rows (at + i) (m - i)) (marks_of cur₀))
     × (length names ≡ 256)
 
-abbrev decreases_loop : tie.decreases_loop
+abbrev decreases_loop : tie.decreases-loop-i
 decreases_loop operands rows notes cur₀ at m names₀ i₀ cur names i = i
 
-loop_holds : tie.Need-loop-init invariant_loop decreases_loop
+loop_holds : tie.Need-loop-i-init invariant_loop decreases_loop
 loop_holds c =
-    let a = c.before.args in (
+    let a = c.args in (
       omega arith,
       omega arith,
       search rules,
@@ -30,14 +30,14 @@ loop_holds c =
       search rules,
     )
 
-loop_again : tie.Need-loop-preserved invariant_loop decreases_loop
+loop_again : tie.Need-loop-i-preserved invariant_loop decreases_loop
 loop_again c =
-    let at-take-use = c.before.take-use in
-    let at-atom-of = c.before.before.before.before.atom-of in
-    let at-row-at = c.before.before.before.before.before.row_at in
-    let at-loop-test = c.before.before.before.before.before.before.loop-test in
-    let at-loop = c.before.before.before.before.before.before.before.loop in
-    let a = c.before.before.before.before.before.before.before.before.before.args in
+    let at-take-use = c.take_use-u in
+    let at-atom-of = c.atom_of-a in
+    let at-row-at = c.row_at-place in
+    let at-loop-test = c.loop-i-test in
+    let at-loop = c.loop-i in
+    let a = c.args in
     let v = at-loop.invariant in (
       omega arith,
       v.1,
@@ -49,12 +49,12 @@ loop_again c =
 
 returns : tie.Need-returns invariant_loop decreases_loop
 returns c =
-    let at-loop = c.before.loop in
-    let a = c.before.before.before.args in
+    let at-loop = c.loop-i in
+    let a = c.args in
     record {
-      names = among_all a.operands.now a.rows.now a.at at-loop.i a.m _ _ c.loop-test.false at-loop.invariant.3;
+      names = among_all a.operands.now a.rows.now a.at at-loop.i a.m _ _ c.loop-i-test.false at-loop.invariant.3;
       marks = unmarked_end a.operands.now a.rows.now a.notes.now a.at
-          at-loop.i a.m _ _ c.loop-test.false at-loop.invariant.4;
+          at-loop.i a.m _ _ c.loop-i-test.false at-loop.invariant.4;
       long = at-loop.invariant.2;
     }
 

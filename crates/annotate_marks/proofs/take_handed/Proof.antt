@@ -7,8 +7,8 @@ use Rattle.annotate_marks.proofs.take_handed.Tie as tie
 
 returns : tie.Need-returns
 returns c =
-    let a = c.before.before.before.args in
-    took_all _ c.take-atoms.ensures (without_in a.live a.x (search rules))
+    let a = c.args in
+    took_all _ c.take_atoms.ensures (without_in a.live a.x (search rules))
 
 pub take_handed_spec : {M : Type 1} → statement M
 take_handed_spec =

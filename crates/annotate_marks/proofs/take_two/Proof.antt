@@ -5,7 +5,7 @@ use Rattle.annotate_marks.proofs.take_two.Tie as tie
 
 returns : tie.Need-returns
 returns c =
-    c.before.before.take-pair.ensures c.before.before.before.before.args.live (search rules)
+    c.take_pair-r.ensures c.args.live (search rules)
 
 pub take_two_spec : {M : Type 1} → statement M
 take_two_spec =

@@ -5,15 +5,15 @@ use Rattle.annotate_marks.proofs.Laws.{marks_set, took_none, took_same}
 use Rattle.annotate_marks.proofs.take_use.Statement.{statement}
 use Rattle.annotate_marks.proofs.take_use.Tie as tie
 
-returns : tie.Need-returns
+returns : tie.Need-returns-in-Number
 returns c =
-    let a = c.before.before.before.args in rw c.before.enum_told.given.1 (took_same a.live.now 0
+    let a = c.args in rw c.in-Number.is (took_same a.live.now 0
     (took_none _ a.notes.now a.r _ _ (search rules)))
 
-returns_2 : tie.Need-returns-2
-returns_2 c = let a = c.before.before.before.before.args in rw c.before.before.a.given.1 (record {
+returns_2 : tie.Need-returns-in-Name
+returns_2 c = let a = c.args in rw c.in-Name.is (record {
   names = with_in a.live.now _ (omega arith);
-  marks = marks_set a.cur.now _ _ _ (omega arith) c.mark_at.ensures;
+  marks = marks_set a.cur.now _ _ _ (omega arith) c.mark_at-v.ensures;
   long = simp length-set (search rules);
 })
 

@@ -4,16 +4,16 @@ use Rattle.annotate_marks.proofs.Laws.{then_near, then_far}
 use Rattle.annotate_marks.proofs.then_end_at.Statement.{statement}
 use Rattle.annotate_marks.proofs.then_end_at.Tie as tie
 
-returns : tie.Need-returns
+returns : tie.Need-returns-then-middle-lt4098
 returns c = (
-  then_near c.before.before.before.args.notes.now c.before.before.before.args.p c.before.before.note-at.result _ c.before.before.note-at.ensures c.before.if1.true
+  then_near c.args.notes.now c.args.p c.note_at-middle.result _ c.note_at-middle.ensures c.if-middle-lt4098.true
       c.less_two.ensures,
   omega arith,
 )
 
-returns_2 : tie.Need-returns-2
+returns_2 : tie.Need-returns
 returns_2 c = (
-  then_far c.before.before.args.notes.now c.before.before.args.p c.before.note-at.result c.before.note-at.ensures c.if1.false,
+  then_far c.args.notes.now c.args.p c.note_at-middle.result c.note_at-middle.ensures c.if-middle-lt4098.false,
   omega arith,
 )
 

@@ -5,7 +5,7 @@ use Rattle.flatten_rows.proofs.bind_pass.Tie as tie
 
 returns : tie.Need-returns
 returns c =
-    let second = c.before.before.before.second_name.ensures in
+    let second = c.second_name-j.ensures in
     (rw (c.loop_size.ensures, second), (refl, rw second))
 
 pub bind_pass_spec : {M : Type 1} → statement M

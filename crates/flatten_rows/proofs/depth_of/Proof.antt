@@ -4,11 +4,11 @@ use Rattle.prelude.specs.Kit.{◌-◌, rules}
 use Rattle.flatten_rows.proofs.depth_of.Statement.{statement}
 use Rattle.flatten_rows.proofs.depth_of.Tie as tie
 
-returns : tie.Need-returns
-returns c = depth_name c.before.before.args.depths.now c.before.before.args.place c.before.if1.true
+returns : tie.Need-returns-then-place-lt256
+returns c = depth_name c.args.depths.now c.args.place c.if-place-lt256.true
 
-returns_2 : tie.Need-returns-2
-returns_2 c = depth_number c.before.args.depths.now c.before.args.place c.if1.false
+returns_2 : tie.Need-returns
+returns_2 c = depth_number c.args.depths.now c.args.place c.if-place-lt256.false
 
 pub depth_of_spec : {M : Type 1} → statement M
 depth_of_spec = tie.close (tie.spec (λ c. search rules) returns returns_2)

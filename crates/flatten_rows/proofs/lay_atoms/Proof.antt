@@ -6,8 +6,8 @@ use Rattle.flatten_rows.proofs.lay_atoms.Tie as tie
 
 returns : tie.Need-returns
 returns c =
-    let at-packed-row = c.before.before.before.before.packed_row in
-    rw (← at-packed-row.ensures) (line_laid _ _ _ c.lay-places.ensures)
+    let at-packed-row = c.packed_row in
+    rw (← at-packed-row.ensures) (line_laid _ _ _ c.lay_places.ensures)
 
 pub lay_atoms_spec : {M : Type 1} → statement M
 lay_atoms_spec =

@@ -5,7 +5,7 @@ use Rattle.flatten_rows.proofs.lay_head.Statement.{statement}
 use Rattle.flatten_rows.proofs.lay_head.Tie as tie
 
 returns : tie.Need-returns
-returns c = rw (← c.before.before.before.before.packed_row.ensures) (line_laid _ _ _ c.put-use.ensures)
+returns c = rw (← c.packed_row.ensures) (line_laid _ _ _ c.put_use.ensures)
 
 pub lay_head_spec : {M : Type 1} → statement M
 lay_head_spec =

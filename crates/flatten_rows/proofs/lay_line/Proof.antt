@@ -5,12 +5,12 @@ use Rattle.flatten_rows.proofs.lay_line.Tie as tie
 
 returns : tie.Need-returns
 returns c = (
-  (refl, rw c.lay-atoms.ensures.notes),
+  (refl, rw c.lay_atoms.ensures.notes),
   record {
-    rows = c.lay-atoms.ensures.rows;
+    rows = c.lay_atoms.ensures.rows;
     notes =
         refl;
-    last = c.lay-atoms.ensures.last;
+    last = c.lay_atoms.ensures.last;
   },
 )
 

@@ -6,17 +6,17 @@ use Rattle.flatten_rows.proofs.Laws.{some_size}
 use Rattle.flatten_rows.proofs.open_loop.Statement.{statement}
 use Rattle.flatten_rows.proofs.open_loop.Tie as tie
 
-cast_t14 : tie.Need-overflow-cast-t14
+cast_t14 : tie.Need-overflow_cast-head-2
 cast_t14 c =
-    let a = c.before.before.before.before.args in
-    let at_pre = c.before.before.before.before.requires in
+    let a = c.args in
+    let at_pre = c.requires in
     omega (arith, at_pre.0, some_size a.kind)
 
-lay_atoms_requires : tie.Need-lay-atoms-requires
+lay_atoms_requires : tie.Need-lay_atoms-requires
 lay_atoms_requires c κs =
-    let at-loop-size = c.before.before.before.before.before.before.loop_size in
-    let a = c.before.before.before.before.before.before.before.args in
-    let at_pre = c.before.before.before.before.before.before.before.requires in (
+    let at-loop-size = c.loop_size-m in
+    let a = c.args in
+    let at_pre = c.requires in (
       omega (arith, at_pre.1, at-loop-size.ensures, size_few (loop_of a.kind)),
       omega (
         arith,
@@ -25,19 +25,19 @@ lay_atoms_requires c κs =
       ),
     )
 
-element_write_notes : tie.Need-element-write-notes
+element_write_notes : tie.Need-bounds-notes-p
 element_write_notes c =
-    let at-loop-size = c.before.before.before.before.before.before.before.before.loop_size in
-    let a = c.before.before.before.before.before.before.before.before.before.args in
-    let at_pre = c.before.before.before.before.before.before.before.before.before.requires in
+    let at-loop-size = c.loop_size-m in
+    let a = c.args in
+    let at_pre = c.requires in
     omega (arith, at_pre.1, at-loop-size.ensures, size_few (loop_of a.kind))
 
 returns : tie.Need-returns
 returns c =
     let parts = c.before.before.before.before.before.before.before.before.before.before in
-    let size = parts.before.loop_size.ensures in
-    let third = parts.third_of.ensures in
-    let lay = c.before.before.before.before.lay-atoms.ensures in (
+    let size = parts.loop_size-m.ensures in
+    let third = parts.third_of-third.ensures in
+    let lay = c.lay_atoms.ensures in (
       (rw size, rw (lay.notes, size)),
       (
         record {
@@ -45,7 +45,7 @@ returns c =
           notes = refl;
           last = rw size at lay.last;
         },
-        c.before.note-pass.ensures,
+        c.note_pass.ensures,
       ),
     )
 

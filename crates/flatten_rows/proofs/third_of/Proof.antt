@@ -6,18 +6,18 @@ use Rattle.flatten_rows.proofs.Laws.{reduce_size}
 use Rattle.flatten_rows.proofs.third_of.Statement.{statement}
 use Rattle.flatten_rows.proofs.third_of.Tie as tie
 
-cast_result : tie.Need-overflow-cast-result
+cast_result : tie.Need-overflow_cast-result
 cast_result c =
-    let a = c.before.args in
-    omega (arith, c.before.requires, reduce_size a.kind c.if1.true)
+    let a = c.args in
+    omega (arith, c.requires, reduce_size a.kind c.if-kind-eq-REDUCE.true)
 
-returns : tie.Need-returns
-returns c = rw c.if1.true
+returns : tie.Need-returns-then-kind-eq-REDUCE
+returns c = rw c.if-kind-eq-REDUCE.true
 
-returns_2 : tie.Need-returns-2
+returns_2 : tie.Need-returns-else-kind-eq-REDUCE
 returns_2 c =
-    let a = c.before.args in
-    no_reduce (λ k. 0 ≡ third_of k a.n) a.kind c.if1.false refl refl refl
+    let a = c.args in
+    no_reduce (λ k. 0 ≡ third_of k a.n) a.kind c.if-kind-eq-REDUCE.false refl refl refl
 
 pub third_of_spec : {M : Type 1} → statement M
 third_of_spec = tie.close (tie.spec (λ c. search rules) cast_result returns returns_2)

@@ -4,7 +4,7 @@ use Rattle.flatten_rows.proofs.unbind_pass.Statement.{statement}
 use Rattle.flatten_rows.proofs.unbind_pass.Tie as tie
 
 returns : tie.Need-returns
-returns c = rw c.second_name.ensures
+returns c = rw c.second_name-j.ensures
 
 pub unbind_pass_spec : {M : Type 1} → statement M
 unbind_pass_spec =

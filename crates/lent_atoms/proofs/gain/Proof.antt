@@ -5,21 +5,21 @@ use Rattle.lent_atoms.proofs.Laws.{gain_array, gain_number}
 use Rattle.lent_atoms.proofs.gain.Statement.{statement}
 use Rattle.lent_atoms.proofs.gain.Tie as tie
 
-returns : tie.Need-returns
+returns : tie.Need-returns-then-array
 returns c =
-    let a = c.before.before.before.before.args in (
+    let a = c.args in (
       gain_array (depths a.table.now a.f) a.x a.holds.now
-          (sym c.before.before.is_array.ensures ∙ c.before.if1.true)
-          (omega (arith, c.before.before.before.before.requires)),
-      simp length-set c.before.before.before.before.requires.0,
+          (sym c.is_array-array.ensures ∙ c.if-array.true)
+          (omega (arith, c.requires)),
+      simp length-set c.requires.0,
     )
 
-returns_2 : tie.Need-returns-2
+returns_2 : tie.Need-returns-else-array
 returns_2 c =
-    let a = c.before.before.before.args in (
+    let a = c.args in (
       gain_number (depths a.table.now a.f) a.x a.holds.now
-          (sym c.before.is_array.ensures ∙ c.if1.false),
-      c.before.before.before.requires.0,
+          (sym c.is_array-array.ensures ∙ c.if-array.false),
+      c.requires.0,
     )
 
 pub gain_spec : {M : Type 1} → statement M

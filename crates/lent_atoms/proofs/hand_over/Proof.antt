@@ -6,40 +6,40 @@ use Rattle.lent_atoms.proofs.Laws.{spend_number, spend_none, spend_some, spend_n
 use Rattle.lent_atoms.proofs.hand_over.Statement.{statement}
 use Rattle.lent_atoms.proofs.hand_over.Tie as tie
 
-returns : tie.Need-returns
+returns : tie.Need-returns-then-not-array
 returns c =
-    let a = c.before.before.before.before.before.before.args in (
-      rw c.before.before.before.a.given.1 (spend_number (depths a.table.now a.f) _ a.holds.now
-          (failed c.before.is_array.ensures c.if1.true)),
-      c.before.before.before.before.before.before.requires,
+    let a = c.args in (
+      rw c.in-Name.is (spend_number (depths a.table.now a.f) _ a.holds.now
+          (failed c.is_array-array.ensures c.if-not-array.true)),
+      c.requires,
     )
 
-returns_2 : tie.Need-returns-2
+returns_2 : tie.Need-returns-then-n-eq0
 returns_2 c =
-    let a = c.before.before.before.before.before.before.before.before.args in (
-      rw c.before.before.before.before.before.a.given.1
+    let a = c.args in (
+      rw c.in-Name.is
           (spend_none (depths a.table.now a.f) _ a.holds.now
-          (passed c.before.before.before.is_array.ensures c.before.before.if1.false)
-          c.if2.true a.holds.now),
-      c.before.before.before.before.before.before.before.before.requires,
+          (passed c.is_array-array.ensures c.if-not-array.false)
+          c.if-n-eq0.true a.holds.now),
+      c.requires,
     )
 
-returns_3 : tie.Need-returns-3
+returns_3 : tie.Need-returns-in-Number
 returns_3 c =
-    let a = c.before.before.before.args in (
-      rw c.enum_told.given.1 (spend_nothing (depths a.table.now a.f) a.holds.now _),
-      c.before.before.before.requires,
+    let a = c.args in (
+      rw c.in-Number.is (spend_nothing (depths a.table.now a.f) a.holds.now _),
+      c.requires,
     )
 
-returns_4 : tie.Need-returns-4
+returns_4 : tie.Need-returns-else-n-eq0
 returns_4 c =
-    let a = c.before.before.before.before.before.before.before.before.args in (
-      rw c.before.before.before.before.before.a.given.1
+    let a = c.args in (
+      rw c.in-Name.is
           (spend_some (depths a.table.now a.f) _ a.holds.now
-          (passed c.before.before.before.is_array.ensures c.before.before.if1.false)
-          c.if2.false
-          (omega (arith, c.before.before.before.before.before.before.before.before.requires))),
-      simp length-set c.before.before.before.before.before.before.before.before.requires,
+          (passed c.is_array-array.ensures c.if-not-array.false)
+          c.if-n-eq0.false
+          (omega (arith, c.requires))),
+      simp length-set c.requires,
     )
 
 pub hand_over_spec : {M : Type 1} → statement M

@@ -6,9 +6,9 @@ use Rattle.lent_atoms.proofs.is_array.Tie as tie
 
 returns : tie.Need-returns
 returns c =
-    let a = c.before.before.args in
-    ap (ltb 0) c.depth_in.ensures ∙ depth_known a.table.now a.f a.x
-    (omega (arith, c.before.before.ranges.x))
+    let a = c.args in
+    ap (ltb 0) c.depth_in-d.ensures ∙ depth_known a.table.now a.f a.x
+    (omega (arith, c.ranges.x))
 
 pub is_array_spec : {M : Type 1} → statement M
 is_array_spec = tie.close (tie.spec (λ c κs. search rules) returns)

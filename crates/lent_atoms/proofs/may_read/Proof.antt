@@ -7,27 +7,27 @@ use Rattle.lent_atoms.proofs.Laws.{reads_number, reads_lent, reads_held}
 use Rattle.lent_atoms.proofs.may_read.Statement.{statement}
 use Rattle.lent_atoms.proofs.may_read.Tie as tie
 
-returns : tie.Need-returns
+returns : tie.Need-returns-then-not-array
 returns c =
-    let a = c.before.before.before.before.before.before.args in
-    rw c.before.before.before.a.given.1 (reads_number (depths a.table.now a.f)
+    let a = c.args in
+    rw c.in-Name.is (reads_number (depths a.table.now a.f)
     (set_of a.lent.now) (counted a.holds.now) _
-    (failed c.before.is_array.ensures c.if1.true))
+    (failed c.is_array-array.ensures c.if-not-array.true))
 
-returns_2 : tie.Need-returns-2
+returns_2 : tie.Need-returns-then-lent-x
 returns_2 c =
-    let a = c.before.before.before.before.before.before.before.before.args in
-    rw c.before.before.before.before.before.a.given.1
+    let a = c.args in
+    rw c.in-Name.is
     (reads_lent (depths a.table.now a.f) (set_of a.lent.now) (counted a.holds.now) _
-    (passed c.before.before.before.is_array.ensures c.before.before.if1.false) c.if2.true)
+    (passed c.is_array-array.ensures c.if-not-array.false) c.if-lent-x.true)
 
-returns_4 : tie.Need-returns-4
+returns_4 : tie.Need-returns-else-lent-x
 returns_4 c =
-    let a = c.before.before.before.before.before.before.before.before.before.args in
-    rw c.before.before.before.before.before.before.a.given.1
+    let a = c.args in
+    rw c.in-Name.is
     (reads_held (depths a.table.now a.f) (set_of a.lent.now) (counted a.holds.now) _
-    (passed c.before.before.before.before.is_array.ensures c.before.before.before.if1.false)
-    c.before.if2.false)
+    (passed c.is_array-array.ensures c.if-not-array.false)
+    c.if-lent-x.false)
 
 pub may_read_spec : {M : Type 1} → statement M
 may_read_spec =

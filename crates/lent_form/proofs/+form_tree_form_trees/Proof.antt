@@ -54,9 +54,8 @@ module _ (t : ℕ) where
 
   form_tree_returns : Tree form-tree-lts.Need-returns-then-levels-eq0
   form_tree_returns c =
-      let start = c.before.before in
-      let a = start.args in
-      none_left a.kinds.now a.operands.now start.requires.1.lined.even a.over a.levels a.at
+      let a = c.args in
+      none_left a.kinds.now a.operands.now c.requires.1.lined.even a.over a.levels a.at
       c.if-levels-eq0.true
 
   form_tree_loop_holds : Tree form-tree-lts.Need-loop-p-init
@@ -64,151 +63,98 @@ module _ (t : ℕ) where
 
   form_tree_returns_2 : Tree form-tree-lts.Need-returns-then-trees-eq-ENDS
   form_tree_returns_2 c =
-      let at-q = c.before.before in
-      let at-form-line = at-q.before.before in
-      let at_test = at-form-line.before in
-      let at-loop = at_test.before in
-      let at-if1 = at-loop.before in
-      let start = at-if1.before.before in
-      let a = start.args in
-      let line = at-form-line.form-line in
-      walk_ends a.kinds.now a.operands.now start.requires.1.lined.even a.over a.levels a.at _
-      at-loop.loop.invariant at-if1.if1.false at_test.loop-test.true line.result line.ensures _ _
-      at-q.q.given.1 c.if-trees-eq-ENDS.true
+      let a = c.args in
+      let line = c.form_line in
+      walk_ends a.kinds.now a.operands.now c.requires.1.lined.even a.over a.levels a.at _
+      c.loop-p.invariant c.if-levels-eq0.false c.loop-p-test.true line.result line.ensures _ _
+      c.q-1.given.1 c.if-trees-eq-ENDS.true
 
   form_tree_loop_less : Tree form-tree-lts.Need-loop-p-smaller-then-trees-eq0
   form_tree_loop_less c =
-      let at-q = c.before.before.before in
-      let at-form-line = at-q.before.before in
-      let at_test = at-form-line.before in
-      let at-loop = at_test.before in
-      let at-if1 = at-loop.before in
-      let start = at-if1.before.before in
-      let a = start.args in
-      let line = at-form-line.form-line in
+      let a = c.args in
+      let line = c.form_line in
       omega (
         arith,
-        at_test.loop-test.true,
-        is_later a.kinds.now a.operands.now start.requires.1.lined.even
-            a.over a.levels a.at _ at-loop.loop.invariant at-if1.if1.false at_test.loop-test.true
-            line.result line.ensures _ _ at-q.q.given.1,
+        c.loop-p-test.true,
+        is_later a.kinds.now a.operands.now c.requires.1.lined.even
+            a.over a.levels a.at _ c.loop-p.invariant c.if-levels-eq0.false c.loop-p-test.true
+            line.result line.ensures _ _ c.q-1.given.1,
       )
 
   form_tree_loop_again : Tree form-tree-lts.Need-loop-p-preserved-then-trees-eq0
   form_tree_loop_again c =
-      let at-q = c.before.before.before in
-      let at-form-line = at-q.before.before in
-      let at_test = at-form-line.before in
-      let at-loop = at_test.before in
-      let at-if1 = at-loop.before in
-      let start = at-if1.before.before in
-      let a = start.args in
-      let line = at-form-line.form-line in
-      walk_on a.kinds.now a.operands.now start.requires.1.lined.even a.over a.levels a.at _
-      at-loop.loop.invariant at-if1.if1.false at_test.loop-test.true line.result line.ensures _ _
-      at-q.q.given.1 c.if-trees-eq0.true
+      let a = c.args in
+      let line = c.form_line in
+      walk_on a.kinds.now a.operands.now c.requires.1.lined.even a.over a.levels a.at _
+      c.loop-p.invariant c.if-levels-eq0.false c.loop-p-test.true line.result line.ensures _ _
+      c.q-1.given.1 c.if-trees-eq0.true
 
   form_tree_form_trees_requires : Tree form-tree-lts.Need-form_trees-requires
   form_tree_form_trees_requires c κs =
-      let at-q = c.before.before.before in
-      let at-form-line = at-q.before.before in
-      let at_test = at-form-line.before in
-      let at-loop = at_test.before in
-      let at-if1 = at-loop.before in
-      let start = at-if1.before.before in
-      let a = start.args in
-      let line = at-form-line.form-line in (
-        omega (arith, start.requires.0, at-if1.if1.false),
+      let a = c.args in
+      let line = c.form_line in (
+        omega (arith, c.requires.0, c.if-levels-eq0.false),
         (
           omega (arith, c.if-trees-eq0.false),
           omega (
             arith,
             c.if-trees-eq-ENDS.false,
-            trees_are a.kinds.now a.operands.now start.requires.1.lined.even
-                a.over a.levels a.at _ at-loop.loop.invariant at-if1.if1.false at_test.loop-test.true
-                line.result line.ensures _ _ at-q.q.given.1,
+            trees_are a.kinds.now a.operands.now c.requires.1.lined.even
+                a.over a.levels a.at _ c.loop-p.invariant c.if-levels-eq0.false c.loop-p-test.true
+                line.result line.ensures _ _ c.q-1.given.1,
           ),
-          start.requires.1,
+          c.requires.1,
         ),
       )
 
   form_tree_loop_less_2 : Tree form-tree-lts.Need-loop-p-smaller
   form_tree_loop_less_2 c =
-      let at-form-trees = c.before.before.before in
-      let at-q = at-form-trees.before.before.before.before in
-      let at-form-line = at-q.before.before in
-      let at_test = at-form-line.before in
-      let at-loop = at_test.before in
-      let at-if1 = at-loop.before in
-      let start = at-if1.before.before in
-      let a = start.args in
-      let line = at-form-line.form-line in
-      let read = at-form-trees.form-trees in
+      let a = c.args in
+      let line = c.form_line in
+      let read = c.form_trees in
       omega (
         arith,
-        at_test.loop-test.true,
-        is_later a.kinds.now a.operands.now start.requires.1.lined.even
-            a.over a.levels a.at _ at-loop.loop.invariant at-if1.if1.false at_test.loop-test.true
-            line.result line.ensures _ _ at-q.q.given.1,
+        c.loop-p-test.true,
+        is_later a.kinds.now a.operands.now c.requires.1.lined.even
+            a.over a.levels a.at _ c.loop-p.invariant c.if-levels-eq0.false c.loop-p-test.true
+            line.result line.ensures _ _ c.q-1.given.1,
         risen _ read.result _ read.ensures.rises
             c.r-1.given.1,
       )
 
   form_tree_loop_again_2 : Tree form-tree-lts.Need-loop-p-preserved
   form_tree_loop_again_2 c =
-      let at-form-trees = c.before.before.before in
-      let at-if2 = at-form-trees.before.before in
-      let at-q = at-if2.before.before in
-      let at-form-line = at-q.before.before in
-      let at_test = at-form-line.before in
-      let at-loop = at_test.before in
-      let at-if1 = at-loop.before in
-      let start = at-if1.before.before in
-      let a = start.args in
-      let line = at-form-line.form-line in
-      walk_past_trees a.kinds.now a.operands.now start.requires.1.lined.even a.over a.levels a.at _
-      at-loop.loop.invariant at-if1.if1.false at_test.loop-test.true line.result line.ensures _ _
-      at-q.q.given.1 at-form-trees.form-trees.result at-form-trees.form-trees.ensures at-if2.if2.false _
+      let a = c.args in
+      let line = c.form_line in
+      walk_past_trees a.kinds.now a.operands.now c.requires.1.lined.even a.over a.levels a.at _
+      c.loop-p.invariant c.if-levels-eq0.false c.loop-p-test.true line.result line.ensures _ _
+      c.q-1.given.1 c.form_trees.result c.form_trees.ensures c.if-trees-eq-ENDS.false _
       c.r-1.given.1
 
   form_tree_returns_3 : Tree form-tree-lts.Need-returns-in-Fault
   form_tree_returns_3 c =
-      let at-form-trees = c.before.before.before in
-      let at-if2 = at-form-trees.before.before in
-      let at-q = at-if2.before.before in
-      let at-form-line = at-q.before.before in
-      let at_test = at-form-line.before in
-      let at-loop = at_test.before in
-      let at-if1 = at-loop.before in
-      let start = at-if1.before.before in
-      let a = start.args in
-      let line = at-form-line.form-line in
-      walk_stops a.kinds.now a.operands.now start.requires.1.lined.even a.over a.levels a.at _
-      at-loop.loop.invariant at-if1.if1.false at_test.loop-test.true line.result line.ensures _ _
-      at-q.q.given.1 at-form-trees.form-trees.result at-form-trees.form-trees.ensures at-if2.if2.false _
+      let a = c.args in
+      let line = c.form_line in
+      walk_stops a.kinds.now a.operands.now c.requires.1.lined.even a.over a.levels a.at _
+      c.loop-p.invariant c.if-levels-eq0.false c.loop-p-test.true line.result line.ensures _ _
+      c.q-1.given.1 c.form_trees.result c.form_trees.ensures c.if-trees-eq-ENDS.false _
       c.r-in-Fault-1.given.1
 
   form_tree_returns_4 : Tree form-tree-lts.Need-returns-in-Failed
   form_tree_returns_4 c =
-      let at-form-line = c.before.before.before in
-      let at_test = at-form-line.before in
-      let at-loop = at_test.before in
-      let at-if1 = at-loop.before in
-      let start = at-if1.before.before in
-      let a = start.args in
-      let line = at-form-line.form-line in
-      walk_fails a.kinds.now a.operands.now start.requires.1.lined.even a.over a.levels a.at _
-      at-loop.loop.invariant at-if1.if1.false at_test.loop-test.true line.result line.ensures _
+      let a = c.args in
+      let line = c.form_line in
+      walk_fails a.kinds.now a.operands.now c.requires.1.lined.even a.over a.levels a.at _
+      c.loop-p.invariant c.if-levels-eq0.false c.loop-p-test.true line.result line.ensures _
       c.q-in-Failed-1.given.1
 
   form_tree_returns_5 : Tree form-tree-lts.Need-returns
   form_tree_returns_5 c =
-      let start = c.before.before.before.before in
-      let a = start.args in
-      walk_past a.kinds.now a.operands.now start.requires.1.lined.even a.over a.levels a.at _
+      let a = c.args in
+      walk_past a.kinds.now a.operands.now c.requires.1.lined.even a.over a.levels a.at _
       c.loop-p.invariant (omega (arith, c.loop-p-test.false))
 
--- what is to be shown at a point of `form_trees`
+  -- what is to be shown at a point of `form_trees`
 module _ (t : ℕ) where
   abbrev Trees : (form-trees-lts.Claims → In 3 form-trees-lts.ps → Out 3 form-trees-lts.ps form-trees-lts.r → Type 0) →
       Type 0
@@ -216,30 +162,22 @@ module _ (t : ℕ) where
 
   form_trees_returns : Trees form-trees-lts.Need-returns-then-trees-eq1
   form_trees_returns c =
-      let at-q = c.before.before in
-      let at-form-tree = at-q.before.before in
-      let start = at-form-tree.before.before in
-      let a = start.args in
-      one_tree _ _ a.at at-form-tree.form-tree.result at-form-tree.form-tree.ensures a.trees _
-      at-q.q.given.1 c.if-trees-eq1.true
+      let a = c.args in
+      one_tree _ _ a.at c.form_tree.result c.form_tree.ensures a.trees _
+      c.q-1.given.1 c.if-trees-eq1.true
 
   form_trees_returns_2 : Trees form-trees-lts.Need-returns-else-trees-eq1
   form_trees_returns_2 c =
-      let at-q = c.before.before.before in
-      let at-form-tree = at-q.before.before in
-      let start = at-form-tree.before.before in
-      let a = start.args in
-      two_trees _ _ a.at at-form-tree.form-tree.result at-form-tree.form-tree.ensures a.trees _
-      at-q.q.given.1 (omega (arith, c.if-trees-eq1.false, start.requires.1)) c.form_tree-in-Next.result
+      let a = c.args in
+      two_trees _ _ a.at c.form_tree.result c.form_tree.ensures a.trees _
+      c.q-1.given.1 (omega (arith, c.if-trees-eq1.false, c.requires.1)) c.form_tree-in-Next.result
       c.form_tree-in-Next.ensures
 
   form_trees_returns_3 : Trees form-trees-lts.Need-returns-in-Fault
   form_trees_returns_3 c =
-      let at-form-tree = c.before.before.before in
-      let start = at-form-tree.before.before in
-      let a = start.args in
-      no_tree _ _ a.at at-form-tree.form-tree.result at-form-tree.form-tree.ensures a.trees _
-      c.q-in-Fault-1.given.1 (omega (arith, start.requires.1))
+      let a = c.args in
+      no_tree _ _ a.at c.form_tree.result c.form_tree.ensures a.trees _
+      c.q-in-Fault-1.given.1 (omega (arith, c.requires.1))
 
 pub +form_tree_form_trees_spec : {M : Type 1} → statement M
 +form_tree_form_trees_spec =

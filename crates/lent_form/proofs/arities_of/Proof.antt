@@ -18,58 +18,42 @@ loop_holds c = counting_starts _ _ refl (blank_table 32)
 
 loop_again : tie.Need-loop-p-preserved-then-kinds-p-ne-FUNCTION invariant_loop decreases_loop
 loop_again c =
-    let at_test = c.before.before in
-    let at-loop = at_test.before in
-    let start = at-loop.before.before in
-    let a = start.args in
-    count_other a.kinds.now a.operands.now start.requires.even _ _ _ at-loop.loop-p.invariant
-    at_test.loop-p-test.true c.if-kinds-p-ne-FUNCTION.true
+    let a = c.args in
+    count_other a.kinds.now a.operands.now c.requires.even _ _ _ c.loop-p.invariant
+    c.loop-p-test.true c.if-kinds-p-ne-FUNCTION.true
 
 returns : tie.Need-returns-then-f-eq32 invariant_loop decreases_loop
 returns c =
-    let at-loop = c.before.before.before.before in
-    let start = at-loop.before.before in
-    let a = start.args in
-    all_counted a.kinds.now a.operands.now start.requires.even _ _ _ at-loop.loop-p.invariant c.if-f-eq32.true
+    let a = c.args in
+    all_counted a.kinds.now a.operands.now c.requires.even _ _ _ c.loop-p.invariant c.if-f-eq32.true
 
 -- the number of a function's line
 number : (c : tie.After-arity_in invariant_loop decreases_loop) →
-    let t = c.before.before.before.before.before.before in
     wants_byte c.arity_in.result
-    ≡ wants_of (arity_of (parts_of 0 (get_or t.args.operands.now t.loop-p.p (pos 0))))
+    ≡ wants_of (arity_of (parts_of 0 (get_or c.args.operands.now c.loop-p.p (pos 0))))
 number c =
-    let at-loop = c.before.before.before.before.before.before in
-    let start = at-loop.before.before in
-    rw (to_z-of_z {z = get_or start.args.operands.now at-loop.loop-p.p (pos 0)}
+    rw (to_z-of_z {z = get_or c.args.operands.now c.loop-p.p (pos 0)}
     (record { sfits = c.arity_in-arg-1.given })) at c.arity_in.ensures
 
 loop_again_2 : tie.Need-loop-p-preserved invariant_loop decreases_loop
 loop_again_2 c =
-    let at-if2 = c.before.before in
-    let at-if1 = at-if2.before in
-    let at_test = at-if1.before.before in
-    let at-loop = at_test.before in
-    let start = at-loop.before.before in
-    let a = start.args in
-    count_function a.kinds.now a.operands.now start.requires.even _ _ _ at-loop.loop-p.invariant
-    at_test.loop-p-test.true at-if1.if-kinds-p-ne-FUNCTION.false at-if2.if-f-eq32.false c.arity_in.result (number c)
+    let a = c.args in
+    count_function a.kinds.now a.operands.now c.requires.even _ _ _ c.loop-p.invariant
+    c.loop-p-test.true c.if-kinds-p-ne-FUNCTION.false c.if-f-eq32.false c.arity_in.result (number c)
 
 returns_2 : tie.Need-returns invariant_loop decreases_loop
 returns_2 c =
-    let start = c.before.before.before in
-    let a = start.args in
-    no_more a.kinds.now a.operands.now start.requires.even _ _ _ c.loop-p.invariant
+    let a = c.args in
+    no_more a.kinds.now a.operands.now c.requires.even _ _ _ c.loop-p.invariant
     (omega (arith, c.loop-p-test.false))
 
 shared_slice_copy_out_arity_in : tie.Need-bounds-operands-p invariant_loop decreases_loop
 shared_slice_copy_out_arity_in c =
-    let at_test = c.before.before.before in
-    omega (arith, at_test.loop-p-test.true, at_test.requires.even)
+    omega (arith, c.loop-p-test.true, c.requires.even)
 
 array_write_arities : tie.Need-bounds-arities-f invariant_loop decreases_loop
 array_write_arities c =
-    let at-if2 = c.before.before in
-    omega (arith, at-if2.if-f-eq32.false, at-if2.loop-p.invariant.most)
+    omega (arith, c.if-f-eq32.false, c.loop-p.invariant.most)
 
 add_f : tie.Need-overflow_add-f invariant_loop decreases_loop
 add_f c = omega (arith, c.loop-p.invariant.most)

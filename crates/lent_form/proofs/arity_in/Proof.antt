@@ -7,23 +7,18 @@ use Rattle.lent_form.proofs.arity_in.Tie as tie
 
 word : (c : tie.After-natural-n) → c.natural-n.result ≡ natural c.args.operand
 word c =
-    let start = c.before in
-    rw (to_z-of_z {z = start.args.operand} start.ranges.operand) at c.natural-n.ensures
+    rw (to_z-of_z {z = c.args.operand} c.ranges.operand) at c.natural-n.ensures
 
 returns : tie.Need-returns-then-within
 unfolding limits_of
 returns c =
-    let at-natural = c.before.before in
-    let start = at-natural.before in
-    arity_fits start.args.operand at-natural.natural-n.result (word at-natural)
+    let at-natural = c.before.before in arity_fits at-natural.args.operand at-natural.natural-n.result (word at-natural)
     (sym c.within.ensures ∙ c.if-within.true)
 
 returns_2 : tie.Need-returns
 unfolding limits_of
 returns_2 c =
-    let at-natural = c.before.before in
-    let start = at-natural.before in
-    arity_unfit start.args.operand at-natural.natural-n.result (word at-natural)
+    let at-natural = c.before.before in arity_unfit at-natural.args.operand at-natural.natural-n.result (word at-natural)
     (sym c.within.ensures ∙ c.if-within.false)
 
 pub arity_in_spec : {M : Type 1} → statement M

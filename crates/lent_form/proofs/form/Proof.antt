@@ -12,8 +12,7 @@ all_lines : (c : tie.After-greater-all) →
     c.args.operands.now
 unfolding code_length
 all_lines c =
-    let at-used-kinds = c.before.before in
-    c.greater-all.ensures ∙ rw (at-used-kinds.used_kinds.ensures, c.used_operands.ensures)
+    c.greater-all.ensures ∙ rw (c.used_kinds.ensures, c.used_operands.ensures)
 
 room_for : (c : tie.After-lesser-room) →
     c.lesser-room.result ≡ min 4096
@@ -25,37 +24,27 @@ lined : (c : tie.After-lesser-lines) →
     let a = c.args in
     Lined (take (c.lesser-lines.result - 0) a.kinds.now) (take (c.lesser-lines.result - 0) a.operands.now)
 lined c =
-    let at-lesser2 = c.before in
-    let at_Greater = at-lesser2.before.before in
-    let start = at_Greater.before.before.before.before in
-    let a = start.args in
+    let at-lesser2 = c.before in let at_Greater = at-lesser2.before.before in let a = at_Greater.args in
     cut_lined a.kinds.now a.operands.now at_Greater.greater-all.result at-lesser2.lesser-room.result
     (c.lesser-lines.result - 0) (all_lines at_Greater) (room_for at-lesser2) (omega (arith, c.lesser-lines.ensures))
 
-part_cut_kinds_end : tie.Need-slice-bounds-cut-kinds-end
+part_cut_kinds_end : tie.Need-slice_bounds-cut_kinds-end
 part_cut_kinds_end c = omega (arith, c.lesser-lines.ensures, room_for c.before)
 
-part_cut_operands_end : tie.Need-slice-bounds-cut-operands-end
+part_cut_operands_end : tie.Need-slice_bounds-cut_operands-end
 part_cut_operands_end c =
     omega (arith, c.lesser-lines.ensures, room_for c.before.before)
 
 form_functions_requires : tie.Need-form_functions-requires
 form_functions_requires c κs =
-    let at-arities-of = c.before.before in
-    let at-lesser3 = at-arities-of.before.before.before in
-    let start = at-lesser3.before.before.before.before.before.before.before in
-    (record { lined = lined at-lesser3; known = at-arities-of.arities_of-arities.ensures }, start.requires)
+    let at-lesser3 = c.before.before.before.before.before in (record { lined = lined at-lesser3; known = c.arities_of-arities.ensures }, at-lesser3.requires)
 
 returns : tie.Need-returns
 returns c =
-    let at-lesser3 = c.before.before.before.before.before.before in
-    let at-lesser2 = at-lesser3.before in
-    let at_Greater = at-lesser2.before.before in
-    let start = at_Greater.before.before.before.before in
-    let a = start.args in
+    let at-lesser2 = c.before.before.before.before.before.before.before in let at_Greater = at-lesser2.before.before in let a = at_Greater.args in
     rw (cut_form a.kinds.now a.operands.now at_Greater.greater-all.result at-lesser2.lesser-room.result
-    (at-lesser3.lesser-lines.result - 0) (all_lines at_Greater) (room_for at-lesser2)
-    (omega (arith, at-lesser3.lesser-lines.ensures))) at c.form_functions.ensures
+    (c.lesser-lines.result - 0) (all_lines at_Greater) (room_for at-lesser2)
+    (omega (arith, c.lesser-lines.ensures))) at c.form_functions.ensures
 
 pub form_spec : {M : Type 1} → statement M
 form_spec =

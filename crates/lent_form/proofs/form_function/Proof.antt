@@ -6,36 +6,25 @@ use Rattle.lent_form.proofs.form_function.Tie as tie
 
 returns : tie.Need-returns-in-Next
 returns c =
-    let at-r = c.before in
-    let at-form-parameters = at-r.before in
-    let at_count = at-form-parameters.before in
-    let at-form-head = at_count.before in
-    let start = at-form-head.before.before in
-    let a = start.args in
-    let head = at-form-head.form_head in
-    let read = at-form-parameters.form_parameters in
+    let a = c.args in
+    let head = c.form_head in
+    let read = c.form_parameters in
     function_read a.kinds.now a.operands.now a.over a.at head.result head.ensures _ _
-    at_count.in-Fits.is read.result read.ensures _ at-r.in-Next.is c.form_tree.result
-    start.requires.lined.few c.form_tree.ensures
+    c.in-Fits.is read.result read.ensures _ c.in-Next.is c.form_tree.result
+    c.requires.lined.few c.form_tree.ensures
 
 returns_2 : tie.Need-returns-in-Fault
 returns_2 c =
-    let at-form-parameters = c.before in
-    let at_count = at-form-parameters.before in
-    let at-form-head = at_count.before in
-    let start = at-form-head.before.before in
-    let a = start.args in
-    let head = at-form-head.form_head in
-    let read = at-form-parameters.form_parameters in
+    let a = c.args in
+    let head = c.form_head in
+    let read = c.form_parameters in
     parameters_fail a.kinds.now a.operands.now a.over a.at head.result head.ensures _ _
-    at_count.in-Fits.is read.result read.ensures _ c.in-Fault.is
+    c.in-Fits.is read.result read.ensures _ c.in-Fault.is
 
 returns_3 : tie.Need-returns-in-Unfit
 returns_3 c =
-    let at-form-head = c.before in
-    let start = at-form-head.before.before in
-    let a = start.args in
-    let head = at-form-head.form_head in
+    let a = c.args in
+    let head = c.form_head in
     function_fails a.kinds.now a.operands.now a.over a.at head.result head.ensures _
     c.in-Unfit.is
 

@@ -21,52 +21,37 @@ element_write_starts c = omega (arith, c.loop-f.invariant.long)
 
 returns : tie.Need-returns-in-Fault invariant_loop decreases_loop
 returns c =
-    let at-form-function = c.before in
-    let at_test = at-form-function.before in
-    let at-loop = at_test.before in
-    let start = at-loop.before.before in
-    let a = start.args in
-    let loop = at-loop.loop-f in
-    let read = at-form-function.form_function in
-    stops_at _ _ _ _ _ _ loop.invariant at_test.loop-f-test.true _ (function_faulty a.kinds.now a.operands.now
+    let a = c.args in
+    let loop = c.loop-f in
+    let read = c.form_function in
+    stops_at _ _ _ _ _ _ loop.invariant c.loop-f-test.true _ (function_faulty a.kinds.now a.operands.now
     a.over loop.p read.result read.ensures _ c.in-Fault.is)
 
 returns_2 : tie.Need-returns-then-not-goes_on invariant_loop decreases_loop
 returns_2 c =
-    let at-q = c.before.before in
-    let at-form-function = at-q.before in
-    let at_test = at-form-function.before in
-    let at-loop = at_test.before in
-    let start = at-loop.before.before in
-    let a = start.args in
-    let loop = at-loop.loop-f in
-    let read = at-form-function.form_function in
+    let a = c.args in
+    let loop = c.loop-f in
+    let read = c.form_function in
     let found = function_found a.kinds.now a.operands.now a.over loop.p read.result read.ensures _
-    at-q.in-Next.is in
-    ends_here _ _ _ _ _ _ loop.invariant at_test.loop-f-test.true found.0 _ found.1 (going a.kinds.now
-    a.operands.now start.requires.0.lined.even a.over _ _ c.goes_on.ensures _
+    c.in-Next.is in
+    ends_here _ _ _ _ _ _ loop.invariant c.loop-f-test.true found.0 _ found.1 (going a.kinds.now
+    a.operands.now c.requires.0.lined.even a.over _ _ c.goes_on.ensures _
     c.if-not-goes_on.true)
 
 loop_again : tie.Need-loop-f-preserved invariant_loop decreases_loop
 loop_again c =
-    let at-q = c.before.before in
-    let at-form-function = at-q.before in
-    let at_test = at-form-function.before in
-    let at-loop = at_test.before in
-    let start = at-loop.before.before in
-    let a = start.args in
-    let loop = at-loop.loop-f in
-    let read = at-form-function.form_function in
+    let a = c.args in
+    let loop = c.loop-f in
+    let read = c.form_function in
     let found = function_found a.kinds.now a.operands.now a.over loop.p read.result read.ensures _
-    at-q.in-Next.is in
-    forms_more _ _ _ _ _ _ loop.invariant at_test.loop-f-test.true found.0 _ found.1 (going a.kinds.now
-    a.operands.now start.requires.0.lined.even a.over _ _ c.goes_on.ensures _
+    c.in-Next.is in
+    forms_more _ _ _ _ _ _ loop.invariant c.loop-f-test.true found.0 _ found.1 (going a.kinds.now
+    a.operands.now c.requires.0.lined.even a.over _ _ c.goes_on.ensures _
     c.if-not-goes_on.false)
 
 returns_3 : tie.Need-returns invariant_loop decreases_loop
 returns_3 c =
-    let at-loop = c.before in
-    too_many _ _ _ _ _ _ at-loop.loop-f.invariant (omega (arith, c.loop-f-test.false, at-loop.loop-f.invariant.most))
+    too_many _ _ _ _ _ _ c.loop-f.invariant (omega (arith, c.loop-f-test.false, c.loop-f.invariant.most))
 
 pub form_functions_spec : {M : Type 1} → statement M
 form_functions_spec =

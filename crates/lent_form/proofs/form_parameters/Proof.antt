@@ -17,36 +17,27 @@ decreases_loop kinds operands over at count p₀ left₀ p left = left
 
 returns : tie.Need-returns-in-Unfit invariant_loop decreases_loop
 returns c =
-    let at-form-head = c.before in
-    let at_test = at-form-head.before in
-    let at-loop = at_test.before in
-    let start = at-loop.before.before in
-    let a = start.args in
-    let loop = at-loop.loop-left in
-    let head = at-form-head.form_head in
+    let a = c.args in
+    let loop = c.loop-left in
+    let head = c.form_head in
     repeated_stops (parameter_passed a.kinds.now a.operands.now a.over) a.count loop.left a.at
-    loop.p loop.invariant.1 at_test.loop-left-test.true _ (parameter_fails a.kinds.now a.operands.now
+    loop.p loop.invariant.1 c.loop-left-test.true _ (parameter_fails a.kinds.now a.operands.now
     a.over loop.p head.result head.ensures _ c.in-Unfit.is)
 
 loop_again : tie.Need-loop-left-preserved invariant_loop decreases_loop
 loop_again c =
-    let at-form-head = c.before in
-    let at_test = at-form-head.before in
-    let at-loop = at_test.before in
-    let start = at-loop.before.before in
-    let a = start.args in
-    let loop = at-loop.loop-left in
-    let head = at-form-head.form_head in (
+    let a = c.args in
+    let loop = c.loop-left in
+    let head = c.form_head in (
       omega (arith, loop.invariant.0),
       repeated_goes (parameter_passed a.kinds.now a.operands.now a.over) a.count loop.left a.at
-          loop.p loop.invariant.1 at_test.loop-left-test.true _ (parameter_fits a.kinds.now a.operands.now
+          loop.p loop.invariant.1 c.loop-left-test.true _ (parameter_fits a.kinds.now a.operands.now
           a.over loop.p head.result head.ensures _ _ c.in-Fits.is),
     )
 
 returns_2 : tie.Need-returns invariant_loop decreases_loop
 returns_2 c =
-    let start = c.before.before.before in
-    let a = start.args in
+    let a = c.args in
     let loop = c.loop-left in
     repeated_none (parameter_passed a.kinds.now a.operands.now a.over) a.count loop.left a.at
     loop.p loop.invariant.1 (omega (arith, c.loop-left-test.false))

@@ -13,27 +13,22 @@ decreases_loop kinds n₀ n = n
 
 returns : tie.Need-returns-then-kinds-n-ne0 invariant_loop decreases_loop
 returns c =
-    let at_test = c.before.before in
-    let at-loop = at_test.before in
-    let loop = at-loop.loop-n in
+    let loop = c.loop-n in
     sym (loop.invariant.1
-    ∙ used_here (λ k. eqb k 0) 0 _ loop.n at_test.loop-n-test.true loop.invariant.0 (ne_eqb _ 0 c.if-kinds-n-ne0.true))
+    ∙ used_here (λ k. eqb k 0) 0 _ loop.n c.loop-n-test.true loop.invariant.0 (ne_eqb _ 0 c.if-kinds-n-ne0.true))
 
 loop_again : tie.Need-loop-n-preserved invariant_loop decreases_loop
 loop_again c =
-    let at_test = c.before.before in
-    let at-loop = at_test.before in
-    let loop = at-loop.loop-n in (
+    let loop = c.loop-n in (
       omega (arith, loop.invariant.0),
       loop.invariant.1
-          ∙ used_zero (λ k. eqb k 0) 0 _ loop.n at_test.loop-n-test.true loop.invariant.0
+          ∙ used_zero (λ k. eqb k 0) 0 _ loop.n c.loop-n-test.true loop.invariant.0
           (eq-eqb _ 0 c.if-kinds-n-ne0.false),
     )
 
 returns_2 : tie.Need-returns invariant_loop decreases_loop
 returns_2 c =
-    let at-loop = c.before in
-    sym (at-loop.loop-n.invariant.1 ∙ used_none (λ k. eqb k 0) _ at-loop.loop-n.n (omega (arith, c.loop-n-test.false)))
+    sym (c.loop-n.invariant.1 ∙ used_none (λ k. eqb k 0) _ c.loop-n.n (omega (arith, c.loop-n-test.false)))
 
 pub used_kinds_spec : {M : Type 1} → statement M
 used_kinds_spec =

@@ -14,30 +14,23 @@ decreases_loop operands n₀ n = n
 
 returns : tie.Need-returns-then-operands-n-ne0 invariant_loop decreases_loop
 returns c =
-    let at_test = c.before.before in
-    let at-loop = at_test.before in
-    let start = at-loop.before in
-    let loop = at-loop.loop-n in
+    let loop = c.loop-n in
     sym (loop.invariant.1
-    ∙ used_here is_zero (pos 0) _ loop.n at_test.loop-n-test.true loop.invariant.0
-    (other_word (get_or start.args.operands.now (loop.n - 1) (pos 0)) c.if-operands-n-ne0.true))
+    ∙ used_here is_zero (pos 0) _ loop.n c.loop-n-test.true loop.invariant.0
+    (other_word (get_or c.args.operands.now (loop.n - 1) (pos 0)) c.if-operands-n-ne0.true))
 
 loop_again : tie.Need-loop-n-preserved invariant_loop decreases_loop
 loop_again c =
-    let at_test = c.before.before in
-    let at-loop = at_test.before in
-    let start = at-loop.before in
-    let loop = at-loop.loop-n in (
+    let loop = c.loop-n in (
       omega (arith, loop.invariant.0),
       loop.invariant.1
-          ∙ used_zero is_zero (pos 0) _ loop.n at_test.loop-n-test.true loop.invariant.0 (zero_word
-          (get_or start.args.operands.now (loop.n - 1) (pos 0)) c.t7-1.given c.if-operands-n-ne0.false),
+          ∙ used_zero is_zero (pos 0) _ loop.n c.loop-n-test.true loop.invariant.0 (zero_word
+          (get_or c.args.operands.now (loop.n - 1) (pos 0)) c.t7-1.given c.if-operands-n-ne0.false),
     )
 
 returns_2 : tie.Need-returns invariant_loop decreases_loop
 returns_2 c =
-    let at-loop = c.before in
-    sym (at-loop.loop-n.invariant.1 ∙ used_none is_zero _ at-loop.loop-n.n (omega (arith, c.loop-n-test.false)))
+    sym (c.loop-n.invariant.1 ∙ used_none is_zero _ c.loop-n.n (omega (arith, c.loop-n-test.false)))
 
 pub used_operands_spec : {M : Type 1} → statement M
 used_operands_spec =

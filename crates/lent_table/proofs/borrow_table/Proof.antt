@@ -5,53 +5,50 @@ use Rattle.lent_table.proofs.Rounds.{working_more, working_last}
 use Rattle.lent_table.proofs.borrow_table.Statement.{statement}
 use Rattle.lent_table.proofs.borrow_table.Tie as tie
 
-abbrev invariant_loop : tie.invariant_loop
+abbrev invariant_loop : tie.invariant-loop-left
 invariant_loop kinds operands starts functions t₀ left₀ t left = Working kinds operands starts functions left t
 
-abbrev decreases_loop : tie.decreases_loop
+abbrev decreases_loop : tie.decreases-loop-left
 decreases_loop kinds operands starts functions t₀ left₀ t left = left
 
-loop_holds : tie.Need-loop-init invariant_loop decreases_loop
+loop_holds : tie.Need-loop-left-init invariant_loop decreases_loop
 loop_holds c =
-    let a = c.before.args in
+    let a = c.args in
     working_first a.kinds.now a.operands.now a.starts.now a.functions _ all_true
 
-rework_requires : tie.Need-rework-requires invariant_loop decreases_loop
+rework_requires : tie.Need-rework-u-requires invariant_loop decreases_loop
 rework_requires c κs =
-    let pre = c.before.before.before.before.requires in (pre.0, pre.1, c.before.before.loop.invariant.shaped)
+    let pre = c.requires in (pre.0, pre.1, c.loop-left.invariant.shaped)
 
-same_tables_requires : tie.Need-same-tables-requires invariant_loop decreases_loop
+same_tables_requires : tie.Need-same_tables-requires invariant_loop decreases_loop
 same_tables_requires c κs =
-    let at-loop = c.before.before.before.before.before in
-    let a = at-loop.before.before.args in
-    let t = at-loop.loop in
-    let u = c.before.before.rework in (
+    let a = c.args in
+    let t = c.loop-left in
+    let u = c.rework-u in (
       t.invariant.shaped,
       round_shaped a.kinds.now a.operands.now a.starts.now a.functions t.t u.result u.ensures,
       round_past a.kinds.now a.operands.now a.starts.now a.functions t.t u.result t.invariant.shaped
           u.ensures,
     )
 
-returns : tie.Need-returns invariant_loop decreases_loop
+returns : tie.Need-returns-then-same_tables invariant_loop decreases_loop
 returns c =
-    let in-loop = c.before.before.before.before.before.before in
-    let a = in-loop.before.before.before.args in
-    let u = c.before.before.before.before.rework in
-    working_same a.kinds.now a.operands.now a.starts.now a.functions in-loop.before.loop.invariant
-    in-loop.loop-test.true u.result u.ensures (sym c.before.same_tables.ensures ∙ c.if1.true)
+    let a = c.args in
+    let u = c.rework-u in
+    working_same a.kinds.now a.operands.now a.starts.now a.functions c.loop-left.invariant
+    c.loop-left-test.true u.result u.ensures (sym c.same_tables.ensures ∙ c.if-same_tables.true)
 
-loop_again : tie.Need-loop-preserved invariant_loop decreases_loop
+loop_again : tie.Need-loop-left-preserved invariant_loop decreases_loop
 loop_again c =
-    let in-loop = c.before.before.before.before.before.before in
-    let a = in-loop.before.before.before.args in
-    let u = c.before.before.before.before.rework in
-    working_more a.kinds.now a.operands.now a.starts.now a.functions in-loop.before.loop.invariant
-    in-loop.loop-test.true u.result u.ensures (sym c.before.same_tables.ensures ∙ c.if1.false)
+    let a = c.args in
+    let u = c.rework-u in
+    working_more a.kinds.now a.operands.now a.starts.now a.functions c.loop-left.invariant
+    c.loop-left-test.true u.result u.ensures (sym c.same_tables.ensures ∙ c.if-same_tables.false)
 
-returns_2 : tie.Need-returns-2 invariant_loop decreases_loop
+returns_2 : tie.Need-returns invariant_loop decreases_loop
 returns_2 c =
-    let a = c.before.before.before.args in
-    working_last a.kinds.now a.operands.now a.starts.now a.functions c.before.loop.invariant
+    let a = c.args in
+    working_last a.kinds.now a.operands.now a.starts.now a.functions c.loop-left.invariant
     (omega arith)
 
 pub borrow_table_spec : {M : Type 1} → statement M

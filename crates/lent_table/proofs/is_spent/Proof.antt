@@ -5,17 +5,17 @@ use Rattle.lent_table.proofs.Rounds.{not_there, there}
 use Rattle.lent_table.proofs.is_spent.Statement.{statement}
 use Rattle.lent_table.proofs.is_spent.Tie as tie
 
-returns : tie.Need-returns
+returns : tie.Need-returns-then-count-i
 returns c =
-    let a = c.before.before.args in
-    not_there a.operands.now (set_of a.spent.now) a.at a.i c.before.name_at.result
-    c.before.name_at.ensures (omega arith)
+    let a = c.args in
+    not_there a.operands.now (set_of a.spent.now) a.at a.i c.name_at-count.result
+    c.name_at-count.ensures (omega arith)
 
-returns_2 : tie.Need-returns-2
+returns_2 : tie.Need-returns
 returns_2 c =
-    let a = c.before.before.before.before.args in
-    let count = c.before.before.before.name_at in
-    let x = c.before.name-at2 in
+    let a = c.args in
+    let count = c.name_at-count in
+    let x = c.name_at-x in
     there a.operands.now (set_of a.spent.now) a.at a.i count.result x.result
     count.ensures (omega arith)
     x.ensures

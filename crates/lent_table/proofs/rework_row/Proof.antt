@@ -7,36 +7,36 @@ use Rattle.lent_table.proofs.Rounds.{entry_so}
 use Rattle.lent_table.proofs.rework_row.Statement.{statement}
 use Rattle.lent_table.proofs.rework_row.Tie as tie
 
-abbrev invariant_loop : tie.invariant_loop
+abbrev invariant_loop : tie.invariant-loop-i
 invariant_loop kinds operands starts functions borrowed f row₀ spent at i₀ row i =
     Filled (stays kinds operands starts functions borrowed f) false 8 i row
 
-abbrev decreases_loop : tie.decreases_loop
+abbrev decreases_loop : tie.decreases-loop-i
 decreases_loop kinds operands starts functions borrowed f row₀ spent at i₀ row i = 8 - i
 
-loop_holds : tie.Need-loop-init invariant_loop decreases_loop
+loop_holds : tie.Need-loop-i-init invariant_loop decreases_loop
 loop_holds c = filled_none _ _ _ _ (length-replicate 8 false)
 
-stays_so_requires : tie.Need-stays-so-requires invariant_loop decreases_loop
+stays_so_requires : tie.Need-stays_so-b-requires invariant_loop decreases_loop
 stays_so_requires c κs = (
-  c.before.before.before.before.spent_by.ensures.1,
-  c.before.before.before.start_at.ensures.1,
-  c.before.loop-test.true,
+  c.spent_by-spent.ensures.1,
+  c.start_at-at.ensures.1,
+  c.loop-i-test.true,
 )
 
-loop_again : tie.Need-loop-preserved invariant_loop decreases_loop
+loop_again : tie.Need-loop-i-preserved invariant_loop decreases_loop
 loop_again c =
-    let a = c.before.before.before.before.before.before.before.args in
-    let at = c.before.before.before.before.start_at in
-    let spent = c.before.before.before.before.before.spent_by in
-    let loop = c.before.before.before.loop in
-    filled_next _ _ _ loop.invariant c.before.before.loop-test.true c.stays-so.result
+    let a = c.args in
+    let at = c.start_at-at in
+    let spent = c.spent_by-spent in
+    let loop = c.loop-i in
+    filled_next _ _ _ loop.invariant c.loop-i-test.true c.stays_so-b.result
     (entry_so a.kinds.now a.operands.now a.starts.now a.functions a.borrowed.now a.f at.result
-    at.ensures.0 (set_of spent.result) spent.ensures.0 loop.i c.stays-so.result
-    c.stays-so.ensures)
+    at.ensures.0 (set_of spent.result) spent.ensures.0 loop.i c.stays_so-b.result
+    c.stays_so-b.ensures)
 
 returns : tie.Need-returns invariant_loop decreases_loop
-returns c = filled_whole _ _ _ c.before.loop.invariant (omega arith)
+returns c = filled_whole _ _ _ c.loop-i.invariant (omega arith)
 
 pub rework_row_spec : {M : Type 1} → statement M
 rework_row_spec =

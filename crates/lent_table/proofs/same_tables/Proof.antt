@@ -6,44 +6,42 @@ use Rattle.lent_table.proofs.Tables.{differing}
 use Rattle.lent_table.proofs.same_tables.Statement.{statement}
 use Rattle.lent_table.proofs.same_tables.Tie as tie
 
-abbrev invariant_loop : tie.invariant_loop
+abbrev invariant_loop : tie.invariant-loop-k
 invariant_loop a b functions rows k₀ k = Agreeing a b k
 
-abbrev decreases_loop : tie.decreases_loop
+abbrev decreases_loop : tie.decreases-loop-k
 decreases_loop a b functions rows k₀ k = 256 - k
 
-loop_holds : tie.Need-loop-init invariant_loop decreases_loop
+loop_holds : tie.Need-loop-k-init invariant_loop decreases_loop
 loop_holds c = agreeing_none _ _
 
-returns : tie.Need-returns invariant_loop decreases_loop
+returns : tie.Need-returns-then-not-agree invariant_loop decreases_loop
 returns c =
-    let a = c.before.before.before.before.before.before.before.args in
-    let k = c.before.before.before.before.before.loop.k in
-    let x = c.before.before.before.is-borrowed in
-    let y = c.before.before.is-borrowed2 in
+    let a = c.args in
+    let k = c.loop-k.k in
+    let x = c.is_borrowed-x in
+    let y = c.is_borrowed-y in
     differing a.a.now a.b.now (k / 8) (k % 8)
     (as_read a.a.now a.b.now (k / 8) (k % 8) x.result y.result x.ensures y.ensures
-    (failed c.before.agree.ensures c.if1.true))
+    (failed c.agree.ensures c.if-not-agree.true))
 
-loop_again : tie.Need-loop-preserved invariant_loop decreases_loop
+loop_again : tie.Need-loop-k-preserved invariant_loop decreases_loop
 loop_again c =
-    let rows = c.before.before.before.before.before.before in
-    let a = rows.before.args in
-    let loop = c.before.before.before.before.before.loop in
-    let x = c.before.before.before.is-borrowed in
-    let y = c.before.before.is-borrowed2 in
+    let a = c.args in
+    let loop = c.loop-k in
+    let x = c.is_borrowed-x in
+    let y = c.is_borrowed-y in
     agreeing_more a.a.now a.b.now loop.invariant
-    (omega (arith, c.before.before.before.before.loop-test.true, rows.rows_of_lem.ensures.1))
+    (omega (arith, c.loop-k-test.true, c.before.before.before.before.before.before.rows_of_lem.ensures.1))
     (as_read a.a.now a.b.now (loop.k / 8) (loop.k % 8) x.result y.result x.ensures y.ensures
-    (passed c.before.agree.ensures c.if1.false))
+    (passed c.agree.ensures c.if-not-agree.false))
 
-returns_2 : tie.Need-returns-2 invariant_loop decreases_loop
+returns_2 : tie.Need-returns invariant_loop decreases_loop
 returns_2 c =
-    let start = c.before.before.before in
-    let a = start.args in
+    let a = c.args in
     let rows = c.before.before.rows_of_lem in
-    agreeing_all a.a.now a.b.now c.before.loop.invariant a.functions rows.result rows.ensures
-    (omega arith) start.requires.0 start.requires.1 start.requires.2
+    agreeing_all a.a.now a.b.now c.loop-k.invariant a.functions rows.result rows.ensures
+    (omega arith) c.requires.0 c.requires.1 c.requires.2
 
 pub same_tables_spec : {M : Type 1} → statement M
 same_tables_spec =

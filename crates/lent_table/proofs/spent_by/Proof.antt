@@ -5,24 +5,24 @@ use Rattle.lent_table.proofs.Rounds.{spent_none, spent_so}
 use Rattle.lent_table.proofs.spent_by.Statement.{statement}
 use Rattle.lent_table.proofs.spent_by.Tie as tie
 
-returns : tie.Need-returns
+returns : tie.Need-returns-then-functions-f
 returns c =
-    let a = c.before.before.args in (
+    let a = c.args in (
       spent_none a.kinds.now a.operands.now a.starts.now a.functions a.borrowed.now a.f
-          c.if1.true,
+          c.if-functions-f.true,
       length-replicate 256 false,
     )
 
-returns_2 : tie.Need-returns-2
+returns_2 : tie.Need-returns
 returns_2 c =
-    let a = c.before.before.before.before.before.before.args in
-    let at = c.before.before.before.start_at in
-    let count = c.before.before.name_at in
-    let to = c.before.end_at in (
+    let a = c.args in
+    let at = c.start_at-at in
+    let count = c.name_at-count in
+    let to = c.end_at-to in (
       spent_so a.kinds.now a.operands.now a.starts.now a.functions a.borrowed.now a.f
           (omega arith) at.result count.result to.result at.ensures.0 count.ensures to.ensures.0
-          (set_of c.spent-in.result) c.spent-in.ensures.0,
-      c.spent-in.ensures.1,
+          (set_of c.spent_in.result) c.spent_in.ensures.0,
+      c.spent_in.ensures.1,
     )
 
 pub spent_by_spec : {M : Type 1} → statement M

@@ -7,28 +7,28 @@ use Rattle.lent_table.proofs.Rounds.{stay_main, stay_spent, stay_kept}
 use Rattle.lent_table.proofs.stays_so.Statement.{statement}
 use Rattle.lent_table.proofs.stays_so.Tie as tie
 
-returns : tie.Need-returns
+returns : tie.Need-returns-then-f-eq0
 returns c =
-    let a = c.before.args in
+    let a = c.args in
     stay_main (borrows a.borrowed.now a.f a.i)
     (parameter_in a.operands.now (set_of a.spent.now) a.at a.i)
-    a.f c.if1.true
+    a.f c.if-f-eq0.true
 
-returns_2 : tie.Need-returns-2
+returns_2 : tie.Need-returns-then-is_spent
 returns_2 c =
-    let a = c.before.before.before.args in
+    let a = c.args in
     stay_spent (borrows a.borrowed.now a.f a.i)
     (parameter_in a.operands.now (set_of a.spent.now) a.at a.i)
-    a.f c.before.before.if1.false (sym c.before.is-spent.ensures ∙ c.if2.true)
+    a.f c.if-f-eq0.false (sym c.is_spent.ensures ∙ c.if-is_spent.true)
 
-returns_3 : tie.Need-returns-3
+returns_3 : tie.Need-returns
 returns_3 c =
-    let a = c.before.before.before.before.args in
-    c.is-borrowed.ensures
+    let a = c.args in
+    c.is_borrowed.ensures
     ∙ stay_kept (borrows a.borrowed.now a.f a.i)
     (parameter_in a.operands.now (set_of a.spent.now) a.at a.i) a.f
-    c.before.before.before.if1.false
-    (sym c.before.before.is-spent.ensures ∙ c.before.if2.false)
+    c.if-f-eq0.false
+    (sym c.is_spent.ensures ∙ c.if-is_spent.false)
 
 pub stays_so_spec : {M : Type 1} → statement M
 stays_so_spec =

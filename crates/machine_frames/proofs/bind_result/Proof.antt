@@ -10,14 +10,11 @@ returns c =
 
 returns_2 : tie.Need-returns
 returns_2 c =
-    let at-bind = c.before in
-    let at-struct-told = at-bind.before.before in
-    let at-if1 = at-struct-told.before in
-    let a = at-if1.args in
-    bound_goes a.calls a.x a.next a.r a.env.now at-if1.if-stop-ne0.false at-bind.bind.new.env
-    (rw (to_z-of_z {z = a.r.value} (record { sfits = at-struct-told.struct_told-1.given.1.0.1 })) at
-    at-bind.bind.ensures) c.done.result
-    (rw (to_z-of_z {z = a.r.value} (record { sfits = at-struct-told.struct_told-1.given.1.0.1 })) at
+    let a = c.args in
+    bound_goes a.calls a.x a.next a.r a.env.now c.if-stop-ne0.false c.bind.new.env
+    (rw (to_z-of_z {z = a.r.value} (record { sfits = c.struct_told-1.given.1.0.1 })) at
+    c.bind.ensures) c.done.result
+    (rw (to_z-of_z {z = a.r.value} (record { sfits = c.struct_told-1.given.1.0.1 })) at
     c.done.ensures)
 
 pub bind_result_spec : {M : Type 1} → statement M

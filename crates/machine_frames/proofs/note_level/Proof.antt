@@ -6,17 +6,15 @@ use Rattle.machine_frames.proofs.note_level.Tie as tie
 
 returns : tie.Need-returns-then-n-least
 returns c =
-    let start = c.before.before.before in
     let least = c.lowest-least in
-    rw (lt-ltb start.args.n (2 ^ 63) (omega (arith, start.ranges.n)))
-    (noted_lower start.args.n least.result start.args.env.now least.ensures.0 c.if-n-least.true)
+    rw (lt-ltb c.args.n (2 ^ 63) (omega (arith, c.ranges.n)))
+    (noted_lower c.args.n least.result c.args.env.now least.ensures.0 c.if-n-least.true)
 
 returns_2 : tie.Need-returns-else-n-least
 returns_2 c =
-    let start = c.before.before.before in
     let least = c.lowest-least in
-    rw (lt-ltb start.args.n (2 ^ 63) (omega (arith, start.ranges.n)))
-    (noted_higher start.args.n least.result start.args.env.now least.ensures.0
+    rw (lt-ltb c.args.n (2 ^ 63) (omega (arith, c.ranges.n)))
+    (noted_higher c.args.n least.result c.args.env.now least.ensures.0
     (omega (arith, c.if-n-least.false)))
 
 pub note_level_spec : {M : Type 1} → statement M

@@ -32,10 +32,9 @@ returns_3 c = copied_all c.loop-i.invariant c.if-i-count.true
 
 atom_within_requires : tie.Need-atom_within-a-requires invariant_loop decreases_loop
 atom_within_requires c κs =
-    let turn = c.before.before in
-    let at-if1 = turn.before.before in (
-      omega (arith, c.if-i-count.false, turn.loop-i.invariant.few, at-if1.if-kinds-at.false),
-      omega (arith, c.if-i-count.false, turn.loop-i.invariant.few, at-if1.if-kinds-at.false, at-if1.requires),
+    (
+      omega (arith, c.if-i-count.false, c.loop-i.invariant.few, c.if-kinds-at.false),
+      omega (arith, c.if-i-count.false, c.loop-i.invariant.few, c.if-kinds-at.false, c.requires),
     )
 
 word_of_requires : tie.Need-word_of-w-requires invariant_loop decreases_loop
@@ -43,29 +42,21 @@ word_of_requires c κs = search (rules, c.loop-i.invariant.long)
 
 name_within_requires : tie.Need-name_within-x-requires invariant_loop decreases_loop
 name_within_requires c κs =
-    let at-if3 = c.before.before.before in
-    let turn = at-if3.before.before in
-    let start = turn.before.before.before.before in
-    omega (arith, at-if3.if-i-count.false, turn.loop-i.invariant.few, turn.if-kinds-names.false, start.requires)
+    omega (arith, c.if-i-count.false, c.loop-i.invariant.few, c.if-kinds-names.false, c.requires)
 
 element_set_from_w : tie.Need-bounds-env-calls invariant_loop decreases_loop
 element_set_from_w c =
-    let turn = c.before.before.before.before.before.before in
-    omega (arith, c.name_within-x.type_inv, turn.loop-i.invariant.long, turn.requires)
+    omega (arith, c.name_within-x.type_inv, c.loop-i.invariant.long, c.requires)
 
 loop_again : tie.Need-loop-i-preserved invariant_loop decreases_loop
 loop_again c =
-    let at-word-of = c.before in
-    let at-if3 = at-word-of.before.before.before in
-    let turn = at-if3.before.before in
-    let start = turn.before.before.before.before in
-    let pre = start.requires in
-    let word = at-word-of.word_of-w in
-    let atom = at-word-of.atom_within-a in
+    let pre = c.requires in
+    let word = c.word_of-w in
+    let atom = c.atom_within-a in
     let x = c.name_within-x.result in
-    rw (to_z-of_z {z = word.result} (record { sfits = word.type_inv })) (copying_more turn.loop-i.invariant
-    at-if3.loop-i-test.true at-if3.if-i-count.false (omega (arith, pre.3)) pre.4 atom.result
-    word.result atom.ensures word.ensures x (256 * start.args.calls + x - 256) c.name_within-x.ensures
+    rw (to_z-of_z {z = word.result} (record { sfits = word.type_inv })) (copying_more c.loop-i.invariant
+    c.loop-i-test.true c.if-i-count.false (omega (arith, pre.3)) pre.4 atom.result
+    word.result atom.ensures word.ensures x (256 * c.args.calls + x - 256) c.name_within-x.ensures
     (omega (arith, pre.3)))
 
 returns_4 : tie.Need-returns invariant_loop decreases_loop

@@ -6,10 +6,9 @@ use Rattle.machine_frames.proofs.raise_level.Tie as tie
 
 returns : tie.Need-returns
 returns c =
-    let start = c.before.before in
     let level = c.level-n in
-    raised_by level.result start.args.freed start.args.env.now level.ensures.0
-    (omega (arith, level.ensures.1, start.ranges.freed))
+    raised_by level.result c.args.freed c.args.env.now level.ensures.0
+    (omega (arith, level.ensures.1, c.ranges.freed))
 
 pub raise_level_spec : {M : Type 1} → statement M
 raise_level_spec =

@@ -5,34 +5,34 @@ use Rattle.machine_table.proofs.Filling.{end_here, end_other, trees_two}
 use Rattle.machine_table.proofs.end_of.Statement.{statement}
 use Rattle.machine_table.proofs.end_of.Tie as tie
 
-returns : tie.Need-returns
-returns c = let a = c.before.before.args in end_here a.kind a.table.now a.at c.if1.true
+returns : tie.Need-returns-then-kind-eq-END
+returns c = let a = c.args in end_here a.kind a.table.now a.at c.if-kind-eq-END.true
 
-returns_2 : tie.Need-returns-2
+returns_2 : tie.Need-returns-then-trees-eq0
 returns_2 c =
-    let a = c.before.before.before.before.before.args in
-    c.before.before.end_in.ensures.0
-    ∙ end_other a.kind a.table.now a.at 0 c.before.before.before.if1.false
-    (sym c.if2.true ∙ c.before.trees_of.ensures)
+    let a = c.args in
+    c.end_in-next.ensures.0
+    ∙ end_other a.kind a.table.now a.at 0 c.if-kind-eq-END.false
+    (sym c.if-trees-eq0.true ∙ c.trees_of-trees.ensures)
 
-returns_3 : tie.Need-returns-3
+returns_3 : tie.Need-returns-then-trees-eq1
 returns_3 c =
-    let a = c.before.before.before.before.before.before.before.args in
-    c.before.end-in2.ensures.0
-    ∙ ap (end_in a.table.now) c.before.before.before.before.end_in.ensures.0
-    ∙ end_other a.kind a.table.now a.at 1 c.before.before.before.before.before.if1.false
-    (sym c.if3.true ∙ c.before.before.before.trees_of.ensures)
+    let a = c.args in
+    c.end_in-last.ensures.0
+    ∙ ap (end_in a.table.now) c.end_in-next.ensures.0
+    ∙ end_other a.kind a.table.now a.at 1 c.if-kind-eq-END.false
+    (sym c.if-trees-eq1.true ∙ c.trees_of-trees.ensures)
 
-returns_4 : tie.Need-returns-4
+returns_4 : tie.Need-returns
 returns_4 c =
-    let a = c.before.before.before.before.before.before.before.before.args in
-    let trees = c.before.before.before.before.trees_of in
-    c.end-in3.ensures.0
-    ∙ ap (end_in a.table.now) (c.before.before.end-in2.ensures.0
-    ∙ ap (end_in a.table.now) c.before.before.before.before.before.end_in.ensures.0)
-    ∙ end_other a.kind a.table.now a.at 2 c.before.before.before.before.before.before.if1.false
-    (trees_two a.kind trees.result trees.ensures c.before.before.before.if2.false
-    c.before.if3.false)
+    let a = c.args in
+    let trees = c.trees_of-trees in
+    c.end_in.ensures.0
+    ∙ ap (end_in a.table.now) (c.end_in-last.ensures.0
+    ∙ ap (end_in a.table.now) c.end_in-next.ensures.0)
+    ∙ end_other a.kind a.table.now a.at 2 c.if-kind-eq-END.false
+    (trees_two a.kind trees.result trees.ensures c.if-trees-eq0.false
+    c.if-trees-eq1.false)
 
 pub end_of_spec : {M : Type 1} → statement M
 end_of_spec =

@@ -4,61 +4,61 @@ use Rattle.machine_table.proofs.Filling.{Ending, ending_starts, ended, end_more}
 use Rattle.machine_table.proofs.fill_ends.Statement.{statement}
 use Rattle.machine_table.proofs.fill_ends.Tie as tie
 
-abbrev invariant_loop : tie.invariant_loop
+abbrev invariant_loop : tie.invariant-loop-at
 invariant_loop kinds rows table₀ at₀ table at = Ending kinds rows table₀ table at
 
-abbrev decreases_loop : tie.decreases_loop
+abbrev decreases_loop : tie.decreases-loop-at
 decreases_loop kinds rows table₀ at₀ table at = at
 
-loop_holds : tie.Need-loop-init invariant_loop decreases_loop
-loop_holds c = ending_starts c.before.before.args.kinds.now c.before.before.args.rows c.before.before.args.table.now
+loop_holds : tie.Need-loop-at-init invariant_loop decreases_loop
+loop_holds c = ending_starts c.args.kinds.now c.args.rows c.args.table.now
 
-shared_slice_read_end_of : tie.Need-shared-slice-read-end-of invariant_loop decreases_loop
+shared_slice_read_end_of : tie.Need-bounds-kinds-at invariant_loop decreases_loop
 shared_slice_read_end_of c = omega (
   arith,
-  c.before.loop-test.true,
-  c.before.before.loop.invariant.few,
-  c.before.before.before.before.before.requires,
+  c.loop-at-test.true,
+  c.loop-at.invariant.few,
+  c.requires,
 )
 
-end_of_requires : tie.Need-end-of-requires invariant_loop decreases_loop
+end_of_requires : tie.Need-end_of-end-requires invariant_loop decreases_loop
 end_of_requires c κs = omega (
   arith,
-  c.before.before.loop-test.true,
-  c.before.before.before.loop.invariant.few,
-  c.before.before.before.before.before.before.requires,
+  c.loop-at-test.true,
+  c.loop-at.invariant.few,
+  c.requires,
 )
 
-mul_put_position : tie.Need-overflow-mul-put-position invariant_loop decreases_loop
+mul_put_position : tie.Need-overflow_mul-at invariant_loop decreases_loop
 mul_put_position c = omega (
   arith,
-  c.before.before.before.before.before.loop.invariant.few,
-  c.before.before.before.before.before.before.before.before.requires,
+  c.loop-at.invariant.few,
+  c.requires,
 )
 
-add_put_position : tie.Need-overflow-add-put-position invariant_loop decreases_loop
+add_put_position : tie.Need-overflow_add-at invariant_loop decreases_loop
 add_put_position c = omega (
   arith,
-  c.before.before.before.before.before.loop.invariant.few,
-  c.before.before.before.before.before.before.before.before.requires,
+  c.loop-at.invariant.few,
+  c.requires,
 )
 
-put_position_requires : tie.Need-put-position-requires invariant_loop decreases_loop
+put_position_requires : tie.Need-put_position-requires invariant_loop decreases_loop
 put_position_requires c κs = omega (
   arith,
-  c.before.before.before.before.before.loop.invariant.few,
-  c.before.before.before.before.before.before.before.before.requires,
+  c.loop-at.invariant.few,
+  c.requires,
 )
 
-loop_again : tie.Need-loop-preserved invariant_loop decreases_loop
-loop_again c = end_more c.before.before.before.before.before.before.before.before.loop.invariant c.before.before.before.before.before.before.before.loop-test.true c.before.before.before.before.end_of.result c.before.before.before.before.end_of.ensures
-    c.before.before.put-position.new.0 c.before.before.put-position.ensures
+loop_again : tie.Need-loop-at-preserved invariant_loop decreases_loop
+loop_again c = end_more c.loop-at.invariant c.loop-at-test.true c.end_of-end.result c.end_of-end.ensures
+    c.put_position.new.table c.put_position.ensures
 
-same_length : tie.Need-same-length invariant_loop decreases_loop
-same_length c = c.before.loop.invariant.long
+same_length : tie.Need-shape_of-table invariant_loop decreases_loop
+same_length c = c.loop-at.invariant.long
 
 returns : tie.Need-returns invariant_loop decreases_loop
-returns c = ended c.before.loop.invariant (λ h. omega arith)
+returns c = ended c.loop-at.invariant (λ h. omega arith)
 
 pub fill_ends_spec : {M : Type 1} → statement M
 fill_ends_spec =

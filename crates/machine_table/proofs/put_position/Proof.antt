@@ -4,8 +4,8 @@ use Rattle.machine_table.proofs.put_position.Statement.{statement}
 use Rattle.machine_table.proofs.put_position.Tie as tie
 
 returns : tie.Need-returns
-returns c = let a = c.before.before.before.before.before.before.before.before.before.args in
-    c.before.before.put2.ensures ∙ ap (λ (t : List ℕ). set t (a.place + 1) (a.position / 256 % 256)) c.before.before.before.before.before.before.put.ensures
+returns c = let a = c.args in
+    c.put-2.ensures ∙ ap (λ (t : List ℕ). set t (a.place + 1) (a.position / 256 % 256)) c.put.ensures
 
 pub put_position_spec : {M : Type 1} → statement M
 put_position_spec =

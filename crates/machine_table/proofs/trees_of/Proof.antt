@@ -3,24 +3,24 @@ use Rattle.prelude.specs.Kit.{ne_eqb}
 use Rattle.machine_table.proofs.trees_of.Statement.{statement}
 use Rattle.machine_table.proofs.trees_of.Tie as tie
 
-returns : tie.Need-returns
-returns c = rw c.match.keys1
+returns : tie.Need-returns-in-12
+returns c = rw c.in-12.is
 
-returns_2 : tie.Need-returns-2
-returns_2 c = rw c.match.keys2
+returns_2 : tie.Need-returns-in-13
+returns_2 c = rw c.in-13.is
 
-returns_3 : tie.Need-returns-3
-returns_3 c = rw c.match.keys3
+returns_3 : tie.Need-returns-in-19
+returns_3 c = rw c.in-19.is
 
-returns_4 : tie.Need-returns-4
-returns_4 c = rw c.match.keys4
+returns_4 : tie.Need-returns-in-20
+returns_4 c = rw c.in-20.is
 
-returns_5 : tie.Need-returns-5
-returns_5 c = rw c.match.keys5
+returns_5 : tie.Need-returns-in-21
+returns_5 c = rw c.in-21.is
 
-returns_6 : tie.Need-returns-6
+returns_6 : tie.Need-returns-in_default
 returns_6 c =
-    let r = c.match.rest in
+    let r = c.in_default.in_default-own.rest in
     rw (
       ne_eqb _ 12 r.0.0.0.0.1,
       ne_eqb _ 13 r.0.0.0.1,

@@ -44,25 +44,25 @@ module _ (x : ℤ) (h : SFits w64 x) (e : lt_z (to_z w64 (of_z w64 x)) (pos 0) �
   next_is : nat_abs difference + 1 ≡ nat_abs x
   next_is = rw difference_is of_x.next
 
-sub_result : tie.Need-overflow-sub-result
-sub_result c = difference_fits c.before.args.x c.before.ranges.x c.if1.true
+sub_result : tie.Need-overflow_sub-result
+sub_result c = difference_fits c.args.x c.ranges.x c.if-x-lt0.true
 
-cast_result : tie.Need-overflow-cast-result
-cast_result c = difference_natural c.before.args.x c.before.ranges.x c.if1.true
+cast_result : tie.Need-overflow_cast-result
+cast_result c = difference_natural c.args.x c.ranges.x c.if-x-lt0.true
 
-add_result : tie.Need-overflow-add-result
+add_result : tie.Need-overflow_add-result
 add_result c =
-    let d = of_x c.before.args.x c.before.ranges.x c.if1.true in
-    rw (difference_is c.before.args.x c.before.ranges.x c.if1.true)
+    let d = of_x c.args.x c.ranges.x c.if-x-lt0.true in
+    rw (difference_is c.args.x c.ranges.x c.if-x-lt0.true)
     (record { fits = omega (arith, d.small) })
 
-cast_result_2 : tie.Need-overflow-cast-result-2
+cast_result_2 : tie.Need-overflow_cast-result-else-x-lt0
 cast_result_2 c =
-    let back = to_z-of_z {z = c.before.args.x} c.before.ranges.x in
-    rw back (not_negative c.before.args.x c.before.ranges.x (rw back at c.if1.false))
+    let back = to_z-of_z {z = c.args.x} c.ranges.x in
+    rw back (not_negative c.args.x c.ranges.x (rw back at c.if-x-lt0.false))
 
-returns : tie.Need-returns
-returns c = next_is c.before.args.x c.before.ranges.x c.if1.true
+returns : tie.Need-returns-then-x-lt0
+returns c = next_is c.args.x c.ranges.x c.if-x-lt0.true
 
 pub magnitude_spec : {M : Type 1} → statement M
 magnitude_spec =

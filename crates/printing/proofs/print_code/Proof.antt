@@ -3,10 +3,10 @@ use Rattle.prelude.specs.Kit.{◌≤◌, ◌-◌, rules}
 use Rattle.printing.proofs.print_code.Statement.{statement}
 use Rattle.printing.proofs.print_code.Tie as tie
 
-abbrev invariant_loop : tie.invariant_loop
+abbrev invariant_loop : tie.invariant-loop-i
 invariant_loop fd kinds operands lines i₀ i = i ≤ 4096
 
-abbrev decreases_loop : tie.decreases_loop
+abbrev decreases_loop : tie.decreases-loop-i
 decreases_loop fd kinds operands lines i₀ i = 4096 - i
 
 pub print_code_spec : {M : Type 1} → statement M

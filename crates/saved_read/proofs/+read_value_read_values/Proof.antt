@@ -52,68 +52,68 @@ read_value_claims t = (
 abbrev read_values_claims : ℕ → read-values-lts.Claims
 read_values_claims t = (read_value_below t, read-value.Post)
 
-read_value_returns : (t : ℕ) → read-value-lts.Need-returns (read_value_claims t) (read_value_at t) read-value.Post
-read_value_returns t c = let a = c.before.before.args in past a.saved.now a.k a.depth a.p c.if1.true
+read_value_returns : (t : ℕ) → read-value-lts.Need-returns-then-k-p (read_value_claims t) (read_value_at t) read-value.Post
+read_value_returns t c = let a = c.args in past a.saved.now a.k a.depth a.p c.if-k-p.true
 
-read_value_returns_2 : (t : ℕ) → read-value-lts.Need-returns-2 (read_value_claims t) (read_value_at t) read-value.Post
-read_value_returns_2 t c = let a = c.before.before.before.before.before.args in number a.saved.now a.k
-    a.depth a.p c.before.before.byte_at.result c.before.before.before.if1.false c.before.before.byte_at.ensures c.before.if2.true c.if3.true
+read_value_returns_2 : (t : ℕ) → read-value-lts.Need-returns-then-mark-eq0 (read_value_claims t) (read_value_at t) read-value.Post
+read_value_returns_2 t c = let a = c.args in number a.saved.now a.k
+    a.depth a.p c.byte_at-mark.result c.if-k-p.false c.byte_at-mark.ensures c.if-depth-eq0.true c.if-mark-eq0.true
 
-read_value_returns_3 : (t : ℕ) → read-value-lts.Need-returns-3 (read_value_claims t) (read_value_at t) read-value.Post
-read_value_returns_3 t c = let a = c.before.before.before.before.before.args in no_number a.saved.now a.k a.depth a.p c.before.before.byte_at.result c.before.before.before.if1.false c.before.before.byte_at.ensures c.before.if2.true c.if3.false
+read_value_returns_3 : (t : ℕ) → read-value-lts.Need-returns-then-depth-eq0 (read_value_claims t) (read_value_at t) read-value.Post
+read_value_returns_3 t c = let a = c.args in no_number a.saved.now a.k a.depth a.p c.byte_at-mark.result c.if-k-p.false c.byte_at-mark.ensures c.if-depth-eq0.true c.if-mark-eq0.false
 
-read_value_returns_4 : (t : ℕ) → read-value-lts.Need-returns-4 (read_value_claims t) (read_value_at t) read-value.Post
-read_value_returns_4 t c = let a = c.before.before.before.before.before.args in flat a.saved.now a.k a.depth a.p c.before.before.byte_at.result c.before.before.before.if1.false c.before.before.byte_at.ensures c.before.if2.false c.if4.true
+read_value_returns_4 : (t : ℕ) → read-value-lts.Need-returns-then-mark-eq0-2 (read_value_claims t) (read_value_at t) read-value.Post
+read_value_returns_4 t c = let a = c.args in flat a.saved.now a.k a.depth a.p c.byte_at-mark.result c.if-k-p.false c.byte_at-mark.ensures c.if-depth-eq0.false c.if-mark-eq0-2.true
 
-read_value_returns_5 : (t : ℕ) → read-value-lts.Need-returns-5 (read_value_claims t) (read_value_at t) read-value.Post
-read_value_returns_5 t c = let a = c.before.before.before.before.before.before.args in long a.saved.now a.k a.depth a.p c.before.before.before.byte_at.result c.before.before.before.before.if1.false
-    c.before.before.before.byte_at.ensures c.before.before.if2.false c.before.if4.false c.if5.true
+read_value_returns_5 : (t : ℕ) → read-value-lts.Need-returns-then-mark-gt17 (read_value_claims t) (read_value_at t) read-value.Post
+read_value_returns_5 t c = let a = c.args in long a.saved.now a.k a.depth a.p c.byte_at-mark.result c.if-k-p.false
+    c.byte_at-mark.ensures c.if-depth-eq0.false c.if-mark-eq0-2.false c.if-mark-gt17.true
 
-read_value_returns_6 : (t : ℕ) → read-value-lts.Need-returns-6 (read_value_claims t) (read_value_at t) read-value.Post
-read_value_returns_6 t c = let a = c.before.before.before.before.before.before.before.before.args in
-    numbered a.saved.now a.k a.depth a.p c.before.before.before.before.before.byte_at.result c.before.before.before.before.before.before.if1.false c.before.before.before.before.before.byte_at.ensures c.before.before.before.before.if2.false c.before.before.before.if4.false c.before.before.if5.false c.before.word_at.result c.before.word_at.ensures c.if6.true
+read_value_returns_6 : (t : ℕ) → read-value-lts.Need-returns-then-word_at-ne0 (read_value_claims t) (read_value_at t) read-value.Post
+read_value_returns_6 t c = let a = c.args in
+    numbered a.saved.now a.k a.depth a.p c.byte_at-mark.result c.if-k-p.false c.byte_at-mark.ensures c.if-depth-eq0.false c.if-mark-eq0-2.false c.if-mark-gt17.false c.word_at.result c.word_at.ensures c.if-word_at-ne0.true
 
-read_value_returns_7 : (t : ℕ) → read-value-lts.Need-returns-7 (read_value_claims t) (read_value_at t) read-value.Post
-read_value_returns_7 t c = let a = c.before.before.before.before.before.before.before.before.before.args in
-    goes_down a.saved.now a.k a.depth a.p c.before.before.before.before.before.before.byte_at.result c.before.before.before.before.before.before.before.if1.false c.before.before.before.before.before.before.byte_at.ensures c.before.before.before.before.before.if2.false c.before.before.before.before.if4.false c.before.before.before.if5.false c.before.before.word_at.result
-    c.before.before.word_at.ensures c.before.if6.false (read_outcome c.read-values.result) c.read-values.ensures
+read_value_returns_7 : (t : ℕ) → read-value-lts.Need-returns (read_value_claims t) (read_value_at t) read-value.Post
+read_value_returns_7 t c = let a = c.args in
+    goes_down a.saved.now a.k a.depth a.p c.byte_at-mark.result c.if-k-p.false c.byte_at-mark.ensures c.if-depth-eq0.false c.if-mark-eq0-2.false c.if-mark-gt17.false c.word_at.result
+    c.word_at.ensures c.if-word_at-ne0.false (read_outcome c.read_values.result) c.read_values.ensures
 
-abbrev read_values_Inv_loop : read-values-lts.invariant_loop
+abbrev read_values_Inv_loop : read-values-lts.invariant-loop-left
 read_values_Inv_loop saved k depth count p q₀ left₀ q left =
     (left ≤ 255) × (told (times count (value_at saved k depth) p) ≡ told (times left (value_at saved k depth) q))
 
-abbrev read_values_μ_loop : read-values-lts.decreases_loop
+abbrev read_values_μ_loop : read-values-lts.decreases-loop-left
 read_values_μ_loop saved k depth count p q₀ left₀ q left = left
 
-read_values_loop_holds : (t : ℕ) → read-values-lts.Need-loop-init (read_values_claims t) (read_values_at t)
+read_values_loop_holds : (t : ℕ) → read-values-lts.Need-loop-left-init (read_values_claims t) (read_values_at t)
     read-values.Post read_values_Inv_loop read_values_μ_loop
 read_values_loop_holds t c = (omega arith, refl)
 
 read_values_returns :
     (t : ℕ) →
-    read-values-lts.Need-returns
+    read-values-lts.Need-returns-in-Broken
     (read_value_below t, read-value.Post)
     (read_values_at t)
     read-values.Post
     read_values_Inv_loop
     read_values_μ_loop
-read_values_returns t c = let a = c.before.before.before.before.before.before.args in breaks (value_at a.saved.now a.k a.depth) a.count c.before.before.before.before.loop.left a.p c.before.before.before.before.loop.q c.before.before.before.before.loop.invariant.1 c.before.before.before.loop-test.true (read_outcome c.before.before.read-value.result) c.before.before.read-value.ensures
-    (ap read_outcome c.enum_told.given.1)
+read_values_returns t c = let a = c.args in breaks (value_at a.saved.now a.k a.depth) a.count c.loop-left.left a.p c.loop-left.q c.loop-left.invariant.1 c.loop-left-test.true (read_outcome c.read_value.result) c.read_value.ensures
+    (ap read_outcome c.in-Broken.is)
 
-read_values_loop_again : (t : ℕ) → read-values-lts.Need-loop-preserved (read_values_claims t) (read_values_at t)
+read_values_loop_again : (t : ℕ) → read-values-lts.Need-loop-left-preserved (read_values_claims t) (read_values_at t)
     read-values.Post read_values_Inv_loop read_values_μ_loop
-read_values_loop_again t c = let a = c.before.before.before.before.before.before.before.args in (
+read_values_loop_again t c = let a = c.args in (
   omega arith,
-  goes_on (value_at a.saved.now a.k a.depth) a.count c.before.before.before.before.before.loop.left a.p c.before.before.before.before.before.loop.q c.before.before.before.before.before.loop.invariant.1 c.before.before.before.before.loop-test.true (read_outcome c.before.before.before.read-value.result) c.before.before.before.read-value.ensures c.before.next.given.0.0
-      (ap read_outcome c.before.next.given.1),
+  goes_on (value_at a.saved.now a.k a.depth) a.count c.loop-left.left a.p c.loop-left.q c.loop-left.invariant.1 c.loop-left-test.true (read_outcome c.read_value.result) c.read_value.ensures c.in-Next.next
+      (ap read_outcome c.in-Next.is),
 )
 
-read_values_returns_2 : (t : ℕ) → read-values-lts.Need-returns-2 (read_values_claims t) (read_values_at t)
+read_values_returns_2 : (t : ℕ) → read-values-lts.Need-returns (read_values_claims t) (read_values_at t)
     read-values.Post read_values_Inv_loop read_values_μ_loop
-read_values_returns_2 t c = let a = c.before.before.before.args in none_left (value_at a.saved.now a.k a.depth) a.count c.before.loop.left a.p c.before.loop.q c.before.loop.invariant.1 (omega arith)
+read_values_returns_2 t c = let a = c.args in none_left (value_at a.saved.now a.k a.depth) a.count c.loop-left.left a.p c.loop-left.q c.loop-left.invariant.1 (omega arith)
 
-pub +read-value-read-values-spec : {M : Type 1} → statement M
-+read-value-read-values-spec = close μ_read_value μ_read_values (λ t. read-value-lts.spec (read_value_claims t)
+pub +read_value_read_values_spec : {M : Type 1} → statement M
++read_value_read_values_spec = close μ_read_value μ_read_values (λ t. read-value-lts.spec (read_value_claims t)
     (read_value_at t)
     read-value.Post
     (read_value_returns t)

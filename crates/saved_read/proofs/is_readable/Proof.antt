@@ -5,26 +5,26 @@ use Rattle.saved_read.proofs.Laws.{short, other_depth, many, other_length, ended
 use Rattle.saved_read.proofs.is_readable.Statement.{statement}
 use Rattle.saved_read.proofs.is_readable.Tie as tie
 
-returns : tie.Need-returns
-returns c = let a = c.before.before.args in short a.depth a.saved.now c.if1.true
+returns : tie.Need-returns-then-saved-lt3
+returns c = let a = c.args in short a.depth a.saved.now c.if-saved-lt3.true
 
-returns_2 : tie.Need-returns-2
-returns_2 c = let a = c.before.before.before.before.args in other_depth a.depth a.saved.now (λ e. c.if2.true (c.before.byte_at.ensures ∙ e))
+returns_2 : tie.Need-returns-then-byte_at-depth
+returns_2 c = let a = c.args in other_depth a.depth a.saved.now (λ e. c.if-byte_at-depth.true (c.byte_at.ensures ∙ e))
 
-returns_3 : tie.Need-returns-3
-returns_3 c = let a = c.before.before.before.before.before.before.args in many a.depth a.saved.now
-    (omega (arith, c.if3.true, c.before.short-at.ensures.0))
+returns_3 : tie.Need-returns-then-k-gt-MOST_ENTRIES
+returns_3 c = let a = c.args in many a.depth a.saved.now
+    (omega (arith, c.if-k-gt-MOST_ENTRIES.true, c.short_at-k.ensures.0))
 
-returns_4 : tie.Need-returns-4
-returns_4 c = let a = c.before.before.before.before.before.before.before.args in other_length a.depth a.saved.now c.before.before.short-at.result c.before.before.short-at.ensures.0 c.if4.true
+returns_4 : tie.Need-returns-then-saved-k
+returns_4 c = let a = c.args in other_length a.depth a.saved.now c.short_at-k.result c.short_at-k.ensures.0 c.if-saved-k.true
 
-returns_5 : tie.Need-returns-5
-returns_5 c = let a = c.before.before.before.before.before.before.before.before.before.before.before.args
-    in ended a.depth a.saved.now c.before.before.before.before.before.before.short-at.result c.before.before.before.before.before.before.short-at.ensures.0 c.before.before.before.before.before.before.before.before.before.if1.false (sym c.before.before.before.before.before.before.before.before.byte_at.ensures ∙ c.before.before.before.before.before.before.before.if2.false) c.before.before.before.before.before.if3.false c.before.before.before.before.if4.false (read_outcome c.before.before.before.read-value.result) c.before.before.before.read-value.ensures c.before.next.given.0.0 (ap read_outcome c.before.next.given.1)
+returns_5 : tie.Need-returns-in-Next
+returns_5 c = let a = c.args
+    in ended a.depth a.saved.now c.short_at-k.result c.short_at-k.ensures.0 c.if-saved-lt3.false (sym c.byte_at.ensures ∙ c.if-byte_at-depth.false) c.if-k-gt-MOST_ENTRIES.false c.if-saved-k.false (read_outcome c.read_value.result) c.read_value.ensures c.in-Next.next (ap read_outcome c.in-Next.is)
 
-returns_6 : tie.Need-returns-6
-returns_6 c = let a = c.before.before.before.before.before.before.before.before.before.before.args in
-    refused a.depth a.saved.now c.before.before.before.before.before.short-at.result c.before.before.before.before.before.short-at.ensures.0 c.before.before.before.before.before.before.before.before.if1.false (sym c.before.before.before.before.before.before.before.byte_at.ensures ∙ c.before.before.before.before.before.before.if2.false) c.before.before.before.before.if3.false c.before.before.before.if4.false (read_outcome c.before.before.read-value.result) c.before.before.read-value.ensures (ap read_outcome c.enum_told.given.1)
+returns_6 : tie.Need-returns-in-Broken
+returns_6 c = let a = c.args in
+    refused a.depth a.saved.now c.short_at-k.result c.short_at-k.ensures.0 c.if-saved-lt3.false (sym c.byte_at.ensures ∙ c.if-byte_at-depth.false) c.if-k-gt-MOST_ENTRIES.false c.if-saved-k.false (read_outcome c.read_value.result) c.read_value.ensures (ap read_outcome c.in-Broken.is)
 
 pub is_readable_spec : {M : Type 1} → statement M
 is_readable_spec =

@@ -25,11 +25,11 @@ abbrev count_value_below : ℕ → In 2 count-value-kinds.ps
 count_value_below t =
     and 2 count-value-kinds.ps (falls 2 count-value-kinds.ps ◌<◌ μ_count_value t) count-value.Pre
 
-abbrev count_value_Inv_loop : count-value-lts.invariant_loop
+abbrev count_value_Inv_loop : count-value-lts.invariant-loop-i
 count_value_Inv_loop slots heads w depth n one c size r₀ i₀ r i =
     (i ≤ size) × (r ≤ 4097) × Counting (store_of slots heads) depth (to_z w64 w) n r i
 
-abbrev count_value_μ_loop : count-value-lts.decreases_loop
+abbrev count_value_μ_loop : count-value-lts.decreases-loop-i
 count_value_μ_loop slots heads w depth n one c size r₀ i₀ r i = size - i
 
 abbrev count_value_claims : ℕ → count-value-lts.Claims
@@ -46,49 +46,49 @@ count_value_claims t = (
   count-value.Post,
 )
 
-count_value_returns : (t : ℕ) → count-value-lts.Need-returns (count_value_claims t) (count_value_at t)
+count_value_returns : (t : ℕ) → count-value-lts.Need-returns-then-depth-eq0 (count_value_claims t) (count_value_at t)
     count-value.Post count_value_Inv_loop count_value_μ_loop
-count_value_returns t c = let a = c.before.before.before.args in count_number (store_of a.slots.now a.heads.now) a.depth a.w a.n c.if1.true c.before.at_most.result c.before.at_most.ensures
+count_value_returns t c = let a = c.args in count_number (store_of a.slots.now a.heads.now) a.depth a.w a.n c.if-depth-eq0.true c.at_most-one.result c.at_most-one.ensures
 
-count_value_loop_holds : (t : ℕ) → count-value-lts.Need-loop-init (count_value_claims t) (count_value_at t)
+count_value_loop_holds : (t : ℕ) → count-value-lts.Need-loop-i-init (count_value_claims t) (count_value_at t)
     count-value.Post count_value_Inv_loop count_value_μ_loop
-count_value_loop_holds t c = let a = c.before.before.before.before.before.args in let e = to_z-of_z {z = a.w} c.before.before.before.before.before.ranges.w in (
+count_value_loop_holds t c = let a = c.args in let e = to_z-of_z {z = a.w} c.ranges.w in (
   omega arith,
   omega (
     arith,
-    c.before.before.before.at_most.ensures,
+    c.at_most-one.ensures,
   ),
-  rw e (count_starts (store_of a.slots.now a.heads.now) a.depth a.w a.n c.before.before.if1.false c.before.before.before.at_most.result c.before.before.before.at_most.ensures),
+  rw e (count_starts (store_of a.slots.now a.heads.now) a.depth a.w a.n c.if-depth-eq0.false c.at_most-one.result c.at_most-one.ensures),
 )
 
-count_value_loop_again : (t : ℕ) → count-value-lts.Need-loop-preserved (count_value_claims t) (count_value_at t)
+count_value_loop_again : (t : ℕ) → count-value-lts.Need-loop-i-preserved (count_value_claims t) (count_value_at t)
     count-value.Post count_value_Inv_loop count_value_μ_loop
-count_value_loop_again t c = let a = c.before.before.before.before.before.before.before.before.before.args
-    in let l = c.before.before.before.loop in let σ = store_of a.slots.now a.heads.now in
-    let named = rw (to_z-of_z {z = a.w} c.before.before.before.before.before.before.before.before.before.ranges.w) at c.before.before.before.before.before.named-cell.ensures in
-    let size = c.before.before.before.before.read_length.ensures ∙ ap (λ j. length (elements (cell σ j))) named in
-    let u = c.before.read-slot.result in
-    let one = rw (to_z-of_z {z = u} (record { sfits = c.before.read-slot.type-inv })) at c.count-value.ensures in (
-      omega (arith, c.before.before.loop-test.true),
+count_value_loop_again t c = let a = c.args
+    in let l = c.loop-i in let σ = store_of a.slots.now a.heads.now in
+    let named = rw (to_z-of_z {z = a.w} c.ranges.w) at c.named_cell-c.ensures in
+    let size = c.read_length-size.ensures ∙ ap (λ j. length (elements (cell σ j))) named in
+    let u = c.read_slot-e.result in
+    let one = rw (to_z-of_z {z = u} (record { sfits = c.read_slot-e.type_inv })) at c.count_value-m.ensures in (
+      omega (arith, c.loop-i-test.true),
       omega (arith, one),
-      rw (to_z-of_z {z = a.w} c.before.before.before.before.before.before.before.before.before.ranges.w)
-          (count_goes σ a.depth a.w a.n l.r l.i (rw (to_z-of_z {z = a.w} c.before.before.before.before.before.before.before.before.before.ranges.w) at l.invariant.2) l.invariant.1 (omega (
+      rw (to_z-of_z {z = a.w} c.ranges.w)
+          (count_goes σ a.depth a.w a.n l.r l.i (rw (to_z-of_z {z = a.w} c.ranges.w) at l.invariant.2) l.invariant.1 (omega (
             arith,
             size,
-            c.before.before.loop-test.true,
-          )) u (c.before.read-slot.ensures ∙ ap (λ j. get_or (elements (cell σ
-          j)) l.i (pos 0)) named) c.count-value.result one),
+            c.loop-i-test.true,
+          )) u (c.read_slot-e.ensures ∙ ap (λ j. get_or (elements (cell σ
+          j)) l.i (pos 0)) named) c.count_value-m.result one),
     )
 
-count_value_returns_2 : (t : ℕ) → count-value-lts.Need-returns-2 (count_value_claims t) (count_value_at t)
+count_value_returns_2 : (t : ℕ) → count-value-lts.Need-returns (count_value_claims t) (count_value_at t)
     count-value.Post count_value_Inv_loop count_value_μ_loop
-count_value_returns_2 t c = let a = c.before.before.before.before.before.before.before.args in let l = c.before.loop in let σ = store_of a.slots.now a.heads.now in
-    let named = rw (to_z-of_z {z = a.w} c.before.before.before.before.before.before.before.ranges.w) at c.before.before.before.named-cell.ensures in
-    let size = c.before.before.read_length.ensures ∙ ap (λ j. length (elements (cell σ j))) named in
-    count_ends σ a.depth a.w a.n l.r l.i (rw (to_z-of_z {z = a.w} c.before.before.before.before.before.before.before.ranges.w) at l.inv.2) l.inv.1 (omega (arith, size, c.loop-test.false))
+count_value_returns_2 t c = let a = c.args in let l = c.loop-i in let σ = store_of a.slots.now a.heads.now in
+    let named = rw (to_z-of_z {z = a.w} c.ranges.w) at c.named_cell-c.ensures in
+    let size = c.read_length-size.ensures ∙ ap (λ j. length (elements (cell σ j))) named in
+    count_ends σ a.depth a.w a.n l.r l.i (rw (to_z-of_z {z = a.w} c.ranges.w) at l.inv.2) l.inv.1 (omega (arith, size, c.loop-i-test.false))
 
-pub +count-value-spec : {M : Type 1} → statement M
-+count-value-spec = close μ_count_value λ t. count-value-lts.spec (count_value_claims t)
+pub +count_value_spec : {M : Type 1} → statement M
++count_value_spec = close μ_count_value λ t. count-value-lts.spec (count_value_claims t)
     (count_value_at t)
     count-value.Post
     count_value_Inv_loop

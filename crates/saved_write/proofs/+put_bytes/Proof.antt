@@ -21,14 +21,14 @@ put_bytes_below t =
 abbrev put_bytes_claims : ℕ → put-bytes-lts.Claims
 put_bytes_claims t = (put-byte-reads.Asked, put-byte-reads.Learnt, put_bytes_below t, put-bytes.Post)
 
-put_bytes_returns : (t : ℕ) → put-bytes-lts.Need-returns (put_bytes_claims t) (put_bytes_at t) put-bytes.Post
-put_bytes_returns t c = let a = c.before.before.args in no_bytes a.bytes.now a.i a.n a.count c.if1.true
+put_bytes_returns : (t : ℕ) → put-bytes-lts.Need-returns-then-count-eq0 (put_bytes_claims t) (put_bytes_at t) put-bytes.Post
+put_bytes_returns t c = let a = c.args in no_bytes a.bytes.now a.i a.n a.count c.if-count-eq0.true
 
-put_bytes_returns_2 : (t : ℕ) → put-bytes-lts.Need-returns-2 (put_bytes_claims t) (put_bytes_at t) put-bytes.Post
-put_bytes_returns_2 t c = let a = c.before.before.before.before.before.before.before.before.before.before.args in more_bytes a.bytes.now c.before.before.before.before.before.before.put_byte.new.0 c.before.before.put-bytes.new.0 a.i a.n a.count c.before.before.before.before.before.before.before.before.if1.false c.before.before.before.before.before.before.put_byte.ensures c.before.before.put-bytes.ensures
+put_bytes_returns_2 : (t : ℕ) → put-bytes-lts.Need-returns (put_bytes_claims t) (put_bytes_at t) put-bytes.Post
+put_bytes_returns_2 t c = let a = c.args in more_bytes a.bytes.now c.put_byte.new.bytes c.put_bytes.new.bytes a.i a.n a.count c.if-count-eq0.false c.put_byte.ensures c.put_bytes.ensures
 
-pub +put-bytes-spec : {M : Type 1} → statement M
-+put-bytes-spec = close μ_put_bytes λ t. put-bytes-lts.spec (put_bytes_claims t)
+pub +put_bytes_spec : {M : Type 1} → statement M
++put_bytes_spec = close μ_put_bytes λ t. put-bytes-lts.spec (put_bytes_claims t)
     (put_bytes_at t)
     put-bytes.Post
     (put_bytes_returns t)

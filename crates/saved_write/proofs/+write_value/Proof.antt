@@ -27,12 +27,12 @@ abbrev write_value_below : ℕ → In 3 write-value-kinds.ps
 write_value_below t =
     and 3 write-value-kinds.ps (falls 3 write-value-kinds.ps ◌<◌ μ_write_value t) write-value.Pre
 
-abbrev write_value_Inv_loop : write-value-lts.invariant_loop
+abbrev write_value_Inv_loop : write-value-lts.invariant-loop-i
 write_value_Inv_loop slots heads saved₀ w depth k p c size q₀ i₀ saved q i =
     (i ≤ size) × (length saved ≡ length saved₀)
     × Going (store_of slots heads) depth (to_z w64 w) k (written p saved₀) (written q₀ saved₀) (written q saved) i
 
-abbrev write_value_μ_loop : write-value-lts.decreases_loop
+abbrev write_value_μ_loop : write-value-lts.decreases-loop-i
 write_value_μ_loop slots heads saved₀ w depth k p c size q₀ i₀ saved q i = size - i
 
 abbrev write_value_claims : ℕ → write-value-lts.Claims
@@ -49,64 +49,64 @@ write_value_claims t = (
   write-value.Post,
 )
 
-write_value_returns : (t : ℕ) → write-value-lts.Need-returns (write_value_claims t) (write_value_at t)
+write_value_returns : (t : ℕ) → write-value-lts.Need-returns-then-depth-eq0 (write_value_claims t) (write_value_at t)
     write-value.Post write_value_Inv_loop write_value_μ_loop
-write_value_returns t c = let a = c.before.before.before.before.before.before.before.args in write_number
-    (store_of a.slots.now a.heads.now) a.depth a.w a.k (written a.p a.saved.now) c.before.before.before.before.if1.true (written c.before.before.put_entry.result c.before.before.put_entry.new.0) (rw (to_z-of_z {z = a.w} c.before.before.before.before.before.before.before.ranges.w) at c.before.before.put_entry.ensures)
+write_value_returns t c = let a = c.args in write_number
+    (store_of a.slots.now a.heads.now) a.depth a.w a.k (written a.p a.saved.now) c.if-depth-eq0.true (written c.put_entry.result c.put_entry.new.saved) (rw (to_z-of_z {z = a.w} c.ranges.w) at c.put_entry.ensures)
 
-write_value_add_put_entry : (t : ℕ) → write-value-lts.Need-overflow-add-put-entry (write_value_claims t) (write_value_at t)
+write_value_add_put_entry : (t : ℕ) → write-value-lts.Need-overflow_add-size (write_value_claims t) (write_value_at t)
     write-value.Post write_value_Inv_loop write_value_μ_loop
-write_value_add_put_entry t c = let a = c.before.before.before.before.before.before.args in omega (
+write_value_add_put_entry t c = let a = c.args in omega (
   arith,
-  few_elements a.slots.now a.heads.now c.before.before.named-cell.result,
-  c.before.read_length.ensures,
+  few_elements a.slots.now a.heads.now c.named_cell-c.result,
+  c.read_length-size.ensures,
 )
 
-write_value_cast_put_entry : (t : ℕ) → write-value-lts.Need-overflow-cast-put-entry (write_value_claims t) (write_value_at t)
+write_value_cast_put_entry : (t : ℕ) → write-value-lts.Need-overflow_cast-size (write_value_claims t) (write_value_at t)
     write-value.Post write_value_Inv_loop write_value_μ_loop
-write_value_cast_put_entry t c = let a = c.before.before.before.before.before.before.args in record {
+write_value_cast_put_entry t c = let a = c.args in record {
   fits =
       omega (
         arith,
-        few_elements a.slots.now a.heads.now c.before.before.named-cell.result,
-        c.before.read_length.ensures,
+        few_elements a.slots.now a.heads.now c.named_cell-c.result,
+        c.read_length-size.ensures,
       );
 }
 
-write_value_loop_holds : (t : ℕ) → write-value-lts.Need-loop-init (write_value_claims t) (write_value_at t)
+write_value_loop_holds : (t : ℕ) → write-value-lts.Need-loop-i-init (write_value_claims t) (write_value_at t)
     write-value.Post write_value_Inv_loop write_value_μ_loop
 write_value_loop_holds t c = (omega arith, refl, refl)
 
-write_value_loop_again : (t : ℕ) → write-value-lts.Need-loop-preserved (write_value_claims t) (write_value_at t)
+write_value_loop_again : (t : ℕ) → write-value-lts.Need-loop-i-preserved (write_value_claims t) (write_value_at t)
     write-value.Post write_value_Inv_loop write_value_μ_loop
-write_value_loop_again t c = let a = c.before.before.before.before.before.before.before.before.before.before.before.before.before.before.before.before.args in let l = c.before.before.before.before.before.before.loop in let e = to_z-of_z {z = a.w} c.before.before.before.before.before.before.before.before.before.before.before.before.before.before.before.before.ranges.w in let σ = store_of a.slots.now a.heads.now in
-    let named = rw e at c.before.before.before.before.before.before.before.before.before.before.before.before.named-cell.ensures in
-    let size = c.before.before.before.before.before.before.before.before.before.before.before.read_length.ensures ∙ ap (λ j. length (elements (cell σ j))) named in
-    let u = c.before.before.before.before.read-slot.result in
-    let t₀ = written c.before.before.before.before.before.before.before.before.before.put-entry2.result
-    c.before.before.before.before.before.before.before.before.before.put-entry2.new.0 in
-    let one = rw (to_z-of_z {z = u} (record { sfits = c.before.before.before.before.read-slot.type-inv })) at c.before.before.write-value.ensures in (
-      omega (arith, c.before.before.before.before.before.loop-test.true),
-      c.before.before.write-value.auto.1.1.0 ∙ l.inv.1,
+write_value_loop_again t c = let a = c.args in let l = c.loop-i in let e = to_z-of_z {z = a.w} c.ranges.w in let σ = store_of a.slots.now a.heads.now in
+    let named = rw e at c.named_cell-c.ensures in
+    let size = c.read_length-size.ensures ∙ ap (λ j. length (elements (cell σ j))) named in
+    let u = c.read_slot-e.result in
+    let t₀ = written c.put_entry-q.result
+    c.put_entry-q.new.saved in
+    let one = rw (to_z-of_z {z = u} (record { sfits = c.read_slot-e.type_inv })) at c.write_value-next.ensures in (
+      omega (arith, c.loop-i-test.true),
+      c.write_value-next.auto.1.1.0 ∙ l.inv.1,
       rw e (write_goes σ a.depth a.w a.k (written a.p a.saved.now) t₀ (written l.q l.saved) l.i (rw e at l.inv.2) (omega (
         arith,
         size,
-        c.before.before.before.before.before.loop-test.true,
-      )) u (c.before.before.before.before.read-slot.ensures ∙ ap (λ j. get_or (elements (cell σ j)) l.i (pos 0)) named) (written c.before.before.write-value.result c.before.before.write-value.new.1.1.0) one),
+        c.loop-i-test.true,
+      )) u (c.read_slot-e.ensures ∙ ap (λ j. get_or (elements (cell σ j)) l.i (pos 0)) named) (written c.write_value-next.result c.write_value-next.new.saved) one),
     )
 
-write_value_returns_2 : (t : ℕ) → write-value-lts.Need-returns-2 (write_value_claims t) (write_value_at t)
+write_value_returns_2 : (t : ℕ) → write-value-lts.Need-returns (write_value_claims t) (write_value_at t)
     write-value.Post write_value_Inv_loop write_value_μ_loop
-write_value_returns_2 t c = let a = c.before.before.before.before.before.before.before.before.before.before.before.args in let l = c.before.loop in let e = to_z-of_z {z = a.w} c.before.before.before.before.before.before.before.before.before.before.before.ranges.w in let σ = store_of a.slots.now a.heads.now in
-    let size = c.before.before.before.before.before.before.read_length.ensures ∙ ap (λ j. length (elements
-    (cell σ j))) (rw e at c.before.before.before.before.before.before.before.named-cell.ensures) in
-    let t₀ = written c.before.before.before.before.put-entry2.result c.before.before.before.before.put-entry2.new.0 in
-    write_ends σ a.depth a.w a.k (written a.p a.saved.now) c.before.before.before.before.before.before.before.before.if1.false c.before.before.before.before.before.before.read_length.result
-    size t₀ (written l.q l.saved) l.i c.before.before.before.before.put-entry2.ensures (rw e at
-    l.invariant.2) (omega (arith, size, c.loop-test.false))
+write_value_returns_2 t c = let a = c.args in let l = c.loop-i in let e = to_z-of_z {z = a.w} c.ranges.w in let σ = store_of a.slots.now a.heads.now in
+    let size = c.read_length-size.ensures ∙ ap (λ j. length (elements
+    (cell σ j))) (rw e at c.named_cell-c.ensures) in
+    let t₀ = written c.put_entry-q.result c.put_entry-q.new.saved in
+    write_ends σ a.depth a.w a.k (written a.p a.saved.now) c.if-depth-eq0.false c.read_length-size.result
+    size t₀ (written l.q l.saved) l.i c.put_entry-q.ensures (rw e at
+    l.invariant.2) (omega (arith, size, c.loop-i-test.false))
 
-pub +write-value-spec : {M : Type 1} → statement M
-+write-value-spec = close μ_write_value λ t. write-value-lts.spec (write_value_claims t)
+pub +write_value_spec : {M : Type 1} → statement M
++write_value_spec = close μ_write_value λ t. write-value-lts.spec (write_value_claims t)
     (write_value_at t)
     write-value.Post
     write_value_Inv_loop

@@ -5,32 +5,32 @@ use Rattle.script_count.proofs.Laws.{Passing, pass_starts, pass_stops, pass_goes
 use Rattle.script_count.proofs.count_script.Statement.{statement}
 use Rattle.script_count.proofs.count_script.Tie as tie
 
-abbrev invariant_loop : tie.invariant_loop
+abbrev invariant_loop : tie.invariant-loop-p
 invariant_loop kinds p₀ start₀ count₀ p start count = Passing kinds (crowd kinds (length kinds) 0 0 0) p start count
 
-abbrev decreases_loop : tie.decreases_loop
+abbrev decreases_loop : tie.decreases-loop-p
 decreases_loop kinds p₀ start₀ count₀ p start count = length kinds - p
 
-loop_holds : tie.Need-loop-init invariant_loop decreases_loop
+loop_holds : tie.Need-loop-p-init invariant_loop decreases_loop
 loop_holds c = pass_starts _
 
-returns : tie.Need-returns invariant_loop decreases_loop
+returns : tie.Need-returns-then-crowd_ends invariant_loop decreases_loop
 returns c =
-    pass_stops c.before.before.before.before.loop.invariant c.before.before.before.loop-test.true
-    (sym c.before.crowd_ends.ensures ∙ c.if1.true)
+    pass_stops c.loop-p.invariant c.loop-p-test.true
+    (sym c.crowd_ends.ensures ∙ c.if-crowd_ends.true)
 
-loop_again : tie.Need-loop-preserved invariant_loop decreases_loop
+loop_again : tie.Need-loop-p-preserved invariant_loop decreases_loop
 loop_again c =
-    pass_goes c.before.before.before.before.before.before.loop.invariant
-    c.before.before.before.before.before.loop-test.true
-    (sym c.before.before.before.crowd_ends.ensures ∙ c.before.before.if1.false) _ _
-    c.before.start_after.ensures c.count_after.ensures
+    pass_goes c.loop-p.invariant
+    c.loop-p-test.true
+    (sym c.crowd_ends.ensures ∙ c.if-crowd_ends.false) _ _
+    c.start_after-start.ensures c.count_after-count.ensures
 
-returns_2 : tie.Need-returns-2 invariant_loop decreases_loop
-returns_2 c = pass_over c.before.before.loop.invariant c.before.loop-test.false c.if2.true
+returns_2 : tie.Need-returns-then-count-gt256 invariant_loop decreases_loop
+returns_2 c = pass_over c.loop-p.invariant c.loop-p-test.false c.if-count-gt256.true
 
-returns_3 : tie.Need-returns-3 invariant_loop decreases_loop
-returns_3 c = pass_within c.before.before.loop.invariant c.before.loop-test.false c.if2.false
+returns_3 : tie.Need-returns-else-count-gt256 invariant_loop decreases_loop
+returns_3 c = pass_within c.loop-p.invariant c.loop-p-test.false c.if-count-gt256.false
 
 pub count_script_spec : {M : Type 1} → statement M
 count_script_spec =

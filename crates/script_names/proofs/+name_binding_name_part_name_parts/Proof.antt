@@ -24,8 +24,8 @@ mod Binding
 mod Part
 mod Parts
 
-pub +name-binding-name-part-name-parts-spec : {M : Type 1} → statement M
-+name-binding-name-part-name-parts-spec =
+pub +name_binding_name_part_name_parts_spec : {M : Type 1} → statement M
++name_binding_name_part_name_parts_spec =
     close
     μ_name_binding
     μ_name_part

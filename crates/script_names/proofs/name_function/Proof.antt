@@ -6,33 +6,33 @@ use Rattle.prelude.specs.Kit.{arith, inl, inr, rules}
 use Rattle.script_names.proofs.name_function.Statement.{statement}
 use Rattle.script_names.proofs.name_function.Tie as tie
 
-add_name_parameters : tie.Need-overflow-add-name-parameters
-add_name_parameters c = let a = c.before.before.before.before.before.before.before.args in
+add_name_parameters : tie.Need-overflow_add-at
+add_name_parameters c = let a = c.args in
     omega (
       arith,
       inside a.kinds.now a.operands.now at_function a.at _ _ _
-          c.before.before.before.before.node_at.result
-          c.before.before.before.before.node_at.ensures c.before.before.count.given.1,
+          c.node_at.result
+          c.node_at.ensures c.in-Fits.is,
     )
 
-returns : tie.Need-returns
-returns c = let a = c.before.before.before.before.before.before.before.before.before.args in
+returns : tie.Need-returns-in-Fits
+returns c = let a = c.args in
     function_next a.kinds.now a.operands.now a.functions
     (seen a.kinds.now a.operands.now at_function a.at
-    c.before.before.before.before.before.before.node_at.result
-    c.before.before.before.before.before.before.node_at.ensures _ _ _
-    c.before.before.before.before.count.given.1) c.before.name-parameters.result
-    c.before.name-parameters.ensures
+    c.node_at.result
+    c.node_at.ensures _ _ _
+    c.in-Fits.is) c.name_parameters.result
+    c.name_parameters.ensures
 
-returns_2 : tie.Need-returns-2
-returns_2 c = let a = c.before.before.before.before.before.args in
-    function_none a.kinds.now a.operands.now a.functions a.at c.before.before.node_at.result
-    c.before.before.node_at.ensures (inl c.enum_told.given.1)
+returns_2 : tie.Need-returns-in-WrongKind
+returns_2 c = let a = c.args in
+    function_none a.kinds.now a.operands.now a.functions a.at c.node_at.result
+    c.node_at.ensures (inl c.in-WrongKind.is)
 
-returns_3 : tie.Need-returns-3
-returns_3 c = let a = c.before.before.before.before.before.args in
-    function_none a.kinds.now a.operands.now a.functions a.at c.before.before.node_at.result
-    c.before.before.node_at.ensures (inr c.enum-told2.given.1)
+returns_3 : tie.Need-returns-in-WrongOperand
+returns_3 c = let a = c.args in
+    function_none a.kinds.now a.operands.now a.functions a.at c.node_at.result
+    c.node_at.ensures (inr c.in-WrongOperand.is)
 
 pub name_function_spec : {M : Type 1} → statement M
 name_function_spec =

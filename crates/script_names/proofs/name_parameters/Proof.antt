@@ -7,88 +7,88 @@ use Rattle.prelude.specs.Kit.{◌≤◌, ◌-◌, arith, ◌≡◌, refl, ◌∙
 use Rattle.script_names.proofs.name_parameters.Statement.{statement}
 use Rattle.script_names.proofs.name_parameters.Tie as tie
 
-abbrev invariant_loop : tie.invariant_loop
+abbrev invariant_loop : tie.invariant-loop-left
 invariant_loop kinds operands functions known₀ at count p₀ left₀ known p left =
     (left ≤ 255) × (length known ≡ 256) × (names_from kinds operands functions count (scope known₀) at ≡ names_from
     kinds operands functions left (scope known) p)
 
-abbrev decreases_loop : tie.decreases_loop
+abbrev decreases_loop : tie.decreases-loop-left
 decreases_loop kinds operands functions known₀ at count p₀ left₀ known p left = left
 
-loop_holds : tie.Need-loop-init invariant_loop decreases_loop
-loop_holds c = (omega arith, c.before.before.before.requires, refl)
+loop_holds : tie.Need-loop-left-init invariant_loop decreases_loop
+loop_holds c = (omega arith, c.requires, refl)
 
-slice_read_if1 : tie.Need-slice-read-if1 invariant_loop decreases_loop
-slice_read_if1 c = omega (arith, c.before.before.before.before.before.before.loop.invariant.1)
+slice_read_if1 : tie.Need-bounds-known-x invariant_loop decreases_loop
+slice_read_if1 c = omega (arith, c.loop-left.invariant.1)
 
-returns : tie.Need-returns invariant_loop decreases_loop
-returns c = let a = c.before.before.before.before.before.before.before.before.before.before.before.args in
-    let v = c.before.before.before.before.before.before.before.loop.invariant in
+returns : tie.Need-returns-then-known-x invariant_loop decreases_loop
+returns c = let a = c.args in
+    let v = c.loop-left.invariant in
     parameter_known a.kinds.now a.operands.now a.functions _
-    c.before.before.before.before.before.before.before.loop.left
-    c.before.before.before.before.before.before.before.loop.p
-    c.before.before.before.before.before.before.before.loop.known v.2
-    c.before.before.before.before.before.before.loop-test.true
-    (seen a.kinds.now a.operands.now at_parameter c.before.before.before.before.before.before.before.loop.p
-    c.before.before.before.before.before.node_at.result
-    c.before.before.before.before.before.node_at.ensures _ _ _ c.before.before.before.low.given.1)
-    c.if1.true
+    c.loop-left.left
+    c.loop-left.p
+    c.loop-left.known v.2
+    c.loop-left-test.true
+    (seen a.kinds.now a.operands.now at_parameter c.loop-left.p
+    c.node_at.result
+    c.node_at.ensures _ _ _ c.in-Fits.is)
+    c.if-known-x.true
 
-slice_write_known : tie.Need-slice-write-known invariant_loop decreases_loop
-slice_write_known c = omega (arith, c.before.before.before.before.before.before.before.loop.invariant.1)
+slice_write_known : tie.Need-bounds-known-x-in-Fits invariant_loop decreases_loop
+slice_write_known c = omega (arith, c.loop-left.invariant.1)
 
-add_p : tie.Need-overflow-add-p invariant_loop decreases_loop
-add_p c = let a = c.before.before.before.before.before.before.before.before.before.before.before.args in
+add_p : tie.Need-overflow_add-p invariant_loop decreases_loop
+add_p c = let a = c.args in
     omega (
       arith,
       inside a.kinds.now a.operands.now at_parameter
-          c.before.before.before.before.before.before.before.loop.p _ _ _
-          c.before.before.before.before.before.node_at.result
-          c.before.before.before.before.before.node_at.ensures c.before.before.before.low.given.1,
+          c.loop-left.p _ _ _
+          c.node_at.result
+          c.node_at.ensures c.in-Fits.is,
     )
 
-returns_2 : tie.Need-returns-2 invariant_loop decreases_loop
-returns_2 c = let a = c.before.before.before.before.before.before.before.before.args in let v =
-    c.before.before.before.before.loop.invariant in
-    parameter_none a.kinds.now a.operands.now a.functions _ c.before.before.before.before.loop.left
-    c.before.before.before.before.loop.p c.before.before.before.before.loop.known v.2
-    c.before.before.before.loop-test.true c.before.before.node_at.result
-    c.before.before.node_at.ensures (inl c.enum_told.given.1)
+returns_2 : tie.Need-returns-in-WrongKind invariant_loop decreases_loop
+returns_2 c = let a = c.args in let v =
+    c.loop-left.invariant in
+    parameter_none a.kinds.now a.operands.now a.functions _ c.loop-left.left
+    c.loop-left.p c.loop-left.known v.2
+    c.loop-left-test.true c.node_at.result
+    c.node_at.ensures (inl c.in-WrongKind.is)
 
-returns_3 : tie.Need-returns-3 invariant_loop decreases_loop
-returns_3 c = let a = c.before.before.before.before.before.before.before.before.args in let v =
-    c.before.before.before.before.loop.invariant in
-    parameter_none a.kinds.now a.operands.now a.functions _ c.before.before.before.before.loop.left
-    c.before.before.before.before.loop.p c.before.before.before.before.loop.known v.2
-    c.before.before.before.loop-test.true c.before.before.node_at.result
-    c.before.before.node_at.ensures (inr c.enum-told2.given.1)
+returns_3 : tie.Need-returns-in-WrongOperand invariant_loop decreases_loop
+returns_3 c = let a = c.args in let v =
+    c.loop-left.invariant in
+    parameter_none a.kinds.now a.operands.now a.functions _ c.loop-left.left
+    c.loop-left.p c.loop-left.known v.2
+    c.loop-left-test.true c.node_at.result
+    c.node_at.ensures (inr c.in-WrongOperand.is)
 
-loop_again : tie.Need-loop-preserved invariant_loop decreases_loop
+loop_again : tie.Need-loop-left-preserved invariant_loop decreases_loop
 loop_again c = let a =
-    c.before.before.before.before.before.before.before.before.before.before.before.args in let v =
-    c.before.before.before.before.before.before.before.loop.invariant in (
+    c.args in let v =
+    c.loop-left.invariant in (
       omega arith,
       simp length-set v.1,
       parameter_new a.kinds.now a.operands.now a.functions _
-          c.before.before.before.before.before.before.before.loop.left
-          c.before.before.before.before.before.before.before.loop.p
-          c.before.before.before.before.before.before.before.loop.known v.2
-          c.before.before.before.before.before.before.loop-test.true
+          c.loop-left.left
+          c.loop-left.p
+          c.loop-left.known v.2
+          c.loop-left-test.true
           (seen a.kinds.now a.operands.now at_parameter
-          c.before.before.before.before.before.before.before.loop.p
-          c.before.before.before.before.before.node_at.result
-          c.before.before.before.before.before.node_at.ensures _ _ _
-          c.before.before.before.low.given.1)
-          v.1 (omega arith) c.if1.false,
+          c.loop-left.p
+          c.node_at.result
+          c.node_at.ensures _ _ _
+          c.in-Fits.is)
+          v.1 (omega arith) c.if-known-x.false,
     )
 
-name_part_requires : tie.Need-name-part-requires invariant_loop decreases_loop
-name_part_requires c κs = c.before.before.loop.invariant.1
+name_part_requires : tie.Need-name_part-requires invariant_loop decreases_loop
+name_part_requires c κs = c.loop-left.invariant.1
 
-returns_4 : tie.Need-returns-4 invariant_loop decreases_loop
-returns_4 c = let v = c.before.before.before.before.before.loop.invariant in
-    body_next _ _ _ _ c.before.before.before.before.before.loop.left _ _ (omega arith)
-    c.before.before.name-part.ensures.0 ∙ sym v.2
+returns_4 : tie.Need-returns invariant_loop decreases_loop
+returns_4 c = let v = c.loop-left.invariant in
+    body_next _ _ _ _ c.loop-left.left _ _ (omega arith)
+    c.name_part.ensures.0 ∙ sym v.2
 
 pub name_parameters_spec : {M : Type 1} → statement M
 name_parameters_spec =

@@ -4,38 +4,38 @@ use Rattle.script_rules.proofs.Rules.{not_there, other_count, call_fits, call_di
 use Rattle.script_rules.proofs.judge_call.Statement.{statement}
 use Rattle.script_rules.proofs.judge_call.Tie as tie
 
-returns : tie.Need-returns
+returns : tie.Need-returns-then-kinds-start
 returns c =
-    let a = c.before.before.before.args in
-    not_there a.kinds.now a.operands.now a.start a.n a.ds.now c.if1.true
+    let a = c.args in
+    not_there a.kinds.now a.operands.now a.start a.n a.ds.now c.if-kinds-start.true
 
-returns_2 : tie.Need-returns-2
+returns_2 : tie.Need-returns-then-low_at-n
 returns_2 c =
-    other_count _ _ _ _ _ c.before.before.if1.false (omega (
+    other_count _ _ _ _ _ c.if-kinds-start.false (omega (
       arith,
-      c.before.before.before.before.before.requires.0,
-      c.before.before.before.before.before.requires.1,
-    )) c.before.low_at.result
-    c.before.low_at.ensures c.if2.true
+      c.requires.0,
+      c.requires.1,
+    )) c.low_at.result
+    c.low_at.ensures c.if-low_at-n.true
 
-parameters_match_requires : tie.Need-parameters-match-requires
+parameters_match_requires : tie.Need-parameters_match-requires
 parameters_match_requires c κs = (
-  c.before.before.before.before.before.requires.0,
-  c.before.before.before.before.before.requires.1,
-  omega (arith, c.before.before.if1.false),
+  c.requires.0,
+  c.requires.1,
+  omega (arith, c.if-kinds-start.false),
 )
 
-returns_3 : tie.Need-returns-3
+returns_3 : tie.Need-returns-then-parameters_match
 returns_3 c =
-    call_fits _ _ _ _ _ c.before.before.before.before.before.if1.false c.before.before.before.before.low_at.result c.before.before.before.before.low_at.ensures c.before.before.before.if2.false
-    c.before.before.parameters-match.result c.before.before.parameters-match.ensures c.before.if3.true c.high_at.result
+    call_fits _ _ _ _ _ c.if-kinds-start.false c.low_at.result c.low_at.ensures c.if-low_at-n.false
+    c.parameters_match.result c.parameters_match.ensures c.if-parameters_match.true c.high_at.result
     c.high_at.ensures
 
-returns_4 : tie.Need-returns-4
+returns_4 : tie.Need-returns
 returns_4 c =
-    call_differs _ _ _ _ _ c.before.before.before.before.if1.false c.before.before.before.low_at.result
-    c.before.before.before.low_at.ensures c.before.before.if2.false
-    c.before.parameters-match.result c.before.parameters-match.ensures c.if3.false
+    call_differs _ _ _ _ _ c.if-kinds-start.false c.low_at.result
+    c.low_at.ensures c.if-low_at-n.false
+    c.parameters_match.result c.parameters_match.ensures c.if-parameters_match.false
 
 pub judge_call_spec : {M : Type 1} → statement M
 judge_call_spec =

@@ -3,21 +3,21 @@ use Rattle.prelude.specs.Kit.{ne_eqb, eq-eqb}
 use Rattle.script_rules.proofs.judge_if.Statement.{statement}
 use Rattle.script_rules.proofs.judge_if.Tie as tie
 
-returns : tie.Need-returns
-returns c = rw (ne_eqb c.before.args.a 0 c.if1.true)
+returns : tie.Need-returns-then-a-ne0
+returns c = rw (ne_eqb c.args.a 0 c.if-a-ne0.true)
 
-returns_2 : tie.Need-returns-2
+returns_2 : tie.Need-returns-then-b-c
 returns_2 c =
     rw (
-      eq-eqb c.before.before.args.a 0 c.before.if1.false,
-      eq-eqb c.before.before.args.b c.before.before.args.c c.if2.true,
+      eq-eqb c.args.a 0 c.if-a-ne0.false,
+      eq-eqb c.args.b c.args.c c.if-b-c.true,
     )
 
-returns_3 : tie.Need-returns-3
+returns_3 : tie.Need-returns
 returns_3 c =
     rw (
-      eq-eqb c.before.before.args.a 0 c.before.if1.false,
-      ne_eqb c.before.before.args.b c.before.before.args.c c.if2.false,
+      eq-eqb c.args.a 0 c.if-a-ne0.false,
+      ne_eqb c.args.b c.args.c c.if-b-c.false,
     )
 
 pub judge_if_spec : {M : Type 1} → statement M

@@ -7,28 +7,26 @@ use Rattle.store.proofs.Filling.{filled_by_appending, none_given}
 use Rattle.store.proofs.acquire.Statement.{statement}
 use Rattle.store.proofs.acquire.Tie as tie
 
-returns : tie.Need-returns
+returns : tie.Need-returns-in-Cell
 returns c =
-    let told = c.before.before.before.before.before.before.before.c.given in
-    let empty = c.before.before.before.before.before.before.before.before.before.before.before.before in
-    let a = empty.before.before.before.before.args in
-    let e = ap acquired_outcome (sym told.1) ∙ empty.acquire_empty.ensures.0 in
+    let told = c.c-1.given in
+    let a = c.args in
+    let e = ap acquired_outcome (sym told.1) ∙ c.acquire_empty.ensures.0 in
     with_remaining a.free a.depth a.words.now (store_of a.slots.now a.heads.now) _ _ (
       e,
-      c.before.before.before.append-all.ensures
-          ∙ ap (appended_all told.0.0 a.words.now) empty.acquire_empty.ensures.1
+      c.append_all.ensures
+          ∙ ap (appended_all told.0.0 a.words.now) c.acquire_empty.ensures.1
           ∙ filled_by_appending a.free a.depth (store_of a.slots.now a.heads.now)
           (gained told.0.0 told.0.1.0) a.words.now e,
     )
 
-returns_2 : tie.Need-returns-2
+returns_2 : tie.Need-returns-in-NoneFree
 returns_2 c =
-    let empty = c.before.before.before.before.before in
-    let a = empty.before.before.before.before.args in
-    let e = ap acquired_outcome (sym c.enum_told.given.1) ∙ empty.acquire_empty.ensures.0 in
+    let a = c.args in
+    let e = ap acquired_outcome (sym c.in-NoneFree.is) ∙ c.acquire_empty.ensures.0 in
     with_remaining a.free a.depth a.words.now (store_of a.slots.now a.heads.now) _ _ (
       e,
-      empty.acquire_empty.ensures.1
+      c.acquire_empty.ensures.1
           ∙ none_given a.free a.depth (store_of a.slots.now a.heads.now) a.words.now e,
     )
 

@@ -4,18 +4,17 @@ use Rattle.store.proofs.Appending.{append_out}
 use Rattle.store.proofs.append.Statement.{statement}
 use Rattle.store.proofs.append.Tie as tie
 
-append_within_requires : tie.Need-append-within-requires
+append_within_requires : tie.Need-append_within-requires
 append_within_requires c κs =
-    let there = c.before.before.before.is-cell.ensures.there c.before.before.if1.true in
+    let there = c.is_cell.ensures.there c.if-is_cell.true in
     (there.1, there.2, there.3)
 
-returns : tie.Need-returns
+returns : tie.Need-returns-then-is_cell
 returns c =
-    let start = c.before.before.before.before.before.before.before.before.before.before.before in
-    rw (to_z-of_z {z = start.args.w} start.ranges.w) at c.before.before.before.append_within.ensures
+    rw (to_z-of_z {z = c.args.w} c.ranges.w) at c.append_within.ensures
 
-returns_2 : tie.Need-returns-2
-returns_2 c = append_out _ _ _ _ (c.before.is-cell.ensures.gone c.if1.false)
+returns_2 : tie.Need-returns-else-is_cell
+returns_2 c = append_out _ _ _ _ (c.is_cell.ensures.gone c.if-is_cell.false)
 
 pub append_spec : {M : Type 1} → statement M
 append_spec =

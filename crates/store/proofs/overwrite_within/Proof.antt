@@ -10,29 +10,26 @@ inside : (c : tie.Start) → let a = c.args in a.c < cells_in a.slots.now a.head
 inside c = let a = c.args in
     to_cells a.slots.now a.heads.now a.c c.requires.0 c.requires.1 c.requires.2
 
-cast_if1 : tie.Need-overflow-cast-if1
-cast_if1 c = record { fits = omega (arith, c.shared-slice-known.given (2 + 4 * c.before.args.c)) }
+cast_if1 : tie.Need-overflow_cast-heads
+cast_if1 c = record { fits = omega (arith, c.shared_slice_known-1.given (2 + 4 * c.args.c)) }
 
-returns : tie.Need-returns
+returns : tie.Need-returns-then-i-lt16
 returns c =
-    let start = c.before.before.before in
-    let a = start.args in
+    let start = c.before.before.before in let a = start.args in
     rw (to_z-of_z {z = a.w} start.ranges.w)
-    (overwrite_one a.slots.now a.heads.now a.c a.i a.w (inside start) c.before.if1.true
-    c.if2.true)
+    (overwrite_one a.slots.now a.heads.now a.c a.i a.w (inside start) c.if-i-heads.true
+    c.if-i-lt16.true)
 
-returns_2 : tie.Need-returns-2
+returns_2 : tie.Need-returns-else-i-lt16
 returns_2 c =
-    let start = c.before.before.before in
-    let a = start.args in
-    overwrite_outside a.slots.now a.heads.now a.c a.i a.w (inside start) c.before.if1.true
-    c.if2.false
+    let start = c.before.before.before in let a = start.args in
+    overwrite_outside a.slots.now a.heads.now a.c a.i a.w (inside start) c.if-i-heads.true
+    c.if-i-lt16.false
 
-returns_3 : tie.Need-returns-3
+returns_3 : tie.Need-returns-else-i-heads
 returns_3 c =
-    let start = c.before.before in
-    let a = start.args in
-    overwrite_past a.slots.now a.heads.now a.c a.i a.w (inside start) c.if1.false
+    let start = c.before.before in let a = start.args in
+    overwrite_past a.slots.now a.heads.now a.c a.i a.w (inside start) c.if-i-heads.false
 
 pub overwrite_within_spec : {M : Type 1} → statement M
 overwrite_within_spec =

@@ -12,39 +12,36 @@ inside : (c : tie.Start) → c.args.c < cells_in c.args.slots.now c.args.heads.n
 inside c = to_cells _ _ _ (omega arith) (omega arith) (omega arith)
 
 -- past the test of the head
-head : (c : tie.Else1) →
-    let h = c.before.before.head_of.result in
-    let a = c.before.before.before.before.args in
+head : (c : tie.Else-not-head_fits) →
+    let h = c.head_of-h.result in
+    let a = c.args in
     head_fits h.count h.size h.depth h.next a.met a.holders ≡ true
-head c = passed c.before.head_fits.ensures c.if1.false
+head c = passed c.head_fits.ensures c.if-not-head_fits.false
 
-returns : tie.Need-returns
+returns : tie.Need-returns-then-not-head_fits
 returns c =
-    head_unfit _ _ _ _ _ (inside c.before.before.before.before) c.before.before.head_of.ensures
-    (failed c.before.head_fits.ensures c.if1.true)
+    head_unfit _ _ _ _ _ (inside c.before.before.before.before) c.head_of-h.ensures
+    (failed c.head_fits.ensures c.if-not-head_fits.true)
 
-returns_2 : tie.Need-returns-2
+returns_2 : tie.Need-returns-then-size-eq0
 returns_2 c =
-    let tested = c.before.before in
-    empty_cell _ _ _ _ _ (inside tested.before.before.before.before) tested.before.before.head_of.ensures
-    (head tested) c.before.if2.true c.zero-from.ensures
+    let tested = c.before.before in empty_cell _ _ _ _ _ (inside tested.before.before.before.before) tested.head_of-h.ensures
+    (head tested) c.if-size-eq0.true c.zero_from.ensures
 
-returns_3 : tie.Need-returns-3
+returns_3 : tie.Need-returns-then-not-zero_from
 returns_3 c =
-    let tested = c.before.before.before in
-    not_zero _ _ _ _ _ (inside tested.before.before.before.before) tested.before.before.head_of.ensures
-    (head tested) (failed c.before.zero-from2.ensures c.if3.true)
+    let tested = c.before.before.before in not_zero _ _ _ _ _ (inside tested.before.before.before.before) tested.head_of-h.ensures
+    (head tested) (failed c.zero_from-2.ensures c.if-not-zero_from.true)
 
-all_name_cells_requires : tie.Need-all-name-cells-requires
+all_name_cells_requires : tie.Need-all_name_cells-requires
 all_name_cells_requires c κs =
     let small = head_small _ _ _ _ _ _ (head c.before.before.before) in
     (omega (arith, small), omega (arith, small))
 
-returns_4 : tie.Need-returns-4
+returns_4 : tie.Need-returns
 returns_4 c =
-    let tested = c.before.before.before.before in
-    names_decide _ _ _ _ _ (inside tested.before.before.before.before) tested.before.before.head_of.ensures
-    (head tested) (passed c.before.before.zero-from2.ensures c.before.if3.false) c.all-name-cells.ensures
+    let tested = c.before.before.before.before in names_decide _ _ _ _ _ (inside tested.before.before.before.before) tested.head_of-h.ensures
+    (head tested) (passed c.zero_from-2.ensures c.if-not-zero_from.false) c.all_name_cells.ensures
 
 pub cell_is_sound_spec : {M : Type 1} → statement M
 cell_is_sound_spec =

@@ -8,26 +8,25 @@ use Rattle.store_check.proofs.Ranges.{Testing, testing_none, testing_more, one_f
 use Rattle.store_check.proofs.cells_are_sound.Statement.{statement}
 use Rattle.store_check.proofs.cells_are_sound.Tie as tie
 
-abbrev invariant_loop : tie.invariant_loop
+abbrev invariant_loop : tie.invariant-loop-c
 invariant_loop slots heads met holders n c₀ c = Testing (fits (store_of slots heads) met holders) 0 n c
 
-abbrev decreases_loop : tie.decreases_loop
+abbrev decreases_loop : tie.decreases-loop-c
 decreases_loop slots heads met holders n c₀ c = n - c
 
-returns : tie.Need-returns invariant_loop decreases_loop
+returns : tie.Need-returns-then-not-cell_is_sound invariant_loop decreases_loop
 returns c =
-    let turn = c.before.before.before.before.before in
-    one_fails turn.loop.invariant turn.before.cells.ensures.is c.before.before.before.before.loop-test.true
-    (by_counts _ _ _ _ (failed c.before.cell-is-sound.ensures c.if1.true))
+    one_fails c.loop-c.invariant c.cells-n.ensures.is c.loop-c-test.true
+    (by_counts _ _ _ _ (failed c.cell_is_sound.ensures c.if-not-cell_is_sound.true))
 
-loop_again : tie.Need-loop-preserved invariant_loop decreases_loop
+loop_again : tie.Need-loop-c-preserved invariant_loop decreases_loop
 loop_again c =
-    testing_more c.before.before.before.before.before.loop.invariant
-    c.before.before.before.before.loop-test.true
-    (by_counts _ _ _ _ (passed c.before.cell-is-sound.ensures c.if1.false))
+    testing_more c.loop-c.invariant
+    c.loop-c-test.true
+    (by_counts _ _ _ _ (passed c.cell_is_sound.ensures c.if-not-cell_is_sound.false))
 
-returns_2 : tie.Need-returns-2 invariant_loop decreases_loop
-returns_2 c = all_hold c.before.loop.invariant c.before.before.cells.ensures.is (omega arith)
+returns_2 : tie.Need-returns invariant_loop decreases_loop
+returns_2 c = all_hold c.loop-c.invariant c.cells-n.ensures.is (omega arith)
 
 pub cells_are_sound_spec : {M : Type 1} → statement M
 cells_are_sound_spec =

@@ -5,17 +5,15 @@ use Rattle.store_check.proofs.Gathering.{free_cell, used_cell}
 use Rattle.store_check.proofs.count_cell.Statement.{statement}
 use Rattle.store_check.proofs.count_cell.Tie as tie
 
-returns : tie.Need-returns
-returns c = free_cell _ _ _ c.before.before.head_of.ensures _ c.if1.true
+returns : tie.Need-returns-then-h-eq0
+returns c = free_cell _ _ _ c.head_of-h.ensures _ c.if-h-eq0.true
 
-returns_2 : tie.Need-returns-2
+returns_2 : tie.Need-returns
 returns_2 c =
-    let call = c.before.before.before.before in
-    let read = call.before.before.before in
-    let a = read.before.before.before.args in
-    used_cell a.slots.now a.heads.now a.c read.head_of.ensures _
-    (to_cells _ _ _ (omega arith) (omega arith) (omega arith)) call.before.if1.false call.at_most.ensures
-    c.before.before.count-words.ensures
+    let a = c.args in
+    used_cell a.slots.now a.heads.now a.c c.head_of-h.ensures _
+    (to_cells _ _ _ (omega arith) (omega arith) (omega arith)) c.if-h-eq0.false c.at_most-n.ensures
+    c.count_words.ensures
 
 pub count_cell_spec : {M : Type 1} → statement M
 count_cell_spec =

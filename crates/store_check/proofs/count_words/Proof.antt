@@ -9,40 +9,38 @@ use Rattle.store_check.proofs.Gathering.{name_at, no_words, all_words}
 use Rattle.store_check.proofs.count_words.Statement.{statement}
 use Rattle.store_check.proofs.count_words.Tie as tie
 
-abbrev invariant_loop : tie.invariant_loop
+abbrev invariant_loop : tie.invariant-loop-i
 invariant_loop slots from n depth counts₀ i₀ counts i =
     (i ≤ n) × (length counts ≡ length counts₀) × Doing tally_one (tabulate 0 n (name_at slots from)) counts₀ i counts
 
-abbrev decreases_loop : tie.decreases_loop
+abbrev decreases_loop : tie.decreases-loop-i
 decreases_loop slots from n depth counts₀ i₀ counts i = n - i
 
-loop_again : tie.Need-loop-preserved invariant_loop decreases_loop
+loop_again : tie.Need-loop-i-preserved invariant_loop decreases_loop
 loop_again c =
-    let turn = c.before.before.before.before.before.before.before in
-    let a = turn.before.before.before.args in
-    let i = turn.loop.i in
+    let a = c.args in
+    let i = c.loop-i.i in
     let w = get_or a.slots.now (a.from + i) (pos 0) in
-    let named = c.before.before.before in
-    let one = c.before.before.count-one in (
+    let one = c.count_one in (
       omega arith,
-      one.auto.0 ∙ turn.loop.invariant.1,
-      doing_more turn.loop.invariant.2 (omega (arith, tabulate_length a.n 0 (name_at a.slots.now a.from))) 0
-          named.named-cell.result
+      one.auto.0 ∙ c.loop-i.invariant.1,
+      doing_more c.loop-i.invariant.2 (omega (arith, tabulate_length a.n 0 (name_at a.slots.now a.from))) 0
+          c.named_cell.result
           (table_at a.n (name_at a.slots.now a.from) i 0 (omega arith)
-          ∙ sym (rw (to_z-of_z {z = w} (record { sfits = named.before.named-cell-arg.given })) at
-          named.named-cell.ensures)) one.ensures,
+          ∙ sym (rw (to_z-of_z {z = w} (record { sfits = c.named_cell-arg-1.given })) at
+          c.named_cell.ensures)) one.ensures,
     )
 
-returns_2 : tie.Need-returns-2 invariant_loop decreases_loop
+returns_2 : tie.Need-returns invariant_loop decreases_loop
 returns_2 c =
-    let a = c.before.before.before.before.args in
-    all_words _ _ _ _ _ c.before.before.if1.false (doing_all c.before.loop.invariant.2
+    let a = c.args in
+    all_words _ _ _ _ _ c.if-depth-eq0.false (doing_all c.loop-i.invariant.2
     (omega (arith, tabulate_length a.n 0 (name_at a.slots.now a.from))))
 
 pub count_words_spec : {M : Type 1} → statement M
 count_words_spec =
     tie.close
-    (tie.spec invariant_loop decreases_loop (λ c. no_words _ _ _ _ _ c.if1.true)
+    (tie.spec invariant_loop decreases_loop (λ c. no_words _ _ _ _ _ c.if-depth-eq0.true)
     (λ c. (omega arith, refl, doing_none tally_one _ _)) (λ c. search rules) (λ c. search rules) (λ c. search rules)
     (λ c κs. search rules) (λ c κs. search rules) (λ c. search rules) (λ c. search rules) loop_again
     (λ c. search rules) returns_2)

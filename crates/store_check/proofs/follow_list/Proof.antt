@@ -6,37 +6,35 @@ use Rattle.store_check.proofs.FreeList.{Following, following_more, following_spe
 use Rattle.store_check.proofs.follow_list.Statement.{statement}
 use Rattle.store_check.proofs.follow_list.Tie as tie
 
-abbrev invariant_loop : tie.invariant_loop
+abbrev invariant_loop : tie.invariant-loop-c
 invariant_loop slots heads met₀ n c₀ left₀ met c left =
     (length met ≡ length met₀) × (left ≤ n) × Following (store_of slots heads) (get_or heads 0 0) n met₀ c left met
 
-abbrev decreases_loop : tie.decreases_loop
+abbrev decreases_loop : tie.decreases-loop-c
 decreases_loop slots heads met₀ n c₀ left₀ met c left = left
 
-cast_c : tie.Need-overflow-cast-c invariant_loop decreases_loop
-cast_c c = record { fits = omega (arith, c.shared-slice-known2.given 0) }
+cast_c : tie.Need-overflow_cast-c invariant_loop decreases_loop
+cast_c c = record { fits = omega (arith, c.shared_slice_known-2-1.given 0) }
 
-returns : tie.Need-returns invariant_loop decreases_loop
+returns : tie.Need-returns-then-left-eq0 invariant_loop decreases_loop
 returns c =
-    let turn = c.before.before in
-    rw turn.before.before.cells.ensures.is at (following_spent turn.loop.invariant.2 c.if1.true)
+    rw c.cells-n.ensures.is at (following_spent c.loop-c.invariant.2 c.if-left-eq0.true)
 
-loop_again : tie.Need-loop-preserved invariant_loop decreases_loop
+loop_again : tie.Need-loop-c-preserved invariant_loop decreases_loop
 loop_again c =
-    let turn = c.before.before.before.before.before.before.before in
-    let a = turn.before.before.before.before.before.args in
-    let one = c.before.before.before.count-one in (
-      one.auto.0 ∙ turn.loop.invariant.0,
+    let a = c.args in
+    let one = c.count_one in (
+      one.auto.0 ∙ c.loop-c.invariant.0,
       omega arith,
-      following_more turn.loop.invariant.2 (omega (arith, store_size a.slots.now a.heads.now))
-          c.before.before.before.before.before.if1.false one.ensures c.head_of.ensures.next,
+      following_more c.loop-c.invariant.2 (omega (arith, store_size a.slots.now a.heads.now))
+          c.if-left-eq0.false one.ensures c.head_of-c.ensures.next,
     )
 
-returns_2 : tie.Need-returns-2 invariant_loop decreases_loop
+returns_2 : tie.Need-returns invariant_loop decreases_loop
 returns_2 c =
-    let a = c.before.before.before.before.before.before.args in
-    rw c.before.before.before.cells.ensures.is at
-    (following_out c.before.loop.invariant.2 (omega (arith, store_size a.slots.now a.heads.now)))
+    let a = c.args in
+    rw c.cells-n.ensures.is at
+    (following_out c.loop-c.invariant.2 (omega (arith, store_size a.slots.now a.heads.now)))
 
 pub follow_list_spec : {M : Type 1} → statement M
 follow_list_spec =

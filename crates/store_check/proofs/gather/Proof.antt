@@ -8,29 +8,28 @@ use Rattle.store_check.proofs.Gathering.{tally_cell, gathered}
 use Rattle.store_check.proofs.gather.Statement.{statement}
 use Rattle.store_check.proofs.gather.Tie as tie
 
-abbrev invariant_loop : tie.invariant_loop
+abbrev invariant_loop : tie.invariant-loop-c
 invariant_loop slots heads depth counts₀ n c₀ counts c =
     (length counts ≡ 256) × (c ≤ n) × Doing tally_cell (store_of slots heads).cells counts₀ c counts
 
-abbrev decreases_loop : tie.decreases_loop
+abbrev decreases_loop : tie.decreases-loop-c
 decreases_loop slots heads depth counts₀ n c₀ counts c = n - c
 
-loop_again : tie.Need-loop-preserved invariant_loop decreases_loop
+loop_again : tie.Need-loop-c-preserved invariant_loop decreases_loop
 loop_again c =
-    let turn = c.before.before.before.before in
-    let a = turn.before.before.before.before.before.before.args in
-    let one = c.before.count-cell in (
-      one.auto.1.1.1.0 ∙ turn.loop.invariant.0,
+    let a = c.args in
+    let one = c.count_cell in (
+      one.auto.1.1.1.0 ∙ c.loop-c.invariant.0,
       omega arith,
-      doing_more turn.loop.invariant.2 (omega (arith, store_size a.slots.now a.heads.now)) (clear 0) _
-          (cell_listed (store_of a.slots.now a.heads.now) turn.loop.c) one.ensures,
+      doing_more c.loop-c.invariant.2 (omega (arith, store_size a.slots.now a.heads.now)) (clear 0) _
+          (cell_listed (store_of a.slots.now a.heads.now) c.loop-c.c) one.ensures,
     )
 
 returns : tie.Need-returns invariant_loop decreases_loop
 returns c =
-    let a = c.before.before.before.before.before.before.before.args in
-    gathered a.slots.now a.heads.now a.depth c.before.before.before.before.count-words.ensures
-    (doing_all c.before.loop.invariant.2 (omega (arith, store_size a.slots.now a.heads.now)))
+    let a = c.args in
+    gathered a.slots.now a.heads.now a.depth c.count_words.ensures
+    (doing_all c.loop-c.invariant.2 (omega (arith, store_size a.slots.now a.heads.now)))
 
 pub gather_spec : {M : Type 1} → statement M
 gather_spec =

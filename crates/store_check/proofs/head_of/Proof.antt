@@ -4,17 +4,17 @@ use Rattle.store_words.proofs.CellWords.{to_cells, count_is, size_is, depth_is, 
 use Rattle.store_check.proofs.head_of.Statement.{statement}
 use Rattle.store_check.proofs.head_of.Tie as tie
 
-cast_size : tie.Need-overflow-cast-size
+cast_size : tie.Need-overflow_cast-size
 cast_size c =
-    record { fits = omega (arith, c.shared-slice-known2.given (2 + 4 * c.before.before.args.c)) }
+    record { fits = omega (arith, c.shared_slice_known-2-1.given (2 + 4 * c.args.c)) }
 
-cast_next : tie.Need-overflow-cast-next
+cast_next : tie.Need-overflow_cast-next
 cast_next c =
-    record { fits = omega (arith, c.shared-slice-known4.given (4 + 4 * c.before.before.before.before.args.c)) }
+    record { fits = omega (arith, c.shared_slice_known-4-1.given (4 + 4 * c.args.c)) }
 
 returns : tie.Need-returns
 returns c =
-    let a = c.before.before.before.before.args in
+    let a = c.args in
     let there = to_cells a.slots.now a.heads.now a.c (omega arith) (omega arith) (omega arith) in
     record {
       count = sym (count_is _ _ _ there);

@@ -6,27 +6,25 @@ use Rattle.store_check.proofs.Comparing.{names_out, names_free, names_deep}
 use Rattle.store_check.proofs.names_cell.Statement.{statement}
 use Rattle.store_check.proofs.names_cell.Tie as tie
 
-named : (c : tie.After-named-cell) → c.named-cell.result ≡ cell_of c.before.before.args.w
-named c = rw (to_z-of_z {z = c.before.before.args.w} c.before.before.ranges.w) at c.named-cell.ensures
+named : (c : tie.After-named_cell-c) → c.named_cell-c.result ≡ cell_of c.args.w
+named c = rw (to_z-of_z {z = c.args.w} c.ranges.w) at c.named_cell-c.ensures
 
-returns : tie.Need-returns
+returns : tie.Need-returns-then-cells-c
 returns c =
-    let a = c.before.before.before.before.args in
+    let a = c.args in
     names_out _ _ _ _ (named c.before.before) (omega (arith, store_size a.slots.now a.heads.now))
 
-returns_2 : tie.Need-returns-2
+returns_2 : tie.Need-returns-then-h-eq0
 returns_2 c =
-    let call = c.before.before.before.before.before in
-    let a = call.before.before.args in
+    let call = c.before.before.before.before.before in let a = call.args in
     names_free _ _ _ _ (named call) (omega (arith, store_size a.slots.now a.heads.now))
-    c.before.before.head_of.ensures c.if2.true
+    c.head_of-h.ensures c.if-h-eq0.true
 
-returns_3 : tie.Need-returns-3
+returns_3 : tie.Need-returns
 returns_3 c =
-    let call = c.before.before.before.before.before.before in
-    let a = call.before.before.args in
+    let call = c.before.before.before.before.before.before in let a = call.args in
     names_deep _ _ _ _ (named call) (omega (arith, store_size a.slots.now a.heads.now))
-    c.before.before.before.head_of.ensures c.before.if2.false
+    c.head_of-h.ensures c.if-h-eq0.false
 
 pub names_cell_spec : {M : Type 1} → statement M
 names_cell_spec =

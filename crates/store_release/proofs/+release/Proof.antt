@@ -27,12 +27,12 @@ release_at t = and 2 release-kinds.ps (is 2 release-kinds.ps μ_release t) relea
 abbrev release_below : ℕ → In 2 release-kinds.ps
 release_below t = and 2 release-kinds.ps (falls 2 release-kinds.ps ◌<◌ μ_release t) release.Pre
 
-abbrev release_Inv_loop : release-lts.invariant_loop
+abbrev release_Inv_loop : release-lts.invariant-loop-i
 release_Inv_loop slots₀ heads₀ c levels n size depth words k freed₀ i₀ slots heads freed i =
     (i ≤ k) × (length slots ≡ length slots₀) × (length heads ≡ length heads₀)
     × Releasing (levels - 1) words k (store_of slots₀ heads₀) freed i (store_of slots heads)
 
-abbrev release_μ_loop : release-lts.decreases_loop
+abbrev release_μ_loop : release-lts.decreases-loop-i
 release_μ_loop slots₀ heads₀ c levels n size depth words k freed₀ i₀ slots heads freed i = k - i
 
 abbrev release_claims : ℕ → release-lts.Claims
@@ -52,96 +52,89 @@ release_claims t = (
 )
 
 inside : (t : ℕ)
-    (c : release-lts.Else2 (release_claims t) (release_at t) release.Post release_Inv_loop release_μ_loop) →
-    let a = c.before.before.before.before.before.before.args in InCells a.slots.now a.heads.now a.c
-inside t c = told_there c.before.is-cell.ensures c.if2.false
+    (c : release-lts.Else-not-is_cell (release_claims t) (release_at t) release.Post release_Inv_loop release_μ_loop) →
+    let a = c.args in InCells a.slots.now a.heads.now a.c
+inside t c = told_there c.is_cell.ensures c.if-not-is_cell.false
 
-release_returns : (t : ℕ) → release-lts.Need-returns (release_claims t) (release_at t) release.Post
+release_returns : (t : ℕ) → release-lts.Need-returns-then-levels-eq0 (release_claims t) (release_at t) release.Post
     release_Inv_loop release_μ_loop
-release_returns t c = no_levels _ _ _ c.if1.true
+release_returns t c = no_levels _ _ _ c.if-levels-eq0.true
 
-release_returns_2 : (t : ℕ) → release-lts.Need-returns-2 (release_claims t) (release_at t) release.Post
+release_returns_2 : (t : ℕ) → release-lts.Need-returns-then-not-is_cell (release_claims t) (release_at t) release.Post
     release_Inv_loop release_μ_loop
-release_returns_2 t c = released_out _ _ _ _ (told_gone c.before.is-cell.ensures c.if2.true)
+release_returns_2 t c = released_out _ _ _ _ (told_gone c.is_cell.ensures c.if-not-is_cell.true)
 
-release_returns_3 : (t : ℕ) → release-lts.Need-returns-3 (release_claims t) (release_at t) release.Post
+release_returns_3 : (t : ℕ) → release-lts.Need-returns-then-n-eq0 (release_claims t) (release_at t) release.Post
     release_Inv_loop release_μ_loop
-release_returns_3 t c = released_free _ _ _ _ (inside t c.before.before).0 c.if3.true
+release_returns_3 t c = released_free _ _ _ _ (inside t c.before.before).0 c.if-n-eq0.true
 
-release_returns_4 : (t : ℕ) → release-lts.Need-returns-4 (release_claims t) (release_at t) release.Post
+release_returns_4 : (t : ℕ) → release-lts.Need-returns-then-n-gt1 (release_claims t) (release_at t) release.Post
     release_Inv_loop release_μ_loop
 release_returns_4 t c = released_less _ _ _ _ (omega arith) (inside t c.before.before.before).0 (omega arith)
 
-release_returns_5 : (t : ℕ) → release-lts.Need-returns-5 (release_claims t) (release_at t) release.Post
+release_returns_5 : (t : ℕ) → release-lts.Need-returns-then-depth-eq0 (release_claims t) (release_at t) release.Post
     release_Inv_loop release_μ_loop
 release_returns_5 t c =
-    let flat = c.before.before.before.before.before.before in
-    let found = flat.before.before.before.before.before.before in
-    released_flat _ _ _ _ (omega arith) (inside t found).0 (omega arith)
-    c.before.before.before.free.ensures flat.if5.true
+    let found = c.before.before.before.before.before.before.before.before.before.before.before.before in released_flat _ _ _ _ (omega arith) (inside t found).0 (omega arith)
+    c.free.ensures c.if-depth-eq0.true
 
 release_free_requires_2 : (t : ℕ) → release-lts.Need-free-requires-2 (release_claims t) (release_at t) release.Post
     release_Inv_loop release_μ_loop
 release_free_requires_2 t c κs =
-    search (rules, inside t c.before.before.before.before.before.before.before.before.before.before)
+    search (rules, inside t c.before.before.before.before.before.before.before.before.before)
 
-release_cast_at_most : (t : ℕ) → release-lts.Need-overflow-cast-at-most (release_claims t) (release_at t) release.Post
+release_cast_at_most : (t : ℕ) → release-lts.Need-overflow_cast-size (release_claims t) (release_at t) release.Post
     release_Inv_loop release_μ_loop
 release_cast_at_most t c =
-    let read = c.before.before.before.before.before.before.before.before.before.before in
     record {
       fits = omega (
         arith,
-        read.slice-known3.given (2 + 4 * read.before.before.before.before.before.before.before.before.before.before.args.c),
+        c.slice_known-3-1.given (2 + 4 * c.args.c),
       );
     }
 
-release_loop_holds : (t : ℕ) → release-lts.Need-loop-init (release_claims t) (release_at t) release.Post
+release_loop_holds : (t : ℕ) → release-lts.Need-loop-i-init (release_claims t) (release_at t) release.Post
     release_Inv_loop release_μ_loop
 release_loop_holds t c =
-    let copied = c.before.before.before.before.before.before.before in (
+    (
       omega arith,
       refl,
       refl,
-      releasing_none _ _ _ _ _ (ap length copied.slots-of.ensures ∙ slots_length _ _) (omega arith),
+      releasing_none _ _ _ _ _ (ap length c.slots_of-words.ensures ∙ slots_length _ _) (omega arith),
     )
 
-release_add_freed : (t : ℕ) → release-lts.Need-overflow-add-freed (release_claims t) (release_at t) release.Post
+release_add_freed : (t : ℕ) → release-lts.Need-overflow_add-freed (release_claims t) (release_at t) release.Post
     release_Inv_loop release_μ_loop
 release_add_freed t c =
-    let inv = c.before.before.before.before.before.before.before.before.before.loop.invariant.3 in
-    record { fits = omega (arith, inv.counted, inv.taken, c.before.before.before.release.ensures.few) }
+    let inv = c.loop-i.invariant.3 in
+    record { fits = omega (arith, inv.counted, inv.taken, c.release-freed.ensures.few) }
 
-release_loop_again : (t : ℕ) → release-lts.Need-loop-preserved (release_claims t) (release_at t) release.Post
+release_loop_again : (t : ℕ) → release-lts.Need-loop-i-preserved (release_claims t) (release_at t) release.Post
     release_Inv_loop release_μ_loop
 release_loop_again t c =
-    let turn = c.before.before.before.before.before.before.before.before.before in
-    let inv = turn.loop.invariant in
-    let words = turn.before.before.before.before.before.before.before.before.slots-of.result in
-    let w = get_or words turn.loop.i (pos 0) in
-    let arg = c.before.before.before.before.before in
-    let named = c.before.before.before.before.named-cell in
-    let gone = c.before.before.before.release in (
+    let inv = c.loop-i.invariant in
+    let words = c.slots_of-words.result in
+    let w = get_or words c.loop-i.i (pos 0) in
+    let named = c.named_cell in
+    let gone = c.release-freed in (
       omega arith,
       gone.auto.0 ∙ inv.1,
       gone.auto.1.0 ∙ inv.2,
-      releasing_more inv.3 c.before.before.before.before.before.before.before.before.loop-test.true _
-          (rw (to_z-of_z {z = w} (record { sfits = arg.named-cell-arg.given })) at named.ensures) _ _
+      releasing_more inv.3 c.loop-i-test.true _
+          (rw (to_z-of_z {z = w} (record { sfits = c.named_cell-arg-1.given })) at named.ensures) _ _
           gone.ensures,
     )
 
-release_returns_6 : (t : ℕ) → release-lts.Need-returns-6 (release_claims t) (release_at t) release.Post
+release_returns_6 : (t : ℕ) → release-lts.Need-returns (release_claims t) (release_at t) release.Post
     release_Inv_loop release_μ_loop
 release_returns_6 t c =
-    let nested = c.before.before.before.before.before.before.before.before.before.before.before in
-    let found = nested.before.before.before.before.before.before in
-    released_all _ _ _ _ (omega arith) (inside t found).0 (omega arith) nested.if5.false
-    c.before.before.before.before.before.before.before.before.before.slots-of.ensures
-    c.before.before.at_most.ensures c.before.before.before.before.before.before.free2.ensures
-    c.before.loop.invariant.3 (omega arith)
+    let found = c.before.before.before.before.before.before.before.before.before.before.before.before.before.before.before.before.before in released_all _ _ _ _ (omega arith) (inside t found).0 (omega arith) c.if-depth-eq0.false
+    c.slots_of-words.ensures
+    c.at_most-k.ensures c.free-2.ensures
+    c.loop-i.invariant.3 (omega arith)
 
-pub +release-spec : {M : Type 1} → statement M
-+release-spec = close μ_release λ t. release-lts.spec (release_claims t)
+pub +release_spec : {M : Type 1} → statement M
++release_spec = close μ_release λ t. release-lts.spec (release_claims t)
     (release_at t) release.Post release_Inv_loop release_μ_loop (release_returns t) (λ c κs. search rules)
     (λ c. search rules) (λ c. search rules) (release_returns_2 t) (λ c. search (rules, inside t c))
     (λ c. search (rules, inside t c)) (λ c. search (rules, inside t c)) (λ c. search (rules, inside t c.before))
@@ -160,7 +153,7 @@ pub +release-spec : {M : Type 1} → statement M
     (λ c. search (rules, inside t c.before.before.before.before.before))
     (λ c κs. search (rules, inside t c.before.before.before.before.before.before.before.before))
     (λ c. search rules) (λ c. search rules) (release_returns_5 t)
-    (λ c κs. search (rules, inside t c.before.before.before.before.before.before.before))
+    (λ c κs. search (rules, inside t c.before.before.before.before.before.before))
     (release_free_requires_2 t)
     (release_cast_at_most t) (λ c κs. search rules)
     (release_loop_holds t) (λ c. search rules) (λ c. search rules) (λ c κs. search rules) (λ c. search rules)

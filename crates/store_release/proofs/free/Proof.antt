@@ -5,17 +5,17 @@ use Rattle.store_release.proofs.Releasing.{freed_store}
 use Rattle.store_release.proofs.free.Statement.{statement}
 use Rattle.store_release.proofs.free.Tie as tie
 
-same_length_2 : tie.Need-same-length-2
+same_length_2 : tie.Need-shape_of-heads
 same_length_2 c =
-    let heads = c.before.before.before.before.before.before.before.before.before.args.heads.now in
-    c.before.before.before.before.before.write-head.auto.0 ∙ length-set heads 0 _
+    let heads = c.args.heads.now in
+    c.write_head.auto.0 ∙ length-set heads 0 _
 
 returns : tie.Need-returns
 returns c = freed_store
     (record {
-      long = c.before.clear-slots.auto.0;
-      slots_cleared = c.before.clear-slots.ensures;
-      heads_written = c.before.before.before.before.before.write-head.ensures;
+      long = c.clear_slots.auto.0;
+      slots_cleared = c.clear_slots.ensures;
+      heads_written = c.write_head.ensures;
     })
     (to_cells _ _ _ (omega arith) (omega arith) (omega arith))
 

@@ -9,17 +9,17 @@ use Rattle.flatten_rows.proofs.Nodes.{number_atom, name_atom}
 use Rattle.flatten_rows.proofs.atoms.atom_place.Statement.{statement}
 use Rattle.flatten_rows.proofs.atoms.atom_place.Tie as tie
 
-number_there : (c : tie.After-enum-told) →
-    let a = c.before.before.before.before.before.before.args in
+number_there : (c : tie.In-Number) →
+    let a = c.args in
     AtomSeen a.kinds.now a.operands.now a.node Number
 number_there c =
-    let a = c.before.before.before.before.before.before.args in
-    subst (AtomSeen a.kinds.now a.operands.now a.node) c.enum_told.given.1
-    c.before.before.atom_at.ensures
+    let a = c.args in
+    subst (AtomSeen a.kinds.now a.operands.now a.node) c.in-Number.is
+    c.atom_at.ensures
 
-in_file : (c : tie.After-enum-told) → c.before.before.before.before.before.before.args.node < 1024
+in_file : (c : tie.In-Number) → c.args.node < 1024
 in_file c =
-    let start = c.before.before.before.before.before.before in
+    let start = c.before.before.before.before.before in
     let a = start.args in
     omega (
       arith,
@@ -27,22 +27,22 @@ in_file c =
       inside a.kinds.now a.operands.now at_part a.node 2 0 0 (Fits 2 0 0) (number_there c) refl,
     )
 
-returns_2 : tie.Need-returns-2
+returns_2 : tie.Need-returns-in-Number
 returns_2 c h =
-    let start = c.before.before.before.before.before.before in
+    let start = c.before.before.before.before.before in
     let a = start.args in
     number_atom a.kinds.now a.operands.now a.places.now a.levels a.node
-    c.before.before.before.if1.false start.requires.parts (number_there c)
+    c.if-levels-eq0.false start.requires.parts (number_there c)
 
-returns_3 : tie.Need-returns-3
+returns_3 : tie.Need-returns-in-Name
 returns_3 c h =
     let name = c.before.before in
-    let start = name.before.before.before.before.before.before in
+    let start = name.before.before.before.before in
     let a = start.args in
     name_atom a.kinds.now a.operands.now a.places.now a.levels a.node
-    name.before.before.before.if1.false _
-    (subst (AtomSeen a.kinds.now a.operands.now a.node) name.x.given.1
-    name.before.before.atom_at.ensures) (omega arith) start.requires.long
+    name.if-levels-eq0.false _
+    (subst (AtomSeen a.kinds.now a.operands.now a.node) name.in-Name.is
+    name.atom_at.ensures) (omega arith) start.requires.long
 
 pub atom_place_spec : {M : Type 1} → statement M
 atom_place_spec =

@@ -11,28 +11,22 @@ returns c = rw (le-ltb c.args.f 32 c.if-f-ge32.true)
 returns_2 : tie.Need-returns-in-254
 unfolding arity_in
 returns_2 c =
-    let at-if1 = c.before.before in
-    let start = at-if1.before in
-    let a = start.args in
-    rw (lt-ltb a.f 32 (omega (arith, at-if1.if-f-ge32.false)), c.in-254.is)
+    let a = c.args in
+    rw (lt-ltb a.f 32 (omega (arith, c.if-f-ge32.false)), c.in-254.is)
 
 returns_3 : tie.Need-returns-in-255
 unfolding arity_in
 returns_3 c =
-    let at-if1 = c.before.before in
-    let start = at-if1.before in
-    let a = start.args in
-    rw (lt-ltb a.f 32 (omega (arith, at-if1.if-f-ge32.false)), c.in-255.is)
+    let a = c.args in
+    rw (lt-ltb a.f 32 (omega (arith, c.if-f-ge32.false)), c.in-255.is)
 
 returns_4 : tie.Need-returns-in_default
 unfolding arity_in
 returns_4 c =
-    let at-if1 = c.before.before in
-    let start = at-if1.before in
-    let a = start.args in
+    let a = c.args in
     let n = get_or a.arities.now a.f 0 in
     rw (
-      lt-ltb a.f 32 (omega (arith, at-if1.if-f-ge32.false)),
+      lt-ltb a.f 32 (omega (arith, c.if-f-ge32.false)),
       ne_eqb n 254 c.in_default.in_default-own.rest.0.1,
       ne_eqb n 255
           c.in_default.in_default-own.rest.1,

@@ -11,75 +11,48 @@ word : (c : tie.After-natural-n) →
     (get_or c.args.operands.now
     c.args.at (pos 0))
 word c =
-    let start = c.before.before.before.before.before.before in
-    let a = start.args in
+    let a = c.args in
     rw (to_z-of_z {z = get_or a.operands.now a.at (pos 0)} (record { sfits = c.natural-arg-1.given })) at
     c.natural-n.ensures
 
 shared_slice_copy_out_natural : tie.Need-bounds-operands-at
 shared_slice_copy_out_natural c =
-    let at-if1 = c.before.before in
-    let start = at-if1.before.before in
-    omega (arith, start.requires.even, at-if1.if-kinds-at.false)
+    omega (arith, c.requires.even, c.if-kinds-at.false)
 
 returns : tie.Need-returns-then-kinds-at
 returns c =
-    let start = c.before.before in
-    let a = start.args in
-    head_past a.kinds.now a.operands.now start.requires.even a.over a.kind a.at c.if-kinds-at.true
+    let a = c.args in
+    head_past a.kinds.now a.operands.now c.requires.even a.over a.kind a.at c.if-kinds-at.true
 
 returns_2 : tie.Need-returns-then-kinds-at-2
 returns_2 c =
-    let at-if1 = c.before.before in
-    let start = at-if1.before.before in
-    let a = start.args in
-    head_other a.kinds.now a.operands.now start.requires.even a.over a.kind a.at
-    (omega (arith, at-if1.if-kinds-at.false)) c.if-kinds-at-2.true
+    let a = c.args in
+    head_other a.kinds.now a.operands.now c.requires.even a.over a.kind a.at
+    (omega (arith, c.if-kinds-at.false)) c.if-kinds-at-2.true
 
 returns_3 : tie.Need-returns-then-not-within
 returns_3 c =
-    let at-limits = c.before.before in
-    let at-natural = at-limits.before in
-    let at-if2 = at-natural.before.before in
-    let at-if1 = at-if2.before.before in
-    let start = at-if1.before.before in
-    let a = start.args in
-    head_fails a.kinds.now a.operands.now start.requires.even a.over a.kind a.at
-    (omega (arith, at-if1.if-kinds-at.false)) at-if2.if-kinds-at-2.false _ (word at-natural)
-    (judged _ _ _ _ _ c.within.ensures at-limits.limits.ensures c.if-not-within.true)
+    let at-natural = c.before.before.before in let a = at-natural.args in
+    head_fails a.kinds.now a.operands.now at-natural.requires.even a.over a.kind a.at
+    (omega (arith, at-natural.if-kinds-at.false)) at-natural.if-kinds-at-2.false _ (word at-natural)
+    (judged _ _ _ _ _ c.within.ensures c.limits.ensures c.if-not-within.true)
 
 returns_4 : tie.Need-returns-in-Next
 returns_4 c =
-    let at-pass-atoms = c.before in
-    let at-if3 = at-pass-atoms.before in
-    let at-within = at-if3.before in
-    let at-limits = at-within.before in
-    let at-natural = at-limits.before in
-    let at-if2 = at-natural.before.before in
-    let at-if1 = at-if2.before.before in
-    let start = at-if1.before.before in
-    let a = start.args in
-    let read = at-pass-atoms.pass_atoms in
-    head_fits a.kinds.now a.operands.now start.requires.even a.over a.kind a.at
-    (omega (arith, at-if1.if-kinds-at.false)) at-if2.if-kinds-at-2.false _ (word at-natural)
-    (judged _ _ _ _ _ at-within.within.ensures at-limits.limits.ensures at-if3.if-not-within.false)
+    let at-natural = c.before.before.before.before.before in let a = at-natural.args in
+    let read = c.pass_atoms in
+    head_fits a.kinds.now a.operands.now at-natural.requires.even a.over a.kind a.at
+    (omega (arith, at-natural.if-kinds-at.false)) at-natural.if-kinds-at-2.false _ (word at-natural)
+    (judged _ _ _ _ _ c.within.ensures c.limits.ensures c.if-not-within.false)
     read.result read.ensures _ c.in-Next.is
 
 returns_5 : tie.Need-returns-in-Fault
 returns_5 c =
-    let at-pass-atoms = c.before in
-    let at-if3 = at-pass-atoms.before in
-    let at-within = at-if3.before in
-    let at-limits = at-within.before in
-    let at-natural = at-limits.before in
-    let at-if2 = at-natural.before.before in
-    let at-if1 = at-if2.before.before in
-    let start = at-if1.before.before in
-    let a = start.args in
-    let read = at-pass-atoms.pass_atoms in
-    head_stops a.kinds.now a.operands.now start.requires.even a.over a.kind a.at
-    (omega (arith, at-if1.if-kinds-at.false)) at-if2.if-kinds-at-2.false _ (word at-natural)
-    (judged _ _ _ _ _ at-within.within.ensures at-limits.limits.ensures at-if3.if-not-within.false)
+    let at-natural = c.before.before.before.before.before in let a = at-natural.args in
+    let read = c.pass_atoms in
+    head_stops a.kinds.now a.operands.now at-natural.requires.even a.over a.kind a.at
+    (omega (arith, at-natural.if-kinds-at.false)) at-natural.if-kinds-at-2.false _ (word at-natural)
+    (judged _ _ _ _ _ c.within.ensures c.limits.ensures c.if-not-within.false)
     read.result read.ensures _ c.in-Fault.is
 
 pub form_head_spec : {M : Type 1} → statement M

@@ -6,54 +6,38 @@ use Rattle.lent_form.proofs.reading.pass_atoms.Tie as tie
 
 returns : tie.Need-returns-then-q-end
 returns c =
-    let at-wants = c.before in
-    let at-q = at-wants.before in
-    let at-run-of-atoms = at-q.before in
-    let start = at-run-of-atoms.before.before in
-    let a = start.args in
-    let found = at-run-of-atoms.run_of_atoms in
-    atoms_right a.kinds.now a.operands.now start.requires.1.even a.over a.at found.result
-    found.ensures a.wants _ at-q.in-To.is _ at-wants.in-Exactly.is c.if-q-end.true
+    let a = c.args in
+    let found = c.run_of_atoms in
+    atoms_right a.kinds.now a.operands.now c.requires.1.even a.over a.at found.result
+    found.ensures a.wants _ c.in-To.is _ c.in-Exactly.is c.if-q-end.true
 
 returns_2 : tie.Need-returns-else-q-end
 returns_2 c =
-    let at-wants = c.before.before in
-    let at-q = at-wants.before in
-    let at-run-of-atoms = at-q.before in
-    let start = at-run-of-atoms.before.before in
-    let a = start.args in
-    let found = at-run-of-atoms.run_of_atoms in
-    atoms_other a.kinds.now a.operands.now start.requires.1.even a.over a.at found.result
-    found.ensures a.wants _ at-q.in-To.is _ at-wants.in-Exactly.is c.if-q-end.false _
+    let a = c.args in
+    let found = c.run_of_atoms in
+    atoms_other a.kinds.now a.operands.now c.requires.1.even a.over a.at found.result
+    found.ensures a.wants _ c.in-To.is _ c.in-Exactly.is c.if-q-end.false _
     c.fault_of.ensures
 
 returns_3 : tie.Need-returns-in-Any
 returns_3 c =
-    let at-q = c.before in
-    let at-run-of-atoms = at-q.before in
-    let start = at-run-of-atoms.before.before in
-    let a = start.args in
-    let found = at-run-of-atoms.run_of_atoms in
-    atoms_any a.kinds.now a.operands.now start.requires.1.even a.over a.at found.result
-    found.ensures a.wants _ at-q.in-To.is c.in-Any.is
+    let a = c.args in
+    let found = c.run_of_atoms in
+    atoms_any a.kinds.now a.operands.now c.requires.1.even a.over a.at found.result
+    found.ensures a.wants _ c.in-To.is c.in-Any.is
 
 returns_4 : tie.Need-returns-in-Wrong
 returns_4 c =
-    let at-q = c.before in
-    let at-run-of-atoms = at-q.before in
-    let start = at-run-of-atoms.before.before in
-    let a = start.args in
-    let found = at-run-of-atoms.run_of_atoms in
-    atoms_wrong a.kinds.now a.operands.now start.requires.1.even a.over a.at found.result
-    found.ensures a.wants _ at-q.in-To.is c.in-Wrong.is
+    let a = c.args in
+    let found = c.run_of_atoms in
+    atoms_wrong a.kinds.now a.operands.now c.requires.1.even a.over a.at found.result
+    found.ensures a.wants _ c.in-To.is c.in-Wrong.is
 
 returns_5 : tie.Need-returns-in-Bad
 returns_5 c =
-    let at-run-of-atoms = c.before in
-    let start = at-run-of-atoms.before.before in
-    let a = start.args in
-    let found = at-run-of-atoms.run_of_atoms in
-    atoms_bad a.kinds.now a.operands.now start.requires.1.even a.over a.at found.result
+    let a = c.args in
+    let found = c.run_of_atoms in
+    atoms_bad a.kinds.now a.operands.now c.requires.1.even a.over a.at found.result
     found.ensures a.wants c.in-Bad.is
 
 pub pass_atoms_spec : {M : Type 1} → statement M

@@ -14,65 +14,46 @@ decreases_loop kinds operands at p₀ p = length kinds - p
 
 shared_slice_copy_out_natural : tie.Need-bounds-operands-p invariant_loop decreases_loop
 shared_slice_copy_out_natural c =
-    let start = c.before.before.before.before.before.before in
-    omega (arith, start.requires.even)
+    omega (arith, c.requires.even)
 
 loop_again : tie.Need-loop-p-preserved-then-kind-eq-NUMBER invariant_loop decreases_loop
 loop_again c =
-    let at_test = c.before.before in
-    let at-loop = at_test.before in
-    let start = at-loop.before.before in
-    let a = start.args in
-    at-loop.loop-p.invariant
-    ∙ run_number a.kinds.now a.operands.now start.requires.even _ at_test.loop-p-test.true c.if-kind-eq-NUMBER.true
+    let a = c.args in
+    c.loop-p.invariant
+    ∙ run_number a.kinds.now a.operands.now c.requires.even _ c.loop-p-test.true c.if-kind-eq-NUMBER.true
 
 returns : tie.Need-returns-then-kind-ne-NAME invariant_loop decreases_loop
 returns c =
-    let at_test = c.before.before.before in
-    let at-loop = at_test.before in
-    let start = at-loop.before.before in
-    let a = start.args in
-    run_other a.kinds.now a.operands.now start.requires.even _ at_test.loop-p-test.true
+    let a = c.args in
+    run_other a.kinds.now a.operands.now c.requires.even _ c.loop-p-test.true
     c.if-kind-eq-NUMBER.false c.if-kind-ne-NAME.true
-    ∙ sym at-loop.loop-p.invariant
+    ∙ sym c.loop-p.invariant
 
 -- the word of the row
 word : (c : tie.After-natural invariant_loop decreases_loop) →
-    let t = c.before.before.before.before.before in
-    c.natural.result ≡ natural (get_or t.args.operands.now t.loop-p.p (pos 0))
+    c.natural.result ≡ natural (get_or c.args.operands.now c.loop-p.p (pos 0))
 word c =
-    let at-loop = c.before.before.before.before.before.before in
-    let start = at-loop.before.before in
-    rw (to_z-of_z {z = get_or start.args.operands.now at-loop.loop-p.p (pos 0)}
+    rw (to_z-of_z {z = get_or c.args.operands.now c.loop-p.p (pos 0)}
     (record { sfits = c.natural-arg-1.given })) at c.natural.ensures
 
 returns_2 : tie.Need-returns-then-natural-gt255 invariant_loop decreases_loop
 returns_2 c =
-    let at-if2 = c.before.before.before in
-    let at_test = at-if2.before.before.before in
-    let at-loop = at_test.before in
-    let start = at-loop.before.before in
-    let a = start.args in
-    run_bad a.kinds.now a.operands.now start.requires.even _ at_test.loop-p-test.true at-if2.if-kind-ne-NAME.false
+    let a = c.args in
+    run_bad a.kinds.now a.operands.now c.requires.even _ c.loop-p-test.true c.if-kind-ne-NAME.false
     (omega (arith, c.if-natural-gt255.true, word c.before))
-    ∙ sym at-loop.loop-p.invariant
+    ∙ sym c.loop-p.invariant
 
 loop_again_2 : tie.Need-loop-p-preserved invariant_loop decreases_loop
 loop_again_2 c =
-    let at-if2 = c.before.before.before in
-    let at_test = at-if2.before.before.before in
-    let at-loop = at_test.before in
-    let start = at-loop.before.before in
-    let a = start.args in
-    at-loop.loop-p.invariant
-    ∙ run_name a.kinds.now a.operands.now start.requires.even _ at_test.loop-p-test.true at-if2.if-kind-ne-NAME.false
+    let a = c.args in
+    c.loop-p.invariant
+    ∙ run_name a.kinds.now a.operands.now c.requires.even _ c.loop-p-test.true c.if-kind-ne-NAME.false
     (omega (arith, c.if-natural-gt255.false, word c.before))
 
 returns_3 : tie.Need-returns invariant_loop decreases_loop
 returns_3 c =
-    let start = c.before.before.before in
-    let a = start.args in
-    run_past a.kinds.now a.operands.now start.requires.even _ (omega (arith, c.loop-p-test.false))
+    let a = c.args in
+    run_past a.kinds.now a.operands.now c.requires.even _ (omega (arith, c.loop-p-test.false))
     ∙ sym c.loop-p.invariant
 
 pub run_of_atoms_spec : {M : Type 1} → statement M

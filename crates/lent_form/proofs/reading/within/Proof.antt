@@ -21,8 +21,7 @@ returns_2 c =
 
 returns_3 : tie.Need-returns
 returns_3 c =
-    let start = c.before.before in
-    let a = start.args in
+    let a = c.args in
     let n = a.n in
     let most = a.most in
     rw (

@@ -6,14 +6,12 @@ use Rattle.machine_frames.proofs.guards.is_answer.Tie as tie
 
 returns : tie.Need-returns-then-w-lt0
 returns c =
-    let start = c.before in
-    let w = start.args.w in sym (inside_negative w 2 (rw (to_z-of_z {z = w} start.ranges.w) at c.if-w-lt0.true))
+    let w = c.args.w in sym (inside_negative w 2 (rw (to_z-of_z {z = w} c.ranges.w) at c.if-w-lt0.true))
 
 returns_2 : tie.Need-returns
 returns_2 c =
-    let start = c.before in
-    let w = start.args.w in
-    rw (to_z-of_z {z = w} start.ranges.w) (inside_at_most w 1 (rw (to_z-of_z {z = w} start.ranges.w) at c.if-w-lt0.false))
+    let w = c.args.w in
+    rw (to_z-of_z {z = w} c.ranges.w) (inside_at_most w 1 (rw (to_z-of_z {z = w} c.ranges.w) at c.if-w-lt0.false))
 
 pub is_answer_spec : {M : Type 1} → statement M
 is_answer_spec = tie.close (tie.spec returns returns_2)

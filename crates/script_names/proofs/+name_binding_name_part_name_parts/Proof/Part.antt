@@ -10,98 +10,97 @@ use Rattle.script_names.proofs.+name_binding_name_part_name_parts.Proof.Common.{
 
 module _ (t : ℕ) where
   abbrev KindKnown : Type 0
-  KindKnown = name-part-lts.After-known-told (name_part_claims t) (name_part_at t) name-part.Post
+  KindKnown = name-part-lts.In-Fits (name_part_claims t) (name_part_at t) name-part.Post
 
   node_seen : (c : KindKnown) →
-      let a = c.before.before.before.before.before.before.before.before.args in
-      let n = c.before.kind.given.0 in
-      Seen a.kinds.now a.operands.now at_part a.at n.0 n.1.0 n.1.1.0
-  node_seen c = seen _ _ at_part _ c.before.before.before.node_at.result
-      c.before.before.before.node_at.ensures _ _ _ c.before.kind.given.1
+      let a = c.args in
+      Seen a.kinds.now a.operands.now at_part a.at c.in-Fits.kind c.in-Fits.low c.in-Fits.high
+  node_seen c = seen _ _ at_part _ c.node_at.result
+      c.node_at.ensures _ _ _ c.in-Fits.is
 
-  there : (c : KindKnown) → let a = c.before.before.before.before.before.before.before.before.args in a.at <
+  there : (c : KindKnown) → let a = c.args in a.at <
       length a.kinds.now
   there c =
-      let a = c.before.before.before.before.before.before.before.before.args in
-      inside a.kinds.now a.operands.now at_part a.at _ _ _ c.before.before.before.node_at.result
-      c.before.before.before.node_at.ensures
-      c.before.kind.given.1
+      let a = c.args in
+      inside a.kinds.now a.operands.now at_part a.at _ _ _ c.node_at.result
+      c.node_at.ensures
+      c.in-Fits.is
 
-pub name_part_returns : (t : ℕ) → name-part-lts.Need-returns (name_part_claims t) (name_part_at t) name-part.Post
-name_part_returns t c = (no_levels _ _ _ _ _ _ c.if1.true, refl)
+pub name_part_returns : (t : ℕ) → name-part-lts.Need-returns-then-levels-eq0 (name_part_claims t) (name_part_at t) name-part.Post
+name_part_returns t c = (no_levels _ _ _ _ _ _ c.if-levels-eq0.true, refl)
 
-pub name_part_add_t22 : (t : ℕ) → name-part-lts.Need-overflow-add-t22 (name_part_claims t) (name_part_at t) name-part.Post
+pub name_part_add_t22 : (t : ℕ) → name-part-lts.Need-overflow_add-result (name_part_claims t) (name_part_at t) name-part.Post
 name_part_add_t22 t c = omega (arith, there t c.before.before.before)
 
-pub name_part_returns_2 : (t : ℕ) → name-part-lts.Need-returns-2 (name_part_claims t) (name_part_at t) name-part.Post
+pub name_part_returns_2 : (t : ℕ) → name-part-lts.Need-returns-then-known-low (name_part_claims t) (name_part_at t) name-part.Post
 name_part_returns_2 t c = (
   known_name (node_seen t c.before.before.before) _ _ _
-      c.before.before.before.before.before.before.before.if1.false c.before.before.if2.true
-      (at_scope _ _ _ c.if3.true),
+      c.if-levels-eq0.false c.if-kind-eq-NAME.true
+      (at_scope _ _ _ c.if-known-low.true),
   refl,
 )
 
-pub name_part_returns_3 : (t : ℕ) → name-part-lts.Need-returns-3 (name_part_claims t) (name_part_at t) name-part.Post
+pub name_part_returns_3 : (t : ℕ) → name-part-lts.Need-returns-then-kind-eq-NAME (name_part_claims t) (name_part_at t) name-part.Post
 name_part_returns_3 t c = (
   unknown_name (node_seen t c.before.before.before) _ _ _
-      c.before.before.before.before.before.before.before.if1.false c.before.before.if2.true
-      (at_scope _ _ _ c.if3.false),
+      c.if-levels-eq0.false c.if-kind-eq-NAME.true
+      (at_scope _ _ _ c.if-known-low.false),
   refl,
 )
 
-pub name_part_sub_t24 : (t : ℕ) → name-part-lts.Need-overflow-sub-t24 (name_part_claims t) (name_part_at t) name-part.Post
+pub name_part_sub_t24 : (t : ℕ) → name-part-lts.Need-overflow_sub-bound (name_part_claims t) (name_part_at t) name-part.Post
 name_part_sub_t24 t c =
-    last_part _ _ _ _ (sym c.before.before.is-binding.ensures ∙ c.before.if4.true)
-    c.before.before.before.parts_of.ensures
+    last_part _ _ _ _ (sym c.is_binding.ensures ∙ c.if-is_binding.true)
+    c.parts_of-count.ensures
 
 pub name_part_add_name_binding : (t : ℕ) →
-    name-part-lts.Need-overflow-add-name-binding (name_part_claims t) (name_part_at t) name-part.Post
+    name-part-lts.Need-overflow_add-at (name_part_claims t) (name_part_at t) name-part.Post
 name_part_add_name_binding t c = omega (arith, there t c.before.before.before.before.before.before)
 
-pub name_part_returns_4 : (t : ℕ) → name-part-lts.Need-returns-4 (name_part_claims t) (name_part_at t) name-part.Post
+pub name_part_returns_4 : (t : ℕ) → name-part-lts.Need-returns-then-is_binding (name_part_claims t) (name_part_at t) name-part.Post
 name_part_returns_4 t c = (
   binding (node_seen t c.before.before.before.before.before.before.before.before.before) _ _ _
-      c.before.before.before.before.before.before.before.before.before.before.before.before.before.if1.false c.before.before.before.before.before.before.before.before.if2.false
-      (sym c.before.before.before.before.before.before.is-binding.ensures ∙ c.before.before.before.before.before.if4.true) _ _ c.before.before.before.before.before.before.before.parts_of.ensures c.before.before.before.before.second_name.ensures _
-      c.before.before.name-binding.ensures.0,
-  c.before.before.name-binding.ensures.1,
+      c.if-levels-eq0.false c.if-kind-eq-NAME.false
+      (sym c.is_binding.ensures ∙ c.if-is_binding.true) _ _ c.parts_of-count.ensures c.second_name-second.ensures _
+      c.name_binding.ensures.0,
+  c.name_binding.ensures.1,
 )
 
-pub name_part_returns_5 : (t : ℕ) → name-part-lts.Need-returns-5 (name_part_claims t) (name_part_at t) name-part.Post
+pub name_part_returns_5 : (t : ℕ) → name-part-lts.Need-returns-then-calls_none (name_part_claims t) (name_part_at t) name-part.Post
 name_part_returns_5 t c = (
   no_callee (node_seen t c.before.before.before.before.before.before) _ _ _
-      c.before.before.before.before.before.before.before.before.before.before.if1.false
-      c.before.before.before.before.before.if2.false
-      (sym c.before.before.before.is-binding.ensures ∙ c.before.before.if4.false)
-      (sym c.before.calls_none.ensures ∙ c.if5.true),
+      c.if-levels-eq0.false
+      c.if-kind-eq-NAME.false
+      (sym c.is_binding.ensures ∙ c.if-is_binding.false)
+      (sym c.calls_none.ensures ∙ c.if-calls_none.true),
   refl,
 )
 
 pub name_part_add_name_parts : (t : ℕ) →
-    name-part-lts.Need-overflow-add-name-parts (name_part_claims t) (name_part_at t) name-part.Post
+    name-part-lts.Need-overflow_add-at-in-Fits (name_part_claims t) (name_part_at t) name-part.Post
 name_part_add_name_parts t c = omega (arith, there t c.before.before.before.before.before.before.before)
 
-pub name_part_returns_6 : (t : ℕ) → name-part-lts.Need-returns-6 (name_part_claims t) (name_part_at t) name-part.Post
+pub name_part_returns_6 : (t : ℕ) → name-part-lts.Need-returns-else-calls_none (name_part_claims t) (name_part_at t) name-part.Post
 name_part_returns_6 t c = (
   others (node_seen t c.before.before.before.before.before.before.before.before.before.before) _ _ _
-      c.before.before.before.before.before.before.before.before.before.before.before.before.before.before.if1.false c.before.before.before.before.before.before.before.before.before.if2.false
-      (sym c.before.before.before.before.before.before.before.is-binding.ensures ∙ c.before.before.before.before.before.before.if4.false)
-      (sym c.before.before.before.before.before.calls_none.ensures ∙ c.before.before.before.before.if5.false) _
-      c.before.before.before.before.before.before.before.before.parts_of.ensures _
-      c.before.before.name-parts.ensures.0,
-  c.before.before.name-parts.ensures.1,
+      c.if-levels-eq0.false c.if-kind-eq-NAME.false
+      (sym c.is_binding.ensures ∙ c.if-is_binding.false)
+      (sym c.calls_none.ensures ∙ c.if-calls_none.false) _
+      c.parts_of-count.ensures _
+      c.name_parts.ensures.0,
+  c.name_parts.ensures.1,
 )
 
-pub name_part_returns_7 : (t : ℕ) → name-part-lts.Need-returns-7 (name_part_claims t) (name_part_at t) name-part.Post
+pub name_part_returns_7 : (t : ℕ) → name-part-lts.Need-returns-in-WrongKind (name_part_claims t) (name_part_at t) name-part.Post
 name_part_returns_7 t c = (
-  no_node _ _ _ _ _ _ c.before.before.node_at.result c.before.before.node_at.ensures
-      (inl c.enum_told.given.1),
+  no_node _ _ _ _ _ _ c.node_at.result c.node_at.ensures
+      (inl c.in-WrongKind.is),
   refl,
 )
 
-pub name_part_returns_8 : (t : ℕ) → name-part-lts.Need-returns-8 (name_part_claims t) (name_part_at t) name-part.Post
+pub name_part_returns_8 : (t : ℕ) → name-part-lts.Need-returns-in-WrongOperand (name_part_claims t) (name_part_at t) name-part.Post
 name_part_returns_8 t c = (
-  no_node _ _ _ _ _ _ c.before.before.node_at.result c.before.before.node_at.ensures
-      (inr c.enum-told2.given.1),
+  no_node _ _ _ _ _ _ c.node_at.result c.node_at.ensures
+      (inr c.in-WrongOperand.is),
   refl,
 )
